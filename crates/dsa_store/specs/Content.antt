@@ -1,0 +1,103 @@
+-- What a store holds: its lists by number, each a list of cells in order with their entries.
+use Rattle.std.specs.Prelude.{◌≡◌, ℕ, ◌<◌, ◌≤◌, Bool, not, cond, ◌&&◌, ◌==◌, nat_lt, List, [], ◌∷◌, ◌++◌, map, take, drop, length, slice_set, slice_index_or, Option, Some, None}
+use Rattle.std.specs.List.{filter, find, list_any, flat_map, count_by, sum_by, position}
+use Rattle.std.specs.Option.{option_map}
+use Rattle.dsa_store.specs.declared.entry.Cell.{Cell}
+use Rattle.dsa_store.specs.declared.entry.Entry.{Entry}
+
+-- a cell in use, with its entry
+abbrev pub Slot : Type 0
+Slot = Cell × Entry
+
+abbrev pub Content : Type 0
+Content = List (List Slot)
+
+abbrev pub is_cell : Cell → Slot → Bool
+is_cell cell s = s.0.0 == cell.0
+
+-- the list of that number
+abbrev pub chain : Content → ℕ → List Slot
+chain content list = slice_index_or content list []
+
+-- how many places of a list name the cell
+unfoldable pub count : Cell → List Slot → ℕ
+count cell l = count_by (is_cell cell) l
+
+-- how many places of all lists do
+unfoldable pub uses : Content → Cell → ℕ
+uses content cell = sum_by (count cell) content
+
+-- how many cells are in use
+unfoldable pub held : Content → ℕ
+held content = sum_by length content
+
+-- what the cell holds
+abbrev pub entry_of : Content → Cell → Option Entry
+entry_of [] cell = None
+entry_of (l ∷ ls) cell = cond (list_any (is_cell cell) l) (option_map (λ s. s.1) (find (is_cell cell) l)) (entry_of ls cell)
+
+-- the list that names the cell
+abbrev pub list_of : Content → Cell → Option ℕ
+list_of content cell = position (list_any (is_cell cell)) content
+
+abbrev pub first_cell : List Slot → Option Cell
+first_cell [] = None
+first_cell (s ∷ l) = Some s.0
+
+abbrev pub after : Cell → List Slot → Option Cell
+after cell [] = None
+after cell (s ∷ l) = cond (is_cell cell s) (first_cell l) (after cell l)
+
+-- the cell that follows in the list that names the cell
+abbrev pub next_of : Content → Cell → Option Cell
+next_of [] cell = None
+next_of (l ∷ ls) cell = cond (list_any (is_cell cell) l) (after cell l) (next_of ls cell)
+
+-- with the entry in that cell at the end of the list
+abbrev pub pushed : Content → ℕ → Cell → Entry → Content
+pushed content list cell entry = slice_set content list (chain content list ++ (cell, entry) ∷ [])
+
+-- without the front of the list
+abbrev pub without_front : Content → ℕ → Content
+without_front content list = slice_set content list (drop 1 (chain content list))
+
+-- with the front of one list at the end of the other
+abbrev pub moved : Content → ℕ → ℕ → Content
+moved content from to = slice_set (without_front content from) to (chain content to ++ take 1 (chain content from))
+
+-- without the cell
+abbrev pub unlinked : Content → Cell → Content
+unlinked content cell = map (filter (λ s. not (is_cell cell s))) content
+
+-- with another entry in the cell
+abbrev pub replaced : Content → Cell → Entry → Content
+replaced content cell entry = map (map (λ s. cond (is_cell cell s) (s.0, entry) s)) content
+
+-- with that list empty
+abbrev pub emptied : Content → ℕ → Content
+emptied content list = slice_set content list []
+
+-- what holds of each store of that many cells: no cell stands twice, each is one of the store's
+pub record IsSound (cells : ℕ) (content : Content) : Type 0 where
+  pub once : (cell : Cell) → uses content cell ≤ 1
+  pub below : (cell : Cell) → cells ≤ cell.0 → uses content cell ≡ 0
+  pub room : held content ≤ cells
+
+-- the cell, with that entry, is the k-th of list i
+pub record StandsAt (content : Content) (i k : ℕ) (cell : Cell) (entry : Entry) : Type 0 where
+  pub within : k < length (chain content i)
+  pub slot : slice_index_or (chain content i) k (cell, entry) ≡ (cell, entry)
+
+-- ---- the lists together
+
+-- the slots of all lists, list by list, each front first
+abbrev pub all_held : Content → List Slot
+all_held content = flat_map (λ list. list) content
+
+-- a cell of the store that no list names
+abbrev pub is_free : ℕ → Content → Cell → Bool
+is_free cells content cell = nat_lt cell.0 cells && not (list_any (is_cell cell) (all_held content))
+
+-- the slots whose entry passes, in order
+abbrev pub kept : (Entry → Bool) → Content → Content
+kept test content = map (filter (λ s. test s.1)) content
