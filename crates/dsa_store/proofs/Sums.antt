@@ -1,0 +1,100 @@
+-- Sums over all slots of a store, as its calls change them. How often a cell is used, and how many are held, are such sums.
+use Rattle.std.proofs.Common.{◌≡◌, ℕ, ◌+◌, ◌<◌, ◌≤◌, ◌≢◌, Bool, true, not, cond, List, [], ◌∷◌, ◌++◌, take, drop, length, set, get_or, refl, sym, ap, ◌∙◌, arith}
+use Rattle.std.proofs.lemmas.Grind.{common_steps}
+use Rattle.std.specs.List.{filter, count_by, sum_by, remove}
+use Rattle.std.proofs.lemmas.List.{length-set}
+use Rattle.std.proofs.lemmas.List.Concat.{length-flat_map}
+use Rattle.std.proofs.lemmas.List.Elements.{filter-append}
+use Rattle.std.proofs.lemmas.List.Sums.{sum_by-cons, sum_by-append, sum_by_push, sum_by-set, sum_by-remove, sum_by-take-drop}
+use Rattle.std.proofs.lemmas.List.Filters.{sum_by-filter_both}
+use Rattle.dsa_store.specs.declared.entry.Cell.{Cell}
+use Rattle.dsa_store.specs.declared.entry.Entry.{Entry}
+use Rattle.dsa_store.specs.Content.{Slot, Content, is_cell, chain, count, uses, held, pushed, without_front, moved, unlinked, replaced, emptied, StandsAt, all_held, is_free, kept}
+use Rattle.dsa_store.proofs.Places.{list_any-absent, list_any-present}
+use Rattle.dsa_store.proofs.Finding.{unlinked-at, replaced-at}
+
+-- a sum over all slots goes list by list
+pub sum-lists : (f : Slot → ℕ) (content : Content) → sum_by f (all_held content) ≡ sum_by (sum_by f) content
+sum-lists f [] = refl
+sum-lists f (l ∷ ls) = omega (arith, sum_by-append f l (all_held ls), sum_by-cons (sum_by f) l ls, sum-lists f ls)
+
+-- another list in place of one
+pub sum-set : (f : Slot → ℕ) (content : Content) (i : ℕ) (l : List Slot) → i < length content → sum_by f (all_held (set content i l)) + sum_by f (chain content i) ≡ sum_by f (all_held content) + sum_by f l
+sum-set f content i l h =
+    omega (arith, sum-lists f content, sum-lists f (set content i l), sum_by-set (sum_by f) content i l [] h)
+
+-- ---- the words of the calls
+
+pub sum-pushed : (f : Slot → ℕ) (content : Content) (list : ℕ) (cell : Cell) (e : Entry) → list < length content → sum_by f (all_held (pushed content list cell e)) ≡ sum_by f (all_held content) + f (cell, e)
+sum-pushed f content list cell e h =
+    omega (arith, sum-set f content list (chain content list ++ (cell, e) ∷ []) h, sum_by_push f (chain content list) (cell, e))
+
+pub sum-without_front : (f : Slot → ℕ) (content : Content) (list : ℕ) (s : Slot) (rest : List Slot) → list < length content → chain content list ≡ s ∷ rest → sum_by f (all_held (without_front content list)) + f s ≡ sum_by f (all_held content)
+sum-without_front f content list s rest h is =
+    let old : sum_by f (chain content list) ≡ sum_by f (s ∷ rest) = ap (sum_by f) is in
+    let new : sum_by f (drop 1 (chain content list)) ≡ sum_by f rest = ap (λ (l : List Slot). sum_by f (drop 1 l)) is in
+    omega (arith, sum-set f content list (drop 1 (chain content list)) h, sum_by-cons f s rest, old, new)
+
+pub sum-moved : (f : Slot → ℕ) (content : Content) (from to : ℕ) → from < length content → to < length content → from ≢ to → sum_by f (all_held (moved content from to)) ≡ sum_by f (all_held content)
+sum-moved f content from to hf ht ne =
+    let mid : Content = without_front content from in
+    let tm : to < length mid = rw (length-set content from (drop 1 (chain content from))) ht in
+    let same : chain mid to ≡ chain content to = grind (arith, common_steps) in
+    let there : sum_by f (chain mid to) ≡ sum_by f (chain content to) = ap (sum_by f) same in
+    let first = sum-set f content from (drop 1 (chain content from)) hf in
+    let then = sum-set f mid to (chain content to ++ take 1 (chain content from)) tm in
+    omega (arith, first, then, there, sum_by-append f (chain content to) (take 1 (chain content from)), sum_by-take-drop f (chain content from) 1)
+
+pub sum-emptied : (f : Slot → ℕ) (content : Content) (list : ℕ) → list < length content → sum_by f (all_held (emptied content list)) + sum_by f (chain content list) ≡ sum_by f (all_held content)
+sum-emptied f content list h = omega (arith, sum-set f content list [] h)
+
+pub sum-unlinked : (f : Slot → ℕ) (content : Content) (i k : ℕ) (cell : Cell) (e : Entry) → i < length content → uses content cell ≤ 1 → StandsAt content i k cell e → sum_by f (all_held (unlinked content cell)) + f (cell, e) ≡ sum_by f (all_held content)
+sum-unlinked f content i k cell e h once at =
+    let is : sum_by f (all_held (unlinked content cell)) ≡ sum_by f (all_held (set content i (remove (chain content i) k))) = ap (λ (c : Content). sum_by f (all_held c)) (unlinked-at content i k cell e once at) in
+    let here : f (get_or (chain content i) k (cell, e)) ≡ f (cell, e) = ap f at.slot in
+    omega (arith, is, here, sum-set f content i (remove (chain content i) k) h, sum_by-remove f (chain content i) k (cell, e) at.within)
+
+pub sum-replaced : (f : Slot → ℕ) (content : Content) (i k : ℕ) (cell : Cell) (e new : Entry) → i < length content → uses content cell ≤ 1 → StandsAt content i k cell e → sum_by f (all_held (replaced content cell new)) + f (cell, e) ≡ sum_by f (all_held content) + f (cell, new)
+sum-replaced f content i k cell e new h once at =
+    let l : List Slot = set (chain content i) k (cell, new) in
+    let is : sum_by f (all_held (replaced content cell new)) ≡ sum_by f (all_held (set content i l)) = ap (λ (c : Content). sum_by f (all_held c)) (replaced-at content i k cell e new once at) in
+    let here : f (get_or (chain content i) k (cell, e)) ≡ f (cell, e) = ap f at.slot in
+    omega (arith, is, here, sum-set f content i l h, sum_by-set f (chain content i) k (cell, new) (cell, e) at.within)
+
+-- ---- a test that each slot passes or not
+
+-- what is kept and what is not are all
+pub sum-split : (f : Slot → ℕ) (test : Slot → Bool) (l : List Slot) → sum_by f (filter test l) + sum_by f (filter (λ s. not (test s)) l) ≡ sum_by f l
+sum-split f test l = sum_by-filter_both test (λ s. not (test s)) (λ s. refl) f l
+
+pub all_held-kept : (test : Entry → Bool) (content : Content) → all_held (kept test content) ≡ filter (λ s. test s.1) (all_held content)
+all_held-kept test [] = refl
+all_held-kept test (l ∷ ls) =
+    ap (λ (m : List Slot). filter (λ s. test s.1) l ++ m) (all_held-kept test ls) ∙ sym (filter-append (λ s. test s.1) l (all_held ls))
+
+pub all_held-unlinked : (content : Content) (cell : Cell) → all_held (unlinked content cell) ≡ filter (λ s. not (is_cell cell s)) (all_held content)
+all_held-unlinked [] cell = refl
+all_held-unlinked (l ∷ ls) cell =
+    ap (λ (m : List Slot). filter (λ s. not (is_cell cell s)) l ++ m) (all_held-unlinked ls cell) ∙ sym (filter-append (λ s. not (is_cell cell s)) l (all_held ls))
+
+-- ---- counts are sums
+
+pub uses-counted : (content : Content) (cell : Cell) → uses content cell ≡ count_by (is_cell cell) (all_held content)
+unfolding uses count
+uses-counted content cell = sym (sum-lists (λ s. cond (is_cell cell s) 1 0) content)
+
+pub held-counted : (content : Content) → held content ≡ length (all_held content)
+unfolding held
+held-counted content = sym (length-flat_map (λ (l : List Slot). l) content)
+
+count-all_held : (content : Content) (cell : Cell) → count cell (all_held content) ≡ uses content cell
+unfolding count
+count-all_held content cell = sym (uses-counted content cell)
+
+pub is_free-unused : (cells : ℕ) (content : Content) (cell : Cell) → is_free cells content cell ≡ true → (cell.0 < cells) × (uses content cell ≡ 0)
+is_free-unused cells content cell h =
+    (grind (arith, h), grind (arith, h, count-all_held content cell, list_any-present cell (all_held content)))
+
+pub unused-is_free : (cells : ℕ) (content : Content) (cell : Cell) → cell.0 < cells → uses content cell ≡ 0 → is_free cells content cell ≡ true
+unused-is_free cells content cell below none =
+    grind (arith, below, none, count-all_held content cell, list_any-absent cell (all_held content))
