@@ -2,6 +2,7 @@ pub mod Places
 pub mod Lists
 pub mod Finding
 pub mod Sums
+pub mod Turns
 pub mod Partition
 pub mod Search
 pub mod Steps
