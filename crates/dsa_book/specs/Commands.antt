@@ -1,0 +1,237 @@
+-- Commands, configuration and the noted error: the administrator's steps.
+use Rattle.std.specs.Prelude.{ℕ, Bool, true, false, not, cond, ◌&&◌, ◌||◌, ◌==◌, nat_lt, nat_le, List, [], ◌∷◌, ◌++◌, length, map, filter, slice_set, Option, Some, None, is_some}
+use Rattle.std.specs.List.{list_any, list_all}
+use Rattle.dsa_desc.specs.Rows.{first_row_or}
+use Rattle.dsa_regs.specs.declared.Phase.{Phase}
+use Rattle.dsa_regs.specs.declared.Phase.TheVariants.{Off, On, Stopping}
+use Rattle.dsa_regs.specs.declared.QueueConfig.{QueueConfig}
+use Rattle.dsa_regs.specs.declared.GroupConfig.{GroupConfig}
+use Rattle.dsa_regs.specs.declared.Command.{Command}
+use Rattle.dsa_regs.specs.declared.Command.TheVariants.{EnableDevice, DisableDevice, DrainAll, AbortAll, ResetDevice, EnableWq, DisableWq, DrainWq, AbortWq, ResetWq, DrainPasid, AbortPasid}
+use Rattle.dsa_regs.specs.declared.Fault.{Fault}
+use Rattle.dsa_regs.specs.declared.Fault.TheVariants.{BadQueue, Locked, WrongState, Busy, BadIndex}
+use Rattle.dsa_regs.specs.Numbers.{numbers_below}
+use Rattle.dsa_regs.specs.Config.{zero_queue, queue_at, check_device, check_queue}
+use Rattle.dsa_regs.specs.Command.{number_of, named_queues}
+use Rattle.dsa_store.specs.declared.entry.Entry.{Entry}
+use Rattle.dsa_store.specs.Content.{Slot, Content, chain, all_held, kept}
+use Rattle.dsa_book.specs.declared.answer.NotedError.{NotedError}
+use Rattle.dsa_book.specs.declared.note.BatchNote.{BatchNote}
+use Rattle.dsa_book.specs.declared.note.ActiveCommand.{ActiveCommand}
+use Rattle.dsa_book.specs.declared.fate.Fate.TheVariants.{Aborted}
+use Rattle.dsa_book.specs.declared.answer.IssueAnswer.{IssueAnswer}
+use Rattle.dsa_book.specs.declared.answer.IssueAnswer.TheVariants.{Ended, Active, Refused}
+use Rattle.dsa_book.specs.declared.answer.PollAnswer.{PollAnswer}
+use Rattle.dsa_book.specs.declared.answer.PollAnswer.TheVariants.{Finished, Active, Nothing}
+use Rattle.dsa_book.specs.declared.answer.WriteAnswer.{WriteAnswer}
+use Rattle.dsa_book.specs.declared.answer.WriteAnswer.TheVariants.{Written, Refused}
+use Rattle.dsa_book.specs.declared.answer.ClearAnswer.{ClearAnswer}
+use Rattle.dsa_book.specs.declared.answer.ClearAnswer.TheVariants.{Cleared, Nothing}
+use Rattle.dsa_book.specs.State.{Setup, Work, State, is_on, is_off, is_member, is_batch_of, phase_at, has_queue, opening_setup}
+use Rattle.dsa_book.specs.Work.{progress_list, note_at, fate_row}
+
+-- ---- scopes
+
+abbrev pub names : List ℕ → ℕ → Bool
+names queues q = list_any (λ k. k == q) queues
+
+-- the entries that a command is about
+abbrev pub is_in_scope : Command → Entry → Bool
+is_in_scope EnableDevice entry = false
+is_in_scope DisableDevice entry = true
+is_in_scope DrainAll entry = true
+is_in_scope AbortAll entry = true
+is_in_scope ResetDevice entry = true
+is_in_scope (EnableWq queue) entry = false
+is_in_scope (DrainPasid pasid) entry = entry.desc.pasid == pasid
+is_in_scope (AbortPasid pasid) entry = entry.desc.pasid == pasid
+is_in_scope command entry = names (named_queues command) entry.queue
+
+-- ---- ends
+
+abbrev pub holds : (Entry → Bool) → Content → Bool
+holds test content = list_any (λ slot. test slot.1) (all_held content)
+
+-- a submitted entry from before the drain
+abbrev pub is_awaited : Command → ℕ → Entry → Bool
+is_awaited command mark entry = is_in_scope command entry && not (is_member entry) && nat_lt entry.name mark
+
+abbrev pub is_disable : Command → Bool
+is_disable DisableDevice = true
+is_disable (DisableWq queues) = true
+is_disable _ = false
+
+-- a disable waits for all that is slot of its scope, a drain for what was submitted before it
+abbrev pub is_at_end : ActiveCommand → Content → Bool
+is_at_end active content =
+    not (holds (cond (is_disable active.command) (is_in_scope active.command) (is_awaited active.command active.mark)) content)
+
+-- ---- phases and configurations
+
+-- the phases with those of the queues that pass set
+abbrev pub with_phases : (ℕ → Bool) → Phase → Setup → Setup
+with_phases test phase setup =
+    record setup { phases = map (λ q. cond (test q) phase (phase_at setup q)) (numbers_below setup.caps.queues) }
+
+abbrev pub with_device : Phase → Setup → Setup
+with_device phase setup = record setup { device = phase }
+
+-- the device or the queues that a disable stops come to this phase
+abbrev pub stopped : Command → Phase → Setup → Setup
+stopped DisableDevice phase setup = with_device phase (with_phases (λ q. not (is_off (phase_at setup q))) phase setup)
+stopped (DisableWq queues) phase setup = with_phases (names (named_queues (DisableWq queues))) phase setup
+stopped _ phase setup = setup
+
+abbrev pub size_alone : QueueConfig → QueueConfig
+size_alone config = record zero_queue { size = config.size }
+
+abbrev pub with_sizes_alone : List ℕ → Setup → Setup
+with_sizes_alone queues setup =
+    record setup { configs = map (λ q. cond (names queues q) (size_alone (queue_at setup.configs q)) (queue_at setup.configs q)) (numbers_below setup.caps.queues) }
+
+-- all zero and Off again, but for the next name
+abbrev pub reset : Setup → Setup
+reset setup = record (opening_setup setup.caps) { next_name = setup.next_name }
+
+-- ---- abort
+
+-- whether the note's batch is among these
+abbrev pub has_batch : Setup → BatchNote → List Slot → Bool
+has_batch setup note xs = list_any (λ slot. is_batch_of setup slot.1 && slot.1.name == note.batch) xs
+
+-- a note stays while its batch is in progress
+abbrev pub kept_note : Setup → List Slot → Option BatchNote → Option BatchNote
+kept_note setup xs None = None
+kept_note setup xs (Some note) = cond (has_batch setup note xs) (Some note) None
+
+-- what the scope holds ends, in the order of the lists
+abbrev pub aborted : Command → Work → Work
+aborted command w =
+    let content = kept (λ entry. not (is_in_scope command entry)) w.content in
+    record w {
+      content = content;
+      notes = map (λ e. kept_note w.setup (chain content (progress_list w.setup e)) (note_at w e)) (numbers_below w.setup.caps.engines);
+      fates = w.fates ++ map (fate_row (Aborted (number_of command))) (filter (λ slot. is_in_scope command slot.1) (all_held w.content));
+    }
+
+abbrev pub count_in_scope : Command → Content → ℕ
+count_in_scope command content = length (filter (λ slot. is_in_scope command slot.1) (all_held content))
+
+-- ---- issue
+
+-- the fault of the queues that a command names: an empty mask, or one that the device does not have
+abbrev pub is_bad_queues : Setup → Command → Bool
+is_bad_queues setup (EnableWq queue) = not (has_queue setup queue)
+is_bad_queues setup command =
+    cond (nat_le 7 (number_of command) && nat_le (number_of command) 10)
+    (nat_le (length (named_queues command)) 0 || not (list_all (has_queue setup) (named_queues command)))
+    false
+
+abbrev pub all_on : Setup → List ℕ → Bool
+all_on setup queues = list_all (λ q. is_on (phase_at setup q)) queues
+
+-- the device and the queues stand as the command needs
+abbrev pub may_come : Setup → Command → Bool
+may_come setup EnableDevice = is_off setup.device
+may_come setup ResetDevice = true
+may_come setup (EnableWq queue) = is_on setup.device && is_off (phase_at setup queue)
+may_come setup (DisableWq queues) = is_on setup.device && all_on setup (named_queues (DisableWq queues))
+may_come setup (DrainWq queues) = is_on setup.device && all_on setup (named_queues (DrainWq queues))
+may_come setup (AbortWq queues) = is_on setup.device && all_on setup (named_queues (AbortWq queues))
+may_come setup _ = is_on setup.device
+
+-- what the configuration has against it
+abbrev pub check_of : Setup → Command → Option Fault
+check_of setup EnableDevice = check_device setup.caps setup.configs setup.groups
+check_of setup (EnableWq queue) = check_queue setup.caps setup.groups queue (queue_at setup.configs queue)
+check_of setup _ = None
+
+abbrev pub with_setup : Work → Setup → Work
+with_setup w setup = record w { setup = setup }
+
+abbrev pub ended_at_once : State → ℕ → Work → IssueAnswer × State
+ended_at_once s n w = (Ended n, record s { work = w })
+
+abbrev pub aborts : State → Command → (Setup → Setup) → IssueAnswer × State
+aborts s command change =
+    let w = aborted command s.work in
+    ended_at_once s (count_in_scope command s.work.content) (with_setup w (change w.setup))
+
+-- it ends at once, or is active from here on
+abbrev pub waits : State → Command → IssueAnswer × State
+waits s command =
+    let active : ActiveCommand = record { command = command; mark = s.work.setup.next_name } in
+    cond (is_at_end active s.work.content)
+    (ended_at_once s 0 (with_setup s.work (stopped command Off s.work.setup)))
+    (Active, record { work = with_setup s.work (stopped command Stopping s.work.setup); active = Some active })
+
+abbrev pub carried_out : State → Command → IssueAnswer × State
+carried_out s EnableDevice = ended_at_once s 0 (with_setup s.work (with_device On s.work.setup))
+carried_out s (EnableWq queue) = ended_at_once s 0 (with_setup s.work (with_phases (λ q. q == queue) On s.work.setup))
+carried_out s DisableDevice = waits s DisableDevice
+carried_out s (DisableWq queues) = waits s (DisableWq queues)
+carried_out s DrainAll = waits s DrainAll
+carried_out s (DrainWq queues) = waits s (DrainWq queues)
+carried_out s (DrainPasid pasid) = waits s (DrainPasid pasid)
+carried_out s AbortAll = aborts s AbortAll (λ setup. setup)
+carried_out s (AbortWq queues) = aborts s (AbortWq queues) (λ setup. setup)
+carried_out s (AbortPasid pasid) = aborts s (AbortPasid pasid) (λ setup. setup)
+carried_out s ResetDevice = aborts s ResetDevice reset
+carried_out s (ResetWq queues) =
+    let named = named_queues (ResetWq queues) in
+    aborts s (ResetWq queues) (λ setup. with_sizes_alone named (with_phases (names named) Off setup))
+
+abbrev pub refused_or : State → Option Fault → IssueAnswer × State → IssueAnswer × State
+refused_or s None done = done
+refused_or s (Some fault) done = (Refused fault, s)
+
+-- the causes against it, in this order
+abbrev pub issue_table : State → Command → List (Bool × (IssueAnswer × State))
+issue_table s command =
+    (is_some s.active, (Refused Busy, s)) ∷
+    (is_bad_queues s.work.setup command, (Refused BadQueue, s)) ∷
+    (not (may_come s.work.setup command), (Refused WrongState, s)) ∷ []
+
+-- the first that stands, or the check's fault, or its effect
+abbrev pub issue : State → Command → IssueAnswer × State
+issue s command = first_row_or (issue_table s command) (refused_or s (check_of s.work.setup command) (carried_out s command))
+
+-- ---- poll
+
+abbrev pub poll_of : State → Option ActiveCommand → PollAnswer × State
+poll_of s None = (Nothing, s)
+poll_of s (Some active) =
+    cond (is_at_end active s.work.content)
+    (Finished, record { work = with_setup s.work (stopped active.command Off s.work.setup); active = None })
+    (Active, s)
+
+abbrev pub poll : State → PollAnswer × State
+poll s = poll_of s s.active
+
+-- ---- writes and clear, which see the queues' layer alone
+
+abbrev pub write_queue_table : Setup → ℕ → QueueConfig → List (Bool × (WriteAnswer × Setup))
+write_queue_table setup q config =
+    (not (has_queue setup q), (Refused BadIndex, setup)) ∷
+    (not (is_off (phase_at setup q)), (Refused Locked, setup)) ∷
+    (not (is_off setup.device) && not (config.size == (queue_at setup.configs q).size), (Refused Locked, setup)) ∷ []
+
+abbrev pub write_queue : Setup → ℕ → QueueConfig → WriteAnswer × Setup
+write_queue setup q config =
+    first_row_or (write_queue_table setup q config) (Written, record setup { configs = slice_set setup.configs q config })
+
+abbrev pub write_group_table : Setup → ℕ → List (Bool × (WriteAnswer × Setup))
+write_group_table setup g =
+    (not (nat_lt g setup.caps.groups), (Refused BadIndex, setup)) ∷
+    (not (is_off setup.device), (Refused Locked, setup)) ∷ []
+
+abbrev pub write_group : Setup → ℕ → GroupConfig → WriteAnswer × Setup
+write_group setup g config =
+    first_row_or (write_group_table setup g) (Written, record setup { groups = slice_set setup.groups g config })
+
+abbrev pub clear_of : Setup → Option NotedError → ClearAnswer × Setup
+clear_of setup None = (Nothing, setup)
+clear_of setup (Some noted) = (Cleared noted, record setup { noted = None })
+
+abbrev pub clear : Setup → ClearAnswer × Setup
+clear setup = clear_of setup setup.noted

@@ -1,0 +1,9 @@
+pub mod Same
+pub mod State
+pub mod Submit
+pub mod Work
+pub mod Commands
+pub mod Machine
+pub mod Totals
+pub mod Records
+pub mod Room

@@ -1,0 +1,115 @@
+-- The state of the written machine, by what each layer of the device keeps. (profile)
+use Rattle.std.specs.Prelude.{ℕ, Bool, true, false, ◌&&◌, ◌==◌, nat_lt, List, [], length, replicate, get_or, Option, None, is_some}
+use Rattle.dsa_desc.specs.declared.Outcome.{Outcome}
+use Rattle.dsa_desc.specs.declared.QueueLimits.{QueueLimits}
+use Rattle.dsa_desc.specs.Descriptor.{need, status, is_lawful_batch}
+use Rattle.dsa_regs.specs.declared.Caps.{Caps}
+use Rattle.dsa_regs.specs.declared.Phase.{Phase}
+use Rattle.dsa_regs.specs.declared.Phase.TheVariants.{Off, On}
+use Rattle.dsa_regs.specs.declared.QueueConfig.{QueueConfig}
+use Rattle.dsa_regs.specs.declared.GroupConfig.{GroupConfig}
+use Rattle.dsa_regs.specs.Caps.{list_count}
+use Rattle.dsa_regs.specs.Config.{zero_queue, zero_group, queue_at, limits_of}
+use Rattle.dsa_store.specs.declared.entry.Entry.{Entry}
+use Rattle.dsa_store.specs.Content.{Slot, Content, chain, is_cell}
+use Rattle.dsa_book.specs.declared.answer.Ticket.{Ticket}
+use Rattle.dsa_book.specs.declared.answer.NotedError.{NotedError}
+use Rattle.dsa_book.specs.declared.note.BatchNote.{BatchNote}
+use Rattle.dsa_book.specs.declared.note.ActiveCommand.{ActiveCommand}
+use Rattle.dsa_book.specs.declared.fate.FateRow.{FateRow}
+
+-- what is configured: capabilities, phases and configurations, the next name, the noted error (profile)
+pub record Setup : Type 0 where
+  pub caps : Caps
+  pub device : Phase
+  pub configs : List QueueConfig
+  pub phases : List Phase
+  pub groups : List GroupConfig
+  pub next_name : ℕ
+  pub noted : Option NotedError
+
+-- what a submission sees and changes: the entries of all lists beside (profile)
+pub record Intake : Type 0 where
+  pub setup : Setup
+  pub content : Content
+
+-- what an engine's step sees and changes: a note for each engine that works on a batch, and the fates of what ended (profile)
+pub record Work : Type 0 where
+  pub setup : Setup
+  pub content : Content
+  pub notes : List (Option BatchNote)
+  pub fates : List FateRow
+
+-- the whole: the command that is not over beside (profile)
+pub record State : Type 0 where
+  pub work : Work
+  pub active : Option ActiveCommand
+
+-- all zero and Off, and no name given (profile)
+abbrev pub opening_setup : Caps → Setup
+opening_setup caps = record {
+  caps = caps;
+  device = Off;
+  configs = replicate caps.queues zero_queue;
+  phases = replicate caps.queues Off;
+  groups = replicate caps.groups zero_group;
+  next_name = 0;
+  noted = None;
+}
+
+-- a device before its first step: nothing is held, noted or active (profile)
+abbrev pub opening : Caps → State
+opening caps = record {
+  work = record {
+    setup = opening_setup caps;
+    content = replicate (list_count caps) [];
+    notes = replicate caps.engines None;
+    fates = [];
+  };
+  active = None;
+}
+
+-- ---- phases
+
+abbrev pub is_on : Phase → Bool
+is_on On = true
+is_on _ = false
+
+abbrev pub is_off : Phase → Bool
+is_off Off = true
+is_off _ = false
+
+-- a queue that the device does not have is Off
+abbrev pub phase_at : Setup → ℕ → Phase
+phase_at setup q = get_or setup.phases q Off
+
+abbrev pub has_queue : Setup → ℕ → Bool
+has_queue setup q = nat_lt q setup.caps.queues
+
+-- ---- entries, with the limits of their queue
+
+abbrev pub is_member : Entry → Bool
+is_member entry = is_some entry.parent
+
+abbrev pub limits_at : Setup → ℕ → QueueLimits
+limits_at setup q = limits_of (queue_at setup.configs q)
+
+abbrev pub need_of : Setup → Entry → ℕ
+need_of setup entry = need entry.desc (limits_at setup entry.queue) (is_member entry)
+
+abbrev pub status_of : Setup → Entry → Outcome → ℕ
+status_of setup entry outcome = status entry.desc (limits_at setup entry.queue) (is_member entry) outcome
+
+abbrev pub is_batch_of : Setup → Entry → Bool
+is_batch_of setup entry = is_lawful_batch entry.desc (limits_at setup entry.queue) (is_member entry)
+
+-- ---- lists and names
+
+abbrev pub occupancy : Content → ℕ → ℕ
+occupancy content q = length (chain content q)
+
+abbrev pub ticket_of : Slot → Ticket
+ticket_of slot = record { cell = slot.0; name = slot.1.name }
+
+abbrev pub is_ticket : Ticket → Slot → Bool
+is_ticket ticket slot = is_cell ticket.cell slot && slot.1.name == ticket.name

@@ -1,0 +1,83 @@
+-- A submission: the first cause that stands, or an entry at the end of its queue.
+use Rattle.std.specs.Prelude.{ℕ, ◌+◌, Bool, true, false, not, cond, nat_le, List, [], ◌∷◌, Option, Some, None}
+use Rattle.std.specs.Bool.{beq}
+use Rattle.dsa_desc.specs.declared.Descriptor.{Descriptor}
+use Rattle.dsa_desc.specs.Descriptor.{with_pasid}
+use Rattle.dsa_desc.specs.Rows.{first_row_or}
+use Rattle.dsa_regs.specs.declared.QueueConfig.{QueueConfig}
+use Rattle.dsa_regs.specs.Config.{queue_at}
+use Rattle.dsa_store.specs.declared.entry.Cell.{Cell}
+use Rattle.dsa_store.specs.Content.{pushed}
+use Rattle.dsa_book.specs.declared.event.Portal.{Portal}
+use Rattle.dsa_book.specs.declared.event.Portal.TheVariants.{Limited, Unlimited}
+use Rattle.dsa_book.specs.declared.event.Kind.{Kind}
+use Rattle.dsa_book.specs.declared.event.Kind.TheVariants.{Enqcmd, Movdir64b}
+use Rattle.dsa_book.specs.declared.answer.Cause.{Cause}
+use Rattle.dsa_book.specs.declared.answer.Cause.TheVariants.{AtLimit, NotEnabled, WrongKind}
+use Rattle.dsa_book.specs.declared.answer.NotedError.{NotedError}
+use Rattle.dsa_book.specs.declared.answer.SubmitAnswer.{SubmitAnswer}
+use Rattle.dsa_book.specs.declared.answer.SubmitAnswer.TheVariants.{Accepted, Retry, Dropped}
+use Rattle.dsa_book.specs.State.{Intake, occupancy, phase_at, is_on}
+
+-- the threshold on the limited portal of a shared queue, else the size
+abbrev pub limit_of : QueueConfig → Portal → ℕ
+limit_of config Limited = cond config.dedicated config.size config.threshold
+limit_of config Unlimited = config.size
+
+-- MOVDIR64B is for dedicated queues
+abbrev pub is_movdir64b : Kind → Bool
+is_movdir64b (Enqcmd pasid) = false
+is_movdir64b Movdir64b = true
+
+-- the PASID that the device gives the descriptor
+abbrev pub pasid_by : Kind → QueueConfig → ℕ
+pasid_by (Enqcmd pasid) config = pasid
+pasid_by Movdir64b config = config.pasid
+
+-- the noted error, after one more
+abbrev pub noted_more : Option NotedError → ℕ → Cause → NotedError
+noted_more None q cause = record { queue = q; cause = cause; overflow = false }
+noted_more (Some noted) q cause = record noted { overflow = true }
+
+-- ENQCMD is told to come again, MOVDIR64B leaves a noted error
+abbrev pub turned_away : Intake → ℕ → Kind → Cause → SubmitAnswer × Intake
+turned_away i q (Enqcmd pasid) cause = (Retry cause, i)
+turned_away i q Movdir64b cause =
+    (Dropped cause, record i { setup = record i.setup { noted = Some (noted_more i.setup.noted q cause) } })
+
+abbrev pub accepted : Intake → ℕ → Kind → Descriptor → Cell → SubmitAnswer × Intake
+accepted i q kind desc cell = (
+  Accepted (record { cell = cell; name = i.setup.next_name }),
+  record {
+    setup = record i.setup { next_name = i.setup.next_name + 1 };
+    content = pushed i.content q cell (
+      record {
+        name = i.setup.next_name;
+        parent = None;
+        desc = with_pasid desc (pasid_by kind (queue_at i.setup.configs q));
+        queue = q;
+        running = false;
+      }
+    );
+  },
+)
+
+-- what turns a submission away
+abbrev pub submit_table : Intake → ℕ → Portal → Kind → List (Bool × (SubmitAnswer × Intake))
+submit_table i q portal kind =
+    let config = queue_at i.setup.configs q in
+    (not (is_on (phase_at i.setup q)), turned_away i q kind NotEnabled) ∷
+    (not (beq (is_movdir64b kind) config.dedicated), turned_away i q kind WrongKind) ∷
+    (nat_le (limit_of config portal) (occupancy i.content q), turned_away i q kind AtLimit) ∷ []
+
+-- the answer and what it leaves, where an accepted entry is given this cell
+abbrev pub submit : Intake → ℕ → Portal → Kind → Descriptor → Cell → SubmitAnswer × Intake
+submit i q portal kind desc cell = first_row_or (submit_table i q portal kind) (accepted i q kind desc cell)
+
+-- ---- the zero flag
+
+-- what the program sees: clear for accepted by ENQCMD, set for retry (Intel SDM, ENQCMD); of MOVDIR64B and of a full history nothing
+abbrev pub zf : SubmitAnswer → Kind → Option Bool
+zf (Accepted ticket) (Enqcmd pasid) = Some false
+zf (Retry cause) kind = Some true
+zf _ _ = None

@@ -1,0 +1,220 @@
+-- What entries are, by the list in which they stand.
+use Rattle.std.proofs.Common.{◌≡◌, ℕ, zero, suc, ◌+◌, ◌<◌, ◌≤◌, ◌==◌, ◌||◌, not, Bool, true, false, cond, List, [], ◌∷◌, replicate, Some, refl, sym, ap, subst, ◌⊎◌, inl, inr, arith, ⊎_elim}
+use Rattle.std.specs.Prelude.{slice_get, nat_lt, is_some}
+use Rattle.std.specs.List.{list_any}
+use Rattle.std.proofs.lemmas.Bool.{cases_Bool, ltb-true, ltb-false}
+use Rattle.std.proofs.Math.ListN.{get_or-eq_default}
+use Rattle.dsa_regs.specs.Caps.{list_count}
+use Rattle.dsa_laws.proofs.Numbers.{get_or-each}
+use Rattle.dsa_desc.specs.Descriptor.{pasid_of}
+use Rattle.dsa_regs.specs.declared.Caps.{Caps}
+use Rattle.dsa_regs.specs.declared.Phase.{Phase}
+use Rattle.dsa_regs.specs.declared.Phase.TheVariants.{Off, On, Stopping}
+use Rattle.dsa_regs.specs.declared.Command.{Command}
+use Rattle.dsa_regs.specs.declared.Command.TheVariants.{DisableDevice, ResetDevice, DisableWq, ResetWq}
+use Rattle.dsa_regs.specs.Command.{named_queues}
+use Rattle.dsa_store.specs.Content.{Slot, Content, chain, all_held, without_front}
+use Rattle.dsa_book.specs.State.{Work, State, opening, is_off, phase_at}
+use Rattle.dsa_book.specs.Work.{progress_list, member_list, in_progress, members, run, with_first_run}
+use Rattle.dsa_book.specs.Commands.{stopped, with_phases, names, is_in_scope, is_at_end}
+use Rattle.dsa_laws.specs.Change.{Change, IsAccepted, IsFetched, same, is_noted, is_accepted, is_taken, is_fetched, is_started, is_abandoned, is_ended, is_device_enabled, is_queue_enabled, is_waiting, is_over, is_aborted, is_device_reset, is_queues_reset, is_queue_written, is_group_written}
+use Rattle.dsa_laws.specs.WellFormed.{HasShape, In, EachAt, IsPlaced, NoneOff, PasidsFit, HasLawfulEntries}
+use Rattle.dsa_laws.proofs.Contents.{In-find, In-chain, In-filtered, each-set, each-pushed, each-without_front, each-filtered}
+use Rattle.dsa_laws.proofs.Changes.{and-left, and-right, not-true}
+use Rattle.dsa_laws.proofs.Shapes.{on-queue, below-engines, In-cond}
+use Rattle.dsa_laws.proofs.Setups.{not-both, on-not_off}
+
+pub In-front : (x : Slot) (xs : List Slot) → slice_get xs 0 ≡ Some x → In x xs
+In-front x [] h = absurd cc
+In-front x (y ∷ ys) h = inl cc
+
+pub queue-below : (caps : Caps) (w : Work) (q : ℕ) → HasShape caps w → nat_lt q w.setup.caps.queues ≡ true → q < caps.queues
+queue-below caps w q h t = let i = ltb-true q w.setup.caps.queues t in let e = ap (λ (c : Caps). c.queues) h.same_caps in omega (arith, i, e)
+
+-- what holds of each of a list, and is not changed when an entry begins to run, holds when the first begins to run
+first_run-each : (P : Slot → Type 0) → ((x : Slot) → P x → P (run x)) → (xs : List Slot) → ((x : Slot) → In x xs → P x) → (x : Slot) → In x (with_first_run xs) → P x
+first_run-each P r [] a x i = absurd i
+first_run-each P r (y ∷ ys) a x i = go (first_run-each P r ys (λ z j. a z (inr j)) x) y.1.running i
+  where
+    go : (In x (with_first_run ys) → P x) → (b : Bool) → In x (cond b (y ∷ with_first_run ys) (run y ∷ ys)) → P x
+    go more true (inl e) = a x (inl e)
+    go more true (inr j) = more j
+    go more false (inl e) = subst P e (r y (a y (inl refl)))
+    go more false (inr j) = a x (inr j)
+
+-- twice the low bits are the low bits
+pasid-again : (p : ℕ) → pasid_of (pasid_of p) ≡ pasid_of p
+pasid-again p = omega arith
+
+-- what is the same wherever an entry stands and whether it runs or not: it is enough to see it of what comes
+each-content : (P : Slot → Type 0) → ((x : Slot) → P x → P (run x)) → (s s' : State) → Change s s' → EachAt (λ k. P) s.work.content
+    → ((c : IsAccepted s s') (x : Slot) → x.1.queue ≡ c.queue → pasid_of x.1.desc.pasid ≡ x.1.desc.pasid → P x)
+    → ((c : IsFetched s s') (x : Slot) → x.1.queue ≡ c.batch.1.queue → pasid_of x.1.desc.pasid ≡ x.1.desc.pasid → P x)
+    → EachAt (λ k. P) s'.work.content
+each-content P r s s' (same c) a n m = subst (λ t. EachAt (λ k. P) t.work.content) c a
+each-content P r s s' (is_noted c) a n m = subst (λ t. EachAt (λ k. P) t.work.content) c.after a
+each-content P r s s' (is_accepted c) a n m = subst (λ t. EachAt (λ k. P) t.work.content) c.after (each-pushed (λ k. P) s.work.content c.queue _ a (n c _ refl (pasid-again _)))
+each-content P r s s' (is_taken c) a n m =
+    subst (λ t. EachAt (λ k. P) t.work.content) c.after
+    (each-pushed (λ k. P) (without_front s.work.content c.queue) _ (run c.front) (each-without_front (λ k. P) s.work.content c.queue a) (r c.front (a c.queue c.front (In-front c.front _ c.is_front))))
+each-content P r s s' (is_fetched c) a n m = subst (λ t. EachAt (λ k. P) t.work.content) c.after (each-pushed (λ k. P) s.work.content _ _ a (m c _ refl (pasid-again _)))
+each-content P r s s' (is_started c) a n m =
+    subst (λ t. EachAt (λ k. P) t.work.content) c.after
+    (each-set (λ k. P) s.work.content _ (with_first_run (members s.work c.engine)) a (first_run-each P r (members s.work c.engine) (λ x i. a _ x (In-cond _ x _ i).1)))
+each-content P r s s' (is_abandoned c) a n m = subst (λ t. EachAt (λ k. P) t.work.content) c.after (each-set (λ k. P) s.work.content _ [] a (λ x i. absurd i))
+each-content P r s s' (is_ended c) a n m = subst (λ t. EachAt (λ k. P) t.work.content) c.after (each-filtered (λ k. P) _ s.work.content a)
+each-content P r s s' (is_device_enabled c) a n m = subst (λ t. EachAt (λ k. P) t.work.content) c.after a
+each-content P r s s' (is_queue_enabled c) a n m = subst (λ t. EachAt (λ k. P) t.work.content) c.after a
+each-content P r s s' (is_waiting c) a n m = subst (λ t. EachAt (λ k. P) t.work.content) c.after a
+each-content P r s s' (is_over c) a n m = subst (λ t. EachAt (λ k. P) t.work.content) c.after a
+each-content P r s s' (is_aborted c) a n m = subst (λ t. EachAt (λ k. P) t.work.content) c.after (each-filtered (λ k. P) _ s.work.content a)
+each-content P r s s' (is_device_reset c) a n m = subst (λ t. EachAt (λ k. P) t.work.content) c.after (each-filtered (λ k. P) (λ x. not (is_in_scope ResetDevice x.1)) s.work.content a)
+each-content P r s s' (is_queues_reset c) a n m = subst (λ t. EachAt (λ k. P) t.work.content) c.after (each-filtered (λ k. P) _ s.work.content a)
+each-content P r s s' (is_queue_written c) a n m = subst (λ t. EachAt (λ k. P) t.work.content) c.after a
+each-content P r s s' (is_group_written c) a n m = subst (λ t. EachAt (λ k. P) t.work.content) c.after a
+
+pub pasids-change : (s s' : State) → PasidsFit s.work → Change s s' → PasidsFit s'.work
+pasids-change s s' h c = each-content (λ x. pasid_of x.1.desc.pasid ≡ x.1.desc.pasid) (λ x p. p) s s' c h (λ c x e p. p) (λ c x e p. p)
+
+-- ---- places
+
+placed-member : (caps : Caps) (k : ℕ) (x : Slot) → caps.queues + caps.engines ≤ k → is_some x.1.parent ≡ true → IsPlaced caps k x
+placed-member caps k x h m = record { member = λ i. m; queue = λ i. absurd (omega (arith, h, i)); submitted = λ i. absurd (omega (arith, h, i)); waiting = λ i. absurd (omega (arith, h, i)); running = λ i j. absurd (omega (arith, h, j)) }
+
+member_list-past : (caps : Caps) (w : Work) (e : ℕ) → HasShape caps w → caps.queues + caps.engines ≤ member_list w.setup e
+member_list-past caps w e h = let a = ap (λ (c : Caps). c.queues) h.same_caps in let b = ap (λ (c : Caps). c.engines) h.same_caps in omega (arith, a, b)
+
+pub placed-change : (caps : Caps) (s s' : State) → HasShape caps s.work → EachAt (IsPlaced caps) s.work.content → Change s s' → EachAt (IsPlaced caps) s'.work.content
+placed-change caps s s' h a (same c) = subst (λ t. EachAt (IsPlaced caps) t.work.content) c a
+placed-change caps s s' h a (is_noted c) = subst (λ t. EachAt (IsPlaced caps) t.work.content) c.after a
+placed-change caps s s' h a (is_accepted c) =
+    let inside = on-queue caps s.work c.queue h c.on in
+    subst (λ t. EachAt (IsPlaced caps) t.work.content) c.after
+    (each-pushed (IsPlaced caps) s.work.content c.queue _ a (record { member = λ i. absurd (omega (arith, inside, i)); queue = λ i. refl; submitted = λ i. refl; waiting = λ i. refl; running = λ i j. absurd (omega (arith, inside, i)) }))
+placed-change caps s s' h a (is_taken c) =
+    let q = ap (λ (c : Caps). c.queues) h.same_caps in
+    let inside = queue-below caps s.work c.queue h (and-right _ _ (and-left _ _ c.qualifies)) in
+    let engine = below-engines caps s.work c.engine h (and-left _ _ (and-left _ _ c.qualifies)) in
+    let front = a c.queue c.front (In-front c.front _ c.is_front) in
+    subst (λ t. EachAt (IsPlaced caps) t.work.content) c.after
+    (each-pushed (IsPlaced caps) (without_front s.work.content c.queue) (progress_list s.work.setup c.engine) (run c.front) (each-without_front (IsPlaced caps) s.work.content c.queue a)
+    (record { member = λ i. absurd (omega (arith, q, i, engine)); queue = λ i. absurd (omega (arith, q, i)); submitted = λ i. front.submitted (omega (arith, inside)); waiting = λ i. absurd (omega (arith, q, i)); running = λ i j. refl }))
+placed-change caps s s' h a (is_fetched c) =
+    subst (λ t. EachAt (IsPlaced caps) t.work.content) c.after
+    (each-pushed (IsPlaced caps) s.work.content (member_list s.work.setup c.engine) _ a (placed-member caps _ _ (member_list-past caps s.work c.engine h) refl))
+placed-change caps s s' h a (is_started c) =
+    subst (λ t. EachAt (IsPlaced caps) t.work.content) c.after
+    (each-set (IsPlaced caps) s.work.content (member_list s.work.setup c.engine) (with_first_run (members s.work c.engine)) a (λ x i. placed-member caps _ x (member_list-past caps s.work c.engine h)
+    (first_run-each (λ x. is_some x.1.parent ≡ true) (λ x p. p) (members s.work c.engine) (λ x j. (a (member_list s.work.setup c.engine) x (In-cond _ x _ j).1).member (member_list-past caps s.work c.engine h)) x i)))
+placed-change caps s s' h a (is_abandoned c) = subst (λ t. EachAt (IsPlaced caps) t.work.content) c.after (each-set (IsPlaced caps) s.work.content _ [] a (λ x i. absurd i))
+placed-change caps s s' h a (is_ended c) = subst (λ t. EachAt (IsPlaced caps) t.work.content) c.after (each-filtered (IsPlaced caps) _ s.work.content a)
+placed-change caps s s' h a (is_device_enabled c) = subst (λ t. EachAt (IsPlaced caps) t.work.content) c.after a
+placed-change caps s s' h a (is_queue_enabled c) = subst (λ t. EachAt (IsPlaced caps) t.work.content) c.after a
+placed-change caps s s' h a (is_waiting c) = subst (λ t. EachAt (IsPlaced caps) t.work.content) c.after a
+placed-change caps s s' h a (is_over c) = subst (λ t. EachAt (IsPlaced caps) t.work.content) c.after a
+placed-change caps s s' h a (is_aborted c) = subst (λ t. EachAt (IsPlaced caps) t.work.content) c.after (each-filtered (IsPlaced caps) _ s.work.content a)
+placed-change caps s s' h a (is_device_reset c) = subst (λ t. EachAt (IsPlaced caps) t.work.content) c.after (each-filtered (IsPlaced caps) (λ x. not (is_in_scope ResetDevice x.1)) s.work.content a)
+placed-change caps s s' h a (is_queues_reset c) = subst (λ t. EachAt (IsPlaced caps) t.work.content) c.after (each-filtered (IsPlaced caps) _ s.work.content a)
+placed-change caps s s' h a (is_queue_written c) = subst (λ t. EachAt (IsPlaced caps) t.work.content) c.after a
+placed-change caps s s' h a (is_group_written c) = subst (λ t. EachAt (IsPlaced caps) t.work.content) c.after a
+
+-- ---- no entry names a queue that is Off
+
+pub or-left : (a b : Bool) → (a || b) ≡ false → a ≡ false
+or-left true b h = cc
+or-left false b h = refl
+
+pub or-right : (a b : Bool) → (a || b) ≡ false → b ≡ false
+or-right true b h = absurd cc
+or-right false b h = h
+
+none-in : (test : Slot → Bool) (x : Slot) (xs : List Slot) → list_any test xs ≡ false → In x xs → test x ≡ false
+none-in test x [] h i = absurd i
+none-in test x (y ∷ ys) h (inl e) = subst (λ z. test z ≡ false) e (or-left (test y) _ h)
+none-in test x (y ∷ ys) h (inr i) = none-in test x ys (or-right (test y) _ h) i
+
+-- nothing that is slot is of what ends
+pub none-slot : (test : Slot → Bool) (content : Content) (k : ℕ) (x : Slot) → list_any test (all_held content) ≡ false → In x (chain content k) → test x ≡ false
+none-slot test content k x h i = none-in test x (all_held content) h (In-chain x content k i)
+
+-- a queue that is not Off is one of the device's
+pub in-use-below : (caps : Caps) (w : Work) (q : ℕ) → HasShape caps w → is_off (phase_at w.setup q) ≡ false → q < w.setup.caps.queues
+in-use-below caps w q h n = ⊎_elim
+    (λ t. ltb-true q w.setup.caps.queues t)
+    (λ f.
+        let e = ltb-false q w.setup.caps.queues f in
+        let size = ap (λ (c : Caps). c.queues) h.same_caps in
+        let off : phase_at w.setup q ≡ Off = get_or-eq_default w.setup.phases Off (omega (arith, e, size, h.phases)) in
+        not-both (is_off (phase_at w.setup q)) (ap is_off off) n)
+    (cases_Bool (nat_lt q w.setup.caps.queues))
+
+-- a phase that is not set to Off stays
+kept-phase : (caps : Caps) (w : Work) (test : ℕ → Bool) (p : Phase) (q : ℕ) → HasShape caps w → (test q ≡ false) ⊎ (is_off p ≡ false) → is_off (phase_at w.setup q) ≡ false → is_off (phase_at (with_phases test p w.setup) q) ≡ false
+kept-phase caps w test p q h out n =
+    subst (λ r. is_off r ≡ false) (sym (get_or-each (λ k. cond (test k) p (phase_at w.setup k)) w.setup.caps.queues q Off (in-use-below caps w q h n))) (tested (test q) refl out)
+  where
+    tested : (b : Bool) → test q ≡ b → (test q ≡ false) ⊎ (is_off p ≡ false) → is_off (cond b p (phase_at w.setup q)) ≡ false
+    tested true t (inl f) = not-both (test q) t f
+    tested true t (inr g) = g
+    tested false t o = n
+
+over-off : (caps : Caps) (w : Work) (c : Command) (mark : ℕ) → HasShape caps w → is_at_end (record { command = c; mark = mark }) w.content ≡ true
+    → (k : ℕ) (x : Slot) → In x (chain w.content k) → is_off (phase_at w.setup x.1.queue) ≡ false → is_off (phase_at (stopped c Off w.setup) x.1.queue) ≡ false
+over-off caps w DisableDevice mark h e k x i p = absurd (not-both true refl (none-slot (λ slot. true) w.content k x (not-true _ e) i))
+over-off caps w (DisableWq queues) mark h e k x i p =
+    let out = none-slot (λ slot. names (named_queues (DisableWq queues)) slot.1.queue) w.content k x (not-true _ e) i in
+    kept-phase caps w (names (named_queues (DisableWq queues))) Off x.1.queue h (inl out) p
+over-off caps w _ mark h e k x i p = p
+
+waiting-off : (caps : Caps) (w : Work) (c : Command) → HasShape caps w → (q : ℕ) → is_off (phase_at w.setup q) ≡ false → is_off (phase_at (stopped c Stopping w.setup) q) ≡ false
+waiting-off caps w DisableDevice h q n = kept-phase caps w (λ k. not (is_off (phase_at w.setup k))) Stopping q h (inr refl) n
+waiting-off caps w (DisableWq queues) h q n = kept-phase caps w (names (named_queues (DisableWq queues))) Stopping q h (inr refl) n
+waiting-off caps w _ h q n = n
+
+-- the same of what entries there are after the change, by the phases before it
+old-off : (s s' : State) → NoneOff s.work → Change s s' → EachAt (λ k x. is_off (phase_at s.work.setup x.1.queue) ≡ false) s'.work.content
+old-off s s' a c = each-content (λ x. is_off (phase_at s.work.setup x.1.queue) ≡ false) (λ x p. p) s s' c a
+    (λ c x e p. subst (λ q. is_off (phase_at s.work.setup q) ≡ false) (sym e) (on-not_off _ c.on))
+    (λ c x e p. subst (λ q. is_off (phase_at s.work.setup q) ≡ false) (sym e) (a _ c.batch (In-cond _ c.batch _ (In-find _ c.batch (in_progress s.work c.engine) c.is_batch).0).1))
+
+-- a queue that an entry names is not set to Off
+abbrev KeepsPhases : State → State → Type 0
+KeepsPhases s t = (k : ℕ) (x : Slot) → In x (chain t.work.content k) → is_off (phase_at s.work.setup x.1.queue) ≡ false → is_off (phase_at t.work.setup x.1.queue) ≡ false
+
+phases-kept : (caps : Caps) (s s' : State) → HasShape caps s.work → Change s s' → KeepsPhases s s'
+phases-kept caps s s' h (same c) = subst (λ t. KeepsPhases s t) c (λ k x i p. p)
+phases-kept caps s s' h (is_noted c) = subst (λ t. KeepsPhases s t) c.after (λ k x i p. p)
+phases-kept caps s s' h (is_accepted c) = subst (λ t. KeepsPhases s t) c.after (λ k x i p. p)
+phases-kept caps s s' h (is_taken c) = subst (λ t. KeepsPhases s t) c.after (λ k x i p. p)
+phases-kept caps s s' h (is_fetched c) = subst (λ t. KeepsPhases s t) c.after (λ k x i p. p)
+phases-kept caps s s' h (is_started c) = subst (λ t. KeepsPhases s t) c.after (λ k x i p. p)
+phases-kept caps s s' h (is_abandoned c) = subst (λ t. KeepsPhases s t) c.after (λ k x i p. p)
+phases-kept caps s s' h (is_ended c) = subst (λ t. KeepsPhases s t) c.after (λ k x i p. p)
+phases-kept caps s s' h (is_device_enabled c) = subst (λ t. KeepsPhases s t) c.after (λ k x i p. p)
+phases-kept caps s s' h (is_queue_enabled c) = subst (λ t. KeepsPhases s t) c.after (λ k x i p. kept-phase caps s.work (λ q. q == c.queue) On x.1.queue h (inr refl) p)
+phases-kept caps s s' h (is_waiting c) = subst (λ t. KeepsPhases s t) c.after (λ k x i p. waiting-off caps s.work c.command h x.1.queue p)
+phases-kept caps s s' h (is_over c) = subst (λ t. KeepsPhases s t) c.after (λ k x i p. over-off caps s.work c.command.command c.command.mark h c.over k x i p)
+phases-kept caps s s' h (is_aborted c) = subst (λ t. KeepsPhases s t) c.after (λ k x i p. p)
+phases-kept caps s s' h (is_device_reset c) = subst (λ t. KeepsPhases s t) c.after (λ k x i p. not-both false (In-filtered (λ slot. not true) s.work.content k x i).1 refl)
+phases-kept caps s s' h (is_queues_reset c) =
+    let qs = named_queues (ResetWq c.queues) in
+    subst (λ t. KeepsPhases s t) c.after (λ k x i p. kept-phase caps s.work (names qs) Off x.1.queue h (inl (not-true _ (In-filtered (λ slot. not (names qs slot.1.queue)) s.work.content k x i).1)) p)
+phases-kept caps s s' h (is_queue_written c) = subst (λ t. KeepsPhases s t) c.after (λ k x i p. p)
+phases-kept caps s s' h (is_group_written c) = subst (λ t. KeepsPhases s t) c.after (λ k x i p. p)
+
+pub off-change : (caps : Caps) (s s' : State) → HasShape caps s.work → NoneOff s.work → Change s s' → NoneOff s'.work
+off-change caps s s' h a c k x i = phases-kept caps s s' h c k x i (old-off s s' a c k x i)
+
+pub entries-change : (caps : Caps) (s s' : State) → HasShape caps s.work → HasLawfulEntries caps s.work → Change s s' → HasLawfulEntries caps s'.work
+entries-change caps s s' h a c = record { placed = placed-change caps s s' h a.placed c; slot = off-change caps s s' h a.slot c; pasids = pasids-change s s' a.pasids c }
+
+no-entries : (n k : ℕ) (x : Slot) → In x (chain (replicate n []) k) → ⊥
+no-entries zero k x i = i
+no-entries (suc n) zero x i = i
+no-entries (suc n) (suc k) x i = no-entries n k x i
+
+pub each-opening : (P : ℕ → Slot → Type 0) (caps : Caps) → EachAt P (opening caps).work.content
+each-opening P caps k x i = absurd (no-entries (list_count caps) k x i)
+
+pub entries-opening : (caps : Caps) → HasLawfulEntries caps (opening caps).work
+entries-opening caps = record { placed = each-opening (IsPlaced caps) caps; slot = each-opening _ caps; pasids = each-opening _ caps }

@@ -1,0 +1,134 @@
+-- The numbers of the batch notes.
+use Rattle.std.proofs.Common.{◌≡◌, ℕ, zero, suc, ◌<◌, ◌≤◌, ◌^◌, ◌&&◌, not, Bool, true, false, cond, List, [], ◌∷◌, set, get_or, replicate, Option, Some, None, option_map, refl, sym, ap, subst, arith, ⊎_elim, eqb-true}
+use Rattle.std.specs.Prelude.{nat_lt}
+use Rattle.std.proofs.lemmas.Bool.{cases_Bool, ltb-true, ltb-false, leb-true, leb-false}
+use Rattle.std.proofs.Math.Nat.{pow-le-pow_right}
+use Rattle.dsa_desc.specs.declared.Descriptor.{Descriptor}
+use Rattle.dsa_desc.specs.declared.QueueLimits.{QueueLimits}
+use Rattle.dsa_desc.specs.Rows.{first_row_or}
+use Rattle.dsa_desc.specs.Descriptor.{is_lawful_batch, is_batch, is_within, is_well_formed, is_supported, is_fenced, is_transfer, check, is_successful}
+use Rattle.dsa_regs.specs.declared.Caps.{Caps}
+use Rattle.dsa_regs.specs.declared.Command.{Command}
+use Rattle.dsa_regs.specs.declared.Command.TheVariants.{ResetDevice, ResetWq}
+use Rattle.dsa_regs.specs.Config.{queue_at, queue_table}
+use Rattle.dsa_store.specs.Content.{Slot, chain}
+use Rattle.dsa_book.specs.declared.note.BatchNote.{BatchNote}
+use Rattle.dsa_book.specs.State.{Setup, Work, State, opening, is_off, is_member, phase_at, limits_at, is_batch_of, status_of}
+use Rattle.dsa_book.specs.Work.{note_at, opened_note, note_after, progress_list}
+use Rattle.dsa_book.specs.Commands.{kept_note, aborted}
+use Rattle.dsa_laws.specs.Change.{Change, same, is_noted, is_accepted, is_taken, is_fetched, is_started, is_abandoned, is_ended, is_device_enabled, is_queue_enabled, is_waiting, is_over, is_aborted, is_device_reset, is_queues_reset, is_queue_written, is_group_written}
+use Rattle.dsa_laws.specs.WellFormed.{HasShape, HasLawfulSetup, HasLawfulEntries, NoteFits, NotesFit}
+use Rattle.dsa_laws.proofs.Changes.{and-left, and-right}
+use Rattle.dsa_laws.proofs.Entries.{In-front, or-right}
+use Rattle.dsa_laws.proofs.Limits.{no-row}
+use Rattle.dsa_laws.proofs.Numbers.{get_or-each, get_or-past}
+
+-- ---- the size of a batch
+
+check_rows : (a b c d : Bool) → first_row_or {X = ℕ} ((a, 0x10) ∷ (b, 0x11) ∷ (c, 0x13) ∷ (d, 0x14) ∷ []) 0 ≡ 0 → d ≡ false
+check_rows true b c d h = absurd (omega (arith, h))
+check_rows false true c d h = absurd (omega (arith, h))
+check_rows false false true d h = absurd (omega (arith, h))
+check_rows false false false true h = absurd (omega (arith, h))
+check_rows false false false false h = refl
+
+inside : (a b : Bool) → a ≡ true → (a && not b) ≡ false → b ≡ true
+inside true true t h = refl
+inside true false t h = absurd cc
+inside false b t h = absurd cc
+
+batch-size : (d : Descriptor) (limits : QueueLimits) (member : Bool) → is_lawful_batch d limits member ≡ true → d.size ≤ 2 ^ limits.max_batch_shift
+batch-size d limits member h =
+    let fine : check d limits member ≡ 0 = eqb-true (check d limits member) 0 (and-right (is_batch d) (is_well_formed d limits member) h) in
+    let last = check_rows (not (is_supported d member)) (is_fenced d && not member) (is_transfer d && not (is_within 1 (2 ^ limits.max_xfer_shift) d.size)) (is_batch d && not (is_within 2 (2 ^ limits.max_batch_shift) d.size)) fine in
+    leb-true d.size (2 ^ limits.max_batch_shift) (and-right _ _ (inside (is_batch d) (is_within 2 (2 ^ limits.max_batch_shift) d.size) (and-left (is_batch d) (is_well_formed d limits member) h) last))
+
+front-size : (caps : Caps) (w : Work) (x : Slot) → HasShape caps w → HasLawfulSetup w.setup → is_off (phase_at w.setup x.1.queue) ≡ false → is_batch_of w.setup x.1 ≡ true → x.1.desc.size ≤ 2 ^ caps.max_batch_shift
+front-size caps w x shape setup off b =
+    let size = batch-size x.1.desc (limits_at w.setup x.1.queue) (is_member x.1) b in
+    let rows = no-row (queue_table w.setup.caps w.setup.groups x.1.queue (queue_at w.setup.configs x.1.queue)) (setup.queue x.1.queue off) in
+    let shift = ltb-false w.setup.caps.max_batch_shift (queue_at w.setup.configs x.1.queue).max_batch_shift rows.1.1.1.1.1.0 in
+    let is = ap (λ (c : Caps). c.max_batch_shift) shape.same_caps in
+    let below : (queue_at w.setup.configs x.1.queue).max_batch_shift ≤ caps.max_batch_shift = omega (arith, shift, is) in
+    let two : 0 < 2 = omega arith in
+    let more = pow-le-pow_right two below in
+    omega (arith, size, more)
+
+-- ---- notes
+
+set-notes : (caps : Caps) (notes : List (Option BatchNote)) (e : ℕ) (x : Option BatchNote) → ((j : ℕ) → NoteFits caps (get_or notes j None)) → NoteFits caps x → (j : ℕ) → NoteFits caps (get_or (set notes e x) j None)
+set-notes caps [] e x a b j = a j
+set-notes caps (n ∷ ns) zero x a b zero = b
+set-notes caps (n ∷ ns) zero x a b (suc j) = a (suc j)
+set-notes caps (n ∷ ns) (suc e) x a b zero = a zero
+set-notes caps (n ∷ ns) (suc e) x a b (suc j) = set-notes caps ns e x (λ i. a (suc i)) b j
+
+-- a note with other marks
+marked : (caps : Caps) (f : BatchNote → BatchNote) → ((n : BatchNote) → (f n).fetched ≡ n.fetched) → ((n : BatchNote) → (f n).count ≡ n.count) → (o : Option BatchNote) → NoteFits caps o → NoteFits caps (option_map f o)
+marked caps f a b None h = h
+marked caps f a b (Some n) h = let p = a n in let q = b n in let l = h.0 in let m = h.1 in (omega (arith, p, q, l), omega (arith, q, m))
+
+fits-cond : (caps : Caps) (b : Bool) (x y : Option BatchNote) → (b ≡ true → NoteFits caps x) → NoteFits caps y → NoteFits caps (cond b x y)
+fits-cond caps true x y p q = p refl
+fits-cond caps false x y p q = q
+
+kept-fits : (caps : Caps) (setup : Setup) (xs : List Slot) (o : Option BatchNote) → NoteFits caps o → NoteFits caps (kept_note setup xs o)
+kept-fits caps setup xs None h = h
+kept-fits caps setup xs (Some n) h = fits-cond caps _ (Some n) None (λ t. h) tt
+
+aborted-fits : (caps : Caps) (command : Command) (w : Work) → NotesFit caps w → (j : ℕ) → NoteFits caps (get_or (aborted command w).notes j None)
+aborted-fits caps command w h j = ⊎_elim
+    (λ t. subst (NoteFits caps) (sym (get_or-each f w.setup.caps.engines j None (ltb-true j w.setup.caps.engines t))) (kept-fits caps w.setup (chain (aborted command w).content (progress_list w.setup j)) (note_at w j) (h j)))
+    (λ e. subst (NoteFits caps) (sym (get_or-past f w.setup.caps.engines j None (ltb-false j w.setup.caps.engines e))) tt)
+    (cases_Bool (nat_lt j w.setup.caps.engines))
+  where
+    f : ℕ → Option BatchNote
+    f = λ e. kept_note w.setup (chain (aborted command w).content (progress_list w.setup e)) (note_at w e)
+
+taken-fits : (caps : Caps) (b : Bool) (notes : List (Option BatchNote)) (e : ℕ) (x : Option BatchNote) → ((j : ℕ) → NoteFits caps (get_or notes j None)) → (b ≡ true → NoteFits caps x) → (j : ℕ) → NoteFits caps (get_or (cond b (set notes e x) notes) j None)
+taken-fits caps true notes e x a p j = set-notes caps notes e x a (p refl) j
+taken-fits caps false notes e x a p j = a j
+
+after-fits : (caps : Caps) (b m : Bool) (x y : Option BatchNote) → NoteFits caps x → NoteFits caps y → NoteFits caps (cond b None (cond m x y))
+after-fits caps true m x y p q = tt
+after-fits caps false true x y p q = p
+after-fits caps false false x y p q = q
+
+pub notes-change : (caps : Caps) (s s' : State) → HasShape caps s.work → HasLawfulSetup s.work.setup → HasLawfulEntries caps s.work → NotesFit caps s.work → Change s s' → NotesFit caps s'.work
+notes-change caps s s' shape setup entries h (same c) = subst (λ t. NotesFit caps t.work) c h
+notes-change caps s s' shape setup entries h (is_noted c) = subst (λ t. NotesFit caps t.work) c.after h
+notes-change caps s s' shape setup entries h (is_accepted c) = subst (λ t. NotesFit caps t.work) c.after h
+notes-change caps s s' shape setup entries h (is_taken c) =
+    let off = entries.slot c.queue c.front (In-front c.front (chain s.work.content c.queue) c.is_front) in
+    subst (λ t. NotesFit caps t.work) c.after
+    (taken-fits caps (is_batch_of s.work.setup c.front.1) s.work.notes c.engine (Some (opened_note c.front.1)) h
+    (λ b. (omega arith, front-size caps s.work c.front shape setup off b)))
+notes-change caps s s' shape setup entries h (is_fetched c) =
+    let old : NoteFits caps (Some c.note) = subst (NoteFits caps) c.is_note (h c.engine) in
+    let below = leb-false c.note.count c.note.fetched (or-right c.note.closed _ c.more) in
+    let most = old.1 in
+    subst (λ t. NotesFit caps t.work) c.after (set-notes caps s.work.notes c.engine _ h (omega (arith, below), omega (arith, most)))
+notes-change caps s s' shape setup entries h (is_started c) = subst (λ t. NotesFit caps t.work) c.after h
+notes-change caps s s' shape setup entries h (is_abandoned c) =
+    subst (λ t. NotesFit caps t.work) c.after (set-notes caps s.work.notes c.engine _ h (marked caps (λ (note : BatchNote). record note { closed = true }) (λ n. refl) (λ n. refl) (note_at s.work c.engine) (h c.engine)))
+notes-change caps s s' shape setup entries h (is_ended c) =
+    let failed = marked caps (λ (note : BatchNote). record note { failed = true }) (λ n. refl) (λ n. refl) (note_at s.work c.engine) (h c.engine) in
+    subst (λ t. NotesFit caps t.work) c.after (set-notes caps s.work.notes c.engine (note_after s.work c.engine c.slot c.outcome) h
+    (after-fits caps (is_batch_of s.work.setup c.slot.1) (is_member c.slot.1 && not (is_successful (status_of s.work.setup c.slot.1 c.outcome))) (option_map (λ (note : BatchNote). record note { failed = true }) (note_at s.work c.engine)) (note_at s.work c.engine) failed (h c.engine)))
+notes-change caps s s' shape setup entries h (is_device_enabled c) = subst (λ t. NotesFit caps t.work) c.after h
+notes-change caps s s' shape setup entries h (is_queue_enabled c) = subst (λ t. NotesFit caps t.work) c.after h
+notes-change caps s s' shape setup entries h (is_waiting c) = subst (λ t. NotesFit caps t.work) c.after h
+notes-change caps s s' shape setup entries h (is_over c) = subst (λ t. NotesFit caps t.work) c.after h
+notes-change caps s s' shape setup entries h (is_aborted c) = subst (λ t. NotesFit caps t.work) c.after (aborted-fits caps c.command s.work h)
+notes-change caps s s' shape setup entries h (is_device_reset c) = subst (λ t. NotesFit caps t.work) c.after (aborted-fits caps ResetDevice s.work h)
+notes-change caps s s' shape setup entries h (is_queues_reset c) = subst (λ t. NotesFit caps t.work) c.after (aborted-fits caps (ResetWq c.queues) s.work h)
+notes-change caps s s' shape setup entries h (is_queue_written c) = subst (λ t. NotesFit caps t.work) c.after h
+notes-change caps s s' shape setup entries h (is_group_written c) = subst (λ t. NotesFit caps t.work) c.after h
+
+none-noted : (n e : ℕ) → ◌≡◌ {A = Option BatchNote} (get_or (replicate n None) e None) None
+none-noted zero e = refl
+none-noted (suc n) zero = refl
+none-noted (suc n) (suc e) = none-noted n e
+
+pub notes-opening : (caps : Caps) → NotesFit caps (opening caps).work
+notes-opening caps e = subst (NoteFits caps) (sym (none-noted caps.engines e)) tt

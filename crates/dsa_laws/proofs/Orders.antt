@@ -1,0 +1,133 @@
+-- Members that run stand before the others.
+use Rattle.std.proofs.Common.{◌≡◌, ℕ, zero, suc, ◌+◌, ◌≤◌, ◌&&◌, not, Bool, true, false, cond, List, [], ◌∷◌, ◌++◌, map, set, replicate, refl, sym, ap, ◌∙◌, subst, ◌⊎◌, inl, inr, arith, ⊎_elim}
+use Rattle.std.specs.Prelude.{filter}
+use Rattle.dsa_regs.specs.declared.Caps.{Caps}
+use Rattle.dsa_regs.specs.declared.Command.TheVariants.{ResetDevice}
+use Rattle.dsa_regs.specs.Caps.{list_count}
+use Rattle.dsa_store.specs.Content.{Slot, Content, chain, tail, without_front}
+use Rattle.dsa_book.specs.State.{Work, State, opening}
+use Rattle.dsa_book.specs.Work.{progress_list, member_list, members, run, with_first_run}
+use Rattle.dsa_book.specs.Commands.{is_in_scope}
+use Rattle.dsa_laws.specs.Change.{Change, same, is_noted, is_accepted, is_taken, is_fetched, is_started, is_abandoned, is_ended, is_device_enabled, is_queue_enabled, is_waiting, is_over, is_aborted, is_device_reset, is_queues_reset, is_queue_written, is_group_written}
+use Rattle.dsa_laws.specs.WellFormed.{HasShape, MembersInOrder, runs_first, none_runs}
+use Rattle.dsa_laws.proofs.Contents.{chain-filtered}
+use Rattle.dsa_laws.proofs.Changes.{and-left, and-right}
+use Rattle.dsa_laws.proofs.Entries.{queue-below}
+use Rattle.dsa_laws.proofs.Shapes.{on-queue, below-engines, waiting-engine}
+
+both : (a b : Bool) → a ≡ true → b ≡ true → (a && b) ≡ true
+both true b t u = u
+both false b t u = absurd cc
+
+none-first : (xs : List Slot) → none_runs xs ≡ true → runs_first xs ≡ true
+none-first [] h = refl
+none-first (x ∷ xs) h = go x.1.running (and-left _ _ h) (and-right _ _ h)
+  where
+    go : (b : Bool) → not b ≡ true → none_runs xs ≡ true → cond b (runs_first xs) (none_runs xs) ≡ true
+    go true n h = absurd cc
+    go false n h = h
+
+none-push : (xs : List Slot) (y : Slot) → y.1.running ≡ false → none_runs xs ≡ true → none_runs (xs ++ y ∷ []) ≡ true
+none-push [] y n h = both _ _ (ap not n) refl
+none-push (x ∷ xs) y n h = both _ _ (and-left _ _ h) (none-push xs y n (and-right _ _ h))
+
+pub first-push : (xs : List Slot) (y : Slot) → y.1.running ≡ false → runs_first xs ≡ true → runs_first (xs ++ y ∷ []) ≡ true
+first-push [] y n h = ap (λ (b : Bool). cond b true true) n
+first-push (x ∷ xs) y n h = go x.1.running (first-push xs y n) h
+  where
+    go : (b : Bool) → (runs_first xs ≡ true → runs_first (xs ++ y ∷ []) ≡ true) → cond b (runs_first xs) (none_runs xs) ≡ true → cond b (runs_first (xs ++ y ∷ [])) (none_runs (xs ++ y ∷ [])) ≡ true
+    go true more h = more h
+    go false more h = none-push xs y n h
+
+none-filter : (p : Slot → Bool) (xs : List Slot) → none_runs xs ≡ true → none_runs (filter p xs) ≡ true
+none-filter p [] h = refl
+none-filter p (x ∷ xs) h = go (p x) (none-filter p xs (and-right _ _ h))
+  where
+    go : (b : Bool) → none_runs (filter p xs) ≡ true → none_runs (cond b (x ∷ filter p xs) (filter p xs)) ≡ true
+    go true more = both _ _ (and-left _ _ h) more
+    go false more = more
+
+pub first-filter : (p : Slot → Bool) (xs : List Slot) → runs_first xs ≡ true → runs_first (filter p xs) ≡ true
+first-filter p [] h = refl
+first-filter p (x ∷ xs) h = go x.1.running refl (p x) (first-filter p xs) h
+  where
+    stay : (r : Bool) → (runs_first xs ≡ true → runs_first (filter p xs) ≡ true) → cond r (runs_first xs) (none_runs xs) ≡ true → cond r (runs_first (filter p xs)) (none_runs (filter p xs)) ≡ true
+    stay true more h = more h
+    stay false more h = none-filter p xs h
+    go : (r : Bool) → x.1.running ≡ r → (b : Bool) → (runs_first xs ≡ true → runs_first (filter p xs) ≡ true) → cond r (runs_first xs) (none_runs xs) ≡ true → runs_first (cond b (x ∷ filter p xs) (filter p xs)) ≡ true
+    go r e true more h = ap (λ (k : Bool). cond k (runs_first (filter p xs)) (none_runs (filter p xs))) e ∙ stay r more h
+    go true e false more h = more h
+    go false e false more h = none-first (filter p xs) (none-filter p xs h)
+
+pub first-first_run : (xs : List Slot) → runs_first xs ≡ true → runs_first (with_first_run xs) ≡ true
+first-first_run [] h = refl
+first-first_run (x ∷ xs) h = go x.1.running refl (first-first_run xs) h
+  where
+    go : (r : Bool) → x.1.running ≡ r → (runs_first xs ≡ true → runs_first (with_first_run xs) ≡ true) → cond r (runs_first xs) (none_runs xs) ≡ true → runs_first (cond r (x ∷ with_first_run xs) (run x ∷ xs)) ≡ true
+    go true e more h = ap (λ (k : Bool). cond k (runs_first (with_first_run xs)) (none_runs (with_first_run xs))) e ∙ more h
+    go false e more h = none-first xs h
+
+pub chain-set : (c : Content) (k : ℕ) (l : List Slot) (j : ℕ) → ((j ≡ k) × (chain (set c k l) j ≡ l)) ⊎ (chain (set c k l) j ≡ chain c j)
+chain-set [] k l j = inr refl
+chain-set (m ∷ ms) zero l zero = inl (refl, refl)
+chain-set (m ∷ ms) zero l (suc j) = inr refl
+chain-set (m ∷ ms) (suc k) l zero = inr refl
+chain-set (m ∷ ms) (suc k) l (suc j) = ⊎_elim (λ h. let e = h.0 in inl (omega (arith, e), h.1)) (λ h. inr h) (chain-set ms k l j)
+
+-- a fact of each list from some number on, where one is set
+each-list : (L : List Slot → Type 0) (n : ℕ) (c : Content) (k : ℕ) (l : List Slot) → ((j : ℕ) → n ≤ j → L (chain c j)) → (n ≤ k → L l) → (j : ℕ) → n ≤ j → L (chain (set c k l) j)
+each-list L n c k l a b j i = ⊎_elim
+    (λ p. subst L (sym p.1) (b (subst (λ m. n ≤ m) p.0 i)))
+    (λ e. subst L (sym e) (a j i))
+    (chain-set c k l j)
+
+abbrev InOrder : Caps → State → Type 0
+InOrder caps t = MembersInOrder caps t.work
+
+filtered-order : (caps : Caps) (p : Slot → Bool) (w : Work) → MembersInOrder caps w → (k : ℕ) → caps.queues + caps.engines ≤ k → runs_first (chain (map (filter p) w.content) k) ≡ true
+filtered-order caps p w h k i = ap runs_first (chain-filtered p w.content k) ∙ first-filter p (chain w.content k) (h k i)
+
+set-order : (caps : Caps) (w : Work) (k : ℕ) (l : List Slot) → MembersInOrder caps w → (caps.queues + caps.engines ≤ k → runs_first l ≡ true) → (j : ℕ) → caps.queues + caps.engines ≤ j → runs_first (chain (set w.content k l) j) ≡ true
+set-order caps w k l h b = each-list (λ xs. runs_first xs ≡ true) (caps.queues + caps.engines) w.content k l h b
+
+pub order-change : (caps : Caps) (s s' : State) → HasShape caps s.work → MembersInOrder caps s.work → Change s s' → MembersInOrder caps s'.work
+order-change caps s s' shape h (same c) = subst (InOrder caps) c h
+order-change caps s s' shape h (is_noted c) = subst (InOrder caps) c.after h
+order-change caps s s' shape h (is_accepted c) =
+    let inside = on-queue caps s.work c.queue shape c.on in
+    subst (InOrder caps) c.after (set-order caps s.work c.queue _ h (λ i. absurd (omega (arith, i, inside))))
+order-change caps s s' shape h (is_taken c) =
+    let tests = and-left _ _ c.qualifies in
+    let engine = below-engines caps s.work c.engine shape (and-left _ _ tests) in
+    let inside = queue-below caps s.work c.queue shape (and-right _ _ tests) in
+    let a = ap (λ (c : Caps). c.queues) shape.same_caps in
+    subst (InOrder caps) c.after
+    (each-list (λ xs. runs_first xs ≡ true) (caps.queues + caps.engines) (without_front s.work.content c.queue) (progress_list s.work.setup c.engine) _
+    (set-order caps s.work c.queue (tail (chain s.work.content c.queue)) h (λ i. absurd (omega (arith, i, inside))))
+    (λ i. absurd (omega (arith, i, engine, a))))
+order-change caps s s' shape h (is_fetched c) =
+    let k = member_list s.work.setup c.engine in
+    subst (InOrder caps) c.after (set-order caps s.work k _ h (λ i. first-push (chain s.work.content k) _ refl (h k i)))
+order-change caps s s' shape h (is_started c) =
+    let k = member_list s.work.setup c.engine in
+    let is : members s.work c.engine ≡ chain s.work.content k = ap (λ (b : Bool). cond b (chain s.work.content k) []) (waiting-engine s.work c.engine c.slot c.is_first) in
+    subst (InOrder caps) c.after (set-order caps s.work k (with_first_run (members s.work c.engine)) h (λ i. first-first_run (members s.work c.engine) (ap runs_first is ∙ h k i)))
+order-change caps s s' shape h (is_abandoned c) = subst (InOrder caps) c.after (set-order caps s.work (member_list s.work.setup c.engine) [] h (λ i. refl))
+order-change caps s s' shape h (is_ended c) = subst (InOrder caps) c.after (filtered-order caps _ s.work h)
+order-change caps s s' shape h (is_device_enabled c) = subst (InOrder caps) c.after h
+order-change caps s s' shape h (is_queue_enabled c) = subst (InOrder caps) c.after h
+order-change caps s s' shape h (is_waiting c) = subst (InOrder caps) c.after h
+order-change caps s s' shape h (is_over c) = subst (InOrder caps) c.after h
+order-change caps s s' shape h (is_aborted c) = subst (InOrder caps) c.after (filtered-order caps _ s.work h)
+order-change caps s s' shape h (is_device_reset c) = subst (InOrder caps) c.after (filtered-order caps (λ x. not (is_in_scope ResetDevice x.1)) s.work h)
+order-change caps s s' shape h (is_queues_reset c) = subst (InOrder caps) c.after (filtered-order caps _ s.work h)
+order-change caps s s' shape h (is_queue_written c) = subst (InOrder caps) c.after h
+order-change caps s s' shape h (is_group_written c) = subst (InOrder caps) c.after h
+
+first-empty : (n k : ℕ) → runs_first (chain (replicate n []) k) ≡ true
+first-empty zero k = refl
+first-empty (suc n) zero = refl
+first-empty (suc n) (suc k) = first-empty n k
+
+pub order-opening : (caps : Caps) → MembersInOrder caps (opening caps).work
+order-opening caps k i = first-empty (list_count caps) k

@@ -1,0 +1,159 @@
+-- What a step that may come does: one case for each kind of effect, with the facts that the step tested.
+use Rattle.std.specs.Prelude.{◌≡◌, ℕ, true, false, not, ◌&&◌, ◌==◌, nat_le, find, slice_set, Option, Some, None}
+use Rattle.dsa_desc.specs.declared.Descriptor.{Descriptor}
+use Rattle.dsa_desc.specs.declared.Outcome.{Outcome}
+use Rattle.dsa_regs.specs.declared.Phase.TheVariants.{Off, On, Stopping}
+use Rattle.dsa_regs.specs.declared.QueueConfig.{QueueConfig}
+use Rattle.dsa_regs.specs.declared.GroupConfig.{GroupConfig}
+use Rattle.dsa_regs.specs.declared.QueueMask.{QueueMask}
+use Rattle.dsa_regs.specs.declared.Command.{Command}
+use Rattle.dsa_regs.specs.declared.Command.TheVariants.{ResetDevice, ResetWq}
+use Rattle.dsa_regs.specs.Caps.{cell_count}
+use Rattle.dsa_regs.specs.Config.{queue_at, check_device, check_queue}
+use Rattle.dsa_regs.specs.Command.{named_queues}
+use Rattle.dsa_store.specs.declared.entry.Cell.{Cell}
+use Rattle.dsa_store.specs.Content.{Slot, is_free}
+use Rattle.dsa_book.specs.declared.answer.Ticket.{Ticket}
+use Rattle.dsa_book.specs.declared.event.Portal.{Portal}
+use Rattle.dsa_book.specs.declared.event.Kind.{Kind}
+use Rattle.dsa_book.specs.declared.answer.NotedError.{NotedError}
+use Rattle.dsa_book.specs.declared.note.BatchNote.{BatchNote}
+use Rattle.dsa_book.specs.declared.note.ActiveCommand.{ActiveCommand}
+use Rattle.dsa_book.specs.State.{Setup, State, is_on, is_off, phase_at, has_queue, occupancy, need_of, is_batch_of, is_ticket}
+use Rattle.dsa_book.specs.Submit.{limit_of, accepted}
+use Rattle.dsa_book.specs.Work.{front_of, qualifies, taken, note_at, batch_on, is_all_fetched, fetched, first_waiting, has_room, started, abandoned, running_on, is_unfinished, ended}
+use Rattle.dsa_book.specs.Commands.{is_at_end, with_device, with_phases, stopped, may_come, aborted, reset, names, with_sizes_alone}
+use Rattle.dsa_book.specs.Machine.{with_work, with_intake, with_setup, intake_of}
+
+pub record IsAccepted (s s' : State) : Type 0 where
+  pub queue : ℕ
+  pub portal : Portal
+  pub kind : Kind
+  pub desc : Descriptor
+  pub cell : Cell
+  pub on : is_on (phase_at s.work.setup queue) ≡ true
+  pub below : nat_le (limit_of (queue_at s.work.setup.configs queue) portal) (occupancy s.work.content queue) ≡ false
+  pub free : is_free (cell_count s.work.setup.caps) s.work.content cell ≡ true
+  pub after : with_intake s (accepted (intake_of s) queue kind desc cell).1 ≡ s'
+
+pub record IsTaken (s s' : State) : Type 0 where
+  pub engine : ℕ
+  pub queue : ℕ
+  pub front : Slot
+  pub is_front : front_of s.work queue ≡ Some front
+  pub qualifies : qualifies s.work engine queue ≡ true
+  pub after : with_work s (taken s.work engine queue front) ≡ s'
+
+pub record IsFetched (s s' : State) : Type 0 where
+  pub engine : ℕ
+  pub desc : Descriptor
+  pub cell : Cell
+  pub note : BatchNote
+  pub batch : Slot
+  pub is_note : note_at s.work engine ≡ Some note
+  pub is_batch : batch_on s.work engine note ≡ Some batch
+  pub more : is_all_fetched note ≡ false
+  pub free : is_free (cell_count s.work.setup.caps) s.work.content cell ≡ true
+  pub after : with_work s (fetched s.work engine desc cell note batch.1).1 ≡ s'
+
+pub record IsStarted (s s' : State) : Type 0 where
+  pub engine : ℕ
+  pub slot : Slot
+  pub is_first : first_waiting s.work engine ≡ Some slot
+  pub room : has_room s.work engine (need_of s.work.setup slot.1) ≡ true
+  pub after : with_work s (started s.work engine) ≡ s'
+
+pub record IsAbandoned (s s' : State) : Type 0 where
+  pub engine : ℕ
+  pub slot : Slot
+  pub is_first : first_waiting s.work engine ≡ Some slot
+  pub after : with_work s (abandoned s.work engine) ≡ s'
+
+pub record IsEnded (s s' : State) : Type 0 where
+  pub engine : ℕ
+  pub ticket : Ticket
+  pub outcome : Outcome
+  pub slot : Slot
+  pub is_found : find (is_ticket ticket) (running_on s.work engine) ≡ Some slot
+  pub ready : (is_batch_of s.work.setup slot.1 && is_unfinished s.work engine) ≡ false
+  pub after : with_work s (ended s.work engine slot outcome) ≡ s'
+
+-- ---- the administrator's
+
+-- the setup alone changes, and the active command
+abbrev pub set_up : State → Option ActiveCommand → Setup → State
+set_up s active setup = record { work = record s.work { setup = setup }; active = active }
+
+pub record IsDeviceEnabled (s s' : State) : Type 0 where
+  pub off : is_off s.work.setup.device ≡ true
+  pub check : check_device s.work.setup.caps s.work.setup.configs s.work.setup.groups ≡ None
+  pub after : set_up s s.active (with_device On s.work.setup) ≡ s'
+
+pub record IsQueueEnabled (s s' : State) : Type 0 where
+  pub queue : ℕ
+  pub on : is_on s.work.setup.device ≡ true
+  pub check : check_queue s.work.setup.caps s.work.setup.groups queue (queue_at s.work.setup.configs queue) ≡ None
+  pub after : set_up s s.active (with_phases (λ q. q == queue) On s.work.setup) ≡ s'
+
+-- a disable or a drain that waits
+pub record IsWaiting (s s' : State) : Type 0 where
+  pub command : Command
+  pub may : may_come s.work.setup command ≡ true
+  pub active : Option ActiveCommand
+  pub after : set_up s active (stopped command Stopping s.work.setup) ≡ s'
+
+-- a disable or a drain at its end
+pub record IsOver (s s' : State) : Type 0 where
+  pub command : ActiveCommand
+  pub over : is_at_end command s.work.content ≡ true
+  pub active : Option ActiveCommand
+  pub after : set_up s active (stopped command.command Off s.work.setup) ≡ s'
+
+pub record IsAborted (s s' : State) : Type 0 where
+  pub command : Command
+  pub after : with_work s (aborted command s.work) ≡ s'
+
+pub record IsDeviceReset (s s' : State) : Type 0 where
+  pub after : with_work s (record (aborted ResetDevice s.work) { setup = reset s.work.setup }) ≡ s'
+
+pub record IsQueuesReset (s s' : State) : Type 0 where
+  pub queues : QueueMask
+  pub after : with_work s (record (aborted (ResetWq queues) s.work) { setup = with_sizes_alone (named_queues (ResetWq queues)) (with_phases (names (named_queues (ResetWq queues))) Off s.work.setup) }) ≡ s'
+
+pub record IsQueueWritten (s s' : State) : Type 0 where
+  pub queue : ℕ
+  pub config : QueueConfig
+  pub has : has_queue s.work.setup queue ≡ true
+  pub off : is_off (phase_at s.work.setup queue) ≡ true
+  pub size : (not (is_off s.work.setup.device) && not (config.size == (queue_at s.work.setup.configs queue).size)) ≡ false
+  pub after : with_setup s (record s.work.setup { configs = slice_set s.work.setup.configs queue config }) ≡ s'
+
+pub record IsGroupWritten (s s' : State) : Type 0 where
+  pub group : ℕ
+  pub config : GroupConfig
+  pub off : is_off s.work.setup.device ≡ true
+  pub after : with_setup s (record s.work.setup { groups = slice_set s.work.setup.groups group config }) ≡ s'
+
+pub record IsNoted (s s' : State) : Type 0 where
+  pub noted : Option NotedError
+  pub after : with_setup s (record s.work.setup { noted = noted }) ≡ s'
+
+-- every step that may come is one of these
+pub data Change (s s' : State) : Type 0 where
+  same : s ≡ s' → Change s s'
+  is_noted : IsNoted s s' → Change s s'
+  is_accepted : IsAccepted s s' → Change s s'
+  is_taken : IsTaken s s' → Change s s'
+  is_fetched : IsFetched s s' → Change s s'
+  is_started : IsStarted s s' → Change s s'
+  is_abandoned : IsAbandoned s s' → Change s s'
+  is_ended : IsEnded s s' → Change s s'
+  is_device_enabled : IsDeviceEnabled s s' → Change s s'
+  is_queue_enabled : IsQueueEnabled s s' → Change s s'
+  is_waiting : IsWaiting s s' → Change s s'
+  is_over : IsOver s s' → Change s s'
+  is_aborted : IsAborted s s' → Change s s'
+  is_device_reset : IsDeviceReset s s' → Change s s'
+  is_queues_reset : IsQueuesReset s s' → Change s s'
+  is_queue_written : IsQueueWritten s s' → Change s s'
+  is_group_written : IsGroupWritten s s' → Change s s'
