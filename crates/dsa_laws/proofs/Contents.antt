@@ -1,10 +1,10 @@
 -- Members, sums and facts of lists of lists, as each effect changes them.
-use Rattle.std.proofs.Common.{◌≡◌, ℕ, zero, suc, ◌+◌, ◌<◌, ◌≤◌, Bool, true, false, not, cond, List, [], ◌∷◌, ◌++◌, length, map, filter, set, Some, refl, sym, ap, ◌∙◌, subst, ◌⊎◌, inl, inr, arith, ⊎_elim}
+use Rattle.std.proofs.Common.{drop, ◌≡◌, ℕ, zero, suc, ◌+◌, ◌<◌, ◌≤◌, Bool, true, false, not, cond, List, [], ◌∷◌, ◌++◌, length, map, filter, set, Some, refl, sym, ap, ◌∙◌, subst, ◌⊎◌, inl, inr, arith, ⊎_elim}
 use Rattle.std.specs.Prelude.{sum_by, count_by, find, All}
 use Rattle.std.proofs.lemmas.List.Elements.{filter-append, All-head, All-tail}
 use Rattle.std.proofs.lemmas.List.Sums.{sum_by-cons, sum_by-append}
 use Rattle.dsa_laws.specs.WellFormed.{In, EachAt}
-use Rattle.dsa_store.specs.Content.{Slot, Content, chain, all_held, pushed, without_front, tail}
+use Rattle.dsa_store.specs.Content.{Slot, Content, chain, all_held, pushed, without_front}
 
 -- ---- members
 
@@ -80,12 +80,6 @@ In-chain x (l ∷ ls) zero i = In-left x l (all_held ls) i
 In-chain x (l ∷ ls) (suc k) i = In-right x l (all_held ls) (In-chain x ls k i)
 
 -- ---- sums
-
-pub sum-set : (f : Slot → ℕ) (c : Content) (k : ℕ) (l : List Slot) → k < length c → sum_by f (all_held (set c k l)) + sum_by f (chain c k) ≡ sum_by f (all_held c) + sum_by f l
-sum-set f [] k l h = absurd (omega arith)
-sum-set f (m ∷ ms) zero l h = omega (arith, sum_by-append f l (all_held ms), sum_by-append f m (all_held ms))
-sum-set f (m ∷ ms) (suc k) l h =
-    omega (arith, sum_by-append f m (all_held (set ms k l)), sum_by-append f m (all_held ms), sum-set f ms k l (omega arith))
 
 pub sum-list-le : (f : Slot → ℕ) (c : Content) (k : ℕ) → sum_by f (chain c k) ≤ sum_by f (all_held c)
 sum-list-le f [] k = omega arith
@@ -164,15 +158,15 @@ In-single : (P : Slot → Type 0) (x y : Slot) → P y → In x (y ∷ []) → P
 In-single P x y p (inl e) = subst P e p
 In-single P x y p (inr i) = absurd i
 
-pub each-pushed : (P : ℕ → Slot → Type 0) (c : Content) (k : ℕ) (y : Slot) → EachAt P c → P k y → EachAt P (pushed c k y)
+pub each-pushed : (P : ℕ → Slot → Type 0) (c : Content) (k : ℕ) (y : Slot) → EachAt P c → P k y → EachAt P (pushed c k y.0 y.1)
 each-pushed P c k y a p = each-set P c k (chain c k ++ y ∷ []) a (λ x i. ⊎_elim (λ j. a k x j) (λ j. In-single (P k) x y p j) (In-append x (chain c k) (y ∷ []) i))
 
-In-tail : (x : Slot) (xs : List Slot) → In x (tail xs) → In x xs
-In-tail x [] i = i
-In-tail x (y ∷ ys) i = inr i
+In-rest : (x : Slot) (xs : List Slot) → In x (drop 1 xs) → In x xs
+In-rest x [] i = i
+In-rest x (y ∷ ys) i = inr i
 
 pub each-without_front : (P : ℕ → Slot → Type 0) (c : Content) (k : ℕ) → EachAt P c → EachAt P (without_front c k)
-each-without_front P c k a = each-set P c k (tail (chain c k)) a (λ x i. a k x (In-tail x (chain c k) i))
+each-without_front P c k a = each-set P c k (drop 1 (chain c k)) a (λ x i. a k x (In-rest x (chain c k) i))
 
 pub chain-filtered : (p : Slot → Bool) (c : Content) (k : ℕ) → chain (map (filter p) c) k ≡ filter p (chain c k)
 chain-filtered p [] k = refl

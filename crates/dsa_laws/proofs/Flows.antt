@@ -1,5 +1,5 @@
 -- What every change does to the entries, and what follows for cells, names and their number.
-use Rattle.std.proofs.Common.{◌≡◌, ℕ, ◌+◌, ◌<◌, ◌≤◌, ◌==◌, ◌||◌, eqb, not, Bool, true, false, cond, List, [], ◌∷◌, ◌++◌, length, map, Some, refl, sym, ap, ◌∙◌, subst, arith, ⊎_elim, length-append, eqb-true, eq-eqb}
+use Rattle.std.proofs.Common.{drop, ◌≡◌, ℕ, ◌+◌, ◌<◌, ◌≤◌, ◌==◌, ◌||◌, eqb, not, Bool, true, false, cond, List, [], ◌∷◌, ◌++◌, length, map, Some, refl, sym, ap, ◌∙◌, subst, arith, ⊎_elim, length-append, eqb-true, eq-eqb}
 use Rattle.std.specs.Prelude.{find, nat_lt, filter, sum_by, count_by, slice_get}
 use Rattle.std.specs.List.{list_any}
 use Rattle.std.proofs.lemmas.List.{length-map, length-set}
@@ -13,18 +13,18 @@ use Rattle.dsa_regs.specs.declared.Command.{Command}
 use Rattle.dsa_regs.specs.declared.Command.TheVariants.{DisableDevice, ResetDevice, DisableWq, ResetWq}
 use Rattle.dsa_regs.specs.declared.Phase.{Phase}
 use Rattle.dsa_store.specs.declared.entry.Cell.{Cell}
-use Rattle.dsa_store.specs.Content.{Slot, Content, chain, all_held, is_cell, is_free, tail, pushed, without_front}
-use Rattle.dsa_store.proofs.Sums.{sum-pushed, sum-without_front}
+use Rattle.dsa_store.specs.Content.{Slot, Content, chain, uses, all_held, is_cell, is_free, pushed, without_front}
+use Rattle.dsa_store.proofs.Sums.{sum-set, sum-pushed, sum-without_front, sum-split, uses-counted, held-counted, is_free-unused}
 use Rattle.dsa_book.specs.declared.answer.Ticket.{Ticket}
 use Rattle.dsa_book.specs.declared.fate.FateRow.{FateRow}
 use Rattle.dsa_book.specs.declared.fate.Fate.{Fate}
 use Rattle.dsa_book.specs.declared.fate.Fate.TheVariants.{Abandoned}
 use Rattle.dsa_book.specs.State.{Setup, Work, State, is_ticket}
-use Rattle.dsa_book.specs.Work.{progress_list, member_list, in_progress, members, running_on, run, with_first_run, fate_row}
+use Rattle.dsa_book.specs.Work.{progress_list, member_list, in_progress, members, running_on, as_running, run, with_first_run, fate_row}
 use Rattle.dsa_book.specs.Commands.{stopped, is_in_scope, aborted}
 use Rattle.dsa_laws.specs.Change.{Change, same, is_noted, is_accepted, is_taken, is_fetched, is_started, is_abandoned, is_ended, is_device_enabled, is_queue_enabled, is_waiting, is_over, is_aborted, is_device_reset, is_queues_reset, is_queue_written, is_group_written}
-use Rattle.dsa_laws.specs.WellFormed.{HasShape, In, IsFlow, CellsOnce, NamesOnce, IsCounted, uses}
-use Rattle.dsa_laws.proofs.Contents.{In-append, In-filter, In-find, In-chain, sum-set, sum-parts, sum-without, all_held-filtered}
+use Rattle.dsa_laws.specs.WellFormed.{HasShape, In, IsFlow, CellsOnce, NamesOnce, IsCounted}
+use Rattle.dsa_laws.proofs.Contents.{In-append, In-filter, In-find, In-chain, sum-parts, sum-without, all_held-filtered}
 use Rattle.dsa_laws.proofs.Changes.{and-left, and-right, not-true}
 use Rattle.dsa_laws.proofs.Shapes.{on-queue, note-engine, below-engines, member_list-in, progress_list-in, queue_list-in, waiting-engine, In-cond}
 
@@ -74,24 +74,25 @@ sum-first_run f alike (x ∷ xs) = go (sum-first_run f alike xs) x.1.running
 name-given : (n next : ℕ) → cond (eqb next n) 1 0 + cond (nat_lt n next) 1 0 ≡ cond (nat_lt n (next + 1)) 1 0
 name-given n next = grind (arith, nat_tests)
 
-free-cell : (cells : ℕ) (content : Content) (x : Slot) → is_free cells content x.0 ≡ true → ((n : ℕ) → uses n content ≤ cond (nat_lt n cells) 1 0) → (n : ℕ)
-    → uses n content + count_by (λ slot. slot.0.0 == n) (x ∷ []) ≤ cond (nat_lt n cells) 1 0
-free-cell cells content x free once n =
-    let c = sum_by-cons (λ (slot : Slot). cond (slot.0.0 == n) 1 0) x [] in
-    let below : nat_lt x.0.0 cells ≡ true = and-left _ _ free in
-    let none : uses x.0.0 content ≡ 0 = none-counted (is_cell x.0) (all_held content) (not-true _ (and-right _ _ free)) in
-    let old = once n in
+free-cell : (cells : ℕ) (content : Content) (x : Slot) → is_free cells content x.0 ≡ true → ((cell : Cell) → uses content cell ≤ cond (nat_lt cell.0 cells) 1 0) → (cell : Cell)
+    → uses content cell + count_by (is_cell cell) (x ∷ []) ≤ cond (nat_lt cell.0 cells) 1 0
+free-cell cells content x free once cell =
+    let c = sum_by-cons (λ (s : Slot). cond (is_cell cell s) 1 0) x [] in
+    let fresh = is_free-unused cells content x.0 free in
+    let old = once cell in
     ⊎_elim
-    (λ (t : (x.0.0 == n) ≡ true).
-        let e = eqb-true x.0.0 n t in
-        let unused : uses n content ≡ 0 = subst (λ k. uses k content ≡ 0) e none in
-        let room : ◌≡◌ {A = ℕ} (cond (nat_lt n cells) 1 0) 1 = subst (λ k. ◌≡◌ {A = ℕ} (cond (nat_lt k cells) 1 0) 1) e (ap (λ (b : Bool). cond {A = ℕ} b 1 0) below) in
-        let one : ◌≡◌ {A = ℕ} (cond (x.0.0 == n) 1 0) 1 = ap (λ (b : Bool). cond {A = ℕ} b 1 0) t in
+    (λ (t : is_cell cell x ≡ true).
+        let e = eqb-true x.0.0 cell.0 t in
+        let same : x.0 ≡ cell = ap (λ (n : ℕ). let at : Cell = record { 0 = n } in at) e in
+        let unused : uses content cell ≡ 0 = subst (λ k. uses content k ≡ 0) same fresh.1 in
+        let below = fresh.0 in
+        let room : ◌≡◌ {A = ℕ} (cond (nat_lt cell.0 cells) 1 0) 1 = grind (arith, nat_tests, e, below) in
+        let one : ◌≡◌ {A = ℕ} (cond (is_cell cell x) 1 0) 1 = ap (λ (b : Bool). cond {A = ℕ} b 1 0) t in
         omega (arith, c, unused, room, one))
-    (λ (f : (x.0.0 == n) ≡ false).
-        let no : ◌≡◌ {A = ℕ} (cond (x.0.0 == n) 1 0) 0 = ap (λ (b : Bool). cond {A = ℕ} b 1 0) f in
+    (λ (f : is_cell cell x ≡ false).
+        let no : ◌≡◌ {A = ℕ} (cond (is_cell cell x) 1 0) 0 = ap (λ (b : Bool). cond {A = ℕ} b 1 0) f in
         omega (arith, c, no, old))
-    (cases_Bool (x.0.0 == n))
+    (cases_Bool (is_cell cell x))
 
 -- ---- flows
 
@@ -150,16 +151,16 @@ free-caps caps w cell h f = subst (λ (c : Caps). is_free (cell_count c) w.conte
 
 -- the sum where a front moves and runs
 sum-taken : (f : Slot → ℕ) → ((slot : Slot) → f (run slot) ≡ f slot) → (content : Content) (q to : ℕ) (front : Slot) → q < length content → to < length content → slice_get (chain content q) 0 ≡ Some front
-    → sum_by f (all_held (pushed (without_front content q) to (run front))) ≡ sum_by f (all_held content)
+    → sum_by f (all_held (pushed (without_front content q) to front.0 (as_running front.1))) ≡ sum_by f (all_held content)
 sum-taken f alike content q to front qin toin h = go (chain content q) refl h
   where
-    go : (l : List Slot) → chain content q ≡ l → slice_get l 0 ≡ Some front → sum_by f (all_held (pushed (without_front content q) to (run front))) ≡ sum_by f (all_held content)
+    go : (l : List Slot) → chain content q ≡ l → slice_get l 0 ≡ Some front → sum_by f (all_held (pushed (without_front content q) to front.0 (as_running front.1))) ≡ sum_by f (all_held content)
     go [] e h = absurd cc
     go (x ∷ rest) e h =
         let is : x ≡ front = cc in
         let less = sum-without_front f content q x rest qin e in
-        let size = length-set content q (tail (chain content q)) in
-        let more = sum-pushed f (without_front content q) to (run front) (omega (arith, size, toin)) in
+        let size = length-set content q (drop 1 (chain content q)) in
+        let more = sum-pushed f (without_front content q) to front.0 (as_running front.1) (omega (arith, size, toin)) in
         let ran = alike front in
         let weight = ap f is in
         omega (arith, less, more, ran, weight)
@@ -199,7 +200,7 @@ flow-change caps s s' h once (is_noted c) = subst (λ t. IsFlow caps s.work t.wo
 flow-change caps s s' h once (is_accepted c) =
     let inside = queue_list-in caps s.work c.queue h (on-queue caps s.work c.queue h c.on) in
     subst (λ t. IsFlow caps s.work t.work) c.after
-    (entered caps s.work _ _ once (λ f. sum-pushed f s.work.content c.queue _ inside) refl refl refl (free-caps caps s.work c.cell h c.free))
+    (entered caps s.work _ _ once (λ f. sum-pushed f s.work.content c.queue _ _ inside) refl refl refl (free-caps caps s.work c.cell h c.free))
 flow-change caps s s' h once (is_taken c) =
     let tests = and-left _ _ c.qualifies in
     let engine = progress_list-in caps s.work c.engine h (below-engines caps s.work c.engine h (and-left _ _ tests)) in
@@ -209,7 +210,7 @@ flow-change caps s s' h once (is_taken c) =
 flow-change caps s s' h once (is_fetched c) =
     let inside = member_list-in caps s.work c.engine h (note-engine caps s.work c.engine c.note h c.is_note) in
     subst (λ t. IsFlow caps s.work t.work) c.after
-    (entered caps s.work _ _ once (λ f. sum-pushed f s.work.content (member_list s.work.setup c.engine) _ inside) refl refl refl (free-caps caps s.work c.cell h c.free))
+    (entered caps s.work _ _ once (λ f. sum-pushed f s.work.content (member_list s.work.setup c.engine) _ _ inside) refl refl refl (free-caps caps s.work c.cell h c.free))
 flow-change caps s s' h once (is_started c) =
     let e = waiting-engine s.work c.engine c.slot c.is_first in
     let inside = member_list-in caps s.work c.engine h (below-engines caps s.work c.engine h e) in
@@ -231,7 +232,7 @@ flow-change caps s s' h once (is_abandoned c) =
         omega (arith, all, old)) refl refl)
 flow-change caps s s' h once (is_ended c) =
     let inside = running-slot s.work c.engine c.ticket c.slot c.is_found in
-    let one : count_by (is_cell c.slot.0) (all_held s.work.content) ≤ 1 = let a = once c.slot.0.0 in let b = at-most-one (nat_lt c.slot.0.0 (cell_count caps)) in omega (arith, a, b) in
+    let one : count_by (is_cell c.slot.0) (all_held s.work.content) ≤ 1 = let a = once c.slot.0 in let b = at-most-one (nat_lt c.slot.0.0 (cell_count caps)) in let u = uses-counted s.work.content c.slot.0 in omega (arith, a, b, u) in
     subst (λ t. IsFlow caps s.work t.work) c.after
     (left caps s.work _ _ (c.slot ∷ []) once (λ f.
         let all = sum-without f (is_cell c.slot.0) c.slot (all_held s.work.content) one inside (eq-eqb c.slot.0.0 c.slot.0.0 refl) in
@@ -251,10 +252,12 @@ flow-change caps s s' h once (is_group_written c) = subst (λ t. IsFlow caps s.w
 -- ---- what follows
 
 pub cells-flow : (caps : Caps) (w w' : Work) → IsFlow caps w w' → CellsOnce caps w'
-cells-flow caps w w' flow n =
-    let sums = flow.sums (λ slot. cond (slot.0.0 == n) 1 0) (λ slot. refl) in
-    let cells = flow.cells n in
-    omega (arith, sums, cells)
+cells-flow caps w w' flow cell =
+    let sums = flow.sums (λ s. cond (is_cell cell s) 1 0) (λ s. refl) in
+    let cells = flow.cells cell in
+    let before = uses-counted w.content cell in
+    let after = uses-counted w'.content cell in
+    omega (arith, sums, cells, before, after)
 
 pub names-flow : (caps : Caps) (w w' : Work) → NamesOnce w → IsFlow caps w w' → NamesOnce w'
 names-flow caps w w' names flow n =
@@ -273,8 +276,10 @@ count-flow caps w w' counted flow =
     let sums = flow.sums (λ slot. 1) (λ slot. refl) in
     let a = length-sum (all_held w.content) in
     let b = length-sum (all_held w'.content) in
+    let before = held-counted w.content in
+    let after = held-counted w'.content in
     let c = length-sum flow.came in
     let d = length-sum flow.gone in
     let more = flow.more in
     let next = flow.next in
-    omega (arith, sums, a, b, c, d, more, next, counted)
+    omega (arith, sums, a, b, before, after, c, d, more, next, counted)

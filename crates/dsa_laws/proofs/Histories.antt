@@ -4,7 +4,8 @@ use Rattle.std.specs.Prelude.{count_by, nat_lt}
 use Rattle.std.proofs.lemmas.Bool.Decides.{nat_tests}
 use Rattle.dsa_regs.specs.declared.Caps.{Caps}
 use Rattle.dsa_regs.specs.Caps.{list_count}
-use Rattle.dsa_store.specs.Content.{Slot, all_held}
+use Rattle.dsa_store.specs.Content.{Slot, is_cell, all_held}
+use Rattle.dsa_store.proofs.Sums.{uses-counted, held-counted}
 use Rattle.dsa_book.specs.declared.event.Step.{Step}
 use Rattle.dsa_book.specs.State.{State, opening}
 use Rattle.dsa_book.specs.Machine.{next, replay_from, replay}
@@ -43,12 +44,18 @@ well_formed-opening caps =
     let none = none-at-first (list_count caps) in
     record {
       shape = shape-opening caps;
-      cells = λ n. let e = ap (λ (xs : List Slot). count_by (λ slot. slot.0.0 == n) xs) none in omega (arith, e);
+      cells = λ cell.
+          let e = ap (λ (xs : List Slot). count_by (is_cell cell) xs) none in
+          let u = uses-counted (replicate (list_count caps) []) cell in
+          omega (arith, e, u);
       names = λ n.
           let e = ap (λ (xs : List Slot). count_by (λ slot. slot.1.name == n) xs) none in
           let z : ◌≡◌ {A = ℕ} (cond (nat_lt n 0) 1 0) 0 = grind (arith, nat_tests) in
           omega (arith, e, z);
-      counted = let e = ap (λ (xs : List Slot). length xs) none in omega (arith, e);
+      counted =
+          let e = ap (λ (xs : List Slot). length xs) none in
+          let h = held-counted (replicate (list_count caps) []) in
+          omega (arith, e, h);
       setup = setup-opening caps;
       entries = entries-opening caps;
       limits = limits-opening caps;

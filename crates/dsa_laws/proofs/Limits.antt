@@ -1,5 +1,5 @@
 -- No list grows past its limit.
-use Rattle.std.proofs.Common.{◌≡◌, ◌≢◌, ℕ, zero, suc, ◌+◌, ◌<◌, ◌≤◌, ◌&&◌, not, Bool, true, false, cond, List, [], ◌∷◌, ◌++◌, length, map, set, replicate, Some, None, refl, sym, ap, ◌∙◌, subst, ◌⊎◌, inl, inr, arith, ⊎_elim, length-append}
+use Rattle.std.proofs.Common.{drop, ◌≡◌, ◌≢◌, ℕ, zero, suc, ◌+◌, ◌<◌, ◌≤◌, ◌&&◌, not, Bool, true, false, cond, List, [], ◌∷◌, ◌++◌, length, map, set, replicate, Some, None, refl, sym, ap, ◌∙◌, subst, ◌⊎◌, inl, inr, arith, ⊎_elim, length-append}
 use Rattle.std.specs.Prelude.{filter, nat_lt, ⊤}
 use Rattle.std.proofs.lemmas.Bool.{cases_eq, ltb-true, ltb-false, leb-false}
 use Rattle.std.proofs.lemmas.List.{get_or-set_other}
@@ -15,7 +15,7 @@ use Rattle.dsa_regs.specs.declared.Command.TheVariants.{ResetWq}
 use Rattle.dsa_regs.specs.Config.{queue_at, check_queue, queue_table, zero_queue}
 use Rattle.dsa_regs.specs.Caps.{list_count}
 use Rattle.dsa_regs.specs.Command.{named_queues}
-use Rattle.dsa_store.specs.Content.{Slot, Content, chain, tail, pushed, without_front}
+use Rattle.dsa_store.specs.Content.{Slot, Content, chain, pushed, without_front}
 use Rattle.dsa_book.specs.declared.event.Portal.{Portal}
 use Rattle.dsa_book.specs.declared.event.Portal.TheVariants.{Limited, Unlimited}
 use Rattle.dsa_book.specs.State.{Setup, Work, State, opening, is_off, phase_at}
@@ -39,21 +39,21 @@ size-set (m ∷ ms) zero l (suc j) = inr refl
 size-set (m ∷ ms) (suc k) l zero = inr refl
 size-set (m ∷ ms) (suc k) l (suc j) = ⊎_elim (λ h. let e = h.0 in inl (omega (arith, e), h.1)) (λ h. inr h) (size-set ms k l j)
 
-pub size-pushed : (c : Content) (k : ℕ) (x : Slot) (j : ℕ) → ((j ≡ k) × (length (chain (pushed c k x) j) ≤ length (chain c k) + 1)) ⊎ (length (chain (pushed c k x) j) ≡ length (chain c j))
+pub size-pushed : (c : Content) (k : ℕ) (x : Slot) (j : ℕ) → ((j ≡ k) × (length (chain (pushed c k x.0 x.1) j) ≤ length (chain c k) + 1)) ⊎ (length (chain (pushed c k x.0 x.1) j) ≡ length (chain c j))
 size-pushed c k x j = ⊎_elim
     (λ h. let e = h.1 in let more = length-append (chain c k) (x ∷ []) in inl (h.0, omega (arith, e, more)))
     (λ h. inr h)
     (size-set c k (chain c k ++ x ∷ []) j)
 
-tail-le : (xs : List Slot) → length (tail xs) ≤ length xs
-tail-le [] = omega arith
-tail-le (x ∷ xs) = omega arith
+rest-le : (xs : List Slot) → length (drop 1 xs) ≤ length xs
+rest-le [] = omega arith
+rest-le (x ∷ xs) = omega arith
 
 pub size-without_front : (c : Content) (k j : ℕ) → length (chain (without_front c k) j) ≤ length (chain c j)
 size-without_front c k j = ⊎_elim
-    (λ h. let e = h.1 in let less = tail-le (chain c k) in subst (λ i. length (chain (without_front c k) j) ≤ length (chain c i)) (sym h.0) (omega (arith, e, less)))
+    (λ h. let e = h.1 in let less = rest-le (chain c k) in subst (λ i. length (chain (without_front c k) j) ≤ length (chain c i)) (sym h.0) (omega (arith, e, less)))
     (λ h. omega (arith, h))
-    (size-set c k (tail (chain c k)) j)
+    (size-set c k (drop 1 (chain c k)) j)
 
 pub size-filtered : (p : Slot → Bool) (c : Content) (j : ℕ) → length (chain (map (filter p) c) j) ≤ length (chain c j)
 size-filtered p c j =
@@ -147,7 +147,7 @@ member-limits caps w w' e l shape h is sizes =
 
 -- an entry comes to a queue that has room
 queue-limits : (caps : Caps) (w w' : Work) (q : ℕ) (x : Slot) → IsWithinLimits caps w → q < caps.queues → length (chain w.content q) < (queue_at w.setup.configs q).size
-    → w'.content ≡ pushed w.content q x → w'.setup.configs ≡ w.setup.configs → IsWithinLimits caps w'
+    → w'.content ≡ pushed w.content q x.0 x.1 → w'.setup.configs ≡ w.setup.configs → IsWithinLimits caps w'
 queue-limits caps w w' q x h inside room is configs = record {
   queues = λ j i.
       let at = ap (λ (c : Content). length (chain c j)) is in
@@ -166,7 +166,7 @@ queue-limits caps w w' q x h inside room is configs = record {
 
 -- a front comes to an engine that has a slot
 slot-limits : (caps : Caps) (w w' : Work) (q e : ℕ) (x : Slot) → HasShape caps w → IsWithinLimits caps w → length (chain w.content (progress_list w.setup e)) < caps.slots
-    → w'.content ≡ pushed (without_front w.content q) (progress_list w.setup e) x → w'.setup.configs ≡ w.setup.configs → IsWithinLimits caps w'
+    → w'.content ≡ pushed (without_front w.content q) (progress_list w.setup e) x.0 x.1 → w'.setup.configs ≡ w.setup.configs → IsWithinLimits caps w'
 slot-limits caps w w' q e x shape h room is configs =
     let a = ap (λ (c : Caps). c.queues) shape.same_caps in
     let there = size-without_front w.content q (progress_list w.setup e) in

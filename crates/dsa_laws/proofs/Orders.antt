@@ -1,10 +1,10 @@
 -- Members that run stand before the others.
-use Rattle.std.proofs.Common.{◌≡◌, ℕ, zero, suc, ◌+◌, ◌≤◌, ◌&&◌, not, Bool, true, false, cond, List, [], ◌∷◌, ◌++◌, map, set, replicate, refl, sym, ap, ◌∙◌, subst, ◌⊎◌, inl, inr, arith, ⊎_elim}
+use Rattle.std.proofs.Common.{drop, ◌≡◌, ℕ, zero, suc, ◌+◌, ◌≤◌, ◌&&◌, not, Bool, true, false, cond, List, [], ◌∷◌, ◌++◌, map, set, replicate, refl, sym, ap, ◌∙◌, subst, ◌⊎◌, inl, inr, arith, ⊎_elim}
 use Rattle.std.specs.Prelude.{filter}
 use Rattle.dsa_regs.specs.declared.Caps.{Caps}
 use Rattle.dsa_regs.specs.declared.Command.TheVariants.{ResetDevice}
 use Rattle.dsa_regs.specs.Caps.{list_count}
-use Rattle.dsa_store.specs.Content.{Slot, Content, chain, tail, without_front}
+use Rattle.dsa_store.specs.Content.{Slot, Content, chain, without_front}
 use Rattle.dsa_book.specs.State.{Work, State, opening}
 use Rattle.dsa_book.specs.Work.{progress_list, member_list, members, run, with_first_run}
 use Rattle.dsa_book.specs.Commands.{is_in_scope}
@@ -103,7 +103,7 @@ order-change caps s s' shape h (is_taken c) =
     let a = ap (λ (c : Caps). c.queues) shape.same_caps in
     subst (InOrder caps) c.after
     (each-list (λ xs. runs_first xs ≡ true) (caps.queues + caps.engines) (without_front s.work.content c.queue) (progress_list s.work.setup c.engine) _
-    (set-order caps s.work c.queue (tail (chain s.work.content c.queue)) h (λ i. absurd (omega (arith, i, inside))))
+    (set-order caps s.work c.queue (drop 1 (chain s.work.content c.queue)) h (λ i. absurd (omega (arith, i, inside))))
     (λ i. absurd (omega (arith, i, engine, a))))
 order-change caps s s' shape h (is_fetched c) =
     let k = member_list s.work.setup c.engine in

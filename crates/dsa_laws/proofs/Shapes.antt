@@ -1,5 +1,5 @@
 -- The lengths of all lists stay.
-use Rattle.std.proofs.Common.{◌≡◌, ℕ, zero, suc, ◌<◌, Bool, true, false, cond, List, [], ◌∷◌, length, map, set, get_or, Option, Some, None, refl, sym, ap, ◌∙◌, subst, arith, length-append}
+use Rattle.std.proofs.Common.{drop, ◌≡◌, ℕ, zero, suc, ◌<◌, Bool, true, false, cond, List, [], ◌∷◌, length, map, set, get_or, Option, Some, None, refl, sym, ap, ◌∙◌, subst, arith, length-append}
 use Rattle.std.specs.Prelude.{nat_lt}
 use Rattle.std.proofs.lemmas.List.{length-set, length-map, length-replicate}
 use Rattle.std.proofs.lemmas.Bool.{ltb-true}
@@ -10,7 +10,7 @@ use Rattle.dsa_regs.specs.declared.Command.{Command}
 use Rattle.dsa_regs.specs.declared.Command.TheVariants.{DisableDevice, DisableWq}
 use Rattle.dsa_regs.specs.Numbers.{numbers_below}
 use Rattle.dsa_regs.specs.Caps.{list_count}
-use Rattle.dsa_store.specs.Content.{Slot, chain, tail}
+use Rattle.dsa_store.specs.Content.{Slot, chain}
 use Rattle.dsa_book.specs.declared.note.BatchNote.{BatchNote}
 use Rattle.dsa_book.specs.State.{Setup, Work, State, opening, is_on, phase_at}
 use Rattle.dsa_book.specs.Work.{progress_list, member_list, members, note_at, first_waiting}
@@ -69,7 +69,7 @@ shape-change caps s s' h (same c) = subst (λ t. HasShape caps t.work) c h
 shape-change caps s s' h (is_noted c) = subst (λ t. HasShape caps t.work) c.after (same_shape caps s.work _ h refl refl refl refl refl refl)
 shape-change caps s s' h (is_accepted c) = subst (λ t. HasShape caps t.work) c.after (same_shape caps s.work _ h refl (length-set s.work.content c.queue _) refl refl refl refl)
 shape-change caps s s' h (is_taken c) =
-    let lists = length-set (set s.work.content c.queue (tail (chain s.work.content c.queue))) (progress_list s.work.setup c.engine) _ ∙ length-set s.work.content c.queue (tail (chain s.work.content c.queue)) in
+    let lists = length-set (set s.work.content c.queue (drop 1 (chain s.work.content c.queue))) (progress_list s.work.setup c.engine) _ ∙ length-set s.work.content c.queue (drop 1 (chain s.work.content c.queue)) in
     subst (λ t. HasShape caps t.work) c.after (same_shape caps s.work _ h refl lists refl refl refl (length-cond_set _ s.work.notes c.engine _))
 shape-change caps s s' h (is_fetched c) =
     subst (λ t. HasShape caps t.work) c.after (same_shape caps s.work _ h refl (length-set s.work.content (member_list s.work.setup c.engine) _) refl refl refl (length-set s.work.notes c.engine _))

@@ -3,7 +3,7 @@ use Rattle.std.proofs.Common.{◌≡◌, ◌+◌, ◌≤◌, List, [], ◌∷◌
 use Rattle.std.specs.Prelude.{sum_by}
 use Rattle.std.proofs.lemmas.List.Sums.{sum_by-cons}
 use Rattle.dsa_regs.specs.declared.Caps.{Caps}
-use Rattle.dsa_store.specs.Content.{all_held}
+use Rattle.dsa_store.specs.Content.{held}
 use Rattle.dsa_book.specs.declared.event.Step.{Step}
 use Rattle.dsa_book.specs.declared.answer.Reply.{Reply}
 use Rattle.dsa_book.specs.declared.answer.Reply.TheVariants.{Submit, Fetch}
@@ -16,8 +16,8 @@ use Rattle.dsa_laws.proofs.Names.{replay-names, named_total}
 use Rattle.dsa_laws.proofs.Fates.{replay-rows}
 use Rattle.dsa_laws.proofs.Histories.{replay-well_formed}
 
-pub replay-slot : (caps : Caps) (h : List Step) (s : State) → replay caps h ≡ Some s → total_accepted h + total_fetched h ≡ total_done h + total_lost h + length (all_held s.work.content)
-replay-slot caps h s e =
+pub replay-held : (caps : Caps) (h : List Step) (s : State) → replay caps h ≡ Some s → total_accepted h + total_fetched h ≡ total_done h + total_lost h + held s.work.content
+replay-held caps h s e =
     let names = replay-names caps h s e in
     let rows = replay-rows caps h s e in
     let counted = (replay-well_formed caps h s e).counted in

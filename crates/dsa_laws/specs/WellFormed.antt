@@ -4,7 +4,8 @@ use Rattle.dsa_regs.specs.declared.Caps.{Caps}
 use Rattle.dsa_regs.specs.Caps.{cell_count, list_count}
 use Rattle.dsa_regs.specs.Config.{queue_at, check_device, check_queue}
 use Rattle.dsa_desc.specs.Descriptor.{pasid_of}
-use Rattle.dsa_store.specs.Content.{Slot, Content, chain, all_held}
+use Rattle.dsa_store.specs.declared.entry.Cell.{Cell}
+use Rattle.dsa_store.specs.Content.{Slot, Content, is_cell, chain, uses, held, all_held}
 use Rattle.dsa_book.specs.declared.note.BatchNote.{BatchNote}
 use Rattle.dsa_book.specs.State.{Setup, Work, State, phase_at, is_on, is_off}
 use Rattle.dsa_book.specs.Work.{note_at, run}
@@ -27,13 +28,9 @@ pub record HasShape (caps : Caps) (w : Work) : Type 0 where
   pub groups : length w.setup.groups ≡ caps.groups
   pub notes : length w.notes ≡ caps.engines
 
--- how often the lists name a cell
-abbrev pub uses : ℕ → Content → ℕ
-uses n content = count_by (λ slot. slot.0.0 == n) (all_held content)
-
 -- each cell of the lists is one of the store's, and stands once
 abbrev pub CellsOnce : Caps → Work → Type 0
-CellsOnce caps w = (n : ℕ) → uses n w.content ≤ cond (nat_lt n (cell_count caps)) 1 0
+CellsOnce caps w = (cell : Cell) → uses w.content cell ≤ cond (nat_lt cell.0 (cell_count caps)) 1 0
 
 -- each name below the next one is slot or in a fate row, once
 abbrev pub NamesOnce : Work → Type 0
@@ -41,7 +38,7 @@ NamesOnce w = (n : ℕ) → count_by (λ slot. slot.1.name == n) (all_held w.con
 
 -- how many are slot and how many have ended, as names were given
 abbrev pub IsCounted : Work → Type 0
-IsCounted w = length (all_held w.content) + length w.fates ≡ w.setup.next_name
+IsCounted w = held w.content + length w.fates ≡ w.setup.next_name
 
 -- what every change says of entries: some came, some are gone with a row each, and all others are slot as before (they may have begun to run)
 pub record IsFlow (caps : Caps) (w w' : Work) : Type 0 where
@@ -52,7 +49,7 @@ pub record IsFlow (caps : Caps) (w w' : Work) : Type 0 where
   pub more : length w'.fates ≡ length w.fates + length gone
   pub next : w'.setup.next_name ≡ w.setup.next_name + length came
   pub names : (n : ℕ) → count_by (λ slot. slot.1.name == n) came + cond (nat_lt n w.setup.next_name) 1 0 ≡ cond (nat_lt n w'.setup.next_name) 1 0
-  pub cells : (n : ℕ) → uses n w.content + count_by (λ slot. slot.0.0 == n) came ≤ cond (nat_lt n (cell_count caps)) 1 0
+  pub cells : (cell : Cell) → uses w.content cell + count_by (is_cell cell) came ≤ cond (nat_lt cell.0 (cell_count caps)) 1 0
 
 -- where a queue is not Off the device is not, and what is not Off passes its check
 pub record HasLawfulSetup (setup : Setup) : Type 0 where

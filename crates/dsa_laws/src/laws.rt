@@ -1,31 +1,56 @@
-//! The laws, each on a function with nothing to do.
+//! The laws, each on a function with nothing to do. A history is a list of steps from the opening of a device with these capabilities.
 
-ghost use Rattle.std.specs.Prelude.{◌≡◌, List, Some};
+ghost use Rattle.std.specs.Prelude.{◌≡◌, ◌+◌, ◌≤◌, [], ◌∷◌, ◌++◌, List, length, Some, false, option_and_then};
 ghost use Rattle.dsa_regs.specs.declared.Caps.{Caps};
+ghost use Rattle.dsa_store.specs.Content.{held};
 ghost use Rattle.dsa_book.specs.declared.event.Event.{Event};
-ghost use Rattle.dsa_book.specs.declared.answer.Reply.{Reply};
 ghost use Rattle.dsa_book.specs.declared.event.Step.{Step};
+ghost use Rattle.dsa_book.specs.declared.answer.Reply.{Reply};
 ghost use Rattle.dsa_book.specs.State.{State};
-ghost use Rattle.dsa_book.specs.Machine.{next, replay};
+ghost use Rattle.dsa_book.specs.Machine.{next, is_stored, replay};
+ghost use Rattle.dsa_book.specs.Totals.{total_accepted, total_fetched, total_done, total_lost};
 ghost use Rattle.dsa_laws.specs.Change.{Change};
 ghost use Rattle.dsa_laws.specs.WellFormed.{IsWellFormed};
+
+/// A step whose reply is not stored changes nothing.
+pub fn unstored_steps_change_nothing()
+    ensures { (s s' : State) (event : Event) (reply : Reply) → next s event reply ≡ Some s' → is_stored reply ≡ false → s' ≡ s }
+{
+}
+
+/// The replay of a history and one more step is the next state of the history's replay.
+pub fn histories_grow_at_the_end()
+    ensures { (caps : Caps) (history : List Step) (step : Step) → replay caps (history ++ step ∷ []) ≡ option_and_then (λ s. next s step.event step.reply) (replay caps history) }
+{
+}
+
+/// Each accepted and each fetched entry has a name of its own, and the next name is their number.
+pub fn names_are_given_in_turn()
+    ensures { (caps : Caps) (history : List Step) (s : State) → replay caps history ≡ Some s → total_accepted history + total_fetched history ≡ s.work.setup.next_name }
+{
+}
+
+/// Each done, aborted or abandoned entry has a fate row, and there is no other.
+pub fn fates_are_counted()
+    ensures { (caps : Caps) (history : List Step) (s : State) → replay caps history ≡ Some s → total_done history + total_lost history ≡ length s.work.fates }
+{
+}
+
+/// What came is done, lost or still held, and no more names were given than there are steps.
+pub fn entries_are_accounted_for()
+    ensures held { (caps : Caps) (history : List Step) (s : State) → replay caps history ≡ Some s → total_accepted history + total_fetched history ≡ total_done history + total_lost history + held s.work.content }
+    ensures names { (caps : Caps) (history : List Step) (s : State) → replay caps history ≡ Some s → s.work.setup.next_name ≤ length history }
+{
+}
 
 /// Every step that may come is one of the changes, with the facts that it tested.
 pub fn steps_are_changes()
     ensures { (s s' : State) (event : Event) (reply : Reply) → next s event reply ≡ Some s' → Change s s' }
-{}
+{
+}
 
 /// Every state that a history leads to is well formed.
 pub fn histories_are_well_formed()
     ensures { (caps : Caps) (history : List Step) (s : State) → replay caps history ≡ Some s → IsWellFormed caps s }
-{}
-
-ghost use Rattle.std.specs.Prelude.{◌+◌, ◌≤◌, length};
-ghost use Rattle.dsa_store.specs.Content.{all_held};
-ghost use Rattle.dsa_book.specs.Totals.{total_accepted, total_fetched, total_done, total_lost};
-
-/// What came is done, lost or still slot.
-pub fn entries_are_accounted_for()
-    ensures slot { (caps : Caps) (history : List Step) (s : State) → replay caps history ≡ Some s → total_accepted history + total_fetched history ≡ total_done history + total_lost history + length (all_held s.work.content) }
-    ensures names { (caps : Caps) (history : List Step) (s : State) → replay caps history ≡ Some s → s.work.setup.next_name ≤ length history }
-{}
+{
+}
