@@ -92,12 +92,11 @@ fn cell_is_unused<S: EntryStore>(rt: &impl Abort, store: &mut S, cell: Cell) {
 
 // Two lists and two cells: a cell before, while and after it is in use, and one that the store has not.
 pub fn cell_is_written<S: EntryStore>(rt: &impl Abort, store: &mut S) {
-    assert!(rt; store.lists() == 2 && store.cells() == 2);
     cells_stand_once(store);
     for number in 0..3 {
         cell_is_unused(rt, store, Cell(number));
     }
-    assert_eq!(rt; store.free(), 2);
+    assert!(rt; store.lists() == 2 && store.cells() == 2 && store.free() == 2);
     let first = ListId(0);
     let second = ListId(1);
     let a = store.push_back(second, entry(10)).expect(rt, "a");
