@@ -76,7 +76,7 @@ impl Descriptor {
 
     /// The flags by their names.
     pub fn flags(&self) -> DescriptorFlags
-        ensures { result.0 ≡ self.now.flags }
+        ensures { ⟦<DescriptorFlags as Flags>⟧.set_of result ≡ self.now.flags }
     {
         DescriptorFlags(self.flags)
     }
