@@ -1,14 +1,15 @@
 //! What is kept of the queues and groups: a reader and a setter for each part.
 
-ghost use Rattle.std.specs.Prelude.{◌≡◌, ℕ, ◌+◌, ◌<◌, ◌^◌, true, IsTrue, List, length, slice_set, Some};
-ghost use Rattle.std.specs.Option.{IfSome};
+ghost use Rattle.std.specs.Prelude.{◌≡◌, ◌+◌, ◌<◌, ◌^◌, true, false, IsTrue, IfSome, slice_set, position, Some};
 ghost use Rattle.dsa_regs.specs.Caps.{check_caps};
 ghost use Rattle.dsa_regs.specs.Numbers.{has};
 ghost use Rattle.dsa_regs.specs.Config.{queue_at, group_at};
-ghost use Rattle.dsa_book.specs.State.{Setup, opening_setup, phase_at, has_queue, limits_at, need_of, status_of, is_batch_of};
+ghost use Rattle.dsa_book.specs.State.{Setup, opening_setup, phase_at, is_off, has_queue, limits_at, need_of, status_of, is_batch_of};
+ghost use Rattle.dsa_book.specs.Submit.{noted_more};
+ghost use Rattle.dsa_book.specs.Commands.{clear};
 ghost use Rattle.dsa_queues.specs.Queues.{HasTables};
 
-use dsa_book::NotedError;
+use dsa_book::{Cause, ClearAnswer, NotedError};
 use dsa_desc::{Outcome, QueueLimits};
 use dsa_regs::{
     Caps, GroupConfig, GroupTable, Phase, PhaseTable, QueueConfig, QueueTable, off_phases,
@@ -22,13 +23,13 @@ use std::marker::Model;
 /// A queue that the device does not have reads as `Off` and all zero, and so does a group.
 #[derive(Drop)]
 pub struct Queues {
-    pub(crate) caps: Caps,
-    pub(crate) device: Phase,
-    pub(crate) configs: QueueTable,
-    pub(crate) phases: PhaseTable,
-    pub(crate) groups: GroupTable,
-    pub(crate) next_name: u32,
-    pub(crate) noted: Option<NotedError>,
+    caps: Caps,
+    device: Phase,
+    configs: QueueTable,
+    phases: PhaseTable,
+    groups: GroupTable,
+    next_name: u32,
+    noted: Option<NotedError>,
 }
 
 impl Model for Queues {
@@ -37,6 +38,23 @@ impl Model for Queues {
     ghost view = { λ q. record { caps = q.caps; device = q.device; configs = q.configs.items; phases = q.phases.items; groups = q.groups.items; next_name = q.next_name; noted = q.noted } };
 
     ghost invariant = { λ q. HasTables (record { caps = q.caps; device = q.device; configs = q.configs.items; phases = q.phases.items; groups = q.groups.items; next_name = q.next_name; noted = q.noted }) };
+}
+
+// The noted error after one more descriptor was dropped.
+fn noted_more(noted: Option<NotedError>, queue: u16, cause: Cause) -> NotedError
+    ensures { result ≡ noted_more noted queue cause }
+{
+    match noted {
+        Some(first) => NotedError {
+            overflow: true,
+            ..first
+        },
+        None => NotedError {
+            queue,
+            cause,
+            overflow: false,
+        },
+    }
 }
 
 impl Queues {
@@ -82,7 +100,8 @@ impl Queues {
     /// The phase of the queue; `Off` where the device has no such queue.
     #[inline(always)]
     pub fn phase(&self, queue: u16) -> Phase
-        ensures { result ≡ phase_at self.now queue }
+        ensures value { result ≡ phase_at self.now queue }
+        ensures known { is_off result ≡ false → has_queue self.now queue ≡ true }
     {
         match self.phases.get(usize::from(queue)) {
             Some(phase) => *phase,
@@ -162,5 +181,96 @@ impl Queues {
         ensures { result ≡ self.now.noted }
     {
         self.noted
+    }
+
+    /// Notes that a descriptor was dropped: queue and cause where no error is noted, else the overflow mark alone.
+    pub fn note_error(&mut self, queue: u16, cause: Cause)
+        ensures { self.new ≡ record self.old { noted = Some (noted_more self.old.noted queue cause) } }
+    {
+        self.noted = Some(noted_more(self.noted, queue, cause));
+    }
+
+    /// Removes the noted error and gives it (profile).
+    pub fn clear_error(&mut self) -> ClearAnswer
+        ensures { clear self.old ≡ (result, self.new) }
+    {
+        match self.noted.take() {
+            Some(noted) => ClearAnswer::Cleared(noted),
+            None => ClearAnswer::Nothing,
+        }
+    }
+
+    /// The group that the engine is of: the first that has it. Looks at the groups in turn.
+    pub fn group_of(&self, engine: u16) -> Option<u16>
+        ensures group { result ≡ position (λ g. has g.engines engine) self.now.groups }
+        ensures within { IfSome result (λ group. group < self.now.caps.groups) }
+        ensures engine { IfSome result (λ group. has (group_at self.now.groups group).engines engine ≡ true) }
+    {
+        for group in 0..self.caps.groups {
+            if self.groups[usize::from(group)].has_engine(engine) {
+                return Some(group);
+            }
+        }
+        None
+    }
+
+    /// Whether the queue is in the group.
+    #[inline(always)]
+    pub fn has_queue_in(&self, group: u16, queue: u16) -> bool
+        ensures { result ≡ has (group_at self.now.groups group).queues queue }
+    {
+        match self.groups.get(usize::from(group)) {
+            Some(config) => config.has_queue(queue),
+            None => false,
+        }
+    }
+
+    /// The priority of the queue; 0 where the device has no such queue.
+    #[inline(always)]
+    pub fn priority(&self, queue: u16) -> u8
+        ensures { result ≡ (queue_at self.now.configs queue).priority }
+    {
+        match self.configs.get(usize::from(queue)) {
+            Some(config) => config.priority,
+            None => 0,
+        }
+    }
+
+    /// What the queue's descriptors may ask for; all zero where the device has no such queue.
+    #[inline(always)]
+    pub fn limits(&self, queue: u16) -> QueueLimits
+        ensures { result ≡ limits_at self.now queue }
+    {
+        self.queue(queue).limits()
+    }
+
+    /// The read buffers that the entry holds while it runs, 0 to 4.
+    #[inline(always)]
+    pub fn need(&self, entry: &Entry) -> u8
+        ensures { result ≡ need_of self.now entry.now }
+    {
+        entry
+            .desc
+            .need(&self.limits(entry.queue), entry.parent.is_some())
+    }
+
+    /// The status that the entry ends with, a well-formed Batch as if its members were successful.
+    #[inline(always)]
+    pub fn status(&self, entry: &Entry, outcome: Outcome) -> u8
+        ensures { result ≡ status_of self.now entry.now outcome }
+    {
+        entry
+            .desc
+            .status(&self.limits(entry.queue), entry.parent.is_some(), outcome)
+    }
+
+    /// Whether the entry is a well-formed Batch, whose members its engine fetches.
+    #[inline(always)]
+    pub fn is_batch(&self, entry: &Entry) -> bool
+        ensures { result ≡ is_batch_of self.now entry.now }
+    {
+        entry
+            .desc
+            .is_lawful_batch(&self.limits(entry.queue), entry.parent.is_some())
     }
 }

@@ -7,12 +7,12 @@ ghost use Rattle.dsa_regs.specs.Config.{queue_at};
 ghost use Rattle.dsa_regs.specs.Caps.{cell_count, list_count};
 ghost use Rattle.dsa_store.specs.Content.{Content, held};
 ghost use Rattle.dsa_book.specs.State.{occupancy, has_queue};
-ghost use Rattle.dsa_book.specs.Submit.{submit, turned_away, limit_of, pasid_by, is_movdir64b, noted_more};
+ghost use Rattle.dsa_book.specs.Submit.{submit, turned_away, limit_of, pasid_by, is_movdir64b};
 ghost use Rattle.dsa_book.specs.Machine.{accepted_cell, cell_or_first, may_use};
 ghost use Rattle.dsa_queues.specs.Queues.{intake, is_accepting};
 
 use crate::Queues;
-use dsa_book::{Cause, Kind, NotedError, Portal, SubmitAnswer, Ticket};
+use dsa_book::{Cause, Kind, Portal, SubmitAnswer, Ticket};
 use dsa_desc::Descriptor;
 use dsa_regs::{Phase, QueueConfig};
 use dsa_store::{Entry, EntryStore, ListId};
@@ -43,23 +43,6 @@ fn pasid_by(kind: Kind, config: &QueueConfig) -> u32
     }
 }
 
-// The noted error after one more descriptor was dropped.
-fn noted_more(noted: Option<NotedError>, queue: u16, cause: Cause) -> NotedError
-    ensures { result ≡ noted_more noted queue cause }
-{
-    match noted {
-        Some(first) => NotedError {
-            overflow: true,
-            ..first
-        },
-        None => NotedError {
-            queue,
-            cause,
-            overflow: false,
-        },
-    }
-}
-
 impl Queues {
     // ENQCMD is told to come again, MOVDIR64B leaves a noted error.
     fn turned_away(&mut self, queue: u16, kind: Kind, cause: Cause) -> SubmitAnswer
@@ -69,7 +52,7 @@ impl Queues {
         match kind {
             Kind::Enqcmd { .. } => SubmitAnswer::Retry(cause),
             Kind::Movdir64b => {
-                self.noted = Some(noted_more(self.noted, queue, cause));
+                self.note_error(queue, cause);
                 SubmitAnswer::Dropped(cause)
             }
         }
@@ -93,8 +76,7 @@ impl Queues {
         requires cells { S.cells store.old ≡ cell_count self.old.caps }
         requires room { is_accepting (intake self.old (S.content store.old)) queue portal kind ≡ true → held (S.content store.old) < S.cells store.old }
         requires names { is_accepting (intake self.old (S.content store.old)) queue portal kind ≡ true → self.old.next_name + 1 < 2 ^ 32 }
-        ensures answer {
-            submit (intake self.old (S.content store.old)) queue portal kind desc (cell_or_first (accepted_cell result))
+        ensures answer { submit (intake self.old (S.content store.old)) queue portal kind desc (cell_or_first (accepted_cell result))
             ≡ (result, intake self.new (S.content store.new)) }
         ensures free { may_use self.old (S.content store.old) (accepted_cell result) ≡ true }
         ensures cells { S.cells store.new ≡ S.cells store.old }
@@ -102,14 +84,14 @@ impl Queues {
         if self.phase(queue) != Phase::On {
             return self.turned_away(queue, kind, Cause::NotEnabled);
         }
-        let config = self.configs[usize::from(queue)];
+        let config = self.queue(queue);
         if is_movdir64b(kind) != config.dedicated {
             return self.turned_away(queue, kind, Cause::WrongKind);
         }
         if store.len(ListId(queue)) >= u32::from(limit_of(&config, portal)) {
             return self.turned_away(queue, kind, Cause::AtLimit);
         }
-        let name = self.next_name;
+        let name = self.next_name();
         let entry = Entry {
             name,
             parent: None,
@@ -119,7 +101,7 @@ impl Queues {
         };
         match store.push_back(ListId(queue), entry) {
             Some(cell) => {
-                self.next_name += 1;
+                self.give_name();
                 SubmitAnswer::Accepted(Ticket { cell, name })
             }
             None => unreachable!(),
@@ -132,7 +114,7 @@ impl Queues {
         requires short { has_queue self.now queue ≡ true → occupancy (S.content store.now) queue < 2 ^ 16 }
         ensures { result ≡ when (has_queue self.now queue) (occupancy (S.content store.now) queue) }
     {
-        if queue < self.caps.queues {
+        if queue < self.caps().queues {
             Some(store.len(ListId(queue)) as u16)
         } else {
             None
