@@ -1,0 +1,373 @@
+//! Each public call on examples from outside: the layout and the numbers of the public header
+//! `linux/idxd.h`, and printed text.
+
+use crate::completion::{
+    DSA_COMP_BAD_OPCODE, DSA_COMP_DESC_CNT_ERANGE, DSA_COMP_INVALID_FLAGS, DSA_COMP_NONE,
+    DSA_COMP_PAGE_FAULT_NOBOF, DSA_COMP_SUCCESS, DSA_COMP_XFER_ERANGE,
+};
+use crate::opcode::{
+    DSA_OPCODE_BATCH, DSA_OPCODE_COMPARE, DSA_OPCODE_DRAIN, DSA_OPCODE_MEMFILL, DSA_OPCODE_MEMMOVE,
+    DSA_OPCODE_NOOP,
+};
+use crate::{Descriptor, DescriptorFlags, Outcome, QueueLimits, enqcmd_image};
+use bitflags::Flags;
+use std::test::Fail;
+
+const LIMITS: QueueLimits = QueueLimits {
+    max_batch_shift: 3,
+    max_xfer_shift: 20,
+};
+
+/// 64 bytes with these first eight and this size, the addresses and all after the size as a driver
+/// may leave them.
+fn bytes_of(head: [u8; 8], size: [u8; 4]) -> [u8; 64] {
+    let mut bytes = [0x5a; 64];
+    bytes[0] = head[0];
+    bytes[1] = head[1];
+    bytes[2] = head[2];
+    bytes[3] = head[3];
+    bytes[4] = head[4];
+    bytes[5] = head[5];
+    bytes[6] = head[6];
+    bytes[7] = head[7];
+    bytes[32] = size[0];
+    bytes[33] = size[1];
+    bytes[34] = size[2];
+    bytes[35] = size[3];
+    bytes
+}
+
+fn submitted(op: u8, flags: u32, size: u32) -> Descriptor {
+    Descriptor {
+        pasid: 5,
+        flags,
+        op,
+        size,
+    }
+}
+
+#[test]
+fn reads_fields(rt: HostRuntime) {
+    let rows = [
+        (
+            [0x05, 0, 0, 0, 0x1c, 0, 0, 0x00],
+            [0, 0, 0, 0],
+            5,
+            0x1c,
+            DSA_OPCODE_NOOP,
+            0,
+        ),
+        (
+            [0x05, 0, 0, 0, 0x0c, 0, 0, 0x03],
+            [0, 0x10, 0, 0],
+            5,
+            0x0c,
+            DSA_OPCODE_MEMMOVE,
+            4096,
+        ),
+        (
+            [0xff, 0xff, 0x0f, 0, 0x0c, 0, 0, 0x03],
+            [1, 0, 0, 0],
+            0xf_ffff,
+            0x0c,
+            DSA_OPCODE_MEMMOVE,
+            1,
+        ),
+        (
+            [0xff, 0xff, 0xff, 0xff, 0, 0, 0, 0x03],
+            [0, 0x10, 0, 0],
+            1_048_575,
+            0,
+            DSA_OPCODE_MEMMOVE,
+            4096,
+        ),
+        (
+            [0x01, 0x02, 0x03, 0x80, 0x0e, 0, 0, 0x04],
+            [0, 0, 0x10, 0],
+            0x3_0201,
+            0x0e,
+            DSA_OPCODE_MEMFILL,
+            1_048_576,
+        ),
+        (
+            [0, 0, 0, 0, 0x0e, 0, 0, 0x05],
+            [0x01, 0x02, 0x03, 0x04],
+            0,
+            0x0e,
+            DSA_OPCODE_COMPARE,
+            0x0403_0201,
+        ),
+        (
+            [0, 0, 0, 0, 0x01, 0x02, 0x03, 0x01],
+            [8, 0, 0, 0],
+            0,
+            0x03_0201,
+            DSA_OPCODE_BATCH,
+            8,
+        ),
+    ];
+    for (head, size, pasid, flags, op, number) in rows {
+        let want = Descriptor {
+            pasid,
+            flags,
+            op,
+            size: number,
+        };
+        assert_eq!(rt; Descriptor::parse(&bytes_of(head, size)), want);
+    }
+}
+
+#[test]
+fn accepts_drivers_descriptors(rt: HostRuntime) {
+    let rows = [
+        ([0, 0, 0, 0, 0x1c, 0, 0, 0x00], [0, 0, 0, 0]),
+        ([0, 0, 0, 0, 0x0c, 0, 0, 0x03], [0, 0x10, 0, 0]),
+        ([0xff, 0xff, 0x0f, 0, 0x0c, 0, 0, 0x03], [0, 0, 0x10, 0]),
+        ([0x01, 0, 0, 0, 0x0e, 0, 0, 0x04], [0, 0x10, 0, 0]),
+        ([0x01, 0, 0, 0, 0x0e, 0, 0, 0x05], [0, 0x10, 0, 0]),
+        ([0x01, 0, 0, 0, 0x0c, 0, 0, 0x01], [8, 0, 0, 0]),
+    ];
+    for (head, size) in rows {
+        let descriptor = Descriptor::parse(&bytes_of(head, size));
+        assert!(rt; descriptor.is_well_formed(&LIMITS, false), "{descriptor}");
+        assert_eq!(rt;
+            descriptor.status(&LIMITS, false, Outcome::Success),
+            DSA_COMP_SUCCESS,
+            "{descriptor}"
+        );
+    }
+}
+
+#[test]
+fn writes_images(rt: HostRuntime) {
+    let source = bytes_of([0xff, 0xff, 0xff, 0xff, 0x0c, 0, 0, 0x03], [0, 0x10, 0, 0]);
+    let rows = [
+        (5, [0x05, 0, 0, 0]),
+        (0xf_ffff, [0xff, 0xff, 0x0f, 0]),
+        (0xffff_ffff, [0xff, 0xff, 0x0f, 0]),
+    ];
+    for (pasid, [first, second, third, fourth]) in rows {
+        let want = bytes_of(
+            [first, second, third, fourth, 0x0c, 0, 0, 0x03],
+            [0, 0x10, 0, 0],
+        );
+        let image = enqcmd_image(&source, pasid);
+        assert_eq!(rt; image, want, "PASID {pasid}");
+        assert_eq!(rt;
+            Descriptor::parse(&image),
+            Descriptor::parse(&source).with_pasid(pasid),
+            "PASID {pasid}"
+        );
+    }
+    assert_eq!(rt; Descriptor::parse(&enqcmd_image(&source, 5)).pasid, 5);
+}
+
+#[test]
+fn checks(rt: HostRuntime) {
+    let rows = [
+        (DSA_OPCODE_DRAIN, 0, 0, false, DSA_COMP_BAD_OPCODE),
+        (0x06, 0, 4096, false, DSA_COMP_BAD_OPCODE),
+        (DSA_OPCODE_BATCH, 0, 2, true, DSA_COMP_BAD_OPCODE),
+        (DSA_OPCODE_NOOP, 1, 0, false, DSA_COMP_INVALID_FLAGS),
+        (DSA_OPCODE_NOOP, 1, 0, true, DSA_COMP_NONE),
+        (DSA_OPCODE_MEMMOVE, 0x0c, 4096, false, DSA_COMP_NONE),
+        (DSA_OPCODE_MEMMOVE, 0, 0, false, DSA_COMP_XFER_ERANGE),
+        (DSA_OPCODE_MEMMOVE, 0, 1 << 20, false, DSA_COMP_NONE),
+        (
+            DSA_OPCODE_MEMMOVE,
+            0,
+            (1 << 20) + 1,
+            false,
+            DSA_COMP_XFER_ERANGE,
+        ),
+        (DSA_OPCODE_BATCH, 0, 1, false, DSA_COMP_DESC_CNT_ERANGE),
+        (DSA_OPCODE_BATCH, 0, 2, false, DSA_COMP_NONE),
+        (DSA_OPCODE_BATCH, 0, 8, false, DSA_COMP_NONE),
+        (DSA_OPCODE_BATCH, 0, 9, false, DSA_COMP_DESC_CNT_ERANGE),
+    ];
+    for (op, flags, size, member, want) in rows {
+        let descriptor = submitted(op, flags, size);
+        assert_eq!(rt; descriptor.check(&LIMITS, member), want, "{descriptor}");
+        assert_eq!(rt;
+            descriptor.is_well_formed(&LIMITS, member),
+            want == 0,
+            "{descriptor}"
+        );
+        assert_eq!(rt; descriptor.is_fenced(), flags == 1, "{descriptor}");
+    }
+}
+
+#[test]
+fn needs_read_buffers(rt: HostRuntime) {
+    let rows = [
+        (DSA_OPCODE_MEMMOVE, 0, 0),
+        (DSA_OPCODE_MEMMOVE, 1, 1),
+        (DSA_OPCODE_MEMMOVE, 4096, 1),
+        (DSA_OPCODE_MEMMOVE, 4097, 2),
+        (DSA_OPCODE_MEMMOVE, 16384, 4),
+        (DSA_OPCODE_MEMMOVE, 16385, 4),
+        (DSA_OPCODE_COMPARE, 4097, 2),
+        (DSA_OPCODE_MEMFILL, 4096, 0),
+        (DSA_OPCODE_BATCH, 8, 0),
+        (DSA_OPCODE_NOOP, 4096, 0),
+    ];
+    for (op, size, want) in rows {
+        assert_eq!(rt;
+            submitted(op, 0, size).need(&LIMITS, false),
+            want,
+            "code {op}, size {size}"
+        );
+    }
+}
+
+#[test]
+fn completes(rt: HostRuntime) {
+    let rows = [
+        (DSA_OPCODE_MEMMOVE, 4096, Outcome::Success, DSA_COMP_SUCCESS),
+        (
+            DSA_OPCODE_MEMMOVE,
+            4096,
+            Outcome::PageFault,
+            DSA_COMP_PAGE_FAULT_NOBOF,
+        ),
+        (
+            DSA_OPCODE_MEMMOVE,
+            0,
+            Outcome::PageFault,
+            DSA_COMP_XFER_ERANGE,
+        ),
+        (DSA_OPCODE_NOOP, 0, Outcome::PageFault, DSA_COMP_SUCCESS),
+        (DSA_OPCODE_BATCH, 2, Outcome::PageFault, DSA_COMP_SUCCESS),
+        (DSA_OPCODE_DRAIN, 0, Outcome::Success, DSA_COMP_BAD_OPCODE),
+    ];
+    for (op, size, outcome, want) in rows {
+        assert_eq!(rt;
+            submitted(op, 0, size).status(&LIMITS, false, outcome),
+            want,
+            "code {op}, size {size}"
+        );
+    }
+}
+
+#[test]
+fn sorts_operations(rt: HostRuntime) {
+    let rows = [
+        (DSA_OPCODE_NOOP, false, false),
+        (DSA_OPCODE_BATCH, true, false),
+        (DSA_OPCODE_DRAIN, false, false),
+        (DSA_OPCODE_MEMMOVE, false, true),
+        (DSA_OPCODE_MEMFILL, false, true),
+        (DSA_OPCODE_COMPARE, false, true),
+        (0x06, false, false),
+    ];
+    for (op, is_batch, is_transfer) in rows {
+        let descriptor = submitted(op, 0, 2);
+        assert_eq!(rt; descriptor.is_batch(), is_batch, "code {op}");
+        assert_eq!(rt;
+            descriptor.is_lawful_batch(&LIMITS, false),
+            is_batch,
+            "code {op}"
+        );
+        assert_eq!(rt; descriptor.is_transfer(), is_transfer, "code {op}");
+    }
+}
+
+#[test]
+fn takes_any_shift(rt: HostRuntime) {
+    let rows = [
+        (0, 1, DSA_COMP_NONE),
+        (0, 2, DSA_COMP_XFER_ERANGE),
+        (31, 1 << 31, DSA_COMP_NONE),
+        (31, (1 << 31) + 1, DSA_COMP_XFER_ERANGE),
+        (32, u32::MAX, DSA_COMP_NONE),
+        (255, u32::MAX, DSA_COMP_NONE),
+        (255, 0, DSA_COMP_XFER_ERANGE),
+    ];
+    for (shift, size, want) in rows {
+        let limits = QueueLimits {
+            max_batch_shift: 0,
+            max_xfer_shift: shift,
+        };
+        assert_eq!(rt;
+            submitted(DSA_OPCODE_MEMMOVE, 0, size).check(&limits, false),
+            want,
+            "shift {shift}, size {size}"
+        );
+    }
+}
+
+#[test]
+fn names_flags(rt: HostRuntime) {
+    let rows = [
+        ("FENCE", 0x0001),
+        ("BOF", 0x0002),
+        ("CRAV", 0x0004),
+        ("RCR", 0x0008),
+        ("RCI", 0x0010),
+        ("CRSTS", 0x0020),
+        ("CR", 0x0080),
+        ("CC", 0x0100),
+        ("ADDR1_TCS", 0x0200),
+        ("ADDR2_TCS", 0x0400),
+        ("ADDR3_TCS", 0x0800),
+        ("CR_TCS", 0x1000),
+        ("STORD", 0x2000),
+        ("DRDBK", 0x4000),
+        ("DSTS", 0x8000),
+    ];
+    for (name, bits) in rows {
+        let flag = DescriptorFlags::from_name(name);
+        assert_eq!(rt; flag.map(|flag| flag.bits()), Some(bits), "{name}");
+        assert_eq!(rt;
+            submitted(DSA_OPCODE_NOOP, bits, 0).flags().bits(),
+            bits,
+            "{name}"
+        );
+    }
+    let flags = submitted(DSA_OPCODE_NOOP, 0x0c, 0).flags();
+    assert!(rt; flags.contains(DescriptorFlags::CRAV | DescriptorFlags::RCR));
+    assert!(rt; !flags.intersects(DescriptorFlags::FENCE | DescriptorFlags::BOF));
+}
+
+#[test]
+fn prints_one_line(rt: HostRuntime) -> Result<(), Fail> {
+    let rows = [
+        (
+            submitted(DSA_OPCODE_MEMMOVE, 0x0c, 4096),
+            "Memory Move, PASID 5, flags 0x00000c, size 4096",
+        ),
+        (
+            submitted(DSA_OPCODE_NOOP, 0x01, 0),
+            "No-op, PASID 5, flags 0x000001, size 0",
+        ),
+        (
+            submitted(DSA_OPCODE_BATCH, 0, 8),
+            "Batch, PASID 5, flags 0x000000, count 8",
+        ),
+        (
+            submitted(DSA_OPCODE_DRAIN, 0, 0),
+            "Drain, PASID 5, flags 0x000000, size 0",
+        ),
+        (
+            submitted(DSA_OPCODE_MEMFILL, 0xff_ffff, 1).with_pasid(0xf_ffff),
+            "Fill, PASID 1048575, flags 0xffffff, size 1",
+        ),
+        (
+            submitted(DSA_OPCODE_COMPARE, 0x0e, u32::MAX),
+            "Compare, PASID 5, flags 0x00000e, size 4294967295",
+        ),
+        (
+            submitted(0x06, 0, 7),
+            "Operation 0x06, PASID 5, flags 0x000000, size 7",
+        ),
+        (
+            submitted(0xff, 0, 0),
+            "Operation 0xff, PASID 5, flags 0x000000, size 0",
+        ),
+    ];
+    for (descriptor, want) in rows {
+        let line = format!(in rt.alloc(); "{descriptor}")?;
+        assert_eq!(rt; line.as_str(), want);
+    }
+    Ok(())
+}

@@ -1,0 +1,11 @@
+//! The queues and groups of a device as they are configured, and submission.
+//!
+//! [`Queues`] keeps the configurations and phases, the next name and the noted error. The entries themselves stand in a
+//! store, which each call that needs it is lent: list k of the store is queue k. Nothing here allocates.
+#![tactic(auto)]
+
+mod queues;
+mod submission;
+mod writes;
+
+pub use queues::Queues;

@@ -1,0 +1,123 @@
+//! Submission: ENQCMD and MOVDIR64B to either portal of a queue.
+
+ghost use Rattle.std.specs.Prelude.{◌≡◌, ℕ, ◌+◌, ◌<◌, ◌^◌, true, None, length};
+ghost use Rattle.dsa_desc.specs.Rows.{when};
+ghost use Rattle.dsa_desc.specs.Descriptor.{with_pasid};
+ghost use Rattle.dsa_regs.specs.Config.{queue_at};
+ghost use Rattle.dsa_regs.specs.Caps.{cell_count, list_count};
+ghost use Rattle.dsa_store.specs.Content.{Content, held};
+ghost use Rattle.dsa_book.specs.State.{occupancy, has_queue};
+ghost use Rattle.dsa_book.specs.Submit.{submit, turned_away, limit_of, pasid_by, is_movdir64b};
+ghost use Rattle.dsa_book.specs.Machine.{accepted_cell, cell_or_first, may_use};
+ghost use Rattle.dsa_queues.specs.Queues.{intake, is_accepting};
+
+use crate::Queues;
+use dsa_book::{Cause, Kind, Portal, SubmitAnswer, Ticket};
+use dsa_desc::Descriptor;
+use dsa_regs::{Phase, QueueConfig};
+use dsa_store::{Entry, EntryStore, ListId};
+
+// The number of entries at which the portal turns away.
+fn limit_of(config: &QueueConfig, portal: Portal) -> u16
+    ensures { result ≡ limit_of config.now portal }
+{
+    match portal {
+        Portal::Limited if !config.dedicated => config.threshold,
+        _ => config.size,
+    }
+}
+
+fn is_movdir64b(kind: Kind) -> bool
+    ensures { result ≡ is_movdir64b kind }
+{
+    matches!(kind, Kind::Movdir64b)
+}
+
+// The PASID that a descriptor gets.
+fn pasid_by(kind: Kind, config: &QueueConfig) -> u32
+    ensures { result ≡ pasid_by kind config.now }
+{
+    match kind {
+        Kind::Enqcmd { pasid } => pasid,
+        Kind::Movdir64b => config.pasid,
+    }
+}
+
+impl Queues {
+    // ENQCMD is told to come again, MOVDIR64B leaves a noted error.
+    fn turned_away(&mut self, queue: u16, kind: Kind, cause: Cause) -> SubmitAnswer
+        ensures answer { (content : Content) → turned_away (intake self.old content) queue kind cause ≡ (result, intake self.new content) }
+        ensures no_cell { accepted_cell result ≡ None }
+    {
+        match kind {
+            Kind::Enqcmd { .. } => SubmitAnswer::Retry(cause),
+            Kind::Movdir64b => {
+                self.note_error(queue, cause);
+                SubmitAnswer::Dropped(cause)
+            }
+        }
+    }
+
+    /// Writes a descriptor to a portal of a queue.
+    ///
+    /// The first cause that stands turns it away: `NotEnabled` where the queue is not `On` or the device has no such queue,
+    /// `WrongKind` for ENQCMD to a dedicated queue or MOVDIR64B to a shared one, `AtLimit` where the queue holds as many
+    /// entries as the portal allows. ENQCMD is answered `Retry`, MOVDIR64B `Dropped`, and an error is noted.
+    /// Else the descriptor stands last in its queue, under the PASID that the instruction or the queue gives it.
+    pub fn submit<S: EntryStore>(
+        &mut self,
+        store: &mut S,
+        queue: u16,
+        portal: Portal,
+        kind: Kind,
+        desc: Descriptor,
+    ) -> SubmitAnswer
+        requires lists { length (S.content store.old) ≡ list_count self.old.caps }
+        requires cells { S.cells store.old ≡ cell_count self.old.caps }
+        requires room { is_accepting (intake self.old (S.content store.old)) queue portal kind ≡ true → held (S.content store.old) < S.cells store.old }
+        requires names { is_accepting (intake self.old (S.content store.old)) queue portal kind ≡ true → self.old.next_name + 1 < 2 ^ 32 }
+        ensures answer { submit (intake self.old (S.content store.old)) queue portal kind desc (cell_or_first (accepted_cell result))
+            ≡ (result, intake self.new (S.content store.new)) }
+        ensures free { may_use self.old (S.content store.old) (accepted_cell result) ≡ true }
+        ensures cells { S.cells store.new ≡ S.cells store.old }
+    {
+        if self.phase(queue) != Phase::On {
+            return self.turned_away(queue, kind, Cause::NotEnabled);
+        }
+        let config = self.queue(queue);
+        if is_movdir64b(kind) != config.dedicated {
+            return self.turned_away(queue, kind, Cause::WrongKind);
+        }
+        if store.len(ListId(queue)) >= u32::from(limit_of(&config, portal)) {
+            return self.turned_away(queue, kind, Cause::AtLimit);
+        }
+        let name = self.next_name();
+        let entry = Entry {
+            name,
+            parent: None,
+            desc: desc.with_pasid(pasid_by(kind, &config)),
+            queue,
+            running: false,
+        };
+        match store.push_back(ListId(queue), entry) {
+            Some(cell) => {
+                self.give_name();
+                SubmitAnswer::Accepted(Ticket { cell, name })
+            }
+            None => unreachable!(),
+        }
+    }
+
+    /// The number of entries in the queue's own list. `None` exactly when the device has no such queue.
+    pub fn occupancy<S: EntryStore>(&self, store: &S, queue: u16) -> Option<u16>
+        requires lists { length (S.content store.now) ≡ list_count self.now.caps }
+        requires short { has_queue self.now queue ≡ true → occupancy (S.content store.now) queue < 2 ^ 16 }
+        ensures { result ≡ when (has_queue self.now queue) (occupancy (S.content store.now) queue) }
+    {
+        if queue < self.caps().queues {
+            Some(store.len(ListId(queue)) as u16)
+        } else {
+            None
+        }
+    }
+}
