@@ -369,5 +369,7 @@ fn prints_one_line(rt: HostRuntime) -> Result<(), Fail> {
         let line = format!(in rt.alloc(); "{descriptor}")?;
         assert_eq!(rt; line.as_str(), want);
     }
+    let flags = format!(in rt.alloc(); "{}", DescriptorFlags::FENCE)?;
+    assert_eq!(rt; flags.as_str(), "0x000001");
     Ok(())
 }
