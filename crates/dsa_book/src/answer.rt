@@ -4,7 +4,7 @@ ghost use Rattle.std.specs.Prelude.{◌≡◌};
 
 use crate::event::Kind;
 use dsa_regs::Fault;
-use dsa_store::entry::Cell;
+use dsa_store::Cell;
 
 /// What names an entry that the device holds: the cell that it stands in, and its name, which is given once and never again.
 #[derive(Clone, Copy, Debug, PartialEq, Eq)]

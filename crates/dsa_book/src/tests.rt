@@ -5,7 +5,7 @@ use crate::{
 };
 use dsa_desc::{Descriptor, Outcome};
 use dsa_regs::{Command, Fault, GroupConfig, QueueConfig};
-use dsa_store::entry::Cell;
+use dsa_store::Cell;
 use std::test::Fail;
 
 const TICKET: Ticket = Ticket {
