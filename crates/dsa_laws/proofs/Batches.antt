@@ -1,8 +1,8 @@
 -- The batch of an engine, as its lists and its note change.
-use Rattle.std.proofs.Common.{◌≡◌, ◌≢◌, ℕ, zero, suc, ◌+◌, ◌≤◌, ◌&&◌, ◌||◌, ◌==◌, not, Bool, true, false, cond, List, [], ◌∷◌, ◌++◌, length, filter, Option, Some, None, option_map, is_none, refl, sym, ap, ◌∙◌, subst, ◌⊎◌, inl, inr, arith, ⊎_elim, length-append, eq-eqb, eqb-true}
+use Rattle.std.proofs.Common.{◌≡◌, ◌≢◌, ℕ, zero, suc, ◌+◌, ◌≤◌, ◌&&◌, ◌||◌, ◌==◌, not, Bool, true, false, cond, List, [], ◌∷◌, ◌++◌, length, filter, Option, Some, None, option_map, is_none, refl, sym, ap, ◌∙◌, subst, ◌⊎◌, inl, inr, arith, ⊎_elim, length-append, eq-eqb}
 use Rattle.std.specs.Prelude.{count_by, sum_by}
 use Rattle.std.specs.List.{list_any}
-use Rattle.std.proofs.lemmas.List.Sums.{sum_by-cons, sum_by-append, length-filter, count_by-le-length}
+use Rattle.std.proofs.lemmas.List.Sums.{sum_by-cons, sum_by-append, sum_by_push, length-filter, count_by-le-length}
 use Rattle.dsa_regs.specs.declared.Command.{Command}
 use Rattle.dsa_regs.specs.declared.Command.TheVariants.{EnableDevice, DisableDevice, DrainAll, AbortAll, ResetDevice, EnableWq, DisableWq, DrainWq, AbortWq, ResetWq, DrainPasid, AbortPasid}
 use Rattle.dsa_regs.specs.Command.{named_queues}
@@ -12,7 +12,7 @@ use Rattle.dsa_book.specs.State.{Setup, is_batch_of}
 use Rattle.dsa_book.specs.Work.{run, opened_note, with_first_run}
 use Rattle.dsa_book.specs.Commands.{is_in_scope, names, has_batch, kept_note}
 use Rattle.dsa_laws.specs.WellFormed.{In}
-use Rattle.dsa_laws.specs.Engines.{holds_batch, IsNoteOf, IsAlike, IsWithoutBatch, IsOnBatch, IsLawfulEngine}
+use Rattle.dsa_laws.specs.Engines.{holds_batch, IsNoteOf, IsAlike, IsLawfulEngine}
 use Rattle.dsa_laws.proofs.Contents.{In-append, In-counted, In-filter, filter-none, sum-filter-le, sum-list-le}
 use Rattle.dsa_laws.proofs.Changes.{and-left}
 use Rattle.dsa_laws.proofs.Setups.{not-both}
@@ -58,10 +58,9 @@ count-alike p q (x ∷ xs) h =
 
 pub count-push : {X : Type 0} (p : X → Bool) (xs : List X) (x : X) (b : Bool) → p x ≡ b → count_by p (xs ++ x ∷ []) ≡ count_by p xs + cond b 1 0
 count-push p xs x b is =
-    let a = sum_by-append (λ y. cond (p y) 1 0) xs (x ∷ []) in
-    let one = sum_by-cons (λ y. cond (p y) 1 0) x [] in
+    let more = sum_by_push (λ y. cond (p y) 1 0) xs x in
     let here : ◌≡◌ {A = ℕ} (cond (p x) 1 0) (cond b 1 0) = ap (λ (t : Bool). cond {A = ℕ} t 1 0) is in
-    omega (arith, a, one, here)
+    omega (arith, more, here)
 
 -- one of a list with one more at its end stands in the list, or is that one
 In-push : {X : Type 0} (x : X) (xs : List X) (y : X) → In x (xs ++ y ∷ []) → In x xs ⊎ (y ≡ x)
@@ -75,7 +74,7 @@ In-push x xs y i = ⊎_elim (λ j. inl j) (λ j. inr (only j)) (In-append x xs (
 In-old : {X : Type 0} (p : X → Bool) (x : X) (xs : List X) (y : X) → p y ≡ false → In x (xs ++ y ∷ []) → p x ≡ true → In x xs
 In-old p x xs y n i t = ⊎_elim (λ j. j) (λ e. not-both (p x) t (ap p (sym e) ∙ n)) (In-push x xs y i)
 
--- each of the list after the first began to run is one of it, or one of it that runs
+-- what holds of each, and is not changed where an entry begins to run, holds of each after the first began to run
 first_run-from : (P : Slot → Type 0) → ((x : Slot) → P x → P (run x)) → (xs : List Slot) → ((x : Slot) → In x xs → P x) → (x : Slot) → In x (with_first_run xs) → P x
 first_run-from P r [] a x i = absurd i
 first_run-from P r (y ∷ ys) a x i = go (first_run-from P r ys (λ z j. a z (inr j)) x) y.1.running i
@@ -197,6 +196,20 @@ pub batch_gone : (setup : Setup) (ps ps' ms ms' : List Slot) (o : Option BatchNo
 batch_gone setup ps ps' ms ms' None less none h = let old = h.no_batch in absurd (omega (arith, less, old))
 batch_gone setup ps ps' ms ms' (Some n) less none h = record { no_batch = let old = h.one_batch in omega (arith, less, old); no_members = none }
 
+-- a batch ends, which has no members left, or another entry
+pub with_end : (setup : Setup) (ps ps' ms ms' : List Slot) (o : Option BatchNote) (b m : Bool) → (b ≡ true → (count_by (holds_batch setup) ps' + 1 ≡ count_by (holds_batch setup) ps) × (ms' ≡ []))
+    → (b ≡ false → count_by (holds_batch setup) ps' ≡ count_by (holds_batch setup) ps) → ((x : Slot) → In x ps' → In x ps) → ((x : Slot) → In x ms' → In x ms) → length ms' ≤ length ms
+    → IsLawfulEngine setup ps ms o → IsLawfulEngine setup ps' ms' (cond b None (cond m (option_map (λ (note : BatchNote). record note { failed = true }) o) o))
+with_end setup ps ps' ms ms' o true m gone stays p q l h = let r = gone refl in batch_gone setup ps ps' ms ms' o r.0 r.1 h
+with_end setup ps ps' ms ms' o false true gone stays p q l h =
+    marked setup ps' ms' (λ (note : BatchNote). record note { failed = true }) o (λ n. refl) (λ n. refl) (λ n. refl) (fewer setup ps ps' ms ms' o (stays refl) p q l h)
+with_end setup ps ps' ms ms' o false false gone stays p q l h = fewer setup ps ps' ms ms' o (stays refl) p q l h
+
+-- the members are abandoned, and the batch is closed
+pub with_none : (setup : Setup) (ps ms : List Slot) (o : Option BatchNote) → IsLawfulEngine setup ps ms o → IsLawfulEngine setup ps [] (option_map (λ (note : BatchNote). record note { closed = true }) o)
+with_none setup ps ms o h =
+    marked setup ps [] (λ (note : BatchNote). record note { closed = true }) o (λ n. refl) (λ n. refl) (λ n. refl) (fewer setup ps ps ms [] o refl (λ x i. i) (λ x i. absurd i) (omega arith) h)
+
 -- ---- an abort
 
 -- the entries that an abort leaves
@@ -270,11 +283,13 @@ with_abort command setup ps ms (Some n) h = go (has_batch setup n (filter (is_le
     named x i t j =
         let name : (x.1.name == n.batch) ≡ true = eq-eqb x.1.name n.batch (sym (h.noted x i t).name) in
         In-any (λ slot. is_batch_of setup slot.1 && slot.1.name == n.batch) x (filter (is_left command) ps) j (ap (λ (b : Bool). b && x.1.name == n.batch) t ∙ name)
+
     gone : has_batch setup n (filter (is_left command) ps) ≡ false → (x : Slot) → In x ms → is_left command x ≡ false
     gone f x i =
         let batch = counted-In (holds_batch setup) ps h.one_batch in
         let out : is_left command batch.0 ≡ false = not-passing (is_left command batch.0) (λ t. not-both _ (named batch.0 batch.1.0 batch.1.1 (In-passing (is_left command) batch.0 ps batch.1.0 t)) f) in
         ap not (scope-alike command x batch.0 (h.alike x batch.0 i batch.1.0 batch.1.1)) ∙ out
+
     go : (b : Bool) → has_batch setup n (filter (is_left command) ps) ≡ b → IsLawfulEngine setup (filter (is_left command) ps) (filter (is_left command) ms) (cond b (Some n) None)
     go true t =
         let batch = any-In (λ slot. is_batch_of setup slot.1 && slot.1.name == n.batch) (filter (is_left command) ps) t in

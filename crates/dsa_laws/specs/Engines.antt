@@ -16,7 +16,7 @@ pub record IsNoteOf (note : BatchNote) (batch : Slot) : Type 0 where
   pub name : note.batch ≡ batch.1.name
   pub count : note.count ≡ batch.1.desc.size
 
--- a member has the queue and the PASID of its batch (Intel DSA specification, Batch descriptors)
+-- a member has the queue and the PASID of its batch (profile)
 pub record IsAlike (member batch : Slot) : Type 0 where
   pub queue : member.1.queue ≡ batch.1.queue
   pub pasid : member.1.desc.pasid ≡ batch.1.desc.pasid
