@@ -11,6 +11,7 @@ ghost use Rattle.dsa_book.specs.Machine.{next, is_stored, replay};
 ghost use Rattle.dsa_book.specs.Totals.{total_accepted, total_fetched, total_done, total_lost};
 ghost use Rattle.dsa_laws.specs.Change.{Change};
 ghost use Rattle.dsa_laws.specs.WellFormed.{IsWellFormed};
+ghost use Rattle.dsa_laws.specs.Engines.{HasLawfulEngines, MembersFit};
 
 /// A step whose reply is not stored changes nothing.
 pub fn unstored_steps_change_nothing()
@@ -54,3 +55,9 @@ pub fn histories_are_well_formed()
     ensures { (caps : Caps) (history : List Step) (s : State) → replay caps history ≡ Some s → IsWellFormed caps s }
 {
 }
+
+/// An engine has a note exactly where one batch is in progress there, the note's; its members are of that batch, and no more than a batch may have.
+pub fn engines_work_on_one_batch()
+    ensures engines { (caps : Caps) (history : List Step) (s : State) → replay caps history ≡ Some s → HasLawfulEngines s.work }
+    ensures members { (caps : Caps) (history : List Step) (s : State) → replay caps history ≡ Some s → MembersFit caps s.work }
+{}
