@@ -1,13 +1,23 @@
 -- What the groups use or have reserved, as what their engines need changes.
-use Rattle.std.proofs.Common.{◌≡◌, ◌≢◌, ℕ, zero, suc, ◌+◌, ◌<◌, ◌≤◌, ◌&&◌, Bool, true, false, cond, List, [], ◌∷◌, length, map, set, get_or, refl, sym, ap, ◌∙◌, arith, ⊎_elim, leb-true}
-use Rattle.std.specs.Prelude.{sum_by, filter, position, nat_le, Some, Option}
+use Rattle.std.proofs.Common.{◌≡◌, ◌≢◌, ℕ, zero, suc, ◌+◌, ◌<◌, ◌≤◌, ◌&&◌, ◌||◌, Bool, true, false, cond, List, [], ◌∷◌, ◌++◌, length, map, set, get_or, Option, Some, None, refl, sym, ap, ◌∙◌, subst, arith, ⊎_elim}
+use Rattle.std.specs.Prelude.{sum_by, count_by, filter, position, nat_lt, nat_le}
+use Rattle.std.specs.List.{list_any}
 use Rattle.std.proofs.lemmas.List.{length-set, get_or-set_same, get_or-set_other}
+use Rattle.std.proofs.lemmas.List.Quantifiers.{position-Some}
 use Rattle.std.proofs.lemmas.List.Sums.{sum_by-cons, sum_by_push}
-use Rattle.std.proofs.lemmas.Bool.{cases_eq}
+use Rattle.std.proofs.lemmas.Bool.{cases_eq, cases_Bool, cases_lt, ltb-false, leb-true}
+use Rattle.std.proofs.Math.ListN.{get_or-eq_default}
+use Rattle.dsa_desc.specs.Rows.{passes}
+use Rattle.dsa_regs.specs.declared.Caps.{Caps}
 use Rattle.dsa_regs.specs.declared.GroupConfig.{GroupConfig}
 use Rattle.dsa_regs.specs.Numbers.{has, numbers_below}
 use Rattle.dsa_regs.specs.Config.{group_at, total_reserved}
-use Rattle.dsa_regs.specs.Buffers.{covered}
+use Rattle.dsa_regs.specs.Buffers.{covered, fits}
+use Rattle.dsa_laws.proofs.Changes.{and-left, and-right}
+use Rattle.dsa_laws.proofs.Entries.{or-left, or-right}
+use Rattle.dsa_laws.proofs.Numbers.{get_or-each, get_or-past, sum-below}
+use Rattle.dsa_laws.proofs.Setups.{not-both}
+use Rattle.dsa_laws.proofs.Shapes.{length-each}
 
 -- ---- what is in use or reserved
 
@@ -66,3 +76,49 @@ sum-once f f' e n (suc N) h m =
         let last = h N q in
         omega (arith, rest, last, a, b))
     (cases_eq N e)
+
+-- ---- a number that stands in one set alone
+
+none-any : (p : ℕ → Bool) (N k : ℕ) → list_any p (numbers_below N) ≡ false → k < N → p k ≡ false
+none-any p zero k h l = absurd (omega (arith, l))
+none-any p (suc N) k h l = ⊎_elim
+    (λ (q : k ≡ N). ap p q ∙ or-left (p N) false (any-last p (numbers_below N) N h).1)
+    (λ (q : k ≢ N). none-any p N k (any-last p (numbers_below N) N h).0 (omega (arith, l, q)))
+    (cases_eq k N)
+  where
+    any-last : (p : ℕ → Bool) (xs : List ℕ) (x : ℕ) → list_any p (xs ++ x ∷ []) ≡ false → (list_any p xs ≡ false) × ((p x || false) ≡ false)
+    any-last p [] x h = (refl, h)
+    any-last p (y ∷ ys) x h = go (p y) h (any-last p ys x)
+      where
+        go : (b : Bool) → (b || list_any p (ys ++ x ∷ [])) ≡ false → (list_any p (ys ++ x ∷ []) ≡ false → (list_any p ys ≡ false) × ((p x || false) ≡ false)) → ((b || list_any p ys) ≡ false) × ((p x || false) ≡ false)
+        go true h more = absurd cc
+        go false h more = more h
+
+some-counted : {X : Type 0} (p : X → Bool) (xs : List X) (j : ℕ) (d : X) → j < length xs → p (get_or xs j d) ≡ true → 1 ≤ count_by p xs
+some-counted p [] j d l t = absurd (omega (arith, l))
+some-counted p (x ∷ xs) zero d l t =
+    let c = sum_by-cons (λ y. cond (p y) 1 0) x xs in
+    let one : ◌≡◌ {A = ℕ} (cond (p x) 1 0) 1 = ap (λ (b : Bool). cond {A = ℕ} b 1 0) t in
+    omega (arith, c, one)
+some-counted p (x ∷ xs) (suc j) d l t =
+    let c = sum_by-cons (λ y. cond (p y) 1 0) x xs in
+    let rest = some-counted p xs j d (omega (arith, l)) t in
+    omega (arith, c, rest)
+
+-- where a test passes once at most, it passes at one place
+pub one-place : {X : Type 0} (p : X → Bool) (xs : List X) (i j : ℕ) (d : X) → count_by p xs ≤ 1 → i < length xs → j < length xs → p (get_or xs i d) ≡ true → p (get_or xs j d) ≡ true → i ≡ j
+one-place p [] i j d h k l t u = absurd (omega (arith, k))
+one-place p (x ∷ xs) zero zero d h k l t u = refl
+one-place p (x ∷ xs) zero (suc j) d h k l t u =
+    let c = sum_by-cons (λ y. cond (p y) 1 0) x xs in
+    let one : ◌≡◌ {A = ℕ} (cond (p x) 1 0) 1 = ap (λ (b : Bool). cond {A = ℕ} b 1 0) t in
+    let rest = some-counted p xs j d (omega (arith, l)) u in
+    absurd (omega (arith, h, c, one, rest))
+one-place p (x ∷ xs) (suc i) zero d h k l t u =
+    let c = sum_by-cons (λ y. cond (p y) 1 0) x xs in
+    let one : ◌≡◌ {A = ℕ} (cond (p x) 1 0) 1 = ap (λ (b : Bool). cond {A = ℕ} b 1 0) u in
+    let rest = some-counted p xs i d (omega (arith, k)) t in
+    absurd (omega (arith, h, c, one, rest))
+one-place p (x ∷ xs) (suc i) (suc j) d h k l t u =
+    let c = sum_by-cons (λ y. cond (p y) 1 0) x xs in
+    ap suc (one-place p xs i j d (omega (arith, h, c)) (omega (arith, k)) (omega (arith, l)) t u)
