@@ -11,7 +11,7 @@ use Rattle.dsa_desc.specs.Rows.{passes}
 use Rattle.dsa_regs.specs.declared.Caps.{Caps}
 use Rattle.dsa_regs.specs.declared.GroupConfig.{GroupConfig}
 use Rattle.dsa_regs.specs.Numbers.{has, numbers_below}
-use Rattle.dsa_regs.specs.Config.{group_at, total_reserved}
+use Rattle.dsa_regs.specs.Config.{zero_group, group_at, is_in_two, total_reserved}
 use Rattle.dsa_regs.specs.Buffers.{covered, fits}
 use Rattle.dsa_laws.proofs.Changes.{and-left, and-right}
 use Rattle.dsa_laws.proofs.Entries.{or-left, or-right}
@@ -122,3 +122,132 @@ one-place p (x ∷ xs) (suc i) zero d h k l t u =
 one-place p (x ∷ xs) (suc i) (suc j) d h k l t u =
     let c = sum_by-cons (λ y. cond (p y) 1 0) x xs in
     ap suc (one-place p xs i j d (omega (arith, h, c)) (omega (arith, k)) (omega (arith, l)) t u)
+
+-- ---- both bounds, by what each engine needs
+
+-- what the engines of a group need together
+abbrev pub needed : (ℕ → ℕ) → ℕ → List GroupConfig → ℕ → ℕ
+needed f engines groups g = sum_by f (filter (has (group_at groups g).engines) (numbers_below engines))
+
+abbrev pub all_needed : (ℕ → ℕ) → Caps → List GroupConfig → List ℕ
+all_needed f caps groups = map (needed f caps.engines groups) (numbers_below caps.groups)
+
+pub record AreWithin (caps : Caps) (groups : List GroupConfig) (f : ℕ → ℕ) : Type 0 where
+  pub allowed : (g : ℕ) → g < caps.groups → needed f caps.engines groups g ≤ (group_at groups g).allowed
+  pub total : covered groups (all_needed f caps groups) ≤ caps.read_buffers
+
+cond-le : (b : Bool) (x y : ℕ) → (b ≡ true → x ≤ y) → cond b x 0 ≤ cond b y 0
+cond-le true x y h = h refl
+cond-le false x y h = omega arith
+
+cond-more : (b : Bool) (x y n : ℕ) → x ≤ y + n → cond b x 0 ≤ cond b y 0 + n
+cond-more true x y n h = h
+cond-more false x y n h = omega arith
+
+-- without the one that needs more, the sum is no more
+sum-other : (p : ℕ → Bool) (f f' : ℕ → ℕ) (e N : ℕ) → p e ≡ false → ((k : ℕ) → k ≢ e → f' k ≤ f k) → sum_by f' (filter p (numbers_below N)) ≤ sum_by f (filter p (numbers_below N))
+sum-other p f f' e N off h =
+    let a = sum-filtered f p (numbers_below N) in
+    let b = sum-filtered f' p (numbers_below N) in
+    let c = sum-below (λ k. cond (p k) (f' k) 0) (λ k. cond (p k) (f k) 0) (numbers_below N) (λ k. cond-le (p k) (f' k) (f k) (λ t.
+        h k (λ (q : k ≡ e). not-both (p k) t (ap p q ∙ off)))) in
+    omega (arith, a, b, c)
+
+sum-mine : (p : ℕ → Bool) (f f' : ℕ → ℕ) (e n N : ℕ) → ((k : ℕ) → k ≢ e → f' k ≤ f k) → f' e ≤ f e + n → sum_by f' (filter p (numbers_below N)) ≤ sum_by f (filter p (numbers_below N)) + n
+sum-mine p f f' e n N h m =
+    let a = sum-filtered f p (numbers_below N) in
+    let b = sum-filtered f' p (numbers_below N) in
+    let c = sum-once (λ k. cond (p k) (f k) 0) (λ k. cond (p k) (f' k) 0) e n N (λ k q. cond-le (p k) (f' k) (f k) (λ t. h k q)) (cond-more (p e) (f' e) (f e) n m) in
+    omega (arith, a, b, c)
+
+-- a table of the numbers below a bound, within a list of that length
+table-below : (u : ℕ → ℕ) (N : ℕ) (vs : List ℕ) → ((g : ℕ) → g < N → u g ≤ get_or vs g 0) → (j : ℕ) → get_or (map u (numbers_below N)) j 0 ≤ get_or vs j 0
+table-below u N vs h j = ⊎_elim
+    (λ (i : j < N). let e = get_or-each u N j 0 i in let le = h j i in omega (arith, e, le))
+    (λ (i : N ≤ j). let e = get_or-past u N j 0 i in omega (arith, e))
+    (cases_lt j N)
+
+pub within-less : (caps : Caps) (groups : List GroupConfig) (f f' : ℕ → ℕ) → AreWithin caps groups f → ((e : ℕ) → f' e ≤ f e) → AreWithin caps groups f'
+within-less caps groups f f' w h =
+    let each : (g : ℕ) → needed f' caps.engines groups g ≤ needed f caps.engines groups g = λ g. sum-below f' f (filter (has (group_at groups g).engines) (numbers_below caps.engines)) h in
+    record {
+      allowed = λ g i. let a = w.allowed g i in let b = each g in omega (arith, a, b);
+      total =
+          let a = length-each (needed f' caps.engines groups) caps.groups in
+          let b = length-each (needed f caps.engines groups) caps.groups in
+          let less = covered-less groups (all_needed f' caps groups) (all_needed f caps groups) (omega (arith, a, b))
+              (table-below (needed f' caps.engines groups) caps.groups (all_needed f caps groups) (λ g i.
+              let e = get_or-each (needed f caps.engines groups) caps.groups g 0 i in let l = each g in omega (arith, e, l))) in
+          let old = w.total in
+          omega (arith, less, old);
+    }
+
+-- with nothing needed, what is reserved must be at hand
+pub within-none : (caps : Caps) (groups : List GroupConfig) (f : ℕ → ℕ) → total_reserved groups ≤ caps.read_buffers → ((e : ℕ) → f e ≡ 0) → AreWithin caps groups f
+within-none caps groups f h z =
+    let each : (g : ℕ) → needed f caps.engines groups g ≡ 0 = λ g. sum-zero (filter (has (group_at groups g).engines) (numbers_below caps.engines)) in
+    record {
+      allowed = λ g i. let e = each g in omega (arith, e);
+      total =
+          let none = covered-none groups (all_needed f caps groups) (λ j. ⊎_elim
+              (λ (i : j < caps.groups). get_or-each (needed f caps.engines groups) caps.groups j 0 i ∙ each j)
+              (λ (i : caps.groups ≤ j). get_or-past (needed f caps.engines groups) caps.groups j 0 i)
+              (cases_lt j caps.groups)) in
+          omega (arith, none, h);
+    }
+  where
+    sum-zero : (xs : List ℕ) → sum_by f xs ≡ 0
+    sum-zero [] = refl
+    sum-zero (x ∷ xs) = let more = sum-zero xs in let one = z x in let c = sum_by-cons f x xs in omega (arith, more, one, c)
+
+-- the two bounds where n more are in use in group g, whose engine needs them
+within-group : (caps : Caps) (groups : List GroupConfig) (f f' : ℕ → ℕ) (g n : ℕ) → AreWithin caps groups f → g < caps.groups → fits caps.read_buffers groups (all_needed f caps groups) g n ≡ true
+    → ((j : ℕ) → j < caps.groups → j ≢ g → needed f' caps.engines groups j ≤ needed f caps.engines groups j) → needed f' caps.engines groups g ≤ needed f caps.engines groups g + n → AreWithin caps groups f'
+within-group caps groups f f' g n w i room others mine =
+    let us : List ℕ = all_needed f caps groups in
+    let now : get_or us g 0 ≡ needed f caps.engines groups g = get_or-each (needed f caps.engines groups) caps.groups g 0 i in
+    let first : get_or us g 0 + n ≤ (group_at groups g).allowed = leb-true (get_or us g 0 + n) (group_at groups g).allowed (and-left _ _ room) in
+    let second : covered groups (set us g (get_or us g 0 + n)) ≤ caps.read_buffers = leb-true (covered groups (set us g (get_or us g 0 + n))) caps.read_buffers (and-right _ _ room) in
+    let size : length us ≡ caps.groups = length-each (needed f caps.engines groups) caps.groups in
+    record {
+      allowed = λ j k. ⊎_elim
+          (λ (q : j ≡ g). subst (λ x. needed f' caps.engines groups x ≤ (group_at groups x).allowed) (sym q) (omega (arith, mine, first, now)))
+          (λ (q : j ≢ g). let a = others j k q in let b = w.allowed j k in omega (arith, a, b))
+          (cases_eq j g);
+      total =
+          let a = length-each (needed f' caps.engines groups) caps.groups in
+          let b = length-set us g (get_or us g 0 + n) in
+          let less = covered-less groups (all_needed f' caps groups) (set us g (get_or us g 0 + n)) (omega (arith, a, b, size))
+              (table-below (needed f' caps.engines groups) caps.groups (set us g (get_or us g 0 + n)) (λ j k. ⊎_elim
+              (λ (q : j ≡ g). subst (λ x. needed f' caps.engines groups x ≤ get_or (set us g (get_or us g 0 + n)) x 0) (sym q)
+                  (let e = get_or-set_same us g (get_or us g 0 + n) 0 (omega (arith, size, i)) in omega (arith, e, now, mine)))
+              (λ (q : j ≢ g).
+                  let e = get_or-set_other us g j (get_or us g 0 + n) 0 q in
+                  let is = get_or-each (needed f caps.engines groups) caps.groups j 0 k in
+                  let l = others j k q in
+                  omega (arith, e, is, l))
+              (cases_eq j g))) in
+          omega (arith, less, second);
+    }
+
+-- one engine may need n more where these fit its group, and no other group has it
+pub within-more : (caps : Caps) (groups : List GroupConfig) (f f' : ℕ → ℕ) (e n : ℕ) → AreWithin caps groups f → length groups ≡ caps.groups → e < caps.engines → is_in_two (λ g. g.engines) groups caps.engines ≡ false
+    → passes (λ g. fits caps.read_buffers groups (all_needed f caps groups) g n) (position (λ g. has g.engines e) groups) ≡ true
+    → ((k : ℕ) → k ≢ e → f' k ≤ f k) → f' e ≤ f e + n → AreWithin caps groups f'
+within-more caps groups f f' e n w size inside alone room others mine = go (position (λ g. has g.engines e) groups) refl room
+  where
+    once : count_by (λ (g : GroupConfig). has g.engines e) groups ≤ 1
+    once = let h = ltb-false 1 (count_by (λ (g : GroupConfig). has g.engines e) groups) (none-any (λ k. nat_lt 1 (count_by (λ (g : GroupConfig). has g.engines k) groups)) caps.engines e alone inside) in omega (arith, h)
+    go : (o : Option ℕ) → position (λ g. has g.engines e) groups ≡ o → passes (λ g. fits caps.read_buffers groups (all_needed f caps groups) g n) o ≡ true → AreWithin caps groups f'
+    go None is r = absurd cc
+    go (Some g) is r =
+        let at = position-Some (λ (x : GroupConfig). has x.engines e) groups g zero_group is in
+        let low = at.0 in
+        within-group caps groups f f' g n w (omega (arith, low, size)) r
+        (λ j i q. sum-other (has (group_at groups j).engines) f f' e caps.engines
+            (⊎_elim
+            (λ t. absurd (q (one-place (λ (x : GroupConfig). has x.engines e) groups j g zero_group once (omega (arith, i, size)) low t at.1)))
+            (λ t. t)
+            (cases_Bool (has (group_at groups j).engines e)))
+            others)
+        (sum-mine (has (group_at groups g).engines) f f' e n caps.engines others mine)
