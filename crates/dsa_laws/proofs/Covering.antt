@@ -43,9 +43,9 @@ covered-none (g ∷ groups) (n ∷ us) h =
 
 -- ---- sums over the numbers below a bound, where one number may give more
 
-pub sum-filtered : (f : ℕ → ℕ) (p : ℕ → Bool) (xs : List ℕ) → sum_by f (filter p xs) ≡ sum_by (λ k. cond (p k) (f k) 0) xs
+pub sum-filtered : {X : Type 0} (f : X → ℕ) (p : X → Bool) (xs : List X) → sum_by f (filter p xs) ≡ sum_by (λ k. cond (p k) (f k) 0) xs
 sum-filtered f p [] = refl
-sum-filtered f p (x ∷ xs) = go (p x) (sum-filtered f p xs) ∙ sym (sum_by-cons (λ k. cond (p k) (f k) 0) x xs)
+sum-filtered {X} f p (x ∷ xs) = go (p x) (sum-filtered f p xs) ∙ sym (sum_by-cons (λ k. cond (p k) (f k) 0) x xs)
   where
     go : (b : Bool) → sum_by f (filter p xs) ≡ sum_by (λ k. cond (p k) (f k) 0) xs → sum_by f (cond b (x ∷ filter p xs) (filter p xs)) ≡ cond b (f x) 0 + sum_by (λ k. cond (p k) (f k) 0) xs
     go true more = let c = sum_by-cons f x (filter p xs) in omega (arith, more, c)
@@ -136,7 +136,7 @@ pub record AreWithin (caps : Caps) (groups : List GroupConfig) (f : ℕ → ℕ)
   pub allowed : (g : ℕ) → g < caps.groups → needed f caps.engines groups g ≤ (group_at groups g).allowed
   pub total : covered groups (all_needed f caps groups) ≤ caps.read_buffers
 
-cond-le : (b : Bool) (x y : ℕ) → (b ≡ true → x ≤ y) → cond b x 0 ≤ cond b y 0
+pub cond-le : (b : Bool) (x y : ℕ) → (b ≡ true → x ≤ y) → cond b x 0 ≤ cond b y 0
 cond-le true x y h = h refl
 cond-le false x y h = omega arith
 

@@ -1,0 +1,89 @@
+-- The bounds on read buffers stay.
+use Rattle.std.proofs.Common.{drop, ◌≡◌, ◌≢◌, ℕ, zero, suc, ◌+◌, ◌<◌, ◌≤◌, ◌++◌, Bool, true, false, not, cond, List, [], ◌∷◌, map, set, Option, Some, None, refl, sym, ap, ◌∙◌, subst, ◌⊎◌, inl, inr, arith, ⊎_elim}
+use Rattle.std.specs.Prelude.{sum_by, filter, find, position, nat_lt}
+use Rattle.std.proofs.lemmas.List.Sums.{sum_by-cons, sum_by_push}
+use Rattle.std.proofs.lemmas.Bool.{cases_eq, ltb-false}
+use Rattle.dsa_desc.specs.Rows.{passes}
+use Rattle.dsa_regs.specs.declared.Caps.{Caps}
+use Rattle.dsa_regs.specs.declared.GroupConfig.{GroupConfig}
+use Rattle.dsa_regs.specs.declared.QueueConfig.{QueueConfig}
+use Rattle.dsa_regs.specs.Numbers.{has}
+use Rattle.dsa_regs.specs.Config.{group_at, queue_at, is_in_two, total_size, total_reserved, groups_table, check_device}
+use Rattle.dsa_regs.specs.Buffers.{covered, fits}
+use Rattle.dsa_store.specs.Content.{Slot, Content, chain, pushed, without_front}
+use Rattle.dsa_book.specs.State.{Setup, Work, State, opening, is_off}
+use Rattle.dsa_book.specs.Work.{used_on, group_of, has_room, run, with_first_run}
+use Rattle.dsa_laws.specs.WellFormed.{HasShape, HasLawfulSetup, In}
+use Rattle.dsa_laws.specs.Buffering.{HasBuffers}
+use Rattle.dsa_laws.proofs.Changes.{and-left, and-right}
+use Rattle.dsa_laws.proofs.Contents.{chain-filtered, sum-filter-le}
+use Rattle.dsa_laws.proofs.Covering.{AreWithin, needed, all_needed, within-less, within-more, within-none}
+use Rattle.dsa_laws.proofs.Entries.{or-right}
+use Rattle.dsa_laws.proofs.Limits.{no-row}
+use Rattle.dsa_laws.proofs.Needs.{weight, weight-waiting, weight-run, weight-same, sum-within, sum_on, used_on-sum, sum_on-less, HasMore, sum_on-others, sum_on-mine}
+use Rattle.dsa_laws.proofs.Orders.{chain-set}
+use Rattle.dsa_laws.proofs.Setups.{not-both}
+
+-- ---- the bounds, by what each engine needs
+
+within-of : (caps : Caps) (w : Work) → w.setup.caps ≡ caps → HasBuffers caps w → is_off w.setup.device ≡ false → AreWithin caps w.setup.groups (used_on w)
+within-of caps w is h on = record {
+  allowed = λ g i. subst (λ (k : Caps). needed (used_on w) k.engines w.setup.groups g ≤ (group_at w.setup.groups g).allowed) is (h.allowed on g i);
+  total = subst (λ (k : Caps). covered w.setup.groups (all_needed (used_on w) k w.setup.groups) ≤ caps.read_buffers) is (h.covered on);
+}
+
+of-within : (caps : Caps) (w : Work) → w.setup.caps ≡ caps → (is_off w.setup.device ≡ false → AreWithin caps w.setup.groups (used_on w)) → HasBuffers caps w
+of-within caps w is h = record {
+  allowed = λ on g i. subst (λ (k : Caps). needed (used_on w) k.engines w.setup.groups g ≤ (group_at w.setup.groups g).allowed) (sym is) ((h on).allowed g i);
+  covered = λ on. subst (λ (k : Caps). covered w.setup.groups (all_needed (used_on w) k w.setup.groups) ≤ caps.read_buffers) (sym is) ((h on).total);
+}
+
+-- an Off device is under no bound
+while-off : (caps : Caps) (w : Work) → is_off w.setup.device ≡ true → HasBuffers caps w
+while-off caps w off = record {
+  allowed = λ on. not-both (is_off w.setup.device) off on;
+  covered = λ on. not-both (is_off w.setup.device) off on;
+}
+
+between : (a b c d : ℕ) → a ≡ b → c ≡ d → d ≤ b → c ≤ a
+between a b c d p q h = omega (arith, p, q, h)
+
+-- where no list needs more, and the queues of its entries have the limits that they had
+no-more : (caps : Caps) (w w' : Work) → w.setup.caps ≡ caps → w'.setup.caps ≡ caps → w'.setup.groups ≡ w.setup.groups → (is_off w'.setup.device ≡ false → is_off w.setup.device ≡ false)
+    → ((k : ℕ) (x : Slot) → In x (chain w'.content k) → queue_at w'.setup.configs x.1.queue ≡ queue_at w.setup.configs x.1.queue)
+    → ((k : ℕ) → sum_by (weight w.setup) (chain w'.content k) ≤ sum_by (weight w.setup) (chain w.content k))
+    → HasBuffers caps w → HasBuffers caps w'
+no-more caps w w' is is' groups off configs lists h = of-within caps w' is' (λ on.
+    subst (λ (gs : List GroupConfig). AreWithin caps gs (used_on w')) (sym groups)
+    (within-less caps w.setup.groups (used_on w) (used_on w') (within-of caps w is h (off on)) (λ e.
+        between (used_on w e) (sum_on caps (weight w.setup) w.content e) (used_on w' e) (sum_on caps (weight w'.setup) w'.content e)
+        (used_on-sum caps w e is) (used_on-sum caps w' e is') (sum_on-less caps (weight w.setup) (weight w'.setup) w.content w'.content e each))))
+  where
+    each : (k : ℕ) → sum_by (weight w'.setup) (chain w'.content k) ≤ sum_by (weight w.setup) (chain w.content k)
+    each k =
+        let a = sum-within (weight w.setup) (weight w'.setup) (chain w'.content k) (λ x i. let e = weight-same w.setup w'.setup x (configs k x i) in omega (arith, e)) in
+        let b = lists k in
+        omega (arith, a, b)
+
+between-more : (a b c d n : ℕ) → a ≡ b → c ≡ d → d ≤ b + n → c ≤ a + n
+between-more a b c d n p q h = omega (arith, p, q, h)
+
+-- where one list of an engine needs more, and that much fits
+one-more : (caps : Caps) (w w' : Work) (e p n : ℕ) → HasShape caps w → HasLawfulSetup w.setup → w'.setup ≡ w.setup → HasMore caps (weight w.setup) w.content w'.content e p n → has_room w e n ≡ true
+    → HasBuffers caps w → HasBuffers caps w'
+one-more caps w w' e p n shape setup is more room h = of-within caps w' is' (λ on'.
+    let on : is_off w.setup.device ≡ false = subst (λ (s : Setup). is_off s.device ≡ false) is on' in
+    let alone : is_in_two (λ g. g.engines) w.setup.groups w.setup.caps.engines ≡ false = or-right _ _ (no-row (groups_table w.setup.caps (total_size w.setup.configs) w.setup.groups) (setup.device on)).1.1.0 in
+    subst (λ (gs : List GroupConfig). AreWithin caps gs (used_on w')) (sym (ap (λ (s : Setup). s.groups) is))
+    (within-more caps w.setup.groups (used_on w) (used_on w') e n (within-of caps w shape.same_caps h on) shape.groups more.engine
+        (subst (λ (k : Caps). is_in_two (λ g. g.engines) w.setup.groups k.engines ≡ false) shape.same_caps alone)
+        (subst (λ (k : Caps). passes (λ g. fits k.read_buffers w.setup.groups (all_needed (used_on w) k w.setup.groups) g n) (position (λ g. has g.engines e) w.setup.groups) ≡ true) shape.same_caps room)
+        (λ k q. between (used_on w k) (sum_on caps (weight w.setup) w.content k) (used_on w' k) (sum_on caps (weight w.setup) w'.content k) (used_on-sum caps w k shape.same_caps) (after k)
+            (sum_on-others caps (weight w.setup) w.content w'.content e p n more k q))
+        (between-more (used_on w e) (sum_on caps (weight w.setup) w.content e) (used_on w' e) (sum_on caps (weight w.setup) w'.content e) n (used_on-sum caps w e shape.same_caps) (after e)
+            (sum_on-mine caps (weight w.setup) w.content w'.content e p n more))))
+  where
+    is' : w'.setup.caps ≡ caps
+    is' = ap (λ (s : Setup). s.caps) is ∙ shape.same_caps
+    after : (k : ℕ) → used_on w' k ≡ sum_on caps (weight w.setup) w'.content k
+    after k = used_on-sum caps w' k is' ∙ ap (λ (s : Setup). sum_on caps (weight s) w'.content k) is
