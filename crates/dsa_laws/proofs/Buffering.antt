@@ -8,12 +8,18 @@ use Rattle.dsa_regs.specs.declared.Caps.{Caps}
 use Rattle.dsa_regs.specs.declared.GroupConfig.{GroupConfig}
 use Rattle.dsa_regs.specs.declared.QueueConfig.{QueueConfig}
 use Rattle.dsa_regs.specs.Numbers.{has}
-use Rattle.dsa_regs.specs.Config.{group_at, queue_at, is_in_two, total_size, total_reserved, groups_table, check_device}
+use Rattle.dsa_regs.specs.declared.Phase.TheVariants.{Off, On, Stopping}
+use Rattle.dsa_regs.specs.declared.Command.{Command}
+use Rattle.dsa_regs.specs.declared.Command.TheVariants.{DisableDevice, DisableWq, ResetWq}
+use Rattle.dsa_regs.specs.Command.{named_queues}
+use Rattle.dsa_regs.specs.Config.{zero_queue, group_at, queue_at, is_in_two, total_size, total_reserved, groups_table, check_device}
 use Rattle.dsa_regs.specs.Buffers.{covered, fits}
 use Rattle.dsa_store.specs.Content.{Slot, Content, chain, pushed, without_front}
-use Rattle.dsa_book.specs.State.{Setup, Work, State, opening, is_off}
-use Rattle.dsa_book.specs.Work.{used_on, group_of, has_room, run, with_first_run}
-use Rattle.dsa_laws.specs.WellFormed.{HasShape, HasLawfulSetup, In}
+use Rattle.dsa_book.specs.State.{Setup, Work, State, opening, is_off, phase_at, need_of}
+use Rattle.dsa_book.specs.Work.{progress_list, member_list, members, first_waiting, may_take, used_on, has_room, as_running, run, with_first_run, taken, started}
+use Rattle.dsa_book.specs.Commands.{stopped, may_come, with_device, names, size_alone, is_in_scope}
+use Rattle.dsa_laws.specs.Change.{Change, IsTaken, IsStarted, same, is_noted, is_accepted, is_taken, is_fetched, is_started, is_abandoned, is_ended, is_device_enabled, is_queue_enabled, is_waiting, is_over, is_aborted, is_device_reset, is_queues_reset, is_queue_written, is_group_written}
+use Rattle.dsa_laws.specs.WellFormed.{HasShape, HasLawfulSetup, HasLawfulEntries, IsWellFormed, In}
 use Rattle.dsa_laws.specs.Buffering.{HasBuffers}
 use Rattle.dsa_laws.proofs.Changes.{and-left, and-right}
 use Rattle.dsa_laws.proofs.Contents.{chain-filtered, sum-filter-le}
@@ -22,7 +28,7 @@ use Rattle.dsa_laws.proofs.Entries.{or-right}
 use Rattle.dsa_laws.proofs.Limits.{no-row}
 use Rattle.dsa_laws.proofs.Needs.{weight, weight-waiting, weight-run, weight-same, sum-within, sum_on, used_on-sum, sum_on-less, HasMore, sum_on-others, sum_on-mine}
 use Rattle.dsa_laws.proofs.Orders.{chain-set}
-use Rattle.dsa_laws.proofs.Setups.{not-both}
+use Rattle.dsa_laws.proofs.Setups.{not-both, on-not_off}
 
 -- ---- the bounds, by what each engine needs
 
@@ -87,3 +93,63 @@ one-more caps w w' e p n shape setup is more room h = of-within caps w' is' (λ 
     is' = ap (λ (s : Setup). s.caps) is ∙ shape.same_caps
     after : (k : ℕ) → used_on w' k ≡ sum_on caps (weight w.setup) w'.content k
     after k = used_on-sum caps w' k is' ∙ ap (λ (s : Setup). sum_on caps (weight s) w'.content k) is
+
+-- ---- lists
+
+-- as it was, or as set
+set-within : (f : Slot → ℕ) (c : Content) (p : ℕ) (l : List Slot) (n : ℕ) → sum_by f l ≤ sum_by f (chain c p) + n → (k : ℕ) → sum_by f (chain (set c p l) k) ≤ sum_by f (chain c k) + n
+set-within f c p l n h k = ⊎_elim
+    (λ q. subst (λ j. sum_by f (chain (set c p l) j) ≤ sum_by f (chain c j) + n) (sym q.0) (let e = ap (λ (xs : List Slot). sum_by f xs) (at q.0 q.1) in omega (arith, e, h)))
+    (λ q. let e = ap (λ (xs : List Slot). sum_by f xs) q in omega (arith, e))
+    (chain-set c p l k)
+  where
+    at : k ≡ p → chain (set c p l) k ≡ l → chain (set c p l) p ≡ l
+    at q e = subst (λ j. chain (set c p l) j ≡ l) q e
+
+pushed-within : (f : Slot → ℕ) (c : Content) (p : ℕ) (x : Slot) (k : ℕ) → sum_by f (chain (pushed c p x.0 x.1) k) ≤ sum_by f (chain c k) + f x
+pushed-within f c p x k = set-within f c p (chain c p ++ x ∷ []) (f x) (let e = sum_by_push f (chain c p) x in omega (arith, e)) k
+
+-- one that needs nothing yet
+pushed-light : (f : Slot → ℕ) (c : Content) (p : ℕ) (x : Slot) → f x ≡ 0 → (k : ℕ) → sum_by f (chain (pushed c p x.0 x.1) k) ≤ sum_by f (chain c k)
+pushed-light f c p x z k = let h = pushed-within f c p x k in omega (arith, h, z)
+
+rest-within : (f : Slot → ℕ) (xs : List Slot) → sum_by f (drop 1 xs) ≤ sum_by f xs
+rest-within f [] = omega arith
+rest-within f (x ∷ xs) = let c = sum_by-cons f x xs in omega (arith, c)
+
+front-within : (f : Slot → ℕ) (c : Content) (q k : ℕ) → sum_by f (chain (without_front c q) k) ≤ sum_by f (chain c k)
+front-within f c q k =
+    let r = rest-within f (chain c q) in
+    let h = set-within f c q (drop 1 (chain c q)) 0 (omega (arith, r)) k in
+    omega (arith, h)
+
+emptied-within : (f : Slot → ℕ) (c : Content) (p k : ℕ) → sum_by f (chain (set c p []) k) ≤ sum_by f (chain c k)
+emptied-within f c p k = let h = set-within f c p [] 0 (omega arith) k in omega (arith, h)
+
+filtered-within : (f : Slot → ℕ) (p : Slot → Bool) (c : Content) (k : ℕ) → sum_by f (chain (map (filter p) c) k) ≤ sum_by f (chain c k)
+filtered-within f p c k =
+    let e = ap (λ (xs : List Slot). sum_by f xs) (chain-filtered p c k) in
+    let h = sum-filter-le f p (chain c k) in
+    omega (arith, e, h)
+
+as-it-was : (f : Slot → ℕ) (c : Content) (k : ℕ) → sum_by f (chain c k) ≤ sum_by f (chain c k)
+as-it-was f c k = omega arith
+
+-- the first that does not run runs
+first_run-within : (f : Slot → ℕ) (xs : List Slot) (slot : Slot) → find (λ x. not x.1.running) xs ≡ Some slot → sum_by f (with_first_run xs) ≤ sum_by f xs + f (run slot)
+first_run-within f [] slot h = absurd cc
+first_run-within f (x ∷ xs) slot h = go x.1.running (first_run-within f xs slot) h
+  where
+    go : (b : Bool) → (find (λ y. not y.1.running) xs ≡ Some slot → sum_by f (with_first_run xs) ≤ sum_by f xs + f (run slot)) → cond (not b) (Some x) (find (λ y. not y.1.running) xs) ≡ Some slot
+        → sum_by f (cond b (x ∷ with_first_run xs) (run x ∷ xs)) ≤ sum_by f (x ∷ xs) + f (run slot)
+    go true more h =
+        let rest = more h in
+        let a = sum_by-cons f x (with_first_run xs) in
+        let b = sum_by-cons f x xs in
+        omega (arith, rest, a, b)
+    go false more h =
+        let is : x ≡ slot = cc in
+        let e = ap (λ (y : Slot). f (run y)) is in
+        let a = sum_by-cons f (run x) xs in
+        let b = sum_by-cons f x xs in
+        omega (arith, e, a, b)
