@@ -2,12 +2,13 @@
 use Rattle.std.proofs.Common.{drop, ◌≡◌, ◌≢◌, ℕ, zero, suc, ◌+◌, ◌<◌, ◌≤◌, ◌++◌, Bool, true, false, not, cond, List, [], ◌∷◌, map, set, Option, Some, None, refl, sym, ap, ◌∙◌, subst, ◌⊎◌, inl, inr, arith, ⊎_elim}
 use Rattle.std.specs.Prelude.{sum_by, filter, find, position, nat_lt}
 use Rattle.std.proofs.lemmas.List.Sums.{sum_by-cons, sum_by_push}
-use Rattle.std.proofs.lemmas.Bool.{cases_eq, ltb-false}
+use Rattle.std.proofs.lemmas.Bool.{ltb-false, cases_Bool}
+use Rattle.std.proofs.lemmas.List.{get_or-set_other}
 use Rattle.dsa_desc.specs.Rows.{passes}
 use Rattle.dsa_regs.specs.declared.Caps.{Caps}
 use Rattle.dsa_regs.specs.declared.GroupConfig.{GroupConfig}
 use Rattle.dsa_regs.specs.declared.QueueConfig.{QueueConfig}
-use Rattle.dsa_regs.specs.Numbers.{has}
+use Rattle.dsa_regs.specs.Numbers.{has, numbers_below}
 use Rattle.dsa_regs.specs.declared.Phase.TheVariants.{Off, On, Stopping}
 use Rattle.dsa_regs.specs.declared.Command.{Command}
 use Rattle.dsa_regs.specs.declared.Command.TheVariants.{DisableDevice, DisableWq, ResetWq}
@@ -21,14 +22,16 @@ use Rattle.dsa_book.specs.Commands.{stopped, may_come, with_device, names, size_
 use Rattle.dsa_laws.specs.Change.{Change, IsTaken, IsStarted, same, is_noted, is_accepted, is_taken, is_fetched, is_started, is_abandoned, is_ended, is_device_enabled, is_queue_enabled, is_waiting, is_over, is_aborted, is_device_reset, is_queues_reset, is_queue_written, is_group_written}
 use Rattle.dsa_laws.specs.WellFormed.{HasShape, HasLawfulSetup, HasLawfulEntries, IsWellFormed, In}
 use Rattle.dsa_laws.specs.Buffering.{HasBuffers}
-use Rattle.dsa_laws.proofs.Changes.{and-left, and-right}
-use Rattle.dsa_laws.proofs.Contents.{chain-filtered, sum-filter-le}
+use Rattle.dsa_laws.proofs.Changes.{and-left, and-right, not-true}
+use Rattle.dsa_laws.proofs.Contents.{chain-filtered, sum-filter-le, In-filtered, In-find}
 use Rattle.dsa_laws.proofs.Covering.{AreWithin, needed, all_needed, within-less, within-more, within-none}
-use Rattle.dsa_laws.proofs.Entries.{or-right}
+use Rattle.dsa_laws.proofs.Entries.{or-right, in-use-below}
 use Rattle.dsa_laws.proofs.Limits.{no-row}
 use Rattle.dsa_laws.proofs.Needs.{weight, weight-waiting, weight-run, weight-same, sum-within, sum_on, used_on-sum, sum_on-less, HasMore, sum_on-others, sum_on-mine}
 use Rattle.dsa_laws.proofs.Orders.{chain-set}
 use Rattle.dsa_laws.proofs.Setups.{not-both, on-not_off}
+use Rattle.dsa_laws.proofs.Numbers.{get_or-each}
+use Rattle.dsa_laws.proofs.Shapes.{below-engines, waiting-engine, stopped-caps, stopped-configs, stopped-groups}
 
 -- ---- the bounds, by what each engine needs
 
@@ -153,3 +156,86 @@ first_run-within f (x ∷ xs) slot h = go x.1.running (first_run-within f xs slo
         let a = sum_by-cons f (run x) xs in
         let b = sum_by-cons f x xs in
         omega (arith, e, a, b)
+
+set-other : (c : Content) (p : ℕ) (l : List Slot) (k : ℕ) → k ≢ p → chain (set c p l) k ≡ chain c k
+set-other c p l k ne = ⊎_elim (λ q. absurd (ne q.0)) (λ e. e) (chain-set c p l k)
+
+-- ---- the two changes by which an entry begins to run
+
+taken-more : (caps : Caps) (w : Work) (e q : ℕ) (front : Slot) (f : Slot → ℕ) → HasShape caps w → e < caps.engines
+    → HasMore caps f w.content (pushed (without_front w.content q) (progress_list w.setup e) front.0 (as_running front.1)) e (progress_list w.setup e) (f (run front))
+taken-more caps w e q front f shape engine = record {
+  engine = engine;
+  place = inl (ap (λ (k : Caps). k.queues + e) shape.same_caps);
+  others = λ k ne.
+      let r = front-within f w.content q k in
+      let is = ap (λ (xs : List Slot). sum_by f xs) (set-other (without_front w.content q) (progress_list w.setup e) (chain (without_front w.content q) (progress_list w.setup e) ++ run front ∷ []) k ne) in
+      omega (arith, r, is);
+  mine =
+      let r = front-within f w.content q (progress_list w.setup e) in
+      let h = pushed-within f (without_front w.content q) (progress_list w.setup e) (run front) (progress_list w.setup e) in
+      omega (arith, r, h);
+}
+
+started-more : (caps : Caps) (w : Work) (e : ℕ) (slot : Slot) (f : Slot → ℕ) → HasShape caps w → first_waiting w e ≡ Some slot
+    → HasMore caps f w.content (set w.content (member_list w.setup e) (with_first_run (members w e))) e (member_list w.setup e) (f (run slot))
+started-more caps w e slot f shape first =
+    let has = waiting-engine w e slot first in
+    let is = ap (λ (b : Bool). sum_by f (cond b (chain w.content (member_list w.setup e)) [])) has in
+    let run = first_run-within f (members w e) slot first in
+    record {
+      engine = below-engines caps w e shape has;
+      place = inr (ap (λ (k : Caps). k.queues + k.engines + e) shape.same_caps);
+      others = λ k ne.
+          let same = ap (λ (xs : List Slot). sum_by f xs) (set-other w.content (member_list w.setup e) (with_first_run (members w e)) k ne) in
+          omega (arith, same);
+      mine = set-within f w.content (member_list w.setup e) (with_first_run (members w e)) _ (omega (arith, is, run)) (member_list w.setup e);
+    }
+
+-- ---- the device is enabled: nothing is held
+
+sum-empty : (f : Slot → ℕ) (xs : List Slot) → ((x : Slot) → In x xs → ⊥) → sum_by f xs ≡ 0
+sum-empty f [] h = refl
+sum-empty f (x ∷ xs) h = absurd (h x (inl refl))
+
+sum_on-none : (caps : Caps) (f : Slot → ℕ) (c : Content) (e : ℕ) → ((k : ℕ) → sum_by f (chain c k) ≡ 0) → sum_on caps f c e ≡ 0
+sum_on-none caps f c e h =
+    let a = h (caps.queues + e) in
+    let b = h (caps.queues + caps.engines + e) in
+    tested (nat_lt e caps.engines) _ (omega (arith, a, b))
+  where
+    tested : (b : Bool) (n : ℕ) → n ≡ 0 → cond b n 0 ≡ 0
+    tested true n z = z
+    tested false n z = refl
+
+none-held : (caps : Caps) (w : Work) → HasLawfulSetup w.setup → HasLawfulEntries caps w → is_off w.setup.device ≡ true → (k : ℕ) (x : Slot) → In x (chain w.content k) → ⊥
+none-held caps w setup entries off k x i = not-both (is_off w.setup.device) off (setup.phases x.1.queue (entries.slot k x i))
+
+enabled-buffers : (caps : Caps) (w w' : Work) → HasShape caps w → HasLawfulSetup w.setup → HasLawfulEntries caps w → is_off w.setup.device ≡ true → check_device w.setup.caps w.setup.configs w.setup.groups ≡ None
+    → w'.setup.caps ≡ w.setup.caps → w'.setup.groups ≡ w.setup.groups → w'.content ≡ w.content → HasBuffers caps w'
+enabled-buffers caps w w' shape setup entries off check same_caps groups content =
+    let is = same_caps ∙ shape.same_caps in
+    let reserved = ltb-false w.setup.caps.read_buffers (total_reserved w.setup.groups) (no-row (groups_table w.setup.caps (total_size w.setup.configs) w.setup.groups) check).1.1.1.0 in
+    let total = ap (λ (k : Caps). k.read_buffers) shape.same_caps in
+    let now = ap (λ (gs : List GroupConfig). total_reserved gs) groups in
+    of-within caps w' is (λ on. within-none caps w'.setup.groups (used_on w') (omega (arith, reserved, total, now)) (λ e.
+        used_on-sum caps w' e is ∙ sum_on-none caps (weight w'.setup) w'.content e (λ k.
+        sum-empty (weight w'.setup) (chain w'.content k) (λ x i. none-held caps w setup entries off k x (subst (λ (c : Content). In x (chain c k)) content i)))))
+
+-- ---- the limits of what is held stay
+
+queues_reset-configs : (caps : Caps) (w : Work) (qs : List ℕ) (q : ℕ) → HasShape caps w → is_off (phase_at w.setup q) ≡ false → names qs q ≡ false
+    → queue_at (map (λ k. cond (names qs k) (size_alone (queue_at w.setup.configs k)) (queue_at w.setup.configs k)) (numbers_below w.setup.caps.queues)) q ≡ queue_at w.setup.configs q
+queues_reset-configs caps w qs q shape on out =
+    get_or-each (λ k. cond (names qs k) (size_alone (queue_at w.setup.configs k)) (queue_at w.setup.configs k)) w.setup.caps.queues q zero_queue (in-use-below caps w q shape on)
+    ∙ ap (λ (b : Bool). cond b (size_alone (queue_at w.setup.configs q)) (queue_at w.setup.configs q)) out
+
+waiting-on : (setup : Setup) (command : Command) → may_come setup command ≡ true → is_off (stopped command Stopping setup).device ≡ false → is_off setup.device ≡ false
+waiting-on setup DisableDevice may n = on-not_off setup.device may
+waiting-on setup (DisableWq queues) may n = n
+waiting-on setup _ may n = n
+
+over-on : (setup : Setup) (command : Command) → is_off (stopped command Off setup).device ≡ false → is_off setup.device ≡ false
+over-on setup DisableDevice n = absurd cc
+over-on setup (DisableWq queues) n = n
+over-on setup _ n = n
