@@ -15,9 +15,9 @@ use Rattle.dsa_regs.specs.declared.Command.TheVariants.{DisableDevice, DisableWq
 use Rattle.dsa_regs.specs.Command.{named_queues}
 use Rattle.dsa_regs.specs.Config.{zero_queue, group_at, queue_at, is_in_two, total_size, total_reserved, groups_table, check_device}
 use Rattle.dsa_regs.specs.Buffers.{covered, fits}
-use Rattle.dsa_store.specs.Content.{Slot, Content, chain, pushed, without_front}
+use Rattle.dsa_store.specs.Content.{Slot, Content, is_cell, chain, pushed, without_front}
 use Rattle.dsa_book.specs.State.{Setup, Work, State, opening, is_off, phase_at, need_of}
-use Rattle.dsa_book.specs.Work.{progress_list, member_list, members, first_waiting, may_take, used_on, has_room, as_running, run, with_first_run, taken, started}
+use Rattle.dsa_book.specs.Work.{progress_list, member_list, members, first_waiting, may_take, used_on, has_room, front_of, qualifies, as_running, run, with_first_run, taken, started}
 use Rattle.dsa_book.specs.Commands.{stopped, may_come, with_device, names, size_alone, is_in_scope}
 use Rattle.dsa_laws.specs.Change.{Change, IsTaken, IsStarted, same, is_noted, is_accepted, is_taken, is_fetched, is_started, is_abandoned, is_ended, is_device_enabled, is_queue_enabled, is_waiting, is_over, is_aborted, is_device_reset, is_queues_reset, is_queue_written, is_group_written}
 use Rattle.dsa_laws.specs.WellFormed.{HasShape, HasLawfulSetup, HasLawfulEntries, IsWellFormed, In}
@@ -239,3 +239,83 @@ over-on : (setup : Setup) (command : Command) → is_off (stopped command Off se
 over-on setup DisableDevice n = absurd cc
 over-on setup (DisableWq queues) n = n
 over-on setup _ n = n
+
+-- ---- each kind
+
+taken-room : (w : Work) (e q : ℕ) (front : Slot) → qualifies w e q ≡ true → front_of w q ≡ Some front → has_room w e (weight w.setup (run front)) ≡ true
+taken-room w e q front h is =
+    let may : may_take w e front ≡ true = subst (λ o. passes (may_take w e) o ≡ true) is (and-right _ _ (and-right _ _ h)) in
+    subst (λ n. has_room w e n ≡ true) (sym (weight-run w.setup front)) (and-right _ _ (and-left _ _ may))
+
+-- the content alone has changed, and no list needs more
+lighter : (caps : Caps) (w w' : Work) → HasShape caps w → w'.setup ≡ w.setup → ((k : ℕ) → sum_by (weight w.setup) (chain w'.content k) ≤ sum_by (weight w.setup) (chain w.content k)) → HasBuffers caps w → HasBuffers caps w'
+lighter caps w w' shape is lists h = no-more caps w w' shape.same_caps (ap (λ (s : Setup). s.caps) is ∙ shape.same_caps) (ap (λ (s : Setup). s.groups) is) (λ n. subst (λ (s : Setup). is_off s.device ≡ false) is n)
+    (λ k x i. ap (λ (s : Setup). queue_at s.configs x.1.queue) is) lists h
+
+-- the setup alone has changed, and what is held has the limits that it had
+settled : (caps : Caps) (w w' : Work) → HasShape caps w → w'.content ≡ w.content → w'.setup.caps ≡ w.setup.caps → w'.setup.groups ≡ w.setup.groups → (is_off w'.setup.device ≡ false → is_off w.setup.device ≡ false)
+    → ((k : ℕ) (x : Slot) → In x (chain w.content k) → queue_at w'.setup.configs x.1.queue ≡ queue_at w.setup.configs x.1.queue) → HasBuffers caps w → HasBuffers caps w'
+settled caps w w' shape content same_caps groups off configs h = no-more caps w w' shape.same_caps (same_caps ∙ shape.same_caps) groups off
+    (λ k x i. configs k x (subst (λ (c : Content). In x (chain c k)) content i))
+    (λ k. let e = ap (λ (c : Content). sum_by (weight w.setup) (chain c k)) content in omega (arith, e))
+    h
+
+kept-change : (caps : Caps) (s s' : State) → HasShape caps s.work → HasLawfulSetup s.work.setup → HasLawfulEntries caps s.work → HasBuffers caps s.work → Change s s' → HasBuffers caps s'.work
+kept-change caps s s' shape setup entries h (same c) = subst (λ t. HasBuffers caps t.work) c h
+kept-change caps s s' shape setup entries h (is_noted c) = subst (λ t. HasBuffers caps t.work) c.after (settled caps s.work _ shape refl refl refl (λ n. n) (λ k x i. refl) h)
+kept-change caps s s' shape setup entries h (is_accepted c) =
+    subst (λ t. HasBuffers caps t.work) c.after
+    (no-more caps s.work _ shape.same_caps shape.same_caps refl (λ n. n) (λ k x i. refl) (pushed-light (weight s.work.setup) s.work.content c.queue _ (weight-waiting s.work.setup _ refl)) h)
+kept-change caps s s' shape setup entries h (is_taken c) =
+    let engine = below-engines caps s.work c.engine shape (and-left _ _ (and-left _ _ c.qualifies)) in
+    subst (λ t. HasBuffers caps t.work) c.after
+    (one-more caps s.work _ c.engine _ _ shape setup refl (taken-more caps s.work c.engine c.queue c.front (weight s.work.setup) shape engine)
+    (taken-room s.work c.engine c.queue c.front c.qualifies c.is_front) h)
+kept-change caps s s' shape setup entries h (is_fetched c) =
+    subst (λ t. HasBuffers caps t.work) c.after
+    (no-more caps s.work _ shape.same_caps shape.same_caps refl (λ n. n) (λ k x i. refl) (pushed-light (weight s.work.setup) s.work.content (member_list s.work.setup c.engine) _ (weight-waiting s.work.setup _ refl)) h)
+kept-change caps s s' shape setup entries h (is_started c) =
+    subst (λ t. HasBuffers caps t.work) c.after
+    (one-more caps s.work _ c.engine _ _ shape setup refl (started-more caps s.work c.engine c.slot (weight s.work.setup) shape c.is_first)
+    (subst (λ n. has_room s.work c.engine n ≡ true) (sym (weight-run s.work.setup c.slot)) c.room) h)
+kept-change caps s s' shape setup entries h (is_abandoned c) =
+    subst (λ t. HasBuffers caps t.work) c.after (lighter caps s.work _ shape refl (emptied-within (weight s.work.setup) s.work.content (member_list s.work.setup c.engine)) h)
+kept-change caps s s' shape setup entries h (is_ended c) =
+    subst (λ t. HasBuffers caps t.work) c.after (lighter caps s.work _ shape refl (filtered-within (weight s.work.setup) (λ slot. not (is_cell c.slot.0 slot)) s.work.content) h)
+kept-change caps s s' shape setup entries h (is_device_enabled c) =
+    subst (λ t. HasBuffers caps t.work) c.after (enabled-buffers caps s.work _ shape setup entries c.off c.check refl refl refl)
+kept-change caps s s' shape setup entries h (is_queue_enabled c) =
+    subst (λ t. HasBuffers caps t.work) c.after (settled caps s.work _ shape refl refl refl (λ n. n) (λ k x i. refl) h)
+kept-change caps s s' shape setup entries h (is_waiting c) =
+    subst (λ t. HasBuffers caps t.work) c.after
+    (settled caps s.work _ shape refl (stopped-caps c.command Stopping s.work.setup) (stopped-groups c.command Stopping s.work.setup) (waiting-on s.work.setup c.command c.may)
+    (λ k x i. ap (λ (cs : List QueueConfig). queue_at cs x.1.queue) (stopped-configs c.command Stopping s.work.setup)) h)
+kept-change caps s s' shape setup entries h (is_over c) =
+    subst (λ t. HasBuffers caps t.work) c.after
+    (settled caps s.work _ shape refl (stopped-caps c.command.command Off s.work.setup) (stopped-groups c.command.command Off s.work.setup) (over-on s.work.setup c.command.command)
+    (λ k x i. ap (λ (cs : List QueueConfig). queue_at cs x.1.queue) (stopped-configs c.command.command Off s.work.setup)) h)
+kept-change caps s s' shape setup entries h (is_aborted c) =
+    subst (λ t. HasBuffers caps t.work) c.after (lighter caps s.work _ shape refl (filtered-within (weight s.work.setup) (λ slot. not (is_in_scope c.command slot.1)) s.work.content) h)
+kept-change caps s s' shape setup entries h (is_device_reset c) = subst (λ t. HasBuffers caps t.work) c.after (while-off caps _ refl)
+kept-change caps s s' shape setup entries h (is_queues_reset c) =
+    let qs = named_queues (ResetWq c.queues) in
+    subst (λ t. HasBuffers caps t.work) c.after
+    (no-more caps s.work _ shape.same_caps shape.same_caps refl (λ n. n)
+    (λ k x i.
+        let j = In-filtered (λ slot. not (names qs slot.1.queue)) s.work.content k x i in
+        queues_reset-configs caps s.work qs x.1.queue shape (entries.slot k x j.0) (not-true _ j.1))
+    (filtered-within (weight s.work.setup) (λ slot. not (names qs slot.1.queue)) s.work.content) h)
+kept-change caps s s' shape setup entries h (is_queue_written c) =
+    subst (λ t. HasBuffers caps t.work) c.after
+    (settled caps s.work _ shape refl refl refl (λ n. n)
+    (λ k x i. get_or-set_other s.work.setup.configs c.queue x.1.queue c.config zero_queue (λ (e : x.1.queue ≡ c.queue).
+        not-both (is_off (phase_at s.work.setup c.queue)) c.off (subst (λ q. is_off (phase_at s.work.setup q) ≡ false) e (entries.slot k x i))))
+    h)
+kept-change caps s s' shape setup entries h (is_group_written c) = subst (λ t. HasBuffers caps t.work) c.after (while-off caps _ c.off)
+
+-- the device in its next state, where the state before it is well formed
+pub buffers-change : (caps : Caps) (s s' : State) → IsWellFormed caps s → HasBuffers caps s.work → Change s s' → HasBuffers caps s'.work
+buffers-change caps s s' w h c = kept-change caps s s' w.shape w.setup w.entries h c
+
+pub buffers-opening : (caps : Caps) → HasBuffers caps (opening caps).work
+buffers-opening caps = while-off caps (opening caps).work refl
