@@ -11,6 +11,7 @@ ghost use Rattle.dsa_book.specs.Machine.{next, is_stored, replay};
 ghost use Rattle.dsa_book.specs.Totals.{total_accepted, total_fetched, total_done, total_lost};
 ghost use Rattle.dsa_laws.specs.Change.{Change};
 ghost use Rattle.dsa_laws.specs.WellFormed.{IsWellFormed};
+ghost use Rattle.dsa_laws.specs.Buffering.{HasBuffers};
 
 /// A step whose reply is not stored changes nothing.
 pub fn unstored_steps_change_nothing()
@@ -52,5 +53,11 @@ pub fn steps_are_changes()
 /// Every state that a history leads to is well formed.
 pub fn histories_are_well_formed()
     ensures { (caps : Caps) (history : List Step) (s : State) → replay caps history ≡ Some s → IsWellFormed caps s }
+{
+}
+
+/// In every state that a history leads to, no group uses more read buffers than it may, and what each group has reserved is at hand, unless the device is Off.
+pub fn read_buffers_are_covered()
+    ensures { (caps : Caps) (history : List Step) (s : State) → replay caps history ≡ Some s → HasBuffers caps s.work }
 {
 }
