@@ -1,29 +1,29 @@
 -- The bounds on read buffers stay.
-use Rattle.std.proofs.Common.{drop, ◌≡◌, ◌≢◌, ℕ, zero, suc, ◌+◌, ◌<◌, ◌≤◌, ◌++◌, Bool, true, false, not, cond, List, [], ◌∷◌, map, set, Option, Some, None, refl, sym, ap, ◌∙◌, subst, ◌⊎◌, inl, inr, arith, ⊎_elim}
+use Rattle.std.proofs.Common.{drop, ◌≡◌, ◌≢◌, ℕ, ◌+◌, ◌<◌, ◌≤◌, ◌++◌, Bool, true, false, not, cond, List, [], ◌∷◌, map, set, Some, None, refl, sym, ap, ◌∙◌, subst, inl, inr, arith, ⊎_elim}
 use Rattle.std.specs.Prelude.{sum_by, filter, find, position, nat_lt}
 use Rattle.std.proofs.lemmas.List.Sums.{sum_by-cons, sum_by_push}
-use Rattle.std.proofs.lemmas.Bool.{ltb-false, cases_Bool}
+use Rattle.std.proofs.lemmas.Bool.{ltb-false}
 use Rattle.std.proofs.lemmas.List.{get_or-set_other}
 use Rattle.dsa_desc.specs.Rows.{passes}
 use Rattle.dsa_regs.specs.declared.Caps.{Caps}
 use Rattle.dsa_regs.specs.declared.GroupConfig.{GroupConfig}
 use Rattle.dsa_regs.specs.declared.QueueConfig.{QueueConfig}
 use Rattle.dsa_regs.specs.Numbers.{has, numbers_below}
-use Rattle.dsa_regs.specs.declared.Phase.TheVariants.{Off, On, Stopping}
+use Rattle.dsa_regs.specs.declared.Phase.TheVariants.{Off, Stopping}
 use Rattle.dsa_regs.specs.declared.Command.{Command}
 use Rattle.dsa_regs.specs.declared.Command.TheVariants.{DisableDevice, DisableWq, ResetWq}
 use Rattle.dsa_regs.specs.Command.{named_queues}
 use Rattle.dsa_regs.specs.Config.{zero_queue, group_at, queue_at, is_in_two, total_size, total_reserved, groups_table, check_device}
 use Rattle.dsa_regs.specs.Buffers.{covered, fits}
 use Rattle.dsa_store.specs.Content.{Slot, Content, is_cell, chain, pushed, without_front}
-use Rattle.dsa_book.specs.State.{Setup, Work, State, opening, is_off, phase_at, need_of}
-use Rattle.dsa_book.specs.Work.{progress_list, member_list, members, first_waiting, may_take, used_on, has_room, front_of, qualifies, as_running, run, with_first_run, taken, started}
-use Rattle.dsa_book.specs.Commands.{stopped, may_come, with_device, names, size_alone, is_in_scope}
-use Rattle.dsa_laws.specs.Change.{Change, IsTaken, IsStarted, same, is_noted, is_accepted, is_taken, is_fetched, is_started, is_abandoned, is_ended, is_device_enabled, is_queue_enabled, is_waiting, is_over, is_aborted, is_device_reset, is_queues_reset, is_queue_written, is_group_written}
+use Rattle.dsa_book.specs.State.{Setup, Work, State, opening, is_off, phase_at}
+use Rattle.dsa_book.specs.Work.{progress_list, member_list, members, first_waiting, may_take, used_on, has_room, front_of, qualifies, as_running, run, with_first_run}
+use Rattle.dsa_book.specs.Commands.{stopped, may_come, names, size_alone, is_in_scope}
+use Rattle.dsa_laws.specs.Change.{Change, same, is_noted, is_accepted, is_taken, is_fetched, is_started, is_abandoned, is_ended, is_device_enabled, is_queue_enabled, is_waiting, is_over, is_aborted, is_device_reset, is_queues_reset, is_queue_written, is_group_written}
 use Rattle.dsa_laws.specs.WellFormed.{HasShape, HasLawfulSetup, HasLawfulEntries, IsWellFormed, In}
 use Rattle.dsa_laws.specs.Buffering.{HasBuffers}
 use Rattle.dsa_laws.proofs.Changes.{and-left, and-right, not-true}
-use Rattle.dsa_laws.proofs.Contents.{chain-filtered, sum-filter-le, In-filtered, In-find}
+use Rattle.dsa_laws.proofs.Contents.{chain-filtered, sum-filter-le, In-filtered}
 use Rattle.dsa_laws.proofs.Covering.{AreWithin, needed, all_needed, within-less, within-more, within-none}
 use Rattle.dsa_laws.proofs.Entries.{or-right, in-use-below}
 use Rattle.dsa_laws.proofs.Limits.{no-row}
@@ -65,8 +65,8 @@ no-more : (caps : Caps) (w w' : Work) → w.setup.caps ≡ caps → w'.setup.cap
 no-more caps w w' is is' groups off configs lists h = of-within caps w' is' (λ on.
     subst (λ (gs : List GroupConfig). AreWithin caps gs (used_on w')) (sym groups)
     (within-less caps w.setup.groups (used_on w) (used_on w') (within-of caps w is h (off on)) (λ e.
-        between (used_on w e) (sum_on caps (weight w.setup) w.content e) (used_on w' e) (sum_on caps (weight w'.setup) w'.content e)
-        (used_on-sum caps w e is) (used_on-sum caps w' e is') (sum_on-less caps (weight w.setup) (weight w'.setup) w.content w'.content e each))))
+    between (used_on w e) (sum_on caps (weight w.setup) w.content e) (used_on w' e) (sum_on caps (weight w'.setup) w'.content e)
+    (used_on-sum caps w e is) (used_on-sum caps w' e is') (sum_on-less caps (weight w.setup) (weight w'.setup) w.content w'.content e each))))
   where
     each : (k : ℕ) → sum_by (weight w'.setup) (chain w'.content k) ≤ sum_by (weight w.setup) (chain w.content k)
     each k =
@@ -85,15 +85,16 @@ one-more caps w w' e p n shape setup is more room h = of-within caps w' is' (λ 
     let alone : is_in_two (λ g. g.engines) w.setup.groups w.setup.caps.engines ≡ false = or-right _ _ (no-row (groups_table w.setup.caps (total_size w.setup.configs) w.setup.groups) (setup.device on)).1.1.0 in
     subst (λ (gs : List GroupConfig). AreWithin caps gs (used_on w')) (sym (ap (λ (s : Setup). s.groups) is))
     (within-more caps w.setup.groups (used_on w) (used_on w') e n (within-of caps w shape.same_caps h on) shape.groups more.engine
-        (subst (λ (k : Caps). is_in_two (λ g. g.engines) w.setup.groups k.engines ≡ false) shape.same_caps alone)
-        (subst (λ (k : Caps). passes (λ g. fits k.read_buffers w.setup.groups (all_needed (used_on w) k w.setup.groups) g n) (position (λ g. has g.engines e) w.setup.groups) ≡ true) shape.same_caps room)
-        (λ k q. between (used_on w k) (sum_on caps (weight w.setup) w.content k) (used_on w' k) (sum_on caps (weight w.setup) w'.content k) (used_on-sum caps w k shape.same_caps) (after k)
-            (sum_on-others caps (weight w.setup) w.content w'.content e p n more k q))
-        (between-more (used_on w e) (sum_on caps (weight w.setup) w.content e) (used_on w' e) (sum_on caps (weight w.setup) w'.content e) n (used_on-sum caps w e shape.same_caps) (after e)
-            (sum_on-mine caps (weight w.setup) w.content w'.content e p n more))))
+    (subst (λ (k : Caps). is_in_two (λ g. g.engines) w.setup.groups k.engines ≡ false) shape.same_caps alone)
+    (subst (λ (k : Caps). passes (λ g. fits k.read_buffers w.setup.groups (all_needed (used_on w) k w.setup.groups) g n) (position (λ g. has g.engines e) w.setup.groups) ≡ true) shape.same_caps room)
+    (λ k q. between (used_on w k) (sum_on caps (weight w.setup) w.content k) (used_on w' k) (sum_on caps (weight w.setup) w'.content k) (used_on-sum caps w k shape.same_caps) (after k)
+    (sum_on-others caps (weight w.setup) w.content w'.content e p n more k q))
+    (between-more (used_on w e) (sum_on caps (weight w.setup) w.content e) (used_on w' e) (sum_on caps (weight w.setup) w'.content e) n (used_on-sum caps w e shape.same_caps) (after e)
+    (sum_on-mine caps (weight w.setup) w.content w'.content e p n more))))
   where
     is' : w'.setup.caps ≡ caps
     is' = ap (λ (s : Setup). s.caps) is ∙ shape.same_caps
+
     after : (k : ℕ) → used_on w' k ≡ sum_on caps (weight w.setup) w'.content k
     after k = used_on-sum caps w' k is' ∙ ap (λ (s : Setup). sum_on caps (weight s) w'.content k) is
 
@@ -134,9 +135,6 @@ filtered-within f p c k =
     let e = ap (λ (xs : List Slot). sum_by f xs) (chain-filtered p c k) in
     let h = sum-filter-le f p (chain c k) in
     omega (arith, e, h)
-
-as-it-was : (f : Slot → ℕ) (c : Content) (k : ℕ) → sum_by f (chain c k) ≤ sum_by f (chain c k)
-as-it-was f c k = omega arith
 
 -- the first that does not run runs
 first_run-within : (f : Slot → ℕ) (xs : List Slot) (slot : Slot) → find (λ x. not x.1.running) xs ≡ Some slot → sum_by f (with_first_run xs) ≤ sum_by f xs + f (run slot)
@@ -219,8 +217,8 @@ enabled-buffers caps w w' shape setup entries off check same_caps groups content
     let total = ap (λ (k : Caps). k.read_buffers) shape.same_caps in
     let now = ap (λ (gs : List GroupConfig). total_reserved gs) groups in
     of-within caps w' is (λ on. within-none caps w'.setup.groups (used_on w') (omega (arith, reserved, total, now)) (λ e.
-        used_on-sum caps w' e is ∙ sum_on-none caps (weight w'.setup) w'.content e (λ k.
-        sum-empty (weight w'.setup) (chain w'.content k) (λ x i. none-held caps w setup entries off k x (subst (λ (c : Content). In x (chain c k)) content i)))))
+    used_on-sum caps w' e is ∙ sum_on-none caps (weight w'.setup) w'.content e (λ k.
+    sum-empty (weight w'.setup) (chain w'.content k) (λ x i. none-held caps w setup entries off k x (subst (λ (c : Content). In x (chain c k)) content i)))))
 
 -- ---- the limits of what is held stay
 
@@ -302,18 +300,17 @@ kept-change caps s s' shape setup entries h (is_queues_reset c) =
     subst (λ t. HasBuffers caps t.work) c.after
     (no-more caps s.work _ shape.same_caps shape.same_caps refl (λ n. n)
     (λ k x i.
-        let j = In-filtered (λ slot. not (names qs slot.1.queue)) s.work.content k x i in
-        queues_reset-configs caps s.work qs x.1.queue shape (entries.slot k x j.0) (not-true _ j.1))
+    let j = In-filtered (λ slot. not (names qs slot.1.queue)) s.work.content k x i in
+    queues_reset-configs caps s.work qs x.1.queue shape (entries.slot k x j.0) (not-true _ j.1))
     (filtered-within (weight s.work.setup) (λ slot. not (names qs slot.1.queue)) s.work.content) h)
 kept-change caps s s' shape setup entries h (is_queue_written c) =
     subst (λ t. HasBuffers caps t.work) c.after
     (settled caps s.work _ shape refl refl refl (λ n. n)
     (λ k x i. get_or-set_other s.work.setup.configs c.queue x.1.queue c.config zero_queue (λ (e : x.1.queue ≡ c.queue).
-        not-both (is_off (phase_at s.work.setup c.queue)) c.off (subst (λ q. is_off (phase_at s.work.setup q) ≡ false) e (entries.slot k x i))))
+    not-both (is_off (phase_at s.work.setup c.queue)) c.off (subst (λ q. is_off (phase_at s.work.setup q) ≡ false) e (entries.slot k x i))))
     h)
 kept-change caps s s' shape setup entries h (is_group_written c) = subst (λ t. HasBuffers caps t.work) c.after (while-off caps _ c.off)
 
--- the device in its next state, where the state before it is well formed
 pub buffers-change : (caps : Caps) (s s' : State) → IsWellFormed caps s → HasBuffers caps s.work → Change s s' → HasBuffers caps s'.work
 buffers-change caps s s' w h c = kept-change caps s s' w.shape w.setup w.entries h c
 

@@ -1,12 +1,12 @@
 -- What the groups use or have reserved, as what their engines need changes.
-use Rattle.std.proofs.Common.{◌≡◌, ◌≢◌, ℕ, zero, suc, ◌+◌, ◌<◌, ◌≤◌, ◌&&◌, ◌||◌, Bool, true, false, cond, List, [], ◌∷◌, ◌++◌, length, map, set, get_or, Option, Some, None, refl, sym, ap, ◌∙◌, subst, arith, ⊎_elim}
+use Rattle.std.proofs.Common.{◌≡◌, ◌≢◌, ℕ, zero, suc, ◌+◌, ◌<◌, ◌≤◌, ◌||◌, Bool, true, false, cond, List, [], ◌∷◌, ◌++◌, length, map, set, get_or, Option, Some, None, refl, sym, ap, ◌∙◌, subst, arith, ⊎_elim}
 use Rattle.std.specs.Prelude.{sum_by, count_by, filter, position, nat_lt, nat_le}
 use Rattle.std.specs.List.{list_any}
 use Rattle.std.proofs.lemmas.List.{length-set, get_or-set_same, get_or-set_other}
 use Rattle.std.proofs.lemmas.List.Quantifiers.{position-Some}
-use Rattle.std.proofs.lemmas.List.Sums.{sum_by-cons, sum_by_push}
+use Rattle.std.proofs.lemmas.List.Sums.{sum_by-cons, sum_by_push, get_or-le-sum_by}
+use Rattle.std.proofs.lemmas.List.Folds.{list_any-append}
 use Rattle.std.proofs.lemmas.Bool.{cases_eq, cases_Bool, cases_lt, ltb-false, leb-true}
-use Rattle.std.proofs.Math.ListN.{get_or-eq_default}
 use Rattle.dsa_desc.specs.Rows.{passes}
 use Rattle.dsa_regs.specs.declared.Caps.{Caps}
 use Rattle.dsa_regs.specs.declared.GroupConfig.{GroupConfig}
@@ -67,43 +67,32 @@ sum-once f f' e n (suc N) h m =
     let b = sum_by_push f' (numbers_below N) N in
     ⊎_elim
     (λ (q : N ≡ e).
-        let rest = sum-before f f' e N (omega (arith, q)) h in
-        let x = ap f q in
-        let y = ap f' q in
-        omega (arith, rest, x, y, m, a, b))
+    let rest = sum-before f f' e N (omega (arith, q)) h in
+    let x = ap f q in
+    let y = ap f' q in
+    omega (arith, rest, x, y, m, a, b))
     (λ (q : N ≢ e).
-        let rest = sum-once f f' e n N h m in
-        let last = h N q in
-        omega (arith, rest, last, a, b))
+    let rest = sum-once f f' e n N h m in
+    let last = h N q in
+    omega (arith, rest, last, a, b))
     (cases_eq N e)
 
 -- ---- a number that stands in one set alone
 
 none-any : (p : ℕ → Bool) (N k : ℕ) → list_any p (numbers_below N) ≡ false → k < N → p k ≡ false
 none-any p zero k h l = absurd (omega (arith, l))
-none-any p (suc N) k h l = ⊎_elim
-    (λ (q : k ≡ N). ap p q ∙ or-left (p N) false (any-last p (numbers_below N) N h).1)
-    (λ (q : k ≢ N). none-any p N k (any-last p (numbers_below N) N h).0 (omega (arith, l, q)))
+none-any p (suc N) k h l =
+    let both : (list_any p (numbers_below N) || (p N || false)) ≡ false = sym (list_any-append p (numbers_below N) (N ∷ [])) ∙ h in
+    ⊎_elim
+    (λ (q : k ≡ N). ap p q ∙ or-left (p N) false (or-right _ _ both))
+    (λ (q : k ≢ N). none-any p N k (or-left _ _ both) (omega (arith, l, q)))
     (cases_eq k N)
-  where
-    any-last : (p : ℕ → Bool) (xs : List ℕ) (x : ℕ) → list_any p (xs ++ x ∷ []) ≡ false → (list_any p xs ≡ false) × ((p x || false) ≡ false)
-    any-last p [] x h = (refl, h)
-    any-last p (y ∷ ys) x h = go (p y) h (any-last p ys x)
-      where
-        go : (b : Bool) → (b || list_any p (ys ++ x ∷ [])) ≡ false → (list_any p (ys ++ x ∷ []) ≡ false → (list_any p ys ≡ false) × ((p x || false) ≡ false)) → ((b || list_any p ys) ≡ false) × ((p x || false) ≡ false)
-        go true h more = absurd cc
-        go false h more = more h
 
 some-counted : {X : Type 0} (p : X → Bool) (xs : List X) (j : ℕ) (d : X) → j < length xs → p (get_or xs j d) ≡ true → 1 ≤ count_by p xs
-some-counted p [] j d l t = absurd (omega (arith, l))
-some-counted p (x ∷ xs) zero d l t =
-    let c = sum_by-cons (λ y. cond (p y) 1 0) x xs in
-    let one : ◌≡◌ {A = ℕ} (cond (p x) 1 0) 1 = ap (λ (b : Bool). cond {A = ℕ} b 1 0) t in
-    omega (arith, c, one)
-some-counted p (x ∷ xs) (suc j) d l t =
-    let c = sum_by-cons (λ y. cond (p y) 1 0) x xs in
-    let rest = some-counted p xs j d (omega (arith, l)) t in
-    omega (arith, c, rest)
+some-counted p xs j d l t =
+    let one : ◌≡◌ {A = ℕ} (cond (p (get_or xs j d)) 1 0) 1 = ap (λ (b : Bool). cond {A = ℕ} b 1 0) t in
+    let part = get_or-le-sum_by (λ x. cond (p x) 1 0) xs j d l in
+    omega (arith, one, part)
 
 -- where a test passes once at most, it passes at one place
 pub one-place : {X : Type 0} (p : X → Bool) (xs : List X) (i j : ℕ) (d : X) → count_by p xs ≤ 1 → i < length xs → j < length xs → p (get_or xs i d) ≡ true → p (get_or xs j d) ≡ true → i ≡ j
@@ -150,7 +139,7 @@ sum-other p f f' e N off h =
     let a = sum-filtered f p (numbers_below N) in
     let b = sum-filtered f' p (numbers_below N) in
     let c = sum-below (λ k. cond (p k) (f' k) 0) (λ k. cond (p k) (f k) 0) (numbers_below N) (λ k. cond-le (p k) (f' k) (f k) (λ t.
-        h k (λ (q : k ≡ e). not-both (p k) t (ap p q ∙ off)))) in
+    h k (λ (q : k ≡ e). not-both (p k) t (ap p q ∙ off)))) in
     omega (arith, a, b, c)
 
 sum-mine : (p : ℕ → Bool) (f f' : ℕ → ℕ) (e n N : ℕ) → ((k : ℕ) → k ≢ e → f' k ≤ f k) → f' e ≤ f e + n → sum_by f' (filter p (numbers_below N)) ≤ sum_by f (filter p (numbers_below N)) + n
@@ -176,8 +165,8 @@ within-less caps groups f f' w h =
           let a = length-each (needed f' caps.engines groups) caps.groups in
           let b = length-each (needed f caps.engines groups) caps.groups in
           let less = covered-less groups (all_needed f' caps groups) (all_needed f caps groups) (omega (arith, a, b))
-              (table-below (needed f' caps.engines groups) caps.groups (all_needed f caps groups) (λ g i.
-              let e = get_or-each (needed f caps.engines groups) caps.groups g 0 i in let l = each g in omega (arith, e, l))) in
+          (table-below (needed f' caps.engines groups) caps.groups (all_needed f caps groups) (λ g i.
+          let e = get_or-each (needed f caps.engines groups) caps.groups g 0 i in let l = each g in omega (arith, e, l))) in
           let old = w.total in
           omega (arith, less, old);
     }
@@ -190,9 +179,9 @@ within-none caps groups f h z =
       allowed = λ g i. let e = each g in omega (arith, e);
       total =
           let none = covered-none groups (all_needed f caps groups) (λ j. ⊎_elim
-              (λ (i : j < caps.groups). get_or-each (needed f caps.engines groups) caps.groups j 0 i ∙ each j)
-              (λ (i : caps.groups ≤ j). get_or-past (needed f caps.engines groups) caps.groups j 0 i)
-              (cases_lt j caps.groups)) in
+          (λ (i : j < caps.groups). get_or-each (needed f caps.engines groups) caps.groups j 0 i ∙ each j)
+          (λ (i : caps.groups ≤ j). get_or-past (needed f caps.engines groups) caps.groups j 0 i)
+          (cases_lt j caps.groups)) in
           omega (arith, none, h);
     }
   where
@@ -206,8 +195,10 @@ within-group : (caps : Caps) (groups : List GroupConfig) (f f' : ℕ → ℕ) (g
 within-group caps groups f f' g n w i room others mine =
     let us : List ℕ = all_needed f caps groups in
     let now : get_or us g 0 ≡ needed f caps.engines groups g = get_or-each (needed f caps.engines groups) caps.groups g 0 i in
-    let first : get_or us g 0 + n ≤ (group_at groups g).allowed = leb-true (get_or us g 0 + n) (group_at groups g).allowed (and-left _ _ room) in
-    let second : covered groups (set us g (get_or us g 0 + n)) ≤ caps.read_buffers = leb-true (covered groups (set us g (get_or us g 0 + n))) caps.read_buffers (and-right _ _ room) in
+    let own = nat_le (get_or us g 0 + n) (group_at groups g).allowed in
+    let total = nat_le (covered groups (set us g (get_or us g 0 + n))) caps.read_buffers in
+    let first : get_or us g 0 + n ≤ (group_at groups g).allowed = leb-true (get_or us g 0 + n) (group_at groups g).allowed (and-left own total room) in
+    let second : covered groups (set us g (get_or us g 0 + n)) ≤ caps.read_buffers = leb-true (covered groups (set us g (get_or us g 0 + n))) caps.read_buffers (and-right own total room) in
     let size : length us ≡ caps.groups = length-each (needed f caps.engines groups) caps.groups in
     record {
       allowed = λ j k. ⊎_elim
@@ -218,15 +209,15 @@ within-group caps groups f f' g n w i room others mine =
           let a = length-each (needed f' caps.engines groups) caps.groups in
           let b = length-set us g (get_or us g 0 + n) in
           let less = covered-less groups (all_needed f' caps groups) (set us g (get_or us g 0 + n)) (omega (arith, a, b, size))
-              (table-below (needed f' caps.engines groups) caps.groups (set us g (get_or us g 0 + n)) (λ j k. ⊎_elim
-              (λ (q : j ≡ g). subst (λ x. needed f' caps.engines groups x ≤ get_or (set us g (get_or us g 0 + n)) x 0) (sym q)
-                  (let e = get_or-set_same us g (get_or us g 0 + n) 0 (omega (arith, size, i)) in omega (arith, e, now, mine)))
-              (λ (q : j ≢ g).
-                  let e = get_or-set_other us g j (get_or us g 0 + n) 0 q in
-                  let is = get_or-each (needed f caps.engines groups) caps.groups j 0 k in
-                  let l = others j k q in
-                  omega (arith, e, is, l))
-              (cases_eq j g))) in
+          (table-below (needed f' caps.engines groups) caps.groups (set us g (get_or us g 0 + n)) (λ j k. ⊎_elim
+          (λ (q : j ≡ g). subst (λ x. needed f' caps.engines groups x ≤ get_or (set us g (get_or us g 0 + n)) x 0) (sym q)
+          (let e = get_or-set_same us g (get_or us g 0 + n) 0 (omega (arith, size, i)) in omega (arith, e, now, mine)))
+          (λ (q : j ≢ g).
+          let e = get_or-set_other us g j (get_or us g 0 + n) 0 q in
+          let is = get_or-each (needed f caps.engines groups) caps.groups j 0 k in
+          let l = others j k q in
+          omega (arith, e, is, l))
+          (cases_eq j g))) in
           omega (arith, less, second);
     }
 
@@ -238,6 +229,7 @@ within-more caps groups f f' e n w size inside alone room others mine = go (posi
   where
     once : count_by (λ (g : GroupConfig). has g.engines e) groups ≤ 1
     once = let h = ltb-false 1 (count_by (λ (g : GroupConfig). has g.engines e) groups) (none-any (λ k. nat_lt 1 (count_by (λ (g : GroupConfig). has g.engines k) groups)) caps.engines e alone inside) in omega (arith, h)
+
     go : (o : Option ℕ) → position (λ g. has g.engines e) groups ≡ o → passes (λ g. fits caps.read_buffers groups (all_needed f caps groups) g n) o ≡ true → AreWithin caps groups f'
     go None is r = absurd cc
     go (Some g) is r =
@@ -245,9 +237,9 @@ within-more caps groups f f' e n w size inside alone room others mine = go (posi
         let low = at.0 in
         within-group caps groups f f' g n w (omega (arith, low, size)) r
         (λ j i q. sum-other (has (group_at groups j).engines) f f' e caps.engines
-            (⊎_elim
-            (λ t. absurd (q (one-place (λ (x : GroupConfig). has x.engines e) groups j g zero_group once (omega (arith, i, size)) low t at.1)))
-            (λ t. t)
-            (cases_Bool (has (group_at groups j).engines e)))
-            others)
+        (⊎_elim
+        (λ t. absurd (q (one-place (λ (x : GroupConfig). has x.engines e) groups j g zero_group once (omega (arith, i, size)) low t at.1)))
+        (λ t. t)
+        (cases_Bool (has (group_at groups j).engines e)))
+        others)
         (sum-mine (has (group_at groups g).engines) f f' e n caps.engines others mine)

@@ -1,8 +1,8 @@
 -- What each engine needs, as one list of entries changes.
-use Rattle.std.proofs.Common.{◌≡◌, ◌≢◌, ℕ, ◌+◌, ◌<◌, ◌≤◌, ◌++◌, Bool, true, false, cond, List, [], ◌∷◌, refl, sym, ap, ◌∙◌, subst, ◌⊎◌, inl, inr, arith, ⊎_elim}
-use Rattle.std.specs.Prelude.{sum_by, filter, nat_lt}
+use Rattle.std.proofs.Common.{◌≡◌, ◌≢◌, ℕ, ◌+◌, ◌<◌, ◌≤◌, ◌++◌, Bool, true, false, cond, List, [], ◌∷◌, refl, ap, ◌∙◌, subst, ◌⊎◌, inl, inr, arith, ⊎_elim}
+use Rattle.std.specs.Prelude.{sum_by, nat_lt}
 use Rattle.std.proofs.lemmas.List.Sums.{sum_by-cons, sum_by-append}
-use Rattle.std.proofs.lemmas.Bool.{cases_Bool, ltb-true}
+use Rattle.std.proofs.lemmas.Bool.{ltb-true}
 use Rattle.dsa_regs.specs.declared.Caps.{Caps}
 use Rattle.dsa_regs.specs.declared.QueueConfig.{QueueConfig}
 use Rattle.dsa_regs.specs.Config.{queue_at, limits_of}
@@ -89,17 +89,19 @@ sum_on-mine caps f c c' e p n h = tested (nat_lt e caps.engines)
   where
     engine : e < caps.engines
     engine = h.engine
+
     total : sum_by f (chain c' (caps.queues + e)) + sum_by f (chain c' (caps.queues + caps.engines + e)) ≤ sum_by f (chain c (caps.queues + e)) + sum_by f (chain c (caps.queues + caps.engines + e)) + n
     total = ⊎_elim
         (λ (r : p ≡ caps.queues + e).
-            let a : sum_by f (chain c' (caps.queues + e)) ≤ sum_by f (chain c (caps.queues + e)) + n = subst (λ k. sum_by f (chain c' k) ≤ sum_by f (chain c k) + n) r h.mine in
-            let b = h.others (caps.queues + caps.engines + e) (λ q. absurd (omega (arith, q, r, engine))) in
-            omega (arith, a, b))
+        let a : sum_by f (chain c' (caps.queues + e)) ≤ sum_by f (chain c (caps.queues + e)) + n = subst (λ k. sum_by f (chain c' k) ≤ sum_by f (chain c k) + n) r h.mine in
+        let b = h.others (caps.queues + caps.engines + e) (λ q. absurd (omega (arith, q, r, engine))) in
+        omega (arith, a, b))
         (λ (r : p ≡ caps.queues + caps.engines + e).
-            let a : sum_by f (chain c' (caps.queues + caps.engines + e)) ≤ sum_by f (chain c (caps.queues + caps.engines + e)) + n = subst (λ k. sum_by f (chain c' k) ≤ sum_by f (chain c k) + n) r h.mine in
-            let b = h.others (caps.queues + e) (λ q. absurd (omega (arith, q, r, engine))) in
-            omega (arith, a, b))
+        let a : sum_by f (chain c' (caps.queues + caps.engines + e)) ≤ sum_by f (chain c (caps.queues + caps.engines + e)) + n = subst (λ k. sum_by f (chain c' k) ≤ sum_by f (chain c k) + n) r h.mine in
+        let b = h.others (caps.queues + e) (λ q. absurd (omega (arith, q, r, engine))) in
+        omega (arith, a, b))
         h.place
+
     tested : (b : Bool) → cond b (sum_by f (chain c' (caps.queues + e)) + sum_by f (chain c' (caps.queues + caps.engines + e))) 0 ≤ cond b (sum_by f (chain c (caps.queues + e)) + sum_by f (chain c (caps.queues + caps.engines + e))) 0 + n
     tested true = total
     tested false = omega arith

@@ -59,5 +59,4 @@ pub fn histories_are_well_formed()
 /// In every state that a history leads to, no group uses more read buffers than it may, and what each group has reserved is at hand, unless the device is Off.
 pub fn read_buffers_are_covered()
     ensures { (caps : Caps) (history : List Step) (s : State) → replay caps history ≡ Some s → HasBuffers caps s.work }
-{
-}
+{}
