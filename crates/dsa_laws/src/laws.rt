@@ -12,6 +12,7 @@ ghost use Rattle.dsa_book.specs.Totals.{total_accepted, total_fetched, total_don
 ghost use Rattle.dsa_laws.specs.Change.{Change};
 ghost use Rattle.dsa_laws.specs.WellFormed.{IsWellFormed};
 ghost use Rattle.dsa_laws.specs.Engines.{HasLawfulEngines, MembersFit};
+ghost use Rattle.dsa_laws.specs.Buffering.{HasBuffers};
 
 /// A step whose reply is not stored changes nothing.
 pub fn unstored_steps_change_nothing()
@@ -60,4 +61,7 @@ pub fn histories_are_well_formed()
 pub fn engines_work_on_one_batch()
     ensures engines { (caps : Caps) (history : List Step) (s : State) → replay caps history ≡ Some s → HasLawfulEngines s.work }
     ensures members { (caps : Caps) (history : List Step) (s : State) → replay caps history ≡ Some s → MembersFit caps s.work }
+/// In every state that a history leads to, no group uses more read buffers than it may, and what each group has reserved is at hand, unless the device is Off.
+pub fn read_buffers_are_covered()
+    ensures { (caps : Caps) (history : List Step) (s : State) → replay caps history ≡ Some s → HasBuffers caps s.work }
 {}
