@@ -31,10 +31,10 @@ submitted_entries w = count_by is_submitted_row w.fates + count_by is_submitted_
 abbrev pub member_entries : Work → ℕ
 member_entries w = count_by is_member_row w.fates + count_by is_member_slot (all_held w.content)
 
-abbrev pub is_abandoned : Fate → Bool
-is_abandoned Abandoned = true
-is_abandoned _ = false
+abbrev pub was_abandoned : Fate → Bool
+was_abandoned Abandoned = true
+was_abandoned _ = false
 
 -- what a program submitted is completed or aborted: only members are abandoned (profile)
 abbrev pub only_members_abandoned : List FateRow → Bool
-only_members_abandoned fates = list_all (λ row. is_member_row row || not (is_abandoned row.fate)) fates
+only_members_abandoned fates = list_all (λ row. is_member_row row || not (was_abandoned row.fate)) fates

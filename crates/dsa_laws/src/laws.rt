@@ -1,6 +1,6 @@
 //! The laws, each on a function with nothing to do. A history is a list of steps from the opening of a device with these capabilities.
 
-ghost use Rattle.std.specs.Prelude.{◌≡◌, ◌+◌, ◌≤◌, [], ◌∷◌, ◌++◌, List, length, Some, false, option_and_then};
+ghost use Rattle.std.specs.Prelude.{◌≡◌, ◌+◌, ◌≤◌, [], ◌∷◌, ◌++◌, List, length, Some, true, false, option_and_then};
 ghost use Rattle.dsa_regs.specs.declared.Caps.{Caps};
 ghost use Rattle.dsa_store.specs.Content.{held};
 ghost use Rattle.dsa_book.specs.declared.event.Event.{Event};
@@ -11,6 +11,7 @@ ghost use Rattle.dsa_book.specs.Machine.{next, is_stored, replay};
 ghost use Rattle.dsa_book.specs.Totals.{total_accepted, total_fetched, total_done, total_lost};
 ghost use Rattle.dsa_laws.specs.Change.{Change};
 ghost use Rattle.dsa_laws.specs.WellFormed.{IsWellFormed};
+ghost use Rattle.dsa_laws.specs.Accounts.{submitted_entries, member_entries, only_members_abandoned};
 
 /// A step whose reply is not stored changes nothing.
 pub fn unstored_steps_change_nothing()
@@ -52,5 +53,23 @@ pub fn steps_are_changes()
 /// Every state that a history leads to is well formed.
 pub fn histories_are_well_formed()
     ensures { (caps : Caps) (history : List Step) (s : State) → replay caps history ≡ Some s → IsWellFormed caps s }
+{
+}
+
+/// Each accepted entry has a fate or is held, and no other entry without a parent does. With names given once, each has exactly one of both.
+pub fn accepted_entries_are_held_or_have_a_fate()
+    ensures { (caps : Caps) (history : List Step) (s : State) → replay caps history ≡ Some s → total_accepted history ≡ submitted_entries s.work }
+{
+}
+
+/// Each fetched member has a fate or is held, and no other entry with a parent does.
+pub fn fetched_members_are_held_or_have_a_fate()
+    ensures { (caps : Caps) (history : List Step) (s : State) → replay caps history ≡ Some s → total_fetched history ≡ member_entries s.work }
+{
+}
+
+/// What a program submitted is completed or aborted, never abandoned.
+pub fn members_alone_are_abandoned()
+    ensures { (caps : Caps) (history : List Step) (s : State) → replay caps history ≡ Some s → only_members_abandoned s.work.fates ≡ true }
 {
 }
