@@ -14,16 +14,19 @@ use Rattle.dsa_store.specs.Content.{Slot, Content, chain, held}
 use Rattle.dsa_book.specs.declared.event.Portal.{Portal}
 use Rattle.dsa_book.specs.declared.event.Portal.TheVariants.{Limited, Unlimited}
 use Rattle.dsa_book.specs.declared.event.Kind.{Kind}
+use Rattle.dsa_book.specs.declared.event.Step.{Step}
 use Rattle.dsa_book.specs.declared.note.BatchNote.{BatchNote}
 use Rattle.dsa_book.specs.State.{Work, State, is_on, is_off, phase_at}
 use Rattle.dsa_book.specs.Submit.{limit_of, submit_table}
 use Rattle.dsa_book.specs.Work.{member_list, members, note_at, is_all_fetched}
-use Rattle.dsa_book.specs.Machine.{intake_of}
+use Rattle.dsa_book.specs.Machine.{intake_of, replay}
 use Rattle.dsa_laws.specs.WellFormed.{HasShape, HasLawfulSetup, HasLawfulEntries, IsWithinLimits, In, NoteFits, IsWellFormed}
-use Rattle.dsa_laws.specs.FreeCells.{MembersFit, MembersFetched}
+use Rattle.dsa_laws.specs.FreeCells.{MembersFit, MembersFetched, HasFreeCell}
 use Rattle.dsa_laws.proofs.Changes.{not-false}
 use Rattle.dsa_laws.proofs.Shapes.{on-queue, note-engine}
 use Rattle.dsa_laws.proofs.Entries.{or-right}
+use Rattle.dsa_laws.proofs.UnusedCells.{free-cell}
+use Rattle.dsa_laws.proofs.Histories.{replay-well_formed}
 use Rattle.dsa_laws.proofs.Limits.{no-row}
 use Rattle.dsa_laws.proofs.Numbers.{sum-places, sum-equal}
 use Rattle.dsa_laws.proofs.NumberSums.{sum-split_numbers, sum-plus, sum-same, sum-numbers-le, sum-numbers-lt}
@@ -165,3 +168,21 @@ fetching-room caps s e note w fit fetched h more =
     let count : note.count ≤ 2 ^ caps.max_batch_shift = (subst (NoteFits caps) h (w.notes e)).1 in
     let some = fetched e note h in
     member-room caps s.work e w.shape w.setup w.entries w.limits fit (note-engine caps s.work e note w.shape h) (omega (arith, below, count, some))
+
+-- ---- in every state of a history
+
+pub replay-accepting : (caps : Caps) (h : List Step) (s : State) (q : ℕ) (portal : Portal) (kind : Kind) → replay caps h ≡ Some s → MembersFit caps s.work
+    → first_row (submit_table (intake_of s) q portal kind) ≡ None → held s.work.content < cell_count caps
+replay-accepting caps h s q portal kind e fit accepts = accepting-room caps s q portal kind (replay-well_formed caps h s e) fit accepts
+
+pub replay-accepting-cell : (caps : Caps) (h : List Step) (s : State) (q : ℕ) (portal : Portal) (kind : Kind) → replay caps h ≡ Some s → MembersFit caps s.work
+    → first_row (submit_table (intake_of s) q portal kind) ≡ None → HasFreeCell caps s.work
+replay-accepting-cell caps h s q portal kind e fit accepts = free-cell (cell_count caps) s.work.content (replay-accepting caps h s q portal kind e fit accepts)
+
+pub replay-fetching : (caps : Caps) (h : List Step) (s : State) (e : ℕ) (note : BatchNote) → replay caps h ≡ Some s → MembersFit caps s.work → MembersFetched s.work
+    → note_at s.work e ≡ Some note → is_all_fetched note ≡ false → held s.work.content < cell_count caps
+replay-fetching caps h s e note r fit fetched is more = fetching-room caps s e note (replay-well_formed caps h s r) fit fetched is more
+
+pub replay-fetching-cell : (caps : Caps) (h : List Step) (s : State) (e : ℕ) (note : BatchNote) → replay caps h ≡ Some s → MembersFit caps s.work → MembersFetched s.work
+    → note_at s.work e ≡ Some note → is_all_fetched note ≡ false → HasFreeCell caps s.work
+replay-fetching-cell caps h s e note r fit fetched is more = free-cell (cell_count caps) s.work.content (replay-fetching caps h s e note r fit fetched is more)
