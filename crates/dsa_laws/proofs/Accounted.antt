@@ -1,6 +1,6 @@
 -- A history accepts and fetches as many entries as have a fate row or are held.
-use Rattle.std.proofs.Common.{◌≡◌, ℕ, zero, suc, ◌+◌, ◌&&◌, Bool, true, false, cond, List, [], ◌∷◌, length, replicate, Option, Some, None, refl, sym, ap, ◌∙◌, arith, add-zero}
-use Rattle.std.specs.Prelude.{sum_by, count_by}
+use Rattle.std.proofs.Common.{◌≡◌, ℕ, zero, suc, ◌+◌, ◌&&◌, Bool, true, false, cond, List, [], ◌∷◌, replicate, Option, Some, None, refl, sym, ap, ◌∙◌, arith, add-zero}
+use Rattle.std.specs.Prelude.{count_by}
 use Rattle.std.proofs.lemmas.List.Sums.{sum_by-cons}
 use Rattle.dsa_desc.specs.declared.Descriptor.{Descriptor}
 use Rattle.dsa_desc.specs.Rows.{first_row, first_row_or, EachRow}
@@ -20,7 +20,6 @@ use Rattle.dsa_book.specs.declared.answer.Reply.{Reply}
 use Rattle.dsa_book.specs.declared.answer.Reply.TheVariants.{Submit, Fetch}
 use Rattle.dsa_book.specs.declared.fate.FateRow.{FateRow}
 use Rattle.dsa_book.specs.declared.note.BatchNote.{BatchNote}
-use Rattle.dsa_book.specs.declared.event.Portal.{Portal}
 use Rattle.dsa_book.specs.declared.event.Kind.{Kind}
 use Rattle.dsa_book.specs.declared.event.Kind.TheVariants.{Enqcmd, Movdir64b}
 use Rattle.dsa_book.specs.declared.event.Event.{Event}
@@ -31,14 +30,14 @@ use Rattle.dsa_book.specs.State.{Intake, Work, State, opening}
 use Rattle.dsa_book.specs.Submit.{submit, submit_table, turned_away, accepted}
 use Rattle.dsa_book.specs.Work.{fetch, fetch_of, fetch_for, fetched, note_at, batch_on, is_all_fetched}
 use Rattle.dsa_book.specs.Machine.{next, replay_from, replay, with_work, with_intake, intake_of, may_use}
-use Rattle.dsa_book.specs.Totals.{named_by, is_accepted, is_fetched, total_accepted, total_fetched}
+use Rattle.dsa_book.specs.Totals.{named_by, is_accepted, total_accepted, total_fetched}
 use Rattle.dsa_laws.specs.Change.{IsAccepted, IsFetched}
 use Rattle.dsa_laws.specs.WellFormed.{IsWellFormed}
-use Rattle.dsa_laws.specs.Accounts.{is_submitted_row, is_submitted_slot, is_member_row, is_member_slot, submitted_entries, member_entries}
+use Rattle.dsa_laws.specs.Accounts.{is_submitted_slot, submitted_entries, member_entries}
 use Rattle.dsa_laws.proofs.Changes.{and-right, not-false, next-change}
 use Rattle.dsa_laws.proofs.Names.{next-names, replay-names}
 use Rattle.dsa_laws.proofs.Limits.{no-row}
-use Rattle.dsa_laws.proofs.Accounts.{SameAccount, account-change, accepted-account, fetched-account, parts}
+use Rattle.dsa_laws.proofs.Accounts.{account-change, accepted-account, fetched-account, parts}
 use Rattle.dsa_laws.proofs.Histories.{well_formed-change, well_formed-opening, replay-well_formed}
 
 -- ---- what an answer says of its step

@@ -1,7 +1,6 @@
 -- Each accepted and each fetched entry has a fate row or is held, and only members are abandoned.
-use Rattle.std.proofs.Common.{◌≡◌, ℕ, ◌+◌, ◌<◌, ◌≤◌, ◌&&◌, ◌||◌, not, Bool, true, false, cond, List, [], ◌∷◌, ◌++◌, length, map, Option, Some, None, refl, sym, ap, ◌∙◌, subst, arith, ⊎_elim, eq-eqb}
+use Rattle.std.proofs.Common.{◌≡◌, ℕ, ◌+◌, ◌<◌, ◌≤◌, not, Bool, true, false, cond, List, [], ◌∷◌, ◌++◌, length, map, Option, Some, None, refl, ap, subst, arith, ⊎_elim, eq-eqb}
 use Rattle.std.specs.Prelude.{sum_by, count_by, filter, find, nat_lt, is_some, is_none}
-use Rattle.std.proofs.lemmas.Bool.{ltb-true}
 use Rattle.std.proofs.lemmas.List.Sums.{sum_by-cons, sum_by-append, count_by-le-length}
 use Rattle.dsa_regs.specs.declared.Caps.{Caps}
 use Rattle.dsa_regs.specs.Caps.{cell_count}
@@ -15,13 +14,13 @@ use Rattle.dsa_book.specs.declared.fate.Fate.{Fate}
 use Rattle.dsa_book.specs.declared.fate.Fate.TheVariants.{Completed, Aborted, Abandoned}
 use Rattle.dsa_book.specs.declared.fate.FateRow.{FateRow}
 use Rattle.dsa_book.specs.State.{Work, State, is_ticket}
-use Rattle.dsa_book.specs.Work.{run, fate_row, progress_list, member_list, in_progress, members, running_on, last_status, abandoned, ended, fetched}
+use Rattle.dsa_book.specs.Work.{fate_row, progress_list, member_list, in_progress, members, running_on, last_status, abandoned, ended, fetched}
 use Rattle.dsa_book.specs.Commands.{is_in_scope, aborted}
 use Rattle.dsa_book.specs.Submit.{accepted}
 use Rattle.dsa_book.specs.Machine.{with_intake, intake_of}
 use Rattle.dsa_laws.specs.Change.{Change, IsAccepted, IsFetched, same, is_noted, is_accepted, is_taken, is_fetched, is_started, is_abandoned, is_ended, is_device_enabled, is_queue_enabled, is_waiting, is_over, is_aborted, is_device_reset, is_queues_reset, is_queue_written, is_group_written}
 use Rattle.dsa_laws.specs.WellFormed.{HasShape, CellsOnce, IsFlow, In}
-use Rattle.dsa_laws.specs.Accounts.{is_submitted_row, is_submitted_slot, is_member_row, is_member_slot, submitted_entries, member_entries}
+use Rattle.dsa_laws.specs.Accounts.{is_submitted_row, is_submitted_slot, submitted_entries}
 use Rattle.dsa_laws.proofs.Contents.{In-append, In-filter, In-find, In-chain, sum-parts, sum-without, all_held-filtered}
 use Rattle.dsa_laws.proofs.Shapes.{on-queue, note-engine, below-engines, member_list-in, queue_list-in, waiting-engine, In-cond}
 use Rattle.dsa_laws.proofs.Flows.{flow-change}

@@ -1,5 +1,5 @@
 -- Where fewer are held than the store has cells, one of its cells is free.
-use Rattle.std.proofs.Common.{◌≡◌, ℕ, zero, suc, ◌+◌, ◌<◌, ◌≤◌, ◌==◌, Bool, true, false, cond, List, [], ◌∷◌, length, refl, sym, ap, ◌∙◌, arith, ◌⊎◌, inl, inr, ⊎_elim}
+use Rattle.std.proofs.Common.{◌≡◌, ℕ, zero, suc, ◌+◌, ◌<◌, ◌≤◌, Bool, true, false, cond, List, [], ◌∷◌, length, arith, ◌⊎◌, inl, inr, ⊎_elim}
 use Rattle.std.specs.Prelude.{sum_by, count_by, nat_lt}
 use Rattle.std.proofs.lemmas.Bool.{cases_eq}
 use Rattle.std.proofs.lemmas.Bool.Decides.{nat_tests}
@@ -9,7 +9,7 @@ use Rattle.dsa_store.specs.declared.entry.Cell.{Cell}
 use Rattle.dsa_store.specs.Content.{Slot, Content, is_cell, uses, held, all_held, is_free}
 use Rattle.dsa_store.proofs.Sums.{uses-counted, held-counted, unused-is_free}
 use Rattle.dsa_laws.proofs.Numbers.{sum-equal}
-use Rattle.dsa_laws.proofs.NumberSums.{sum-plus, sum-same, sum-numbers-le}
+use Rattle.dsa_laws.proofs.NumberSums.{sum-plus, sum-same}
 
 abbrev cell_at : ℕ → Cell
 cell_at k = record { 0 = k }
