@@ -64,8 +64,8 @@ next-accepted s s' (Submit client q portal kind d) ticket h =
     first_row_or-clear P table (accepted i q kind d ticket.cell)
     ((λ t e. turned-away s s' q kind NotEnabled ticket free t), ((λ t e. turned-away s s' q kind WrongKind ticket free t), ((λ t e. turned-away s s' q kind AtLimit ticket free t), tt)))
     (λ none t e.
-        let rows = no-row table none in
-        record { queue = q; portal = portal; kind = kind; desc = d; cell = ticket.cell; on = not-false _ rows.0; below = rows.1.1.0; free = and-right _ _ t; after = e })
+    let rows = no-row table none in
+    record { queue = q; portal = portal; kind = kind; desc = d; cell = ticket.cell; on = not-false _ rows.0; below = rows.1.1.0; free = and-right _ _ t; after = e })
     p.0 p.1
 next-accepted s s' _ ticket h = absurd cc
 

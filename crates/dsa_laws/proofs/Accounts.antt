@@ -89,10 +89,10 @@ aborted-account command w w' content fates =
     let test : Slot → Bool = λ slot. is_in_scope command slot.1 in
     left-account w w' (Aborted (number_of command)) (filter test (all_held w.content))
     (
-        let a = ap (λ (c : Content). sum_by weight (all_held c)) content in
-        let b = ap (λ (xs : List Slot). sum_by weight xs) (all_held-filtered (λ slot. not (test slot)) w.content) in
-        let c = sum-parts weight test (all_held w.content) in
-        omega (arith, a, b, c)
+    let a = ap (λ (c : Content). sum_by weight (all_held c)) content in
+    let b = ap (λ (xs : List Slot). sum_by weight xs) (all_held-filtered (λ slot. not (test slot)) w.content) in
+    let c = sum-parts weight test (all_held w.content) in
+    omega (arith, a, b, c)
     )
     fates
 

@@ -57,7 +57,7 @@ held-parts caps content long =
     let first = sum-split_numbers (size content) q (n + n) in
     let second = sum-split_numbers (λ k. size content (q + k)) n n in
     let moved : sum_by (λ k. size content (q + (n + k))) (numbers_below n) ≡ sum_by (λ k. size content (q + n + k)) (numbers_below n)
-      = sum-equal (λ k. size content (q + (n + k))) (λ k. size content (q + n + k)) (numbers_below n) (λ k. ap (size content) (omega arith)) in
+    = sum-equal (λ k. size content (q + (n + k))) (λ k. size content (q + n + k)) (numbers_below n) (λ k. ap (size content) (omega arith)) in
     let both = sum-plus (λ k. size content (q + k)) (λ k. size content (q + n + k)) n in
     omega (arith, all, is, first, second, moved, both)
 
@@ -86,13 +86,13 @@ queues-fit : (caps : Caps) (w : Work) → HasShape caps w → HasLawfulSetup w.s
     → sum_by (size w.content) (numbers_below caps.queues) ≤ caps.total_size
 queues-fit caps w shape setup entries limits = ⊎_elim
     (λ off.
-        let none = sum-numbers-le (size w.content) (λ k. 0) caps.queues (λ k i. let e = off-nothing caps w k setup entries off in omega (arith, e)) in
-        let zeros = sum-same 0 caps.queues in
-        omega (arith, none, zeros))
+    let none = sum-numbers-le (size w.content) (λ k. 0) caps.queues (λ k i. let e = off-nothing caps w k setup entries off in omega (arith, e)) in
+    let zeros = sum-same 0 caps.queues in
+    omega (arith, none, zeros))
     (λ not_off.
-        let all = sum-numbers-le (size w.content) (λ q. (queue_at w.setup.configs q).size) caps.queues limits.queues in
-        let sizes = sizes-fit caps w shape setup not_off in
-        omega (arith, all, sizes))
+    let all = sum-numbers-le (size w.content) (λ q. (queue_at w.setup.configs q).size) caps.queues limits.queues in
+    let sizes = sizes-fit caps w shape setup not_off in
+    omega (arith, all, sizes))
     (cases_Bool (is_off w.setup.device))
 
 members-long : (caps : Caps) (w : Work) (e : ℕ) → HasShape caps w → e < caps.engines → length (members w e) ≡ size w.content (caps.queues + caps.engines + e)

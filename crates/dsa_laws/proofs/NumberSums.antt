@@ -56,11 +56,11 @@ sum-numbers-lt F G (suc n) j h i s =
     let below : (k : ℕ) → k < n → F k ≤ G k = λ k m. h k (omega (arith, m)) in
     ⊎_elim
     (λ (e : j ≡ n).
-        let last = subst (λ k. F k < G k) e s in
-        let rest = sum-numbers-le F G n below in
-        omega (arith, left, right, last, rest))
+    let last = subst (λ k. F k < G k) e s in
+    let rest = sum-numbers-le F G n below in
+    omega (arith, left, right, last, rest))
     (λ e.
-        let last = h n (omega arith) in
-        let rest = sum-numbers-lt F G n j below (omega (arith, i, e)) s in
-        omega (arith, left, right, last, rest))
+    let last = h n (omega arith) in
+    let rest = sum-numbers-lt F G n j below (omega (arith, i, e)) s in
+    omega (arith, left, right, last, rest))
     (cases_eq j n)

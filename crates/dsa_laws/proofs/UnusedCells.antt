@@ -43,17 +43,17 @@ unused-or-all content zero = inr (omega arith)
 unused-or-all content (suc n) = ⊎_elim
     (λ found. inl (found.0, omega (arith, found.1), found.2))
     (λ all. ⊎_elim
-        (λ (e : uses content (cell_at n) ≡ 0). inl (cell_at n, omega arith, e))
-        (λ e. inr (let last = sum_by_push (λ k. uses content (cell_at k)) (numbers_below n) n in omega (arith, last, all, e)))
-        (cases_eq (uses content (cell_at n)) 0))
+    (λ (e : uses content (cell_at n) ≡ 0). inl (cell_at n, omega arith, e))
+    (λ e. inr (let last = sum_by_push (λ k. uses content (cell_at k)) (numbers_below n) n in omega (arith, last, all, e)))
+    (cases_eq (uses content (cell_at n)) 0))
     (unused-or-all content n)
 
 pub free-cell : (cells : ℕ) (content : Content) → held content < cells → (cell : Cell) × (is_free cells content cell ≡ true)
 free-cell cells content room = ⊎_elim
     (λ found. (found.0, unused-is_free cells content found.0 found.1 found.2))
     (λ all.
-        let each = sum-equal (λ k. uses content (cell_at k)) (λ k. count_by (is_cell (cell_at k)) (all_held content)) (numbers_below cells) (λ k. uses-counted content (cell_at k)) in
-        let most = counted-once (all_held content) cells in
-        let held = held-counted content in
-        absurd (omega (arith, room, all, each, most, held)))
+    let each = sum-equal (λ k. uses content (cell_at k)) (λ k. count_by (is_cell (cell_at k)) (all_held content)) (numbers_below cells) (λ k. uses-counted content (cell_at k)) in
+    let most = counted-once (all_held content) cells in
+    let held = held-counted content in
+    absurd (omega (arith, room, all, each, most, held)))
     (unused-or-all content cells)

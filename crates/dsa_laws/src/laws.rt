@@ -64,34 +64,29 @@ pub fn histories_are_well_formed()
 {
 }
 
-/// Each accepted entry has a fate or is held, and no other entry without a parent does. With names given once, each has exactly one of both.
+/// As many entries were accepted as have a fate row or are held, among those without a parent.
 pub fn accepted_entries_are_held_or_have_a_fate()
     ensures { (caps : Caps) (history : List Step) (s : State) → replay caps history ≡ Some s → total_accepted history ≡ submitted_entries s.work }
-{
-}
+{}
 
-/// Each fetched member has a fate or is held, and no other entry with a parent does.
+/// As many members were fetched as have a fate row or are held, among those with a parent.
 pub fn fetched_members_are_held_or_have_a_fate()
     ensures { (caps : Caps) (history : List Step) (s : State) → replay caps history ≡ Some s → total_fetched history ≡ member_entries s.work }
-{
-}
+{}
 
 /// What a program submitted is completed or aborted, never abandoned.
 pub fn members_alone_are_abandoned()
     ensures { (caps : Caps) (history : List Step) (s : State) → replay caps history ≡ Some s → only_members_abandoned s.work.fates ≡ true }
-{
-}
+{}
 
-/// Where a history leads and a submission is not turned away, the store has a cell for it: fewer are held than it has cells, and one of them is free.
+/// Where a submission is not turned away there is a cell for it: fewer are held than the store has cells, and one of these is free.
 pub fn accepting_queues_find_a_free_cell()
     ensures room { (caps : Caps) (history : List Step) (s : State) (queue : ℕ) (portal : Portal) (kind : Kind) → replay caps history ≡ Some s → MembersFit caps s.work → first_row (submit_table (intake_of s) queue portal kind) ≡ None → held s.work.content < cell_count caps }
     ensures cell { (caps : Caps) (history : List Step) (s : State) (queue : ℕ) (portal : Portal) (kind : Kind) → replay caps history ≡ Some s → MembersFit caps s.work → first_row (submit_table (intake_of s) queue portal kind) ≡ None → HasFreeCell caps s.work }
-{
-}
+{}
 
-/// The same where members of an engine's batch are still to be fetched.
+/// Where members of an engine's batch are still to be fetched there is a cell for the next one.
 pub fn open_batches_find_a_free_cell()
     ensures room { (caps : Caps) (history : List Step) (s : State) (engine : ℕ) (note : BatchNote) → replay caps history ≡ Some s → MembersFit caps s.work → MembersFetched s.work → note_at s.work engine ≡ Some note → is_all_fetched note ≡ false → held s.work.content < cell_count caps }
     ensures cell { (caps : Caps) (history : List Step) (s : State) (engine : ℕ) (note : BatchNote) → replay caps history ≡ Some s → MembersFit caps s.work → MembersFetched s.work → note_at s.work engine ≡ Some note → is_all_fetched note ≡ false → HasFreeCell caps s.work }
-{
-}
+{}
