@@ -32,10 +32,11 @@ use Rattle.dsa_book.specs.Work.{progress_list, note_at, fate_row}
 
 -- ---- scopes
 
+-- whether the queue is among these
 abbrev pub names : List ℕ → ℕ → Bool
 names queues q = list_any (λ k. k == q) queues
 
--- the entries that a command is about
+-- the entries that a command is about: all, those of the named queues, or those of one PASID (Intel DSA: drain and abort commands)
 abbrev pub is_in_scope : Command → Entry → Bool
 is_in_scope EnableDevice entry = false
 is_in_scope DisableDevice entry = true
@@ -49,47 +50,52 @@ is_in_scope command entry = names (named_queues command) entry.queue
 
 -- ---- ends
 
+-- whether an entry that passes is held
 abbrev pub holds : (Entry → Bool) → Content → Bool
 holds test content = list_any (λ slot. test slot.1) (all_held content)
 
--- a submitted entry from before the drain
+-- a submitted entry that came before the drain (Intel DSA: a drain waits for the descriptors submitted before it)
 abbrev pub is_awaited : Command → ℕ → Entry → Bool
 is_awaited command mark entry = is_in_scope command entry && not (is_member entry) && nat_lt entry.name mark
 
+-- the commands that end when all of their scope is gone (Intel DSA: disable commands)
 abbrev pub is_disable : Command → Bool
 is_disable DisableDevice = true
 is_disable (DisableWq queues) = true
 is_disable _ = false
 
--- a disable waits for all that is slot of its scope, a drain for what was submitted before it
+-- a disable waits for all that is held of its scope, a drain for what was submitted before it (Intel DSA: disable and drain commands)
 abbrev pub is_at_end : ActiveCommand → Content → Bool
 is_at_end active content =
     not (holds (cond (is_disable active.command) (is_in_scope active.command) (is_awaited active.command active.mark)) content)
 
 -- ---- phases and configurations
 
--- the phases with those of the queues that pass set
+-- with this phase of the queues that pass
 abbrev pub with_phases : (ℕ → Bool) → Phase → Setup → Setup
 with_phases test phase setup =
     record setup { phases = map (λ q. cond (test q) phase (phase_at setup q)) (numbers_below setup.caps.queues) }
 
+-- with this phase of the device
 abbrev pub with_device : Phase → Setup → Setup
 with_device phase setup = record setup { device = phase }
 
--- the device or the queues that a disable stops come to this phase
+-- the device with its queues, or the named queues, come to this phase; other commands stop nothing (Intel DSA: disable commands)
 abbrev pub stopped : Command → Phase → Setup → Setup
 stopped DisableDevice phase setup = with_device phase (with_phases (λ q. not (is_off (phase_at setup q))) phase setup)
 stopped (DisableWq queues) phase setup = with_phases (names (named_queues (DisableWq queues))) phase setup
 stopped _ phase setup = setup
 
+-- all zero but the size (Intel DSA: Reset WQ)
 abbrev pub size_alone : QueueConfig → QueueConfig
 size_alone config = record zero_queue { size = config.size }
 
+-- with these queues all zero but for their sizes
 abbrev pub with_sizes_alone : List ℕ → Setup → Setup
 with_sizes_alone queues setup =
     record setup { configs = map (λ q. cond (names queues q) (size_alone (queue_at setup.configs q)) (queue_at setup.configs q)) (numbers_below setup.caps.queues) }
 
--- all zero and Off again, but for the next name
+-- all zero and Off again; the names that were given are not given again (profile)
 abbrev pub reset : Setup → Setup
 reset setup = record (opening_setup setup.caps) { next_name = setup.next_name }
 
@@ -99,12 +105,12 @@ reset setup = record (opening_setup setup.caps) { next_name = setup.next_name }
 abbrev pub has_batch : Setup → BatchNote → List Slot → Bool
 has_batch setup note xs = list_any (λ slot. is_batch_of setup slot.1 && slot.1.name == note.batch) xs
 
--- a note stays while its batch is in progress
+-- a note stays while its batch is in progress (profile)
 abbrev pub kept_note : Setup → List Slot → Option BatchNote → Option BatchNote
 kept_note setup xs None = None
 kept_note setup xs (Some note) = cond (has_batch setup note xs) (Some note) None
 
--- what the scope holds ends, in the order of the lists
+-- what the scope holds ends, list by list and each front first; the rest keeps its order (Intel DSA: abort commands; the order is the profile's)
 abbrev pub aborted : Command → Work → Work
 aborted command w =
     let content = kept (λ entry. not (is_in_scope command entry)) w.content in
@@ -114,12 +120,13 @@ aborted command w =
       fates = w.fates ++ map (fate_row (Aborted (number_of command))) (filter (λ slot. is_in_scope command slot.1) (all_held w.content));
     }
 
+-- how many entries the scope holds
 abbrev pub count_in_scope : Command → Content → ℕ
 count_in_scope command content = length (filter (λ slot. is_in_scope command slot.1) (all_held content))
 
 -- ---- issue
 
--- the fault of the queues that a command names: an empty mask, or one that the device does not have
+-- a command names no queue, or one that the device does not have (profile)
 abbrev pub is_bad_queues : Setup → Command → Bool
 is_bad_queues setup (EnableWq queue) = not (has_queue setup queue)
 is_bad_queues setup command =
@@ -127,10 +134,11 @@ is_bad_queues setup command =
     (nat_le (length (named_queues command)) 0 || not (list_all (has_queue setup) (named_queues command)))
     false
 
+-- whether all these queues are On
 abbrev pub all_on : Setup → List ℕ → Bool
 all_on setup queues = list_all (λ q. is_on (phase_at setup q)) queues
 
--- the device and the queues stand as the command needs
+-- the device and the queues stand as the command needs (profile)
 abbrev pub may_come : Setup → Command → Bool
 may_come setup EnableDevice = is_off setup.device
 may_come setup ResetDevice = true
@@ -140,24 +148,27 @@ may_come setup (DrainWq queues) = is_on setup.device && all_on setup (named_queu
 may_come setup (AbortWq queues) = is_on setup.device && all_on setup (named_queues (AbortWq queues))
 may_come setup _ = is_on setup.device
 
--- what the configuration has against it
+-- what the configuration has against it (Intel DSA: errors of the enable commands; the order is the profile's)
 abbrev pub check_of : Setup → Command → Option Fault
 check_of setup EnableDevice = check_device setup.caps setup.configs setup.groups
 check_of setup (EnableWq queue) = check_queue setup.caps setup.groups queue (queue_at setup.configs queue)
 check_of setup _ = None
 
+-- with this set-up
 abbrev pub with_setup : Work → Setup → Work
 with_setup w setup = record w { setup = setup }
 
+-- the command is over, and so many entries were aborted
 abbrev pub ended_at_once : State → ℕ → Work → IssueAnswer × State
 ended_at_once s n w = (Ended n, record s { work = w })
 
+-- what the scope holds ends, and the set-up changes so
 abbrev pub aborts : State → Command → (Setup → Setup) → IssueAnswer × State
 aborts s command change =
     let w = aborted command s.work in
     ended_at_once s (count_in_scope command s.work.content) (with_setup w (change w.setup))
 
--- it ends at once, or is active from here on
+-- the command ends at once where nothing is to be waited for, else it is active from here on (profile)
 abbrev pub waits : State → Command → IssueAnswer × State
 waits s command =
     let active : ActiveCommand = record { command = command; mark = s.work.setup.next_name } in
@@ -165,6 +176,7 @@ waits s command =
     (ended_at_once s 0 (with_setup s.work (stopped command Off s.work.setup)))
     (Active, record { work = with_setup s.work (stopped command Stopping s.work.setup); active = Some active })
 
+-- what each command does (Intel DSA: administrative commands)
 abbrev pub carried_out : State → Command → IssueAnswer × State
 carried_out s EnableDevice = ended_at_once s 0 (with_setup s.work (with_device On s.work.setup))
 carried_out s (EnableWq queue) = ended_at_once s 0 (with_setup s.work (with_phases (λ q. q == queue) On s.work.setup))
@@ -181,23 +193,25 @@ carried_out s (ResetWq queues) =
     let named = named_queues (ResetWq queues) in
     aborts s (ResetWq queues) (λ setup. with_sizes_alone named (with_phases (names named) Off setup))
 
+-- a fault of the check refuses the command, and nothing changes
 abbrev pub refused_or : State → Option Fault → IssueAnswer × State → IssueAnswer × State
 refused_or s None done = done
 refused_or s (Some fault) done = (Refused fault, s)
 
--- the causes against it, in this order
+-- what refuses a command before its check, in this order (profile)
 abbrev pub issue_table : State → Command → List (Bool × (IssueAnswer × State))
 issue_table s command =
     (is_some s.active, (Refused Busy, s)) ∷
     (is_bad_queues s.work.setup command, (Refused BadQueue, s)) ∷
     (not (may_come s.work.setup command), (Refused WrongState, s)) ∷ []
 
--- the first that stands, or the check's fault, or its effect
+-- the answer to a command and what it leaves: the first refusal that stands, or its effect (profile)
 abbrev pub issue : State → Command → IssueAnswer × State
 issue s command = first_row_or (issue_table s command) (refused_or s (check_of s.work.setup command) (carried_out s command))
 
 -- ---- poll
 
+-- a command is over when its end stands (profile)
 abbrev pub poll_of : State → Option ActiveCommand → PollAnswer × State
 poll_of s None = (Nothing, s)
 poll_of s (Some active) =
@@ -205,33 +219,40 @@ poll_of s (Some active) =
     (Finished, record { work = with_setup s.work (stopped active.command Off s.work.setup); active = None })
     (Active, s)
 
+-- the answer to one who asks after the active command, and what it leaves (profile)
 abbrev pub poll : State → PollAnswer × State
 poll s = poll_of s s.active
 
 -- ---- writes and clear, which see the queues' layer alone
 
+-- what refuses a queue's configuration, in this order: it is locked while the queue is not Off, its size while the device is not (Intel DSA: work queue configuration; the order is the profile's)
 abbrev pub write_queue_table : Setup → ℕ → QueueConfig → List (Bool × (WriteAnswer × Setup))
 write_queue_table setup q config =
     (not (has_queue setup q), (Refused BadIndex, setup)) ∷
     (not (is_off (phase_at setup q)), (Refused Locked, setup)) ∷
     (not (is_off setup.device) && not (config.size == (queue_at setup.configs q).size), (Refused Locked, setup)) ∷ []
 
+-- the answer to a write of a queue's configuration and what it leaves; its values are checked when it is enabled (profile)
 abbrev pub write_queue : Setup → ℕ → QueueConfig → WriteAnswer × Setup
 write_queue setup q config =
     first_row_or (write_queue_table setup q config) (Written, record setup { configs = slice_set setup.configs q config })
 
+-- what refuses a group's configuration, in this order: it is locked while the device is not Off (Intel DSA: group configuration; the order is the profile's)
 abbrev pub write_group_table : Setup → ℕ → List (Bool × (WriteAnswer × Setup))
 write_group_table setup g =
     (not (nat_lt g setup.caps.groups), (Refused BadIndex, setup)) ∷
     (not (is_off setup.device), (Refused Locked, setup)) ∷ []
 
+-- the answer to a write of a group's configuration and what it leaves (profile)
 abbrev pub write_group : Setup → ℕ → GroupConfig → WriteAnswer × Setup
 write_group setup g config =
     first_row_or (write_group_table setup g) (Written, record setup { groups = slice_set setup.groups g config })
 
+-- the noted error goes, where there is one (profile)
 abbrev pub clear_of : Setup → Option NotedError → ClearAnswer × Setup
 clear_of setup None = (Nothing, setup)
 clear_of setup (Some noted) = (Cleared noted, record setup { noted = None })
 
+-- the answer to one who clears the noted error, and what it leaves (profile)
 abbrev pub clear : Setup → ClearAnswer × Setup
 clear setup = clear_of setup setup.noted

@@ -45,70 +45,87 @@ use Rattle.dsa_book.specs.Commands.{issue, poll, write_queue, write_group, clear
 
 -- ---- the cell that an answer names, which is to be one that no list names
 
+-- the cell that an accepted entry is given
 abbrev pub accepted_cell : SubmitAnswer → Option Cell
 accepted_cell (Accepted ticket) = Some ticket.cell
 accepted_cell _ = None
 
+-- the cell that a fetched member is given
 abbrev pub fetched_cell : FetchAnswer → Option Cell
 fetched_cell (Fetched ticket) = Some ticket.cell
 fetched_cell _ = None
 
+-- that cell, where there is one
 abbrev pub cell_or_first : Option Cell → Cell
 cell_or_first None = record { 0 = 0 }
 cell_or_first (Some cell) = cell
 
+-- a cell that is given is one of the device's, and no list names it (profile)
 abbrev pub may_use : Setup → Content → Option Cell → Bool
 may_use setup content None = true
 may_use setup content (Some cell) = is_free (cell_count setup.caps) content cell
 
 -- ---- the parts of a state that a step changed
 
+-- with this work
 abbrev pub with_work : State → Work → State
 with_work s work = record s { work = work }
 
+-- with this set-up and these entries
 abbrev pub with_intake : State → Intake → State
 with_intake s i = with_work s (record s.work { setup = i.setup; content = i.content })
 
+-- with this set-up
 abbrev pub with_setup : State → Setup → State
 with_setup s setup = with_work s (record s.work { setup = setup })
 
+-- what a submission sees of the state
 abbrev pub intake_of : State → Intake
 intake_of s = record { setup = s.work.setup; content = s.work.content }
 
 -- ---- one event with its answer: the state after it, where the answer may come
 
--- the answer of the table, for a cell that no list names
+-- a submission: the first cause that stands, or accepted in a cell that no list names
 abbrev pub on_submit : State → ℕ → Portal → Kind → Descriptor → SubmitAnswer → Option State
 on_submit s queue portal kind desc answer =
     let r = submit (intake_of s) queue portal kind desc (cell_or_first (accepted_cell answer)) in
     when (same_submit answer r.0 && may_use s.work.setup s.work.content (accepted_cell answer)) (with_intake s r.1)
 
+-- a dispatch: from any queue that qualifies, or Idle
 abbrev pub on_dispatch : State → ℕ → DispatchAnswer → Option State
 on_dispatch s engine answer = option_map (with_work s) (dispatch s.work engine answer)
 
+-- a fetch: the member in a cell that no list names
 abbrev pub on_fetch : State → ℕ → Descriptor → FetchAnswer → Option State
 on_fetch s engine desc answer =
     let r = fetch s.work engine desc (cell_or_first (fetched_cell answer)) in
     when (same_fetch answer r.0 && may_use s.work.setup s.work.content (fetched_cell answer)) (with_work s r.1)
 
+-- a start of a member
 abbrev pub on_start : State → ℕ → StartAnswer → Option State
 on_start s engine answer = let r = start s.work engine in when (same_start answer r.0) (with_work s r.1)
 
+-- an end of an entry
 abbrev pub on_finish : State → ℕ → Ticket → Outcome → FinishAnswer → Option State
 on_finish s engine ticket outcome answer = let r = finish s.work engine ticket outcome in when (same_finish answer r.0) (with_work s r.1)
 
+-- a command
 abbrev pub on_issue : State → Command → IssueAnswer → Option State
 on_issue s command answer = let r = issue s command in when (same_issue answer r.0) r.1
 
+-- a look at the active command
 abbrev pub on_poll : State → PollAnswer → Option State
 on_poll s answer = let r = poll s in when (same_poll answer r.0) r.1
 
+-- a write of a queue's configuration
 abbrev pub on_write_queue : State → ℕ → QueueConfig → WriteAnswer → Option State
 on_write_queue s queue config answer = let r = write_queue s.work.setup queue config in when (same_write answer r.0) (with_setup s r.1)
 
+-- a write of a group's configuration
 abbrev pub on_write_group : State → ℕ → GroupConfig → WriteAnswer → Option State
 on_write_group s group config answer = let r = write_group s.work.setup group config in when (same_write answer r.0) (with_setup s r.1)
 
+-- a clearing of the noted error
 abbrev pub on_clear : State → ClearAnswer → Option State
 on_clear s answer = let r = clear s.work.setup in when (same_clear answer r.0) (with_setup s r.1)
 
@@ -188,6 +205,7 @@ recorded history step = cond (is_stored step.reply) (history ++ step ∷ []) his
 
 -- ---- lists of steps
 
+-- the state after these steps, where each may follow those before it
 abbrev pub replay_from : Option State → List Step → Option State
 replay_from s [] = s
 replay_from None (step ∷ steps) = None
@@ -226,6 +244,7 @@ may_follow caps capacity history step =
     (is_full step.event step.reply)
     (is_some (option_and_then (λ s. next s step.event step.reply) (replay caps history)))
 
+-- the steps may come one after the other, after this history
 abbrev pub is_run_after : Caps → ℕ → List Step → List Step → Bool
 is_run_after caps capacity history [] = true
 is_run_after caps capacity history (step ∷ steps) =

@@ -23,15 +23,18 @@ use Rattle.dsa_book.specs.declared.answer.WriteAnswer.TheVariants.{Written, Refu
 use Rattle.dsa_book.specs.declared.answer.ClearAnswer.{ClearAnswer}
 use Rattle.dsa_book.specs.declared.answer.ClearAnswer.TheVariants.{Cleared, Nothing}
 
+-- the same cell and the same name
 abbrev pub same_ticket : Ticket → Ticket → Bool
 same_ticket a b = a.cell.0 == b.cell.0 && a.name == b.name
 
+-- the same cause
 abbrev pub same_cause : Cause → Cause → Bool
 same_cause AtLimit AtLimit = true
 same_cause NotEnabled NotEnabled = true
 same_cause WrongKind WrongKind = true
 same_cause _ _ = false
 
+-- the same noted error
 abbrev pub same_noted : NotedError → NotedError → Bool
 same_noted a b = a.queue == b.queue && same_cause a.cause b.cause && beq a.overflow b.overflow
 

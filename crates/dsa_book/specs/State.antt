@@ -18,7 +18,7 @@ use Rattle.dsa_book.specs.declared.note.BatchNote.{BatchNote}
 use Rattle.dsa_book.specs.declared.note.ActiveCommand.{ActiveCommand}
 use Rattle.dsa_book.specs.declared.fate.FateRow.{FateRow}
 
--- what is configured: capabilities, phases and configurations, the next name, the noted error (profile)
+-- what is configured: capabilities, phases and configurations, the next name and the noted error (profile)
 pub record Setup : Type 0 where
   pub caps : Caps
   pub device : Phase
@@ -28,7 +28,7 @@ pub record Setup : Type 0 where
   pub next_name : ℕ
   pub noted : Option NotedError
 
--- what a submission sees and changes: the entries of all lists beside (profile)
+-- what a submission sees and changes: the set-up, and the entries of all lists (profile)
 pub record Intake : Type 0 where
   pub setup : Setup
   pub content : Content
@@ -40,12 +40,12 @@ pub record Work : Type 0 where
   pub notes : List (Option BatchNote)
   pub fates : List FateRow
 
--- the whole: the command that is not over beside (profile)
+-- the whole: the work, and the command that is not over (profile)
 pub record State : Type 0 where
   pub work : Work
   pub active : Option ActiveCommand
 
--- all zero and Off, and no name given (profile)
+-- all zero and Off, and no name is given yet (profile)
 abbrev pub opening_setup : Caps → Setup
 opening_setup caps = record {
   caps = caps;
@@ -71,10 +71,12 @@ opening caps = record {
 
 -- ---- phases
 
+-- whether the device or a queue is enabled
 abbrev pub is_on : Phase → Bool
 is_on On = true
 is_on _ = false
 
+-- whether the device or a queue is disabled
 abbrev pub is_off : Phase → Bool
 is_off Off = true
 is_off _ = false
@@ -83,33 +85,42 @@ is_off _ = false
 abbrev pub phase_at : Setup → ℕ → Phase
 phase_at setup q = get_or setup.phases q Off
 
+-- the device has the queues below the number of its capabilities (Intel DSA: work queue capabilities)
 abbrev pub has_queue : Setup → ℕ → Bool
 has_queue setup q = nat_lt q setup.caps.queues
 
 -- ---- entries, with the limits of their queue
 
+-- a member is a descriptor inside a batch, and the name of the batch is its parent; any other entry was submitted (profile)
 abbrev pub is_member : Entry → Bool
 is_member entry = is_some entry.parent
 
+-- the limits of a queue (Intel DSA: maximum transfer size and maximum batch size of a work queue)
 abbrev pub limits_at : Setup → ℕ → QueueLimits
 limits_at setup q = limits_of (queue_at setup.configs q)
 
+-- how many read buffers an entry takes while it runs, by the limits of its queue (profile)
 abbrev pub need_of : Setup → Entry → ℕ
 need_of setup entry = need entry.desc (limits_at setup entry.queue) (is_member entry)
 
+-- the status that an entry completes with, by the limits of its queue (profile)
 abbrev pub status_of : Setup → Entry → Outcome → ℕ
 status_of setup entry outcome = status entry.desc (limits_at setup entry.queue) (is_member entry) outcome
 
+-- whether an entry is a well-formed Batch, by the limits of its queue (profile)
 abbrev pub is_batch_of : Setup → Entry → Bool
 is_batch_of setup entry = is_lawful_batch entry.desc (limits_at setup entry.queue) (is_member entry)
 
 -- ---- lists and names
 
+-- the entries that wait in the queue; one that an engine has taken is not counted (Intel DSA: work queue occupancy)
 abbrev pub occupancy : Content → ℕ → ℕ
 occupancy content q = length (chain content q)
 
+-- the ticket of an entry is its cell and its name (profile)
 abbrev pub ticket_of : Slot → Ticket
 ticket_of slot = record { cell = slot.0; name = slot.1.name }
 
+-- whether a ticket is the entry's: both the cell and the name are (profile)
 abbrev pub is_ticket : Ticket → Slot → Bool
 is_ticket ticket slot = is_cell ticket.cell slot && slot.1.name == ticket.name

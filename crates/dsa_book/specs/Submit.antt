@@ -19,50 +19,51 @@ use Rattle.dsa_book.specs.declared.answer.SubmitAnswer.{SubmitAnswer}
 use Rattle.dsa_book.specs.declared.answer.SubmitAnswer.TheVariants.{Accepted, Retry, Dropped}
 use Rattle.dsa_book.specs.State.{Intake, occupancy, phase_at, is_on}
 
--- the threshold on the limited portal of a shared queue, else the size
+-- the threshold bounds the limited portal of a shared queue, and in all other cases the size does (Intel DSA: portals and the work queue threshold)
 abbrev pub limit_of : QueueConfig → Portal → ℕ
 limit_of config Limited = cond config.dedicated config.size config.threshold
 limit_of config Unlimited = config.size
 
--- MOVDIR64B is for dedicated queues
+-- shared queues are written with ENQCMD, dedicated ones with MOVDIR64B (Intel DSA: work queue modes)
 abbrev pub is_movdir64b : Kind → Bool
 is_movdir64b (Enqcmd pasid) = false
 is_movdir64b Movdir64b = true
 
--- the PASID that the device gives the descriptor
+-- the PASID of ENQCMD comes from the program's IA32_PASID (Intel SDM: ENQCMD), that of MOVDIR64B from the queue (Intel DSA: dedicated work queues)
 abbrev pub pasid_by : Kind → QueueConfig → ℕ
 pasid_by (Enqcmd pasid) config = pasid
 pasid_by Movdir64b config = config.pasid
 
--- the noted error, after one more
+-- the first error is kept, and a later one sets its overflow mark (profile)
 abbrev pub noted_more : Option NotedError → ℕ → Cause → NotedError
 noted_more None q cause = record { queue = q; cause = cause; overflow = false }
 noted_more (Some noted) q cause = record noted { overflow = true }
 
--- ENQCMD is told to come again, MOVDIR64B leaves a noted error
+-- ENQCMD is told to come again (Intel SDM: ENQCMD); MOVDIR64B is told nothing, and leaves a noted error (profile)
 abbrev pub turned_away : Intake → ℕ → Kind → Cause → SubmitAnswer × Intake
 turned_away i q (Enqcmd pasid) cause = (Retry cause, i)
 turned_away i q Movdir64b cause =
     (Dropped cause, record i { setup = record i.setup { noted = Some (noted_more i.setup.noted q cause) } })
 
+-- an entry at the end of its queue, in the given cell and with the next name (profile)
 abbrev pub accepted : Intake → ℕ → Kind → Descriptor → Cell → SubmitAnswer × Intake
 accepted i q kind desc cell = (
   Accepted (record { cell = cell; name = i.setup.next_name }),
   record {
     setup = record i.setup { next_name = i.setup.next_name + 1 };
     content = pushed i.content q cell (
-      record {
-        name = i.setup.next_name;
-        parent = None;
-        desc = with_pasid desc (pasid_by kind (queue_at i.setup.configs q));
-        queue = q;
-        running = false;
-      }
-    );
+        record {
+          name = i.setup.next_name;
+          parent = None;
+          desc = with_pasid desc (pasid_by kind (queue_at i.setup.configs q));
+          queue = q;
+          running = false;
+        }
+        );
   },
 )
 
--- what turns a submission away
+-- what turns a submission away, in this order (profile)
 abbrev pub submit_table : Intake → ℕ → Portal → Kind → List (Bool × (SubmitAnswer × Intake))
 submit_table i q portal kind =
     let config = queue_at i.setup.configs q in
@@ -70,13 +71,13 @@ submit_table i q portal kind =
     (not (beq (is_movdir64b kind) config.dedicated), turned_away i q kind WrongKind) ∷
     (nat_le (limit_of config portal) (occupancy i.content q), turned_away i q kind AtLimit) ∷ []
 
--- the answer and what it leaves, where an accepted entry is given this cell
+-- the answer to a submission and what it leaves, where an accepted entry is given this cell (profile)
 abbrev pub submit : Intake → ℕ → Portal → Kind → Descriptor → Cell → SubmitAnswer × Intake
 submit i q portal kind desc cell = first_row_or (submit_table i q portal kind) (accepted i q kind desc cell)
 
 -- ---- the zero flag
 
--- what the program sees: clear for accepted by ENQCMD, set for retry (Intel SDM, ENQCMD); of MOVDIR64B and of a full history nothing
+-- what the program sees: clear for accepted by ENQCMD, set for retry (Intel SDM: ENQCMD); of MOVDIR64B and of a full history nothing
 abbrev pub zf : SubmitAnswer → Kind → Option Bool
 zf (Accepted ticket) (Enqcmd pasid) = Some false
 zf (Retry cause) kind = Some true

@@ -14,6 +14,7 @@ use Rattle.dsa_book.specs.declared.answer.FinishAnswer.TheVariants.{Done}
 use Rattle.dsa_book.specs.declared.answer.IssueAnswer.TheVariants.{Ended}
 use Rattle.dsa_book.specs.declared.event.Step.{Step}
 
+-- submissions are a client's, work is an engine's, all else is the administrator's (profile)
 abbrev pub actor_of : Event → Actor
 actor_of (Submit client queue portal kind desc) = Client client
 actor_of (Dispatch engine) = Engine engine
@@ -22,6 +23,7 @@ actor_of (Start engine) = Engine engine
 actor_of (Finish engine ticket outcome) = Engine engine
 actor_of _ = Admin
 
+-- the same actor
 abbrev pub same_actor : Actor → Actor → Bool
 same_actor (Client a) (Client b) = a == b
 same_actor (Engine a) (Engine b) = a == b
@@ -32,6 +34,7 @@ same_actor _ _ = false
 abbrev pub steps_of : List Step → Actor → List Step
 steps_of steps actor = filter (λ step. same_actor (actor_of step.event) actor) steps
 
+-- the step accepted a submission
 abbrev pub is_accepted : Reply → Bool
 is_accepted (Submit (Accepted ticket)) = true
 is_accepted _ = false
@@ -41,10 +44,12 @@ abbrev pub is_retried : Reply → Bool
 is_retried (Submit (Retry AtLimit)) = true
 is_retried _ = false
 
+-- the step fetched a member
 abbrev pub is_fetched : Reply → Bool
 is_fetched (Fetch (Fetched ticket)) = true
 is_fetched _ = false
 
+-- the step ended an entry
 abbrev pub is_done : Reply → Bool
 is_done (Finish (Done status)) = true
 is_done _ = false
@@ -55,18 +60,23 @@ lost_by (Start (Abandoned k)) = k
 lost_by (Issue (Ended aborted)) = aborted
 lost_by _ = 0
 
+-- how many submissions were accepted
 abbrev pub total_accepted : List Step → ℕ
 total_accepted steps = count_by (λ step. is_accepted step.reply) steps
 
+-- how many were turned away for want of room
 abbrev pub total_retried : List Step → ℕ
 total_retried steps = count_by (λ step. is_retried step.reply) steps
 
+-- how many members were fetched
 abbrev pub total_fetched : List Step → ℕ
 total_fetched steps = count_by (λ step. is_fetched step.reply) steps
 
+-- how many entries an engine ended
 abbrev pub total_done : List Step → ℕ
 total_done steps = count_by (λ step. is_done step.reply) steps
 
+-- how many entries were aborted or abandoned
 abbrev pub total_lost : List Step → ℕ
 total_lost steps = sum_by (λ step. lost_by step.reply) steps
 

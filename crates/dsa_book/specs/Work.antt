@@ -6,6 +6,7 @@ use Rattle.dsa_desc.specs.declared.Outcome.{Outcome}
 use Rattle.dsa_desc.specs.Descriptor.{with_pasid, is_fenced, is_successful}
 use Rattle.dsa_desc.specs.Rows.{first_row_or, when, passes}
 use Rattle.dsa_regs.specs.Numbers.{has, numbers_below}
+use Rattle.dsa_regs.specs.declared.GroupConfig.{GroupConfig}
 use Rattle.dsa_regs.specs.Config.{group_at}
 use Rattle.dsa_regs.specs.Buffers.{fits}
 use Rattle.dsa_store.specs.declared.entry.Cell.{Cell}
@@ -28,71 +29,86 @@ use Rattle.dsa_book.specs.State.{Setup, Work, has_queue, is_member, need_of, sta
 
 -- ---- what an engine has. An engine that the device does not have has nothing
 
+-- behind the lists of the queues, one of submitted entries in progress for each engine (profile)
 abbrev pub progress_list : Setup → ℕ → ℕ
 progress_list setup e = setup.caps.queues + e
 
+-- behind these, one of batch members for each engine (profile)
 abbrev pub member_list : Setup → ℕ → ℕ
 member_list setup e = setup.caps.queues + setup.caps.engines + e
 
+-- the submitted entries in progress on an engine
 abbrev pub in_progress : Work → ℕ → List Slot
 in_progress w e = cond (nat_lt e w.setup.caps.engines) (chain w.content (progress_list w.setup e)) []
 
+-- the members of the engine's batch that have not ended
 abbrev pub members : Work → ℕ → List Slot
 members w e = cond (nat_lt e w.setup.caps.engines) (chain w.content (member_list w.setup e)) []
 
+-- the entries that run on an engine
 abbrev pub running_on : Work → ℕ → List Slot
 running_on w e = filter (λ slot. slot.1.running) (in_progress w e ++ members w e)
 
+-- the note of the batch that the engine works on
 abbrev pub note_at : Work → ℕ → Option BatchNote
 note_at w e = get_or w.notes e None
 
+-- with this note of the engine
 abbrev pub with_note : List (Option BatchNote) → ℕ → Option BatchNote → List (Option BatchNote)
 with_note notes e note = slice_set notes e note
 
+-- the first of the groups that has the engine; while the device is enabled there is no other (Intel DSA: groups)
+abbrev pub group_in : List GroupConfig → ℕ → Option ℕ
+group_in groups e = position (λ g. has g.engines e) groups
+
 -- the group of the engine
 abbrev pub group_of : Work → ℕ → Option ℕ
-group_of w e = position (λ g. has g.engines e) w.setup.groups
+group_of w e = group_in w.setup.groups e
 
 -- ---- read buffers
 
--- what the running entries of an engine need
+-- how many read buffers the running entries of an engine have taken (profile)
 abbrev pub used_on : Work → ℕ → ℕ
 used_on w e = sum_by (λ slot. need_of w.setup slot.1) (running_on w e)
 
--- what those of the group's engines need
+-- how many those of the group's engines have taken (profile)
 abbrev pub used : Work → ℕ → ℕ
 used w g = sum_by (used_on w) (filter (has (group_at w.setup.groups g).engines) (numbers_below w.setup.caps.engines))
 
+-- how many each group has taken (profile)
 abbrev pub all_used : Work → List ℕ
 all_used w = map (used w) (numbers_below w.setup.caps.groups)
 
--- n more buffers fit the group of the engine
+-- n more buffers fit the group of the engine (Intel DSA: read buffers allowed and reserved)
 abbrev pub has_room : Work → ℕ → ℕ → Bool
 has_room w e n = passes (λ g. fits w.setup.caps.read_buffers w.setup.groups (all_used w) g n) (group_of w e)
 
 -- ---- dispatch
 
--- the queue is of the engine's group
+-- the queue is of the engine's group (Intel DSA: any engine of a group takes from any work queue of the group)
 abbrev pub serves : Work → ℕ → ℕ → Bool
 serves w e q = passes (λ g. has (group_at w.setup.groups g).queues q) (group_of w e)
 
--- the engine may take this front
+-- the engine has a slot left and the buffers that the front needs, and works on one batch at a time (profile)
 abbrev pub may_take : Work → ℕ → Slot → Bool
 may_take w e front =
     nat_lt (length (in_progress w e)) w.setup.caps.slots
     && has_room w e (need_of w.setup front.1)
     && (is_none (note_at w e) || not (is_batch_of w.setup front.1))
 
+-- a queue is served front first (Intel DSA: work queues)
 abbrev pub front_of : Work → ℕ → Option Slot
 front_of w q = slice_get (chain w.content q) 0
 
+-- the queue is one of the engine's, and the engine may take its front (profile)
 abbrev pub qualifies : Work → ℕ → ℕ → Bool
 qualifies w e q = (nat_lt e w.setup.caps.engines && has_queue w.setup q) && (serves w e q && passes (may_take w e) (front_of w q))
 
+-- the note of a batch that was taken: nothing is fetched of it (profile)
 abbrev pub opened_note : Entry → BatchNote
 opened_note batch = record { batch = batch.name; count = batch.desc.size; fetched = 0; failed = false; closed = false }
 
--- the same entry, running (profile)
+-- the same entry, running
 abbrev pub as_running : Entry → Entry
 as_running entry = record entry { running = true }
 
@@ -100,14 +116,14 @@ as_running entry = record entry { running = true }
 abbrev pub run : Slot → Slot
 run slot = (slot.0, as_running slot.1)
 
--- the front of the queue goes to the end of those in progress, and runs
+-- the front of the queue goes to the end of those in progress, and runs; a well-formed Batch opens a note (profile)
 abbrev pub taken : Work → ℕ → ℕ → Slot → Work
 taken w e q front = record w {
   content = pushed (without_front w.content q) (progress_list w.setup e) front.0 (as_running front.1);
   notes = cond (is_batch_of w.setup front.1) (with_note w.notes e (Some (opened_note front.1))) w.notes;
 }
 
--- any qualifying queue may be taken from, and Idle comes where there is none
+-- the front of any qualifying queue may be taken, and Idle comes exactly where none qualifies (Intel DSA: the choice among work queues is free)
 abbrev pub dispatch : Work → ℕ → DispatchAnswer → Option Work
 dispatch w e (Taken ticket q) =
     option_and_then (λ front. when (qualifies w e q && is_ticket ticket front) (taken w e q front)) (front_of w q)
@@ -116,6 +132,7 @@ dispatch w e Full = None
 
 -- ---- fetch
 
+-- as many were fetched as the batch has, or its rest was abandoned (profile)
 abbrev pub is_all_fetched : BatchNote → Bool
 is_all_fetched note = note.closed || nat_le note.count note.fetched
 
@@ -123,53 +140,59 @@ is_all_fetched note = note.closed || nat_le note.count note.fetched
 abbrev pub batch_on : Work → ℕ → BatchNote → Option Slot
 batch_on w e note = find (λ slot. slot.1.name == note.batch) (in_progress w e)
 
--- the member stands last, with the batch's PASID and queue
+-- the member stands last among the members, with the next name, the given cell, and the batch's PASID and queue (Intel DSA: batch descriptors)
 abbrev pub fetched : Work → ℕ → Descriptor → Cell → BatchNote → Entry → FetchAnswer × Work
 fetched w e desc cell note batch = (
   Fetched (record { cell = cell; name = w.setup.next_name }),
   record w {
     setup = record w.setup { next_name = w.setup.next_name + 1 };
     content = pushed w.content (member_list w.setup e) cell (
-      record {
-        name = w.setup.next_name;
-        parent = Some note.batch;
-        desc = with_pasid desc batch.desc.pasid;
-        queue = batch.queue;
-        running = false;
-      }
-    );
+        record {
+          name = w.setup.next_name;
+          parent = Some note.batch;
+          desc = with_pasid desc batch.desc.pasid;
+          queue = batch.queue;
+          running = false;
+        }
+        );
     notes = with_note w.notes e (Some (record note { fetched = note.fetched + 1 }));
   },
 )
 
+-- nothing is fetched past the count of the batch (Intel DSA: batch descriptors)
 abbrev pub fetch_of : Work → ℕ → Descriptor → Cell → BatchNote → Option Slot → FetchAnswer × Work
 fetch_of w e desc cell note None = (NoBatch, w)
 fetch_of w e desc cell note (Some batch) =
     first_row_or ((is_all_fetched note, (AllFetched, w)) ∷ []) (fetched w e desc cell note batch.1)
 
+-- nothing is fetched without a batch (profile)
 abbrev pub fetch_for : Work → ℕ → Descriptor → Cell → Option BatchNote → FetchAnswer × Work
 fetch_for w e desc cell None = (NoBatch, w)
 fetch_for w e desc cell (Some note) = fetch_of w e desc cell note (batch_on w e note)
 
--- the answer and what it leaves, where a fetched member is given this cell
+-- the answer to a fetch and what it leaves, where a fetched member is given this cell (profile)
 abbrev pub fetch : Work → ℕ → Descriptor → Cell → FetchAnswer × Work
 fetch w e desc cell = fetch_for w e desc cell (note_at w e)
 
 -- ---- start
 
+-- the first member that does not run
 abbrev pub first_waiting : Work → ℕ → Option Slot
 first_waiting w e = find (λ slot. not slot.1.running) (members w e)
 
+-- whether all members before this one have ended
 abbrev pub is_front : Work → ℕ → Slot → Bool
 is_front w e slot = passes (is_cell slot.0) (slice_get (members w e) 0)
 
+-- whether a member of the engine's batch was not successful
 abbrev pub has_failed : Work → ℕ → Bool
 has_failed w e = passes (λ note. note.failed) (note_at w e)
 
+-- the row of an entry that ends so
 abbrev pub fate_row : Fate → Slot → FateRow
 fate_row fate slot = record { name = slot.1.name; parent = slot.1.parent; fate = fate }
 
--- all members end, and the batch is closed
+-- all members end, and the batch is closed (Intel DSA: fence, where a descriptor before it failed)
 abbrev pub abandoned : Work → ℕ → Work
 abandoned w e = record w {
   content = emptied w.content (member_list w.setup e);
@@ -182,35 +205,38 @@ abbrev pub with_first_run : List Slot → List Slot
 with_first_run [] = []
 with_first_run (slot ∷ rest) = cond slot.1.running (slot ∷ with_first_run rest) (run slot ∷ rest)
 
+-- the first member that did not run runs
 abbrev pub started : Work → ℕ → Work
 started w e = record w { content = slice_set w.content (member_list w.setup e) (with_first_run (members w e)) }
 
--- what keeps the member from starting
+-- what keeps a member from starting: a fence waits for all members before it, a failure before it abandons the rest (Intel DSA: fence), or there is want of buffers (profile)
 abbrev pub start_table : Work → ℕ → Slot → List (Bool × (StartAnswer × Work))
 start_table w e slot =
     (is_fenced slot.1.desc && not (is_front w e slot), (FenceWait, w)) ∷
     (is_fenced slot.1.desc && has_failed w e, (Abandoned (length (members w e)), abandoned w e)) ∷
     (not (has_room w e (need_of w.setup slot.1)), (NoBuffers, w)) ∷ []
 
+-- Nothing without a member that waits, else what keeps it from starting, else it starts (profile)
 abbrev pub start_of : Work → ℕ → Option Slot → StartAnswer × Work
 start_of w e None = (Nothing, w)
 start_of w e (Some slot) = first_row_or (start_table w e slot) (Started (ticket_of slot), started w e)
 
+-- the answer to a start and what it leaves (profile)
 abbrev pub start : Work → ℕ → StartAnswer × Work
 start w e = start_of w e (first_waiting w e)
 
 -- ---- finish
 
--- members are left, or may still be fetched
+-- members are left, or may still be fetched (Intel DSA: a batch completes after all its descriptors)
 abbrev pub is_unfinished : Work → ℕ → Bool
 is_unfinished w e = nat_lt 0 (length (members w e)) || passes (λ note. not (is_all_fetched note)) (note_at w e)
 
--- a batch with a member that was not successful ends with 0x05
+-- a batch with a member that was not successful ends with 0x05 (Intel DSA: batch completion; the number is that of the Linux header)
 abbrev pub last_status : Work → ℕ → Slot → Outcome → ℕ
 last_status w e slot outcome =
     cond (is_batch_of w.setup slot.1 && has_failed w e) 0x05 (status_of w.setup slot.1 outcome)
 
--- the batch's note goes, and a member that was not successful sets the failed mark
+-- the note of a batch that ends goes, and a member that was not successful sets the failed mark (profile)
 abbrev pub note_after : Work → ℕ → Slot → Outcome → Option BatchNote
 note_after w e slot outcome =
     cond (is_batch_of w.setup slot.1) None
@@ -218,6 +244,7 @@ note_after w e slot outcome =
     (option_map (λ (note : BatchNote). record note { failed = true }) (note_at w e))
     (note_at w e))
 
+-- the entry leaves, and its fate is written down (profile)
 abbrev pub ended : Work → ℕ → Slot → Outcome → Work
 ended w e slot outcome = record w {
   content = unlinked w.content slot.0;
@@ -225,12 +252,13 @@ ended w e slot outcome = record w {
   fates = w.fates ++ fate_row (Completed (last_status w e slot outcome)) slot ∷ [];
 }
 
+-- Gone without such an entry, NotReady for a batch that is not finished, else Done (profile)
 abbrev pub finish_of : Work → ℕ → Outcome → Option Slot → FinishAnswer × Work
 finish_of w e outcome None = (Gone, w)
 finish_of w e outcome (Some slot) =
     first_row_or ((is_batch_of w.setup slot.1 && is_unfinished w e, (NotReady, w)) ∷ [])
     (Done (last_status w e slot outcome), ended w e slot outcome)
 
--- the running entry of the engine that has the ticket's cell and name
+-- the answer to an end and what it leaves: it is of the running entry of the engine that has the ticket's cell and name (profile)
 abbrev pub finish : Work → ℕ → Ticket → Outcome → FinishAnswer × Work
 finish w e ticket outcome = finish_of w e outcome (find (is_ticket ticket) (running_on w e))

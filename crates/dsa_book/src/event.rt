@@ -35,11 +35,18 @@ pub enum Event {
         desc: Descriptor,
     },
     /// An engine asks for an entry of its group's queues.
-    Dispatch { engine: u16 },
+    Dispatch {
+        engine: u16,
+    },
     /// An engine hands in the next member of its batch.
-    Fetch { engine: u16, desc: Descriptor },
+    Fetch {
+        engine: u16,
+        desc: Descriptor,
+    },
     /// An engine starts the first of its members that does not run.
-    Start { engine: u16 },
+    Start {
+        engine: u16,
+    },
     /// An engine ends a running entry, and says how its work went.
     Finish {
         engine: u16,
@@ -47,13 +54,21 @@ pub enum Event {
         outcome: Outcome,
     },
     /// The administrator issues a command.
-    Issue { command: Command },
+    Issue {
+        command: Command,
+    },
     /// The administrator asks whether the active command is over.
     Poll,
     /// The administrator writes the configuration of a queue.
-    WriteQueue { queue: u16, config: QueueConfig },
+    WriteQueue {
+        queue: u16,
+        config: QueueConfig,
+    },
     /// The administrator writes the configuration of a group.
-    WriteGroup { group: u16, config: GroupConfig },
+    WriteGroup {
+        group: u16,
+        config: GroupConfig,
+    },
     /// The administrator clears the noted error.
     ClearError,
 }

@@ -6,6 +6,8 @@ pub mod book;
 pub mod event;
 pub mod fate;
 pub mod note;
+#[cfg(test)]
+mod tests;
 
 pub use answer::{
     Cause, ClearAnswer, DispatchAnswer, FetchAnswer, FinishAnswer, IssueAnswer, NotedError,

@@ -1,4 +1,4 @@
--- What a store holds: its lists by number, each a list of cells in order with their entries.
+-- What a store holds, and what each call leaves (profile).
 use Rattle.std.specs.Prelude.{◌≡◌, ℕ, ◌<◌, ◌≤◌, Bool, not, cond, ◌&&◌, ◌==◌, nat_lt, List, [], ◌∷◌, ◌++◌, map, take, drop, length, slice_set, slice_index_or, Option, Some, None}
 use Rattle.std.specs.List.{filter, find, list_any, flat_map, count_by, sum_by, position}
 use Rattle.std.specs.Option.{option_map}
@@ -9,9 +9,11 @@ use Rattle.dsa_store.specs.declared.entry.Entry.{Entry}
 abbrev pub Slot : Type 0
 Slot = Cell × Entry
 
+-- the lists by number, each with its slots in order, the front first
 abbrev pub Content : Type 0
 Content = List (List Slot)
 
+-- the slot is that cell's
 abbrev pub is_cell : Cell → Slot → Bool
 is_cell cell s = s.0.0 == cell.0
 
@@ -23,7 +25,7 @@ chain content list = slice_index_or content list []
 unfoldable pub count : Cell → List Slot → ℕ
 count cell l = count_by (is_cell cell) l
 
--- how many places of all lists do
+-- how many places of all lists name the cell
 unfoldable pub uses : Content → Cell → ℕ
 uses content cell = sum_by (count cell) content
 
@@ -31,19 +33,21 @@ uses content cell = sum_by (count cell) content
 unfoldable pub held : Content → ℕ
 held content = sum_by length content
 
--- what the cell holds
+-- the entry that the cell holds, if a list names it
 abbrev pub entry_of : Content → Cell → Option Entry
 entry_of [] cell = None
 entry_of (l ∷ ls) cell = cond (list_any (is_cell cell) l) (option_map (λ s. s.1) (find (is_cell cell) l)) (entry_of ls cell)
 
--- the list that names the cell
+-- the number of the list that names the cell, if one does
 abbrev pub list_of : Content → Cell → Option ℕ
 list_of content cell = position (list_any (is_cell cell)) content
 
+-- the cell at the front of a list
 abbrev pub first_cell : List Slot → Option Cell
 first_cell [] = None
 first_cell (s ∷ l) = Some s.0
 
+-- the cell that follows in a list
 abbrev pub after : Cell → List Slot → Option Cell
 after cell [] = None
 after cell (s ∷ l) = cond (is_cell cell s) (first_cell l) (after cell l)
@@ -69,7 +73,7 @@ moved content from to = slice_set (without_front content from) to (chain content
 abbrev pub unlinked : Content → Cell → Content
 unlinked content cell = map (filter (λ s. not (is_cell cell s))) content
 
--- with another entry in the cell
+-- with another entry in the cell, at its place
 abbrev pub replaced : Content → Cell → Entry → Content
 replaced content cell entry = map (map (λ s. cond (is_cell cell s) (s.0, entry) s)) content
 
@@ -77,7 +81,7 @@ replaced content cell entry = map (map (λ s. cond (is_cell cell s) (s.0, entry)
 abbrev pub emptied : Content → ℕ → Content
 emptied content list = slice_set content list []
 
--- what holds of each store of that many cells: no cell stands twice, each is one of the store's
+-- what holds of each store of that many cells: no cell stands twice, each that stands is one of the store's
 pub record IsSound (cells : ℕ) (content : Content) : Type 0 where
   pub once : (cell : Cell) → uses content cell ≤ 1
   pub below : (cell : Cell) → cells ≤ cell.0 → uses content cell ≡ 0

@@ -1,4 +1,4 @@
-//! Entries in lists of cells, and a store of vectors.
+//! Lists of cells with entries: what a store of them does, and one that keeps a vector for each list.
 #![tactic(auto)]
 
 pub mod entry;
@@ -8,5 +8,5 @@ pub mod walk;
 
 pub use entry::{Cell, Entry, ListId};
 pub use plain::PlainStore;
-pub use store::EntryStore;
+pub use store::{EntryStore, cells_stand_once};
 pub use walk::front_slot;

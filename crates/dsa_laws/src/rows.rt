@@ -1,0 +1,5 @@
+//! Worked histories, by computation: each is a run of a device, and leads to what is said. After a part of it a wrong answer may not come.
+
+pub mod batches;
+pub mod commands;
+pub mod submissions;

@@ -1,0 +1,169 @@
+//! Commands: their numbers, names and words, and the queues that they name.
+
+ghost use Rattle.std.specs.Prelude.{◌≡◌, ℕ, ◌<◌, ◌/◌, ◌%◌, ◌^◌, ◌==◌};
+ghost use Rattle.std.specs.List.{list_any};
+
+use crate::configurations::has_number;
+use crate::{Command, Fault, QUEUES_IN_MASK, QueueMask};
+use arrayvec::ArrayVec;
+
+/// The numbers of the queues that a command names.
+pub type QueueNumbers = ArrayVec<u32, QUEUES_IN_MASK>;
+
+impl QueueMask {
+    ghost use Rattle.dsa_regs.specs.Command.{queues_of, mask_of};
+
+    fn from_operand(operand: u32) -> QueueMask
+        requires { operand < 2 ^ 20 }
+        ensures { result ≡ mask_of operand }
+    {
+        QueueMask {
+            group: (operand >> 16) as u8,
+            mask: (operand & 0xffff) as u16,
+        }
+    }
+
+    /// Whether the queue is one of those named.
+    pub fn contains(&self, queue: u16) -> bool
+        ensures { result ≡ list_any (λ k. k == queue) (queues_of self.now) }
+    {
+        queue / 16 == u16::from(self.group) && has_number(u64::from(self.mask), queue % 16)
+    }
+
+    /// The queues that are named, in order; none where the mask is empty.
+    pub fn queues(&self) -> QueueNumbers
+        ensures { result.items ≡ queues_of self.now }
+    {
+        let mut queues = ArrayVec::new();
+        for bit in 0..16 {
+            if has_number(u64::from(self.mask), bit) {
+                queues.push(16 * u32::from(self.group) + u32::from(bit));
+            }
+        }
+        queues
+    }
+}
+
+impl Command {
+    ghost use Rattle.dsa_regs.specs.Command.{number_of, command_name, named_queues};
+
+    /// The number of the command, 1 to 12 (Intel DSA specification, Command register).
+    pub fn number(&self) -> u8
+        ensures { result ≡ number_of self.now }
+    {
+        match self {
+            Command::EnableDevice => 1,
+            Command::DisableDevice => 2,
+            Command::DrainAll => 3,
+            Command::AbortAll => 4,
+            Command::ResetDevice => 5,
+            Command::EnableWq(_) => 6,
+            Command::DisableWq(_) => 7,
+            Command::DrainWq(_) => 8,
+            Command::AbortWq(_) => 9,
+            Command::ResetWq(_) => 10,
+            Command::DrainPasid(_) => 11,
+            Command::AbortPasid(_) => 12,
+        }
+    }
+
+    /// The name of the command, as the Intel DSA specification spells it.
+    pub fn name(&self) -> &'static str
+        ensures { result.now ≡ command_name self.now }
+    {
+        match self {
+            Command::EnableDevice => "Enable Device",
+            Command::DisableDevice => "Disable Device",
+            Command::DrainAll => "Drain All",
+            Command::AbortAll => "Abort All",
+            Command::ResetDevice => "Reset Device",
+            Command::EnableWq(_) => "Enable WQ",
+            Command::DisableWq(_) => "Disable WQ",
+            Command::DrainWq(_) => "Drain WQ",
+            Command::AbortWq(_) => "Abort WQ",
+            Command::ResetWq(_) => "Reset WQ",
+            Command::DrainPasid(_) => "Drain PASID",
+            Command::AbortPasid(_) => "Abort PASID",
+        }
+    }
+
+    /// The queues that the command names, in order; none for commands that name no queue.
+    pub fn queues(&self) -> QueueNumbers
+        ensures { result.items ≡ named_queues self.now }
+    {
+        match self {
+            Command::EnableWq(queue) => {
+                let mut queues = ArrayVec::new();
+                queues.push(*queue);
+                queues
+            }
+            Command::DisableWq(mask)
+            | Command::DrainWq(mask)
+            | Command::AbortWq(mask)
+            | Command::ResetWq(mask) => mask.queues(),
+            _ => ArrayVec::new(),
+        }
+    }
+}
+
+/// The 32 bits that are written to the device's command register.
+///
+/// Bits 19:0 are the operand, bits 24:20 the number of the command, bit 31 asks for an interrupt at its end
+/// (Intel DSA specification, Command register). Bit 31 is accepted without effect, and bits 30:25 must be clear (profile).
+#[derive(Clone, Copy, Debug, PartialEq, Eq)]
+pub struct CommandWord(pub u32);
+
+impl CommandWord {
+    ghost use Rattle.dsa_regs.specs.Command.{command_of};
+
+    /// The command that the word says, or `BadCommand` where a bit among 30:25 is set, the number is 0 or above 12.
+    ///
+    /// The operand of commands 1 to 5 is ignored (profile).
+    pub fn parse(word: u32) -> Result<Command, Fault>
+        ensures { result ≡ command_of word }
+    {
+        CommandWord(word).command()
+    }
+
+    fn operand(self) -> u32
+        ensures { result ≡ self.0 % 2 ^ 20 }
+    {
+        self.0 & 0xf_ffff
+    }
+
+    fn number(self) -> u32
+        ensures { result ≡ self.0 / 2 ^ 20 % 2 ^ 5 }
+    {
+        self.0 >> 20 & 0x1f
+    }
+
+    fn reserved(self) -> u32
+        ensures { result ≡ self.0 / 2 ^ 25 % 2 ^ 6 }
+    {
+        self.0 >> 25 & 0x3f
+    }
+
+    fn command(self) -> Result<Command, Fault>
+        ensures { result ≡ command_of self.0 }
+    {
+        if self.reserved() != 0 {
+            return Err(Fault::BadCommand);
+        }
+        let operand = self.operand();
+        match self.number() {
+            1 => Ok(Command::EnableDevice),
+            2 => Ok(Command::DisableDevice),
+            3 => Ok(Command::DrainAll),
+            4 => Ok(Command::AbortAll),
+            5 => Ok(Command::ResetDevice),
+            6 => Ok(Command::EnableWq(operand)),
+            7 => Ok(Command::DisableWq(QueueMask::from_operand(operand))),
+            8 => Ok(Command::DrainWq(QueueMask::from_operand(operand))),
+            9 => Ok(Command::AbortWq(QueueMask::from_operand(operand))),
+            10 => Ok(Command::ResetWq(QueueMask::from_operand(operand))),
+            11 => Ok(Command::DrainPasid(operand)),
+            12 => Ok(Command::AbortPasid(operand)),
+            _ => Err(Fault::BadCommand),
+        }
+    }
+}

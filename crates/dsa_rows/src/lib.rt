@@ -1,0 +1,7 @@
+//! Rows and tests that cross crates.
+#![tactic(auto)]
+
+#[cfg(test)]
+mod plain;
+#[cfg(test)]
+mod stores;
