@@ -56,23 +56,17 @@ use Rattle.dsa_book.specs.declared.answer.IssueAnswer.TheVariants.{Ended, Active
 use Rattle.dsa_book.specs.Work.{is_all_fetched, fetched, members, fate_row}
 use Rattle.dsa_book.specs.Commands.{is_in_scope}
 use Rattle.dsa_book.specs.Totals.{ended_by, is_done, lost_by, total_done, total_lost}
+use Rattle.dsa_laws.proofs.Replay.{replay_none}
+use Rattle.dsa_laws.proofs.Names.{cond-each}
 
 abbrev rows_of : State → ℕ
 rows_of s = length s.work.fates
 
-and-left : (a b : Bool) → (a && b) ≡ true → a ≡ true
-and-left true b h = refl
-and-left false b h = cc
+pub length-rows : (fates : List FateRow) (fate : Fate) (xs : List Slot) → length (fates ++ map (fate_row fate) xs) ≡ length fates + length xs
+length-rows fates fate xs = length-append fates (map (fate_row fate) xs) ∙ ap (λ n. length fates + n) (length-map xs (fate_row fate))
 
 unended : (s s' : State) → rows_of s' ≡ rows_of s → rows_of s' ≡ rows_of s + 0
 unended s s' e = e ∙ sym (add-zero (rows_of s))
-
-length-rows : (fates : List FateRow) (fate : Fate) (xs : List Slot) → length (fates ++ map (fate_row fate) xs) ≡ length fates + length xs
-length-rows fates fate xs = length-append fates (map (fate_row fate) xs) ∙ ap (λ n. length fates + n) (length-map xs (fate_row fate))
-
-cond-each : {X : Type 0} (P : X → Type 0) (b : Bool) (x y : X) → P x → P y → P (cond b x y)
-cond-each P true x y p q = p
-cond-each P false x y p q = q
 
 -- ---- the steps that leave the rows as they are
 
@@ -240,10 +234,6 @@ next-rows s s' (WriteQueue q config) (Write a) h = unended s s' (write_queue_ste
 next-rows s s' (WriteGroup g config) (Write a) h = unended s s' (write_group_step s s' g config a h)
 next-rows s s' ClearError (Clear a) h = unended s s' (clear_step s s' a h)
 next-rows s s' _ _ h = absurd cc
-
-replay_none : (h : List Step) (s : State) → replay_from None h ≡ Some s → ⊥
-replay_none [] s e = cc
-replay_none (x ∷ h) s e = cc
 
 pub replay_from-rows : (h : List Step) (s s' : State) → replay_from (Some s) h ≡ Some s' → rows_of s' ≡ rows_of s + sum_by (λ step. ended_by step.reply) h
 replay_from-rows [] s s' e = let p : s ≡ s' = cc in sym (ap rows_of p) ∙ sym (add-zero (rows_of s))

@@ -51,13 +51,11 @@ use Rattle.dsa_book.specs.Work.{qualifies, front_of, taken, fetch, fetch_of, fet
 use Rattle.dsa_book.specs.Commands.{issue, issue_table, write_queue_table, write_group_table, check_of, refused_or, carried_out, waits, poll, poll_of, stopped, write_queue, write_group, clear, clear_of}
 use Rattle.dsa_book.specs.Machine.{next, replay_from, replay, with_work, with_intake, with_setup, intake_of, accepted_cell, fetched_cell, cell_or_first, may_use}
 use Rattle.dsa_book.specs.Totals.{named_by, is_accepted, is_fetched, total_accepted, total_fetched}
+use Rattle.std.proofs.lemmas.Bool.{and_parts}
+use Rattle.dsa_laws.proofs.Replay.{replay_none}
 
-abbrev name_of : State → ℕ
+abbrev pub name_of : State → ℕ
 name_of s = s.work.setup.next_name
-
-and-left : (a b : Bool) → (a && b) ≡ true → a ≡ true
-and-left true b h = refl
-and-left false b h = cc
 
 -- ---- submit
 
@@ -82,7 +80,7 @@ submit_step s s' client q portal kind d a h =
     let cell = cell_or_first (accepted_cell a) in
     let r = submit (intake_of s) q portal kind d cell in
     let p = when-some (same_submit a r.0 && may_use s.work.setup s.work.content (accepted_cell a)) (with_intake s r.1) s' h in
-    sym (ap name_of p.1) ∙ submit-names (intake_of s) q portal kind d cell ∙ ap (λ n. name_of s + n) (sym (same_submit-named a r.0 (and-left _ _ p.0)))
+    sym (ap name_of p.1) ∙ submit-names (intake_of s) q portal kind d cell ∙ ap (λ n. name_of s + n) (sym (same_submit-named a r.0 (and_parts _ _ p.0).0))
 
 -- ---- fetch
 
@@ -107,7 +105,7 @@ fetch_step s s' e d a h =
     let cell = cell_or_first (fetched_cell a) in
     let r = fetch s.work e d cell in
     let p = when-some (same_fetch a r.0 && may_use s.work.setup s.work.content (fetched_cell a)) (with_work s r.1) s' h in
-    sym (ap name_of p.1) ∙ fetch_for-names s.work e d cell (note_at s.work e) ∙ ap (λ n. name_of s + n) (sym (same_fetch-named a r.0 (and-left _ _ p.0)))
+    sym (ap name_of p.1) ∙ fetch_for-names s.work e d cell (note_at s.work e) ∙ ap (λ n. name_of s + n) (sym (same_fetch-named a r.0 (and_parts _ _ p.0).0))
 
 -- ---- dispatch, start and finish, which leave the set-up as it is
 
@@ -149,12 +147,13 @@ finish_step s s' e t outcome a h =
 
 -- ---- commands
 
-stopped-names : (command : Command) (phase : Phase) (setup : Setup) → (stopped command phase setup).next_name ≡ setup.next_name
+pub stopped-names : (command : Command) (phase : Phase) (setup : Setup) → (stopped command phase setup).next_name ≡ setup.next_name
 stopped-names DisableDevice phase setup = refl
 stopped-names (DisableWq queues) phase setup = refl
 stopped-names _ phase setup = refl
 
-cond-each : {X : Type 0} (P : X → Type 0) (b : Bool) (x y : X) → P x → P y → P (cond b x y)
+-- what holds of both holds of either
+pub cond-each : {X : Type 0} (P : X → Type 0) (b : Bool) (x y : X) → P x → P y → P (cond b x y)
 cond-each P true x y p q = p
 cond-each P false x y p q = q
 
@@ -241,10 +240,6 @@ next-names s s' (WriteQueue q config) (Write a) h = unnamed s s' (write_queue_st
 next-names s s' (WriteGroup g config) (Write a) h = unnamed s s' (write_group_step s s' g config a h)
 next-names s s' ClearError (Clear a) h = unnamed s s' (clear_step s s' a h)
 next-names s s' _ _ h = absurd cc
-
-replay_none : (h : List Step) (s : State) → replay_from None h ≡ Some s → ⊥
-replay_none [] s e = cc
-replay_none (x ∷ h) s e = cc
 
 pub replay_from-names : (h : List Step) (s s' : State) → replay_from (Some s) h ≡ Some s' → name_of s' ≡ name_of s + sum_by (λ step. named_by step.reply) h
 replay_from-names [] s s' e = let p : s ≡ s' = cc in sym (ap name_of p) ∙ sym (add-zero (name_of s))
