@@ -39,8 +39,8 @@ use Rattle.dsa_laws.proofs.Names.{next-names, replay-names}
 use Rattle.dsa_laws.proofs.Accounts.{account-change, accepted-account, fetched-account, parts}
 use Rattle.dsa_laws.proofs.Histories.{well_formed-change, well_formed-opening, replay-well_formed}
 use Rattle.std.proofs.lemmas.Bool.{and_parts, not-false}
-use Rattle.dsa_laws.proofs.Replay.{replay_none}
 use Rattle.dsa_laws.proofs.Contents.{all_held-empty}
+use Rattle.dsa_laws.proofs.Replay.{replay-adds}
 
 -- ---- what an answer says of its step
 
@@ -103,19 +103,6 @@ next-account caps s s' event (Submit (Accepted ticket)) w h = accepted-account c
 next-account caps s s' event (Fetch (Fetched ticket)) w h = let kept = fetched-account caps s s' w.shape (next-fetched s s' event ticket h) in omega (arith, kept)
 next-account caps s s' event reply w h = unnamed caps s s' event _ w refl h
 
-replay_from-account : (caps : Caps) (h : List Step) (s s' : State) → IsWellFormed caps s → replay_from (Some s) h ≡ Some s' → submitted_entries s'.work ≡ submitted_entries s.work + total_accepted h
-replay_from-account caps [] s s' w e = let p : s ≡ s' = cc in sym (ap (λ (t : State). submitted_entries t.work) p) ∙ sym (add-zero (submitted_entries s.work))
-replay_from-account caps (x ∷ h) s s' w e = go (λ t v r. replay_from-account caps h t s' v r) (next s x.event x.reply) refl e
-  where
-    go : ((t : State) → IsWellFormed caps t → replay_from (Some t) h ≡ Some s' → submitted_entries s'.work ≡ submitted_entries t.work + total_accepted h)
-        → (o : Option State) → next s x.event x.reply ≡ o → replay_from o h ≡ Some s' → submitted_entries s'.work ≡ submitted_entries s.work + total_accepted (x ∷ h)
-    go further None n e = absurd (replay_none h s' e)
-    go further (Some t) n e =
-        let first = next-account caps s t x.event x.reply w n in
-        let rest = further t (well_formed-change caps s t w (next-change s t x.event x.reply n)) e in
-        let sum = sum_by-cons (λ (step : Step). cond (is_accepted step.reply) 1 0) x h in
-        omega (arith, first, rest, sum)
-
 nothing-held : (caps : Caps) → all_held (opening caps).work.content ≡ []
 nothing-held caps = all_held-empty (list_count caps)
 
@@ -124,7 +111,8 @@ none-at-first caps = let e = ap (λ (xs : List Slot). count_by is_submitted_slot
 
 pub replay-accepted : (caps : Caps) (h : List Step) (s : State) → replay caps h ≡ Some s → total_accepted h ≡ submitted_entries s.work
 replay-accepted caps h s e =
-    let all = replay_from-account caps h (opening caps) s (well_formed-opening caps) e in
+    let all = replay-adds (IsWellFormed caps) (λ t. submitted_entries t.work) (λ reply. cond (is_accepted reply) 1 0)
+        (λ s s' x w n. (well_formed-change caps s s' w (next-change s s' x.event x.reply n), next-account caps s s' x.event x.reply w n)) h (opening caps) s (well_formed-opening caps) e in
     let none = none-at-first caps in
     omega (arith, all, none)
 

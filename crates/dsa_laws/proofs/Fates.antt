@@ -1,6 +1,6 @@
 -- Each step adds as many fate rows as its reply says.
 use Rattle.std.proofs.Common.{◌≡◌, ℕ, ◌+◌, Bool, true, false, cond, ◌&&◌, List, [], ◌∷◌, Option, Some, None, option_map, option_and_then, sum_by, refl, sym, ap, ◌∙◌, arith, add-zero}
-use Rattle.std.specs.Prelude.{find}
+use Rattle.std.specs.Prelude.{find, ⊤}
 use Rattle.std.proofs.lemmas.List.Sums.{sum_by-cons}
 use Rattle.dsa_desc.specs.declared.Descriptor.{Descriptor}
 use Rattle.dsa_desc.specs.declared.Outcome.{Outcome}
@@ -56,8 +56,8 @@ use Rattle.dsa_book.specs.declared.answer.IssueAnswer.TheVariants.{Ended, Active
 use Rattle.dsa_book.specs.Work.{is_all_fetched, fetched, members, fate_row}
 use Rattle.dsa_book.specs.Commands.{is_in_scope}
 use Rattle.dsa_book.specs.Totals.{ended_by, is_done, lost_by, total_done, total_lost}
-use Rattle.dsa_laws.proofs.Replay.{replay_none}
 use Rattle.dsa_laws.proofs.Names.{cond-each}
+use Rattle.dsa_laws.proofs.Replay.{replay-adds}
 
 abbrev rows_of : State → ℕ
 rows_of s = length s.work.fates
@@ -235,19 +235,6 @@ next-rows s s' (WriteGroup g config) (Write a) h = unended s s' (write_group_ste
 next-rows s s' ClearError (Clear a) h = unended s s' (clear_step s s' a h)
 next-rows s s' _ _ h = absurd cc
 
-pub replay_from-rows : (h : List Step) (s s' : State) → replay_from (Some s) h ≡ Some s' → rows_of s' ≡ rows_of s + sum_by (λ step. ended_by step.reply) h
-replay_from-rows [] s s' e = let p : s ≡ s' = cc in sym (ap rows_of p) ∙ sym (add-zero (rows_of s))
-replay_from-rows (x ∷ h) s s' e = go (replay_from-rows h) (next s x.event x.reply) refl e
-  where
-    go : ((t t' : State) → replay_from (Some t) h ≡ Some t' → rows_of t' ≡ rows_of t + sum_by (λ step. ended_by step.reply) h)
-        → (o : Option State) → next s x.event x.reply ≡ o → replay_from o h ≡ Some s' → rows_of s' ≡ rows_of s + sum_by (λ step. ended_by step.reply) (x ∷ h)
-    go further None n e = absurd (replay_none h s' e)
-    go further (Some s1) n e =
-        let first = next-rows s s1 x.event x.reply n in
-        let rest = further s1 s' e in
-        let sum = sum_by-cons (λ (step : Step). ended_by step.reply) x h in
-        omega (arith, first, rest, sum)
-
 ended_by-is : (r : Reply) → ended_by r ≡ cond (is_done r) 1 0 + lost_by r
 ended_by-is (Finish (Done status)) = refl
 ended_by-is (Start (Abandoned k)) = sym (zero-add k)
@@ -266,6 +253,6 @@ ended_total (x ∷ h) =
 
 pub replay-rows : (caps : Caps) (h : List Step) (s : State) → replay caps h ≡ Some s → total_done h + total_lost h ≡ length s.work.fates
 replay-rows caps h s e =
-    let all = replay_from-rows h (opening caps) s e in
+    let all = replay-adds (λ s. ⊤) rows_of ended_by (λ s s' x p n. (tt, next-rows s s' x.event x.reply n)) h (opening caps) s tt e in
     let ended = ended_total h in
     omega (arith, all, ended)

@@ -1,6 +1,6 @@
 -- Each step gives as many names as its reply says.
 use Rattle.std.proofs.Common.{◌≡◌, ℕ, ◌+◌, Bool, true, false, cond, ◌&&◌, List, [], ◌∷◌, Option, Some, None, option_map, option_and_then, sum_by, slice_set, refl, sym, ap, ◌∙◌, arith, add-zero}
-use Rattle.std.specs.Prelude.{find}
+use Rattle.std.specs.Prelude.{find, ⊤}
 use Rattle.std.proofs.lemmas.List.Sums.{sum_by-cons}
 use Rattle.dsa_desc.specs.declared.Descriptor.{Descriptor}
 use Rattle.dsa_desc.specs.declared.Outcome.{Outcome}
@@ -52,7 +52,7 @@ use Rattle.dsa_book.specs.Commands.{issue, issue_table, write_queue_table, write
 use Rattle.dsa_book.specs.Machine.{next, replay_from, replay, with_work, with_intake, with_setup, intake_of, accepted_cell, fetched_cell, cell_or_first, may_use}
 use Rattle.dsa_book.specs.Totals.{named_by, is_accepted, is_fetched, total_accepted, total_fetched}
 use Rattle.std.proofs.lemmas.Bool.{and_parts}
-use Rattle.dsa_laws.proofs.Replay.{replay_none}
+use Rattle.dsa_laws.proofs.Replay.{replay-adds}
 
 abbrev pub name_of : State → ℕ
 name_of s = s.work.setup.next_name
@@ -241,19 +241,6 @@ next-names s s' (WriteGroup g config) (Write a) h = unnamed s s' (write_group_st
 next-names s s' ClearError (Clear a) h = unnamed s s' (clear_step s s' a h)
 next-names s s' _ _ h = absurd cc
 
-pub replay_from-names : (h : List Step) (s s' : State) → replay_from (Some s) h ≡ Some s' → name_of s' ≡ name_of s + sum_by (λ step. named_by step.reply) h
-replay_from-names [] s s' e = let p : s ≡ s' = cc in sym (ap name_of p) ∙ sym (add-zero (name_of s))
-replay_from-names (x ∷ h) s s' e = go (replay_from-names h) (next s x.event x.reply) refl e
-  where
-    go : ((t t' : State) → replay_from (Some t) h ≡ Some t' → name_of t' ≡ name_of t + sum_by (λ step. named_by step.reply) h)
-        → (o : Option State) → next s x.event x.reply ≡ o → replay_from o h ≡ Some s' → name_of s' ≡ name_of s + sum_by (λ step. named_by step.reply) (x ∷ h)
-    go further None n e = absurd (replay_none h s' e)
-    go further (Some s1) n e =
-        let first = next-names s s1 x.event x.reply n in
-        let rest = further s1 s' e in
-        let sum = sum_by-cons (λ (step : Step). named_by step.reply) x h in
-        omega (arith, first, rest, sum)
-
 named_by-is : (r : Reply) → named_by r ≡ cond (is_accepted r) 1 0 + cond (is_fetched r) 1 0
 named_by-is (Submit (Accepted t)) = refl
 named_by-is (Fetch (Fetched t)) = refl
@@ -271,6 +258,6 @@ named_total (x ∷ h) =
 
 pub replay-names : (caps : Caps) (h : List Step) (s : State) → replay caps h ≡ Some s → total_accepted h + total_fetched h ≡ s.work.setup.next_name
 replay-names caps h s e =
-    let all = replay_from-names h (opening caps) s e in
+    let all = replay-adds (λ s. ⊤) name_of named_by (λ s s' x p n. (tt, next-names s s' x.event x.reply n)) h (opening caps) s tt e in
     let named = named_total h in
     omega (arith, all, named)
