@@ -1,9 +1,7 @@
 -- A history accepts and fetches as many entries as have a fate row or are held.
-use Rattle.std.proofs.Common.{◌≡◌, ℕ, zero, suc, ◌+◌, ◌&&◌, Bool, true, false, cond, List, [], ◌∷◌, replicate, Option, Some, None, refl, sym, ap, ◌∙◌, arith, add-zero}
+use Rattle.std.proofs.Common.{◌≡◌, ℕ, ◌+◌, ◌&&◌, Bool, true, cond, List, [], ◌∷◌, Option, Some, None, refl, ap, arith}
 use Rattle.std.specs.Prelude.{count_by}
-use Rattle.std.proofs.lemmas.List.Sums.{sum_by-cons}
 use Rattle.dsa_desc.specs.declared.Descriptor.{Descriptor}
-use Rattle.dsa_desc.specs.Rows.{first_row, first_row_or, EachRow}
 use Rattle.dsa_desc.proofs.Tables.{when-some, no-row, first_row_or-clear}
 use Rattle.dsa_regs.specs.declared.Caps.{Caps}
 use Rattle.dsa_regs.specs.Caps.{list_count}
@@ -29,7 +27,7 @@ use Rattle.dsa_book.specs.Same.{same_submit, same_fetch}
 use Rattle.dsa_book.specs.State.{Intake, Work, State, opening}
 use Rattle.dsa_book.specs.Submit.{submit, submit_table, turned_away, accepted}
 use Rattle.dsa_book.specs.Work.{fetch, fetch_of, fetch_for, fetched, note_at, batch_on, is_all_fetched}
-use Rattle.dsa_book.specs.Machine.{next, replay_from, replay, with_work, with_intake, intake_of, may_use}
+use Rattle.dsa_book.specs.Machine.{next, replay, with_work, with_intake, intake_of, may_use}
 use Rattle.dsa_book.specs.Totals.{named_by, is_accepted, total_accepted, total_fetched}
 use Rattle.dsa_laws.specs.Change.{IsAccepted, IsFetched}
 use Rattle.dsa_laws.specs.WellFormed.{IsWellFormed}
@@ -112,7 +110,7 @@ none-at-first caps = let e = ap (λ (xs : List Slot). count_by is_submitted_slot
 pub replay-accepted : (caps : Caps) (h : List Step) (s : State) → replay caps h ≡ Some s → total_accepted h ≡ submitted_entries s.work
 replay-accepted caps h s e =
     let all = replay-adds (IsWellFormed caps) (λ t. submitted_entries t.work) (λ reply. cond (is_accepted reply) 1 0)
-        (λ s s' x w n. (well_formed-change caps s s' w (next-change s s' x.event x.reply n), next-account caps s s' x.event x.reply w n)) h (opening caps) s (well_formed-opening caps) e in
+    (λ s s' x w n. (well_formed-change caps s s' w (next-change s s' x.event x.reply n), next-account caps s s' x.event x.reply w n)) h (opening caps) s (well_formed-opening caps) e in
     let none = none-at-first caps in
     omega (arith, all, none)
 

@@ -1,31 +1,28 @@
 -- Each accepted and each fetched entry has a fate row or is held, and only members are abandoned.
-use Rattle.std.proofs.Common.{◌≡◌, ℕ, ◌+◌, ◌<◌, ◌≤◌, not, Bool, true, false, cond, List, [], ◌∷◌, ◌++◌, length, map, Option, Some, None, refl, ap, subst, arith, ⊎_elim, eq-eqb}
-use Rattle.std.specs.Prelude.{sum_by, count_by, filter, find, nat_lt, is_some, is_none}
+use Rattle.std.proofs.Common.{◌≡◌, ℕ, ◌+◌, ◌<◌, ◌≤◌, not, Bool, true, false, cond, List, [], ◌∷◌, ◌++◌, length, map, Option, Some, None, refl, ap, subst, arith, eq-eqb}
+use Rattle.std.specs.Prelude.{sum_by, count_by, filter, is_some, is_none}
 use Rattle.std.proofs.lemmas.List.Sums.{sum_by-cons, sum_by-append, count_by-le-length}
 use Rattle.dsa_regs.specs.declared.Caps.{Caps}
-use Rattle.dsa_regs.specs.Caps.{cell_count}
 use Rattle.dsa_regs.specs.declared.Command.{Command}
 use Rattle.dsa_regs.specs.declared.Command.TheVariants.{ResetDevice, ResetWq}
 use Rattle.dsa_regs.specs.Command.{number_of}
-use Rattle.dsa_store.specs.Content.{Slot, Content, chain, all_held, is_cell, pushed}
+use Rattle.dsa_store.specs.Content.{Slot, Content, all_held, is_cell, pushed}
 use Rattle.dsa_store.proofs.Sums.{sum-set, sum-pushed, uses-counted, sum-split, all_held-filtered}
-use Rattle.dsa_book.specs.declared.answer.Ticket.{Ticket}
 use Rattle.dsa_book.specs.declared.fate.Fate.{Fate}
 use Rattle.dsa_book.specs.declared.fate.Fate.TheVariants.{Completed, Aborted, Abandoned}
 use Rattle.dsa_book.specs.declared.fate.FateRow.{FateRow}
-use Rattle.dsa_book.specs.State.{Work, State, is_ticket}
-use Rattle.dsa_book.specs.Work.{fate_row, progress_list, member_list, in_progress, members, running_on, last_status, abandoned, ended, fetched}
+use Rattle.dsa_book.specs.State.{Work, State}
+use Rattle.dsa_book.specs.Work.{fate_row, member_list, members, last_status, abandoned, ended, fetched}
 use Rattle.dsa_book.specs.Commands.{is_in_scope, aborted}
 use Rattle.dsa_book.specs.Submit.{accepted}
 use Rattle.dsa_book.specs.Machine.{with_intake, intake_of}
 use Rattle.dsa_laws.specs.Change.{Change, IsAccepted, IsFetched, same, is_noted, is_accepted, is_taken, is_fetched, is_started, is_abandoned, is_ended, is_device_enabled, is_queue_enabled, is_waiting, is_over, is_aborted, is_device_reset, is_queues_reset, is_queue_written, is_group_written}
 use Rattle.dsa_laws.specs.WellFormed.{HasShape, CellsOnce}
 use Rattle.dsa_laws.specs.Accounts.{is_submitted_row, is_submitted_slot, submitted_entries}
-use Rattle.dsa_laws.proofs.Contents.{In-append, In-filter, In-find, In-chain, sum-without}
-use Rattle.dsa_laws.proofs.Shapes.{on-queue, note-engine, below-engines, member_list-in, queue_list-in, waiting-engine, In-cond, waiting-members}
+use Rattle.dsa_laws.proofs.Contents.{sum-without}
+use Rattle.dsa_laws.proofs.Shapes.{on-queue, note-engine, below-engines, member_list-in, queue_list-in, waiting-engine, waiting-members}
 use Rattle.dsa_laws.proofs.Flows.{flow-change, running-slot, IsFlow}
 use Rattle.dsa_laws.proofs.Numbers.{sum-map}
-use Rattle.dsa_laws.specs.Lists.{In}
 use Rattle.dsa_laws.proofs.Names.{name_of}
 
 -- ---- words

@@ -1,9 +1,9 @@
 -- Every step that may come is one of the changes.
-use Rattle.std.proofs.Common.{◌≡◌, ℕ, Bool, true, false, cond, not, ◌&&◌, [], ◌∷◌, length, slice_set, Option, Some, None, option_map, option_and_then, refl}
+use Rattle.std.proofs.Common.{◌≡◌, ℕ, Bool, true, false, cond, not, ◌&&◌, length, slice_set, Option, Some, None, option_map, option_and_then, refl}
 use Rattle.std.specs.Prelude.{find, is_some}
 use Rattle.dsa_desc.specs.declared.Descriptor.{Descriptor}
 use Rattle.dsa_desc.specs.declared.Outcome.{Outcome}
-use Rattle.dsa_desc.specs.Rows.{first_row_or, when}
+use Rattle.dsa_desc.specs.Rows.{when}
 use Rattle.dsa_desc.proofs.Tables.{when-some, table1, table2, table3}
 use Rattle.dsa_regs.specs.declared.Phase.TheVariants.{Off, Stopping}
 use Rattle.dsa_regs.specs.declared.Command.{Command}

@@ -1,7 +1,7 @@
 -- Members, sums and facts of lists of lists, as each effect changes them.
 use Rattle.std.proofs.Common.{drop, ◌≡◌, ℕ, zero, suc, ◌+◌, ◌<◌, ◌≤◌, Bool, true, false, not, cond, List, [], ◌∷◌, ◌++◌, length, map, filter, set, Some, refl, sym, ap, ◌∙◌, subst, ◌⊎◌, inl, inr, arith, ⊎_elim, replicate, ◌≢◌}
 use Rattle.std.specs.Prelude.{sum_by, count_by, find, All}
-use Rattle.std.proofs.lemmas.List.Elements.{filter-append, All-head, All-tail}
+use Rattle.std.proofs.lemmas.List.Elements.{All-head, All-tail}
 use Rattle.std.proofs.lemmas.List.Sums.{sum_by-cons, sum_by-append, length-filter, count_by-le-length}
 use Rattle.dsa_store.specs.Content.{Slot, Content, chain, all_held, pushed, without_front}
 use Rattle.dsa_store.proofs.Sums.{sum-split}

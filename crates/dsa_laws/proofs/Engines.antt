@@ -1,5 +1,5 @@
 -- Each engine has a note exactly where it works on a batch, whatever step is made.
-use Rattle.std.proofs.Common.{drop, ◌≡◌, ◌≢◌, ℕ, ◌+◌, ◌<◌, ◌≤◌, ◌^◌, ◌&&◌, ◌||◌, ◌==◌, not, Bool, true, false, cond, List, [], ◌∷◌, ◌++◌, length, filter, set, get_or, Option, Some, None, option_map, is_none, refl, sym, ap, ◌∙◌, subst, ◌⊎◌, inl, inr, arith, ⊎_elim, eq-eqb, eqb-true}
+use Rattle.std.proofs.Common.{drop, ◌≡◌, ◌≢◌, ℕ, ◌+◌, ◌<◌, ◌≤◌, ◌&&◌, ◌||◌, ◌==◌, not, Bool, true, false, cond, List, [], ◌∷◌, ◌++◌, length, filter, set, get_or, Option, Some, None, option_map, is_none, refl, sym, ap, ◌∙◌, subst, ◌⊎◌, inl, inr, arith, ⊎_elim, eq-eqb, eqb-true}
 use Rattle.std.specs.Prelude.{nat_lt, count_by, sum_by}
 use Rattle.std.proofs.lemmas.Bool.Decides.{nat_tests}
 use Rattle.std.proofs.lemmas.Bool.{cases_Bool, cases_eq, ltb-true, ltb-false, and_parts, or_parts, not-true}
@@ -7,25 +7,23 @@ use Rattle.std.proofs.lemmas.List.{length-set, get_or-set_same, get_or-set_other
 use Rattle.std.proofs.Math.ListN.{get_or-eq_default}
 use Rattle.dsa_desc.specs.declared.Outcome.{Outcome}
 use Rattle.dsa_desc.specs.Descriptor.{with_pasid, is_successful, is_lawful_batch}
-use Rattle.dsa_desc.specs.Rows.{passes}
 use Rattle.dsa_regs.specs.declared.Caps.{Caps}
 use Rattle.dsa_regs.specs.declared.QueueConfig.{QueueConfig}
 use Rattle.dsa_regs.specs.declared.Phase.TheVariants.{Off, Stopping}
 use Rattle.dsa_regs.specs.declared.Command.{Command}
 use Rattle.dsa_regs.specs.declared.Command.TheVariants.{ResetDevice, ResetWq}
-use Rattle.dsa_regs.specs.Caps.{cell_count, list_count}
+use Rattle.dsa_regs.specs.Caps.{list_count}
 use Rattle.dsa_regs.specs.Config.{queue_at, limits_of, zero_queue}
 use Rattle.dsa_regs.specs.Command.{named_queues}
-use Rattle.dsa_store.specs.declared.entry.Cell.{Cell}
 use Rattle.dsa_store.specs.Content.{Slot, Content, is_cell, chain, count, uses, without_front, unlinked}
 use Rattle.dsa_store.proofs.Places.{filter-absent}
 use Rattle.dsa_store.proofs.Sums.{uses-counted}
 use Rattle.dsa_book.specs.declared.note.BatchNote.{BatchNote}
 use Rattle.dsa_book.specs.State.{Setup, Work, State, opening, opening_setup, is_off, is_member, is_batch_of, phase_at, status_of}
-use Rattle.dsa_book.specs.Work.{progress_list, member_list, in_progress, members, note_at, running_on, run, is_unfinished, note_after, with_first_run, opened_note, taken, may_take, ended}
+use Rattle.dsa_book.specs.Work.{progress_list, member_list, in_progress, members, note_at, running_on, run, is_unfinished, note_after, with_first_run, opened_note, taken, ended}
 use Rattle.dsa_book.specs.Commands.{aborted, kept_note, names, size_alone}
 use Rattle.dsa_laws.specs.Change.{Change, same, is_noted, is_accepted, is_taken, is_fetched, is_started, is_abandoned, is_ended, is_device_enabled, is_queue_enabled, is_waiting, is_over, is_aborted, is_device_reset, is_queues_reset, is_queue_written, is_group_written}
-use Rattle.dsa_laws.specs.WellFormed.{HasShape, NoneOff, NamesOnce, NoteFits, NotesFit, IsWellFormed}
+use Rattle.dsa_laws.specs.WellFormed.{HasShape, NoneOff, NamesOnce, IsWellFormed}
 use Rattle.dsa_laws.specs.Engines.{holds_batch, IsAlike, IsLawfulEngine, HasLawfulEngines}
 use Rattle.dsa_laws.proofs.Contents.{In-append, In-counted, In-filter, In-filtered, In-find, In-same, chain-filtered, sum-list-le, sum-without, chain-other, chain-same}
 use Rattle.dsa_laws.proofs.Shapes.{shape-change, shape-opening, stopped-configs, In-cond, below-engines, member_list-in, progress_list-in, waiting-engine, waiting-members}

@@ -43,7 +43,7 @@ use Rattle.dsa_book.specs.State.{Work, State, opening, is_ticket, ticket_of, is_
 use Rattle.dsa_book.specs.Submit.{submit}
 use Rattle.dsa_book.specs.Work.{qualifies, front_of, taken, fetch, fetch_of, fetch_for, note_at, batch_on, start, start_of, start_table, started, first_waiting, is_unfinished, last_status, ended, finish, finish_of, running_on}
 use Rattle.dsa_book.specs.Commands.{issue, issue_table, check_of, refused_or, carried_out, waits, poll, poll_of, write_queue, write_group, clear}
-use Rattle.dsa_book.specs.Machine.{next, replay_from, replay, with_work, with_intake, with_setup, intake_of, accepted_cell, fetched_cell, cell_or_first, may_use}
+use Rattle.dsa_book.specs.Machine.{next, replay, with_work, with_intake, with_setup, intake_of, accepted_cell, fetched_cell, cell_or_first, may_use}
 use Rattle.std.proofs.Common.{length, map, filter, ◌++◌, length-append, eqb-true, zero-add}
 use Rattle.std.proofs.lemmas.List.{length-map}
 use Rattle.dsa_store.specs.Content.{all_held}

@@ -1,8 +1,7 @@
 -- What every change does to the entries, and what follows for cells, names and their number.
-use Rattle.std.proofs.Common.{drop, ◌≡◌, ℕ, ◌+◌, ◌<◌, ◌≤◌, ◌==◌, ◌||◌, eqb, not, Bool, true, false, cond, List, [], ◌∷◌, ◌++◌, length, map, Some, refl, sym, ap, ◌∙◌, subst, arith, ⊎_elim, length-append, eqb-true, eq-eqb}
+use Rattle.std.proofs.Common.{drop, ◌≡◌, ℕ, ◌+◌, ◌<◌, ◌≤◌, ◌==◌, eqb, not, Bool, true, false, cond, List, [], ◌∷◌, ◌++◌, length, map, Some, refl, sym, ap, ◌∙◌, subst, arith, ⊎_elim, eqb-true, eq-eqb}
 use Rattle.std.specs.Prelude.{find, nat_lt, filter, sum_by, count_by, slice_get}
-use Rattle.std.specs.List.{list_any}
-use Rattle.std.proofs.lemmas.List.{length-map, length-set}
+use Rattle.std.proofs.lemmas.List.{length-set}
 use Rattle.std.proofs.lemmas.List.Sums.{sum_by-cons, sum_by-append}
 use Rattle.std.proofs.lemmas.Bool.{cases_Bool, ltb-true, and_parts}
 use Rattle.std.proofs.lemmas.Bool.Decides.{nat_tests}
@@ -10,8 +9,7 @@ use Rattle.dsa_regs.specs.declared.Caps.{Caps}
 use Rattle.dsa_regs.specs.Caps.{cell_count}
 use Rattle.dsa_regs.specs.declared.Phase.TheVariants.{Off, Stopping}
 use Rattle.dsa_regs.specs.declared.Command.{Command}
-use Rattle.dsa_regs.specs.declared.Command.TheVariants.{DisableDevice, ResetDevice, DisableWq, ResetWq}
-use Rattle.dsa_regs.specs.declared.Phase.{Phase}
+use Rattle.dsa_regs.specs.declared.Command.TheVariants.{ResetDevice, ResetWq}
 use Rattle.dsa_store.specs.declared.entry.Cell.{Cell}
 use Rattle.dsa_store.specs.Content.{Slot, Content, chain, uses, all_held, is_cell, is_free, pushed, without_front}
 use Rattle.dsa_store.proofs.Sums.{sum-set, sum-pushed, sum-without_front, sum-split, uses-counted, held-counted, is_free-unused, all_held-filtered}
@@ -19,9 +17,9 @@ use Rattle.dsa_book.specs.declared.answer.Ticket.{Ticket}
 use Rattle.dsa_book.specs.declared.fate.FateRow.{FateRow}
 use Rattle.dsa_book.specs.declared.fate.Fate.{Fate}
 use Rattle.dsa_book.specs.declared.fate.Fate.TheVariants.{Abandoned}
-use Rattle.dsa_book.specs.State.{Setup, Work, State, is_ticket}
+use Rattle.dsa_book.specs.State.{Work, State, is_ticket}
 use Rattle.dsa_book.specs.Work.{progress_list, member_list, in_progress, members, running_on, as_running, run, with_first_run, fate_row}
-use Rattle.dsa_book.specs.Commands.{stopped, is_in_scope, aborted}
+use Rattle.dsa_book.specs.Commands.{is_in_scope, aborted}
 use Rattle.dsa_laws.specs.Change.{Change, same, is_noted, is_accepted, is_taken, is_fetched, is_started, is_abandoned, is_ended, is_device_enabled, is_queue_enabled, is_waiting, is_over, is_aborted, is_device_reset, is_queues_reset, is_queue_written, is_group_written}
 use Rattle.dsa_laws.specs.WellFormed.{HasShape, CellsOnce, NamesOnce, held_named, fates_named}
 use Rattle.dsa_laws.proofs.Contents.{In-append, In-filter, In-find, In-chain, sum-without}

@@ -1,24 +1,21 @@
 -- Where a queue accepts or a batch is open, a cell is free.
-use Rattle.std.proofs.Common.{◌≡◌, ℕ, ◌+◌, ◌^◌, ◌<◌, ◌≤◌, ◌&&◌, not, Bool, true, false, cond, List, [], ◌∷◌, length, Some, None, refl, sym, ap, ◌∙◌, subst, inl, arith, ⊎_elim}
-use Rattle.std.specs.Prelude.{sum_by, nat_lt}
+use Rattle.std.proofs.Common.{◌≡◌, ℕ, ◌+◌, ◌^◌, ◌<◌, ◌≤◌, true, false, List, [], length, Some, None, sym, ap, subst, arith, ⊎_elim}
+use Rattle.std.specs.Prelude.{sum_by}
 use Rattle.std.proofs.lemmas.Bool.{cases_Bool, ltb-false, leb-false, or_parts, not-false}
-use Rattle.std.proofs.lemmas.Bool.Decides.{nat_tests}
 use Rattle.dsa_desc.specs.Rows.{first_row}
 use Rattle.dsa_regs.specs.declared.Caps.{Caps}
 use Rattle.dsa_regs.specs.declared.QueueConfig.{QueueConfig}
-use Rattle.dsa_regs.specs.declared.GroupConfig.{GroupConfig}
 use Rattle.dsa_regs.specs.Caps.{cell_count, list_count}
 use Rattle.dsa_regs.specs.Numbers.{numbers_below}
-use Rattle.dsa_regs.specs.Config.{queue_at, zero_queue, check_queue, queue_table, groups_table, total_size}
+use Rattle.dsa_regs.specs.Config.{queue_at, zero_queue, groups_table, total_size}
 use Rattle.dsa_store.specs.Content.{Slot, Content, chain, held}
 use Rattle.dsa_book.specs.declared.event.Portal.{Portal}
-use Rattle.dsa_book.specs.declared.event.Portal.TheVariants.{Limited, Unlimited}
 use Rattle.dsa_book.specs.declared.event.Kind.{Kind}
 use Rattle.dsa_book.specs.declared.event.Step.{Step}
 use Rattle.dsa_book.specs.declared.note.BatchNote.{BatchNote}
 use Rattle.dsa_book.specs.State.{Work, State, is_on, is_off, phase_at}
 use Rattle.dsa_book.specs.Submit.{limit_of, submit_table}
-use Rattle.dsa_book.specs.Work.{member_list, members, note_at, is_all_fetched, in_progress}
+use Rattle.dsa_book.specs.Work.{members, note_at, is_all_fetched, in_progress}
 use Rattle.dsa_book.specs.Machine.{intake_of, replay}
 use Rattle.dsa_laws.specs.WellFormed.{HasShape, HasLawfulSetup, HasLawfulEntries, IsWithinLimits, NoteFits, IsWellFormed}
 use Rattle.dsa_laws.specs.FreeCells.{HasFreeCell}
@@ -27,10 +24,9 @@ use Rattle.dsa_laws.proofs.UnusedCells.{free-cell}
 use Rattle.dsa_laws.proofs.Histories.{replay-well_formed}
 use Rattle.dsa_laws.proofs.Numbers.{sum-places, sum-equal}
 use Rattle.dsa_laws.proofs.NumberSums.{sum-split_numbers, sum-plus, sum-same, sum-numbers-le, sum-numbers-lt}
-use Rattle.dsa_laws.proofs.Setups.{not-both, on-not_off}
+use Rattle.dsa_laws.proofs.Setups.{on-not_off}
 use Rattle.dsa_desc.proofs.Tables.{no-row}
 use Rattle.dsa_laws.proofs.Limits.{limit-le, lists-fit}
-use Rattle.dsa_laws.specs.Lists.{In}
 use Rattle.dsa_laws.proofs.Entries.{none-held}
 use Rattle.dsa_laws.specs.Engines.{IsLawfulEngine}
 

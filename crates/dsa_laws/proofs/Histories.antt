@@ -1,10 +1,9 @@
 -- Every state that a history leads to is well formed.
-use Rattle.std.proofs.Common.{◌≡◌, ℕ, zero, suc, ◌==◌, cond, List, [], ◌∷◌, length, replicate, Option, Some, None, refl, ap, subst, arith, ◌+◌, ◌∙◌, ◌<◌, ◌≤◌}
-use Rattle.std.specs.Prelude.{count_by, nat_lt}
-use Rattle.std.proofs.lemmas.Bool.Decides.{nat_tests}
+use Rattle.std.proofs.Common.{◌≡◌, ℕ, ◌==◌, List, [], ◌∷◌, length, replicate, Option, Some, None, refl, ap, subst, arith, ◌+◌, ◌∙◌, ◌<◌, ◌≤◌}
+use Rattle.std.specs.Prelude.{count_by}
 use Rattle.dsa_regs.specs.declared.Caps.{Caps}
 use Rattle.dsa_regs.specs.Caps.{list_count}
-use Rattle.dsa_store.specs.Content.{Slot, is_cell, all_held, uses}
+use Rattle.dsa_store.specs.Content.{Slot, is_cell, uses}
 use Rattle.dsa_store.proofs.Sums.{uses-counted, held-counted}
 use Rattle.dsa_book.specs.declared.event.Step.{Step}
 use Rattle.dsa_book.specs.State.{State, opening}

@@ -1,10 +1,9 @@
 -- No list grows past its limit.
-use Rattle.std.proofs.Common.{drop, ◌≡◌, ◌≢◌, ℕ, zero, suc, ◌+◌, ◌<◌, ◌≤◌, ◌&&◌, not, Bool, true, false, cond, List, [], ◌∷◌, ◌++◌, length, map, set, replicate, Some, None, refl, sym, ap, ◌∙◌, subst, ◌⊎◌, inl, inr, arith, ⊎_elim, length-append, ◌^◌, Option}
-use Rattle.std.specs.Prelude.{filter, nat_lt, ⊤}
+use Rattle.std.proofs.Common.{drop, ◌≡◌, ◌≢◌, ℕ, zero, suc, ◌+◌, ◌<◌, ◌≤◌, ◌&&◌, not, Bool, true, false, cond, List, [], ◌∷◌, ◌++◌, length, map, set, Some, None, refl, sym, ap, ◌∙◌, subst, ◌⊎◌, inl, inr, arith, ⊎_elim, length-append, ◌^◌, Option}
+use Rattle.std.specs.Prelude.{filter, nat_lt}
 use Rattle.std.proofs.lemmas.Bool.{cases_eq, ltb-true, ltb-false, leb-false, and_parts}
 use Rattle.std.proofs.lemmas.List.{get_or-set_other}
-use Rattle.std.proofs.lemmas.List.Sums.{length-filter, count_by-le-length}
-use Rattle.dsa_desc.specs.Rows.{first_row, passes}
+use Rattle.dsa_desc.specs.Rows.{passes}
 use Rattle.dsa_regs.specs.declared.Caps.{Caps}
 use Rattle.dsa_regs.specs.declared.QueueConfig.{QueueConfig}
 use Rattle.dsa_regs.specs.declared.GroupConfig.{GroupConfig}
@@ -29,7 +28,6 @@ use Rattle.dsa_laws.proofs.Shapes.{on-queue, stopped-configs, progress-at}
 use Rattle.dsa_laws.proofs.Setups.{not-both, on-not_off}
 use Rattle.dsa_laws.proofs.Numbers.{get_or-each}
 use Rattle.dsa_desc.proofs.Tables.{no-row}
-use Rattle.dsa_laws.specs.Lists.{In}
 use Rattle.dsa_laws.specs.Engines.{IsLawfulEngine, HasLawfulEngines}
 use Rattle.dsa_book.specs.declared.note.BatchNote.{BatchNote}
 

@@ -49,7 +49,7 @@ use Rattle.dsa_book.specs.State.{Setup, Intake, Work, State, opening, is_ticket,
 use Rattle.dsa_book.specs.Submit.{submit, submit_table, turned_away, accepted}
 use Rattle.dsa_book.specs.Work.{qualifies, front_of, taken, fetch, fetch_of, fetch_for, note_at, batch_on, start, start_of, start_table, started, first_waiting, is_unfinished, last_status, ended, finish, finish_of, running_on}
 use Rattle.dsa_book.specs.Commands.{issue, issue_table, write_queue_table, write_group_table, check_of, refused_or, carried_out, waits, poll, poll_of, stopped, write_queue, write_group, clear, clear_of}
-use Rattle.dsa_book.specs.Machine.{next, replay_from, replay, with_work, with_intake, with_setup, intake_of, accepted_cell, fetched_cell, cell_or_first, may_use}
+use Rattle.dsa_book.specs.Machine.{next, replay, with_work, with_intake, with_setup, intake_of, accepted_cell, fetched_cell, cell_or_first, may_use}
 use Rattle.dsa_book.specs.Totals.{named_by, is_accepted, is_fetched, total_accepted, total_fetched}
 use Rattle.std.proofs.lemmas.Bool.{and_parts}
 use Rattle.dsa_laws.proofs.Replay.{replay-adds}

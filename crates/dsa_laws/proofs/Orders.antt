@@ -1,5 +1,5 @@
 -- Members that run stand before the others.
-use Rattle.std.proofs.Common.{drop, ◌≡◌, ℕ, zero, suc, ◌+◌, ◌≤◌, ◌&&◌, not, Bool, true, false, cond, List, [], ◌∷◌, ◌++◌, map, set, replicate, refl, sym, ap, ◌∙◌, subst, ◌⊎◌, inl, inr, arith, ⊎_elim, ◌-◌, ◌<◌, length}
+use Rattle.std.proofs.Common.{drop, ◌≡◌, ℕ, zero, suc, ◌+◌, ◌≤◌, not, Bool, true, false, cond, List, [], ◌∷◌, ◌++◌, map, set, refl, sym, ap, ◌∙◌, subst, ◌⊎◌, inl, inr, arith, ⊎_elim, ◌-◌, ◌<◌, length}
 use Rattle.std.specs.Prelude.{filter, nat_lt}
 use Rattle.dsa_regs.specs.declared.Caps.{Caps}
 use Rattle.dsa_regs.specs.declared.Command.TheVariants.{ResetDevice}
@@ -12,7 +12,7 @@ use Rattle.dsa_laws.specs.Change.{Change, same, is_noted, is_accepted, is_taken,
 use Rattle.dsa_laws.specs.WellFormed.{HasShape, MembersInOrder, runs_first, none_runs}
 use Rattle.dsa_laws.proofs.Contents.{chain-filtered, chain-empty}
 use Rattle.dsa_laws.proofs.Entries.{queue-below}
-use Rattle.dsa_laws.proofs.Shapes.{on-queue, below-engines, waiting-engine, waiting-members, members-at}
+use Rattle.dsa_laws.proofs.Shapes.{on-queue, below-engines, waiting-members, members-at}
 use Rattle.std.proofs.lemmas.Bool.{and_parts, and_from, cases_lt, cond_both}
 use Rattle.std.proofs.Math.ListN.{get_or-eq_default}
 

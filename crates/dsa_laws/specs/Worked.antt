@@ -1,5 +1,5 @@
 -- Worked histories: a set-up of two queues, two groups and two engines, and short names for steps.
-use Rattle.std.specs.Prelude.{Bool, ℕ, true, false, not, List, [], ◌∷◌, ◌++◌, length, Option, option_map}
+use Rattle.std.specs.Prelude.{Bool, ℕ, not, List, [], ◌∷◌, ◌++◌, length, Option, option_map}
 use Rattle.dsa_desc.specs.declared.Descriptor.{Descriptor}
 use Rattle.dsa_desc.specs.declared.Outcome.TheVariants.{Success, PageFault}
 use Rattle.dsa_regs.specs.declared.QueueConfig.{QueueConfig}

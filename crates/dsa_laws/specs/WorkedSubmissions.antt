@@ -1,5 +1,5 @@
 -- Worked histories of submissions, each after the set-up.
-use Rattle.std.specs.Prelude.{true, false, List, [], ◌∷◌, ◌++◌}
+use Rattle.std.specs.Prelude.{true, false, List, [], ◌∷◌}
 use Rattle.dsa_regs.specs.declared.Command.TheVariants.{EnableDevice, DisableWq, EnableWq}
 use Rattle.dsa_book.specs.declared.event.Step.{Step}
 use Rattle.dsa_book.specs.declared.event.Portal.TheVariants.{Limited, Unlimited}
