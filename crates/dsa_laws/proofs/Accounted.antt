@@ -59,7 +59,7 @@ next-accepted s s' (Submit client q portal kind d) ticket h =
     ((λ t e. turned-away s s' q kind NotEnabled ticket free t), ((λ t e. turned-away s s' q kind WrongKind ticket free t), ((λ t e. turned-away s s' q kind AtLimit ticket free t), tt)))
     (λ none t e.
     let rows = no-row table none in
-    record { queue = q; portal = portal; kind = kind; desc = d; cell = ticket.cell; on = not-false _ rows.0; below = rows.1.1.0; free = (and_parts _ _ t).1; after = e })
+    record { queue = q; portal = portal; kind = kind; desc = d; cell = ticket.cell; on = not-false _ rows.0; of_kind = not-false _ rows.1.0; below = rows.1.1.0; free = (and_parts _ _ t).1; after = e })
     p.0 p.1
 next-accepted s s' _ ticket h = absurd cc
 

@@ -76,7 +76,7 @@ submit-change s s' client q portal kind d a h =
     (λ x t e. turned_away-change s s' q kind NotEnabled e)
     (λ x t e. turned_away-change s s' q kind WrongKind e)
     (λ x t e. turned_away-change s s' q kind AtLimit e)
-    (λ x y z t e. is_accepted (record { queue = q; portal = portal; kind = kind; desc = d; cell = cell; on = not-false _ x; below = z; free = free_of a t; after = e }))
+    (λ x y z t e. is_accepted (record { queue = q; portal = portal; kind = kind; desc = d; cell = cell; on = not-false _ x; of_kind = not-false _ y; below = z; free = free_of a t; after = e }))
     p.0 p.1
   where
     free_of : (a : SubmitAnswer) → (same_submit a (Accepted (record { cell = cell_or_first (accepted_cell a); name = s.work.setup.next_name })) && may_use s.work.setup s.work.content (accepted_cell a)) ≡ true
@@ -148,9 +148,9 @@ start-change s s' e a h =
         let P : StartAnswer × Work → Type 0 = λ r. with_work s r.1 ≡ s' → Change s s' in
         table3 P _ _ _ (FenceWait, s.work) (Abandoned (length (members s.work e)), abandoned s.work e) (NoBuffers, s.work) (Started (ticket_of slot), started s.work e)
         (λ u x. same x)
-        (λ u x. is_abandoned (record { engine = e; slot = slot; is_first = n; after = x }))
+        (λ u x. is_abandoned (record { engine = e; slot = slot; is_first = n; failed = u; after = x }))
         (λ u x. same x)
-        (λ u v t x. is_started (record { engine = e; slot = slot; is_first = n; room = not-false _ t; after = x }))
+        (λ u v t x. is_started (record { engine = e; slot = slot; is_first = n; first_of_all = u; unfailed = v; room = not-false _ t; after = x }))
         x
 
 -- ---- finish

@@ -20,10 +20,12 @@ use Rattle.dsa_book.specs.declared.answer.NotedError.{NotedError}
 use Rattle.dsa_book.specs.declared.note.BatchNote.{BatchNote}
 use Rattle.dsa_book.specs.declared.note.ActiveCommand.{ActiveCommand}
 use Rattle.dsa_book.specs.State.{Setup, State, is_on, is_off, phase_at, has_queue, occupancy, need_of, is_batch_of, is_ticket}
-use Rattle.dsa_book.specs.Submit.{limit_of, accepted}
-use Rattle.dsa_book.specs.Work.{front_of, qualifies, taken, note_at, batch_on, is_all_fetched, fetched, first_waiting, has_room, started, abandoned, running_on, is_unfinished, ended}
+use Rattle.dsa_book.specs.Submit.{limit_of, accepted, is_movdir64b}
+use Rattle.dsa_book.specs.Work.{front_of, qualifies, taken, note_at, batch_on, is_all_fetched, fetched, first_waiting, has_room, started, abandoned, running_on, is_unfinished, ended, is_front, has_failed}
 use Rattle.dsa_book.specs.Commands.{is_at_end, with_device, with_phases, stopped, may_come, aborted, reset, names, with_sizes_alone}
 use Rattle.dsa_book.specs.Machine.{with_work, with_intake, with_setup, intake_of}
+use Rattle.dsa_desc.specs.Descriptor.{is_fenced}
+use Rattle.std.specs.Bool.{beq}
 
 -- ---- entries
 
@@ -35,6 +37,7 @@ pub record IsAccepted (s s' : State) : Type 0 where
   pub desc : Descriptor
   pub cell : Cell
   pub on : is_on (phase_at s.work.setup queue) ≡ true
+  pub of_kind : beq (is_movdir64b kind) (queue_at s.work.setup.configs queue).dedicated ≡ true
   pub below : nat_le (limit_of (queue_at s.work.setup.configs queue) portal) (occupancy s.work.content queue) ≡ false
   pub free : is_free (cell_count s.work.setup.caps) s.work.content cell ≡ true
   pub after : with_intake s (accepted (intake_of s) queue kind desc cell).1 ≡ s'
@@ -61,11 +64,13 @@ pub record IsFetched (s s' : State) : Type 0 where
   pub free : is_free (cell_count s.work.setup.caps) s.work.content cell ≡ true
   pub after : with_work s (fetched s.work engine desc cell note batch.1).1 ≡ s'
 
--- the first member that waits begins to run, since its read buffers fit (Intel DSA: read buffers)
+-- the first member that waits begins to run: its read buffers fit, and with a fence it stands before all others and none has failed (Intel DSA: read buffers, fence)
 pub record IsStarted (s s' : State) : Type 0 where
   pub engine : ℕ
   pub slot : Slot
   pub is_first : first_waiting s.work engine ≡ Some slot
+  pub first_of_all : (is_fenced slot.1.desc && not (is_front s.work engine slot)) ≡ false
+  pub unfailed : (is_fenced slot.1.desc && has_failed s.work engine) ≡ false
   pub room : has_room s.work engine (need_of s.work.setup slot.1) ≡ true
   pub after : with_work s (started s.work engine) ≡ s'
 
@@ -74,6 +79,7 @@ pub record IsAbandoned (s s' : State) : Type 0 where
   pub engine : ℕ
   pub slot : Slot
   pub is_first : first_waiting s.work engine ≡ Some slot
+  pub failed : (is_fenced slot.1.desc && has_failed s.work engine) ≡ true
   pub after : with_work s (abandoned s.work engine) ≡ s'
 
 -- an entry that runs ends, a batch after its members (Intel DSA: completion)

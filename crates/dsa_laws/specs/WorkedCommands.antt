@@ -174,4 +174,4 @@ queues_that_are_not_there =
 
 -- not after the set-up: configurations with which Enable Device is refused
 abbrev pub refused_device : QueueConfig → GroupConfig → GroupConfig → Fault → List Step
-refused_device q1 g0 g1 fault = configured shared_queue q1 g0 g1 ++ issued EnableDevice (Refused fault) ∷ []
+refused_device second_queue first second fault = configured shared_queue second_queue first second ++ issued EnableDevice (Refused fault) ∷ []

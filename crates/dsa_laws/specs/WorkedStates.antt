@@ -22,10 +22,11 @@ batches_on engine w = count_by (holds_batch w.setup) (in_progress w engine)
 abbrev pub covered_by : Work → ℕ
 covered_by w = covered w.setup.groups (all_used w)
 
--- a member of batch 0 that runs, and one that waits
+-- a member of batch 0 that runs
 abbrev pub running_member : Slot
 running_member = slot 1 1 (Some 0) no_op 0 true
 
+-- and one that waits
 abbrev pub waiting_member : Slot
 waiting_member = slot 2 2 (Some 0) no_op 0 false
 

@@ -8,7 +8,7 @@ ghost use Rattle.dsa_book.specs.declared.answer.FinishAnswer.TheVariants.{Done, 
 ghost use Rattle.dsa_book.specs.declared.fate.Fate.TheVariants.{Completed, Abandoned};
 ghost use Rattle.dsa_book.specs.Machine.{is_run};
 ghost use Rattle.dsa_regs.specs.Worked.{caps};
-ghost use Rattle.dsa_laws.specs.Worked.{setup, is_run_here, may_not_follow, fates_after, content_after, account_after, row, slot, no_op, move, batch, ticket, dispatched, fetched, started, finished};
+ghost use Rattle.dsa_laws.specs.Worked.{room, setup, is_run_here, may_not_follow, fates_after, content_after, account_after, row, slot, no_op, move, batch, ticket, dispatched, fetched, started, finished};
 ghost use Rattle.dsa_laws.specs.WorkedBatches.{buffers_of_a_batch, fence_waits, failure_abandons, batch_counts, batch_in_a_batch, more_slots, buffers_of_two_groups, three_groups, three_groups_setup, buffers_reserved_for_another};
 
 /// Members start while buffers are to be had, and no longer.
@@ -58,13 +58,13 @@ pub fn batch_in_a_batch()
 
 /// With four slots: 8 and 12 buffers are 20, and there are 16.
 pub fn buffers_of_two_groups()
-    ensures run { is_run (more_slots caps) 100 (setup ++ buffers_of_two_groups) ≡ true }
-    ensures no_more_than_there_are { is_run (more_slots caps) 100 (setup ++ take 9 buffers_of_two_groups ++ dispatched 1 (Taken (ticket 4 4) 1) ∷ []) ≡ false }
+    ensures run { is_run (more_slots caps) room (setup ++ buffers_of_two_groups) ≡ true }
+    ensures no_more_than_there_are { is_run (more_slots caps) room (setup ++ take 9 buffers_of_two_groups ++ dispatched 1 (Taken (ticket 4 4) 1) ∷ []) ≡ false }
 {}
 
 /// Four buffers are free, and reserved for the third group: the second gets none of them, and the third does.
 pub fn buffers_reserved_for_another()
-    ensures run { is_run three_groups 100 (three_groups_setup ++ buffers_reserved_for_another) ≡ true }
-    ensures free_is_not_enough { is_run three_groups 100 (three_groups_setup ++ take 8 buffers_reserved_for_another ++ dispatched 1 (Taken (ticket 3 3) 1) ∷ []) ≡ false }
-    ensures reserved_is_kept { is_run three_groups 100 (three_groups_setup ++ take 9 buffers_reserved_for_another ++ dispatched 2 Idle ∷ []) ≡ false }
+    ensures run { is_run three_groups room (three_groups_setup ++ buffers_reserved_for_another) ≡ true }
+    ensures free_is_not_enough { is_run three_groups room (three_groups_setup ++ take 8 buffers_reserved_for_another ++ dispatched 1 (Taken (ticket 3 3) 1) ∷ []) ≡ false }
+    ensures reserved_is_kept { is_run three_groups room (three_groups_setup ++ take 9 buffers_reserved_for_another ++ dispatched 2 Idle ∷ []) ≡ false }
 {}

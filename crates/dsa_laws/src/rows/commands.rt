@@ -11,7 +11,7 @@ ghost use Rattle.dsa_book.specs.declared.answer.PollAnswer.TheVariants.{Finished
 ghost use Rattle.dsa_book.specs.declared.fate.Fate.TheVariants.{Completed, Aborted};
 ghost use Rattle.dsa_book.specs.Machine.{is_run};
 ghost use Rattle.dsa_regs.specs.Worked.{caps, dedicated_queue, first_group, second_group};
-ghost use Rattle.dsa_laws.specs.Worked.{setup, is_run_here, may_not_follow, fates_after, content_after, next_name_after, account_after, row, slot, no_op, batch, ticket, enqcmd, dispatched, finished, issued, polled};
+ghost use Rattle.dsa_laws.specs.Worked.{room, setup, is_run_here, may_not_follow, fates_after, content_after, next_name_after, account_after, row, slot, no_op, batch, ticket, enqcmd, dispatched, finished, issued, polled};
 ghost use Rattle.dsa_laws.specs.WorkedCommands.{drain_of_a_queue, drain_of_a_batch, drain_of_a_pasid, abort_of_a_pasid, abort_takes_members, old_ticket_is_gone, abort_and_reset, names_go_on_after_a_reset, reset_of_a_queue, disable_and_enable_again, refused_enables_and_writes, priorities, queues_that_are_not_there, refused_device};
 
 /// A drain of a queue waits for what was submitted before it: it does not end at once, and what comes later does not hold it up.
@@ -96,15 +96,15 @@ pub fn disable_and_enable_again()
 
 /// Each reason why Enable Device is refused, with one change to a configuration that it would take.
 pub fn refused_devices()
-    ensures reserved { is_run caps 100 (refused_device dedicated_queue first_group (record second_group { reserved = 13 }) ReservedTooMany) ≡ true }
-    ensures two_groups { is_run caps 100 (refused_device dedicated_queue first_group (record second_group { engines = 3 }) TwoGroups) ≡ true }
-    ensures no_queue { is_run caps 100 (refused_device dedicated_queue first_group (record second_group { queues = 0 }) GroupWithoutQueue) ≡ true }
-    ensures no_engine { is_run caps 100 (refused_device dedicated_queue first_group (record second_group { engines = 0 }) GroupWithoutEngine) ≡ true }
-    ensures sizes { is_run caps 100 (refused_device (record dedicated_queue { size = 5 }) first_group second_group SizesTooLarge) ≡ true }
-    ensures allowed { is_run caps 100 (refused_device dedicated_queue (record first_group { allowed = 9 }) second_group AllowedOutOfRange) ≡ true }
-    ensures no_such_queue { is_run caps 100 (refused_device dedicated_queue first_group (record second_group { queues = 6 }) BadIndex) ≡ true }
-    ensures the_first_cause { is_run caps 100 (refused_device (record dedicated_queue { size = 5 }) first_group (record second_group { engines = 3 }) TwoGroups) ≡ false }
-    ensures another_cause { is_run caps 100 (refused_device dedicated_queue first_group (record second_group { reserved = 13 }) AllowedOutOfRange) ≡ false }
+    ensures reserved { is_run caps room (refused_device dedicated_queue first_group (record second_group { reserved = 13 }) ReservedTooMany) ≡ true }
+    ensures two_groups { is_run caps room (refused_device dedicated_queue first_group (record second_group { engines = 3 }) TwoGroups) ≡ true }
+    ensures no_queue { is_run caps room (refused_device dedicated_queue first_group (record second_group { queues = 0 }) GroupWithoutQueue) ≡ true }
+    ensures no_engine { is_run caps room (refused_device dedicated_queue first_group (record second_group { engines = 0 }) GroupWithoutEngine) ≡ true }
+    ensures sizes { is_run caps room (refused_device (record dedicated_queue { size = 5 }) first_group second_group SizesTooLarge) ≡ true }
+    ensures allowed { is_run caps room (refused_device dedicated_queue (record first_group { allowed = 9 }) second_group AllowedOutOfRange) ≡ true }
+    ensures no_such_queue { is_run caps room (refused_device dedicated_queue first_group (record second_group { queues = 6 }) BadIndex) ≡ true }
+    ensures the_first_cause { is_run caps room (refused_device (record dedicated_queue { size = 5 }) first_group (record second_group { engines = 3 }) TwoGroups) ≡ false }
+    ensures another_cause { is_run caps room (refused_device dedicated_queue first_group (record second_group { reserved = 13 }) AllowedOutOfRange) ≡ false }
 {}
 
 /// Enable WQ is refused for its queue's configuration, and writes to what is on are locked.
