@@ -127,7 +127,7 @@ filter-one {X} p x (y ∷ ys) h (inr i) t = go (λ e. filter-one p x ys e i t) (
         absurd (omega (arith, h, c, one, some))
     go more false q = let c = sum_by-cons (λ z. cond (p z) 1 0) y ys in more (omega (arith, h, c))
 
--- without the cell of one that is slot, all but it are left
+-- without the cell of one that is held, all but it are left
 pub sum-without : (f : Slot → ℕ) (p : Slot → Bool) (x : Slot) (xs : List Slot) → count_by p xs ≤ 1 → In x xs → p x ≡ true → sum_by f (filter (λ y. not (p y)) xs) + f x ≡ sum_by f xs
 sum-without f p x xs h i t =
     let parts = sum-split f p xs in

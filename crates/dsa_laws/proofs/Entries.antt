@@ -125,7 +125,7 @@ none-in test x [] h i = absurd i
 none-in test x (y ∷ ys) h (inl e) = subst (λ z. test z ≡ false) e (or_parts (test y) _ h).0
 none-in test x (y ∷ ys) h (inr i) = none-in test x ys (or_parts (test y) _ h).1 i
 
--- nothing that is slot is of what ends
+-- nothing that is held is of what ends
 pub none-slot : (test : Slot → Bool) (content : Content) (k : ℕ) (x : Slot) → list_any test (all_held content) ≡ false → In x (chain content k) → test x ≡ false
 none-slot test content k x h i = none-in test x (all_held content) h (In-chain x content k i)
 
