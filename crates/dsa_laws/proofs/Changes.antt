@@ -1,10 +1,10 @@
 -- Every step that may come is one of the changes.
-use Rattle.std.proofs.Common.{◌≡◌, ℕ, Bool, true, false, cond, not, ◌&&◌, [], ◌∷◌, length, slice_set, Option, Some, None, option_map, option_and_then, refl}
+use Rattle.std.proofs.Common.{◌≡◌, ℕ, Bool, true, false, cond, not, ◌&&◌, length, slice_set, Option, Some, None, option_map, option_and_then, refl}
 use Rattle.std.specs.Prelude.{find, is_some}
 use Rattle.dsa_desc.specs.declared.Descriptor.{Descriptor}
 use Rattle.dsa_desc.specs.declared.Outcome.{Outcome}
-use Rattle.dsa_desc.specs.Rows.{first_row_or, when}
-use Rattle.dsa_desc.proofs.Tables.{when-some}
+use Rattle.dsa_desc.specs.Rows.{when}
+use Rattle.dsa_desc.proofs.Tables.{when-some, table1, table2, table3}
 use Rattle.dsa_regs.specs.declared.Phase.TheVariants.{Off, Stopping}
 use Rattle.dsa_regs.specs.declared.Command.{Command}
 use Rattle.dsa_regs.specs.declared.Command.TheVariants.{EnableDevice, DisableDevice, DrainAll, AbortAll, ResetDevice, EnableWq, DisableWq, DrainWq, AbortWq, ResetWq, DrainPasid, AbortPasid}
@@ -51,44 +51,13 @@ use Rattle.dsa_book.specs.Work.{qualifies, front_of, taken, fetch, fetch_of, fet
 use Rattle.dsa_book.specs.Commands.{issue, check_of, refused_or, carried_out, waits, poll, poll_of, stopped, write_queue, write_group, clear, clear_of, is_at_end, is_bad_queues, may_come}
 use Rattle.dsa_book.specs.Machine.{next, with_work, with_intake, with_setup, intake_of, accepted_cell, fetched_cell, cell_or_first, may_use}
 use Rattle.dsa_laws.specs.Change.{Change, set_up, same, is_noted, is_accepted, is_taken, is_fetched, is_started, is_abandoned, is_ended, is_device_enabled, is_queue_enabled, is_waiting, is_over, is_aborted, is_device_reset, is_queues_reset, is_queue_written, is_group_written}
+use Rattle.std.proofs.lemmas.Bool.{and_parts, not-false}
 
 -- ---- tables and tests
-
-pub and-left : (a b : Bool) → (a && b) ≡ true → a ≡ true
-and-left true b h = refl
-and-left false b h = cc
-
-pub and-right : (a b : Bool) → (a && b) ≡ true → b ≡ true
-and-right true b h = h
-and-right false b h = cc
-
-pub not-true : (a : Bool) → not a ≡ true → a ≡ false
-not-true true h = cc
-not-true false h = refl
-
-pub not-false : (a : Bool) → not a ≡ false → a ≡ true
-not-false true h = refl
-not-false false h = cc
 
 test : {X : Type 0} (P : X → Type 0) (a : Bool) (x last : X) → (a ≡ true → P x) → (a ≡ false → P last) → P (cond a x last)
 test P true x last p q = p refl
 test P false x last p q = q refl
-
-table1 : {X : Type 0} (P : X → Type 0) (a : Bool) (x last : X) → (a ≡ true → P x) → (a ≡ false → P last) → P (first_row_or ((a, x) ∷ []) last)
-table1 P true x last p q = p refl
-table1 P false x last p q = q refl
-
-table2 : {X : Type 0} (P : X → Type 0) (a b : Bool) (x y last : X) → (a ≡ true → P x) → (b ≡ true → P y) → (a ≡ false → b ≡ false → P last) → P (first_row_or ((a, x) ∷ (b, y) ∷ []) last)
-table2 P true b x y last p q r = p refl
-table2 P false true x y last p q r = q refl
-table2 P false false x y last p q r = r refl refl
-
-table3 : {X : Type 0} (P : X → Type 0) (a b c : Bool) (x y z last : X) → (a ≡ true → P x) → (b ≡ true → P y) → (c ≡ true → P z) → (a ≡ false → b ≡ false → c ≡ false → P last)
-    → P (first_row_or ((a, x) ∷ (b, y) ∷ (c, z) ∷ []) last)
-table3 P true b c x y z last p q r t = p refl
-table3 P false true c x y z last p q r t = q refl
-table3 P false false true x y z last p q r t = r refl
-table3 P false false false x y z last p q r t = t refl refl refl
 
 -- ---- submit
 
@@ -107,12 +76,12 @@ submit-change s s' client q portal kind d a h =
     (λ x t e. turned_away-change s s' q kind NotEnabled e)
     (λ x t e. turned_away-change s s' q kind WrongKind e)
     (λ x t e. turned_away-change s s' q kind AtLimit e)
-    (λ x y z t e. is_accepted (record { queue = q; portal = portal; kind = kind; desc = d; cell = cell; on = not-false _ x; below = z; free = free_of a t; after = e }))
+    (λ x y z t e. is_accepted (record { queue = q; portal = portal; kind = kind; desc = d; cell = cell; on = not-false _ x; of_kind = not-false _ y; below = z; free = free_of a t; after = e }))
     p.0 p.1
   where
     free_of : (a : SubmitAnswer) → (same_submit a (Accepted (record { cell = cell_or_first (accepted_cell a); name = s.work.setup.next_name })) && may_use s.work.setup s.work.content (accepted_cell a)) ≡ true
         → is_free (cell_count s.work.setup.caps) s.work.content (cell_or_first (accepted_cell a)) ≡ true
-    free_of (Accepted t) h = and-right _ _ h
+    free_of (Accepted t) h = (and_parts _ _ h).1
     free_of _ h = absurd cc
 
 -- ---- dispatch
@@ -123,9 +92,10 @@ dispatch-change s s' e (Taken t q) h = found (front_of s.work q) refl h
     tested : (front : Slot) (b : Bool) → front_of s.work q ≡ Some front → (b ≡ true → qualifies s.work e q ≡ true) → option_map (with_work s) (when b (taken s.work e q front)) ≡ Some s' → Change s s'
     tested front true n k h = is_taken (record { engine = e; queue = q; front = front; is_front = n; qualifies = k refl; after = cc })
     tested front false n k h = absurd cc
+
     found : (o : Option Slot) → front_of s.work q ≡ o → option_map (with_work s) (option_and_then (λ front. when (qualifies s.work e q && is_ticket t front) (taken s.work e q front)) o) ≡ Some s' → Change s s'
     found None n h = absurd cc
-    found (Some front) n h = tested front (qualifies s.work e q && is_ticket t front) n (λ x. and-left _ _ x) h
+    found (Some front) n h = tested front (qualifies s.work e q && is_ticket t front) n (λ x. (and_parts _ _ x).0) h
 dispatch-change s s' e Idle h = idle _ h
   where
     idle : (b : Bool) → option_map (with_work s) (when b s.work) ≡ Some s' → Change s s'
@@ -141,7 +111,7 @@ FetchLeads s s' a r = (same_fetch a r.0 && may_use s.work.setup s.work.content (
 
 fetch-free : (s : State) (a : FetchAnswer) → (same_fetch a (Fetched (record { cell = cell_or_first (fetched_cell a); name = s.work.setup.next_name })) && may_use s.work.setup s.work.content (fetched_cell a)) ≡ true
     → is_free (cell_count s.work.setup.caps) s.work.content (cell_or_first (fetched_cell a)) ≡ true
-fetch-free s (Fetched t) h = and-right _ _ h
+fetch-free s (Fetched t) h = (and_parts _ _ h).1
 fetch-free s _ h = absurd cc
 
 fetch_of-change : (s s' : State) (e : ℕ) (d : Descriptor) (a : FetchAnswer) (note : BatchNote) (o : Option Slot) → note_at s.work e ≡ Some note → batch_on s.work e note ≡ o
@@ -178,9 +148,9 @@ start-change s s' e a h =
         let P : StartAnswer × Work → Type 0 = λ r. with_work s r.1 ≡ s' → Change s s' in
         table3 P _ _ _ (FenceWait, s.work) (Abandoned (length (members s.work e)), abandoned s.work e) (NoBuffers, s.work) (Started (ticket_of slot), started s.work e)
         (λ u x. same x)
-        (λ u x. is_abandoned (record { engine = e; slot = slot; is_first = n; after = x }))
+        (λ u x. is_abandoned (record { engine = e; slot = slot; is_first = n; failed = u; after = x }))
         (λ u x. same x)
-        (λ u v t x. is_started (record { engine = e; slot = slot; is_first = n; room = not-false _ t; after = x }))
+        (λ u v t x. is_started (record { engine = e; slot = slot; is_first = n; first_of_all = u; unfailed = v; room = not-false _ t; after = x }))
         x
 
 -- ---- finish
@@ -215,7 +185,7 @@ waits-change s s' command may x =
 
 carried_out-change : (s s' : State) (command : Command) → may_come s.work.setup command ≡ true → check_of s.work.setup command ≡ None → (carried_out s command).1 ≡ s' → Change s s'
 carried_out-change s s' EnableDevice may check x = is_device_enabled (record { off = may; check = check; after = x })
-carried_out-change s s' (EnableWq queue) may check x = is_queue_enabled (record { queue = queue; on = and-left _ _ may; check = check; after = x })
+carried_out-change s s' (EnableWq queue) may check x = is_queue_enabled (record { queue = queue; on = (and_parts _ _ may).0; check = check; after = x })
 carried_out-change s s' DisableDevice may check x = waits-change s s' DisableDevice may x
 carried_out-change s s' (DisableWq queues) may check x = waits-change s s' (DisableWq queues) may x
 carried_out-change s s' DrainAll may check x = waits-change s s' DrainAll may x

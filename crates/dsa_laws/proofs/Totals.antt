@@ -1,4 +1,4 @@
--- What the totals of a history say of what is slot.
+-- What the totals of a history say of what is held.
 use Rattle.std.proofs.Common.{◌≡◌, ◌+◌, ◌≤◌, List, [], ◌∷◌, length, Some, arith}
 use Rattle.std.specs.Prelude.{sum_by}
 use Rattle.std.proofs.lemmas.List.Sums.{sum_by-cons}
@@ -20,7 +20,7 @@ pub replay-held : (caps : Caps) (h : List Step) (s : State) → replay caps h �
 replay-held caps h s e =
     let names = replay-names caps h s e in
     let rows = replay-rows caps h s e in
-    let counted = (replay-well_formed caps h s e).counted in
+    let counted = (replay-well_formed caps h s e).names.counted in
     omega (arith, names, rows, counted)
 
 named-one : (r : Reply) → named_by r ≤ 1

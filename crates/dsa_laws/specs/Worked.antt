@@ -1,8 +1,7 @@
 -- Worked histories: a set-up of two queues, two groups and two engines, and short names for steps.
-use Rattle.std.specs.Prelude.{Bool, ℕ, true, false, not, List, [], ◌∷◌, ◌++◌, length, Option, option_map}
+use Rattle.std.specs.Prelude.{Bool, ℕ, not, List, [], ◌∷◌, ◌++◌, length, Option, option_map}
 use Rattle.dsa_desc.specs.declared.Descriptor.{Descriptor}
 use Rattle.dsa_desc.specs.declared.Outcome.TheVariants.{Success, PageFault}
-use Rattle.dsa_regs.specs.declared.Caps.{Caps}
 use Rattle.dsa_regs.specs.declared.QueueConfig.{QueueConfig}
 use Rattle.dsa_regs.specs.declared.GroupConfig.{GroupConfig}
 use Rattle.dsa_regs.specs.declared.Command.{Command}
@@ -34,104 +33,103 @@ use Rattle.dsa_book.specs.declared.fate.FateRow.{FateRow}
 use Rattle.dsa_book.specs.State.{State}
 use Rattle.dsa_book.specs.Machine.{replay, is_run, may_follow, stored_steps}
 use Rattle.dsa_book.specs.Totals.{total_accepted, total_fetched, total_retried, total_done, total_lost}
+use Rattle.dsa_regs.specs.Worked.{caps, shared_queue, dedicated_queue, first_group, second_group}
 
--- ---- descriptors
+-- ---- descriptors, with no flags and a PASID that the submission gives where it is ENQCMD
 
+-- No-op (Intel DSA: operation 0)
 abbrev pub no_op : Descriptor
 no_op = record { pasid = 0; flags = 0; op = 0; size = 0 }
 
--- the Drain operation, which is not supported yet
+-- a batch of so many descriptors (Intel DSA: operation 1, Batch)
+abbrev pub batch : ℕ → Descriptor
+batch count = record { pasid = 0; flags = 0; op = 1; size = count }
+
+-- the Drain operation, which is not supported yet (Intel DSA: operation 2; profile)
 abbrev pub drain : Descriptor
 drain = record { pasid = 0; flags = 0; op = 2; size = 0 }
 
+-- a move of so many bytes (Intel DSA: operation 3, Memory Move)
 abbrev pub move : ℕ → Descriptor
-move n = record { pasid = 0; flags = 0; op = 3; size = n }
+move size = record { pasid = 0; flags = 0; op = 3; size = size }
 
-abbrev pub batch : ℕ → Descriptor
-batch n = record { pasid = 0; flags = 0; op = 1; size = n }
-
+-- with the fence flag alone (Intel DSA: flag 0, fence)
 abbrev pub fenced : Descriptor → Descriptor
-fenced d = record d { flags = 1 }
+fenced descriptor = record descriptor { flags = 1 }
 
 -- ---- steps
 
+-- the ticket of this cell and name
 abbrev pub ticket : ℕ → ℕ → Ticket
 ticket cell name = record { cell = record { 0 = cell }; name = name }
 
+-- an event and the reply to it
 abbrev pub step : Event → Reply → Step
 step event reply = record { event = event; reply = reply }
 
--- client 0 writes to a queue
+-- client 0 writes a descriptor to a portal of a queue
 abbrev pub written : ℕ → Portal → Kind → Descriptor → SubmitAnswer → Step
-written q portal kind d a = step (Submit 0 q portal kind d) (Submit a)
+written queue portal kind descriptor answer = step (Submit 0 queue portal kind descriptor) (Submit answer)
 
 -- ENQCMD to queue 0 on the limited portal with PASID 5
 abbrev pub enqcmd : Descriptor → SubmitAnswer → Step
-enqcmd d a = written 0 Limited (Enqcmd 5) d a
+enqcmd descriptor answer = written 0 Limited (Enqcmd 5) descriptor answer
 
--- ENQCMD to queue 0 on the unlimited portal
+-- ENQCMD to queue 0 on the unlimited portal, with this PASID
 abbrev pub enqcmd_unlimited : ℕ → Descriptor → SubmitAnswer → Step
-enqcmd_unlimited pasid d a = written 0 Unlimited (Enqcmd pasid) d a
+enqcmd_unlimited pasid descriptor answer = written 0 Unlimited (Enqcmd pasid) descriptor answer
 
 -- MOVDIR64B to queue 1
 abbrev pub movdir : Descriptor → SubmitAnswer → Step
-movdir d a = written 1 Limited Movdir64b d a
+movdir descriptor answer = written 1 Limited Movdir64b descriptor answer
 
+-- an engine asks for an entry of a queue
 abbrev pub dispatched : ℕ → DispatchAnswer → Step
-dispatched e a = step (Dispatch e) (Dispatch a)
+dispatched engine answer = step (Dispatch engine) (Dispatch answer)
 
+-- an engine reads the next member of its batch
 abbrev pub fetched : ℕ → Descriptor → FetchAnswer → Step
-fetched e d a = step (Fetch e d) (Fetch a)
+fetched engine descriptor answer = step (Fetch engine descriptor) (Fetch answer)
 
+-- an engine asks to start the first member that waits
 abbrev pub started : ℕ → StartAnswer → Step
-started e a = step (Start e) (Start a)
+started engine answer = step (Start engine) (Start answer)
 
+-- an engine ends an entry with success
 abbrev pub finished : ℕ → Ticket → FinishAnswer → Step
-finished e t a = step (Finish e t Success) (Finish a)
+finished engine ticket answer = step (Finish engine ticket Success) (Finish answer)
 
--- with a page fault
+-- an engine ends an entry with a page fault
 abbrev pub faulted : ℕ → Ticket → FinishAnswer → Step
-faulted e t a = step (Finish e t PageFault) (Finish a)
+faulted engine ticket answer = step (Finish engine ticket PageFault) (Finish answer)
 
+-- the administrator issues a command
 abbrev pub issued : Command → IssueAnswer → Step
-issued c a = step (Issue c) (Issue a)
+issued command answer = step (Issue command) (Issue answer)
 
+-- the administrator asks whether the active command is over
 abbrev pub polled : PollAnswer → Step
-polled a = step Poll (Poll a)
+polled answer = step Poll (Poll answer)
 
+-- the administrator reads and clears the noted error
 abbrev pub cleared : ClearAnswer → Step
-cleared a = step ClearError (Clear a)
+cleared answer = step ClearError (Clear answer)
 
+-- the administrator configures a queue
 abbrev pub queue_written : ℕ → QueueConfig → WriteAnswer → Step
-queue_written q config a = step (WriteQueue q config) (Write a)
+queue_written queue config answer = step (WriteQueue queue config) (Write answer)
 
+-- the administrator configures a group
 abbrev pub group_written : ℕ → GroupConfig → WriteAnswer → Step
-group_written g config a = step (WriteGroup g config) (Write a)
+group_written group config answer = step (WriteGroup group config) (Write answer)
 
 -- ---- the set-up
 
-abbrev pub caps : Caps
-caps = record { queues = 2; groups = 2; engines = 2; total_size = 8; read_buffers = 16; slots = 2; max_batch_shift = 3; max_xfer_shift = 20 }
-
-abbrev pub shared_queue : QueueConfig
-shared_queue = record { size = 4; threshold = 2; dedicated = false; priority = 1; pasid = 0; max_batch_shift = 3; max_xfer_shift = 20 }
-
-abbrev pub dedicated_queue : QueueConfig
-dedicated_queue = record { size = 2; threshold = 0; dedicated = true; priority = 1; pasid = 7; max_batch_shift = 3; max_xfer_shift = 20 }
-
--- queue 0 and engine 0
-abbrev pub first_group : GroupConfig
-first_group = record { queues = 1; engines = 1; reserved = 4; allowed = 8 }
-
--- queue 1 and engine 1
-abbrev pub second_group : GroupConfig
-second_group = record { queues = 2; engines = 2; reserved = 8; allowed = 12 }
-
--- both queues and both groups written
+-- both queues and both groups are written, in this order
 abbrev pub configured : QueueConfig → QueueConfig → GroupConfig → GroupConfig → List Step
-configured q0 q1 g0 g1 =
-    queue_written 0 q0 Written ∷ queue_written 1 q1 Written ∷
-    group_written 0 g0 Written ∷ group_written 1 g1 Written ∷ []
+configured first_queue second_queue first_group second_group =
+    queue_written 0 first_queue Written ∷ queue_written 1 second_queue Written ∷
+    group_written 0 first_group Written ∷ group_written 1 second_group Written ∷ []
 
 -- a shared and a dedicated queue, each with an engine of its own, and all of it enabled
 abbrev pub setup : List Step
@@ -141,26 +139,35 @@ setup =
 
 -- ---- what a list of steps leads to after the set-up
 
--- a device with room for 100 steps may answer so
+-- how many steps a book has room for here, which is more than come
+abbrev pub room : ℕ
+room = 100
+
+-- the device may answer so
 abbrev pub is_run_here : List Step → Bool
-is_run_here steps = is_run caps 100 (setup ++ steps)
+is_run_here steps = is_run caps room (setup ++ steps)
 
 -- the last step may not come after these
 abbrev pub may_not_follow : List Step → Step → Bool
-may_not_follow steps last = not (may_follow caps 100 (stored_steps (setup ++ steps)) last)
+may_not_follow steps last = not (may_follow caps room (stored_steps (setup ++ steps)) last)
 
+-- the state after these steps, if they may come
 abbrev pub state_after : List Step → Option State
 state_after steps = replay caps (setup ++ steps)
 
+-- the fate rows after them, in order
 abbrev pub fates_after : List Step → Option (List FateRow)
 fates_after steps = option_map (λ s. s.work.fates) (state_after steps)
 
+-- all lists after them, by number
 abbrev pub content_after : List Step → Option Content
 content_after steps = option_map (λ s. s.work.content) (state_after steps)
 
+-- the next name after them
 abbrev pub next_name_after : List Step → Option ℕ
 next_name_after steps = option_map (λ s. s.work.setup.next_name) (state_after steps)
 
+-- a name with its parent and its fate
 abbrev pub row : ℕ → Option ℕ → Fate → FateRow
 row name parent fate = record { name = name; parent = parent; fate = fate }
 
@@ -169,7 +176,7 @@ abbrev pub slot : ℕ → ℕ → Option ℕ → Descriptor → ℕ → Bool →
 slot cell name parent desc queue running =
     (record { 0 = cell }, record { name = name; parent = parent; desc = desc; queue = queue; running = running })
 
--- what a device has counted, the set-up included
+-- what is counted of a history: entries, those held at its end, and steps with those of the set-up
 pub record Account : Type 0 where
   pub accepted : ℕ
   pub fetched : ℕ
@@ -179,6 +186,7 @@ pub record Account : Type 0 where
   pub held : ℕ
   pub steps : ℕ
 
+-- the account after these steps
 abbrev pub account_after : List Step → Option Account
 account_after steps =
     option_map (λ (s : State). record {

@@ -1,7 +1,6 @@
 -- Worked histories of batches, fences and read buffers, each after the set-up.
-use Rattle.std.specs.Prelude.{ℕ, false, List, [], ◌∷◌, ◌++◌}
+use Rattle.std.specs.Prelude.{ℕ, List, [], ◌∷◌}
 use Rattle.dsa_regs.specs.declared.Caps.{Caps}
-use Rattle.dsa_regs.specs.declared.QueueConfig.{QueueConfig}
 use Rattle.dsa_regs.specs.declared.GroupConfig.{GroupConfig}
 use Rattle.dsa_regs.specs.declared.Command.TheVariants.{EnableDevice, EnableWq}
 use Rattle.dsa_book.specs.declared.event.Step.{Step}
@@ -14,7 +13,8 @@ use Rattle.dsa_book.specs.declared.answer.StartAnswer.TheVariants.{Started, Fenc
 use Rattle.dsa_book.specs.declared.answer.FinishAnswer.TheVariants.{Done, NotReady}
 use Rattle.dsa_book.specs.declared.answer.IssueAnswer.TheVariants.{Ended}
 use Rattle.dsa_book.specs.declared.answer.WriteAnswer.TheVariants.{Written}
-use Rattle.dsa_laws.specs.Worked.{no_op, move, batch, fenced, ticket, written, enqcmd, movdir, dispatched, fetched, started, finished, faulted, issued, queue_written, group_written, shared_queue}
+use Rattle.dsa_regs.specs.Worked.{shared_queue}
+use Rattle.dsa_laws.specs.Worked.{no_op, move, batch, fenced, ticket, written, enqcmd, movdir, dispatched, fetched, started, finished, faulted, issued, queue_written, group_written}
 
 -- members start while buffers are to be had, and a group does not go past what it is allowed
 abbrev pub buffers_of_a_batch : List Step
@@ -101,6 +101,7 @@ batch_in_a_batch =
 abbrev pub more_slots : Caps → Caps
 more_slots caps = record caps { slots = 4 }
 
+-- two entries run on each of the two engines where their buffers fit, and a fifth waits for those of another
 abbrev pub buffers_of_two_groups : List Step
 buffers_of_two_groups =
     enqcmd (move 16384) (Accepted (ticket 0 0)) ∷
@@ -120,12 +121,15 @@ buffers_of_two_groups =
 
 -- ---- three groups, each with a queue and an engine, 4 of 16 buffers reserved and 8 allowed
 
+-- a device with three queues, three groups and three engines
 abbrev pub three_groups : Caps
 three_groups = record { queues = 3; groups = 3; engines = 3; total_size = 12; read_buffers = 16; slots = 2; max_batch_shift = 3; max_xfer_shift = 20 }
 
+-- the first of the groups: queue 0 and engine 0
 abbrev one_of_three : GroupConfig
 one_of_three = record { queues = 1; engines = 1; reserved = 4; allowed = 8 }
 
+-- each queue and each group is written, and all of it enabled
 abbrev pub three_groups_setup : List Step
 three_groups_setup =
     queue_written 0 shared_queue Written ∷
@@ -139,8 +143,9 @@ three_groups_setup =
     issued (EnableWq 1) (Ended 0) ∷
     issued (EnableWq 2) (Ended 0) ∷ []
 
+-- a move that takes four buffers comes to a queue, with this name and the cell of that number
 abbrev to : ℕ → ℕ → Step
-to q name = written q Unlimited (Enqcmd 5) (move 16384) (Accepted (ticket name name))
+to queue name = written queue Unlimited (Enqcmd 5) (move 16384) (Accepted (ticket name name))
 
 -- 8 and 4 buffers are in use and 4 are free, but these are reserved for the third group
 abbrev pub buffers_reserved_for_another : List Step
