@@ -1,0 +1,64 @@
+//! The array of a new store: every cell is free.
+
+ghost use Rattle.std.specs.Prelude.{◌≡◌, ℕ, ◌+◌, ◌-◌, ◌<◌, ◌≤◌, ◌++◌, ◌∷◌, [], length, replicate, IfOk};
+ghost use Rattle.dsa_cells.specs.Fresh.{AreFresh, fresh_node, fresh_header};
+ghost use Rattle.dsa_cells.specs.Partition.{no_header};
+
+use crate::links::{Header, Node};
+use dsa_desc::Descriptor;
+use dsa_store::entry::Entry;
+use std::alloc::{AllocError, Global};
+
+/// What a cell holds before its first use.
+const NO_ENTRY: Entry = Entry {
+    name: 0,
+    parent: None,
+    desc: Descriptor {
+        pasid: 0,
+        flags: 0,
+        op: 0,
+        size: 0,
+    },
+    queue: 0,
+    running: false,
+};
+
+/// The cells of a new store, linked one behind the other in the list of this number.
+pub fn fresh_nodes(alloc: Global, cells: u32, list: u16) -> Result<Vec<Node>, AllocError>
+    ensures { IfOk result (λ v. AreFresh v.items cells list cells) }
+{
+    let mut nodes = Vec::with_capacity(alloc, cells as usize)?;
+    for cell in 0..cells {
+        nodes.push(Node {
+            entry: NO_ENTRY,
+            next: if cell < cells - 1 {
+                Some(cell + 1)
+            } else {
+                None
+            },
+            previous: if cell > 0 { Some(cell - 1) } else { None },
+            owner: list,
+        })?;
+    }
+    Ok(nodes)
+}
+
+/// The ends of this many empty lists, and last those of the list of all cells.
+pub fn fresh_headers(alloc: Global, cells: u32, lists: u16) -> Result<Vec<Header>, AllocError>
+    ensures { IfOk result (λ v. v.items ≡ replicate lists no_header ++ fresh_header cells ∷ []) }
+{
+    let mut headers = Vec::with_capacity(alloc, lists as usize + 1)?;
+    for _list in 0..lists {
+        headers.push(Header {
+            head: None,
+            tail: None,
+            count: 0,
+        })?;
+    }
+    headers.push(Header {
+        head: if cells > 0 { Some(0) } else { None },
+        tail: if cells > 0 { Some(cells - 1) } else { None },
+        count: cells,
+    })?;
+    Ok(headers)
+}

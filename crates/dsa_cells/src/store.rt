@@ -1,0 +1,153 @@
+//! The store: lists over one array of linked cells.
+
+ghost use Rattle.std.specs.Prelude.{◌≡◌, ℕ, List, [], length, IfOk, MatchOption, replicate};
+ghost use Rattle.dsa_cells.specs.Content.{IsWhole, IsUnused, IsUsed};
+ghost use Rattle.dsa_cells.specs.Whole.{IsWhole-prop};
+ghost use Rattle.dsa_cells.specs.Seen.{content_at};
+ghost use Rattle.dsa_cells.specs.Naming.{IsSound-from_whole};
+
+use crate::fresh::{fresh_headers, fresh_nodes};
+use crate::links::{Header, Node, splice, transfer};
+use dsa_store::entry::{Cell, Entry, ListId};
+use dsa_store::store::EntryStore;
+use std::alloc::{AllocError, Global};
+
+/// A store of entries in lists. The last header is that of the free cells.
+#[derive(Drop)]
+pub struct LinkedStore {
+    nodes: Vec<Node>,
+    headers: Vec<Header>,
+    ghost whole: { IsWhole nodes.items headers.items } by { IsWhole-prop nodes.items headers.items },
+}
+
+impl LinkedStore {
+    /// A store of this many empty lists and free cells.
+    pub fn new(alloc: Global, lists: u16, cells: u32) -> Result<Self, AllocError>
+        ensures empty { IfOk result (λ s. ⟦<LinkedStore as EntryStore>⟧.content s ≡ replicate lists []) }
+        ensures cells { IfOk result (λ s. ⟦<LinkedStore as EntryStore>⟧.cells s ≡ cells) }
+    {
+        let nodes = fresh_nodes(alloc, cells, lists)?;
+        let headers = fresh_headers(alloc, cells, lists)?;
+        Ok(LinkedStore { nodes, headers })
+    }
+}
+
+impl EntryStore for LinkedStore {
+    ghost content = { λ s. content_at s.nodes.items s.headers.items };
+
+    ghost cells = { λ s. length s.nodes.items };
+
+    ghost sound = { λ s. IsSound-from_whole s.nodes.items s.headers.items s.whole };
+
+    #[inline(always)]
+    fn lists(&self) -> u16 {
+        (self.headers.len() - 1) as u16
+    }
+
+    #[inline(always)]
+    fn cells(&self) -> u32 {
+        self.nodes.len() as u32
+    }
+
+    #[inline(always)]
+    fn free(&self) -> u32 {
+        self.headers[self.headers.len() - 1].count
+    }
+
+    /// Takes the front of the free list.
+    /// Writes the entry, the two links and the list of that cell, one link of its neighbour in the free list,
+    /// one link of the old last of `list`, and the headers of the two lists.
+    #[inline(always)]
+    fn push_back(&mut self, list: ListId, entry: Entry) -> Option<Cell> {
+        let free = self.headers.len() - 1;
+        let cell = self.headers[free].head?;
+        self.nodes[cell as usize].entry = entry;
+        transfer(&mut self.nodes, &mut self.headers, cell, list.0);
+        Some(Cell(cell))
+    }
+
+    /// Writes the two links and the list of that cell, one link of the cell that followed it, one of the old last of `to`,
+    /// and the headers of the two lists.
+    #[inline(always)]
+    fn move_front(&mut self, from: ListId, to: ListId) -> Option<Cell> {
+        let cell = self.headers[from.0 as usize].head?;
+        transfer(&mut self.nodes, &mut self.headers, cell, to.0);
+        Some(Cell(cell))
+    }
+
+    /// Writes the two links and the list of the cell, one link of each of its neighbours, one of the old last of the free list,
+    /// and the headers of its list and of the free one. The entry stays where it was.
+    #[inline(always)]
+    fn unlink(&mut self, cell: Cell) -> Option<(ListId, Entry)> {
+        let free = self.headers.len() - 1;
+        let node = used_node(&self.nodes, free, cell)?;
+        transfer(&mut self.nodes, &mut self.headers, cell.0, free as u16);
+        Some((ListId(node.owner), node.entry))
+    }
+
+    #[inline(always)]
+    fn get(&self, cell: Cell) -> Option<Entry> {
+        let node = used_node(&self.nodes, self.headers.len() - 1, cell)?;
+        Some(node.entry)
+    }
+
+    #[inline(always)]
+    fn list_of(&self, cell: Cell) -> Option<ListId> {
+        let node = used_node(&self.nodes, self.headers.len() - 1, cell)?;
+        Some(ListId(node.owner))
+    }
+
+    #[inline(always)]
+    fn set(&mut self, cell: Cell, entry: Entry) -> bool {
+        match used_node(&self.nodes, self.headers.len() - 1, cell) {
+            Some(_) => {
+                self.nodes[cell.0 as usize].entry = entry;
+                true
+            }
+            None => false,
+        }
+    }
+
+    #[inline(always)]
+    fn front(&self, list: ListId) -> Option<Cell> {
+        self.headers[list.0 as usize].head.map(Cell)
+    }
+
+    #[inline(always)]
+    fn next(&self, cell: Cell) -> Option<Cell> {
+        let node = used_node(&self.nodes, self.headers.len() - 1, cell)?;
+        node.next.map(Cell)
+    }
+
+    #[inline(always)]
+    fn len(&self, list: ListId) -> u32 {
+        self.headers[list.0 as usize].count
+    }
+
+    /// Joins the whole list to the end of the free list by its head and its tail.
+    /// Writes the list that each of its cells belongs to, one link of its first cell, one of the old last of the free list,
+    /// and the headers of the two lists.
+    fn give_back(&mut self, list: ListId) -> u32 {
+        let count = self.len(list);
+        let free = self.headers.len() - 1;
+        splice(&mut self.nodes, &mut self.headers, list.0, free as u16);
+        count
+    }
+}
+
+// The node of the cell, if it stands in one of the first `lists` lists.
+#[inline(always)]
+fn used_node(nodes: &[Node], lists: usize, cell: Cell) -> Option<Node>
+    ensures { MatchOption result (IsUnused nodes.now lists cell.0) (λ node. IsUsed nodes.now lists cell.0 node) }
+{
+    let at = cell.0 as usize;
+    if at >= nodes.len() {
+        return None;
+    }
+    let node = nodes[at];
+    if (node.owner as usize) < lists {
+        Some(node)
+    } else {
+        None
+    }
+}
