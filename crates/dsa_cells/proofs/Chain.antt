@@ -3,8 +3,9 @@ use Rattle.std.proofs.Common.{◌≡◌, ℕ, suc, ◌+◌, ◌<◌, ◌≤◌, 
 use Rattle.std.proofs.lemmas.Bool.Decides.{nat_tests}
 use Rattle.std.proofs.lemmas.List.{get_or-set_same, get_or-set_other}
 use Rattle.dsa_cells.specs.declared.links.Node.{Node}
-use Rattle.dsa_cells.specs.Links.{node_at, no_node, set_next, set_previous}
+use Rattle.dsa_cells.specs.Array.{node_at, no_node}
 use Rattle.dsa_cells.specs.Partition.{first_or, last_or, Linked, walk, times}
+use Rattle.dsa_cells.specs.Writes.{set_next, set_previous}
 pub use Rattle.dsa_cells.specs.Owners.{same_or}
 
 -- lists

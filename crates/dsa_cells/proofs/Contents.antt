@@ -7,9 +7,12 @@ use Rattle.dsa_store.specs.declared.entry.Entry.{Entry}
 use Rattle.dsa_store.specs.declared.entry.Cell.{Cell}
 use Rattle.dsa_cells.specs.declared.links.Node.{Node}
 use Rattle.dsa_cells.specs.declared.links.Header.{Header}
-use Rattle.dsa_cells.specs.Links.{no_entry, node_at}
-use Rattle.dsa_cells.specs.Partition.{first_or, times, IsHeader, IsStore, header_at, list_at, lacking}
-use Rattle.dsa_cells.specs.Content.{stamped, contents, list_in, first_cell, either, first_some, entry_in, entry_of, after_in, cell_after, without_cell, with_entry, IsUnused}
+use Rattle.dsa_cells.specs.Array.{no_entry, node_at, header_at}
+use Rattle.dsa_cells.specs.Partition.{first_or, times, IsHeader, list_at}
+use Rattle.dsa_cells.specs.Writes.{lacking}
+use Rattle.dsa_cells.specs.Invariant.{IsStore, IsUnused}
+use Rattle.dsa_cells.specs.Content.{stamped, contents}
+use Rattle.dsa_cells.proofs.Numbered.{list_in, first_cell, either, first_some, entry_in, entry_of, after_in, cell_after, without_cell, with_entry}
 use Rattle.dsa_cells.proofs.Chain.{times-other, Once, Once-middle, split_at}
 use Rattle.dsa_cells.proofs.Ends.{next_is}
 use Rattle.dsa_cells.proofs.Moves.{Once-list, lacking-none, stands_in}

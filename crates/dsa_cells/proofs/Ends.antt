@@ -5,8 +5,9 @@ use Rattle.std.proofs.lemmas.List.{map-set}
 use Rattle.std.proofs.Math.Seq.{map-set_same}
 use Rattle.dsa_cells.specs.declared.links.Node.{Node}
 use Rattle.dsa_cells.specs.declared.links.Header.{Header}
-use Rattle.dsa_cells.specs.Links.{node_at, no_node, set_next, set_previous, or_else, without, with_last, bare_node, detached, attached, owners_of, entries_of}
+use Rattle.dsa_cells.specs.Array.{node_at, no_node, owners_of, entries_of}
 use Rattle.dsa_cells.specs.Partition.{first_or, last_or, Linked, times, IsHeader}
+use Rattle.dsa_cells.specs.Writes.{set_next, set_previous, or_else, without, with_last, bare_node, detached, attached}
 use Rattle.dsa_cells.proofs.Chain.{last_or-append, times-append, Linked-append, Linked-left, Linked-right, Linked-outside, set_next-outside, set_previous-outside, relink_tail, relink_head, Apart, Once, Within, Avoids-of, Names-first, Names-last, node_at-same, Once-parts, times-tail}
 
 -- what a write of links keeps

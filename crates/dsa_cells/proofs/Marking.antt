@@ -3,8 +3,9 @@ use Rattle.std.proofs.Common.{◌≡◌, ℕ, zero, suc, ◌+◌, ◌-◌, ◌<�
 use Rattle.std.proofs.lemmas.List.{map-set, get_or-set_same, get_or-set_other}
 use Rattle.std.proofs.Math.Seq.{map-set_same}
 use Rattle.dsa_cells.specs.declared.links.Node.{Node}
-use Rattle.dsa_cells.specs.Links.{node_at, no_node, owners_of, entries_of}
-use Rattle.dsa_cells.specs.Partition.{walk, times, marked, AreInside}
+use Rattle.dsa_cells.specs.Array.{node_at, no_node, owners_of, entries_of}
+use Rattle.dsa_cells.specs.Partition.{walk, times}
+use Rattle.dsa_cells.specs.Writes.{marked, AreInside}
 use Rattle.dsa_cells.proofs.Chain.{same_or, times-head, times-later, times-other, SameLinks}
 use Rattle.dsa_cells.proofs.Writing.{same_links}
 

@@ -5,8 +5,11 @@ use Rattle.std.proofs.lemmas.List.{get_or-set_same, get_or-set_other}
 use Rattle.std.proofs.lemmas.List.Sums.{sum_by-set}
 use Rattle.dsa_cells.specs.declared.links.Node.{Node}
 use Rattle.dsa_cells.specs.declared.links.Header.{Header}
-use Rattle.dsa_cells.specs.Links.{node_at, without, with_last, detached, attached, owners_of}
-use Rattle.dsa_cells.specs.Partition.{Linked, times, IsHeader, AreHeaders, IsStore, IsLoose, header_at, list_at, no_header, lacking, place, left_by, joined_by, headers_left_by, headers_joined_by}
+use Rattle.dsa_cells.specs.Array.{node_at, owners_of, header_at, no_header}
+use Rattle.dsa_cells.specs.Partition.{Linked, times, IsHeader, AreHeaders, list_at}
+use Rattle.dsa_cells.specs.Writes.{without, with_last, detached, attached, lacking, left_by, joined_by}
+use Rattle.dsa_cells.specs.Invariant.{IsStore, place}
+use Rattle.dsa_cells.proofs.Loose.{IsLoose, headers_left_by, headers_joined_by}
 use Rattle.dsa_cells.proofs.Chain.{same_or, times-append, times-head, times-other, Apart, Once, Within, Once-middle, split_at}
 use Rattle.dsa_cells.proofs.Ends.{owners-detached, length-detached, owners-attached, length-attached, IsHeader-detached, Linked-detached_other, IsHeader-attached, Linked-attached_other}
 pub use Rattle.dsa_cells.specs.Owners.{list_at-past, list_at-in, place-here, place-in, place-owner, place-elsewhere, owner_is, length-owners, stands_in}

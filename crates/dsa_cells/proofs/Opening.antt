@@ -1,5 +1,5 @@
 -- A new store: every cell is in the free list.
-use Rattle.std.proofs.Common.{◌≡◌, ℕ, zero, suc, ◌+◌, ◌-◌, ◌<◌, ◌≤◌, ◌≢◌, inl, inr, List, [], ◌∷◌, ◌++◌, length, replicate, Option, None, Some, get_or, cond, ltb, leb, ◌&&◌, refl, sym, ap, ap₂, ◌∙◌, subst, subst₂, arith, length-append}
+use Rattle.std.proofs.Common.{◌≡◌, ℕ, zero, suc, ◌+◌, ◌-◌, ◌<◌, ◌≤◌, ◌≢◌, inl, inr, List, [], ◌∷◌, ◌++◌, length, replicate, Option, None, Some, get_or, cond, ltb, leb, ◌&&◌, refl, sym, ap, ◌∙◌, subst, subst₂, arith, length-append}
 use Rattle.std.proofs.lemmas.Bool.Decides.{leb_tells, nat_tests}
 use Rattle.std.proofs.lemmas.List.{get_or-replicate, get_or_append_left, get_or-append_right, get_or_past, length-replicate}
 use Rattle.std.proofs.lemmas.List.Sums.{sum_by-append}
@@ -7,9 +7,10 @@ use Rattle.std.proofs.lemmas.List.Folds.{sum_by-replicate}
 use Rattle.dsa_store.specs.declared.entry.Entry.{Entry}
 use Rattle.dsa_cells.specs.declared.links.Node.{Node}
 use Rattle.dsa_cells.specs.declared.links.Header.{Header}
-use Rattle.dsa_cells.specs.Links.{owners_of, entries_of}
-use Rattle.dsa_cells.specs.Partition.{first_or, last_or, Linked, times, place, IsHeader, IsStore, header_at, list_at, no_header, lists_of}
-use Rattle.dsa_cells.specs.Content.{Content, stamped, contents, content_of, IsWhole}
+use Rattle.dsa_cells.specs.Array.{owners_of, entries_of, header_at, no_header}
+use Rattle.dsa_cells.specs.Partition.{first_or, last_or, Linked, times, IsHeader, list_at, lists_of}
+use Rattle.dsa_cells.specs.Invariant.{place, IsStore, IsWhole}
+use Rattle.dsa_cells.specs.Content.{stamped, contents}
 use Rattle.dsa_cells.specs.Fresh.{AreFresh, fresh_header}
 use Rattle.dsa_cells.proofs.Chain.{same_or}
 use Rattle.dsa_cells.proofs.Moves.{length-owners, owner_is}
@@ -170,8 +171,3 @@ content-fresh s r n lists f e =
   where
     no_pairs : List (ℕ × Entry)
     no_pairs = []
-
-pub opened : (s : List Node) (r : List Header) (n lists : ℕ) → AreFresh s n lists n → r ≡ fresh_headers_of n lists → content_of s r ≡ record { cells = n; lists = replicate lists [] }
-opened s r n lists f e =
-    let make : ℕ → List (List (ℕ × Entry)) → Content = λ k ls. record { cells = k; lists = ls } in
-    ap₂ make f.size (content-fresh s r n lists f e)

@@ -5,9 +5,11 @@ use Rattle.std.proofs.lemmas.List.Sums.{sum_by-set, get_or-le-sum_by}
 use Rattle.dsa_store.specs.declared.entry.Entry.{Entry}
 use Rattle.dsa_cells.specs.declared.links.Node.{Node}
 use Rattle.dsa_cells.specs.declared.links.Header.{Header}
-use Rattle.dsa_cells.specs.Links.{InRange, owners_of, entries_of, set_next}
-use Rattle.dsa_cells.specs.Partition.{first_or, last_or, Linked, times, place, IsHeader, AreHeaders, IsStore, header_at, list_at, no_header, lists_of, marked, joined, or_else_first, header_joined, given_back}
-use Rattle.dsa_cells.specs.Content.{stamped, contents, content_of}
+use Rattle.dsa_cells.specs.Array.{owners_of, entries_of, header_at, no_header}
+use Rattle.dsa_cells.specs.Partition.{first_or, last_or, Linked, times, IsHeader, AreHeaders, list_at, lists_of}
+use Rattle.dsa_cells.specs.Writes.{InRange, set_next, marked, joined, or_else_first, header_joined, given_back}
+use Rattle.dsa_cells.specs.Invariant.{place, IsStore}
+use Rattle.dsa_cells.specs.Content.{stamped, contents, numbered}
 use Rattle.dsa_cells.proofs.Contents.{contents_are, length-contents, list_in-contents}
 use Rattle.dsa_cells.proofs.Writing.{in_lists}
 use Rattle.dsa_cells.proofs.Chain.{same_or, first_or-append, last_or-append, times-append, Linked-append, Linked-agree, set_next-outside, set_previous-outside, relink_tail, relink_head, Avoids-of, Names-first, Names-last, Apart, Once, Within}
@@ -248,8 +250,8 @@ content-back es lists l lt =
       | inr ne ↦ ap (stamped es) (back.0 ne) ∙ sym (list_in-contents es lists m k) ∙ sym (get_or-set_other old l m no_pairs no_pairs ne)
     ])
 
-pub back-lists : (s s1 s2 : List Node) (r r1 r2 : List Header) (l to : ℕ) → s1 ≡ s → r1 ≡ r → l < length (content_of s r).lists → to ≡ length (lists_of s r) - 1
-    → lists_of s2 r2 ≡ given_back (lists_of s1 r1) l to → entries_of s2 ≡ entries_of s1 → contents (entries_of s2) (lists_of s2 r2) ≡ set (content_of s r).lists l []
+pub back-lists : (s s1 s2 : List Node) (r r1 r2 : List Header) (l to : ℕ) → s1 ≡ s → r1 ≡ r → l < length (numbered s r) → to ≡ length (lists_of s r) - 1
+    → lists_of s2 r2 ≡ given_back (lists_of s1 r1) l to → entries_of s2 ≡ entries_of s1 → contents (entries_of s2) (lists_of s2 r2) ≡ set (numbered s r) l []
 back-lists s s1 s2 r r1 r2 l to e f lt at lists entries =
     let ls = lists_of s r in
     let lists2 : lists_of s2 r2 ≡ given_back ls l (length ls - 1) = subst₂ (λ (x : List Node) (y : List Header). lists_of s2 r2 ≡ given_back (lists_of x y) l to) e f lists ∙ ap (given_back ls l) at in

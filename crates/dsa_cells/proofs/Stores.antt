@@ -5,21 +5,24 @@ use Rattle.std.proofs.Math.ListN.{get_or-map}
 use Rattle.std.proofs.lemmas.List.{length-map}
 use Rattle.dsa_cells.specs.declared.links.Node.{Node}
 use Rattle.dsa_cells.specs.declared.links.Header.{Header}
-use Rattle.dsa_cells.specs.Links.{node_at, InRange, detached, attached}
-use Rattle.dsa_cells.specs.Partition.{first_or, last_or, walk, chain, IsHeader, AreHeaders, IsStore, IsLoose, header_at, list_at, lacking, no_header, lists_of, left_by, headers_left_by, headers_joined_by, moved}
+use Rattle.dsa_cells.specs.Array.{node_at, header_at, no_header}
+use Rattle.dsa_cells.specs.Partition.{first_or, last_or, walk, cells_of, IsHeader, AreHeaders, list_at, lists_of}
+use Rattle.dsa_cells.specs.Writes.{InRange, detached, attached, lacking, left_by, moved}
+use Rattle.dsa_cells.specs.Invariant.{IsStore}
+use Rattle.dsa_cells.proofs.Loose.{IsLoose, headers_left_by, headers_joined_by}
 use Rattle.dsa_cells.proofs.Chain.{times-append, times-tail, Names, Within, walk_is, split_at, Names-first, Names-last}
 use Rattle.dsa_cells.proofs.Ends.{previous_is, next_is}
 use Rattle.dsa_cells.proofs.Moves.{list_at-in, Within-list, stands_in, store-left_by, store-joined_by, loose_within}
 
 -- the lists are those that following next finds
 
-pub chain_is : (s : List Node) (r : Header) (xs : List ℕ) → IsHeader s r xs → chain s r ≡ xs
-chain_is s r xs i = ap (λ (n : ℕ). walk s n r.head) i.count ∙ ap (walk s (length xs)) i.head ∙ walk_is s None xs i.links
+pub cells_are : (s : List Node) (r : Header) (xs : List ℕ) → IsHeader s r xs → cells_of s r ≡ xs
+cells_are s r xs i = ap (λ (n : ℕ). walk s n r.head) i.count ∙ ap (walk s (length xs)) i.head ∙ walk_is s None xs i.links
 
 pub lists_is : (s : List Node) (r : List Header) (lists : List (List ℕ)) → AreHeaders s r lists → lists_of s r ≡ lists
 lists_is s r lists a =
-    ext_get_or [] (lists_of s r) lists (length-map r (chain s) ∙ a.sizes)
-    (λ i lt. get_or-map (chain s) r i no_header ∙ chain_is s (header_at r i) (list_at lists i) (a.each i (omega (arith, lt, length-map r (chain s), a.sizes))))
+    ext_get_or [] (lists_of s r) lists (length-map r (cells_of s) ∙ a.sizes)
+    (λ i lt. get_or-map (cells_of s) r i no_header ∙ cells_are s (header_at r i) (list_at lists i) (a.each i (omega (arith, lt, length-map r (cells_of s), a.sizes))))
 
 pub store_found : (s : List Node) (r : List Header) (lists : List (List ℕ)) → IsStore s r lists → IsStore s r (lists_of s r)
 store_found s r lists st = subst (IsStore s r) (sym (lists_is s r lists st.ends)) st

@@ -8,9 +8,12 @@ use Rattle.std.proofs.Math.ListN.{get_or-map}
 use Rattle.dsa_store.specs.declared.entry.Entry.{Entry}
 use Rattle.dsa_cells.specs.declared.links.Node.{Node}
 use Rattle.dsa_cells.specs.declared.links.Header.{Header}
-use Rattle.dsa_cells.specs.Links.{no_entry, node_at, no_node, owners_of, entries_of}
-use Rattle.dsa_cells.specs.Partition.{first_or, times, place, IsStore, header_at, list_at, lacking, lists_of, left_by, moved}
-use Rattle.dsa_cells.specs.Content.{stamped, contents, content_of, held, list_in, first_cell, first_moved, entry_in, entry_of, number_of, without_cell, with_entry, IsUnused, IsUsed, IsWhole}
+use Rattle.dsa_cells.specs.Array.{no_entry, node_at, no_node, owners_of, entries_of, header_at}
+use Rattle.dsa_cells.specs.Partition.{first_or, times, list_at, lists_of}
+use Rattle.dsa_cells.specs.Writes.{lacking, left_by, moved}
+use Rattle.dsa_cells.specs.Invariant.{place, IsStore, IsUnused, IsUsed, IsWhole}
+use Rattle.dsa_cells.specs.Content.{stamped, contents, numbered}
+use Rattle.dsa_cells.proofs.Numbered.{held, list_in, first_cell, first_moved, entry_in, entry_of, number_of, without_cell, with_entry}
 use Rattle.dsa_cells.proofs.Chain.{same_or, times-head, times-other, SameLinks, Linked-agree}
 use Rattle.dsa_cells.proofs.Moves.{list_at-set_same, list_at-set_other, lacking-none, lacking-split, place-owner, owner_is, stands_in, Once-list, Within-list}
 use Rattle.dsa_cells.proofs.Stores.{lists_is}
@@ -145,7 +148,7 @@ pub used-at : (s s2 : List Node) (r : List Header) (k c : ℕ) (node : Node) →
 used-at s s2 r k c node e n u = subst₂ (λ (t : List Node) (m : ℕ). IsUsed t m c node) e (seen s r k n) u
 
 pub unlink-lists : (s s2 : List Node) (r r2 : List Header) (c to : ℕ) (node : Node) → IsWhole s r → IsUsed s (length (lists_of s r) - 1) c node → to ≡ length (lists_of s r) - 1
-    → Transferred s r s2 r2 c to → contents (entries_of s2) (lists_of s2 r2) ≡ map (without_cell c) (content_of s r).lists
+    → Transferred s r s2 r2 c to → contents (entries_of s2) (lists_of s2 r2) ≡ map (without_cell c) (numbered s r)
 unlink-lists s s2 r r2 c to node i u e t =
     let lists = lists_of s r in
     let from = (node_at s c).owner in
@@ -154,19 +157,19 @@ unlink-lists s s2 r r2 c to node i u e t =
     ∙ content-freed (entries_of s) lists c from (omega (arith, u.listed)) (λ l ne. none_at s r lists c l i.store u.inside ne)
 
 pub unlink-result : (s : List Node) (r : List Header) (c : ℕ) (node : Node) → IsWhole s r → IsUsed s (length (lists_of s r) - 1) c node
-    → (number_of c (content_of s r).lists ≡ node.owner) × (entry_of c (content_of s r).lists ≡ Some node.entry)
+    → (number_of c (numbered s r) ≡ node.owner) × (entry_of c (numbered s r) ≡ Some node.entry)
 unlink-result s r c node i u = (
   (number-used s r (lists_of s r) (entries_of s) c i.store u.inside u.listed ∙ ap (λ (t : Node). t.owner) (sym u.same)),
   (entry_of-used s r (lists_of s r) (entries_of s) c i.store u.inside u.listed ∙ ap Some (entry_is s c) ∙ ap (λ (t : Node). Some t.entry) (sym u.same)),
 )
 
-unused_everywhere : (s : List Node) (r : List Header) (c m : ℕ) → IsWhole s r → IsUnused s (length (lists_of s r) - 1) c → m < length (content_of s r).lists → times c (list_at (lists_of s r) m) ≡ 0
+unused_everywhere : (s : List Node) (r : List Header) (c m : ℕ) → IsWhole s r → IsUnused s (length (lists_of s r) - 1) c → m < length (numbered s r) → times c (list_at (lists_of s r) m) ≡ 0
 unused_everywhere s r c m i u lt =
     none_unused s r (lists_of s r) c (length (lists_of s r) - 1) m i.store u (omega (arith, lt, length-contents (entries_of s) (lists_of s r)))
 
-pub unlink-unused : (s : List Node) (r : List Header) (c : ℕ) → IsWhole s r → IsUnused s (length (lists_of s r) - 1) c → (content_of s r).lists ≡ map (without_cell c) (content_of s r).lists
+pub unlink-unused : (s : List Node) (r : List Header) (c : ℕ) → IsWhole s r → IsUnused s (length (lists_of s r) - 1) c → (numbered s r) ≡ map (without_cell c) (numbered s r)
 unlink-unused s r c i u =
-    let ls = (content_of s r).lists in
+    let ls = (numbered s r) in
     contents_are ls (map (without_cell c) ls) (sym (length-map ls (without_cell c))) (λ l lt.
     let k : l < length (lists_of s r) - 1 = omega (arith, lt, length-contents (entries_of s) (lists_of s r)) in
     list_in-contents (entries_of s) (lists_of s r) l k
@@ -196,23 +199,23 @@ pub front-owner : (s : List Node) (r : List Header) (from c : ℕ) → IsWhole s
 front-owner s r from c i lt h =
     sym (owner_is s c) ∙ place-owner (owners_of s) from c (subst (λ (n : ℕ). 0 < n) (i.store.placed from c) (front-named s r from c i lt h))
 
-pub in_lists : (s : List Node) (r : List Header) (l : ℕ) → l < length (content_of s r).lists → l < length (lists_of s r) - 1
+pub in_lists : (s : List Node) (r : List Header) (l : ℕ) → l < length (numbered s r) → l < length (lists_of s r) - 1
 in_lists s r l lt = omega (arith, lt, length-contents (entries_of s) (lists_of s r))
 
-pub move-result : (s : List Node) (r : List Header) (from c : ℕ) → IsWhole s r → from < length (content_of s r).lists → (header_at r from).head ≡ Some c
-    → Some (record { 0 = c }) ≡ first_cell (list_in (content_of s r).lists from)
+pub move-result : (s : List Node) (r : List Header) (from c : ℕ) → IsWhole s r → from < length (numbered s r) → (header_at r from).head ≡ Some c
+    → Some (record { 0 = c }) ≡ first_cell (list_in (numbered s r) from)
 move-result s r from c i lt h =
     let k = in_lists s r from lt in
     let f = front-of s r from c i (omega (arith, k)) h in
     sym (ap first_cell (list_in-contents (entries_of s) (lists_of s r) from k) ∙ ap (λ (xs : List ℕ). first_cell (stamped (entries_of s) xs)) f.1)
 
-pub move-lists : (s s2 : List Node) (r r2 : List Header) (from to c : ℕ) → IsWhole s r → from < length (content_of s r).lists → to < length (content_of s r).lists → from ≢ to
+pub move-lists : (s s2 : List Node) (r r2 : List Header) (from to c : ℕ) → IsWhole s r → from < length (numbered s r) → to < length (numbered s r) → from ≢ to
     → (header_at r from).head ≡ Some c → Transferred s r s2 r2 c to
-    → contents (entries_of s2) (lists_of s2 r2) ≡ first_moved (list_in (content_of s r).lists from) (content_of s r).lists from to
+    → contents (entries_of s2) (lists_of s2 r2) ≡ first_moved (list_in (numbered s r) from) (numbered s r) from to
 move-lists s s2 r r2 from to c i lt lt2 differ h t =
     let lists = lists_of s r in
     let es = entries_of s in
-    let C = (content_of s r).lists in
+    let C = numbered s r in
     let k = in_lists s r from lt in
     let k2 = in_lists s r to lt2 in
     let f = front-of s r from c i (omega (arith, k)) h in
@@ -285,7 +288,7 @@ length-entries s = length-map s (λ (u : Node). u.entry)
 -- `set`
 
 pub set-lists : (s : List Node) (r : List Header) (c : ℕ) (t : Node) (e : Entry) → t ≡ node_at s c → IsWhole s r → c < length s
-    → contents (entries_of (set s c (rewritten t e))) (lists_of (set s c (rewritten t e)) r) ≡ map (with_entry c e) (content_of s r).lists
+    → contents (entries_of (set s c (rewritten t e))) (lists_of (set s c (rewritten t e)) r) ≡ map (with_entry c e) (numbered s r)
 set-lists s r c t e is i lt =
     let lists = lists_of s r in
     let es = entries_of s in
@@ -310,9 +313,9 @@ with_entry-none es c e (x ∷ xs) h = elim (eqb_tells x c) [
       ∙ ap (λ (ps : List (ℕ × Entry)). (x, get_or es x no_entry) ∷ ps) (with_entry-none es c e xs (sym (times-other c x xs w.1) ∙ h))
 ]
 
-pub set-unused : (s : List Node) (r : List Header) (c : ℕ) (e : Entry) → IsWhole s r → IsUnused s (length (lists_of s r) - 1) c → (content_of s r).lists ≡ map (with_entry c e) (content_of s r).lists
+pub set-unused : (s : List Node) (r : List Header) (c : ℕ) (e : Entry) → IsWhole s r → IsUnused s (length (lists_of s r) - 1) c → (numbered s r) ≡ map (with_entry c e) (numbered s r)
 set-unused s r c e i u =
-    let ls = (content_of s r).lists in
+    let ls = (numbered s r) in
     contents_are ls (map (with_entry c e) ls) (sym (length-map ls (with_entry c e))) (λ l lt.
     let k : l < length (lists_of s r) - 1 = in_lists s r l lt in
     list_in-contents (entries_of s) (lists_of s r) l k
@@ -330,7 +333,7 @@ none_is (x ∷ xs) e = absurd (cc)
 pub free-in : (s : List Node) (r : List Header) → IsWhole s r → length (lists_of s r) - 1 < length (lists_of s r)
 free-in s r i = omega (arith, i.free, length-lists s r)
 
-pub full-when : (s : List Node) (r : List Header) (k : ℕ) → IsWhole s r → k ≡ length r → (header_at r (k - 1)).head ≡ None → held (content_of s r).lists ≡ (content_of s r).cells
+pub full-when : (s : List Node) (r : List Header) (k : ℕ) → IsWhole s r → k ≡ length r → (header_at r (k - 1)).head ≡ None → held (numbered s r) ≡ length s
 full-when s r k i e h =
     let lists = lists_of s r in
     let f = length lists - 1 in
@@ -338,7 +341,7 @@ full-when s r k i e h =
     let header = i.store.ends.each f (free-in s r i) in
     omega (arith, none_is (list_at lists f) (sym header.head ∙ at), held-is (entries_of s) lists (omega (arith, i.free, length-lists s r)), i.store.total)
 
-pub not-full-when : (s : List Node) (r : List Header) (k c : ℕ) → IsWhole s r → k ≡ length r → (header_at r (k - 1)).head ≡ Some c → held (content_of s r).lists ≡ (content_of s r).cells → ⊥
+pub not-full-when : (s : List Node) (r : List Header) (k c : ℕ) → IsWhole s r → k ≡ length r → (header_at r (k - 1)).head ≡ Some c → held (numbered s r) ≡ length s → ⊥
 not-full-when s r k c i e h full =
     let lists = lists_of s r in
     let f = length lists - 1 in
@@ -381,8 +384,8 @@ content-pushed es lists c to e lt lt2 only =
     ])
 
 pub push-lists : (s s2 : List Node) (r r2 : List Header) (c to : ℕ) (t : Node) (e : Entry) → IsWhole s r → t ≡ node_at s c → c < length s → (node_at s c).owner ≡ length (lists_of s r) - 1
-    → to < length (content_of s r).lists → Transferred (set s c (rewritten t e)) r s2 r2 c to
-    → contents (entries_of s2) (lists_of s2 r2) ≡ set (content_of s r).lists to (list_in (content_of s r).lists to ++ (c, e) ∷ [])
+    → to < length (numbered s r) → Transferred (set s c (rewritten t e)) r s2 r2 c to
+    → contents (entries_of s2) (lists_of s2 r2) ≡ set (numbered s r) to (list_in (numbered s r) to ++ (c, e) ∷ [])
 push-lists s s2 r r2 c to t e i is lt owner lt2 tr =
     let s1 = set s c (rewritten t e) in
     let lists = lists_of s r in
@@ -396,5 +399,5 @@ push-lists s s2 r r2 c to t e i is lt owner lt2 tr =
     ∙ content-pushed es lists c to e (omega (arith, lt, length-entries s)) (in_lists s r to lt2)
     (λ l k. none_at s r lists c l i.store lt (λ q. omega (arith, k, q, owner)))
 
-pub free-unused : (s : List Node) (r : List Header) (c : ℕ) → IsWhole s r → (node_at s c).owner ≡ length (lists_of s r) - 1 → entry_of c (content_of s r).lists ≡ None
+pub free-unused : (s : List Node) (r : List Header) (c : ℕ) → IsWhole s r → (node_at s c).owner ≡ length (lists_of s r) - 1 → entry_of c (numbered s r) ≡ None
 free-unused s r c i owner = entry_of-unused s r (lists_of s r) (entries_of s) c i.store (λ lt. omega (arith, owner))

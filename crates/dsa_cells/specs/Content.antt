@@ -1,98 +1,32 @@
-use Rattle.std.specs.Prelude.{◌≡◌, ℕ, suc, ◌-◌, ◌<◌, ◌≤◌, List, [], ◌∷◌, ◌++◌, length, map, take, filter, not, Option, None, Some, slice_index_or, slice_set, cond, ◌==◌, sum_by, is_some, ltb}
+-- What the lists of a store hold.
+use Rattle.std.specs.Prelude.{ℕ, List, map, slice_index_or}
 use Rattle.dsa_store.specs.declared.entry.Entry.{Entry}
-use Rattle.dsa_store.specs.declared.entry.Cell.{Cell}
+use Rattle.dsa_store.specs.Content.{Slot, Content}
 use Rattle.dsa_cells.specs.declared.links.Node.{Node}
 use Rattle.dsa_cells.specs.declared.links.Header.{Header}
-use Rattle.dsa_cells.specs.Links.{no_entry, entries_of, node_at}
-use Rattle.dsa_cells.specs.Partition.{IsStore, lists_of, times}
+use Rattle.dsa_cells.specs.Array.{no_entry, entries_of}
+use Rattle.dsa_cells.specs.Partition.{lists_of, in_use}
 
--- what a store holds: the number of its cells, and each list's cells with their entries
-pub record Content : Type 0 where
-  pub cells : ℕ
-  pub lists : List (List (ℕ × Entry))
-
--- these cells, each with its entry
+-- these cells, each by its number with its entry
 abbrev pub stamped : List Entry → List ℕ → List (ℕ × Entry)
 stamped entries cells = map (λ cell. (cell, slice_index_or entries cell no_entry)) cells
 
--- the lists without the last one, which is the list of the free cells, each cell with its entry
+-- the lists but that of the free cells, each cell by its number with its entry
 abbrev pub contents : List Entry → List (List ℕ) → List (List (ℕ × Entry))
-contents entries lists = map (stamped entries) (take (length lists - 1) lists)
+contents entries lists = map (stamped entries) (in_use lists)
 
-abbrev pub content_of : List Node → List Header → Content
-content_of nodes headers = record { cells = length nodes; lists = contents (entries_of nodes) (lists_of nodes headers) }
+-- the same of the lists that the array stands for
+abbrev pub numbered : List Node → List Header → List (List (ℕ × Entry))
+numbered nodes headers = contents (entries_of nodes) (lists_of nodes headers)
 
--- the array is a partition into lists, the free one last, and its numbers fit
-pub record IsWhole (nodes : List Node) (headers : List Header) : Type 0 where
-  pub store : IsStore nodes headers (lists_of nodes headers)
-  pub free : 0 < length headers
-  pub few_cells : length nodes < 4294967296
-  pub few_lists : length headers ≤ 65536
+-- a cell by its number with its entry, as a slot
+abbrev pub paired : ℕ × Entry → Slot
+paired p = (record { 0 = p.0 }, p.1)
 
--- one list of a content
-abbrev pub list_in : List (List (ℕ × Entry)) → ℕ → List (ℕ × Entry)
-list_in lists list = slice_index_or lists list []
+-- lists of those
+abbrev pub shown : List (List (ℕ × Entry)) → Content
+shown lists = map (map paired) lists
 
--- how many cells are in use
-abbrev pub held : List (List (ℕ × Entry)) → ℕ
-held lists = sum_by length lists
-
-abbrev pub first_cell : List (ℕ × Entry) → Option Cell
-first_cell [] = None
-first_cell (p ∷ ps) = Some (record { 0 = p.0 })
-
--- the first of two answers
-abbrev pub either : {X : Type 0} → Option X → Option X → Option X
-either None other = other
-either (Some x) other = Some x
-
--- the answer of the first list that has one
-abbrev pub first_some : {X : Type 0} → (List (ℕ × Entry) → Option X) → List (List (ℕ × Entry)) → Option X
-first_some f [] = None
-first_some f (ps ∷ lists) = either (f ps) (first_some f lists)
-
-abbrev pub entry_in : ℕ → List (ℕ × Entry) → Option Entry
-entry_in cell [] = None
-entry_in cell (p ∷ ps) = cond (p.0 == cell) (Some p.1) (entry_in cell ps)
-
--- the entry of this cell, where a list names it
-abbrev pub entry_of : ℕ → List (List (ℕ × Entry)) → Option Entry
-entry_of cell lists = first_some (entry_in cell) lists
-
-abbrev pub after_in : ℕ → List (ℕ × Entry) → Option Cell
-after_in cell [] = None
-after_in cell (p ∷ ps) = cond (p.0 == cell) (first_cell ps) (after_in cell ps)
-
--- the cell behind this one in its list
-abbrev pub cell_after : ℕ → List (List (ℕ × Entry)) → Option Cell
-cell_after cell lists = first_some (after_in cell) lists
-
-abbrev pub without_cell : ℕ → List (ℕ × Entry) → List (ℕ × Entry)
-without_cell cell ps = filter (λ p. not (p.0 == cell)) ps
-
-abbrev pub with_entry : ℕ → Entry → List (ℕ × Entry) → List (ℕ × Entry)
-with_entry cell entry ps = map (λ p. cond (p.0 == cell) (cell, entry) p) ps
-
--- the number of the first list that names this cell
-abbrev pub number_of : ℕ → List (List (ℕ × Entry)) → ℕ
-number_of cell [] = 0
-number_of cell (ps ∷ lists) = cond (is_some (entry_in cell ps)) 0 (suc (number_of cell lists))
-
--- the lists after the first pair of the list `from`, whose pairs are these, went to the end of `to`
-abbrev pub first_moved : List (ℕ × Entry) → List (List (ℕ × Entry)) → ℕ → ℕ → List (List (ℕ × Entry))
-first_moved [] lists from to = lists
-first_moved (p ∷ ps) lists from to = slice_set (slice_set lists from ps) to (list_in lists to ++ p ∷ [])
-
--- none of the first n lists names the cell
-abbrev pub IsUnused : List Node → ℕ → ℕ → Type 0
-IsUnused nodes n cell = cell < length nodes → n ≤ (node_at nodes cell).owner
-
--- this is the cell, and one of the first n lists names it
-pub record IsUsed (nodes : List Node) (n cell : ℕ) (node : Node) : Type 0 where
-  pub inside : cell < length nodes
-  pub listed : (node_at nodes cell).owner < n
-  pub same : node ≡ node_at nodes cell
-
--- the lists, the free one included, name each cell of the array once and nothing else
-abbrev pub NameEachOnce : List Node → List (List ℕ) → Type 0
-NameEachOnce nodes lists = (cell : ℕ) → sum_by (times cell) lists ≡ cond (ltb cell (length nodes)) 1 0
+-- what the lists in use hold
+abbrev pub content_at : List Node → List Header → Content
+content_at nodes headers = shown (numbered nodes headers)

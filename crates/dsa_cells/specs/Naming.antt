@@ -1,5 +1,5 @@
 -- What callers see of a store is sound.
-use Rattle.std.proofs.Common.{◌≡◌, ℕ, suc, ◌-◌, ◌≤◌, List, [], ◌∷◌, length, map, take, get_or, cond, ltb, sum_by, refl, ap, arith}
+use Rattle.std.proofs.Common.{◌≡◌, ℕ, suc, ◌-◌, List, [], ◌∷◌, length, map, get_or, sum_by, refl, ap, arith}
 use Rattle.std.proofs.lemmas.Bool.Decides.{nat_tests}
 use Rattle.std.proofs.lemmas.List.Sums.{sum_by-cons, sum_by-take-le}
 use Rattle.std.proofs.Math.ListN.{length-map}
@@ -10,13 +10,11 @@ use Rattle.dsa_store.proofs.Places.{count-nil, count-cons}
 use Rattle.dsa_store.proofs.Lists.{uses-nil, uses-cons, held-nil, held-cons}
 use Rattle.dsa_cells.specs.declared.links.Node.{Node}
 use Rattle.dsa_cells.specs.declared.links.Header.{Header}
-use Rattle.dsa_cells.specs.Links.{no_entry, entries_of}
-use Rattle.dsa_cells.specs.Partition.{times, lists_of}
-use Rattle.dsa_cells.specs.Content.{stamped, IsWhole}
-use Rattle.dsa_cells.specs.Owners.{names_each_once}
-use Rattle.dsa_cells.specs.Seen.{paired, shown, content_at}
-
--- the same of what callers see
+use Rattle.dsa_cells.specs.Array.{no_entry, entries_of}
+use Rattle.dsa_cells.specs.Partition.{times, lists_of, in_use}
+use Rattle.dsa_cells.specs.Invariant.{IsWhole}
+use Rattle.dsa_cells.specs.Content.{stamped, paired, shown, content_at}
+use Rattle.dsa_cells.specs.Owners.{is_partition, places-le}
 
 count-stamped : (es : List Entry) (cell : Cell) (xs : List ℕ) → count cell (map paired (stamped es xs)) ≡ times cell.0 xs
 count-stamped es cell [] = count-nil cell
@@ -42,16 +40,11 @@ held-stamped es (xs ∷ lists) =
 pub IsSound-from_whole : (s : List Node) (r : List Header) → IsWhole s r → IsSound (length s) (content_at s r)
 IsSound-from_whole s r i =
     let lists = lists_of s r in
-    let seen = take (length lists - 1) lists in
+    let seen = in_use lists in
     let es = entries_of s in
+    let parts = is_partition s r lists i.store in
     record {
-      once = λ cell. omega (arith, uses-stamped es cell seen, sum_by-take-le (times cell.0) lists (length lists - 1), at_most cell.0 (length s), names_each_once s r lists i.store cell.0);
-      below = λ cell h. omega (arith, uses-stamped es cell seen, sum_by-take-le (times cell.0) lists (length lists - 1), none cell.0 (length s) h, names_each_once s r lists i.store cell.0);
+      once = λ cell. omega (arith, uses-stamped es cell seen, sum_by-take-le (times cell.0) lists (length lists - 1), places-le (length s) lists cell.0 parts);
+      below = λ cell past. omega (arith, uses-stamped es cell seen, sum_by-take-le (times cell.0) lists (length lists - 1), parts.only cell.0 past);
       room = omega (arith, held-stamped es seen, sum_by-take-le length lists (length lists - 1), i.store.total);
     }
-  where
-    at_most : (c n : ℕ) → cond {A = ℕ} (ltb c n) 1 0 ≤ 1
-    at_most c n = grind (arith, nat_tests)
-
-    none : (c n : ℕ) → n ≤ c → cond {A = ℕ} (ltb c n) 1 0 ≡ 0
-    none c n h = grind (arith, nat_tests)

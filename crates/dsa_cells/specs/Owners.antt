@@ -1,14 +1,14 @@
 -- Each cell of the array stands once, in the list whose number it bears.
-use Rattle.std.proofs.Common.{◌≡◌, ℕ, zero, suc, ◌<◌, ◌≤◌, ◌≢◌, ◌⊎◌, inl, inr, List, [], ◌∷◌, length, get_or, cond, ltb, sum_by, refl, sym, ◌∙◌, subst, arith}
+use Rattle.std.proofs.Common.{◌≡◌, ℕ, zero, suc, ◌<◌, ◌≤◌, ◌≢◌, ◌⊎◌, inl, inr, List, [], ◌∷◌, length, get_or, sum_by, refl, ◌∙◌, subst, arith}
 use Rattle.std.proofs.lemmas.Bool.Decides.{leb_tells, eqb_tells, nat_tests}
 use Rattle.std.proofs.lemmas.List.{get_or_past}
 use Rattle.std.proofs.lemmas.List.Sums.{sum_by-cons}
 use Rattle.std.proofs.Math.ListN.{get_or-map, length-map}
 use Rattle.dsa_cells.specs.declared.links.Node.{Node}
 use Rattle.dsa_cells.specs.declared.links.Header.{Header}
-use Rattle.dsa_cells.specs.Links.{node_at, no_node, owners_of}
-use Rattle.dsa_cells.specs.Partition.{times, place, IsStore, list_at}
-use Rattle.dsa_cells.specs.Content.{NameEachOnce}
+use Rattle.dsa_cells.specs.Array.{node_at, no_node, owners_of}
+use Rattle.dsa_cells.specs.Partition.{times, places, list_at, IsPartition}
+use Rattle.dsa_cells.specs.Invariant.{place, IsStore}
 
 pub same_or : (a b : ℕ) → (a ≡ b) ⊎ (a ≢ b)
 same_or a b = elim (eqb_tells a b) [ inl w ↦ inl w.1 | inr w ↦ inr w.1 ]
@@ -65,17 +65,13 @@ sum-one c (xs ∷ lists) zero lt h = omega (arith, sum_by-cons (times c) xs list
 sum-one c (xs ∷ lists) (suc l) lt h =
     omega (arith, sum_by-cons (times c) xs lists, h 0 (λ e. omega (arith, e)), sum-one c lists l (omega arith) (λ m ne. h (suc m) (λ e. ne (omega (arith, e)))))
 
-pub names_each_once : (s : List Node) (r : List Header) (lists : List (List ℕ)) → IsStore s r lists → NameEachOnce s lists
-names_each_once s r lists st c = elim (leb_tells (length s) c) [
-  | inl w ↦ sum-none c lists (λ m. none_past s r lists c m st w.1) ∙ sym (outside c (length s) w.1)
-  | inr w ↦
-      let one = stands_in s r lists c st w.1 in
-      sum-one c lists (node_at s c).owner (list_at-in lists (node_at s c).owner c (omega (arith, one))) (λ m ne. none_at s r lists c m st w.1 ne)
-      ∙ one ∙ sym (within c (length s) w.1)
-]
-  where
-    outside : (c n : ℕ) → n ≤ c → cond {A = ℕ} (ltb c n) 1 0 ≡ 0
-    outside c n h = grind (arith, nat_tests)
+pub is_partition : (s : List Node) (r : List Header) (lists : List (List ℕ)) → IsStore s r lists → IsPartition (length s) lists
+is_partition s r lists st = record {
+  once = λ c lt.
+      let one = stands_in s r lists c st lt in
+      sum-one c lists (node_at s c).owner (list_at-in lists (node_at s c).owner c (omega (arith, one))) (λ m ne. none_at s r lists c m st lt ne) ∙ one;
+  only = λ c past. sum-none c lists (λ m. none_past s r lists c m st past);
+}
 
-    within : (c n : ℕ) → c < n → cond {A = ℕ} (ltb c n) 1 0 ≡ 1
-    within c n h = grind (arith, nat_tests)
+pub places-le : (n : ℕ) (lists : List (List ℕ)) (c : ℕ) → IsPartition n lists → places lists c ≤ 1
+places-le n lists c p = elim (leb_tells n c) [ inl w ↦ omega (arith, p.only c w.1) | inr w ↦ omega (arith, p.once c w.1) ]

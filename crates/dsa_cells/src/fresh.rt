@@ -1,12 +1,12 @@
-//! The array of a new store: every cell is free.
+//! The array and the headers of a new store: every cell is free.
 
 ghost use Rattle.std.specs.Prelude.{◌≡◌, ℕ, ◌+◌, ◌-◌, ◌<◌, ◌≤◌, ◌++◌, ◌∷◌, [], length, replicate, IfOk};
+ghost use Rattle.dsa_cells.specs.Array.{no_header};
 ghost use Rattle.dsa_cells.specs.Fresh.{AreFresh, fresh_node, fresh_header};
-ghost use Rattle.dsa_cells.specs.Partition.{no_header};
 
 use crate::links::{Header, Node};
 use dsa_desc::Descriptor;
-use dsa_store::entry::Entry;
+use dsa_store::Entry;
 use std::alloc::{AllocError, Global};
 
 /// What a cell holds before its first use.
@@ -23,13 +23,13 @@ const NO_ENTRY: Entry = Entry {
     running: false,
 };
 
-/// The cells of a new store, linked one behind the other in the list of this number.
+/// The nodes of that many cells, linked one behind the other in the list of that number.
 pub fn fresh_nodes(alloc: Global, cells: u32, list: u16) -> Result<Vec<Node>, AllocError>
     ensures { IfOk result (λ v. AreFresh v.items cells list cells) }
 {
     let mut nodes = Vec::with_capacity(alloc, cells as usize)?;
     for cell in 0..cells {
-        nodes.push(Node {
+        nodes.push_reserved(Node {
             entry: NO_ENTRY,
             next: if cell < cells - 1 {
                 Some(cell + 1)
@@ -38,27 +38,27 @@ pub fn fresh_nodes(alloc: Global, cells: u32, list: u16) -> Result<Vec<Node>, Al
             },
             previous: if cell > 0 { Some(cell - 1) } else { None },
             owner: list,
-        })?;
+        });
     }
     Ok(nodes)
 }
 
-/// The ends of this many empty lists, and last those of the list of all cells.
+/// The headers of that many empty lists, and last that of the list of all cells.
 pub fn fresh_headers(alloc: Global, cells: u32, lists: u16) -> Result<Vec<Header>, AllocError>
     ensures { IfOk result (λ v. v.items ≡ replicate lists no_header ++ fresh_header cells ∷ []) }
 {
     let mut headers = Vec::with_capacity(alloc, lists as usize + 1)?;
-    for _list in 0..lists {
-        headers.push(Header {
+    for _ in 0..lists {
+        headers.push_reserved(Header {
             head: None,
             tail: None,
             count: 0,
-        })?;
+        });
     }
-    headers.push(Header {
+    headers.push_reserved(Header {
         head: if cells > 0 { Some(0) } else { None },
         tail: if cells > 0 { Some(cells - 1) } else { None },
         count: cells,
-    })?;
+    });
     Ok(headers)
 }

@@ -1,10 +1,12 @@
 //! The cells, and the few writes that move a cell from one list to another.
 
 ghost use Rattle.std.specs.Prelude.{◌≡◌, ℕ, ◌+◌, ◌-◌, ◌^◌, ◌<◌, ◌≤◌, ◌≢◌, length, Option};
-ghost use Rattle.dsa_cells.specs.Links.{node_at, without, with_last, detached, attached, entries_of, InRange};
-ghost use Rattle.dsa_cells.specs.Partition.{IsStore, AreInside, lists_of, moved, chain, list_at, marked, joined, header_joined, given_back};
+ghost use Rattle.dsa_cells.specs.Array.{node_at, entries_of};
+ghost use Rattle.dsa_cells.specs.Partition.{lists_of, cells_of, list_at};
+ghost use Rattle.dsa_cells.specs.Writes.{without, with_last, detached, attached, InRange, AreInside, moved, marked, joined, header_joined, given_back};
+ghost use Rattle.dsa_cells.specs.Invariant.{IsStore};
 
-use dsa_store::entry::Entry;
+use dsa_store::Entry;
 
 /// One cell: its entry, its neighbours and the number of the list that it stands in.
 #[derive(Clone, Copy)]
@@ -84,8 +86,8 @@ pub fn transfer(nodes: &mut [Node], headers: &mut [Header], cell: u32, to: u16)
 
 /// Gives each cell of a list the number of another.
 fn mark(nodes: &mut [Node], header: Header, owner: u16)
-    requires { AreInside nodes.old (chain nodes.old header) }
-    ensures { nodes.new ≡ marked nodes.old (chain nodes.old header) owner }
+    requires { AreInside nodes.old (cells_of nodes.old header) }
+    ensures { nodes.new ≡ marked nodes.old (cells_of nodes.old header) owner }
 {
     let mut at = header.head;
     for _step in 0..header.count {

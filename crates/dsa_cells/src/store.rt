@@ -1,18 +1,23 @@
 //! The store: lists over one array of linked cells.
 
 ghost use Rattle.std.specs.Prelude.{◌≡◌, ℕ, List, [], length, IfOk, MatchOption, replicate};
-ghost use Rattle.dsa_cells.specs.Content.{IsWhole, IsUnused, IsUsed};
-ghost use Rattle.dsa_cells.specs.Whole.{IsWhole-prop};
-ghost use Rattle.dsa_cells.specs.Seen.{content_at};
+ghost use Rattle.dsa_cells.specs.Partition.{AreHeaders, IsPartition};
+ghost use Rattle.dsa_cells.specs.Invariant.{IsWhole, IsWhole-prop, IsUnused, IsUsed};
+ghost use Rattle.dsa_cells.specs.Content.{content_at};
 ghost use Rattle.dsa_cells.specs.Naming.{IsSound-from_whole};
 
 use crate::fresh::{fresh_headers, fresh_nodes};
 use crate::links::{Header, Node, splice, transfer};
-use dsa_store::entry::{Cell, Entry, ListId};
-use dsa_store::store::EntryStore;
+use dsa_store::{Cell, Entry, EntryStore, ListId};
 use std::alloc::{AllocError, Global};
 
-/// A store of entries in lists. The last header is that of the free cells.
+/// Lists over one array of cells, each linked to the cell before it and the cell behind it in its list.
+///
+/// A header for each list has its first cell, its last cell and their number.
+/// The free cells are one more list, the last one: a push takes its front, and a cell that is freed becomes its end.
+/// Each cell bears the number of its list, so that finding a cell is one look at the array.
+/// `push_back`, `move_front` and `unlink` write a fixed number of links, however many cells are in use.
+/// `give_back` joins the whole list to the free one by its ends, and marks each of its cells as free.
 #[derive(Drop)]
 pub struct LinkedStore {
     nodes: Vec<Node>,
@@ -21,7 +26,11 @@ pub struct LinkedStore {
 }
 
 impl LinkedStore {
-    /// A store of this many empty lists and free cells.
+    ghost use Rattle.dsa_cells.specs.Store.{array_of, headers_of, all_lists, slots_in_use};
+
+    /// A store with every list empty and every cell free.
+    /// Takes room for `cells` nodes and for `lists` + 1 headers, and no call takes memory after it.
+    /// An error means that this memory was refused, and what had been taken is free again.
     pub fn new(alloc: Global, lists: u16, cells: u32) -> Result<Self, AllocError>
         ensures empty { IfOk result (λ s. ⟦<LinkedStore as EntryStore>⟧.content s ≡ replicate lists []) }
         ensures cells { IfOk result (λ s. ⟦<LinkedStore as EntryStore>⟧.cells s ≡ cells) }
@@ -30,6 +39,15 @@ impl LinkedStore {
         let headers = fresh_headers(alloc, cells, lists)?;
         Ok(LinkedStore { nodes, headers })
     }
+
+    /// What every store of linked cells keeps, for a caller to name.
+    /// The links agree with the lists that they stand for, each cell stands in exactly one of these lists, that of the free cells
+    /// included, and the store holds the lists but that one. The call does nothing.
+    pub fn each_cell_stands_once(&self)
+        ensures links { AreHeaders (array_of self.now) (headers_of self.now) (all_lists self.now) }
+        ensures once { IsPartition (⟦<LinkedStore as EntryStore>⟧.cells self.now) (all_lists self.now) }
+        ensures content { ⟦<LinkedStore as EntryStore>⟧.content self.now ≡ slots_in_use self.now }
+    {}
 }
 
 impl EntryStore for LinkedStore {

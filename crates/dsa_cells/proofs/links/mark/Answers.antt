@@ -1,7 +1,8 @@
 use Rattle.std.proofs.Common.{◌≡◌, ℕ, ◌+◌, ◌-◌, suc, Option, None, Some, set, List, ◌∙◌, subst₂, sym, arith}
 use Rattle.dsa_cells.specs.declared.links.Node.{Node}
-use Rattle.dsa_cells.specs.Partition.{walk, marked, AreInside}
-use Rattle.dsa_cells.specs.Links.{node_at}
+use Rattle.dsa_cells.specs.Array.{node_at}
+use Rattle.dsa_cells.specs.Partition.{walk}
+use Rattle.dsa_cells.specs.Writes.{marked, AreInside}
 use Rattle.dsa_cells.proofs.Chain.{times-head}
 use Rattle.dsa_cells.proofs.Marking.{renumbered, mark-some, mark-none, one_left}
 use Rattle.dsa_cells.proofs.links.mark.Goals as goal

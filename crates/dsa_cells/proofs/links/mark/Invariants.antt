@@ -1,5 +1,6 @@
 use Rattle.std.proofs.Common.{◌≡◌, ◌-◌}
-use Rattle.dsa_cells.specs.Partition.{marked, walk, AreInside}
+use Rattle.dsa_cells.specs.Partition.{walk}
+use Rattle.dsa_cells.specs.Writes.{marked, AreInside}
 use Rattle.dsa_cells.proofs.links.mark.Given as goal
 
 abbrev pub invariant-loop-step : goal.invariant-loop-step

@@ -1,5 +1,5 @@
 use Rattle.std.proofs.Common.{arith, ap, ◌∙◌}
-use Rattle.dsa_cells.specs.Seen.{shown}
+use Rattle.dsa_cells.specs.Content.{shown}
 use Rattle.dsa_cells.proofs.Opening.{sound-fresh, content-fresh}
 use Rattle.dsa_cells.proofs.Bridge.{shown-empty}
 use Rattle.dsa_cells.proofs.store.LinkedStore.new.Goals as goal

@@ -1,7 +1,7 @@
 use Rattle.std.proofs.Common.{◌≡◌, rules, ap, ◌∙◌}
 use Rattle.std.proofs.lemmas.List.{get_or_read}
 use Rattle.dsa_cells.specs.declared.links.Header.{Header}
-use Rattle.dsa_cells.specs.Partition.{header_at, no_header}
+use Rattle.dsa_cells.specs.Array.{header_at, no_header}
 use Rattle.dsa_cells.proofs.Contents.{cell_of}
 use Rattle.dsa_cells.proofs.Calls.{in_headers, front-is}
 use Rattle.dsa_cells.proofs.store.LinkedStoreEntryStore.front.Goals as goal

@@ -1,6 +1,5 @@
 use Rattle.std.proofs.Common.{◌≡◌, ◌-◌, length, ap, ◌∙◌, arith}
-use Rattle.dsa_cells.specs.Content.{content_of}
-use Rattle.dsa_cells.specs.Seen.{shown}
+use Rattle.dsa_cells.specs.Content.{numbered, shown}
 use Rattle.dsa_cells.proofs.Reading.{seen}
 use Rattle.dsa_cells.proofs.Writing.{whole}
 use Rattle.dsa_cells.proofs.Splicing.{back-lists}
@@ -12,7 +11,7 @@ pub returns-clause-after : goal.returns-clause-after
 returns-clause-after c =
     let s = c.args.self.now.nodes.items in
     let r = c.args.self.now.headers.items in
-    let C = (content_of s r).lists in
+    let C = numbered s r in
     let k : c.len-free.result ≡ length r = omega (arith, c.len-free.ensures, c.args.self.now.headers.ok.0) in
     let w1 = whole c.splice.new.nodes s c.args.self.now.nodes.len (omega (arith, c.args.self.now.nodes.ok.0)) (omega (arith, c.splice.auto.nodes, ap length c.deref_mut.ensures.value)) in
     let w2 = whole c.splice.new.headers r c.args.self.now.headers.len (omega (arith, c.args.self.now.headers.ok.0)) (omega (arith, c.splice.auto.headers, ap length c.deref_mut-2.ensures.value)) in

@@ -1,9 +1,8 @@
 use Rattle.std.proofs.Common.{◌≡◌, length, Some, None, ap, sym, ◌∙◌, arith}
 use Rattle.std.proofs.lemmas.List.{get_or_read}
 use Rattle.dsa_cells.specs.declared.links.Header.{Header}
-use Rattle.dsa_cells.specs.Partition.{header_at, no_header}
-use Rattle.dsa_cells.specs.Content.{content_of}
-use Rattle.dsa_cells.specs.Seen.{shown}
+use Rattle.dsa_cells.specs.Array.{header_at, no_header}
+use Rattle.dsa_cells.specs.Content.{numbered, shown}
 use Rattle.dsa_cells.proofs.Contents.{cell_of}
 use Rattle.dsa_cells.proofs.Writing.{whole, Transferred-at, in_lists, front-inside, move-result, move-lists}
 use Rattle.dsa_cells.proofs.Bridge.{first-shown, moved-shown}
@@ -39,7 +38,7 @@ pub returns-clause-value : goal.returns-clause-value
 returns-clause-value c =
     let s = c.args.self.now.nodes.items in
     let r = c.args.self.now.headers.items in
-    let C = (content_of s r).lists in
+    let C = numbered s r in
     let read : c.index.result.now ≡ header_at r c.args.from.0 = get_or_read r _ _ (in_headers s r c.args.from.0 c.requires.from) c.index.ensures no_header in
     let from_in = listed s r c.args.from.0 c.requires.from in
     let head : (header_at r c.args.from.0).head ≡ Some c.in_ok-cell.cell = ap (λ (t : Header). t.head) (sym read) ∙ c.in_ok-cell.was in
@@ -49,7 +48,7 @@ pub returns-clause-after : goal.returns-clause-after
 returns-clause-after c =
     let s = c.args.self.now.nodes.items in
     let r = c.args.self.now.headers.items in
-    let C = (content_of s r).lists in
+    let C = numbered s r in
     let read : c.index.result.now ≡ header_at r c.args.from.0 = get_or_read r _ _ (in_headers s r c.args.from.0 c.requires.from) c.index.ensures no_header in
     let from_in = listed s r c.args.from.0 c.requires.from in
     let head : (header_at r c.args.from.0).head ≡ Some c.in_ok-cell.cell = ap (λ (t : Header). t.head) (sym read) ∙ c.in_ok-cell.was in

@@ -1,5 +1,5 @@
 use Rattle.std.proofs.Common.{◌≡◌, length, rules, sym, ◌∙◌, arith}
-use Rattle.dsa_cells.specs.Content.{content_of}
+use Rattle.dsa_cells.specs.Content.{numbered}
 use Rattle.dsa_cells.specs.Naming.{IsSound-from_whole}
 use Rattle.dsa_cells.proofs.Contents.{cell_of}
 use Rattle.dsa_cells.proofs.Reading.{next-used, next-unused}
@@ -10,7 +10,7 @@ pub returns : goal.returns
 returns c =
     let s = c.args.self.now.nodes.items in
     let r = c.args.self.now.headers.items in
-    let C = (content_of s r).lists in
+    let C = numbered s r in
     let k : c.len.result ≡ length r = omega (arith, c.len.ensures, c.args.self.now.headers.ok.0) in
     let e : c.map.result ≡ cell_of c.in_ok-node.node.next = search rules in
     e ∙ next-used s c.deref.result.now r c.len.result c.args.cell.0 c.in_ok-node.node c.args.self.now.whole c.deref.ensures.value k c.in_ok-node.ensures
@@ -20,7 +20,7 @@ pub returns-in_err-node : goal.returns-in_err-node
 returns-in_err-node c =
     let s = c.args.self.now.nodes.items in
     let r = c.args.self.now.headers.items in
-    let C = (content_of s r).lists in
+    let C = numbered s r in
     let k : c.len.result ≡ length r = omega (arith, c.len.ensures, c.args.self.now.headers.ok.0) in
     c.from_residual.ensures
     ∙ next-unused s c.deref.result.now r c.len.result c.args.cell.0 c.args.self.now.whole c.deref.ensures.value k c.in_err-node.ensures

@@ -3,10 +3,10 @@ use Rattle.std.proofs.lemmas.List.{get_or_read}
 use Rattle.dsa_store.specs.declared.entry.Cell.{Cell}
 use Rattle.dsa_cells.specs.declared.links.Header.{Header}
 use Rattle.dsa_cells.specs.declared.links.Node.{Node}
-use Rattle.dsa_cells.specs.Links.{node_at, no_node}
-use Rattle.dsa_cells.specs.Partition.{header_at, no_header, lists_of, IsStore}
-use Rattle.dsa_cells.specs.Content.{content_of}
-use Rattle.dsa_cells.specs.Seen.{shown}
+use Rattle.dsa_cells.specs.Array.{node_at, no_node, header_at, no_header}
+use Rattle.dsa_cells.specs.Partition.{lists_of}
+use Rattle.dsa_cells.specs.Invariant.{IsStore}
+use Rattle.dsa_cells.specs.Content.{numbered, shown}
 use Rattle.dsa_cells.proofs.Reading.{seen}
 use Rattle.dsa_cells.proofs.Writing.{whole, Transferred-at, free-in, front-inside, front-owner, full-when, not-full-when, rewritten, sound-entry, push-lists, free-unused}
 use Rattle.dsa_cells.proofs.Bridge.{held-shown, uses-none, pushed-shown}
@@ -17,7 +17,7 @@ pub returns-in_err-cell-clause-full : goal.returns-in_err-cell-clause-full
 returns-in_err-cell-clause-full c =
     let s = c.args.self.now.nodes.items in
     let r = c.args.self.now.headers.items in
-    let C = (content_of s r).lists in
+    let C = numbered s r in
     let k : c.len-free.result ≡ length r = omega (arith, c.len-free.ensures, c.args.self.now.headers.ok.0) in
     let read : c.index.result.now ≡ header_at r (c.len-free.result - 1) = get_or_read r _ _ (omega (arith, k, c.args.self.now.whole.free)) c.index.ensures no_header in
     let head : (header_at r (c.len-free.result - 1)).head ≡ None = ap (λ (t : Header). t.head) (sym read) ∙ c.in_err-cell.was in
@@ -66,7 +66,7 @@ pub returns-clause-full : goal.returns-clause-full
 returns-clause-full c =
     let s = c.args.self.now.nodes.items in
     let r = c.args.self.now.headers.items in
-    let C = (content_of s r).lists in
+    let C = numbered s r in
     let k : c.len-free.result ≡ length r = omega (arith, c.len-free.ensures, c.args.self.now.headers.ok.0) in
     let read : c.index.result.now ≡ header_at r (c.len-free.result - 1) = get_or_read r _ _ (omega (arith, k, c.args.self.now.whole.free)) c.index.ensures no_header in
     let f = length (lists_of s r) - 1 in
@@ -89,7 +89,7 @@ pub returns-clause-unused : goal.returns-clause-unused
 returns-clause-unused c =
     let s = c.args.self.now.nodes.items in
     let r = c.args.self.now.headers.items in
-    let C = (content_of s r).lists in
+    let C = numbered s r in
     let k : c.len-free.result ≡ length r = omega (arith, c.len-free.ensures, c.args.self.now.headers.ok.0) in
     let read : c.index.result.now ≡ header_at r (c.len-free.result - 1) = get_or_read r _ _ (omega (arith, k, c.args.self.now.whole.free)) c.index.ensures no_header in
     let f = length (lists_of s r) - 1 in
@@ -104,7 +104,7 @@ pub returns-clause-some : goal.returns-clause-some
 returns-clause-some c =
     let s = c.args.self.now.nodes.items in
     let r = c.args.self.now.headers.items in
-    let C = (content_of s r).lists in
+    let C = numbered s r in
     let k : c.len-free.result ≡ length r = omega (arith, c.len-free.ensures, c.args.self.now.headers.ok.0) in
     let read : c.index.result.now ≡ header_at r (c.len-free.result - 1) = get_or_read r _ _ (omega (arith, k, c.args.self.now.whole.free)) c.index.ensures no_header in
     let f = length (lists_of s r) - 1 in

@@ -1,7 +1,7 @@
 use Rattle.std.proofs.Common.{◌≡◌, ℕ, ◌-◌, List, length, Some, ap, option_map, subst₂, sym, ◌∙◌, arith}
 use Rattle.dsa_cells.specs.declared.links.Node.{Node}
-use Rattle.dsa_cells.specs.Content.{content_of, IsUnused}
-use Rattle.dsa_cells.specs.Seen.{shown, content_at}
+use Rattle.dsa_cells.specs.Invariant.{IsUnused}
+use Rattle.dsa_cells.specs.Content.{numbered, shown, content_at}
 use Rattle.dsa_store.specs.declared.entry.Entry.{Entry}
 use Rattle.dsa_store.specs.declared.entry.ListId.{ListId}
 use Rattle.dsa_store.proofs.Finding.{list_of-none}
@@ -14,7 +14,7 @@ pub returns-clause-list : goal.returns-clause-list
 returns-clause-list c =
     let s = c.args.self.now.nodes.items in
     let r = c.args.self.now.headers.items in
-    let C = (content_of s r).lists in
+    let C = numbered s r in
     let k : c.len-free.result ≡ length r = omega (arith, c.len-free.ensures, c.args.self.now.headers.ok.0) in
     let u = used-at s c.deref.result.now r c.len-free.result c.args.cell.0 c.in_ok-node.node c.deref.ensures.value k c.in_ok-node.ensures in
     let is = unlink-result s r c.args.cell.0 c.in_ok-node.node c.args.self.now.whole u in
@@ -24,7 +24,7 @@ pub returns-clause-entry : goal.returns-clause-entry
 returns-clause-entry c =
     let s = c.args.self.now.nodes.items in
     let r = c.args.self.now.headers.items in
-    let C = (content_of s r).lists in
+    let C = numbered s r in
     let k : c.len-free.result ≡ length r = omega (arith, c.len-free.ensures, c.args.self.now.headers.ok.0) in
     let u = used-at s c.deref.result.now r c.len-free.result c.args.cell.0 c.in_ok-node.node c.deref.ensures.value k c.in_ok-node.ensures in
     let is = unlink-result s r c.args.cell.0 c.in_ok-node.node c.args.self.now.whole u in
@@ -34,7 +34,7 @@ pub returns-clause-after : goal.returns-clause-after
 returns-clause-after c =
     let s = c.args.self.now.nodes.items in
     let r = c.args.self.now.headers.items in
-    let C = (content_of s r).lists in
+    let C = numbered s r in
     let k : c.len-free.result ≡ length r = omega (arith, c.len-free.ensures, c.args.self.now.headers.ok.0) in
     let u = used-at s c.deref.result.now r c.len-free.result c.args.cell.0 c.in_ok-node.node c.deref.ensures.value k c.in_ok-node.ensures in
     let t = Transferred-at s c.deref_mut.result.now c.transfer.new.nodes r c.deref_mut-2.result.now c.transfer.new.headers c.args.cell.0 (c.len-free.result - 1)
@@ -49,7 +49,7 @@ pub returns-in_err-node-clause-list : goal.returns-in_err-node-clause-list
 returns-in_err-node-clause-list c =
     let s = c.args.self.now.nodes.items in
     let r = c.args.self.now.headers.items in
-    let C = (content_of s r).lists in
+    let C = numbered s r in
     let k : c.len-free.result ≡ length r = omega (arith, c.len-free.ensures, c.args.self.now.headers.ok.0) in
     let none = get-unused s c.deref.result.now r c.len-free.result c.args.cell.0 c.args.self.now.whole c.deref.ensures.value k c.in_err-node.ensures in
     ap (option_map (λ (p : ListId × Entry). p.0.0)) c.from_residual.ensures
@@ -59,7 +59,7 @@ pub returns-in_err-node-clause-entry : goal.returns-in_err-node-clause-entry
 returns-in_err-node-clause-entry c =
     let s = c.args.self.now.nodes.items in
     let r = c.args.self.now.headers.items in
-    let C = (content_of s r).lists in
+    let C = numbered s r in
     let k : c.len-free.result ≡ length r = omega (arith, c.len-free.ensures, c.args.self.now.headers.ok.0) in
     let none = get-unused s c.deref.result.now r c.len-free.result c.args.cell.0 c.args.self.now.whole c.deref.ensures.value k c.in_err-node.ensures in
     ap (option_map (λ (p : ListId × Entry). p.1)) c.from_residual.ensures
@@ -69,7 +69,7 @@ pub returns-in_err-node-clause-after : goal.returns-in_err-node-clause-after
 returns-in_err-node-clause-after c =
     let s = c.args.self.now.nodes.items in
     let r = c.args.self.now.headers.items in
-    let C = (content_of s r).lists in
+    let C = numbered s r in
     let k : c.len-free.result ≡ length r = omega (arith, c.len-free.ensures, c.args.self.now.headers.ok.0) in
     let u = subst₂ (λ (t : List Node) (m : ℕ). IsUnused t m c.args.cell.0) c.deref.ensures.value (seen s r c.len-free.result k) c.in_err-node.ensures in
     ap shown (unlink-unused s r c.args.cell.0 c.args.self.now.whole u) ∙ unlinked-shown C c.args.cell
