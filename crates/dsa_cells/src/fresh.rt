@@ -7,7 +7,7 @@ ghost use Rattle.dsa_cells.specs.Fresh.{AreFresh, fresh_node, fresh_header};
 use crate::links::{Header, Node};
 use dsa_desc::Descriptor;
 use dsa_store::Entry;
-use std::alloc::{AllocError, Global};
+use std::alloc::{AllocError, Allocator};
 
 /// What a cell holds before its first use.
 const NO_ENTRY: Entry = Entry {
@@ -24,7 +24,7 @@ const NO_ENTRY: Entry = Entry {
 };
 
 /// The nodes of that many cells, linked one behind the other in the list of that number.
-pub fn fresh_nodes(alloc: Global, cells: u32, list: u16) -> Result<Vec<Node>, AllocError>
+pub fn fresh_nodes<A: Allocator>(alloc: A, cells: u32, list: u16) -> Result<Vec<Node, A>, AllocError>
     ensures { IfOk result (λ v. AreFresh v.items cells list cells) }
 {
     let mut nodes = Vec::with_capacity(alloc, cells as usize)?;
@@ -44,7 +44,7 @@ pub fn fresh_nodes(alloc: Global, cells: u32, list: u16) -> Result<Vec<Node>, Al
 }
 
 /// The headers of that many empty lists, and last that of the list of all cells.
-pub fn fresh_headers(alloc: Global, cells: u32, lists: u16) -> Result<Vec<Header>, AllocError>
+pub fn fresh_headers<A: Allocator>(alloc: A, cells: u32, lists: u16) -> Result<Vec<Header, A>, AllocError>
     ensures { IfOk result (λ v. v.items ≡ replicate lists no_header ++ fresh_header cells ∷ []) }
 {
     let mut headers = Vec::with_capacity(alloc, lists as usize + 1)?;

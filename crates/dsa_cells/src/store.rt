@@ -9,7 +9,7 @@ ghost use Rattle.dsa_cells.specs.Naming.{IsSound-from_whole};
 use crate::fresh::{fresh_headers, fresh_nodes};
 use crate::links::{Header, Node, splice, transfer};
 use dsa_store::{Cell, Entry, EntryStore, ListId};
-use std::alloc::{AllocError, Global};
+use std::alloc::{AllocError, Allocator, Global};
 
 /// Lists over one array of cells, each linked to the cell before it and the cell behind it in its list.
 ///
@@ -19,38 +19,40 @@ use std::alloc::{AllocError, Global};
 /// `push_back`, `move_front` and `unlink` write a fixed number of links, however many cells are in use.
 /// `give_back` joins the whole list to the free one by its ends, and marks each of its cells as free.
 #[derive(Drop)]
-pub struct LinkedStore {
-    nodes: Vec<Node>,
-    headers: Vec<Header>,
+pub struct LinkedStore<A: Allocator = Global> {
+    nodes: Vec<Node, A>,
+    headers: Vec<Header, A>,
     ghost whole: { IsWhole nodes.items headers.items } by { IsWhole-prop nodes.items headers.items },
 }
 
-impl LinkedStore {
-    ghost use Rattle.dsa_cells.specs.Store.{array_of, headers_of, all_lists, slots_in_use};
-
+impl<A: Allocator + Copy> LinkedStore<A> {
     /// A store with every list empty and every cell free.
     /// Takes room for `cells` nodes and for `lists` + 1 headers, and no call takes memory after it.
     /// An error means that this memory was refused, and what had been taken is free again.
-    pub fn new(alloc: Global, lists: u16, cells: u32) -> Result<Self, AllocError>
-        ensures empty { IfOk result (λ s. ⟦<LinkedStore as EntryStore>⟧.content s ≡ replicate lists []) }
-        ensures cells { IfOk result (λ s. ⟦<LinkedStore as EntryStore>⟧.cells s ≡ cells) }
+    pub fn new(alloc: A, lists: u16, cells: u32) -> Result<Self, AllocError>
+        ensures empty { IfOk result (λ s. ⟦<LinkedStore<A> as EntryStore>⟧.content s ≡ replicate lists []) }
+        ensures cells { IfOk result (λ s. ⟦<LinkedStore<A> as EntryStore>⟧.cells s ≡ cells) }
     {
         let nodes = fresh_nodes(alloc, cells, lists)?;
         let headers = fresh_headers(alloc, cells, lists)?;
         Ok(LinkedStore { nodes, headers })
     }
+}
+
+impl<A: Allocator> LinkedStore<A> {
+    ghost use Rattle.dsa_cells.specs.Store.{array_of, headers_of, all_lists, slots_in_use};
 
     /// What every store of linked cells keeps, for a caller to name.
     /// The links agree with the lists that they stand for, each cell stands in exactly one of these lists, that of the free cells
     /// included, and the store holds the lists but that one. The call does nothing.
     pub fn each_cell_stands_once(&self)
         ensures links { AreHeaders (array_of self.now) (headers_of self.now) (all_lists self.now) }
-        ensures once { IsPartition (⟦<LinkedStore as EntryStore>⟧.cells self.now) (all_lists self.now) }
-        ensures content { ⟦<LinkedStore as EntryStore>⟧.content self.now ≡ slots_in_use self.now }
+        ensures once { IsPartition (⟦<LinkedStore<A> as EntryStore>⟧.cells self.now) (all_lists self.now) }
+        ensures content { ⟦<LinkedStore<A> as EntryStore>⟧.content self.now ≡ slots_in_use self.now }
     {}
 }
 
-impl EntryStore for LinkedStore {
+impl<A: Allocator> EntryStore for LinkedStore<A> {
     ghost content = { λ s. content_at s.nodes.items s.headers.items };
 
     ghost cells = { λ s. length s.nodes.items };

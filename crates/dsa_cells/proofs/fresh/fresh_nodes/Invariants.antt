@@ -4,7 +4,7 @@ use Rattle.dsa_cells.specs.Fresh.{AreFresh}
 use Rattle.dsa_cells.proofs.fresh.fresh_nodes.Given as goal
 
 abbrev pub invariant-loop-cell : goal.invariant-loop-cell
-invariant-loop-cell l = record {
+invariant-loop-cell g l = record {
   room : l.cells ≤ vec_capacity l.nodes;
   fresh : AreFresh l.nodes.items l.cells l.list l.cell;
 }

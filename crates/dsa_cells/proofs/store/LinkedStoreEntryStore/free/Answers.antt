@@ -8,7 +8,7 @@ use Rattle.dsa_cells.proofs.Bridge.{held-shown}
 use Rattle.dsa_cells.proofs.store.LinkedStoreEntryStore.free.Goals as goal
 
 pub returns : goal.returns
-returns c =
+returns g c =
     let s = c.args.self.now.nodes.items in
     let r = c.args.self.now.headers.items in
     let C = numbered s r in

@@ -7,7 +7,7 @@ use Rattle.dsa_cells.proofs.Calls.{in_headers, front-is}
 use Rattle.dsa_cells.proofs.store.LinkedStoreEntryStore.front.Goals as goal
 
 pub returns : goal.returns
-returns c =
+returns g c =
     let s = c.args.self.now.nodes.items in
     let r = c.args.self.now.headers.items in
     let read : c.index.result.now ≡ header_at r c.args.list.0 = get_or_read r _ _ (in_headers s r c.args.list.0 c.requires) c.index.ensures no_header in

@@ -5,7 +5,7 @@ use Rattle.dsa_cells.proofs.Bridge.{entry_of-shown}
 use Rattle.dsa_cells.proofs.store.LinkedStoreEntryStore.get.Goals as goal
 
 pub returns : goal.returns
-returns c =
+returns g c =
     let s = c.args.self.now.nodes.items in
     let r = c.args.self.now.headers.items in
     let C = numbered s r in
@@ -13,7 +13,7 @@ returns c =
     get-used s c.deref.result.now r c.len.result c.args.cell.0 c.in_ok-node.node c.args.self.now.whole c.deref.ensures.value k c.in_ok-node.ensures ∙ sym (entry_of-shown C c.args.cell)
 
 pub returns-in_err-node : goal.returns-in_err-node
-returns-in_err-node c =
+returns-in_err-node g c =
     let s = c.args.self.now.nodes.items in
     let r = c.args.self.now.headers.items in
     let C = numbered s r in

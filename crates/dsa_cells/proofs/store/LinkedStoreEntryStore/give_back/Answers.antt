@@ -8,7 +8,7 @@ use Rattle.dsa_cells.proofs.Calls.{listed}
 use Rattle.dsa_cells.proofs.store.LinkedStoreEntryStore.give_back.Goals as goal
 
 pub returns-clause-after : goal.returns-clause-after
-returns-clause-after c =
+returns-clause-after g c =
     let s = c.args.self.now.nodes.items in
     let r = c.args.self.now.headers.items in
     let C = numbered s r in

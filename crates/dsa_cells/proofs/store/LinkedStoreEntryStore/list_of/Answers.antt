@@ -8,7 +8,7 @@ use Rattle.dsa_cells.proofs.Bridge.{uses-none, list_of-shown}
 use Rattle.dsa_cells.proofs.store.LinkedStoreEntryStore.list_of.Goals as goal
 
 pub returns : goal.returns
-returns c =
+returns g c =
     let s = c.args.self.now.nodes.items in
     let r = c.args.self.now.headers.items in
     let C = numbered s r in
@@ -18,7 +18,7 @@ returns c =
     ap (λ (n : ℕ). Some n) (sym is.0) ∙ sym (list_of-shown C c.args.cell c.in_ok-node.node.entry is.1)
 
 pub returns-in_err-node : goal.returns-in_err-node
-returns-in_err-node c =
+returns-in_err-node g c =
     let s = c.args.self.now.nodes.items in
     let r = c.args.self.now.headers.items in
     let C = numbered s r in

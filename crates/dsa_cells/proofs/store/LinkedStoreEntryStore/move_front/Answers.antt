@@ -10,7 +10,7 @@ use Rattle.dsa_cells.proofs.Calls.{listed, in_headers, front-is, moved-none}
 use Rattle.dsa_cells.proofs.store.LinkedStoreEntryStore.move_front.Goals as goal
 
 pub returns-in_err-cell-clause-value : goal.returns-in_err-cell-clause-value
-returns-in_err-cell-clause-value c =
+returns-in_err-cell-clause-value g c =
     let s = c.args.self.now.nodes.items in
     let r = c.args.self.now.headers.items in
     let read : c.index.result.now ≡ header_at r c.args.from.0 = get_or_read r _ _ (in_headers s r c.args.from.0 c.requires.from) c.index.ensures no_header in
@@ -18,7 +18,7 @@ returns-in_err-cell-clause-value c =
     c.from_residual.ensures ∙ sym (ap cell_of head) ∙ front-is s r c.args.from.0 c.args.self.now.whole c.requires.from
 
 pub returns-in_err-cell-clause-after : goal.returns-in_err-cell-clause-after
-returns-in_err-cell-clause-after c =
+returns-in_err-cell-clause-after g c =
     let s = c.args.self.now.nodes.items in
     let r = c.args.self.now.headers.items in
     let read : c.index.result.now ≡ header_at r c.args.from.0 = get_or_read r _ _ (in_headers s r c.args.from.0 c.requires.from) c.index.ensures no_header in
@@ -26,7 +26,7 @@ returns-in_err-cell-clause-after c =
     moved-none s r c.args.from.0 c.args.to.0 c.args.self.now.whole c.requires.from head
 
 pub transfer-requires-clause-cell_in : goal.transfer-requires-clause-cell_in
-transfer-requires-clause-cell_in c =
+transfer-requires-clause-cell_in g c =
     let s = c.args.self.now.nodes.items in
     let r = c.args.self.now.headers.items in
     let read : c.index.result.now ≡ header_at r c.args.from.0 = get_or_read r _ _ (in_headers s r c.args.from.0 c.requires.from) c.index.ensures no_header in
@@ -35,7 +35,7 @@ transfer-requires-clause-cell_in c =
     omega (arith, front-inside s r c.args.from.0 c.in_ok-cell.cell c.args.self.now.whole (omega (arith, in_lists s r c.args.from.0 from_in)) head, ap length c.deref_mut.ensures.value)
 
 pub returns-clause-value : goal.returns-clause-value
-returns-clause-value c =
+returns-clause-value g c =
     let s = c.args.self.now.nodes.items in
     let r = c.args.self.now.headers.items in
     let C = numbered s r in
@@ -45,7 +45,7 @@ returns-clause-value c =
     move-result s r c.args.from.0 c.in_ok-cell.cell c.args.self.now.whole from_in head ∙ sym (first-shown C c.args.from.0)
 
 pub returns-clause-after : goal.returns-clause-after
-returns-clause-after c =
+returns-clause-after g c =
     let s = c.args.self.now.nodes.items in
     let r = c.args.self.now.headers.items in
     let C = numbered s r in

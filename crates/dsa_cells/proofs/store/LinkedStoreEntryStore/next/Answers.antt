@@ -7,7 +7,7 @@ use Rattle.dsa_cells.proofs.Bridge.{next_of-shown}
 use Rattle.dsa_cells.proofs.store.LinkedStoreEntryStore.next.Goals as goal
 
 pub returns : goal.returns
-returns c =
+returns g c =
     let s = c.args.self.now.nodes.items in
     let r = c.args.self.now.headers.items in
     let C = numbered s r in
@@ -17,7 +17,7 @@ returns c =
     ∙ sym (next_of-shown C c.args.cell ((IsSound-from_whole s r c.args.self.now.whole).once c.args.cell))
 
 pub returns-in_err-node : goal.returns-in_err-node
-returns-in_err-node c =
+returns-in_err-node g c =
     let s = c.args.self.now.nodes.items in
     let r = c.args.self.now.headers.items in
     let C = numbered s r in

@@ -14,7 +14,7 @@ use Rattle.dsa_cells.proofs.Calls.{listed}
 use Rattle.dsa_cells.proofs.store.LinkedStoreEntryStore.push_back.Goals as goal
 
 pub returns-in_err-cell-clause-full : goal.returns-in_err-cell-clause-full
-returns-in_err-cell-clause-full c =
+returns-in_err-cell-clause-full g c =
     let s = c.args.self.now.nodes.items in
     let r = c.args.self.now.headers.items in
     let C = numbered s r in
@@ -25,7 +25,7 @@ returns-in_err-cell-clause-full c =
     rw (c.from_residual.ensures) ((λ _. full), (λ _. search rules))
 
 pub index_mut-requires : goal.index_mut-requires
-index_mut-requires c =
+index_mut-requires g c =
     let s = c.args.self.now.nodes.items in
     let r = c.args.self.now.headers.items in
     let k : c.len-free.result ≡ length r = omega (arith, c.len-free.ensures, c.args.self.now.headers.ok.0) in
@@ -37,7 +37,7 @@ index_mut-requires c =
     omega (arith, inside, c.args.self.now.nodes.ok.0)
 
 pub transfer-requires-clause-store : goal.transfer-requires-clause-store
-transfer-requires-clause-store c =
+transfer-requires-clause-store g c =
     let s = c.args.self.now.nodes.items in
     let r = c.args.self.now.headers.items in
     let k : c.len-free.result ≡ length r = omega (arith, c.len-free.ensures, c.args.self.now.headers.ok.0) in
@@ -51,7 +51,7 @@ transfer-requires-clause-store c =
     (sound-entry s r c.in_ok-cell.cell c.index_mut.result.now c.args.entry is c.args.self.now.whole).store
 
 pub transfer-requires-clause-cell_in : goal.transfer-requires-clause-cell_in
-transfer-requires-clause-cell_in c =
+transfer-requires-clause-cell_in g c =
     let s = c.args.self.now.nodes.items in
     let r = c.args.self.now.headers.items in
     let k : c.len-free.result ≡ length r = omega (arith, c.len-free.ensures, c.args.self.now.headers.ok.0) in
@@ -63,7 +63,7 @@ transfer-requires-clause-cell_in c =
     omega (arith, inside, ap length c.deref_mut.ensures.value, length-set s c.in_ok-cell.cell (rewritten c.index_mut.result.now c.args.entry))
 
 pub returns-clause-full : goal.returns-clause-full
-returns-clause-full c =
+returns-clause-full g c =
     let s = c.args.self.now.nodes.items in
     let r = c.args.self.now.headers.items in
     let C = numbered s r in
@@ -74,7 +74,7 @@ returns-clause-full c =
     ((λ h. absurd (cc)), (λ full. absurd (not-full-when s r c.len-free.result c.in_ok-cell.cell c.args.self.now.whole k head (sym (held-shown C) ∙ full))))
 
 pub returns-clause-below : goal.returns-clause-below
-returns-clause-below c =
+returns-clause-below g c =
     let s = c.args.self.now.nodes.items in
     let r = c.args.self.now.headers.items in
     let k : c.len-free.result ≡ length r = omega (arith, c.len-free.ensures, c.args.self.now.headers.ok.0) in
@@ -86,7 +86,7 @@ returns-clause-below c =
     inside
 
 pub returns-clause-unused : goal.returns-clause-unused
-returns-clause-unused c =
+returns-clause-unused g c =
     let s = c.args.self.now.nodes.items in
     let r = c.args.self.now.headers.items in
     let C = numbered s r in
@@ -101,7 +101,7 @@ returns-clause-unused c =
     uses-none C at (free-unused s r c.in_ok-cell.cell c.args.self.now.whole owner)
 
 pub returns-clause-some : goal.returns-clause-some
-returns-clause-some c =
+returns-clause-some g c =
     let s = c.args.self.now.nodes.items in
     let r = c.args.self.now.headers.items in
     let C = numbered s r in

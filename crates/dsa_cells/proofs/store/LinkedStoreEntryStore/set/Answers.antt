@@ -10,7 +10,7 @@ use Rattle.dsa_cells.proofs.Bridge.{uses-some, uses-none, replaced-shown}
 use Rattle.dsa_cells.proofs.store.LinkedStoreEntryStore.set.Goals as goal
 
 pub invariant_of-self : goal.invariant_of-self
-invariant_of-self c =
+invariant_of-self g c =
     let s = c.args.self.now.nodes.items in
     let r = c.args.self.now.headers.items in
     let k : c.len.result ≡ length r = omega (arith, c.len.ensures, c.args.self.now.headers.ok.0) in
@@ -19,7 +19,7 @@ invariant_of-self c =
     record { whole = sound-entry s r c.args.cell.0 c.index_mut.result.now c.args.entry read c.args.self.now.whole }
 
 pub returns-in-Some-clause-used : goal.returns-in-Some-clause-used
-returns-in-Some-clause-used c =
+returns-in-Some-clause-used g c =
     let s = c.args.self.now.nodes.items in
     let r = c.args.self.now.headers.items in
     let C = numbered s r in
@@ -28,7 +28,7 @@ returns-in-Some-clause-used c =
     ((λ _. uses-some C c.args.cell c.in-Some.field-0.entry (sym some)), (λ _. refl))
 
 pub returns-in-Some-clause-after : goal.returns-in-Some-clause-after
-returns-in-Some-clause-after c =
+returns-in-Some-clause-after g c =
     let s = c.args.self.now.nodes.items in
     let r = c.args.self.now.headers.items in
     let C = numbered s r in
@@ -38,7 +38,7 @@ returns-in-Some-clause-after c =
     ap shown (set-lists s r c.args.cell.0 c.index_mut.result.now c.args.entry read c.args.self.now.whole u.inside) ∙ replaced-shown C c.args.cell c.args.entry
 
 pub returns-in-None-clause-used : goal.returns-in-None-clause-used
-returns-in-None-clause-used c =
+returns-in-None-clause-used g c =
     let s = c.args.self.now.nodes.items in
     let r = c.args.self.now.headers.items in
     let C = numbered s r in
@@ -47,7 +47,7 @@ returns-in-None-clause-used c =
     ((λ h. absurd (cc)), (λ h. absurd (omega (arith, h, uses-none C c.args.cell (sym none)))))
 
 pub returns-in-None-clause-after : goal.returns-in-None-clause-after
-returns-in-None-clause-after c =
+returns-in-None-clause-after g c =
     let s = c.args.self.now.nodes.items in
     let r = c.args.self.now.headers.items in
     let C = numbered s r in

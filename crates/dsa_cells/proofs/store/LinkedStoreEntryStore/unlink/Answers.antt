@@ -11,7 +11,7 @@ use Rattle.dsa_cells.proofs.Bridge.{uses-none, entry_of-shown, list_of-shown, un
 use Rattle.dsa_cells.proofs.store.LinkedStoreEntryStore.unlink.Goals as goal
 
 pub returns-clause-list : goal.returns-clause-list
-returns-clause-list c =
+returns-clause-list g c =
     let s = c.args.self.now.nodes.items in
     let r = c.args.self.now.headers.items in
     let C = numbered s r in
@@ -21,7 +21,7 @@ returns-clause-list c =
     ap (λ (n : ℕ). Some n) (sym is.0) ∙ sym (list_of-shown C c.args.cell c.in_ok-node.node.entry is.1)
 
 pub returns-clause-entry : goal.returns-clause-entry
-returns-clause-entry c =
+returns-clause-entry g c =
     let s = c.args.self.now.nodes.items in
     let r = c.args.self.now.headers.items in
     let C = numbered s r in
@@ -31,7 +31,7 @@ returns-clause-entry c =
     sym is.1 ∙ sym (entry_of-shown C c.args.cell)
 
 pub returns-clause-after : goal.returns-clause-after
-returns-clause-after c =
+returns-clause-after g c =
     let s = c.args.self.now.nodes.items in
     let r = c.args.self.now.headers.items in
     let C = numbered s r in
@@ -46,7 +46,7 @@ returns-clause-after c =
     ∙ unlinked-shown C c.args.cell)
 
 pub returns-in_err-node-clause-list : goal.returns-in_err-node-clause-list
-returns-in_err-node-clause-list c =
+returns-in_err-node-clause-list g c =
     let s = c.args.self.now.nodes.items in
     let r = c.args.self.now.headers.items in
     let C = numbered s r in
@@ -56,7 +56,7 @@ returns-in_err-node-clause-list c =
     ∙ sym (list_of-none (content_at s r) c.args.cell (uses-none C c.args.cell (sym none)))
 
 pub returns-in_err-node-clause-entry : goal.returns-in_err-node-clause-entry
-returns-in_err-node-clause-entry c =
+returns-in_err-node-clause-entry g c =
     let s = c.args.self.now.nodes.items in
     let r = c.args.self.now.headers.items in
     let C = numbered s r in
@@ -66,7 +66,7 @@ returns-in_err-node-clause-entry c =
     ∙ none ∙ sym (entry_of-shown C c.args.cell)
 
 pub returns-in_err-node-clause-after : goal.returns-in_err-node-clause-after
-returns-in_err-node-clause-after c =
+returns-in_err-node-clause-after g c =
     let s = c.args.self.now.nodes.items in
     let r = c.args.self.now.headers.items in
     let C = numbered s r in
