@@ -24,7 +24,11 @@ const NO_ENTRY: Entry = Entry {
 };
 
 /// The nodes of that many cells, linked one behind the other in the list of that number.
-pub fn fresh_nodes<A: Allocator>(alloc: A, cells: u32, list: u16) -> Result<Vec<Node, A>, AllocError>
+pub fn fresh_nodes<A: Allocator>(
+    alloc: A,
+    cells: u32,
+    list: u16,
+) -> Result<Vec<Node, A>, AllocError>
     ensures { IfOk result (λ v. AreFresh v.items cells list cells) }
 {
     let mut nodes = Vec::with_capacity(alloc, cells as usize)?;
@@ -44,7 +48,11 @@ pub fn fresh_nodes<A: Allocator>(alloc: A, cells: u32, list: u16) -> Result<Vec<
 }
 
 /// The headers of that many empty lists, and last that of the list of all cells.
-pub fn fresh_headers<A: Allocator>(alloc: A, cells: u32, lists: u16) -> Result<Vec<Header, A>, AllocError>
+pub fn fresh_headers<A: Allocator>(
+    alloc: A,
+    cells: u32,
+    lists: u16,
+) -> Result<Vec<Header, A>, AllocError>
     ensures { IfOk result (λ v. v.items ≡ replicate lists no_header ++ fresh_header cells ∷ []) }
 {
     let mut headers = Vec::with_capacity(alloc, lists as usize + 1)?;

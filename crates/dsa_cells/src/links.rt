@@ -1,4 +1,4 @@
-//! The cells, and the few writes that move a cell from one list to another.
+//! The nodes of the cells and the headers of the lists, and the few writes that move a cell, or a whole list, to the end of a list.
 
 ghost use Rattle.std.specs.Prelude.{◌≡◌, ℕ, ◌+◌, ◌-◌, ◌^◌, ◌<◌, ◌≤◌, ◌≢◌, length, Option};
 ghost use Rattle.dsa_cells.specs.Array.{node_at, entries_of};
@@ -8,7 +8,7 @@ ghost use Rattle.dsa_cells.specs.Invariant.{IsStore};
 
 use dsa_store::Entry;
 
-/// One cell: its entry, its neighbours and the number of the list that it stands in.
+/// What the array has of a cell: its entry, the cells behind and before it in its list, and the number of that list.
 #[derive(Clone, Copy)]
 pub struct Node {
     pub entry: Entry,
@@ -17,7 +17,7 @@ pub struct Node {
     pub owner: u16,
 }
 
-/// The two ends of a list and the number of its cells.
+/// The first cell of a list, the last one, and how many it has. An empty list has neither.
 #[derive(Clone, Copy)]
 pub struct Header {
     pub head: Option<u32>,
@@ -25,7 +25,8 @@ pub struct Header {
     pub count: u32,
 }
 
-/// Takes a cell out of its list: its neighbours, or the list's ends, are joined.
+/// Takes a cell out of the list with that header: its neighbours become neighbours, or the list's ends.
+/// Writes one link of each neighbour, and the header.
 pub fn detach(nodes: &mut [Node], header: &mut Header, cell: u32)
     requires cell_in { cell < length nodes.old }
     requires next_in { InRange nodes.old (node_at nodes.old cell).next }
@@ -46,7 +47,8 @@ pub fn detach(nodes: &mut [Node], header: &mut Header, cell: u32)
     header.count -= 1;
 }
 
-/// Puts a cell that stands in no list at the end of the list with this number.
+/// Puts a cell that stands in no list at the end of the list with that number and header.
+/// Writes the links and the owner of the cell, one link of the last cell before it, and the header.
 pub fn attach(nodes: &mut [Node], header: &mut Header, list: u16, cell: u32)
     requires cell_in { cell < length nodes.old }
     requires tail_in { InRange nodes.old header.old.tail }
@@ -67,7 +69,7 @@ pub fn attach(nodes: &mut [Node], header: &mut Header, list: u16, cell: u32)
     header.count += 1;
 }
 
-/// Moves a cell from the list that it stands in to the end of another.
+/// Moves a cell from the list that it stands in to the end of a list.
 pub fn transfer(nodes: &mut [Node], headers: &mut [Header], cell: u32, to: u16)
     requires store { IsStore nodes.old headers.old (lists_of nodes.old headers.old) }
     requires cell_in { cell < length nodes.old }
@@ -84,7 +86,7 @@ pub fn transfer(nodes: &mut [Node], headers: &mut [Header], cell: u32, to: u16)
     attach(nodes, joined, to, cell);
 }
 
-/// Gives each cell of a list the number of another.
+/// Writes the number of another list into each cell of the list with that header.
 fn mark(nodes: &mut [Node], header: Header, owner: u16)
     requires { AreInside nodes.old (cells_of nodes.old header) }
     ensures { nodes.new ≡ marked nodes.old (cells_of nodes.old header) owner }
@@ -98,7 +100,7 @@ fn mark(nodes: &mut [Node], header: Header, owner: u16)
     }
 }
 
-/// Makes two cells neighbours, as far as they are there.
+/// Makes two cells neighbours, as far as they are there. Writes one link of each.
 fn join(nodes: &mut [Node], before: Option<u32>, after: Option<u32>)
     requires before_in { InRange nodes.old before }
     requires after_in { InRange nodes.old after }
@@ -112,7 +114,7 @@ fn join(nodes: &mut [Node], before: Option<u32>, after: Option<u32>)
     }
 }
 
-/// The ends of a list once another has come behind it.
+/// The header of a list once another has come behind it.
 fn joined_ends(kept: Header, given: Header) -> Header
     requires { kept.count + given.count < 2 ^ 32 }
     ensures { result ≡ header_joined kept given }
@@ -124,7 +126,8 @@ fn joined_ends(kept: Header, given: Header) -> Header
     }
 }
 
-/// Joins all cells of a list to the end of another, by the ends of the two.
+/// Joins a whole list to the end of another, by the ends of the two.
+/// Writes the owner of each cell that moves, two links, and the two headers.
 pub fn splice(nodes: &mut [Node], headers: &mut [Header], from: u16, to: u16)
     requires store { IsStore nodes.old headers.old (lists_of nodes.old headers.old) }
     requires from_in { from < length headers.old }
