@@ -2,6 +2,10 @@
 #![tactic(auto)]
 
 #[cfg(test)]
+mod alike;
+#[cfg(test)]
+mod linked;
+#[cfg(test)]
 mod memory;
 #[cfg(test)]
 mod plain;

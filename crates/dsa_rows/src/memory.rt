@@ -1,6 +1,7 @@
 //! What a store does where memory is refused.
 
 use crate::stores::middle_is_taken;
+use dsa_cells::LinkedStore;
 use dsa_store::PlainStore;
 use linked_list_allocator::LocalHeap;
 use std::test::Fail;
@@ -14,6 +15,24 @@ fn plain_store_is_refused_memory(rt: HostRuntime) -> Result<(), Fail> {
         let heap = LocalHeap::new(rt.alloc(), 16 * blocks)?;
         let made = PlainStore::new(&heap, 2, 3);
         assert_eq!(rt; made.is_ok(), blocks >= 19, "with {blocks} blocks");
+        if let Ok(mut store) = made {
+            let used = heap.used();
+            middle_is_taken(&rt, &mut store);
+            assert_eq!(rt; heap.used(), used);
+        }
+        assert_eq!(rt; heap.used(), 0);
+    }
+    Ok(())
+}
+
+// `new` asks for 10 and 4 of the heap's smallest blocks: the array of the cells, and the headers of the lists and of the free cells.
+// As above, each of the two requests is refused by some heap that met those before it.
+#[test]
+fn linked_store_is_refused_memory(rt: HostRuntime) -> Result<(), Fail> {
+    for blocks in 1..32 {
+        let heap = LocalHeap::new(rt.alloc(), 16 * blocks)?;
+        let made = LinkedStore::new(&heap, 2, 3);
+        assert_eq!(rt; made.is_ok(), blocks >= 14, "with {blocks} blocks");
         if let Ok(mut store) = made {
             let used = heap.used();
             middle_is_taken(&rt, &mut store);

@@ -4,7 +4,7 @@ use dsa_desc::Descriptor;
 use dsa_store::{Cell, Entry, EntryStore, ListId, cells_stand_once, front_slot};
 use std::process::Abort;
 
-fn entry(name: u32) -> Entry {
+pub fn entry(name: u32) -> Entry {
     Entry {
         name,
         parent: None,

@@ -1,0 +1,15 @@
+use Rattle.std.proofs.Common.{◌≡◌, rules, ap, ◌∙◌}
+use Rattle.std.proofs.lemmas.List.{get_or_read}
+use Rattle.dsa_cells.specs.declared.links.Header.{Header}
+use Rattle.dsa_cells.specs.Array.{header_at, no_header}
+use Rattle.dsa_cells.proofs.Contents.{cell_of}
+use Rattle.dsa_cells.proofs.Calls.{in_headers, front-is}
+use Rattle.dsa_cells.proofs.store.LinkedStoreEntryStore.front.Goals as goal
+
+pub returns : goal.returns
+returns g c =
+    let s = c.args.self.now.nodes.items in
+    let r = c.args.self.now.headers.items in
+    let read : c.index.result.now ≡ header_at r c.args.list.0 = get_or_read r _ _ (in_headers s r c.args.list.0 c.requires) c.index.ensures no_header in
+    let e : c.map.result ≡ cell_of c.index.result.now.head = search rules in
+    e ∙ ap (λ (t : Header). cell_of t.head) read ∙ front-is s r c.args.list.0 c.args.self.now.whole c.requires

@@ -1,0 +1,8 @@
+//! The lists of `dsa_store` over one array of linked cells.
+#![tactic(auto)]
+
+mod fresh;
+mod links;
+pub mod store;
+
+pub use store::LinkedStore;
