@@ -7,10 +7,11 @@ use Rattle.dsa_cells.specs.declared.links.Header.{Header}
 use Rattle.dsa_cells.specs.Array.{entries_of, header_at}
 use Rattle.dsa_cells.specs.Partition.{lists_of, list_at}
 use Rattle.dsa_cells.specs.Invariant.{IsWhole}
+use Rattle.dsa_cells.specs.Naming.{length-stamped}
 use Rattle.dsa_cells.specs.Content.{numbered, shown, content_at}
 use Rattle.dsa_cells.proofs.Numbered.{list_in, first_cell as first_in, first_moved}
 use Rattle.dsa_cells.proofs.Contents.{list_in-contents, cell_of, first_cell-stamped}
-use Rattle.dsa_cells.proofs.Reading.{length-stamped, length-lists}
+use Rattle.dsa_cells.proofs.Reading.{length-lists}
 use Rattle.dsa_cells.proofs.Writing.{in_lists}
 use Rattle.dsa_cells.proofs.Bridge.{length-shown, length-chain, first-shown, moved-shown}
 

@@ -118,9 +118,6 @@ pub Names-first : (xs : List ℕ) → Names xs (first_or xs None)
 Names-first [] = tt
 Names-first (x ∷ xs) = omega (arith, times-head x xs)
 
-pub times-last : (xs : List ℕ) (x y : ℕ) → 0 < times y xs → 0 < times y (xs ++ x ∷ [])
-times-last xs x y h = omega (arith, times-append y xs (x ∷ []))
-
 Names-later : (x : ℕ) (xs : List ℕ) (o : Option ℕ) → Names xs o → Names (x ∷ xs) o
 Names-later x xs None h = tt
 Names-later x xs (Some e) h = times-later e x xs h

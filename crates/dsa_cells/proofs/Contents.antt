@@ -90,7 +90,7 @@ stamped-set es c e (x ∷ xs) lt = elim (eqb_tells x c) [
 
 -- all lists
 
-either-none : {X : Type 0} (o : Option X) → either o None ≡ o
+pub either-none : {X : Type 0} (o : Option X) → either o None ≡ o
 either-none None = refl
 either-none (Some x) = refl
 

@@ -7,7 +7,7 @@ use Rattle.dsa_cells.specs.declared.links.Node.{Node}
 use Rattle.dsa_cells.specs.declared.links.Header.{Header}
 use Rattle.dsa_cells.specs.Array.{node_at, no_node, owners_of, entries_of}
 use Rattle.dsa_cells.specs.Partition.{first_or, last_or, Linked, times, IsHeader}
-use Rattle.dsa_cells.specs.Writes.{set_next, set_previous, or_else, without, with_last, bare_node, detached, attached}
+use Rattle.dsa_cells.specs.Writes.{joined, set_next, set_previous, or_else, without, with_last, bare_node, detached, attached}
 use Rattle.dsa_cells.proofs.Chain.{last_or-append, times-append, Linked-append, Linked-left, Linked-right, Linked-outside, set_next-outside, set_previous-outside, relink_tail, relink_head, Apart, Once, Within, Avoids-of, Names-first, Names-last, node_at-same, Once-parts, times-tail}
 
 -- what a write of links keeps
@@ -55,10 +55,6 @@ pub length-attached : (s : List Node) (c l : ℕ) (o : Option ℕ) → length (a
 length-attached s c l o = length-set_next (bare_node s c l o) o (Some c) ∙ length-set s c (record { entry = (node_at s c).entry; next = None; previous = o; owner = l })
 
 -- a cell leaves its list
-
--- the array after the neighbours b and e were joined
-abbrev joined : List Node → Option ℕ → Option ℕ → List Node
-joined s b e = set_previous (set_next s b e) e b
 
 Linked-joined : (s : List Node) (xs zs : List ℕ) (c : ℕ) → Once (xs ++ c ∷ zs) → Within s (xs ++ c ∷ zs) → Linked s None (xs ++ c ∷ zs) None
     → Linked (joined s (last_or xs None) (first_or zs None)) None (xs ++ zs) None

@@ -1,5 +1,5 @@
 -- A new store: every cell is in the free list.
-use Rattle.std.proofs.Common.{◌≡◌, ℕ, zero, suc, ◌+◌, ◌-◌, ◌<◌, ◌≤◌, ◌≢◌, inl, inr, List, [], ◌∷◌, ◌++◌, length, replicate, Option, None, Some, get_or, cond, ltb, leb, ◌&&◌, refl, sym, ap, ◌∙◌, subst, subst₂, arith, length-append}
+use Rattle.std.proofs.Common.{◌≡◌, ℕ, zero, suc, ◌+◌, ◌-◌, ◌^◌, ◌<◌, ◌≤◌, ◌≢◌, inl, inr, List, [], ◌∷◌, ◌++◌, length, replicate, Option, None, Some, get_or, cond, ltb, leb, ◌&&◌, refl, sym, ap, ◌∙◌, subst, subst₂, arith, length-append}
 use Rattle.std.proofs.lemmas.Bool.Decides.{leb_tells, nat_tests}
 use Rattle.std.proofs.lemmas.List.{get_or-replicate, get_or_append_left, get_or-append_right, get_or_past, length-replicate}
 use Rattle.std.proofs.lemmas.List.Sums.{sum_by-append}
@@ -146,7 +146,7 @@ store-fresh s n lists f = record {
       | inr w ↦ ap (times c) (before_last lists l [] (upto 0 n) [] w.1)
     ]
 
-pub sound-fresh : (s : List Node) (r : List Header) (n lists : ℕ) → AreFresh s n lists n → r ≡ fresh_headers_of n lists → n < 4294967296 → lists < 65536 → IsWhole s r
+pub sound-fresh : (s : List Node) (r : List Header) (n lists : ℕ) → AreFresh s n lists n → r ≡ fresh_headers_of n lists → n < 2 ^ 32 → lists < 2 ^ 16 → IsWhole s r
 sound-fresh s r n lists f e few few2 =
     let size : length r ≡ lists + 1 = ap length e ∙ length_last lists no_header (fresh_header n) in
     record {

@@ -1,5 +1,5 @@
 -- What the calls that only read give.
-use Rattle.std.proofs.Common.{◌≡◌, ℕ, suc, ◌+◌, ◌-◌, ◌<◌, List, [], ◌∷◌, length, map, take, None, Some, get_or, sum_by, refl, sym, ap, ◌∙◌, subst₂, arith, take_all}
+use Rattle.std.proofs.Common.{◌≡◌, ℕ, ◌+◌, ◌-◌, ◌<◌, List, [], ◌∷◌, length, map, take, None, Some, get_or, sum_by, refl, sym, ap, ◌∙◌, subst₂, arith, take_all}
 use Rattle.std.proofs.lemmas.List.{length-map}
 use Rattle.std.proofs.lemmas.List.Sums.{sum_by_more, sum_by-cons}
 use Rattle.std.proofs.Math.ListN.{get_or-map}
@@ -11,6 +11,7 @@ use Rattle.dsa_cells.specs.Partition.{list_at, lists_of, cells_of}
 use Rattle.dsa_cells.specs.Invariant.{IsUnused, IsUsed, IsWhole}
 use Rattle.dsa_cells.specs.Content.{stamped, contents, numbered}
 use Rattle.dsa_cells.proofs.Numbered.{held, entry_of, cell_after}
+use Rattle.dsa_cells.specs.Naming.{length-stamped}
 use Rattle.dsa_cells.proofs.Contents.{entry_of-used, entry_of-unused, cell_after-used, cell_after-unused, cell_of}
 
 pub entry_is : (s : List Node) (x : ℕ) → get_or (entries_of s) x no_entry ≡ (node_at s x).entry
@@ -45,10 +46,6 @@ next-unused s s2 r k c i e n u =
     sym (cell_after-unused s r (lists_of s r) (entries_of s) c i.store v)
 
 -- the free cells
-
-pub length-stamped : (es : List Entry) (xs : List ℕ) → length (stamped es xs) ≡ length xs
-length-stamped es [] = refl
-length-stamped es (x ∷ xs) = ap suc (length-stamped es xs)
 
 pub sum-stamped : (es : List Entry) (lists : List (List ℕ)) → sum_by length (map (stamped es) lists) ≡ sum_by length lists
 sum-stamped es [] = refl

@@ -1,5 +1,5 @@
 -- What a store of linked cells keeps, which has one proof at most.
-use Rattle.std.specs.Prelude.{◌≡◌, ℕ, ◌<◌, ◌≤◌, List, [], ◌∷◌, length, Option, Some, slice_index_or, cond, ◌&&◌, ◌==◌, ltb, sum_by}
+use Rattle.std.specs.Prelude.{◌≡◌, ℕ, ◌<◌, ◌≤◌, ◌^◌, List, [], ◌∷◌, length, Option, Some, slice_index_or, cond, ◌&&◌, ◌==◌, ltb, sum_by}
 use Rattle.std.specs.Coded.{Unit-prop}
 use Rattle.std.proofs.Props.{props}
 use Rattle.dsa_cells.specs.declared.links.Node.{Node}
@@ -21,8 +21,8 @@ pub record IsStore (nodes : List Node) (headers : List Header) (lists : List (Li
 pub record IsWhole (nodes : List Node) (headers : List Header) : Type 0 where
   pub store : IsStore nodes headers (lists_of nodes headers)
   pub free : 0 < length headers
-  pub few_cells : length nodes < 4294967296
-  pub few_lists : length headers ≤ 65536
+  pub few_cells : length nodes < 2 ^ 32
+  pub few_lists : length headers ≤ 2 ^ 16
 
 pub Linked-prop : (nodes : List Node) (before : Option ℕ) (cells : List ℕ) (after : Option ℕ) → IsProp (Linked nodes before cells after)
 Linked-prop nodes before [] after = Unit-prop

@@ -28,7 +28,7 @@ uses-stamped es cell [] = uses-nil cell
 uses-stamped es cell (xs ∷ lists) =
     omega (arith, uses-cons (map paired (stamped es xs)) (shown (map (stamped es) lists)) cell, sum_by-cons (times cell.0) xs lists, count-stamped es cell xs, uses-stamped es cell lists)
 
-length-stamped : (es : List Entry) (xs : List ℕ) → length (stamped es xs) ≡ length xs
+pub length-stamped : (es : List Entry) (xs : List ℕ) → length (stamped es xs) ≡ length xs
 length-stamped es [] = refl
 length-stamped es (x ∷ xs) = ap suc (length-stamped es xs)
 

@@ -24,13 +24,15 @@ abbrev pub set_previous : List Node → Option ℕ → Option ℕ → List Node
 set_previous nodes None previous = nodes
 set_previous nodes (Some cell) previous = slice_set nodes cell (record (node_at nodes cell) { previous = previous })
 
+-- the array: these two, as far as they are there, are neighbours
+abbrev pub joined : List Node → Option ℕ → Option ℕ → List Node
+joined nodes before after = set_previous (set_next nodes before after) after before
+
 -- ---- a cell leaves its list
 
 -- the array: the neighbours of the cell are neighbours now
 abbrev pub detached : List Node → ℕ → List Node
-detached nodes cell =
-    let node = node_at nodes cell in
-    set_previous (set_next nodes node.previous node.next) node.next node.previous
+detached nodes cell = joined nodes (node_at nodes cell).previous (node_at nodes cell).next
 
 -- the end of a list, or the other neighbour of the cell where the cell was that end
 abbrev pub or_else : Option ℕ → Option ℕ → Option ℕ → Option ℕ
@@ -86,10 +88,6 @@ moved lists cell from to = joined_by (left_by lists from cell) to cell
 abbrev pub marked : List Node → List ℕ → ℕ → List Node
 marked nodes [] owner = nodes
 marked nodes (cell ∷ cells) owner = marked (slice_set nodes cell (record (node_at nodes cell) { owner = owner })) cells owner
-
--- the array: these two, as far as they are there, are neighbours
-abbrev pub joined : List Node → Option ℕ → Option ℕ → List Node
-joined nodes before after = set_previous (set_next nodes before after) after before
 
 -- the cell, or else the other
 abbrev pub or_else_first : Option ℕ → Option ℕ → Option ℕ

@@ -3,6 +3,7 @@
 
 mod fresh;
 mod links;
+mod rows;
 pub mod store;
 
 pub use store::LinkedStore;
