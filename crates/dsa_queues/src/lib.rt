@@ -2,6 +2,9 @@
 //!
 //! [`Queues`] keeps the configurations and phases, the next name and the noted error. The entries themselves stand in a
 //! store, which each call that needs it is lent: list k of the store is queue k. Nothing here allocates.
+//!
+//! Module `queues` alone reads and writes the fields. Submission, writes of configurations and what commands change are
+//! written over its readers and setters.
 #![tactic(auto)]
 
 mod commands;
