@@ -5,3 +5,4 @@ pub mod Finding
 pub mod Ending
 pub mod Walking
 pub mod Members
+pub mod Batches

@@ -6,6 +6,7 @@
 #![tactic(auto)]
 
 mod engines;
+mod fetching;
 mod finishing;
 mod starting;
 mod taking;
