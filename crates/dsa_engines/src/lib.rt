@@ -8,6 +8,7 @@
 mod engines;
 mod fetching;
 mod finishing;
+mod removing;
 mod starting;
 mod taking;
 
