@@ -13,3 +13,6 @@ mod starting;
 mod taking;
 
 pub use engines::Engines;
+
+#[cfg(test)]
+mod tests;
