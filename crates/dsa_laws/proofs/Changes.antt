@@ -4,7 +4,7 @@ use Rattle.std.specs.Prelude.{find, is_some}
 use Rattle.dsa_desc.specs.declared.Descriptor.{Descriptor}
 use Rattle.dsa_desc.specs.declared.Outcome.{Outcome}
 use Rattle.dsa_desc.specs.Rows.{first_row_or, when}
-use Rattle.dsa_desc.proofs.Tables.{when-some}
+use Rattle.dsa_desc.proofs.Tables.{when-some, table1, table2, table3}
 use Rattle.dsa_regs.specs.declared.Phase.TheVariants.{Off, Stopping}
 use Rattle.dsa_regs.specs.declared.Command.{Command}
 use Rattle.dsa_regs.specs.declared.Command.TheVariants.{EnableDevice, DisableDevice, DrainAll, AbortAll, ResetDevice, EnableWq, DisableWq, DrainWq, AbortWq, ResetWq, DrainPasid, AbortPasid}
@@ -73,22 +73,6 @@ not-false false h = cc
 test : {X : Type 0} (P : X → Type 0) (a : Bool) (x last : X) → (a ≡ true → P x) → (a ≡ false → P last) → P (cond a x last)
 test P true x last p q = p refl
 test P false x last p q = q refl
-
-table1 : {X : Type 0} (P : X → Type 0) (a : Bool) (x last : X) → (a ≡ true → P x) → (a ≡ false → P last) → P (first_row_or ((a, x) ∷ []) last)
-table1 P true x last p q = p refl
-table1 P false x last p q = q refl
-
-table2 : {X : Type 0} (P : X → Type 0) (a b : Bool) (x y last : X) → (a ≡ true → P x) → (b ≡ true → P y) → (a ≡ false → b ≡ false → P last) → P (first_row_or ((a, x) ∷ (b, y) ∷ []) last)
-table2 P true b x y last p q r = p refl
-table2 P false true x y last p q r = q refl
-table2 P false false x y last p q r = r refl refl
-
-table3 : {X : Type 0} (P : X → Type 0) (a b c : Bool) (x y z last : X) → (a ≡ true → P x) → (b ≡ true → P y) → (c ≡ true → P z) → (a ≡ false → b ≡ false → c ≡ false → P last)
-    → P (first_row_or ((a, x) ∷ (b, y) ∷ (c, z) ∷ []) last)
-table3 P true b c x y z last p q r t = p refl
-table3 P false true c x y z last p q r t = q refl
-table3 P false false true x y z last p q r t = r refl
-table3 P false false false x y z last p q r t = t refl refl refl
 
 -- ---- submit
 

@@ -1,5 +1,5 @@
 -- Sums over all slots of a store, as its calls change them. How often a cell is used, and how many are held, are such sums.
-use Rattle.std.proofs.Common.{◌≡◌, ℕ, ◌+◌, ◌<◌, ◌≤◌, ◌≢◌, Bool, true, not, cond, List, [], ◌∷◌, ◌++◌, take, drop, length, set, get_or, refl, sym, ap, ◌∙◌, arith}
+use Rattle.std.proofs.Common.{◌≡◌, ℕ, ◌+◌, ◌<◌, ◌≤◌, ◌≢◌, Bool, true, not, cond, List, [], ◌∷◌, ◌++◌, take, drop, length, map, set, get_or, refl, sym, ap, ◌∙◌, arith}
 use Rattle.std.proofs.lemmas.Grind.{common_steps}
 use Rattle.std.specs.List.{filter, count_by, sum_by, remove}
 use Rattle.std.proofs.lemmas.List.{length-set}
@@ -63,19 +63,20 @@ sum-replaced f content i k cell e new h once at =
 
 -- ---- a test that each slot passes or not
 
--- what is kept and what is not are all
-pub sum-split : (f : Slot → ℕ) (test : Slot → Bool) (l : List Slot) → sum_by f (filter test l) + sum_by f (filter (λ s. not (test s)) l) ≡ sum_by f l
-sum-split f test l = sum_by-filter_both test (λ s. not (test s)) (λ s. refl) f l
+-- what passes and what does not are all
+pub sum-split : {X : Type 0} (f : X → ℕ) (test : X → Bool) (l : List X) → sum_by f (filter test l) + sum_by f (filter (λ x. not (test x)) l) ≡ sum_by f l
+sum-split f test l = sum_by-filter_both test (λ x. not (test x)) (λ x. refl) f l
+
+-- what passes of all, list by list
+pub all_held-filtered : (test : Slot → Bool) (content : Content) → all_held (map (filter test) content) ≡ filter test (all_held content)
+all_held-filtered test [] = refl
+all_held-filtered test (l ∷ ls) = ap (λ (m : List Slot). filter test l ++ m) (all_held-filtered test ls) ∙ sym (filter-append test l (all_held ls))
 
 pub all_held-kept : (test : Entry → Bool) (content : Content) → all_held (kept test content) ≡ filter (λ s. test s.1) (all_held content)
-all_held-kept test [] = refl
-all_held-kept test (l ∷ ls) =
-    ap (λ (m : List Slot). filter (λ s. test s.1) l ++ m) (all_held-kept test ls) ∙ sym (filter-append (λ s. test s.1) l (all_held ls))
+all_held-kept test content = all_held-filtered (λ s. test s.1) content
 
 pub all_held-unlinked : (content : Content) (cell : Cell) → all_held (unlinked content cell) ≡ filter (λ s. not (is_cell cell s)) (all_held content)
-all_held-unlinked [] cell = refl
-all_held-unlinked (l ∷ ls) cell =
-    ap (λ (m : List Slot). filter (λ s. not (is_cell cell s)) l ++ m) (all_held-unlinked ls cell) ∙ sym (filter-append (λ s. not (is_cell cell s)) l (all_held ls))
+all_held-unlinked content cell = all_held-filtered (λ s. not (is_cell cell s)) content
 
 -- ---- counts are sums
 

@@ -1,0 +1,304 @@
+-- The batch of an engine, as its lists and its note change.
+use Rattle.std.proofs.Common.{◌≡◌, ◌≢◌, ℕ, zero, suc, ◌+◌, ◌≤◌, ◌&&◌, ◌||◌, ◌==◌, not, Bool, true, false, cond, List, [], ◌∷◌, ◌++◌, length, filter, Option, Some, None, option_map, is_none, refl, sym, ap, ◌∙◌, subst, ◌⊎◌, inl, inr, arith, ⊎_elim, length-append, eq-eqb}
+use Rattle.std.specs.Prelude.{count_by, sum_by}
+use Rattle.std.specs.List.{list_any}
+use Rattle.std.proofs.lemmas.List.Sums.{sum_by-cons, sum_by-append, sum_by_push, length-filter, count_by-le-length}
+use Rattle.dsa_regs.specs.declared.Command.{Command}
+use Rattle.dsa_regs.specs.declared.Command.TheVariants.{EnableDevice, DisableDevice, DrainAll, AbortAll, ResetDevice, EnableWq, DisableWq, DrainWq, AbortWq, ResetWq, DrainPasid, AbortPasid}
+use Rattle.dsa_regs.specs.Command.{named_queues}
+use Rattle.dsa_store.specs.Content.{Slot, Content, chain, all_held}
+use Rattle.dsa_book.specs.declared.note.BatchNote.{BatchNote}
+use Rattle.dsa_book.specs.State.{Setup, is_batch_of}
+use Rattle.dsa_book.specs.Work.{run, opened_note, with_first_run}
+use Rattle.dsa_book.specs.Commands.{is_in_scope, names, has_batch, kept_note}
+use Rattle.dsa_laws.specs.WellFormed.{In}
+use Rattle.dsa_laws.specs.Engines.{holds_batch, IsNoteOf, IsAlike, IsLawfulEngine}
+use Rattle.dsa_laws.proofs.Contents.{In-append, In-counted, In-filter, filter-none, sum-filter-le, sum-list-le}
+use Rattle.dsa_laws.proofs.Changes.{and-left}
+use Rattle.dsa_laws.proofs.Setups.{not-both}
+
+-- ---- lists
+
+pub length-none : {X : Type 0} (xs : List X) → length xs ≤ 0 → xs ≡ []
+length-none [] h = refl
+length-none (x ∷ xs) h = absurd (omega (arith, h))
+
+pub length-filter-le : {X : Type 0} (p : X → Bool) (xs : List X) → length (filter p xs) ≤ length xs
+length-filter-le p xs = let a = length-filter p xs in let b = count_by-le-length p xs in omega (arith, a, b)
+
+-- where a test counts one, there is one that passes
+pub counted-In : {X : Type 0} (p : X → Bool) (xs : List X) → count_by p xs ≡ 1 → (x : X) × (In x xs × (p x ≡ true))
+counted-In p [] h = absurd (omega (arith, h))
+counted-In {X} p (x ∷ xs) h = go (counted-In p xs) (p x) refl
+  where
+    go : (count_by p xs ≡ 1 → (y : X) × (In y xs × (p y ≡ true))) → (b : Bool) → p x ≡ b → (y : X) × (In y (x ∷ xs) × (p y ≡ true))
+    go more true q = (x, (inl refl, q))
+    go more false q =
+        let c = sum_by-cons (λ y. cond (p y) 1 0) x xs in
+        let zero : ◌≡◌ {A = ℕ} (cond (p x) 1 0) 0 = ap (λ (b : Bool). cond {A = ℕ} b 1 0) q in
+        let r = more (omega (arith, h, c, zero)) in
+        (r.0, (inr r.1.0, r.1.1))
+
+-- two lists together hold no more than all do
+pub sum-two : (f : Slot → ℕ) (c : Content) (i j : ℕ) → i ≢ j → sum_by f (chain c i) + sum_by f (chain c j) ≤ sum_by f (all_held c)
+sum-two f [] i j n = omega arith
+sum-two f (l ∷ ls) zero zero n = absurd (n refl)
+sum-two f (l ∷ ls) zero (suc j) n = let a = sum_by-append f l (all_held ls) in let b = sum-list-le f ls j in omega (arith, a, b)
+sum-two f (l ∷ ls) (suc i) zero n = let a = sum_by-append f l (all_held ls) in let b = sum-list-le f ls i in omega (arith, a, b)
+sum-two f (l ∷ ls) (suc i) (suc j) n = let a = sum_by-append f l (all_held ls) in let b = sum-two f ls i j (λ e. n (ap (λ k. suc k) e)) in omega (arith, a, b)
+
+pub count-alike : {X : Type 0} (p q : X → Bool) (xs : List X) → ((x : X) → In x xs → p x ≡ q x) → count_by p xs ≡ count_by q xs
+count-alike p q [] h = refl
+count-alike p q (x ∷ xs) h =
+    let a = sum_by-cons (λ y. cond (p y) 1 0) x xs in
+    let b = sum_by-cons (λ y. cond (q y) 1 0) x xs in
+    let here : ◌≡◌ {A = ℕ} (cond (p x) 1 0) (cond (q x) 1 0) = ap (λ (t : Bool). cond {A = ℕ} t 1 0) (h x (inl refl)) in
+    let rest = count-alike p q xs (λ y i. h y (inr i)) in
+    omega (arith, a, b, here, rest)
+
+pub count-push : {X : Type 0} (p : X → Bool) (xs : List X) (x : X) (b : Bool) → p x ≡ b → count_by p (xs ++ x ∷ []) ≡ count_by p xs + cond b 1 0
+count-push p xs x b is =
+    let more = sum_by_push (λ y. cond (p y) 1 0) xs x in
+    let here : ◌≡◌ {A = ℕ} (cond (p x) 1 0) (cond b 1 0) = ap (λ (t : Bool). cond {A = ℕ} t 1 0) is in
+    omega (arith, more, here)
+
+-- one of a list with one more at its end stands in the list, or is that one
+In-push : {X : Type 0} (x : X) (xs : List X) (y : X) → In x (xs ++ y ∷ []) → In x xs ⊎ (y ≡ x)
+In-push x xs y i = ⊎_elim (λ j. inl j) (λ j. inr (only j)) (In-append x xs (y ∷ []) i)
+  where
+    only : In x (y ∷ []) → y ≡ x
+    only (inl e) = e
+    only (inr j) = absurd j
+
+-- what passes a test that the one more does not pass stands in the list
+In-old : {X : Type 0} (p : X → Bool) (x : X) (xs : List X) (y : X) → p y ≡ false → In x (xs ++ y ∷ []) → p x ≡ true → In x xs
+In-old p x xs y n i t = ⊎_elim (λ j. j) (λ e. not-both (p x) t (ap p (sym e) ∙ n)) (In-push x xs y i)
+
+-- what holds of each, and is not changed where an entry begins to run, holds of each after the first began to run
+first_run-from : (P : Slot → Type 0) → ((x : Slot) → P x → P (run x)) → (xs : List Slot) → ((x : Slot) → In x xs → P x) → (x : Slot) → In x (with_first_run xs) → P x
+first_run-from P r [] a x i = absurd i
+first_run-from P r (y ∷ ys) a x i = go (first_run-from P r ys (λ z j. a z (inr j)) x) y.1.running i
+  where
+    go : (In x (with_first_run ys) → P x) → (b : Bool) → In x (cond b (y ∷ with_first_run ys) (run y ∷ ys)) → P x
+    go more true (inl e) = a x (inl e)
+    go more true (inr j) = more j
+    go more false (inl e) = subst P e (r y (a y (inl refl)))
+    go more false (inr j) = a x (inr j)
+
+length-first_run : (xs : List Slot) → length (with_first_run xs) ≡ length xs
+length-first_run [] = refl
+length-first_run (x ∷ xs) = go x.1.running (length-first_run xs)
+  where
+    go : (b : Bool) → length (with_first_run xs) ≡ length xs → length (cond b (x ∷ with_first_run xs) (run x ∷ xs)) ≡ length (x ∷ xs)
+    go true e = omega (arith, e)
+    go false e = refl
+
+-- ---- by another setup, with fewer entries, with other marks
+
+-- the same lists by a setup with the same batches
+pub by_setup : (setup setup' : Setup) (ps ms : List Slot) (o : Option BatchNote) → ((x : Slot) → In x ps → holds_batch setup' x ≡ holds_batch setup x) → IsLawfulEngine setup ps ms o → IsLawfulEngine setup' ps ms o
+by_setup setup setup' ps ms None same h = record { no_batch = count-alike (holds_batch setup') (holds_batch setup) ps same ∙ h.no_batch; no_members = h.no_members }
+by_setup setup setup' ps ms (Some note) same h = record {
+  one_batch = count-alike (holds_batch setup') (holds_batch setup) ps same ∙ h.one_batch;
+  noted = λ b i t. h.noted b i (sym (same b i) ∙ t);
+  parents = h.parents;
+  alike = λ m b i j t. h.alike m b i j (sym (same b j) ∙ t);
+  most = h.most;
+}
+
+-- some go, and no batch is among them
+pub fewer : (setup : Setup) (ps ps' ms ms' : List Slot) (o : Option BatchNote) → count_by (holds_batch setup) ps' ≡ count_by (holds_batch setup) ps → ((x : Slot) → In x ps' → In x ps)
+    → ((x : Slot) → In x ms' → In x ms) → length ms' ≤ length ms → IsLawfulEngine setup ps ms o → IsLawfulEngine setup ps' ms' o
+fewer setup ps ps' ms ms' None same p m l h = record {
+  no_batch = same ∙ h.no_batch;
+  no_members = let none = ap (λ (xs : List Slot). length xs) h.no_members in length-none ms' (omega (arith, none, l));
+}
+fewer setup ps ps' ms ms' (Some note) same p m l h = record {
+  one_batch = same ∙ h.one_batch;
+  noted = λ b i t. h.noted b (p b i) t;
+  parents = λ x i. h.parents x (m x i);
+  alike = λ x b i j t. h.alike x b (m x i) (p b j) t;
+  most = let old = h.most in omega (arith, old, l);
+}
+
+-- a note with other marks
+pub marked : (setup : Setup) (ps ms : List Slot) (f : BatchNote → BatchNote) (o : Option BatchNote)
+    → ((n : BatchNote) → (f n).batch ≡ n.batch) → ((n : BatchNote) → (f n).count ≡ n.count) → ((n : BatchNote) → (f n).fetched ≡ n.fetched)
+    → IsLawfulEngine setup ps ms o → IsLawfulEngine setup ps ms (option_map f o)
+marked setup ps ms f None a b c h = h
+marked setup ps ms f (Some n) a b c h = record {
+  one_batch = h.one_batch;
+  noted = λ x i t. let is = h.noted x i t in record { name = a n ∙ is.name; count = b n ∙ is.count };
+  parents = λ x i. h.parents x i ∙ ap (λ k. Some k) (sym (a n));
+  alike = h.alike;
+  most = let old = h.most in let same = c n in omega (arith, old, same);
+}
+
+-- ---- each kind of step of an engine
+
+-- a front comes: a batch where there was none, or no batch
+pub with_front : (setup : Setup) (ps ms : List Slot) (o : Option BatchNote) (x : Slot) (b : Bool) → holds_batch setup x ≡ b → (is_none o || not b) ≡ true
+    → IsLawfulEngine setup ps ms o → IsLawfulEngine setup (ps ++ run x ∷ []) ms (cond b (Some (opened_note x.1)) o)
+with_front setup ps ms None x true is may h =
+    let count = count-push (holds_batch setup) ps (run x) true is in
+    let old = h.no_batch in
+    let none : (y : Slot) → In y ms → ⊥ = λ y i. subst (λ (l : List Slot). In y l) h.no_members i in
+    record {
+      one_batch = omega (arith, count, old);
+      noted = λ y i t. ⊎_elim
+          (λ j. let some = In-counted (holds_batch setup) y ps j t in absurd (omega (arith, some, old)))
+          (λ (e : run x ≡ y). subst (λ z. IsNoteOf (opened_note x.1) z) e (record { name = refl; count = refl }))
+          (In-push y ps (run x) i);
+      parents = λ y i. absurd (none y i);
+      alike = λ y z i j t. absurd (none y i);
+      most = let size = ap (λ (xs : List Slot). length xs) h.no_members in omega (arith, size);
+    }
+with_front setup ps ms (Some n) x true is may h = absurd cc
+with_front setup ps ms None x false is may h = record {
+  no_batch = let count = count-push (holds_batch setup) ps (run x) false is in let old = h.no_batch in omega (arith, count, old);
+  no_members = h.no_members;
+}
+with_front setup ps ms (Some n) x false is may h = record {
+  one_batch = let count = count-push (holds_batch setup) ps (run x) false is in let old = h.one_batch in omega (arith, count, old);
+  noted = λ y i t. h.noted y (In-old (holds_batch setup) y ps (run x) is i t) t;
+  parents = h.parents;
+  alike = λ m y i j t. h.alike m y i (In-old (holds_batch setup) y ps (run x) is j t) t;
+  most = h.most;
+}
+
+-- a member comes, like the batch
+pub with_member : (setup : Setup) (ps ms : List Slot) (n : BatchNote) (x : Slot) → x.1.parent ≡ Some n.batch → ((b : Slot) → In b ps → holds_batch setup b ≡ true → IsAlike x b)
+    → IsLawfulEngine setup ps ms (Some n) → IsLawfulEngine setup ps (ms ++ x ∷ []) (Some (record n { fetched = n.fetched + 1 }))
+with_member setup ps ms n x parent like h = record {
+  one_batch = h.one_batch;
+  noted = λ b i t. let is = h.noted b i t in record { name = is.name; count = is.count };
+  parents = λ m i. ⊎_elim (λ j. h.parents m j) (λ (e : x ≡ m). subst (λ (z : Slot). z.1.parent ≡ Some n.batch) e parent) (In-push m ms x i);
+  alike = λ m b i j t. ⊎_elim (λ k. h.alike m b k j t) (λ (e : x ≡ m). subst (λ z. IsAlike z b) e (like b j t)) (In-push m ms x i);
+  most = let old = h.most in let more = length-append ms (x ∷ []) in omega (arith, old, more);
+}
+
+-- the first member that waits runs
+pub with_run : (setup : Setup) (ps ms : List Slot) (o : Option BatchNote) → IsLawfulEngine setup ps ms o → IsLawfulEngine setup ps (with_first_run ms) o
+with_run setup ps ms None h = record {
+  no_batch = h.no_batch;
+  no_members = ap with_first_run h.no_members;
+}
+with_run setup ps ms (Some n) h = record {
+  one_batch = h.one_batch;
+  noted = h.noted;
+  parents = first_run-from (λ (m : Slot). m.1.parent ≡ Some n.batch) (λ x p. p) ms h.parents;
+  alike = λ m b i j t. first_run-from (λ m. IsAlike m b) (λ x p. record { queue = p.queue; pasid = p.pasid }) ms (λ x k. h.alike x b k j t) m i;
+  most = let old = h.most in let same = length-first_run ms in omega (arith, old, same);
+}
+
+-- the batch is gone, and there are no members
+pub batch_gone : (setup : Setup) (ps ps' ms ms' : List Slot) (o : Option BatchNote) → count_by (holds_batch setup) ps' + 1 ≡ count_by (holds_batch setup) ps → ms' ≡ [] → IsLawfulEngine setup ps ms o → IsLawfulEngine setup ps' ms' None
+batch_gone setup ps ps' ms ms' None less none h = let old = h.no_batch in absurd (omega (arith, less, old))
+batch_gone setup ps ps' ms ms' (Some n) less none h = record { no_batch = let old = h.one_batch in omega (arith, less, old); no_members = none }
+
+-- a batch ends, which has no members left, or another entry
+pub with_end : (setup : Setup) (ps ps' ms ms' : List Slot) (o : Option BatchNote) (b m : Bool) → (b ≡ true → (count_by (holds_batch setup) ps' + 1 ≡ count_by (holds_batch setup) ps) × (ms' ≡ []))
+    → (b ≡ false → count_by (holds_batch setup) ps' ≡ count_by (holds_batch setup) ps) → ((x : Slot) → In x ps' → In x ps) → ((x : Slot) → In x ms' → In x ms) → length ms' ≤ length ms
+    → IsLawfulEngine setup ps ms o → IsLawfulEngine setup ps' ms' (cond b None (cond m (option_map (λ (note : BatchNote). record note { failed = true }) o) o))
+with_end setup ps ps' ms ms' o true m gone stays p q l h = let r = gone refl in batch_gone setup ps ps' ms ms' o r.0 r.1 h
+with_end setup ps ps' ms ms' o false true gone stays p q l h =
+    marked setup ps' ms' (λ (note : BatchNote). record note { failed = true }) o (λ n. refl) (λ n. refl) (λ n. refl) (fewer setup ps ps' ms ms' o (stays refl) p q l h)
+with_end setup ps ps' ms ms' o false false gone stays p q l h = fewer setup ps ps' ms ms' o (stays refl) p q l h
+
+-- the members are abandoned, and the batch is closed
+pub with_none : (setup : Setup) (ps ms : List Slot) (o : Option BatchNote) → IsLawfulEngine setup ps ms o → IsLawfulEngine setup ps [] (option_map (λ (note : BatchNote). record note { closed = true }) o)
+with_none setup ps ms o h =
+    marked setup ps [] (λ (note : BatchNote). record note { closed = true }) o (λ n. refl) (λ n. refl) (λ n. refl) (fewer setup ps ps ms [] o refl (λ x i. i) (λ x i. absurd i) (omega arith) h)
+
+-- ---- an abort
+
+-- the entries that an abort leaves
+abbrev pub is_left : Command → Slot → Bool
+is_left command x = not (is_in_scope command x.1)
+
+-- a command is about a member and its batch, or about neither
+scope-alike : (command : Command) (m b : Slot) → IsAlike m b → is_in_scope command m.1 ≡ is_in_scope command b.1
+scope-alike EnableDevice m b h = refl
+scope-alike DisableDevice m b h = refl
+scope-alike DrainAll m b h = refl
+scope-alike AbortAll m b h = refl
+scope-alike ResetDevice m b h = refl
+scope-alike (EnableWq queue) m b h = refl
+scope-alike (DisableWq queues) m b h = ap (names (named_queues (DisableWq queues))) h.queue
+scope-alike (DrainWq queues) m b h = ap (names (named_queues (DrainWq queues))) h.queue
+scope-alike (AbortWq queues) m b h = ap (names (named_queues (AbortWq queues))) h.queue
+scope-alike (ResetWq queues) m b h = ap (names (named_queues (ResetWq queues))) h.queue
+scope-alike (DrainPasid pasid) m b h = ap (λ p. p == pasid) h.pasid
+scope-alike (AbortPasid pasid) m b h = ap (λ p. p == pasid) h.pasid
+
+any-In : {X : Type 0} (p : X → Bool) (xs : List X) → list_any p xs ≡ true → (x : X) × (In x xs × (p x ≡ true))
+any-In p [] h = absurd cc
+any-In {X} p (x ∷ xs) h = go (any-In p xs) (p x) refl h
+  where
+    go : (list_any p xs ≡ true → (y : X) × (In y xs × (p y ≡ true))) → (b : Bool) → p x ≡ b → (b || list_any p xs) ≡ true → (y : X) × (In y (x ∷ xs) × (p y ≡ true))
+    go more true q h = (x, (inl refl, q))
+    go more false q h = let r = more h in (r.0, (inr r.1.0, r.1.1))
+
+In-any : {X : Type 0} (p : X → Bool) (x : X) (xs : List X) → In x xs → p x ≡ true → list_any p xs ≡ true
+In-any p x [] i t = absurd i
+In-any p x (y ∷ ys) (inl e) t = ap (λ (b : Bool). b || list_any p ys) (ap p e ∙ t)
+In-any p x (y ∷ ys) (inr i) t = go (p y) (In-any p x ys i t)
+  where
+    go : (b : Bool) → list_any p ys ≡ true → (b || list_any p ys) ≡ true
+    go true h = refl
+    go false h = h
+
+In-passing : {X : Type 0} (p : X → Bool) (x : X) (xs : List X) → In x xs → p x ≡ true → In x (filter p xs)
+In-passing p x [] i t = absurd i
+In-passing p x (y ∷ ys) (inl e) t = subst (λ (b : Bool). In x (cond b (y ∷ filter p ys) (filter p ys))) (sym (ap p e ∙ t)) (inl e)
+In-passing p x (y ∷ ys) (inr i) t = go (p y) (In-passing p x ys i t)
+  where
+    go : (b : Bool) → In x (filter p ys) → In x (cond b (y ∷ filter p ys) (filter p ys))
+    go true j = inr j
+    go false j = j
+
+count-none : {X : Type 0} (p : X → Bool) (xs : List X) → ((x : X) → In x xs → p x ≡ false) → count_by p xs ≡ 0
+count-none p [] h = refl
+count-none p (x ∷ xs) h =
+    let c = sum_by-cons (λ y. cond (p y) 1 0) x xs in
+    let here : ◌≡◌ {A = ℕ} (cond (p x) 1 0) 0 = ap (λ (b : Bool). cond {A = ℕ} b 1 0) (h x (inl refl)) in
+    let rest = count-none p xs (λ y i. h y (inr i)) in
+    omega (arith, c, here, rest)
+
+-- a test that is not true of it is false
+not-passing : (b : Bool) → (b ≡ true → ⊥) → b ≡ false
+not-passing true h = absurd (h refl)
+not-passing false h = refl
+
+-- a batch goes with all its members, or stays
+pub with_abort : (command : Command) (setup : Setup) (ps ms : List Slot) (o : Option BatchNote) → IsLawfulEngine setup ps ms o
+    → IsLawfulEngine setup (filter (is_left command) ps) (filter (is_left command) ms) (kept_note setup (filter (is_left command) ps) o)
+with_abort command setup ps ms None h = record {
+  no_batch = let less = sum-filter-le (λ x. cond (holds_batch setup x) 1 0) (is_left command) ps in let old = h.no_batch in omega (arith, less, old);
+  no_members = ap (filter (is_left command)) h.no_members;
+}
+with_abort command setup ps ms (Some n) h = go (has_batch setup n (filter (is_left command) ps)) refl
+  where
+    named : (x : Slot) → In x ps → holds_batch setup x ≡ true → In x (filter (is_left command) ps) → has_batch setup n (filter (is_left command) ps) ≡ true
+    named x i t j =
+        let name : (x.1.name == n.batch) ≡ true = eq-eqb x.1.name n.batch (sym (h.noted x i t).name) in
+        In-any (λ slot. is_batch_of setup slot.1 && slot.1.name == n.batch) x (filter (is_left command) ps) j (ap (λ (b : Bool). b && x.1.name == n.batch) t ∙ name)
+
+    gone : has_batch setup n (filter (is_left command) ps) ≡ false → (x : Slot) → In x ms → is_left command x ≡ false
+    gone f x i =
+        let batch = counted-In (holds_batch setup) ps h.one_batch in
+        let out : is_left command batch.0 ≡ false = not-passing (is_left command batch.0) (λ t. not-both _ (named batch.0 batch.1.0 batch.1.1 (In-passing (is_left command) batch.0 ps batch.1.0 t)) f) in
+        ap not (scope-alike command x batch.0 (h.alike x batch.0 i batch.1.0 batch.1.1)) ∙ out
+
+    go : (b : Bool) → has_batch setup n (filter (is_left command) ps) ≡ b → IsLawfulEngine setup (filter (is_left command) ps) (filter (is_left command) ms) (cond b (Some n) None)
+    go true t =
+        let batch = any-In (λ slot. is_batch_of setup slot.1 && slot.1.name == n.batch) (filter (is_left command) ps) t in
+        let some = In-counted (holds_batch setup) batch.0 (filter (is_left command) ps) batch.1.0 (and-left _ _ batch.1.1) in
+        let less = sum-filter-le (λ x. cond (holds_batch setup x) 1 0) (is_left command) ps in
+        let one = h.one_batch in
+        fewer setup ps (filter (is_left command) ps) ms (filter (is_left command) ms) (Some n) (omega (arith, some, less, one))
+        (λ x i. (In-filter (is_left command) x ps i).0) (λ x i. (In-filter (is_left command) x ms i).0) (length-filter-le (is_left command) ms) h
+    go false f = record {
+      no_batch = count-none (holds_batch setup) (filter (is_left command) ps) (λ x j. not-passing (holds_batch setup x) (λ t. not-both _ (named x (In-filter (is_left command) x ps j).0 t j) f));
+      no_members = filter-none (is_left command) ms (count-none (is_left command) ms (gone f));
+    }

@@ -1,0 +1,318 @@
+-- The bounds on read buffers stay.
+use Rattle.std.proofs.Common.{drop, ◌≡◌, ◌≢◌, ℕ, ◌+◌, ◌<◌, ◌≤◌, ◌++◌, Bool, true, false, not, cond, List, [], ◌∷◌, map, set, Some, None, refl, sym, ap, ◌∙◌, subst, inl, inr, arith, ⊎_elim}
+use Rattle.std.specs.Prelude.{sum_by, filter, find, position, nat_lt}
+use Rattle.std.proofs.lemmas.List.Sums.{sum_by-cons, sum_by_push}
+use Rattle.std.proofs.lemmas.Bool.{ltb-false}
+use Rattle.std.proofs.lemmas.List.{get_or-set_other}
+use Rattle.dsa_desc.specs.Rows.{passes}
+use Rattle.dsa_regs.specs.declared.Caps.{Caps}
+use Rattle.dsa_regs.specs.declared.GroupConfig.{GroupConfig}
+use Rattle.dsa_regs.specs.declared.QueueConfig.{QueueConfig}
+use Rattle.dsa_regs.specs.Numbers.{has, numbers_below}
+use Rattle.dsa_regs.specs.declared.Phase.TheVariants.{Off, Stopping}
+use Rattle.dsa_regs.specs.declared.Command.{Command}
+use Rattle.dsa_regs.specs.declared.Command.TheVariants.{DisableDevice, DisableWq, ResetWq}
+use Rattle.dsa_regs.specs.Command.{named_queues}
+use Rattle.dsa_regs.specs.Config.{zero_queue, group_at, queue_at, is_in_two, total_size, total_reserved, groups_table, check_device}
+use Rattle.dsa_regs.specs.Buffers.{covered, fits}
+use Rattle.dsa_store.specs.Content.{Slot, Content, is_cell, chain, pushed, without_front}
+use Rattle.dsa_book.specs.State.{Setup, Work, State, opening, is_off, phase_at}
+use Rattle.dsa_book.specs.Work.{progress_list, member_list, members, first_waiting, may_take, used_on, has_room, front_of, qualifies, as_running, run, with_first_run}
+use Rattle.dsa_book.specs.Commands.{stopped, may_come, names, size_alone, is_in_scope}
+use Rattle.dsa_laws.specs.Change.{Change, same, is_noted, is_accepted, is_taken, is_fetched, is_started, is_abandoned, is_ended, is_device_enabled, is_queue_enabled, is_waiting, is_over, is_aborted, is_device_reset, is_queues_reset, is_queue_written, is_group_written}
+use Rattle.dsa_laws.specs.WellFormed.{HasShape, HasLawfulSetup, HasLawfulEntries, IsWellFormed, In}
+use Rattle.dsa_laws.specs.Buffering.{HasBuffers}
+use Rattle.dsa_laws.proofs.Changes.{and-left, and-right, not-true}
+use Rattle.dsa_laws.proofs.Contents.{chain-filtered, sum-filter-le, In-filtered}
+use Rattle.dsa_laws.proofs.Covering.{AreWithin, needed, all_needed, within-less, within-more, within-none}
+use Rattle.dsa_laws.proofs.Entries.{or-right, in-use-below}
+use Rattle.dsa_laws.proofs.Limits.{no-row}
+use Rattle.dsa_laws.proofs.Needs.{weight, weight-waiting, weight-run, weight-same, sum-within, sum_on, used_on-sum, sum_on-less, HasMore, sum_on-others, sum_on-mine}
+use Rattle.dsa_laws.proofs.Orders.{chain-set}
+use Rattle.dsa_laws.proofs.Setups.{not-both, on-not_off}
+use Rattle.dsa_laws.proofs.Numbers.{get_or-each}
+use Rattle.dsa_laws.proofs.Shapes.{below-engines, waiting-engine, stopped-caps, stopped-configs, stopped-groups}
+
+-- ---- the bounds, by what each engine needs
+
+within-of : (caps : Caps) (w : Work) → w.setup.caps ≡ caps → HasBuffers caps w → is_off w.setup.device ≡ false → AreWithin caps w.setup.groups (used_on w)
+within-of caps w is h on = record {
+  allowed = λ g i. subst (λ (k : Caps). needed (used_on w) k.engines w.setup.groups g ≤ (group_at w.setup.groups g).allowed) is (h.allowed on g i);
+  total = subst (λ (k : Caps). covered w.setup.groups (all_needed (used_on w) k w.setup.groups) ≤ caps.read_buffers) is (h.covered on);
+}
+
+of-within : (caps : Caps) (w : Work) → w.setup.caps ≡ caps → (is_off w.setup.device ≡ false → AreWithin caps w.setup.groups (used_on w)) → HasBuffers caps w
+of-within caps w is h = record {
+  allowed = λ on g i. subst (λ (k : Caps). needed (used_on w) k.engines w.setup.groups g ≤ (group_at w.setup.groups g).allowed) (sym is) ((h on).allowed g i);
+  covered = λ on. subst (λ (k : Caps). covered w.setup.groups (all_needed (used_on w) k w.setup.groups) ≤ caps.read_buffers) (sym is) ((h on).total);
+}
+
+-- an Off device is under no bound
+while-off : (caps : Caps) (w : Work) → is_off w.setup.device ≡ true → HasBuffers caps w
+while-off caps w off = record {
+  allowed = λ on. not-both (is_off w.setup.device) off on;
+  covered = λ on. not-both (is_off w.setup.device) off on;
+}
+
+between : (a b c d : ℕ) → a ≡ b → c ≡ d → d ≤ b → c ≤ a
+between a b c d p q h = omega (arith, p, q, h)
+
+-- where no list needs more, and the queues of its entries have the limits that they had
+no-more : (caps : Caps) (w w' : Work) → w.setup.caps ≡ caps → w'.setup.caps ≡ caps → w'.setup.groups ≡ w.setup.groups → (is_off w'.setup.device ≡ false → is_off w.setup.device ≡ false)
+    → ((k : ℕ) (x : Slot) → In x (chain w'.content k) → queue_at w'.setup.configs x.1.queue ≡ queue_at w.setup.configs x.1.queue)
+    → ((k : ℕ) → sum_by (weight w.setup) (chain w'.content k) ≤ sum_by (weight w.setup) (chain w.content k))
+    → HasBuffers caps w → HasBuffers caps w'
+no-more caps w w' is is' groups off configs lists h = of-within caps w' is' (λ on.
+    subst (λ (gs : List GroupConfig). AreWithin caps gs (used_on w')) (sym groups)
+    (within-less caps w.setup.groups (used_on w) (used_on w') (within-of caps w is h (off on)) (λ e.
+    between (used_on w e) (sum_on caps (weight w.setup) w.content e) (used_on w' e) (sum_on caps (weight w'.setup) w'.content e)
+    (used_on-sum caps w e is) (used_on-sum caps w' e is') (sum_on-less caps (weight w.setup) (weight w'.setup) w.content w'.content e each))))
+  where
+    each : (k : ℕ) → sum_by (weight w'.setup) (chain w'.content k) ≤ sum_by (weight w.setup) (chain w.content k)
+    each k =
+        let a = sum-within (weight w.setup) (weight w'.setup) (chain w'.content k) (λ x i. let e = weight-same w.setup w'.setup x (configs k x i) in omega (arith, e)) in
+        let b = lists k in
+        omega (arith, a, b)
+
+between-more : (a b c d n : ℕ) → a ≡ b → c ≡ d → d ≤ b + n → c ≤ a + n
+between-more a b c d n p q h = omega (arith, p, q, h)
+
+-- where one list of an engine needs more, and that much fits
+one-more : (caps : Caps) (w w' : Work) (e p n : ℕ) → HasShape caps w → HasLawfulSetup w.setup → w'.setup ≡ w.setup → HasMore caps (weight w.setup) w.content w'.content e p n → has_room w e n ≡ true
+    → HasBuffers caps w → HasBuffers caps w'
+one-more caps w w' e p n shape setup is more room h = of-within caps w' is' (λ on'.
+    let on : is_off w.setup.device ≡ false = subst (λ (s : Setup). is_off s.device ≡ false) is on' in
+    let alone : is_in_two (λ g. g.engines) w.setup.groups w.setup.caps.engines ≡ false = or-right _ _ (no-row (groups_table w.setup.caps (total_size w.setup.configs) w.setup.groups) (setup.device on)).1.1.0 in
+    subst (λ (gs : List GroupConfig). AreWithin caps gs (used_on w')) (sym (ap (λ (s : Setup). s.groups) is))
+    (within-more caps w.setup.groups (used_on w) (used_on w') e n (within-of caps w shape.same_caps h on) shape.groups more.engine
+    (subst (λ (k : Caps). is_in_two (λ g. g.engines) w.setup.groups k.engines ≡ false) shape.same_caps alone)
+    (subst (λ (k : Caps). passes (λ g. fits k.read_buffers w.setup.groups (all_needed (used_on w) k w.setup.groups) g n) (position (λ g. has g.engines e) w.setup.groups) ≡ true) shape.same_caps room)
+    (λ k q. between (used_on w k) (sum_on caps (weight w.setup) w.content k) (used_on w' k) (sum_on caps (weight w.setup) w'.content k) (used_on-sum caps w k shape.same_caps) (after k)
+    (sum_on-others caps (weight w.setup) w.content w'.content e p n more k q))
+    (between-more (used_on w e) (sum_on caps (weight w.setup) w.content e) (used_on w' e) (sum_on caps (weight w.setup) w'.content e) n (used_on-sum caps w e shape.same_caps) (after e)
+    (sum_on-mine caps (weight w.setup) w.content w'.content e p n more))))
+  where
+    is' : w'.setup.caps ≡ caps
+    is' = ap (λ (s : Setup). s.caps) is ∙ shape.same_caps
+
+    after : (k : ℕ) → used_on w' k ≡ sum_on caps (weight w.setup) w'.content k
+    after k = used_on-sum caps w' k is' ∙ ap (λ (s : Setup). sum_on caps (weight s) w'.content k) is
+
+-- ---- lists
+
+-- as it was, or as set
+set-within : (f : Slot → ℕ) (c : Content) (p : ℕ) (l : List Slot) (n : ℕ) → sum_by f l ≤ sum_by f (chain c p) + n → (k : ℕ) → sum_by f (chain (set c p l) k) ≤ sum_by f (chain c k) + n
+set-within f c p l n h k = ⊎_elim
+    (λ q. subst (λ j. sum_by f (chain (set c p l) j) ≤ sum_by f (chain c j) + n) (sym q.0) (let e = ap (λ (xs : List Slot). sum_by f xs) (at q.0 q.1) in omega (arith, e, h)))
+    (λ q. let e = ap (λ (xs : List Slot). sum_by f xs) q in omega (arith, e))
+    (chain-set c p l k)
+  where
+    at : k ≡ p → chain (set c p l) k ≡ l → chain (set c p l) p ≡ l
+    at q e = subst (λ j. chain (set c p l) j ≡ l) q e
+
+pushed-within : (f : Slot → ℕ) (c : Content) (p : ℕ) (x : Slot) (k : ℕ) → sum_by f (chain (pushed c p x.0 x.1) k) ≤ sum_by f (chain c k) + f x
+pushed-within f c p x k = set-within f c p (chain c p ++ x ∷ []) (f x) (let e = sum_by_push f (chain c p) x in omega (arith, e)) k
+
+-- one that needs nothing yet
+pushed-light : (f : Slot → ℕ) (c : Content) (p : ℕ) (x : Slot) → f x ≡ 0 → (k : ℕ) → sum_by f (chain (pushed c p x.0 x.1) k) ≤ sum_by f (chain c k)
+pushed-light f c p x z k = let h = pushed-within f c p x k in omega (arith, h, z)
+
+rest-within : (f : Slot → ℕ) (xs : List Slot) → sum_by f (drop 1 xs) ≤ sum_by f xs
+rest-within f [] = omega arith
+rest-within f (x ∷ xs) = let c = sum_by-cons f x xs in omega (arith, c)
+
+front-within : (f : Slot → ℕ) (c : Content) (q k : ℕ) → sum_by f (chain (without_front c q) k) ≤ sum_by f (chain c k)
+front-within f c q k =
+    let r = rest-within f (chain c q) in
+    let h = set-within f c q (drop 1 (chain c q)) 0 (omega (arith, r)) k in
+    omega (arith, h)
+
+emptied-within : (f : Slot → ℕ) (c : Content) (p k : ℕ) → sum_by f (chain (set c p []) k) ≤ sum_by f (chain c k)
+emptied-within f c p k = let h = set-within f c p [] 0 (omega arith) k in omega (arith, h)
+
+filtered-within : (f : Slot → ℕ) (p : Slot → Bool) (c : Content) (k : ℕ) → sum_by f (chain (map (filter p) c) k) ≤ sum_by f (chain c k)
+filtered-within f p c k =
+    let e = ap (λ (xs : List Slot). sum_by f xs) (chain-filtered p c k) in
+    let h = sum-filter-le f p (chain c k) in
+    omega (arith, e, h)
+
+-- the first that does not run runs
+first_run-within : (f : Slot → ℕ) (xs : List Slot) (slot : Slot) → find (λ x. not x.1.running) xs ≡ Some slot → sum_by f (with_first_run xs) ≤ sum_by f xs + f (run slot)
+first_run-within f [] slot h = absurd cc
+first_run-within f (x ∷ xs) slot h = go x.1.running (first_run-within f xs slot) h
+  where
+    go : (b : Bool) → (find (λ y. not y.1.running) xs ≡ Some slot → sum_by f (with_first_run xs) ≤ sum_by f xs + f (run slot)) → cond (not b) (Some x) (find (λ y. not y.1.running) xs) ≡ Some slot
+        → sum_by f (cond b (x ∷ with_first_run xs) (run x ∷ xs)) ≤ sum_by f (x ∷ xs) + f (run slot)
+    go true more h =
+        let rest = more h in
+        let a = sum_by-cons f x (with_first_run xs) in
+        let b = sum_by-cons f x xs in
+        omega (arith, rest, a, b)
+    go false more h =
+        let is : x ≡ slot = cc in
+        let e = ap (λ (y : Slot). f (run y)) is in
+        let a = sum_by-cons f (run x) xs in
+        let b = sum_by-cons f x xs in
+        omega (arith, e, a, b)
+
+set-other : (c : Content) (p : ℕ) (l : List Slot) (k : ℕ) → k ≢ p → chain (set c p l) k ≡ chain c k
+set-other c p l k ne = ⊎_elim (λ q. absurd (ne q.0)) (λ e. e) (chain-set c p l k)
+
+-- ---- the two changes by which an entry begins to run
+
+taken-more : (caps : Caps) (w : Work) (e q : ℕ) (front : Slot) (f : Slot → ℕ) → HasShape caps w → e < caps.engines
+    → HasMore caps f w.content (pushed (without_front w.content q) (progress_list w.setup e) front.0 (as_running front.1)) e (progress_list w.setup e) (f (run front))
+taken-more caps w e q front f shape engine = record {
+  engine = engine;
+  place = inl (ap (λ (k : Caps). k.queues + e) shape.same_caps);
+  others = λ k ne.
+      let r = front-within f w.content q k in
+      let is = ap (λ (xs : List Slot). sum_by f xs) (set-other (without_front w.content q) (progress_list w.setup e) (chain (without_front w.content q) (progress_list w.setup e) ++ run front ∷ []) k ne) in
+      omega (arith, r, is);
+  mine =
+      let r = front-within f w.content q (progress_list w.setup e) in
+      let h = pushed-within f (without_front w.content q) (progress_list w.setup e) (run front) (progress_list w.setup e) in
+      omega (arith, r, h);
+}
+
+started-more : (caps : Caps) (w : Work) (e : ℕ) (slot : Slot) (f : Slot → ℕ) → HasShape caps w → first_waiting w e ≡ Some slot
+    → HasMore caps f w.content (set w.content (member_list w.setup e) (with_first_run (members w e))) e (member_list w.setup e) (f (run slot))
+started-more caps w e slot f shape first =
+    let has = waiting-engine w e slot first in
+    let is = ap (λ (b : Bool). sum_by f (cond b (chain w.content (member_list w.setup e)) [])) has in
+    let run = first_run-within f (members w e) slot first in
+    record {
+      engine = below-engines caps w e shape has;
+      place = inr (ap (λ (k : Caps). k.queues + k.engines + e) shape.same_caps);
+      others = λ k ne.
+          let same = ap (λ (xs : List Slot). sum_by f xs) (set-other w.content (member_list w.setup e) (with_first_run (members w e)) k ne) in
+          omega (arith, same);
+      mine = set-within f w.content (member_list w.setup e) (with_first_run (members w e)) _ (omega (arith, is, run)) (member_list w.setup e);
+    }
+
+-- ---- the device is enabled: nothing is held
+
+sum-empty : (f : Slot → ℕ) (xs : List Slot) → ((x : Slot) → In x xs → ⊥) → sum_by f xs ≡ 0
+sum-empty f [] h = refl
+sum-empty f (x ∷ xs) h = absurd (h x (inl refl))
+
+sum_on-none : (caps : Caps) (f : Slot → ℕ) (c : Content) (e : ℕ) → ((k : ℕ) → sum_by f (chain c k) ≡ 0) → sum_on caps f c e ≡ 0
+sum_on-none caps f c e h =
+    let a = h (caps.queues + e) in
+    let b = h (caps.queues + caps.engines + e) in
+    tested (nat_lt e caps.engines) _ (omega (arith, a, b))
+  where
+    tested : (b : Bool) (n : ℕ) → n ≡ 0 → cond b n 0 ≡ 0
+    tested true n z = z
+    tested false n z = refl
+
+none-held : (caps : Caps) (w : Work) → HasLawfulSetup w.setup → HasLawfulEntries caps w → is_off w.setup.device ≡ true → (k : ℕ) (x : Slot) → In x (chain w.content k) → ⊥
+none-held caps w setup entries off k x i = not-both (is_off w.setup.device) off (setup.phases x.1.queue (entries.slot k x i))
+
+enabled-buffers : (caps : Caps) (w w' : Work) → HasShape caps w → HasLawfulSetup w.setup → HasLawfulEntries caps w → is_off w.setup.device ≡ true → check_device w.setup.caps w.setup.configs w.setup.groups ≡ None
+    → w'.setup.caps ≡ w.setup.caps → w'.setup.groups ≡ w.setup.groups → w'.content ≡ w.content → HasBuffers caps w'
+enabled-buffers caps w w' shape setup entries off check same_caps groups content =
+    let is = same_caps ∙ shape.same_caps in
+    let reserved = ltb-false w.setup.caps.read_buffers (total_reserved w.setup.groups) (no-row (groups_table w.setup.caps (total_size w.setup.configs) w.setup.groups) check).1.1.1.0 in
+    let total = ap (λ (k : Caps). k.read_buffers) shape.same_caps in
+    let now = ap (λ (gs : List GroupConfig). total_reserved gs) groups in
+    of-within caps w' is (λ on. within-none caps w'.setup.groups (used_on w') (omega (arith, reserved, total, now)) (λ e.
+    used_on-sum caps w' e is ∙ sum_on-none caps (weight w'.setup) w'.content e (λ k.
+    sum-empty (weight w'.setup) (chain w'.content k) (λ x i. none-held caps w setup entries off k x (subst (λ (c : Content). In x (chain c k)) content i)))))
+
+-- ---- the limits of what is held stay
+
+queues_reset-configs : (caps : Caps) (w : Work) (qs : List ℕ) (q : ℕ) → HasShape caps w → is_off (phase_at w.setup q) ≡ false → names qs q ≡ false
+    → queue_at (map (λ k. cond (names qs k) (size_alone (queue_at w.setup.configs k)) (queue_at w.setup.configs k)) (numbers_below w.setup.caps.queues)) q ≡ queue_at w.setup.configs q
+queues_reset-configs caps w qs q shape on out =
+    get_or-each (λ k. cond (names qs k) (size_alone (queue_at w.setup.configs k)) (queue_at w.setup.configs k)) w.setup.caps.queues q zero_queue (in-use-below caps w q shape on)
+    ∙ ap (λ (b : Bool). cond b (size_alone (queue_at w.setup.configs q)) (queue_at w.setup.configs q)) out
+
+waiting-on : (setup : Setup) (command : Command) → may_come setup command ≡ true → is_off (stopped command Stopping setup).device ≡ false → is_off setup.device ≡ false
+waiting-on setup DisableDevice may n = on-not_off setup.device may
+waiting-on setup (DisableWq queues) may n = n
+waiting-on setup _ may n = n
+
+over-on : (setup : Setup) (command : Command) → is_off (stopped command Off setup).device ≡ false → is_off setup.device ≡ false
+over-on setup DisableDevice n = absurd cc
+over-on setup (DisableWq queues) n = n
+over-on setup _ n = n
+
+-- ---- each kind
+
+taken-room : (w : Work) (e q : ℕ) (front : Slot) → qualifies w e q ≡ true → front_of w q ≡ Some front → has_room w e (weight w.setup (run front)) ≡ true
+taken-room w e q front h is =
+    let may : may_take w e front ≡ true = subst (λ o. passes (may_take w e) o ≡ true) is (and-right _ _ (and-right _ _ h)) in
+    subst (λ n. has_room w e n ≡ true) (sym (weight-run w.setup front)) (and-right _ _ (and-left _ _ may))
+
+-- the content alone has changed, and no list needs more
+lighter : (caps : Caps) (w w' : Work) → HasShape caps w → w'.setup ≡ w.setup → ((k : ℕ) → sum_by (weight w.setup) (chain w'.content k) ≤ sum_by (weight w.setup) (chain w.content k)) → HasBuffers caps w → HasBuffers caps w'
+lighter caps w w' shape is lists h = no-more caps w w' shape.same_caps (ap (λ (s : Setup). s.caps) is ∙ shape.same_caps) (ap (λ (s : Setup). s.groups) is) (λ n. subst (λ (s : Setup). is_off s.device ≡ false) is n)
+    (λ k x i. ap (λ (s : Setup). queue_at s.configs x.1.queue) is) lists h
+
+-- the setup alone has changed, and what is held has the limits that it had
+settled : (caps : Caps) (w w' : Work) → HasShape caps w → w'.content ≡ w.content → w'.setup.caps ≡ w.setup.caps → w'.setup.groups ≡ w.setup.groups → (is_off w'.setup.device ≡ false → is_off w.setup.device ≡ false)
+    → ((k : ℕ) (x : Slot) → In x (chain w.content k) → queue_at w'.setup.configs x.1.queue ≡ queue_at w.setup.configs x.1.queue) → HasBuffers caps w → HasBuffers caps w'
+settled caps w w' shape content same_caps groups off configs h = no-more caps w w' shape.same_caps (same_caps ∙ shape.same_caps) groups off
+    (λ k x i. configs k x (subst (λ (c : Content). In x (chain c k)) content i))
+    (λ k. let e = ap (λ (c : Content). sum_by (weight w.setup) (chain c k)) content in omega (arith, e))
+    h
+
+kept-change : (caps : Caps) (s s' : State) → HasShape caps s.work → HasLawfulSetup s.work.setup → HasLawfulEntries caps s.work → HasBuffers caps s.work → Change s s' → HasBuffers caps s'.work
+kept-change caps s s' shape setup entries h (same c) = subst (λ t. HasBuffers caps t.work) c h
+kept-change caps s s' shape setup entries h (is_noted c) = subst (λ t. HasBuffers caps t.work) c.after (settled caps s.work _ shape refl refl refl (λ n. n) (λ k x i. refl) h)
+kept-change caps s s' shape setup entries h (is_accepted c) =
+    subst (λ t. HasBuffers caps t.work) c.after
+    (no-more caps s.work _ shape.same_caps shape.same_caps refl (λ n. n) (λ k x i. refl) (pushed-light (weight s.work.setup) s.work.content c.queue _ (weight-waiting s.work.setup _ refl)) h)
+kept-change caps s s' shape setup entries h (is_taken c) =
+    let engine = below-engines caps s.work c.engine shape (and-left _ _ (and-left _ _ c.qualifies)) in
+    subst (λ t. HasBuffers caps t.work) c.after
+    (one-more caps s.work _ c.engine _ _ shape setup refl (taken-more caps s.work c.engine c.queue c.front (weight s.work.setup) shape engine)
+    (taken-room s.work c.engine c.queue c.front c.qualifies c.is_front) h)
+kept-change caps s s' shape setup entries h (is_fetched c) =
+    subst (λ t. HasBuffers caps t.work) c.after
+    (no-more caps s.work _ shape.same_caps shape.same_caps refl (λ n. n) (λ k x i. refl) (pushed-light (weight s.work.setup) s.work.content (member_list s.work.setup c.engine) _ (weight-waiting s.work.setup _ refl)) h)
+kept-change caps s s' shape setup entries h (is_started c) =
+    subst (λ t. HasBuffers caps t.work) c.after
+    (one-more caps s.work _ c.engine _ _ shape setup refl (started-more caps s.work c.engine c.slot (weight s.work.setup) shape c.is_first)
+    (subst (λ n. has_room s.work c.engine n ≡ true) (sym (weight-run s.work.setup c.slot)) c.room) h)
+kept-change caps s s' shape setup entries h (is_abandoned c) =
+    subst (λ t. HasBuffers caps t.work) c.after (lighter caps s.work _ shape refl (emptied-within (weight s.work.setup) s.work.content (member_list s.work.setup c.engine)) h)
+kept-change caps s s' shape setup entries h (is_ended c) =
+    subst (λ t. HasBuffers caps t.work) c.after (lighter caps s.work _ shape refl (filtered-within (weight s.work.setup) (λ slot. not (is_cell c.slot.0 slot)) s.work.content) h)
+kept-change caps s s' shape setup entries h (is_device_enabled c) =
+    subst (λ t. HasBuffers caps t.work) c.after (enabled-buffers caps s.work _ shape setup entries c.off c.check refl refl refl)
+kept-change caps s s' shape setup entries h (is_queue_enabled c) =
+    subst (λ t. HasBuffers caps t.work) c.after (settled caps s.work _ shape refl refl refl (λ n. n) (λ k x i. refl) h)
+kept-change caps s s' shape setup entries h (is_waiting c) =
+    subst (λ t. HasBuffers caps t.work) c.after
+    (settled caps s.work _ shape refl (stopped-caps c.command Stopping s.work.setup) (stopped-groups c.command Stopping s.work.setup) (waiting-on s.work.setup c.command c.may)
+    (λ k x i. ap (λ (cs : List QueueConfig). queue_at cs x.1.queue) (stopped-configs c.command Stopping s.work.setup)) h)
+kept-change caps s s' shape setup entries h (is_over c) =
+    subst (λ t. HasBuffers caps t.work) c.after
+    (settled caps s.work _ shape refl (stopped-caps c.command.command Off s.work.setup) (stopped-groups c.command.command Off s.work.setup) (over-on s.work.setup c.command.command)
+    (λ k x i. ap (λ (cs : List QueueConfig). queue_at cs x.1.queue) (stopped-configs c.command.command Off s.work.setup)) h)
+kept-change caps s s' shape setup entries h (is_aborted c) =
+    subst (λ t. HasBuffers caps t.work) c.after (lighter caps s.work _ shape refl (filtered-within (weight s.work.setup) (λ slot. not (is_in_scope c.command slot.1)) s.work.content) h)
+kept-change caps s s' shape setup entries h (is_device_reset c) = subst (λ t. HasBuffers caps t.work) c.after (while-off caps _ refl)
+kept-change caps s s' shape setup entries h (is_queues_reset c) =
+    let qs = named_queues (ResetWq c.queues) in
+    subst (λ t. HasBuffers caps t.work) c.after
+    (no-more caps s.work _ shape.same_caps shape.same_caps refl (λ n. n)
+    (λ k x i.
+    let j = In-filtered (λ slot. not (names qs slot.1.queue)) s.work.content k x i in
+    queues_reset-configs caps s.work qs x.1.queue shape (entries.slot k x j.0) (not-true _ j.1))
+    (filtered-within (weight s.work.setup) (λ slot. not (names qs slot.1.queue)) s.work.content) h)
+kept-change caps s s' shape setup entries h (is_queue_written c) =
+    subst (λ t. HasBuffers caps t.work) c.after
+    (settled caps s.work _ shape refl refl refl (λ n. n)
+    (λ k x i. get_or-set_other s.work.setup.configs c.queue x.1.queue c.config zero_queue (λ (e : x.1.queue ≡ c.queue).
+    not-both (is_off (phase_at s.work.setup c.queue)) c.off (subst (λ q. is_off (phase_at s.work.setup q) ≡ false) e (entries.slot k x i))))
+    h)
+kept-change caps s s' shape setup entries h (is_group_written c) = subst (λ t. HasBuffers caps t.work) c.after (while-off caps _ c.off)
+
+pub buffers-change : (caps : Caps) (s s' : State) → IsWellFormed caps s → HasBuffers caps s.work → Change s s' → HasBuffers caps s'.work
+buffers-change caps s s' w h c = kept-change caps s s' w.shape w.setup w.entries h c
+
+pub buffers-opening : (caps : Caps) → HasBuffers caps (opening caps).work
+buffers-opening caps = while-off caps (opening caps).work refl

@@ -1,0 +1,403 @@
+-- Each engine has a note exactly where it works on a batch, whatever step is made.
+use Rattle.std.proofs.Common.{drop, ◌≡◌, ◌≢◌, ℕ, ◌+◌, ◌<◌, ◌≤◌, ◌^◌, ◌&&◌, ◌||◌, ◌==◌, not, Bool, true, false, cond, List, [], ◌∷◌, ◌++◌, length, filter, set, get_or, Option, Some, None, option_map, is_none, refl, sym, ap, ◌∙◌, subst, ◌⊎◌, inl, inr, arith, ⊎_elim, eq-eqb, eqb-true}
+use Rattle.std.specs.Prelude.{nat_lt, count_by, sum_by}
+use Rattle.std.proofs.lemmas.Bool.Decides.{nat_tests}
+use Rattle.std.proofs.lemmas.Bool.{cases_Bool, cases_eq, ltb-true, ltb-false}
+use Rattle.std.proofs.lemmas.List.{length-set, get_or-set_same, get_or-set_other, get_or-replicate}
+use Rattle.std.proofs.Math.ListN.{get_or-eq_default}
+use Rattle.dsa_desc.specs.declared.Outcome.{Outcome}
+use Rattle.dsa_desc.specs.Descriptor.{with_pasid, is_successful, is_lawful_batch}
+use Rattle.dsa_desc.specs.Rows.{passes}
+use Rattle.dsa_regs.specs.declared.Caps.{Caps}
+use Rattle.dsa_regs.specs.declared.QueueConfig.{QueueConfig}
+use Rattle.dsa_regs.specs.declared.Phase.TheVariants.{Off, Stopping}
+use Rattle.dsa_regs.specs.declared.Command.{Command}
+use Rattle.dsa_regs.specs.declared.Command.TheVariants.{ResetDevice, ResetWq}
+use Rattle.dsa_regs.specs.Caps.{cell_count, list_count}
+use Rattle.dsa_regs.specs.Config.{queue_at, limits_of, zero_queue}
+use Rattle.dsa_regs.specs.Command.{named_queues}
+use Rattle.dsa_store.specs.declared.entry.Cell.{Cell}
+use Rattle.dsa_store.specs.Content.{Slot, Content, is_cell, chain, count, uses, without_front, unlinked}
+use Rattle.dsa_store.proofs.Places.{filter-absent}
+use Rattle.dsa_store.proofs.Sums.{uses-counted}
+use Rattle.dsa_book.specs.declared.note.BatchNote.{BatchNote}
+use Rattle.dsa_book.specs.State.{Setup, Work, State, opening, opening_setup, is_off, is_member, is_batch_of, phase_at, status_of}
+use Rattle.dsa_book.specs.Work.{progress_list, member_list, in_progress, members, note_at, running_on, run, is_unfinished, note_after, with_first_run, opened_note, taken, may_take, ended}
+use Rattle.dsa_book.specs.Commands.{aborted, kept_note, names, size_alone}
+use Rattle.dsa_laws.specs.Change.{Change, same, is_noted, is_accepted, is_taken, is_fetched, is_started, is_abandoned, is_ended, is_device_enabled, is_queue_enabled, is_waiting, is_over, is_aborted, is_device_reset, is_queues_reset, is_queue_written, is_group_written}
+use Rattle.dsa_laws.specs.WellFormed.{HasShape, NoneOff, NamesOnce, NoteFits, NotesFit, In, IsWellFormed}
+use Rattle.dsa_laws.specs.Engines.{holds_batch, IsAlike, IsLawfulEngine, HasLawfulEngines, MembersFit}
+use Rattle.dsa_laws.proofs.Contents.{In-append, In-counted, In-filter, In-filtered, In-find, In-same, chain-filtered, sum-list-le, sum-without}
+use Rattle.dsa_laws.proofs.Changes.{and-left, and-right, not-true}
+use Rattle.dsa_laws.proofs.Shapes.{shape-change, shape-opening, stopped-configs, In-cond, below-engines, member_list-in, progress_list-in, waiting-engine}
+use Rattle.dsa_laws.proofs.Setups.{not-both, on-not_off}
+use Rattle.dsa_laws.proofs.Numbers.{get_or-each}
+use Rattle.dsa_laws.proofs.Entries.{in-use-below, or-left}
+use Rattle.dsa_laws.proofs.Batches.{by_setup, with_front, with_member, with_run, with_none, with_end, is_left, with_abort, sum-two, length-none, length-filter-le}
+
+-- ---- the limits of the queues that entries name
+
+-- the queue of each entry is configured as before
+abbrev KeepsConfigs : State → State → Type 0
+KeepsConfigs s t = (k : ℕ) (x : Slot) → In x (chain t.work.content k) → queue_at t.work.setup.configs x.1.queue ≡ queue_at s.work.setup.configs x.1.queue
+
+configs-kept : (caps : Caps) (s s' : State) → HasShape caps s.work → NoneOff s.work → Change s s' → KeepsConfigs s s'
+configs-kept caps s s' h a (same c) = subst (KeepsConfigs s) c (λ k x i. refl)
+configs-kept caps s s' h a (is_noted c) = subst (KeepsConfigs s) c.after (λ k x i. refl)
+configs-kept caps s s' h a (is_accepted c) = subst (KeepsConfigs s) c.after (λ k x i. refl)
+configs-kept caps s s' h a (is_taken c) = subst (KeepsConfigs s) c.after (λ k x i. refl)
+configs-kept caps s s' h a (is_fetched c) = subst (KeepsConfigs s) c.after (λ k x i. refl)
+configs-kept caps s s' h a (is_started c) = subst (KeepsConfigs s) c.after (λ k x i. refl)
+configs-kept caps s s' h a (is_abandoned c) = subst (KeepsConfigs s) c.after (λ k x i. refl)
+configs-kept caps s s' h a (is_ended c) = subst (KeepsConfigs s) c.after (λ k x i. refl)
+configs-kept caps s s' h a (is_device_enabled c) = subst (KeepsConfigs s) c.after (λ k x i. refl)
+configs-kept caps s s' h a (is_queue_enabled c) = subst (KeepsConfigs s) c.after (λ k x i. refl)
+configs-kept caps s s' h a (is_waiting c) = subst (KeepsConfigs s) c.after (λ k x i. ap (λ (l : List QueueConfig). queue_at l x.1.queue) (stopped-configs c.command Stopping s.work.setup))
+configs-kept caps s s' h a (is_over c) = subst (KeepsConfigs s) c.after (λ k x i. ap (λ (l : List QueueConfig). queue_at l x.1.queue) (stopped-configs c.command.command Off s.work.setup))
+configs-kept caps s s' h a (is_aborted c) = subst (KeepsConfigs s) c.after (λ k x i. refl)
+configs-kept caps s s' h a (is_device_reset c) = subst (KeepsConfigs s) c.after (λ k x i. not-both false (In-filtered (λ slot. not true) s.work.content k x i).1 refl)
+configs-kept caps s s' h a (is_queues_reset c) =
+    let qs = named_queues (ResetWq c.queues) in
+    subst (KeepsConfigs s) c.after (λ k x i.
+    let old = In-filtered (λ slot. not (names qs slot.1.queue)) s.work.content k x i in
+    let below = in-use-below caps s.work x.1.queue h (a k x old.0) in
+    get_or-each (λ q. cond (names qs q) (size_alone (queue_at s.work.setup.configs q)) (queue_at s.work.setup.configs q)) s.work.setup.caps.queues x.1.queue zero_queue below
+    ∙ ap (λ (b : Bool). cond b (size_alone (queue_at s.work.setup.configs x.1.queue)) (queue_at s.work.setup.configs x.1.queue)) (not-true _ old.1))
+configs-kept caps s s' h a (is_queue_written c) =
+    subst (KeepsConfigs s) c.after (λ k x i. get_or-set_other s.work.setup.configs c.queue x.1.queue c.config zero_queue
+    (λ (e : x.1.queue ≡ c.queue). not-both (is_off (phase_at s.work.setup c.queue)) c.off (subst (λ q. is_off (phase_at s.work.setup q) ≡ false) e (a k x i))))
+configs-kept caps s s' h a (is_group_written c) = subst (KeepsConfigs s) c.after (λ k x i. refl)
+
+-- ---- an engine's lists by their numbers
+
+-- what a setup says of an engine whose lists and note are these
+abbrev LawIn : Setup → Content → List (Option BatchNote) → ℕ → Type 0
+LawIn setup content notes e = IsLawfulEngine setup (chain content (progress_list setup e)) (chain content (member_list setup e)) (get_or notes e None)
+
+abbrev LawAt : Setup → Work → ℕ → Type 0
+LawAt setup w e = LawIn setup w.content w.notes e
+
+lists-of : (w : Work) (e : ℕ) → nat_lt e w.setup.caps.engines ≡ true → HasLawfulEngines w → LawAt w.setup w e
+lists-of w e t h = subst (λ (b : Bool). IsLawfulEngine w.setup (cond b (chain w.content (progress_list w.setup e)) []) (cond b (chain w.content (member_list w.setup e)) []) (note_at w e)) t (h e)
+
+-- an engine that the device does not have has nothing
+of-lists : (caps : Caps) (w : Work) → HasShape caps w → ((e : ℕ) → nat_lt e w.setup.caps.engines ≡ true → LawAt w.setup w e) → HasLawfulEngines w
+of-lists caps w shape h e = ⊎_elim
+    (λ t. subst law (sym t) (h e t))
+    (λ f.
+    let past = ltb-false e w.setup.caps.engines f in
+    let engines = ap (λ (c : Caps). c.engines) shape.same_caps in
+    let none : note_at w e ≡ None = get_or-eq_default w.notes None (omega (arith, past, engines, shape.notes)) in
+    subst law (sym f) (subst (IsLawfulEngine w.setup [] []) (sym none) (record { no_batch = refl; no_members = refl })))
+    (cases_Bool (nat_lt e w.setup.caps.engines))
+  where
+    law : Bool → Type 0
+    law = λ b. IsLawfulEngine w.setup (cond b (chain w.content (progress_list w.setup e)) []) (cond b (chain w.content (member_list w.setup e)) []) (note_at w e)
+
+-- the same batches by the setup after the change
+setup-after : (caps : Caps) (s s' : State) (e : ℕ) → HasShape caps s.work → HasShape caps s'.work → KeepsConfigs s s' → LawAt s.work.setup s'.work e → LawAt s'.work.setup s'.work e
+setup-after caps s s' e before after kept h =
+    let caps' : s.work.setup.caps ≡ s'.work.setup.caps = before.same_caps ∙ sym after.same_caps in
+    subst (λ (c : Caps). IsLawfulEngine s'.work.setup (chain s'.work.content (c.queues + e)) (chain s'.work.content (c.queues + c.engines + e)) (note_at s'.work e)) caps'
+    (by_setup s.work.setup s'.work.setup (chain s'.work.content (progress_list s.work.setup e)) (chain s'.work.content (member_list s.work.setup e)) (note_at s'.work e)
+    (λ x i. ap (λ (c : QueueConfig). is_lawful_batch x.1.desc (limits_of c) (is_member x.1)) (kept (progress_list s.work.setup e) x i)) h)
+
+-- ---- lists and notes that a step sets
+
+carry : (setup : Setup) (ps ps' ms ms' : List Slot) (o o' : Option BatchNote) → ps' ≡ ps → ms' ≡ ms → o' ≡ o → IsLawfulEngine setup ps ms o → IsLawfulEngine setup ps' ms' o'
+carry setup ps ps' ms ms' o o' p m n h = subst (λ xs. IsLawfulEngine setup xs ms' o') (sym p) (subst (λ xs. IsLawfulEngine setup ps xs o') (sym m) (subst (IsLawfulEngine setup ps ms) (sym n) h))
+
+-- an engine whose lists and note stay
+stays : (setup : Setup) (c c' : Content) (ns ns' : List (Option BatchNote)) (e : ℕ) → chain c' (progress_list setup e) ≡ chain c (progress_list setup e) → chain c' (member_list setup e) ≡ chain c (member_list setup e)
+    → get_or ns' e None ≡ get_or ns e None → LawIn setup c ns e → LawIn setup c' ns' e
+stays setup c c' ns ns' e p m n h = carry setup (chain c (progress_list setup e)) (chain c' (progress_list setup e)) (chain c (member_list setup e)) (chain c' (member_list setup e)) (get_or ns e None) (get_or ns' e None) p m n h
+
+-- one engine has changed, or it is another
+by_engine : (setup : Setup) (c : Content) (ns : List (Option BatchNote)) (k e : ℕ) → LawIn setup c ns k → (e ≢ k → LawIn setup c ns e) → LawIn setup c ns e
+by_engine setup c ns k e a b = ⊎_elim (λ (q : e ≡ k). subst (LawIn setup c ns) (sym q) a) (λ n. b n) (cases_eq e k)
+
+chain-other : (c : Content) (k : ℕ) (l : List Slot) (j : ℕ) → j ≢ k → chain (set c k l) j ≡ chain c j
+chain-other c k l j n = get_or-set_other c k j l [] n
+
+chain-same : (c : Content) (k : ℕ) (l : List Slot) → k < length c → chain (set c k l) k ≡ l
+chain-same c k l i = get_or-set_same c k l [] i
+
+note-other : (notes : List (Option BatchNote)) (k e : ℕ) (o : Option BatchNote) → e ≢ k → get_or (set notes k o) e None ≡ get_or notes e None
+note-other notes k e o n = get_or-set_other notes k e o None n
+
+note-same : (notes : List (Option BatchNote)) (k : ℕ) (o : Option BatchNote) → k < length notes → get_or (set notes k o) k None ≡ o
+note-same notes k o i = get_or-set_same notes k o None i
+
+-- the list of a queue is set
+queue_set : (w : Work) (q e : ℕ) (l : List Slot) → q < w.setup.caps.queues → LawAt w.setup w e → LawIn w.setup (set w.content q l) w.notes e
+queue_set w q e l i h =
+    stays w.setup w.content (set w.content q l) w.notes w.notes e
+    (chain-other w.content q l (progress_list w.setup e) (λ (x : progress_list w.setup e ≡ q). omega (arith, x, i)))
+    (chain-other w.content q l (member_list w.setup e) (λ (x : member_list w.setup e ≡ q). omega (arith, x, i)))
+    refl h
+
+-- the members of an engine are set, with its note
+members_set : (w : Work) (k e : ℕ) (l : List Slot) (ns : List (Option BatchNote)) (o : Option BatchNote) → e < w.setup.caps.engines → k < w.setup.caps.engines → member_list w.setup k < length w.content
+    → get_or ns k None ≡ o → (e ≢ k → get_or ns e None ≡ note_at w e) → IsLawfulEngine w.setup (chain w.content (progress_list w.setup k)) l o → LawAt w.setup w e → LawIn w.setup (set w.content (member_list w.setup k) l) ns e
+members_set w k e l ns o i j inside here other new old =
+    let c = set w.content (member_list w.setup k) l in
+    by_engine w.setup c ns k e
+    (carry w.setup (chain w.content (progress_list w.setup k)) (chain c (progress_list w.setup k)) l (chain c (member_list w.setup k)) o (get_or ns k None)
+    (chain-other w.content (member_list w.setup k) l (progress_list w.setup k) (λ (x : progress_list w.setup k ≡ member_list w.setup k). omega (arith, x, j)))
+    (chain-same w.content (member_list w.setup k) l inside)
+    here new)
+    (λ n. stays w.setup w.content c w.notes ns e
+    (chain-other w.content (member_list w.setup k) l (progress_list w.setup e) (λ (x : progress_list w.setup e ≡ member_list w.setup k). omega (arith, x, i)))
+    (chain-other w.content (member_list w.setup k) l (member_list w.setup e) (λ (x : member_list w.setup e ≡ member_list w.setup k). n (omega (arith, x))))
+    (other n) old)
+
+-- ---- an entry ends
+
+-- the lists in which it does not stand stay
+list-unlinked : (content : Content) (x : Slot) (i j : ℕ) → uses content x.0 ≤ 1 → In x (chain content j) → i ≢ j → chain (unlinked content x.0) i ≡ chain content i
+unfolding count
+list-unlinked content x i j once at apart =
+    let two = sum-two (λ s. cond (is_cell x.0 s) 1 0) content i j apart in
+    let here = In-counted (is_cell x.0) x (chain content j) at (eq-eqb x.0.0 x.0.0 refl) in
+    let all = uses-counted content x.0 in
+    chain-filtered (λ s. not (is_cell x.0 s)) content i ∙ filter-absent x.0 (chain content i) (omega (arith, two, here, all, once))
+
+-- its own list loses it alone
+sum-list_unlinked : (f : Slot → ℕ) (content : Content) (x : Slot) (j : ℕ) → uses content x.0 ≤ 1 → In x (chain content j) → sum_by f (chain (unlinked content x.0) j) + f x ≡ sum_by f (chain content j)
+sum-list_unlinked f content x j once at =
+    let all = uses-counted content x.0 in
+    let less = sum-list-le (λ s. cond (is_cell x.0 s) 1 0) content j in
+    let out = sum-without f (is_cell x.0) x (chain content j) (omega (arith, all, less, once)) at (eq-eqb x.0.0 x.0.0 refl) in
+    ap (λ xs. sum_by f xs + f x) (chain-filtered (λ s. not (is_cell x.0 s)) content j) ∙ out
+
+length-unlinked : (content : Content) (cell : Cell) (j : ℕ) → length (chain (unlinked content cell) j) ≤ length (chain content j)
+length-unlinked content cell j = subst (λ xs. length xs ≤ length (chain content j)) (sym (chain-filtered (λ s. not (is_cell cell s)) content j)) (length-filter-le (λ s. not (is_cell cell s)) (chain content j))
+
+abbrev is_failure : Work → Slot → Outcome → Bool
+is_failure w x outcome = is_member x.1 && not (is_successful (status_of w.setup x.1 outcome))
+
+-- at the engine on which it ran: the batch, where no members are left, or another entry
+own_ended : (w : Work) (k : ℕ) (x : Slot) (outcome : Outcome) → k < length w.notes
+    → (holds_batch w.setup x ≡ true → (count_by (holds_batch w.setup) (chain (unlinked w.content x.0) (progress_list w.setup k)) + 1 ≡ count_by (holds_batch w.setup) (chain w.content (progress_list w.setup k))) × (chain (unlinked w.content x.0) (member_list w.setup k) ≡ []))
+    → (holds_batch w.setup x ≡ false → count_by (holds_batch w.setup) (chain (unlinked w.content x.0) (progress_list w.setup k)) ≡ count_by (holds_batch w.setup) (chain w.content (progress_list w.setup k)))
+    → LawAt w.setup w k → LawAt w.setup (ended w k x outcome) k
+own_ended w k x outcome i gone left h =
+    let c = unlinked w.content x.0 in
+    let p : Slot → Bool = λ s. not (is_cell x.0 s) in
+    subst (IsLawfulEngine w.setup (chain c (progress_list w.setup k)) (chain c (member_list w.setup k))) (sym (note-same w.notes k (note_after w k x outcome) i))
+    (with_end w.setup (chain w.content (progress_list w.setup k)) (chain c (progress_list w.setup k)) (chain w.content (member_list w.setup k)) (chain c (member_list w.setup k)) (note_at w k) (holds_batch w.setup x) (is_failure w x outcome) gone left
+    (λ y j. (In-filtered p w.content (progress_list w.setup k) y j).0)
+    (λ y j. (In-filtered p w.content (member_list w.setup k) y j).0)
+    (length-unlinked w.content x.0 (member_list w.setup k)) h)
+
+-- an entry in progress
+progress_ended : (w : Work) (k : ℕ) (x : Slot) (outcome : Outcome) → k < length w.notes → k < w.setup.caps.engines → uses w.content x.0 ≤ 1 → In x (chain w.content (progress_list w.setup k))
+    → (holds_batch w.setup x ≡ true → chain w.content (member_list w.setup k) ≡ []) → LawAt w.setup w k → LawAt w.setup (ended w k x outcome) k
+progress_ended w k x outcome i below once at empty h =
+    let sum = sum-list_unlinked (λ s. cond (holds_batch w.setup s) 1 0) w.content x (progress_list w.setup k) once at in
+    let members_stay = list-unlinked w.content x (member_list w.setup k) (progress_list w.setup k) once at (λ (y : member_list w.setup k ≡ progress_list w.setup k). omega (arith, y, below)) in
+    own_ended w k x outcome i
+    (λ t. let one : ◌≡◌ {A = ℕ} (cond (holds_batch w.setup x) 1 0) 1 = ap (λ (b : Bool). cond {A = ℕ} b 1 0) t in (omega (arith, sum, one), members_stay ∙ empty t))
+    (λ f. let none : ◌≡◌ {A = ℕ} (cond (holds_batch w.setup x) 1 0) 0 = ap (λ (b : Bool). cond {A = ℕ} b 1 0) f in omega (arith, sum, none)) h
+
+-- a member
+member_ended : (w : Work) (k : ℕ) (x : Slot) (outcome : Outcome) → k < length w.notes → k < w.setup.caps.engines → uses w.content x.0 ≤ 1 → In x (chain w.content (member_list w.setup k))
+    → (holds_batch w.setup x ≡ true → chain w.content (member_list w.setup k) ≡ []) → LawAt w.setup w k → LawAt w.setup (ended w k x outcome) k
+member_ended w k x outcome i below once at empty h =
+    let stay = list-unlinked w.content x (progress_list w.setup k) (member_list w.setup k) once at (λ (y : progress_list w.setup k ≡ member_list w.setup k). omega (arith, y, below)) in
+    own_ended w k x outcome i
+    (λ t. absurd (subst (In x) (empty t) at))
+    (λ f. ap (λ xs. count_by (holds_batch w.setup) xs) stay) h
+
+-- at another engine
+other_ended : (w : Work) (k e j : ℕ) (x : Slot) (outcome : Outcome) → e ≢ k → uses w.content x.0 ≤ 1 → In x (chain w.content j) → progress_list w.setup e ≢ j → member_list w.setup e ≢ j → LawAt w.setup w e → LawAt w.setup (ended w k x outcome) e
+other_ended w k e j x outcome n once at p m h =
+    stays w.setup w.content (unlinked w.content x.0) w.notes (ended w k x outcome).notes e
+    (list-unlinked w.content x (progress_list w.setup e) j once at p)
+    (list-unlinked w.content x (member_list w.setup e) j once at m)
+    (note-other w.notes k e (note_after w k x outcome) n) h
+
+no-members-left : (b : Bool) (w : Work) (k : ℕ) → nat_lt k w.setup.caps.engines ≡ true → b ≡ true → (b && is_unfinished w k) ≡ false → chain w.content (member_list w.setup k) ≡ []
+no-members-left true w k j t ready =
+    let none = ltb-false 0 (length (members w k)) (or-left (nat_lt 0 (length (members w k))) _ ready) in
+    sym (ap (λ (b : Bool). cond b (chain w.content (member_list w.setup k)) []) j) ∙ length-none (members w k) (omega (arith, none))
+no-members-left false w k j t ready = absurd cc
+
+-- an entry that runs on engine k ends
+entry_ended : (w : Work) (k e : ℕ) (x : Slot) (outcome : Outcome) → k < length w.notes → e < w.setup.caps.engines → nat_lt k w.setup.caps.engines ≡ true → uses w.content x.0 ≤ 1
+    → In x (chain w.content (progress_list w.setup k)) ⊎ In x (chain w.content (member_list w.setup k)) → (is_batch_of w.setup x.1 && is_unfinished w k) ≡ false → LawAt w.setup w k → LawAt w.setup w e → LawAt w.setup (ended w k x outcome) e
+entry_ended w k e x outcome i inside j once at ready own old =
+    let below = ltb-true k w.setup.caps.engines j in
+    let empty : holds_batch w.setup x ≡ true → chain w.content (member_list w.setup k) ≡ [] = λ t. no-members-left (holds_batch w.setup x) w k j t ready in
+    by_engine w.setup (ended w k x outcome).content (ended w k x outcome).notes k e
+    (⊎_elim (λ p. progress_ended w k x outcome i below once p empty own) (λ m. member_ended w k x outcome i below once m empty own) at)
+    (λ n. ⊎_elim
+    (λ p. other_ended w k e (progress_list w.setup k) x outcome n once p (λ (y : progress_list w.setup e ≡ progress_list w.setup k). n (omega (arith, y))) (λ (y : member_list w.setup e ≡ progress_list w.setup k). omega (arith, y, below)) old)
+    (λ m. other_ended w k e (member_list w.setup k) x outcome n once m (λ (y : progress_list w.setup e ≡ member_list w.setup k). omega (arith, y, inside)) (λ (y : member_list w.setup e ≡ member_list w.setup k). n (omega (arith, y))) old)
+    at)
+
+-- ---- each kind
+
+cond-same : (b : Bool) (ns : List (Option BatchNote)) (k : ℕ) (o : Option BatchNote) → k < length ns → get_or (cond b (set ns k o) ns) k None ≡ cond b o (get_or ns k None)
+cond-same true ns k o i = note-same ns k o i
+cond-same false ns k o i = refl
+
+cond-other : (b : Bool) (ns : List (Option BatchNote)) (k e : ℕ) (o : Option BatchNote) → e ≢ k → get_or (cond b (set ns k o) ns) e None ≡ get_or ns e None
+cond-other true ns k e o n = note-other ns k e o n
+cond-other false ns k e o n = refl
+
+-- a front is taken
+front_taken : (w : Work) (k e q : ℕ) (x : Slot) → e < w.setup.caps.engines → k < w.setup.caps.engines → q < w.setup.caps.queues → progress_list w.setup k < length w.content → k < length w.notes
+    → (is_none (note_at w k) || not (holds_batch w.setup x)) ≡ true → LawAt w.setup w k → LawAt w.setup w e → LawAt w.setup (taken w k q x) e
+front_taken w k e q x i j inside list note may own old =
+    let c1 = without_front w.content q in
+    let c = (taken w k q x).content in
+    let l = chain c1 (progress_list w.setup k) ++ run x ∷ [] in
+    let b = holds_batch w.setup x in
+    let size = length-set w.content q (drop 1 (chain w.content q)) in
+    let from-queue : (m : ℕ) → q < m → chain c1 m ≡ chain w.content m = λ m d. chain-other w.content q (drop 1 (chain w.content q)) m (λ (y : m ≡ q). omega (arith, y, d)) in
+    let to : (m : ℕ) → m ≢ progress_list w.setup k → chain c m ≡ chain c1 m = λ m n. chain-other c1 (progress_list w.setup k) l m n in
+    by_engine w.setup c (taken w k q x).notes k e
+    (carry w.setup (chain w.content (progress_list w.setup k) ++ run x ∷ []) (chain c (progress_list w.setup k)) (chain w.content (member_list w.setup k)) (chain c (member_list w.setup k)) (cond b (Some (opened_note x.1)) (note_at w k)) (note_at (taken w k q x) k)
+    (chain-same c1 (progress_list w.setup k) l (omega (arith, size, list)) ∙ ap (λ xs. xs ++ run x ∷ []) (from-queue (progress_list w.setup k) (omega (arith, inside))))
+    (to (member_list w.setup k) (λ (y : member_list w.setup k ≡ progress_list w.setup k). omega (arith, y, j)) ∙ from-queue (member_list w.setup k) (omega (arith, inside)))
+    (cond-same b w.notes k (Some (opened_note x.1)) note)
+    (with_front w.setup (chain w.content (progress_list w.setup k)) (chain w.content (member_list w.setup k)) (note_at w k) x b refl may own))
+    (λ n. stays w.setup w.content c w.notes (taken w k q x).notes e
+    (to (progress_list w.setup e) (λ (y : progress_list w.setup e ≡ progress_list w.setup k). n (omega (arith, y))) ∙ from-queue (progress_list w.setup e) (omega (arith, inside)))
+    (to (member_list w.setup e) (λ (y : member_list w.setup e ≡ progress_list w.setup k). omega (arith, y, j)) ∙ from-queue (member_list w.setup e) (omega (arith, inside)))
+    (cond-other b w.notes k e (Some (opened_note x.1)) n) old)
+
+-- an abort
+scope_aborted : (w : Work) (command : Command) (e : ℕ) → e < w.setup.caps.engines → LawAt w.setup w e → LawAt w.setup (aborted command w) e
+scope_aborted w command e i h =
+    let c = (aborted command w).content in
+    let p = is_left command in
+    let ps = chain w.content (progress_list w.setup e) in
+    let ms = chain w.content (member_list w.setup e) in
+    let left : chain c (progress_list w.setup e) ≡ filter p ps = chain-filtered p w.content (progress_list w.setup e) in
+    carry w.setup (filter p ps) (chain c (progress_list w.setup e)) (filter p ms) (chain c (member_list w.setup e)) (kept_note w.setup (filter p ps) (note_at w e)) (note_at (aborted command w) e)
+    left
+    (chain-filtered p w.content (member_list w.setup e))
+    (get_or-each (λ k. kept_note w.setup (chain c (progress_list w.setup k)) (note_at w k)) w.setup.caps.engines e None i ∙ ap (λ xs. kept_note w.setup xs (note_at w e)) left)
+    (with_abort command w.setup ps ms (note_at w e) h)
+
+-- the entry in progress that has the name of the batch is like each of the batches there
+alike-batch : (w : Work) (k : ℕ) (n : BatchNote) (x batch : Slot) → NamesOnce w → IsAlike x batch → In batch (chain w.content (progress_list w.setup k)) → batch.1.name ≡ n.batch
+    → IsLawfulEngine w.setup (chain w.content (progress_list w.setup k)) (chain w.content (member_list w.setup k)) (Some n) → (b : Slot) → In b (chain w.content (progress_list w.setup k)) → holds_batch w.setup b ≡ true → IsAlike x b
+alike-batch w k n x batch names like i is h b j t =
+    let named : Slot → Bool = λ slot. slot.1.name == n.batch in
+    let once = names n.batch in
+    let most : cond (nat_lt n.batch w.setup.next_name) 1 0 ≤ 1 = grind (arith, nat_tests) in
+    let less = sum-list-le (λ s. cond (named s) 1 0) w.content (progress_list w.setup k) in
+    let one : count_by named (chain w.content (progress_list w.setup k)) ≤ 1 = omega (arith, once, most, less) in
+    subst (IsAlike x) (In-same named batch b (chain w.content (progress_list w.setup k)) one i j (eq-eqb batch.1.name n.batch is) (eq-eqb b.1.name n.batch (sym (h.noted b j t).name))) like
+
+lists-change : (caps : Caps) (s s' : State) (e : ℕ) → IsWellFormed caps s → nat_lt e s.work.setup.caps.engines ≡ true → HasLawfulEngines s.work → Change s s' → LawAt s.work.setup s'.work e
+lists-change caps s s' e w i h (same c) = subst (λ t. LawAt s.work.setup t.work e) c (lists-of s.work e i h)
+lists-change caps s s' e w i h (is_noted c) = subst (λ t. LawAt s.work.setup t.work e) c.after (lists-of s.work e i h)
+lists-change caps s s' e w i h (is_accepted c) =
+    let inside = in-use-below caps s.work c.queue w.shape (on-not_off _ c.on) in
+    subst (λ t. LawAt s.work.setup t.work e) c.after (queue_set s.work c.queue e _ inside (lists-of s.work e i h))
+lists-change caps s s' e w i h (is_taken c) =
+    let tests = and-left _ _ c.qualifies in
+    let j = and-left _ _ tests in
+    let below = below-engines caps s.work c.engine w.shape j in
+    let size = w.shape.notes in
+    let note : c.engine < length s.work.notes = omega (arith, below, size) in
+    let may : may_take s.work c.engine c.front ≡ true = subst (λ o. passes (may_take s.work c.engine) o ≡ true) c.is_front (and-right _ _ (and-right _ _ c.qualifies)) in
+    subst (λ t. LawAt s.work.setup t.work e) c.after
+    (front_taken s.work c.engine e c.queue c.front (ltb-true e s.work.setup.caps.engines i) (ltb-true c.engine s.work.setup.caps.engines j) (ltb-true c.queue s.work.setup.caps.queues (and-right _ _ tests))
+    (progress_list-in caps s.work c.engine w.shape below) note (and-right _ _ may) (lists-of s.work c.engine j h) (lists-of s.work e i h))
+lists-change caps s s' e w i h (is_fetched c) =
+    let k = c.engine in
+    let found = In-find (λ slot. slot.1.name == c.note.batch) c.batch (in_progress s.work k) c.is_batch in
+    let here = In-cond _ c.batch _ found.0 in
+    let j : nat_lt k s.work.setup.caps.engines ≡ true = here.0 in
+    let below = below-engines caps s.work k w.shape j in
+    let size = w.shape.notes in
+    let more : Option BatchNote = Some (record c.note { fetched = c.note.fetched + 1 }) in
+    let member : Slot = (
+      c.cell,
+      record {
+        name = s.work.setup.next_name;
+        parent = Some c.note.batch;
+        desc = with_pasid c.desc c.batch.1.desc.pasid;
+        queue = c.batch.1.queue;
+        running = false;
+      },
+    ) in
+    let own : IsLawfulEngine s.work.setup (chain s.work.content (progress_list s.work.setup k)) (chain s.work.content (member_list s.work.setup k)) (Some c.note)
+    = subst (IsLawfulEngine s.work.setup (chain s.work.content (progress_list s.work.setup k)) (chain s.work.content (member_list s.work.setup k))) c.is_note (lists-of s.work k j h) in
+    let like : IsAlike member c.batch = record { queue = refl; pasid = w.entries.pasids (progress_list s.work.setup k) c.batch here.1 } in
+    subst (λ t. LawAt s.work.setup t.work e) c.after
+    (members_set s.work k e (chain s.work.content (member_list s.work.setup k) ++ member ∷ []) (set s.work.notes k more) more (ltb-true e s.work.setup.caps.engines i) (ltb-true k s.work.setup.caps.engines j)
+    (member_list-in caps s.work k w.shape below) (note-same s.work.notes k more (omega (arith, below, size))) (λ n. note-other s.work.notes k e more n)
+    (with_member s.work.setup (chain s.work.content (progress_list s.work.setup k)) (chain s.work.content (member_list s.work.setup k)) c.note member refl
+    (alike-batch s.work k c.note member c.batch w.names like here.1 (eqb-true c.batch.1.name c.note.batch found.1) own) own)
+    (lists-of s.work e i h))
+lists-change caps s s' e w i h (is_started c) =
+    let j = waiting-engine s.work c.engine c.slot c.is_first in
+    let list = member_list-in caps s.work c.engine w.shape (below-engines caps s.work c.engine w.shape j) in
+    let is : members s.work c.engine ≡ chain s.work.content (member_list s.work.setup c.engine) = ap (λ (b : Bool). cond b (chain s.work.content (member_list s.work.setup c.engine)) []) j in
+    let own = lists-of s.work c.engine j h in
+    subst (λ t. LawAt s.work.setup t.work e) c.after
+    (members_set s.work c.engine e (with_first_run (members s.work c.engine)) s.work.notes (note_at s.work c.engine) (ltb-true e s.work.setup.caps.engines i) (ltb-true c.engine s.work.setup.caps.engines j) list refl (λ n. refl)
+    (with_run s.work.setup (chain s.work.content (progress_list s.work.setup c.engine)) (members s.work c.engine) (note_at s.work c.engine)
+    (subst (λ xs. IsLawfulEngine s.work.setup (chain s.work.content (progress_list s.work.setup c.engine)) xs (note_at s.work c.engine)) (sym is) own))
+    (lists-of s.work e i h))
+lists-change caps s s' e w i h (is_abandoned c) =
+    let j = waiting-engine s.work c.engine c.slot c.is_first in
+    let below = below-engines caps s.work c.engine w.shape j in
+    let list = member_list-in caps s.work c.engine w.shape below in
+    let note : c.engine < length s.work.notes = let size = w.shape.notes in omega (arith, below, size) in
+    let closed : Option BatchNote = option_map (λ (note : BatchNote). record note { closed = true }) (note_at s.work c.engine) in
+    subst (λ t. LawAt s.work.setup t.work e) c.after
+    (members_set s.work c.engine e [] _ closed (ltb-true e s.work.setup.caps.engines i) (ltb-true c.engine s.work.setup.caps.engines j) list (note-same s.work.notes c.engine closed note) (λ n. note-other s.work.notes c.engine e closed n)
+    (with_none s.work.setup (chain s.work.content (progress_list s.work.setup c.engine)) (chain s.work.content (member_list s.work.setup c.engine)) (note_at s.work c.engine) (lists-of s.work c.engine j h))
+    (lists-of s.work e i h))
+lists-change caps s s' e w i h (is_ended c) =
+    let k = c.engine in
+    let found = (In-filter _ c.slot (in_progress s.work k ++ members s.work k) (In-find _ c.slot (running_on s.work k) c.is_found).0).0 in
+    let place : (nat_lt k s.work.setup.caps.engines ≡ true) × (In c.slot (chain s.work.content (progress_list s.work.setup k)) ⊎ In c.slot (chain s.work.content (member_list s.work.setup k)))
+    = ⊎_elim (λ p. let r = In-cond _ c.slot _ p in (r.0, inl r.1)) (λ m. let r = In-cond _ c.slot _ m in (r.0, inr r.1)) (In-append c.slot (in_progress s.work k) (members s.work k) found) in
+    let below = below-engines caps s.work k w.shape place.0 in
+    let size = w.shape.notes in
+    let once : uses s.work.content c.slot.0 ≤ 1 = let a = w.cells c.slot.0 in let b : cond (nat_lt c.slot.0.0 (cell_count caps)) 1 0 ≤ 1 = grind (arith, nat_tests) in omega (arith, a, b) in
+    subst (λ t. LawAt s.work.setup t.work e) c.after
+    (entry_ended s.work k e c.slot c.outcome (omega (arith, below, size)) (ltb-true e s.work.setup.caps.engines i) place.0 once place.1 c.ready (lists-of s.work k place.0 h) (lists-of s.work e i h))
+lists-change caps s s' e w i h (is_device_enabled c) = subst (λ t. LawAt s.work.setup t.work e) c.after (lists-of s.work e i h)
+lists-change caps s s' e w i h (is_queue_enabled c) = subst (λ t. LawAt s.work.setup t.work e) c.after (lists-of s.work e i h)
+lists-change caps s s' e w i h (is_waiting c) = subst (λ t. LawAt s.work.setup t.work e) c.after (lists-of s.work e i h)
+lists-change caps s s' e w i h (is_over c) = subst (λ t. LawAt s.work.setup t.work e) c.after (lists-of s.work e i h)
+lists-change caps s s' e w i h (is_aborted c) = subst (λ t. LawAt s.work.setup t.work e) c.after (scope_aborted s.work c.command e (ltb-true e s.work.setup.caps.engines i) (lists-of s.work e i h))
+lists-change caps s s' e w i h (is_device_reset c) = subst (λ t. LawAt s.work.setup t.work e) c.after (scope_aborted s.work ResetDevice e (ltb-true e s.work.setup.caps.engines i) (lists-of s.work e i h))
+lists-change caps s s' e w i h (is_queues_reset c) = subst (λ t. LawAt s.work.setup t.work e) c.after (scope_aborted s.work (ResetWq c.queues) e (ltb-true e s.work.setup.caps.engines i) (lists-of s.work e i h))
+lists-change caps s s' e w i h (is_queue_written c) = subst (λ t. LawAt s.work.setup t.work e) c.after (lists-of s.work e i h)
+lists-change caps s s' e w i h (is_group_written c) = subst (λ t. LawAt s.work.setup t.work e) c.after (lists-of s.work e i h)
+
+pub engines-change : (caps : Caps) (s s' : State) → IsWellFormed caps s → HasLawfulEngines s.work → Change s s' → HasLawfulEngines s'.work
+engines-change caps s s' w h c =
+    let after = shape-change caps s s' w.shape c in
+    let engines = ap (λ (k : Caps). k.engines) (after.same_caps ∙ sym w.shape.same_caps) in
+    of-lists caps s'.work after (λ e t. setup-after caps s s' e w.shape after (configs-kept caps s s' w.shape w.entries.slot c)
+    (lists-change caps s s' e w (ap (λ k. nat_lt e k) (sym engines) ∙ t) h c))
+
+pub engines-opening : (caps : Caps) → HasLawfulEngines (opening caps).work
+engines-opening caps = of-lists caps (opening caps).work (shape-opening caps) (λ e t.
+    let i = ltb-true e caps.engines t in
+    carry (opening_setup caps) [] (chain (opening caps).work.content (caps.queues + e)) [] (chain (opening caps).work.content (caps.queues + caps.engines + e)) None (note_at (opening caps).work e)
+    (get_or-replicate (list_count caps) (caps.queues + e) [] [] (omega (arith, i)))
+    (get_or-replicate (list_count caps) (caps.queues + caps.engines + e) [] [] (omega (arith, i)))
+    (get_or-replicate caps.engines e None None i)
+    (record { no_batch = refl; no_members = refl }))
+
+-- ---- what follows
+
+-- members are no more than were fetched, and so no more than a batch may have
+pub members-fit : (caps : Caps) (w : Work) → NotesFit caps w → HasLawfulEngines w → MembersFit caps w
+members-fit caps w notes h e = go (note_at w e) (notes e) (h e)
+  where
+    go : (o : Option BatchNote) → NoteFits caps o → IsLawfulEngine w.setup (in_progress w e) (members w e) o → length (members w e) ≤ 2 ^ caps.max_batch_shift
+    go None fits law = let none = ap (λ (xs : List Slot). length xs) law.no_members in omega (arith, none)
+    go (Some note) fits law = let most = law.most in let a = fits.0 in let b = fits.1 in omega (arith, most, a, b)

@@ -1,0 +1,40 @@
+-- Which entries programs submitted, and which are members of batches, among those that have a fate and those that are held.
+use Rattle.std.specs.Prelude.{ℕ, ◌+◌, Bool, true, false, not, ◌||◌, List, count_by, is_some, is_none}
+use Rattle.std.specs.List.{list_all}
+use Rattle.dsa_store.specs.Content.{Slot, all_held}
+use Rattle.dsa_book.specs.declared.fate.Fate.{Fate}
+use Rattle.dsa_book.specs.declared.fate.Fate.TheVariants.{Abandoned}
+use Rattle.dsa_book.specs.declared.fate.FateRow.{FateRow}
+use Rattle.dsa_book.specs.State.{Work}
+
+-- the fate of an entry that a program submitted (profile)
+abbrev pub is_submitted_row : FateRow → Bool
+is_submitted_row row = is_none row.parent
+
+-- the fate of a member of a batch (profile)
+abbrev pub is_member_row : FateRow → Bool
+is_member_row row = is_some row.parent
+
+-- a held entry that a program submitted (profile)
+abbrev pub is_submitted_slot : Slot → Bool
+is_submitted_slot slot = is_none slot.1.parent
+
+-- a held member of a batch (profile)
+abbrev pub is_member_slot : Slot → Bool
+is_member_slot slot = is_some slot.1.parent
+
+-- how many entries that programs submitted have a fate or are held (profile)
+abbrev pub submitted_entries : Work → ℕ
+submitted_entries w = count_by is_submitted_row w.fates + count_by is_submitted_slot (all_held w.content)
+
+-- how many members of batches have a fate or are held (profile)
+abbrev pub member_entries : Work → ℕ
+member_entries w = count_by is_member_row w.fates + count_by is_member_slot (all_held w.content)
+
+abbrev pub was_abandoned : Fate → Bool
+was_abandoned Abandoned = true
+was_abandoned _ = false
+
+-- what a program submitted is completed or aborted: only members are abandoned (profile)
+abbrev pub only_members_abandoned : List FateRow → Bool
+only_members_abandoned fates = list_all (λ row. is_member_row row || not (was_abandoned row.fate)) fates
