@@ -1,5 +1,5 @@
 -- Only members are abandoned.
-use Rattle.std.proofs.Common.{◌≡◌, ℕ, ◌&&◌, ◌||◌, not, Bool, true, false, List, [], ◌∷◌, ◌++◌, map, Some, refl, ap, ◌∙◌, subst, inl, inr, arith}
+use Rattle.std.proofs.Common.{◌≡◌, ℕ, ◌||◌, not, Bool, true, false, List, [], ◌∷◌, ◌++◌, map, Some, refl, ap, ◌∙◌, subst, inl, inr, arith}
 use Rattle.std.specs.Prelude.{filter, is_some}
 use Rattle.std.proofs.lemmas.List.Folds.{list_all-append}
 use Rattle.dsa_regs.specs.declared.Caps.{Caps}
@@ -16,36 +16,26 @@ use Rattle.dsa_book.specs.Work.{fate_row, member_list, members, last_status}
 use Rattle.dsa_book.specs.Commands.{is_in_scope, aborted}
 use Rattle.dsa_book.specs.Machine.{replay}
 use Rattle.dsa_laws.specs.Change.{Change, same, is_noted, is_accepted, is_taken, is_fetched, is_started, is_abandoned, is_ended, is_device_enabled, is_queue_enabled, is_waiting, is_over, is_aborted, is_device_reset, is_queues_reset, is_queue_written, is_group_written}
-use Rattle.dsa_laws.specs.WellFormed.{HasShape, HasLawfulEntries, In, IsWellFormed}
+use Rattle.dsa_laws.specs.WellFormed.{HasShape, HasLawfulEntries, IsWellFormed}
 use Rattle.dsa_laws.specs.Accounts.{was_abandoned, only_members_abandoned}
 use Rattle.dsa_laws.proofs.Shapes.{In-cond}
 use Rattle.dsa_laws.proofs.Histories.{well_formed-change, well_formed-opening, replay_keeps}
+use Rattle.std.proofs.lemmas.Bool.{and_from, or_left, or_right}
+use Rattle.dsa_laws.specs.Lists.{In}
 
 abbrev Lawful : State → Type 0
 Lawful s = only_members_abandoned s.work.fates ≡ true
 
-or-true : (a : Bool) → (a || true) ≡ true
-or-true true = refl
-or-true false = refl
-
-or-so : (a b : Bool) → a ≡ true → (a || b) ≡ true
-or-so true b h = refl
-or-so false b h = absurd cc
-
-both : (a b : Bool) → a ≡ true → b ≡ true → (a && b) ≡ true
-both true b h k = k
-both false b h k = absurd cc
-
 more-rows : (fates : List FateRow) (fate : Fate) (xs : List Slot) → only_members_abandoned fates ≡ true → only_members_abandoned (map (fate_row fate) xs) ≡ true → only_members_abandoned (fates ++ map (fate_row fate) xs) ≡ true
-more-rows fates fate xs old new = list_all-append _ fates (map (fate_row fate) xs) ∙ both _ _ old new
+more-rows fates fate xs old new = list_all-append _ fates (map (fate_row fate) xs) ∙ and_from _ _ old new
 
 other-rows : (fate : Fate) (xs : List Slot) → was_abandoned fate ≡ false → only_members_abandoned (map (fate_row fate) xs) ≡ true
 other-rows fate [] h = refl
-other-rows fate (x ∷ xs) h = both _ _ (ap (λ (b : Bool). is_some x.1.parent || not b) h ∙ or-true (is_some x.1.parent)) (other-rows fate xs h)
+other-rows fate (x ∷ xs) h = and_from _ _ (ap (λ (b : Bool). is_some x.1.parent || not b) h ∙ or_right (is_some x.1.parent) true refl) (other-rows fate xs h)
 
 abandoned-rows : (xs : List Slot) → ((x : Slot) → In x xs → is_some x.1.parent ≡ true) → only_members_abandoned (map (fate_row Abandoned) xs) ≡ true
 abandoned-rows [] each = refl
-abandoned-rows (x ∷ xs) each = both _ _ (or-so (is_some x.1.parent) false (each x (inl refl))) (abandoned-rows xs (λ y i. each y (inr i)))
+abandoned-rows (x ∷ xs) each = and_from _ _ (or_left (is_some x.1.parent) false (each x (inl refl))) (abandoned-rows xs (λ y i. each y (inr i)))
 
 -- a command's scope ends
 aborted-lawful : (command : Command) (w : Work) → only_members_abandoned w.fates ≡ true → only_members_abandoned (aborted command w).fates ≡ true

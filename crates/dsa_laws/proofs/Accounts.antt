@@ -1,30 +1,29 @@
 -- Each accepted and each fetched entry has a fate row or is held, and only members are abandoned.
-use Rattle.std.proofs.Common.{◌≡◌, ℕ, ◌+◌, ◌<◌, ◌≤◌, not, Bool, true, false, cond, List, [], ◌∷◌, ◌++◌, length, map, Option, Some, None, refl, ap, subst, arith, ⊎_elim, eq-eqb}
-use Rattle.std.specs.Prelude.{sum_by, count_by, filter, find, nat_lt, is_some, is_none}
+use Rattle.std.proofs.Common.{◌≡◌, ℕ, ◌+◌, ◌<◌, ◌≤◌, not, Bool, true, false, cond, List, [], ◌∷◌, ◌++◌, length, map, Option, Some, None, refl, ap, subst, arith, eq-eqb}
+use Rattle.std.specs.Prelude.{sum_by, count_by, filter, is_some, is_none}
 use Rattle.std.proofs.lemmas.List.Sums.{sum_by-cons, sum_by-append, count_by-le-length}
 use Rattle.dsa_regs.specs.declared.Caps.{Caps}
-use Rattle.dsa_regs.specs.Caps.{cell_count}
 use Rattle.dsa_regs.specs.declared.Command.{Command}
 use Rattle.dsa_regs.specs.declared.Command.TheVariants.{ResetDevice, ResetWq}
 use Rattle.dsa_regs.specs.Command.{number_of}
-use Rattle.dsa_store.specs.Content.{Slot, Content, chain, all_held, is_cell, pushed}
-use Rattle.dsa_store.proofs.Sums.{sum-set, sum-pushed, uses-counted}
-use Rattle.dsa_book.specs.declared.answer.Ticket.{Ticket}
+use Rattle.dsa_store.specs.Content.{Slot, Content, all_held, is_cell, pushed}
+use Rattle.dsa_store.proofs.Sums.{sum-set, sum-pushed, uses-counted, sum-split, all_held-filtered}
 use Rattle.dsa_book.specs.declared.fate.Fate.{Fate}
 use Rattle.dsa_book.specs.declared.fate.Fate.TheVariants.{Completed, Aborted, Abandoned}
 use Rattle.dsa_book.specs.declared.fate.FateRow.{FateRow}
-use Rattle.dsa_book.specs.State.{Work, State, is_ticket}
-use Rattle.dsa_book.specs.Work.{fate_row, progress_list, member_list, in_progress, members, running_on, last_status, abandoned, ended, fetched}
+use Rattle.dsa_book.specs.State.{Work, State}
+use Rattle.dsa_book.specs.Work.{fate_row, member_list, members, last_status, abandoned, ended, fetched}
 use Rattle.dsa_book.specs.Commands.{is_in_scope, aborted}
 use Rattle.dsa_book.specs.Submit.{accepted}
 use Rattle.dsa_book.specs.Machine.{with_intake, intake_of}
 use Rattle.dsa_laws.specs.Change.{Change, IsAccepted, IsFetched, same, is_noted, is_accepted, is_taken, is_fetched, is_started, is_abandoned, is_ended, is_device_enabled, is_queue_enabled, is_waiting, is_over, is_aborted, is_device_reset, is_queues_reset, is_queue_written, is_group_written}
-use Rattle.dsa_laws.specs.WellFormed.{HasShape, CellsOnce, IsFlow, In}
+use Rattle.dsa_laws.specs.WellFormed.{HasShape, CellsOnce}
 use Rattle.dsa_laws.specs.Accounts.{is_submitted_row, is_submitted_slot, submitted_entries}
-use Rattle.dsa_laws.proofs.Contents.{In-append, In-filter, In-find, In-chain, sum-parts, sum-without, all_held-filtered}
-use Rattle.dsa_laws.proofs.Shapes.{on-queue, note-engine, below-engines, member_list-in, queue_list-in, waiting-engine, In-cond}
-use Rattle.dsa_laws.proofs.Flows.{flow-change}
+use Rattle.dsa_laws.proofs.Contents.{sum-without}
+use Rattle.dsa_laws.proofs.Shapes.{on-queue, note-engine, below-engines, member_list-in, queue_list-in, waiting-engine, waiting-members}
+use Rattle.dsa_laws.proofs.Flows.{flow-change, running-slot, IsFlow}
 use Rattle.dsa_laws.proofs.Numbers.{sum-map}
+use Rattle.dsa_laws.proofs.Names.{name_of}
 
 -- ---- words
 
@@ -78,9 +77,6 @@ parts {X} parent (x ∷ xs) =
 
 -- ---- each change
 
-abbrev name_of : State → ℕ
-name_of s = s.work.setup.next_name
-
 abbrev pub SameAccount : State → State → Type 0
 SameAccount s t = submitted_entries t.work ≡ submitted_entries s.work
 
@@ -91,7 +87,7 @@ aborted-account command w w' content fates =
     (
     let a = ap (λ (c : Content). sum_by weight (all_held c)) content in
     let b = ap (λ (xs : List Slot). sum_by weight xs) (all_held-filtered (λ slot. not (test slot)) w.content) in
-    let c = sum-parts weight test (all_held w.content) in
+    let c = sum-split weight test (all_held w.content) in
     omega (arith, a, b, c)
     )
     fates
@@ -99,18 +95,6 @@ aborted-account command w w' content fates =
 -- one more name was given
 renamed : {X : Type 0} (s s' : State) → name_of s' ≡ name_of s + 1 → name_of s' ≡ name_of s → X
 renamed s s' more e = absurd (omega (arith, more, e))
-
-running-held : (w : Work) (e : ℕ) (ticket : Ticket) (slot : Slot) → find (is_ticket ticket) (running_on w e) ≡ Some slot → In slot (all_held w.content)
-running-held w e ticket slot h =
-    let i = (In-filter _ slot (in_progress w e ++ members w e) (In-find _ slot (running_on w e) h).0).0 in
-    ⊎_elim
-    (λ j. In-chain slot w.content (progress_list w.setup e) (In-cond _ slot _ j).1)
-    (λ j. In-chain slot w.content (member_list w.setup e) (In-cond _ slot _ j).1)
-    (In-append slot (in_progress w e) (members w e) i)
-
-at-most-one : (b : Bool) → cond b 1 0 ≤ 1
-at-most-one true = omega arith
-at-most-one false = omega arith
 
 -- a change that gives no name
 pub account-change : (caps : Caps) (s s' : State) → HasShape caps s.work → CellsOnce caps s.work → Change s s' → name_of s' ≡ name_of s → SameAccount s s'
@@ -125,13 +109,13 @@ account-change caps s s' h once (is_started c) n =
 account-change caps s s' h once (is_abandoned c) n =
     let e = waiting-engine s.work c.engine c.slot c.is_first in
     let inside = member_list-in caps s.work c.engine h (below-engines caps s.work c.engine h e) in
-    let is : members s.work c.engine ≡ chain s.work.content (member_list s.work.setup c.engine) = ap (λ b. cond b (chain s.work.content (member_list s.work.setup c.engine)) []) e in
+    let is = waiting-members s.work c.engine c.slot c.is_first in
     let all = sum-set weight s.work.content (member_list s.work.setup c.engine) [] inside in
     let old = ap (λ (xs : List Slot). sum_by weight xs) is in
     subst (λ t. SameAccount s t) c.after (left-account s.work (abandoned s.work c.engine) Abandoned (members s.work c.engine) (omega (arith, all, old)) refl)
 account-change caps s s' h once (is_ended c) n =
-    let inside = running-held s.work c.engine c.ticket c.slot c.is_found in
-    let one : count_by (is_cell c.slot.0) (all_held s.work.content) ≤ 1 = let a = once c.slot.0 in let b = at-most-one (nat_lt c.slot.0.0 (cell_count caps)) in let u = uses-counted s.work.content c.slot.0 in omega (arith, a, b, u) in
+    let inside = running-slot s.work c.engine c.ticket c.slot c.is_found in
+    let one : count_by (is_cell c.slot.0) (all_held s.work.content) ≤ 1 = let a = once.once c.slot.0 in let u = uses-counted s.work.content c.slot.0 in omega (arith, a, u) in
     let all = sum-without weight (is_cell c.slot.0) c.slot (all_held s.work.content) one inside (eq-eqb c.slot.0.0 c.slot.0.0 refl) in
     let is = ap (λ (xs : List Slot). sum_by weight xs) (all_held-filtered (λ slot. not (is_cell c.slot.0 slot)) s.work.content) in
     let single = sum_by-cons weight c.slot [] in

@@ -2,7 +2,7 @@
 use Rattle.std.proofs.Common.{◌≡◌, ◌≢◌, ℕ, zero, suc, ◌+◌, ◌≤◌, ◌&&◌, ◌||◌, ◌==◌, not, Bool, true, false, cond, List, [], ◌∷◌, ◌++◌, length, filter, Option, Some, None, option_map, is_none, refl, sym, ap, ◌∙◌, subst, ◌⊎◌, inl, inr, arith, ⊎_elim, length-append, eq-eqb}
 use Rattle.std.specs.Prelude.{count_by, sum_by}
 use Rattle.std.specs.List.{list_any}
-use Rattle.std.proofs.lemmas.List.Sums.{sum_by-cons, sum_by-append, sum_by_push, length-filter, count_by-le-length}
+use Rattle.std.proofs.lemmas.List.Sums.{sum_by-cons, sum_by-append, sum_by_push}
 use Rattle.dsa_regs.specs.declared.Command.{Command}
 use Rattle.dsa_regs.specs.declared.Command.TheVariants.{EnableDevice, DisableDevice, DrainAll, AbortAll, ResetDevice, EnableWq, DisableWq, DrainWq, AbortWq, ResetWq, DrainPasid, AbortPasid}
 use Rattle.dsa_regs.specs.Command.{named_queues}
@@ -11,20 +11,18 @@ use Rattle.dsa_book.specs.declared.note.BatchNote.{BatchNote}
 use Rattle.dsa_book.specs.State.{Setup, is_batch_of}
 use Rattle.dsa_book.specs.Work.{run, opened_note, with_first_run}
 use Rattle.dsa_book.specs.Commands.{is_in_scope, names, has_batch, kept_note}
-use Rattle.dsa_laws.specs.WellFormed.{In}
 use Rattle.dsa_laws.specs.Engines.{holds_batch, IsNoteOf, IsAlike, IsLawfulEngine}
-use Rattle.dsa_laws.proofs.Contents.{In-append, In-counted, In-filter, filter-none, sum-filter-le, sum-list-le}
-use Rattle.dsa_laws.proofs.Changes.{and-left}
+use Rattle.dsa_laws.proofs.Contents.{In-append, In-counted, In-filter, filter-none, sum-filter-le, sum-list-le, length-filter-le}
 use Rattle.dsa_laws.proofs.Setups.{not-both}
+use Rattle.std.proofs.lemmas.Bool.{and_parts, false_from_ne_true}
+use Rattle.dsa_laws.proofs.Entries.{first_run-each}
+use Rattle.dsa_laws.specs.Lists.{In}
 
 -- ---- lists
 
 pub length-none : {X : Type 0} (xs : List X) → length xs ≤ 0 → xs ≡ []
 length-none [] h = refl
 length-none (x ∷ xs) h = absurd (omega (arith, h))
-
-pub length-filter-le : {X : Type 0} (p : X → Bool) (xs : List X) → length (filter p xs) ≤ length xs
-length-filter-le p xs = let a = length-filter p xs in let b = count_by-le-length p xs in omega (arith, a, b)
 
 -- where a test counts one, there is one that passes
 pub counted-In : {X : Type 0} (p : X → Bool) (xs : List X) → count_by p xs ≡ 1 → (x : X) × (In x xs × (p x ≡ true))
@@ -73,17 +71,6 @@ In-push x xs y i = ⊎_elim (λ j. inl j) (λ j. inr (only j)) (In-append x xs (
 -- what passes a test that the one more does not pass stands in the list
 In-old : {X : Type 0} (p : X → Bool) (x : X) (xs : List X) (y : X) → p y ≡ false → In x (xs ++ y ∷ []) → p x ≡ true → In x xs
 In-old p x xs y n i t = ⊎_elim (λ j. j) (λ e. not-both (p x) t (ap p (sym e) ∙ n)) (In-push x xs y i)
-
--- what holds of each, and is not changed where an entry begins to run, holds of each after the first began to run
-first_run-from : (P : Slot → Type 0) → ((x : Slot) → P x → P (run x)) → (xs : List Slot) → ((x : Slot) → In x xs → P x) → (x : Slot) → In x (with_first_run xs) → P x
-first_run-from P r [] a x i = absurd i
-first_run-from P r (y ∷ ys) a x i = go (first_run-from P r ys (λ z j. a z (inr j)) x) y.1.running i
-  where
-    go : (In x (with_first_run ys) → P x) → (b : Bool) → In x (cond b (y ∷ with_first_run ys) (run y ∷ ys)) → P x
-    go more true (inl e) = a x (inl e)
-    go more true (inr j) = more j
-    go more false (inl e) = subst P e (r y (a y (inl refl)))
-    go more false (inr j) = a x (inr j)
 
 length-first_run : (xs : List Slot) → length (with_first_run xs) ≡ length xs
 length-first_run [] = refl
@@ -186,8 +173,8 @@ with_run setup ps ms None h = record {
 with_run setup ps ms (Some n) h = record {
   one_batch = h.one_batch;
   noted = h.noted;
-  parents = first_run-from (λ (m : Slot). m.1.parent ≡ Some n.batch) (λ x p. p) ms h.parents;
-  alike = λ m b i j t. first_run-from (λ m. IsAlike m b) (λ x p. record { queue = p.queue; pasid = p.pasid }) ms (λ x k. h.alike x b k j t) m i;
+  parents = first_run-each (λ (m : Slot). m.1.parent ≡ Some n.batch) (λ x p. p) ms h.parents;
+  alike = λ m b i j t. first_run-each (λ m. IsAlike m b) (λ x p. record { queue = p.queue; pasid = p.pasid }) ms (λ x k. h.alike x b k j t) m i;
   most = let old = h.most in let same = length-first_run ms in omega (arith, old, same);
 }
 
@@ -265,11 +252,6 @@ count-none p (x ∷ xs) h =
     let rest = count-none p xs (λ y i. h y (inr i)) in
     omega (arith, c, here, rest)
 
--- a test that is not true of it is false
-not-passing : (b : Bool) → (b ≡ true → ⊥) → b ≡ false
-not-passing true h = absurd (h refl)
-not-passing false h = refl
-
 -- a batch goes with all its members, or stays
 pub with_abort : (command : Command) (setup : Setup) (ps ms : List Slot) (o : Option BatchNote) → IsLawfulEngine setup ps ms o
     → IsLawfulEngine setup (filter (is_left command) ps) (filter (is_left command) ms) (kept_note setup (filter (is_left command) ps) o)
@@ -287,18 +269,18 @@ with_abort command setup ps ms (Some n) h = go (has_batch setup n (filter (is_le
     gone : has_batch setup n (filter (is_left command) ps) ≡ false → (x : Slot) → In x ms → is_left command x ≡ false
     gone f x i =
         let batch = counted-In (holds_batch setup) ps h.one_batch in
-        let out : is_left command batch.0 ≡ false = not-passing (is_left command batch.0) (λ t. not-both _ (named batch.0 batch.1.0 batch.1.1 (In-passing (is_left command) batch.0 ps batch.1.0 t)) f) in
+        let out : is_left command batch.0 ≡ false = false_from_ne_true (is_left command batch.0) (λ t. not-both _ (named batch.0 batch.1.0 batch.1.1 (In-passing (is_left command) batch.0 ps batch.1.0 t)) f) in
         ap not (scope-alike command x batch.0 (h.alike x batch.0 i batch.1.0 batch.1.1)) ∙ out
 
     go : (b : Bool) → has_batch setup n (filter (is_left command) ps) ≡ b → IsLawfulEngine setup (filter (is_left command) ps) (filter (is_left command) ms) (cond b (Some n) None)
     go true t =
         let batch = any-In (λ slot. is_batch_of setup slot.1 && slot.1.name == n.batch) (filter (is_left command) ps) t in
-        let some = In-counted (holds_batch setup) batch.0 (filter (is_left command) ps) batch.1.0 (and-left _ _ batch.1.1) in
+        let some = In-counted (holds_batch setup) batch.0 (filter (is_left command) ps) batch.1.0 (and_parts _ _ batch.1.1).0 in
         let less = sum-filter-le (λ x. cond (holds_batch setup x) 1 0) (is_left command) ps in
         let one = h.one_batch in
         fewer setup ps (filter (is_left command) ps) ms (filter (is_left command) ms) (Some n) (omega (arith, some, less, one))
         (λ x i. (In-filter (is_left command) x ps i).0) (λ x i. (In-filter (is_left command) x ms i).0) (length-filter-le (is_left command) ms) h
     go false f = record {
-      no_batch = count-none (holds_batch setup) (filter (is_left command) ps) (λ x j. not-passing (holds_batch setup x) (λ t. not-both _ (named x (In-filter (is_left command) x ps j).0 t j) f));
+      no_batch = count-none (holds_batch setup) (filter (is_left command) ps) (λ x j. false_from_ne_true (holds_batch setup x) (λ t. not-both _ (named x (In-filter (is_left command) x ps j).0 t j) f));
       no_members = filter-none (is_left command) ms (count-none (is_left command) ms (gone f));
     }

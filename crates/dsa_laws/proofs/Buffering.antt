@@ -1,8 +1,8 @@
 -- The bounds on read buffers stay.
-use Rattle.std.proofs.Common.{drop, ◌≡◌, ◌≢◌, ℕ, ◌+◌, ◌<◌, ◌≤◌, ◌++◌, Bool, true, false, not, cond, List, [], ◌∷◌, map, set, Some, None, refl, sym, ap, ◌∙◌, subst, inl, inr, arith, ⊎_elim}
+use Rattle.std.proofs.Common.{drop, ◌≡◌, ℕ, ◌+◌, ◌<◌, ◌≤◌, ◌++◌, Bool, true, false, not, cond, List, [], ◌∷◌, map, set, Some, None, refl, sym, ap, ◌∙◌, subst, inl, inr, arith, ⊎_elim}
 use Rattle.std.specs.Prelude.{sum_by, filter, find, position, nat_lt}
 use Rattle.std.proofs.lemmas.List.Sums.{sum_by-cons, sum_by_push}
-use Rattle.std.proofs.lemmas.Bool.{ltb-false}
+use Rattle.std.proofs.lemmas.Bool.{ltb-false, and_parts, or_parts, not-true}
 use Rattle.std.proofs.lemmas.List.{get_or-set_other}
 use Rattle.dsa_desc.specs.Rows.{passes}
 use Rattle.dsa_regs.specs.declared.Caps.{Caps}
@@ -17,21 +17,22 @@ use Rattle.dsa_regs.specs.Config.{zero_queue, group_at, queue_at, is_in_two, tot
 use Rattle.dsa_regs.specs.Buffers.{covered, fits}
 use Rattle.dsa_store.specs.Content.{Slot, Content, is_cell, chain, pushed, without_front}
 use Rattle.dsa_book.specs.State.{Setup, Work, State, opening, is_off, phase_at}
-use Rattle.dsa_book.specs.Work.{progress_list, member_list, members, first_waiting, may_take, used_on, has_room, front_of, qualifies, as_running, run, with_first_run}
+use Rattle.dsa_book.specs.Work.{progress_list, member_list, members, first_waiting, used_on, has_room, as_running, run, with_first_run}
 use Rattle.dsa_book.specs.Commands.{stopped, may_come, names, size_alone, is_in_scope}
 use Rattle.dsa_laws.specs.Change.{Change, same, is_noted, is_accepted, is_taken, is_fetched, is_started, is_abandoned, is_ended, is_device_enabled, is_queue_enabled, is_waiting, is_over, is_aborted, is_device_reset, is_queues_reset, is_queue_written, is_group_written}
-use Rattle.dsa_laws.specs.WellFormed.{HasShape, HasLawfulSetup, HasLawfulEntries, IsWellFormed, In}
+use Rattle.dsa_laws.specs.WellFormed.{HasShape, HasLawfulSetup, HasLawfulEntries, IsWellFormed}
 use Rattle.dsa_laws.specs.Buffering.{HasBuffers}
-use Rattle.dsa_laws.proofs.Changes.{and-left, and-right, not-true}
-use Rattle.dsa_laws.proofs.Contents.{chain-filtered, sum-filter-le, In-filtered}
+use Rattle.dsa_laws.proofs.Contents.{chain-filtered, sum-filter-le, In-filtered, chain-other}
 use Rattle.dsa_laws.proofs.Covering.{AreWithin, needed, all_needed, within-less, within-more, within-none}
-use Rattle.dsa_laws.proofs.Entries.{or-right, in-use-below}
-use Rattle.dsa_laws.proofs.Limits.{no-row}
+use Rattle.dsa_laws.proofs.Entries.{in-use-below, none-held}
 use Rattle.dsa_laws.proofs.Needs.{weight, weight-waiting, weight-run, weight-same, sum-within, sum_on, used_on-sum, sum_on-less, HasMore, sum_on-others, sum_on-mine}
 use Rattle.dsa_laws.proofs.Orders.{chain-set}
 use Rattle.dsa_laws.proofs.Setups.{not-both, on-not_off}
 use Rattle.dsa_laws.proofs.Numbers.{get_or-each}
 use Rattle.dsa_laws.proofs.Shapes.{below-engines, waiting-engine, stopped-caps, stopped-configs, stopped-groups}
+use Rattle.dsa_desc.proofs.Tables.{no-row}
+use Rattle.dsa_laws.specs.Lists.{In}
+use Rattle.dsa_laws.proofs.Limits.{taken-test}
 
 -- ---- the bounds, by what each engine needs
 
@@ -82,7 +83,7 @@ one-more : (caps : Caps) (w w' : Work) (e p n : ℕ) → HasShape caps w → Has
     → HasBuffers caps w → HasBuffers caps w'
 one-more caps w w' e p n shape setup is more room h = of-within caps w' is' (λ on'.
     let on : is_off w.setup.device ≡ false = subst (λ (s : Setup). is_off s.device ≡ false) is on' in
-    let alone : is_in_two (λ g. g.engines) w.setup.groups w.setup.caps.engines ≡ false = or-right _ _ (no-row (groups_table w.setup.caps (total_size w.setup.configs) w.setup.groups) (setup.device on)).1.1.0 in
+    let alone : is_in_two (λ g. g.engines) w.setup.groups w.setup.caps.engines ≡ false = (or_parts _ _ (no-row (groups_table w.setup.caps (total_size w.setup.configs) w.setup.groups) (setup.device on)).1.1.0).1 in
     subst (λ (gs : List GroupConfig). AreWithin caps gs (used_on w')) (sym (ap (λ (s : Setup). s.groups) is))
     (within-more caps w.setup.groups (used_on w) (used_on w') e n (within-of caps w shape.same_caps h on) shape.groups more.engine
     (subst (λ (k : Caps). is_in_two (λ g. g.engines) w.setup.groups k.engines ≡ false) shape.same_caps alone)
@@ -155,9 +156,6 @@ first_run-within f (x ∷ xs) slot h = go x.1.running (first_run-within f xs slo
         let b = sum_by-cons f x xs in
         omega (arith, e, a, b)
 
-set-other : (c : Content) (p : ℕ) (l : List Slot) (k : ℕ) → k ≢ p → chain (set c p l) k ≡ chain c k
-set-other c p l k ne = ⊎_elim (λ q. absurd (ne q.0)) (λ e. e) (chain-set c p l k)
-
 -- ---- the two changes by which an entry begins to run
 
 taken-more : (caps : Caps) (w : Work) (e q : ℕ) (front : Slot) (f : Slot → ℕ) → HasShape caps w → e < caps.engines
@@ -167,7 +165,7 @@ taken-more caps w e q front f shape engine = record {
   place = inl (ap (λ (k : Caps). k.queues + e) shape.same_caps);
   others = λ k ne.
       let r = front-within f w.content q k in
-      let is = ap (λ (xs : List Slot). sum_by f xs) (set-other (without_front w.content q) (progress_list w.setup e) (chain (without_front w.content q) (progress_list w.setup e) ++ run front ∷ []) k ne) in
+      let is = ap (λ (xs : List Slot). sum_by f xs) (chain-other (without_front w.content q) (progress_list w.setup e) (chain (without_front w.content q) (progress_list w.setup e) ++ run front ∷ []) k ne) in
       omega (arith, r, is);
   mine =
       let r = front-within f w.content q (progress_list w.setup e) in
@@ -185,16 +183,12 @@ started-more caps w e slot f shape first =
       engine = below-engines caps w e shape has;
       place = inr (ap (λ (k : Caps). k.queues + k.engines + e) shape.same_caps);
       others = λ k ne.
-          let same = ap (λ (xs : List Slot). sum_by f xs) (set-other w.content (member_list w.setup e) (with_first_run (members w e)) k ne) in
+          let same = ap (λ (xs : List Slot). sum_by f xs) (chain-other w.content (member_list w.setup e) (with_first_run (members w e)) k ne) in
           omega (arith, same);
       mine = set-within f w.content (member_list w.setup e) (with_first_run (members w e)) _ (omega (arith, is, run)) (member_list w.setup e);
     }
 
 -- ---- the device is enabled: nothing is held
-
-sum-empty : (f : Slot → ℕ) (xs : List Slot) → ((x : Slot) → In x xs → ⊥) → sum_by f xs ≡ 0
-sum-empty f [] h = refl
-sum-empty f (x ∷ xs) h = absurd (h x (inl refl))
 
 sum_on-none : (caps : Caps) (f : Slot → ℕ) (c : Content) (e : ℕ) → ((k : ℕ) → sum_by f (chain c k) ≡ 0) → sum_on caps f c e ≡ 0
 sum_on-none caps f c e h =
@@ -206,9 +200,6 @@ sum_on-none caps f c e h =
     tested true n z = z
     tested false n z = refl
 
-none-held : (caps : Caps) (w : Work) → HasLawfulSetup w.setup → HasLawfulEntries caps w → is_off w.setup.device ≡ true → (k : ℕ) (x : Slot) → In x (chain w.content k) → ⊥
-none-held caps w setup entries off k x i = not-both (is_off w.setup.device) off (setup.phases x.1.queue (entries.slot k x i))
-
 enabled-buffers : (caps : Caps) (w w' : Work) → HasShape caps w → HasLawfulSetup w.setup → HasLawfulEntries caps w → is_off w.setup.device ≡ true → check_device w.setup.caps w.setup.configs w.setup.groups ≡ None
     → w'.setup.caps ≡ w.setup.caps → w'.setup.groups ≡ w.setup.groups → w'.content ≡ w.content → HasBuffers caps w'
 enabled-buffers caps w w' shape setup entries off check same_caps groups content =
@@ -218,7 +209,7 @@ enabled-buffers caps w w' shape setup entries off check same_caps groups content
     let now = ap (λ (gs : List GroupConfig). total_reserved gs) groups in
     of-within caps w' is (λ on. within-none caps w'.setup.groups (used_on w') (omega (arith, reserved, total, now)) (λ e.
     used_on-sum caps w' e is ∙ sum_on-none caps (weight w'.setup) w'.content e (λ k.
-    sum-empty (weight w'.setup) (chain w'.content k) (λ x i. none-held caps w setup entries off k x (subst (λ (c : Content). In x (chain c k)) content i)))))
+    ap (λ (c : Content). sum_by (weight w'.setup) (chain c k)) content ∙ ap (λ (xs : List Slot). sum_by (weight w'.setup) xs) (none-held caps w setup entries off k))))
 
 -- ---- the limits of what is held stay
 
@@ -240,11 +231,6 @@ over-on setup _ n = n
 
 -- ---- each kind
 
-taken-room : (w : Work) (e q : ℕ) (front : Slot) → qualifies w e q ≡ true → front_of w q ≡ Some front → has_room w e (weight w.setup (run front)) ≡ true
-taken-room w e q front h is =
-    let may : may_take w e front ≡ true = subst (λ o. passes (may_take w e) o ≡ true) is (and-right _ _ (and-right _ _ h)) in
-    subst (λ n. has_room w e n ≡ true) (sym (weight-run w.setup front)) (and-right _ _ (and-left _ _ may))
-
 -- the content alone has changed, and no list needs more
 lighter : (caps : Caps) (w w' : Work) → HasShape caps w → w'.setup ≡ w.setup → ((k : ℕ) → sum_by (weight w.setup) (chain w'.content k) ≤ sum_by (weight w.setup) (chain w.content k)) → HasBuffers caps w → HasBuffers caps w'
 lighter caps w w' shape is lists h = no-more caps w w' shape.same_caps (ap (λ (s : Setup). s.caps) is ∙ shape.same_caps) (ap (λ (s : Setup). s.groups) is) (λ n. subst (λ (s : Setup). is_off s.device ≡ false) is n)
@@ -265,10 +251,10 @@ kept-change caps s s' shape setup entries h (is_accepted c) =
     subst (λ t. HasBuffers caps t.work) c.after
     (no-more caps s.work _ shape.same_caps shape.same_caps refl (λ n. n) (λ k x i. refl) (pushed-light (weight s.work.setup) s.work.content c.queue _ (weight-waiting s.work.setup _ refl)) h)
 kept-change caps s s' shape setup entries h (is_taken c) =
-    let engine = below-engines caps s.work c.engine shape (and-left _ _ (and-left _ _ c.qualifies)) in
+    let engine = below-engines caps s.work c.engine shape (and_parts _ _ (and_parts _ _ c.qualifies).0).0 in
     subst (λ t. HasBuffers caps t.work) c.after
     (one-more caps s.work _ c.engine _ _ shape setup refl (taken-more caps s.work c.engine c.queue c.front (weight s.work.setup) shape engine)
-    (taken-room s.work c.engine c.queue c.front c.qualifies c.is_front) h)
+    (subst (λ n. has_room s.work c.engine n ≡ true) (sym (weight-run s.work.setup c.front)) (and_parts _ _ (and_parts _ _ (taken-test s.work c.engine c.queue c.front c.qualifies c.is_front)).0).1) h)
 kept-change caps s s' shape setup entries h (is_fetched c) =
     subst (λ t. HasBuffers caps t.work) c.after
     (no-more caps s.work _ shape.same_caps shape.same_caps refl (λ n. n) (λ k x i. refl) (pushed-light (weight s.work.setup) s.work.content (member_list s.work.setup c.engine) _ (weight-waiting s.work.setup _ refl)) h)
@@ -301,18 +287,18 @@ kept-change caps s s' shape setup entries h (is_queues_reset c) =
     (no-more caps s.work _ shape.same_caps shape.same_caps refl (λ n. n)
     (λ k x i.
     let j = In-filtered (λ slot. not (names qs slot.1.queue)) s.work.content k x i in
-    queues_reset-configs caps s.work qs x.1.queue shape (entries.slot k x j.0) (not-true _ j.1))
+    queues_reset-configs caps s.work qs x.1.queue shape (entries.none_off k x j.0) (not-true _ j.1))
     (filtered-within (weight s.work.setup) (λ slot. not (names qs slot.1.queue)) s.work.content) h)
 kept-change caps s s' shape setup entries h (is_queue_written c) =
     subst (λ t. HasBuffers caps t.work) c.after
     (settled caps s.work _ shape refl refl refl (λ n. n)
     (λ k x i. get_or-set_other s.work.setup.configs c.queue x.1.queue c.config zero_queue (λ (e : x.1.queue ≡ c.queue).
-    not-both (is_off (phase_at s.work.setup c.queue)) c.off (subst (λ q. is_off (phase_at s.work.setup q) ≡ false) e (entries.slot k x i))))
+    not-both (is_off (phase_at s.work.setup c.queue)) c.off (subst (λ q. is_off (phase_at s.work.setup q) ≡ false) e (entries.none_off k x i))))
     h)
 kept-change caps s s' shape setup entries h (is_group_written c) = subst (λ t. HasBuffers caps t.work) c.after (while-off caps _ c.off)
 
-pub buffers-change : (caps : Caps) (s s' : State) → IsWellFormed caps s → HasBuffers caps s.work → Change s s' → HasBuffers caps s'.work
-buffers-change caps s s' w h c = kept-change caps s s' w.shape w.setup w.entries h c
+pub buffers-change : (caps : Caps) (s s' : State) → IsWellFormed caps s → Change s s' → HasBuffers caps s'.work
+buffers-change caps s s' w c = kept-change caps s s' w.shape w.setup w.entries w.buffers c
 
 pub buffers-opening : (caps : Caps) → HasBuffers caps (opening caps).work
 buffers-opening caps = while-off caps (opening caps).work refl

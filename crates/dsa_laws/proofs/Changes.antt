@@ -1,9 +1,9 @@
 -- Every step that may come is one of the changes.
-use Rattle.std.proofs.Common.{◌≡◌, ℕ, Bool, true, false, cond, not, ◌&&◌, [], ◌∷◌, length, slice_set, Option, Some, None, option_map, option_and_then, refl}
+use Rattle.std.proofs.Common.{◌≡◌, ℕ, Bool, true, false, cond, not, ◌&&◌, length, slice_set, Option, Some, None, option_map, option_and_then, refl}
 use Rattle.std.specs.Prelude.{find, is_some}
 use Rattle.dsa_desc.specs.declared.Descriptor.{Descriptor}
 use Rattle.dsa_desc.specs.declared.Outcome.{Outcome}
-use Rattle.dsa_desc.specs.Rows.{first_row_or, when}
+use Rattle.dsa_desc.specs.Rows.{when}
 use Rattle.dsa_desc.proofs.Tables.{when-some, table1, table2, table3}
 use Rattle.dsa_regs.specs.declared.Phase.TheVariants.{Off, Stopping}
 use Rattle.dsa_regs.specs.declared.Command.{Command}
@@ -51,24 +51,9 @@ use Rattle.dsa_book.specs.Work.{qualifies, front_of, taken, fetch, fetch_of, fet
 use Rattle.dsa_book.specs.Commands.{issue, check_of, refused_or, carried_out, waits, poll, poll_of, stopped, write_queue, write_group, clear, clear_of, is_at_end, is_bad_queues, may_come}
 use Rattle.dsa_book.specs.Machine.{next, with_work, with_intake, with_setup, intake_of, accepted_cell, fetched_cell, cell_or_first, may_use}
 use Rattle.dsa_laws.specs.Change.{Change, set_up, same, is_noted, is_accepted, is_taken, is_fetched, is_started, is_abandoned, is_ended, is_device_enabled, is_queue_enabled, is_waiting, is_over, is_aborted, is_device_reset, is_queues_reset, is_queue_written, is_group_written}
+use Rattle.std.proofs.lemmas.Bool.{and_parts, not-false}
 
 -- ---- tables and tests
-
-pub and-left : (a b : Bool) → (a && b) ≡ true → a ≡ true
-and-left true b h = refl
-and-left false b h = cc
-
-pub and-right : (a b : Bool) → (a && b) ≡ true → b ≡ true
-and-right true b h = h
-and-right false b h = cc
-
-pub not-true : (a : Bool) → not a ≡ true → a ≡ false
-not-true true h = cc
-not-true false h = refl
-
-pub not-false : (a : Bool) → not a ≡ false → a ≡ true
-not-false true h = refl
-not-false false h = cc
 
 test : {X : Type 0} (P : X → Type 0) (a : Bool) (x last : X) → (a ≡ true → P x) → (a ≡ false → P last) → P (cond a x last)
 test P true x last p q = p refl
@@ -96,7 +81,7 @@ submit-change s s' client q portal kind d a h =
   where
     free_of : (a : SubmitAnswer) → (same_submit a (Accepted (record { cell = cell_or_first (accepted_cell a); name = s.work.setup.next_name })) && may_use s.work.setup s.work.content (accepted_cell a)) ≡ true
         → is_free (cell_count s.work.setup.caps) s.work.content (cell_or_first (accepted_cell a)) ≡ true
-    free_of (Accepted t) h = and-right _ _ h
+    free_of (Accepted t) h = (and_parts _ _ h).1
     free_of _ h = absurd cc
 
 -- ---- dispatch
@@ -107,9 +92,10 @@ dispatch-change s s' e (Taken t q) h = found (front_of s.work q) refl h
     tested : (front : Slot) (b : Bool) → front_of s.work q ≡ Some front → (b ≡ true → qualifies s.work e q ≡ true) → option_map (with_work s) (when b (taken s.work e q front)) ≡ Some s' → Change s s'
     tested front true n k h = is_taken (record { engine = e; queue = q; front = front; is_front = n; qualifies = k refl; after = cc })
     tested front false n k h = absurd cc
+
     found : (o : Option Slot) → front_of s.work q ≡ o → option_map (with_work s) (option_and_then (λ front. when (qualifies s.work e q && is_ticket t front) (taken s.work e q front)) o) ≡ Some s' → Change s s'
     found None n h = absurd cc
-    found (Some front) n h = tested front (qualifies s.work e q && is_ticket t front) n (λ x. and-left _ _ x) h
+    found (Some front) n h = tested front (qualifies s.work e q && is_ticket t front) n (λ x. (and_parts _ _ x).0) h
 dispatch-change s s' e Idle h = idle _ h
   where
     idle : (b : Bool) → option_map (with_work s) (when b s.work) ≡ Some s' → Change s s'
@@ -125,7 +111,7 @@ FetchLeads s s' a r = (same_fetch a r.0 && may_use s.work.setup s.work.content (
 
 fetch-free : (s : State) (a : FetchAnswer) → (same_fetch a (Fetched (record { cell = cell_or_first (fetched_cell a); name = s.work.setup.next_name })) && may_use s.work.setup s.work.content (fetched_cell a)) ≡ true
     → is_free (cell_count s.work.setup.caps) s.work.content (cell_or_first (fetched_cell a)) ≡ true
-fetch-free s (Fetched t) h = and-right _ _ h
+fetch-free s (Fetched t) h = (and_parts _ _ h).1
 fetch-free s _ h = absurd cc
 
 fetch_of-change : (s s' : State) (e : ℕ) (d : Descriptor) (a : FetchAnswer) (note : BatchNote) (o : Option Slot) → note_at s.work e ≡ Some note → batch_on s.work e note ≡ o
@@ -199,7 +185,7 @@ waits-change s s' command may x =
 
 carried_out-change : (s s' : State) (command : Command) → may_come s.work.setup command ≡ true → check_of s.work.setup command ≡ None → (carried_out s command).1 ≡ s' → Change s s'
 carried_out-change s s' EnableDevice may check x = is_device_enabled (record { off = may; check = check; after = x })
-carried_out-change s s' (EnableWq queue) may check x = is_queue_enabled (record { queue = queue; on = and-left _ _ may; check = check; after = x })
+carried_out-change s s' (EnableWq queue) may check x = is_queue_enabled (record { queue = queue; on = (and_parts _ _ may).0; check = check; after = x })
 carried_out-change s s' DisableDevice may check x = waits-change s s' DisableDevice may x
 carried_out-change s s' (DisableWq queues) may check x = waits-change s s' (DisableWq queues) may x
 carried_out-change s s' DrainAll may check x = waits-change s s' DrainAll may x

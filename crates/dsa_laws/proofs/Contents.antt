@@ -1,10 +1,12 @@
 -- Members, sums and facts of lists of lists, as each effect changes them.
-use Rattle.std.proofs.Common.{drop, ◌≡◌, ℕ, zero, suc, ◌+◌, ◌<◌, ◌≤◌, Bool, true, false, not, cond, List, [], ◌∷◌, ◌++◌, length, map, filter, set, Some, refl, sym, ap, ◌∙◌, subst, ◌⊎◌, inl, inr, arith, ⊎_elim}
+use Rattle.std.proofs.Common.{drop, ◌≡◌, ℕ, zero, suc, ◌+◌, ◌<◌, ◌≤◌, Bool, true, false, not, cond, List, [], ◌∷◌, ◌++◌, length, map, filter, set, Some, refl, sym, ap, ◌∙◌, subst, ◌⊎◌, inl, inr, arith, ⊎_elim, replicate, ◌≢◌}
 use Rattle.std.specs.Prelude.{sum_by, count_by, find, All}
-use Rattle.std.proofs.lemmas.List.Elements.{filter-append, All-head, All-tail}
-use Rattle.std.proofs.lemmas.List.Sums.{sum_by-cons, sum_by-append}
-use Rattle.dsa_laws.specs.WellFormed.{In, EachAt}
+use Rattle.std.proofs.lemmas.List.Elements.{All-head, All-tail}
+use Rattle.std.proofs.lemmas.List.Sums.{sum_by-cons, sum_by-append, length-filter, count_by-le-length}
 use Rattle.dsa_store.specs.Content.{Slot, Content, chain, all_held, pushed, without_front}
+use Rattle.dsa_store.proofs.Sums.{sum-split}
+use Rattle.dsa_laws.specs.Lists.{In, EachAt}
+use Rattle.std.proofs.lemmas.List.{get_or-set_same, get_or-set_other}
 
 -- ---- members
 
@@ -12,6 +14,11 @@ pub In-All : {X : Type 0} (P : X → Type 0) (x : X) (xs : List X) → In x xs �
 In-All P x [] i a = absurd i
 In-All P x (y ∷ ys) (inl e) a = subst P e (All-head P y ys a)
 In-All P x (y ∷ ys) (inr i) a = In-All P x ys i (All-tail P y ys a)
+
+-- a list in which nothing stands is empty
+pub none-In : {X : Type 0} (xs : List X) → ((x : X) → In x xs → ⊥) → xs ≡ []
+none-In [] h = refl
+none-In (x ∷ xs) h = absurd (h x (inl refl))
 
 pub In-left : {X : Type 0} (x : X) (xs ys : List X) → In x xs → In x (xs ++ ys)
 In-left x [] ys i = absurd i
@@ -86,22 +93,11 @@ sum-list-le f [] k = omega arith
 sum-list-le f (l ∷ ls) zero = omega (arith, sum_by-append f l (all_held ls))
 sum-list-le f (l ∷ ls) (suc k) = omega (arith, sum_by-append f l (all_held ls), sum-list-le f ls k)
 
-pub all_held-filtered : (p : Slot → Bool) (c : Content) → all_held (map (filter p) c) ≡ filter p (all_held c)
-all_held-filtered p [] = refl
-all_held-filtered p (l ∷ ls) = ap (λ xs. filter p l ++ xs) (all_held-filtered p ls) ∙ sym (filter-append p l (all_held ls))
-
--- what passes and what does not are all
-pub sum-parts : {X : Type 0} (f : X → ℕ) (p : X → Bool) (xs : List X) → sum_by f (filter (λ x. not (p x)) xs) + sum_by f (filter p xs) ≡ sum_by f xs
-sum-parts f p [] = refl
-sum-parts {X} f p (x ∷ xs) = joined (p x) (sum-parts f p xs)
-  where
-    joined : (b : Bool) → sum_by f (filter (λ y. not (p y)) xs) + sum_by f (filter p xs) ≡ sum_by f xs
-        → sum_by f (cond (not b) (x ∷ filter (λ y. not (p y)) xs) (filter (λ y. not (p y)) xs)) + sum_by f (cond b (x ∷ filter p xs) (filter p xs)) ≡ sum_by f (x ∷ xs)
-    joined true rest = omega (arith, rest, sum_by-cons f x (filter p xs), sum_by-cons f x xs)
-    joined false rest = omega (arith, rest, sum_by-cons f x (filter (λ y. not (p y)) xs), sum_by-cons f x xs)
-
 pub sum-filter-le : {X : Type 0} (f : X → ℕ) (p : X → Bool) (xs : List X) → sum_by f (filter p xs) ≤ sum_by f xs
-sum-filter-le f p xs = omega (arith, sum-parts f p xs)
+sum-filter-le f p xs = omega (arith, sum-split f p xs)
+
+pub length-filter-le : {X : Type 0} (p : X → Bool) (xs : List X) → length (filter p xs) ≤ length xs
+length-filter-le p xs = let a = length-filter p xs in let b = count_by-le-length p xs in omega (arith, a, b)
 
 pub filter-none : {X : Type 0} (p : X → Bool) (xs : List X) → count_by p xs ≡ 0 → filter p xs ≡ []
 filter-none p [] h = refl
@@ -134,10 +130,29 @@ filter-one {X} p x (y ∷ ys) h (inr i) t = go (λ e. filter-one p x ys e i t) (
 -- without the cell of one that is slot, all but it are left
 pub sum-without : (f : Slot → ℕ) (p : Slot → Bool) (x : Slot) (xs : List Slot) → count_by p xs ≤ 1 → In x xs → p x ≡ true → sum_by f (filter (λ y. not (p y)) xs) + f x ≡ sum_by f xs
 sum-without f p x xs h i t =
-    let parts = sum-parts f p xs in
+    let parts = sum-split f p xs in
     let one = ap (λ (ys : List Slot). sum_by f ys) (filter-one p x xs h i t) in
     let single = sum_by-cons f x [] in
     omega (arith, parts, one, single)
+
+-- ---- one list by its number
+
+pub chain-other : (c : Content) (k : ℕ) (l : List Slot) (j : ℕ) → j ≢ k → chain (set c k l) j ≡ chain c j
+chain-other c k l j n = get_or-set_other c k j l [] n
+
+pub chain-same : (c : Content) (k : ℕ) (l : List Slot) → k < length c → chain (set c k l) k ≡ l
+chain-same c k l i = get_or-set_same c k l [] i
+
+-- where all lists are empty each is
+pub chain-empty : (n k : ℕ) → chain (replicate n []) k ≡ []
+chain-empty zero k = refl
+chain-empty (suc n) zero = refl
+chain-empty (suc n) (suc k) = chain-empty n k
+
+-- and nothing is held
+pub all_held-empty : (n : ℕ) → all_held (replicate n []) ≡ []
+all_held-empty zero = refl
+all_held-empty (suc n) = all_held-empty n
 
 -- ---- facts of each list by its number
 

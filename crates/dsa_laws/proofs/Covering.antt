@@ -1,21 +1,19 @@
 -- What the groups use or have reserved, as what their engines need changes.
-use Rattle.std.proofs.Common.{◌≡◌, ◌≢◌, ℕ, zero, suc, ◌+◌, ◌<◌, ◌≤◌, ◌||◌, Bool, true, false, cond, List, [], ◌∷◌, ◌++◌, length, map, set, get_or, Option, Some, None, refl, sym, ap, ◌∙◌, subst, arith, ⊎_elim}
+use Rattle.std.proofs.Common.{◌≡◌, ◌≢◌, ℕ, zero, suc, ◌+◌, ◌<◌, ◌≤◌, ◌||◌, Bool, true, false, cond, List, [], ◌∷◌, length, map, set, get_or, Option, Some, None, refl, sym, ap, ◌∙◌, subst, arith, ⊎_elim}
 use Rattle.std.specs.Prelude.{sum_by, count_by, filter, position, nat_lt, nat_le}
 use Rattle.std.specs.List.{list_any}
 use Rattle.std.proofs.lemmas.List.{length-set, get_or-set_same, get_or-set_other}
 use Rattle.std.proofs.lemmas.List.Quantifiers.{position-Some}
-use Rattle.std.proofs.lemmas.List.Sums.{sum_by-cons, sum_by_push, get_or-le-sum_by}
+use Rattle.std.proofs.lemmas.List.Sums.{sum_by-cons, sum_by_push, get_or-le-sum_by, sum_by-le-sum_by}
 use Rattle.std.proofs.lemmas.List.Folds.{list_any-append}
-use Rattle.std.proofs.lemmas.Bool.{cases_eq, cases_Bool, cases_lt, ltb-false, leb-true}
+use Rattle.std.proofs.lemmas.Bool.{cases_eq, cases_Bool, cases_lt, ltb-false, leb-true, and_parts, or_parts}
 use Rattle.dsa_desc.specs.Rows.{passes}
 use Rattle.dsa_regs.specs.declared.Caps.{Caps}
 use Rattle.dsa_regs.specs.declared.GroupConfig.{GroupConfig}
 use Rattle.dsa_regs.specs.Numbers.{has, numbers_below}
 use Rattle.dsa_regs.specs.Config.{zero_group, group_at, is_in_two, total_reserved}
 use Rattle.dsa_regs.specs.Buffers.{covered, fits}
-use Rattle.dsa_laws.proofs.Changes.{and-left, and-right}
-use Rattle.dsa_laws.proofs.Entries.{or-left, or-right}
-use Rattle.dsa_laws.proofs.Numbers.{get_or-each, get_or-past, sum-below}
+use Rattle.dsa_laws.proofs.Numbers.{get_or-each, get_or-past}
 use Rattle.dsa_laws.proofs.Setups.{not-both}
 use Rattle.dsa_laws.proofs.Shapes.{length-each}
 
@@ -84,8 +82,8 @@ none-any p zero k h l = absurd (omega (arith, l))
 none-any p (suc N) k h l =
     let both : (list_any p (numbers_below N) || (p N || false)) ≡ false = sym (list_any-append p (numbers_below N) (N ∷ [])) ∙ h in
     ⊎_elim
-    (λ (q : k ≡ N). ap p q ∙ or-left (p N) false (or-right _ _ both))
-    (λ (q : k ≢ N). none-any p N k (or-left _ _ both) (omega (arith, l, q)))
+    (λ (q : k ≡ N). ap p q ∙ (or_parts (p N) false (or_parts _ _ both).1).0)
+    (λ (q : k ≢ N). none-any p N k (or_parts _ _ both).0 (omega (arith, l, q)))
     (cases_eq k N)
 
 some-counted : {X : Type 0} (p : X → Bool) (xs : List X) (j : ℕ) (d : X) → j < length xs → p (get_or xs j d) ≡ true → 1 ≤ count_by p xs
@@ -138,7 +136,7 @@ sum-other : (p : ℕ → Bool) (f f' : ℕ → ℕ) (e N : ℕ) → p e ≡ fals
 sum-other p f f' e N off h =
     let a = sum-filtered f p (numbers_below N) in
     let b = sum-filtered f' p (numbers_below N) in
-    let c = sum-below (λ k. cond (p k) (f' k) 0) (λ k. cond (p k) (f k) 0) (numbers_below N) (λ k. cond-le (p k) (f' k) (f k) (λ t.
+    let c = sum_by-le-sum_by (λ k. cond (p k) (f' k) 0) (λ k. cond (p k) (f k) 0) (numbers_below N) (λ k. cond-le (p k) (f' k) (f k) (λ t.
     h k (λ (q : k ≡ e). not-both (p k) t (ap p q ∙ off)))) in
     omega (arith, a, b, c)
 
@@ -158,7 +156,7 @@ table-below u N vs h j = ⊎_elim
 
 pub within-less : (caps : Caps) (groups : List GroupConfig) (f f' : ℕ → ℕ) → AreWithin caps groups f → ((e : ℕ) → f' e ≤ f e) → AreWithin caps groups f'
 within-less caps groups f f' w h =
-    let each : (g : ℕ) → needed f' caps.engines groups g ≤ needed f caps.engines groups g = λ g. sum-below f' f (filter (has (group_at groups g).engines) (numbers_below caps.engines)) h in
+    let each : (g : ℕ) → needed f' caps.engines groups g ≤ needed f caps.engines groups g = λ g. sum_by-le-sum_by f' f (filter (has (group_at groups g).engines) (numbers_below caps.engines)) h in
     record {
       allowed = λ g i. let a = w.allowed g i in let b = each g in omega (arith, a, b);
       total =
@@ -197,8 +195,8 @@ within-group caps groups f f' g n w i room others mine =
     let now : get_or us g 0 ≡ needed f caps.engines groups g = get_or-each (needed f caps.engines groups) caps.groups g 0 i in
     let own = nat_le (get_or us g 0 + n) (group_at groups g).allowed in
     let total = nat_le (covered groups (set us g (get_or us g 0 + n))) caps.read_buffers in
-    let first : get_or us g 0 + n ≤ (group_at groups g).allowed = leb-true (get_or us g 0 + n) (group_at groups g).allowed (and-left own total room) in
-    let second : covered groups (set us g (get_or us g 0 + n)) ≤ caps.read_buffers = leb-true (covered groups (set us g (get_or us g 0 + n))) caps.read_buffers (and-right own total room) in
+    let first : get_or us g 0 + n ≤ (group_at groups g).allowed = leb-true (get_or us g 0 + n) (group_at groups g).allowed (and_parts own total room).0 in
+    let second : covered groups (set us g (get_or us g 0 + n)) ≤ caps.read_buffers = leb-true (covered groups (set us g (get_or us g 0 + n))) caps.read_buffers (and_parts own total room).1 in
     let size : length us ≡ caps.groups = length-each (needed f caps.engines groups) caps.groups in
     record {
       allowed = λ j k. ⊎_elim

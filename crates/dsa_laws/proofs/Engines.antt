@@ -1,39 +1,39 @@
 -- Each engine has a note exactly where it works on a batch, whatever step is made.
-use Rattle.std.proofs.Common.{drop, ◌≡◌, ◌≢◌, ℕ, ◌+◌, ◌<◌, ◌≤◌, ◌^◌, ◌&&◌, ◌||◌, ◌==◌, not, Bool, true, false, cond, List, [], ◌∷◌, ◌++◌, length, filter, set, get_or, Option, Some, None, option_map, is_none, refl, sym, ap, ◌∙◌, subst, ◌⊎◌, inl, inr, arith, ⊎_elim, eq-eqb, eqb-true}
+use Rattle.std.proofs.Common.{drop, ◌≡◌, ◌≢◌, ℕ, ◌+◌, ◌<◌, ◌≤◌, ◌&&◌, ◌||◌, ◌==◌, not, Bool, true, false, cond, List, [], ◌∷◌, ◌++◌, length, filter, set, get_or, Option, Some, None, option_map, is_none, refl, sym, ap, ◌∙◌, subst, ◌⊎◌, inl, inr, arith, ⊎_elim, eq-eqb, eqb-true}
 use Rattle.std.specs.Prelude.{nat_lt, count_by, sum_by}
 use Rattle.std.proofs.lemmas.Bool.Decides.{nat_tests}
-use Rattle.std.proofs.lemmas.Bool.{cases_Bool, cases_eq, ltb-true, ltb-false}
+use Rattle.std.proofs.lemmas.Bool.{cases_Bool, cases_eq, ltb-true, ltb-false, and_parts, or_parts, not-true}
 use Rattle.std.proofs.lemmas.List.{length-set, get_or-set_same, get_or-set_other, get_or-replicate}
 use Rattle.std.proofs.Math.ListN.{get_or-eq_default}
 use Rattle.dsa_desc.specs.declared.Outcome.{Outcome}
 use Rattle.dsa_desc.specs.Descriptor.{with_pasid, is_successful, is_lawful_batch}
-use Rattle.dsa_desc.specs.Rows.{passes}
 use Rattle.dsa_regs.specs.declared.Caps.{Caps}
 use Rattle.dsa_regs.specs.declared.QueueConfig.{QueueConfig}
 use Rattle.dsa_regs.specs.declared.Phase.TheVariants.{Off, Stopping}
 use Rattle.dsa_regs.specs.declared.Command.{Command}
 use Rattle.dsa_regs.specs.declared.Command.TheVariants.{ResetDevice, ResetWq}
-use Rattle.dsa_regs.specs.Caps.{cell_count, list_count}
+use Rattle.dsa_regs.specs.Caps.{list_count}
 use Rattle.dsa_regs.specs.Config.{queue_at, limits_of, zero_queue}
 use Rattle.dsa_regs.specs.Command.{named_queues}
-use Rattle.dsa_store.specs.declared.entry.Cell.{Cell}
 use Rattle.dsa_store.specs.Content.{Slot, Content, is_cell, chain, count, uses, without_front, unlinked}
 use Rattle.dsa_store.proofs.Places.{filter-absent}
 use Rattle.dsa_store.proofs.Sums.{uses-counted}
 use Rattle.dsa_book.specs.declared.note.BatchNote.{BatchNote}
 use Rattle.dsa_book.specs.State.{Setup, Work, State, opening, opening_setup, is_off, is_member, is_batch_of, phase_at, status_of}
-use Rattle.dsa_book.specs.Work.{progress_list, member_list, in_progress, members, note_at, running_on, run, is_unfinished, note_after, with_first_run, opened_note, taken, may_take, ended}
+use Rattle.dsa_book.specs.Work.{progress_list, member_list, in_progress, members, note_at, running_on, run, is_unfinished, note_after, with_first_run, opened_note, taken, ended}
 use Rattle.dsa_book.specs.Commands.{aborted, kept_note, names, size_alone}
 use Rattle.dsa_laws.specs.Change.{Change, same, is_noted, is_accepted, is_taken, is_fetched, is_started, is_abandoned, is_ended, is_device_enabled, is_queue_enabled, is_waiting, is_over, is_aborted, is_device_reset, is_queues_reset, is_queue_written, is_group_written}
-use Rattle.dsa_laws.specs.WellFormed.{HasShape, NoneOff, NamesOnce, NoteFits, NotesFit, In, IsWellFormed}
-use Rattle.dsa_laws.specs.Engines.{holds_batch, IsAlike, IsLawfulEngine, HasLawfulEngines, MembersFit}
-use Rattle.dsa_laws.proofs.Contents.{In-append, In-counted, In-filter, In-filtered, In-find, In-same, chain-filtered, sum-list-le, sum-without}
-use Rattle.dsa_laws.proofs.Changes.{and-left, and-right, not-true}
-use Rattle.dsa_laws.proofs.Shapes.{shape-change, shape-opening, stopped-configs, In-cond, below-engines, member_list-in, progress_list-in, waiting-engine}
+use Rattle.dsa_laws.specs.WellFormed.{HasShape, NoneOff, NamesOnce, IsWellFormed}
+use Rattle.dsa_laws.specs.Engines.{holds_batch, IsAlike, IsLawfulEngine, HasLawfulEngines}
+use Rattle.dsa_laws.proofs.Contents.{In-append, In-counted, In-filter, In-filtered, In-find, In-same, chain-filtered, sum-list-le, sum-without, chain-other, chain-same}
+use Rattle.dsa_laws.proofs.Shapes.{shape-change, shape-opening, stopped-configs, In-cond, below-engines, member_list-in, progress_list-in, waiting-engine, waiting-members}
 use Rattle.dsa_laws.proofs.Setups.{not-both, on-not_off}
 use Rattle.dsa_laws.proofs.Numbers.{get_or-each}
-use Rattle.dsa_laws.proofs.Entries.{in-use-below, or-left}
-use Rattle.dsa_laws.proofs.Batches.{by_setup, with_front, with_member, with_run, with_none, with_end, is_left, with_abort, sum-two, length-none, length-filter-le}
+use Rattle.dsa_laws.proofs.Entries.{in-use-below}
+use Rattle.dsa_laws.proofs.Batches.{by_setup, with_front, with_member, with_run, with_none, with_end, is_left, with_abort, sum-two, length-none}
+use Rattle.dsa_laws.specs.Lists.{In}
+use Rattle.dsa_laws.proofs.Flows.{names-counted}
+use Rattle.dsa_laws.proofs.Limits.{size-filtered, taken-test}
 
 -- ---- the limits of the queues that entries name
 
@@ -116,12 +116,6 @@ stays setup c c' ns ns' e p m n h = carry setup (chain c (progress_list setup e)
 by_engine : (setup : Setup) (c : Content) (ns : List (Option BatchNote)) (k e : ℕ) → LawIn setup c ns k → (e ≢ k → LawIn setup c ns e) → LawIn setup c ns e
 by_engine setup c ns k e a b = ⊎_elim (λ (q : e ≡ k). subst (LawIn setup c ns) (sym q) a) (λ n. b n) (cases_eq e k)
 
-chain-other : (c : Content) (k : ℕ) (l : List Slot) (j : ℕ) → j ≢ k → chain (set c k l) j ≡ chain c j
-chain-other c k l j n = get_or-set_other c k j l [] n
-
-chain-same : (c : Content) (k : ℕ) (l : List Slot) → k < length c → chain (set c k l) k ≡ l
-chain-same c k l i = get_or-set_same c k l [] i
-
 note-other : (notes : List (Option BatchNote)) (k e : ℕ) (o : Option BatchNote) → e ≢ k → get_or (set notes k o) e None ≡ get_or notes e None
 note-other notes k e o n = get_or-set_other notes k e o None n
 
@@ -170,9 +164,6 @@ sum-list_unlinked f content x j once at =
     let out = sum-without f (is_cell x.0) x (chain content j) (omega (arith, all, less, once)) at (eq-eqb x.0.0 x.0.0 refl) in
     ap (λ xs. sum_by f xs + f x) (chain-filtered (λ s. not (is_cell x.0 s)) content j) ∙ out
 
-length-unlinked : (content : Content) (cell : Cell) (j : ℕ) → length (chain (unlinked content cell) j) ≤ length (chain content j)
-length-unlinked content cell j = subst (λ xs. length xs ≤ length (chain content j)) (sym (chain-filtered (λ s. not (is_cell cell s)) content j)) (length-filter-le (λ s. not (is_cell cell s)) (chain content j))
-
 abbrev is_failure : Work → Slot → Outcome → Bool
 is_failure w x outcome = is_member x.1 && not (is_successful (status_of w.setup x.1 outcome))
 
@@ -188,7 +179,7 @@ own_ended w k x outcome i gone left h =
     (with_end w.setup (chain w.content (progress_list w.setup k)) (chain c (progress_list w.setup k)) (chain w.content (member_list w.setup k)) (chain c (member_list w.setup k)) (note_at w k) (holds_batch w.setup x) (is_failure w x outcome) gone left
     (λ y j. (In-filtered p w.content (progress_list w.setup k) y j).0)
     (λ y j. (In-filtered p w.content (member_list w.setup k) y j).0)
-    (length-unlinked w.content x.0 (member_list w.setup k)) h)
+    (size-filtered p w.content (member_list w.setup k)) h)
 
 -- an entry in progress
 progress_ended : (w : Work) (k : ℕ) (x : Slot) (outcome : Outcome) → k < length w.notes → k < w.setup.caps.engines → uses w.content x.0 ≤ 1 → In x (chain w.content (progress_list w.setup k))
@@ -219,7 +210,7 @@ other_ended w k e j x outcome n once at p m h =
 
 no-members-left : (b : Bool) (w : Work) (k : ℕ) → nat_lt k w.setup.caps.engines ≡ true → b ≡ true → (b && is_unfinished w k) ≡ false → chain w.content (member_list w.setup k) ≡ []
 no-members-left true w k j t ready =
-    let none = ltb-false 0 (length (members w k)) (or-left (nat_lt 0 (length (members w k))) _ ready) in
+    let none = ltb-false 0 (length (members w k)) (or_parts (nat_lt 0 (length (members w k))) _ ready).0 in
     sym (ap (λ (b : Bool). cond b (chain w.content (member_list w.setup k)) []) j) ∙ length-none (members w k) (omega (arith, none))
 no-members-left false w k j t ready = absurd cc
 
@@ -287,7 +278,7 @@ alike-batch : (w : Work) (k : ℕ) (n : BatchNote) (x batch : Slot) → NamesOnc
     → IsLawfulEngine w.setup (chain w.content (progress_list w.setup k)) (chain w.content (member_list w.setup k)) (Some n) → (b : Slot) → In b (chain w.content (progress_list w.setup k)) → holds_batch w.setup b ≡ true → IsAlike x b
 alike-batch w k n x batch names like i is h b j t =
     let named : Slot → Bool = λ slot. slot.1.name == n.batch in
-    let once = names n.batch in
+    let once = names-counted w names n.batch in
     let most : cond (nat_lt n.batch w.setup.next_name) 1 0 ≤ 1 = grind (arith, nat_tests) in
     let less = sum-list-le (λ s. cond (named s) 1 0) w.content (progress_list w.setup k) in
     let one : count_by named (chain w.content (progress_list w.setup k)) ≤ 1 = omega (arith, once, most, less) in
@@ -300,15 +291,15 @@ lists-change caps s s' e w i h (is_accepted c) =
     let inside = in-use-below caps s.work c.queue w.shape (on-not_off _ c.on) in
     subst (λ t. LawAt s.work.setup t.work e) c.after (queue_set s.work c.queue e _ inside (lists-of s.work e i h))
 lists-change caps s s' e w i h (is_taken c) =
-    let tests = and-left _ _ c.qualifies in
-    let j = and-left _ _ tests in
+    let tests = (and_parts _ _ c.qualifies).0 in
+    let j = (and_parts _ _ tests).0 in
     let below = below-engines caps s.work c.engine w.shape j in
     let size = w.shape.notes in
     let note : c.engine < length s.work.notes = omega (arith, below, size) in
-    let may : may_take s.work c.engine c.front ≡ true = subst (λ o. passes (may_take s.work c.engine) o ≡ true) c.is_front (and-right _ _ (and-right _ _ c.qualifies)) in
+    let may = taken-test s.work c.engine c.queue c.front c.qualifies c.is_front in
     subst (λ t. LawAt s.work.setup t.work e) c.after
-    (front_taken s.work c.engine e c.queue c.front (ltb-true e s.work.setup.caps.engines i) (ltb-true c.engine s.work.setup.caps.engines j) (ltb-true c.queue s.work.setup.caps.queues (and-right _ _ tests))
-    (progress_list-in caps s.work c.engine w.shape below) note (and-right _ _ may) (lists-of s.work c.engine j h) (lists-of s.work e i h))
+    (front_taken s.work c.engine e c.queue c.front (ltb-true e s.work.setup.caps.engines i) (ltb-true c.engine s.work.setup.caps.engines j) (ltb-true c.queue s.work.setup.caps.queues (and_parts _ _ tests).1)
+    (progress_list-in caps s.work c.engine w.shape below) note (and_parts _ _ may).1 (lists-of s.work c.engine j h) (lists-of s.work e i h))
 lists-change caps s s' e w i h (is_fetched c) =
     let k = c.engine in
     let found = In-find (λ slot. slot.1.name == c.note.batch) c.batch (in_progress s.work k) c.is_batch in
@@ -339,7 +330,7 @@ lists-change caps s s' e w i h (is_fetched c) =
 lists-change caps s s' e w i h (is_started c) =
     let j = waiting-engine s.work c.engine c.slot c.is_first in
     let list = member_list-in caps s.work c.engine w.shape (below-engines caps s.work c.engine w.shape j) in
-    let is : members s.work c.engine ≡ chain s.work.content (member_list s.work.setup c.engine) = ap (λ (b : Bool). cond b (chain s.work.content (member_list s.work.setup c.engine)) []) j in
+    let is = waiting-members s.work c.engine c.slot c.is_first in
     let own = lists-of s.work c.engine j h in
     subst (λ t. LawAt s.work.setup t.work e) c.after
     (members_set s.work c.engine e (with_first_run (members s.work c.engine)) s.work.notes (note_at s.work c.engine) (ltb-true e s.work.setup.caps.engines i) (ltb-true c.engine s.work.setup.caps.engines j) list refl (λ n. refl)
@@ -363,7 +354,7 @@ lists-change caps s s' e w i h (is_ended c) =
     = ⊎_elim (λ p. let r = In-cond _ c.slot _ p in (r.0, inl r.1)) (λ m. let r = In-cond _ c.slot _ m in (r.0, inr r.1)) (In-append c.slot (in_progress s.work k) (members s.work k) found) in
     let below = below-engines caps s.work k w.shape place.0 in
     let size = w.shape.notes in
-    let once : uses s.work.content c.slot.0 ≤ 1 = let a = w.cells c.slot.0 in let b : cond (nat_lt c.slot.0.0 (cell_count caps)) 1 0 ≤ 1 = grind (arith, nat_tests) in omega (arith, a, b) in
+    let once = w.cells.once c.slot.0 in
     subst (λ t. LawAt s.work.setup t.work e) c.after
     (entry_ended s.work k e c.slot c.outcome (omega (arith, below, size)) (ltb-true e s.work.setup.caps.engines i) place.0 once place.1 c.ready (lists-of s.work k place.0 h) (lists-of s.work e i h))
 lists-change caps s s' e w i h (is_device_enabled c) = subst (λ t. LawAt s.work.setup t.work e) c.after (lists-of s.work e i h)
@@ -376,12 +367,12 @@ lists-change caps s s' e w i h (is_queues_reset c) = subst (λ t. LawAt s.work.s
 lists-change caps s s' e w i h (is_queue_written c) = subst (λ t. LawAt s.work.setup t.work e) c.after (lists-of s.work e i h)
 lists-change caps s s' e w i h (is_group_written c) = subst (λ t. LawAt s.work.setup t.work e) c.after (lists-of s.work e i h)
 
-pub engines-change : (caps : Caps) (s s' : State) → IsWellFormed caps s → HasLawfulEngines s.work → Change s s' → HasLawfulEngines s'.work
-engines-change caps s s' w h c =
+pub engines-change : (caps : Caps) (s s' : State) → IsWellFormed caps s → Change s s' → HasLawfulEngines s'.work
+engines-change caps s s' w c =
     let after = shape-change caps s s' w.shape c in
     let engines = ap (λ (k : Caps). k.engines) (after.same_caps ∙ sym w.shape.same_caps) in
-    of-lists caps s'.work after (λ e t. setup-after caps s s' e w.shape after (configs-kept caps s s' w.shape w.entries.slot c)
-    (lists-change caps s s' e w (ap (λ k. nat_lt e k) (sym engines) ∙ t) h c))
+    of-lists caps s'.work after (λ e t. setup-after caps s s' e w.shape after (configs-kept caps s s' w.shape w.entries.none_off c)
+    (lists-change caps s s' e w (ap (λ k. nat_lt e k) (sym engines) ∙ t) w.engines c))
 
 pub engines-opening : (caps : Caps) → HasLawfulEngines (opening caps).work
 engines-opening caps = of-lists caps (opening caps).work (shape-opening caps) (λ e t.
@@ -391,13 +382,3 @@ engines-opening caps = of-lists caps (opening caps).work (shape-opening caps) (�
     (get_or-replicate (list_count caps) (caps.queues + caps.engines + e) [] [] (omega (arith, i)))
     (get_or-replicate caps.engines e None None i)
     (record { no_batch = refl; no_members = refl }))
-
--- ---- what follows
-
--- members are no more than were fetched, and so no more than a batch may have
-pub members-fit : (caps : Caps) (w : Work) → NotesFit caps w → HasLawfulEngines w → MembersFit caps w
-members-fit caps w notes h e = go (note_at w e) (notes e) (h e)
-  where
-    go : (o : Option BatchNote) → NoteFits caps o → IsLawfulEngine w.setup (in_progress w e) (members w e) o → length (members w e) ≤ 2 ^ caps.max_batch_shift
-    go None fits law = let none = ap (λ (xs : List Slot). length xs) law.no_members in omega (arith, none)
-    go (Some note) fits law = let most = law.most in let a = fits.0 in let b = fits.1 in omega (arith, most, a, b)

@@ -1,8 +1,8 @@
 -- What entries are, by the list in which they stand.
-use Rattle.std.proofs.Common.{◌≡◌, ℕ, zero, suc, ◌+◌, ◌<◌, ◌≤◌, ◌==◌, ◌||◌, not, Bool, true, false, cond, List, [], ◌∷◌, replicate, Some, refl, sym, ap, subst, ◌⊎◌, inl, inr, arith, ⊎_elim}
+use Rattle.std.proofs.Common.{◌≡◌, ℕ, ◌+◌, ◌<◌, ◌≤◌, ◌==◌, not, Bool, true, false, cond, List, [], ◌∷◌, Some, refl, sym, ap, subst, ◌⊎◌, inl, inr, arith, ⊎_elim}
 use Rattle.std.specs.Prelude.{slice_get, nat_lt, is_some}
 use Rattle.std.specs.List.{list_any}
-use Rattle.std.proofs.lemmas.Bool.{cases_Bool, ltb-true, ltb-false}
+use Rattle.std.proofs.lemmas.Bool.{cases_Bool, ltb-true, ltb-false, and_parts, or_parts, not-true}
 use Rattle.std.proofs.Math.ListN.{get_or-eq_default}
 use Rattle.dsa_regs.specs.Caps.{list_count}
 use Rattle.dsa_laws.proofs.Numbers.{get_or-each}
@@ -18,11 +18,11 @@ use Rattle.dsa_book.specs.State.{Work, State, opening, is_off, phase_at}
 use Rattle.dsa_book.specs.Work.{progress_list, member_list, in_progress, members, run, with_first_run}
 use Rattle.dsa_book.specs.Commands.{stopped, with_phases, names, is_in_scope, is_at_end}
 use Rattle.dsa_laws.specs.Change.{Change, IsAccepted, IsFetched, same, is_noted, is_accepted, is_taken, is_fetched, is_started, is_abandoned, is_ended, is_device_enabled, is_queue_enabled, is_waiting, is_over, is_aborted, is_device_reset, is_queues_reset, is_queue_written, is_group_written}
-use Rattle.dsa_laws.specs.WellFormed.{HasShape, In, EachAt, IsPlaced, NoneOff, PasidsFit, HasLawfulEntries}
-use Rattle.dsa_laws.proofs.Contents.{In-find, In-chain, In-filtered, each-set, each-pushed, each-without_front, each-filtered}
-use Rattle.dsa_laws.proofs.Changes.{and-left, and-right, not-true}
+use Rattle.dsa_laws.specs.WellFormed.{HasShape, IsPlaced, NoneOff, PasidsFit, HasLawfulEntries, HasLawfulSetup}
+use Rattle.dsa_laws.proofs.Contents.{In-find, In-chain, In-filtered, each-set, each-pushed, each-without_front, each-filtered, chain-empty, none-In}
 use Rattle.dsa_laws.proofs.Shapes.{on-queue, below-engines, In-cond}
 use Rattle.dsa_laws.proofs.Setups.{not-both, on-not_off}
+use Rattle.dsa_laws.specs.Lists.{In, EachAt}
 
 pub In-front : (x : Slot) (xs : List Slot) → slice_get xs 0 ≡ Some x → In x xs
 In-front x [] h = absurd cc
@@ -32,7 +32,7 @@ pub queue-below : (caps : Caps) (w : Work) (q : ℕ) → HasShape caps w → nat
 queue-below caps w q h t = let i = ltb-true q w.setup.caps.queues t in let e = ap (λ (c : Caps). c.queues) h.same_caps in omega (arith, i, e)
 
 -- what holds of each of a list, and is not changed when an entry begins to run, holds when the first begins to run
-first_run-each : (P : Slot → Type 0) → ((x : Slot) → P x → P (run x)) → (xs : List Slot) → ((x : Slot) → In x xs → P x) → (x : Slot) → In x (with_first_run xs) → P x
+pub first_run-each : (P : Slot → Type 0) → ((x : Slot) → P x → P (run x)) → (xs : List Slot) → ((x : Slot) → In x xs → P x) → (x : Slot) → In x (with_first_run xs) → P x
 first_run-each P r [] a x i = absurd i
 first_run-each P r (y ∷ ys) a x i = go (first_run-each P r ys (λ z j. a z (inr j)) x) y.1.running i
   where
@@ -93,8 +93,8 @@ placed-change caps s s' h a (is_accepted c) =
     (each-pushed (IsPlaced caps) s.work.content c.queue _ a (record { member = λ i. absurd (omega (arith, inside, i)); queue = λ i. refl; submitted = λ i. refl; waiting = λ i. refl; running = λ i j. absurd (omega (arith, inside, i)) }))
 placed-change caps s s' h a (is_taken c) =
     let q = ap (λ (c : Caps). c.queues) h.same_caps in
-    let inside = queue-below caps s.work c.queue h (and-right _ _ (and-left _ _ c.qualifies)) in
-    let engine = below-engines caps s.work c.engine h (and-left _ _ (and-left _ _ c.qualifies)) in
+    let inside = queue-below caps s.work c.queue h (and_parts _ _ (and_parts _ _ c.qualifies).0).1 in
+    let engine = below-engines caps s.work c.engine h (and_parts _ _ (and_parts _ _ c.qualifies).0).0 in
     let front = a c.queue c.front (In-front c.front _ c.is_front) in
     subst (λ t. EachAt (IsPlaced caps) t.work.content) c.after
     (each-pushed (IsPlaced caps) (without_front s.work.content c.queue) (progress_list s.work.setup c.engine) (run c.front) (each-without_front (IsPlaced caps) s.work.content c.queue a)
@@ -120,18 +120,10 @@ placed-change caps s s' h a (is_group_written c) = subst (λ t. EachAt (IsPlaced
 
 -- ---- no entry names a queue that is Off
 
-pub or-left : (a b : Bool) → (a || b) ≡ false → a ≡ false
-or-left true b h = cc
-or-left false b h = refl
-
-pub or-right : (a b : Bool) → (a || b) ≡ false → b ≡ false
-or-right true b h = absurd cc
-or-right false b h = h
-
 none-in : (test : Slot → Bool) (x : Slot) (xs : List Slot) → list_any test xs ≡ false → In x xs → test x ≡ false
 none-in test x [] h i = absurd i
-none-in test x (y ∷ ys) h (inl e) = subst (λ z. test z ≡ false) e (or-left (test y) _ h)
-none-in test x (y ∷ ys) h (inr i) = none-in test x ys (or-right (test y) _ h) i
+none-in test x (y ∷ ys) h (inl e) = subst (λ z. test z ≡ false) e (or_parts (test y) _ h).0
+none-in test x (y ∷ ys) h (inr i) = none-in test x ys (or_parts (test y) _ h).1 i
 
 -- nothing that is slot is of what ends
 pub none-slot : (test : Slot → Bool) (content : Content) (k : ℕ) (x : Slot) → list_any test (all_held content) ≡ false → In x (chain content k) → test x ≡ false
@@ -142,10 +134,10 @@ pub in-use-below : (caps : Caps) (w : Work) (q : ℕ) → HasShape caps w → is
 in-use-below caps w q h n = ⊎_elim
     (λ t. ltb-true q w.setup.caps.queues t)
     (λ f.
-        let e = ltb-false q w.setup.caps.queues f in
-        let size = ap (λ (c : Caps). c.queues) h.same_caps in
-        let off : phase_at w.setup q ≡ Off = get_or-eq_default w.setup.phases Off (omega (arith, e, size, h.phases)) in
-        not-both (is_off (phase_at w.setup q)) (ap is_off off) n)
+    let e = ltb-false q w.setup.caps.queues f in
+    let size = ap (λ (c : Caps). c.queues) h.same_caps in
+    let off : phase_at w.setup q ≡ Off = get_or-eq_default w.setup.phases Off (omega (arith, e, size, h.phases)) in
+    not-both (is_off (phase_at w.setup q)) (ap is_off off) n)
     (cases_Bool (nat_lt q w.setup.caps.queues))
 
 -- a phase that is not set to Off stays
@@ -206,15 +198,14 @@ pub off-change : (caps : Caps) (s s' : State) → HasShape caps s.work → NoneO
 off-change caps s s' h a c k x i = phases-kept caps s s' h c k x i (old-off s s' a c k x i)
 
 pub entries-change : (caps : Caps) (s s' : State) → HasShape caps s.work → HasLawfulEntries caps s.work → Change s s' → HasLawfulEntries caps s'.work
-entries-change caps s s' h a c = record { placed = placed-change caps s s' h a.placed c; slot = off-change caps s s' h a.slot c; pasids = pasids-change s s' a.pasids c }
-
-no-entries : (n k : ℕ) (x : Slot) → In x (chain (replicate n []) k) → ⊥
-no-entries zero k x i = i
-no-entries (suc n) zero x i = i
-no-entries (suc n) (suc k) x i = no-entries n k x i
+entries-change caps s s' h a c = record { placed = placed-change caps s s' h a.placed c; none_off = off-change caps s s' h a.none_off c; pasids = pasids-change s s' a.pasids c }
 
 pub each-opening : (P : ℕ → Slot → Type 0) (caps : Caps) → EachAt P (opening caps).work.content
-each-opening P caps k x i = absurd (no-entries (list_count caps) k x i)
+each-opening P caps k x i = absurd (subst (In x) (chain-empty (list_count caps) k) i)
 
 pub entries-opening : (caps : Caps) → HasLawfulEntries caps (opening caps).work
-entries-opening caps = record { placed = each-opening (IsPlaced caps) caps; slot = each-opening _ caps; pasids = each-opening _ caps }
+entries-opening caps = record { placed = each-opening (IsPlaced caps) caps; none_off = each-opening _ caps; pasids = each-opening _ caps }
+
+-- where the device is Off nothing is held
+pub none-held : (caps : Caps) (w : Work) → HasLawfulSetup w.setup → HasLawfulEntries caps w → is_off w.setup.device ≡ true → (k : ℕ) → chain w.content k ≡ []
+none-held caps w setup entries off k = none-In (chain w.content k) (λ x i. not-both (is_off w.setup.device) off (setup.phases x.1.queue (entries.none_off k x i)))

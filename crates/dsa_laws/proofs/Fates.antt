@@ -1,6 +1,6 @@
 -- Each step adds as many fate rows as its reply says.
 use Rattle.std.proofs.Common.{◌≡◌, ℕ, ◌+◌, Bool, true, false, cond, ◌&&◌, List, [], ◌∷◌, Option, Some, None, option_map, option_and_then, sum_by, refl, sym, ap, ◌∙◌, arith, add-zero}
-use Rattle.std.specs.Prelude.{find}
+use Rattle.std.specs.Prelude.{find, ⊤}
 use Rattle.std.proofs.lemmas.List.Sums.{sum_by-cons}
 use Rattle.dsa_desc.specs.declared.Descriptor.{Descriptor}
 use Rattle.dsa_desc.specs.declared.Outcome.{Outcome}
@@ -43,7 +43,7 @@ use Rattle.dsa_book.specs.State.{Work, State, opening, is_ticket, ticket_of, is_
 use Rattle.dsa_book.specs.Submit.{submit}
 use Rattle.dsa_book.specs.Work.{qualifies, front_of, taken, fetch, fetch_of, fetch_for, note_at, batch_on, start, start_of, start_table, started, first_waiting, is_unfinished, last_status, ended, finish, finish_of, running_on}
 use Rattle.dsa_book.specs.Commands.{issue, issue_table, check_of, refused_or, carried_out, waits, poll, poll_of, write_queue, write_group, clear}
-use Rattle.dsa_book.specs.Machine.{next, replay_from, replay, with_work, with_intake, with_setup, intake_of, accepted_cell, fetched_cell, cell_or_first, may_use}
+use Rattle.dsa_book.specs.Machine.{next, replay, with_work, with_intake, with_setup, intake_of, accepted_cell, fetched_cell, cell_or_first, may_use}
 use Rattle.std.proofs.Common.{length, map, filter, ◌++◌, length-append, eqb-true, zero-add}
 use Rattle.std.proofs.lemmas.List.{length-map}
 use Rattle.dsa_store.specs.Content.{all_held}
@@ -56,23 +56,17 @@ use Rattle.dsa_book.specs.declared.answer.IssueAnswer.TheVariants.{Ended, Active
 use Rattle.dsa_book.specs.Work.{is_all_fetched, fetched, members, fate_row}
 use Rattle.dsa_book.specs.Commands.{is_in_scope}
 use Rattle.dsa_book.specs.Totals.{ended_by, is_done, lost_by, total_done, total_lost}
+use Rattle.dsa_laws.proofs.Names.{cond-each}
+use Rattle.dsa_laws.proofs.Replay.{replay-adds}
 
 abbrev rows_of : State → ℕ
 rows_of s = length s.work.fates
 
-and-left : (a b : Bool) → (a && b) ≡ true → a ≡ true
-and-left true b h = refl
-and-left false b h = cc
+pub length-rows : (fates : List FateRow) (fate : Fate) (xs : List Slot) → length (fates ++ map (fate_row fate) xs) ≡ length fates + length xs
+length-rows fates fate xs = length-append fates (map (fate_row fate) xs) ∙ ap (λ n. length fates + n) (length-map xs (fate_row fate))
 
 unended : (s s' : State) → rows_of s' ≡ rows_of s → rows_of s' ≡ rows_of s + 0
 unended s s' e = e ∙ sym (add-zero (rows_of s))
-
-length-rows : (fates : List FateRow) (fate : Fate) (xs : List Slot) → length (fates ++ map (fate_row fate) xs) ≡ length fates + length xs
-length-rows fates fate xs = length-append fates (map (fate_row fate) xs) ∙ ap (λ n. length fates + n) (length-map xs (fate_row fate))
-
-cond-each : {X : Type 0} (P : X → Type 0) (b : Bool) (x y : X) → P x → P y → P (cond b x y)
-cond-each P true x y p q = p
-cond-each P false x y p q = q
 
 -- ---- the steps that leave the rows as they are
 
@@ -241,23 +235,6 @@ next-rows s s' (WriteGroup g config) (Write a) h = unended s s' (write_group_ste
 next-rows s s' ClearError (Clear a) h = unended s s' (clear_step s s' a h)
 next-rows s s' _ _ h = absurd cc
 
-replay_none : (h : List Step) (s : State) → replay_from None h ≡ Some s → ⊥
-replay_none [] s e = cc
-replay_none (x ∷ h) s e = cc
-
-pub replay_from-rows : (h : List Step) (s s' : State) → replay_from (Some s) h ≡ Some s' → rows_of s' ≡ rows_of s + sum_by (λ step. ended_by step.reply) h
-replay_from-rows [] s s' e = let p : s ≡ s' = cc in sym (ap rows_of p) ∙ sym (add-zero (rows_of s))
-replay_from-rows (x ∷ h) s s' e = go (replay_from-rows h) (next s x.event x.reply) refl e
-  where
-    go : ((t t' : State) → replay_from (Some t) h ≡ Some t' → rows_of t' ≡ rows_of t + sum_by (λ step. ended_by step.reply) h)
-        → (o : Option State) → next s x.event x.reply ≡ o → replay_from o h ≡ Some s' → rows_of s' ≡ rows_of s + sum_by (λ step. ended_by step.reply) (x ∷ h)
-    go further None n e = absurd (replay_none h s' e)
-    go further (Some s1) n e =
-        let first = next-rows s s1 x.event x.reply n in
-        let rest = further s1 s' e in
-        let sum = sum_by-cons (λ (step : Step). ended_by step.reply) x h in
-        omega (arith, first, rest, sum)
-
 ended_by-is : (r : Reply) → ended_by r ≡ cond (is_done r) 1 0 + lost_by r
 ended_by-is (Finish (Done status)) = refl
 ended_by-is (Start (Abandoned k)) = sym (zero-add k)
@@ -276,6 +253,6 @@ ended_total (x ∷ h) =
 
 pub replay-rows : (caps : Caps) (h : List Step) (s : State) → replay caps h ≡ Some s → total_done h + total_lost h ≡ length s.work.fates
 replay-rows caps h s e =
-    let all = replay_from-rows h (opening caps) s e in
+    let all = replay-adds (λ s. ⊤) rows_of ended_by (λ s s' x p n. (tt, next-rows s s' x.event x.reply n)) h (opening caps) s tt e in
     let ended = ended_total h in
     omega (arith, all, ended)

@@ -1,49 +1,70 @@
 -- What every change does to the entries, and what follows for cells, names and their number.
-use Rattle.std.proofs.Common.{drop, ◌≡◌, ℕ, ◌+◌, ◌<◌, ◌≤◌, ◌==◌, ◌||◌, eqb, not, Bool, true, false, cond, List, [], ◌∷◌, ◌++◌, length, map, Some, refl, sym, ap, ◌∙◌, subst, arith, ⊎_elim, length-append, eqb-true, eq-eqb}
+use Rattle.std.proofs.Common.{drop, ◌≡◌, ℕ, ◌+◌, ◌<◌, ◌≤◌, ◌==◌, eqb, not, Bool, true, false, cond, List, [], ◌∷◌, ◌++◌, length, map, Some, refl, sym, ap, ◌∙◌, subst, arith, ⊎_elim, eqb-true, eq-eqb}
 use Rattle.std.specs.Prelude.{find, nat_lt, filter, sum_by, count_by, slice_get}
-use Rattle.std.specs.List.{list_any}
-use Rattle.std.proofs.lemmas.List.{length-map, length-set}
+use Rattle.std.proofs.lemmas.List.{length-set}
 use Rattle.std.proofs.lemmas.List.Sums.{sum_by-cons, sum_by-append}
-use Rattle.std.proofs.lemmas.Bool.{cases_Bool, ltb-true}
+use Rattle.std.proofs.lemmas.Bool.{cases_Bool, ltb-true, and_parts}
 use Rattle.std.proofs.lemmas.Bool.Decides.{nat_tests}
 use Rattle.dsa_regs.specs.declared.Caps.{Caps}
 use Rattle.dsa_regs.specs.Caps.{cell_count}
 use Rattle.dsa_regs.specs.declared.Phase.TheVariants.{Off, Stopping}
 use Rattle.dsa_regs.specs.declared.Command.{Command}
-use Rattle.dsa_regs.specs.declared.Command.TheVariants.{DisableDevice, ResetDevice, DisableWq, ResetWq}
-use Rattle.dsa_regs.specs.declared.Phase.{Phase}
+use Rattle.dsa_regs.specs.declared.Command.TheVariants.{ResetDevice, ResetWq}
 use Rattle.dsa_store.specs.declared.entry.Cell.{Cell}
 use Rattle.dsa_store.specs.Content.{Slot, Content, chain, uses, all_held, is_cell, is_free, pushed, without_front}
-use Rattle.dsa_store.proofs.Sums.{sum-set, sum-pushed, sum-without_front, sum-split, uses-counted, held-counted, is_free-unused}
+use Rattle.dsa_store.proofs.Sums.{sum-set, sum-pushed, sum-without_front, sum-split, uses-counted, held-counted, is_free-unused, all_held-filtered}
 use Rattle.dsa_book.specs.declared.answer.Ticket.{Ticket}
 use Rattle.dsa_book.specs.declared.fate.FateRow.{FateRow}
 use Rattle.dsa_book.specs.declared.fate.Fate.{Fate}
 use Rattle.dsa_book.specs.declared.fate.Fate.TheVariants.{Abandoned}
-use Rattle.dsa_book.specs.State.{Setup, Work, State, is_ticket}
+use Rattle.dsa_book.specs.State.{Work, State, is_ticket}
 use Rattle.dsa_book.specs.Work.{progress_list, member_list, in_progress, members, running_on, as_running, run, with_first_run, fate_row}
-use Rattle.dsa_book.specs.Commands.{stopped, is_in_scope, aborted}
+use Rattle.dsa_book.specs.Commands.{is_in_scope, aborted}
 use Rattle.dsa_laws.specs.Change.{Change, same, is_noted, is_accepted, is_taken, is_fetched, is_started, is_abandoned, is_ended, is_device_enabled, is_queue_enabled, is_waiting, is_over, is_aborted, is_device_reset, is_queues_reset, is_queue_written, is_group_written}
-use Rattle.dsa_laws.specs.WellFormed.{HasShape, In, IsFlow, CellsOnce, NamesOnce, IsCounted}
-use Rattle.dsa_laws.proofs.Contents.{In-append, In-filter, In-find, In-chain, sum-parts, sum-without, all_held-filtered}
-use Rattle.dsa_laws.proofs.Changes.{and-left, and-right, not-true}
-use Rattle.dsa_laws.proofs.Shapes.{on-queue, note-engine, below-engines, member_list-in, progress_list-in, queue_list-in, waiting-engine, In-cond}
+use Rattle.dsa_laws.specs.WellFormed.{HasShape, CellsOnce, NamesOnce, held_named, fates_named}
+use Rattle.dsa_laws.proofs.Contents.{In-append, In-filter, In-find, In-chain, sum-without}
+use Rattle.dsa_laws.proofs.Shapes.{on-queue, note-engine, below-engines, member_list-in, progress_list-in, queue_list-in, waiting-engine, In-cond, waiting-members}
+use Rattle.dsa_laws.specs.Lists.{In}
+use Rattle.dsa_laws.proofs.Fates.{length-rows}
+use Rattle.dsa_laws.proofs.Names.{stopped-names}
+
+-- ---- cells and names, as sums
+
+-- each cell stands once, or not at all where it is none of the store's
+abbrev pub UsesOnce : Caps → Work → Type 0
+UsesOnce caps w = (cell : Cell) → uses w.content cell ≤ cond (nat_lt cell.0 (cell_count caps)) 1 0
+
+-- each name stands once, or not at all where it was not given
+abbrev pub NamesCounted : Work → Type 0
+NamesCounted w = (name : ℕ) → held_named w name + fates_named w name ≡ cond (nat_lt name w.setup.next_name) 1 0
+
+pub uses-once : (caps : Caps) (w : Work) → CellsOnce caps w → UsesOnce caps w
+uses-once caps w h cell = let a = h.once cell in let b = h.inside cell in grind (arith, nat_tests, a, b)
+
+pub of-uses : (caps : Caps) (w : Work) → UsesOnce caps w → CellsOnce caps w
+of-uses caps w h = record {
+  once = λ cell. let a = h cell in grind (arith, nat_tests, a);
+  inside = λ cell past. let a = h cell in grind (arith, nat_tests, a, past);
+}
+
+pub names-counted : (w : Work) → NamesOnce w → NamesCounted w
+names-counted w h name = let a = h.given name in let b = h.not_given name in grind (arith, nat_tests, a, b)
+
+-- what every change says of entries: some came, some are gone with a row each, and all others are held as before (they may have begun to run)
+pub record IsFlow (caps : Caps) (w w' : Work) : Type 0 where
+  pub came : List Slot
+  pub gone : List Slot
+  pub sums : (f : Slot → ℕ) → ((slot : Slot) → f (run slot) ≡ f slot) → sum_by f (all_held w'.content) + sum_by f gone ≡ sum_by f (all_held w.content) + sum_by f came
+  pub rows : (name : ℕ) → fates_named w' name ≡ fates_named w name + count_by (λ slot. slot.1.name == name) gone
+  pub more : length w'.fates ≡ length w.fates + length gone
+  pub next : w'.setup.next_name ≡ w.setup.next_name + length came
+  pub names : (name : ℕ) → count_by (λ slot. slot.1.name == name) came + cond (nat_lt name w.setup.next_name) 1 0 ≡ cond (nat_lt name w'.setup.next_name) 1 0
+  pub cells : (cell : Cell) → uses w.content cell + count_by (is_cell cell) came ≤ cond (nat_lt cell.0 (cell_count caps)) 1 0
 
 abbrev next_of : Work → ℕ
 next_of w = w.setup.next_name
 
 -- ---- words
-
-none-counted : {X : Type 0} (p : X → Bool) (xs : List X) → list_any p xs ≡ false → count_by p xs ≡ 0
-none-counted p [] h = refl
-none-counted {X} p (x ∷ xs) h = go (λ e. none-counted p xs e) (p x) refl h
-  where
-    go : (list_any p xs ≡ false → count_by p xs ≡ 0) → (b : Bool) → p x ≡ b → (b || list_any p xs) ≡ false → count_by p (x ∷ xs) ≡ 0
-    go more true q h = absurd cc
-    go more false q h =
-        let c = sum_by-cons (λ y. cond (p y) 1 0) x xs in
-        let none : ◌≡◌ {A = ℕ} (cond (p x) 1 0) 0 = ap (λ (b : Bool). cond {A = ℕ} b 1 0) q in
-        let rest = more h in
-        omega (arith, c, none, rest)
 
 pub count-rows : (fate : Fate) (n : ℕ) (xs : List Slot) → count_by (λ row. row.name == n) (map (fate_row fate) xs) ≡ count_by (λ slot. slot.1.name == n) xs
 count-rows fate n [] = refl
@@ -59,9 +80,6 @@ rows-appended fates fate xs n =
     let b = count-rows fate n xs in
     omega (arith, a, b)
 
-length-rows : (fates : List FateRow) (fate : Fate) (xs : List Slot) → length (fates ++ map (fate_row fate) xs) ≡ length fates + length xs
-length-rows fates fate xs = length-append fates (map (fate_row fate) xs) ∙ ap (λ n. length fates + n) (length-map xs (fate_row fate))
-
 sum-first_run : (f : Slot → ℕ) → ((slot : Slot) → f (run slot) ≡ f slot) → (xs : List Slot) → sum_by f (with_first_run xs) ≡ sum_by f xs
 sum-first_run f alike [] = refl
 sum-first_run f alike (x ∷ xs) = go (sum-first_run f alike xs) x.1.running
@@ -74,30 +92,30 @@ sum-first_run f alike (x ∷ xs) = go (sum-first_run f alike xs) x.1.running
 name-given : (n next : ℕ) → cond (eqb next n) 1 0 + cond (nat_lt n next) 1 0 ≡ cond (nat_lt n (next + 1)) 1 0
 name-given n next = grind (arith, nat_tests)
 
-free-cell : (cells : ℕ) (content : Content) (x : Slot) → is_free cells content x.0 ≡ true → ((cell : Cell) → uses content cell ≤ cond (nat_lt cell.0 cells) 1 0) → (cell : Cell)
+uses-with_free : (cells : ℕ) (content : Content) (x : Slot) → is_free cells content x.0 ≡ true → ((cell : Cell) → uses content cell ≤ cond (nat_lt cell.0 cells) 1 0) → (cell : Cell)
     → uses content cell + count_by (is_cell cell) (x ∷ []) ≤ cond (nat_lt cell.0 cells) 1 0
-free-cell cells content x free once cell =
+uses-with_free cells content x free once cell =
     let c = sum_by-cons (λ (s : Slot). cond (is_cell cell s) 1 0) x [] in
     let fresh = is_free-unused cells content x.0 free in
     let old = once cell in
     ⊎_elim
     (λ (t : is_cell cell x ≡ true).
-        let e = eqb-true x.0.0 cell.0 t in
-        let same : x.0 ≡ cell = ap (λ (n : ℕ). let at : Cell = record { 0 = n } in at) e in
-        let unused : uses content cell ≡ 0 = subst (λ k. uses content k ≡ 0) same fresh.1 in
-        let below = fresh.0 in
-        let room : ◌≡◌ {A = ℕ} (cond (nat_lt cell.0 cells) 1 0) 1 = grind (arith, nat_tests, e, below) in
-        let one : ◌≡◌ {A = ℕ} (cond (is_cell cell x) 1 0) 1 = ap (λ (b : Bool). cond {A = ℕ} b 1 0) t in
-        omega (arith, c, unused, room, one))
+    let e = eqb-true x.0.0 cell.0 t in
+    let same : x.0 ≡ cell = ap (λ (n : ℕ). let at : Cell = record { 0 = n } in at) e in
+    let unused : uses content cell ≡ 0 = subst (λ k. uses content k ≡ 0) same fresh.1 in
+    let below = fresh.0 in
+    let room : ◌≡◌ {A = ℕ} (cond (nat_lt cell.0 cells) 1 0) 1 = grind (arith, nat_tests, e, below) in
+    let one : ◌≡◌ {A = ℕ} (cond (is_cell cell x) 1 0) 1 = ap (λ (b : Bool). cond {A = ℕ} b 1 0) t in
+    omega (arith, c, unused, room, one))
     (λ (f : is_cell cell x ≡ false).
-        let no : ◌≡◌ {A = ℕ} (cond (is_cell cell x) 1 0) 0 = ap (λ (b : Bool). cond {A = ℕ} b 1 0) f in
-        omega (arith, c, no, old))
+    let no : ◌≡◌ {A = ℕ} (cond (is_cell cell x) 1 0) 0 = ap (λ (b : Bool). cond {A = ℕ} b 1 0) f in
+    omega (arith, c, no, old))
     (cases_Bool (is_cell cell x))
 
 -- ---- flows
 
 -- nothing comes and nothing goes
-still : (caps : Caps) (w w' : Work) → CellsOnce caps w → ((f : Slot → ℕ) → ((slot : Slot) → f (run slot) ≡ f slot) → sum_by f (all_held w'.content) ≡ sum_by f (all_held w.content))
+still : (caps : Caps) (w w' : Work) → UsesOnce caps w → ((f : Slot → ℕ) → ((slot : Slot) → f (run slot) ≡ f slot) → sum_by f (all_held w'.content) ≡ sum_by f (all_held w.content))
     → w'.fates ≡ w.fates → next_of w' ≡ next_of w → IsFlow caps w w'
 still caps w w' once sums fates next = record {
   came = [];
@@ -110,11 +128,11 @@ still caps w w' once sums fates next = record {
   cells = λ n. let e = once n in omega (arith, e);
 }
 
-unmoved : (caps : Caps) (w w' : Work) → CellsOnce caps w → w'.content ≡ w.content → w'.fates ≡ w.fates → next_of w' ≡ next_of w → IsFlow caps w w'
+unmoved : (caps : Caps) (w w' : Work) → UsesOnce caps w → w'.content ≡ w.content → w'.fates ≡ w.fates → next_of w' ≡ next_of w → IsFlow caps w w'
 unmoved caps w w' once content fates next = still caps w w' once (λ f alike. ap (λ (c : Content). sum_by f (all_held c)) content) fates next
 
 -- one comes, with the next name and a free cell
-entered : (caps : Caps) (w w' : Work) (x : Slot) → CellsOnce caps w → ((f : Slot → ℕ) → sum_by f (all_held w'.content) ≡ sum_by f (all_held w.content) + f x)
+entered : (caps : Caps) (w w' : Work) (x : Slot) → UsesOnce caps w → ((f : Slot → ℕ) → sum_by f (all_held w'.content) ≡ sum_by f (all_held w.content) + f x)
     → w'.fates ≡ w.fates → next_of w' ≡ next_of w + 1 → x.1.name ≡ next_of w → is_free (cell_count caps) w.content x.0 ≡ true → IsFlow caps w w'
 entered caps w w' x once sums fates next name free = record {
   came = x ∷ [];
@@ -129,11 +147,11 @@ entered caps w w' x once sums fates next name free = record {
       let is : ◌≡◌ {A = ℕ} (cond (x.1.name == n) 1 0) (cond (eqb (next_of w) n) 1 0) = ap (λ k. cond {A = ℕ} (eqb k n) 1 0) name in
       let after : ◌≡◌ {A = ℕ} (cond (nat_lt n (next_of w')) 1 0) (cond (nat_lt n (next_of w + 1)) 1 0) = ap (λ k. cond {A = ℕ} (nat_lt n k) 1 0) next in
       omega (arith, c, given, is, after);
-  cells = free-cell (cell_count caps) w.content x free once;
+  cells = uses-with_free (cell_count caps) w.content x free once;
 }
 
 -- some go, each with a row
-left : (caps : Caps) (w w' : Work) (fate : Fate) (gone : List Slot) → CellsOnce caps w → ((f : Slot → ℕ) → sum_by f (all_held w'.content) + sum_by f gone ≡ sum_by f (all_held w.content))
+left : (caps : Caps) (w w' : Work) (fate : Fate) (gone : List Slot) → UsesOnce caps w → ((f : Slot → ℕ) → sum_by f (all_held w'.content) + sum_by f gone ≡ sum_by f (all_held w.content))
     → w'.fates ≡ w.fates ++ map (fate_row fate) gone → next_of w' ≡ next_of w → IsFlow caps w w'
 left caps w w' fate gone once sums fates next = record {
   came = [];
@@ -166,23 +184,18 @@ sum-taken f alike content q to front qin toin h = go (chain content q) refl h
         omega (arith, less, more, ran, weight)
 
 -- an aborted scope
-aborted-flow : (caps : Caps) (command : Command) (w w' : Work) → CellsOnce caps w → w'.content ≡ (aborted command w).content → w'.fates ≡ (aborted command w).fates → next_of w' ≡ next_of w → IsFlow caps w w'
+aborted-flow : (caps : Caps) (command : Command) (w w' : Work) → UsesOnce caps w → w'.content ≡ (aborted command w).content → w'.fates ≡ (aborted command w).fates → next_of w' ≡ next_of w → IsFlow caps w w'
 aborted-flow caps command w w' once content fates next =
     let test : Slot → Bool = λ slot. is_in_scope command slot.1 in
     left caps w w' _ (filter test (all_held w.content)) once
     (λ f.
-        let a = ap (λ (c : Content). sum_by f (all_held c)) content in
-        let b = ap (λ (xs : List Slot). sum_by f xs) (all_held-filtered (λ slot. not (test slot)) w.content) in
-        let c = sum-parts f test (all_held w.content) in
-        omega (arith, a, b, c))
+    let a = ap (λ (c : Content). sum_by f (all_held c)) content in
+    let b = ap (λ (xs : List Slot). sum_by f xs) (all_held-filtered (λ slot. not (test slot)) w.content) in
+    let c = sum-split f test (all_held w.content) in
+    omega (arith, a, b, c))
     fates next
 
-stopped-names : (command : Command) (phase : Phase) (setup : Setup) → (stopped command phase setup).next_name ≡ setup.next_name
-stopped-names DisableDevice phase setup = refl
-stopped-names (DisableWq queues) phase setup = refl
-stopped-names _ phase setup = refl
-
-running-slot : (w : Work) (e : ℕ) (ticket : Ticket) (slot : Slot) → find (is_ticket ticket) (running_on w e) ≡ Some slot → In slot (all_held w.content)
+pub running-slot : (w : Work) (e : ℕ) (ticket : Ticket) (slot : Slot) → find (is_ticket ticket) (running_on w e) ≡ Some slot → In slot (all_held w.content)
 running-slot w e ticket slot h =
     let i = (In-filter _ slot (in_progress w e ++ members w e) (In-find _ slot (running_on w e) h).0).0 in
     ⊎_elim
@@ -190,96 +203,97 @@ running-slot w e ticket slot h =
     (λ j. In-chain slot w.content (member_list w.setup e) (In-cond _ slot _ j).1)
     (In-append slot (in_progress w e) (members w e) i)
 
-at-most-one : (b : Bool) → cond b 1 0 ≤ 1
-at-most-one true = omega arith
-at-most-one false = omega arith
-
 pub flow-change : (caps : Caps) (s s' : State) → HasShape caps s.work → CellsOnce caps s.work → Change s s' → IsFlow caps s.work s'.work
-flow-change caps s s' h once (same c) = subst (λ t. IsFlow caps s.work t.work) c (unmoved caps s.work s.work once refl refl refl)
-flow-change caps s s' h once (is_noted c) = subst (λ t. IsFlow caps s.work t.work) c.after (unmoved caps s.work _ once refl refl refl)
+flow-change caps s s' h once (same c) = subst (λ t. IsFlow caps s.work t.work) c (unmoved caps s.work s.work (uses-once caps s.work once) refl refl refl)
+flow-change caps s s' h once (is_noted c) = subst (λ t. IsFlow caps s.work t.work) c.after (unmoved caps s.work _ (uses-once caps s.work once) refl refl refl)
 flow-change caps s s' h once (is_accepted c) =
     let inside = queue_list-in caps s.work c.queue h (on-queue caps s.work c.queue h c.on) in
     subst (λ t. IsFlow caps s.work t.work) c.after
-    (entered caps s.work _ _ once (λ f. sum-pushed f s.work.content c.queue _ _ inside) refl refl refl (free-caps caps s.work c.cell h c.free))
+    (entered caps s.work _ _ (uses-once caps s.work once) (λ f. sum-pushed f s.work.content c.queue _ _ inside) refl refl refl (free-caps caps s.work c.cell h c.free))
 flow-change caps s s' h once (is_taken c) =
-    let tests = and-left _ _ c.qualifies in
-    let engine = progress_list-in caps s.work c.engine h (below-engines caps s.work c.engine h (and-left _ _ tests)) in
-    let queue = queue_list-in caps s.work c.queue h (let i = ltb-true c.queue s.work.setup.caps.queues (and-right _ _ tests) in let e = ap (λ (c : Caps). c.queues) h.same_caps in omega (arith, i, e)) in
+    let tests = (and_parts _ _ c.qualifies).0 in
+    let engine = progress_list-in caps s.work c.engine h (below-engines caps s.work c.engine h (and_parts _ _ tests).0) in
+    let queue = queue_list-in caps s.work c.queue h (let i = ltb-true c.queue s.work.setup.caps.queues (and_parts _ _ tests).1 in let e = ap (λ (c : Caps). c.queues) h.same_caps in omega (arith, i, e)) in
     subst (λ t. IsFlow caps s.work t.work) c.after
-    (still caps s.work _ once (λ f alike. sum-taken f alike s.work.content c.queue (progress_list s.work.setup c.engine) c.front queue engine c.is_front) refl refl)
+    (still caps s.work _ (uses-once caps s.work once) (λ f alike. sum-taken f alike s.work.content c.queue (progress_list s.work.setup c.engine) c.front queue engine c.is_front) refl refl)
 flow-change caps s s' h once (is_fetched c) =
     let inside = member_list-in caps s.work c.engine h (note-engine caps s.work c.engine c.note h c.is_note) in
     subst (λ t. IsFlow caps s.work t.work) c.after
-    (entered caps s.work _ _ once (λ f. sum-pushed f s.work.content (member_list s.work.setup c.engine) _ _ inside) refl refl refl (free-caps caps s.work c.cell h c.free))
+    (entered caps s.work _ _ (uses-once caps s.work once) (λ f. sum-pushed f s.work.content (member_list s.work.setup c.engine) _ _ inside) refl refl refl (free-caps caps s.work c.cell h c.free))
 flow-change caps s s' h once (is_started c) =
     let e = waiting-engine s.work c.engine c.slot c.is_first in
     let inside = member_list-in caps s.work c.engine h (below-engines caps s.work c.engine h e) in
-    let is : members s.work c.engine ≡ chain s.work.content (member_list s.work.setup c.engine) = ap (λ b. cond b (chain s.work.content (member_list s.work.setup c.engine)) []) e in
+    let is = waiting-members s.work c.engine c.slot c.is_first in
     subst (λ t. IsFlow caps s.work t.work) c.after
-    (still caps s.work _ once (λ f alike.
-        let all = sum-set f s.work.content (member_list s.work.setup c.engine) (with_first_run (members s.work c.engine)) inside in
-        let ran = sum-first_run f alike (members s.work c.engine) in
-        let old = ap (λ (xs : List Slot). sum_by f xs) is in
-        omega (arith, all, ran, old)) refl refl)
+    (still caps s.work _ (uses-once caps s.work once) (λ f alike.
+    let all = sum-set f s.work.content (member_list s.work.setup c.engine) (with_first_run (members s.work c.engine)) inside in
+    let ran = sum-first_run f alike (members s.work c.engine) in
+    let old = ap (λ (xs : List Slot). sum_by f xs) is in
+    omega (arith, all, ran, old)) refl refl)
 flow-change caps s s' h once (is_abandoned c) =
     let e = waiting-engine s.work c.engine c.slot c.is_first in
     let inside = member_list-in caps s.work c.engine h (below-engines caps s.work c.engine h e) in
-    let is : members s.work c.engine ≡ chain s.work.content (member_list s.work.setup c.engine) = ap (λ b. cond b (chain s.work.content (member_list s.work.setup c.engine)) []) e in
+    let is = waiting-members s.work c.engine c.slot c.is_first in
     subst (λ t. IsFlow caps s.work t.work) c.after
-    (left caps s.work _ Abandoned (members s.work c.engine) once (λ f.
-        let all = sum-set f s.work.content (member_list s.work.setup c.engine) [] inside in
-        let old = ap (λ (xs : List Slot). sum_by f xs) is in
-        omega (arith, all, old)) refl refl)
+    (left caps s.work _ Abandoned (members s.work c.engine) (uses-once caps s.work once) (λ f.
+    let all = sum-set f s.work.content (member_list s.work.setup c.engine) [] inside in
+    let old = ap (λ (xs : List Slot). sum_by f xs) is in
+    omega (arith, all, old)) refl refl)
 flow-change caps s s' h once (is_ended c) =
     let inside = running-slot s.work c.engine c.ticket c.slot c.is_found in
-    let one : count_by (is_cell c.slot.0) (all_held s.work.content) ≤ 1 = let a = once c.slot.0 in let b = at-most-one (nat_lt c.slot.0.0 (cell_count caps)) in let u = uses-counted s.work.content c.slot.0 in omega (arith, a, b, u) in
+    let one : count_by (is_cell c.slot.0) (all_held s.work.content) ≤ 1 = let a = once.once c.slot.0 in let u = uses-counted s.work.content c.slot.0 in omega (arith, a, u) in
     subst (λ t. IsFlow caps s.work t.work) c.after
-    (left caps s.work _ _ (c.slot ∷ []) once (λ f.
-        let all = sum-without f (is_cell c.slot.0) c.slot (all_held s.work.content) one inside (eq-eqb c.slot.0.0 c.slot.0.0 refl) in
-        let is = ap (λ (xs : List Slot). sum_by f xs) (all_held-filtered (λ slot. not (is_cell c.slot.0 slot)) s.work.content) in
-        let single = sum_by-cons f c.slot [] in
-        omega (arith, all, is, single)) refl refl)
-flow-change caps s s' h once (is_device_enabled c) = subst (λ t. IsFlow caps s.work t.work) c.after (unmoved caps s.work _ once refl refl refl)
-flow-change caps s s' h once (is_queue_enabled c) = subst (λ t. IsFlow caps s.work t.work) c.after (unmoved caps s.work _ once refl refl refl)
-flow-change caps s s' h once (is_waiting c) = subst (λ t. IsFlow caps s.work t.work) c.after (unmoved caps s.work _ once refl refl (stopped-names c.command Stopping s.work.setup))
-flow-change caps s s' h once (is_over c) = subst (λ t. IsFlow caps s.work t.work) c.after (unmoved caps s.work _ once refl refl (stopped-names c.command.command Off s.work.setup))
-flow-change caps s s' h once (is_aborted c) = subst (λ t. IsFlow caps s.work t.work) c.after (aborted-flow caps c.command s.work _ once refl refl refl)
-flow-change caps s s' h once (is_device_reset c) = subst (λ t. IsFlow caps s.work t.work) c.after (aborted-flow caps ResetDevice s.work _ once refl refl refl)
-flow-change caps s s' h once (is_queues_reset c) = subst (λ t. IsFlow caps s.work t.work) c.after (aborted-flow caps (ResetWq c.queues) s.work _ once refl refl refl)
-flow-change caps s s' h once (is_queue_written c) = subst (λ t. IsFlow caps s.work t.work) c.after (unmoved caps s.work _ once refl refl refl)
-flow-change caps s s' h once (is_group_written c) = subst (λ t. IsFlow caps s.work t.work) c.after (unmoved caps s.work _ once refl refl refl)
+    (left caps s.work _ _ (c.slot ∷ []) (uses-once caps s.work once) (λ f.
+    let all = sum-without f (is_cell c.slot.0) c.slot (all_held s.work.content) one inside (eq-eqb c.slot.0.0 c.slot.0.0 refl) in
+    let is = ap (λ (xs : List Slot). sum_by f xs) (all_held-filtered (λ slot. not (is_cell c.slot.0 slot)) s.work.content) in
+    let single = sum_by-cons f c.slot [] in
+    omega (arith, all, is, single)) refl refl)
+flow-change caps s s' h once (is_device_enabled c) = subst (λ t. IsFlow caps s.work t.work) c.after (unmoved caps s.work _ (uses-once caps s.work once) refl refl refl)
+flow-change caps s s' h once (is_queue_enabled c) = subst (λ t. IsFlow caps s.work t.work) c.after (unmoved caps s.work _ (uses-once caps s.work once) refl refl refl)
+flow-change caps s s' h once (is_waiting c) = subst (λ t. IsFlow caps s.work t.work) c.after (unmoved caps s.work _ (uses-once caps s.work once) refl refl (stopped-names c.command Stopping s.work.setup))
+flow-change caps s s' h once (is_over c) = subst (λ t. IsFlow caps s.work t.work) c.after (unmoved caps s.work _ (uses-once caps s.work once) refl refl (stopped-names c.command.command Off s.work.setup))
+flow-change caps s s' h once (is_aborted c) = subst (λ t. IsFlow caps s.work t.work) c.after (aborted-flow caps c.command s.work _ (uses-once caps s.work once) refl refl refl)
+flow-change caps s s' h once (is_device_reset c) = subst (λ t. IsFlow caps s.work t.work) c.after (aborted-flow caps ResetDevice s.work _ (uses-once caps s.work once) refl refl refl)
+flow-change caps s s' h once (is_queues_reset c) = subst (λ t. IsFlow caps s.work t.work) c.after (aborted-flow caps (ResetWq c.queues) s.work _ (uses-once caps s.work once) refl refl refl)
+flow-change caps s s' h once (is_queue_written c) = subst (λ t. IsFlow caps s.work t.work) c.after (unmoved caps s.work _ (uses-once caps s.work once) refl refl refl)
+flow-change caps s s' h once (is_group_written c) = subst (λ t. IsFlow caps s.work t.work) c.after (unmoved caps s.work _ (uses-once caps s.work once) refl refl refl)
 
 -- ---- what follows
 
 pub cells-flow : (caps : Caps) (w w' : Work) → IsFlow caps w w' → CellsOnce caps w'
-cells-flow caps w w' flow cell =
+cells-flow caps w w' flow = of-uses caps w' (λ cell.
     let sums = flow.sums (λ s. cond (is_cell cell s) 1 0) (λ s. refl) in
     let cells = flow.cells cell in
     let before = uses-counted w.content cell in
     let after = uses-counted w'.content cell in
-    omega (arith, sums, cells, before, after)
-
-pub names-flow : (caps : Caps) (w w' : Work) → NamesOnce w → IsFlow caps w w' → NamesOnce w'
-names-flow caps w w' names flow n =
-    let sums = flow.sums (λ slot. cond (slot.1.name == n) 1 0) (λ slot. refl) in
-    let rows = flow.rows n in
-    let given = flow.names n in
-    let old = names n in
-    omega (arith, sums, rows, given, old)
+    omega (arith, sums, cells, before, after))
 
 length-sum : (xs : List Slot) → sum_by (λ slot. 1) xs ≡ length xs
 length-sum [] = refl
 length-sum (x ∷ xs) = let rest = length-sum xs in let c = sum_by-cons (λ (slot : Slot). 1) x xs in omega (arith, rest, c)
 
-pub count-flow : (caps : Caps) (w w' : Work) → IsCounted w → IsFlow caps w w' → IsCounted w'
-count-flow caps w w' counted flow =
-    let sums = flow.sums (λ slot. 1) (λ slot. refl) in
-    let a = length-sum (all_held w.content) in
-    let b = length-sum (all_held w'.content) in
-    let before = held-counted w.content in
-    let after = held-counted w'.content in
-    let c = length-sum flow.came in
-    let d = length-sum flow.gone in
-    let more = flow.more in
-    let next = flow.next in
-    omega (arith, sums, a, b, before, after, c, d, more, next, counted)
+pub names-flow : (caps : Caps) (w w' : Work) → NamesOnce w → IsFlow caps w w' → NamesOnce w'
+names-flow caps w w' names flow = record {
+  given = λ name below. let one : ◌≡◌ {A = ℕ} (cond (nat_lt name w'.setup.next_name) 1 0) 1 = grind (arith, nat_tests, below) in counted name ∙ one;
+  not_given = λ name past. let none : ◌≡◌ {A = ℕ} (cond (nat_lt name w'.setup.next_name) 1 0) 0 = grind (arith, nat_tests, past) in counted name ∙ none;
+  counted =
+      let sums = flow.sums (λ slot. 1) (λ slot. refl) in
+      let a = length-sum (all_held w.content) in
+      let b = length-sum (all_held w'.content) in
+      let before = held-counted w.content in
+      let after = held-counted w'.content in
+      let c = length-sum flow.came in
+      let d = length-sum flow.gone in
+      let more = flow.more in
+      let next = flow.next in
+      let old = names.counted in
+      omega (arith, sums, a, b, before, after, c, d, more, next, old);
+}
+  where
+    counted : NamesCounted w'
+    counted name =
+        let sums = flow.sums (λ slot. cond (slot.1.name == name) 1 0) (λ slot. refl) in
+        let rows = flow.rows name in
+        let given = flow.names name in
+        let old = names-counted w names name in
+        omega (arith, sums, rows, given, old)

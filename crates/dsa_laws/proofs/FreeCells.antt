@@ -1,36 +1,34 @@
 -- Where a queue accepts or a batch is open, a cell is free.
-use Rattle.std.proofs.Common.{◌≡◌, ℕ, ◌+◌, ◌^◌, ◌<◌, ◌≤◌, ◌&&◌, not, Bool, true, false, cond, List, [], ◌∷◌, length, Some, None, refl, sym, ap, ◌∙◌, subst, inl, arith, ⊎_elim}
-use Rattle.std.specs.Prelude.{sum_by, nat_lt}
-use Rattle.std.proofs.lemmas.Bool.{cases_Bool, ltb-false, leb-false}
-use Rattle.std.proofs.lemmas.Bool.Decides.{nat_tests}
+use Rattle.std.proofs.Common.{◌≡◌, ℕ, ◌+◌, ◌^◌, ◌<◌, ◌≤◌, true, false, List, [], length, Some, None, sym, ap, subst, arith, ⊎_elim}
+use Rattle.std.specs.Prelude.{sum_by}
+use Rattle.std.proofs.lemmas.Bool.{cases_Bool, ltb-false, leb-false, or_parts, not-false}
 use Rattle.dsa_desc.specs.Rows.{first_row}
 use Rattle.dsa_regs.specs.declared.Caps.{Caps}
 use Rattle.dsa_regs.specs.declared.QueueConfig.{QueueConfig}
-use Rattle.dsa_regs.specs.declared.GroupConfig.{GroupConfig}
 use Rattle.dsa_regs.specs.Caps.{cell_count, list_count}
 use Rattle.dsa_regs.specs.Numbers.{numbers_below}
-use Rattle.dsa_regs.specs.Config.{queue_at, zero_queue, check_queue, queue_table, groups_table, total_size}
+use Rattle.dsa_regs.specs.Config.{queue_at, zero_queue, groups_table, total_size}
 use Rattle.dsa_store.specs.Content.{Slot, Content, chain, held}
 use Rattle.dsa_book.specs.declared.event.Portal.{Portal}
-use Rattle.dsa_book.specs.declared.event.Portal.TheVariants.{Limited, Unlimited}
 use Rattle.dsa_book.specs.declared.event.Kind.{Kind}
 use Rattle.dsa_book.specs.declared.event.Step.{Step}
 use Rattle.dsa_book.specs.declared.note.BatchNote.{BatchNote}
 use Rattle.dsa_book.specs.State.{Work, State, is_on, is_off, phase_at}
 use Rattle.dsa_book.specs.Submit.{limit_of, submit_table}
-use Rattle.dsa_book.specs.Work.{member_list, members, note_at, is_all_fetched}
+use Rattle.dsa_book.specs.Work.{members, note_at, is_all_fetched, in_progress}
 use Rattle.dsa_book.specs.Machine.{intake_of, replay}
-use Rattle.dsa_laws.specs.WellFormed.{HasShape, HasLawfulSetup, HasLawfulEntries, IsWithinLimits, In, NoteFits, IsWellFormed}
-use Rattle.dsa_laws.specs.FreeCells.{MembersFit, MembersFetched, HasFreeCell}
-use Rattle.dsa_laws.proofs.Changes.{not-false}
-use Rattle.dsa_laws.proofs.Shapes.{on-queue, note-engine}
-use Rattle.dsa_laws.proofs.Entries.{or-right}
+use Rattle.dsa_laws.specs.WellFormed.{HasShape, HasLawfulSetup, HasLawfulEntries, IsWithinLimits, NoteFits, IsWellFormed}
+use Rattle.dsa_laws.specs.FreeCells.{HasFreeCell}
+use Rattle.dsa_laws.proofs.Shapes.{on-queue, note-engine, members-at}
 use Rattle.dsa_laws.proofs.UnusedCells.{free-cell}
 use Rattle.dsa_laws.proofs.Histories.{replay-well_formed}
-use Rattle.dsa_laws.proofs.Limits.{no-row}
 use Rattle.dsa_laws.proofs.Numbers.{sum-places, sum-equal}
 use Rattle.dsa_laws.proofs.NumberSums.{sum-split_numbers, sum-plus, sum-same, sum-numbers-le, sum-numbers-lt}
-use Rattle.dsa_laws.proofs.Setups.{not-both, on-not_off}
+use Rattle.dsa_laws.proofs.Setups.{on-not_off}
+use Rattle.dsa_desc.proofs.Tables.{no-row}
+use Rattle.dsa_laws.proofs.Limits.{limit-le, lists-fit}
+use Rattle.dsa_laws.proofs.Entries.{none-held}
+use Rattle.dsa_laws.specs.Engines.{IsLawfulEngine}
 
 -- ---- how many are held, list by list
 
@@ -74,19 +72,11 @@ sizes-fit caps w shape setup off =
     let long = ap (λ k. sum_by (λ q. (queue_at w.setup.configs q).size) (numbers_below k)) shape.configs in
     omega (arith, most, same, places, long)
 
-none-of : (xs : List Slot) → ((x : Slot) → In x xs → ⊥) → length xs ≡ 0
-none-of [] h = refl
-none-of (x ∷ xs) h = absurd (h x (inl refl))
-
--- where the device is Off nothing is held
-off-nothing : (caps : Caps) (w : Work) (k : ℕ) → HasLawfulSetup w.setup → HasLawfulEntries caps w → is_off w.setup.device ≡ true → size w.content k ≡ 0
-off-nothing caps w k setup entries off = none-of (chain w.content k) (λ x i. not-both (is_off w.setup.device) off (setup.phases x.1.queue (entries.slot k x i)))
-
 queues-fit : (caps : Caps) (w : Work) → HasShape caps w → HasLawfulSetup w.setup → HasLawfulEntries caps w → IsWithinLimits caps w
     → sum_by (size w.content) (numbers_below caps.queues) ≤ caps.total_size
 queues-fit caps w shape setup entries limits = ⊎_elim
     (λ off.
-    let none = sum-numbers-le (size w.content) (λ k. 0) caps.queues (λ k i. let e = off-nothing caps w k setup entries off in omega (arith, e)) in
+    let none = sum-numbers-le (size w.content) (λ k. 0) caps.queues (λ k i. let e = ap (λ (xs : List Slot). length xs) (none-held caps w setup entries off k) in omega (arith, e)) in
     let zeros = sum-same 0 caps.queues in
     omega (arith, none, zeros))
     (λ not_off.
@@ -95,94 +85,77 @@ queues-fit caps w shape setup entries limits = ⊎_elim
     omega (arith, all, sizes))
     (cases_Bool (is_off w.setup.device))
 
-members-long : (caps : Caps) (w : Work) (e : ℕ) → HasShape caps w → e < caps.engines → length (members w e) ≡ size w.content (caps.queues + caps.engines + e)
-members-long caps w e shape i =
-    let q = ap (λ (c : Caps). c.queues) shape.same_caps in
-    let n = ap (λ (c : Caps). c.engines) shape.same_caps in
-    let there : nat_lt e w.setup.caps.engines ≡ true = grind (arith, nat_tests, i, n) in
-    let at : member_list w.setup e ≡ caps.queues + caps.engines + e = omega (arith, q, n) in
-    ap (λ (b : Bool). length (cond b (chain w.content (member_list w.setup e)) [])) there ∙ ap (size w.content) at
-
 -- what an engine holds is within its slots and a batch
-engine-fits : (caps : Caps) (w : Work) → HasShape caps w → IsWithinLimits caps w → MembersFit caps w → (e : ℕ) → e < caps.engines → on_engine caps w.content e ≤ caps.slots + 2 ^ caps.max_batch_shift
-engine-fits caps w shape limits fit e i =
-    let progress = limits.slots e i in
-    let most = fit e i in
-    let same = members-long caps w e shape i in
+engine-fits : (caps : Caps) (w : Work) → HasShape caps w → IsWithinLimits caps w → (e : ℕ) → e < caps.engines → on_engine caps w.content e ≤ caps.slots + 2 ^ caps.max_batch_shift
+engine-fits caps w shape limits e i =
+    let progress = (lists-fit caps w shape limits).slots e i in
+    let most = limits.members e i in
+    let same = ap (λ (xs : List Slot). length xs) (members-at caps w e shape i) in
     omega (arith, progress, most, same)
 
 -- ---- a cell is free
 
 -- a queue below its size
-pub queue-room : (caps : Caps) (w : Work) (q : ℕ) → HasShape caps w → HasLawfulSetup w.setup → IsWithinLimits caps w → MembersFit caps w
+pub queue-room : (caps : Caps) (w : Work) (q : ℕ) → HasShape caps w → HasLawfulSetup w.setup → IsWithinLimits caps w
     → q < caps.queues → is_off (phase_at w.setup q) ≡ false → size w.content q < (queue_at w.setup.configs q).size → held w.content < cell_count caps
-queue-room caps w q shape setup limits fit i off room =
+queue-room caps w q shape setup limits i off room =
     let parts = held-parts caps w.content shape.lists in
     let queues = sum-numbers-lt (size w.content) (λ k. (queue_at w.setup.configs k).size) caps.queues q limits.queues i room in
     let sizes = sizes-fit caps w shape setup (setup.phases q off) in
-    let engines = sum-numbers-le (on_engine caps w.content) (λ k. caps.slots + 2 ^ caps.max_batch_shift) caps.engines (engine-fits caps w shape limits fit) in
+    let engines = sum-numbers-le (on_engine caps w.content) (λ k. caps.slots + 2 ^ caps.max_batch_shift) caps.engines (engine-fits caps w shape limits) in
     let product = sum-same (caps.slots + 2 ^ caps.max_batch_shift) caps.engines in
     omega (arith, parts, queues, sizes, engines, product)
 
 -- an engine with fewer members than a batch may have
-pub member-room : (caps : Caps) (w : Work) (e : ℕ) → HasShape caps w → HasLawfulSetup w.setup → HasLawfulEntries caps w → IsWithinLimits caps w → MembersFit caps w
+pub member-room : (caps : Caps) (w : Work) (e : ℕ) → HasShape caps w → HasLawfulSetup w.setup → HasLawfulEntries caps w → IsWithinLimits caps w
     → e < caps.engines → length (members w e) < 2 ^ caps.max_batch_shift → held w.content < cell_count caps
-member-room caps w e shape setup entries limits fit i room =
+member-room caps w e shape setup entries limits i room =
     let parts = held-parts caps w.content shape.lists in
     let queues = queues-fit caps w shape setup entries limits in
-    let same = members-long caps w e shape i in
-    let progress = limits.slots e i in
+    let same = ap (λ (xs : List Slot). length xs) (members-at caps w e shape i) in
+    let progress = (lists-fit caps w shape limits).slots e i in
     let less : on_engine caps w.content e < caps.slots + 2 ^ caps.max_batch_shift = omega (arith, same, progress, room) in
-    let engines = sum-numbers-lt (on_engine caps w.content) (λ k. caps.slots + 2 ^ caps.max_batch_shift) caps.engines e (engine-fits caps w shape limits fit) i less in
+    let engines = sum-numbers-lt (on_engine caps w.content) (λ k. caps.slots + 2 ^ caps.max_batch_shift) caps.engines e (engine-fits caps w shape limits) i less in
     let product = sum-same (caps.slots + 2 ^ caps.max_batch_shift) caps.engines in
     omega (arith, parts, queues, engines, product)
 
 -- ---- where a submission is not turned away, or a member may be fetched
 
-threshold-le : (caps : Caps) (groups : List GroupConfig) (q : ℕ) (config : QueueConfig) → check_queue caps groups q config ≡ None → (b : Bool) → config.dedicated ≡ b → cond b config.size config.threshold ≤ config.size
-threshold-le caps groups q config h true d = omega arith
-threshold-le caps groups q config h false d =
-    let rows = no-row (queue_table caps groups q config) h in
-    let above = ap (λ (b : Bool). not b && nat_lt config.size config.threshold) (sym d) ∙ rows.1.1.1.1.0 in
-    ltb-false config.size config.threshold above
-
-limit-le : (caps : Caps) (groups : List GroupConfig) (q : ℕ) (config : QueueConfig) (portal : Portal) → check_queue caps groups q config ≡ None → limit_of config portal ≤ config.size
-limit-le caps groups q config Unlimited h = omega arith
-limit-le caps groups q config Limited h = threshold-le caps groups q config h config.dedicated refl
-
-pub accepting-room : (caps : Caps) (s : State) (q : ℕ) (portal : Portal) (kind : Kind) → IsWellFormed caps s → MembersFit caps s.work
+pub accepting-room : (caps : Caps) (s : State) (q : ℕ) (portal : Portal) (kind : Kind) → IsWellFormed caps s
     → first_row (submit_table (intake_of s) q portal kind) ≡ None → held s.work.content < cell_count caps
-accepting-room caps s q portal kind w fit h =
+accepting-room caps s q portal kind w h =
     let rows = no-row (submit_table (intake_of s) q portal kind) h in
     let on : is_on (phase_at s.work.setup q) ≡ true = not-false _ rows.0 in
     let config = queue_at s.work.setup.configs q in
     let below = leb-false (limit_of config portal) (size s.work.content q) rows.1.1.0 in
     let off = on-not_off _ on in
     let limit = limit-le s.work.setup.caps s.work.setup.groups q config portal (w.setup.queue q off) in
-    queue-room caps s.work q w.shape w.setup w.limits fit (on-queue caps s.work q w.shape on) off (omega (arith, below, limit))
+    queue-room caps s.work q w.shape w.setup w.limits (on-queue caps s.work q w.shape on) off (omega (arith, below, limit))
 
-pub fetching-room : (caps : Caps) (s : State) (e : ℕ) (note : BatchNote) → IsWellFormed caps s → MembersFit caps s.work → MembersFetched s.work
+pub fetching-room : (caps : Caps) (s : State) (e : ℕ) (note : BatchNote) → IsWellFormed caps s
     → note_at s.work e ≡ Some note → is_all_fetched note ≡ false → held s.work.content < cell_count caps
-fetching-room caps s e note w fit fetched h more =
-    let below = leb-false note.count note.fetched (or-right note.closed _ more) in
-    let count : note.count ≤ 2 ^ caps.max_batch_shift = (subst (NoteFits caps) h (w.notes e)).1 in
-    let some = fetched e note h in
-    member-room caps s.work e w.shape w.setup w.entries w.limits fit (note-engine caps s.work e note w.shape h) (omega (arith, below, count, some))
+fetching-room caps s e note w h more =
+    let below = leb-false note.count note.fetched (or_parts note.closed _ more).1 in
+    let fits : NoteFits caps (Some note) = subst (NoteFits caps) h (w.notes e) in
+    let count = fits.count in
+    let law : IsLawfulEngine s.work.setup (in_progress s.work e) (members s.work e) (Some note) = subst (IsLawfulEngine s.work.setup (in_progress s.work e) (members s.work e)) h (w.engines e) in
+    let some = law.most in
+    member-room caps s.work e w.shape w.setup w.entries w.limits (note-engine caps s.work e note w.shape h) (omega (arith, below, count, some))
 
 -- ---- in every state of a history
 
-pub replay-accepting : (caps : Caps) (h : List Step) (s : State) (q : ℕ) (portal : Portal) (kind : Kind) → replay caps h ≡ Some s → MembersFit caps s.work
+pub replay-accepting : (caps : Caps) (h : List Step) (s : State) (q : ℕ) (portal : Portal) (kind : Kind) → replay caps h ≡ Some s
     → first_row (submit_table (intake_of s) q portal kind) ≡ None → held s.work.content < cell_count caps
-replay-accepting caps h s q portal kind e fit accepts = accepting-room caps s q portal kind (replay-well_formed caps h s e) fit accepts
+replay-accepting caps h s q portal kind e accepts = accepting-room caps s q portal kind (replay-well_formed caps h s e) accepts
 
-pub replay-accepting-cell : (caps : Caps) (h : List Step) (s : State) (q : ℕ) (portal : Portal) (kind : Kind) → replay caps h ≡ Some s → MembersFit caps s.work
+pub replay-accepting-cell : (caps : Caps) (h : List Step) (s : State) (q : ℕ) (portal : Portal) (kind : Kind) → replay caps h ≡ Some s
     → first_row (submit_table (intake_of s) q portal kind) ≡ None → HasFreeCell caps s.work
-replay-accepting-cell caps h s q portal kind e fit accepts = free-cell (cell_count caps) s.work.content (replay-accepting caps h s q portal kind e fit accepts)
+replay-accepting-cell caps h s q portal kind e accepts = free-cell (cell_count caps) s.work.content (replay-accepting caps h s q portal kind e accepts)
 
-pub replay-fetching : (caps : Caps) (h : List Step) (s : State) (e : ℕ) (note : BatchNote) → replay caps h ≡ Some s → MembersFit caps s.work → MembersFetched s.work
+pub replay-fetching : (caps : Caps) (h : List Step) (s : State) (e : ℕ) (note : BatchNote) → replay caps h ≡ Some s
     → note_at s.work e ≡ Some note → is_all_fetched note ≡ false → held s.work.content < cell_count caps
-replay-fetching caps h s e note r fit fetched is more = fetching-room caps s e note (replay-well_formed caps h s r) fit fetched is more
+replay-fetching caps h s e note r is more = fetching-room caps s e note (replay-well_formed caps h s r) is more
 
-pub replay-fetching-cell : (caps : Caps) (h : List Step) (s : State) (e : ℕ) (note : BatchNote) → replay caps h ≡ Some s → MembersFit caps s.work → MembersFetched s.work
+pub replay-fetching-cell : (caps : Caps) (h : List Step) (s : State) (e : ℕ) (note : BatchNote) → replay caps h ≡ Some s
     → note_at s.work e ≡ Some note → is_all_fetched note ≡ false → HasFreeCell caps s.work
-replay-fetching-cell caps h s e note r fit fetched is more = free-cell (cell_count caps) s.work.content (replay-fetching caps h s e note r fit fetched is more)
+replay-fetching-cell caps h s e note r is more = free-cell (cell_count caps) s.work.content (replay-fetching caps h s e note r is more)

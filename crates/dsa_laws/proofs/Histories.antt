@@ -1,71 +1,76 @@
 -- Every state that a history leads to is well formed.
-use Rattle.std.proofs.Common.{◌≡◌, ℕ, zero, suc, ◌==◌, cond, List, [], ◌∷◌, length, replicate, Option, Some, None, refl, ap, subst, arith}
-use Rattle.std.specs.Prelude.{count_by, nat_lt}
-use Rattle.std.proofs.lemmas.Bool.Decides.{nat_tests}
+use Rattle.std.proofs.Common.{◌≡◌, ℕ, ◌==◌, List, [], ◌∷◌, length, replicate, Option, Some, None, refl, ap, subst, arith, ◌+◌, ◌∙◌, ◌<◌, ◌≤◌}
+use Rattle.std.specs.Prelude.{count_by}
 use Rattle.dsa_regs.specs.declared.Caps.{Caps}
 use Rattle.dsa_regs.specs.Caps.{list_count}
-use Rattle.dsa_store.specs.Content.{Slot, is_cell, all_held}
+use Rattle.dsa_store.specs.Content.{Slot, is_cell, uses}
 use Rattle.dsa_store.proofs.Sums.{uses-counted, held-counted}
 use Rattle.dsa_book.specs.declared.event.Step.{Step}
 use Rattle.dsa_book.specs.State.{State, opening}
 use Rattle.dsa_book.specs.Machine.{next, replay_from, replay}
 use Rattle.dsa_laws.specs.Change.{Change}
-use Rattle.dsa_laws.specs.WellFormed.{IsWellFormed}
+use Rattle.dsa_laws.specs.WellFormed.{IsWellFormed, held_named, fates_named, IsWithinLimits}
 use Rattle.dsa_laws.proofs.Changes.{next-change}
 use Rattle.dsa_laws.proofs.Shapes.{shape-change, shape-opening}
-use Rattle.dsa_laws.proofs.Flows.{flow-change, cells-flow, names-flow, count-flow}
+use Rattle.dsa_laws.proofs.Flows.{flow-change, cells-flow, names-flow}
 use Rattle.dsa_laws.proofs.Setups.{setup-change, setup-opening}
 use Rattle.dsa_laws.proofs.Entries.{entries-change, entries-opening}
-use Rattle.dsa_laws.proofs.Limits.{limits-change, limits-opening}
+use Rattle.dsa_laws.proofs.Limits.{lists-fit, of-lists_fit, lists_fit-change, lists_fit-opening}
 use Rattle.dsa_laws.proofs.Notes.{notes-change, notes-opening}
-use Rattle.dsa_laws.proofs.Orders.{order-change, order-opening}
+use Rattle.dsa_laws.proofs.Orders.{lists-in_order, of-lists_in_order, order-change, order-opening}
+use Rattle.dsa_laws.proofs.Engines.{engines-change, engines-opening}
+use Rattle.dsa_laws.proofs.Buffering.{buffers-change, buffers-opening}
+use Rattle.dsa_store.specs.declared.entry.Cell.{Cell}
+use Rattle.dsa_laws.proofs.Replay.{replay_none}
+use Rattle.dsa_laws.proofs.Contents.{all_held-empty}
+use Rattle.dsa_laws.specs.Engines.{HasLawfulEngines}
+use Rattle.dsa_laws.specs.Buffering.{HasBuffers}
 
 pub well_formed-change : (caps : Caps) (s s' : State) → IsWellFormed caps s → Change s s' → IsWellFormed caps s'
 well_formed-change caps s s' w c =
+    let shape = shape-change caps s s' w.shape c in
     let flow = flow-change caps s s' w.shape w.cells c in
+    let engines = engines-change caps s s' w c in
+    let notes = notes-change caps s s' w.shape w.setup w.entries w.notes c in
+    let lists = lists_fit-change caps s s' w.shape w.setup w.entries (lists-fit caps s.work w.shape w.limits) c in
     record {
-      shape = shape-change caps s s' w.shape c;
+      shape = shape;
       cells = cells-flow caps s.work s'.work flow;
       names = names-flow caps s.work s'.work w.names flow;
-      counted = count-flow caps s.work s'.work w.counted flow;
       setup = setup-change caps s s' w.shape w.setup c;
       entries = entries-change caps s s' w.shape w.entries c;
-      limits = limits-change caps s s' w.shape w.setup w.entries w.limits c;
-      order = order-change caps s s' w.shape w.order c;
-      notes = notes-change caps s s' w.shape w.setup w.entries w.notes c;
+      limits = of-lists_fit caps s'.work shape lists notes engines;
+      buffers = buffers-change caps s s' w c;
+      engines = engines;
+      notes = notes;
+      order = of-lists_in_order caps s'.work shape (order-change caps s s' w.shape (lists-in_order caps s.work w.shape w.order) c);
     }
-
-none-at-first : (n : ℕ) → all_held (replicate n []) ≡ []
-none-at-first zero = refl
-none-at-first (suc n) = none-at-first n
 
 pub well_formed-opening : (caps : Caps) → IsWellFormed caps (opening caps)
 well_formed-opening caps =
-    let none = none-at-first (list_count caps) in
+    let none = all_held-empty (list_count caps) in
     record {
       shape = shape-opening caps;
-      cells = λ cell.
-          let e = ap (λ (xs : List Slot). count_by (is_cell cell) xs) none in
-          let u = uses-counted (replicate (list_count caps) []) cell in
-          omega (arith, e, u);
-      names = λ n.
-          let e = ap (λ (xs : List Slot). count_by (λ slot. slot.1.name == n) xs) none in
-          let z : ◌≡◌ {A = ℕ} (cond (nat_lt n 0) 1 0) 0 = grind (arith, nat_tests) in
-          omega (arith, e, z);
-      counted =
-          let e = ap (λ (xs : List Slot). length xs) none in
-          let h = held-counted (replicate (list_count caps) []) in
-          omega (arith, e, h);
+      cells = record { once = λ cell. let u = unused cell in omega (arith, u); inside = λ cell past. unused cell };
+      names = record {
+        given = λ name below. absurd (omega (arith, below));
+        not_given = λ name past. ap (λ (xs : List Slot). count_by (λ slot. slot.1.name == name) xs + 0) none;
+        counted =
+            let e = ap (λ (xs : List Slot). length xs) none in
+            let h = held-counted (replicate (list_count caps) []) in
+            omega (arith, e, h);
+      };
       setup = setup-opening caps;
       entries = entries-opening caps;
-      limits = limits-opening caps;
-      order = order-opening caps;
+      limits = of-lists_fit caps (opening caps).work (shape-opening caps) (lists_fit-opening caps) (notes-opening caps) (engines-opening caps);
+      buffers = buffers-opening caps;
+      engines = engines-opening caps;
       notes = notes-opening caps;
+      order = of-lists_in_order caps (opening caps).work (shape-opening caps) (order-opening caps);
     }
-
-replay_none : (h : List Step) (s : State) → replay_from None h ≡ Some s → ⊥
-replay_none [] s e = cc
-replay_none (x ∷ h) s e = cc
+  where
+    unused : (cell : Cell) → uses (opening caps).work.content cell ≡ 0
+    unused cell = uses-counted (replicate (list_count caps) []) cell ∙ ap (λ (xs : List Slot). count_by (is_cell cell) xs) (all_held-empty (list_count caps))
 
 -- what every change keeps, every history keeps
 pub replay_keeps : (P : State → Type 0) → ((s s' : State) → P s → Change s s' → P s') → (h : List Step) (s s' : State) → P s → replay_from (Some s) h ≡ Some s' → P s'
@@ -78,3 +83,20 @@ replay_keeps P keeps (x ∷ h) s s' p e = go (λ t q r. replay_keeps P keeps h t
 
 pub replay-well_formed : (caps : Caps) (h : List Step) (s : State) → replay caps h ≡ Some s → IsWellFormed caps s
 replay-well_formed caps h s e = replay_keeps (IsWellFormed caps) (well_formed-change caps) h (opening caps) s (well_formed-opening caps) e
+
+-- ---- what this says of names, engines and read buffers
+
+pub replay-given : (caps : Caps) (h : List Step) (s : State) (name : ℕ) → replay caps h ≡ Some s → name < s.work.setup.next_name → held_named s.work name + fates_named s.work name ≡ 1
+replay-given caps h s name e below = (replay-well_formed caps h s e).names.given name below
+
+pub replay-not_given : (caps : Caps) (h : List Step) (s : State) (name : ℕ) → replay caps h ≡ Some s → s.work.setup.next_name ≤ name → held_named s.work name + fates_named s.work name ≡ 0
+replay-not_given caps h s name e past = (replay-well_formed caps h s e).names.not_given name past
+
+pub replay-limits : (caps : Caps) (h : List Step) (s : State) → replay caps h ≡ Some s → IsWithinLimits caps s.work
+replay-limits caps h s e = (replay-well_formed caps h s e).limits
+
+pub replay-engines : (caps : Caps) (h : List Step) (s : State) → replay caps h ≡ Some s → HasLawfulEngines s.work
+replay-engines caps h s e = (replay-well_formed caps h s e).engines
+
+pub replay-buffers : (caps : Caps) (h : List Step) (s : State) → replay caps h ≡ Some s → HasBuffers caps s.work
+replay-buffers caps h s e = (replay-well_formed caps h s e).buffers

@@ -46,16 +46,10 @@ use Rattle.dsa_book.specs.Commands.{issue, carried_out, refused_or, waits, check
 use Rattle.dsa_regs.specs.declared.Command.TheVariants.{EnableDevice, DisableDevice, DrainAll, AbortAll, ResetDevice, EnableWq, DisableWq, DrainWq, AbortWq, ResetWq, DrainPasid, AbortPasid}
 use Rattle.dsa_book.specs.declared.event.Portal.{Portal}
 use Rattle.dsa_book.specs.declared.event.Kind.{Kind}
+use Rattle.std.proofs.lemmas.Bool.{and_parts}
+use Rattle.dsa_desc.proofs.Tables.{when-some}
 
 -- ---- a value that came of a test
-
-pub when-some : {X : Type 0} (b : Bool) (x y : X) → when b x ≡ Some y → (b ≡ true) × (x ≡ y)
-when-some true x y h = (refl, cc)
-when-some false x y h = absurd cc
-
-and-left : (a b : Bool) → (a && b) ≡ true → a ≡ true
-and-left true b h = refl
-and-left false b h = cc
 
 -- ---- start
 
@@ -138,7 +132,7 @@ pub next_keeps_fetch : (s s' : State) (e : ℕ) (d : Descriptor) (a : FetchAnswe
 next_keeps_fetch s s' e d a h u =
     let cell = cell_or_first (fetched_cell a) in
     let p = when-some (same_fetch a (fetch s.work e d cell).0 && may_use s.work.setup s.work.content (fetched_cell a)) (with_work s (fetch s.work e d cell).1) s' h in
-    sym p.1 ∙ ap (with_work s) (fetch_for-keeps s.work e d cell (note_at s.work e) (sym (same_fetch-stored a _ (and-left _ _ p.0)) ∙ u))
+    sym p.1 ∙ ap (with_work s) (fetch_for-keeps s.work e d cell (note_at s.work e) (sym (same_fetch-stored a _ (and_parts _ _ p.0).0) ∙ u))
 
 -- ---- dispatch
 

@@ -1,10 +1,9 @@
 -- No list grows past its limit.
-use Rattle.std.proofs.Common.{drop, ◌≡◌, ◌≢◌, ℕ, zero, suc, ◌+◌, ◌<◌, ◌≤◌, ◌&&◌, not, Bool, true, false, cond, List, [], ◌∷◌, ◌++◌, length, map, set, replicate, Some, None, refl, sym, ap, ◌∙◌, subst, ◌⊎◌, inl, inr, arith, ⊎_elim, length-append}
-use Rattle.std.specs.Prelude.{filter, nat_lt, ⊤}
-use Rattle.std.proofs.lemmas.Bool.{cases_eq, ltb-true, ltb-false, leb-false}
+use Rattle.std.proofs.Common.{drop, ◌≡◌, ◌≢◌, ℕ, zero, suc, ◌+◌, ◌<◌, ◌≤◌, ◌&&◌, not, Bool, true, false, cond, List, [], ◌∷◌, ◌++◌, length, map, set, Some, None, refl, sym, ap, ◌∙◌, subst, ◌⊎◌, inl, inr, arith, ⊎_elim, length-append, ◌^◌, Option}
+use Rattle.std.specs.Prelude.{filter, nat_lt}
+use Rattle.std.proofs.lemmas.Bool.{cases_eq, ltb-true, ltb-false, leb-false, and_parts}
 use Rattle.std.proofs.lemmas.List.{get_or-set_other}
-use Rattle.std.proofs.lemmas.List.Sums.{length-filter, count_by-le-length}
-use Rattle.dsa_desc.specs.Rows.{first_row, passes}
+use Rattle.dsa_desc.specs.Rows.{passes}
 use Rattle.dsa_regs.specs.declared.Caps.{Caps}
 use Rattle.dsa_regs.specs.declared.QueueConfig.{QueueConfig}
 use Rattle.dsa_regs.specs.declared.GroupConfig.{GroupConfig}
@@ -20,15 +19,17 @@ use Rattle.dsa_book.specs.declared.event.Portal.{Portal}
 use Rattle.dsa_book.specs.declared.event.Portal.TheVariants.{Limited, Unlimited}
 use Rattle.dsa_book.specs.State.{Setup, Work, State, opening, is_off, phase_at}
 use Rattle.dsa_book.specs.Submit.{limit_of}
-use Rattle.dsa_book.specs.Work.{progress_list, member_list, in_progress, may_take, front_of, qualifies}
+use Rattle.dsa_book.specs.Work.{progress_list, member_list, in_progress, may_take, front_of, qualifies, members, note_at}
 use Rattle.dsa_book.specs.Commands.{stopped, names, size_alone}
 use Rattle.dsa_laws.specs.Change.{Change, same, is_noted, is_accepted, is_taken, is_fetched, is_started, is_abandoned, is_ended, is_device_enabled, is_queue_enabled, is_waiting, is_over, is_aborted, is_device_reset, is_queues_reset, is_queue_written, is_group_written}
-use Rattle.dsa_laws.specs.WellFormed.{HasShape, HasLawfulSetup, HasLawfulEntries, IsWithinLimits, In}
-use Rattle.dsa_laws.proofs.Contents.{chain-filtered, In-filtered}
-use Rattle.dsa_laws.proofs.Changes.{and-left, and-right}
-use Rattle.dsa_laws.proofs.Shapes.{on-queue, stopped-configs}
+use Rattle.dsa_laws.specs.WellFormed.{HasShape, HasLawfulSetup, HasLawfulEntries, IsWithinLimits, NoteFits, NotesFit}
+use Rattle.dsa_laws.proofs.Contents.{chain-filtered, In-filtered, none-In, chain-empty, length-filter-le}
+use Rattle.dsa_laws.proofs.Shapes.{on-queue, stopped-configs, progress-at}
 use Rattle.dsa_laws.proofs.Setups.{not-both, on-not_off}
 use Rattle.dsa_laws.proofs.Numbers.{get_or-each}
+use Rattle.dsa_desc.proofs.Tables.{no-row}
+use Rattle.dsa_laws.specs.Engines.{IsLawfulEngine, HasLawfulEngines}
+use Rattle.dsa_book.specs.declared.note.BatchNote.{BatchNote}
 
 -- ---- lengths of lists
 
@@ -58,25 +59,10 @@ size-without_front c k j = ⊎_elim
 pub size-filtered : (p : Slot → Bool) (c : Content) (j : ℕ) → length (chain (map (filter p) c) j) ≤ length (chain c j)
 size-filtered p c j =
     let a = ap (λ (l : List Slot). length l) (chain-filtered p c j) in
-    let b = length-filter p (chain c j) in
-    let d = count_by-le-length p (chain c j) in
-    omega (arith, a, b, d)
-
-no-member : (xs : List Slot) → ((x : Slot) → In x xs → ⊥) → length xs ≡ 0
-no-member [] h = refl
-no-member (x ∷ xs) h = absurd (h x (inl refl))
+    let b = length-filter-le p (chain c j) in
+    omega (arith, a, b)
 
 -- ---- what a check says
-
--- where no row stands, each test failed
-abbrev EachFalse : {X : Type 0} → List (Bool × X) → Type 0
-EachFalse [] = ⊤
-EachFalse (row ∷ rows) = (row.0 ≡ false) × EachFalse rows
-
-pub no-row : {X : Type 0} (rows : List (Bool × X)) → first_row rows ≡ None → EachFalse rows
-no-row [] h = tt
-no-row ((true, x) ∷ rows) h = absurd cc
-no-row ((false, x) ∷ rows) h = (refl, no-row rows h)
 
 threshold-le : (caps : Caps) (groups : List GroupConfig) (q : ℕ) (config : QueueConfig) → check_queue caps groups q config ≡ None → config.dedicated ≡ false → config.threshold ≤ config.size
 threshold-le caps groups q config h d =
@@ -87,7 +73,8 @@ threshold-le caps groups q config h d =
     second true b d h = absurd cc
     second false b d h = h
 
-limit-le : (caps : Caps) (groups : List GroupConfig) (q : ℕ) (config : QueueConfig) (portal : Portal) → check_queue caps groups q config ≡ None → limit_of config portal ≤ config.size
+-- the limit of a portal is within the size
+pub limit-le : (caps : Caps) (groups : List GroupConfig) (q : ℕ) (config : QueueConfig) (portal : Portal) → check_queue caps groups q config ≡ None → limit_of config portal ≤ config.size
 limit-le caps groups q config Unlimited h = omega arith
 limit-le caps groups q config Limited h = go config.dedicated refl
   where
@@ -97,9 +84,32 @@ limit-le caps groups q config Limited h = go config.dedicated refl
 
 -- ---- limits
 
+-- no list is longer than its queue's size, or than the slots of an engine, by the number of the list
+pub record ListsFit (caps : Caps) (w : Work) : Type 0 where
+  pub queues : (q : ℕ) → q < caps.queues → length (chain w.content q) ≤ (queue_at w.setup.configs q).size
+  pub slots : (e : ℕ) → e < caps.engines → length (chain w.content (caps.queues + e)) ≤ caps.slots
+
+pub lists-fit : (caps : Caps) (w : Work) → HasShape caps w → IsWithinLimits caps w → ListsFit caps w
+lists-fit caps w shape h = record {
+  queues = h.queues;
+  slots = λ e i. let is = ap (λ (xs : List Slot). length xs) (progress-at caps w e shape i) in let old = h.slots e i in omega (arith, is, old);
+}
+
+-- with members that are no more than were fetched, and these than a batch may have
+pub of-lists_fit : (caps : Caps) (w : Work) → HasShape caps w → ListsFit caps w → NotesFit caps w → HasLawfulEngines w → IsWithinLimits caps w
+of-lists_fit caps w shape h notes engines = record {
+  queues = h.queues;
+  slots = λ e i. let is = ap (λ (xs : List Slot). length xs) (progress-at caps w e shape i) in let old = h.slots e i in omega (arith, is, old);
+  members = λ e i. few e (note_at w e) (notes e) (engines e);
+}
+  where
+    few : (e : ℕ) (o : Option BatchNote) → NoteFits caps o → IsLawfulEngine w.setup (in_progress w e) (members w e) o → length (members w e) ≤ 2 ^ caps.max_batch_shift
+    few e None fits law = let none = ap (λ (xs : List Slot). length xs) law.no_members in omega (arith, none)
+    few e (Some note) fits law = let most = law.most in let a = fits.fetched in let b = fits.count in omega (arith, most, a, b)
+
 -- lists that are no longer, at sizes that are no less
-shorter : (caps : Caps) (w w' : Work) → IsWithinLimits caps w → ((k : ℕ) → length (chain w'.content k) ≤ length (chain w.content k))
-    → ((q : ℕ) → q < caps.queues → (queue_at w'.setup.configs q).size ≡ (queue_at w.setup.configs q).size) → IsWithinLimits caps w'
+shorter : (caps : Caps) (w w' : Work) → ListsFit caps w → ((k : ℕ) → length (chain w'.content k) ≤ length (chain w.content k))
+    → ((q : ℕ) → q < caps.queues → (queue_at w'.setup.configs q).size ≡ (queue_at w.setup.configs q).size) → ListsFit caps w'
 shorter caps w w' h lists sizes = record {
   queues = λ q i. let a = h.queues q i in let b = lists q in let c = sizes q i in omega (arith, a, b, c);
   slots = λ e i. let a = h.slots e i in let b = lists (caps.queues + e) in omega (arith, a, b);
@@ -108,24 +118,25 @@ shorter caps w w' h lists sizes = record {
 as-before : (c : Content) (k : ℕ) → length (chain c k) ≤ length (chain c k)
 as-before c k = omega arith
 
-taken-test : (w : Work) (e q : ℕ) (front : Slot) → qualifies w e q ≡ true → front_of w q ≡ Some front → may_take w e front ≡ true
+-- the front that an engine takes may be taken
+pub taken-test : (w : Work) (e q : ℕ) (front : Slot) → qualifies w e q ≡ true → front_of w q ≡ Some front → may_take w e front ≡ true
 taken-test w e q front h f =
-    subst (λ o. passes (may_take w e) o ≡ true) f (and-right _ _ (and-right _ _ h))
+    subst (λ o. passes (may_take w e) o ≡ true) f (and_parts _ _ (and_parts _ _ h).1).1
 
 same-stopped : (command : Command) (phase : Phase) (setup : Setup) (q : ℕ) → (queue_at (stopped command phase setup).configs q).size ≡ (queue_at setup.configs q).size
 same-stopped command phase setup q = ap (λ (c : List QueueConfig). (queue_at c q).size) (stopped-configs command phase setup)
 
 off-empty : (caps : Caps) (w : Work) (q : ℕ) → HasLawfulEntries caps w → q < caps.queues → is_off (phase_at w.setup q) ≡ true → length (chain w.content q) ≡ 0
-off-empty caps w q h i off = no-member (chain w.content q) (λ x j.
-    not-both (is_off (phase_at w.setup q)) off (subst (λ k. is_off (phase_at w.setup k) ≡ false) ((h.placed q x j).queue i) (h.slot q x j)))
+off-empty caps w q h i off = ap (λ (xs : List Slot). length xs) (none-In (chain w.content q) (λ x j.
+    not-both (is_off (phase_at w.setup q)) off (subst (λ k. is_off (phase_at w.setup k) ≡ false) ((h.placed q x j).queue i) (h.none_off q x j))))
 
 sized : (b : Bool) (c : QueueConfig) → (cond b (size_alone c) c).size ≡ c.size
 sized true c = refl
 sized false c = refl
 
 -- the members' list is none of these
-member-limits : (caps : Caps) (w w' : Work) (e : ℕ) (l : List Slot) → HasShape caps w → IsWithinLimits caps w → w'.content ≡ set w.content (member_list w.setup e) l
-    → ((q : ℕ) → q < caps.queues → (queue_at w'.setup.configs q).size ≡ (queue_at w.setup.configs q).size) → IsWithinLimits caps w'
+member-limits : (caps : Caps) (w w' : Work) (e : ℕ) (l : List Slot) → HasShape caps w → ListsFit caps w → w'.content ≡ set w.content (member_list w.setup e) l
+    → ((q : ℕ) → q < caps.queues → (queue_at w'.setup.configs q).size ≡ (queue_at w.setup.configs q).size) → ListsFit caps w'
 member-limits caps w w' e l shape h is sizes =
     let a = ap (λ (c : Caps). c.queues) shape.same_caps in
     let b = ap (λ (c : Caps). c.engines) shape.same_caps in
@@ -146,8 +157,8 @@ member-limits caps w w' e l shape h is sizes =
     }
 
 -- an entry comes to a queue that has room
-queue-limits : (caps : Caps) (w w' : Work) (q : ℕ) (x : Slot) → IsWithinLimits caps w → q < caps.queues → length (chain w.content q) < (queue_at w.setup.configs q).size
-    → w'.content ≡ pushed w.content q x.0 x.1 → w'.setup.configs ≡ w.setup.configs → IsWithinLimits caps w'
+queue-limits : (caps : Caps) (w w' : Work) (q : ℕ) (x : Slot) → ListsFit caps w → q < caps.queues → length (chain w.content q) < (queue_at w.setup.configs q).size
+    → w'.content ≡ pushed w.content q x.0 x.1 → w'.setup.configs ≡ w.setup.configs → ListsFit caps w'
 queue-limits caps w w' q x h inside room is configs = record {
   queues = λ j i.
       let at = ap (λ (c : Content). length (chain c j)) is in
@@ -165,8 +176,8 @@ queue-limits caps w w' q x h inside room is configs = record {
 }
 
 -- a front comes to an engine that has a slot
-slot-limits : (caps : Caps) (w w' : Work) (q e : ℕ) (x : Slot) → HasShape caps w → IsWithinLimits caps w → length (chain w.content (progress_list w.setup e)) < caps.slots
-    → w'.content ≡ pushed (without_front w.content q) (progress_list w.setup e) x.0 x.1 → w'.setup.configs ≡ w.setup.configs → IsWithinLimits caps w'
+slot-limits : (caps : Caps) (w w' : Work) (q e : ℕ) (x : Slot) → HasShape caps w → ListsFit caps w → length (chain w.content (progress_list w.setup e)) < caps.slots
+    → w'.content ≡ pushed (without_front w.content q) (progress_list w.setup e) x.0 x.1 → w'.setup.configs ≡ w.setup.configs → ListsFit caps w'
 slot-limits caps w w' q e x shape h room is configs =
     let a = ap (λ (c : Caps). c.queues) shape.same_caps in
     let there = size-without_front w.content q (progress_list w.setup e) in
@@ -188,66 +199,61 @@ slot-limits caps w w' q e x shape h room is configs =
           (size-pushed (without_front w.content q) (progress_list w.setup e) x (caps.queues + f));
     }
 
-pub limits-change : (caps : Caps) (s s' : State) → HasShape caps s.work → HasLawfulSetup s.work.setup → HasLawfulEntries caps s.work → IsWithinLimits caps s.work → Change s s' → IsWithinLimits caps s'.work
-limits-change caps s s' shape setup entries h (same c) = subst (λ t. IsWithinLimits caps t.work) c h
-limits-change caps s s' shape setup entries h (is_noted c) = subst (λ t. IsWithinLimits caps t.work) c.after (shorter caps s.work _ h (as-before s.work.content) (λ q i. refl))
-limits-change caps s s' shape setup entries h (is_accepted c) =
+pub lists_fit-change : (caps : Caps) (s s' : State) → HasShape caps s.work → HasLawfulSetup s.work.setup → HasLawfulEntries caps s.work → ListsFit caps s.work → Change s s' → ListsFit caps s'.work
+lists_fit-change caps s s' shape setup entries h (same c) = subst (λ t. ListsFit caps t.work) c h
+lists_fit-change caps s s' shape setup entries h (is_noted c) = subst (λ t. ListsFit caps t.work) c.after (shorter caps s.work _ h (as-before s.work.content) (λ q i. refl))
+lists_fit-change caps s s' shape setup entries h (is_accepted c) =
     let inside = on-queue caps s.work c.queue shape c.on in
     let below = leb-false (limit_of (queue_at s.work.setup.configs c.queue) c.portal) (length (chain s.work.content c.queue)) c.below in
     let limit = limit-le s.work.setup.caps s.work.setup.groups c.queue (queue_at s.work.setup.configs c.queue) c.portal (setup.queue c.queue (on-not_off _ c.on)) in
-    subst (λ t. IsWithinLimits caps t.work) c.after (queue-limits caps s.work _ c.queue _ h inside (omega (arith, below, limit)) refl refl)
-limits-change caps s s' shape setup entries h (is_taken c) =
-    let tests = and-left _ _ c.qualifies in
+    subst (λ t. ListsFit caps t.work) c.after (queue-limits caps s.work _ c.queue _ h inside (omega (arith, below, limit)) refl refl)
+lists_fit-change caps s s' shape setup entries h (is_taken c) =
+    let tests = (and_parts _ _ c.qualifies).0 in
     let b = ap (λ (c : Caps). c.slots) shape.same_caps in
-    let engine : nat_lt c.engine s.work.setup.caps.engines ≡ true = and-left _ _ tests in
+    let engine : nat_lt c.engine s.work.setup.caps.engines ≡ true = (and_parts _ _ tests).0 in
     let e = c.engine in
     let may : may_take s.work e c.front ≡ true = taken-test s.work e c.queue c.front c.qualifies c.is_front in
-    let room = ltb-true (length (in_progress s.work e)) s.work.setup.caps.slots (and-left _ _ (and-left _ _ may)) in
+    let room = ltb-true (length (in_progress s.work e)) s.work.setup.caps.slots (and_parts _ _ (and_parts _ _ may).0).0 in
     let is : length (in_progress s.work e) ≡ length (chain s.work.content (progress_list s.work.setup e)) = ap (λ (t : Bool). length (cond t (chain s.work.content (progress_list s.work.setup e)) [])) engine in
     let fits : length (chain s.work.content (progress_list s.work.setup e)) < caps.slots = omega (arith, is, room, b) in
-    subst (λ t. IsWithinLimits caps t.work) c.after (slot-limits caps s.work _ c.queue c.engine _ shape h fits refl refl)
-limits-change caps s s' shape setup entries h (is_fetched c) =
-    subst (λ t. IsWithinLimits caps t.work) c.after (member-limits caps s.work _ c.engine _ shape h refl (λ q i. refl))
-limits-change caps s s' shape setup entries h (is_started c) =
-    subst (λ t. IsWithinLimits caps t.work) c.after (member-limits caps s.work _ c.engine _ shape h refl (λ q i. refl))
-limits-change caps s s' shape setup entries h (is_abandoned c) =
-    subst (λ t. IsWithinLimits caps t.work) c.after (member-limits caps s.work _ c.engine _ shape h refl (λ q i. refl))
-limits-change caps s s' shape setup entries h (is_ended c) = subst (λ t. IsWithinLimits caps t.work) c.after (shorter caps s.work _ h (size-filtered _ s.work.content) (λ q i. refl))
-limits-change caps s s' shape setup entries h (is_device_enabled c) = subst (λ t. IsWithinLimits caps t.work) c.after (shorter caps s.work _ h (as-before s.work.content) (λ q i. refl))
-limits-change caps s s' shape setup entries h (is_queue_enabled c) = subst (λ t. IsWithinLimits caps t.work) c.after (shorter caps s.work _ h (as-before s.work.content) (λ q i. refl))
-limits-change caps s s' shape setup entries h (is_waiting c) = subst (λ t. IsWithinLimits caps t.work) c.after (shorter caps s.work _ h (as-before s.work.content) (λ q i. same-stopped c.command Stopping s.work.setup q))
-limits-change caps s s' shape setup entries h (is_over c) = subst (λ t. IsWithinLimits caps t.work) c.after (shorter caps s.work _ h (as-before s.work.content) (λ q i. same-stopped c.command.command Off s.work.setup q))
-limits-change caps s s' shape setup entries h (is_aborted c) = subst (λ t. IsWithinLimits caps t.work) c.after (shorter caps s.work _ h (size-filtered _ s.work.content) (λ q i. refl))
-limits-change caps s s' shape setup entries h (is_device_reset c) =
+    subst (λ t. ListsFit caps t.work) c.after (slot-limits caps s.work _ c.queue c.engine _ shape h fits refl refl)
+lists_fit-change caps s s' shape setup entries h (is_fetched c) =
+    subst (λ t. ListsFit caps t.work) c.after (member-limits caps s.work _ c.engine _ shape h refl (λ q i. refl))
+lists_fit-change caps s s' shape setup entries h (is_started c) =
+    subst (λ t. ListsFit caps t.work) c.after (member-limits caps s.work _ c.engine _ shape h refl (λ q i. refl))
+lists_fit-change caps s s' shape setup entries h (is_abandoned c) =
+    subst (λ t. ListsFit caps t.work) c.after (member-limits caps s.work _ c.engine _ shape h refl (λ q i. refl))
+lists_fit-change caps s s' shape setup entries h (is_ended c) = subst (λ t. ListsFit caps t.work) c.after (shorter caps s.work _ h (size-filtered _ s.work.content) (λ q i. refl))
+lists_fit-change caps s s' shape setup entries h (is_device_enabled c) = subst (λ t. ListsFit caps t.work) c.after (shorter caps s.work _ h (as-before s.work.content) (λ q i. refl))
+lists_fit-change caps s s' shape setup entries h (is_queue_enabled c) = subst (λ t. ListsFit caps t.work) c.after (shorter caps s.work _ h (as-before s.work.content) (λ q i. refl))
+lists_fit-change caps s s' shape setup entries h (is_waiting c) = subst (λ t. ListsFit caps t.work) c.after (shorter caps s.work _ h (as-before s.work.content) (λ q i. same-stopped c.command Stopping s.work.setup q))
+lists_fit-change caps s s' shape setup entries h (is_over c) = subst (λ t. ListsFit caps t.work) c.after (shorter caps s.work _ h (as-before s.work.content) (λ q i. same-stopped c.command.command Off s.work.setup q))
+lists_fit-change caps s s' shape setup entries h (is_aborted c) = subst (λ t. ListsFit caps t.work) c.after (shorter caps s.work _ h (size-filtered _ s.work.content) (λ q i. refl))
+lists_fit-change caps s s' shape setup entries h (is_device_reset c) =
     let none : (k : ℕ) → length (chain (map (filter (λ (slot : Slot). not true)) s.work.content) k) ≡ 0
-      = λ k. no-member _ (λ x i. not-both false (In-filtered (λ slot. not true) s.work.content k x i).1 refl) in
-    subst (λ t. IsWithinLimits caps t.work) c.after (record {
+    = λ k. ap (λ (xs : List Slot). length xs) (none-In (chain (map (filter (λ (slot : Slot). not true)) s.work.content) k) (λ x i. not-both false (In-filtered (λ slot. not true) s.work.content k x i).1 refl)) in
+    subst (λ t. ListsFit caps t.work) c.after (record {
       queues = λ q i. let e = none q in omega (arith, e);
       slots = λ e i. let z = none (caps.queues + e) in omega (arith, z);
     })
-limits-change caps s s' shape setup entries h (is_queues_reset c) =
+lists_fit-change caps s s' shape setup entries h (is_queues_reset c) =
     let qs = named_queues (ResetWq c.queues) in
     let size = ap (λ (c : Caps). c.queues) shape.same_caps in
-    subst (λ t. IsWithinLimits caps t.work) c.after (shorter caps s.work _ h (size-filtered _ s.work.content) (λ q i.
-        ap (λ (c : QueueConfig). c.size) (get_or-each (λ k. cond (names qs k) (size_alone (queue_at s.work.setup.configs k)) (queue_at s.work.setup.configs k)) s.work.setup.caps.queues q zero_queue (omega (arith, i, size)))
-        ∙ sized (names qs q) (queue_at s.work.setup.configs q)))
-limits-change caps s s' shape setup entries h (is_queue_written c) =
-    subst (λ t. IsWithinLimits caps t.work) c.after (record {
+    subst (λ t. ListsFit caps t.work) c.after (shorter caps s.work _ h (size-filtered _ s.work.content) (λ q i.
+    ap (λ (c : QueueConfig). c.size) (get_or-each (λ k. cond (names qs k) (size_alone (queue_at s.work.setup.configs k)) (queue_at s.work.setup.configs k)) s.work.setup.caps.queues q zero_queue (omega (arith, i, size)))
+    ∙ sized (names qs q) (queue_at s.work.setup.configs q)))
+lists_fit-change caps s s' shape setup entries h (is_queue_written c) =
+    subst (λ t. ListsFit caps t.work) c.after (record {
       queues = λ q i. ⊎_elim
           (λ (e : q ≡ c.queue). let none = off-empty caps s.work q entries i (subst (λ k. is_off (phase_at s.work.setup k) ≡ true) (sym e) c.off) in omega (arith, none))
           (λ (e : q ≢ c.queue). let old = h.queues q i in let same = ap (λ (c : QueueConfig). c.size) (get_or-set_other s.work.setup.configs c.queue q c.config zero_queue e) in omega (arith, old, same))
           (cases_eq q c.queue);
       slots = h.slots;
     })
-limits-change caps s s' shape setup entries h (is_group_written c) = subst (λ t. IsWithinLimits caps t.work) c.after (shorter caps s.work _ h (as-before s.work.content) (λ q i. refl))
+lists_fit-change caps s s' shape setup entries h (is_group_written c) = subst (λ t. ListsFit caps t.work) c.after (shorter caps s.work _ h (as-before s.work.content) (λ q i. refl))
 
-empty-lists : (n k : ℕ) → length (chain (replicate n []) k) ≡ 0
-empty-lists zero k = refl
-empty-lists (suc n) zero = refl
-empty-lists (suc n) (suc k) = empty-lists n k
-
-pub limits-opening : (caps : Caps) → IsWithinLimits caps (opening caps).work
-limits-opening caps = record {
-  queues = λ q i. let e = empty-lists (list_count caps) q in omega (arith, e);
-  slots = λ e i. let z = empty-lists (list_count caps) (caps.queues + e) in omega (arith, z);
+pub lists_fit-opening : (caps : Caps) → ListsFit caps (opening caps).work
+lists_fit-opening caps = record {
+  queues = λ q i. let e = ap (λ (xs : List Slot). length xs) (chain-empty (list_count caps) q) in omega (arith, e);
+  slots = λ e i. let z = ap (λ (xs : List Slot). length xs) (chain-empty (list_count caps) (caps.queues + e)) in omega (arith, z);
 }

@@ -1,6 +1,6 @@
 -- Each step gives as many names as its reply says.
 use Rattle.std.proofs.Common.{◌≡◌, ℕ, ◌+◌, Bool, true, false, cond, ◌&&◌, List, [], ◌∷◌, Option, Some, None, option_map, option_and_then, sum_by, slice_set, refl, sym, ap, ◌∙◌, arith, add-zero}
-use Rattle.std.specs.Prelude.{find}
+use Rattle.std.specs.Prelude.{find, ⊤}
 use Rattle.std.proofs.lemmas.List.Sums.{sum_by-cons}
 use Rattle.dsa_desc.specs.declared.Descriptor.{Descriptor}
 use Rattle.dsa_desc.specs.declared.Outcome.{Outcome}
@@ -49,15 +49,13 @@ use Rattle.dsa_book.specs.State.{Setup, Intake, Work, State, opening, is_ticket,
 use Rattle.dsa_book.specs.Submit.{submit, submit_table, turned_away, accepted}
 use Rattle.dsa_book.specs.Work.{qualifies, front_of, taken, fetch, fetch_of, fetch_for, note_at, batch_on, start, start_of, start_table, started, first_waiting, is_unfinished, last_status, ended, finish, finish_of, running_on}
 use Rattle.dsa_book.specs.Commands.{issue, issue_table, write_queue_table, write_group_table, check_of, refused_or, carried_out, waits, poll, poll_of, stopped, write_queue, write_group, clear, clear_of}
-use Rattle.dsa_book.specs.Machine.{next, replay_from, replay, with_work, with_intake, with_setup, intake_of, accepted_cell, fetched_cell, cell_or_first, may_use}
+use Rattle.dsa_book.specs.Machine.{next, replay, with_work, with_intake, with_setup, intake_of, accepted_cell, fetched_cell, cell_or_first, may_use}
 use Rattle.dsa_book.specs.Totals.{named_by, is_accepted, is_fetched, total_accepted, total_fetched}
+use Rattle.std.proofs.lemmas.Bool.{and_parts}
+use Rattle.dsa_laws.proofs.Replay.{replay-adds}
 
-abbrev name_of : State → ℕ
+abbrev pub name_of : State → ℕ
 name_of s = s.work.setup.next_name
-
-and-left : (a b : Bool) → (a && b) ≡ true → a ≡ true
-and-left true b h = refl
-and-left false b h = cc
 
 -- ---- submit
 
@@ -82,7 +80,7 @@ submit_step s s' client q portal kind d a h =
     let cell = cell_or_first (accepted_cell a) in
     let r = submit (intake_of s) q portal kind d cell in
     let p = when-some (same_submit a r.0 && may_use s.work.setup s.work.content (accepted_cell a)) (with_intake s r.1) s' h in
-    sym (ap name_of p.1) ∙ submit-names (intake_of s) q portal kind d cell ∙ ap (λ n. name_of s + n) (sym (same_submit-named a r.0 (and-left _ _ p.0)))
+    sym (ap name_of p.1) ∙ submit-names (intake_of s) q portal kind d cell ∙ ap (λ n. name_of s + n) (sym (same_submit-named a r.0 (and_parts _ _ p.0).0))
 
 -- ---- fetch
 
@@ -107,7 +105,7 @@ fetch_step s s' e d a h =
     let cell = cell_or_first (fetched_cell a) in
     let r = fetch s.work e d cell in
     let p = when-some (same_fetch a r.0 && may_use s.work.setup s.work.content (fetched_cell a)) (with_work s r.1) s' h in
-    sym (ap name_of p.1) ∙ fetch_for-names s.work e d cell (note_at s.work e) ∙ ap (λ n. name_of s + n) (sym (same_fetch-named a r.0 (and-left _ _ p.0)))
+    sym (ap name_of p.1) ∙ fetch_for-names s.work e d cell (note_at s.work e) ∙ ap (λ n. name_of s + n) (sym (same_fetch-named a r.0 (and_parts _ _ p.0).0))
 
 -- ---- dispatch, start and finish, which leave the set-up as it is
 
@@ -149,12 +147,13 @@ finish_step s s' e t outcome a h =
 
 -- ---- commands
 
-stopped-names : (command : Command) (phase : Phase) (setup : Setup) → (stopped command phase setup).next_name ≡ setup.next_name
+pub stopped-names : (command : Command) (phase : Phase) (setup : Setup) → (stopped command phase setup).next_name ≡ setup.next_name
 stopped-names DisableDevice phase setup = refl
 stopped-names (DisableWq queues) phase setup = refl
 stopped-names _ phase setup = refl
 
-cond-each : {X : Type 0} (P : X → Type 0) (b : Bool) (x y : X) → P x → P y → P (cond b x y)
+-- what holds of both holds of either
+pub cond-each : {X : Type 0} (P : X → Type 0) (b : Bool) (x y : X) → P x → P y → P (cond b x y)
 cond-each P true x y p q = p
 cond-each P false x y p q = q
 
@@ -242,23 +241,6 @@ next-names s s' (WriteGroup g config) (Write a) h = unnamed s s' (write_group_st
 next-names s s' ClearError (Clear a) h = unnamed s s' (clear_step s s' a h)
 next-names s s' _ _ h = absurd cc
 
-replay_none : (h : List Step) (s : State) → replay_from None h ≡ Some s → ⊥
-replay_none [] s e = cc
-replay_none (x ∷ h) s e = cc
-
-pub replay_from-names : (h : List Step) (s s' : State) → replay_from (Some s) h ≡ Some s' → name_of s' ≡ name_of s + sum_by (λ step. named_by step.reply) h
-replay_from-names [] s s' e = let p : s ≡ s' = cc in sym (ap name_of p) ∙ sym (add-zero (name_of s))
-replay_from-names (x ∷ h) s s' e = go (replay_from-names h) (next s x.event x.reply) refl e
-  where
-    go : ((t t' : State) → replay_from (Some t) h ≡ Some t' → name_of t' ≡ name_of t + sum_by (λ step. named_by step.reply) h)
-        → (o : Option State) → next s x.event x.reply ≡ o → replay_from o h ≡ Some s' → name_of s' ≡ name_of s + sum_by (λ step. named_by step.reply) (x ∷ h)
-    go further None n e = absurd (replay_none h s' e)
-    go further (Some s1) n e =
-        let first = next-names s s1 x.event x.reply n in
-        let rest = further s1 s' e in
-        let sum = sum_by-cons (λ (step : Step). named_by step.reply) x h in
-        omega (arith, first, rest, sum)
-
 named_by-is : (r : Reply) → named_by r ≡ cond (is_accepted r) 1 0 + cond (is_fetched r) 1 0
 named_by-is (Submit (Accepted t)) = refl
 named_by-is (Fetch (Fetched t)) = refl
@@ -276,6 +258,6 @@ named_total (x ∷ h) =
 
 pub replay-names : (caps : Caps) (h : List Step) (s : State) → replay caps h ≡ Some s → total_accepted h + total_fetched h ≡ s.work.setup.next_name
 replay-names caps h s e =
-    let all = replay_from-names h (opening caps) s e in
+    let all = replay-adds (λ s. ⊤) name_of named_by (λ s s' x p n. (tt, next-names s s' x.event x.reply n)) h (opening caps) s tt e in
     let named = named_total h in
     omega (arith, all, named)

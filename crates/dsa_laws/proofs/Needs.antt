@@ -10,8 +10,8 @@ use Rattle.dsa_desc.specs.Descriptor.{need}
 use Rattle.dsa_store.specs.Content.{Slot, Content, chain}
 use Rattle.dsa_book.specs.State.{Setup, Work, is_member, need_of}
 use Rattle.dsa_book.specs.Work.{in_progress, members, progress_list, member_list, used_on, run}
-use Rattle.dsa_laws.specs.WellFormed.{In}
 use Rattle.dsa_laws.proofs.Covering.{sum-filtered, cond-le}
+use Rattle.dsa_laws.specs.Lists.{In}
 
 -- ---- one entry
 

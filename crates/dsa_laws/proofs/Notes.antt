@@ -1,7 +1,7 @@
 -- The numbers of the batch notes.
 use Rattle.std.proofs.Common.{◌≡◌, ℕ, zero, suc, ◌<◌, ◌≤◌, ◌^◌, ◌&&◌, not, Bool, true, false, cond, List, [], ◌∷◌, set, get_or, replicate, Option, Some, None, option_map, refl, sym, ap, subst, arith, ⊎_elim, eqb-true}
 use Rattle.std.specs.Prelude.{nat_lt}
-use Rattle.std.proofs.lemmas.Bool.{cases_Bool, ltb-true, ltb-false, leb-true, leb-false}
+use Rattle.std.proofs.lemmas.Bool.{cases_Bool, ltb-true, ltb-false, leb-true, leb-false, and_parts, or_parts}
 use Rattle.std.proofs.Math.Nat.{pow-le-pow_right}
 use Rattle.dsa_desc.specs.declared.Descriptor.{Descriptor}
 use Rattle.dsa_desc.specs.declared.QueueLimits.{QueueLimits}
@@ -18,10 +18,9 @@ use Rattle.dsa_book.specs.Work.{note_at, opened_note, note_after, progress_list}
 use Rattle.dsa_book.specs.Commands.{kept_note, aborted}
 use Rattle.dsa_laws.specs.Change.{Change, same, is_noted, is_accepted, is_taken, is_fetched, is_started, is_abandoned, is_ended, is_device_enabled, is_queue_enabled, is_waiting, is_over, is_aborted, is_device_reset, is_queues_reset, is_queue_written, is_group_written}
 use Rattle.dsa_laws.specs.WellFormed.{HasShape, HasLawfulSetup, HasLawfulEntries, NoteFits, NotesFit}
-use Rattle.dsa_laws.proofs.Changes.{and-left, and-right}
-use Rattle.dsa_laws.proofs.Entries.{In-front, or-right}
-use Rattle.dsa_laws.proofs.Limits.{no-row}
+use Rattle.dsa_laws.proofs.Entries.{In-front}
 use Rattle.dsa_laws.proofs.Numbers.{get_or-each, get_or-past}
+use Rattle.dsa_desc.proofs.Tables.{no-row}
 
 -- ---- the size of a batch
 
@@ -39,9 +38,9 @@ inside false b t h = absurd cc
 
 batch-size : (d : Descriptor) (limits : QueueLimits) (member : Bool) → is_lawful_batch d limits member ≡ true → d.size ≤ 2 ^ limits.max_batch_shift
 batch-size d limits member h =
-    let fine : check d limits member ≡ 0 = eqb-true (check d limits member) 0 (and-right (is_batch d) (is_well_formed d limits member) h) in
+    let fine : check d limits member ≡ 0 = eqb-true (check d limits member) 0 (and_parts (is_batch d) (is_well_formed d limits member) h).1 in
     let last = check_rows (not (is_supported d member)) (is_fenced d && not member) (is_transfer d && not (is_within 1 (2 ^ limits.max_xfer_shift) d.size)) (is_batch d && not (is_within 2 (2 ^ limits.max_batch_shift) d.size)) fine in
-    leb-true d.size (2 ^ limits.max_batch_shift) (and-right _ _ (inside (is_batch d) (is_within 2 (2 ^ limits.max_batch_shift) d.size) (and-left (is_batch d) (is_well_formed d limits member) h) last))
+    leb-true d.size (2 ^ limits.max_batch_shift) (and_parts _ _ (inside (is_batch d) (is_within 2 (2 ^ limits.max_batch_shift) d.size) (and_parts (is_batch d) (is_well_formed d limits member) h).0 last)).1
 
 front-size : (caps : Caps) (w : Work) (x : Slot) → HasShape caps w → HasLawfulSetup w.setup → is_off (phase_at w.setup x.1.queue) ≡ false → is_batch_of w.setup x.1 ≡ true → x.1.desc.size ≤ 2 ^ caps.max_batch_shift
 front-size caps w x shape setup off b =
@@ -66,7 +65,7 @@ set-notes caps (n ∷ ns) (suc e) x a b (suc j) = set-notes caps ns e x (λ i. a
 -- a note with other marks
 marked : (caps : Caps) (f : BatchNote → BatchNote) → ((n : BatchNote) → (f n).fetched ≡ n.fetched) → ((n : BatchNote) → (f n).count ≡ n.count) → (o : Option BatchNote) → NoteFits caps o → NoteFits caps (option_map f o)
 marked caps f a b None h = h
-marked caps f a b (Some n) h = let p = a n in let q = b n in let l = h.0 in let m = h.1 in (omega (arith, p, q, l), omega (arith, q, m))
+marked caps f a b (Some n) h = let p = a n in let q = b n in let l = h.fetched in let m = h.count in record { fetched = omega (arith, p, q, l); count = omega (arith, q, m) }
 
 fits-cond : (caps : Caps) (b : Bool) (x y : Option BatchNote) → (b ≡ true → NoteFits caps x) → NoteFits caps y → NoteFits caps (cond b x y)
 fits-cond caps true x y p q = p refl
@@ -99,15 +98,15 @@ notes-change caps s s' shape setup entries h (same c) = subst (λ t. NotesFit ca
 notes-change caps s s' shape setup entries h (is_noted c) = subst (λ t. NotesFit caps t.work) c.after h
 notes-change caps s s' shape setup entries h (is_accepted c) = subst (λ t. NotesFit caps t.work) c.after h
 notes-change caps s s' shape setup entries h (is_taken c) =
-    let off = entries.slot c.queue c.front (In-front c.front (chain s.work.content c.queue) c.is_front) in
+    let off = entries.none_off c.queue c.front (In-front c.front (chain s.work.content c.queue) c.is_front) in
     subst (λ t. NotesFit caps t.work) c.after
     (taken-fits caps (is_batch_of s.work.setup c.front.1) s.work.notes c.engine (Some (opened_note c.front.1)) h
-    (λ b. (omega arith, front-size caps s.work c.front shape setup off b)))
+    (λ b. record { fetched = omega arith; count = front-size caps s.work c.front shape setup off b }))
 notes-change caps s s' shape setup entries h (is_fetched c) =
     let old : NoteFits caps (Some c.note) = subst (NoteFits caps) c.is_note (h c.engine) in
-    let below = leb-false c.note.count c.note.fetched (or-right c.note.closed _ c.more) in
-    let most = old.1 in
-    subst (λ t. NotesFit caps t.work) c.after (set-notes caps s.work.notes c.engine _ h (omega (arith, below), omega (arith, most)))
+    let below = leb-false c.note.count c.note.fetched (or_parts c.note.closed _ c.more).1 in
+    let most = old.count in
+    subst (λ t. NotesFit caps t.work) c.after (set-notes caps s.work.notes c.engine _ h (record { fetched = omega (arith, below); count = omega (arith, most) }))
 notes-change caps s s' shape setup entries h (is_started c) = subst (λ t. NotesFit caps t.work) c.after h
 notes-change caps s s' shape setup entries h (is_abandoned c) =
     subst (λ t. NotesFit caps t.work) c.after (set-notes caps s.work.notes c.engine _ h (marked caps (λ (note : BatchNote). record note { closed = true }) (λ n. refl) (λ n. refl) (note_at s.work c.engine) (h c.engine)))

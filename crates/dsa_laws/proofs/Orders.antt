@@ -1,6 +1,6 @@
 -- Members that run stand before the others.
-use Rattle.std.proofs.Common.{drop, ◌≡◌, ℕ, zero, suc, ◌+◌, ◌≤◌, ◌&&◌, not, Bool, true, false, cond, List, [], ◌∷◌, ◌++◌, map, set, replicate, refl, sym, ap, ◌∙◌, subst, ◌⊎◌, inl, inr, arith, ⊎_elim}
-use Rattle.std.specs.Prelude.{filter}
+use Rattle.std.proofs.Common.{drop, ◌≡◌, ℕ, zero, suc, ◌+◌, ◌≤◌, not, Bool, true, false, cond, List, [], ◌∷◌, ◌++◌, map, set, refl, sym, ap, ◌∙◌, subst, ◌⊎◌, inl, inr, arith, ⊎_elim, ◌-◌, ◌<◌, length}
+use Rattle.std.specs.Prelude.{filter, nat_lt}
 use Rattle.dsa_regs.specs.declared.Caps.{Caps}
 use Rattle.dsa_regs.specs.declared.Command.TheVariants.{ResetDevice}
 use Rattle.dsa_regs.specs.Caps.{list_count}
@@ -10,26 +10,23 @@ use Rattle.dsa_book.specs.Work.{progress_list, member_list, members, run, with_f
 use Rattle.dsa_book.specs.Commands.{is_in_scope}
 use Rattle.dsa_laws.specs.Change.{Change, same, is_noted, is_accepted, is_taken, is_fetched, is_started, is_abandoned, is_ended, is_device_enabled, is_queue_enabled, is_waiting, is_over, is_aborted, is_device_reset, is_queues_reset, is_queue_written, is_group_written}
 use Rattle.dsa_laws.specs.WellFormed.{HasShape, MembersInOrder, runs_first, none_runs}
-use Rattle.dsa_laws.proofs.Contents.{chain-filtered}
-use Rattle.dsa_laws.proofs.Changes.{and-left, and-right}
+use Rattle.dsa_laws.proofs.Contents.{chain-filtered, chain-empty}
 use Rattle.dsa_laws.proofs.Entries.{queue-below}
-use Rattle.dsa_laws.proofs.Shapes.{on-queue, below-engines, waiting-engine}
-
-both : (a b : Bool) → a ≡ true → b ≡ true → (a && b) ≡ true
-both true b t u = u
-both false b t u = absurd cc
+use Rattle.dsa_laws.proofs.Shapes.{on-queue, below-engines, waiting-members, members-at}
+use Rattle.std.proofs.lemmas.Bool.{and_parts, and_from, cases_lt, cond_both}
+use Rattle.std.proofs.Math.ListN.{get_or-eq_default}
 
 none-first : (xs : List Slot) → none_runs xs ≡ true → runs_first xs ≡ true
 none-first [] h = refl
-none-first (x ∷ xs) h = go x.1.running (and-left _ _ h) (and-right _ _ h)
+none-first (x ∷ xs) h = go x.1.running (and_parts _ _ h).0 (and_parts _ _ h).1
   where
     go : (b : Bool) → not b ≡ true → none_runs xs ≡ true → cond b (runs_first xs) (none_runs xs) ≡ true
     go true n h = absurd cc
     go false n h = h
 
 none-push : (xs : List Slot) (y : Slot) → y.1.running ≡ false → none_runs xs ≡ true → none_runs (xs ++ y ∷ []) ≡ true
-none-push [] y n h = both _ _ (ap not n) refl
-none-push (x ∷ xs) y n h = both _ _ (and-left _ _ h) (none-push xs y n (and-right _ _ h))
+none-push [] y n h = and_from _ _ (ap not n) refl
+none-push (x ∷ xs) y n h = and_from _ _ (and_parts _ _ h).0 (none-push xs y n (and_parts _ _ h).1)
 
 pub first-push : (xs : List Slot) (y : Slot) → y.1.running ≡ false → runs_first xs ≡ true → runs_first (xs ++ y ∷ []) ≡ true
 first-push [] y n h = ap (λ (b : Bool). cond b true true) n
@@ -41,10 +38,10 @@ first-push (x ∷ xs) y n h = go x.1.running (first-push xs y n) h
 
 none-filter : (p : Slot → Bool) (xs : List Slot) → none_runs xs ≡ true → none_runs (filter p xs) ≡ true
 none-filter p [] h = refl
-none-filter p (x ∷ xs) h = go (p x) (none-filter p xs (and-right _ _ h))
+none-filter p (x ∷ xs) h = go (p x) (none-filter p xs (and_parts _ _ h).1)
   where
     go : (b : Bool) → none_runs (filter p xs) ≡ true → none_runs (cond b (x ∷ filter p xs) (filter p xs)) ≡ true
-    go true more = both _ _ (and-left _ _ h) more
+    go true more = and_from _ _ (and_parts _ _ h).0 more
     go false more = more
 
 pub first-filter : (p : Slot → Bool) (xs : List Slot) → runs_first xs ≡ true → runs_first (filter p xs) ≡ true
@@ -54,6 +51,7 @@ first-filter p (x ∷ xs) h = go x.1.running refl (p x) (first-filter p xs) h
     stay : (r : Bool) → (runs_first xs ≡ true → runs_first (filter p xs) ≡ true) → cond r (runs_first xs) (none_runs xs) ≡ true → cond r (runs_first (filter p xs)) (none_runs (filter p xs)) ≡ true
     stay true more h = more h
     stay false more h = none-filter p xs h
+
     go : (r : Bool) → x.1.running ≡ r → (b : Bool) → (runs_first xs ≡ true → runs_first (filter p xs) ≡ true) → cond r (runs_first xs) (none_runs xs) ≡ true → runs_first (cond b (x ∷ filter p xs) (filter p xs)) ≡ true
     go r e true more h = ap (λ (k : Bool). cond k (runs_first (filter p xs)) (none_runs (filter p xs))) e ∙ stay r more h
     go true e false more h = more h
@@ -81,25 +79,47 @@ each-list L n c k l a b j i = ⊎_elim
     (λ e. subst L (sym e) (a j i))
     (chain-set c k l j)
 
-abbrev InOrder : Caps → State → Type 0
-InOrder caps t = MembersInOrder caps t.work
+-- members that run stand first, by the number of the list
+abbrev pub ListsInOrder : Caps → Work → Type 0
+ListsInOrder caps w = (k : ℕ) → caps.queues + caps.engines ≤ k → runs_first (chain w.content k) ≡ true
 
-filtered-order : (caps : Caps) (p : Slot → Bool) (w : Work) → MembersInOrder caps w → (k : ℕ) → caps.queues + caps.engines ≤ k → runs_first (chain (map (filter p) w.content) k) ≡ true
+-- there is no list past those of the engines
+pub lists-in_order : (caps : Caps) (w : Work) → HasShape caps w → MembersInOrder w → ListsInOrder caps w
+lists-in_order caps w shape h k past = ⊎_elim
+    (λ (i : k < length w.content).
+    let e = k - (caps.queues + caps.engines) in
+    let is : caps.queues + caps.engines + e ≡ k = omega (arith, past) in
+    let size = shape.lists in
+    let engine : e < caps.engines = omega (arith, is, i, size) in
+    subst (λ j. runs_first (chain w.content j) ≡ true) is (subst (λ xs. runs_first xs ≡ true) (members-at caps w e shape engine) (h e)))
+    (λ (i : length w.content ≤ k). ap runs_first (get_or-eq_default w.content [] i))
+    (cases_lt k (length w.content))
+
+pub of-lists_in_order : (caps : Caps) (w : Work) → HasShape caps w → ListsInOrder caps w → MembersInOrder w
+of-lists_in_order caps w shape h e =
+    let q = ap (λ (c : Caps). c.queues) shape.same_caps in
+    let n = ap (λ (c : Caps). c.engines) shape.same_caps in
+    cond_both (nat_lt e w.setup.caps.engines) (chain w.content (member_list w.setup e)) [] (λ xs. runs_first xs ≡ true) (λ t. h (member_list w.setup e) (omega (arith, q, n))) (λ f. refl)
+
+abbrev InOrder : Caps → State → Type 0
+InOrder caps t = ListsInOrder caps t.work
+
+filtered-order : (caps : Caps) (p : Slot → Bool) (w : Work) → ListsInOrder caps w → (k : ℕ) → caps.queues + caps.engines ≤ k → runs_first (chain (map (filter p) w.content) k) ≡ true
 filtered-order caps p w h k i = ap runs_first (chain-filtered p w.content k) ∙ first-filter p (chain w.content k) (h k i)
 
-set-order : (caps : Caps) (w : Work) (k : ℕ) (l : List Slot) → MembersInOrder caps w → (caps.queues + caps.engines ≤ k → runs_first l ≡ true) → (j : ℕ) → caps.queues + caps.engines ≤ j → runs_first (chain (set w.content k l) j) ≡ true
+set-order : (caps : Caps) (w : Work) (k : ℕ) (l : List Slot) → ListsInOrder caps w → (caps.queues + caps.engines ≤ k → runs_first l ≡ true) → (j : ℕ) → caps.queues + caps.engines ≤ j → runs_first (chain (set w.content k l) j) ≡ true
 set-order caps w k l h b = each-list (λ xs. runs_first xs ≡ true) (caps.queues + caps.engines) w.content k l h b
 
-pub order-change : (caps : Caps) (s s' : State) → HasShape caps s.work → MembersInOrder caps s.work → Change s s' → MembersInOrder caps s'.work
+pub order-change : (caps : Caps) (s s' : State) → HasShape caps s.work → ListsInOrder caps s.work → Change s s' → ListsInOrder caps s'.work
 order-change caps s s' shape h (same c) = subst (InOrder caps) c h
 order-change caps s s' shape h (is_noted c) = subst (InOrder caps) c.after h
 order-change caps s s' shape h (is_accepted c) =
     let inside = on-queue caps s.work c.queue shape c.on in
     subst (InOrder caps) c.after (set-order caps s.work c.queue _ h (λ i. absurd (omega (arith, i, inside))))
 order-change caps s s' shape h (is_taken c) =
-    let tests = and-left _ _ c.qualifies in
-    let engine = below-engines caps s.work c.engine shape (and-left _ _ tests) in
-    let inside = queue-below caps s.work c.queue shape (and-right _ _ tests) in
+    let tests = (and_parts _ _ c.qualifies).0 in
+    let engine = below-engines caps s.work c.engine shape (and_parts _ _ tests).0 in
+    let inside = queue-below caps s.work c.queue shape (and_parts _ _ tests).1 in
     let a = ap (λ (c : Caps). c.queues) shape.same_caps in
     subst (InOrder caps) c.after
     (each-list (λ xs. runs_first xs ≡ true) (caps.queues + caps.engines) (without_front s.work.content c.queue) (progress_list s.work.setup c.engine) _
@@ -110,7 +130,7 @@ order-change caps s s' shape h (is_fetched c) =
     subst (InOrder caps) c.after (set-order caps s.work k _ h (λ i. first-push (chain s.work.content k) _ refl (h k i)))
 order-change caps s s' shape h (is_started c) =
     let k = member_list s.work.setup c.engine in
-    let is : members s.work c.engine ≡ chain s.work.content k = ap (λ (b : Bool). cond b (chain s.work.content k) []) (waiting-engine s.work c.engine c.slot c.is_first) in
+    let is = waiting-members s.work c.engine c.slot c.is_first in
     subst (InOrder caps) c.after (set-order caps s.work k (with_first_run (members s.work c.engine)) h (λ i. first-first_run (members s.work c.engine) (ap runs_first is ∙ h k i)))
 order-change caps s s' shape h (is_abandoned c) = subst (InOrder caps) c.after (set-order caps s.work (member_list s.work.setup c.engine) [] h (λ i. refl))
 order-change caps s s' shape h (is_ended c) = subst (InOrder caps) c.after (filtered-order caps _ s.work h)
@@ -124,10 +144,5 @@ order-change caps s s' shape h (is_queues_reset c) = subst (InOrder caps) c.afte
 order-change caps s s' shape h (is_queue_written c) = subst (InOrder caps) c.after h
 order-change caps s s' shape h (is_group_written c) = subst (InOrder caps) c.after h
 
-first-empty : (n k : ℕ) → runs_first (chain (replicate n []) k) ≡ true
-first-empty zero k = refl
-first-empty (suc n) zero = refl
-first-empty (suc n) (suc k) = first-empty n k
-
-pub order-opening : (caps : Caps) → MembersInOrder caps (opening caps).work
-order-opening caps k i = first-empty (list_count caps) k
+pub order-opening : (caps : Caps) → ListsInOrder caps (opening caps).work
+order-opening caps k i = ap runs_first (chain-empty (list_count caps) k)

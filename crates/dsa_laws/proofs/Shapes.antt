@@ -1,8 +1,8 @@
 -- The lengths of all lists stay.
-use Rattle.std.proofs.Common.{drop, ◌≡◌, ℕ, zero, suc, ◌<◌, Bool, true, false, cond, List, [], ◌∷◌, length, map, set, get_or, Option, Some, None, refl, sym, ap, ◌∙◌, subst, arith, length-append}
+use Rattle.std.proofs.Common.{drop, ◌≡◌, ℕ, zero, suc, ◌<◌, Bool, true, false, cond, List, [], ◌∷◌, length, map, set, get_or, Option, Some, None, refl, sym, ap, ◌∙◌, subst, arith, length-append, ◌+◌}
 use Rattle.std.specs.Prelude.{nat_lt}
 use Rattle.std.proofs.lemmas.List.{length-set, length-map, length-replicate}
-use Rattle.std.proofs.lemmas.Bool.{ltb-true}
+use Rattle.std.proofs.lemmas.Bool.{ltb-true, lt-ltb}
 use Rattle.dsa_regs.specs.declared.Caps.{Caps}
 use Rattle.dsa_regs.specs.declared.Phase.{Phase}
 use Rattle.dsa_regs.specs.declared.Phase.TheVariants.{Off, Stopping}
@@ -13,11 +13,12 @@ use Rattle.dsa_regs.specs.Caps.{list_count}
 use Rattle.dsa_store.specs.Content.{Slot, chain}
 use Rattle.dsa_book.specs.declared.note.BatchNote.{BatchNote}
 use Rattle.dsa_book.specs.State.{Setup, Work, State, opening, is_on, phase_at}
-use Rattle.dsa_book.specs.Work.{progress_list, member_list, members, note_at, first_waiting}
+use Rattle.dsa_book.specs.Work.{progress_list, member_list, in_progress, members, note_at, first_waiting}
 use Rattle.dsa_book.specs.Commands.{stopped}
 use Rattle.dsa_laws.specs.Change.{Change, same, is_noted, is_accepted, is_taken, is_fetched, is_started, is_abandoned, is_ended, is_device_enabled, is_queue_enabled, is_waiting, is_over, is_aborted, is_device_reset, is_queues_reset, is_queue_written, is_group_written}
-use Rattle.dsa_laws.specs.WellFormed.{HasShape, In}
+use Rattle.dsa_laws.specs.WellFormed.{HasShape}
 use Rattle.dsa_laws.proofs.Contents.{In-find}
+use Rattle.dsa_laws.specs.Lists.{In}
 
 pub length-numbers : (n : ℕ) → length (numbers_below n) ≡ n
 length-numbers zero = refl
@@ -154,3 +155,25 @@ queue_list-in caps w q h i = omega (arith, i, h.lists)
 
 pub waiting-engine : (w : Work) (e : ℕ) (slot : Slot) → first_waiting w e ≡ Some slot → nat_lt e w.setup.caps.engines ≡ true
 waiting-engine w e slot h = (In-cond _ slot _ (In-find _ slot (members w e) h).0).0
+
+-- ---- the two lists of an engine
+
+pub members-is : (w : Work) (e : ℕ) → nat_lt e w.setup.caps.engines ≡ true → members w e ≡ chain w.content (member_list w.setup e)
+members-is w e t = ap (λ (b : Bool). cond b (chain w.content (member_list w.setup e)) []) t
+
+pub progress-is : (w : Work) (e : ℕ) → nat_lt e w.setup.caps.engines ≡ true → in_progress w e ≡ chain w.content (progress_list w.setup e)
+progress-is w e t = ap (λ (b : Bool). cond b (chain w.content (progress_list w.setup e)) []) t
+
+-- where one waits
+pub waiting-members : (w : Work) (e : ℕ) (slot : Slot) → first_waiting w e ≡ Some slot → members w e ≡ chain w.content (member_list w.setup e)
+waiting-members w e slot h = members-is w e (waiting-engine w e slot h)
+
+engine-there : (caps : Caps) (w : Work) (e : ℕ) → HasShape caps w → e < caps.engines → nat_lt e w.setup.caps.engines ≡ true
+engine-there caps w e h i = let n = ap (λ (c : Caps). c.engines) h.same_caps in lt-ltb e w.setup.caps.engines (omega (arith, i, n))
+
+-- by their numbers
+pub members-at : (caps : Caps) (w : Work) (e : ℕ) → HasShape caps w → e < caps.engines → members w e ≡ chain w.content (caps.queues + caps.engines + e)
+members-at caps w e h i = members-is w e (engine-there caps w e h i) ∙ ap (λ (c : Caps). chain w.content (c.queues + c.engines + e)) h.same_caps
+
+pub progress-at : (caps : Caps) (w : Work) (e : ℕ) → HasShape caps w → e < caps.engines → in_progress w e ≡ chain w.content (caps.queues + e)
+progress-at caps w e h i = progress-is w e (engine-there caps w e h i) ∙ ap (λ (c : Caps). chain w.content (c.queues + e)) h.same_caps

@@ -20,7 +20,7 @@ pub replay-held : (caps : Caps) (h : List Step) (s : State) → replay caps h �
 replay-held caps h s e =
     let names = replay-names caps h s e in
     let rows = replay-rows caps h s e in
-    let counted = (replay-well_formed caps h s e).counted in
+    let counted = (replay-well_formed caps h s e).names.counted in
     omega (arith, names, rows, counted)
 
 named-one : (r : Reply) → named_by r ≤ 1

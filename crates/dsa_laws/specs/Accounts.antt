@@ -1,4 +1,4 @@
--- Which entries programs submitted, and which are members of batches, among those that have a fate and those that are held.
+-- Entries that programs submitted and members of batches: how many are held or have a fate.
 use Rattle.std.specs.Prelude.{ℕ, ◌+◌, Bool, true, false, not, ◌||◌, List, count_by, is_some, is_none}
 use Rattle.std.specs.List.{list_all}
 use Rattle.dsa_store.specs.Content.{Slot, all_held}
@@ -31,6 +31,7 @@ submitted_entries w = count_by is_submitted_row w.fates + count_by is_submitted_
 abbrev pub member_entries : Work → ℕ
 member_entries w = count_by is_member_row w.fates + count_by is_member_slot (all_held w.content)
 
+-- a member behind a fence that a failed member stands before (Intel DSA: fence)
 abbrev pub was_abandoned : Fate → Bool
 was_abandoned Abandoned = true
 was_abandoned _ = false

@@ -6,9 +6,9 @@ use Rattle.dsa_regs.specs.Buffers.{covered}
 use Rattle.dsa_book.specs.State.{Work, is_off}
 use Rattle.dsa_book.specs.Work.{used, all_used}
 
--- the two bounds on read buffers, while the device is not Off (Intel DSA specification, read buffers of a group)
+-- the two bounds on read buffers, while the device is not Off (Intel DSA: read buffers allowed and reserved for a group)
 pub record HasBuffers (caps : Caps) (w : Work) : Type 0 where
   -- what runs on a group's engines needs no more than the group is allowed
-  pub allowed : is_off w.setup.device ≡ false → (g : ℕ) → g < caps.groups → used w g ≤ (group_at w.setup.groups g).allowed
+  pub allowed : is_off w.setup.device ≡ false → (group : ℕ) → group < caps.groups → used w group ≤ (group_at w.setup.groups group).allowed
   -- the device has as many as all groups use or have reserved, whichever is more in each
   pub covered : is_off w.setup.device ≡ false → covered w.setup.groups (all_used w) ≤ caps.read_buffers

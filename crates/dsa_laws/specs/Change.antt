@@ -25,6 +25,9 @@ use Rattle.dsa_book.specs.Work.{front_of, qualifies, taken, note_at, batch_on, i
 use Rattle.dsa_book.specs.Commands.{is_at_end, with_device, with_phases, stopped, may_come, aborted, reset, names, with_sizes_alone}
 use Rattle.dsa_book.specs.Machine.{with_work, with_intake, with_setup, intake_of}
 
+-- ---- entries
+
+-- a descriptor comes to a queue that is On and below the limit of the portal, with a free cell (Intel DSA: enqueue to a shared and to a dedicated work queue)
 pub record IsAccepted (s s' : State) : Type 0 where
   pub queue : ℕ
   pub portal : Portal
@@ -36,6 +39,7 @@ pub record IsAccepted (s s' : State) : Type 0 where
   pub free : is_free (cell_count s.work.setup.caps) s.work.content cell ≡ true
   pub after : with_intake s (accepted (intake_of s) queue kind desc cell).1 ≡ s'
 
+-- an engine takes the front of a queue for which it qualifies (Intel DSA: groups and engines; the choice among queues: profile)
 pub record IsTaken (s s' : State) : Type 0 where
   pub engine : ℕ
   pub queue : ℕ
@@ -44,6 +48,7 @@ pub record IsTaken (s s' : State) : Type 0 where
   pub qualifies : qualifies s.work engine queue ≡ true
   pub after : with_work s (taken s.work engine queue front) ≡ s'
 
+-- an engine fetches the next member of its batch, with a free cell (Intel DSA: Batch descriptor)
 pub record IsFetched (s s' : State) : Type 0 where
   pub engine : ℕ
   pub desc : Descriptor
@@ -56,6 +61,7 @@ pub record IsFetched (s s' : State) : Type 0 where
   pub free : is_free (cell_count s.work.setup.caps) s.work.content cell ≡ true
   pub after : with_work s (fetched s.work engine desc cell note batch.1).1 ≡ s'
 
+-- the first member that waits begins to run, since its read buffers fit (Intel DSA: read buffers)
 pub record IsStarted (s s' : State) : Type 0 where
   pub engine : ℕ
   pub slot : Slot
@@ -63,12 +69,14 @@ pub record IsStarted (s s' : State) : Type 0 where
   pub room : has_room s.work engine (need_of s.work.setup slot.1) ≡ true
   pub after : with_work s (started s.work engine) ≡ s'
 
+-- the members behind a fence are abandoned, since one before it failed (Intel DSA: fence)
 pub record IsAbandoned (s s' : State) : Type 0 where
   pub engine : ℕ
   pub slot : Slot
   pub is_first : first_waiting s.work engine ≡ Some slot
   pub after : with_work s (abandoned s.work engine) ≡ s'
 
+-- an entry that runs ends, a batch after its members (Intel DSA: completion)
 pub record IsEnded (s s' : State) : Type 0 where
   pub engine : ℕ
   pub ticket : Ticket
@@ -78,48 +86,54 @@ pub record IsEnded (s s' : State) : Type 0 where
   pub ready : (is_batch_of s.work.setup slot.1 && is_unfinished s.work engine) ≡ false
   pub after : with_work s (ended s.work engine slot outcome) ≡ s'
 
--- ---- the administrator's
+-- ---- commands and configuration
 
--- the setup alone changes, and the active command
+-- the state with this set-up and this active command (profile)
 abbrev pub set_up : State → Option ActiveCommand → Setup → State
 set_up s active setup = record { work = record s.work { setup = setup }; active = active }
 
+-- Enable Device, where the configuration has no fault (Intel DSA: Enable Device)
 pub record IsDeviceEnabled (s s' : State) : Type 0 where
   pub off : is_off s.work.setup.device ≡ true
   pub check : check_device s.work.setup.caps s.work.setup.configs s.work.setup.groups ≡ None
   pub after : set_up s s.active (with_device On s.work.setup) ≡ s'
 
+-- Enable WQ, where the queue has no fault (Intel DSA: Enable WQ)
 pub record IsQueueEnabled (s s' : State) : Type 0 where
   pub queue : ℕ
   pub on : is_on s.work.setup.device ≡ true
   pub check : check_queue s.work.setup.caps s.work.setup.groups queue (queue_at s.work.setup.configs queue) ≡ None
-  pub after : set_up s s.active (with_phases (λ q. q == queue) On s.work.setup) ≡ s'
+  pub after : set_up s s.active (with_phases (λ each. each == queue) On s.work.setup) ≡ s'
 
--- a disable or a drain that waits
+-- a disable or a drain is not over at once: what it disables is Stopping (Intel DSA: Disable Device, Disable WQ, Drain)
 pub record IsWaiting (s s' : State) : Type 0 where
   pub command : Command
   pub may : may_come s.work.setup command ≡ true
   pub active : Option ActiveCommand
   pub after : set_up s active (stopped command Stopping s.work.setup) ≡ s'
 
--- a disable or a drain at its end
+-- a disable or a drain is over: what it disables is Off (Intel DSA: Disable Device, Disable WQ, Drain)
 pub record IsOver (s s' : State) : Type 0 where
   pub command : ActiveCommand
   pub over : is_at_end command s.work.content ≡ true
   pub active : Option ActiveCommand
   pub after : set_up s active (stopped command.command Off s.work.setup) ≡ s'
 
+-- the entries in the scope of a command are aborted (Intel DSA: Abort WQ, Abort PASID, Abort All)
 pub record IsAborted (s s' : State) : Type 0 where
   pub command : Command
   pub after : with_work s (aborted command s.work) ≡ s'
 
+-- all entries are aborted and the set-up is as at first, but for the names that were given (Intel DSA: Reset Device)
 pub record IsDeviceReset (s s' : State) : Type 0 where
   pub after : with_work s (record (aborted ResetDevice s.work) { setup = reset s.work.setup }) ≡ s'
 
+-- the entries of the queues are aborted, and the queues are Off with their sizes alone (Intel DSA: Reset WQ)
 pub record IsQueuesReset (s s' : State) : Type 0 where
   pub queues : QueueMask
   pub after : with_work s (record (aborted (ResetWq queues) s.work) { setup = with_sizes_alone (named_queues (ResetWq queues)) (with_phases (names (named_queues (ResetWq queues))) Off s.work.setup) }) ≡ s'
 
+-- a queue that is Off is configured, its size only while the device is Off (Intel DSA: work queue configuration)
 pub record IsQueueWritten (s s' : State) : Type 0 where
   pub queue : ℕ
   pub config : QueueConfig
@@ -128,17 +142,19 @@ pub record IsQueueWritten (s s' : State) : Type 0 where
   pub size : (not (is_off s.work.setup.device) && not (config.size == (queue_at s.work.setup.configs queue).size)) ≡ false
   pub after : with_setup s (record s.work.setup { configs = slice_set s.work.setup.configs queue config }) ≡ s'
 
+-- a group is configured while the device is Off (Intel DSA: group configuration)
 pub record IsGroupWritten (s s' : State) : Type 0 where
   pub group : ℕ
   pub config : GroupConfig
   pub off : is_off s.work.setup.device ≡ true
   pub after : with_setup s (record s.work.setup { groups = slice_set s.work.setup.groups group config }) ≡ s'
 
+-- an error is noted, or read and cleared (Intel DSA: software error)
 pub record IsNoted (s s' : State) : Type 0 where
   pub noted : Option NotedError
   pub after : with_setup s (record s.work.setup { noted = noted }) ≡ s'
 
--- every step that may come is one of these
+-- what a step that may come does: nothing, or one of these (profile)
 pub data Change (s s' : State) : Type 0 where
   same : s ≡ s' → Change s s'
   is_noted : IsNoted s s' → Change s s'

@@ -1,22 +1,21 @@
 -- What the note of an engine says of the batch that it works on, and of the batch's members.
-use Rattle.std.specs.Prelude.{◌≡◌, ℕ, ◌^◌, ◌≤◌, Bool, true, List, [], length, count_by, Option, Some, None}
-use Rattle.dsa_regs.specs.declared.Caps.{Caps}
+use Rattle.std.specs.Prelude.{◌≡◌, ℕ, ◌≤◌, Bool, true, List, [], length, count_by, Option, Some, None}
 use Rattle.dsa_store.specs.Content.{Slot}
 use Rattle.dsa_book.specs.declared.note.BatchNote.{BatchNote}
 use Rattle.dsa_book.specs.State.{Setup, Work, is_batch_of}
 use Rattle.dsa_book.specs.Work.{in_progress, members, note_at}
-use Rattle.dsa_laws.specs.WellFormed.{In}
+use Rattle.dsa_laws.specs.Lists.{In}
 
--- the slot holds a well-formed Batch, by the limits of its queue
+-- the slot holds a well-formed Batch, by the limits of its queue (Intel DSA: Batch descriptor)
 abbrev pub holds_batch : Setup → Slot → Bool
 holds_batch setup slot = is_batch_of setup slot.1
 
--- the note is of this batch: it has its name, and its number of members
+-- the note is of this batch: it has its name, and its number of members (profile)
 pub record IsNoteOf (note : BatchNote) (batch : Slot) : Type 0 where
   pub name : note.batch ≡ batch.1.name
   pub count : note.count ≡ batch.1.desc.size
 
--- a member has the queue and the PASID of its batch (profile)
+-- a member has the queue and the PASID of its batch (Intel DSA: Batch descriptor)
 pub record IsAlike (member batch : Slot) : Type 0 where
   pub queue : member.1.queue ≡ batch.1.queue
   pub pasid : member.1.desc.pasid ≡ batch.1.desc.pasid
@@ -39,10 +38,6 @@ abbrev pub IsLawfulEngine : Setup → List Slot → List Slot → Option BatchNo
 IsLawfulEngine setup progress members None = IsWithoutBatch setup progress members
 IsLawfulEngine setup progress members (Some note) = IsOnBatch setup progress members note
 
--- each engine is such
+-- each engine is such, by its two lists and its note (profile)
 abbrev pub HasLawfulEngines : Work → Type 0
-HasLawfulEngines w = (e : ℕ) → IsLawfulEngine w.setup (in_progress w e) (members w e) (note_at w e)
-
--- no engine has more members than a batch of the device may have
-abbrev pub MembersFit : Caps → Work → Type 0
-MembersFit caps w = (e : ℕ) → length (members w e) ≤ 2 ^ caps.max_batch_shift
+HasLawfulEngines w = (engine : ℕ) → IsLawfulEngine w.setup (in_progress w engine) (members w engine) (note_at w engine)

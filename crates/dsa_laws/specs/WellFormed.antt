@@ -1,25 +1,21 @@
--- What each state that a history leads to keeps: records that stand apart, each kept by its own laws.
-use Rattle.std.specs.Prelude.{◌≡◌, ℕ, ◌+◌, ◌^◌, ◌<◌, ◌≤◌, ◌==◌, ◌&&◌, Bool, true, false, nat_lt, cond, not, ◌⊎◌, List, [], ◌∷◌, length, count_by, sum_by, Option, Some, None, is_some, ⊤}
+-- What holds in every state that a history leads to, from the lists themselves to the batches that engines work on.
+use Rattle.std.specs.Prelude.{◌≡◌, ℕ, ◌+◌, ◌^◌, ◌<◌, ◌≤◌, ◌==◌, ◌&&◌, Bool, true, false, cond, not, List, [], ◌∷◌, length, count_by, Option, Some, None, is_some, ⊤}
+use Rattle.dsa_desc.specs.Descriptor.{pasid_of}
 use Rattle.dsa_regs.specs.declared.Caps.{Caps}
 use Rattle.dsa_regs.specs.Caps.{cell_count, list_count}
 use Rattle.dsa_regs.specs.Config.{queue_at, check_device, check_queue}
-use Rattle.dsa_desc.specs.Descriptor.{pasid_of}
 use Rattle.dsa_store.specs.declared.entry.Cell.{Cell}
-use Rattle.dsa_store.specs.Content.{Slot, Content, is_cell, chain, uses, held, all_held}
+use Rattle.dsa_store.specs.Content.{Slot, uses, held, all_held}
 use Rattle.dsa_book.specs.declared.note.BatchNote.{BatchNote}
-use Rattle.dsa_book.specs.State.{Setup, Work, State, phase_at, is_on, is_off}
-use Rattle.dsa_book.specs.Work.{note_at, run}
+use Rattle.dsa_book.specs.State.{Setup, Work, State, phase_at, is_on, is_off, occupancy}
+use Rattle.dsa_book.specs.Work.{in_progress, members, note_at}
+use Rattle.dsa_laws.specs.Lists.{EachAt}
+use Rattle.dsa_laws.specs.Buffering.{HasBuffers}
+use Rattle.dsa_laws.specs.Engines.{HasLawfulEngines}
 
--- x stands in the list
-abbrev pub In : {X : Type 0} → X → List X → Type 0
-In x [] = ⊥
-In x (y ∷ ys) = (y ≡ x) ⊎ In x ys
+-- ---- the lists, their cells and their names
 
--- P holds of each entry and of the number of its list
-abbrev pub EachAt : (ℕ → Slot → Type 0) → Content → Type 0
-EachAt P c = (k : ℕ) (x : Slot) → In x (chain c k) → P k x
-
--- the lengths of all lists: a list for each queue and two for each engine, and a note or none for each engine
+-- what is configured is as the capabilities say; each queue has a list and each engine has two, and a note or none (profile)
 pub record HasShape (caps : Caps) (w : Work) : Type 0 where
   pub same_caps : w.setup.caps ≡ caps
   pub lists : length w.content ≡ list_count caps
@@ -28,92 +24,114 @@ pub record HasShape (caps : Caps) (w : Work) : Type 0 where
   pub groups : length w.setup.groups ≡ caps.groups
   pub notes : length w.notes ≡ caps.engines
 
--- each cell of the lists is one of the store's, and stands once
-abbrev pub CellsOnce : Caps → Work → Type 0
-CellsOnce caps w = (cell : Cell) → uses w.content cell ≤ cond (nat_lt cell.0 (cell_count caps)) 1 0
+-- no cell stands twice in the lists, and only cells of the store stand there (profile)
+pub record CellsOnce (caps : Caps) (w : Work) : Type 0 where
+  pub once : (cell : Cell) → uses w.content cell ≤ 1
+  pub inside : (cell : Cell) → cell_count caps ≤ cell.0 → uses w.content cell ≡ 0
 
--- each name below the next one is slot or in a fate row, once
-abbrev pub NamesOnce : Work → Type 0
-NamesOnce w = (n : ℕ) → count_by (λ slot. slot.1.name == n) (all_held w.content) + count_by (λ row. row.name == n) w.fates ≡ cond (nat_lt n w.setup.next_name) 1 0
+-- how many held entries have the name (profile)
+abbrev pub held_named : Work → ℕ → ℕ
+held_named w name = count_by (λ slot. slot.1.name == name) (all_held w.content)
 
--- how many are slot and how many have ended, as names were given
-abbrev pub IsCounted : Work → Type 0
-IsCounted w = held w.content + length w.fates ≡ w.setup.next_name
+-- how many fate rows have the name (profile)
+abbrev pub fates_named : Work → ℕ → ℕ
+fates_named w name = count_by (λ row. row.name == name) w.fates
 
--- what every change says of entries: some came, some are gone with a row each, and all others are slot as before (they may have begun to run)
-pub record IsFlow (caps : Caps) (w w' : Work) : Type 0 where
-  pub came : List Slot
-  pub gone : List Slot
-  pub sums : (f : Slot → ℕ) → ((slot : Slot) → f (run slot) ≡ f slot) → sum_by f (all_held w'.content) + sum_by f gone ≡ sum_by f (all_held w.content) + sum_by f came
-  pub rows : (n : ℕ) → count_by (λ row. row.name == n) w'.fates ≡ count_by (λ row. row.name == n) w.fates + count_by (λ slot. slot.1.name == n) gone
-  pub more : length w'.fates ≡ length w.fates + length gone
-  pub next : w'.setup.next_name ≡ w.setup.next_name + length came
-  pub names : (n : ℕ) → count_by (λ slot. slot.1.name == n) came + cond (nat_lt n w.setup.next_name) 1 0 ≡ cond (nat_lt n w'.setup.next_name) 1 0
-  pub cells : (cell : Cell) → uses w.content cell + count_by (is_cell cell) came ≤ cond (nat_lt cell.0 (cell_count caps)) 1 0
+-- a name that was given is one held entry's or one fate row's, and any other is none's; there are so many as were given (profile)
+pub record NamesOnce (w : Work) : Type 0 where
+  pub given : (name : ℕ) → name < w.setup.next_name → held_named w name + fates_named w name ≡ 1
+  pub not_given : (name : ℕ) → w.setup.next_name ≤ name → held_named w name + fates_named w name ≡ 0
+  pub counted : held w.content + length w.fates ≡ w.setup.next_name
 
--- where a queue is not Off the device is not, and what is not Off passes its check
+-- ---- the device and its queues
+
+-- a queue is enabled, or still stopping, only while the device is, and what is not disabled has no fault (Intel DSA: Enable Device, Enable WQ)
 pub record HasLawfulSetup (setup : Setup) : Type 0 where
-  pub phases : (q : ℕ) → is_off (phase_at setup q) ≡ false → is_off setup.device ≡ false
-  pub on : (q : ℕ) → is_on (phase_at setup q) ≡ true → is_on setup.device ≡ true
+  pub phases : (queue : ℕ) → is_off (phase_at setup queue) ≡ false → is_off setup.device ≡ false
+  pub on : (queue : ℕ) → is_on (phase_at setup queue) ≡ true → is_on setup.device ≡ true
   pub device : is_off setup.device ≡ false → check_device setup.caps setup.configs setup.groups ≡ None
-  pub queue : (q : ℕ) → is_off (phase_at setup q) ≡ false → check_queue setup.caps setup.groups q (queue_at setup.configs q) ≡ None
+  pub queue : (queue : ℕ) → is_off (phase_at setup queue) ≡ false → check_queue setup.caps setup.groups queue (queue_at setup.configs queue) ≡ None
 
--- what the place of an entry says of it: which queue it names, whether it is a member, and whether it runs
-pub record IsPlaced (caps : Caps) (k : ℕ) (x : Slot) : Type 0 where
-  pub queue : k < caps.queues → x.1.queue ≡ k
-  pub submitted : k < caps.queues + caps.engines → x.1.parent ≡ None
-  pub waiting : k < caps.queues → x.1.running ≡ false
-  pub running : caps.queues ≤ k → k < caps.queues + caps.engines → x.1.running ≡ true
-  pub member : caps.queues + caps.engines ≤ k → is_some x.1.parent ≡ true
+-- ---- the entries
 
--- no entry names a queue that is Off
+-- what the list of an entry says of it (profile)
+pub record IsPlaced (caps : Caps) (list : ℕ) (slot : Slot) : Type 0 where
+  -- in a queue, it names that queue and does not run
+  pub queue : list < caps.queues → slot.1.queue ≡ list
+  pub waiting : list < caps.queues → slot.1.running ≡ false
+  -- in progress on an engine, it runs
+  pub running : caps.queues ≤ list → list < caps.queues + caps.engines → slot.1.running ≡ true
+  -- in both it has no parent, and in an engine's list of members it has one
+  pub submitted : list < caps.queues + caps.engines → slot.1.parent ≡ None
+  pub member : caps.queues + caps.engines ≤ list → is_some slot.1.parent ≡ true
+
+-- no entry names a queue that is Off (Intel DSA: Disable WQ)
 abbrev pub NoneOff : Work → Type 0
-NoneOff w = EachAt (λ k x. is_off (phase_at w.setup x.1.queue) ≡ false) w.content
+NoneOff w = EachAt (λ list slot. is_off (phase_at w.setup slot.1.queue) ≡ false) w.content
 
--- a PASID has 20 bits
+-- the PASID of an entry is no longer than a PASID (Intel DSA: descriptor format)
 abbrev pub PasidsFit : Work → Type 0
-PasidsFit w = EachAt (λ k x. pasid_of x.1.desc.pasid ≡ x.1.desc.pasid) w.content
+PasidsFit w = EachAt (λ list slot. pasid_of slot.1.desc.pasid ≡ slot.1.desc.pasid) w.content
 
+-- what every entry is (profile)
 pub record HasLawfulEntries (caps : Caps) (w : Work) : Type 0 where
   pub placed : EachAt (IsPlaced caps) w.content
-  pub slot : NoneOff w
+  pub none_off : NoneOff w
   pub pasids : PasidsFit w
 
--- no list is longer than its queue's size, or than the slots of an engine
+-- ---- the limits
+
+-- no queue holds more than its size (Intel DSA: work queue size), and no engine more in progress than it has slots, or more members than a batch may have (profile)
 pub record IsWithinLimits (caps : Caps) (w : Work) : Type 0 where
-  pub queues : (q : ℕ) → q < caps.queues → length (chain w.content q) ≤ (queue_at w.setup.configs q).size
-  pub slots : (e : ℕ) → e < caps.engines → length (chain w.content (caps.queues + e)) ≤ caps.slots
+  pub queues : (queue : ℕ) → queue < caps.queues → occupancy w.content queue ≤ (queue_at w.setup.configs queue).size
+  pub slots : (engine : ℕ) → engine < caps.engines → length (in_progress w engine) ≤ caps.slots
+  pub members : (engine : ℕ) → engine < caps.engines → length (members w engine) ≤ 2 ^ caps.max_batch_shift
+
+-- ---- the batches
 
 -- none of these runs
 abbrev pub none_runs : List Slot → Bool
 none_runs [] = true
-none_runs (x ∷ xs) = not x.1.running && none_runs xs
+none_runs (slot ∷ rest) = not slot.1.running && none_runs rest
 
 -- those that run stand before all others
 abbrev pub runs_first : List Slot → Bool
 runs_first [] = true
-runs_first (x ∷ xs) = cond x.1.running (runs_first xs) (none_runs xs)
+runs_first (slot ∷ rest) = cond slot.1.running (runs_first rest) (none_runs rest)
 
--- members that run stand first
-abbrev pub MembersInOrder : Caps → Work → Type 0
-MembersInOrder caps w = (k : ℕ) → caps.queues + caps.engines ≤ k → runs_first (chain w.content k) ≡ true
+-- members start in their order: those that run stand first (profile)
+abbrev pub MembersInOrder : Work → Type 0
+MembersInOrder w = (engine : ℕ) → runs_first (members w engine) ≡ true
 
--- no more was fetched than the batch has members, and these are no more than a batch may have
+-- no more was fetched than the batch has members, and these are no more than a batch may have (profile)
+pub record IsWithinBatch (caps : Caps) (note : BatchNote) : Type 0 where
+  pub fetched : note.fetched ≤ note.count
+  pub count : note.count ≤ 2 ^ caps.max_batch_shift
+
+-- a note, if there is one, is within its batch (profile)
 abbrev pub NoteFits : Caps → Option BatchNote → Type 0
 NoteFits caps None = ⊤
-NoteFits caps (Some note) = (note.fetched ≤ note.count) × (note.count ≤ 2 ^ caps.max_batch_shift)
+NoteFits caps (Some note) = IsWithinBatch caps note
 
+-- the note of each engine is within its batch (profile)
 abbrev pub NotesFit : Caps → Work → Type 0
-NotesFit caps w = (e : ℕ) → NoteFits caps (note_at w e)
+NotesFit caps w = (engine : ℕ) → NoteFits caps (note_at w engine)
 
--- the whole
+-- ---- the whole
+
+-- what always holds (profile)
 pub record IsWellFormed (caps : Caps) (s : State) : Type 0 where
+  -- the lists and their cells; each name once
   pub shape : HasShape caps s.work
   pub cells : CellsOnce caps s.work
   pub names : NamesOnce s.work
-  pub counted : IsCounted s.work
+  -- the device and its queues; each entry by its list
   pub setup : HasLawfulSetup s.work.setup
   pub entries : HasLawfulEntries caps s.work
+  -- occupancy, slots, members, and read buffers
   pub limits : IsWithinLimits caps s.work
-  pub order : MembersInOrder caps s.work
+  pub buffers : HasBuffers caps s.work
+  -- the batch of each engine, its note, and its members in their order
+  pub engines : HasLawfulEngines s.work
   pub notes : NotesFit caps s.work
+  pub order : MembersInOrder s.work

@@ -1,8 +1,7 @@
 -- Worked histories: a set-up of two queues, two groups and two engines, and short names for steps.
-use Rattle.std.specs.Prelude.{Bool, ℕ, true, false, not, List, [], ◌∷◌, ◌++◌, length, Option, option_map}
+use Rattle.std.specs.Prelude.{Bool, ℕ, not, List, [], ◌∷◌, ◌++◌, length, Option, option_map}
 use Rattle.dsa_desc.specs.declared.Descriptor.{Descriptor}
 use Rattle.dsa_desc.specs.declared.Outcome.TheVariants.{Success, PageFault}
-use Rattle.dsa_regs.specs.declared.Caps.{Caps}
 use Rattle.dsa_regs.specs.declared.QueueConfig.{QueueConfig}
 use Rattle.dsa_regs.specs.declared.GroupConfig.{GroupConfig}
 use Rattle.dsa_regs.specs.declared.Command.{Command}
@@ -34,6 +33,7 @@ use Rattle.dsa_book.specs.declared.fate.FateRow.{FateRow}
 use Rattle.dsa_book.specs.State.{State}
 use Rattle.dsa_book.specs.Machine.{replay, is_run, may_follow, stored_steps}
 use Rattle.dsa_book.specs.Totals.{total_accepted, total_fetched, total_retried, total_done, total_lost}
+use Rattle.dsa_regs.specs.Worked.{caps, shared_queue, dedicated_queue, first_group, second_group}
 
 -- ---- descriptors
 
@@ -109,23 +109,6 @@ abbrev pub group_written : ℕ → GroupConfig → WriteAnswer → Step
 group_written g config a = step (WriteGroup g config) (Write a)
 
 -- ---- the set-up
-
-abbrev pub caps : Caps
-caps = record { queues = 2; groups = 2; engines = 2; total_size = 8; read_buffers = 16; slots = 2; max_batch_shift = 3; max_xfer_shift = 20 }
-
-abbrev pub shared_queue : QueueConfig
-shared_queue = record { size = 4; threshold = 2; dedicated = false; priority = 1; pasid = 0; max_batch_shift = 3; max_xfer_shift = 20 }
-
-abbrev pub dedicated_queue : QueueConfig
-dedicated_queue = record { size = 2; threshold = 0; dedicated = true; priority = 1; pasid = 7; max_batch_shift = 3; max_xfer_shift = 20 }
-
--- queue 0 and engine 0
-abbrev pub first_group : GroupConfig
-first_group = record { queues = 1; engines = 1; reserved = 4; allowed = 8 }
-
--- queue 1 and engine 1
-abbrev pub second_group : GroupConfig
-second_group = record { queues = 2; engines = 2; reserved = 8; allowed = 12 }
 
 -- both queues and both groups written
 abbrev pub configured : QueueConfig → QueueConfig → GroupConfig → GroupConfig → List Step

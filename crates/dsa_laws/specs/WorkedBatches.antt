@@ -1,7 +1,6 @@
 -- Worked histories of batches, fences and read buffers, each after the set-up.
-use Rattle.std.specs.Prelude.{ℕ, false, List, [], ◌∷◌, ◌++◌}
+use Rattle.std.specs.Prelude.{ℕ, List, [], ◌∷◌}
 use Rattle.dsa_regs.specs.declared.Caps.{Caps}
-use Rattle.dsa_regs.specs.declared.QueueConfig.{QueueConfig}
 use Rattle.dsa_regs.specs.declared.GroupConfig.{GroupConfig}
 use Rattle.dsa_regs.specs.declared.Command.TheVariants.{EnableDevice, EnableWq}
 use Rattle.dsa_book.specs.declared.event.Step.{Step}
@@ -14,7 +13,8 @@ use Rattle.dsa_book.specs.declared.answer.StartAnswer.TheVariants.{Started, Fenc
 use Rattle.dsa_book.specs.declared.answer.FinishAnswer.TheVariants.{Done, NotReady}
 use Rattle.dsa_book.specs.declared.answer.IssueAnswer.TheVariants.{Ended}
 use Rattle.dsa_book.specs.declared.answer.WriteAnswer.TheVariants.{Written}
-use Rattle.dsa_laws.specs.Worked.{no_op, move, batch, fenced, ticket, written, enqcmd, movdir, dispatched, fetched, started, finished, faulted, issued, queue_written, group_written, shared_queue}
+use Rattle.dsa_regs.specs.Worked.{shared_queue}
+use Rattle.dsa_laws.specs.Worked.{no_op, move, batch, fenced, ticket, written, enqcmd, movdir, dispatched, fetched, started, finished, faulted, issued, queue_written, group_written}
 
 -- members start while buffers are to be had, and a group does not go past what it is allowed
 abbrev pub buffers_of_a_batch : List Step

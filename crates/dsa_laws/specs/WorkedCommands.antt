@@ -1,5 +1,5 @@
 -- Worked histories of commands and configurations, each after the set-up where it does not say otherwise.
-use Rattle.std.specs.Prelude.{true, List, [], ◌∷◌, ◌++◌}
+use Rattle.std.specs.Prelude.{List, [], ◌∷◌, ◌++◌}
 use Rattle.dsa_regs.specs.declared.QueueConfig.{QueueConfig}
 use Rattle.dsa_regs.specs.declared.GroupConfig.{GroupConfig}
 use Rattle.dsa_regs.specs.declared.Fault.{Fault}
@@ -18,7 +18,8 @@ use Rattle.dsa_book.specs.declared.answer.IssueAnswer.TheVariants.{Ended, Active
 use Rattle.dsa_book.specs.declared.answer.PollAnswer.TheVariants.{Finished, Active, Nothing}
 use Rattle.dsa_book.specs.declared.answer.WriteAnswer.TheVariants.{Written, Refused}
 use Rattle.dsa_book.specs.declared.answer.ClearAnswer.TheVariants.{Nothing}
-use Rattle.dsa_laws.specs.Worked.{no_op, batch, ticket, written, enqcmd, enqcmd_unlimited, movdir, dispatched, fetched, started, finished, issued, polled, cleared, queue_written, group_written, shared_queue, dedicated_queue, first_group, second_group, configured, setup}
+use Rattle.dsa_regs.specs.Worked.{shared_queue, first_group}
+use Rattle.dsa_laws.specs.Worked.{no_op, batch, ticket, written, enqcmd, enqcmd_unlimited, movdir, dispatched, fetched, started, finished, issued, polled, cleared, queue_written, group_written, configured, setup}
 
 -- a drain of queue 0 waits for what was submitted before it, and for nothing else
 abbrev pub drain_of_a_queue : List Step

@@ -1,5 +1,5 @@
 -- Worked histories of submissions, each after the set-up.
-use Rattle.std.specs.Prelude.{true, false, List, [], ◌∷◌, ◌++◌}
+use Rattle.std.specs.Prelude.{true, false, List, [], ◌∷◌}
 use Rattle.dsa_regs.specs.declared.Command.TheVariants.{EnableDevice, DisableWq, EnableWq}
 use Rattle.dsa_book.specs.declared.event.Step.{Step}
 use Rattle.dsa_book.specs.declared.event.Portal.TheVariants.{Limited, Unlimited}
@@ -14,7 +14,8 @@ use Rattle.dsa_book.specs.declared.answer.IssueAnswer.TheVariants.{Ended, Full}
 use Rattle.dsa_book.specs.declared.answer.PollAnswer.TheVariants.{Full}
 use Rattle.dsa_book.specs.declared.answer.WriteAnswer.TheVariants.{Full}
 use Rattle.dsa_book.specs.declared.answer.ClearAnswer.TheVariants.{Cleared, Nothing}
-use Rattle.dsa_laws.specs.Worked.{no_op, drain, move, fenced, ticket, step, written, enqcmd, enqcmd_unlimited, movdir, dispatched, finished, issued, polled, cleared, queue_written, group_written, shared_queue, dedicated_queue, first_group, second_group}
+use Rattle.dsa_regs.specs.Worked.{shared_queue, dedicated_queue, first_group, second_group}
+use Rattle.dsa_laws.specs.Worked.{no_op, drain, move, fenced, ticket, step, written, enqcmd, enqcmd_unlimited, movdir, dispatched, finished, issued, polled, cleared, queue_written, group_written}
 
 -- a Move from its submission to its status
 abbrev pub one_move : List Step

@@ -17,11 +17,11 @@ ghost use Rattle.dsa_book.specs.Submit.{submit_table};
 ghost use Rattle.dsa_book.specs.Work.{is_all_fetched, note_at};
 ghost use Rattle.dsa_book.specs.Totals.{total_accepted, total_fetched, total_done, total_lost};
 ghost use Rattle.dsa_laws.specs.Change.{Change};
-ghost use Rattle.dsa_laws.specs.WellFormed.{IsWellFormed};
+ghost use Rattle.dsa_laws.specs.WellFormed.{IsWellFormed, IsWithinLimits, held_named, fates_named};
 ghost use Rattle.dsa_laws.specs.Engines.{HasLawfulEngines};
 ghost use Rattle.dsa_laws.specs.Buffering.{HasBuffers};
 ghost use Rattle.dsa_laws.specs.Accounts.{submitted_entries, member_entries, only_members_abandoned};
-ghost use Rattle.dsa_laws.specs.FreeCells.{MembersFit, MembersFetched, HasFreeCell};
+ghost use Rattle.dsa_laws.specs.FreeCells.{HasFreeCell};
 
 /// A step whose reply is not stored changes nothing.
 pub fn unstored_steps_change_nothing()
@@ -59,14 +59,25 @@ pub fn histories_are_well_formed()
     ensures { (caps : Caps) (history : List Step) (s : State) → replay caps history ≡ Some s → IsWellFormed caps s }
 {}
 
-/// An engine has a note exactly where one batch is in progress there, the note's; its members are of that batch, and no more than a batch may have.
-pub fn engines_work_on_one_batch()
-    ensures { (caps : Caps) (history : List Step) (s : State) → replay caps history ≡ Some s → HasLawfulEngines s.work }
-    {}
+/// Each name below the next one is one held entry's or one fate row's, and no other name is given.
+pub fn each_name_is_held_or_has_a_fate()
+    ensures given { (caps : Caps) (history : List Step) (s : State) (name : ℕ) → replay caps history ≡ Some s → name < s.work.setup.next_name → held_named s.work name + fates_named s.work name ≡ 1 }
+    ensures not_given { (caps : Caps) (history : List Step) (s : State) (name : ℕ) → replay caps history ≡ Some s → s.work.setup.next_name ≤ name → held_named s.work name + fates_named s.work name ≡ 0 }
+{}
 
-/// In every state that a history leads to, no group uses more read buffers than it may, and what each group has reserved is at hand, unless the device is Off.
+/// No queue holds more than its size, and no engine has more in progress than slots or more members than a batch may have.
+pub fn limits_are_kept()
+    ensures { (caps : Caps) (history : List Step) (s : State) → replay caps history ≡ Some s → IsWithinLimits caps s.work }
+{}
+
+/// No group uses more read buffers than it may, and what each group has reserved is at hand, unless the device is Off.
 pub fn read_buffers_are_covered()
     ensures { (caps : Caps) (history : List Step) (s : State) → replay caps history ≡ Some s → HasBuffers caps s.work }
+{}
+
+/// An engine has a note exactly where one batch is in progress there, which the note is of, and its members are of that batch.
+pub fn engines_work_on_one_batch()
+    ensures { (caps : Caps) (history : List Step) (s : State) → replay caps history ≡ Some s → HasLawfulEngines s.work }
 {}
 
 /// As many entries were accepted as have a fate row or are held, among those without a parent.
@@ -86,12 +97,12 @@ pub fn members_alone_are_abandoned()
 
 /// Where a submission is not turned away there is a cell for it: fewer are held than the store has cells, and one of these is free.
 pub fn accepting_queues_find_a_free_cell()
-    ensures room { (caps : Caps) (history : List Step) (s : State) (queue : ℕ) (portal : Portal) (kind : Kind) → replay caps history ≡ Some s → MembersFit caps s.work → first_row (submit_table (intake_of s) queue portal kind) ≡ None → held s.work.content < cell_count caps }
-    ensures cell { (caps : Caps) (history : List Step) (s : State) (queue : ℕ) (portal : Portal) (kind : Kind) → replay caps history ≡ Some s → MembersFit caps s.work → first_row (submit_table (intake_of s) queue portal kind) ≡ None → HasFreeCell caps s.work }
+    ensures room { (caps : Caps) (history : List Step) (s : State) (queue : ℕ) (portal : Portal) (kind : Kind) → replay caps history ≡ Some s → first_row (submit_table (intake_of s) queue portal kind) ≡ None → held s.work.content < cell_count caps }
+    ensures cell { (caps : Caps) (history : List Step) (s : State) (queue : ℕ) (portal : Portal) (kind : Kind) → replay caps history ≡ Some s → first_row (submit_table (intake_of s) queue portal kind) ≡ None → HasFreeCell caps s.work }
 {}
 
 /// Where members of an engine's batch are still to be fetched there is a cell for the next one.
 pub fn open_batches_find_a_free_cell()
-    ensures room { (caps : Caps) (history : List Step) (s : State) (engine : ℕ) (note : BatchNote) → replay caps history ≡ Some s → MembersFit caps s.work → MembersFetched s.work → note_at s.work engine ≡ Some note → is_all_fetched note ≡ false → held s.work.content < cell_count caps }
-    ensures cell { (caps : Caps) (history : List Step) (s : State) (engine : ℕ) (note : BatchNote) → replay caps history ≡ Some s → MembersFit caps s.work → MembersFetched s.work → note_at s.work engine ≡ Some note → is_all_fetched note ≡ false → HasFreeCell caps s.work }
+    ensures room { (caps : Caps) (history : List Step) (s : State) (engine : ℕ) (note : BatchNote) → replay caps history ≡ Some s → note_at s.work engine ≡ Some note → is_all_fetched note ≡ false → held s.work.content < cell_count caps }
+    ensures cell { (caps : Caps) (history : List Step) (s : State) (engine : ℕ) (note : BatchNote) → replay caps history ≡ Some s → note_at s.work engine ≡ Some note → is_all_fetched note ≡ false → HasFreeCell caps s.work }
 {}

@@ -2,4 +2,5 @@
 
 pub mod batches;
 pub mod commands;
+pub mod states;
 pub mod submissions;

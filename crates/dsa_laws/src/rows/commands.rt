@@ -10,7 +10,8 @@ ghost use Rattle.dsa_book.specs.declared.answer.IssueAnswer.TheVariants.{Ended, 
 ghost use Rattle.dsa_book.specs.declared.answer.PollAnswer.TheVariants.{Finished, Active};
 ghost use Rattle.dsa_book.specs.declared.fate.Fate.TheVariants.{Completed, Aborted};
 ghost use Rattle.dsa_book.specs.Machine.{is_run};
-ghost use Rattle.dsa_laws.specs.Worked.{caps, setup, is_run_here, may_not_follow, fates_after, content_after, next_name_after, account_after, row, slot, no_op, batch, ticket, enqcmd, dispatched, finished, issued, polled, dedicated_queue, first_group, second_group};
+ghost use Rattle.dsa_regs.specs.Worked.{caps, dedicated_queue, first_group, second_group};
+ghost use Rattle.dsa_laws.specs.Worked.{setup, is_run_here, may_not_follow, fates_after, content_after, next_name_after, account_after, row, slot, no_op, batch, ticket, enqcmd, dispatched, finished, issued, polled};
 ghost use Rattle.dsa_laws.specs.WorkedCommands.{drain_of_a_queue, drain_of_a_batch, drain_of_a_pasid, abort_of_a_pasid, abort_takes_members, old_ticket_is_gone, abort_and_reset, names_go_on_after_a_reset, reset_of_a_queue, disable_and_enable_again, refused_enables_and_writes, priorities, queues_that_are_not_there, refused_device};
 
 /// A drain of a queue waits for what was submitted before it: it does not end at once, and what comes later does not hold it up.
@@ -21,23 +22,20 @@ pub fn drain_of_a_queue()
     ensures not_at_once { may_not_follow (take 1 drain_of_a_queue) (issued (DrainWq (record { group = 0; mask = 1 })) (Ended 0)) ≡ true }
     ensures not_before_its_end { may_not_follow (take 6 drain_of_a_queue) (polled Finished) ≡ true }
     ensures not_until_the_queue_is_empty { may_not_follow (take 7 drain_of_a_queue) (polled Active) ≡ true }
-{
-}
+{}
 
 /// A drain waits for a batch, whose members end before it.
 pub fn drain_of_a_batch()
     ensures run { is_run_here drain_of_a_batch ≡ true }
     ensures fates { fates_after drain_of_a_batch ≡ Some (row 0 None (Completed 0x01) ∷ row 2 (Some 1) (Completed 0x01) ∷ row 3 (Some 1) (Completed 0x01) ∷ row 1 None (Completed 0x01) ∷ []) }
     ensures not_before_the_batch { may_not_follow (take 14 drain_of_a_batch) (polled Finished) ≡ true }
-{
-}
+{}
 
 /// A drain of a PASID waits for entries of that PASID, and for no others.
 pub fn drain_of_a_pasid()
     ensures run { is_run_here drain_of_a_pasid ≡ true }
     ensures not_for_others { may_not_follow (take 2 drain_of_a_pasid) (issued (DrainPasid 7) Active) ≡ true }
-{
-}
+{}
 
 /// An abort of a PASID takes the entries of that PASID alone, and the others keep their order.
 pub fn abort_of_a_pasid()
@@ -48,8 +46,7 @@ pub fn abort_of_a_pasid()
     ensures account { account_after abort_of_a_pasid ≡ Some (record { accepted = 4; fetched = 0; retried = 0; done = 0; lost = 2; held = 2; steps = 14 }) }
     ensures not_all { may_not_follow (take 4 abort_of_a_pasid) (issued (AbortPasid 5) (Ended 4)) ≡ true }
     ensures in_order { may_not_follow (take 5 abort_of_a_pasid) (dispatched 0 (Taken (ticket 3 3) 0)) ≡ true }
-{
-}
+{}
 
 /// An abort of a PASID takes a batch with all its members.
 pub fn abort_takes_members()
@@ -58,8 +55,7 @@ pub fn abort_takes_members()
     ensures content { content_after abort_takes_members ≡ Some ([] ∷ [] ∷ [] ∷ [] ∷ [] ∷ [] ∷ []) }
     ensures no_member_is_left { may_not_follow (take 7 abort_takes_members) (issued (AbortPasid 5) (Ended 1)) ≡ true }
     ensures no_member_ends_later { may_not_follow (take 8 abort_takes_members) (finished 0 (ticket 2 2) (Done 0x01)) ≡ true }
-{
-}
+{}
 
 /// The ticket of an entry that was aborted does not end the entry that stands in its cell now.
 pub fn old_ticket_is_gone()
@@ -67,31 +63,27 @@ pub fn old_ticket_is_gone()
     ensures fates { fates_after old_ticket_is_gone ≡ Some (row 0 None (Aborted 4) ∷ row 1 None (Completed 0x01) ∷ []) }
     ensures the_cell_alone_is_no_ticket { may_not_follow (take 5 old_ticket_is_gone) (finished 0 (ticket 0 0) (Done 0x01)) ≡ true }
     ensures its_own_ticket_is_not_gone { may_not_follow (take 5 old_ticket_is_gone) (finished 0 (ticket 0 1) Gone) ≡ true }
-{
-}
+{}
 
 /// An abort of two queues, and a reset of the device, which is off then.
 pub fn abort_and_reset()
     ensures run { is_run_here abort_and_reset ≡ true }
     ensures fates { fates_after abort_and_reset ≡ Some (row 0 None (Aborted 9) ∷ row 1 None (Aborted 9) ∷ row 2 None (Aborted 5) ∷ []) }
-{
-}
+{}
 
 /// A reset takes all but the names that were given.
 pub fn names_go_on_after_a_reset()
     ensures run { is_run_here names_go_on_after_a_reset ≡ true }
     ensures next_name { next_name_after names_go_on_after_a_reset ≡ Some 4 }
     ensures names_do_not_begin_again { may_not_follow (take 14 names_go_on_after_a_reset) (enqcmd no_op (Accepted (ticket 0 0))) ≡ true }
-{
-}
+{}
 
 /// A reset of a queue takes its entries and all its configuration but the size, so it has no priority then.
 pub fn reset_of_a_queue()
     ensures run { is_run_here reset_of_a_queue ≡ true }
     ensures fates { fates_after reset_of_a_queue ≡ Some (row 0 None (Aborted 10) ∷ []) }
     ensures size_is_kept { may_not_follow (take 2 reset_of_a_queue) (issued (EnableWq 0) (Refused SizeZero)) ≡ true }
-{
-}
+{}
 
 /// Disable Device waits until nothing is held. Enabled again, the device has its queues off.
 pub fn disable_and_enable_again()
@@ -100,8 +92,7 @@ pub fn disable_and_enable_again()
     ensures not_at_once { may_not_follow (take 1 disable_and_enable_again) (issued DisableDevice (Ended 0)) ≡ true }
     ensures nothing_comes_in_meanwhile { may_not_follow (take 2 disable_and_enable_again) (enqcmd no_op (Accepted (ticket 1 1))) ≡ true }
     ensures queues_are_off_then { may_not_follow (take 7 disable_and_enable_again) (enqcmd no_op (Accepted (ticket 0 1))) ≡ true }
-{
-}
+{}
 
 /// Each reason why Enable Device is refused, with one change to a configuration that it would take.
 pub fn refused_devices()
@@ -114,25 +105,21 @@ pub fn refused_devices()
     ensures no_such_queue { is_run caps 100 (refused_device dedicated_queue first_group (record second_group { queues = 6 }) BadIndex) ≡ true }
     ensures the_first_cause { is_run caps 100 (refused_device (record dedicated_queue { size = 5 }) first_group (record second_group { engines = 3 }) TwoGroups) ≡ false }
     ensures another_cause { is_run caps 100 (refused_device dedicated_queue first_group (record second_group { reserved = 13 }) AllowedOutOfRange) ≡ false }
-{
-}
+{}
 
 /// Enable WQ is refused for its queue's configuration, and writes to what is on are locked.
 pub fn refused_enables_and_writes()
     ensures run { is_run_here refused_enables_and_writes ≡ true }
-{
-}
+{}
 
 /// Priorities are 1 to 15.
 pub fn priorities()
     ensures run { is_run_here priorities ≡ true }
     ensures sixteen_is_not_accepted { may_not_follow (take 2 priorities) (issued (EnableWq 0) (Ended 0)) ≡ true }
-{
-}
+{}
 
 /// Masks without a bit, and queues and groups that the device does not have.
 pub fn queues_that_are_not_there()
     ensures run { is_run_here queues_that_are_not_there ≡ true }
     ensures no_bit_is_no_success { may_not_follow [] (issued (DisableWq (record { group = 0; mask = 0 })) (Ended 0)) ≡ true }
-{
-}
+{}

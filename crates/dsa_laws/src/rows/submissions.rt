@@ -12,7 +12,8 @@ ghost use Rattle.dsa_book.specs.declared.event.Portal.TheVariants.{Limited};
 ghost use Rattle.dsa_book.specs.declared.fate.Fate.TheVariants.{Completed};
 ghost use Rattle.dsa_book.specs.Machine.{is_run};
 ghost use Rattle.dsa_book.specs.Totals.{steps_of};
-ghost use Rattle.dsa_laws.specs.Worked.{caps, setup, is_run_here, may_not_follow, fates_after, content_after, next_name_after, account_after, row, slot, no_op, move, ticket, written, enqcmd, enqcmd_unlimited, movdir, dispatched, finished, cleared};
+ghost use Rattle.dsa_regs.specs.Worked.{caps};
+ghost use Rattle.dsa_laws.specs.Worked.{setup, is_run_here, may_not_follow, fates_after, content_after, next_name_after, account_after, row, slot, no_op, move, ticket, written, enqcmd, enqcmd_unlimited, movdir, dispatched, finished, cleared};
 ghost use Rattle.dsa_laws.specs.WorkedSubmissions.{one_move, two_portals, dedicated_queue_overflows, causes_of_retry, first_drop_is_noted, transfer_sizes, operations_and_flags, history_is_full, no_room_at_all, forged_tickets, of_two_clients};
 
 /// A Move from its submission to its status.
@@ -23,8 +24,7 @@ pub fn one_move()
     ensures fates { fates_after one_move ≡ Some (row 0 None (Completed 0x01) ∷ []) }
     ensures account { account_after one_move ≡ Some (record { accepted = 1; fetched = 0; retried = 0; done = 1; lost = 0; held = 0; steps = 10 }) }
     ensures not_another_status { may_not_follow (take 2 one_move) (finished 0 (ticket 0 0) (Done 0x03)) ≡ true }
-{
-}
+{}
 
 /// The threshold bounds the limited portal of a shared queue, its size the unlimited one.
 pub fn two_portals()
@@ -44,8 +44,7 @@ pub fn two_portals()
     ensures not_idle_with_work { may_not_follow (take 1 two_portals) (dispatched 0 Idle) ≡ true }
     ensures front_first { may_not_follow (take 2 two_portals) (dispatched 0 (Taken (ticket 1 1) 0)) ≡ true }
     ensures no_engine_of_another_group { may_not_follow (take 2 two_portals) (dispatched 1 (Taken (ticket 0 0) 0)) ≡ true }
-{
-}
+{}
 
 /// A dedicated queue that is full drops descriptors, and the noted error overflows.
 pub fn dedicated_queue_overflows()
@@ -53,8 +52,7 @@ pub fn dedicated_queue_overflows()
     ensures next_name { next_name_after dedicated_queue_overflows ≡ Some 2 }
     ensures content { content_after dedicated_queue_overflows ≡ Some ([] ∷ (slot 0 0 None (record no_op { pasid = 7 }) 1 false ∷ slot 1 1 None (record no_op { pasid = 7 }) 1 false ∷ []) ∷ [] ∷ [] ∷ [] ∷ [] ∷ []) }
     ensures overflow_is_marked { may_not_follow (take 4 dedicated_queue_overflows) (cleared (Cleared (record { queue = 1; cause = AtLimit; overflow = false }))) ≡ true }
-{
-}
+{}
 
 /// ENQCMD to a dedicated queue, MOVDIR64B to a shared one, a queue that was disabled, and one that the device does not have.
 pub fn causes_of_retry()
@@ -63,45 +61,39 @@ pub fn causes_of_retry()
     ensures account { account_after causes_of_retry ≡ Some (record { accepted = 0; fetched = 0; retried = 0; done = 0; lost = 0; held = 0; steps = 12 }) }
     ensures dedicated_takes_no_enqcmd { may_not_follow [] (written 1 Limited (Enqcmd 5) no_op (Accepted (ticket 0 0))) ≡ true }
     ensures no_such_queue_is_no_wrong_kind { may_not_follow [] (written 9 Limited (Enqcmd 5) no_op (Retry WrongKind)) ≡ true }
-{
-}
+{}
 
 /// The noted error is of the first descriptor that was dropped, whatever was dropped later.
 pub fn first_drop_is_noted()
     ensures run { is_run_here first_drop_is_noted ≡ true }
     ensures last_is_not_noted { may_not_follow (take 4 first_drop_is_noted) (cleared (Cleared (record { queue = 9; cause = NotEnabled; overflow = true }))) ≡ true }
-{
-}
+{}
 
 /// Moves of 0, of 2 ^ 20 and of one more byte, where a transfer may have 2 ^ 20.
 pub fn transfer_sizes()
     ensures run { is_run_here transfer_sizes ≡ true }
     ensures fates { fates_after transfer_sizes ≡ Some (row 0 None (Completed 0x13) ∷ row 1 None (Completed 0x01) ∷ row 2 None (Completed 0x13) ∷ []) }
-{
-}
+{}
 
 /// Drain is not supported yet, a fence has no place outside a batch, and other flags are ignored.
 pub fn operations_and_flags()
     ensures run { is_run_here operations_and_flags ≡ true }
     ensures fates { fates_after operations_and_flags ≡ Some (row 0 None (Completed 0x10) ∷ row 1 None (Completed 0x11) ∷ row 2 None (Completed 0x01) ∷ []) }
     ensures a_fence_is_no_success { may_not_follow (take 5 operations_and_flags) (finished 0 (ticket 0 1) (Done 0x01)) ≡ true }
-{
-}
+{}
 
 /// A history with room for ten steps, of which the set-up took seven: from then on each answer is Full, and nothing changes.
 pub fn history_is_full()
     ensures run { is_run caps 10 (setup ++ history_is_full) ≡ true }
     ensures not_a_step_later { is_run caps 11 (setup ++ history_is_full) ≡ false }
     ensures not_a_step_earlier { is_run caps 9 (setup ++ history_is_full) ≡ false }
-{
-}
+{}
 
 /// A device with no room for a step answers Full to all.
 pub fn no_room_at_all()
     ensures run { is_run caps 0 no_room_at_all ≡ true }
     ensures nothing_else { is_run caps 0 (take 1 setup) ≡ false }
-{
-}
+{}
 
 /// Tickets that name no running entry of the engine are Gone.
 pub fn forged_tickets()
@@ -111,13 +103,11 @@ pub fn forged_tickets()
     ensures waiting_entries_do_not_end { may_not_follow (take 1 forged_tickets) (finished 0 (ticket 0 0) (Done 0x01)) ≡ true }
     ensures no_other_engine_ends_it { may_not_follow (take 3 forged_tickets) (finished 1 (ticket 0 0) (Done 0x01)) ≡ true }
     ensures its_own_is_not_gone { may_not_follow (take 3 forged_tickets) (finished 0 (ticket 0 0) Gone) ≡ true }
-{
-}
+{}
 
 /// The steps of an actor are its own, in the order of the history.
 pub fn steps_of_two_clients()
     ensures first { steps_of of_two_clients (Client 0) ≡ take 1 of_two_clients ++ enqcmd_unlimited 5 no_op (Accepted (ticket 2 2)) ∷ [] }
     ensures second { slice_get (steps_of of_two_clients (Client 1)) 0 ≡ slice_get of_two_clients 1 }
     ensures engine { steps_of of_two_clients (Engine 0) ≡ [] }
-{
-}
+{}

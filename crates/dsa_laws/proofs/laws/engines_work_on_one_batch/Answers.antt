@@ -1,4 +1,4 @@
-use Rattle.dsa_laws.proofs.EngineHistories.{replay-engines}
+use Rattle.dsa_laws.proofs.Histories.{replay-engines}
 use Rattle.dsa_laws.proofs.laws.engines_work_on_one_batch.Goals as goal
 
 pub returns : goal.returns

@@ -1,4 +1,4 @@
-use Rattle.dsa_laws.proofs.BufferedHistories.{replay-buffers}
+use Rattle.dsa_laws.proofs.Histories.{replay-buffers}
 use Rattle.dsa_laws.proofs.laws.read_buffers_are_covered.Goals as goal
 
 pub returns : goal.returns
