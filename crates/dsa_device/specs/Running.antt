@@ -57,5 +57,5 @@ running caps setup gear content active book = record {
 -- the parts belong together: the store has a cell for each place, and what the engines keep agrees with the lists (profile)
 pub record IsWhole (cells : ℕ) (gear : Gear) (d : Running) : Type 0 where
   pub replay : IsReplay d
-  pub cells : cells ≡ cell_count d.caps
+  pub same_cells : cells ≡ cell_count d.caps
   pub in_step : IsInStep d.state.work.setup gear d.state.work.content

@@ -20,9 +20,7 @@ use dsa_book::{
 use dsa_desc::Descriptor;
 use dsa_engines::Engines;
 use dsa_queues::Queues;
-use dsa_regs::{
-    Caps, Command, GroupConfig, QueueConfig, cell_count, check_caps, list_count,
-};
+use dsa_regs::{Caps, Command, GroupConfig, QueueConfig, cell_count, check_caps, list_count};
 use dsa_store::EntryStore;
 use std::alloc::Global;
 use std::marker::Model;
