@@ -6,5 +6,6 @@
 #![tactic(auto)]
 
 mod engines;
+mod taking;
 
 pub use engines::Engines;
