@@ -1,5 +1,5 @@
 -- What a layer's step says is a step of the machine.
-use Rattle.std.proofs.Common.{◌≡◌, ℕ, Bool, true, false, ◌&&◌, Option, Some, None, refl, sym, subst}
+use Rattle.std.proofs.Common.{◌≡◌, ℕ, Bool, true, false, ◌&&◌, Option, Some, None, option_map, refl, sym, ap, subst}
 use Rattle.std.specs.Bool.{beq}
 use Rattle.std.proofs.lemmas.Bool.{eq-eqb}
 use Rattle.dsa_desc.specs.declared.Descriptor.{Descriptor}
@@ -20,10 +20,12 @@ use Rattle.dsa_book.specs.declared.event.Kind.{Kind}
 use Rattle.dsa_book.specs.declared.event.Kind.TheVariants.{Enqcmd, Movdir64b}
 use Rattle.dsa_book.specs.declared.event.Event.TheVariants as event
 use Rattle.dsa_book.specs.Same.{same_cause, same_noted, same_submit, same_write, same_clear}
-use Rattle.dsa_book.specs.State.{Setup, Intake, State}
+use Rattle.dsa_book.specs.declared.answer.DispatchAnswer.{DispatchAnswer}
+use Rattle.dsa_book.specs.State.{Setup, Intake, Work, State}
+use Rattle.dsa_book.specs.Work.{dispatch}
 use Rattle.dsa_book.specs.Submit.{submit, submit_table, turned_away, accepted}
 use Rattle.dsa_book.specs.Commands.{write_queue, write_queue_table, write_group, write_group_table, clear, clear_of}
-use Rattle.dsa_book.specs.Machine.{next, intake_of, with_intake, with_setup, accepted_cell, cell_or_first, may_use}
+use Rattle.dsa_book.specs.Machine.{next, intake_of, with_intake, with_setup, with_work, accepted_cell, cell_or_first, may_use}
 
 -- ---- an answer of the machine is the same as itself
 
@@ -85,3 +87,6 @@ next-write_group s g config answer setup is = tested same_write (with_setup s) (
 
 pub next-clear : (s : State) (answer : ClearAnswer) (setup : Setup) → clear s.work.setup ≡ (answer, setup) → next s event.ClearError (reply.Clear answer) ≡ Some (with_setup s setup)
 next-clear s answer setup is = tested same_clear (with_setup s) (clear s.work.setup) answer setup is (clear-self s.work.setup)
+
+pub next-dispatch : (s : State) (e : ℕ) (answer : DispatchAnswer) (w : Work) → dispatch s.work e answer ≡ Some w → next s (event.Dispatch e) (reply.Dispatch answer) ≡ Some (with_work s w)
+next-dispatch s e answer w is = ap (option_map (with_work s)) is
