@@ -6,6 +6,7 @@
 #![tactic(auto)]
 
 mod engines;
+mod finishing;
 mod taking;
 
 pub use engines::Engines;
