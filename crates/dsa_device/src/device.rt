@@ -12,10 +12,10 @@ mod reads;
 
 use crate::MakeFault;
 use dsa_book::{
-    ActiveCommand, Book, ClearAnswer, DispatchAnswer, Event, Kind, Portal, Reply, SubmitAnswer,
-    WriteAnswer,
+    ActiveCommand, Book, ClearAnswer, DispatchAnswer, Event, FinishAnswer, Kind, Portal, Reply,
+    StartAnswer, SubmitAnswer, Ticket, WriteAnswer,
 };
-use dsa_desc::Descriptor;
+use dsa_desc::{Descriptor, Outcome};
 use dsa_engines::Engines;
 use dsa_queues::Queues;
 use dsa_regs::{Caps, GroupConfig, QueueConfig, cell_count, check_caps, list_count};
@@ -165,6 +165,47 @@ impl<S: EntryStore> Device<S> {
         let answer = self.engines.dispatch(&self.queues, &mut self.store, engine);
         self.book
             .record(Event::Dispatch { engine }, Reply::Dispatch(answer));
+        answer
+    }
+
+    /// An engine starts the first of its members that does not run.
+    #[inline(always)]
+    pub fn start(&mut self, engine: u16) -> StartAnswer
+        ensures { answered self.old (event.Start engine) (reply.Start result) ≡ Some self.new }
+    {
+        if self.book.is_full() {
+            return StartAnswer::Full;
+        }
+        let answer =
+            self.engines
+                .start(&self.queues, &mut self.store, &mut self.book, engine);
+        self.book
+            .record(Event::Start { engine }, Reply::Start(answer));
+        answer
+    }
+
+    /// An engine ends the running entry of that ticket, and says how its work went.
+    #[inline(always)]
+    pub fn finish(&mut self, engine: u16, ticket: Ticket, outcome: Outcome) -> FinishAnswer
+        ensures { answered self.old (event.Finish engine ticket outcome) (reply.Finish result) ≡ Some self.new }
+    {
+        if self.book.is_full() {
+            return FinishAnswer::Full;
+        }
+        let answer = self.engines.finish(
+            &self.queues,
+            &mut self.store,
+            &mut self.book,
+            engine,
+            ticket,
+            outcome,
+        );
+        let event = Event::Finish {
+            engine,
+            ticket,
+            outcome,
+        };
+        self.book.record(event, Reply::Finish(answer));
         answer
     }
 
