@@ -3,3 +3,5 @@ pub mod Homes
 pub mod Dispatching
 pub mod Finding
 pub mod Ending
+pub mod Walking
+pub mod Members

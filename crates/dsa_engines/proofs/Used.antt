@@ -46,6 +46,10 @@ load-cons setup s l = on s.1.running
     on true = sum_by-cons (λ held. need_of setup held.1) s (filter (λ held. held.1.running) l)
     on false = omega arith
 
+pub none-load : (setup : Setup) (l : List Slot) → filter (λ held. held.1.running) l ≡ [] → load setup l ≡ 0
+unfolding load
+none-load setup l h = ap (sum_by (λ (held : Slot). need_of setup held.1)) h
+
 used_on-loads : (setup : Setup) (c : Content) (e : ℕ) → e < setup.caps.engines → used_on (lists_alone setup c) e ≡ load setup (chain c (progress_list setup e)) + load setup (chain c (member_list setup e))
 unfolding load
 used_on-loads setup c e h =

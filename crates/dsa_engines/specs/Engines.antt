@@ -1,5 +1,5 @@
 -- What the engines keep beside the lists, and how it agrees with them.
-use Rattle.std.specs.Prelude.{◌≡◌, ℕ, ◌+◌, ◌-◌, ◌<◌, ◌≤◌, IsTrue, true, false, Bool, List, [], length, map, replicate, get_or, slice_index, slice_set, Option, Some, None}
+use Rattle.std.specs.Prelude.{◌≡◌, ℕ, ◌+◌, ◌-◌, ◌<◌, ◌≤◌, IsTrue, true, false, Bool, List, [], ◌∷◌, length, map, filter, replicate, get_or, slice_index, slice_set, Option, Some, None}
 use Rattle.dsa_regs.specs.declared.Caps.{Caps}
 use Rattle.dsa_regs.specs.Caps.{check_caps, list_count}
 use Rattle.dsa_regs.specs.Config.{check_device}
@@ -77,3 +77,8 @@ pub record IsOpen (setup : Setup) (content : Content) (e g : ℕ) : Type 0 where
   pub engine : e < setup.caps.engines
   pub home : group_in setup.groups e ≡ Some g
   pub slot : length (chain content (progress_list setup e)) < setup.caps.slots
+
+-- where the first of them waits, none runs
+abbrev pub WaitInOrder : List Slot → Type 0
+WaitInOrder [] = Unit {0}
+WaitInOrder (slot ∷ rest) = slot.1.running ≡ false → filter is_running rest ≡ []

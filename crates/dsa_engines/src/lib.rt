@@ -7,6 +7,7 @@
 
 mod engines;
 mod finishing;
+mod starting;
 mod taking;
 
 pub use engines::Engines;
