@@ -27,7 +27,7 @@ use Rattle.dsa_book.specs.Work.{member_list, members, with_first_run, run, as_ru
 use Rattle.dsa_engines.specs.Engines.{Gear, work, lists_alone, buffers_of, given, Holds, IsInStep, IsReady, is_running, WaitInOrder}
 use Rattle.dsa_engines.proofs.Homes.{one-group}
 use Rattle.dsa_engines.proofs.Dispatching.{home-of}
-use Rattle.dsa_engines.proofs.Used.{load, load-nil, load-cons, load-append, HoldsMore, RaisesOne, none-load, raises-members, GivesBack, gives-back, taken-of}
+use Rattle.dsa_engines.proofs.Used.{load, load-nil, load-cons, load-append, HoldsMore, RaisesOne, none-load, raises-members, GivesBack, gives-back, given-none, taken-of}
 
 abbrev pub waits : Slot → Bool
 waits slot = not slot.1.running
@@ -144,12 +144,6 @@ pub room-is : (setup : Setup) (gear : Gear) (content : Content) (fates : List Fa
 room-is setup gear content fates e n s on he = rw (home-of setup gear content e s on he, s.buffers on) refl
 
 -- ---- no buffers change
-
-given-none : (home : Option ℕ) (b : Buffers) → given home 0 b ≡ b
-given-none None b = refl
-given-none (Some g) b =
-    let same : get_or b.used g 0 - 0 ≡ get_or b.used g 0 = omega arith in
-    ap (λ (u : List ℕ). let x : Buffers = record b { used = u } in x) (rw same (set-get_or b.used g 0))
 
 pub buffers-same : (setup : Setup) (before after : Content) (e : ℕ) → IsReady setup before → is_off setup.device ≡ false → HoldsMore setup after before e (member_list setup e) 0 → buffers_of setup before ≡ buffers_of setup after
 buffers-same setup before after e r on h =

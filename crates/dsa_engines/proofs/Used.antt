@@ -205,6 +205,13 @@ taken-of setup before after e n g he hg alone is r =
     let at = hit-at (λ (x : GroupConfig). has x.engines e) setup.groups zero_group g is in
     ap (λ (u : List ℕ). let b : Buffers = record { total = setup.caps.read_buffers; groups = setup.groups; used = u } in b) (sym (used-raised setup before after e n g he hg at.0 alone is at.1 r))
 
+-- with none given back nothing changes
+pub given-none : (home : Option ℕ) (b : Buffers) → given home 0 b ≡ b
+given-none None b = refl
+given-none (Some g) b =
+    let same : get_or b.used g 0 - 0 ≡ get_or b.used g 0 = omega arith in
+    ap (λ (u : List ℕ). let x : Buffers = record b { used = u } in x) (rw same (set-get_or b.used g 0))
+
 -- ---- a device on which nothing is held
 
 zero-sum : (f : ℕ → ℕ) (xs : List ℕ) → ((k : ℕ) → f k ≡ 0) → sum_by f xs ≡ 0

@@ -6,7 +6,9 @@
 #![tactic(auto)]
 
 mod engines;
+mod fetching;
 mod finishing;
+mod removing;
 mod starting;
 mod taking;
 
