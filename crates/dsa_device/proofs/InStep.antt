@@ -26,18 +26,18 @@ use Rattle.dsa_book.specs.declared.event.Portal.{Portal}
 use Rattle.dsa_book.specs.declared.event.Kind.{Kind}
 use Rattle.dsa_book.specs.declared.event.Kind.TheVariants.{Enqcmd, Movdir64b}
 use Rattle.dsa_book.specs.declared.answer.PollAnswer.{PollAnswer}
-use Rattle.dsa_book.specs.declared.answer.PollAnswer.TheVariants.{Finished, Active}
 use Rattle.dsa_book.specs.declared.note.ActiveCommand.{ActiveCommand}
 use Rattle.dsa_book.specs.State.{Setup, Intake, Work, State, is_off, phase_at, has_queue}
 use Rattle.dsa_book.specs.Submit.{submit, submit_table, turned_away, accepted}
 use Rattle.dsa_book.specs.Work.{used_on, used, all_used, group_in}
-use Rattle.dsa_book.specs.Commands.{stopped, is_at_end, poll, poll_of, with_setup, write_queue, write_group, clear, clear_of}
+use Rattle.dsa_book.specs.Commands.{stopped, is_at_end, poll, poll_of, write_queue, write_group, clear, clear_of}
 use Rattle.dsa_laws.specs.WellFormed.{NoneOff}
 use Rattle.dsa_laws.proofs.Setups.{not-both}
 use Rattle.dsa_laws.specs.Lists.{In}
 use Rattle.dsa_laws.proofs.Needs.{weight, weight-waiting, weight-same, sum_on, used_on-sum}
 use Rattle.dsa_laws.proofs.Orders.{chain-set}
 use Rattle.dsa_laws.proofs.Shapes.{stopped-caps, stopped-groups, stopped-configs}
+use Rattle.dsa_device.proofs.Layers.{either}
 use Rattle.dsa_engines.specs.Engines.{Gear, IsInStep, lists_alone, buffers_of, homes_of}
 
 -- what an engine may see of two states is the same: the device's parts and groups, and what runs in each list
@@ -189,9 +189,7 @@ poll-in_step s gear i = go s.active
   where
     go : (active : Option ActiveCommand) → IsInStep (poll_of s active).1.work.setup gear (poll_of s active).1.work.content
     go None = i
-    go (Some active) = at (is_at_end active s.work.content) (in_step-alike s.work.setup (stopped active.command Off s.work.setup) gear s.work.content s.work.content (over-alike s.work.setup active.command s.work.content) i)
-      where
-        at : (b : Bool) → IsInStep (stopped active.command Off s.work.setup) gear s.work.content
-            → IsInStep (cond b (Finished, record { work = with_setup s.work (stopped active.command Off s.work.setup); active = None }) (Active, s)).1.work.setup gear (cond b (Finished, record { work = with_setup s.work (stopped active.command Off s.work.setup); active = None }) (Active, s)).1.work.content
-        at true over = over
-        at false over = i
+    go (Some active) =
+        either (λ (r : PollAnswer × State). IsInStep r.1.work.setup gear r.1.work.content) (is_at_end active s.work.content) _ _
+        (in_step-alike s.work.setup (stopped active.command Off s.work.setup) gear s.work.content s.work.content (over-alike s.work.setup active.command s.work.content) i)
+        i

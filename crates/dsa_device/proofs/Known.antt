@@ -93,11 +93,11 @@ occupancy_fits cells d queue i e room =
 
 none_runs-filter : (xs : List Slot) → none_runs xs ≡ true → filter is_running xs ≡ []
 none_runs-filter [] h = refl
-none_runs-filter (slot ∷ rest) h = go slot.1.running h
+none_runs-filter (slot ∷ rest) h = go slot.1.running h (none_runs-filter rest)
   where
-    go : (b : Bool) → (not b && none_runs rest) ≡ true → cond b (slot ∷ filter is_running rest) (filter is_running rest) ≡ []
-    go true h = absurd cc
-    go false h = none_runs-filter rest h
+    go : (b : Bool) → (not b && none_runs rest) ≡ true → (none_runs rest ≡ true → filter is_running rest ≡ []) → cond b (slot ∷ filter is_running rest) (filter is_running rest) ≡ []
+    go true h more = absurd cc
+    go false h more = more h
 
 wait_in_order : (xs : List Slot) → runs_first xs ≡ true → WaitInOrder xs
 wait_in_order [] h = tt

@@ -2,7 +2,7 @@
 use Rattle.std.proofs.Common.{◌≡◌, ℕ, Bool, true, false, ◌&&◌, Option, Some, None, option_map, refl, sym, ap, subst}
 use Rattle.std.specs.Bool.{beq}
 use Rattle.std.proofs.lemmas.Bool.{eq-eqb}
-use Rattle.std.specs.Prelude.{find, length, cond}
+use Rattle.std.specs.Prelude.{find, length, cond, ◌==◌}
 use Rattle.dsa_desc.specs.declared.Descriptor.{Descriptor}
 use Rattle.dsa_desc.specs.declared.Outcome.{Outcome}
 use Rattle.dsa_desc.specs.Rows.{when}
@@ -41,6 +41,11 @@ use Rattle.dsa_book.specs.Work.{dispatch, running_on, finish, finish_of, is_unfi
 use Rattle.dsa_book.specs.Submit.{submit, submit_table, turned_away, accepted}
 use Rattle.dsa_book.specs.Commands.{issue, issue_table, refused_or, check_of, carried_out, waits, is_at_end, count_in_scope, poll, poll_of, write_queue, write_queue_table, write_group, write_group_table, clear, clear_of}
 use Rattle.dsa_book.specs.Machine.{next, intake_of, with_intake, with_setup, with_work, accepted_cell, fetched_cell, cell_or_first, may_use}
+
+-- what holds of both holds of the one that is tested
+pub either : {X : Type 0} (P : X → Type 0) (b : Bool) (x y : X) → P x → P y → P (cond b x y)
+either P true x y p q = p
+either P false x y p q = q
 
 -- ---- an answer of the machine is the same as itself
 
@@ -106,10 +111,6 @@ fetch-self w e desc cell = noted (note_at w e)
     noted : (note : Option BatchNote) → same_fetch (fetch_for w e desc cell note).0 (fetch_for w e desc cell note).0 ≡ true
     noted None = refl
     noted (Some note) = taken note (batch_on w e note)
-
-either : {X : Type 0} (P : X → Type 0) (b : Bool) (x y : X) → P x → P y → P (cond b x y)
-either P true x y p q = p
-either P false x y p q = q
 
 waits-self : (s : State) (command : Command) → same_issue (waits s command).0 (waits s command).0 ≡ true
 waits-self s command = either (λ (r : IssueAnswer × State). same_issue r.0 r.0 ≡ true) (is_at_end (record { command = command; mark = s.work.setup.next_name }) s.work.content) _ _ refl refl

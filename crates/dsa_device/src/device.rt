@@ -12,8 +12,8 @@ mod reads;
 
 use crate::MakeFault;
 use dsa_book::{
-    ActiveCommand, Book, ClearAnswer, DispatchAnswer, Event, FinishAnswer, Kind, Portal, Reply,
-    StartAnswer, SubmitAnswer, Ticket, WriteAnswer,
+    ActiveCommand, Book, ClearAnswer, DispatchAnswer, Event, FetchAnswer, FinishAnswer, Kind,
+    Portal, Reply, StartAnswer, SubmitAnswer, Ticket, WriteAnswer,
 };
 use dsa_desc::{Descriptor, Outcome};
 use dsa_engines::Engines;
@@ -168,6 +168,22 @@ impl<S: EntryStore> Device<S> {
         answer
     }
 
+    /// An engine hands in the next member of its batch.
+    #[inline(always)]
+    pub fn fetch(&mut self, engine: u16, desc: Descriptor) -> FetchAnswer
+        ensures { answered self.old (event.Fetch engine desc) (reply.Fetch result) ≡ Some self.new }
+    {
+        if self.book.is_full() {
+            return FetchAnswer::Full;
+        }
+        let answer = self
+            .engines
+            .fetch(&mut self.queues, &mut self.store, engine, desc);
+        self.book
+            .record(Event::Fetch { engine, desc }, Reply::Fetch(answer));
+        answer
+    }
+
     /// An engine starts the first of its members that does not run.
     #[inline(always)]
     pub fn start(&mut self, engine: u16) -> StartAnswer
@@ -176,9 +192,9 @@ impl<S: EntryStore> Device<S> {
         if self.book.is_full() {
             return StartAnswer::Full;
         }
-        let answer =
-            self.engines
-                .start(&self.queues, &mut self.store, &mut self.book, engine);
+        let answer = self
+            .engines
+            .start(&self.queues, &mut self.store, &mut self.book, engine);
         self.book
             .record(Event::Start { engine }, Reply::Start(answer));
         answer

@@ -1,8 +1,6 @@
-use Rattle.std.proofs.Common.{◌≡◌, ◌∙◌, sym, ap}
+use Rattle.std.proofs.Common.{◌∙◌, sym}
 use Rattle.dsa_book.specs.declared.event.Event.TheVariants as event
 use Rattle.dsa_book.specs.declared.answer.Reply.TheVariants as reply
-use Rattle.dsa_book.specs.Records.{Records}
-use Rattle.dsa_book.specs.Machine.{recorded}
 use Rattle.dsa_engines.specs.Engines.{work}
 use Rattle.dsa_device.specs.Running.{running}
 use Rattle.dsa_device.proofs.Known.{ready, row_fits}
