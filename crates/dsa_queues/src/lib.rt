@@ -4,6 +4,7 @@
 //! store, which each call that needs it is lent: list k of the store is queue k. Nothing here allocates.
 #![tactic(auto)]
 
+mod commands;
 mod queues;
 mod submission;
 mod writes;

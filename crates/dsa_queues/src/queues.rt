@@ -1,12 +1,12 @@
 //! What is kept of the queues and groups: a reader and a setter for each part.
 
-ghost use Rattle.std.specs.Prelude.{◌≡◌, ◌+◌, ◌<◌, ◌^◌, true, false, IsTrue, IfSome, slice_set, position, Some};
+ghost use Rattle.std.specs.Prelude.{◌≡◌, ◌+◌, ◌==◌, ◌<◌, ◌^◌, true, false, IsTrue, IfSome, slice_set, position, Some};
 ghost use Rattle.dsa_regs.specs.Caps.{check_caps};
 ghost use Rattle.dsa_regs.specs.Numbers.{has};
 ghost use Rattle.dsa_regs.specs.Config.{queue_at, group_at};
 ghost use Rattle.dsa_book.specs.State.{Setup, opening_setup, phase_at, is_off, has_queue, limits_at, need_of, status_of, is_batch_of};
 ghost use Rattle.dsa_book.specs.Submit.{noted_more};
-ghost use Rattle.dsa_book.specs.Commands.{clear};
+ghost use Rattle.dsa_book.specs.Commands.{clear, with_device, with_phases};
 ghost use Rattle.dsa_queues.specs.Queues.{HasTables};
 
 use dsa_book::{Cause, ClearAnswer, NotedError};
@@ -92,7 +92,7 @@ impl Queues {
 
     #[inline(always)]
     pub fn set_device(&mut self, phase: Phase)
-        ensures { self.new ≡ record self.old { device = phase } }
+        ensures { self.new ≡ with_device phase self.old }
     {
         self.device = phase;
     }
@@ -112,7 +112,8 @@ impl Queues {
     #[inline(always)]
     pub fn set_phase(&mut self, queue: u16, phase: Phase)
         requires { has_queue self.old queue ≡ true }
-        ensures { self.new ≡ record self.old { phases = slice_set self.old.phases queue phase } }
+        ensures place { self.new ≡ record self.old { phases = slice_set self.old.phases queue phase } }
+        ensures alone { self.new ≡ with_phases (λ q. q == queue) phase self.old }
     {
         self.phases[usize::from(queue)] = phase;
     }

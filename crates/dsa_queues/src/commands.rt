@@ -1,0 +1,51 @@
+//! What commands change of the queues.
+
+ghost use Rattle.std.specs.Prelude.{◌≡◌, not, IsTrue};
+ghost use Rattle.dsa_regs.specs.Command.{queues_of};
+ghost use Rattle.dsa_book.specs.State.{phase_at, is_off};
+ghost use Rattle.dsa_book.specs.Commands.{names, with_phases, with_sizes_alone, reset};
+
+use crate::Queues;
+use dsa_regs::{Phase, QueueConfig, QueueMask};
+
+impl Queues {
+    /// Gives the named queues this phase. A number that no queue has names nothing.
+    pub fn set_phases(&mut self, named: &QueueMask, phase: Phase)
+        ensures { self.new ≡ with_phases (names (queues_of named.now)) phase self.old }
+    {
+        for queue in 0..self.caps().queues {
+            if named.contains(queue) {
+                self.set_phase(queue, phase);
+            }
+        }
+    }
+
+    /// Gives the queues that are not `Off` this phase.
+    pub fn set_live_phases(&mut self, phase: Phase)
+        ensures { self.new ≡ with_phases (λ q. not (is_off (phase_at self.old q))) phase self.old }
+    {
+        for queue in 0..self.caps().queues {
+            if self.phase(queue) != Phase::Off {
+                self.set_phase(queue, phase);
+            }
+        }
+    }
+
+    /// Makes the configurations of the named queues zero but for their sizes.
+    pub fn keep_sizes(&mut self, named: &QueueMask)
+        ensures { self.new ≡ with_sizes_alone (queues_of named.now) self.old }
+    {
+        for queue in 0..self.caps().queues {
+            if named.contains(queue) {
+                let size = self.queue(queue).size;
+                self.set_queue(
+                    queue,
+                    QueueConfig {
+                        size,
+                        ..QueueConfig::default()
+                    },
+                );
+            }
+        }
+    }
+}
