@@ -1,0 +1,28 @@
+-- What a command waits for, and what it takes out of a list.
+use Rattle.std.specs.Prelude.{Bool, not, cond, List, map, filter}
+use Rattle.dsa_regs.specs.declared.Command.{Command}
+use Rattle.dsa_regs.specs.Command.{number_of}
+use Rattle.dsa_store.specs.declared.entry.Entry.{Entry}
+use Rattle.dsa_store.specs.Content.{Slot}
+use Rattle.dsa_book.specs.declared.note.ActiveCommand.{ActiveCommand}
+use Rattle.dsa_book.specs.declared.fate.Fate.TheVariants.{Aborted}
+use Rattle.dsa_book.specs.declared.fate.FateRow.{FateRow}
+use Rattle.dsa_book.specs.Work.{fate_row}
+use Rattle.dsa_book.specs.Commands.{is_in_scope, is_awaited, is_disable}
+
+-- the entries that keep an active command from its end (Intel DSA: disable and drain commands)
+abbrev pub is_waited_for : ActiveCommand → Entry → Bool
+is_waited_for active entry =
+    cond (is_disable active.command) (is_in_scope active.command) (is_awaited active.command active.mark) entry
+
+-- the command is about the entry
+abbrev pub is_meant : Command → Slot → Bool
+is_meant command slot = is_in_scope command slot.1
+
+-- the command is not about the entry
+abbrev pub is_spared : Command → Slot → Bool
+is_spared command slot = not (is_in_scope command slot.1)
+
+-- the rows of what an abort takes out of a list (profile)
+abbrev pub rows_of : Command → List Slot → List FateRow
+rows_of command xs = map (fate_row (Aborted (number_of command))) (filter (is_meant command) xs)
