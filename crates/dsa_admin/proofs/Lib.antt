@@ -1,0 +1,2 @@
+pub mod Withdrawals
+pub mod Waits

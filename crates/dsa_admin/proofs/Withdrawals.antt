@@ -1,0 +1,158 @@
+-- Lists that a command is taken out of, one after the other.
+use Rattle.std.proofs.Common.{◌≡◌, ℕ, ◌+◌, ◌<◌, ◌≤◌, Bool, true, false, not, cond, List, [], ◌∷◌, ◌++◌, take, drop, length, map, set, Option, Some, None, refl, subst, append_assoc, sym, ap, ◌∙◌, arith}
+use Rattle.std.proofs.lemmas.Grind.{common_steps, flat_map-append}
+use Rattle.std.proofs.lemmas.List.{length-append, length-map, map-append, append-nil, take_more}
+use Rattle.std.proofs.lemmas.List.Elements.{filter-append, filter_more}
+use Rattle.std.proofs.lemmas.List.Filters.{length-filter_both}
+use Rattle.std.proofs.lemmas.List.Edits.{map_over_more}
+use Rattle.std.specs.List.{filter}
+use Rattle.dsa_regs.specs.declared.Command.{Command}
+use Rattle.dsa_regs.specs.Command.{number_of}
+use Rattle.dsa_store.specs.declared.entry.Cell.{Cell}
+use Rattle.dsa_store.specs.declared.entry.Entry.{Entry}
+use Rattle.dsa_store.specs.Content.{Slot, Content, chain, uses, held, first_cell, entry_of, unlinked, kept, all_held, StandsAt}
+use Rattle.dsa_store.proofs.Finding.{entry_of-none}
+use Rattle.dsa_store.proofs.Lists.{held-set, held-unlinked}
+use Rattle.dsa_store.proofs.Turns.{AtTurn, at-turn, thinned}
+use Rattle.dsa_book.specs.declared.fate.Fate.TheVariants.{Aborted}
+use Rattle.dsa_book.specs.declared.fate.FateRow.{FateRow}
+use Rattle.dsa_book.specs.Records.{Records}
+use Rattle.dsa_book.specs.Work.{fate_row}
+use Rattle.dsa_book.specs.Commands.{is_in_scope}
+use Rattle.dsa_admin.specs.Admin.{is_meant, is_spared, rows_of}
+
+-- ---- a cell
+
+-- a cell that has an entry is one of those held
+pub used-entry : (content : Content) (cell : Cell) (e : Entry) → entry_of content cell ≡ Some e → (1 ≤ uses content cell) × (held (unlinked content cell) + 1 ≤ held content)
+used-entry content cell e h =
+    let some : 1 ≤ uses content cell = grind (arith, h, entry_of-none content cell) in
+    (some, omega (arith, some, held-unlinked content cell))
+
+map-cond : (row : Slot → FateRow) (b : Bool) (s : Slot) → map row (cond b (s ∷ []) []) ≡ cond b (row s ∷ []) []
+map-cond row true s = refl
+map-cond row false s = refl
+
+-- one more place of the list
+pub rows-turn : (command : Command) (content : Content) (i k : ℕ) (cell : Cell) (e : Entry) → StandsAt content i k cell e → rows_of command (take (k + 1) (chain content i)) ≡ rows_of command (take k (chain content i)) ++ cond (is_in_scope command e) (fate_row (Aborted (number_of command)) (cell, e) ∷ []) []
+rows-turn command content i k cell e at =
+    let l : List Slot = chain content i in
+    let row : Slot → FateRow = fate_row (Aborted (number_of command)) in
+    let more : filter (is_meant command) (take (k + 1) l) ≡ filter (is_meant command) (take k l) ++ cond (is_in_scope command e) ((cell, e) ∷ []) []
+    = filter_more (is_meant command) l k (cell, e) at.within ∙ ap (λ (x : Slot). filter (is_meant command) (take k l) ++ cond (is_meant command x) (x ∷ []) []) at.slot in
+    ap (map row) more ∙ map-append row (filter (is_meant command) (take k l)) (cond (is_in_scope command e) ((cell, e) ∷ []) []) ∙ ap (λ (rows : List FateRow). rows_of command (take k l) ++ rows) (map-cond row (is_in_scope command e) (cell, e))
+
+
+left-by : (command : Command) (content : Content) (i k : ℕ) (now : Content) (cell : Cell) → (t : AtTurn (is_spared command) content i k now cell) (b : Bool) → is_in_scope command t.entry ≡ b → cond b (unlinked now cell) now ≡ thinned (is_spared command) content i (k + 1)
+left-by command content i k now cell t true h = t.out (ap not h)
+left-by command content i k now cell t false h = t.stay (ap not h)
+
+-- the list as it is to be after this place
+pub left-turn : (command : Command) (content : Content) (i k : ℕ) (now after : Content) (cell : Cell) → (t : AtTurn (is_spared command) content i k now cell) → after ≡ cond (is_in_scope command t.entry) (unlinked now cell) now → after ≡ thinned (is_spared command) content i (k + 1)
+left-turn command content i k now after cell t is = is ∙ left-by command content i k now cell t (is_in_scope command t.entry) refl
+
+-- room for the rows of what is held is left
+room-turn : (now after : Content) (cell : Cell) (e : Entry) (rows more : List FateRow) (row : FateRow) (capacity : ℕ) (b : Bool) → entry_of now cell ≡ Some e → after ≡ cond b (unlinked now cell) now → more ≡ rows ++ cond b (row ∷ []) [] → length rows + held now ≤ capacity → length more + held after ≤ capacity
+room-turn now after cell e rows more row capacity true h is rs room =
+    let used : (1 ≤ uses now cell) × (held (unlinked now cell) + 1 ≤ held now) = used-entry now cell e h in
+    let count : length more ≡ length rows + 1 = grind (arith, common_steps, rs) in
+    let left : held after ≡ held (unlinked now cell) = ap held is in
+    omega (arith, used.1, count, left, room)
+room-turn now after cell e rows more row capacity false h is rs room =
+    let count : length more ≡ length rows = grind (arith, common_steps, rs) in
+    let left : held after ≡ held now = ap held is in
+    omega (arith, count, left, room)
+
+book-turn : (first now after : Records) (xs more all : List FateRow) → now ≡ record first { fates = first.fates ++ xs } → after ≡ record now { fates = now.fates ++ more } → all ≡ xs ++ more → after ≡ record first { fates = first.fates ++ all }
+book-turn first now after xs more all is step every =
+    let joined : now.fates ++ more ≡ first.fates ++ all = ap (λ (b : Records). b.fates ++ more) is ∙ append_assoc first.fates xs more ∙ ap (λ (l : List FateRow). first.fates ++ l) (sym every) in
+    step ∙ ap (λ (l : List FateRow). record now { fates = l }) joined ∙ ap (λ (b : Records). record b { fates = first.fates ++ all }) is
+
+-- the first k places of list i were looked at, and each that the command is about has left it with its row
+pub record IsWithdrawn (command : Command) (content : Content) (first : Records) (i k : ℕ) (now : Content) (book : Records) : Type 0 where
+  pub left : now ≡ thinned (is_spared command) content i k
+  pub rows : book ≡ record first { fates = first.fates ++ rows_of command (take k (chain content i)) }
+  pub room : length book.fates + held now ≤ book.capacity
+
+pub withdrawn-room : (content : Content) (book : Records) (cell : Cell) (got : Option Entry) (e : Entry) → length book.fates + held content ≤ book.capacity → got ≡ entry_of content cell → got ≡ Some e → length book.fates < book.capacity
+withdrawn-room content book cell got e room read is = omega (arith, room, (used-entry content cell e (sym read ∙ is)).1)
+
+pub withdrawn-turn : (command : Command) (content : Content) (first : Records) (i k : ℕ) (now after : Content) (book later : Records) (cell : Cell) (got : Option Entry) (e : Entry) → ((c : Cell) → uses now c ≤ 1) → i < length content → k < length (chain content i) → first_cell (drop k (chain content i)) ≡ Some cell → IsWithdrawn command content first i k now book → got ≡ entry_of now cell → got ≡ Some e → after ≡ cond (is_in_scope command e) (unlinked now cell) now → later ≡ record book { fates = book.fates ++ cond (is_in_scope command e) (fate_row (Aborted (number_of command)) (cell, e) ∷ []) [] } → IsWithdrawn command content first i (k + 1) after later
+withdrawn-turn command content first i k now after book later cell got e once hi h front w read is left rows =
+    let t : AtTurn (is_spared command) content i k now cell = at-turn (is_spared command) content i k now cell once hi h w.left front in
+    let found : entry_of now cell ≡ Some e = sym read ∙ is in
+    let told : ◌≡◌ {A = Option Entry} (Some t.entry) (Some e) = sym t.get ∙ found in
+    let same : t.entry ≡ e = cc in
+    let row : FateRow = fate_row (Aborted (number_of command)) (cell, e) in
+    let here : StandsAt content i k cell e = subst (λ (x : Entry). StandsAt content i k cell x) same t.stands in
+    record {
+      left = left-turn command content i k now after cell t (left ∙ ap (λ (x : Entry). cond (is_in_scope command x) (unlinked now cell) now) (sym same));
+      rows = book-turn first book later _ _ _ w.rows rows (rows-turn command content i k cell e here);
+      room =
+          let full : later.capacity ≡ book.capacity = ap (λ (b : Records). b.capacity) rows in
+          let more : later.fates ≡ book.fates ++ cond (is_in_scope command e) (row ∷ []) [] = ap (λ (b : Records). b.fates) rows in
+          rw full (room-turn now after cell e book.fates later.fates row book.capacity (is_in_scope command e) found left more w.room);
+    }
+
+-- what the store gives for a cell of the list is an entry
+pub withdrawn-found : (p : Slot → Bool) (content : Content) (i k : ℕ) (now : Content) (cell : Cell) (got : Option Entry) → ((c : Cell) → uses now c ≤ 1) → i < length content → k < length (chain content i) → first_cell (drop k (chain content i)) ≡ Some cell → now ≡ thinned p content i k → got ≡ entry_of now cell → got ≡ None → ⊥
+withdrawn-found p content i k now cell got once hi h front left read none =
+    let t : AtTurn p content i k now cell = at-turn p content i k now cell once hi h left front in
+    let told : ◌≡◌ {A = Option Entry} None (Some t.entry) = sym none ∙ read ∙ t.get in
+    cc
+
+-- ---- the lists
+
+-- the first n lists without what the command is about
+abbrev pub swept : Command → Content → ℕ → Content
+swept command content n = map (filter (is_spared command)) (take n content) ++ drop n content
+
+pub swept-turn : (command : Command) (content now : Content) (n : ℕ) → n < length content → now ≡ swept command content n → set now n (filter (is_spared command) (chain now n)) ≡ swept command content (n + 1)
+swept-turn command content now n h is = map_over_more (filter (is_spared command)) content now n (chain now n) h is (grind (arith, common_steps, is, h))
+
+pub swept-length : (command : Command) (content now : Content) (n : ℕ) → now ≡ swept command content n → length now ≡ length content
+swept-length command content now n is = grind (arith, common_steps, is)
+
+pub swept-chain : (command : Command) (content now : Content) (n : ℕ) → n < length content → now ≡ swept command content n → chain now n ≡ chain content n
+swept-chain command content now n h is = grind (arith, common_steps, is)
+
+pub swept-all : (command : Command) (content : Content) (n : ℕ) → length content ≤ n → swept command content n ≡ kept (λ entry. not (is_in_scope command entry)) content
+swept-all command content n h = grind (arith, common_steps, h)
+
+-- the rows of one list after those of the lists before it
+pub rows-lists : (command : Command) (content : Content) (n : ℕ) → n < length content → rows_of command (all_held (take (n + 1) content)) ≡ rows_of command (all_held (take n content)) ++ rows_of command (chain content n)
+rows-lists command content n h =
+    let row : Slot → FateRow = fate_row (Aborted (number_of command)) in
+    let one : all_held (take (n + 1) content) ≡ all_held (take n content) ++ chain content n
+    = ap (λ (c : Content). all_held c) (take_more content n [] h) ∙ flat_map-append (λ (l : List Slot). l) (take n content) (chain content n ∷ []) ∙ ap (λ (l : List Slot). all_held (take n content) ++ l) (append-nil (chain content n)) in
+    ap (λ (l : List Slot). rows_of command l) one
+    ∙ ap (map row) (filter-append (is_meant command) (all_held (take n content)) (chain content n))
+    ∙ map-append row (filter (is_meant command) (all_held (take n content))) (filter (is_meant command) (chain content n))
+
+room-lists : (command : Command) (now after : Content) (n : ℕ) (rows more : List FateRow) (capacity : ℕ) → n < length now → after ≡ set now n (filter (is_spared command) (chain now n)) → more ≡ rows ++ rows_of command (chain now n) → length rows + held now ≤ capacity → length more + held after ≤ capacity
+room-lists command now after n rows more capacity h is rs room =
+    let row : Slot → FateRow = fate_row (Aborted (number_of command)) in
+    let both : length (filter (is_meant command) (chain now n)) + length (filter (is_spared command) (chain now n)) ≡ length (chain now n) = length-filter_both (is_meant command) (is_spared command) (λ x. refl) (chain now n) in
+    let less : held (set now n (filter (is_spared command) (chain now n))) + length (chain now n) ≡ held now + length (filter (is_spared command) (chain now n)) = held-set now n (filter (is_spared command) (chain now n)) h in
+    let left : held after ≡ held (set now n (filter (is_spared command) (chain now n))) = ap held is in
+    let count : length more ≡ length rows + length (filter (is_meant command) (chain now n)) = ap length rs ∙ length-append rows (rows_of command (chain now n)) ∙ ap (λ (k : ℕ). length rows + k) (length-map (filter (is_meant command) (chain now n)) row) in
+    omega (arith, both, less, left, count, room)
+
+-- the first n lists were walked, and what the command is about has left them with its rows
+pub record IsSwept (command : Command) (content : Content) (first : Records) (n : ℕ) (now : Content) (book : Records) : Type 0 where
+  pub left : now ≡ swept command content n
+  pub rows : book ≡ record first { fates = first.fates ++ rows_of command (all_held (take n content)) }
+  pub room : length book.fates + held now ≤ book.capacity
+
+pub swept-next : (command : Command) (content : Content) (first : Records) (n : ℕ) (now after : Content) (book later : Records) → n < length content → IsSwept command content first n now book → after ≡ set now n (filter (is_spared command) (chain now n)) → later ≡ record book { fates = book.fates ++ rows_of command (chain now n) } → IsSwept command content first (n + 1) after later
+swept-next command content first n now after book later h s left rows =
+    let same : chain now n ≡ chain content n = swept-chain command content now n h s.left in
+    record {
+      left = left ∙ swept-turn command content now n h s.left;
+      rows = book-turn first book later _ _ _ s.rows rows (rows-lists command content n h ∙ ap (λ (l : List Slot). rows_of command (all_held (take n content)) ++ rows_of command l) (sym same));
+      room =
+          let full : later.capacity ≡ book.capacity = ap (λ (b : Records). b.capacity) rows in
+          let more : later.fates ≡ book.fates ++ rows_of command (chain now n) = ap (λ (b : Records). b.fates) rows in
+          let within : n < length now = rw (swept-length command content now n s.left) h in
+          rw full (room-lists command now after n book.fates later.fates book.capacity within left more s.room);
+    }
