@@ -1,6 +1,7 @@
 -- What the queues and a store keep together, and whether a submission is accepted.
-use Rattle.std.specs.Prelude.{◌≡◌, ℕ, Bool, length, is_none}
+use Rattle.std.specs.Prelude.{◌≡◌, ℕ, Bool, true, length, is_none}
 use Rattle.dsa_desc.specs.Rows.{first_row}
+use Rattle.dsa_regs.specs.Caps.{check_caps}
 use Rattle.dsa_store.specs.Content.{Content}
 use Rattle.dsa_book.specs.declared.event.Portal.{Portal}
 use Rattle.dsa_book.specs.declared.event.Kind.{Kind}
@@ -15,8 +16,9 @@ intake setup content = record { setup = setup; content = content }
 abbrev pub is_accepting : Intake → ℕ → Portal → Kind → Bool
 is_accepting i queue portal kind = is_none (first_row (submit_table i queue portal kind))
 
--- a configuration and a phase for each queue, and a configuration for each group (profile)
-pub record HasTables (setup : Setup) : Type 0 where
+-- what holds of the queues at all times: lawful capabilities, a configuration and a phase for each queue, a configuration for each group (profile)
+pub record IsWhole (setup : Setup) : Type 0 where
+  pub lawful : check_caps setup.caps ≡ true
   pub configs : length setup.configs ≡ setup.caps.queues
   pub phases : length setup.phases ≡ setup.caps.queues
   pub groups : length setup.groups ≡ setup.caps.groups

@@ -1,9 +1,9 @@
 //! What commands change of the queues.
 
-ghost use Rattle.std.specs.Prelude.{◌≡◌, not, IsTrue};
+ghost use Rattle.std.specs.Prelude.{◌≡◌, not};
 ghost use Rattle.dsa_regs.specs.Command.{queues_of};
 ghost use Rattle.dsa_book.specs.State.{phase_at, is_off};
-ghost use Rattle.dsa_book.specs.Commands.{names, with_phases, with_sizes_alone, reset};
+ghost use Rattle.dsa_book.specs.Commands.{names, with_phases, with_sizes_alone};
 
 use crate::Queues;
 use dsa_regs::{Phase, QueueConfig, QueueMask};
@@ -32,11 +32,11 @@ impl Queues {
     }
 
     /// Makes the configurations of the named queues zero but for their sizes.
-    pub fn keep_sizes(&mut self, named: &QueueMask)
-        ensures { self.new ≡ with_sizes_alone (queues_of named.now) self.old }
+    pub fn keep_sizes(&mut self, mask: &QueueMask)
+        ensures { self.new ≡ with_sizes_alone (queues_of mask.now) self.old }
     {
         for queue in 0..self.caps().queues {
-            if named.contains(queue) {
+            if mask.contains(queue) {
                 let size = self.queue(queue).size;
                 self.set_queue(
                     queue,

@@ -10,3 +10,6 @@ mod submission;
 mod writes;
 
 pub use queues::Queues;
+
+#[cfg(test)]
+mod tests;

@@ -6,8 +6,8 @@ ghost use Rattle.dsa_regs.specs.Numbers.{has};
 ghost use Rattle.dsa_regs.specs.Config.{queue_at, group_at};
 ghost use Rattle.dsa_book.specs.State.{Setup, opening_setup, phase_at, is_off, has_queue, limits_at, need_of, status_of, is_batch_of};
 ghost use Rattle.dsa_book.specs.Submit.{noted_more};
-ghost use Rattle.dsa_book.specs.Commands.{clear, with_device, with_phases};
-ghost use Rattle.dsa_queues.specs.Queues.{HasTables};
+ghost use Rattle.dsa_book.specs.Commands.{clear, reset, with_device, with_phases};
+ghost use Rattle.dsa_queues.specs.Queues.{IsWhole};
 
 use dsa_book::{Cause, ClearAnswer, NotedError};
 use dsa_desc::{Outcome, QueueLimits};
@@ -37,7 +37,7 @@ impl Model for Queues {
 
     ghost view = { λ q. record { caps = q.caps; device = q.device; configs = q.configs.items; phases = q.phases.items; groups = q.groups.items; next_name = q.next_name; noted = q.noted } };
 
-    ghost invariant = { λ q. HasTables (record { caps = q.caps; device = q.device; configs = q.configs.items; phases = q.phases.items; groups = q.groups.items; next_name = q.next_name; noted = q.noted }) };
+    ghost invariant = { λ q. IsWhole (record { caps = q.caps; device = q.device; configs = q.configs.items; phases = q.phases.items; groups = q.groups.items; next_name = q.next_name; noted = q.noted }) };
 }
 
 // The noted error after one more descriptor was dropped.
@@ -74,11 +74,20 @@ impl Queues {
         }
     }
 
+    /// All zero, `Off` and with no error noted again, but for the next name, so that no name is given twice.
+    pub fn reset(&mut self)
+        ensures { self.new ≡ reset self.old }
+    {
+        let next_name = self.next_name;
+        *self = Queues::new(self.caps);
+        self.next_name = next_name;
+    }
+
     /// What the device has. It never changes.
     #[inline(always)]
     pub fn caps(&self) -> Caps
         ensures value { result ≡ self.now.caps }
-        ensures tables { HasTables self.now }
+        ensures whole { IsWhole self.now }
     {
         self.caps
     }
@@ -95,6 +104,14 @@ impl Queues {
         ensures { self.new ≡ with_device phase self.old }
     {
         self.device = phase;
+    }
+
+    /// Whether the device has the queue.
+    #[inline(always)]
+    pub fn has_queue(&self, queue: u16) -> bool
+        ensures { result ≡ has_queue self.now queue }
+    {
+        queue < self.caps.queues
     }
 
     /// The phase of the queue; `Off` where the device has no such queue.

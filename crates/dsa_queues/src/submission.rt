@@ -114,7 +114,7 @@ impl Queues {
         requires short { has_queue self.now queue ≡ true → occupancy (S.content store.now) queue < 2 ^ 16 }
         ensures { result ≡ when (has_queue self.now queue) (occupancy (S.content store.now) queue) }
     {
-        if queue < self.caps().queues {
+        if self.has_queue(queue) {
             Some(store.len(ListId(queue)) as u16)
         } else {
             None

@@ -13,7 +13,7 @@ impl Queues {
     pub fn write_queue(&mut self, queue: u16, config: QueueConfig) -> WriteAnswer
         ensures { write_queue self.old queue config ≡ (result, self.new) }
     {
-        if queue >= self.caps().queues {
+        if !self.has_queue(queue) {
             return WriteAnswer::Refused(Fault::BadIndex);
         }
         if self.phase(queue) != Phase::Off {

@@ -7,4 +7,4 @@ use Rattle.dsa_queues.proofs.queues.Queues.keep_sizes.Given as goal
 
 abbrev pub invariant-loop-queue : goal.invariant-loop-queue
 invariant-loop-queue l =
-    l.self ≡ record l.fn.self { configs = renewed (λ q. cond (names (queues_of l.named) q) (size_alone (queue_at l.fn.self.configs q)) (queue_at l.fn.self.configs q)) l.queue l.fn.self.configs }
+    l.self ≡ record l.fn.self { configs = renewed (λ q. cond (names (queues_of l.mask) q) (size_alone (queue_at l.fn.self.configs q)) (queue_at l.fn.self.configs q)) l.queue l.fn.self.configs }

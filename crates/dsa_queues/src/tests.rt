@@ -1,0 +1,338 @@
+//! Each call at a store of vectors, on two queues: queue 0 is shared, of size 4 and threshold 2, and queue 1 dedicated, of size 2.
+
+use crate::Queues;
+use dsa_book::{Cause, ClearAnswer, Kind, NotedError, Portal, SubmitAnswer, Ticket, WriteAnswer};
+use dsa_desc::{Descriptor, Outcome, QueueLimits};
+use dsa_regs::{
+    Caps, Fault, GroupConfig, Phase, QueueConfig, QueueMask, cell_count, check_caps, list_count,
+};
+use dsa_store::{EntryStore, ListId, PlainStore, front_slot};
+use std::process::Abort;
+use std::test::Fail;
+
+const CAPS: Caps = Caps {
+    queues: 2,
+    groups: 2,
+    engines: 2,
+    total_size: 8,
+    read_buffers: 16,
+    slots: 2,
+    max_batch_shift: 3,
+    max_xfer_shift: 20,
+};
+
+const SHARED: QueueConfig = QueueConfig {
+    size: 4,
+    threshold: 2,
+    dedicated: false,
+    priority: 1,
+    pasid: 0,
+    max_batch_shift: 3,
+    max_xfer_shift: 20,
+};
+
+const DEDICATED: QueueConfig = QueueConfig {
+    size: 2,
+    threshold: 0,
+    dedicated: true,
+    priority: 2,
+    pasid: 7,
+    max_batch_shift: 3,
+    max_xfer_shift: 20,
+};
+
+const FIRST_GROUP: GroupConfig = GroupConfig {
+    queues: 1,
+    engines: 1,
+    reserved: 4,
+    allowed: 8,
+};
+
+const SECOND_GROUP: GroupConfig = GroupConfig {
+    queues: 2,
+    engines: 2,
+    reserved: 8,
+    allowed: 12,
+};
+
+const ENQCMD: Kind = Kind::Enqcmd { pasid: 5 };
+
+// A Memory Move of one page.
+const MOVE: Descriptor = Descriptor {
+    pasid: 0,
+    flags: 0,
+    op: 3,
+    size: 4096,
+};
+
+// The queues of a device before anything is written.
+fn unwritten(rt: &impl Abort) -> Queues {
+    assert!(rt; check_caps(&CAPS));
+    Queues::new(CAPS)
+}
+
+// The queues with both written and on.
+fn enabled(rt: &impl Abort) -> Queues {
+    let mut queues = unwritten(rt);
+    assert_eq!(rt; queues.write_queue(0, SHARED), WriteAnswer::Written);
+    assert_eq!(rt; queues.write_queue(1, DEDICATED), WriteAnswer::Written);
+    assert_eq!(rt; queues.write_group(0, FIRST_GROUP), WriteAnswer::Written);
+    assert_eq!(rt; queues.write_group(1, SECOND_GROUP), WriteAnswer::Written);
+    queues.set_device(Phase::On);
+    assert!(rt; queues.has_queue(0) && queues.has_queue(1) && !queues.has_queue(2));
+    queues.set_phase(0, Phase::On);
+    queues.set_phase(1, Phase::On);
+    queues
+}
+
+// The move is submitted, once it is seen that a cell and a name are left.
+fn submit<S: EntryStore>(
+    rt: &impl Abort,
+    queues: &mut Queues,
+    store: &mut S,
+    queue: u16,
+    portal: Portal,
+    kind: Kind,
+) -> SubmitAnswer {
+    let caps = queues.caps();
+    assert!(rt; store.lists() == list_count(&caps) && store.cells() == cell_count(&caps));
+    assert!(rt; store.free() > 0 && queues.next_name() < 1000);
+    queues.submit(store, queue, portal, kind, MOVE)
+}
+
+// The name that was given, where the move was accepted.
+fn name_of(answer: SubmitAnswer) -> Option<u32> {
+    match answer {
+        SubmitAnswer::Accepted(Ticket { name, .. }) => Some(name),
+        _ => None,
+    }
+}
+
+fn both_portals<S: EntryStore>(rt: &impl Abort, store: &mut S) {
+    let mut queues = enabled(rt);
+    let full = SubmitAnswer::Retry(Cause::AtLimit);
+    for name in 0..2 {
+        let answer = submit(rt, &mut queues, store, 0, Portal::Limited, ENQCMD);
+        assert_eq!(rt; name_of(answer), Some(name));
+    }
+    assert_eq!(rt;
+        submit(rt, &mut queues, store, 0, Portal::Limited, ENQCMD),
+        full
+    );
+    for name in 2..4 {
+        let answer = submit(rt, &mut queues, store, 0, Portal::Unlimited, ENQCMD);
+        assert_eq!(rt; name_of(answer), Some(name));
+    }
+    assert_eq!(rt;
+        submit(rt, &mut queues, store, 0, Portal::Unlimited, ENQCMD),
+        full
+    );
+    // An engine takes the front, which is counted no more.
+    assert!(rt; store.lists() == 6);
+    assert!(rt; store.move_front(ListId(0), ListId(2)).is_some());
+    assert_eq!(rt;
+        submit(rt, &mut queues, store, 0, Portal::Limited, ENQCMD),
+        full
+    );
+    let answer = submit(rt, &mut queues, store, 0, Portal::Unlimited, ENQCMD);
+    assert_eq!(rt; name_of(answer), Some(4));
+}
+
+#[test]
+fn threshold_bounds_the_limited_portal(rt: HostRuntime) -> Result<(), Fail> {
+    let mut store = PlainStore::new(rt.alloc(), 6, 28)?;
+    both_portals(&rt, &mut store);
+    Ok(())
+}
+
+fn dropped_twice<S: EntryStore>(rt: &impl Abort, store: &mut S) {
+    let mut queues = enabled(rt);
+    let full = SubmitAnswer::Dropped(Cause::AtLimit);
+    let mut noted = NotedError {
+        queue: 1,
+        cause: Cause::AtLimit,
+        overflow: true,
+    };
+    for name in 0..2 {
+        let answer = submit(rt, &mut queues, store, 1, Portal::Limited, Kind::Movdir64b);
+        assert_eq!(rt; name_of(answer), Some(name));
+    }
+    assert_eq!(rt;
+        submit(rt, &mut queues, store, 1, Portal::Limited, Kind::Movdir64b),
+        full
+    );
+    assert_eq!(rt;
+        submit(rt, &mut queues, store, 1, Portal::Limited, Kind::Movdir64b),
+        full
+    );
+    assert_eq!(rt; queues.noted(), Some(noted));
+    assert_eq!(rt; queues.clear_error(), ClearAnswer::Cleared(noted));
+    assert_eq!(rt; queues.clear_error(), ClearAnswer::Nothing);
+    assert_eq!(rt;
+        submit(
+            rt,
+            &mut queues,
+            store,
+            1,
+            Portal::Unlimited,
+            Kind::Movdir64b
+        ),
+        full
+    );
+    noted.overflow = false;
+    assert_eq!(rt; queues.clear_error(), ClearAnswer::Cleared(noted));
+    // The descriptor has the PASID of the queue.
+    assert!(rt; store.lists() == 6);
+    let front = front_slot(store, ListId(1)).map(|slot| slot.1.desc.pasid);
+    assert_eq!(rt; front, Some(7));
+}
+
+#[test]
+fn dropped_descriptors_are_noted(rt: HostRuntime) -> Result<(), Fail> {
+    let mut store = PlainStore::new(rt.alloc(), 6, 28)?;
+    dropped_twice(&rt, &mut store);
+    Ok(())
+}
+
+fn turned_away<S: EntryStore>(rt: &impl Abort, store: &mut S) {
+    let mut queues = enabled(rt);
+    let wrong = Cause::WrongKind;
+    assert_eq!(rt;
+        submit(rt, &mut queues, store, 1, Portal::Limited, ENQCMD),
+        SubmitAnswer::Retry(wrong)
+    );
+    assert_eq!(rt;
+        submit(rt, &mut queues, store, 0, Portal::Limited, Kind::Movdir64b),
+        SubmitAnswer::Dropped(wrong)
+    );
+    queues.set_phases(&QueueMask { group: 0, mask: 1 }, Phase::Stopping);
+    let off = Cause::NotEnabled;
+    assert_eq!(rt;
+        submit(rt, &mut queues, store, 0, Portal::Limited, ENQCMD),
+        SubmitAnswer::Retry(off)
+    );
+    assert_eq!(rt;
+        submit(rt, &mut queues, store, 9, Portal::Limited, ENQCMD),
+        SubmitAnswer::Retry(off)
+    );
+    assert_eq!(rt;
+        submit(rt, &mut queues, store, 9, Portal::Limited, Kind::Movdir64b),
+        SubmitAnswer::Dropped(off)
+    );
+    let noted = NotedError {
+        queue: 0,
+        cause: wrong,
+        overflow: true,
+    };
+    assert_eq!(rt; queues.noted(), Some(noted));
+    assert_eq!(rt; queues.next_name(), 0);
+}
+
+#[test]
+fn causes_come_in_order(rt: HostRuntime) -> Result<(), Fail> {
+    let mut store = PlainStore::new(rt.alloc(), 6, 28)?;
+    turned_away(&rt, &mut store);
+    Ok(())
+}
+
+fn entries<S: EntryStore>(rt: &impl Abort, store: &mut S) {
+    let mut queues = enabled(rt);
+    assert_eq!(rt;
+        name_of(submit(rt, &mut queues, store, 0, Portal::Limited, ENQCMD)),
+        Some(0)
+    );
+    assert!(rt; store.lists() == list_count(&queues.caps()));
+    let Some((_, entry)) = front_slot(store, ListId(0)) else {
+        assert!(rt; false);
+        return;
+    };
+    assert_eq!(rt; entry.desc.pasid, 5);
+    assert_eq!(rt; queues.need(&entry), 1);
+    assert_eq!(rt; queues.status(&entry, Outcome::PageFault), 3);
+    assert!(rt; !queues.is_batch(&entry));
+    assert!(rt; store.len(ListId(0)) < 65536 && store.len(ListId(1)) < 65536);
+    assert_eq!(rt; queues.occupancy(store, 0), Some(1));
+    assert_eq!(rt; queues.occupancy(store, 1), Some(0));
+    assert!(rt; !queues.has_queue(2));
+    assert_eq!(rt; queues.occupancy(store, 2), None);
+}
+
+#[test]
+fn entry_is_asked_about(rt: HostRuntime) -> Result<(), Fail> {
+    let mut store = PlainStore::new(rt.alloc(), 6, 28)?;
+    entries(&rt, &mut store);
+    Ok(())
+}
+
+#[test]
+fn parts_are_read(rt: HostRuntime) {
+    let queues = enabled(&rt);
+    assert_eq!(rt; queues.caps(), CAPS);
+    assert_eq!(rt; queues.device(), Phase::On);
+    assert_eq!(rt; queues.phase(1), Phase::On);
+    assert_eq!(rt; queues.phase(2), Phase::Off);
+    assert_eq!(rt; queues.queue(1), DEDICATED);
+    assert_eq!(rt; queues.queue(2), QueueConfig::default());
+    assert_eq!(rt; queues.group(0), FIRST_GROUP);
+    assert_eq!(rt; queues.group(2), GroupConfig::default());
+    assert_eq!(rt; queues.group_of(1), Some(1));
+    assert_eq!(rt; queues.group_of(2), None);
+    assert!(rt; queues.has_queue_in(1, 1) && !queues.has_queue_in(1, 0));
+    assert_eq!(rt; queues.priority(1), 2);
+    let limits = QueueLimits {
+        max_batch_shift: 3,
+        max_xfer_shift: 20,
+    };
+    assert_eq!(rt; queues.limits(0), limits);
+}
+
+#[test]
+fn writes_are_refused(rt: HostRuntime) {
+    let mut queues = enabled(&rt);
+    let locked = WriteAnswer::Refused(Fault::Locked);
+    let unknown = WriteAnswer::Refused(Fault::BadIndex);
+    assert_eq!(rt; queues.write_queue(0, SHARED), locked);
+    assert_eq!(rt; queues.write_queue(2, SHARED), unknown);
+    assert_eq!(rt; queues.write_group(0, FIRST_GROUP), locked);
+    assert_eq!(rt; queues.write_group(2, FIRST_GROUP), unknown);
+    queues.set_phase(0, Phase::Off);
+    let threshold = QueueConfig {
+        threshold: 4,
+        ..SHARED
+    };
+    assert_eq!(rt;
+        queues.write_queue(0, QueueConfig { size: 5, ..SHARED }),
+        locked
+    );
+    assert_eq!(rt; queues.write_queue(0, threshold), WriteAnswer::Written);
+    assert_eq!(rt; queues.queue(0), threshold);
+}
+
+#[test]
+fn commands_change_phases_and_configurations(rt: HostRuntime) {
+    let mut queues = enabled(&rt);
+    queues.set_phases(&QueueMask { group: 0, mask: 2 }, Phase::Off);
+    queues.set_live_phases(Phase::Stopping);
+    assert_eq!(rt; queues.phase(0), Phase::Stopping);
+    assert_eq!(rt; queues.phase(1), Phase::Off);
+    queues.keep_sizes(&QueueMask { group: 0, mask: 1 });
+    let size = QueueConfig {
+        size: 4,
+        ..QueueConfig::default()
+    };
+    assert_eq!(rt; queues.queue(0), size);
+    assert_eq!(rt; queues.queue(1), DEDICATED);
+    assert!(rt; queues.next_name() == 0);
+    assert_eq!(rt; queues.give_name(), 0);
+    queues.note_error(1, Cause::WrongKind);
+    assert!(rt; queues.has_queue(1) && queues.caps().groups == 2);
+    queues.set_queue(1, SHARED);
+    queues.set_group(1, FIRST_GROUP);
+    queues.reset();
+    assert_eq!(rt; queues.next_name(), 1);
+    assert_eq!(rt; queues.noted(), None);
+    assert_eq!(rt; queues.device(), Phase::Off);
+    assert_eq!(rt; queues.phase(0), Phase::Off);
+    assert_eq!(rt; queues.queue(1), QueueConfig::default());
+    assert_eq!(rt; queues.group(1), GroupConfig::default());
+}
