@@ -1,13 +1,16 @@
 -- What a command waits for, and what it takes out of a list.
-use Rattle.std.specs.Prelude.{Bool, not, cond, List, map, filter}
+use Rattle.std.specs.Prelude.{ℕ, Bool, not, cond, ◌||◌, nat_le, List, length, map, filter, Option}
+use Rattle.std.specs.List.{list_all}
 use Rattle.dsa_regs.specs.declared.Command.{Command}
 use Rattle.dsa_regs.specs.Command.{number_of}
 use Rattle.dsa_store.specs.declared.entry.Entry.{Entry}
-use Rattle.dsa_store.specs.Content.{Slot}
+use Rattle.dsa_store.specs.Content.{Slot, Content}
 use Rattle.dsa_book.specs.declared.note.ActiveCommand.{ActiveCommand}
 use Rattle.dsa_book.specs.declared.fate.Fate.TheVariants.{Aborted}
 use Rattle.dsa_book.specs.declared.fate.FateRow.{FateRow}
+use Rattle.dsa_book.specs.State.{Setup, State, has_queue}
 use Rattle.dsa_book.specs.Work.{fate_row}
+use Rattle.dsa_engines.specs.Engines.{Gear, work}
 use Rattle.dsa_book.specs.Commands.{is_in_scope, is_awaited, is_disable}
 
 -- the entries that keep an active command from its end (Intel DSA: disable and drain commands)
@@ -26,3 +29,11 @@ is_spared command slot = not (is_in_scope command slot.1)
 -- the rows of what an abort takes out of a list (profile)
 abbrev pub rows_of : Command → List Slot → List FateRow
 rows_of command xs = map (fate_row (Aborted (number_of command))) (filter (is_meant command) xs)
+
+-- no queue is named, or one that the device does not have (profile)
+abbrev pub is_bad_mask : Setup → List ℕ → Bool
+is_bad_mask setup named = nat_le (length named) 0 || not (list_all (has_queue setup) named)
+
+-- what a command sees and changes: the queues, what the engines keep, the entries, the rows, and the active command (profile)
+abbrev pub state : Setup → Gear → Content → List FateRow → Option ActiveCommand → State
+state setup gear content fates active = record { work = work setup gear content fates; active = active }

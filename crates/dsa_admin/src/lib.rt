@@ -1,6 +1,10 @@
 //! Commands of the administrator: what they refuse, whom they are about, drains and aborts.
 #![tactic(auto)]
 
+mod admin;
 mod ends;
+mod refusals;
 mod scope;
 mod withdrawal;
+
+pub use admin::Admin;
