@@ -6,5 +6,6 @@
 #![tactic(auto)]
 
 mod engines;
+mod leaving;
 
 pub use engines::Engines;
