@@ -1,2 +1,3 @@
 pub mod Withdrawals
 pub mod Waits
+pub mod Leaving

@@ -1,7 +1,8 @@
 -- Lists that a command is taken out of, one after the other.
-use Rattle.std.proofs.Common.{◌≡◌, ℕ, ◌+◌, ◌<◌, ◌≤◌, Bool, true, false, not, cond, List, [], ◌∷◌, ◌++◌, take, drop, length, map, set, Option, Some, None, refl, subst, append_assoc, sym, ap, ◌∙◌, arith}
+use Rattle.std.proofs.Common.{◌≡◌, ℕ, ◌+◌, ◌<◌, ◌≤◌, Bool, true, false, not, cond, List, [], ◌∷◌, ◌++◌, take, drop, length, map, set, Option, Some, None, refl, subst, append_assoc, inl, inr, sym, ap, ◌∙◌, arith}
 use Rattle.std.proofs.lemmas.Grind.{common_steps, flat_map-append}
-use Rattle.std.proofs.lemmas.List.{length-append, length-map, map-append, append-nil, take_more}
+use Rattle.std.proofs.lemmas.Bool.{cases_Bool}
+use Rattle.std.proofs.lemmas.List.{length-set, length-append, length-map, map-append, append-nil, take_more}
 use Rattle.std.proofs.lemmas.List.Elements.{filter-append, filter_more}
 use Rattle.std.proofs.lemmas.List.Filters.{length-filter_both}
 use Rattle.std.proofs.lemmas.List.Edits.{map_over_more}
@@ -12,14 +13,17 @@ use Rattle.dsa_store.specs.declared.entry.Cell.{Cell}
 use Rattle.dsa_store.specs.declared.entry.Entry.{Entry}
 use Rattle.dsa_store.specs.Content.{Slot, Content, chain, uses, held, first_cell, entry_of, unlinked, kept, all_held, StandsAt}
 use Rattle.dsa_store.proofs.Finding.{entry_of-none}
-use Rattle.dsa_store.proofs.Lists.{held-set, held-unlinked}
+use Rattle.dsa_store.proofs.Lists.{held-set, held-unlinked, length-le-held}
 use Rattle.dsa_store.proofs.Turns.{AtTurn, at-turn, thinned}
 use Rattle.dsa_book.specs.declared.fate.Fate.TheVariants.{Aborted}
 use Rattle.dsa_book.specs.declared.fate.FateRow.{FateRow}
 use Rattle.dsa_book.specs.Records.{Records}
+use Rattle.dsa_book.specs.State.{Setup, is_off}
 use Rattle.dsa_book.specs.Work.{fate_row}
 use Rattle.dsa_book.specs.Commands.{is_in_scope}
-use Rattle.dsa_admin.specs.Admin.{is_meant, is_spared, rows_of}
+use Rattle.dsa_buffers.specs.Buffers.{Buffers}
+use Rattle.dsa_engines.specs.Engines.{Gear, IsReady}
+use Rattle.dsa_admin.specs.Admin.{is_meant, is_spared, row_of, rows_of}
 
 -- ---- a cell
 
@@ -47,10 +51,6 @@ left-by : (command : Command) (content : Content) (i k : ℕ) (now : Content) (c
 left-by command content i k now cell t true h = t.out (ap not h)
 left-by command content i k now cell t false h = t.stay (ap not h)
 
--- the list as it is to be after this place
-pub left-turn : (command : Command) (content : Content) (i k : ℕ) (now after : Content) (cell : Cell) → (t : AtTurn (is_spared command) content i k now cell) → after ≡ cond (is_in_scope command t.entry) (unlinked now cell) now → after ≡ thinned (is_spared command) content i (k + 1)
-left-turn command content i k now after cell t is = is ∙ left-by command content i k now cell t (is_in_scope command t.entry) refl
-
 -- room for the rows of what is held is left
 room-turn : (now after : Content) (cell : Cell) (e : Entry) (rows more : List FateRow) (row : FateRow) (capacity : ℕ) (b : Bool) → entry_of now cell ≡ Some e → after ≡ cond b (unlinked now cell) now → more ≡ rows ++ cond b (row ∷ []) [] → length rows + held now ≤ capacity → length more + held after ≤ capacity
 room-turn now after cell e rows more row capacity true h is rs room =
@@ -77,8 +77,8 @@ pub record IsWithdrawn (command : Command) (content : Content) (first : Records)
 pub withdrawn-room : (content : Content) (book : Records) (cell : Cell) (got : Option Entry) (e : Entry) → length book.fates + held content ≤ book.capacity → got ≡ entry_of content cell → got ≡ Some e → length book.fates < book.capacity
 withdrawn-room content book cell got e room read is = omega (arith, room, (used-entry content cell e (sym read ∙ is)).1)
 
-pub withdrawn-turn : (command : Command) (content : Content) (first : Records) (i k : ℕ) (now after : Content) (book later : Records) (cell : Cell) (got : Option Entry) (e : Entry) → ((c : Cell) → uses now c ≤ 1) → i < length content → k < length (chain content i) → first_cell (drop k (chain content i)) ≡ Some cell → IsWithdrawn command content first i k now book → got ≡ entry_of now cell → got ≡ Some e → after ≡ cond (is_in_scope command e) (unlinked now cell) now → later ≡ record book { fates = book.fates ++ cond (is_in_scope command e) (fate_row (Aborted (number_of command)) (cell, e) ∷ []) [] } → IsWithdrawn command content first i (k + 1) after later
-withdrawn-turn command content first i k now after book later cell got e once hi h front w read is left rows =
+withdrawn-turn : (command : Command) (content : Content) (first : Records) (i k : ℕ) (now after : Content) (book later : Records) (cell : Cell) (got : Option Entry) (e : Entry) (b : Bool) → ((c : Cell) → uses now c ≤ 1) → i < length content → k < length (chain content i) → first_cell (drop k (chain content i)) ≡ Some cell → IsWithdrawn command content first i k now book → got ≡ entry_of now cell → got ≡ Some e → is_in_scope command e ≡ b → after ≡ cond b (unlinked now cell) now → later ≡ record book { fates = book.fates ++ cond b (fate_row (Aborted (number_of command)) (cell, e) ∷ []) [] } → IsWithdrawn command content first i (k + 1) after later
+withdrawn-turn command content first i k now after book later cell got e b once hi h front w read is scope left rows =
     let t : AtTurn (is_spared command) content i k now cell = at-turn (is_spared command) content i k now cell once hi h w.left front in
     let found : entry_of now cell ≡ Some e = sym read ∙ is in
     let told : ◌≡◌ {A = Option Entry} (Some t.entry) (Some e) = sym t.get ∙ found in
@@ -86,13 +86,43 @@ withdrawn-turn command content first i k now after book later cell got e once hi
     let row : FateRow = fate_row (Aborted (number_of command)) (cell, e) in
     let here : StandsAt content i k cell e = subst (λ (x : Entry). StandsAt content i k cell x) same t.stands in
     record {
-      left = left-turn command content i k now after cell t (left ∙ ap (λ (x : Entry). cond (is_in_scope command x) (unlinked now cell) now) (sym same));
-      rows = book-turn first book later _ _ _ w.rows rows (rows-turn command content i k cell e here);
+      left = left ∙ left-by command content i k now cell t b (ap (is_in_scope command) same ∙ scope);
+      rows = book-turn first book later _ _ _ w.rows rows (rows-turn command content i k cell e here ∙ ap (λ (c : Bool). rows_of command (take k (chain content i)) ++ cond c (row ∷ []) []) scope);
       room =
-          let full : later.capacity ≡ book.capacity = ap (λ (b : Records). b.capacity) rows in
-          let more : later.fates ≡ book.fates ++ cond (is_in_scope command e) (row ∷ []) [] = ap (λ (b : Records). b.fates) rows in
-          rw full (room-turn now after cell e book.fates later.fates row book.capacity (is_in_scope command e) found left more w.room);
+          let full : later.capacity ≡ book.capacity = ap (λ (x : Records). x.capacity) rows in
+          let more : later.fates ≡ book.fates ++ cond b (row ∷ []) [] = ap (λ (x : Records). x.fates) rows in
+          rw full (room-turn now after cell e book.fates later.fates row book.capacity b found left more w.room);
     }
+
+-- a cell that the command is not about stays
+pub withdrawn-stays : (command : Command) (content : Content) (first : Records) (i k : ℕ) (now : Content) (book : Records) (cell : Cell) (got : Option Entry) (e : Entry) → ((c : Cell) → uses now c ≤ 1) → i < length content → k < length (chain content i) → first_cell (drop k (chain content i)) ≡ Some cell → IsWithdrawn command content first i k now book → got ≡ entry_of now cell → got ≡ Some e → is_in_scope command e ≡ false → IsWithdrawn command content first i (k + 1) now book
+withdrawn-stays command content first i k now book cell got e once hi h front w read is scope =
+    withdrawn-turn command content first i k now now book book cell got e false once hi h front w read is scope refl (ap (λ (l : List FateRow). record book { fates = l }) (sym (append-nil book.fates)))
+
+-- a cell that the command is about leaves, with its row
+pub withdrawn-leaves : (command : Command) (content : Content) (first : Records) (i k : ℕ) (now after : Content) (book later : Records) (cell : Cell) (got : Option Entry) (e : Entry) (row : FateRow) → ((c : Cell) → uses now c ≤ 1) → i < length content → k < length (chain content i) → first_cell (drop k (chain content i)) ≡ Some cell → IsWithdrawn command content first i k now book → got ≡ entry_of now cell → got ≡ Some e → is_in_scope command e ≡ true → after ≡ unlinked now cell → row ≡ row_of command e → later ≡ record book { fates = book.fates ++ row ∷ [] } → IsWithdrawn command content first i (k + 1) after later
+withdrawn-leaves command content first i k now after book later cell got e row once hi h front w read is scope left row_is rows =
+    withdrawn-turn command content first i k now after book later cell got e true once hi h front w read is scope left (rows ∙ ap (λ (x : FateRow). record book { fates = book.fates ++ x ∷ [] }) row_is)
+
+-- where a cell stands that is looked at
+pub withdrawn-stands : (command : Command) (content : Content) (i k : ℕ) (now : Content) (cell : Cell) (got : Option Entry) (e : Entry) → ((c : Cell) → uses now c ≤ 1) → i < length content → k < length (chain content i) → first_cell (drop k (chain content i)) ≡ Some cell → now ≡ thinned (is_spared command) content i k → got ≡ entry_of now cell → got ≡ Some e → StandsAt now i (length (filter (is_spared command) (take k (chain content i)))) cell e
+withdrawn-stands command content i k now cell got e once hi h front left read is =
+    let t : AtTurn (is_spared command) content i k now cell = at-turn (is_spared command) content i k now cell once hi h left front in
+    let told : ◌≡◌ {A = Option Entry} (Some t.entry) (Some e) = sym t.get ∙ sym read ∙ is in
+    let same : t.entry ≡ e = cc in
+    subst (λ (x : Entry). StandsAt now i (length (filter (is_spared command) (take k (chain content i)))) cell x) same t.now_stands
+
+-- the store's lists are no fewer, and something is held while a list has a place left
+pub length-thinned : (p : Slot → Bool) (content now : Content) (i k : ℕ) → now ≡ thinned p content i k → length now ≡ length content
+length-thinned p content now i k is = ap length is ∙ length-set content i (filter p (take k (chain content i)) ++ drop k (chain content i))
+
+-- while a place of a list is looked at the device is not Off
+pub awake-at : (setup : Setup) (content : Content) (i k : ℕ) → IsReady setup content → k < length (chain content i) → is_off setup.device ≡ false
+awake-at setup content i k r h =
+    elim (cases_Bool (is_off setup.device)) [
+      | inl off ↦ absurd (omega (arith, r.idle off, length-le-held content i, h))
+      | inr on ↦ on
+    ]
 
 -- what the store gives for a cell of the list is an entry
 pub withdrawn-found : (p : Slot → Bool) (content : Content) (i k : ℕ) (now : Content) (cell : Cell) (got : Option Entry) → ((c : Cell) → uses now c ≤ 1) → i < length content → k < length (chain content i) → first_cell (drop k (chain content i)) ≡ Some cell → now ≡ thinned p content i k → got ≡ entry_of now cell → got ≡ None → ⊥
@@ -138,21 +168,56 @@ room-lists command now after n rows more capacity h is rs room =
     let count : length more ≡ length rows + length (filter (is_meant command) (chain now n)) = ap length rs ∙ length-append rows (rows_of command (chain now n)) ∙ ap (λ (k : ℕ). length rows + k) (length-map (filter (is_meant command) (chain now n)) row) in
     omega (arith, both, less, left, count, room)
 
+-- the lists and what is held of a device that took entries out are still those of a device
+ready-less : (setup : Setup) (content now : Content) → IsReady setup content → length now ≡ length content → held now ≤ held content → IsReady setup now
+ready-less setup content now r len less = record {
+  caps = r.caps;
+  lists = len ∙ r.lists;
+  groups = r.groups;
+  idle = λ off. omega (arith, r.idle off, less);
+  checked = r.checked;
+}
+
 -- the first n lists were walked, and what the command is about has left them with its rows
-pub record IsSwept (command : Command) (content : Content) (first : Records) (n : ℕ) (now : Content) (book : Records) : Type 0 where
+pub record IsSwept (command : Command) (setup : Setup) (content : Content) (first : Records) (n : ℕ) (now : Content) (book : Records) : Type 0 where
   pub left : now ≡ swept command content n
   pub rows : book ≡ record first { fates = first.fates ++ rows_of command (all_held (take n content)) }
   pub room : length book.fates + held now ≤ book.capacity
+  pub ready : IsReady setup now
 
-pub swept-next : (command : Command) (content : Content) (first : Records) (n : ℕ) (now after : Content) (book later : Records) → n < length content → IsSwept command content first n now book → after ≡ set now n (filter (is_spared command) (chain now n)) → later ≡ record book { fates = book.fates ++ rows_of command (chain now n) } → IsSwept command content first (n + 1) after later
-swept-next command content first n now after book later h s left rows =
+held-less : (command : Command) (now : Content) (n : ℕ) → n < length now → held (set now n (filter (is_spared command) (chain now n))) ≤ held now
+held-less command now n h =
+    let both : length (filter (is_meant command) (chain now n)) + length (filter (is_spared command) (chain now n)) ≡ length (chain now n) = length-filter_both (is_meant command) (is_spared command) (λ x. refl) (chain now n) in
+    omega (arith, both, held-set now n (filter (is_spared command) (chain now n)) h)
+
+pub swept-within : (command : Command) (content now : Content) (n : ℕ) → n < length content → now ≡ swept command content n → n < length now
+swept-within command content now n h is = rw (swept-length command content now n is) h
+
+pub swept-next : (command : Command) (setup : Setup) (content : Content) (first : Records) (n : ℕ) (now after : Content) (book later : Records) → n < length content → IsSwept command setup content first n now book → after ≡ set now n (filter (is_spared command) (chain now n)) → later ≡ record book { fates = book.fates ++ rows_of command (chain now n) } → IsSwept command setup content first (n + 1) after later
+swept-next command setup content first n now after book later h s left rows =
     let same : chain now n ≡ chain content n = swept-chain command content now n h s.left in
+    let within : n < length now = swept-within command content now n h s.left in
     record {
       left = left ∙ swept-turn command content now n h s.left;
       rows = book-turn first book later _ _ _ s.rows rows (rows-lists command content n h ∙ ap (λ (l : List Slot). rows_of command (all_held (take n content)) ++ rows_of command l) (sym same));
       room =
           let full : later.capacity ≡ book.capacity = ap (λ (b : Records). b.capacity) rows in
           let more : later.fates ≡ book.fates ++ rows_of command (chain now n) = ap (λ (b : Records). b.fates) rows in
-          let within : n < length now = rw (swept-length command content now n s.left) h in
           rw full (room-lists command now after n book.fates later.fates book.capacity within left more s.room);
+      ready = ready-less setup now after s.ready (ap length left ∙ length-set now n (filter (is_spared command) (chain now n))) (rw left (held-less command now n within));
     }
+
+-- at first nothing is taken out
+pub swept-none : (command : Command) (setup : Setup) (content : Content) (first : Records) → IsReady setup content → length first.fates + held content ≤ first.capacity → IsSwept command setup content first 0 content first
+swept-none command setup content first r room = record {
+  left = refl;
+  rows = ap (λ (l : List FateRow). record first { fates = l }) (sym (append-nil first.fates));
+  room = room;
+  ready = r;
+}
+
+-- only the buffers have changed
+pub gear-turn : (first now after : Gear) (b : Buffers) → now ≡ record first { buffers = now.buffers } → after ≡ record now { buffers = b } → after ≡ record first { buffers = after.buffers }
+gear-turn first now after b is step =
+    let told : after.buffers ≡ b = ap (λ (x : Gear). x.buffers) step in
+    step ∙ ap (λ (x : Gear). record x { buffers = b }) is ∙ ap (λ (x : Buffers). record first { buffers = x }) (sym told)

@@ -26,6 +26,10 @@ is_meant command slot = is_in_scope command slot.1
 abbrev pub is_spared : Command → Slot → Bool
 is_spared command slot = not (is_in_scope command slot.1)
 
+-- the row of an entry that the command takes out (profile)
+abbrev pub row_of : Command → Entry → FateRow
+row_of command entry = record { name = entry.name; parent = entry.parent; fate = Aborted (number_of command) }
+
 -- the rows of what an abort takes out of a list (profile)
 abbrev pub rows_of : Command → List Slot → List FateRow
 rows_of command xs = map (fate_row (Aborted (number_of command))) (filter (is_meant command) xs)
