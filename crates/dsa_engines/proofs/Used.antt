@@ -213,7 +213,7 @@ map-zeros : (xs : List ℕ) → map {B = ℕ} (λ (k : ℕ). 0) xs ≡ replicate
 map-zeros [] = refl
 map-zeros (x ∷ xs) = ap (λ (l : List ℕ). let m : List ℕ = 0 ∷ l in m) (map-zeros xs)
 
-empty-list : (l : List Slot) → length l ≤ 0 → l ≡ []
+pub empty-list : (l : List Slot) → length l ≤ 0 → l ≡ []
 empty-list [] h = refl
 empty-list (s ∷ l) h = absurd (omega (arith, h))
 

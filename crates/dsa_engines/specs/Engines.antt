@@ -4,12 +4,12 @@ use Rattle.dsa_regs.specs.declared.Caps.{Caps}
 use Rattle.dsa_regs.specs.Caps.{check_caps, list_count}
 use Rattle.dsa_regs.specs.Config.{check_device}
 use Rattle.dsa_regs.specs.Numbers.{numbers_below}
-use Rattle.dsa_store.specs.Content.{Slot, Content, held}
+use Rattle.dsa_store.specs.Content.{Slot, Content, chain, held}
 use Rattle.dsa_buffers.specs.Buffers.{Buffers}
 use Rattle.dsa_book.specs.declared.note.BatchNote.{BatchNote}
 use Rattle.dsa_book.specs.declared.fate.FateRow.{FateRow}
 use Rattle.dsa_book.specs.State.{Setup, Work, is_off}
-use Rattle.dsa_book.specs.Work.{all_used, group_in}
+use Rattle.dsa_book.specs.Work.{all_used, group_in, progress_list}
 
 -- a note or none for each engine, the read buffers of the groups, and the group of each engine (profile)
 pub record Gear : Type 0 where
@@ -71,3 +71,9 @@ given (Some g) n b = record b { used = slice_set b.used g (slice_index b.used g 
 abbrev pub Holds : Option ℕ → ℕ → Buffers → Type 0
 Holds None n b = Unit {0}
 Holds (Some g) n b = (g < length b.groups) × (n ≤ slice_index b.used g)
+
+-- the device has the engine, the engine is of the group, and has a slot left
+pub record IsOpen (setup : Setup) (content : Content) (e g : ℕ) : Type 0 where
+  pub engine : e < setup.caps.engines
+  pub home : group_in setup.groups e ≡ Some g
+  pub slot : length (chain content (progress_list setup e)) < setup.caps.slots

@@ -6,6 +6,8 @@
 #![tactic(auto)]
 
 mod engines;
+mod finishing;
 mod leaving;
+mod taking;
 
 pub use engines::Engines;
