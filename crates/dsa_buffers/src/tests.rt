@@ -1,0 +1,30 @@
+//! Sixteen read buffers, of which each of three groups has 4 reserved and is allowed 8.
+
+use crate::ReadBuffers;
+use dsa_regs::GroupConfig;
+
+const GROUP: GroupConfig = GroupConfig {
+    queues: 1,
+    engines: 1,
+    reserved: 4,
+    allowed: 8,
+};
+
+#[test]
+fn reserved_buffers_are_left_to_their_group(rt: HostRuntime) {
+    let mut buffers = ReadBuffers::new(16, &[GROUP; 3]);
+    assert!(rt; buffers.fits(0, 4));
+    buffers.take(0, 4);
+    assert!(rt; buffers.fits(0, 4));
+    buffers.take(0, 4);
+    assert!(rt; buffers.fits(1, 4));
+    buffers.take(1, 4);
+    // Four are free, and they are the reserve of the last group.
+    assert!(rt; !buffers.fits(1, 4));
+    assert!(rt; buffers.fits(2, 4));
+    assert!(rt; !buffers.fits(0, 1));
+    assert_eq!(rt; buffers.used(0), 8);
+    buffers.give(0, 4);
+    assert_eq!(rt; buffers.used(0), 4);
+    assert!(rt; buffers.fits(1, 4));
+}
