@@ -1,3 +1,4 @@
 pub mod Withdrawals
 pub mod Waits
 pub mod Leaving
+pub mod Notes

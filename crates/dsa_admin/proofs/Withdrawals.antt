@@ -14,13 +14,14 @@ use Rattle.dsa_store.specs.declared.entry.Entry.{Entry}
 use Rattle.dsa_store.specs.Content.{Slot, Content, chain, uses, held, first_cell, entry_of, unlinked, kept, all_held, StandsAt}
 use Rattle.dsa_store.proofs.Finding.{entry_of-none}
 use Rattle.dsa_store.proofs.Lists.{held-set, held-unlinked, length-le-held}
+use Rattle.dsa_store.proofs.Sums.{held-counted, all_held-kept}
 use Rattle.dsa_store.proofs.Turns.{AtTurn, at-turn, thinned}
 use Rattle.dsa_book.specs.declared.fate.Fate.TheVariants.{Aborted}
 use Rattle.dsa_book.specs.declared.fate.FateRow.{FateRow}
 use Rattle.dsa_book.specs.Records.{Records}
 use Rattle.dsa_book.specs.State.{Setup, is_off}
 use Rattle.dsa_book.specs.Work.{fate_row}
-use Rattle.dsa_book.specs.Commands.{is_in_scope}
+use Rattle.dsa_book.specs.Commands.{is_in_scope, count_in_scope}
 use Rattle.dsa_buffers.specs.Buffers.{Buffers}
 use Rattle.dsa_engines.specs.Engines.{Gear, IsReady}
 use Rattle.dsa_admin.specs.Admin.{is_meant, is_spared, row_of, rows_of}
@@ -169,7 +170,7 @@ room-lists command now after n rows more capacity h is rs room =
     omega (arith, both, less, left, count, room)
 
 -- the lists and what is held of a device that took entries out are still those of a device
-ready-less : (setup : Setup) (content now : Content) → IsReady setup content → length now ≡ length content → held now ≤ held content → IsReady setup now
+pub ready-less : (setup : Setup) (content now : Content) → IsReady setup content → length now ≡ length content → held now ≤ held content → IsReady setup now
 ready-less setup content now r len less = record {
   caps = r.caps;
   lists = len ∙ r.lists;
@@ -221,3 +222,22 @@ pub gear-turn : (first now after : Gear) (b : Buffers) → now ≡ record first 
 gear-turn first now after b is step =
     let told : after.buffers ≡ b = ap (λ (x : Gear). x.buffers) step in
     step ∙ ap (λ (x : Gear). record x { buffers = b }) is ∙ ap (λ (x : Buffers). record first { buffers = x }) (sym told)
+
+-- ---- an abort as a whole
+
+-- what is taken out and what stays are all that was held
+pub held-kept : (command : Command) (content : Content) → held (kept (λ entry. not (is_in_scope command entry)) content) + count_in_scope command content ≡ held content
+held-kept command content =
+    let both : length (filter (is_meant command) (all_held content)) + length (filter (is_spared command) (all_held content)) ≡ length (all_held content) = length-filter_both (is_meant command) (is_spared command) (λ x. refl) (all_held content) in
+    let left : held (kept (λ entry. not (is_in_scope command entry)) content) ≡ length (filter (is_spared command) (all_held content)) = held-counted (kept (λ entry. not (is_in_scope command entry)) content) ∙ ap length (all_held-kept (λ entry. not (is_in_scope command entry)) content) in
+    omega (arith, both, left, held-counted content)
+
+pub ready-kept : (command : Command) (setup : Setup) (content now : Content) → IsReady setup content → now ≡ kept (λ entry. not (is_in_scope command entry)) content → IsReady setup now
+ready-kept command setup content now r is =
+    ready-less setup content now r (ap length is ∙ length-map content (filter (is_spared command))) (rw is (omega (arith, held-kept command content)))
+
+-- so many more cells are free
+pub freed : (command : Command) (content now : Content) (free later cells : ℕ) → free + held content ≡ cells → later + held now ≡ cells → now ≡ kept (λ entry. not (is_in_scope command entry)) content → later ≡ free + count_in_scope command content
+freed command content now free later cells before after is =
+    let left : held now ≡ held (kept (λ entry. not (is_in_scope command entry)) content) = ap held is in
+    omega (arith, before, after, left, held-kept command content)

@@ -1,14 +1,15 @@
 -- What a command waits for, and what it takes out of a list.
-use Rattle.std.specs.Prelude.{ℕ, Bool, not, cond, ◌||◌, nat_le, List, length, map, filter, Option}
+use Rattle.std.specs.Prelude.{ℕ, Bool, not, cond, ◌&&◌, ◌||◌, ◌==◌, nat_le, List, length, map, filter, Option}
 use Rattle.std.specs.List.{list_all}
 use Rattle.dsa_regs.specs.declared.Command.{Command}
 use Rattle.dsa_regs.specs.Command.{number_of}
 use Rattle.dsa_store.specs.declared.entry.Entry.{Entry}
 use Rattle.dsa_store.specs.Content.{Slot, Content}
+use Rattle.dsa_book.specs.declared.note.BatchNote.{BatchNote}
 use Rattle.dsa_book.specs.declared.note.ActiveCommand.{ActiveCommand}
 use Rattle.dsa_book.specs.declared.fate.Fate.TheVariants.{Aborted}
 use Rattle.dsa_book.specs.declared.fate.FateRow.{FateRow}
-use Rattle.dsa_book.specs.State.{Setup, State, has_queue}
+use Rattle.dsa_book.specs.State.{Setup, State, has_queue, is_batch_of}
 use Rattle.dsa_book.specs.Work.{fate_row}
 use Rattle.dsa_engines.specs.Engines.{Gear, work}
 use Rattle.dsa_book.specs.Commands.{is_in_scope, is_awaited, is_disable}
@@ -33,6 +34,10 @@ row_of command entry = record { name = entry.name; parent = entry.parent; fate =
 -- the rows of what an abort takes out of a list (profile)
 abbrev pub rows_of : Command → List Slot → List FateRow
 rows_of command xs = map (fate_row (Aborted (number_of command))) (filter (is_meant command) xs)
+
+-- the entry is the batch that the note is of
+abbrev pub is_noted : Setup → BatchNote → Entry → Bool
+is_noted setup note entry = is_batch_of setup entry && entry.name == note.batch
 
 -- no queue is named, or one that the device does not have (profile)
 abbrev pub is_bad_mask : Setup → List ℕ → Bool

@@ -1,6 +1,7 @@
 //! Commands of the administrator: what they refuse, whom they are about, drains and aborts.
 #![tactic(auto)]
 
+mod abort;
 mod admin;
 mod ends;
 mod refusals;
