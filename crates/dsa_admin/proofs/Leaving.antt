@@ -1,9 +1,8 @@
 -- The read buffers, as an entry leaves its list.
-use Rattle.std.proofs.Common.{◌≡◌, ℕ, zero, suc, ◌+◌, ◌*◌, ◌-◌, ◌<◌, ◌≤◌, ◌≢◌, Bool, true, false, not, cond, List, [], ◌∷◌, ◌++◌, length, set, get_or, Option, Some, None, refl, sym, ◌∙◌, ap, inl, inr, subst, IsTrue, arith}
+use Rattle.std.proofs.Common.{◌≡◌, ℕ, zero, suc, ◌+◌, ◌<◌, ◌≤◌, false, cond, List, [], ◌∷◌, length, set, get_or, Option, Some, None, refl, sym, ◌∙◌, ap, inl, inr, subst, IsTrue, arith}
 use Rattle.std.proofs.lemmas.Grind.{common_steps}
 use Rattle.std.specs.List.{remove}
-use Rattle.std.proofs.lemmas.List.{get_or-set_same, get_or-set_other, set-get_or, length-set}
-use mathlib.Core.Logic.{◌⊎◌}
+use Rattle.std.proofs.lemmas.List.{get_or-set_same, get_or-set_other, set-get_or}
 use Rattle.dsa_regs.specs.Caps.{check_caps}
 use Rattle.dsa_store.specs.declared.entry.Cell.{Cell}
 use Rattle.dsa_store.specs.declared.entry.Entry.{Entry}
@@ -11,10 +10,10 @@ use Rattle.dsa_store.specs.Content.{Slot, Content, chain, uses, unlinked, Stands
 use Rattle.dsa_store.proofs.Finding.{unlinked-at}
 use Rattle.dsa_buffers.specs.Buffers.{Buffers}
 use Rattle.dsa_book.specs.State.{Setup, need_of, is_off}
-use Rattle.dsa_book.specs.Work.{progress_list, member_list, group_in}
-use Rattle.dsa_engines.specs.Engines.{Gear, IsInStep, IsReady, buffers_of, homes_of, given, Holds}
+use Rattle.dsa_book.specs.Work.{progress_list, group_in}
+use Rattle.dsa_engines.specs.Engines.{Gear, IsInStep, IsReady, buffers_of, given}
 use Rattle.dsa_engines.proofs.Homes.{one-group, home-at}
-use Rattle.dsa_engines.proofs.Used.{EachInOneGroup, load, load-cons, HoldsMore, RaisesOne, raises-progress, raises-members, GivesBack, gives-back}
+use Rattle.dsa_engines.proofs.Used.{load, load-cons, HoldsMore, RaisesOne, raises-progress, raises-members, GivesBack, gives-back}
 use Rattle.dsa_admin.specs.Leaving.{held_by, released, MayRelease, IsListOf, IsListOfEngine}
 
 load-remove : (setup : Setup) (l : List Slot) (k : ℕ) (s : Slot) → k < length l → get_or l k s ≡ s → load setup l ≡ load setup (remove l k) + held_by setup s.1

@@ -1,14 +1,13 @@
 -- The notes of the engines, as they are looked at one after the other.
-use Rattle.std.proofs.Common.{◌≡◌, ℕ, suc, ◌+◌, ◌<◌, ◌≤◌, List, length, set, get_or, drop, map, Option, Some, None, refl, sym, ap, ◌∙◌, add-one, arith}
+use Rattle.std.proofs.Common.{◌≡◌, ℕ, ◌+◌, ◌<◌, ◌≤◌, List, length, set, get_or, map, Option, None, sym, ap, ◌∙◌, add-one, arith}
 use Rattle.std.proofs.lemmas.Grind.{common_steps}
-use Rattle.std.proofs.lemmas.List.{set-get_or}
 use Rattle.dsa_regs.specs.Numbers.{numbers_below}
 use Rattle.dsa_store.specs.Content.{Content, chain}
 use Rattle.dsa_book.specs.declared.note.BatchNote.{BatchNote}
 use Rattle.dsa_book.specs.State.{Setup}
 use Rattle.dsa_book.specs.Work.{progress_list}
 use Rattle.dsa_book.specs.Commands.{kept_note}
-use Rattle.dsa_queues.proofs.Renewing.{renewed, renewed-set, renewed-next, renewed-all, length-each}
+use Rattle.dsa_queues.proofs.Renewing.{renewed, renewed-set, renewed-next, length-each}
 use Rattle.dsa_engines.specs.Engines.{Gear, IsInStep}
 
 -- what becomes of the note of an engine

@@ -1,5 +1,5 @@
 -- What a command waits for, and what it takes out of a list.
-use Rattle.std.specs.Prelude.{ℕ, Bool, not, cond, ◌&&◌, ◌||◌, ◌==◌, nat_le, List, length, map, filter, Option}
+use Rattle.std.specs.Prelude.{◌≡◌, ℕ, Bool, true, false, None, not, cond, ◌&&◌, ◌||◌, ◌==◌, nat_le, List, length, map, filter, Option}
 use Rattle.std.specs.List.{list_all}
 use Rattle.dsa_regs.specs.declared.Command.{Command}
 use Rattle.dsa_regs.specs.Command.{number_of}
@@ -11,8 +11,9 @@ use Rattle.dsa_book.specs.declared.fate.Fate.TheVariants.{Aborted}
 use Rattle.dsa_book.specs.declared.fate.FateRow.{FateRow}
 use Rattle.dsa_book.specs.State.{Setup, State, has_queue, is_batch_of}
 use Rattle.dsa_book.specs.Work.{fate_row}
+use Rattle.dsa_queues.specs.Queues.{IsWhole}
 use Rattle.dsa_engines.specs.Engines.{Gear, work}
-use Rattle.dsa_book.specs.Commands.{is_in_scope, is_awaited, is_disable}
+use Rattle.dsa_book.specs.Commands.{is_in_scope, is_awaited, is_disable, is_bad_queues, may_come, check_of}
 
 -- the entries that keep an active command from its end (Intel DSA: disable and drain commands)
 abbrev pub is_waited_for : ActiveCommand → Entry → Bool
@@ -46,3 +47,10 @@ is_bad_mask setup named = nat_le (length named) 0 || not (list_all (has_queue se
 -- what a command sees and changes: the queues, what the engines keep, the entries, the rows, and the active command (profile)
 abbrev pub state : Setup → Gear → Content → List FateRow → Option ActiveCommand → State
 state setup gear content fates active = record { work = work setup gear content fates; active = active }
+
+-- nothing but another active command refuses it
+pub record IsUnrefused (setup : Setup) (command : Command) : Type 0 where
+  pub whole : IsWhole setup
+  pub known : is_bad_queues setup command ≡ false
+  pub ready : may_come setup command ≡ true
+  pub checked : check_of setup command ≡ None

@@ -1,18 +1,21 @@
 //! Aborts: what ends, what stays, and how many entries those were.
 
-ghost use Rattle.std.specs.Prelude.{◌≡◌, ◌+◌, ◌<◌, ◌≤◌, None, get_or, length, map, slice_set};
+ghost use Rattle.std.specs.Prelude.{◌≡◌, ◌+◌, ◌<◌, ◌≤◌, None, Option, get_or, length, map, slice_set};
 ghost use Rattle.dsa_regs.specs.Numbers.{numbers_below};
 ghost use Rattle.dsa_store.specs.Content.{chain, held};
 ghost use Rattle.dsa_book.specs.Work.{progress_list};
-ghost use Rattle.dsa_book.specs.Commands.{aborted, count_in_scope, has_batch, kept_note};
+ghost use Rattle.dsa_book.specs.Commands.{aborted, aborts, carried_out, count_in_scope, has_batch, kept_note, reset};
 ghost use Rattle.dsa_engines.specs.Engines.{IsInStep, IsReady, work};
-ghost use Rattle.dsa_admin.specs.Admin.{is_noted};
+ghost use Rattle.dsa_queues.specs.Queues.{IsWhole};
+ghost use Rattle.dsa_regs.specs.declared.Command.TheVariants.{ResetDevice, ResetWq};
+ghost use Rattle.dsa_book.specs.declared.note.ActiveCommand.{ActiveCommand};
+ghost use Rattle.dsa_admin.specs.Admin.{is_noted, state};
 
 use crate::withdrawal::withdraw;
-use dsa_book::{BatchNote, Book};
+use dsa_book::{BatchNote, Book, IssueAnswer};
 use dsa_engines::Engines;
 use dsa_queues::Queues;
-use dsa_regs::Command;
+use dsa_regs::{Command, Phase, QueueMask};
 use dsa_store::{Entry, EntryStore, ListId};
 
 fn is_noted(queues: &Queues, note: &BatchNote, entry: &Entry) -> bool
@@ -90,4 +93,70 @@ pub(crate) fn abort<S: EntryStore>(
     withdraw(queues, engines, store, book, command);
     keep_notes(queues, engines, store);
     store.free() - free
+}
+
+/// Aborts what the command is about, and changes nothing else.
+pub(crate) fn abort_alone<S: EntryStore>(
+    queues: &Queues,
+    engines: &mut Engines,
+    store: &mut S,
+    book: &mut Book,
+    command: &Command,
+) -> IssueAnswer
+    requires ready { IsReady queues.now (S.content store.old) }
+    requires in_step { IsInStep queues.now engines.old (S.content store.old) }
+    requires room { length book.old.fates + held (S.content store.old) ≤ book.old.capacity }
+    ensures aborted { (active : Option ActiveCommand) → aborts (state queues.now engines.old (S.content store.old) book.old.fates active) command.now (λ setup. setup)
+        ≡ (result, state queues.now engines.new (S.content store.new) book.new.fates active) }
+    ensures book { book.new ≡ record book.old { fates = book.new.fates } }
+    ensures in_step { IsInStep queues.now engines.new (S.content store.new) }
+    ensures cells { S.cells store.new ≡ S.cells store.old }
+{
+    let aborted = abort(queues, engines, store, book, command);
+    IssueAnswer::Ended { aborted }
+}
+
+/// Reset Device: everything is aborted, and the device is as it was at first, but for the next name.
+pub(crate) fn reset_device<S: EntryStore>(
+    queues: &mut Queues,
+    engines: &mut Engines,
+    store: &mut S,
+    book: &mut Book,
+) -> IssueAnswer
+    requires ready { IsReady queues.old (S.content store.old) }
+    requires in_step { IsInStep queues.old engines.old (S.content store.old) }
+    requires room { length book.old.fates + held (S.content store.old) ≤ book.old.capacity }
+    ensures reset { (active : Option ActiveCommand) → aborts (state queues.old engines.old (S.content store.old) book.old.fates active) ResetDevice reset
+        ≡ (result, state queues.new engines.new (S.content store.new) book.new.fates active) }
+    ensures book { book.new ≡ record book.old { fates = book.new.fates } }
+    ensures in_step { IsInStep queues.new engines.new (S.content store.new) }
+    ensures cells { S.cells store.new ≡ S.cells store.old }
+{
+    let aborted = abort(queues, engines, store, book, &Command::ResetDevice);
+    queues.reset();
+    IssueAnswer::Ended { aborted }
+}
+
+/// Reset WQ: what the named queues' entries are is aborted, the queues are `Off`, and keep of their configuration the size.
+pub(crate) fn reset_queues<S: EntryStore>(
+    queues: &mut Queues,
+    engines: &mut Engines,
+    store: &mut S,
+    book: &mut Book,
+    named: QueueMask,
+) -> IssueAnswer
+    requires whole { IsWhole queues.old }
+    requires ready { IsReady queues.old (S.content store.old) }
+    requires in_step { IsInStep queues.old engines.old (S.content store.old) }
+    requires room { length book.old.fates + held (S.content store.old) ≤ book.old.capacity }
+    ensures reset { (active : Option ActiveCommand) → carried_out (state queues.old engines.old (S.content store.old) book.old.fates active) (ResetWq named)
+        ≡ (result, state queues.new engines.new (S.content store.new) book.new.fates active) }
+    ensures book { book.new ≡ record book.old { fates = book.new.fates } }
+    ensures in_step { IsInStep queues.new engines.new (S.content store.new) }
+    ensures cells { S.cells store.new ≡ S.cells store.old }
+{
+    let aborted = abort(queues, engines, store, book, &Command::ResetWq(named));
+    queues.set_phases(&named, Phase::Off);
+    queues.keep_sizes(&named);
+    IssueAnswer::Ended { aborted }
 }

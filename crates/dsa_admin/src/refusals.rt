@@ -5,6 +5,7 @@ ghost use Rattle.std.specs.List.{list_all};
 ghost use Rattle.dsa_book.specs.State.{has_queue, phase_at};
 ghost use Rattle.dsa_book.specs.Commands.{is_bad_queues, may_come, check_of, all_on};
 ghost use Rattle.dsa_regs.specs.Command.{queues_of};
+ghost use Rattle.dsa_queues.specs.Queues.{IsWhole};
 ghost use Rattle.dsa_admin.specs.Admin.{is_bad_mask};
 
 use dsa_queues::Queues;
@@ -85,7 +86,8 @@ pub(crate) fn may_come(queues: &Queues, command: &Command) -> bool
 /// What the configuration has against the command, which is one of the two that enable.
 pub(crate) fn check(queues: &Queues, command: &Command) -> Option<Fault>
     requires { is_bad_queues queues.now command.now ≡ false }
-    ensures { result ≡ check_of queues.now command.now }
+    ensures fault { result ≡ check_of queues.now command.now }
+    ensures whole { IsWhole queues.now }
 {
     let caps = queues.caps();
     match command {

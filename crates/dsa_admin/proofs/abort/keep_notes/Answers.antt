@@ -1,7 +1,6 @@
-use Rattle.std.proofs.Common.{arith, ◌≡◌, ◌<◌, ◌≤◌, ◌∙◌, ap, length, refl}
+use Rattle.std.proofs.Common.{arith, ◌≡◌, ◌<◌, ◌≤◌, ◌∙◌, ap, length}
 use Rattle.dsa_regs.specs.declared.Caps.{Caps}
 use Rattle.dsa_engines.specs.Engines.{Gear}
-use Rattle.dsa_queues.proofs.Renewing.{renewed, renewed-all}
 use Rattle.dsa_admin.proofs.Notes.{kept_at, renewed-length, notes-turn}
 use Rattle.dsa_admin.proofs.abort.keep_notes.Goals as goal
 

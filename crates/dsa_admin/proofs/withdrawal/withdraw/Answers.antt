@@ -1,5 +1,5 @@
 use Rattle.std.proofs.Common.{arith, ◌<◌, ◌∙◌, length}
-use Rattle.dsa_admin.proofs.Withdrawals.{swept-next, swept-within, swept-none, gear-turn}
+use Rattle.dsa_admin.proofs.Withdrawals.{swept-next, gear-turn}
 use Rattle.dsa_admin.proofs.withdrawal.withdraw.Goals as goal
 
 pub loop-list-preserved : goal.loop-list-preserved

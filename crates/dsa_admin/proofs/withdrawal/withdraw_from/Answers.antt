@@ -1,6 +1,5 @@
-use Rattle.std.proofs.Common.{arith, ◌≡◌, ◌<◌, ◌∙◌, sym, ap, length, take, subst}
-use Rattle.std.specs.List.{filter}
-use Rattle.dsa_store.specs.Content.{chain, StandsAt}
+use Rattle.std.proofs.Common.{arith, ◌<◌, ◌∙◌, sym, length, subst}
+use Rattle.dsa_store.specs.Content.{chain}
 use Rattle.dsa_store.proofs.Turns.{at-turn, some-drop}
 use Rattle.dsa_engines.specs.Engines.{IsInStep}
 use Rattle.dsa_admin.specs.Admin.{is_spared}
