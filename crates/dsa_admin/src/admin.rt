@@ -152,14 +152,14 @@ impl Admin {
         match command {
             Command::EnableDevice => enable_device(queues, engines),
             Command::EnableWq(queue) => enable_queue(queues, queue),
-            Command::DisableDevice => self.wait(queues, store, command),
-            Command::DisableWq(_) => self.wait(queues, store, command),
-            Command::DrainAll => self.wait(queues, store, command),
-            Command::DrainWq(_) => self.wait(queues, store, command),
-            Command::DrainPasid(_) => self.wait(queues, store, command),
-            Command::AbortAll => abort_alone(queues, engines, store, book, &command),
-            Command::AbortWq(_) => abort_alone(queues, engines, store, book, &command),
-            Command::AbortPasid(_) => abort_alone(queues, engines, store, book, &command),
+            Command::DisableDevice
+            | Command::DisableWq(_)
+            | Command::DrainAll
+            | Command::DrainWq(_)
+            | Command::DrainPasid(_) => self.wait(queues, store, command),
+            Command::AbortAll | Command::AbortWq(_) | Command::AbortPasid(_) => {
+                abort_alone(queues, engines, store, book, &command)
+            }
             Command::ResetDevice => reset_device(queues, engines, store, book),
             Command::ResetWq(named) => reset_queues(queues, engines, store, book, named),
         }

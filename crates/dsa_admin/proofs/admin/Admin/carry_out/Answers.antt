@@ -1,4 +1,5 @@
-use Rattle.std.proofs.Common.{refl}
+use Rattle.std.proofs.Common.{refl, inl, inr}
+use Rattle.dsa_book.specs.State.{State}
 use Rattle.dsa_regs.specs.declared.Command.{Command}
 use Rattle.dsa_regs.specs.declared.Command.TheVariants.{EnableDevice, DisableDevice, DrainAll, AbortAll, ResetDevice, EnableWq, DisableWq, DrainWq, AbortWq, ResetWq, DrainPasid, AbortPasid}
 use Rattle.dsa_book.specs.Commands.{waits, aborts}
@@ -15,29 +16,37 @@ returns-in-EnableWq-clause-carried g c = carried-at (state c.args.queues.now c.a
 pub returns-in-EnableWq-clause-in_step : goal.returns-in-EnableWq-clause-in_step
 returns-in-EnableWq-clause-in_step g c = c.enable_queue.ensures.in_step _ _ c.requires.in_step
 
+-- whichever of the five it is, it waits
 pub returns-in-DisableDevice-clause-carried : goal.returns-in-DisableDevice-clause-carried
-returns-in-DisableDevice-clause-carried g c = carried-as (state c.args.queues.now c.args.engines.now (g.S.EntryStore.content c.args.store.now) c.args.book.now.fates c.args.self.now) c.args.command DisableDevice (waits (state c.args.queues.now c.args.engines.now (g.S.EntryStore.content c.args.store.now) c.args.book.now.fates c.args.self.now)) _ c.in-DisableDevice.is refl (c.wait.ensures.waiting c.args.engines.now c.args.book.now.fates)
+returns-in-DisableDevice-clause-carried g c =
+    let s : State = state c.args.queues.now c.args.engines.now (g.S.EntryStore.content c.args.store.now) c.args.book.now.fates c.args.self.now in
+    let h = c.wait.ensures.waiting c.args.engines.now c.args.book.now.fates in
+    elim c.in-DisableDevice.is [
+      | inl e ↦ carried-as s c.args.command DisableDevice (waits s) _ e refl h
+      | inr r1 ↦ elim r1 [
+        | inl p ↦ carried-as s c.args.command (DisableWq p.0) (waits s) _ p.1 refl h
+        | inr r2 ↦ elim r2 [
+          | inl e ↦ carried-as s c.args.command DrainAll (waits s) _ e refl h
+          | inr r3 ↦ elim r3 [
+            | inl p ↦ carried-as s c.args.command (DrainWq p.0) (waits s) _ p.1 refl h
+            | inr p ↦ carried-as s c.args.command (DrainPasid p.0) (waits s) _ p.1 refl h
+          ]
+        ]
+      ]
+    ]
 
-pub returns-in-DisableWq-clause-carried : goal.returns-in-DisableWq-clause-carried
-returns-in-DisableWq-clause-carried g c = carried-as (state c.args.queues.now c.args.engines.now (g.S.EntryStore.content c.args.store.now) c.args.book.now.fates c.args.self.now) c.args.command (DisableWq c.in-DisableWq.field-0) (waits (state c.args.queues.now c.args.engines.now (g.S.EntryStore.content c.args.store.now) c.args.book.now.fates c.args.self.now)) _ c.in-DisableWq.is refl (c.wait-in-DisableWq.ensures.waiting c.args.engines.now c.args.book.now.fates)
-
-pub returns-in-DrainAll-clause-carried : goal.returns-in-DrainAll-clause-carried
-returns-in-DrainAll-clause-carried g c = carried-as (state c.args.queues.now c.args.engines.now (g.S.EntryStore.content c.args.store.now) c.args.book.now.fates c.args.self.now) c.args.command DrainAll (waits (state c.args.queues.now c.args.engines.now (g.S.EntryStore.content c.args.store.now) c.args.book.now.fates c.args.self.now)) _ c.in-DrainAll.is refl (c.wait-in-DrainAll.ensures.waiting c.args.engines.now c.args.book.now.fates)
-
-pub returns-in-DrainWq-clause-carried : goal.returns-in-DrainWq-clause-carried
-returns-in-DrainWq-clause-carried g c = carried-as (state c.args.queues.now c.args.engines.now (g.S.EntryStore.content c.args.store.now) c.args.book.now.fates c.args.self.now) c.args.command (DrainWq c.in-DrainWq.field-0) (waits (state c.args.queues.now c.args.engines.now (g.S.EntryStore.content c.args.store.now) c.args.book.now.fates c.args.self.now)) _ c.in-DrainWq.is refl (c.wait-in-DrainWq.ensures.waiting c.args.engines.now c.args.book.now.fates)
-
-pub returns-in-DrainPasid-clause-carried : goal.returns-in-DrainPasid-clause-carried
-returns-in-DrainPasid-clause-carried g c = carried-as (state c.args.queues.now c.args.engines.now (g.S.EntryStore.content c.args.store.now) c.args.book.now.fates c.args.self.now) c.args.command (DrainPasid c.in-DrainPasid.field-0) (waits (state c.args.queues.now c.args.engines.now (g.S.EntryStore.content c.args.store.now) c.args.book.now.fates c.args.self.now)) _ c.in-DrainPasid.is refl (c.wait-in-DrainPasid.ensures.waiting c.args.engines.now c.args.book.now.fates)
-
+-- whichever of the three it is, it aborts and no more
 pub returns-in-AbortAll-clause-carried : goal.returns-in-AbortAll-clause-carried
-returns-in-AbortAll-clause-carried g c = carried-as (state c.args.queues.now c.args.engines.now (g.S.EntryStore.content c.args.store.now) c.args.book.now.fates c.args.self.now) c.args.command AbortAll (λ (command : Command). aborts (state c.args.queues.now c.args.engines.now (g.S.EntryStore.content c.args.store.now) c.args.book.now.fates c.args.self.now) command (λ setup. setup)) _ c.in-AbortAll.is refl (c.abort_alone.ensures.aborted c.args.self.now)
-
-pub returns-in-AbortWq-clause-carried : goal.returns-in-AbortWq-clause-carried
-returns-in-AbortWq-clause-carried g c = carried-as (state c.args.queues.now c.args.engines.now (g.S.EntryStore.content c.args.store.now) c.args.book.now.fates c.args.self.now) c.args.command (AbortWq c.in-AbortWq.field-0) (λ (command : Command). aborts (state c.args.queues.now c.args.engines.now (g.S.EntryStore.content c.args.store.now) c.args.book.now.fates c.args.self.now) command (λ setup. setup)) _ c.in-AbortWq.is refl (c.abort_alone-in-AbortWq.ensures.aborted c.args.self.now)
-
-pub returns-in-AbortPasid-clause-carried : goal.returns-in-AbortPasid-clause-carried
-returns-in-AbortPasid-clause-carried g c = carried-as (state c.args.queues.now c.args.engines.now (g.S.EntryStore.content c.args.store.now) c.args.book.now.fates c.args.self.now) c.args.command (AbortPasid c.in-AbortPasid.field-0) (λ (command : Command). aborts (state c.args.queues.now c.args.engines.now (g.S.EntryStore.content c.args.store.now) c.args.book.now.fates c.args.self.now) command (λ setup. setup)) _ c.in-AbortPasid.is refl (c.abort_alone-in-AbortPasid.ensures.aborted c.args.self.now)
+returns-in-AbortAll-clause-carried g c =
+    let s : State = state c.args.queues.now c.args.engines.now (g.S.EntryStore.content c.args.store.now) c.args.book.now.fates c.args.self.now in
+    let h = c.abort_alone.ensures.aborted c.args.self.now in
+    elim c.in-AbortAll.is [
+      | inl e ↦ carried-as s c.args.command AbortAll (λ (command : Command). aborts s command (λ setup. setup)) _ e refl h
+      | inr r1 ↦ elim r1 [
+        | inl p ↦ carried-as s c.args.command (AbortWq p.0) (λ (command : Command). aborts s command (λ setup. setup)) _ p.1 refl h
+        | inr p ↦ carried-as s c.args.command (AbortPasid p.0) (λ (command : Command). aborts s command (λ setup. setup)) _ p.1 refl h
+      ]
+    ]
 
 pub returns-in-ResetDevice-clause-carried : goal.returns-in-ResetDevice-clause-carried
 returns-in-ResetDevice-clause-carried g c = carried-at (state c.args.queues.now c.args.engines.now (g.S.EntryStore.content c.args.store.now) c.args.book.now.fates c.args.self.now) c.args.command ResetDevice _ c.in-ResetDevice.is (c.reset_device.ensures.reset c.args.self.now)
