@@ -8,6 +8,7 @@
 mod engines;
 mod fetching;
 mod finishing;
+mod leaving;
 mod removing;
 mod starting;
 mod taking;
