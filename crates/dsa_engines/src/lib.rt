@@ -8,7 +8,7 @@
 mod engines;
 mod fetching;
 mod finishing;
-mod leaving;
+mod giving_up;
 mod removing;
 mod starting;
 mod taking;
