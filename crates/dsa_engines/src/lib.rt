@@ -14,3 +14,6 @@ mod starting;
 mod taking;
 
 pub use engines::Engines;
+
+#[cfg(test)]
+mod tests;

@@ -8,7 +8,8 @@ use Rattle.dsa_queues.specs.Queues.{intake}
 use Rattle.dsa_device.specs.Running.{running}
 use Rattle.dsa_device.proofs.Known.{ready, store_cells, accepting, names_fit}
 use Rattle.dsa_device.proofs.Layers.{next-submit}
-use Rattle.dsa_device.proofs.InStep.{IsAlikeFor, in_step-alike, submit-alike}
+use Rattle.dsa_engines.proofs.Keeping.{KeepsLoads, in_step-kept}
+use Rattle.dsa_device.proofs.InStep.{submit-keeps}
 use Rattle.dsa_device.proofs.Steps.{IsStep, step_by_parts}
 use Rattle.dsa_device.proofs.device.Device.submit_parsed.Given.{Over}
 use Rattle.dsa_device.proofs.device.Device.submit_parsed.Goals as goal
@@ -34,13 +35,13 @@ step g c =
     let i = c.self.inside in
     let before = intake i.queues (g.S.EntryStore.content i.store) in
     let after = intake c.submit-answer.new.self (g.S.EntryStore.content c.submit-answer.new.store) in
-    let alike = subst (λ (r : SubmitAnswer × Intake). IsAlikeFor i.queues r.1.setup (g.S.EntryStore.content i.store) r.1.content) c.submit-answer.ensures.answer (submit-alike before c.args.queue c.args.portal c.args.kind c.args.desc (cell_or_first (accepted_cell c.submit-answer.result))) in
+    let keeps = subst (λ (r : SubmitAnswer × Intake). KeepsLoads i.queues r.1.setup (g.S.EntryStore.content i.store) r.1.content) c.submit-answer.ensures.answer (submit-keeps before c.args.queue c.args.portal c.args.kind c.args.desc (cell_or_first (accepted_cell c.submit-answer.result))) in
     step_by_parts _ _ i.caps i.queues c.submit-answer.new.self i.engines i.engines (g.S.EntryStore.content i.store) (g.S.EntryStore.content c.submit-answer.new.store) i.admin i.admin i.book c.record.new.self i.book.fates
     (event.Submit c.args.client c.args.queue c.args.portal c.args.kind c.args.desc) (reply.Submit c.submit-answer.result)
     c.self.invariant (sym c.is_full.ensures.full ∙ c.if-is_full.false) c.record.ensures
     (next-submit _ c.args.client c.args.queue c.args.portal c.args.kind c.args.desc c.submit-answer.result after c.submit-answer.ensures.answer c.submit-answer.ensures.free)
     c.submit-answer.ensures.cells
-    (in_step-alike i.queues c.submit-answer.new.self i.engines (g.S.EntryStore.content i.store) (g.S.EntryStore.content c.submit-answer.new.store) alike c.self.invariant.in_step)
+    (in_step-kept i.queues c.submit-answer.new.self i.engines (g.S.EntryStore.content i.store) (g.S.EntryStore.content c.submit-answer.new.store) c.self.invariant.in_step keeps)
 
 pub invariant_of-self : goal.invariant_of-self
 invariant_of-self g c = (step g c).whole
