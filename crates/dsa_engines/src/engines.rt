@@ -144,6 +144,15 @@ impl Engines {
         }
     }
 
+    /// How many read buffers the group has taken since the device was enabled and not given back.
+    #[inline(always)]
+    pub fn used(&self, group: u16) -> u16
+        requires { group < length self.now.buffers.groups }
+        ensures { result ≡ slice_index self.now.buffers.used group }
+    {
+        self.buffers.used(group)
+    }
+
     /// The queue whose turn is next in the group.
     #[inline(always)]
     pub(crate) fn turn(&self, group: u16) -> u16 {
