@@ -97,7 +97,7 @@ impl Engines {
 
     /// The note of the batch that the engine works on.
     #[inline(always)]
-    pub(crate) fn note(&self, engine: u16) -> Option<BatchNote>
+    pub fn note(&self, engine: u16) -> Option<BatchNote>
         ensures { result ≡ get_or self.now.notes engine None }
     {
         match self.notes.get(usize::from(engine)) {
@@ -142,6 +142,15 @@ impl Engines {
         if let Some(group) = home {
             self.buffers.give(group, u16::from(n));
         }
+    }
+
+    /// How many read buffers the group has taken since the device was enabled and not given back.
+    #[inline(always)]
+    pub fn used(&self, group: u16) -> u16
+        requires { group < length self.now.buffers.groups }
+        ensures { result ≡ slice_index self.now.buffers.used group }
+    {
+        self.buffers.used(group)
     }
 
     /// The queue whose turn is next in the group.
