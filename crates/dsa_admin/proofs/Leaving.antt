@@ -1,12 +1,12 @@
 -- The read buffers, as an entry leaves its list.
-use Rattle.std.proofs.Common.{◌≡◌, ℕ, zero, suc, ◌+◌, ◌<◌, ◌≤◌, false, cond, List, [], ◌∷◌, length, set, get_or, Option, Some, None, refl, sym, ◌∙◌, ap, inl, inr, subst, IsTrue, arith}
+use Rattle.std.proofs.Common.{◌≡◌, ℕ, zero, suc, ◌+◌, ◌<◌, ◌≤◌, false, cond, List, [], ◌∷◌, ◌++◌, length, set, get_or, Option, Some, None, refl, sym, ◌∙◌, ap, inl, inr, subst, IsTrue, arith}
 use Rattle.std.proofs.lemmas.Grind.{common_steps}
 use Rattle.std.specs.List.{remove}
 use Rattle.std.proofs.lemmas.List.{get_or-set_same, get_or-set_other, set-get_or}
 use Rattle.dsa_regs.specs.Caps.{check_caps}
 use Rattle.dsa_store.specs.declared.entry.Cell.{Cell}
 use Rattle.dsa_store.specs.declared.entry.Entry.{Entry}
-use Rattle.dsa_store.specs.Content.{Slot, Content, chain, uses, unlinked, StandsAt}
+use Rattle.dsa_store.specs.Content.{Slot, Content, chain, uses, unlinked, pushed, StandsAt}
 use Rattle.dsa_store.proofs.Finding.{unlinked-at}
 use Rattle.dsa_buffers.specs.Buffers.{Buffers}
 use Rattle.dsa_book.specs.State.{Setup, need_of, is_off}
@@ -56,23 +56,23 @@ given-none : (home : Option ℕ) (b : Buffers) → given home 0 b ≡ b
 given-none None b = refl
 given-none (Some g) b = ap (λ (u : List ℕ). record b { used = u }) (ap (λ (n : ℕ). set b.used g n) (omega arith) ∙ set-get_or b.used g 0)
 
-queue-same : (setup : Setup) (first content : Content) (i k : ℕ) (cell : Cell) (entry : Entry) → IsReady setup first → is_off setup.device ≡ false → 0 < setup.caps.engines → uses content cell ≤ 1 → StandsAt content i k cell entry → i < setup.caps.queues → buffers_of setup content ≡ buffers_of setup (unlinked content cell)
-queue-same setup first content i k cell entry r on some once at hi =
-    let is : unlinked content cell ≡ set content i (remove (chain content i) k) = unlinked-at content i k cell entry once at in
+-- a queue's list holds no read buffers
+pub queue-same : (setup : Setup) (first content now : Content) (i : ℕ) (l : List Slot) → IsReady setup first → is_off setup.device ≡ false → 0 < setup.caps.engines → i < setup.caps.queues → now ≡ set content i l → buffers_of setup content ≡ buffers_of setup now
+queue-same setup first content now i l r on some hi is =
     let p : ℕ = progress_list setup 0 in
-    let more : HoldsMore setup (unlinked content cell) content 0 p 0 = record {
+    let more : HoldsMore setup now content 0 p 0 = record {
       engine = some;
-      others = λ j low ne. rw is (sym (get_or-set_other content i j (remove (chain content i) k) [] (λ same. absurd (omega (arith, same, low, hi)))));
-      mine = rw is (ap (load setup) (sym (get_or-set_other content i p (remove (chain content i) k) [] (λ same. absurd (omega (arith, same, hi))))) ∙ omega arith);
+      others = λ j low ne. rw is (sym (get_or-set_other content i j l [] (λ same. absurd (omega (arith, same, low, hi)))));
+      mine = rw is (ap (load setup) (sym (get_or-set_other content i p l [] (λ same. absurd (omega (arith, same, hi))))) ∙ omega arith);
     } in
-    let back = gives-back setup content (unlinked content cell) 0 0 some r.groups (one-group setup first r on) (raises-progress setup (unlinked content cell) content 0 0 more) in
+    let back = gives-back setup content now 0 0 some r.groups (one-group setup first r on) (raises-progress setup now content 0 0 more) in
     sym (given-none (group_in setup.groups 0) (buffers_of setup content)) ∙ back.given
 
 pub release-keeps : (setup : Setup) (gear after : Gear) (first content : Content) (engine : Option ℕ) (i k : ℕ) (cell : Cell) (entry : Entry) → IsReady setup first → is_off setup.device ≡ false → 0 < setup.caps.engines → IsInStep setup gear content → uses content cell ≤ 1 → StandsAt content i k cell entry → i < length content → IsListOf setup engine i → after ≡ record gear { buffers = released setup gear engine entry } → IsInStep setup after (unlinked content cell)
 release-keeps setup gear after first content None i k cell entry r on some s once at hi is step = rw step (record {
   notes = s.notes;
   homes = s.homes;
-  buffers = λ x. s.buffers x ∙ queue-same setup first content i k cell entry r on some once at is;
+  buffers = λ x. s.buffers x ∙ queue-same setup first content (unlinked content cell) i (remove (chain content i) k) r on some is (unlinked-at content i k cell entry once at);
 })
 release-keeps setup gear after first content (Some e) i k cell entry r on some s once at hi is step = rw step (record {
   notes = s.notes;
@@ -82,3 +82,11 @@ release-keeps setup gear after first content (Some e) i k cell entry r on some s
 
 pub some-engine : (setup : Setup) → IsTrue (check_caps setup.caps) → 0 < setup.caps.engines
 some-engine setup h = grind (arith, common_steps, h)
+
+-- an entry that goes to a queue holds none
+pub in_step-pushed : (setup : Setup) (gear : Gear) (content now : Content) (q : ℕ) (cell : Cell) (entry : Entry) → IsReady setup content → IsInStep setup gear content → q < setup.caps.queues → now ≡ pushed content q cell entry → IsInStep setup gear now
+in_step-pushed setup gear content now q cell entry r s hq is = record {
+  notes = s.notes;
+  homes = s.homes;
+  buffers = λ on. s.buffers on ∙ queue-same setup content content now q (chain content q ++ (cell, entry) ∷ []) r on (some-engine setup r.caps) hq is;
+}

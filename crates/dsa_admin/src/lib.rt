@@ -6,6 +6,8 @@ mod admin;
 mod ends;
 mod refusals;
 mod scope;
+#[cfg(test)]
+mod tests;
 mod withdrawal;
 
 pub use admin::Admin;
