@@ -1,24 +1,21 @@
 -- What a fetch finds and leaves.
-use Rattle.std.proofs.Common.{◌≡◌, ℕ, zero, suc, ◌+◌, ◌*◌, ◌<◌, ◌≤◌, Bool, true, false, not, cond, ◌&&◌, ◌==◌, ◌++◌, nat_lt, List, [], ◌∷◌, length, set, get_or, Option, Some, None, refl, sym, ◌∙◌, ap, subst, inl, inr, arith}
-use Rattle.std.proofs.lemmas.Grind.{common_steps}
+use Rattle.std.proofs.Common.{◌≡◌, ℕ, zero, suc, ◌+◌, ◌*◌, ◌<◌, ◌≤◌, Bool, true, false, cond, ◌==◌, ◌++◌, nat_lt, List, [], ◌∷◌, length, set, get_or, Option, Some, None, refl, sym, ◌∙◌, ap, subst, inl, inr, arith}
 use Rattle.std.proofs.lemmas.Bool.{cases_Bool, lt-ltb}
 use Rattle.std.specs.List.{find}
 use Rattle.std.proofs.lemmas.List.{get_or-set_same, get_or-set_other, length-set}
 use Rattle.dsa_desc.specs.declared.Descriptor.{Descriptor}
 use Rattle.dsa_desc.specs.Descriptor.{with_pasid}
-use Rattle.dsa_regs.specs.Caps.{cell_count}
 use Rattle.dsa_store.specs.declared.entry.Cell.{Cell}
 use Rattle.dsa_store.specs.declared.entry.Entry.{Entry}
-use Rattle.dsa_store.specs.Content.{Slot, Content, chain, uses, held, pushed, is_free}
+use Rattle.dsa_store.specs.Content.{Slot, Content, chain, pushed}
 use Rattle.dsa_store.proofs.Lists.{length-le-held}
-use Rattle.dsa_store.proofs.Sums.{unused-is_free}
 use Rattle.dsa_book.specs.declared.note.BatchNote.{BatchNote}
-use Rattle.dsa_book.specs.declared.answer.FetchAnswer.TheVariants.{Fetched, NoBatch, AllFetched}
+use Rattle.dsa_book.specs.declared.answer.FetchAnswer.TheVariants.{Fetched, NoBatch}
 use Rattle.dsa_book.specs.declared.fate.FateRow.{FateRow}
 use Rattle.dsa_book.specs.State.{Setup, is_off, need_of}
 use Rattle.dsa_book.specs.Work.{progress_list, member_list, fetch, is_all_fetched}
-use Rattle.dsa_engines.specs.Engines.{Gear, work, buffers_of, homes_of, IsInStep, IsReady, is_fetching}
-use Rattle.dsa_engines.proofs.Used.{load, load-nil, load-cons, load-append, HoldsMore}
+use Rattle.dsa_engines.specs.Engines.{Gear, work, IsInStep, IsReady, is_fetching}
+use Rattle.dsa_engines.proofs.Used.{load-nil, load-cons, load-append, HoldsMore}
 use Rattle.dsa_engines.proofs.Members.{buffers-same}
 
 past : (l : List (Option BatchNote)) (k : ℕ) → length l ≤ k → get_or l k None ≡ None

@@ -1,13 +1,12 @@
 -- Which queues qualify, and what a dispatch leaves.
-use Rattle.std.proofs.Common.{◌≡◌, ℕ, zero, suc, ◌+◌, ◌*◌, ◌<◌, ◌≤◌, ◌≢◌, Bool, true, false, not, cond, ◌&&◌, ◌||◌, nat_lt, List, [], ◌∷◌, ◌++◌, drop, length, set, get_or, Option, Some, None, slice_get, is_none, add-one, refl, sym, subst, ◌∙◌, ap, inl, inr, eqb, arith}
+use Rattle.std.proofs.Common.{◌≡◌, ℕ, zero, suc, ◌+◌, ◌*◌, ◌<◌, ◌≤◌, ◌≢◌, Bool, true, false, not, cond, ◌&&◌, ◌||◌, nat_lt, List, [], ◌∷◌, ◌++◌, drop, length, set, get_or, Option, Some, None, slice_get, is_none, add-one, refl, sym, subst, ◌∙◌, ap, inl, inr, arith}
 use Rattle.std.proofs.lemmas.Grind.{common_steps}
-use Rattle.std.proofs.lemmas.Bool.{cases_Bool, and_parts, true≢false, lt-ltb}
+use Rattle.std.proofs.lemmas.Bool.{cases_Bool, and_parts, lt-ltb}
 use Rattle.std.proofs.lemmas.List.{get_or-set_same, get_or-set_other, length-set}
 use Rattle.std.specs.Prelude.{IfSome, MatchOption}
 use Rattle.std.specs.Option.{IfNone}
 use Rattle.std.specs.List.{list_any}
 use Rattle.std.proofs.lemmas.List.Folds.{list_any-append}
-use Rattle.dsa_desc.specs.Rows.{passes}
 use Rattle.dsa_regs.specs.declared.Caps.{Caps}
 use Rattle.dsa_regs.specs.declared.GroupConfig.{GroupConfig}
 use Rattle.dsa_regs.specs.Numbers.{has, numbers_below}
@@ -15,14 +14,14 @@ use Rattle.dsa_regs.specs.Config.{group_at, zero_group}
 use Rattle.dsa_regs.specs.Buffers.{fits}
 use Rattle.dsa_store.specs.declared.entry.Cell.{Cell}
 use Rattle.dsa_store.specs.declared.entry.Entry.{Entry}
-use Rattle.dsa_store.specs.Content.{Slot, Content, chain, held, uses, moved, replaced, pushed, without_front}
+use Rattle.dsa_store.specs.Content.{Slot, Content, chain, uses, moved, replaced, pushed, without_front}
 use Rattle.dsa_store.proofs.Lists.{length-le-held, length-pushed}
 use Rattle.dsa_store.proofs.Turns.{replaced-moved}
 use Rattle.dsa_buffers.specs.Buffers.{Buffers}
 use Rattle.dsa_queues.proofs.Groups.{hit-at}
 use Rattle.dsa_book.specs.declared.note.BatchNote.{BatchNote}
-use Rattle.dsa_book.specs.State.{Setup, is_off, need_of, is_batch_of, has_queue}
-use Rattle.dsa_book.specs.Work.{progress_list, member_list, qualifies, serves, group_in, all_used, as_running, with_note, opened_note}
+use Rattle.dsa_book.specs.State.{Setup, is_off, need_of, is_batch_of}
+use Rattle.dsa_book.specs.Work.{progress_list, qualifies, group_in, as_running, with_note, opened_note}
 use Rattle.dsa_engines.specs.Engines.{Gear, work, buffers_of, IsInStep, IsReady, IsOpen}
 use Rattle.dsa_engines.proofs.Homes.{home-at, one-group}
 use Rattle.dsa_engines.proofs.Used.{load, load-nil, load-append, load-cons, HoldsMore, raises-progress, taken-of, empty-list}

@@ -1,22 +1,19 @@
 -- What an entry that ends leaves.
-use Rattle.std.proofs.Common.{◌≡◌, ℕ, zero, suc, ◌+◌, ◌-◌, ◌*◌, ◌<◌, ◌≤◌, ◌≢◌, Bool, true, false, cond, ◌&&◌, List, [], ◌∷◌, ◌++◌, length, set, get_or, Option, Some, None, refl, sym, ◌∙◌, ap, subst, inl, inr, arith}
-use Rattle.std.proofs.lemmas.Grind.{common_steps}
-use Rattle.std.proofs.lemmas.Bool.{cases_Bool}
-use Rattle.std.specs.List.{remove, find}
-use Rattle.std.proofs.lemmas.List.{get_or-set_same, get_or-set_other, length-set}
+use Rattle.std.proofs.Common.{◌≡◌, ℕ, ◌≤◌, Bool, false, cond, ◌&&◌, List, [], ◌∷◌, ◌++◌, get_or, Option, Some, None, refl, sym, ap}
+use Rattle.std.specs.List.{find}
+use Rattle.std.proofs.lemmas.List.{length-set}
 use Rattle.dsa_store.specs.declared.entry.Cell.{Cell}
 use Rattle.dsa_store.specs.declared.entry.Entry.{Entry}
-use Rattle.dsa_store.specs.Content.{Slot, Content, chain, uses, held, unlinked, StandsAt}
-use Rattle.dsa_buffers.specs.Buffers.{Buffers}
+use Rattle.dsa_store.specs.Content.{Content, uses, unlinked}
 use Rattle.dsa_book.specs.declared.note.BatchNote.{BatchNote}
 use Rattle.dsa_desc.specs.declared.Outcome.{Outcome}
 use Rattle.dsa_book.specs.declared.answer.Ticket.{Ticket}
 use Rattle.dsa_book.specs.declared.answer.FinishAnswer.TheVariants.{Done}
 use Rattle.dsa_book.specs.declared.fate.FateRow.{FateRow}
 use Rattle.dsa_book.specs.declared.fate.Fate.TheVariants.{Completed}
-use Rattle.dsa_book.specs.State.{Setup, is_off, need_of, is_batch_of, is_ticket}
-use Rattle.dsa_book.specs.Work.{progress_list, member_list, group_in, with_note, running_on, is_unfinished, last_status, note_after, finish}
-use Rattle.dsa_engines.specs.Engines.{Gear, work, lists_alone, IsInStep, IsReady, given, Holds, buffers_of}
+use Rattle.dsa_book.specs.State.{Setup, need_of, is_batch_of, is_ticket}
+use Rattle.dsa_book.specs.Work.{with_note, running_on, is_unfinished, last_status, note_after, finish}
+use Rattle.dsa_engines.specs.Engines.{Gear, work, lists_alone, IsInStep, IsReady, given, Holds}
 use Rattle.dsa_engines.proofs.Finding.{RunsAt}
 use Rattle.dsa_engines.proofs.Leaving.{holds-removed, in_step-left}
 

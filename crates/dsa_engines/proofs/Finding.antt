@@ -11,7 +11,7 @@ use Rattle.dsa_store.specs.declared.entry.Entry.{Entry}
 use Rattle.dsa_store.specs.Content.{Slot, Content, is_cell, chain, count, uses, list_of, entry_of, StandsAt}
 use Rattle.dsa_store.proofs.Places.{count-nil, count-cons, count-at, is_cell-itself}
 use Rattle.dsa_store.proofs.Lists.{cell_eq, uses-nil, uses-cons, count-le-uses}
-use Rattle.dsa_store.proofs.Finding.{count-stands, list_of-at, list_of-none, entry_of-at, entry_of-none}
+use Rattle.dsa_store.proofs.Finding.{count-stands, list_of-at, entry_of-at, entry_of-none}
 use Rattle.dsa_book.specs.declared.answer.Ticket.{Ticket}
 use Rattle.dsa_book.specs.State.{Setup, is_ticket}
 use Rattle.dsa_book.specs.Work.{progress_list, member_list, running_on}

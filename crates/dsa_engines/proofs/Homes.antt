@@ -1,9 +1,8 @@
 -- The group of an engine.
-use Rattle.std.proofs.Common.{◌≡◌, ℕ, zero, suc, ◌+◌, ◌<◌, ◌≤◌, Bool, true, false, cond, ◌||◌, nat_lt, List, [], ◌∷◌, ◌++◌, map, take, length, get_or, Option, Some, None, add-one, refl, sym, ap, ◌∙◌, arith, inl, inr}
+use Rattle.std.proofs.Common.{◌≡◌, ℕ, zero, suc, ◌+◌, ◌<◌, ◌≤◌, Bool, true, false, cond, ◌||◌, nat_lt, List, [], ◌∷◌, ◌++◌, map, take, length, get_or, Option, Some, None, add-one, refl, sym, ap, ◌∙◌, arith}
 use Rattle.std.specs.Prelude.{count_by}
 use Rattle.std.specs.List.{list_any, position}
 use Rattle.std.proofs.lemmas.Grind.{common_steps}
-use Rattle.std.proofs.lemmas.Bool.{cases_eq}
 use Rattle.std.proofs.lemmas.List.{length-map, map-append}
 use Rattle.std.proofs.lemmas.List.Sums.{sum_by-cons, get_or-le-sum_by}
 use Rattle.std.proofs.lemmas.List.Folds.{list_any-append}
@@ -11,7 +10,7 @@ use Rattle.dsa_desc.specs.Rows.{first_row}
 use Rattle.dsa_regs.specs.declared.Fault.{Fault}
 use Rattle.dsa_regs.specs.declared.GroupConfig.{GroupConfig}
 use Rattle.dsa_regs.specs.Numbers.{has, numbers_below}
-use Rattle.dsa_regs.specs.Config.{zero_group, group_at, is_in_two, groups_table, total_size, check_device}
+use Rattle.dsa_regs.specs.Config.{zero_group, is_in_two, groups_table, total_size}
 use Rattle.dsa_queues.proofs.Groups.{position-hit}
 use Rattle.dsa_store.specs.Content.{Content}
 use Rattle.dsa_book.specs.State.{Setup, is_off}

@@ -1,14 +1,12 @@
 -- What leaves the kept numbers in step: a change that touches no list of an engine.
-use Rattle.std.proofs.Common.{◌≡◌, ℕ, zero, suc, ◌+◌, ◌<◌, ◌≤◌, Bool, true, false, cond, List, [], ◌∷◌, ◌++◌, map, length, get_or, refl, sym, subst, ◌∙◌, ap, arith}
+use Rattle.std.proofs.Common.{◌≡◌, ℕ, ◌<◌, ◌≤◌, false, [], ◌∷◌, ◌++◌, refl, sym, ◌∙◌, ap, arith}
 use Rattle.std.proofs.lemmas.List.{get_or-set_other}
 use Rattle.dsa_regs.specs.declared.Caps.{Caps}
-use Rattle.dsa_regs.specs.declared.GroupConfig.{GroupConfig}
 use Rattle.dsa_store.specs.declared.entry.Cell.{Cell}
 use Rattle.dsa_store.specs.declared.entry.Entry.{Entry}
-use Rattle.dsa_store.specs.Content.{Slot, Content, chain, pushed}
+use Rattle.dsa_store.specs.Content.{Content, chain, pushed}
 use Rattle.dsa_book.specs.State.{Setup, is_off}
-use Rattle.dsa_book.specs.Work.{used_on}
-use Rattle.dsa_engines.specs.Engines.{Gear, lists_alone, buffers_of, homes_of, IsInStep}
+use Rattle.dsa_engines.specs.Engines.{Gear, IsInStep}
 use Rattle.dsa_engines.proofs.Used.{load, used-kept}
 
 -- the new set-up has the old one's capabilities, groups and phase, and each list of an engine needs what it needed

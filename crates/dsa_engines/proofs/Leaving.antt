@@ -2,10 +2,10 @@
 use Rattle.std.proofs.Common.{◌≡◌, ℕ, zero, suc, ◌+◌, ◌*◌, ◌<◌, ◌≤◌, ◌⊎◌, Bool, true, false, cond, List, [], ◌∷◌, length, set, get_or, Option, Some, None, refl, sym, ◌∙◌, ap, subst, inl, inr, arith}
 use Rattle.std.proofs.lemmas.Bool.{cases_Bool}
 use Rattle.std.specs.List.{remove}
-use Rattle.std.proofs.lemmas.List.{get_or-set_same, get_or-set_other, length-set}
+use Rattle.std.proofs.lemmas.List.{get_or-set_same, get_or-set_other}
 use Rattle.dsa_store.specs.declared.entry.Cell.{Cell}
 use Rattle.dsa_store.specs.declared.entry.Entry.{Entry}
-use Rattle.dsa_store.specs.Content.{Slot, Content, chain, uses, held, unlinked, list_of, entry_of, StandsAt}
+use Rattle.dsa_store.specs.Content.{Slot, Content, chain, uses, unlinked, list_of, entry_of, StandsAt}
 use Rattle.dsa_store.proofs.Finding.{unlinked-at, list_of-at, entry_of-at, entry_of-none}
 use Rattle.dsa_store.proofs.Lists.{length-le-held}
 use Rattle.dsa_buffers.specs.Buffers.{Buffers}
@@ -16,7 +16,7 @@ use Rattle.dsa_engines.specs.Engines.{Gear, buffers_of, given, Holds, IsInStep, 
 use Rattle.dsa_engines.proofs.Homes.{one-group}
 use Rattle.dsa_engines.proofs.Dispatching.{home-of, length-opened}
 use Rattle.dsa_engines.proofs.Used.{load, HoldsMore, RaisesOne, raises-progress, raises-members, GivesBack, gives-back, given-none, load-cons}
-use Rattle.dsa_engines.proofs.Finding.{IsMine, Stands, StandsOn, placed}
+use Rattle.dsa_engines.proofs.Finding.{IsMine, StandsOn, placed}
 
 stands-on-at : (setup : Setup) (content : Content) (e i : ℕ) (cell : Cell) (entry : Entry) → uses content cell ≤ 1 → IsMine setup e i → list_of content cell ≡ Some i → entry_of content cell ≡ Some entry → StandsOn setup content e cell entry
 stands-on-at setup content e i cell entry once mine is got =

@@ -1,9 +1,9 @@
 -- What a start finds among the members, and leaves.
-use Rattle.std.proofs.Common.{◌≡◌, ℕ, zero, suc, ◌+◌, ◌-◌, ◌*◌, ◌<◌, ◌≤◌, ◌≢◌, Bool, true, false, not, cond, ◌&&◌, ◌++◌, nat_lt, List, [], ◌∷◌, length, set, get_or, slice_get, map, Option, Some, None, option_map, refl, sym, ◌∙◌, ap, subst, inl, inr, arith}
+use Rattle.std.proofs.Common.{◌≡◌, ℕ, zero, suc, ◌+◌, ◌*◌, ◌<◌, ◌≤◌, Bool, true, false, not, cond, ◌&&◌, nat_lt, List, [], ◌∷◌, length, set, get_or, slice_get, Option, Some, None, refl, sym, ◌∙◌, ap, subst, inl, inr, arith}
 use Rattle.std.proofs.lemmas.Grind.{common_steps}
 use Rattle.std.proofs.lemmas.Bool.{cases_Bool, lt-ltb, and_parts}
-use Rattle.std.specs.List.{find, filter}
-use Rattle.std.proofs.lemmas.List.{get_or-set_same, get_or-set_other, length-set, set-get_or}
+use Rattle.std.specs.List.{find}
+use Rattle.std.proofs.lemmas.List.{get_or-set_same, get_or-set_other, length-set}
 use Rattle.dsa_desc.specs.Rows.{passes}
 use Rattle.dsa_desc.specs.Descriptor.{is_fenced}
 use Rattle.dsa_regs.specs.Buffers.{fits}
@@ -13,21 +13,19 @@ use Rattle.dsa_regs.specs.Config.{zero_group}
 use Rattle.dsa_queues.proofs.Groups.{hit-at}
 use Rattle.dsa_store.specs.declared.entry.Cell.{Cell}
 use Rattle.dsa_store.specs.declared.entry.Entry.{Entry}
-use Rattle.dsa_store.specs.Content.{Slot, Content, is_cell, chain, count, uses, replaced, emptied, pushed, StandsAt}
+use Rattle.dsa_store.specs.Content.{Slot, Content, is_cell, chain, count, uses, replaced, emptied}
 use Rattle.dsa_store.proofs.Places.{count-cons, is_cell-itself}
 use Rattle.dsa_store.proofs.Lists.{count-le-uses, length-le-held}
 use Rattle.dsa_store.proofs.Finding.{replaced-at}
-use Rattle.dsa_buffers.specs.Buffers.{Buffers}
 use Rattle.dsa_book.specs.declared.note.BatchNote.{BatchNote}
-use Rattle.dsa_book.specs.declared.answer.Ticket.{Ticket}
 use Rattle.dsa_book.specs.declared.answer.StartAnswer.TheVariants.{Started, NoBuffers}
 use Rattle.dsa_book.specs.declared.fate.FateRow.{FateRow}
 use Rattle.dsa_book.specs.State.{Setup, is_off, need_of}
 use Rattle.dsa_book.specs.Work.{member_list, members, with_first_run, run, as_running, has_room, group_in, start}
-use Rattle.dsa_engines.specs.Engines.{Gear, work, lists_alone, buffers_of, given, Holds, IsInStep, IsReady, is_running, WaitInOrder}
+use Rattle.dsa_engines.specs.Engines.{Gear, work, lists_alone, buffers_of, Holds, IsInStep, IsReady, WaitInOrder}
 use Rattle.dsa_engines.proofs.Homes.{one-group}
 use Rattle.dsa_engines.proofs.Dispatching.{home-of}
-use Rattle.dsa_engines.proofs.Used.{load, load-nil, load-cons, load-append, HoldsMore, RaisesOne, none-load, raises-members, GivesBack, gives-back, given-none, taken-of}
+use Rattle.dsa_engines.proofs.Used.{load, load-nil, load-cons, HoldsMore, none-load, raises-members, gives-back, given-none, taken-of}
 
 abbrev pub waits : Slot → Bool
 waits slot = not slot.1.running

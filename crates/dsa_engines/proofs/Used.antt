@@ -1,8 +1,8 @@
 -- The read buffers in use, as one list of one engine changes.
-use Rattle.std.proofs.Common.{◌≡◌, ℕ, zero, suc, ◌+◌, ◌-◌, ◌*◌, ◌<◌, ◌≤◌, ◌≢◌, Bool, true, false, not, cond, ◌&&◌, nat_lt, List, [], ◌∷◌, ◌++◌, map, replicate, length, set, get_or, Option, Some, None, eqb, refl, sym, ◌∙◌, ap, arith, inl, inr}
+use Rattle.std.proofs.Common.{◌≡◌, ℕ, zero, suc, ◌+◌, ◌-◌, ◌<◌, ◌≤◌, ◌≢◌, Bool, true, false, cond, ◌&&◌, nat_lt, List, [], ◌∷◌, ◌++◌, map, replicate, length, set, get_or, Option, Some, None, eqb, refl, sym, ◌∙◌, ap, arith, inl, inr}
 use Rattle.std.proofs.lemmas.Grind.{common_steps}
 use Rattle.std.specs.List.{filter, sum_by}
-use Rattle.std.proofs.lemmas.List.{ext_get_or, length-set, length-map, map-append, get_or-set_same, get_or-set_other, set-set, set-get_or}
+use Rattle.std.proofs.lemmas.List.{ext_get_or, length-set, length-map, map-append, get_or-set_same, set-set, set-get_or}
 use Rattle.std.proofs.lemmas.List.Elements.{filter-append}
 use Rattle.std.proofs.lemmas.List.Sums.{sum_by-cons, sum_by-append}
 use Rattle.std.proofs.lemmas.Bool.{cases_lt}
@@ -14,8 +14,8 @@ use Rattle.dsa_regs.specs.declared.GroupConfig.{GroupConfig}
 use Rattle.dsa_regs.specs.Config.{zero_group, group_at}
 use Rattle.dsa_store.specs.Content.{Slot, Content, chain, held}
 use Rattle.dsa_store.proofs.Lists.{length-le-held}
-use Rattle.dsa_book.specs.State.{Setup, Work, need_of}
-use Rattle.dsa_book.specs.Work.{in_progress, members, running_on, used_on, used, all_used, group_in, progress_list, member_list}
+use Rattle.dsa_book.specs.State.{Setup, need_of}
+use Rattle.dsa_book.specs.Work.{used_on, used, all_used, group_in, progress_list, member_list}
 use Rattle.dsa_buffers.specs.Buffers.{Buffers}
 use Rattle.dsa_queues.proofs.Groups.{hit-at}
 use Rattle.dsa_engines.specs.Engines.{lists_alone, buffers_of, buffers_at_rest, given, Holds}
@@ -244,9 +244,9 @@ rest-on setup c e h = on (cases_lt e setup.caps.engines)
 pub buffers-at_rest : (setup : Setup) (c : Content) → length setup.groups ≡ setup.caps.groups → held c ≡ 0 → buffers_at_rest setup ≡ buffers_of setup c
 buffers-at_rest setup c len h =
     let zeros : all_used (lists_alone setup c) ≡ replicate (length setup.groups) 0 =
-        same-table (λ (k : ℕ). 0) (used (lists_alone setup c)) setup.caps.groups (λ k lt. zero-sum (used_on (lists_alone setup c)) (filter (has (group_at setup.groups k).engines) (numbers_below setup.caps.engines)) (λ e. rest-on setup c e h))
-        ∙ map-zeros (numbers_below setup.caps.groups)
-        ∙ ap (λ (n : ℕ). replicate {A = ℕ} n 0) (length-numbers setup.caps.groups ∙ sym len) in
+    same-table (λ (k : ℕ). 0) (used (lists_alone setup c)) setup.caps.groups (λ k lt. zero-sum (used_on (lists_alone setup c)) (filter (has (group_at setup.groups k).engines) (numbers_below setup.caps.engines)) (λ e. rest-on setup c e h))
+    ∙ map-zeros (numbers_below setup.caps.groups)
+    ∙ ap (λ (n : ℕ). replicate {A = ℕ} n 0) (length-numbers setup.caps.groups ∙ sym len) in
     ap (λ (u : List ℕ). let b : Buffers = record { total = setup.caps.read_buffers; groups = setup.groups; used = u } in b) (sym zeros)
 
 -- the read buffers as they are made
@@ -282,11 +282,11 @@ sum-kept f f' (x ∷ xs) h =
 pub used-kept : (setup more : Setup) (c now : Content) → more.caps ≡ setup.caps → more.groups ≡ setup.groups → ((j : ℕ) → setup.caps.queues ≤ j → load more (chain now j) ≡ load setup (chain c j)) → buffers_of setup c ≡ buffers_of more now
 used-kept setup more c now same groups loads =
     let table : all_used (lists_alone more now) ≡ all_used (lists_alone setup c) =
-        ap (λ (x : Caps). map (used (lists_alone more now)) (numbers_below x.groups)) same
-        ∙ same-table (used (lists_alone setup c)) (used (lists_alone more now)) setup.caps.groups (λ g lt.
-        ap (λ (x : Caps). sum_by (used_on (lists_alone more now)) (filter (has (group_at more.groups g).engines) (numbers_below x.engines))) same
-        ∙ ap (λ (gs : List GroupConfig). sum_by (used_on (lists_alone more now)) (filter (has (group_at gs g).engines) (numbers_below setup.caps.engines))) groups
-        ∙ sum-kept (used_on (lists_alone setup c)) (used_on (lists_alone more now)) (filter (has (group_at setup.groups g).engines) (numbers_below setup.caps.engines)) (λ e. used_on-kept setup more c now e same loads)) in
+    ap (λ (x : Caps). map (used (lists_alone more now)) (numbers_below x.groups)) same
+    ∙ same-table (used (lists_alone setup c)) (used (lists_alone more now)) setup.caps.groups (λ g lt.
+    ap (λ (x : Caps). sum_by (used_on (lists_alone more now)) (filter (has (group_at more.groups g).engines) (numbers_below x.engines))) same
+    ∙ ap (λ (gs : List GroupConfig). sum_by (used_on (lists_alone more now)) (filter (has (group_at gs g).engines) (numbers_below setup.caps.engines))) groups
+    ∙ sum-kept (used_on (lists_alone setup c)) (used_on (lists_alone more now)) (filter (has (group_at setup.groups g).engines) (numbers_below setup.caps.engines)) (λ e. used_on-kept setup more c now e same loads)) in
     let b : Buffers = record { total = setup.caps.read_buffers; groups = setup.groups; used = all_used (lists_alone more now) } in
     ap (λ (u : List ℕ). let x : Buffers = record { total = setup.caps.read_buffers; groups = setup.groups; used = u } in x) (sym table)
     ∙ ap (λ (x : Caps). let y : Buffers = record { total = x.read_buffers; groups = setup.groups; used = all_used (lists_alone more now) } in y) (sym same)

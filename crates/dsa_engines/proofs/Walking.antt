@@ -1,6 +1,5 @@
 -- A walk along a list of a store, and what it has found.
 use Rattle.std.proofs.Common.{◌≡◌, ℕ, zero, suc, ◌+◌, ◌<◌, ◌≤◌, Bool, true, false, cond, List, [], ◌∷◌, ◌++◌, map, take, length, get_or, Option, Some, None, refl, sym, subst, ◌∙◌, ap, arith, add-one, append_assoc, length-append, length-take}
-use Rattle.std.proofs.lemmas.Grind.{common_steps}
 use Rattle.std.specs.List.{find}
 use Rattle.std.proofs.lemmas.List.{map-append, length-map}
 use Rattle.dsa_store.specs.declared.entry.Cell.{Cell}

@@ -1,5 +1,5 @@
 -- What the engines keep beside the lists, and how it agrees with them.
-use Rattle.std.specs.Prelude.{◌≡◌, ℕ, ◌+◌, ◌-◌, ◌<◌, ◌≤◌, IsTrue, true, false, Bool, not, ◌&&◌, is_some, List, [], ◌∷◌, length, map, filter, replicate, get_or, slice_index, slice_set, Option, Some, None}
+use Rattle.std.specs.Prelude.{◌≡◌, ℕ, ◌-◌, ◌<◌, ◌≤◌, IsTrue, true, false, Bool, not, ◌&&◌, is_some, List, [], ◌∷◌, length, map, filter, replicate, slice_index, slice_set, Option, Some, None}
 use Rattle.dsa_desc.specs.Rows.{passes}
 use Rattle.dsa_regs.specs.declared.Caps.{Caps}
 use Rattle.dsa_regs.specs.Caps.{check_caps, list_count}

@@ -16,8 +16,8 @@ impl Engines {
         requires engine { engine < length self.old.notes }
         requires held { entry.now.running ≡ true → Holds (get_or self.old.homes engine None) (need_of queues.now entry.now) self.old.buffers }
         ensures { self.new ≡ record self.old {
-            buffers = cond entry.now.running (given (get_or self.old.homes engine None) (need_of queues.now entry.now) self.old.buffers) self.old.buffers;
-            notes = cond (is_batch_of queues.now entry.now) (with_note self.old.notes engine None) self.old.notes
+          buffers = cond entry.now.running (given (get_or self.old.homes engine None) (need_of queues.now entry.now) self.old.buffers) self.old.buffers;
+          notes = cond (is_batch_of queues.now entry.now) (with_note self.old.notes engine None) self.old.notes;
         } }
     {
         if entry.running {

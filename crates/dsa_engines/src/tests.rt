@@ -10,7 +10,9 @@ use dsa_book::{
 };
 use dsa_desc::{Descriptor, Outcome};
 use dsa_queues::Queues;
-use dsa_regs::{Caps, GroupConfig, Phase, QueueConfig, cell_count, check_caps, check_device, list_count};
+use dsa_regs::{
+    Caps, GroupConfig, Phase, QueueConfig, cell_count, check_caps, check_device, list_count,
+};
 use dsa_store::{Cell, Entry, EntryStore, ListId, PlainStore};
 use std::process::Abort;
 use std::test::Fail;
@@ -205,7 +207,10 @@ fn batch_ends_last<S: EntryStore>(rt: &impl Abort, store: &mut S, book: &mut Boo
     ready(rt, &queues, store);
     assert!(rt; store.free() == store.cells());
     engines.enable(&queues);
-    assert_eq!(rt; fetch_move(rt, &mut queues, &mut engines, store), FetchAnswer::NoBatch);
+    assert_eq!(rt;
+        fetch_move(rt, &mut queues, &mut engines, store),
+        FetchAnswer::NoBatch
+    );
     let mut batch = move_of(20, 0, 1);
     batch.desc.op = 1;
     batch.desc.size = 2;
@@ -225,7 +230,10 @@ fn batch_ends_last<S: EntryStore>(rt: &impl Abort, store: &mut S, book: &mut Boo
         let failed = end(rt, &queues, &mut engines, store, book, member);
         assert_eq!(rt; failed, FinishAnswer::Done(0x03));
     }
-    assert_eq!(rt; fetch_move(rt, &mut queues, &mut engines, store), FetchAnswer::AllFetched);
+    assert_eq!(rt;
+        fetch_move(rt, &mut queues, &mut engines, store),
+        FetchAnswer::AllFetched
+    );
     let answer = start_one(rt, &queues, &mut engines, store, book);
     assert_eq!(rt; answer, StartAnswer::Nothing);
     let last = end(rt, &queues, &mut engines, store, book, ticket);

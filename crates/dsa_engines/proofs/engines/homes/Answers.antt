@@ -1,4 +1,4 @@
-use Rattle.std.proofs.Common.{◌∙◌, ap, arith, List, Option, ℕ, ◌++◌, ◌∷◌, []}
+use Rattle.std.proofs.Common.{◌∙◌, ap, arith, Option, ℕ, ◌++◌, ◌∷◌, []}
 use Rattle.dsa_regs.specs.declared.Caps.{Caps}
 use Rattle.dsa_book.specs.Work.{group_in}
 use Rattle.dsa_engines.proofs.Homes.{homes-more, homes-length}

@@ -1,9 +1,8 @@
-use Rattle.std.proofs.Common.{◌≡◌, ◌∙◌, ◌<◌, ℕ, true, false, Option, Some, None, refl, sym, ap, inl, inr, arith}
+use Rattle.std.proofs.Common.{◌∙◌, refl, sym, ap, inl, inr, arith}
 use Rattle.std.specs.Prelude.{option_map}
 use Rattle.dsa_regs.specs.declared.Caps.{Caps}
 use Rattle.dsa_store.specs.declared.entry.Entry.{Entry}
 use Rattle.dsa_store.specs.Content.{Slot}
-use Rattle.dsa_desc.specs.Rows.{when}
 use Rattle.dsa_engines.proofs.Finding.{lost, outside, inside}
 use Rattle.dsa_engines.proofs.finishing.find_running.Goals as goal
 

@@ -1,10 +1,7 @@
-use Rattle.std.proofs.Common.{◌≡◌, ◌∙◌, ◌<◌, ◌++◌, ◌∷◌, [], List, ℕ, true, false, length, get_or, Some, None, Option, sym, ap, arith}
-use Rattle.std.proofs.lemmas.Grind.{common_steps}
+use Rattle.std.proofs.Common.{◌≡◌, ◌∙◌, get_or, Some, None, Option, sym, arith}
 use Rattle.dsa_store.specs.declared.entry.Entry.{Entry}
-use Rattle.dsa_store.specs.Content.{Slot, Content, chain}
+use Rattle.dsa_store.specs.Content.{Content, chain}
 use Rattle.dsa_store.proofs.Turns.{AtPlace, at-place, some-drop}
-use Rattle.dsa_book.specs.Records.{Records}
-use Rattle.dsa_book.specs.declared.fate.FateRow.{FateRow}
 use Rattle.dsa_book.specs.declared.fate.Fate.TheVariants.{Abandoned}
 use Rattle.dsa_book.specs.Work.{fate_row}
 use Rattle.dsa_engines.proofs.Walking.{slot-at, row-added, room-left}

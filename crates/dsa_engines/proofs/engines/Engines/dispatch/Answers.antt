@@ -1,8 +1,6 @@
-use Rattle.std.proofs.Common.{◌≡◌, ◌∙◌, ◌+◌, ◌<◌, true, false, [], refl, length, arith, sym, ap}
-use Rattle.dsa_regs.specs.declared.Caps.{Caps}
-use Rattle.dsa_store.specs.Content.{Content, pushed, without_front}
-use Rattle.dsa_book.specs.Work.{qualifies, as_running}
-use Rattle.dsa_engines.specs.Engines.{Gear, work}
+use Rattle.std.proofs.Common.{◌∙◌, [], refl, sym}
+use Rattle.dsa_book.specs.Work.{qualifies}
+use Rattle.dsa_engines.specs.Engines.{work}
 use Rattle.dsa_engines.proofs.Dispatching.{none-below, within-groups, fits-taken, in_step-after}
 use Rattle.dsa_engines.proofs.engines.Engines.dispatch.Goals as goal
 

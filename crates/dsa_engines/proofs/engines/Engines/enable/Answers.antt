@@ -1,5 +1,4 @@
-use Rattle.std.proofs.Common.{◌≡◌, ◌∙◌, length, ap, sym, arith}
-use Rattle.std.proofs.lemmas.Grind.{common_steps}
+use Rattle.std.proofs.Common.{◌≡◌, ◌∙◌, length, ap, arith}
 use Rattle.dsa_engines.specs.Engines.{Gear}
 use Rattle.dsa_engines.proofs.Used.{buffers-at_rest, made-at_rest}
 use Rattle.dsa_engines.proofs.engines.Engines.enable.Goals as goal

@@ -1,6 +1,5 @@
-use Rattle.std.proofs.Common.{◌≡◌, ◌∙◌, ◌+◌, ◌<◌, ◌^◌, sym, ap, refl, arith}
+use Rattle.std.proofs.Common.{◌∙◌, ◌+◌, sym, ap, refl, arith}
 use Rattle.dsa_regs.specs.declared.Caps.{Caps}
-use Rattle.dsa_store.specs.Content.{Content}
 use Rattle.dsa_store.proofs.Sums.{unused-is_free}
 use Rattle.dsa_engines.proofs.Batches.{is-fetching, in_step-fetched, fetch-done}
 use Rattle.dsa_engines.proofs.engines.Engines.fetch.Goals as goal

@@ -1,6 +1,5 @@
-use Rattle.std.proofs.Common.{◌≡◌, ◌∙◌, ◌++◌, ◌∷◌, [], sym, ap, refl}
+use Rattle.std.proofs.Common.{◌∙◌, sym, ap}
 use Rattle.dsa_store.specs.Content.{Content}
-use Rattle.dsa_book.specs.declared.fate.FateRow.{FateRow}
 use Rattle.dsa_book.specs.Records.{Records}
 use Rattle.dsa_engines.proofs.Finding.{RunsAt, running-place}
 use Rattle.dsa_engines.proofs.Ending.{holds-need, in_step-ended, finish-done}

@@ -1,4 +1,4 @@
-use Rattle.std.proofs.Common.{◌≡◌, ◌∙◌, ◌<◌, ◌+◌, length, ap, sym, arith}
+use Rattle.std.proofs.Common.{◌∙◌, ◌+◌, length, ap, arith}
 use Rattle.dsa_regs.specs.declared.Caps.{Caps}
 use Rattle.dsa_store.specs.Content.{chain}
 use Rattle.dsa_engines.proofs.Dispatching.{no-home, open-home}

@@ -1,5 +1,4 @@
-use Rattle.std.proofs.Common.{◌≡◌, ◌∙◌, true, false, sym, arith}
-use Rattle.std.proofs.lemmas.Grind.{common_steps}
+use Rattle.std.proofs.Common.{◌∙◌, sym, arith}
 use Rattle.dsa_engines.proofs.Dispatching.{within-groups, not-served, served}
 use Rattle.dsa_engines.proofs.engines.Engines.qualifies.Goals as goal
 

@@ -1,5 +1,3 @@
-use Rattle.std.proofs.Common.{◌≡◌, ◌∙◌, ◌<◌, sym, ap, refl, arith}
-use Rattle.dsa_engines.specs.Engines.{Gear}
 use Rattle.dsa_engines.proofs.Leaving.{stands-on, holds-removed, in_step-removed}
 use Rattle.dsa_engines.proofs.engines.Engines.remove.Goals as goal
 
