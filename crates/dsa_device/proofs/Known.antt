@@ -1,8 +1,10 @@
 -- What the laws of the machine say of a device.
-use Rattle.std.proofs.Common.{◌≡◌, ◌≢◌, ℕ, suc, ◌+◌, ◌^◌, ◌<◌, ◌≤◌, ◌==◌, Bool, true, false, List, [], ◌∷◌, length, Option, Some, None, IsTrue, refl, sym, ap, ◌∙◌, subst, arith}
+use Rattle.std.proofs.Common.{◌≡◌, ◌≢◌, ℕ, suc, ◌+◌, ◌^◌, ◌<◌, ◌≤◌, ◌==◌, Bool, true, false, List, [], ◌∷◌, length, Option, Some, None, IsTrue, refl, sym, ap, ◌∙◌, subst, arith, get_or}
 use Rattle.std.specs.Prelude.{is_none, is_some, filter, not, cond, ◌&&◌, nat_lt}
-use Rattle.std.proofs.lemmas.Bool.{eqb-false, not-true, and_parts}
-use Rattle.dsa_desc.specs.Rows.{passes}
+use Rattle.std.proofs.lemmas.Bool.{lt-ltb, eqb-false, not-true, and_parts}
+use Rattle.dsa_desc.specs.Rows.{passes, when}
+use Rattle.dsa_regs.specs.declared.Phase.{Phase}
+use Rattle.dsa_regs.specs.declared.Phase.TheVariants.{Off, On, Stopping}
 use Rattle.dsa_regs.specs.declared.Caps.{Caps}
 use Rattle.dsa_regs.specs.Caps.{check_caps, cell_count, list_count}
 use Rattle.dsa_regs.proofs.CapsLemmas.{cell_count-bound}
@@ -11,16 +13,20 @@ use Rattle.dsa_store.proofs.Lists.{held-nil, held-cons, length-le-held}
 use Rattle.dsa_book.specs.declared.event.Portal.{Portal}
 use Rattle.dsa_book.specs.declared.event.Kind.{Kind}
 use Rattle.dsa_book.specs.declared.note.BatchNote.{BatchNote}
-use Rattle.dsa_book.specs.State.{occupancy}
+use Rattle.dsa_book.specs.State.{occupancy, is_off}
 use Rattle.dsa_queues.specs.Queues.{intake, is_accepting}
-use Rattle.dsa_book.specs.Work.{members, member_list, note_at, batch_on, is_all_fetched}
+use Rattle.dsa_book.specs.Work.{used, all_used, members, member_list, note_at, batch_on, is_all_fetched}
 use Rattle.dsa_laws.specs.WellFormed.{IsWellFormed, none_runs, runs_first}
 use Rattle.dsa_laws.proofs.Histories.{replay-well_formed}
 use Rattle.dsa_laws.proofs.Entries.{none-held}
 use Rattle.dsa_laws.proofs.FreeCells.{accepting-room, fetching-room}
 use Rattle.dsa_laws.proofs.Totals.{replay-names-le}
-use Rattle.dsa_engines.specs.Engines.{IsReady, WaitInOrder, is_fetching, is_running, lists_alone}
-use Rattle.dsa_device.specs.Running.{Running, IsReplay}
+use Rattle.dsa_engines.specs.Engines.{Gear, IsReady, WaitInOrder, is_fetching, is_running, lists_alone}
+use Rattle.dsa_buffers.specs.Buffers.{Buffers}
+use Rattle.dsa_engines.proofs.Used.{buffers-at_rest}
+use Rattle.dsa_laws.proofs.Numbers.{get_or-each}
+use Rattle.std.proofs.lemmas.List.{get_or-replicate}
+use Rattle.dsa_device.specs.Running.{Running, IsReplay, IsWhole}
 
 pub well_formed : (d : Running) → IsReplay d → IsWellFormed d.caps d.state
 well_formed d i = replay-well_formed d.caps d.history d.state i.replayed
@@ -126,3 +132,38 @@ fetching d engine i h = go (note_at d.state.work engine) refl h
     go : (note : Option BatchNote) → note_at d.state.work engine ≡ note → passes (λ note. is_some (batch_on d.state.work engine note) && not (is_all_fetched note)) note ≡ true → held d.state.work.content < cell_count d.caps
     go None is h = absurd cc
     go (Some note) is h = fetching-room d.caps d.state engine note (well_formed d i) is (not-true (is_all_fetched note) (and_parts (is_some (batch_on d.state.work engine note)) _ h).1)
+
+-- ---- read buffers
+
+used-listed : (d : Running) (group : ℕ) → IsReplay d → group < d.caps.groups → get_or (all_used (lists_alone d.state.work.setup d.state.work.content)) group 0 ≡ used d.state.work group
+used-listed d group i h =
+    let same = ap (λ (c : Caps). c.groups) (well_formed d i).shape.same_caps in
+    get_or-each (used d.state.work) d.state.work.setup.caps.groups group 0 (omega (arith, h, same))
+
+-- while the device is Off nothing runs
+pub used-off : (d : Running) (group : ℕ) → IsReplay d → group < d.caps.groups → is_off d.state.work.setup.device ≡ true → 0 ≡ used d.state.work group
+used-off d group i h off =
+    let r = ready d i in
+    let long = (well_formed d i).shape.groups in
+    let inside : group < length d.state.work.setup.groups = omega (arith, h, long) in
+    sym (get_or-replicate (length d.state.work.setup.groups) group 0 0 inside)
+    ∙ ap (λ (b : Buffers). get_or b.used group 0) (buffers-at_rest d.state.work.setup d.state.work.content r.groups (r.idle off))
+    ∙ used-listed d group i h
+
+-- and else the engines keep the number
+pub used-on : (cells : ℕ) (gear : Gear) (d : Running) (group : ℕ) → IsWhole cells gear d → group < d.caps.groups → is_off d.state.work.setup.device ≡ false → get_or gear.buffers.used group 0 ≡ used d.state.work group
+used-on cells gear d group w h on = ap (λ (b : Buffers). get_or b.used group 0) (w.in_step.buffers on) ∙ used-listed d group w.replay h
+
+pub groups-on : (cells : ℕ) (gear : Gear) (d : Running) (group : ℕ) → IsWhole cells gear d → group < d.caps.groups → is_off d.state.work.setup.device ≡ false → group < length gear.buffers.groups
+groups-on cells gear d group w h on =
+    let same = ap (λ (b : Buffers). length b.groups) (w.in_step.buffers on) in
+    let long = (well_formed d w.replay).shape.groups in
+    omega (arith, same, long, h)
+
+pub not_off : (phase : Phase) → (phase ≡ Off → ⊥) → is_off phase ≡ false
+not_off Off h = absurd (h refl)
+not_off On h = refl
+not_off Stopping h = refl
+
+pub read-used : (d : Running) (group n : ℕ) → group < d.caps.groups → n ≡ used d.state.work group → Some n ≡ when (nat_lt group d.caps.groups) (used d.state.work group)
+read-used d group n h is = let inside = lt-ltb group d.caps.groups h in rw inside (ap Some is)

@@ -2,11 +2,11 @@
 
 use crate::{Device, MakeFault};
 use dsa_book::{
-    Cause, ClearAnswer, DispatchAnswer, FetchAnswer, FinishAnswer, Kind, NotedError, Portal,
-    StartAnswer, SubmitAnswer, Ticket, WriteAnswer,
+    Cause, ClearAnswer, DispatchAnswer, Event, Fate, FetchAnswer, FinishAnswer, IssueAnswer, Kind,
+    NotedError, PollAnswer, Portal, Reply, StartAnswer, Step, SubmitAnswer, Ticket, WriteAnswer,
 };
 use dsa_desc::{Descriptor, Outcome};
-use dsa_regs::{Caps, Fault, GroupConfig, QueueConfig};
+use dsa_regs::{Caps, Command, Fault, GroupConfig, QueueConfig};
 use dsa_store::{Cell, Entry, EntryStore, ListId, PlainStore};
 use std::test::Fail;
 
@@ -129,6 +129,8 @@ fn new_device(rt: HostRuntime) -> Result<(), Fail> {
     assert_eq!(rt; device.capacity(), 8);
     assert_eq!(rt; device.occupancy(0), Some(0));
     assert_eq!(rt; device.occupancy(1), None);
+    assert_eq!(rt; device.used(0), Some(0));
+    assert_eq!(rt; device.used(1), None);
     assert_eq!(rt; device.noted(), None);
     assert_eq!(rt; device.active(), None);
     assert_eq!(rt; device.held(), 0);
@@ -167,6 +169,11 @@ fn steps_while_off(rt: HostRuntime) -> Result<(), Fail> {
         device.finish(0, TICKET, Outcome::Success),
         FinishAnswer::Gone
     );
+    assert_eq!(rt; device.poll(), PollAnswer::Nothing);
+    assert_eq!(rt;
+        device.issue(Command::DrainAll),
+        IssueAnswer::Refused(Fault::WrongState)
+    );
     assert_eq!(rt; device.history().len(), 5);
     Ok(())
 }
@@ -184,9 +191,135 @@ fn no_room_for_any_step(rt: HostRuntime) -> Result<(), Fail> {
         device.finish(0, TICKET, Outcome::Success),
         FinishAnswer::Full
     );
+    assert_eq!(rt; device.issue(Command::EnableDevice), IssueAnswer::Full);
+    assert_eq!(rt; device.poll(), PollAnswer::Full);
     assert_eq!(rt; device.write_queue(0, QUEUE), WriteAnswer::Full);
     assert_eq!(rt; device.write_group(0, GROUP), WriteAnswer::Full);
     assert_eq!(rt; device.clear_error(), ClearAnswer::Full);
     assert_eq!(rt; device.history().len(), 0);
+    Ok(())
+}
+
+// What enables the device with its queue.
+const ENABLED: [Event; 4] = [
+    Event::WriteQueue {
+        queue: 0,
+        config: QUEUE,
+    },
+    Event::WriteGroup {
+        group: 0,
+        config: GROUP,
+    },
+    Event::Issue {
+        command: Command::EnableDevice,
+    },
+    Event::Issue {
+        command: Command::EnableWq(0),
+    },
+];
+
+// A Memory Move of two pages.
+const MOVE: Descriptor = Descriptor {
+    pasid: 0,
+    flags: 0,
+    op: 3,
+    size: 8192,
+};
+
+// A Batch of two.
+const BATCH: Descriptor = Descriptor {
+    pasid: 0,
+    flags: 0,
+    op: 1,
+    size: 2,
+};
+
+fn submission(desc: Descriptor) -> Event {
+    Event::Submit {
+        client: 0,
+        queue: 0,
+        portal: Portal::Limited,
+        kind: ENQCMD,
+        desc,
+    }
+}
+
+fn enabled(rt: &HostRuntime, capacity: u64) -> Result<Device<PlainStore>, Fail> {
+    let mut device = device(rt, capacity)?;
+    let mut steps = Vec::new(rt.alloc());
+    device.run(&ENABLED, &mut steps)?;
+    Ok(device)
+}
+
+#[test]
+fn move_from_submission_to_fate(rt: HostRuntime) -> Result<(), Fail> {
+    let mut device = enabled(&rt, 7)?;
+    let Reply::Submit(SubmitAnswer::Accepted(ticket)) = device.step(submission(MOVE)) else {
+        return Err("not accepted")?;
+    };
+    assert_eq!(rt; ticket.name, 0);
+    assert_eq!(rt; device.occupancy(0), Some(1));
+    let taken = DispatchAnswer::Taken { ticket, queue: 0 };
+    assert_eq!(rt; device.dispatch(0), taken);
+    assert_eq!(rt; device.occupancy(0), Some(0));
+    assert_eq!(rt; device.used(0), Some(2));
+    assert_eq!(rt; device.held(), 1);
+    assert_eq!(rt; device.dispatch(0), DispatchAnswer::Idle);
+    let done = device.finish(0, ticket, Outcome::PageFault);
+    assert_eq!(rt; done, FinishAnswer::Done(0x03));
+    assert_eq!(rt; device.used(0), Some(0));
+    assert_eq!(rt; device.held(), 0);
+    assert_eq!(rt; device.fates().len(), 1);
+    assert_eq!(rt; device.fate(0), Some(Fate::Completed(0x03)));
+    assert_eq!(rt; device.next_name(), 1);
+    // The seven places are taken.
+    assert_eq!(rt; device.finish(0, ticket, Outcome::Success), FinishAnswer::Full);
+    assert_eq!(rt; device.poll(), PollAnswer::Full);
+    Ok(())
+}
+
+#[test]
+fn drain_ends_with_its_batch(rt: HostRuntime) -> Result<(), Fail> {
+    let mut device = enabled(&rt, 64)?;
+    assert!(rt; matches!(device.step(submission(BATCH)), Reply::Submit(SubmitAnswer::Accepted(_))));
+    let DispatchAnswer::Taken { ticket, .. } = device.dispatch(0) else {
+        return Err("idle")?;
+    };
+    assert_eq!(rt; device.issue(Command::DrainAll), IssueAnswer::Active);
+    assert_eq!(rt; device.active(), Some(Command::DrainAll));
+    for _ in 0..2 {
+        let FetchAnswer::Fetched(member) = device.fetch(0, MOVE) else {
+            return Err("not fetched")?;
+        };
+        assert_eq!(rt; device.start(0), StartAnswer::Started(member));
+        let early = device.finish(0, ticket, Outcome::Success);
+        assert_eq!(rt; early, FinishAnswer::NotReady);
+        let done = device.finish(0, member, Outcome::Success);
+        assert_eq!(rt; done, FinishAnswer::Done(0x01));
+    }
+    assert_eq!(rt; device.fetch(0, MOVE), FetchAnswer::AllFetched);
+    assert_eq!(rt; device.poll(), PollAnswer::Active);
+    let done = device.finish(0, ticket, Outcome::Success);
+    assert_eq!(rt; done, FinishAnswer::Done(0x01));
+    assert_eq!(rt; device.poll(), PollAnswer::Finished);
+    assert_eq!(rt; device.active(), None);
+    Ok(())
+}
+
+#[test]
+fn run_of_events(rt: HostRuntime) -> Result<(), Fail> {
+    let mut device = enabled(&rt, 7)?;
+    let mut steps = Vec::new(rt.alloc());
+    let events = [submission(MOVE); 5];
+    device.run(&events, &mut steps)?;
+    let again = Reply::Submit(SubmitAnswer::Retry(Cause::AtLimit));
+    let full = Reply::Submit(SubmitAnswer::Full);
+    assert_eq!(rt; steps.len(), 5);
+    assert!(rt; matches!(steps[1].reply, Reply::Submit(SubmitAnswer::Accepted(_))));
+    for (k, reply) in [(2, again), (3, full), (4, full)] {
+        let event = submission(MOVE);
+        assert_eq!(rt; steps.get(k), Some(&Step { event, reply }));
+    }
+    assert_eq!(rt; device.history().len(), 7);
     Ok(())
 }

@@ -5,12 +5,13 @@ ghost use Rattle.std.specs.Option.{option_map};
 ghost use Rattle.dsa_desc.specs.Rows.{when};
 ghost use Rattle.dsa_store.specs.Content.{held};
 ghost use Rattle.dsa_book.specs.State.{occupancy};
+ghost use Rattle.dsa_book.specs.Work.{used};
 ghost use Rattle.dsa_laws.specs.WellFormed.{IsWellFormed};
 ghost use Rattle.dsa_device.specs.Running.{IsReplay};
 
 use super::Device;
 use dsa_book::{Fate, FateRow, NotedError, Step};
-use dsa_regs::{Caps, Command};
+use dsa_regs::{Caps, Command, Phase};
 use dsa_store::EntryStore;
 
 impl<S: EntryStore> Device<S> {
@@ -34,6 +35,20 @@ impl<S: EntryStore> Device<S> {
         ensures { result ≡ when (nat_lt queue self.now.caps.queues) (occupancy self.now.state.work.content queue) }
     {
         self.queues.occupancy(&self.store, queue)
+    }
+
+    /// The number of read buffers that the running entries of the group's engines hold. `None` exactly when the device has no
+    /// such group.
+    pub fn used(&self, group: u16) -> Option<u16>
+        ensures { result ≡ when (nat_lt group self.now.caps.groups) (used self.now.state.work group) }
+    {
+        if group >= self.caps.groups {
+            return None;
+        }
+        match self.queues.device() {
+            Phase::Off => Some(0),
+            _ => Some(self.engines.used(group)),
+        }
     }
 
     /// The error that is noted of descriptors which MOVDIR64B wrote and no queue took.
