@@ -165,6 +165,14 @@ impl Queues {
         }
     }
 
+    /// The configurations of all groups, by number.
+    #[inline(always)]
+    pub fn groups(&self) -> &[GroupConfig]
+        ensures { result.now ≡ self.now.groups }
+    {
+        self.groups.as_slice()
+    }
+
     #[inline(always)]
     pub fn set_group(&mut self, group: u16, config: GroupConfig)
         requires { group < self.old.caps.groups }

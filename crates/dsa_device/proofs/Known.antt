@@ -1,0 +1,87 @@
+-- What the laws of the machine say of a device.
+use Rattle.std.proofs.Common.{◌≡◌, ◌≢◌, ℕ, suc, ◌+◌, ◌^◌, ◌<◌, ◌≤◌, ◌==◌, true, false, List, [], ◌∷◌, length, Option, Some, None, IsTrue, refl, sym, ap, ◌∙◌, subst, arith}
+use Rattle.std.specs.Prelude.{is_none}
+use Rattle.std.proofs.lemmas.Bool.{eqb-false}
+use Rattle.dsa_regs.specs.declared.Caps.{Caps}
+use Rattle.dsa_regs.specs.Caps.{check_caps, cell_count, list_count}
+use Rattle.dsa_regs.proofs.CapsLemmas.{cell_count-bound}
+use Rattle.dsa_store.specs.Content.{Slot, Content, chain, held}
+use Rattle.dsa_store.proofs.Lists.{held-nil, held-cons, length-le-held}
+use Rattle.dsa_book.specs.declared.event.Portal.{Portal}
+use Rattle.dsa_book.specs.declared.event.Kind.{Kind}
+use Rattle.dsa_book.specs.State.{occupancy}
+use Rattle.dsa_queues.specs.Queues.{intake, is_accepting}
+use Rattle.dsa_laws.specs.WellFormed.{IsWellFormed}
+use Rattle.dsa_laws.proofs.Histories.{replay-well_formed}
+use Rattle.dsa_laws.proofs.Entries.{none-held}
+use Rattle.dsa_laws.proofs.FreeCells.{accepting-room}
+use Rattle.dsa_laws.proofs.Totals.{replay-names-le}
+use Rattle.dsa_engines.specs.Engines.{IsReady}
+use Rattle.dsa_device.specs.Running.{Running, IsReplay}
+
+pub well_formed : (d : Running) → IsReplay d → IsWellFormed d.caps d.state
+well_formed d i = replay-well_formed d.caps d.history d.state i.replayed
+
+none-held_all : (c : Content) → ((k : ℕ) → chain c k ≡ []) → held c ≡ 0
+none-held_all [] h = held-nil
+none-held_all (l ∷ ls) h =
+    let first = ap (λ (xs : List Slot). length xs) (h 0) in
+    let rest = none-held_all ls (λ k. h (suc k)) in
+    omega (arith, held-cons l ls, first, rest)
+
+-- what the steps of the engines and of the administrator ask
+pub ready : (d : Running) → IsReplay d → IsReady d.state.work.setup d.state.work.content
+ready d i =
+    let w = well_formed d i in
+    let same = sym w.shape.same_caps in
+    record {
+      caps = subst (λ (c : Caps). IsTrue (check_caps c)) same i.caps;
+      lists = subst (λ (c : Caps). length d.state.work.content ≡ list_count c) same w.shape.lists;
+      groups = subst (λ (c : Caps). length d.state.work.setup.groups ≡ c.groups) same w.shape.groups;
+      idle = λ off. none-held_all d.state.work.content (none-held d.caps d.state.work w.setup w.entries off);
+      checked = w.setup.device;
+    }
+
+-- the store has the cells that the set-up asks
+pub store_cells : (cells : ℕ) (d : Running) → IsReplay d → cells ≡ cell_count d.caps → cells ≡ cell_count d.state.work.setup.caps
+store_cells cells d i e = e ∙ ap cell_count (sym (well_formed d i).shape.same_caps)
+
+is_none-None : {X : Type 0} (o : Option X) → is_none o ≡ true → o ≡ None
+is_none-None None h = refl
+is_none-None (Some x) h = absurd cc
+
+-- where a submission is accepted a cell is free
+pub accepting : (d : Running) (queue : ℕ) (portal : Portal) (kind : Kind) → IsReplay d → is_accepting (intake d.state.work.setup d.state.work.content) queue portal kind ≡ true → held d.state.work.content < cell_count d.caps
+accepting d queue portal kind i h = accepting-room d.caps d.state queue portal kind (well_formed d i) (is_none-None _ h)
+
+-- names do not run over
+pub names_fit : (d : Running) → IsReplay d → d.state.work.setup.next_name + 1 < 2 ^ 32
+names_fit d i =
+    let names = replay-names-le d.caps d.history d.state i.replayed in
+    let within = i.within in
+    let bounded = i.bounded in
+    omega (arith, names, within, bounded)
+
+-- there is a row for each entry
+pub rows_fit : (d : Running) → IsReplay d → length d.state.work.fates + held d.state.work.content ≤ d.capacity
+rows_fit d i =
+    let names = replay-names-le d.caps d.history d.state i.replayed in
+    let counted = (well_formed d i).names.counted in
+    let within = i.within in
+    omega (arith, names, counted, within)
+
+-- and for one more where the history has room
+pub row_fits : (d : Running) → IsReplay d → (length d.history == d.capacity) ≡ false → length d.state.work.fates < d.capacity
+row_fits d i room =
+    let names = replay-names-le d.caps d.history d.state i.replayed in
+    let counted = (well_formed d i).names.counted in
+    let within = i.within in
+    let n : length d.history ≢ d.capacity = eqb-false _ _ room in
+    omega (arith, names, counted, within, n)
+
+-- no queue is too long to be counted
+pub occupancy_fits : (cells : ℕ) (d : Running) (queue : ℕ) → IsReplay d → cells ≡ cell_count d.caps → held d.state.work.content ≤ cells → occupancy d.state.work.content queue < 2 ^ 16
+occupancy_fits cells d queue i e room =
+    let most = length-le-held d.state.work.content queue in
+    let bound = cell_count-bound d.caps i.caps in
+    omega (arith, most, bound, e, room)

@@ -1,0 +1,113 @@
+-- A step of a device, for all kinds of event at once.
+use Rattle.std.proofs.Common.{◌≡◌, ◌≢◌, ℕ, ◌≤◌, ◌==◌, Bool, true, false, cond, List, [], ◌∷◌, ◌++◌, length, Option, Some, None, option_map, refl, sym, ap, ◌∙◌, subst, arith}
+use Rattle.std.specs.Prelude.{option_and_then, is_some}
+use Rattle.std.specs.List.{list_all}
+use Rattle.std.proofs.lemmas.Option.{same_Some}
+use Rattle.std.proofs.lemmas.Bool.{eqb-false, and_parts}
+use Rattle.std.proofs.lemmas.List.{length_push}
+use Rattle.std.proofs.lemmas.List.Folds.{list_all-append}
+use Rattle.dsa_desc.specs.Rows.{when}
+use Rattle.dsa_desc.proofs.Tables.{when-some}
+use Rattle.dsa_regs.specs.declared.Caps.{Caps}
+use Rattle.dsa_regs.specs.Caps.{cell_count}
+use Rattle.dsa_store.specs.Content.{Content}
+use Rattle.dsa_book.specs.declared.event.Event.{Event}
+use Rattle.dsa_book.specs.declared.event.Step.{Step}
+use Rattle.dsa_book.specs.declared.answer.Reply.{Reply}
+use Rattle.dsa_book.specs.declared.note.ActiveCommand.{ActiveCommand}
+use Rattle.dsa_book.specs.declared.fate.FateRow.{FateRow}
+use Rattle.dsa_book.specs.Records.{Records}
+use Rattle.dsa_book.specs.State.{Setup, State}
+use Rattle.dsa_book.specs.Machine.{next, is_stored, recorded, is_full, is_legal, replay}
+use Rattle.dsa_engines.specs.Engines.{Gear, IsInStep, work}
+use Rattle.dsa_device.specs.Running.{Running, running, stepped, answered, IsReplay, IsWhole}
+use Rattle.dsa_laws.proofs.Keeps.{next_keeps}
+use Rattle.dsa_laws.proofs.Replay.{replay-snoc}
+
+-- what a reply came of: a history without room, or a step of the machine
+pub answered_by_cases : (P : Running → Type 0) (d t : Running) (e : Event) (r : Reply) → answered d e r ≡ Some t
+    → ((length d.history == d.capacity) ≡ true → is_full e r ≡ true → P d)
+    → ((s : State) → (length d.history == d.capacity) ≡ false → next d.state e r ≡ Some s → P (stepped d e r s)) → P t
+answered_by_cases P d t e r a full step = at_room (length d.history == d.capacity) refl a
+  where
+    at_next : (o : Option State) → next d.state e r ≡ o → (length d.history == d.capacity) ≡ false → option_map (stepped d e r) o ≡ Some t → P t
+    at_next None n free a = absurd cc
+    at_next (Some s) n free a = subst P (same_Some (stepped d e r s) t a) (step s free n)
+
+    at_room : (b : Bool) → (length d.history == d.capacity) ≡ b → cond b (when (is_full e r) d) (option_map (stepped d e r) (next d.state e r)) ≡ Some t → P t
+    at_room true room a = let p = when-some (is_full e r) d t a in subst P p.1 (full room p.0)
+    at_room false room a = at_next (next d.state e r) refl room a
+
+-- the replay goes on by the step, where it is kept, and else stays
+pub replay-recorded : (caps : Caps) (h : List Step) (s t : State) (e : Event) (r : Reply) → replay caps h ≡ Some s → next s e r ≡ Some t → replay caps (recorded h (record { event = e; reply = r })) ≡ Some t
+replay-recorded caps h s t e r p n = go (is_stored r) refl
+  where
+    go : (b : Bool) → is_stored r ≡ b → replay caps (cond b (h ++ record { event = e; reply = r } ∷ []) h) ≡ Some t
+    go true kept = replay-snoc caps h (record { event = e; reply = r }) ∙ ap (λ (o : Option State). option_and_then (λ v. next v e r) o) p ∙ n
+    go false kept = p ∙ ap Some (sym (next_keeps s t e r n kept))
+
+all_stored-recorded : (h : List Step) (x : Step) → list_all (λ step. is_stored step.reply) h ≡ true → list_all (λ step. is_stored step.reply) (recorded h x) ≡ true
+all_stored-recorded h x k = go (is_stored x.reply) refl
+  where
+    go : (b : Bool) → is_stored x.reply ≡ b → list_all (λ step. is_stored step.reply) (cond b (h ++ x ∷ []) h) ≡ true
+    go true s = list_all-append (λ step. is_stored step.reply) h (x ∷ []) ∙ rw (k, s) refl
+    go false s = k
+
+length-recorded : (h : List Step) (x : Step) (capacity : ℕ) → length h ≤ capacity → (length h == capacity) ≡ false → length (recorded h x) ≤ capacity
+length-recorded h x capacity within room = go (is_stored x.reply)
+  where
+    go : (b : Bool) → length (cond b (h ++ x ∷ []) h) ≤ capacity
+    go true = let n : length h ≢ capacity = eqb-false _ _ room in omega (arith, length_push h x, within, n)
+    go false = within
+
+legal-recorded : (caps : Caps) (h : List Step) (s t : State) (e : Event) (r : Reply) → is_legal caps h ≡ true → replay caps h ≡ Some s → next s e r ≡ Some t → is_legal caps (recorded h (record { event = e; reply = r })) ≡ true
+legal-recorded caps h s t e r l p n =
+    let kept = all_stored-recorded h (record { event = e; reply = r }) (and_parts _ _ l).0 in
+    let led : is_some (replay caps (recorded h (record { event = e; reply = r }))) ≡ true = ap is_some (replay-recorded caps h s t e r p n) in
+    rw (kept, led) refl
+
+-- each step keeps the theorem
+pub answered-replay : (d t : Running) (e : Event) (r : Reply) → IsReplay d → answered d e r ≡ Some t → IsReplay t
+answered-replay d t e r i a = answered_by_cases IsReplay d t e r a (λ room full. i) (λ s room n. record {
+  caps = i.caps;
+  bounded = i.bounded;
+  within = length-recorded d.history (record { event = e; reply = r }) d.capacity i.within room;
+  legal = legal-recorded d.caps d.history d.state s e r i.legal i.replayed n;
+  replayed = replay-recorded d.caps d.history d.state s e r i.replayed n;
+})
+
+answered-caps : (d t : Running) (e : Event) (r : Reply) → answered d e r ≡ Some t → t.caps ≡ d.caps
+answered-caps d t e r a = answered_by_cases (λ t. t.caps ≡ d.caps) d t e r a (λ room full. refl) (λ s room n. refl)
+
+-- what a layer's step keeps, the device keeps
+pub answered-whole : (cells cells' : ℕ) (gear gear' : Gear) (d t : Running) (e : Event) (r : Reply) → IsWhole cells gear d → cells' ≡ cells → IsInStep t.state.work.setup gear' t.state.work.content → answered d e r ≡ Some t → IsWhole cells' gear' t
+answered-whole cells cells' gear gear' d t e r w same in_step a = record {
+  replay = answered-replay d t e r w.replay a;
+  same_cells = same ∙ w.same_cells ∙ ap cell_count (sym (answered-caps d t e r a));
+  in_step = in_step;
+}
+
+-- a step of the device, from what its layers did to the parts and what the book then recorded
+pub answered_by_parts : (caps : Caps) (setup setup' : Setup) (gear gear' : Gear) (content content' : Content) (active active' : Option ActiveCommand) (book book' : Records) (fates' : List FateRow) (e : Event) (r : Reply)
+    → (length book.history == book.capacity) ≡ false
+    → book' ≡ record { history = recorded book.history (record { event = e; reply = r }); fates = fates'; capacity = book.capacity }
+    → next (running caps setup gear content active book).state e r ≡ Some (record { work = work setup' gear' content' fates'; active = active' })
+    → answered (running caps setup gear content active book) e r ≡ Some (running caps setup' gear' content' active' book')
+answered_by_parts caps setup setup' gear gear' content content' active active' book book' fates' e r room after n =
+    rw (room, n) (ap (λ (b : Records). Some (running caps setup' gear' content' active' b)) (sym after))
+
+-- a step that the device made: it is allowed, and leaves the device whole
+pub record IsStep (cells : ℕ) (gear : Gear) (d : Running) (e : Event) (r : Reply) (t : Running) : Type 0 where
+  pub made : answered d e r ≡ Some t
+  pub whole : IsWhole cells gear t
+
+pub step_by_parts : (cells cells' : ℕ) (caps : Caps) (setup setup' : Setup) (gear gear' : Gear) (content content' : Content) (active active' : Option ActiveCommand) (book book' : Records) (fates' : List FateRow) (e : Event) (r : Reply)
+    → IsWhole cells gear (running caps setup gear content active book)
+    → (length book.history == book.capacity) ≡ false
+    → book' ≡ record { history = recorded book.history (record { event = e; reply = r }); fates = fates'; capacity = book.capacity }
+    → next (running caps setup gear content active book).state e r ≡ Some (record { work = work setup' gear' content' fates'; active = active' })
+    → cells' ≡ cells → IsInStep setup' gear' content'
+    → IsStep cells' gear' (running caps setup gear content active book) e r (running caps setup' gear' content' active' book')
+step_by_parts cells cells' caps setup setup' gear gear' content content' active active' book book' fates' e r w room after n same in_step =
+    let a = answered_by_parts caps setup setup' gear gear' content content' active active' book book' fates' e r room after n in
+    record { made = a; whole = answered-whole cells cells' gear gear' (running caps setup gear content active book) (running caps setup' gear' content' active' book') e r w same in_step a }

@@ -1,0 +1,27 @@
+use Rattle.std.proofs.Common.{◌∙◌, refl, sym, subst}
+use Rattle.dsa_book.specs.declared.answer.ClearAnswer.{ClearAnswer}
+use Rattle.dsa_book.specs.declared.event.Event.TheVariants as event
+use Rattle.dsa_book.specs.declared.answer.Reply.TheVariants as reply
+use Rattle.dsa_book.specs.State.{Setup}
+use Rattle.dsa_engines.specs.Engines.{IsInStep}
+use Rattle.dsa_device.specs.Running.{running}
+use Rattle.dsa_device.proofs.Layers.{next-clear}
+use Rattle.dsa_device.proofs.InStep.{clear-in_step}
+use Rattle.dsa_device.proofs.Steps.{IsStep, step_by_parts}
+use Rattle.dsa_device.proofs.device.Device.clear_error.Given.{Over}
+use Rattle.dsa_device.proofs.device.Device.clear_error.Goals as goal
+
+step : (g : Over) (c : goal.After-record g) → IsStep (g.S.EntryStore.cells c.self.inside.store) c.self.inside.engines (running c.self.inside.caps c.self.inside.queues c.self.inside.engines (g.S.EntryStore.content c.self.inside.store) c.self.inside.active c.self.inside.book) event.ClearError (reply.Clear c.clear_error-answer.result) (running c.self.inside.caps c.clear_error-answer.new.self c.self.inside.engines (g.S.EntryStore.content c.self.inside.store) c.self.inside.active c.record.new.self)
+step g c =
+    let i = c.self.inside in
+    let content = g.S.EntryStore.content i.store in
+    let d = running i.caps i.queues i.engines content i.active i.book in
+    step_by_parts _ _ i.caps i.queues c.clear_error-answer.new.self i.engines i.engines content content i.active i.active i.book c.record.new.self i.book.fates
+    event.ClearError (reply.Clear c.clear_error-answer.result)
+    c.self.invariant (sym c.is_full.ensures.full ∙ c.if-is_full.false) c.record.ensures
+    (next-clear d.state c.clear_error-answer.result c.clear_error-answer.new.self c.clear_error-answer.ensures)
+    refl
+    (subst (λ (r : ClearAnswer × Setup). IsInStep r.1 i.engines content) c.clear_error-answer.ensures (clear-in_step i.queues i.engines content c.self.invariant.in_step))
+
+pub invariant_of-self : goal.invariant_of-self
+invariant_of-self g c = (step g c).whole

@@ -1,0 +1,3 @@
+pub mod Running
+pub mod Made
+pub mod Runs

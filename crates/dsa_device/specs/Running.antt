@@ -1,0 +1,61 @@
+-- A device as its callers see it, and what each call makes of it.
+use Rattle.std.specs.Prelude.{◌≡◌, ℕ, ◌^◌, ◌≤◌, ◌==◌, cond, true, IsTrue, List, [], length, Option, Some, option_map}
+use Rattle.dsa_desc.specs.Rows.{when}
+use Rattle.dsa_regs.specs.declared.Caps.{Caps}
+use Rattle.dsa_regs.specs.Caps.{check_caps, cell_count}
+use Rattle.dsa_store.specs.Content.{Content}
+use Rattle.dsa_book.specs.declared.event.Event.{Event}
+use Rattle.dsa_book.specs.declared.event.Step.{Step}
+use Rattle.dsa_book.specs.declared.answer.Reply.{Reply}
+use Rattle.dsa_book.specs.declared.note.ActiveCommand.{ActiveCommand}
+use Rattle.dsa_book.specs.Records.{Records}
+use Rattle.dsa_book.specs.State.{Setup, State, opening}
+use Rattle.dsa_book.specs.Machine.{next, recorded, is_full, is_legal, replay}
+use Rattle.dsa_engines.specs.Engines.{Gear, IsInStep, work}
+
+-- what a device has, for how many steps its history has room, the steps that it stored, and its state (profile)
+pub record Running : Type 0 where
+  pub caps : Caps
+  pub capacity : ℕ
+  pub history : List Step
+  pub state : State
+
+-- a device before its first step (profile)
+abbrev pub opened : Caps → ℕ → Running
+opened caps capacity = record { caps = caps; capacity = capacity; history = []; state = opening caps }
+
+-- after a step that leads to this state: the history has it where its reply is one that is kept (profile)
+abbrev pub stepped : Running → Event → Reply → State → Running
+stepped d event reply s = record d { history = recorded d.history (record { event = event; reply = reply }); state = s }
+
+-- after this reply to an event, where it may come: Full exactly where the history has no room, and then nothing changes, else what the machine allows (profile)
+abbrev pub answered : Running → Event → Reply → Option Running
+answered d event reply =
+    cond (length d.history == d.capacity)
+    (when (is_full event reply) d)
+    (option_map (stepped d event reply) (next d.state event reply))
+
+-- the history is a legal one within its capacity, and the state is its replay (profile)
+pub record IsReplay (d : Running) : Type 0 where
+  pub caps : IsTrue (check_caps d.caps)
+  pub bounded : d.capacity ≤ 2 ^ 20
+  pub within : length d.history ≤ d.capacity
+  pub legal : is_legal d.caps d.history ≡ true
+  pub replayed : replay d.caps d.history ≡ Some d.state
+
+-- ---- the parts that a device is made of
+
+-- a device by its parts (profile)
+abbrev pub running : Caps → Setup → Gear → Content → Option ActiveCommand → Records → Running
+running caps setup gear content active book = record {
+  caps = caps;
+  capacity = book.capacity;
+  history = book.history;
+  state = record { work = work setup gear content book.fates; active = active };
+}
+
+-- the parts belong together: the store has a cell for each place, and what the engines keep agrees with the lists (profile)
+pub record IsWhole (cells : ℕ) (gear : Gear) (d : Running) : Type 0 where
+  pub replay : IsReplay d
+  pub same_cells : cells ≡ cell_count d.caps
+  pub in_step : IsInStep d.state.work.setup gear d.state.work.content

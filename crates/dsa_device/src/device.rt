@@ -1,0 +1,199 @@
+//! A device: how it is made, and its steps.
+
+ghost use Rattle.std.specs.Prelude.{◌≡◌, ◌==◌, ◌≤◌, ◌^◌, true, IsTrue, length, None, Some, IfOk, IfErr, find};
+ghost use Rattle.std.specs.Option.{option_map};
+ghost use Rattle.dsa_desc.specs.Descriptor.{read};
+ghost use Rattle.dsa_desc.specs.Rows.{when};
+ghost use Rattle.dsa_regs.specs.Caps.{check_caps};
+ghost use Rattle.dsa_store.specs.Content.{held};
+ghost use Rattle.dsa_book.specs.declared.event.Event.TheVariants as event;
+ghost use Rattle.dsa_book.specs.declared.answer.Reply.TheVariants as reply;
+ghost use Rattle.dsa_book.specs.State.{occupancy};
+ghost use Rattle.dsa_device.specs.Made.{is_store_of, make_fault, fault_or_memory};
+ghost use Rattle.dsa_device.specs.Running.{opened, answered, IsReplay};
+
+use crate::MakeFault;
+use dsa_book::{
+    ActiveCommand, Book, ClearAnswer, Event, Fate, FateRow, Kind, NotedError, Portal, Reply, Step,
+    SubmitAnswer, WriteAnswer,
+};
+use dsa_desc::Descriptor;
+use dsa_engines::Engines;
+use dsa_queues::Queues;
+use dsa_regs::{Caps, Command, GroupConfig, QueueConfig, cell_count, check_caps, list_count};
+use dsa_store::EntryStore;
+use std::alloc::Global;
+use std::marker::Model;
+
+/// The most steps that a history may have room for (profile).
+const MAX_CAPACITY: u64 = 1_048_576;
+
+/// A device over a store, used by one thread (profile).
+///
+/// It numbers its queues, groups and engines from 0. Each step may be called with any numbers. A step whose reply is kept
+/// stands in the history, and takes one of the places that [`Device::new`] took memory for; any other changes nothing.
+/// Once all places are taken every step is answered `Full`. No step takes memory.
+#[derive(Drop)]
+pub struct Device<S: EntryStore> {
+    caps: Caps,
+    store: S,
+    queues: Queues,
+    engines: Engines,
+    active: Option<ActiveCommand>,
+    book: Book,
+}
+
+impl<S: EntryStore> Model for Device<S> {
+    ghost use Rattle.dsa_device.specs.Running.{Running, running, IsWhole};
+
+    ghost Value = { Running };
+
+    ghost view = { λ d. running d.caps d.queues d.engines (S.content d.store) d.active d.book };
+
+    ghost invariant = { λ d. IsWhole (S.cells d.store) d.engines (running d.caps d.queues d.engines (S.content d.store) d.active d.book) };
+}
+
+// Whether the store is empty, with the lists and cells of such a device.
+fn is_store_of<S: EntryStore>(store: &S, caps: &Caps) -> bool
+    requires { IsTrue (check_caps caps.now) }
+    ensures { result ≡ is_store_of caps.now (S.cells store.now) (S.content store.now) }
+{
+    store.free() == store.cells()
+        && store.lists() == list_count(caps)
+        && store.cells() == cell_count(caps)
+}
+
+// The first cause that keeps a device from being made.
+fn make_fault<S: EntryStore>(store: &S, caps: &Caps, capacity: u64) -> Option<MakeFault>
+    ensures { result ≡ make_fault caps.now capacity (S.cells store.now) (S.content store.now) }
+{
+    if !check_caps(caps) {
+        return Some(MakeFault::BadCaps);
+    }
+    if capacity > MAX_CAPACITY {
+        return Some(MakeFault::BadCapacity);
+    }
+    if !is_store_of(store, caps) {
+        return Some(MakeFault::BadStore);
+    }
+    None
+}
+
+impl<S: EntryStore> Device<S> {
+    /// A device that is `Off`, with nothing configured and nothing held, over an empty store. Its history has room for
+    /// `capacity` steps, at most 1,048,576; with 0 each step is answered `Full`.
+    ///
+    /// `BadStore` says that the store is not empty, or has other lists or cells than `dsa_regs::list_count` and
+    /// `dsa_regs::cell_count` say. Whatever the error, the store comes back as it was.
+    pub fn new(
+        alloc: Global,
+        store: S,
+        caps: Caps,
+        capacity: u64,
+    ) -> Result<Device<S>, (MakeFault, S)>
+        ensures opened { IfOk result (λ device. device ≡ opened caps capacity) }
+        ensures no_fault { IfOk result (λ device. make_fault caps capacity (S.cells store) (S.content store) ≡ None) }
+        ensures fault { IfErr result (λ e. e.0 ≡ fault_or_memory caps capacity (S.cells store) (S.content store)) }
+        ensures store { IfErr result (λ e. e.1 ≡ store) }
+    {
+        if let Some(fault) = make_fault(&store, &caps, capacity) {
+            return Err((fault, store));
+        }
+        let Ok(book) = Book::new(alloc, capacity as usize) else {
+            return Err((MakeFault::OutOfMemory, store));
+        };
+        Ok(Device {
+            caps,
+            store,
+            queues: Queues::new(caps),
+            engines: Engines::new(&caps),
+            active: None,
+            book,
+        })
+    }
+
+    // A submission of a descriptor that is parsed.
+    #[inline(always)]
+    fn submit_parsed(
+        &mut self,
+        client: u16,
+        queue: u16,
+        portal: Portal,
+        kind: Kind,
+        desc: Descriptor,
+    ) -> SubmitAnswer
+        ensures { answered self.old (event.Submit client queue portal kind desc) (reply.Submit result) ≡ Some self.new }
+    {
+        if self.book.is_full() {
+            return SubmitAnswer::Full;
+        }
+        let answer = self
+            .queues
+            .submit(&mut self.store, queue, portal, kind, desc);
+        let event = Event::Submit {
+            client,
+            queue,
+            portal,
+            kind,
+            desc,
+        };
+        self.book.record(event, Reply::Submit(answer));
+        answer
+    }
+
+    /// A client writes the 64 bytes of a descriptor to a portal of a queue, by ENQCMD or MOVDIR64B.
+    #[inline(always)]
+    pub fn submit(
+        &mut self,
+        client: u16,
+        queue: u16,
+        portal: Portal,
+        kind: Kind,
+        bytes: &[u8; 64],
+    ) -> SubmitAnswer
+        ensures { answered self.old (event.Submit client queue portal kind (read bytes.now)) (reply.Submit result) ≡ Some self.new }
+    {
+        self.submit_parsed(client, queue, portal, kind, Descriptor::parse(bytes))
+    }
+
+    /// The administrator writes the configuration of a queue.
+    #[inline(always)]
+    pub fn write_queue(&mut self, queue: u16, config: QueueConfig) -> WriteAnswer
+        ensures { answered self.old (event.WriteQueue queue config) (reply.Write result) ≡ Some self.new }
+    {
+        if self.book.is_full() {
+            return WriteAnswer::Full;
+        }
+        let answer = self.queues.write_queue(queue, config);
+        let event = Event::WriteQueue { queue, config };
+        self.book.record(event, Reply::Write(answer));
+        answer
+    }
+
+    /// The administrator writes the configuration of a group.
+    #[inline(always)]
+    pub fn write_group(&mut self, group: u16, config: GroupConfig) -> WriteAnswer
+        ensures { answered self.old (event.WriteGroup group config) (reply.Write result) ≡ Some self.new }
+    {
+        if self.book.is_full() {
+            return WriteAnswer::Full;
+        }
+        let answer = self.queues.write_group(group, config);
+        let event = Event::WriteGroup { group, config };
+        self.book.record(event, Reply::Write(answer));
+        answer
+    }
+
+    /// The administrator clears the noted error, and is told it.
+    #[inline(always)]
+    pub fn clear_error(&mut self) -> ClearAnswer
+        ensures { answered self.old event.ClearError (reply.Clear result) ≡ Some self.new }
+    {
+        if self.book.is_full() {
+            return ClearAnswer::Full;
+        }
+        let answer = self.queues.clear_error();
+        self.book.record(Event::ClearError, Reply::Clear(answer));
+        answer
+    }
+}

@@ -1,0 +1,243 @@
+-- The read buffers in use, as one list of one engine changes.
+use Rattle.std.proofs.Common.{◌≡◌, ℕ, zero, suc, ◌+◌, ◌-◌, ◌*◌, ◌<◌, ◌≤◌, ◌≢◌, Bool, true, false, not, cond, ◌&&◌, nat_lt, List, [], ◌∷◌, ◌++◌, map, replicate, length, set, get_or, Option, Some, None, eqb, refl, sym, ◌∙◌, ap, arith, inl, inr}
+use Rattle.std.proofs.lemmas.Grind.{common_steps}
+use Rattle.std.specs.List.{filter, sum_by}
+use Rattle.std.proofs.lemmas.List.{ext_get_or, length-set, length-map, map-append, get_or-set_same, get_or-set_other, set-set, set-get_or}
+use Rattle.std.proofs.lemmas.List.Elements.{filter-append}
+use Rattle.std.proofs.lemmas.List.Sums.{sum_by-cons, sum_by-append}
+use Rattle.std.proofs.lemmas.Bool.{cases_lt}
+use Rattle.std.proofs.lemmas.Option.{same_Some}
+use mathlib.Core.Logic.{◌⊎◌}
+use Rattle.dsa_regs.specs.Numbers.{has, numbers_below}
+use Rattle.dsa_regs.specs.declared.Caps.{Caps}
+use Rattle.dsa_regs.specs.declared.GroupConfig.{GroupConfig}
+use Rattle.dsa_regs.specs.Config.{zero_group, group_at}
+use Rattle.dsa_store.specs.Content.{Slot, Content, chain, held}
+use Rattle.dsa_store.proofs.Lists.{length-le-held}
+use Rattle.dsa_book.specs.State.{Setup, Work, need_of}
+use Rattle.dsa_book.specs.Work.{in_progress, members, running_on, used_on, used, all_used, group_in, progress_list, member_list}
+use Rattle.dsa_buffers.specs.Buffers.{Buffers}
+use Rattle.dsa_queues.proofs.Groups.{hit-at}
+use Rattle.dsa_engines.specs.Engines.{lists_alone, buffers_of, buffers_at_rest, given, Holds}
+
+-- each engine is of one group at most
+abbrev pub EachInOneGroup : Setup → Type 0
+EachInOneGroup setup = (e g : ℕ) → e < setup.caps.engines → g < length setup.groups → has (group_at setup.groups g).engines e ≡ true → group_in setup.groups e ≡ Some g
+
+-- what the running entries of a list need
+pub load : Setup → List Slot → ℕ
+load setup l = sum_by (λ held. need_of setup held.1) (filter (λ held. held.1.running) l)
+
+pub load-nil : (setup : Setup) → load setup [] ≡ 0
+unfolding load
+load-nil setup = refl
+
+pub load-append : (setup : Setup) (a b : List Slot) → load setup (a ++ b) ≡ load setup a + load setup b
+unfolding load
+load-append setup a b =
+    ap (sum_by (λ held. need_of setup held.1)) (filter-append (λ held. held.1.running) a b)
+    ∙ sum_by-append (λ held. need_of setup held.1) (filter (λ held. held.1.running) a) (filter (λ held. held.1.running) b)
+
+pub load-cons : (setup : Setup) (s : Slot) (l : List Slot) → load setup (s ∷ l) ≡ cond s.1.running (need_of setup s.1) 0 + load setup l
+unfolding load
+load-cons setup s l = on s.1.running
+  where
+    on : (b : Bool) → sum_by (λ held. need_of setup held.1) (cond b (s ∷ filter (λ held. held.1.running) l) (filter (λ held. held.1.running) l)) ≡ cond b (need_of setup s.1) 0 + sum_by (λ held. need_of setup held.1) (filter (λ held. held.1.running) l)
+    on true = sum_by-cons (λ held. need_of setup held.1) s (filter (λ held. held.1.running) l)
+    on false = omega arith
+
+used_on-loads : (setup : Setup) (c : Content) (e : ℕ) → e < setup.caps.engines → used_on (lists_alone setup c) e ≡ load setup (chain c (progress_list setup e)) + load setup (chain c (member_list setup e))
+unfolding load
+used_on-loads setup c e h =
+    let lt : nat_lt e setup.caps.engines ≡ true = grind arith in
+    rw lt (load-append setup (chain c (progress_list setup e)) (chain c (member_list setup e)))
+
+used_on-past : (setup : Setup) (c : Content) (e : ℕ) → setup.caps.engines ≤ e → used_on (lists_alone setup c) e ≡ 0
+used_on-past setup c e h =
+    let lt : nat_lt e setup.caps.engines ≡ false = grind arith in
+    rw lt refl
+
+-- the list i, which is one of engine e's, holds n more, and no other list of an engine has changed
+pub record HoldsMore (setup : Setup) (before after : Content) (e i n : ℕ) : Type 0 where
+  pub engine : e < setup.caps.engines
+  pub others : (j : ℕ) → setup.caps.queues ≤ j → j ≢ i → chain after j ≡ chain before j
+  pub mine : load setup (chain after i) ≡ load setup (chain before i) + n
+
+-- engine e holds n more, and no other
+pub record RaisesOne (setup : Setup) (before after : Content) (e n : ℕ) : Type 0 where
+  pub same : (k : ℕ) → k ≢ e → used_on (lists_alone setup after) k ≡ used_on (lists_alone setup before) k
+  pub more : used_on (lists_alone setup after) e ≡ used_on (lists_alone setup before) e + n
+
+same-on : (setup : Setup) (before after : Content) (k : ℕ) → (k < setup.caps.engines → chain after (progress_list setup k) ≡ chain before (progress_list setup k)) → (k < setup.caps.engines → chain after (member_list setup k) ≡ chain before (member_list setup k)) → used_on (lists_alone setup after) k ≡ used_on (lists_alone setup before) k
+same-on setup before after k p m = on (cases_lt k setup.caps.engines)
+  where
+    on : (k < setup.caps.engines) ⊎ (setup.caps.engines ≤ k) → used_on (lists_alone setup after) k ≡ used_on (lists_alone setup before) k
+    on (inl h) = used_on-loads setup after k h ∙ rw (p h, m h) (sym (used_on-loads setup before k h))
+    on (inr h) = used_on-past setup after k h ∙ sym (used_on-past setup before k h)
+
+pub raises-progress : (setup : Setup) (before after : Content) (e n : ℕ) → HoldsMore setup before after e (progress_list setup e) n → RaisesOne setup before after e n
+raises-progress setup before after e n h = record {
+  same = λ k ne. same-on setup before after k
+      (λ lt. h.others (progress_list setup k) (omega arith) (λ q. ne (omega (arith, q))))
+      (λ lt. h.others (member_list setup k) (omega arith) (λ q. absurd (omega (arith, q, h.engine))));
+  more =
+      let same : chain after (member_list setup e) ≡ chain before (member_list setup e) = h.others (member_list setup e) (omega arith) (λ q. absurd (omega (arith, q, h.engine))) in
+      let a = used_on-loads setup after e h.engine in
+      let b = used_on-loads setup before e h.engine in
+      let s = ap (load setup) same in
+      omega (arith, a, b, s, h.mine);
+}
+
+pub raises-members : (setup : Setup) (before after : Content) (e n : ℕ) → HoldsMore setup before after e (member_list setup e) n → RaisesOne setup before after e n
+raises-members setup before after e n h = record {
+  same = λ k ne. same-on setup before after k
+      (λ lt. h.others (progress_list setup k) (omega arith) (λ q. absurd (omega (arith, q, lt))))
+      (λ lt. h.others (member_list setup k) (omega arith) (λ q. ne (omega (arith, q))));
+  more =
+      let same : chain after (progress_list setup e) ≡ chain before (progress_list setup e) = h.others (progress_list setup e) (omega arith) (λ q. absurd (omega (arith, q, h.engine))) in
+      let a = used_on-loads setup after e h.engine in
+      let b = used_on-loads setup before e h.engine in
+      let s = ap (load setup) same in
+      omega (arith, a, b, s, h.mine);
+}
+
+-- ---- sums over the numbers below a bound
+
+sum-same : (p : ℕ → Bool) (f f' : ℕ → ℕ) (e n : ℕ) → ((k : ℕ) → k ≢ e → f' k ≡ f k) → f' e ≡ f e + n → (N : ℕ) → sum_by f' (filter p (numbers_below N)) ≡ sum_by f (filter p (numbers_below N)) + cond (nat_lt e N && p e) n 0
+sum-same p f f' e n same more zero = grind arith
+sum-same p f f' e n same more (suc N) =
+    let new = ap (sum_by f') (filter-append p (numbers_below N) (N ∷ [])) ∙ sum_by-append f' (filter p (numbers_below N)) (filter p (N ∷ [])) in
+    let old = ap (sum_by f) (filter-append p (numbers_below N) (N ∷ [])) ∙ sum_by-append f (filter p (numbers_below N)) (filter p (N ∷ [])) in
+    let last : sum_by f' (filter p (N ∷ [])) ≡ sum_by f (filter p (N ∷ [])) + cond (eqb N e && p e) n 0 = grind (arith, common_steps, same N, more) in
+    let before = sum-same p f f' e n same more N in
+    let split : cond (nat_lt e (suc N) && p e) n 0 ≡ cond (nat_lt e N && p e) n 0 + cond (eqb N e && p e) n 0 = grind (arith, common_steps) in
+    omega (arith, new, old, last, before, split)
+
+length-numbers : (N : ℕ) → length (numbers_below N) ≡ N
+length-numbers zero = refl
+length-numbers (suc N) = grind (arith, common_steps, length-numbers N)
+
+get_or-numbers : (f : ℕ → ℕ) (N k : ℕ) → k < N → get_or (map f (numbers_below N)) k 0 ≡ f k
+get_or-numbers f zero k h = absurd (omega arith)
+get_or-numbers f (suc N) k h =
+    rw (map-append f (numbers_below N) (N ∷ []))
+    (grind (arith, common_steps, length-map (numbers_below N) f, length-numbers N, get_or-numbers f N k))
+
+-- a table of f with one number raised is the table of f'
+pub raised-table : (f f' : ℕ → ℕ) (N g n : ℕ) → g < N → ((k : ℕ) → k < N → k ≢ g → f' k ≡ f k) → f' g ≡ f g + n → map f' (numbers_below N) ≡ set (map f (numbers_below N)) g (get_or (map f (numbers_below N)) g 0 + n)
+raised-table f f' N g n h same more =
+    let len' : length (map f' (numbers_below N)) ≡ N = length-map (numbers_below N) f' ∙ length-numbers N in
+    let len : length (map f (numbers_below N)) ≡ N = length-map (numbers_below N) f ∙ length-numbers N in
+    ext_get_or 0 _ _ (omega (arith, len', len, length-set (map f (numbers_below N)) g (get_or (map f (numbers_below N)) g 0 + n)))
+    (λ i l. grind (arith, common_steps, len', len, h, l, more, same i, get_or-numbers f N i, get_or-numbers f' N i, get_or-numbers f N g))
+
+-- where f' is f below N the tables are the same
+same-table : (f f' : ℕ → ℕ) (N : ℕ) → ((k : ℕ) → k < N → f' k ≡ f k) → map f' (numbers_below N) ≡ map f (numbers_below N)
+same-table f f' zero h = refl
+same-table f f' (suc N) h =
+    map-append f' (numbers_below N) (N ∷ []) ∙ rw (same-table f f' N (λ k lt. h k (omega (arith, lt))), h N (omega arith)) (sym (map-append f (numbers_below N) (N ∷ [])))
+
+pub used-raised : (setup : Setup) (before after : Content) (e n g : ℕ) → e < setup.caps.engines → length setup.groups ≡ setup.caps.groups → g < length setup.groups → EachInOneGroup setup → group_in setup.groups e ≡ Some g → has (group_at setup.groups g).engines e ≡ true → RaisesOne setup before after e n
+    → all_used (lists_alone setup after) ≡ set (all_used (lists_alone setup before)) g (get_or (all_used (lists_alone setup before)) g 0 + n)
+used-raised setup before after e n g he hg h alone is has_e r =
+    raised-table (used (lists_alone setup before)) (used (lists_alone setup after)) setup.caps.groups g n (omega arith)
+    (λ k lt ne. sum k ∙ other k (omega (arith, lt, hg)) ne (has (group_at setup.groups k).engines e) refl)
+    (sum g ∙ mine (has (group_at setup.groups g).engines e) has_e)
+  where
+    sum : (k : ℕ) → used (lists_alone setup after) k ≡ used (lists_alone setup before) k + cond (nat_lt e setup.caps.engines && has (group_at setup.groups k).engines e) n 0
+    sum k = sum-same (has (group_at setup.groups k).engines) (used_on (lists_alone setup before)) (used_on (lists_alone setup after)) e n r.same r.more setup.caps.engines
+
+    other : (k : ℕ) → k < length setup.groups → k ≢ g → (b : Bool) → has (group_at setup.groups k).engines e ≡ b → used (lists_alone setup before) k + cond (nat_lt e setup.caps.engines && b) n 0 ≡ used (lists_alone setup before) k
+    other k lt ne true b = absurd (ne (same_Some k g (sym (alone e k he lt b) ∙ is)))
+    other k lt ne false b = grind (arith, common_steps)
+
+    mine : (b : Bool) → b ≡ true → used (lists_alone setup before) g + cond (nat_lt e setup.caps.engines && b) n 0 ≡ used (lists_alone setup before) g + n
+    mine b t = grind (arith, common_steps, t, he)
+
+-- without a group nothing changes
+pub used-homeless : (setup : Setup) (before after : Content) (e n : ℕ) → e < setup.caps.engines → length setup.groups ≡ setup.caps.groups → EachInOneGroup setup → group_in setup.groups e ≡ None → RaisesOne setup before after e n
+    → all_used (lists_alone setup after) ≡ all_used (lists_alone setup before)
+used-homeless setup before after e n he hg alone is r = same-table (used (lists_alone setup before)) (used (lists_alone setup after)) setup.caps.groups (λ k lt. sum k ∙ none k (omega (arith, lt, hg)) (has (group_at setup.groups k).engines e) refl)
+  where
+    sum : (k : ℕ) → used (lists_alone setup after) k ≡ used (lists_alone setup before) k + cond (nat_lt e setup.caps.engines && has (group_at setup.groups k).engines e) n 0
+    sum k = sum-same (has (group_at setup.groups k).engines) (used_on (lists_alone setup before)) (used_on (lists_alone setup after)) e n r.same r.more setup.caps.engines
+
+    none : (k : ℕ) → k < length setup.groups → (b : Bool) → has (group_at setup.groups k).engines e ≡ b → used (lists_alone setup before) k + cond (nat_lt e setup.caps.engines && b) n 0 ≡ used (lists_alone setup before) k
+    none k lt true b = let both : ◌≡◌ {A = Option ℕ} None (Some k) = sym is ∙ alone e k he lt b in absurd (cc)
+    none k lt false b = grind (arith, common_steps)
+
+-- what was raised is given back
+given-back : (xs ys : List ℕ) (g n : ℕ) → g < length ys → xs ≡ set ys g (get_or ys g 0 + n) → (n ≤ get_or xs g 0) × (set xs g (get_or xs g 0 - n) ≡ ys)
+given-back xs ys g n h is =
+    let at : get_or xs g 0 ≡ get_or ys g 0 + n = ap (λ (l : List ℕ). get_or l g 0) is ∙ get_or-set_same ys g (get_or ys g 0 + n) 0 h in
+    let less : get_or xs g 0 - n ≡ get_or ys g 0 = omega (arith, at) in
+    (omega (arith, at), rw (less, is, set-set ys g (get_or ys g 0 + n) (get_or ys g 0), set-get_or ys g 0) refl)
+
+length-used : (setup : Setup) (c : Content) → length (all_used (lists_alone setup c)) ≡ setup.caps.groups
+length-used setup c = length-map (numbers_below setup.caps.groups) (used (lists_alone setup c)) ∙ length-numbers setup.caps.groups
+
+-- as an engine holds n less, its group, if it has one, gives n back
+pub record GivesBack (setup : Setup) (before after : Content) (e n : ℕ) : Type 0 where
+  pub holds : Holds (group_in setup.groups e) n (buffers_of setup before)
+  pub given : given (group_in setup.groups e) n (buffers_of setup before) ≡ buffers_of setup after
+
+pub gives-back : (setup : Setup) (before after : Content) (e n : ℕ) → e < setup.caps.engines → length setup.groups ≡ setup.caps.groups → EachInOneGroup setup → RaisesOne setup after before e n → GivesBack setup before after e n
+gives-back setup before after e n he hg alone r = on (group_in setup.groups e) refl
+  where
+    on : (home : Option ℕ) → group_in setup.groups e ≡ home → GivesBack setup before after e n
+    on None is =
+        let same = used-homeless setup after before e n he hg alone is r in
+        record { holds = rw is tt; given = rw is (ap (λ (u : List ℕ). let b : Buffers = record { total = setup.caps.read_buffers; groups = setup.groups; used = u } in b) same) }
+    on (Some g) is =
+        let at = hit-at (λ (x : GroupConfig). has x.engines e) setup.groups zero_group g is in
+        let low = at.0 in
+        let back = given-back (all_used (lists_alone setup before)) (all_used (lists_alone setup after)) g n (rw (length-used setup after) (omega (arith, low, hg))) (used-raised setup after before e n g he hg low alone is at.1 r) in
+        record { holds = rw is (low, back.0); given = rw is (ap (λ (u : List ℕ). let b : Buffers = record { total = setup.caps.read_buffers; groups = setup.groups; used = u } in b) back.1) }
+
+-- as an engine holds n more, its group takes n
+pub taken-of : (setup : Setup) (before after : Content) (e n g : ℕ) → e < setup.caps.engines → length setup.groups ≡ setup.caps.groups → EachInOneGroup setup → group_in setup.groups e ≡ Some g → RaisesOne setup before after e n
+    → record (buffers_of setup before) { used = set (all_used (lists_alone setup before)) g (get_or (all_used (lists_alone setup before)) g 0 + n) } ≡ buffers_of setup after
+taken-of setup before after e n g he hg alone is r =
+    let at = hit-at (λ (x : GroupConfig). has x.engines e) setup.groups zero_group g is in
+    ap (λ (u : List ℕ). let b : Buffers = record { total = setup.caps.read_buffers; groups = setup.groups; used = u } in b) (sym (used-raised setup before after e n g he hg at.0 alone is at.1 r))
+
+-- ---- a device on which nothing is held
+
+zero-sum : (f : ℕ → ℕ) (xs : List ℕ) → ((k : ℕ) → f k ≡ 0) → sum_by f xs ≡ 0
+zero-sum f [] h = refl
+zero-sum f (x ∷ xs) h =
+    let here = h x in
+    omega (arith, sum_by-cons f x xs, here, zero-sum f xs h)
+
+map-zeros : (xs : List ℕ) → map {B = ℕ} (λ (k : ℕ). 0) xs ≡ replicate {A = ℕ} (length xs) 0
+map-zeros [] = refl
+map-zeros (x ∷ xs) = ap (λ (l : List ℕ). let m : List ℕ = 0 ∷ l in m) (map-zeros xs)
+
+pub empty-list : (l : List Slot) → length l ≤ 0 → l ≡ []
+empty-list [] h = refl
+empty-list (s ∷ l) h = absurd (omega (arith, h))
+
+rest-on : (setup : Setup) (c : Content) (e : ℕ) → held c ≡ 0 → used_on (lists_alone setup c) e ≡ 0
+rest-on setup c e h = on (cases_lt e setup.caps.engines)
+  where
+    empty : (i : ℕ) → load setup (chain c i) ≡ 0
+    empty i = ap (load setup) (empty-list (chain c i) (omega (arith, h, length-le-held c i))) ∙ load-nil setup
+
+    on : (e < setup.caps.engines) ⊎ (setup.caps.engines ≤ e) → used_on (lists_alone setup c) e ≡ 0
+    on (inl lt) =
+        let a = empty (progress_list setup e) in
+        let b = empty (member_list setup e) in
+        omega (arith, used_on-loads setup c e lt, a, b)
+    on (inr past) = used_on-past setup c e past
+
+pub buffers-at_rest : (setup : Setup) (c : Content) → length setup.groups ≡ setup.caps.groups → held c ≡ 0 → buffers_at_rest setup ≡ buffers_of setup c
+buffers-at_rest setup c len h =
+    let zeros : all_used (lists_alone setup c) ≡ replicate (length setup.groups) 0 =
+        same-table (λ (k : ℕ). 0) (used (lists_alone setup c)) setup.caps.groups (λ k lt. zero-sum (used_on (lists_alone setup c)) (filter (has (group_at setup.groups k).engines) (numbers_below setup.caps.engines)) (λ e. rest-on setup c e h))
+        ∙ map-zeros (numbers_below setup.caps.groups)
+        ∙ ap (λ (n : ℕ). replicate {A = ℕ} n 0) (length-numbers setup.caps.groups ∙ sym len) in
+    ap (λ (u : List ℕ). let b : Buffers = record { total = setup.caps.read_buffers; groups = setup.groups; used = u } in b) (sym zeros)
+
+-- the read buffers as they are made
+pub made-at_rest : (setup : Setup) (caps : Caps) (groups : List GroupConfig) (b : Buffers) → caps ≡ setup.caps → groups ≡ setup.groups → b ≡ record { total = caps.read_buffers; groups = groups; used = replicate (length groups) 0 } → b ≡ buffers_at_rest setup
+made-at_rest setup caps groups b ce ge be = be ∙ rw (ce, ge) refl

@@ -1,0 +1,25 @@
+use Rattle.std.proofs.Common.{◌≡◌, ◌∙◌, ◌+◌, ◌<◌, true, false, [], refl, length, arith, sym, ap}
+use Rattle.dsa_regs.specs.declared.Caps.{Caps}
+use Rattle.dsa_store.specs.Content.{Content, pushed, without_front}
+use Rattle.dsa_book.specs.Work.{qualifies, as_running}
+use Rattle.dsa_engines.specs.Engines.{Gear, work}
+use Rattle.dsa_engines.proofs.Dispatching.{none-below, within-groups, fits-taken, in_step-after}
+use Rattle.dsa_engines.proofs.engines.Engines.dispatch.Goals as goal
+
+pub returns-in_default-clause-step : goal.returns-in_default-clause-step
+returns-in_default-clause-step g c fates =
+    let none = none-below (qualifies (work c.args.queues.now c.args.self.now (g.S.EntryStore.content c.args.store.now) []) c.args.engine) c.args.queues.now.caps.queues c.in_default.ensures.none in
+    rw none refl
+
+pub take-requires-clause-group : goal.take-requires-clause-group
+take-requires-clause-group g c =
+    within-groups c.args.queues.now c.args.self.now (g.S.EntryStore.content c.args.store.now) c.args.engine c.in-Some.group c.in-Some-choose.queue (c.in-Some-front_slot.cell, c.in-Some-front_slot.entry) c.requires.ready c.requires.in_step c.in-Some.ensures.some (sym c.front_slot.ensures ∙ c.in-Some-front_slot.is)
+
+pub take-requires-clause-fits : goal.take-requires-clause-fits
+take-requires-clause-fits g c =
+    fits-taken c.args.queues.now c.args.self.now (g.S.EntryStore.content c.args.store.now) c.args.engine c.in-Some.group c.in-Some-choose.queue c.need.result (c.in-Some-front_slot.cell, c.in-Some-front_slot.entry) c.requires.ready c.requires.in_step c.in-Some.ensures.some c.in-Some-choose.ensures.0 (sym c.front_slot.ensures ∙ c.in-Some-front_slot.is) c.in-Some-choose.ensures.1 c.need.ensures
+
+pub returns-clause-in_step : goal.returns-clause-in_step
+returns-clause-in_step g c =
+    in_step-after c.args.queues.now c.args.self.now c.take.new.self c.open_note.new.self c.set_turn.new.self (g.S.EntryStore.content c.args.store.now) (g.S.EntryStore.content c.run_front.new.store) c.args.engine c.in-Some-choose.queue c.in-Some.group c.need.result c.in-Some-front_slot.cell c.in-Some-front_slot.entry c.caps.result
+    c.requires.ready c.requires.in_step c.in-Some.ensures.some c.in-Some-choose.ensures.0 (sym c.front_slot.ensures ∙ c.in-Some-front_slot.is) c.caps.ensures.value c.run_front.ensures.after c.need.ensures c.take.ensures c.open_note.ensures c.set_turn.ensures

@@ -1,0 +1,79 @@
+-- What the engines keep beside the lists, and how it agrees with them.
+use Rattle.std.specs.Prelude.{◌≡◌, ℕ, ◌+◌, ◌-◌, ◌<◌, ◌≤◌, IsTrue, true, false, Bool, List, [], length, map, replicate, get_or, slice_index, slice_set, Option, Some, None}
+use Rattle.dsa_regs.specs.declared.Caps.{Caps}
+use Rattle.dsa_regs.specs.Caps.{check_caps, list_count}
+use Rattle.dsa_regs.specs.Config.{check_device}
+use Rattle.dsa_regs.specs.Numbers.{numbers_below}
+use Rattle.dsa_store.specs.Content.{Slot, Content, chain, held}
+use Rattle.dsa_buffers.specs.Buffers.{Buffers}
+use Rattle.dsa_book.specs.declared.note.BatchNote.{BatchNote}
+use Rattle.dsa_book.specs.declared.fate.FateRow.{FateRow}
+use Rattle.dsa_book.specs.State.{Setup, Work, is_off}
+use Rattle.dsa_book.specs.Work.{all_used, group_in, progress_list}
+
+-- a note or none for each engine, the read buffers of the groups, and the group of each engine (profile)
+pub record Gear : Type 0 where
+  pub notes : List (Option BatchNote)
+  pub buffers : Buffers
+  pub homes : List (Option ℕ)
+
+-- what a step of an engine sees and changes (profile)
+abbrev pub work : Setup → Gear → Content → List FateRow → Work
+work setup gear content fates = record { setup = setup; content = content; notes = gear.notes; fates = fates }
+
+-- the lists alone, of which the buffers in use are a sum (profile)
+abbrev pub lists_alone : Setup → Content → Work
+lists_alone setup content = record { setup = setup; content = content; notes = []; fates = [] }
+
+-- the read buffers that the running entries of the lists hold (profile)
+abbrev pub buffers_of : Setup → Content → Buffers
+buffers_of setup content = record { total = setup.caps.read_buffers; groups = setup.groups; used = all_used (lists_alone setup content) }
+
+-- the read buffers of a device on which nothing runs (profile)
+abbrev pub buffers_at_rest : Setup → Buffers
+buffers_at_rest setup = record { total = setup.caps.read_buffers; groups = setup.groups; used = replicate (length setup.groups) 0 }
+
+-- the group of each engine (profile)
+abbrev pub homes_of : Setup → List (Option ℕ)
+homes_of setup = map (group_in setup.groups) (numbers_below setup.caps.engines)
+
+-- what the engines keep before the device is first enabled: no note, no buffers, no group (profile)
+abbrev pub gear_at_first : Caps → Gear
+gear_at_first caps = record {
+  notes = replicate caps.engines None;
+  buffers = record { total = 0; groups = []; used = [] };
+  homes = [];
+}
+
+-- what the engines keep agrees with the set-up and with the lists
+pub record IsInStep (setup : Setup) (gear : Gear) (content : Content) : Type 0 where
+  pub notes : length gear.notes ≡ setup.caps.engines
+  pub homes : is_off setup.device ≡ false → gear.homes ≡ homes_of setup
+  pub buffers : is_off setup.device ≡ false → gear.buffers ≡ buffers_of setup content
+
+-- the set-up and the lists are those of a device: it is within the limits, its lists are as many as it has, nothing is held while it is Off, and else its groups have passed the check
+pub record IsReady (setup : Setup) (content : Content) : Type 0 where
+  pub caps : IsTrue (check_caps setup.caps)
+  pub lists : length content ≡ list_count setup.caps
+  pub groups : length setup.groups ≡ setup.caps.groups
+  pub idle : is_off setup.device ≡ true → held content ≡ 0
+  pub checked : is_off setup.device ≡ false → check_device setup.caps setup.configs setup.groups ≡ None
+
+abbrev pub is_running : Slot → Bool
+is_running slot = slot.1.running
+
+-- with n of the group given back; without a group nothing changes
+abbrev pub given : Option ℕ → ℕ → Buffers → Buffers
+given None n b = b
+given (Some g) n b = record b { used = slice_set b.used g (slice_index b.used g - n) }
+
+-- the group is there, and has as many in use
+abbrev pub Holds : Option ℕ → ℕ → Buffers → Type 0
+Holds None n b = Unit {0}
+Holds (Some g) n b = (g < length b.groups) × (n ≤ slice_index b.used g)
+
+-- the device has the engine, the engine is of the group, and has a slot left
+pub record IsOpen (setup : Setup) (content : Content) (e g : ℕ) : Type 0 where
+  pub engine : e < setup.caps.engines
+  pub home : group_in setup.groups e ≡ Some g
+  pub slot : length (chain content (progress_list setup e)) < setup.caps.slots

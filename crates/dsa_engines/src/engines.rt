@@ -1,0 +1,164 @@
+//! What is kept of the engines, and how a step reads and changes it.
+
+ghost use Rattle.std.specs.Prelude.{◌≡◌, ℕ, ◌<◌, ◌≤◌, ◌+◌, true, false, IsTrue, None, length, get_or, slice_index, slice_set, replicate};
+ghost use Rattle.dsa_regs.specs.Buffers.{fits};
+ghost use Rattle.dsa_regs.specs.Caps.{check_caps};
+ghost use Rattle.dsa_regs.specs.Config.{check_device};
+ghost use Rattle.dsa_store.specs.Content.{Content, held};
+ghost use Rattle.dsa_book.specs.State.{opening_setup};
+ghost use Rattle.dsa_engines.specs.Engines.{IsInStep, gear_at_first, homes_of, buffers_at_rest, given, Holds};
+
+use arrayvec::ArrayVec;
+use dsa_book::BatchNote;
+use dsa_buffers::ReadBuffers;
+use dsa_queues::Queues;
+use dsa_regs::{Caps, MAX_ENGINES, MAX_GROUPS};
+use std::marker::Model;
+
+/// The engines of a device: the note of each engine that works on a batch, the read buffers of the groups, the group of
+/// each engine, and the queue whose turn is next in each group.
+#[derive(Drop)]
+pub struct Engines {
+    notes: ArrayVec<Option<BatchNote>, MAX_ENGINES>,
+    buffers: ReadBuffers,
+    homes: ArrayVec<Option<u16>, MAX_ENGINES>,
+    turns: [u16; MAX_GROUPS],
+}
+
+impl Model for Engines {
+    ghost use Rattle.dsa_engines.specs.Engines.{Gear};
+
+    ghost Value = { Gear };
+
+    ghost view = { λ e. record { notes = e.notes.items; buffers = e.buffers; homes = e.homes.items } };
+}
+
+// No note, for each engine.
+fn no_notes(engines: u16) -> ArrayVec<Option<BatchNote>, MAX_ENGINES>
+    requires { engines ≤ 8 }
+    ensures { result.items ≡ replicate engines None }
+{
+    let mut notes = ArrayVec::new();
+    for _ in 0..engines {
+        notes.push(None);
+    }
+    notes
+}
+
+// The group of each engine.
+fn homes(queues: &Queues) -> ArrayVec<Option<u16>, MAX_ENGINES>
+    requires { queues.now.caps.engines ≤ 8 }
+    ensures { result.items ≡ homes_of queues.now }
+{
+    let mut homes = ArrayVec::new();
+    for engine in 0..queues.caps().engines {
+        homes.push(queues.group_of(engine));
+    }
+    homes
+}
+
+impl Engines {
+    /// The engines of a device before it is first enabled: none works on a batch, and there are no read buffers.
+    pub fn new(caps: &Caps) -> Engines
+        requires { IsTrue (check_caps caps.now) }
+        ensures value { result ≡ gear_at_first caps.now }
+        ensures in_step { (content : Content) → IsInStep (opening_setup caps.now) result content }
+    {
+        Engines {
+            notes: no_notes(caps.engines),
+            buffers: ReadBuffers::new(0, &[]),
+            homes: ArrayVec::new(),
+            turns: [0; MAX_GROUPS],
+        }
+    }
+
+    /// Makes the read buffers and finds the group of each engine, as Enable Device asks. Nothing may be held then.
+    pub fn enable(&mut self, queues: &Queues)
+        requires caps { IsTrue (check_caps queues.now.caps) }
+        requires checked { check_device queues.now.caps queues.now.configs queues.now.groups ≡ None }
+        requires notes { length self.old.notes ≡ queues.now.caps.engines }
+        ensures after { self.new ≡ record self.old { homes = homes_of queues.now; buffers = buffers_at_rest queues.now } }
+        ensures in_step { (content : Content) → held content ≡ 0 → IsInStep queues.now self.new content }
+    {
+        self.homes = homes(queues);
+        self.buffers = ReadBuffers::new(queues.caps().read_buffers, queues.groups());
+    }
+
+    /// The group of the engine, as it was when the device was enabled.
+    #[inline(always)]
+    pub(crate) fn home(&self, engine: u16) -> Option<u16>
+        ensures { result ≡ get_or self.now.homes engine None }
+    {
+        match self.homes.get(usize::from(engine)) {
+            Some(home) => *home,
+            None => None,
+        }
+    }
+
+    /// The note of the batch that the engine works on.
+    #[inline(always)]
+    pub(crate) fn note(&self, engine: u16) -> Option<BatchNote>
+        ensures { result ≡ get_or self.now.notes engine None }
+    {
+        match self.notes.get(usize::from(engine)) {
+            Some(note) => *note,
+            None => None,
+        }
+    }
+
+    #[inline(always)]
+    pub(crate) fn set_note(&mut self, engine: u16, note: Option<BatchNote>)
+        requires { engine < length self.old.notes }
+        ensures { self.new ≡ record self.old { notes = slice_set self.old.notes engine note } }
+    {
+        self.notes[usize::from(engine)] = note;
+    }
+
+    /// Whether so many more read buffers fit the group.
+    #[inline(always)]
+    pub(crate) fn fits(&self, group: u16, n: u8) -> bool
+        requires { group < length self.now.buffers.groups }
+        ensures { result ≡ fits self.now.buffers.total self.now.buffers.groups self.now.buffers.used group n }
+    {
+        self.buffers.fits(group, u16::from(n))
+    }
+
+    /// Takes so many read buffers for the group.
+    #[inline(always)]
+    pub(crate) fn take(&mut self, group: u16, n: u8)
+        requires group { group < length self.old.buffers.groups }
+        requires fits { fits self.old.buffers.total self.old.buffers.groups self.old.buffers.used group n ≡ true }
+        ensures { self.new ≡ record self.old { buffers = record self.old.buffers { used = slice_set self.old.buffers.used group (slice_index self.old.buffers.used group + n) } } }
+    {
+        self.buffers.take(group, u16::from(n));
+    }
+
+    /// Gives so many read buffers of the group back.
+    #[inline(always)]
+    pub(crate) fn give_back(&mut self, home: Option<u16>, n: u8)
+        requires { Holds home n self.old.buffers }
+        ensures { self.new ≡ record self.old { buffers = given home n self.old.buffers } }
+    {
+        if let Some(group) = home {
+            self.buffers.give(group, u16::from(n));
+        }
+    }
+
+    /// The queue whose turn is next in the group.
+    #[inline(always)]
+    pub(crate) fn turn(&self, group: u16) -> u16 {
+        match self.turns.get(usize::from(group)) {
+            Some(turn) => *turn,
+            None => 0,
+        }
+    }
+
+    #[inline(always)]
+    pub(crate) fn set_turn(&mut self, group: u16, queue: u16)
+        ensures { self.new ≡ self.old }
+    {
+        if let Some(turn) = self.turns.get_mut(usize::from(group)) {
+            *turn = queue;
+        }
+    }
+}

@@ -1,0 +1,185 @@
+//! Dispatch: an engine takes an entry from a queue of its group.
+
+ghost use Rattle.std.specs.Prelude.{◌≡◌, ℕ, List, ◌<◌, ◌≢◌, ◌&&◌, ◌||◌, not, is_none, true, false, Some, None, [], length, get_or, slice_get, slice_index, slice_set, cond, IfSome, IfNone, MatchOption};
+ghost use Rattle.std.specs.List.{list_any};
+ghost use Rattle.dsa_regs.specs.Numbers.{numbers_below};
+ghost use Rattle.dsa_regs.specs.Buffers.{fits};
+ghost use Rattle.dsa_store.specs.Content.{chain, pushed, without_front};
+ghost use Rattle.dsa_book.specs.declared.fate.FateRow.{FateRow};
+ghost use Rattle.dsa_book.specs.State.{is_off, need_of, is_batch_of};
+ghost use Rattle.dsa_book.specs.Work.{qualifies, dispatch, as_running, opened_note, with_note};
+ghost use Rattle.dsa_engines.specs.Engines.{work, IsInStep, IsReady, IsOpen};
+
+use crate::Engines;
+use dsa_book::{BatchNote, DispatchAnswer, Ticket};
+use dsa_queues::Queues;
+use dsa_store::{Cell, Entry, EntryStore, ListId, front_slot};
+
+// The front of one list goes to the end of the other, and runs.
+fn run_front<S: EntryStore>(store: &mut S, from: ListId, to: ListId, front: (Cell, Entry))
+    requires from { from.0 < length (S.content store.old) }
+    requires to { to.0 < length (S.content store.old) }
+    requires apart { from.0 ≢ to.0 }
+    requires front { slice_get (chain (S.content store.old) from.0) 0 ≡ Some front }
+    ensures after { S.content store.new ≡ pushed (without_front (S.content store.old) from.0) to.0 front.0 (as_running front.1) }
+    ensures cells { S.cells store.new ≡ S.cells store.old }
+{
+    let _ = store.move_front(from, to);
+    let (cell, entry) = front;
+    let _ = store.set(
+        cell,
+        Entry {
+            running: true,
+            ..entry
+        },
+    );
+}
+
+impl Engines {
+    // The engine's group, where the engine has a slot left.
+    fn open_group<S: EntryStore>(&self, queues: &Queues, store: &S, engine: u16) -> Option<u16>
+        requires ready { IsReady queues.now (S.content store.now) }
+        requires in_step { IsInStep queues.now self.now (S.content store.now) }
+        ensures none { IfNone result ((q : ℕ) → qualifies (work queues.now self.now (S.content store.now) []) engine q ≡ false) }
+        ensures some { IfSome result (λ group. is_off queues.now.device ≡ false → IsOpen queues.now (S.content store.now) engine group) }
+    {
+        let caps = queues.caps();
+        if engine >= caps.engines {
+            return None;
+        }
+        if store.len(ListId(caps.queues + engine)) >= u32::from(caps.slots) {
+            return None;
+        }
+        self.home(engine)
+    }
+
+    // Whether there are the buffers that the entry needs, and no second batch would be begun.
+    fn may_run(&self, queues: &Queues, engine: u16, group: u16, entry: &Entry) -> bool
+        requires { group < length self.now.buffers.groups }
+        ensures { result ≡ (fits self.now.buffers.total self.now.buffers.groups self.now.buffers.used group (need_of queues.now entry.now)
+            && (is_none (get_or self.now.notes engine None) || not (is_batch_of queues.now entry.now))) }
+    {
+        if !self.fits(group, queues.need(entry)) {
+            return false;
+        }
+        self.note(engine).is_none() || !queues.is_batch(entry)
+    }
+
+    // Whether the engine may take the front of the queue.
+    fn qualifies<S: EntryStore>(
+        &self,
+        queues: &Queues,
+        store: &S,
+        engine: u16,
+        group: u16,
+        queue: u16,
+    ) -> bool
+        requires ready { IsReady queues.now (S.content store.now) }
+        requires in_step { IsInStep queues.now self.now (S.content store.now) }
+        requires group { is_off queues.now.device ≡ false → IsOpen queues.now (S.content store.now) engine group }
+        requires queue { queue < queues.now.caps.queues }
+        ensures { result ≡ qualifies (work queues.now self.now (S.content store.now) []) engine queue }
+    {
+        let Some((_, entry)) = front_slot(store, ListId(queue)) else {
+            return false;
+        };
+        if !queues.has_queue_in(group, queue) {
+            return false;
+        }
+        self.may_run(queues, engine, group, &entry)
+    }
+
+    // Whether the queue goes before the other: by priority, and among equals by whose turn is next.
+    fn goes_before(&self, queues: &Queues, group: u16, queue: u16, other: u16) -> bool {
+        let mine = queues.priority(queue);
+        let theirs = queues.priority(other);
+        let turn = self.turn(group);
+        mine > theirs || mine == theirs && queue >= turn && other < turn
+    }
+
+    // A queue whose front the engine may take.
+    fn choose<S: EntryStore>(
+        &self,
+        queues: &Queues,
+        store: &S,
+        engine: u16,
+        group: u16,
+    ) -> Option<u16>
+        requires ready { IsReady queues.now (S.content store.now) }
+        requires in_step { IsInStep queues.now self.now (S.content store.now) }
+        requires group { is_off queues.now.device ≡ false → IsOpen queues.now (S.content store.now) engine group }
+        ensures { MatchOption result
+            (list_any (qualifies (work queues.now self.now (S.content store.now) []) engine) (numbers_below queues.now.caps.queues) ≡ false)
+            (λ queue. (queue < queues.now.caps.queues) × (qualifies (work queues.now self.now (S.content store.now) []) engine queue ≡ true)) }
+    {
+        let mut best = None;
+        for queue in 0..queues.caps().queues {
+            if self.qualifies(queues, store, engine, group, queue) {
+                best = match best {
+                    Some(other) if !self.goes_before(queues, group, queue, other) => best,
+                    _ => Some(queue),
+                };
+            }
+        }
+        best
+    }
+
+    // A well-formed Batch opens a note.
+    fn open_note(&mut self, queues: &Queues, engine: u16, entry: &Entry)
+        requires { engine < length self.old.notes }
+        ensures { self.new ≡ record self.old { notes = cond (is_batch_of queues.now entry.now) (with_note self.old.notes engine (Some (opened_note entry.now))) self.old.notes } }
+    {
+        if queues.is_batch(entry) {
+            self.set_note(
+                engine,
+                Some(BatchNote {
+                    batch: entry.name,
+                    count: entry.desc.size,
+                    fetched: 0,
+                    failed: false,
+                    closed: false,
+                }),
+            );
+        }
+    }
+
+    /// The engine takes the front of a queue of its group, and it runs: it goes to the end of those in progress, and a
+    /// well-formed Batch opens the engine's note (profile).
+    ///
+    /// A queue qualifies if its front's read buffers fit the group, and if it is no well-formed Batch while the engine works
+    /// on one. Of those that qualify the one of the highest priority is served, and among equals they take turns.
+    /// `Idle` exactly where none qualifies; so too where all slots of the engine are taken. Looks at the front of each queue.
+    pub fn dispatch<S: EntryStore>(
+        &mut self,
+        queues: &Queues,
+        store: &mut S,
+        engine: u16,
+    ) -> DispatchAnswer
+        requires ready { IsReady queues.now (S.content store.old) }
+        requires in_step { IsInStep queues.now self.old (S.content store.old) }
+        ensures step { (fates : List FateRow) → dispatch (work queues.now self.old (S.content store.old) fates) engine result
+            ≡ Some (work queues.now self.new (S.content store.new) fates) }
+        ensures cells { S.cells store.new ≡ S.cells store.old }
+        ensures in_step { IsInStep queues.now self.new (S.content store.new) }
+    {
+        let Some(group) = self.open_group(queues, store, engine) else {
+            return DispatchAnswer::Idle;
+        };
+        let Some(queue) = self.choose(queues, store, engine, group) else {
+            return DispatchAnswer::Idle;
+        };
+        let Some((cell, entry)) = front_slot(store, ListId(queue)) else {
+            unreachable!();
+        };
+        let progress = ListId(queues.caps().queues + engine);
+        run_front(store, ListId(queue), progress, (cell, entry));
+        self.take(group, queues.need(&entry));
+        self.open_note(queues, engine, &entry);
+        self.set_turn(group, queue + 1);
+        let name = entry.name;
+        DispatchAnswer::Taken {
+            ticket: Ticket { cell, name },
+            queue,
+        }
+    }
+}
