@@ -1,0 +1,4 @@
+pub mod StepObjects
+pub mod Bytes
+pub mod Hex
+pub mod Whole

@@ -1,0 +1,4 @@
+pub mod Fields
+pub mod Actions
+pub mod Document
+pub mod Lines
