@@ -1,7 +1,8 @@
 -- What the laws of the machine say of a device.
-use Rattle.std.proofs.Common.{◌≡◌, ◌≢◌, ℕ, suc, ◌+◌, ◌^◌, ◌<◌, ◌≤◌, ◌==◌, true, false, List, [], ◌∷◌, length, Option, Some, None, IsTrue, refl, sym, ap, ◌∙◌, subst, arith}
-use Rattle.std.specs.Prelude.{is_none}
-use Rattle.std.proofs.lemmas.Bool.{eqb-false}
+use Rattle.std.proofs.Common.{◌≡◌, ◌≢◌, ℕ, suc, ◌+◌, ◌^◌, ◌<◌, ◌≤◌, ◌==◌, Bool, true, false, List, [], ◌∷◌, length, Option, Some, None, IsTrue, refl, sym, ap, ◌∙◌, subst, arith}
+use Rattle.std.specs.Prelude.{is_none, is_some, filter, not, cond, ◌&&◌, nat_lt}
+use Rattle.std.proofs.lemmas.Bool.{eqb-false, not-true, and_parts}
+use Rattle.dsa_desc.specs.Rows.{passes}
 use Rattle.dsa_regs.specs.declared.Caps.{Caps}
 use Rattle.dsa_regs.specs.Caps.{check_caps, cell_count, list_count}
 use Rattle.dsa_regs.proofs.CapsLemmas.{cell_count-bound}
@@ -9,14 +10,16 @@ use Rattle.dsa_store.specs.Content.{Slot, Content, chain, held}
 use Rattle.dsa_store.proofs.Lists.{held-nil, held-cons, length-le-held}
 use Rattle.dsa_book.specs.declared.event.Portal.{Portal}
 use Rattle.dsa_book.specs.declared.event.Kind.{Kind}
+use Rattle.dsa_book.specs.declared.note.BatchNote.{BatchNote}
 use Rattle.dsa_book.specs.State.{occupancy}
 use Rattle.dsa_queues.specs.Queues.{intake, is_accepting}
-use Rattle.dsa_laws.specs.WellFormed.{IsWellFormed}
+use Rattle.dsa_book.specs.Work.{members, member_list, note_at, batch_on, is_all_fetched}
+use Rattle.dsa_laws.specs.WellFormed.{IsWellFormed, none_runs, runs_first}
 use Rattle.dsa_laws.proofs.Histories.{replay-well_formed}
 use Rattle.dsa_laws.proofs.Entries.{none-held}
-use Rattle.dsa_laws.proofs.FreeCells.{accepting-room}
+use Rattle.dsa_laws.proofs.FreeCells.{accepting-room, fetching-room}
 use Rattle.dsa_laws.proofs.Totals.{replay-names-le}
-use Rattle.dsa_engines.specs.Engines.{IsReady}
+use Rattle.dsa_engines.specs.Engines.{IsReady, WaitInOrder, is_fetching, is_running, lists_alone}
 use Rattle.dsa_device.specs.Running.{Running, IsReplay}
 
 pub well_formed : (d : Running) → IsReplay d → IsWellFormed d.caps d.state
@@ -85,3 +88,41 @@ occupancy_fits cells d queue i e room =
     let most = length-le-held d.state.work.content queue in
     let bound = cell_count-bound d.caps i.caps in
     omega (arith, most, bound, e, room)
+
+-- ---- what a start asks
+
+none_runs-filter : (xs : List Slot) → none_runs xs ≡ true → filter is_running xs ≡ []
+none_runs-filter [] h = refl
+none_runs-filter (slot ∷ rest) h = go slot.1.running h (none_runs-filter rest)
+  where
+    go : (b : Bool) → (not b && none_runs rest) ≡ true → (none_runs rest ≡ true → filter is_running rest ≡ []) → cond b (slot ∷ filter is_running rest) (filter is_running rest) ≡ []
+    go true h more = absurd cc
+    go false h more = more h
+
+wait_in_order : (xs : List Slot) → runs_first xs ≡ true → WaitInOrder xs
+wait_in_order [] h = tt
+wait_in_order (slot ∷ rest) h = λ waits. none_runs-filter rest (subst (λ b. cond b (runs_first rest) (none_runs rest) ≡ true) waits h)
+
+pub members_wait : (d : Running) (engine : ℕ) → IsReplay d → WaitInOrder (members (lists_alone d.state.work.setup d.state.work.content) engine)
+members_wait d engine i = wait_in_order (members d.state.work engine) ((well_formed d i).order engine)
+
+-- there is a row for each member of an engine
+pub member_rows_fit : (d : Running) (engine : ℕ) → IsReplay d → length d.state.work.fates + length (members (lists_alone d.state.work.setup d.state.work.content) engine) ≤ d.capacity
+member_rows_fit d engine i = go (nat_lt engine d.state.work.setup.caps.engines)
+  where
+    go : (b : Bool) → length d.state.work.fates + length (cond b (chain d.state.work.content (member_list d.state.work.setup engine)) []) ≤ d.capacity
+    go true =
+        let most = length-le-held d.state.work.content (member_list d.state.work.setup engine) in
+        let fit = rows_fit d i in
+        omega (arith, most, fit)
+    go false = let fit = rows_fit d i in omega (arith, fit)
+
+-- ---- what a fetch asks
+
+-- where a member may be fetched a cell is free
+pub fetching : (d : Running) (engine : ℕ) → IsReplay d → is_fetching d.state.work engine ≡ true → held d.state.work.content < cell_count d.caps
+fetching d engine i h = go (note_at d.state.work engine) refl h
+  where
+    go : (note : Option BatchNote) → note_at d.state.work engine ≡ note → passes (λ note. is_some (batch_on d.state.work engine note) && not (is_all_fetched note)) note ≡ true → held d.state.work.content < cell_count d.caps
+    go None is h = absurd cc
+    go (Some note) is h = fetching-room d.caps d.state engine note (well_formed d i) is (not-true (is_all_fetched note) (and_parts (is_some (batch_on d.state.work engine note)) _ h).1)

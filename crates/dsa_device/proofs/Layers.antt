@@ -1,13 +1,20 @@
 -- What a layer's step says is a step of the machine.
-use Rattle.std.proofs.Common.{◌≡◌, ℕ, Bool, true, false, ◌&&◌, Option, Some, None, refl, sym, subst}
+use Rattle.std.proofs.Common.{◌≡◌, ℕ, Bool, true, false, ◌&&◌, Option, Some, None, option_map, refl, sym, ap, subst}
 use Rattle.std.specs.Bool.{beq}
 use Rattle.std.proofs.lemmas.Bool.{eq-eqb}
+use Rattle.std.specs.Prelude.{find, length, cond, ◌==◌}
 use Rattle.dsa_desc.specs.declared.Descriptor.{Descriptor}
+use Rattle.dsa_desc.specs.declared.Outcome.{Outcome}
 use Rattle.dsa_desc.specs.Rows.{when}
-use Rattle.dsa_desc.proofs.Tables.{first_row_or-each}
+use Rattle.dsa_desc.proofs.Tables.{first_row_or-each, one_row}
+use Rattle.dsa_regs.specs.declared.Command.{Command}
+use Rattle.dsa_regs.specs.declared.Command.TheVariants.{EnableDevice, DisableDevice, DrainAll, AbortAll, ResetDevice, EnableWq, DisableWq, DrainWq, AbortWq, ResetWq, DrainPasid, AbortPasid}
+use Rattle.dsa_regs.specs.declared.Fault.{Fault}
+use Rattle.dsa_regs.specs.Fault.{fault_number}
 use Rattle.dsa_regs.specs.declared.QueueConfig.{QueueConfig}
 use Rattle.dsa_regs.specs.declared.GroupConfig.{GroupConfig}
 use Rattle.dsa_store.specs.declared.entry.Cell.{Cell}
+use Rattle.dsa_store.specs.Content.{Slot}
 use Rattle.dsa_book.specs.declared.answer.Cause.{Cause}
 use Rattle.dsa_book.specs.declared.answer.Cause.TheVariants.{AtLimit, NotEnabled, WrongKind}
 use Rattle.dsa_book.specs.declared.answer.NotedError.{NotedError}
@@ -19,11 +26,26 @@ use Rattle.dsa_book.specs.declared.event.Portal.{Portal}
 use Rattle.dsa_book.specs.declared.event.Kind.{Kind}
 use Rattle.dsa_book.specs.declared.event.Kind.TheVariants.{Enqcmd, Movdir64b}
 use Rattle.dsa_book.specs.declared.event.Event.TheVariants as event
-use Rattle.dsa_book.specs.Same.{same_cause, same_noted, same_submit, same_write, same_clear}
-use Rattle.dsa_book.specs.State.{Setup, Intake, State}
+use Rattle.dsa_book.specs.Same.{same_cause, same_noted, same_submit, same_fetch, same_start, same_finish, same_issue, same_poll, same_write, same_clear}
+use Rattle.dsa_book.specs.declared.answer.DispatchAnswer.{DispatchAnswer}
+use Rattle.dsa_book.specs.declared.answer.FinishAnswer.{FinishAnswer}
+use Rattle.dsa_book.specs.declared.answer.IssueAnswer.{IssueAnswer}
+use Rattle.dsa_book.specs.declared.answer.PollAnswer.{PollAnswer}
+use Rattle.dsa_book.specs.declared.note.ActiveCommand.{ActiveCommand}
+use Rattle.dsa_book.specs.declared.answer.StartAnswer.{StartAnswer}
+use Rattle.dsa_book.specs.declared.answer.FetchAnswer.{FetchAnswer}
+use Rattle.dsa_book.specs.declared.answer.Ticket.{Ticket}
+use Rattle.dsa_book.specs.declared.note.BatchNote.{BatchNote}
+use Rattle.dsa_book.specs.State.{Setup, Intake, Work, State, is_ticket, is_batch_of}
+use Rattle.dsa_book.specs.Work.{dispatch, running_on, finish, finish_of, is_unfinished, last_status, members, first_waiting, start, start_of, start_table, note_at, batch_on, is_all_fetched, fetch, fetch_for, fetch_of}
 use Rattle.dsa_book.specs.Submit.{submit, submit_table, turned_away, accepted}
-use Rattle.dsa_book.specs.Commands.{write_queue, write_queue_table, write_group, write_group_table, clear, clear_of}
-use Rattle.dsa_book.specs.Machine.{next, intake_of, with_intake, with_setup, accepted_cell, cell_or_first, may_use}
+use Rattle.dsa_book.specs.Commands.{issue, issue_table, refused_or, check_of, carried_out, waits, is_at_end, count_in_scope, poll, poll_of, write_queue, write_queue_table, write_group, write_group_table, clear, clear_of}
+use Rattle.dsa_book.specs.Machine.{next, intake_of, with_intake, with_setup, with_work, accepted_cell, fetched_cell, cell_or_first, may_use}
+
+-- what holds of both holds of the one that is tested
+pub either : {X : Type 0} (P : X → Type 0) (b : Bool) (x y : X) → P x → P y → P (cond b x y)
+either P true x y p q = p
+either P false x y p q = q
 
 -- ---- an answer of the machine is the same as itself
 
@@ -62,6 +84,70 @@ clear-self setup = go setup.noted
     go None = refl
     go (Some noted) = same_noted-self noted
 
+finish-self : (w : Work) (e : ℕ) (ticket : Ticket) (outcome : Outcome) → same_finish (finish w e ticket outcome).0 (finish w e ticket outcome).0 ≡ true
+finish-self w e ticket outcome = go (find (is_ticket ticket) (running_on w e))
+  where
+    go : (found : Option Slot) → same_finish (finish_of w e outcome found).0 (finish_of w e outcome found).0 ≡ true
+    go None = refl
+    go (Some slot) = one_row (λ (r : FinishAnswer × Work). same_finish r.0 r.0 ≡ true) (is_batch_of w.setup slot.1 && is_unfinished w e) _ _ refl (eq-eqb (last_status w e slot outcome) _ refl)
+
+start-self : (w : Work) (e : ℕ) → same_start (start w e).0 (start w e).0 ≡ true
+start-self w e = go (first_waiting w e)
+  where
+    go : (found : Option Slot) → same_start (start_of w e found).0 (start_of w e found).0 ≡ true
+    go None = refl
+    go (Some slot) = first_row_or-each (λ (r : StartAnswer × Work). same_start r.0 r.0 ≡ true) (start_table w e slot) _
+        (refl, (eq-eqb (length (members w e)) _ refl, (refl, tt)))
+        (rw (eq-eqb slot.0.0 slot.0.0 refl, eq-eqb slot.1.name slot.1.name refl) refl)
+
+fetch-self : (w : Work) (e : ℕ) (desc : Descriptor) (cell : Cell) → same_fetch (fetch w e desc cell).0 (fetch w e desc cell).0 ≡ true
+fetch-self w e desc cell = noted (note_at w e)
+  where
+    taken : (note : BatchNote) (found : Option Slot) → same_fetch (fetch_of w e desc cell note found).0 (fetch_of w e desc cell note found).0 ≡ true
+    taken note None = refl
+    taken note (Some batch) = one_row (λ (r : FetchAnswer × Work). same_fetch r.0 r.0 ≡ true) (is_all_fetched note) _ _ refl
+        (rw (eq-eqb cell.0 cell.0 refl, eq-eqb w.setup.next_name w.setup.next_name refl) refl)
+
+    noted : (note : Option BatchNote) → same_fetch (fetch_for w e desc cell note).0 (fetch_for w e desc cell note).0 ≡ true
+    noted None = refl
+    noted (Some note) = taken note (batch_on w e note)
+
+waits-self : (s : State) (command : Command) → same_issue (waits s command).0 (waits s command).0 ≡ true
+waits-self s command = either (λ (r : IssueAnswer × State). same_issue r.0 r.0 ≡ true) (is_at_end (record { command = command; mark = s.work.setup.next_name }) s.work.content) _ _ refl refl
+
+aborts-self : (s : State) (command : Command) → (count_in_scope command s.work.content == count_in_scope command s.work.content) ≡ true
+aborts-self s command = eq-eqb (count_in_scope command s.work.content) _ refl
+
+carried_out-self : (s : State) (command : Command) → same_issue (carried_out s command).0 (carried_out s command).0 ≡ true
+carried_out-self s EnableDevice = refl
+carried_out-self s DisableDevice = waits-self s DisableDevice
+carried_out-self s DrainAll = waits-self s DrainAll
+carried_out-self s AbortAll = aborts-self s AbortAll
+carried_out-self s ResetDevice = aborts-self s ResetDevice
+carried_out-self s (EnableWq queue) = refl
+carried_out-self s (DisableWq queues) = waits-self s (DisableWq queues)
+carried_out-self s (DrainWq queues) = waits-self s (DrainWq queues)
+carried_out-self s (AbortWq queues) = aborts-self s (AbortWq queues)
+carried_out-self s (ResetWq queues) = aborts-self s (ResetWq queues)
+carried_out-self s (DrainPasid pasid) = waits-self s (DrainPasid pasid)
+carried_out-self s (AbortPasid pasid) = aborts-self s (AbortPasid pasid)
+
+issue-self : (s : State) (command : Command) → same_issue (issue s command).0 (issue s command).0 ≡ true
+issue-self s command =
+    first_row_or-each (λ (r : IssueAnswer × State). same_issue r.0 r.0 ≡ true) (issue_table s command) (refused_or s (check_of s.work.setup command) (carried_out s command))
+    (refl, (refl, (refl, tt))) (go (check_of s.work.setup command))
+  where
+    go : (fault : Option Fault) → same_issue (refused_or s fault (carried_out s command)).0 (refused_or s fault (carried_out s command)).0 ≡ true
+    go None = carried_out-self s command
+    go (Some fault) = eq-eqb (fault_number fault) _ refl
+
+poll-self : (s : State) → same_poll (poll s).0 (poll s).0 ≡ true
+poll-self s = go s.active
+  where
+    go : (active : Option ActiveCommand) → same_poll (poll_of s active).0 (poll_of s active).0 ≡ true
+    go None = refl
+    go (Some active) = either (λ (r : PollAnswer × State). same_poll r.0 r.0 ≡ true) (is_at_end active s.work.content) _ _ refl refl
+
 -- ---- each layer's step
 
 -- a result that was tested against the answer, where the answer is the result's
@@ -85,3 +171,25 @@ next-write_group s g config answer setup is = tested same_write (with_setup s) (
 
 pub next-clear : (s : State) (answer : ClearAnswer) (setup : Setup) → clear s.work.setup ≡ (answer, setup) → next s event.ClearError (reply.Clear answer) ≡ Some (with_setup s setup)
 next-clear s answer setup is = tested same_clear (with_setup s) (clear s.work.setup) answer setup is (clear-self s.work.setup)
+
+pub next-dispatch : (s : State) (e : ℕ) (answer : DispatchAnswer) (w : Work) → dispatch s.work e answer ≡ Some w → next s (event.Dispatch e) (reply.Dispatch answer) ≡ Some (with_work s w)
+next-dispatch s e answer w is = ap (option_map (with_work s)) is
+
+pub next-finish : (s : State) (e : ℕ) (ticket : Ticket) (outcome : Outcome) (answer : FinishAnswer) (w : Work) → finish s.work e ticket outcome ≡ (answer, w) → next s (event.Finish e ticket outcome) (reply.Finish answer) ≡ Some (with_work s w)
+next-finish s e ticket outcome answer w is = tested same_finish (with_work s) (finish s.work e ticket outcome) answer w is (finish-self s.work e ticket outcome)
+
+pub next-start : (s : State) (e : ℕ) (answer : StartAnswer) (w : Work) → start s.work e ≡ (answer, w) → next s (event.Start e) (reply.Start answer) ≡ Some (with_work s w)
+next-start s e answer w is = tested same_start (with_work s) (start s.work e) answer w is (start-self s.work e)
+
+pub next-fetch : (s : State) (e : ℕ) (desc : Descriptor) (answer : FetchAnswer) (w : Work)
+    → fetch s.work e desc (cell_or_first (fetched_cell answer)) ≡ (answer, w) → may_use s.work.setup s.work.content (fetched_cell answer) ≡ true
+    → next s (event.Fetch e desc) (reply.Fetch answer) ≡ Some (with_work s w)
+next-fetch s e desc answer w is free =
+    tested (λ a b. same_fetch a b && may_use s.work.setup s.work.content (fetched_cell answer)) (with_work s) (fetch s.work e desc (cell_or_first (fetched_cell answer))) answer w is
+    (rw (fetch-self s.work e desc (cell_or_first (fetched_cell answer)), free) refl)
+
+pub next-issue : (s : State) (command : Command) (answer : IssueAnswer) (t : State) → issue s command ≡ (answer, t) → next s (event.Issue command) (reply.Issue answer) ≡ Some t
+next-issue s command answer t is = tested same_issue (λ (v : State). v) (issue s command) answer t is (issue-self s command)
+
+pub next-poll : (s : State) (answer : PollAnswer) (t : State) → poll s ≡ (answer, t) → next s event.Poll (reply.Poll answer) ≡ Some t
+next-poll s answer t is = tested same_poll (λ (v : State). v) (poll s) answer t is (poll-self s)

@@ -3,3 +3,4 @@ pub mod Steps
 pub mod Layers
 pub mod InStep
 pub mod Opening
+pub mod Runs

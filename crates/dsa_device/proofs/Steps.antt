@@ -111,3 +111,10 @@ pub step_by_parts : (cells cells' : ℕ) (caps : Caps) (setup setup' : Setup) (g
 step_by_parts cells cells' caps setup setup' gear gear' content content' active active' book book' fates' e r w room after n same in_step =
     let a = answered_by_parts caps setup setup' gear gear' content content' active active' book book' fates' e r room after n in
     record { made = a; whole = answered-whole cells cells' gear gear' (running caps setup gear content active book) (running caps setup' gear' content' active' book') e r w same in_step a }
+
+-- a step recorded after rows were added
+pub recorded-rows : (before between after : Records) (e : Event) (r : Reply) → between ≡ record before { fates = between.fates }
+    → after ≡ record between { history = recorded between.history (record { event = e; reply = r }) }
+    → after ≡ record { history = recorded before.history (record { event = e; reply = r }); fates = between.fates; capacity = before.capacity }
+recorded-rows before between after e r rows is =
+    is ∙ ap (λ (b : Records). let t : Records = record { history = recorded b.history (record { event = e; reply = r }); fates = between.fates; capacity = b.capacity } in t) rows

@@ -1,26 +1,24 @@
 //! A device: how it is made, and its steps.
 
-ghost use Rattle.std.specs.Prelude.{◌≡◌, ◌==◌, ◌≤◌, ◌^◌, true, IsTrue, length, None, Some, IfOk, IfErr, find};
-ghost use Rattle.std.specs.Option.{option_map};
+ghost use Rattle.std.specs.Prelude.{◌≡◌, IsTrue, None, Some, IfOk, IfErr};
 ghost use Rattle.dsa_desc.specs.Descriptor.{read};
-ghost use Rattle.dsa_desc.specs.Rows.{when};
 ghost use Rattle.dsa_regs.specs.Caps.{check_caps};
-ghost use Rattle.dsa_store.specs.Content.{held};
 ghost use Rattle.dsa_book.specs.declared.event.Event.TheVariants as event;
 ghost use Rattle.dsa_book.specs.declared.answer.Reply.TheVariants as reply;
-ghost use Rattle.dsa_book.specs.State.{occupancy};
 ghost use Rattle.dsa_device.specs.Made.{is_store_of, make_fault, fault_or_memory};
-ghost use Rattle.dsa_device.specs.Running.{opened, answered, IsReplay};
+ghost use Rattle.dsa_device.specs.Running.{opened, answered};
+
+mod reads;
 
 use crate::MakeFault;
 use dsa_book::{
-    ActiveCommand, Book, ClearAnswer, Event, Fate, FateRow, Kind, NotedError, Portal, Reply, Step,
-    SubmitAnswer, WriteAnswer,
+    ActiveCommand, Book, ClearAnswer, DispatchAnswer, Event, FetchAnswer, FinishAnswer, Kind,
+    Portal, Reply, StartAnswer, SubmitAnswer, Ticket, WriteAnswer,
 };
-use dsa_desc::Descriptor;
+use dsa_desc::{Descriptor, Outcome};
 use dsa_engines::Engines;
 use dsa_queues::Queues;
-use dsa_regs::{Caps, Command, GroupConfig, QueueConfig, cell_count, check_caps, list_count};
+use dsa_regs::{Caps, GroupConfig, QueueConfig, cell_count, check_caps, list_count};
 use dsa_store::EntryStore;
 use std::alloc::Global;
 use std::marker::Model;
@@ -39,7 +37,7 @@ pub struct Device<S: EntryStore> {
     store: S,
     queues: Queues,
     engines: Engines,
-    active: Option<ActiveCommand>,
+    admin: Option<ActiveCommand>,
     book: Book,
 }
 
@@ -48,9 +46,9 @@ impl<S: EntryStore> Model for Device<S> {
 
     ghost Value = { Running };
 
-    ghost view = { λ d. running d.caps d.queues d.engines (S.content d.store) d.active d.book };
+    ghost view = { λ d. running d.caps d.queues d.engines (S.content d.store) d.admin d.book };
 
-    ghost invariant = { λ d. IsWhole (S.cells d.store) d.engines (running d.caps d.queues d.engines (S.content d.store) d.active d.book) };
+    ghost invariant = { λ d. IsWhole (S.cells d.store) d.engines (running d.caps d.queues d.engines (S.content d.store) d.admin d.book) };
 }
 
 // Whether the store is empty, with the lists and cells of such a device.
@@ -107,7 +105,7 @@ impl<S: EntryStore> Device<S> {
             store,
             queues: Queues::new(caps),
             engines: Engines::new(&caps),
-            active: None,
+            admin: None,
             book,
         })
     }
@@ -154,6 +152,77 @@ impl<S: EntryStore> Device<S> {
         ensures { answered self.old (event.Submit client queue portal kind (read bytes.now)) (reply.Submit result) ≡ Some self.new }
     {
         self.submit_parsed(client, queue, portal, kind, Descriptor::parse(bytes))
+    }
+
+    /// An engine asks for an entry, and takes the front of a queue of its group.
+    #[inline(always)]
+    pub fn dispatch(&mut self, engine: u16) -> DispatchAnswer
+        ensures { answered self.old (event.Dispatch engine) (reply.Dispatch result) ≡ Some self.new }
+    {
+        if self.book.is_full() {
+            return DispatchAnswer::Full;
+        }
+        let answer = self.engines.dispatch(&self.queues, &mut self.store, engine);
+        self.book
+            .record(Event::Dispatch { engine }, Reply::Dispatch(answer));
+        answer
+    }
+
+    /// An engine hands in the next member of its batch.
+    #[inline(always)]
+    pub fn fetch(&mut self, engine: u16, desc: Descriptor) -> FetchAnswer
+        ensures { answered self.old (event.Fetch engine desc) (reply.Fetch result) ≡ Some self.new }
+    {
+        if self.book.is_full() {
+            return FetchAnswer::Full;
+        }
+        let answer = self
+            .engines
+            .fetch(&mut self.queues, &mut self.store, engine, desc);
+        self.book
+            .record(Event::Fetch { engine, desc }, Reply::Fetch(answer));
+        answer
+    }
+
+    /// An engine starts the first of its members that does not run.
+    #[inline(always)]
+    pub fn start(&mut self, engine: u16) -> StartAnswer
+        ensures { answered self.old (event.Start engine) (reply.Start result) ≡ Some self.new }
+    {
+        if self.book.is_full() {
+            return StartAnswer::Full;
+        }
+        let answer = self
+            .engines
+            .start(&self.queues, &mut self.store, &mut self.book, engine);
+        self.book
+            .record(Event::Start { engine }, Reply::Start(answer));
+        answer
+    }
+
+    /// An engine ends the running entry of that ticket, and says how its work went.
+    #[inline(always)]
+    pub fn finish(&mut self, engine: u16, ticket: Ticket, outcome: Outcome) -> FinishAnswer
+        ensures { answered self.old (event.Finish engine ticket outcome) (reply.Finish result) ≡ Some self.new }
+    {
+        if self.book.is_full() {
+            return FinishAnswer::Full;
+        }
+        let answer = self.engines.finish(
+            &self.queues,
+            &mut self.store,
+            &mut self.book,
+            engine,
+            ticket,
+            outcome,
+        );
+        let event = Event::Finish {
+            engine,
+            ticket,
+            outcome,
+        };
+        self.book.record(event, Reply::Finish(answer));
+        answer
     }
 
     /// The administrator writes the configuration of a queue.

@@ -46,6 +46,10 @@ load-cons setup s l = on s.1.running
     on true = sum_by-cons (λ held. need_of setup held.1) s (filter (λ held. held.1.running) l)
     on false = omega arith
 
+pub none-load : (setup : Setup) (l : List Slot) → filter (λ held. held.1.running) l ≡ [] → load setup l ≡ 0
+unfolding load
+none-load setup l h = ap (sum_by (λ (held : Slot). need_of setup held.1)) h
+
 used_on-loads : (setup : Setup) (c : Content) (e : ℕ) → e < setup.caps.engines → used_on (lists_alone setup c) e ≡ load setup (chain c (progress_list setup e)) + load setup (chain c (member_list setup e))
 unfolding load
 used_on-loads setup c e h =
@@ -200,6 +204,13 @@ pub taken-of : (setup : Setup) (before after : Content) (e n g : ℕ) → e < se
 taken-of setup before after e n g he hg alone is r =
     let at = hit-at (λ (x : GroupConfig). has x.engines e) setup.groups zero_group g is in
     ap (λ (u : List ℕ). let b : Buffers = record { total = setup.caps.read_buffers; groups = setup.groups; used = u } in b) (sym (used-raised setup before after e n g he hg at.0 alone is at.1 r))
+
+-- with none given back nothing changes
+pub given-none : (home : Option ℕ) (b : Buffers) → given home 0 b ≡ b
+given-none None b = refl
+given-none (Some g) b =
+    let same : get_or b.used g 0 - 0 ≡ get_or b.used g 0 = omega arith in
+    ap (λ (u : List ℕ). let x : Buffers = record b { used = u } in x) (rw same (set-get_or b.used g 0))
 
 -- ---- a device on which nothing is held
 

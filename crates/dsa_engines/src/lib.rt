@@ -6,6 +6,10 @@
 #![tactic(auto)]
 
 mod engines;
+mod fetching;
+mod finishing;
+mod removing;
+mod starting;
 mod taking;
 
 pub use engines::Engines;

@@ -29,13 +29,13 @@ submit-answer-requires-clause-room g c = λ h.
 pub submit-answer-requires-clause-names : goal.submit-answer-requires-clause-names
 submit-answer-requires-clause-names g c = λ h. names_fit _ c.self.invariant.replay
 
-step : (g : Over) (c : goal.After-record g) → IsStep (g.S.EntryStore.cells c.submit-answer.new.store) c.self.inside.engines (running c.self.inside.caps c.self.inside.queues c.self.inside.engines (g.S.EntryStore.content c.self.inside.store) c.self.inside.active c.self.inside.book) (event.Submit c.args.client c.args.queue c.args.portal c.args.kind c.args.desc) (reply.Submit c.submit-answer.result) (running c.self.inside.caps c.submit-answer.new.self c.self.inside.engines (g.S.EntryStore.content c.submit-answer.new.store) c.self.inside.active c.record.new.self)
+step : (g : Over) (c : goal.After-record g) → IsStep (g.S.EntryStore.cells c.submit-answer.new.store) c.self.inside.engines (running c.self.inside.caps c.self.inside.queues c.self.inside.engines (g.S.EntryStore.content c.self.inside.store) c.self.inside.admin c.self.inside.book) (event.Submit c.args.client c.args.queue c.args.portal c.args.kind c.args.desc) (reply.Submit c.submit-answer.result) (running c.self.inside.caps c.submit-answer.new.self c.self.inside.engines (g.S.EntryStore.content c.submit-answer.new.store) c.self.inside.admin c.record.new.self)
 step g c =
     let i = c.self.inside in
     let before = intake i.queues (g.S.EntryStore.content i.store) in
     let after = intake c.submit-answer.new.self (g.S.EntryStore.content c.submit-answer.new.store) in
     let alike = subst (λ (r : SubmitAnswer × Intake). IsAlikeFor i.queues r.1.setup (g.S.EntryStore.content i.store) r.1.content) c.submit-answer.ensures.answer (submit-alike before c.args.queue c.args.portal c.args.kind c.args.desc (cell_or_first (accepted_cell c.submit-answer.result))) in
-    step_by_parts _ _ i.caps i.queues c.submit-answer.new.self i.engines i.engines (g.S.EntryStore.content i.store) (g.S.EntryStore.content c.submit-answer.new.store) i.active i.active i.book c.record.new.self i.book.fates
+    step_by_parts _ _ i.caps i.queues c.submit-answer.new.self i.engines i.engines (g.S.EntryStore.content i.store) (g.S.EntryStore.content c.submit-answer.new.store) i.admin i.admin i.book c.record.new.self i.book.fates
     (event.Submit c.args.client c.args.queue c.args.portal c.args.kind c.args.desc) (reply.Submit c.submit-answer.result)
     c.self.invariant (sym c.is_full.ensures.full ∙ c.if-is_full.false) c.record.ensures
     (next-submit _ c.args.client c.args.queue c.args.portal c.args.kind c.args.desc c.submit-answer.result after c.submit-answer.ensures.answer c.submit-answer.ensures.free)

@@ -11,12 +11,12 @@ use Rattle.dsa_device.proofs.Steps.{IsStep, step_by_parts}
 use Rattle.dsa_device.proofs.device.Device.write_group.Given.{Over}
 use Rattle.dsa_device.proofs.device.Device.write_group.Goals as goal
 
-step : (g : Over) (c : goal.After-record g) → IsStep (g.S.EntryStore.cells c.self.inside.store) c.self.inside.engines (running c.self.inside.caps c.self.inside.queues c.self.inside.engines (g.S.EntryStore.content c.self.inside.store) c.self.inside.active c.self.inside.book) (event.WriteGroup c.args.group c.args.config) (reply.Write c.write_group-answer.result) (running c.self.inside.caps c.write_group-answer.new.self c.self.inside.engines (g.S.EntryStore.content c.self.inside.store) c.self.inside.active c.record.new.self)
+step : (g : Over) (c : goal.After-record g) → IsStep (g.S.EntryStore.cells c.self.inside.store) c.self.inside.engines (running c.self.inside.caps c.self.inside.queues c.self.inside.engines (g.S.EntryStore.content c.self.inside.store) c.self.inside.admin c.self.inside.book) (event.WriteGroup c.args.group c.args.config) (reply.Write c.write_group-answer.result) (running c.self.inside.caps c.write_group-answer.new.self c.self.inside.engines (g.S.EntryStore.content c.self.inside.store) c.self.inside.admin c.record.new.self)
 step g c =
     let i = c.self.inside in
     let content = g.S.EntryStore.content i.store in
-    let d = running i.caps i.queues i.engines content i.active i.book in
-    step_by_parts _ _ i.caps i.queues c.write_group-answer.new.self i.engines i.engines content content i.active i.active i.book c.record.new.self i.book.fates
+    let d = running i.caps i.queues i.engines content i.admin i.book in
+    step_by_parts _ _ i.caps i.queues c.write_group-answer.new.self i.engines i.engines content content i.admin i.admin i.book c.record.new.self i.book.fates
     (event.WriteGroup c.args.group c.args.config) (reply.Write c.write_group-answer.result)
     c.self.invariant (sym c.is_full.ensures.full ∙ c.if-is_full.false) c.record.ensures
     (next-write_group d.state c.args.group c.args.config c.write_group-answer.result c.write_group-answer.new.self c.write_group-answer.ensures)

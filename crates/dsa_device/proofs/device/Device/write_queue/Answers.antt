@@ -11,13 +11,13 @@ use Rattle.dsa_device.proofs.Steps.{IsStep, step_by_parts}
 use Rattle.dsa_device.proofs.device.Device.write_queue.Given.{Over}
 use Rattle.dsa_device.proofs.device.Device.write_queue.Goals as goal
 
-step : (g : Over) (c : goal.After-record g) → IsStep (g.S.EntryStore.cells c.self.inside.store) c.self.inside.engines (running c.self.inside.caps c.self.inside.queues c.self.inside.engines (g.S.EntryStore.content c.self.inside.store) c.self.inside.active c.self.inside.book) (event.WriteQueue c.args.queue c.args.config) (reply.Write c.write_queue-answer.result) (running c.self.inside.caps c.write_queue-answer.new.self c.self.inside.engines (g.S.EntryStore.content c.self.inside.store) c.self.inside.active c.record.new.self)
+step : (g : Over) (c : goal.After-record g) → IsStep (g.S.EntryStore.cells c.self.inside.store) c.self.inside.engines (running c.self.inside.caps c.self.inside.queues c.self.inside.engines (g.S.EntryStore.content c.self.inside.store) c.self.inside.admin c.self.inside.book) (event.WriteQueue c.args.queue c.args.config) (reply.Write c.write_queue-answer.result) (running c.self.inside.caps c.write_queue-answer.new.self c.self.inside.engines (g.S.EntryStore.content c.self.inside.store) c.self.inside.admin c.record.new.self)
 step g c =
     let i = c.self.inside in
     let content = g.S.EntryStore.content i.store in
-    let d = running i.caps i.queues i.engines content i.active i.book in
+    let d = running i.caps i.queues i.engines content i.admin i.book in
     let alike = subst (λ (r : WriteAnswer × Setup). IsAlikeFor i.queues r.1 content content) c.write_queue-answer.ensures (write_queue-alike d.state.work c.args.queue c.args.config (well_formed d c.self.invariant.replay).entries.none_off) in
-    step_by_parts _ _ i.caps i.queues c.write_queue-answer.new.self i.engines i.engines content content i.active i.active i.book c.record.new.self i.book.fates
+    step_by_parts _ _ i.caps i.queues c.write_queue-answer.new.self i.engines i.engines content content i.admin i.admin i.book c.record.new.self i.book.fates
     (event.WriteQueue c.args.queue c.args.config) (reply.Write c.write_queue-answer.result)
     c.self.invariant (sym c.is_full.ensures.full ∙ c.if-is_full.false) c.record.ensures
     (next-write_queue d.state c.args.queue c.args.config c.write_queue-answer.result c.write_queue-answer.new.self c.write_queue-answer.ensures)

@@ -1,0 +1,96 @@
+//! What a device tells of itself.
+
+ghost use Rattle.std.specs.Prelude.{◌≡◌, ◌==◌, nat_lt, find};
+ghost use Rattle.std.specs.Option.{option_map};
+ghost use Rattle.dsa_desc.specs.Rows.{when};
+ghost use Rattle.dsa_store.specs.Content.{held};
+ghost use Rattle.dsa_book.specs.State.{occupancy};
+ghost use Rattle.dsa_laws.specs.WellFormed.{IsWellFormed};
+ghost use Rattle.dsa_device.specs.Running.{IsReplay};
+
+use super::Device;
+use dsa_book::{Fate, FateRow, NotedError, Step};
+use dsa_regs::{Caps, Command};
+use dsa_store::EntryStore;
+
+impl<S: EntryStore> Device<S> {
+    /// What the device has, as it was made.
+    pub fn caps(&self) -> Caps
+        ensures { result ≡ self.now.caps }
+    {
+        self.caps
+    }
+
+    /// For how many steps the history has room.
+    pub fn capacity(&self) -> u64
+        ensures { result ≡ self.now.capacity }
+    {
+        self.book.capacity() as u64
+    }
+
+    /// The number of entries that wait in the queue; those that engines have taken are not counted (Intel DSA
+    /// specification, work queue occupancy). `None` exactly when the device has no such queue.
+    pub fn occupancy(&self, queue: u16) -> Option<u16>
+        ensures { result ≡ when (nat_lt queue self.now.caps.queues) (occupancy self.now.state.work.content queue) }
+    {
+        self.queues.occupancy(&self.store, queue)
+    }
+
+    /// The error that is noted of descriptors which MOVDIR64B wrote and no queue took.
+    pub fn noted(&self) -> Option<NotedError>
+        ensures { result ≡ self.now.state.work.setup.noted }
+    {
+        self.queues.noted()
+    }
+
+    /// The command that is not over yet.
+    pub fn active(&self) -> Option<Command>
+        ensures { result ≡ option_map (λ active. active.command) self.now.state.active }
+    {
+        self.admin.map(|active| active.command)
+    }
+
+    /// The number of entries that the device holds, in all queues and engines.
+    pub fn held(&self) -> u32
+        ensures { result ≡ held self.now.state.work.content }
+    {
+        self.store.cells() - self.store.free()
+    }
+
+    /// The name that the next entry gets, which is the number of names that were given.
+    pub fn next_name(&self) -> u32
+        ensures { result ≡ self.now.state.work.setup.next_name }
+    {
+        self.queues.next_name()
+    }
+
+    /// The steps that were stored, the first one first.
+    pub fn history(&self) -> &[Step]
+        ensures { result.now ≡ self.now.history }
+    {
+        self.book.history()
+    }
+
+    /// A row for each entry that ended, in the order in which they did.
+    pub fn fates(&self) -> &[FateRow]
+        ensures { result.now ≡ self.now.state.work.fates }
+    {
+        self.book.fates()
+    }
+
+    /// What became of the entry of that name. `None` exactly while it is held, or no entry has the name.
+    pub fn fate(&self, name: u32) -> Option<Fate>
+        ensures { result ≡ option_map (λ row. row.fate) (find (λ row. row.name == name) self.now.state.work.fates) }
+    {
+        self.book.fate(name).map(|row| row.fate)
+    }
+
+    /// What holds of every device, for a caller to name: its history is a legal one within its capacity, its state is what
+    /// the machine comes to by that history, and so it is well formed. The call does nothing.
+    pub fn state_is_replay(&self)
+        ensures replay { IsReplay self.now }
+        ensures well_formed { IsWellFormed self.now.caps self.now.state }
+    {
+        let _book = &self.book;
+    }
+}

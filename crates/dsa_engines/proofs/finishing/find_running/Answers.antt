@@ -1,0 +1,32 @@
+use Rattle.std.proofs.Common.{◌≡◌, ◌∙◌, ◌<◌, ℕ, true, false, Option, Some, None, refl, sym, ap, inl, inr, arith}
+use Rattle.std.specs.Prelude.{option_map}
+use Rattle.dsa_regs.specs.declared.Caps.{Caps}
+use Rattle.dsa_store.specs.declared.entry.Entry.{Entry}
+use Rattle.dsa_store.specs.Content.{Slot}
+use Rattle.dsa_desc.specs.Rows.{when}
+use Rattle.dsa_engines.proofs.Finding.{lost, outside, inside}
+use Rattle.dsa_engines.proofs.finishing.find_running.Goals as goal
+
+pub returns-in_err-list : goal.returns-in_err-list
+returns-in_err-list g c =
+    lost c.args.queues.now (g.S.EntryStore.content c.args.store.now) c.args.engine c.args.ticket ((g.met.S.EntryStore.sound c.args.store.now).once c.args.ticket.cell) (omega (arith, c.if-engine-caps.false, ap (λ (x : Caps). x.engines) c.caps-caps.ensures.value)) (inl (sym c.in_err-list.ensures))
+    ∙ sym (ap (option_map (λ (entry : Entry). let s : Slot = (c.args.ticket.cell, entry) in s)) c.from_residual.ensures)
+
+pub returns-then-not-is_either : goal.returns-then-not-is_either
+returns-then-not-is_either g c =
+    outside c.args.queues.now (g.S.EntryStore.content c.args.store.now) c.caps-caps.result c.args.engine c.in_ok-list.list.0 c.args.ticket ((g.met.S.EntryStore.sound c.args.store.now).once c.args.ticket.cell) c.if-engine-caps.false c.caps-caps.ensures.value c.in_ok-list.ensures c.if-not-is_either.ensures
+
+pub returns-in_err-entry : goal.returns-in_err-entry
+returns-in_err-entry g c =
+    lost c.args.queues.now (g.S.EntryStore.content c.args.store.now) c.args.engine c.args.ticket ((g.met.S.EntryStore.sound c.args.store.now).once c.args.ticket.cell) (omega (arith, c.if-engine-caps.false, ap (λ (x : Caps). x.engines) c.caps-caps.ensures.value)) (inr (sym c.in_err-entry.ensures))
+    ∙ sym (ap (option_map (λ (entry : Entry). let s : Slot = (c.args.ticket.cell, entry) in s)) c.from_residual-in_err-entry.ensures)
+
+pub returns-then-is_meant : goal.returns-then-is_meant
+returns-then-is_meant g c =
+    inside c.args.queues.now (g.S.EntryStore.content c.args.store.now) c.caps-caps.result c.args.engine c.in_ok-list.list.0 c.args.ticket c.in_ok-entry.entry c.is_meant.result ((g.met.S.EntryStore.sound c.args.store.now).once c.args.ticket.cell) c.if-engine-caps.false c.caps-caps.ensures.value c.in_ok-list.ensures c.if-not-is_either.ensures c.in_ok-entry.ensures c.is_meant.ensures
+    ∙ rw c.if-is_meant.true refl
+
+pub returns-else-is_meant : goal.returns-else-is_meant
+returns-else-is_meant g c =
+    inside c.args.queues.now (g.S.EntryStore.content c.args.store.now) c.caps-caps.result c.args.engine c.in_ok-list.list.0 c.args.ticket c.in_ok-entry.entry c.is_meant.result ((g.met.S.EntryStore.sound c.args.store.now).once c.args.ticket.cell) c.if-engine-caps.false c.caps-caps.ensures.value c.in_ok-list.ensures c.if-not-is_either.ensures c.in_ok-entry.ensures c.is_meant.ensures
+    ∙ rw c.if-is_meant.false refl

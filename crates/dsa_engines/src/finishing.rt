@@ -1,0 +1,176 @@
+//! Finish: an engine ends a running entry.
+
+ghost use Rattle.std.specs.Prelude.{◌≡◌, ℕ, ◌<◌, ◌&&◌, ◌||◌, ◌==◌, [], length, find, option_map};
+ghost use Rattle.dsa_store.specs.declared.entry.Cell.{Cell};
+ghost use Rattle.dsa_store.specs.Content.{Content};
+ghost use Rattle.dsa_book.specs.State.{is_ticket, is_batch_of};
+ghost use Rattle.dsa_book.specs.Work.{running_on, is_unfinished, last_status, note_after, finish};
+ghost use Rattle.dsa_engines.specs.Engines.{work, lists_alone, IsInStep, IsReady};
+
+use crate::Engines;
+use crate::fetching::is_all_fetched;
+use dsa_book::{BatchNote, Book, Fate, FateRow, FinishAnswer, Ticket};
+use dsa_desc::Outcome;
+use dsa_queues::Queues;
+use dsa_store::{Entry, EntryStore, ListId};
+
+fn is_either(list: ListId, one: u16, other: u16) -> bool
+    ensures { result ≡ (list.0 == one || list.0 == other) }
+{
+    list.0 == one || list.0 == other
+}
+
+// Whether the entry in the ticket's cell runs and has its name.
+fn is_meant(ticket: Ticket, entry: &Entry) -> bool
+    ensures { result ≡ (entry.now.running && entry.now.name == ticket.name) }
+{
+    entry.running && entry.name == ticket.name
+}
+
+// The running entry of the engine that has the ticket's cell and name.
+fn find_running<S: EntryStore>(
+    queues: &Queues,
+    store: &S,
+    engine: u16,
+    ticket: Ticket,
+) -> Option<Entry>
+    requires { IsReady queues.now (S.content store.now) }
+    ensures { find (is_ticket ticket) (running_on (lists_alone queues.now (S.content store.now)) engine) ≡ option_map (λ entry. (ticket.cell, entry)) result }
+{
+    let caps = queues.caps();
+    if engine >= caps.engines {
+        return None;
+    }
+    let list = store.list_of(ticket.cell)?;
+    if !is_either(
+        list,
+        caps.queues + engine,
+        caps.queues + caps.engines + engine,
+    ) {
+        return None;
+    }
+    let entry = store.get(ticket.cell)?;
+    if is_meant(ticket, &entry) {
+        Some(entry)
+    } else {
+        None
+    }
+}
+
+impl Engines {
+    // Whether members are left, or may still be fetched.
+    fn is_unfinished<S: EntryStore>(&self, queues: &Queues, store: &S, engine: u16) -> bool
+        requires ready { IsReady queues.now (S.content store.now) }
+        requires engine { engine < queues.now.caps.engines }
+        ensures { result ≡ is_unfinished (work queues.now self.now (S.content store.now) []) engine }
+    {
+        let caps = queues.caps();
+        if store.len(ListId(caps.queues + caps.engines + engine)) > 0 {
+            return true;
+        }
+        match self.note(engine) {
+            Some(note) => !is_all_fetched(&note),
+            None => false,
+        }
+    }
+
+    // Whether the entry is a batch that is not finished.
+    fn must_wait<S: EntryStore>(
+        &self,
+        queues: &Queues,
+        store: &S,
+        engine: u16,
+        entry: &Entry,
+    ) -> bool
+        requires ready { IsReady queues.now (S.content store.now) }
+        requires engine { engine < queues.now.caps.engines }
+        ensures { result ≡ (is_batch_of queues.now entry.now && is_unfinished (work queues.now self.now (S.content store.now) []) engine) }
+    {
+        if !queues.is_batch(entry) {
+            return false;
+        }
+        self.is_unfinished(queues, store, engine)
+    }
+
+    // The status of an entry that ends.
+    fn last_status(&self, queues: &Queues, engine: u16, entry: &Entry, outcome: Outcome) -> u8
+        ensures { (content : Content) (cell : Cell) → result ≡ last_status (work queues.now self.now content []) engine (cell, entry.now) outcome }
+    {
+        match self.note(engine) {
+            Some(note) if note.failed && queues.is_batch(entry) => 0x05,
+            _ => queues.status(entry, outcome),
+        }
+    }
+
+    // The engine's note after the entry ends.
+    fn note_after(
+        &self,
+        queues: &Queues,
+        engine: u16,
+        entry: &Entry,
+        outcome: Outcome,
+    ) -> Option<BatchNote>
+        ensures { (content : Content) (cell : Cell) → result ≡ note_after (work queues.now self.now content []) engine (cell, entry.now) outcome }
+    {
+        if queues.is_batch(entry) {
+            return None;
+        }
+        let note = self.note(engine);
+        if entry.parent.is_none() {
+            return note;
+        }
+        if queues.status(entry, outcome) == 0x01 {
+            return note;
+        }
+        match note {
+            Some(note) => Some(BatchNote {
+                failed: true,
+                ..note
+            }),
+            None => None,
+        }
+    }
+
+    /// The engine ends the running entry that has the ticket's cell and name, and says how its work went.
+    ///
+    /// `Gone` where no running entry of the engine has them, `NotReady` for a well-formed Batch with members that are left
+    /// or that may still be fetched, else `Done` with the status. The entry leaves and gives its read buffers back, and the
+    /// book gets a row. A member that was not successful marks its batch as failed; a batch that is so marked ends with
+    /// 0x05, and its note goes. Touches the cell of the ticket alone.
+    pub fn finish<S: EntryStore>(
+        &mut self,
+        queues: &Queues,
+        store: &mut S,
+        book: &mut Book,
+        engine: u16,
+        ticket: Ticket,
+        outcome: Outcome,
+    ) -> FinishAnswer
+        requires ready { IsReady queues.now (S.content store.old) }
+        requires in_step { IsInStep queues.now self.old (S.content store.old) }
+        requires room { length book.old.fates < book.old.capacity }
+        ensures step { finish (work queues.now self.old (S.content store.old) book.old.fates) engine ticket outcome
+            ≡ (result, work queues.now self.new (S.content store.new) book.new.fates) }
+        ensures cells { S.cells store.new ≡ S.cells store.old }
+        ensures book { book.new ≡ record book.old { fates = book.new.fates } }
+        ensures in_step { IsInStep queues.now self.new (S.content store.new) }
+    {
+        let Some(entry) = find_running(queues, store, engine, ticket) else {
+            return FinishAnswer::Gone;
+        };
+        if self.must_wait(queues, store, engine, &entry) {
+            return FinishAnswer::NotReady;
+        }
+        let status = self.last_status(queues, engine, &entry, outcome);
+        let note = self.note_after(queues, engine, &entry, outcome);
+        self.give_back(self.home(engine), queues.need(&entry));
+        self.set_note(engine, note);
+        let _ = store.unlink(ticket.cell);
+        book.add_row(FateRow {
+            name: entry.name,
+            parent: entry.parent,
+            fate: Fate::Completed(status),
+        });
+        FinishAnswer::Done(status)
+    }
+}
