@@ -1,4 +1,6 @@
-pub mod StepObjects
 pub mod Bytes
 pub mod Hex
+pub mod Records
+pub mod StepObjects
+pub mod Tickets
 pub mod Whole

@@ -2,3 +2,5 @@ pub mod Fields
 pub mod Actions
 pub mod Document
 pub mod Lines
+pub mod Run
+pub mod Scenario

@@ -12,10 +12,12 @@ mod fields;
 mod lines;
 mod reading;
 mod run;
+mod scenario;
 mod writing;
 
 pub use actions::{Action, parse_action};
 pub use document::{Document, check_document, parse_document};
 pub use faults::ScenarioFault;
 pub use lines::render;
-pub use run::Record;
+pub use run::{Record, run_actions, run_document};
+pub use scenario::{render_document, run_scenario};
