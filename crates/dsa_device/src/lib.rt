@@ -10,3 +10,6 @@ mod faults;
 
 pub use device::Device;
 pub use faults::MakeFault;
+
+#[cfg(test)]
+mod tests;

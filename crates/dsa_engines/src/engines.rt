@@ -97,7 +97,7 @@ impl Engines {
 
     /// The note of the batch that the engine works on.
     #[inline(always)]
-    pub(crate) fn note(&self, engine: u16) -> Option<BatchNote>
+    pub fn note(&self, engine: u16) -> Option<BatchNote>
         ensures { result ≡ get_or self.now.notes engine None }
     {
         match self.notes.get(usize::from(engine)) {

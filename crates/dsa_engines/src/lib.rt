@@ -8,6 +8,7 @@
 mod engines;
 mod fetching;
 mod finishing;
+mod giving_up;
 mod removing;
 mod starting;
 mod taking;

@@ -12,7 +12,7 @@ length-numbers : (n : ℕ) → length (numbers_below n) ≡ n
 length-numbers zero = refl
 length-numbers (suc n) = let further = length-numbers n in grind (arith, common_steps, further)
 
-length-each : {X : Type 0} (f : ℕ → X) (n : ℕ) → length (map f (numbers_below n)) ≡ n
+pub length-each : {X : Type 0} (f : ℕ → X) (n : ℕ) → length (map f (numbers_below n)) ≡ n
 length-each f n = let size = length-numbers n in grind (arith, common_steps, size)
 
 pub renewed-set : {X : Type 0} (f : ℕ → X) (n : ℕ) (xs : List X) → n < length xs → set (renewed f n xs) n (f n) ≡ renewed f (suc n) xs

@@ -165,6 +165,14 @@ impl Queues {
         }
     }
 
+    /// The configurations of all queues, by number.
+    #[inline(always)]
+    pub fn configs(&self) -> &[QueueConfig]
+        ensures { result.now ≡ self.now.configs }
+    {
+        self.configs.as_slice()
+    }
+
     /// The configurations of all groups, by number.
     #[inline(always)]
     pub fn groups(&self) -> &[GroupConfig]

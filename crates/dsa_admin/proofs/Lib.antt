@@ -1,0 +1,6 @@
+pub mod Withdrawals
+pub mod Waits
+pub mod Leaving
+pub mod Notes
+pub mod Commands
+pub mod Resizing

@@ -1,0 +1,2 @@
+pub mod Admin
+pub mod Leaving

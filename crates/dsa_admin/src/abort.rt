@@ -1,0 +1,162 @@
+//! Aborts: what ends, what stays, and how many entries those were.
+
+ghost use Rattle.std.specs.Prelude.{◌≡◌, ◌+◌, ◌<◌, ◌≤◌, None, Option, get_or, length, map, slice_set};
+ghost use Rattle.dsa_regs.specs.Numbers.{numbers_below};
+ghost use Rattle.dsa_store.specs.Content.{chain, held};
+ghost use Rattle.dsa_book.specs.Work.{progress_list};
+ghost use Rattle.dsa_book.specs.Commands.{aborted, aborts, carried_out, count_in_scope, has_batch, kept_note, reset};
+ghost use Rattle.dsa_engines.specs.Engines.{IsInStep, IsReady, work};
+ghost use Rattle.dsa_queues.specs.Queues.{IsWhole};
+ghost use Rattle.dsa_regs.specs.declared.Command.TheVariants.{ResetDevice, ResetWq};
+ghost use Rattle.dsa_book.specs.declared.note.ActiveCommand.{ActiveCommand};
+ghost use Rattle.dsa_admin.specs.Admin.{is_noted, state};
+
+use crate::withdrawal::withdraw;
+use dsa_book::{BatchNote, Book, IssueAnswer};
+use dsa_engines::Engines;
+use dsa_queues::Queues;
+use dsa_regs::{Command, Phase, QueueMask};
+use dsa_store::{Entry, EntryStore, ListId};
+
+fn is_noted(queues: &Queues, note: &BatchNote, entry: &Entry) -> bool
+    ensures { result ≡ is_noted queues.now note.now entry.now }
+{
+    queues.is_batch(entry) && entry.name == note.batch
+}
+
+// Whether the note's batch is in the list.
+fn has_batch<S: EntryStore>(queues: &Queues, store: &S, note: &BatchNote, list: ListId) -> bool
+    requires { list.0 < length (S.content store.now) }
+    ensures { result ≡ has_batch queues.now note.now (chain (S.content store.now) list.0) }
+{
+    let mut at = store.front(list);
+    for _place in 0..store.len(list) {
+        let Some(cell) = at else { unreachable!() };
+        let Some(entry) = store.get(cell) else {
+            unreachable!()
+        };
+        if is_noted(queues, note, &entry) {
+            return true;
+        }
+        at = store.next(cell);
+    }
+    false
+}
+
+// A note stays while its batch is in progress.
+fn keep_note<S: EntryStore>(queues: &Queues, engines: &mut Engines, store: &S, engine: u16)
+    requires ready { IsReady queues.now (S.content store.now) }
+    requires engine { engine < queues.now.caps.engines }
+    requires notes { length engines.old.notes ≡ queues.now.caps.engines }
+    ensures { engines.new ≡ record engines.old { notes = slice_set engines.old.notes engine (kept_note queues.now (chain (S.content store.now) (progress_list queues.now engine)) (get_or engines.old.notes engine None)) } }
+{
+    let Some(note) = engines.note(engine) else {
+        return;
+    };
+    let list = ListId(queues.caps().queues + engine);
+    if has_batch(queues, store, &note, list) {
+        return;
+    }
+    engines.drop_note(engine);
+}
+
+// The notes of batches that are no longer in progress go.
+fn keep_notes<S: EntryStore>(queues: &Queues, engines: &mut Engines, store: &S)
+    requires ready { IsReady queues.now (S.content store.now) }
+    requires notes { length engines.old.notes ≡ queues.now.caps.engines }
+    ensures { engines.new ≡ record engines.old { notes = map (λ e. kept_note queues.now (chain (S.content store.now) (progress_list queues.now e)) (get_or engines.old.notes e None)) (numbers_below queues.now.caps.engines) } }
+{
+    for engine in 0..queues.caps().engines {
+        keep_note(queues, engines, store, engine);
+    }
+}
+
+/// Ends what the command is about, list by list and the front first, and gives the number of entries that it ended.
+/// Writes a row for each, gives back the read buffers of those that ran, and drops the notes of batches that are gone.
+pub(crate) fn abort<S: EntryStore>(
+    queues: &Queues,
+    engines: &mut Engines,
+    store: &mut S,
+    book: &mut Book,
+    command: &Command,
+) -> u32
+    requires ready { IsReady queues.now (S.content store.old) }
+    requires in_step { IsInStep queues.now engines.old (S.content store.old) }
+    requires room { length book.old.fates + held (S.content store.old) ≤ book.old.capacity }
+    ensures work { aborted command.now (work queues.now engines.old (S.content store.old) book.old.fates) ≡ work queues.now engines.new (S.content store.new) book.new.fates }
+    ensures count { result ≡ count_in_scope command.now (S.content store.old) }
+    ensures book { book.new ≡ record book.old { fates = book.new.fates } }
+    ensures in_step { IsInStep queues.now engines.new (S.content store.new) }
+    ensures cells { S.cells store.new ≡ S.cells store.old }
+{
+    let free = store.free();
+    withdraw(queues, engines, store, book, command);
+    keep_notes(queues, engines, store);
+    store.free() - free
+}
+
+/// Aborts what the command is about, and changes nothing else.
+pub(crate) fn abort_alone<S: EntryStore>(
+    queues: &Queues,
+    engines: &mut Engines,
+    store: &mut S,
+    book: &mut Book,
+    command: &Command,
+) -> IssueAnswer
+    requires ready { IsReady queues.now (S.content store.old) }
+    requires in_step { IsInStep queues.now engines.old (S.content store.old) }
+    requires room { length book.old.fates + held (S.content store.old) ≤ book.old.capacity }
+    ensures aborted { (active : Option ActiveCommand) → aborts (state queues.now engines.old (S.content store.old) book.old.fates active) command.now (λ setup. setup)
+        ≡ (result, state queues.now engines.new (S.content store.new) book.new.fates active) }
+    ensures book { book.new ≡ record book.old { fates = book.new.fates } }
+    ensures in_step { IsInStep queues.now engines.new (S.content store.new) }
+    ensures cells { S.cells store.new ≡ S.cells store.old }
+{
+    let aborted = abort(queues, engines, store, book, command);
+    IssueAnswer::Ended { aborted }
+}
+
+/// Reset Device: everything is aborted, and the device is as it was at first, but for the next name.
+pub(crate) fn reset_device<S: EntryStore>(
+    queues: &mut Queues,
+    engines: &mut Engines,
+    store: &mut S,
+    book: &mut Book,
+) -> IssueAnswer
+    requires ready { IsReady queues.old (S.content store.old) }
+    requires in_step { IsInStep queues.old engines.old (S.content store.old) }
+    requires room { length book.old.fates + held (S.content store.old) ≤ book.old.capacity }
+    ensures reset { (active : Option ActiveCommand) → aborts (state queues.old engines.old (S.content store.old) book.old.fates active) ResetDevice reset
+        ≡ (result, state queues.new engines.new (S.content store.new) book.new.fates active) }
+    ensures book { book.new ≡ record book.old { fates = book.new.fates } }
+    ensures in_step { IsInStep queues.new engines.new (S.content store.new) }
+    ensures cells { S.cells store.new ≡ S.cells store.old }
+{
+    let aborted = abort(queues, engines, store, book, &Command::ResetDevice);
+    queues.reset();
+    IssueAnswer::Ended { aborted }
+}
+
+/// Reset WQ: what the named queues' entries are is aborted, the queues are `Off`, and keep of their configuration the size.
+pub(crate) fn reset_queues<S: EntryStore>(
+    queues: &mut Queues,
+    engines: &mut Engines,
+    store: &mut S,
+    book: &mut Book,
+    named: QueueMask,
+) -> IssueAnswer
+    requires whole { IsWhole queues.old }
+    requires ready { IsReady queues.old (S.content store.old) }
+    requires in_step { IsInStep queues.old engines.old (S.content store.old) }
+    requires room { length book.old.fates + held (S.content store.old) ≤ book.old.capacity }
+    ensures reset { (active : Option ActiveCommand) → carried_out (state queues.old engines.old (S.content store.old) book.old.fates active) (ResetWq named)
+        ≡ (result, state queues.new engines.new (S.content store.new) book.new.fates active) }
+    ensures book { book.new ≡ record book.old { fates = book.new.fates } }
+    ensures in_step { IsInStep queues.new engines.new (S.content store.new) }
+    ensures cells { S.cells store.new ≡ S.cells store.old }
+{
+    let aborted = abort(queues, engines, store, book, &Command::ResetWq(named));
+    queues.set_phases(&named, Phase::Off);
+    queues.keep_sizes(&named);
+    IssueAnswer::Ended { aborted }
+}

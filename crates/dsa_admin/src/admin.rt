@@ -1,0 +1,219 @@
+//! The active command, and what is issued and polled.
+
+ghost use Rattle.std.specs.Prelude.{◌≡◌, ◌+◌, ◌≤◌, IsTrue, List, None, Option, length, true};
+ghost use Rattle.dsa_store.specs.Content.{Content, held};
+ghost use Rattle.dsa_book.specs.declared.fate.FateRow.{FateRow};
+ghost use Rattle.dsa_book.specs.declared.note.ActiveCommand.{ActiveCommand};
+ghost use Rattle.dsa_regs.specs.Caps.{check_caps};
+ghost use Rattle.dsa_regs.specs.declared.Command.TheVariants.{EnableDevice, EnableWq};
+ghost use Rattle.dsa_book.specs.State.{State};
+ghost use Rattle.dsa_book.specs.Commands.{issue, poll, refused_or, carried_out, waits, stopped, may_come};
+ghost use Rattle.dsa_engines.specs.Engines.{Gear, IsInStep, IsReady};
+ghost use Rattle.dsa_admin.specs.Admin.{IsUnrefused, state};
+
+use crate::abort::{abort_alone, reset_device, reset_queues};
+use crate::ends::is_at_end;
+use crate::refusals::{check, is_bad_queues, may_come};
+use dsa_book::{ActiveCommand, Book, IssueAnswer, PollAnswer};
+use dsa_engines::Engines;
+use dsa_queues::Queues;
+use dsa_regs::{Command, Fault, Phase};
+use dsa_store::EntryStore;
+use std::marker::Model;
+
+/// The command that is not over yet, if there is one, with the name that was the next one when it was issued.
+#[derive(Drop)]
+pub struct Admin {
+    active: Option<ActiveCommand>,
+}
+
+impl Model for Admin {
+    ghost use Rattle.std.specs.Prelude.{Option};
+    ghost use Rattle.dsa_book.specs.declared.note.ActiveCommand.{ActiveCommand};
+
+    ghost Value = { Option ActiveCommand };
+
+    ghost view = { λ a. a.active };
+}
+
+// The device with its queues, or the named queues, come to this phase; other commands stop nothing.
+fn stop(queues: &mut Queues, command: &Command, phase: Phase)
+    ensures { queues.new ≡ stopped command.now phase queues.old }
+{
+    match command {
+        Command::DisableDevice => {
+            queues.set_live_phases(phase);
+            queues.set_device(phase);
+        }
+        Command::DisableWq(named) => queues.set_phases(named, phase),
+        _ => {}
+    }
+}
+
+fn enable_device(queues: &mut Queues, engines: &mut Engines) -> IssueAnswer
+    requires unrefused { IsUnrefused queues.old EnableDevice }
+    requires caps { IsTrue (check_caps queues.old.caps) }
+    requires notes { length engines.old.notes ≡ queues.old.caps.engines }
+    ensures enabled { (content : Content) (fates : List FateRow) (active : Option ActiveCommand) → carried_out (state queues.old engines.old content fates active) EnableDevice
+        ≡ (result, state queues.new engines.new content fates active) }
+    ensures in_step { (content : Content) → held content ≡ 0 → IsInStep queues.new engines.new content }
+{
+    queues.set_device(Phase::On);
+    engines.enable(queues);
+    IssueAnswer::Ended { aborted: 0 }
+}
+
+fn enable_queue(queues: &mut Queues, queue: u32) -> IssueAnswer
+    requires unrefused { IsUnrefused queues.old (EnableWq queue) }
+    ensures enabled { (gear : Gear) (content : Content) (fates : List FateRow) (active : Option ActiveCommand) → carried_out (state queues.old gear content fates active) (EnableWq queue)
+        ≡ (result, state queues.new gear content fates active) }
+    ensures in_step { (gear : Gear) (content : Content) → IsInStep queues.old gear content → IsInStep queues.new gear content }
+{
+    queues.set_phase(queue as u16, Phase::On);
+    IssueAnswer::Ended { aborted: 0 }
+}
+
+impl Admin {
+    /// No command is active.
+    pub fn new() -> Admin
+        ensures { result ≡ None }
+    {
+        Admin { active: None }
+    }
+
+    /// The command that is not over yet.
+    #[inline(always)]
+    pub fn active(&self) -> Option<ActiveCommand>
+        ensures { result ≡ self.now }
+    {
+        self.active
+    }
+
+    // The first refusal that stands.
+    fn refusal(&self, queues: &Queues, command: &Command) -> Option<Fault>
+        ensures refused { (s : State) → s.active ≡ self.now → s.work.setup ≡ queues.now → issue s command.now ≡ refused_or s result (carried_out s command.now) }
+        ensures unrefused { result ≡ None → IsUnrefused queues.now command.now }
+    {
+        if self.active.is_some() {
+            return Some(Fault::Busy);
+        }
+        if is_bad_queues(queues, command) {
+            return Some(Fault::BadQueue);
+        }
+        if !may_come(queues, command) {
+            return Some(Fault::WrongState);
+        }
+        check(queues, command)
+    }
+
+    // The command ends at once where nothing is to be waited for, else it is active from here on.
+    fn wait<S: EntryStore>(
+        &mut self,
+        queues: &mut Queues,
+        store: &S,
+        command: Command,
+    ) -> IssueAnswer
+        ensures waiting { (gear : Gear) (fates : List FateRow) → waits (state queues.old gear (S.content store.now) fates self.old) command
+            ≡ (result, state queues.new gear (S.content store.now) fates self.new) }
+        ensures in_step { (gear : Gear) → may_come queues.old command ≡ true → IsInStep queues.old gear (S.content store.now) → IsInStep queues.new gear (S.content store.now) }
+    {
+        let active = ActiveCommand {
+            command,
+            mark: queues.next_name(),
+        };
+        if is_at_end(store, &active) {
+            stop(queues, &command, Phase::Off);
+            return IssueAnswer::Ended { aborted: 0 };
+        }
+        stop(queues, &command, Phase::Stopping);
+        self.active = Some(active);
+        IssueAnswer::Active
+    }
+
+    // Does what the command does, where nothing refuses it.
+    fn carry_out<S: EntryStore>(
+        &mut self,
+        queues: &mut Queues,
+        engines: &mut Engines,
+        store: &mut S,
+        book: &mut Book,
+        command: Command,
+    ) -> IssueAnswer
+        requires unrefused { IsUnrefused queues.old command }
+        requires ready { IsReady queues.old (S.content store.old) }
+        requires in_step { IsInStep queues.old engines.old (S.content store.old) }
+        requires room { length book.old.fates + held (S.content store.old) ≤ book.old.capacity }
+        ensures carried { carried_out (state queues.old engines.old (S.content store.old) book.old.fates self.old) command
+            ≡ (result, state queues.new engines.new (S.content store.new) book.new.fates self.new) }
+        ensures book { book.new ≡ record book.old { fates = book.new.fates } }
+        ensures in_step { IsInStep queues.new engines.new (S.content store.new) }
+        ensures cells { S.cells store.new ≡ S.cells store.old }
+    {
+        match command {
+            Command::EnableDevice => enable_device(queues, engines),
+            Command::EnableWq(queue) => enable_queue(queues, queue),
+            Command::DisableDevice
+            | Command::DisableWq(_)
+            | Command::DrainAll
+            | Command::DrainWq(_)
+            | Command::DrainPasid(_) => self.wait(queues, store, command),
+            Command::AbortAll | Command::AbortWq(_) | Command::AbortPasid(_) => {
+                abort_alone(queues, engines, store, book, &command)
+            }
+            Command::ResetDevice => reset_device(queues, engines, store, book),
+            Command::ResetWq(named) => reset_queues(queues, engines, store, book, named),
+        }
+    }
+
+    /// Issues a command (Intel DSA, administrative commands).
+    ///
+    /// The first refusal that stands answers it, and then nothing changes: `Busy` while another command is active, `BadQueue`
+    /// where it names no queue or one that the device does not have, `WrongState` where the device or the queues do not
+    /// stand as it needs, then the fault of the check of Enable Device or Enable WQ. The order is this model's own.
+    ///
+    /// Enables, aborts and resets are over at once, and so is a drain or a disable that nothing is held for; `Ended` gives
+    /// the number of aborted entries, each of which has a new row in the book. Else the drain or the disable is active until
+    /// [`Admin::poll`] finds it over. Walks the lists, but for an enable.
+    ///
+    /// The book needs room for a row of each entry that is held.
+    pub fn issue<S: EntryStore>(
+        &mut self,
+        queues: &mut Queues,
+        engines: &mut Engines,
+        store: &mut S,
+        book: &mut Book,
+        command: Command,
+    ) -> IssueAnswer
+        requires ready { IsReady queues.old (S.content store.old) }
+        requires in_step { IsInStep queues.old engines.old (S.content store.old) }
+        requires room { length book.old.fates + held (S.content store.old) ≤ book.old.capacity }
+        ensures issued { issue (state queues.old engines.old (S.content store.old) book.old.fates self.old) command
+            ≡ (result, state queues.new engines.new (S.content store.new) book.new.fates self.new) }
+        ensures book { book.new ≡ record book.old { fates = book.new.fates } }
+        ensures in_step { IsInStep queues.new engines.new (S.content store.new) }
+        ensures cells { S.cells store.new ≡ S.cells store.old }
+    {
+        if let Some(fault) = self.refusal(queues, &command) {
+            return IssueAnswer::Refused(fault);
+        }
+        self.carry_out(queues, engines, store, book, command)
+    }
+
+    /// Asks after the active command. It is over, and no more active, when nothing is held that it waits for: a drain waits
+    /// for the entries of its scope that were submitted before it, a disable for all of its scope. Walks the lists.
+    pub fn poll<S: EntryStore>(&mut self, queues: &mut Queues, store: &S) -> PollAnswer
+        ensures polled { (gear : Gear) (fates : List FateRow) → poll (state queues.old gear (S.content store.now) fates self.old)
+            ≡ (result, state queues.new gear (S.content store.now) fates self.new) }
+        ensures in_step { (gear : Gear) → IsInStep queues.old gear (S.content store.now) → IsInStep queues.new gear (S.content store.now) }
+    {
+        let Some(active) = self.active else {
+            return PollAnswer::Nothing;
+        };
+        if !is_at_end(store, &active) {
+            return PollAnswer::Active;
+        }
+        stop(queues, &active.command, Phase::Off);
+        self.active = None;
+        PollAnswer::Finished
+    }
+}

@@ -1,0 +1,11 @@
+//! Commands of the administrator: what they refuse, whom they are about, drains and aborts.
+#![tactic(auto)]
+
+mod abort;
+mod admin;
+mod ends;
+mod refusals;
+mod scope;
+mod withdrawal;
+
+pub use admin::Admin;

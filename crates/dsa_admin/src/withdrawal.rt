@@ -1,0 +1,112 @@
+//! What an abort takes out of the lists.
+
+ghost use Rattle.std.specs.Prelude.{◌≡◌, ◌+◌, ◌<◌, ◌≤◌, ◌++◌, filter, length, not, slice_set};
+ghost use Rattle.dsa_regs.specs.Caps.{list_count};
+ghost use Rattle.dsa_store.specs.Content.{all_held, chain, held, kept};
+ghost use Rattle.dsa_book.specs.declared.fate.Fate.TheVariants.{Aborted};
+ghost use Rattle.dsa_book.specs.Commands.{is_in_scope};
+ghost use Rattle.dsa_engines.specs.Engines.{IsInStep, IsReady};
+ghost use Rattle.dsa_admin.specs.Admin.{is_spared, row_of, rows_of};
+ghost use Rattle.dsa_admin.specs.Leaving.{IsListOf, MayRelease, released};
+
+use crate::scope::is_in_scope;
+use dsa_book::{Book, Fate, FateRow};
+use dsa_engines::Engines;
+use dsa_queues::Queues;
+use dsa_regs::Command;
+use dsa_store::{Entry, EntryStore, ListId};
+
+// The row of an entry that the command takes out.
+fn row_of(command: &Command, entry: &Entry) -> FateRow
+    ensures { result ≡ row_of command.now entry.now }
+{
+    FateRow {
+        name: entry.name,
+        parent: entry.parent,
+        fate: Fate::Aborted(command.number()),
+    }
+}
+
+// The engine whose list it is; none where it is a queue's.
+fn engine_of(queues: &Queues, list: ListId) -> Option<u16>
+    requires { list.0 < list_count queues.now.caps }
+    ensures { IsListOf queues.now result list.0 }
+{
+    let caps = queues.caps();
+    if list.0 < caps.queues {
+        return None;
+    }
+    let place = list.0 - caps.queues;
+    if place < caps.engines {
+        return Some(place);
+    }
+    Some(place - caps.engines)
+}
+
+// The engine gives up what the entry held; a queue's entry held nothing.
+fn release(queues: &Queues, engines: &mut Engines, engine: Option<u16>, entry: &Entry)
+    requires { MayRelease queues.now engines.old engine entry.now }
+    ensures { engines.new ≡ record engines.old { buffers = released queues.now engines.old engine entry.now } }
+{
+    if let Some(engine) = engine {
+        engines.removed(queues, engine, entry);
+    }
+}
+
+// Takes out of the list what the command is about, the front first, and writes a row for each. The rest keeps its order.
+fn withdraw_from<S: EntryStore>(
+    queues: &Queues,
+    engines: &mut Engines,
+    store: &mut S,
+    book: &mut Book,
+    command: &Command,
+    list: ListId,
+)
+    requires list { list.0 < length (S.content store.old) }
+    requires ready { IsReady queues.now (S.content store.old) }
+    requires in_step { IsInStep queues.now engines.old (S.content store.old) }
+    requires room { length book.old.fates + held (S.content store.old) ≤ book.old.capacity }
+    ensures left { S.content store.new ≡ slice_set (S.content store.old) list.0 (filter (is_spared command.now) (chain (S.content store.old) list.0)) }
+    ensures rows { book.new ≡ record book.old { fates = book.old.fates ++ rows_of command.now (chain (S.content store.old) list.0) } }
+    ensures gear { engines.new ≡ record engines.old { buffers = engines.new.buffers } }
+    ensures in_step { IsInStep queues.now engines.new (S.content store.new) }
+    ensures cells { S.cells store.new ≡ S.cells store.old }
+{
+    let engine = engine_of(queues, list);
+    let mut at = store.front(list);
+    for _place in 0..store.len(list) {
+        let Some(cell) = at else { unreachable!() };
+        let Some(entry) = store.get(cell) else {
+            unreachable!()
+        };
+        at = store.next(cell);
+        if !is_in_scope(command, &entry) {
+            continue;
+        }
+        let _ = store.unlink(cell);
+        book.add_row(row_of(command, &entry));
+        release(queues, engines, engine, &entry);
+    }
+}
+
+/// Takes out what the command is about, list by list and the front first, and writes a row for each.
+pub(crate) fn withdraw<S: EntryStore>(
+    queues: &Queues,
+    engines: &mut Engines,
+    store: &mut S,
+    book: &mut Book,
+    command: &Command,
+)
+    requires ready { IsReady queues.now (S.content store.old) }
+    requires in_step { IsInStep queues.now engines.old (S.content store.old) }
+    requires room { length book.old.fates + held (S.content store.old) ≤ book.old.capacity }
+    ensures left { S.content store.new ≡ kept (λ entry. not (is_in_scope command.now entry)) (S.content store.old) }
+    ensures rows { book.new ≡ record book.old { fates = book.old.fates ++ rows_of command.now (all_held (S.content store.old)) } }
+    ensures gear { engines.new ≡ record engines.old { buffers = engines.new.buffers } }
+    ensures in_step { IsInStep queues.now engines.new (S.content store.new) }
+    ensures cells { S.cells store.new ≡ S.cells store.old }
+{
+    for list in 0..store.lists() {
+        withdraw_from(queues, engines, store, book, command, ListId(list));
+    }
+}

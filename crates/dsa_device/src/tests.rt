@@ -1,0 +1,192 @@
+//! Each call of a device over a store of vectors: one shared queue, one group and one engine.
+
+use crate::{Device, MakeFault};
+use dsa_book::{
+    Cause, ClearAnswer, DispatchAnswer, FetchAnswer, FinishAnswer, Kind, NotedError, Portal,
+    StartAnswer, SubmitAnswer, Ticket, WriteAnswer,
+};
+use dsa_desc::{Descriptor, Outcome};
+use dsa_regs::{Caps, Fault, GroupConfig, QueueConfig};
+use dsa_store::{Cell, Entry, EntryStore, ListId, PlainStore};
+use std::test::Fail;
+
+const CAPS: Caps = Caps {
+    queues: 1,
+    groups: 1,
+    engines: 1,
+    total_size: 4,
+    read_buffers: 16,
+    slots: 2,
+    max_batch_shift: 3,
+    max_xfer_shift: 20,
+};
+
+// The lists and cells that these capabilities ask of a store.
+const LISTS: u16 = 3;
+
+const CELLS: u32 = 14;
+
+const QUEUE: QueueConfig = QueueConfig {
+    size: 4,
+    threshold: 2,
+    dedicated: false,
+    priority: 1,
+    pasid: 0,
+    max_batch_shift: 3,
+    max_xfer_shift: 20,
+};
+
+const GROUP: GroupConfig = GroupConfig {
+    queues: 1,
+    engines: 1,
+    reserved: 4,
+    allowed: 8,
+};
+
+const ENQCMD: Kind = Kind::Enqcmd { pasid: 5 };
+
+const NO_OP: Descriptor = Descriptor {
+    pasid: 0,
+    flags: 0,
+    op: 0,
+    size: 0,
+};
+
+const TICKET: Ticket = Ticket {
+    cell: Cell(0),
+    name: 0,
+};
+
+fn device(rt: &HostRuntime, capacity: u64) -> Result<Device<PlainStore>, Fail> {
+    let store = PlainStore::new(rt.alloc(), LISTS, CELLS)?;
+    match Device::new(rt.alloc(), store, CAPS, capacity) {
+        Ok(device) => Ok(device),
+        Err(_) => Err("the device was not made")?,
+    }
+}
+
+// The fault that comes over a store with so many lists and cells, and the store as it came back.
+fn refused(
+    rt: &HostRuntime,
+    caps: Caps,
+    capacity: u64,
+    store: PlainStore,
+) -> Result<(MakeFault, PlainStore), Fail> {
+    match Device::new(rt.alloc(), store, caps, capacity) {
+        Ok(_) => Err("the device was made")?,
+        Err(refused) => Ok(refused),
+    }
+}
+
+#[test]
+fn faults_in_their_order(rt: HostRuntime) -> Result<(), Fail> {
+    let none = Caps { queues: 0, ..CAPS };
+    let table = [
+        (none, 1_048_577, MakeFault::BadCaps),
+        (CAPS, 1_048_577, MakeFault::BadCapacity),
+        (CAPS, 1_048_576, MakeFault::BadStore),
+    ];
+    for (caps, capacity, fault) in table {
+        let store = PlainStore::new(rt.alloc(), LISTS, CELLS - 1)?;
+        let (found, back) = refused(&rt, caps, capacity, store)?;
+        assert_eq!(rt; found, fault);
+        assert_eq!(rt; back.cells(), CELLS - 1);
+        assert_eq!(rt; back.free(), CELLS - 1);
+    }
+    let store = PlainStore::new(rt.alloc(), LISTS + 1, CELLS)?;
+    let (found, back) = refused(&rt, CAPS, 8, store)?;
+    assert_eq!(rt; found, MakeFault::BadStore);
+    assert_eq!(rt; back.lists(), LISTS + 1);
+    Ok(())
+}
+
+#[test]
+fn store_with_an_entry_comes_back(rt: HostRuntime) -> Result<(), Fail> {
+    let entry = Entry {
+        name: 7,
+        parent: None,
+        desc: NO_OP,
+        queue: 0,
+        running: false,
+    };
+    let mut store = PlainStore::new(rt.alloc(), LISTS, CELLS)?;
+    assert_eq!(rt; store.lists(), LISTS);
+    let Some(cell) = store.push_back(ListId(0), entry) else {
+        return Err("no cell is free")?;
+    };
+    let (found, back) = refused(&rt, CAPS, 8, store)?;
+    assert_eq!(rt; found, MakeFault::BadStore);
+    assert_eq!(rt; back.get(cell), Some(entry));
+    assert_eq!(rt; back.free(), CELLS - 1);
+    Ok(())
+}
+
+#[test]
+fn new_device(rt: HostRuntime) -> Result<(), Fail> {
+    let device = device(&rt, 8)?;
+    device.state_is_replay();
+    assert_eq!(rt; device.caps(), CAPS);
+    assert_eq!(rt; device.capacity(), 8);
+    assert_eq!(rt; device.occupancy(0), Some(0));
+    assert_eq!(rt; device.occupancy(1), None);
+    assert_eq!(rt; device.noted(), None);
+    assert_eq!(rt; device.active(), None);
+    assert_eq!(rt; device.held(), 0);
+    assert_eq!(rt; device.next_name(), 0);
+    assert_eq!(rt; device.history().len(), 0);
+    assert_eq!(rt; device.fates().len(), 0);
+    assert_eq!(rt; device.fate(0), None);
+    Ok(())
+}
+
+#[test]
+fn steps_while_off(rt: HostRuntime) -> Result<(), Fail> {
+    let mut device = device(&rt, 8)?;
+    let bytes = [0u8; 64];
+    let retry = device.submit(0, 0, Portal::Limited, ENQCMD, &bytes);
+    assert_eq!(rt; retry, SubmitAnswer::Retry(Cause::NotEnabled));
+    let dropped = device.submit(1, 0, Portal::Unlimited, Kind::Movdir64b, &bytes);
+    assert_eq!(rt; dropped, SubmitAnswer::Dropped(Cause::NotEnabled));
+    let noted = NotedError {
+        queue: 0,
+        cause: Cause::NotEnabled,
+        overflow: false,
+    };
+    assert_eq!(rt; device.noted(), Some(noted));
+    assert_eq!(rt; device.clear_error(), ClearAnswer::Cleared(noted));
+    assert_eq!(rt; device.clear_error(), ClearAnswer::Nothing);
+    assert_eq!(rt; device.write_queue(0, QUEUE), WriteAnswer::Written);
+    let missing = WriteAnswer::Refused(Fault::BadIndex);
+    assert_eq!(rt; device.write_queue(1, QUEUE), missing);
+    assert_eq!(rt; device.write_group(0, GROUP), WriteAnswer::Written);
+    assert_eq!(rt; device.write_group(1, GROUP), missing);
+    assert_eq!(rt; device.dispatch(0), DispatchAnswer::Idle);
+    assert_eq!(rt; device.fetch(0, NO_OP), FetchAnswer::NoBatch);
+    assert_eq!(rt; device.start(0), StartAnswer::Nothing);
+    assert_eq!(rt;
+        device.finish(0, TICKET, Outcome::Success),
+        FinishAnswer::Gone
+    );
+    assert_eq!(rt; device.history().len(), 5);
+    Ok(())
+}
+
+#[test]
+fn no_room_for_any_step(rt: HostRuntime) -> Result<(), Fail> {
+    let mut device = device(&rt, 0)?;
+    let bytes = [0u8; 64];
+    let full = device.submit(0, 0, Portal::Limited, ENQCMD, &bytes);
+    assert_eq!(rt; full, SubmitAnswer::Full);
+    assert_eq!(rt; device.dispatch(0), DispatchAnswer::Full);
+    assert_eq!(rt; device.fetch(0, NO_OP), FetchAnswer::Full);
+    assert_eq!(rt; device.start(0), StartAnswer::Full);
+    assert_eq!(rt;
+        device.finish(0, TICKET, Outcome::Success),
+        FinishAnswer::Full
+    );
+    assert_eq!(rt; device.write_queue(0, QUEUE), WriteAnswer::Full);
+    assert_eq!(rt; device.write_group(0, GROUP), WriteAnswer::Full);
+    assert_eq!(rt; device.clear_error(), ClearAnswer::Full);
+    assert_eq!(rt; device.history().len(), 0);
+    Ok(())
+}
