@@ -7,9 +7,6 @@ use Rattle.std.proofs.lemmas.List.Sums.{sum_by-cons, sum_by_push}
 use Rattle.dsa_desc.specs.declared.Descriptor.{Descriptor}
 use Rattle.dsa_desc.proofs.Tables.{first_row_or-each, table2, table3}
 use Rattle.dsa_regs.specs.declared.Caps.{Caps}
-use Rattle.dsa_regs.specs.declared.Command.{Command}
-use Rattle.dsa_regs.specs.declared.Command.TheVariants.{DisableDevice, DisableWq}
-use Rattle.dsa_regs.specs.declared.Phase.TheVariants.{Off}
 use Rattle.dsa_regs.specs.declared.QueueConfig.{QueueConfig}
 use Rattle.dsa_regs.specs.declared.GroupConfig.{GroupConfig}
 use Rattle.dsa_regs.specs.Numbers.{has, numbers_below}
@@ -25,19 +22,15 @@ use Rattle.dsa_book.specs.declared.answer.WriteAnswer.{WriteAnswer}
 use Rattle.dsa_book.specs.declared.event.Portal.{Portal}
 use Rattle.dsa_book.specs.declared.event.Kind.{Kind}
 use Rattle.dsa_book.specs.declared.event.Kind.TheVariants.{Enqcmd, Movdir64b}
-use Rattle.dsa_book.specs.declared.answer.PollAnswer.{PollAnswer}
-use Rattle.dsa_book.specs.declared.note.ActiveCommand.{ActiveCommand}
-use Rattle.dsa_book.specs.State.{Setup, Intake, Work, State, is_off, phase_at, has_queue}
+use Rattle.dsa_book.specs.State.{Setup, Intake, Work, is_off, phase_at, has_queue}
 use Rattle.dsa_book.specs.Submit.{submit, submit_table, turned_away, accepted}
 use Rattle.dsa_book.specs.Work.{used_on, used, all_used, group_in}
-use Rattle.dsa_book.specs.Commands.{stopped, is_at_end, poll, poll_of, write_queue, write_group, clear, clear_of}
+use Rattle.dsa_book.specs.Commands.{write_queue, write_group, clear, clear_of}
 use Rattle.dsa_laws.specs.WellFormed.{NoneOff}
 use Rattle.dsa_laws.proofs.Setups.{not-both}
 use Rattle.dsa_laws.specs.Lists.{In}
 use Rattle.dsa_laws.proofs.Needs.{weight, weight-waiting, weight-same, sum_on, used_on-sum}
 use Rattle.dsa_laws.proofs.Orders.{chain-set}
-use Rattle.dsa_laws.proofs.Shapes.{stopped-caps, stopped-groups, stopped-configs}
-use Rattle.dsa_device.proofs.Layers.{either}
 use Rattle.dsa_engines.specs.Engines.{Gear, IsInStep, lists_alone, buffers_of, homes_of}
 
 -- what an engine may see of two states is the same: the device's parts and groups, and what runs in each list
@@ -167,29 +160,3 @@ clear-in_step setup gear content i = go setup.noted
     go : (noted : Option NotedError) → IsInStep (clear_of setup noted).1 gear content
     go None = i
     go (Some noted) = in_step-alike setup (record setup { noted = None }) gear content content (record { caps = refl; groups = refl; on = λ n. n; lists = same-lists setup (record setup { noted = None }) content refl }) i
-
--- ---- the active command
-
--- a stop that is over
-over-on : (setup : Setup) (command : Command) → is_off (stopped command Off setup).device ≡ false → is_off setup.device ≡ false
-over-on setup DisableDevice n = absurd cc
-over-on setup (DisableWq queues) n = n
-over-on setup _ n = n
-
-over-alike : (setup : Setup) (command : Command) (content : Content) → IsAlikeFor setup (stopped command Off setup) content content
-over-alike setup command content = record {
-  caps = stopped-caps command Off setup;
-  groups = stopped-groups command Off setup;
-  on = over-on setup command;
-  lists = same-lists setup (stopped command Off setup) content (stopped-configs command Off setup);
-}
-
-pub poll-in_step : (s : State) (gear : Gear) → IsInStep s.work.setup gear s.work.content → IsInStep (poll s).1.work.setup gear (poll s).1.work.content
-poll-in_step s gear i = go s.active
-  where
-    go : (active : Option ActiveCommand) → IsInStep (poll_of s active).1.work.setup gear (poll_of s active).1.work.content
-    go None = i
-    go (Some active) =
-        either (λ (r : PollAnswer × State). IsInStep r.1.work.setup gear r.1.work.content) (is_at_end active s.work.content) _ _
-        (in_step-alike s.work.setup (stopped active.command Off s.work.setup) gear s.work.content s.work.content (over-alike s.work.setup active.command s.work.content) i)
-        i

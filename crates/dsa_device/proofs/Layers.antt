@@ -43,7 +43,7 @@ use Rattle.dsa_book.specs.Commands.{issue, issue_table, refused_or, check_of, ca
 use Rattle.dsa_book.specs.Machine.{next, intake_of, with_intake, with_setup, with_work, accepted_cell, fetched_cell, cell_or_first, may_use}
 
 -- what holds of both holds of the one that is tested
-pub either : {X : Type 0} (P : X → Type 0) (b : Bool) (x y : X) → P x → P y → P (cond b x y)
+either : {X : Type 0} (P : X → Type 0) (b : Bool) (x y : X) → P x → P y → P (cond b x y)
 either P true x y p q = p
 either P false x y p q = q
 

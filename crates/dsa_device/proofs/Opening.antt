@@ -1,11 +1,12 @@
 -- A device as it is made.
-use Rattle.std.proofs.Common.{◌≡◌, ℕ, ◌^◌, ◌≤◌, IsTrue, List, [], length, replicate, None, refl, sym, ap, ◌∙◌, subst, arith}
+use Rattle.std.proofs.Common.{◌≡◌, ℕ, ◌^◌, ◌≤◌, IsTrue, List, [], length, replicate, None, refl, sym, ap, ◌∙◌, subst, arith, Option}
 use Rattle.std.proofs.lemmas.Bool.{eqb-true, ltb-false, and_parts, not-false}
 use Rattle.dsa_desc.proofs.Tables.{no-row}
 use Rattle.dsa_regs.specs.declared.Caps.{Caps}
 use Rattle.dsa_regs.specs.Caps.{check_caps, cell_count, list_count}
 use Rattle.dsa_store.specs.Content.{Slot, Content, held}
 use Rattle.dsa_store.proofs.Lists.{contents-from_held_zero}
+use Rattle.dsa_book.specs.declared.note.ActiveCommand.{ActiveCommand}
 use Rattle.dsa_book.specs.Records.{Records}
 use Rattle.dsa_book.specs.State.{Setup, opening_setup}
 use Rattle.dsa_engines.specs.Engines.{Gear, IsInStep, gear_at_first}
@@ -36,10 +37,10 @@ clear-of caps capacity cells content h =
     }
 
 -- the parts of a new device
-pub made-opened : (caps : Caps) (capacity cells : ℕ) (setup : Setup) (gear : Gear) (content : Content) (book : Records)
-    → make_fault caps capacity cells content ≡ None → setup ≡ opening_setup caps → gear ≡ gear_at_first caps → book.history ≡ [] → book.fates ≡ [] → book.capacity ≡ capacity
-    → running caps setup gear content None book ≡ opened caps capacity
-made-opened caps capacity cells setup gear content book none s g h f k = rw (s, g, (clear-of caps capacity cells content none).content, h, f, k) refl
+pub made-opened : (caps : Caps) (capacity cells : ℕ) (setup : Setup) (gear : Gear) (content : Content) (active : Option ActiveCommand) (book : Records)
+    → make_fault caps capacity cells content ≡ None → active ≡ None → setup ≡ opening_setup caps → gear ≡ gear_at_first caps → book.history ≡ [] → book.fates ≡ [] → book.capacity ≡ capacity
+    → running caps setup gear content active book ≡ opened caps capacity
+made-opened caps capacity cells setup gear content active book none a s g h f k = rw (a, s, g, (clear-of caps capacity cells content none).content, h, f, k) refl
 
 opened-whole : (caps : Caps) (capacity cells : ℕ) (gear : Gear) → IsTrue (check_caps caps) → capacity ≤ 2 ^ 20 → cells ≡ cell_count caps → IsInStep (opening_setup caps) gear (opened caps capacity).state.work.content → IsWhole cells gear (opened caps capacity)
 opened-whole caps capacity cells gear check most same in_step = record {
@@ -48,10 +49,10 @@ opened-whole caps capacity cells gear check most same in_step = record {
   in_step = in_step;
 }
 
-pub made-whole : (caps : Caps) (capacity cells : ℕ) (setup : Setup) (gear : Gear) (content : Content) (book : Records)
-    → make_fault caps capacity cells content ≡ None → setup ≡ opening_setup caps → gear ≡ gear_at_first caps → book.history ≡ [] → book.fates ≡ [] → book.capacity ≡ capacity
-    → ((lists : Content) → IsInStep (opening_setup caps) gear lists) → IsWhole cells gear (running caps setup gear content None book)
-made-whole caps capacity cells setup gear content book none s g h f k in_step =
+pub made-whole : (caps : Caps) (capacity cells : ℕ) (setup : Setup) (gear : Gear) (content : Content) (active : Option ActiveCommand) (book : Records)
+    → make_fault caps capacity cells content ≡ None → active ≡ None → setup ≡ opening_setup caps → gear ≡ gear_at_first caps → book.history ≡ [] → book.fates ≡ [] → book.capacity ≡ capacity
+    → ((lists : Content) → IsInStep (opening_setup caps) gear lists) → IsWhole cells gear (running caps setup gear content active book)
+made-whole caps capacity cells setup gear content active book none a s g h f k in_step =
     let clear = clear-of caps capacity cells content none in
-    subst (λ (d : Running). IsWhole cells gear d) (sym (made-opened caps capacity cells setup gear content book none s g h f k))
+    subst (λ (d : Running). IsWhole cells gear d) (sym (made-opened caps capacity cells setup gear content active book none a s g h f k))
     (opened-whole caps capacity cells gear clear.caps clear.capacity clear.cells (in_step _))

@@ -9,16 +9,18 @@ ghost use Rattle.dsa_device.specs.Made.{is_store_of, make_fault, fault_or_memory
 ghost use Rattle.dsa_device.specs.Running.{opened, answered};
 
 mod reads;
+mod runs;
 
 use crate::MakeFault;
+use dsa_admin::Admin;
 use dsa_book::{
-    ActiveCommand, Book, ClearAnswer, DispatchAnswer, Event, FetchAnswer, FinishAnswer, Kind,
-    Portal, Reply, StartAnswer, SubmitAnswer, Ticket, WriteAnswer,
+    Book, ClearAnswer, DispatchAnswer, Event, FetchAnswer, FinishAnswer, IssueAnswer, Kind,
+    PollAnswer, Portal, Reply, StartAnswer, SubmitAnswer, Ticket, WriteAnswer,
 };
 use dsa_desc::{Descriptor, Outcome};
 use dsa_engines::Engines;
 use dsa_queues::Queues;
-use dsa_regs::{Caps, GroupConfig, QueueConfig, cell_count, check_caps, list_count};
+use dsa_regs::{Caps, Command, GroupConfig, QueueConfig, cell_count, check_caps, list_count};
 use dsa_store::EntryStore;
 use std::alloc::Global;
 use std::marker::Model;
@@ -37,7 +39,7 @@ pub struct Device<S: EntryStore> {
     store: S,
     queues: Queues,
     engines: Engines,
-    admin: Option<ActiveCommand>,
+    admin: Admin,
     book: Book,
 }
 
@@ -105,7 +107,7 @@ impl<S: EntryStore> Device<S> {
             store,
             queues: Queues::new(caps),
             engines: Engines::new(&caps),
-            admin: None,
+            admin: Admin::new(),
             book,
         })
     }
@@ -222,6 +224,39 @@ impl<S: EntryStore> Device<S> {
             outcome,
         };
         self.book.record(event, Reply::Finish(answer));
+        answer
+    }
+
+    /// The administrator issues a command.
+    #[inline(always)]
+    pub fn issue(&mut self, command: Command) -> IssueAnswer
+        ensures { answered self.old (event.Issue command) (reply.Issue result) ≡ Some self.new }
+    {
+        if self.book.is_full() {
+            return IssueAnswer::Full;
+        }
+        let answer = self.admin.issue(
+            &mut self.queues,
+            &mut self.engines,
+            &mut self.store,
+            &mut self.book,
+            command,
+        );
+        self.book
+            .record(Event::Issue { command }, Reply::Issue(answer));
+        answer
+    }
+
+    /// The administrator asks whether the active command is over.
+    #[inline(always)]
+    pub fn poll(&mut self) -> PollAnswer
+        ensures { answered self.old event.Poll (reply.Poll result) ≡ Some self.new }
+    {
+        if self.book.is_full() {
+            return PollAnswer::Full;
+        }
+        let answer = self.admin.poll(&mut self.queues, &self.store);
+        self.book.record(Event::Poll, Reply::Poll(answer));
         answer
     }
 

@@ -47,7 +47,7 @@ impl<S: EntryStore> Device<S> {
     pub fn active(&self) -> Option<Command>
         ensures { result ≡ option_map (λ active. active.command) self.now.state.active }
     {
-        self.admin.map(|active| active.command)
+        self.admin.active().map(|active| active.command)
     }
 
     /// The number of entries that the device holds, in all queues and engines.
