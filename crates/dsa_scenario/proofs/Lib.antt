@@ -1,4 +1,5 @@
 pub mod Bytes
+pub mod Fresh
 pub mod Hex
 pub mod Records
 pub mod StepObjects

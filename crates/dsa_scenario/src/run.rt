@@ -2,7 +2,6 @@
 
 ghost use Rattle.std.specs.Prelude.{◌≡◌, ◌++◌, [], ◌∷◌, map, Some, None, IfOk, OnOk, nat_eq, string_bytes};
 ghost use Rattle.std.specs.HashMap.{get};
-ghost use Rattle.dsa_device.specs.Running.{answered};
 ghost use Rattle.dsa_device.specs.Runs.{IsRunOf};
 ghost use Rattle.dsa_device.specs.Made.{make_fault};
 ghost use Rattle.dsa_scenario.specs.Run.{given_by, ticket_of, event_of, IsTable, AreOf, steps_of, AreLinesOf};
@@ -81,12 +80,6 @@ fn event_for(tickets: &HashMap<u32, Ticket>, action: Action) -> Result<Event, Fa
     }
 }
 
-fn step_of<S: EntryStore>(device: &mut Device<S>, event: Event) -> Reply
-    ensures { answered device.old event result ≡ Some device.new }
-{
-    Reply::Poll(dsa_book::PollAnswer::Nothing)
-}
-
 /// Asks the device for one action after the other, and keeps what each came to.
 ///
 /// A table by name finds the ticket of an entry that is to end, so a step takes the same time however many came before.
@@ -104,7 +97,7 @@ pub fn run_actions<S: EntryStore>(
     for action in actions {
         let entry = match event_for(&tickets, *action) {
             Ok(event) => {
-                let reply = step_of(device, event);
+                let reply = device.step(event);
                 Record::Stepped(Step { event, reply })
             }
             Err(fault) => Record::Refused(fault),
