@@ -13,6 +13,7 @@ mod lines;
 mod reading;
 mod run;
 mod scenario;
+mod words;
 mod writing;
 
 pub use actions::{Action, parse_action};
@@ -21,3 +22,4 @@ pub use faults::ScenarioFault;
 pub use lines::render;
 pub use run::{Record, run_actions, run_document};
 pub use scenario::{render_document, run_scenario};
+pub use words::{run_words, tell};
