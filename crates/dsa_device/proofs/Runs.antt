@@ -121,7 +121,7 @@ pub record LeadsTo (before : Running) (events : List Event) (old new : List Step
   pub events_are : map (λ x. x.event) steps ≡ events
   pub replies_are : answered_all before steps ≡ Some after
 
-answered_all-push : (d a t : Running) (xs : List Step) (x : Step) → answered_all d xs ≡ Some a → answered a x.event x.reply ≡ Some t → answered_all d (xs ++ x ∷ []) ≡ Some t
+pub answered_all-push : (d a t : Running) (xs : List Step) (x : Step) → answered_all d xs ≡ Some a → answered a x.event x.reply ≡ Some t → answered_all d (xs ++ x ∷ []) ≡ Some t
 answered_all-push d a t [] x h n = rw (same_Some d a h, n) refl
 answered_all-push d a t (y ∷ ys) x h n =
     option_and_then_some (λ m. answered_all m ys) (answered d y.event y.reply) a h

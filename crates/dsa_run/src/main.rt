@@ -1,0 +1,24 @@
+//! Reads a scenario document from standard input, and writes its lines to standard output.
+//!
+//! The exit status is 0 where all lines were written, 1 on a fault, whose line goes to standard error, and 2 where the words of
+//! the command line are not understood.
+#![tactic(auto)]
+
+use dsa_scenario::{ScenarioFault, run_words, tell};
+use std::alloc::Global;
+use std::env;
+use std::process::ExitCode;
+
+fn main(rt: HostRuntime) -> ExitCode {
+    let alloc: Global = rt.alloc();
+    let mut reader = rt.stdin();
+    let mut out = rt.stdout();
+    let mut err = rt.stderr();
+    let Ok(given) = env::args(&rt) else {
+        return ExitCode::from(tell(&mut err, ScenarioFault::OutOfMemory));
+    };
+    let Ok(words) = given.skip(1).collect::<Vec<String>>(alloc) else {
+        return ExitCode::from(tell(&mut err, ScenarioFault::OutOfMemory));
+    };
+    ExitCode::from(run_words(alloc, &words, &mut reader, &mut out, &mut err))
+}

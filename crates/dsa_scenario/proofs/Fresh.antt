@@ -1,0 +1,25 @@
+-- A new store is the store of a device.
+use Rattle.std.proofs.Common.{◌≡◌, ◌≤◌, ◌^◌, ℕ, ◌*◌, ◌==◌, true, false, List, [], length, replicate, None, refl, ap, ◌∙◌, arith, eq-eqb}
+use Rattle.std.proofs.lemmas.Bool.{le-ltb}
+use Rattle.std.proofs.lemmas.List.{length-replicate}
+use Rattle.std.proofs.lemmas.List.Folds.{sum_by-replicate}
+use Rattle.dsa_regs.specs.declared.Caps.{Caps}
+use Rattle.dsa_regs.specs.Caps.{check_caps, cell_count, list_count}
+use Rattle.dsa_store.specs.Content.{Slot, Content, held}
+use Rattle.dsa_device.specs.Made.{is_store_of, make_fault}
+
+held-replicate : (n : ℕ) → held (replicate n []) ≡ 0
+unfolding held
+held-replicate n = let e = sum_by-replicate {X = List Slot} length n [] in omega (arith, e)
+
+-- empty lists and cells in their numbers
+new-is_store_of : (caps : Caps) (cells : ℕ) (content : Content) → content ≡ replicate (list_count caps) [] → cells ≡ cell_count caps
+    → is_store_of caps cells content ≡ true
+new-is_store_of caps cells content lists same =
+    rw (lists, same, held-replicate (list_count caps), length-replicate {A = List Slot} (list_count caps) [], eq-eqb (list_count caps) (list_count caps) refl, eq-eqb (cell_count caps) (cell_count caps) refl) refl
+
+pub new-make_fault : (caps : Caps) (capacity lists count cells : ℕ) (content : Content) → check_caps caps ≡ true → capacity ≤ 2 ^ 20
+    → lists ≡ list_count caps → count ≡ cell_count caps → content ≡ replicate lists [] → cells ≡ count → make_fault caps capacity cells content ≡ None
+new-make_fault caps capacity lists count cells content good small are have empty same =
+    let listed : content ≡ replicate (list_count caps) [] = empty ∙ ap (λ (n : ℕ). replicate {A = List Slot} n []) are in
+    rw (good, le-ltb (2 ^ 20) capacity small, new-is_store_of caps cells content listed (same ∙ have)) refl

@@ -1,0 +1,32 @@
+-- The parts of a document, together.
+use Rattle.std.proofs.Common.{◌≡◌, ◌⊎◌, inl, inr, ℕ, List, [], ◌∷◌, Some, map, refl, sym, ap}
+use Rattle.serde_json.specs.Data.{Data, Items}
+use Rattle.serde_json.specs.View.{view, items_of, items_view}
+use Rattle.serde_json.specs.declared.value.Value.{Value}
+use Rattle.dsa_regs.specs.declared.Caps.{Caps}
+use Rattle.dsa_scenario.specs.declared.actions.Action.{Action}
+use Rattle.dsa_scenario.specs.declared.faults.ScenarioFault.{ScenarioFault}
+use Rattle.dsa_scenario.specs.declared.faults.ScenarioFault.TheVariants.{BadStep, OutOfMemory}
+use Rattle.dsa_scenario.specs.Actions.{action_of}
+use Rattle.dsa_scenario.specs.Document.{list_of, head_of, IsJson, HasHead, IsDocument, IsFirstBad, IsFaultOf}
+
+list_of-items_of : (ds : List Data) → list_of (items_of ds) ≡ ds
+list_of-items_of [] = refl
+list_of-items_of (d ∷ ds) = ap (λ l. d ∷ l) (list_of-items_of ds)
+
+has_head : (bytes : List ℕ) (v : Value) (caps : Caps) (capacity : ℕ) (steps : List Value) → IsJson bytes (view v)
+    → Some (caps, capacity, items_view steps) ≡ head_of (view v) → HasHead bytes caps capacity (map view steps)
+has_head bytes v caps capacity steps h e = record { document = view v; items = items_view steps; json = h; head = sym e; listed = list_of-items_of (map view steps) }
+
+pub is_document : (bytes : List ℕ) (v : Value) (caps : Caps) (capacity : ℕ) (steps : List Value) (actions : List Action)
+    → IsJson bytes (view v) → Some (caps, capacity, items_view steps) ≡ head_of (view v)
+    → map action_of (map view steps) ≡ map Some actions → IsDocument bytes caps capacity actions
+is_document bytes v caps capacity steps actions h e asked = record { steps = map view steps; head = has_head bytes v caps capacity steps h e; asked = asked }
+
+pub first_bad : (bytes : List ℕ) (v : Value) (caps : Caps) (capacity : ℕ) (steps : List Value) (e : ScenarioFault)
+    → IsJson bytes (view v) → Some (caps, capacity, items_view steps) ≡ head_of (view v)
+    → (e ≡ OutOfMemory) ⊎ IsFirstBad (map view steps) e → (e ≡ OutOfMemory) ⊎ IsFaultOf bytes e
+first_bad bytes v caps capacity steps e json head (inl h) = inl h
+first_bad bytes v caps capacity steps (BadStep i) json head (inr h) =
+    inr (record { caps = caps; capacity = capacity; steps = map view steps; head = has_head bytes v caps capacity steps json head; bad = h })
+first_bad bytes v caps capacity steps _ json head (inr h) = absurd h

@@ -1,0 +1,101 @@
+-- A document: its caps, its capacity and its steps, and which faults it has.
+use Rattle.std.specs.Prelude.{◌≡◌, ◌<◌, ℕ, ◌^◌, true, false, List, [], ◌∷◌, map, take, slice_get, codes, Option, Some, None, option_map, option_and_then, IsUtf8}
+use Rattle.serde_json.specs.Data.{Data, Items, no_items, item}
+use Rattle.serde_json.specs.Find.{get, as_array}
+use Rattle.serde_json.specs.Read.{read}
+use Rattle.dsa_regs.specs.declared.Caps.{Caps}
+use Rattle.dsa_regs.specs.Caps.{check_caps}
+use Rattle.dsa_scenario.specs.declared.actions.Action.{Action}
+use Rattle.dsa_scenario.specs.declared.faults.ScenarioFault.{ScenarioFault}
+use Rattle.dsa_scenario.specs.declared.faults.ScenarioFault.TheVariants.{NotJson, BadDocument, BadStep, BadCaps, BadCapacity}
+use Rattle.dsa_scenario.specs.Fields.{◌>>=◌, whole_of}
+use Rattle.dsa_scenario.specs.Actions.{caps_of, action_of}
+
+-- the caps, the capacity and the step objects of a document (profile)
+abbrev pub head_of : Data → Option (Caps × ℕ × Items)
+head_of d = do
+  caps ← option_and_then caps_of (get (codes "caps") d)
+  capacity ← whole_of (2 ^ 64) (codes "capacity") d
+  steps ← option_and_then as_array (get (codes "steps") d)
+  Some (caps, capacity, steps)
+
+-- the items of a JSON array, as a list
+abbrev pub list_of : Items → List Data
+list_of no_items = []
+list_of (item d ds) = d ∷ list_of ds
+
+-- the bytes are this JSON value
+pub record IsJson (bytes : List ℕ) (document : Data) : Type 0 where
+  pub utf8 : IsUtf8 bytes
+  pub value : read bytes ≡ Some document
+
+-- the bytes are a JSON value with these caps, this capacity and these step objects (profile)
+pub record HasHead (bytes : List ℕ) (caps : Caps) (capacity : ℕ) (steps : List Data) : Type 0 where
+  pub document : Data
+  pub items : Items
+  pub json : IsJson bytes document
+  pub head : head_of document ≡ Some (caps, capacity, items)
+  pub listed : list_of items ≡ steps
+
+-- and its step objects ask these actions, one each in order (profile)
+pub record IsDocument (bytes : List ℕ) (caps : Caps) (capacity : ℕ) (actions : List Action) : Type 0 where
+  pub steps : List Data
+  pub head : HasHead bytes caps capacity steps
+  pub asked : map action_of steps ≡ map Some actions
+
+-- ---- faults, in their order
+
+-- the bytes are no JSON value
+abbrev pub IsNoJson : List ℕ → Type 0
+IsNoJson bytes = IsUtf8 bytes → read bytes ≡ None
+
+-- the bytes are a JSON value, but it has no such caps, capacity or steps (profile)
+pub record HasNoHead (bytes : List ℕ) : Type 0 where
+  pub document : Data
+  pub json : IsJson bytes document
+  pub none : head_of document ≡ None
+
+-- object i is no step object, and all before it are (profile)
+pub record IsBadAt (steps : List Data) (i : ℕ) : Type 0 where
+  pub done : List Action
+  pub before : map action_of (take i steps) ≡ map Some done
+  pub here : option_map action_of (slice_get steps i) ≡ Some None
+
+-- the fault says which object is the first that is no step object (profile)
+abbrev pub IsFirstBad : List Data → ScenarioFault → Type 0
+IsFirstBad steps (BadStep i) = IsBadAt steps i
+IsFirstBad steps _ = ⊥
+
+-- item i of the steps is the first that is no step object (profile)
+pub record HasBadStep (bytes : List ℕ) (i : ℕ) : Type 0 where
+  pub caps : Caps
+  pub capacity : ℕ
+  pub steps : List Data
+  pub head : HasHead bytes caps capacity steps
+  pub bad : IsBadAt steps i
+
+-- all is well but the caps, which no device has (profile)
+pub record HasBadCaps (bytes : List ℕ) : Type 0 where
+  pub caps : Caps
+  pub capacity : ℕ
+  pub actions : List Action
+  pub document : IsDocument bytes caps capacity actions
+  pub bad : check_caps caps ≡ false
+
+-- all is well but the capacity, which is above 2^20 (profile)
+pub record HasBadCapacity (bytes : List ℕ) : Type 0 where
+  pub caps : Caps
+  pub capacity : ℕ
+  pub actions : List Action
+  pub document : IsDocument bytes caps capacity actions
+  pub good : check_caps caps ≡ true
+  pub large : 2 ^ 20 < capacity
+
+-- the document has this fault, and none that comes before it (profile)
+abbrev pub IsFaultOf : List ℕ → ScenarioFault → Type 0
+IsFaultOf bytes NotJson = IsNoJson bytes
+IsFaultOf bytes BadDocument = HasNoHead bytes
+IsFaultOf bytes (BadStep i) = HasBadStep bytes i
+IsFaultOf bytes BadCaps = HasBadCaps bytes
+IsFaultOf bytes BadCapacity = HasBadCapacity bytes
+IsFaultOf bytes _ = ⊥

@@ -1,0 +1,6 @@
+pub mod Fields
+pub mod Actions
+pub mod Document
+pub mod Lines
+pub mod Run
+pub mod Scenario

@@ -1,0 +1,69 @@
+//! Fields of JSON objects.
+
+ghost use Rattle.std.specs.Prelude.{◌≡◌, ◌≤◌, ◌^◌, ◌%◌, ◌/◌, ◌++◌, true, false, drop, length, MatchResult};
+ghost use Rattle.serde_json.specs.View.{view};
+ghost use Rattle.hex.specs.Hex.{decode_pairs};
+ghost use Rattle.dsa_scenario.specs.Fields.{whole_of, truth_of, text_of, hex_bytes_of};
+
+use serde_json::Value;
+
+/// The number at the key, where it is whole and without sign.
+pub fn u64_field(object: &Value, key: &str) -> Option<u64>
+    ensures { result ≡ whole_of (2 ^ 64) key.now (view object.now) }
+{
+    object.get(key).and_then(Value::as_u64)
+}
+
+/// Such a number of 32 bits.
+pub fn u32_field(object: &Value, key: &str) -> Option<u32>
+    ensures { result ≡ whole_of (2 ^ 32) key.now (view object.now) }
+{
+    u32::try_from(u64_field(object, key)?).ok()
+}
+
+/// Such a number of 16 bits.
+pub fn u16_field(object: &Value, key: &str) -> Option<u16>
+    ensures { result ≡ whole_of (2 ^ 16) key.now (view object.now) }
+{
+    u16::try_from(u64_field(object, key)?).ok()
+}
+
+/// Such a number of 8 bits.
+pub fn u8_field(object: &Value, key: &str) -> Option<u8>
+    ensures { result ≡ whole_of (2 ^ 8) key.now (view object.now) }
+{
+    u8::try_from(u64_field(object, key)?).ok()
+}
+
+/// The truth value at the key.
+pub fn truth_field(object: &Value, key: &str) -> Option<bool>
+    ensures { result ≡ truth_of key.now (view object.now) }
+{
+    object.get(key)?.as_bool()
+}
+
+// Writes the bytes of a text of hexadecimal digits over the first of `bytes`, and says whether it is one.
+fn decode_front(text: &str, bytes: &mut [u8]) -> bool
+    requires even { length text.now % 2 ≡ 0 }
+    requires room { length text.now / 2 ≤ length bytes.old }
+    ensures { MatchResult (decode_pairs 0 text.now)
+        (λ front. (result ≡ true) × (bytes.new ≡ front ++ drop (length text.now / 2) bytes.old))
+        (λ _. result ≡ false) }
+{
+    hex::decode_to_slice(text, &mut bytes[..text.len() / 2]).is_ok()
+}
+
+/// The bytes of a text of hexadecimal digits, with zeros past its end.
+pub fn bytes_of_hex(text: &str) -> Option<[u8; 64]>
+    ensures { result ≡ hex_bytes_of text.now }
+{
+    if text.len() % 2 == 1 || text.len() > 128 {
+        return None;
+    }
+    let mut bytes = [0u8; 64];
+    if decode_front(text, &mut bytes) {
+        Some(bytes)
+    } else {
+        None
+    }
+}

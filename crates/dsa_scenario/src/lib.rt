@@ -1,0 +1,25 @@
+//! Scenario documents: a JSON text in, the lines of its run on a device out.
+//!
+//! A document has the capabilities of a device, the capacity of its history, and steps. [`run_scenario`] reads one, runs its
+//! steps on a new device, one after the other, and writes a line for each step and then one for each entry that ended.
+//! `docs/SCENARIO.md` describes documents and lines.
+#![tactic(auto)]
+
+mod actions;
+mod document;
+mod faults;
+mod fields;
+mod lines;
+mod reading;
+mod run;
+mod scenario;
+mod words;
+mod writing;
+
+pub use actions::{Action, parse_action};
+pub use document::{Document, check_document, parse_document};
+pub use faults::ScenarioFault;
+pub use lines::render;
+pub use run::{Record, run_actions, run_document};
+pub use scenario::{render_document, run_scenario};
+pub use words::{run_words, tell};

@@ -1,0 +1,214 @@
+//! Lines: one for each step object, and one for each entry that ended.
+
+ghost use Rattle.std.specs.Prelude.{◌≡◌, ◌++◌, OnOk, IfOk, string_bytes, flat_map};
+ghost use Rattle.dsa_scenario.specs.Lines.{cause_text, refusal_text, submit_text, dispatch_text, fetch_text, start_text, finish_text, issue_text, poll_text, write_text, noted_text, clear_text, reply_text, parent_text, fate_text, row_text, record_text, line_of, lines_of};
+
+use crate::run::Record;
+use dsa_book::{
+    Cause, ClearAnswer, DispatchAnswer, Fate, FateRow, FetchAnswer, FinishAnswer, IssueAnswer,
+    NotedError, PollAnswer, Reply, StartAnswer, SubmitAnswer, WriteAnswer,
+};
+use dsa_regs::Fault;
+use std::alloc::{AllocError, Global};
+use std::fmt::Write;
+
+fn cause_text(cause: Cause) -> &'static str
+    ensures { result.now ≡ cause_text cause }
+{
+    match cause {
+        Cause::AtLimit => "at-limit",
+        Cause::NotEnabled => "not-enabled",
+        Cause::WrongKind => "wrong-kind",
+    }
+}
+
+fn add_refusal(text: &mut String, fault: Fault) -> Result<(), AllocError>
+    ensures { OnOk result (string_bytes text.new ≡ string_bytes text.old ++ refusal_text fault) }
+{
+    write!(text, "refused {} {}", fault.number(), fault.name())
+}
+
+fn add_submit(text: &mut String, answer: SubmitAnswer) -> Result<(), AllocError>
+    ensures { OnOk result (string_bytes text.new ≡ string_bytes text.old ++ submit_text answer) }
+{
+    match answer {
+        SubmitAnswer::Accepted(ticket) => write!(text, "accepted {}", ticket.name),
+        SubmitAnswer::Retry(cause) => write!(text, "retry {}", cause_text(cause)),
+        SubmitAnswer::Dropped(cause) => write!(text, "dropped {}", cause_text(cause)),
+        SubmitAnswer::Full => text.push_str("full"),
+    }
+}
+
+fn add_dispatch(text: &mut String, answer: DispatchAnswer) -> Result<(), AllocError>
+    ensures { OnOk result (string_bytes text.new ≡ string_bytes text.old ++ dispatch_text answer) }
+{
+    match answer {
+        DispatchAnswer::Taken { ticket, queue } => write!(text, "taken {} from {queue}", ticket.name),
+        DispatchAnswer::Idle => text.push_str("idle"),
+        DispatchAnswer::Full => text.push_str("full"),
+    }
+}
+
+fn add_fetch(text: &mut String, answer: FetchAnswer) -> Result<(), AllocError>
+    ensures { OnOk result (string_bytes text.new ≡ string_bytes text.old ++ fetch_text answer) }
+{
+    match answer {
+        FetchAnswer::Fetched(ticket) => write!(text, "fetched {}", ticket.name),
+        FetchAnswer::NoBatch => text.push_str("no-batch"),
+        FetchAnswer::AllFetched => text.push_str("all-fetched"),
+        FetchAnswer::Full => text.push_str("full"),
+    }
+}
+
+fn add_start(text: &mut String, answer: StartAnswer) -> Result<(), AllocError>
+    ensures { OnOk result (string_bytes text.new ≡ string_bytes text.old ++ start_text answer) }
+{
+    match answer {
+        StartAnswer::Started(ticket) => write!(text, "started {}", ticket.name),
+        StartAnswer::FenceWait => text.push_str("fence-wait"),
+        StartAnswer::NoBuffers => text.push_str("no-buffers"),
+        StartAnswer::Abandoned(count) => write!(text, "abandoned {count}"),
+        StartAnswer::Nothing => text.push_str("nothing"),
+        StartAnswer::Full => text.push_str("full"),
+    }
+}
+
+#[tactic(auto, using(std::proofs::lemmas::Fmt::hex_byte))]
+fn add_finish(text: &mut String, answer: FinishAnswer) -> Result<(), AllocError>
+    ensures { OnOk result (string_bytes text.new ≡ string_bytes text.old ++ finish_text answer) }
+{
+    match answer {
+        FinishAnswer::Done(status) => write!(text, "done {status:02x}"),
+        FinishAnswer::NotReady => text.push_str("not-ready"),
+        FinishAnswer::Gone => text.push_str("gone"),
+        FinishAnswer::Full => text.push_str("full"),
+    }
+}
+
+fn add_issue(text: &mut String, answer: IssueAnswer) -> Result<(), AllocError>
+    ensures { OnOk result (string_bytes text.new ≡ string_bytes text.old ++ issue_text answer) }
+{
+    match answer {
+        IssueAnswer::Ended { aborted } => write!(text, "ended {aborted}"),
+        IssueAnswer::Active => text.push_str("active"),
+        IssueAnswer::Refused(fault) => add_refusal(text, fault),
+        IssueAnswer::Full => text.push_str("full"),
+    }
+}
+
+fn add_poll(text: &mut String, answer: PollAnswer) -> Result<(), AllocError>
+    ensures { OnOk result (string_bytes text.new ≡ string_bytes text.old ++ poll_text answer) }
+{
+    text.push_str(match answer {
+        PollAnswer::Finished => "finished",
+        PollAnswer::Active => "active",
+        PollAnswer::Nothing => "nothing",
+        PollAnswer::Full => "full",
+    })
+}
+
+fn add_write(text: &mut String, answer: WriteAnswer) -> Result<(), AllocError>
+    ensures { OnOk result (string_bytes text.new ≡ string_bytes text.old ++ write_text answer) }
+{
+    match answer {
+        WriteAnswer::Written => text.push_str("written"),
+        WriteAnswer::Refused(fault) => add_refusal(text, fault),
+        WriteAnswer::Full => text.push_str("full"),
+    }
+}
+
+fn add_noted(text: &mut String, noted: NotedError) -> Result<(), AllocError>
+    ensures { OnOk result (string_bytes text.new ≡ string_bytes text.old ++ noted_text noted) }
+{
+    let overflow = if noted.overflow { " overflow" } else { "" };
+    let cause = cause_text(noted.cause);
+    write!(text, "cleared {} {cause}{overflow}", noted.queue)
+}
+
+fn add_clear(text: &mut String, answer: ClearAnswer) -> Result<(), AllocError>
+    ensures { OnOk result (string_bytes text.new ≡ string_bytes text.old ++ clear_text answer) }
+{
+    match answer {
+        ClearAnswer::Cleared(noted) => add_noted(text, noted),
+        ClearAnswer::Nothing => text.push_str("nothing"),
+        ClearAnswer::Full => text.push_str("full"),
+    }
+}
+
+fn add_reply(text: &mut String, reply: Reply) -> Result<(), AllocError>
+    ensures { OnOk result (string_bytes text.new ≡ string_bytes text.old ++ reply_text reply) }
+{
+    match reply {
+        Reply::Submit(answer) => add_submit(text, answer),
+        Reply::Dispatch(answer) => add_dispatch(text, answer),
+        Reply::Fetch(answer) => add_fetch(text, answer),
+        Reply::Start(answer) => add_start(text, answer),
+        Reply::Finish(answer) => add_finish(text, answer),
+        Reply::Issue(answer) => add_issue(text, answer),
+        Reply::Poll(answer) => add_poll(text, answer),
+        Reply::Write(answer) => add_write(text, answer),
+        Reply::Clear(answer) => add_clear(text, answer),
+    }
+}
+
+fn add_record(text: &mut String, entry: &Record) -> Result<(), AllocError>
+    ensures { OnOk result (string_bytes text.new ≡ string_bytes text.old ++ line_of (record_text entry.now)) }
+{
+    match entry {
+        Record::Stepped(step) => add_reply(text, step.reply)?,
+        Record::Refused(fault) => add_refusal(text, *fault)?,
+    }
+    text.push_str("\n")
+}
+
+fn add_parent(text: &mut String, parent: Option<u32>) -> Result<(), AllocError>
+    ensures { OnOk result (string_bytes text.new ≡ string_bytes text.old ++ parent_text parent) }
+{
+    match parent {
+        Some(name) => write!(text, "{name}"),
+        None => text.push_str("-"),
+    }
+}
+
+#[tactic(auto, using(std::proofs::lemmas::Fmt::hex_byte))]
+fn add_fate(text: &mut String, fate: Fate) -> Result<(), AllocError>
+    ensures { OnOk result (string_bytes text.new ≡ string_bytes text.old ++ fate_text fate) }
+{
+    match fate {
+        Fate::Completed(status) => write!(text, "completed {status:02x}"),
+        Fate::Aborted(command) => write!(text, "aborted {command}"),
+        Fate::Abandoned => text.push_str("abandoned"),
+    }
+}
+
+fn add_row(text: &mut String, row: &FateRow) -> Result<(), AllocError>
+    ensures { OnOk result (string_bytes text.new ≡ string_bytes text.old ++ line_of (row_text row.now)) }
+{
+    write!(text, "fate {} ", row.name)?;
+    add_parent(text, row.parent)?;
+    text.push_str(" ")?;
+    add_fate(text, row.fate)?;
+    text.push_str("\n")
+}
+
+// The lines of all records.
+fn render_records(alloc: Global, records: &[Record]) -> Result<String, AllocError>
+    ensures { IfOk result (λ text. string_bytes text ≡ flat_map (λ entry. line_of (record_text entry)) records.now) }
+{
+    let mut text = String::new(alloc);
+    for entry in records {
+        add_record(&mut text, entry)?;
+    }
+    Ok(text)
+}
+
+/// The lines of a run: one for each record, and then one for each fate row.
+pub fn render(alloc: Global, records: &[Record], fates: &[FateRow]) -> Result<String, AllocError>
+    ensures { IfOk result (λ text. string_bytes text ≡ lines_of records.now fates.now) }
+{
+    let mut text = render_records(alloc, records)?;
+    for row in fates {
+        add_row(&mut text, row)?;
+    }
+    Ok(text)
+}
