@@ -22,18 +22,8 @@ const LIMITS: QueueLimits = QueueLimits {
 /// may leave them.
 fn bytes_of(head: [u8; 8], size: [u8; 4]) -> [u8; 64] {
     let mut bytes = [0x5a; 64];
-    bytes[0] = head[0];
-    bytes[1] = head[1];
-    bytes[2] = head[2];
-    bytes[3] = head[3];
-    bytes[4] = head[4];
-    bytes[5] = head[5];
-    bytes[6] = head[6];
-    bytes[7] = head[7];
-    bytes[32] = size[0];
-    bytes[33] = size[1];
-    bytes[34] = size[2];
-    bytes[35] = size[3];
+    bytes[..8].copy_from_slice(&head);
+    bytes[32..36].copy_from_slice(&size);
     bytes
 }
 
@@ -369,5 +359,7 @@ fn prints_one_line(rt: HostRuntime) -> Result<(), Fail> {
         let line = format!(in rt.alloc(); "{descriptor}")?;
         assert_eq!(rt; line.as_str(), want);
     }
+    let flags = format!(in rt.alloc(); "{}", DescriptorFlags::FENCE)?;
+    assert_eq!(rt; flags.as_str(), "0x000001");
     Ok(())
 }

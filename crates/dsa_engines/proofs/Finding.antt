@@ -224,13 +224,17 @@ inside setup content caps e i t entry b once h same is test got be =
 
 -- ---- what is known of an entry that is found
 
--- the entry runs in that cell, in one of the engine's lists
-pub record RunsAt (setup : Setup) (content : Content) (e : ℕ) (cell : Cell) (entry : Entry) : Type 0 where
-  pub engine : e < setup.caps.engines
+-- the entry stands in one of the engine's lists
+pub record StandsOn (setup : Setup) (content : Content) (e : ℕ) (cell : Cell) (entry : Entry) : Type 0 where
   pub list : ℕ
   pub mine : IsMine setup e list
   pub place : ℕ
   pub stands : StandsAt content list place cell entry
+
+-- and it runs
+pub record RunsAt (setup : Setup) (content : Content) (e : ℕ) (cell : Cell) (entry : Entry) : Type 0 where
+  pub engine : e < setup.caps.engines
+  pub on : StandsOn setup content e cell entry
   pub running : entry.running ≡ true
 
 when-some : (b : Bool) (s x : Slot) → when b s ≡ Some x → (b ≡ true) × (s ≡ x)
@@ -245,7 +249,7 @@ running-place setup content e t entry once is = on (cases_lt e setup.caps.engine
         let w = when-some (s.entry.running && s.entry.name == t.name) (t.cell, s.entry) (t.cell, entry) (sym (running-there setup content e s.list s.place t s.entry once h s.at mine) ∙ is) in
         let same : s.entry ≡ entry = ap (λ (x : Slot). x.1) w.1 in
         let parts = and_parts s.entry.running _ w.0 in
-        record { engine = h; list = s.list; mine = mine; place = s.place; stands = subst (λ (x : Entry). StandsAt content s.list s.place t.cell x) same s.at; running = sym (ap (λ (x : Entry). x.running) same) ∙ parts.0 }
+        record { engine = h; on = record { list = s.list; mine = mine; place = s.place; stands = subst (λ (x : Entry). StandsAt content s.list s.place t.cell x) same s.at }; running = sym (ap (λ (x : Entry). x.running) same) ∙ parts.0 }
 
     none : find (is_ticket t) (running_on (lists_alone setup content) e) ≡ None → ⊥
     none n = let both : ◌≡◌ {A = Option Slot} None (Some (t.cell, entry)) = sym n ∙ is in cc

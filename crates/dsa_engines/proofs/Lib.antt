@@ -2,4 +2,9 @@ pub mod Used
 pub mod Homes
 pub mod Dispatching
 pub mod Finding
+pub mod Leaving
 pub mod Ending
+pub mod Walking
+pub mod Members
+pub mod Batches
+pub mod Keeping

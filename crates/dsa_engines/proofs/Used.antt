@@ -46,6 +46,10 @@ load-cons setup s l = on s.1.running
     on true = sum_by-cons (λ held. need_of setup held.1) s (filter (λ held. held.1.running) l)
     on false = omega arith
 
+pub none-load : (setup : Setup) (l : List Slot) → filter (λ held. held.1.running) l ≡ [] → load setup l ≡ 0
+unfolding load
+none-load setup l h = ap (sum_by (λ (held : Slot). need_of setup held.1)) h
+
 used_on-loads : (setup : Setup) (c : Content) (e : ℕ) → e < setup.caps.engines → used_on (lists_alone setup c) e ≡ load setup (chain c (progress_list setup e)) + load setup (chain c (member_list setup e))
 unfolding load
 used_on-loads setup c e h =
@@ -201,6 +205,13 @@ taken-of setup before after e n g he hg alone is r =
     let at = hit-at (λ (x : GroupConfig). has x.engines e) setup.groups zero_group g is in
     ap (λ (u : List ℕ). let b : Buffers = record { total = setup.caps.read_buffers; groups = setup.groups; used = u } in b) (sym (used-raised setup before after e n g he hg at.0 alone is at.1 r))
 
+-- with none given back nothing changes
+pub given-none : (home : Option ℕ) (b : Buffers) → given home 0 b ≡ b
+given-none None b = refl
+given-none (Some g) b =
+    let same : get_or b.used g 0 - 0 ≡ get_or b.used g 0 = omega arith in
+    ap (λ (u : List ℕ). let x : Buffers = record b { used = u } in x) (rw same (set-get_or b.used g 0))
+
 -- ---- a device on which nothing is held
 
 zero-sum : (f : ℕ → ℕ) (xs : List ℕ) → ((k : ℕ) → f k ≡ 0) → sum_by f xs ≡ 0
@@ -241,3 +252,42 @@ buffers-at_rest setup c len h =
 -- the read buffers as they are made
 pub made-at_rest : (setup : Setup) (caps : Caps) (groups : List GroupConfig) (b : Buffers) → caps ≡ setup.caps → groups ≡ setup.groups → b ≡ record { total = caps.read_buffers; groups = groups; used = replicate (length groups) 0 } → b ≡ buffers_at_rest setup
 made-at_rest setup caps groups b ce ge be = be ∙ rw (ce, ge) refl
+
+-- ---- a change that leaves each list of an engine with what it needs
+
+used_on-kept : (setup more : Setup) (c now : Content) (e : ℕ) → more.caps ≡ setup.caps → ((j : ℕ) → setup.caps.queues ≤ j → load more (chain now j) ≡ load setup (chain c j)) → used_on (lists_alone more now) e ≡ used_on (lists_alone setup c) e
+used_on-kept setup more c now e same loads = on (cases_lt e setup.caps.engines)
+  where
+    queues : more.caps.queues ≡ setup.caps.queues
+    queues = ap (λ (x : Caps). x.queues) same
+
+    engines : more.caps.engines ≡ setup.caps.engines
+    engines = ap (λ (x : Caps). x.engines) same
+
+    on : (e < setup.caps.engines) ⊎ (setup.caps.engines ≤ e) → used_on (lists_alone more now) e ≡ used_on (lists_alone setup c) e
+    on (inl lt) =
+        let a = used_on-loads more now e (omega (arith, lt, engines)) in
+        let b = used_on-loads setup c e lt in
+        let p : load more (chain now (progress_list more e)) ≡ load setup (chain c (progress_list setup e)) = ap (λ (q : ℕ). load more (chain now (q + e))) queues ∙ loads (progress_list setup e) (omega arith) in
+        let m : load more (chain now (member_list more e)) ≡ load setup (chain c (member_list setup e)) = ap (λ (x : Caps). load more (chain now (x.queues + x.engines + e))) same ∙ loads (member_list setup e) (omega arith) in
+        omega (arith, a, b, p, m)
+    on (inr past) = used_on-past more now e (omega (arith, past, engines)) ∙ sym (used_on-past setup c e past)
+
+sum-kept : (f f' : ℕ → ℕ) (xs : List ℕ) → ((k : ℕ) → f' k ≡ f k) → sum_by f' xs ≡ sum_by f xs
+sum-kept f f' [] h = refl
+sum-kept f f' (x ∷ xs) h =
+    let here = h x in
+    omega (arith, sum_by-cons f x xs, sum_by-cons f' x xs, here, sum-kept f f' xs h)
+
+pub used-kept : (setup more : Setup) (c now : Content) → more.caps ≡ setup.caps → more.groups ≡ setup.groups → ((j : ℕ) → setup.caps.queues ≤ j → load more (chain now j) ≡ load setup (chain c j)) → buffers_of setup c ≡ buffers_of more now
+used-kept setup more c now same groups loads =
+    let table : all_used (lists_alone more now) ≡ all_used (lists_alone setup c) =
+        ap (λ (x : Caps). map (used (lists_alone more now)) (numbers_below x.groups)) same
+        ∙ same-table (used (lists_alone setup c)) (used (lists_alone more now)) setup.caps.groups (λ g lt.
+        ap (λ (x : Caps). sum_by (used_on (lists_alone more now)) (filter (has (group_at more.groups g).engines) (numbers_below x.engines))) same
+        ∙ ap (λ (gs : List GroupConfig). sum_by (used_on (lists_alone more now)) (filter (has (group_at gs g).engines) (numbers_below setup.caps.engines))) groups
+        ∙ sum-kept (used_on (lists_alone setup c)) (used_on (lists_alone more now)) (filter (has (group_at setup.groups g).engines) (numbers_below setup.caps.engines)) (λ e. used_on-kept setup more c now e same loads)) in
+    let b : Buffers = record { total = setup.caps.read_buffers; groups = setup.groups; used = all_used (lists_alone more now) } in
+    ap (λ (u : List ℕ). let x : Buffers = record { total = setup.caps.read_buffers; groups = setup.groups; used = u } in x) (sym table)
+    ∙ ap (λ (x : Caps). let y : Buffers = record { total = x.read_buffers; groups = setup.groups; used = all_used (lists_alone more now) } in y) (sym same)
+    ∙ ap (λ (gs : List GroupConfig). let y : Buffers = record { total = more.caps.read_buffers; groups = gs; used = all_used (lists_alone more now) } in y) (sym groups)

@@ -1,5 +1,6 @@
 -- What the engines keep beside the lists, and how it agrees with them.
-use Rattle.std.specs.Prelude.{◌≡◌, ℕ, ◌+◌, ◌-◌, ◌<◌, ◌≤◌, IsTrue, true, false, Bool, List, [], length, map, replicate, get_or, slice_index, slice_set, Option, Some, None}
+use Rattle.std.specs.Prelude.{◌≡◌, ℕ, ◌+◌, ◌-◌, ◌<◌, ◌≤◌, IsTrue, true, false, Bool, not, ◌&&◌, is_some, List, [], ◌∷◌, length, map, filter, replicate, get_or, slice_index, slice_set, Option, Some, None}
+use Rattle.dsa_desc.specs.Rows.{passes}
 use Rattle.dsa_regs.specs.declared.Caps.{Caps}
 use Rattle.dsa_regs.specs.Caps.{check_caps, list_count}
 use Rattle.dsa_regs.specs.Config.{check_device}
@@ -9,7 +10,7 @@ use Rattle.dsa_buffers.specs.Buffers.{Buffers}
 use Rattle.dsa_book.specs.declared.note.BatchNote.{BatchNote}
 use Rattle.dsa_book.specs.declared.fate.FateRow.{FateRow}
 use Rattle.dsa_book.specs.State.{Setup, Work, is_off}
-use Rattle.dsa_book.specs.Work.{all_used, group_in, progress_list}
+use Rattle.dsa_book.specs.Work.{all_used, group_in, progress_list, batch_on, is_all_fetched, note_at}
 
 -- a note or none for each engine, the read buffers of the groups, and the group of each engine (profile)
 pub record Gear : Type 0 where
@@ -77,3 +78,12 @@ pub record IsOpen (setup : Setup) (content : Content) (e g : ℕ) : Type 0 where
   pub engine : e < setup.caps.engines
   pub home : group_in setup.groups e ≡ Some g
   pub slot : length (chain content (progress_list setup e)) < setup.caps.slots
+
+-- where the first of them waits, none runs
+abbrev pub WaitInOrder : List Slot → Type 0
+WaitInOrder [] = Unit {0}
+WaitInOrder (slot ∷ rest) = slot.1.running ≡ false → filter is_running rest ≡ []
+
+-- the engine works on a batch with members that are still to be fetched
+abbrev pub is_fetching : Work → ℕ → Bool
+is_fetching w e = passes (λ note. is_some (batch_on w e note) && not (is_all_fetched note)) (note_at w e)

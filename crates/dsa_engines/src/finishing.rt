@@ -8,6 +8,7 @@ ghost use Rattle.dsa_book.specs.Work.{running_on, is_unfinished, last_status, no
 ghost use Rattle.dsa_engines.specs.Engines.{work, lists_alone, IsInStep, IsReady};
 
 use crate::Engines;
+use crate::fetching::is_all_fetched;
 use dsa_book::{BatchNote, Book, Fate, FateRow, FinishAnswer, Ticket};
 use dsa_desc::Outcome;
 use dsa_queues::Queues;
@@ -68,7 +69,7 @@ impl Engines {
             return true;
         }
         match self.note(engine) {
-            Some(note) => !note.closed && note.fetched < note.count,
+            Some(note) => !is_all_fetched(&note),
             None => false,
         }
     }

@@ -6,8 +6,14 @@
 #![tactic(auto)]
 
 mod engines;
+mod fetching;
 mod finishing;
-mod leaving;
+mod releasing;
+mod removing;
+mod starting;
 mod taking;
 
 pub use engines::Engines;
+
+#[cfg(test)]
+mod tests;

@@ -1,5 +1,5 @@
 -- A list whose places are renewed one by one, from the first on.
-use Rattle.std.proofs.Common.{◌≡◌, ℕ, zero, suc, ◌+◌, ◌<◌, ◌≤◌, ◌≢◌, cond, ◌==◌, true, false, List, [], ◌∷◌, ◌++◌, length, map, drop, set, get_or, refl, sym, ap, ◌∙◌, arith, append_assoc}
+use Rattle.std.proofs.Common.{◌≡◌, ℕ, zero, suc, ◌<◌, ◌≤◌, cond, ◌==◌, List, ◌++◌, length, map, drop, set, get_or, refl, sym, ◌∙◌, arith}
 use Rattle.std.proofs.lemmas.Grind.{common_steps}
 use Rattle.std.proofs.Math.Seq.{drop-cons, set-append_seam}
 use Rattle.dsa_regs.specs.Numbers.{numbers_below}

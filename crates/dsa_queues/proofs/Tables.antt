@@ -1,5 +1,5 @@
 -- The tables of a set-up, as a loop over the queues renews them.
-use Rattle.std.proofs.Common.{◌≡◌, ℕ, suc, ◌+◌, ◌<◌, List, map, length, set, get_or, sym, ap, ◌∙◌, refl, add-one, arith}
+use Rattle.std.proofs.Common.{◌≡◌, ℕ, suc, ◌+◌, ◌<◌, List, map, length, set, sym, ap, ◌∙◌, refl, add-one, arith}
 use Rattle.dsa_regs.specs.declared.Phase.{Phase}
 use Rattle.dsa_regs.specs.declared.Phase.TheVariants.{Off}
 use Rattle.dsa_regs.specs.declared.QueueConfig.{QueueConfig}

@@ -146,6 +146,14 @@ impl Queues {
         }
     }
 
+    /// The configurations of all queues, by number.
+    #[inline(always)]
+    pub fn configs(&self) -> &[QueueConfig]
+        ensures { result.now ≡ self.now.configs }
+    {
+        self.configs.as_slice()
+    }
+
     #[inline(always)]
     pub fn set_queue(&mut self, queue: u16, config: QueueConfig)
         requires { has_queue self.old queue ≡ true }
@@ -163,14 +171,6 @@ impl Queues {
             Some(config) => *config,
             None => GroupConfig::default(),
         }
-    }
-
-    /// The configurations of all queues, by number.
-    #[inline(always)]
-    pub fn configs(&self) -> &[QueueConfig]
-        ensures { result.now ≡ self.now.configs }
-    {
-        self.configs.as_slice()
     }
 
     /// The configurations of all groups, by number.

@@ -1,4 +1,4 @@
-use Rattle.std.proofs.Common.{◌≡◌, arith, sym, take, length}
+use Rattle.std.proofs.Common.{arith}
 use Rattle.std.proofs.lemmas.Grind.{common_steps}
 use Rattle.dsa_regs.specs.Numbers.{has}
 use Rattle.dsa_queues.proofs.Groups.{position-hit, position-none}

@@ -1,4 +1,4 @@
-use Rattle.std.proofs.Common.{ℕ, ◌≡◌, ◌∙◌, cond, ap, arith, sym, length}
+use Rattle.std.proofs.Common.{ℕ, ◌∙◌, cond, arith}
 use Rattle.std.proofs.lemmas.Grind.{common_steps}
 use Rattle.dsa_regs.specs.declared.QueueConfig.{QueueConfig}
 use Rattle.dsa_regs.specs.Config.{queue_at}

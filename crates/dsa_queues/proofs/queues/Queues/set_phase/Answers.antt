@@ -1,4 +1,4 @@
-use Rattle.std.proofs.Common.{◌≡◌, arith, sym}
+use Rattle.std.proofs.Common.{arith}
 use Rattle.std.proofs.lemmas.Grind.{common_steps}
 use Rattle.dsa_regs.specs.declared.Phase.TheVariants.{Off}
 use Rattle.dsa_queues.proofs.Renewing.{renewed-one}

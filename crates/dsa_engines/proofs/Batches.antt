@@ -1,0 +1,83 @@
+-- What a fetch finds and leaves.
+use Rattle.std.proofs.Common.{◌≡◌, ℕ, zero, suc, ◌+◌, ◌*◌, ◌<◌, ◌≤◌, Bool, true, false, not, cond, ◌&&◌, ◌==◌, ◌++◌, nat_lt, List, [], ◌∷◌, length, set, get_or, Option, Some, None, refl, sym, ◌∙◌, ap, subst, inl, inr, arith}
+use Rattle.std.proofs.lemmas.Grind.{common_steps}
+use Rattle.std.proofs.lemmas.Bool.{cases_Bool, lt-ltb}
+use Rattle.std.specs.List.{find}
+use Rattle.std.proofs.lemmas.List.{get_or-set_same, get_or-set_other, length-set}
+use Rattle.dsa_desc.specs.declared.Descriptor.{Descriptor}
+use Rattle.dsa_desc.specs.Descriptor.{with_pasid}
+use Rattle.dsa_regs.specs.Caps.{cell_count}
+use Rattle.dsa_store.specs.declared.entry.Cell.{Cell}
+use Rattle.dsa_store.specs.declared.entry.Entry.{Entry}
+use Rattle.dsa_store.specs.Content.{Slot, Content, chain, uses, held, pushed, is_free}
+use Rattle.dsa_store.proofs.Lists.{length-le-held}
+use Rattle.dsa_store.proofs.Sums.{unused-is_free}
+use Rattle.dsa_book.specs.declared.note.BatchNote.{BatchNote}
+use Rattle.dsa_book.specs.declared.answer.FetchAnswer.TheVariants.{Fetched, NoBatch, AllFetched}
+use Rattle.dsa_book.specs.declared.fate.FateRow.{FateRow}
+use Rattle.dsa_book.specs.State.{Setup, is_off, need_of}
+use Rattle.dsa_book.specs.Work.{progress_list, member_list, fetch, is_all_fetched}
+use Rattle.dsa_engines.specs.Engines.{Gear, work, buffers_of, homes_of, IsInStep, IsReady, is_fetching}
+use Rattle.dsa_engines.proofs.Used.{load, load-nil, load-cons, load-append, HoldsMore}
+use Rattle.dsa_engines.proofs.Members.{buffers-same}
+
+past : (l : List (Option BatchNote)) (k : ℕ) → length l ≤ k → get_or l k None ≡ None
+past [] k h = refl
+past (x ∷ l) zero h = absurd (omega (arith, h))
+past (x ∷ l) (suc k) h = past l k (omega (arith, h))
+
+-- an engine that the device does not have has no note
+pub fetch-past : (setup : Setup) (gear : Gear) (content : Content) (fates : List FateRow) (e : ℕ) (desc : Descriptor) (cell : Cell) → IsInStep setup gear content → setup.caps.engines ≤ e → fetch (work setup gear content fates) e desc cell ≡ (NoBatch, work setup gear content fates)
+fetch-past setup gear content fates e desc cell s h =
+    let none : get_or gear.notes e None ≡ None = past gear.notes e (omega (arith, s.notes, h)) in
+    rw none refl
+
+pub is-fetching : (setup : Setup) (gear : Gear) (content : Content) (e i : ℕ) (note : BatchNote) (batch : Slot) → e < setup.caps.engines → i ≡ progress_list setup e → get_or gear.notes e None ≡ Some note → find (λ slot. slot.1.name == note.batch) (chain content i) ≡ Some batch → is_all_fetched note ≡ false → is_fetching (work setup gear content []) e ≡ true
+is-fetching setup gear content e i note batch he ie noted found left =
+    let lt : nat_lt e setup.caps.engines ≡ true = lt-ltb _ _ he in
+    let at : find (λ slot. slot.1.name == note.batch) (chain content (progress_list setup e)) ≡ Some batch = subst (λ (j : ℕ). find (λ slot. slot.1.name == note.batch) (chain content j) ≡ Some batch) ie found in
+    rw noted (rw (lt, at, left) refl)
+
+-- while the device is Off no batch is in progress
+any-found : (p : Slot → Bool) (l : List Slot) (s : Slot) → find p l ≡ Some s → 0 < length l
+any-found p [] s h = absurd cc
+any-found p (x ∷ l) s h = omega arith
+
+awake-named : (setup : Setup) (content : Content) (i : ℕ) (p : Slot → Bool) (s : Slot) → IsReady setup content → find p (chain content i) ≡ Some s → is_off setup.device ≡ false
+awake-named setup content i p s r h =
+    elim (cases_Bool (is_off setup.device)) [
+      | inl off ↦ absurd (omega (arith, r.idle off, length-le-held content i, any-found p (chain content i) s h))
+      | inr on ↦ on
+    ]
+
+-- a member that waits needs nothing yet
+fetched-less : (setup : Setup) (content : Content) (e : ℕ) (cell : Cell) (member : Entry) → length content ≡ setup.caps.queues + 2 * setup.caps.engines → e < setup.caps.engines → member.running ≡ false → HoldsMore setup (pushed content (member_list setup e) cell member) content e (member_list setup e) 0
+fetched-less setup content e cell member len he waiting =
+    let m : ℕ = member_list setup e in
+    let l : List Slot = chain content m in
+    let none : ◌≡◌ {A = ℕ} (cond member.running (need_of setup member) 0) 0 = ap (λ (b : Bool). cond {A = ℕ} b (need_of setup member) 0) waiting in
+    record {
+      engine = he;
+      others = λ j low ne. sym (get_or-set_other content m j (l ++ (cell, member) ∷ []) [] ne);
+      mine = rw (get_or-set_same content m (l ++ (cell, member) ∷ []) [] (omega (arith, len, he))) (omega (arith, load-append setup l ((cell, member) ∷ []), load-cons setup (cell, member) [], load-nil setup, none));
+    }
+
+pub in_step-fetched : (setup more : Setup) (gear after : Gear) (content now : Content) (e i j name : ℕ) (note : BatchNote) (new : Option BatchNote) (batch : Slot) (cell : Cell) (member : Entry) → IsReady setup content → IsInStep setup gear content → e < setup.caps.engines → j ≡ member_list setup e → find (λ slot. slot.1.name == note.batch) (chain content i) ≡ Some batch → member.running ≡ false
+    → more ≡ record setup { next_name = name } → now ≡ pushed content j cell member → after ≡ record gear { notes = set gear.notes e new }
+    → IsInStep more after now
+in_step-fetched setup more gear after content now e i j name note new batch cell member r s he je found waiting se is ae =
+    let on = awake-named setup content i (λ slot. slot.1.name == note.batch) batch r found in
+    let same = buffers-same setup content (pushed content (member_list setup e) cell member) e r on (fetched-less setup content e cell member r.lists he waiting) in
+    rw (se, ae, is, je) (record {
+      notes = length-set gear.notes e new ∙ s.notes;
+      homes = s.homes;
+      buffers = λ x. s.buffers x ∙ same;
+    })
+
+pub fetch-done : (setup more : Setup) (gear after : Gear) (content now : Content) (fates : List FateRow) (e i j name : ℕ) (desc own : Descriptor) (cell : Cell) (note : BatchNote) (batch : Slot) → e < setup.caps.engines → i ≡ progress_list setup e → j ≡ member_list setup e → get_or gear.notes e None ≡ Some note → find (λ slot. slot.1.name == note.batch) (chain content i) ≡ Some batch → is_all_fetched note ≡ false
+    → name ≡ setup.next_name → own ≡ with_pasid desc batch.1.desc.pasid → more ≡ record setup { next_name = setup.next_name + 1 } → now ≡ pushed content j cell (record { name = name; parent = Some note.batch; desc = own; queue = batch.1.queue; running = false }) → after ≡ record gear { notes = set gear.notes e (Some (record note { fetched = note.fetched + 1 })) }
+    → fetch (work setup gear content fates) e desc cell ≡ (Fetched (record { cell = cell; name = name }), work more after now fates)
+fetch-done setup more gear after content now fates e i j name desc own cell note batch he ie je noted found left ne oe se is ae =
+    let lt : nat_lt e setup.caps.engines ≡ true = lt-ltb _ _ he in
+    let at : find (λ slot. slot.1.name == note.batch) (chain content (progress_list setup e)) ≡ Some batch = subst (λ (k : ℕ). find (λ slot. slot.1.name == note.batch) (chain content k) ≡ Some batch) ie found in
+    rw (se, ae, is, oe, ne, je) (rw noted (rw (lt, at, left) refl))

@@ -1,0 +1,252 @@
+-- What a start finds among the members, and leaves.
+use Rattle.std.proofs.Common.{◌≡◌, ℕ, zero, suc, ◌+◌, ◌-◌, ◌*◌, ◌<◌, ◌≤◌, ◌≢◌, Bool, true, false, not, cond, ◌&&◌, ◌++◌, nat_lt, List, [], ◌∷◌, length, set, get_or, slice_get, map, Option, Some, None, option_map, refl, sym, ◌∙◌, ap, subst, inl, inr, arith}
+use Rattle.std.proofs.lemmas.Grind.{common_steps}
+use Rattle.std.proofs.lemmas.Bool.{cases_Bool, lt-ltb, and_parts}
+use Rattle.std.specs.List.{find, filter}
+use Rattle.std.proofs.lemmas.List.{get_or-set_same, get_or-set_other, length-set, set-get_or}
+use Rattle.dsa_desc.specs.Rows.{passes}
+use Rattle.dsa_desc.specs.Descriptor.{is_fenced}
+use Rattle.dsa_regs.specs.Buffers.{fits}
+use Rattle.dsa_regs.specs.declared.GroupConfig.{GroupConfig}
+use Rattle.dsa_regs.specs.Numbers.{has}
+use Rattle.dsa_regs.specs.Config.{zero_group}
+use Rattle.dsa_queues.proofs.Groups.{hit-at}
+use Rattle.dsa_store.specs.declared.entry.Cell.{Cell}
+use Rattle.dsa_store.specs.declared.entry.Entry.{Entry}
+use Rattle.dsa_store.specs.Content.{Slot, Content, is_cell, chain, count, uses, replaced, emptied, pushed, StandsAt}
+use Rattle.dsa_store.proofs.Places.{count-cons, is_cell-itself}
+use Rattle.dsa_store.proofs.Lists.{count-le-uses, length-le-held}
+use Rattle.dsa_store.proofs.Finding.{replaced-at}
+use Rattle.dsa_buffers.specs.Buffers.{Buffers}
+use Rattle.dsa_book.specs.declared.note.BatchNote.{BatchNote}
+use Rattle.dsa_book.specs.declared.answer.Ticket.{Ticket}
+use Rattle.dsa_book.specs.declared.answer.StartAnswer.TheVariants.{Started, NoBuffers}
+use Rattle.dsa_book.specs.declared.fate.FateRow.{FateRow}
+use Rattle.dsa_book.specs.State.{Setup, is_off, need_of}
+use Rattle.dsa_book.specs.Work.{member_list, members, with_first_run, run, as_running, has_room, group_in, start}
+use Rattle.dsa_engines.specs.Engines.{Gear, work, lists_alone, buffers_of, given, Holds, IsInStep, IsReady, is_running, WaitInOrder}
+use Rattle.dsa_engines.proofs.Homes.{one-group}
+use Rattle.dsa_engines.proofs.Dispatching.{home-of}
+use Rattle.dsa_engines.proofs.Used.{load, load-nil, load-cons, load-append, HoldsMore, RaisesOne, none-load, raises-members, GivesBack, gives-back, given-none, taken-of}
+
+abbrev pub waits : Slot → Bool
+waits slot = not slot.1.running
+
+-- ---- the first that waits
+
+-- the entry waits, and is the first of the list that does
+pub record WaitsIn (l : List Slot) (s : Slot) : Type 0 where
+  pub place : ℕ
+  pub within : place < length l
+  pub slot : get_or l place s ≡ s
+  pub waiting : s.1.running ≡ false
+  pub started : with_first_run l ≡ set l place (run s)
+
+first-run : (x : Slot) (l : List Slot) (b : Bool) → x.1.running ≡ b → with_first_run (x ∷ l) ≡ cond b (x ∷ with_first_run l) (run x ∷ l)
+first-run x l b is = ap (λ (c : Bool). let m : List Slot = cond c (x ∷ with_first_run l) (run x ∷ l) in m) is
+
+find-first : (x : Slot) (l : List Slot) (s : Slot) (b : Bool) → x.1.running ≡ b → find waits (x ∷ l) ≡ Some s → cond (not b) (Some x) (find waits l) ≡ Some s
+find-first x l s b is h = sym (ap (λ (c : Bool). let o : Option Slot = cond (not c) (Some x) (find waits l) in o) is) ∙ h
+
+weight : (setup : Setup) (x : Slot) (b : Bool) → x.1.running ≡ b → cond x.1.running (need_of setup x.1) 0 ≡ cond b (need_of setup x.1) 0
+weight setup x b is = ap (λ (c : Bool). let n : ℕ = cond c (need_of setup x.1) 0 in n) is
+
+first-waits : (x : Slot) (l : List Slot) (s : Slot) → x.1.running ≡ false → x ≡ s → WaitsIn (x ∷ l) s
+first-waits x l s f is = record {
+  place = zero;
+  within = omega arith;
+  slot = is;
+  waiting = sym (ap (λ (y : Slot). y.1.running) is) ∙ f;
+  started = first-run x l false f ∙ ap (λ (y : Slot). let m : List Slot = run y ∷ l in m) is;
+}
+
+later-waits : (x : Slot) (l : List Slot) (s : Slot) → x.1.running ≡ true → WaitsIn l s → WaitsIn (x ∷ l) s
+later-waits x l s t w = record {
+  place = suc w.place;
+  within = omega (arith, w.within);
+  slot = w.slot;
+  waiting = w.waiting;
+  started = first-run x l true t ∙ ap (λ (m : List Slot). let n : List Slot = x ∷ m in n) w.started;
+}
+
+pub waits-in : (l : List Slot) (s : Slot) → find waits l ≡ Some s → WaitsIn l s
+waits-in [] s h = absurd cc
+waits-in (x ∷ l) s h =
+    elim (cases_Bool x.1.running) [
+      | inl t ↦ later-waits x l s t (waits-in l s (find-first x l s true t h))
+      | inr f ↦
+          let both : ◌≡◌ {A = Option Slot} (Some x) (Some s) = find-first x l s false f h in
+          let same : x ≡ s = cc in
+          first-waits x l s f same
+    ]
+
+-- once it runs, the list needs what it needs more
+pub load-started : (setup : Setup) (l : List Slot) (s : Slot) → find waits l ≡ Some s → load setup (with_first_run l) ≡ load setup l + need_of setup s.1
+load-started setup [] s h = absurd cc
+load-started setup (x ∷ l) s h =
+    elim (cases_Bool x.1.running) [
+      | inl t ↦
+          let rest = load-started setup l s (find-first x l s true t h) in
+          let after : load setup (with_first_run (x ∷ l)) ≡ load setup (x ∷ with_first_run l) = ap (load setup) (first-run x l true t) in
+          omega (arith, rest, after, load-cons setup x l, load-cons setup x (with_first_run l))
+      | inr f ↦
+          let both : ◌≡◌ {A = Option Slot} (Some x) (Some s) = find-first x l s false f h in
+          let same : x ≡ s = cc in
+          let needs : need_of setup x.1 ≡ need_of setup s.1 = ap (λ (y : Slot). need_of setup y.1) same in
+          let after : load setup (with_first_run (x ∷ l)) ≡ load setup (run x ∷ l) = ap (load setup) (first-run x l false f) in
+          let none : ◌≡◌ {A = ℕ} (cond x.1.running (need_of setup x.1) 0) 0 = weight setup x false f in
+          let now : load setup (run x ∷ l) ≡ need_of setup x.1 + load setup l = load-cons setup (run x) l in
+          omega (arith, after, needs, none, now, load-cons setup x l)
+    ]
+
+-- ---- the lists
+
+pub members-are : (setup : Setup) (content : Content) (e : ℕ) → e < setup.caps.engines → members (lists_alone setup content) e ≡ chain content (member_list setup e)
+members-are setup content e h =
+    let lt : nat_lt e setup.caps.engines ≡ true = lt-ltb _ _ h in
+    rw lt refl
+
+-- while the device is Off no member waits
+pub awake-waiting : (setup : Setup) (content : Content) (i : ℕ) (s : Slot) → IsReady setup content → find waits (chain content i) ≡ Some s → is_off setup.device ≡ false
+awake-waiting setup content i s r h =
+    let w = waits-in (chain content i) s h in
+    elim (cases_Bool (is_off setup.device)) [
+      | inl off ↦ absurd (omega (arith, r.idle off, length-le-held content i, w.within))
+      | inr on ↦ on
+    ]
+
+-- the member that runs now, as the store leaves it
+pub started-is : (setup : Setup) (content : Content) (i : ℕ) (cell : Cell) (entry : Entry) → uses content cell ≤ 1 → find waits (chain content i) ≡ Some (cell, entry) → replaced content cell (as_running entry) ≡ set content i (with_first_run (chain content i))
+started-is setup content i cell entry once h =
+    let w = waits-in (chain content i) (cell, entry) h in
+    replaced-at content i w.place cell entry (as_running entry) once (record { within = w.within; slot = w.slot }) ∙ ap (λ (l : List Slot). set content i l) (sym w.started)
+
+started-more : (setup : Setup) (content : Content) (e : ℕ) (s : Slot) → length content ≡ setup.caps.queues + 2 * setup.caps.engines → e < setup.caps.engines → find waits (chain content (member_list setup e)) ≡ Some s → HoldsMore setup content (set content (member_list setup e) (with_first_run (chain content (member_list setup e)))) e (member_list setup e) (need_of setup s.1)
+started-more setup content e s len he h =
+    let m : ℕ = member_list setup e in
+    record {
+      engine = he;
+      others = λ j low ne. get_or-set_other content m j (with_first_run (chain content m)) [] ne;
+      mine = rw (get_or-set_same content m (with_first_run (chain content m)) [] (omega (arith, len, he))) (load-started setup (chain content m) s h);
+    }
+
+-- ---- room for its buffers
+
+pub holds-none : (setup : Setup) (gear : Gear) (content : Content) (e : ℕ) → IsInStep setup gear content → is_off setup.device ≡ false → e < setup.caps.engines → Holds (get_or gear.homes e None) 0 gear.buffers
+holds-none setup gear content e s on he =
+    rw (home-of setup gear content e s on he, s.buffers on) (go (group_in setup.groups e) refl)
+  where
+    go : (home : Option ℕ) → group_in setup.groups e ≡ home → Holds home 0 (buffers_of setup content)
+    go None is = tt
+    go (Some g) is = (let at = hit-at (λ (x : GroupConfig). has x.engines e) setup.groups zero_group g is in at.0, omega arith)
+
+pub room-is : (setup : Setup) (gear : Gear) (content : Content) (fates : List FateRow) (e n : ℕ) → IsInStep setup gear content → is_off setup.device ≡ false → e < setup.caps.engines → has_room (work setup gear content fates) e n ≡ passes (λ g. fits gear.buffers.total gear.buffers.groups gear.buffers.used g n) (get_or gear.homes e None)
+room-is setup gear content fates e n s on he = rw (home-of setup gear content e s on he, s.buffers on) refl
+
+-- ---- no buffers change
+
+pub buffers-same : (setup : Setup) (before after : Content) (e : ℕ) → IsReady setup before → is_off setup.device ≡ false → HoldsMore setup after before e (member_list setup e) 0 → buffers_of setup before ≡ buffers_of setup after
+buffers-same setup before after e r on h =
+    let back = gives-back setup before after e 0 h.engine r.groups (one-group setup before r on) (raises-members setup after before e 0 h) in
+    sym (given-none (group_in setup.groups e) (buffers_of setup before)) ∙ back.given
+
+-- ---- an abandon: the first that waits stands in front, so none runs
+
+found-counted : (l : List Slot) (s : Slot) → find waits l ≡ Some s → 1 ≤ count s.0 l
+found-counted [] s h = absurd cc
+found-counted (x ∷ l) s h =
+    elim (cases_Bool x.1.running) [
+      | inl t ↦ omega (arith, found-counted l s (find-first x l s true t h), count-cons s.0 x l)
+      | inr f ↦
+          let both : ◌≡◌ {A = Option Slot} (Some x) (Some s) = find-first x l s false f h in
+          let same : x ≡ s = cc in
+          let here : is_cell s.0 x ≡ true = rw same (is_cell-itself s.0 s.1) in
+          let one : ◌≡◌ {A = ℕ} (cond (is_cell s.0 x) 1 0) 1 = rw here refl in
+          omega (arith, one, count-cons s.0 x l)
+    ]
+
+-- the front of the list is the one that was found, so it waits
+front-waits : (x : Slot) (l : List Slot) (s : Slot) → count s.0 (x ∷ l) ≤ 1 → find waits (x ∷ l) ≡ Some s → is_cell s.0 x ≡ true → x.1.running ≡ false
+front-waits x l s once h here =
+    elim (cases_Bool x.1.running) [
+      | inl t ↦
+          let one : ◌≡◌ {A = ℕ} (cond (is_cell s.0 x) 1 0) 1 = rw here refl in
+          absurd (omega (arith, once, one, count-cons s.0 x l, found-counted l s (find-first x l s true t h)))
+      | inr f ↦ f
+    ]
+
+pub none-runs : (setup : Setup) (l : List Slot) (s : Slot) → count s.0 l ≤ 1 → find waits l ≡ Some s → passes (is_cell s.0) (slice_get l 0) ≡ true → WaitInOrder l → load setup l ≡ 0
+none-runs setup [] s once h front order = load-nil setup
+none-runs setup (x ∷ l) s once h front order =
+    let f = front-waits x l s once h front in
+    let none : ◌≡◌ {A = ℕ} (cond x.1.running (need_of setup x.1) 0) 0 = weight setup x false f in
+    omega (arith, load-cons setup x l, none, none-load setup l (order f))
+
+emptied-less : (setup : Setup) (content : Content) (e : ℕ) → length content ≡ setup.caps.queues + 2 * setup.caps.engines → e < setup.caps.engines → load setup (chain content (member_list setup e)) ≡ 0 → HoldsMore setup (emptied content (member_list setup e)) content e (member_list setup e) 0
+emptied-less setup content e len he none = record {
+  engine = he;
+  others = λ j low ne. sym (get_or-set_other content (member_list setup e) j [] [] ne);
+  mine = rw (get_or-set_same content (member_list setup e) [] [] (omega (arith, len, he))) (omega (arith, none, load-nil setup));
+}
+
+-- ---- by what the calls leave one after another
+
+at-front : (fenced : Bool) (front : Bool) → fenced ≡ true → false ≡ (fenced && not front) → front ≡ true
+at-front fenced front f h = grind (arith, common_steps, f, h)
+
+pub in_step-abandoned : (setup : Setup) (gear after : Gear) (content now : Content) (e i : ℕ) (cell : Cell) (entry : Entry) (new : Option BatchNote) (fails : Bool) → ((c : Cell) → uses content c ≤ 1) → IsReady setup content → IsInStep setup gear content → e < setup.caps.engines → i ≡ member_list setup e → find waits (chain content i) ≡ Some (cell, entry) → WaitInOrder (members (lists_alone setup content) e)
+    → false ≡ (is_fenced entry.desc && not (passes (is_cell cell) (slice_get (chain content i) 0))) → true ≡ (is_fenced entry.desc && fails) → after ≡ record gear { notes = set gear.notes e new } → now ≡ emptied content i
+    → IsInStep setup after now
+in_step-abandoned setup gear after content now e i cell entry new fails once r s he ie h order fence failing ae is =
+    let on = awake-waiting setup content i (cell, entry) r h in
+    let fenced = (and_parts (is_fenced entry.desc) fails (sym failing)).0 in
+    let front = at-front (is_fenced entry.desc) (passes (is_cell cell) (slice_get (chain content i) 0)) fenced fence in
+    let low : count cell (chain content i) ≤ 1 = omega (arith, once cell, count-le-uses content i cell) in
+    let ordered : WaitInOrder (chain content i) = rw (ie, ← members-are setup content e he) order in
+    let none : load setup (chain content i) ≡ 0 = none-runs setup (chain content i) (cell, entry) low h front ordered in
+    let same = buffers-same setup content (emptied content (member_list setup e)) e r on (emptied-less setup content e r.lists he (subst (λ (j : ℕ). load setup (chain content j) ≡ 0) ie none)) in
+    rw (ae, is, ie) (record {
+      notes = length-set gear.notes e new ∙ s.notes;
+      homes = s.homes;
+      buffers = λ x. s.buffers x ∙ same;
+    })
+
+pub in_step-started : (setup : Setup) (gear after : Gear) (content now : Content) (e i g n : ℕ) (cell : Cell) (entry : Entry) → uses content cell ≤ 1 → IsReady setup content → IsInStep setup gear content → e < setup.caps.engines → i ≡ member_list setup e → find waits (chain content i) ≡ Some (cell, entry) → get_or gear.homes e None ≡ Some g → n ≡ need_of setup entry
+    → after ≡ record gear { buffers = record gear.buffers { used = set gear.buffers.used g (get_or gear.buffers.used g 0 + n) } } → now ≡ replaced content cell (as_running entry)
+    → IsInStep setup after now
+in_step-started setup gear after content now e i g n cell entry once r s he ie h home ne ae is =
+    let on = awake-waiting setup content i (cell, entry) r h in
+    let found : find waits (chain content (member_list setup e)) ≡ Some (cell, entry) = subst (λ (j : ℕ). find waits (chain content j) ≡ Some (cell, entry)) ie h in
+    let m : ℕ = member_list setup e in
+    let more = raises-members setup content (set content m (with_first_run (chain content m))) e (need_of setup entry) (started-more setup content e (cell, entry) r.lists he found) in
+    let group : group_in setup.groups e ≡ Some g = sym (home-of setup gear content e s on he) ∙ home in
+    rw (ae, is ∙ started-is setup content m cell entry once found) (record {
+      notes = s.notes;
+      homes = s.homes;
+      buffers = λ x. rw (ne, s.buffers x) (taken-of setup content (set content m (with_first_run (chain content m))) e (need_of setup entry) g he r.groups (one-group setup content r on) group more);
+    })
+
+pub start-refused : (setup : Setup) (gear : Gear) (content : Content) (fates : List FateRow) (e i n : ℕ) (cell : Cell) (entry : Entry) → IsReady setup content → IsInStep setup gear content → e < setup.caps.engines → i ≡ member_list setup e → find waits (chain content i) ≡ Some (cell, entry)
+    → false ≡ (is_fenced entry.desc && not (passes (is_cell cell) (slice_get (chain content i) 0))) → false ≡ (is_fenced entry.desc && passes (λ (note : BatchNote). note.failed) (get_or gear.notes e None)) → n ≡ need_of setup entry
+    → passes (λ g. fits gear.buffers.total gear.buffers.groups gear.buffers.used g n) (get_or gear.homes e None) ≡ false
+    → start (work setup gear content fates) e ≡ (NoBuffers, work setup gear content fates)
+start-refused setup gear content fates e i n cell entry r s he ie h fence failing ne no_room =
+    let on = awake-waiting setup content i (cell, entry) r h in
+    let found : find waits (chain content (member_list setup e)) ≡ Some (cell, entry) = subst (λ (j : ℕ). find waits (chain content j) ≡ Some (cell, entry)) ie h in
+    let fence' : (is_fenced entry.desc && not (passes (is_cell cell) (slice_get (chain content (member_list setup e)) 0))) ≡ false = sym (subst (λ (j : ℕ). false ≡ (is_fenced entry.desc && not (passes (is_cell cell) (slice_get (chain content j) 0)))) ie fence) in
+    let lt : nat_lt e setup.caps.engines ≡ true = lt-ltb _ _ he in
+    let room : has_room (work setup gear content fates) e (need_of setup entry) ≡ false = room-is setup gear content fates e (need_of setup entry) s on he ∙ rw (← ne) no_room in
+    rw (lt, found) (rw (lt, fence', sym failing, room) refl)
+
+pub start-done : (setup : Setup) (gear after : Gear) (content now : Content) (fates : List FateRow) (e i g n : ℕ) (cell : Cell) (entry : Entry) → uses content cell ≤ 1 → IsReady setup content → IsInStep setup gear content → e < setup.caps.engines → i ≡ member_list setup e → find waits (chain content i) ≡ Some (cell, entry)
+    → false ≡ (is_fenced entry.desc && not (passes (is_cell cell) (slice_get (chain content i) 0))) → false ≡ (is_fenced entry.desc && passes (λ (note : BatchNote). note.failed) (get_or gear.notes e None)) → n ≡ need_of setup entry
+    → get_or gear.homes e None ≡ Some g → fits gear.buffers.total gear.buffers.groups gear.buffers.used g n ≡ true
+    → after ≡ record gear { buffers = record gear.buffers { used = set gear.buffers.used g (get_or gear.buffers.used g 0 + n) } } → now ≡ replaced content cell (as_running entry)
+    → start (work setup gear content fates) e ≡ (Started (record { cell = cell; name = entry.name }), work setup after now fates)
+start-done setup gear after content now fates e i g n cell entry once r s he ie h fence failing ne home fitting ae is =
+    let on = awake-waiting setup content i (cell, entry) r h in
+    let found : find waits (chain content (member_list setup e)) ≡ Some (cell, entry) = subst (λ (j : ℕ). find waits (chain content j) ≡ Some (cell, entry)) ie h in
+    let fence' : (is_fenced entry.desc && not (passes (is_cell cell) (slice_get (chain content (member_list setup e)) 0))) ≡ false = sym (subst (λ (j : ℕ). false ≡ (is_fenced entry.desc && not (passes (is_cell cell) (slice_get (chain content j) 0)))) ie fence) in
+    let lt : nat_lt e setup.caps.engines ≡ true = lt-ltb _ _ he in
+    let room : has_room (work setup gear content fates) e (need_of setup entry) ≡ true = room-is setup gear content fates e (need_of setup entry) s on he ∙ rw (← ne, home) fitting in
+    rw (ae, is ∙ started-is setup content (member_list setup e) cell entry once found) (rw (lt, found) (rw (lt, fence', sym failing, room) refl))

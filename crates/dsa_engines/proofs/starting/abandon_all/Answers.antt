@@ -1,0 +1,35 @@
+use Rattle.std.proofs.Common.{◌≡◌, ◌∙◌, ◌<◌, ◌++◌, ◌∷◌, [], List, ℕ, true, false, length, get_or, Some, None, Option, sym, ap, arith}
+use Rattle.std.proofs.lemmas.Grind.{common_steps}
+use Rattle.dsa_store.specs.declared.entry.Entry.{Entry}
+use Rattle.dsa_store.specs.Content.{Slot, Content, chain}
+use Rattle.dsa_store.proofs.Turns.{AtPlace, at-place, some-drop}
+use Rattle.dsa_book.specs.Records.{Records}
+use Rattle.dsa_book.specs.declared.fate.FateRow.{FateRow}
+use Rattle.dsa_book.specs.declared.fate.Fate.TheVariants.{Abandoned}
+use Rattle.dsa_book.specs.Work.{fate_row}
+use Rattle.dsa_engines.proofs.Walking.{slot-at, row-added, room-left}
+use Rattle.dsa_engines.proofs.starting.abandon_all.Goals as goal
+
+pub unreachable-requires : goal.unreachable-requires
+unreachable-requires g c =
+    some-drop (chain (g.S.EntryStore.content c.args.store.now) c.args.list.0) c.loop-place._place (omega (arith, c.len-place-end.ensures, c.loop-place-test.true)) (sym c.loop-place.invariant.here ∙ c.in_default.is)
+
+pub unreachable-requires-in_default-get : goal.unreachable-requires-in_default-get
+unreachable-requires-in_default-get g c =
+    let content : Content = g.S.EntryStore.content c.args.store.now in
+    let p : AtPlace content c.args.list.0 c.loop-place._place c.in-Some.cell = at-place content c.args.list.0 c.loop-place._place c.in-Some.cell (g.met.S.EntryStore.sound c.args.store.now).once (omega (arith, c.len-place-end.ensures, c.loop-place-test.true)) (sym c.loop-place.invariant.here ∙ c.in-Some.is) in
+    let none : ◌≡◌ {A = Option Entry} None (Some p.entry) = sym c.in_default-get.is ∙ c.get.ensures ∙ p.get in cc
+
+pub add_row-requires : goal.add_row-requires
+add_row-requires g c =
+    room-left (fate_row Abandoned) c.args.book.now c.loop-place.book (chain (g.S.EntryStore.content c.args.store.now) c.args.list.0) c.loop-place._place (omega (arith, c.len-place-end.ensures, c.loop-place-test.true)) c.requires.room c.loop-place.invariant.rows
+
+pub loop-place-preserved : goal.loop-place-preserved
+loop-place-preserved g c =
+    let content : Content = g.S.EntryStore.content c.args.store.now in
+    let p : AtPlace content c.args.list.0 c.loop-place._place c.in-Some.cell = at-place content c.args.list.0 c.loop-place._place c.in-Some.cell (g.met.S.EntryStore.sound c.args.store.now).once (omega (arith, c.len-place-end.ensures, c.loop-place-test.true)) (sym c.loop-place.invariant.here ∙ c.in-Some.is) in
+    let at : get_or (chain content c.args.list.0) c.loop-place._place (c.in-Some.cell, c.in-Some-get.entry) ≡ (c.in-Some.cell, c.in-Some-get.entry) = slot-at content c.args.list.0 c.loop-place._place c.in-Some.cell c.in-Some-get.entry c.get.result p c.get.ensures c.in-Some-get.is in
+    record {
+      here = c.next-at.ensures ∙ p.next;
+      rows = row-added (fate_row Abandoned) c.args.book.now c.loop-place.book c.add_row.new.self (chain content c.args.list.0) c.loop-place._place (c.in-Some.cell, c.in-Some-get.entry) p.stands.within at c.loop-place.invariant.rows c.add_row.ensures;
+    }

@@ -1,0 +1,11 @@
+use Rattle.std.proofs.Common.{◌≡◌, ◌<◌, ◌∙◌, sym, subst, ap, arith}
+use Rattle.dsa_regs.specs.declared.Caps.{Caps}
+use Rattle.dsa_store.specs.Content.{Content}
+use Rattle.dsa_engines.specs.Engines.{IsInStep}
+use Rattle.dsa_engines.proofs.Keeping.{in_step-pushed}
+use Rattle.dsa_engines.proofs.tests.put.Goals as goal
+
+pub returns : goal.returns
+returns g c =
+    subst (λ (x : Content). IsInStep c.args.queues.now c.args.engines.now x) (sym c.in-Some.ensures.some)
+    (in_step-pushed c.args.queues.now c.args.engines.now (g.S.EntryStore.content c.args.store.now) c.args.entry.queue c.in-Some.cell c.args.entry c.requires (omega (arith, ap (λ (x : Caps). x.queues) c.caps-caps.ensures.value)))

@@ -1,0 +1,100 @@
+//! Fetch: an engine hands in the next member of its batch.
+
+ghost use Rattle.std.specs.Prelude.{◌≡◌, ℕ, ◌<◌, ◌+◌, ◌^◌, ◌==◌, true, List, [], length, find};
+ghost use Rattle.dsa_regs.specs.Caps.{cell_count};
+ghost use Rattle.dsa_store.specs.Content.{chain, held};
+ghost use Rattle.dsa_book.specs.declared.fate.FateRow.{FateRow};
+ghost use Rattle.dsa_book.specs.Machine.{fetched_cell, cell_or_first, may_use};
+ghost use Rattle.dsa_book.specs.Work.{fetch, is_all_fetched};
+ghost use Rattle.dsa_engines.specs.Engines.{work, IsInStep, IsReady, is_fetching};
+
+use crate::Engines;
+use dsa_book::{BatchNote, FetchAnswer, Ticket};
+use dsa_desc::Descriptor;
+use dsa_queues::Queues;
+use dsa_store::{Cell, Entry, EntryStore, ListId};
+
+// The first entry of the list that has the name. Looks at those before it.
+fn find_named<S: EntryStore>(store: &S, list: ListId, name: u32) -> Option<(Cell, Entry)>
+    requires { list.0 < length (S.content store.now) }
+    ensures { result ≡ find (λ slot. slot.1.name == name) (chain (S.content store.now) list.0) }
+{
+    let mut at = store.front(list);
+    for _place in 0..store.len(list) {
+        let Some(cell) = at else {
+            unreachable!();
+        };
+        let Some(entry) = store.get(cell) else {
+            unreachable!();
+        };
+        if entry.name == name {
+            return Some((cell, entry));
+        }
+        at = store.next(cell);
+    }
+    None
+}
+
+// Whether no member is to be fetched any more.
+pub(crate) fn is_all_fetched(note: &BatchNote) -> bool
+    ensures { result ≡ is_all_fetched note.now }
+{
+    note.closed || note.count <= note.fetched
+}
+
+impl Engines {
+    /// The engine hands in the next member of the batch that it works on. It stands last among the members, waits, and has
+    /// the next name, the PASID and the queue of the batch (profile).
+    ///
+    /// `NoBatch` where the engine works on no batch, `AllFetched` where the batch has no more members or is closed.
+    /// Looks for the batch among the entries in progress.
+    pub fn fetch<S: EntryStore>(
+        &mut self,
+        queues: &mut Queues,
+        store: &mut S,
+        engine: u16,
+        desc: Descriptor,
+    ) -> FetchAnswer
+        requires ready { IsReady queues.old (S.content store.old) }
+        requires in_step { IsInStep queues.old self.old (S.content store.old) }
+        requires cells { S.cells store.old ≡ cell_count queues.old.caps }
+        requires room { is_fetching (work queues.old self.old (S.content store.old) []) engine ≡ true → held (S.content store.old) < S.cells store.old }
+        requires names { is_fetching (work queues.old self.old (S.content store.old) []) engine ≡ true → queues.old.next_name + 1 < 2 ^ 32 }
+        ensures step { (fates : List FateRow) → fetch (work queues.old self.old (S.content store.old) fates) engine desc (cell_or_first (fetched_cell result))
+            ≡ (result, work queues.new self.new (S.content store.new) fates) }
+        ensures free { may_use queues.old (S.content store.old) (fetched_cell result) ≡ true }
+        ensures cells { S.cells store.new ≡ S.cells store.old }
+        ensures in_step { IsInStep queues.new self.new (S.content store.new) }
+    {
+        let caps = queues.caps();
+        if engine >= caps.engines {
+            return FetchAnswer::NoBatch;
+        }
+        let Some(note) = self.note(engine) else {
+            return FetchAnswer::NoBatch;
+        };
+        let progress = ListId(caps.queues + engine);
+        let Some((_, batch)) = find_named(store, progress, note.batch) else {
+            return FetchAnswer::NoBatch;
+        };
+        if is_all_fetched(&note) {
+            return FetchAnswer::AllFetched;
+        }
+        let name = queues.next_name();
+        let member = Entry {
+            name,
+            parent: Some(note.batch),
+            desc: desc.with_pasid(batch.desc.pasid),
+            queue: batch.queue,
+            running: false,
+        };
+        let members = ListId(caps.queues + caps.engines + engine);
+        let Some(cell) = store.push_back(members, member) else {
+            unreachable!();
+        };
+        queues.give_name();
+        let fetched = note.fetched + 1;
+        self.set_note(engine, Some(BatchNote { fetched, ..note }));
+        FetchAnswer::Fetched(Ticket { cell, name })
+    }
+}

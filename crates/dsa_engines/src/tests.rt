@@ -1,0 +1,249 @@
+//! Engines over a store of vectors.
+
+ghost use Rattle.std.specs.Prelude.{◌≡◌, None};
+ghost use Rattle.dsa_regs.specs.Config.{check_device};
+ghost use Rattle.dsa_engines.specs.Engines.{IsInStep, IsReady};
+
+use super::*;
+use dsa_book::{
+    Book, DispatchAnswer, Fate, FateRow, FetchAnswer, FinishAnswer, StartAnswer, Ticket,
+};
+use dsa_desc::{Descriptor, Outcome};
+use dsa_queues::Queues;
+use dsa_regs::{Caps, GroupConfig, Phase, QueueConfig, cell_count, check_caps, check_device, list_count};
+use dsa_store::{Cell, Entry, EntryStore, ListId, PlainStore};
+use std::process::Abort;
+use std::test::Fail;
+
+const CAPS: Caps = Caps {
+    queues: 2,
+    groups: 1,
+    engines: 1,
+    total_size: 4,
+    read_buffers: 8,
+    slots: 2,
+    max_batch_shift: 1,
+    max_xfer_shift: 20,
+};
+
+const QUEUE: QueueConfig = QueueConfig {
+    size: 2,
+    threshold: 2,
+    dedicated: false,
+    priority: 1,
+    pasid: 0,
+    max_batch_shift: 1,
+    max_xfer_shift: 20,
+};
+
+const GROUP: GroupConfig = GroupConfig {
+    queues: 3,
+    engines: 1,
+    reserved: 0,
+    allowed: 4,
+};
+
+// A memory move of as many pages of 4096 bytes.
+fn move_of(name: u32, queue: u16, pages: u8) -> Entry {
+    Entry {
+        name,
+        parent: None,
+        desc: Descriptor {
+            pasid: 5,
+            flags: 0,
+            op: 3,
+            size: 4096 * u32::from(pages),
+        },
+        queue,
+        running: false,
+    }
+}
+
+// The queues of an enabled device.
+fn enabled_queues(rt: &impl Abort) -> Queues {
+    let mut queues = Queues::new(CAPS);
+    for queue in 0..2 {
+        assert!(rt; queues.has_queue(queue));
+        queues.set_queue(queue, QUEUE);
+    }
+    assert!(rt; queues.caps().groups == 1);
+    queues.set_group(0, GROUP);
+    queues.set_device(Phase::On);
+    queues
+}
+
+// What each call asks of the queues and the store, tested.
+fn ready<S: EntryStore>(rt: &impl Abort, queues: &Queues, store: &S)
+    ensures ready { IsReady queues.now (S.content store.now) }
+    ensures checked { check_device queues.now.caps queues.now.configs queues.now.groups ≡ None }
+{
+    let caps = queues.caps();
+    assert!(rt; check_caps(&caps));
+    assert!(rt; store.lists() == list_count(&caps));
+    assert!(rt; queues.device() == Phase::On);
+    assert!(rt; check_device(&caps, queues.configs(), queues.groups()).is_none());
+}
+
+// The entry in a queue, which leaves the engines in step.
+fn put<S: EntryStore>(
+    rt: &impl Abort,
+    queues: &Queues,
+    engines: &Engines,
+    store: &mut S,
+    entry: Entry,
+) -> Cell
+    requires { IsInStep queues.now engines.now (S.content store.old) }
+    ensures { IsInStep queues.now engines.now (S.content store.new) }
+{
+    let caps = queues.caps();
+    assert!(rt; entry.queue < caps.queues);
+    assert!(rt; entry.queue < store.lists());
+    let Some(cell) = store.push_back(ListId(entry.queue), entry) else {
+        panic!(rt; "no cell is free");
+    };
+    cell
+}
+
+// Two entries that need all buffers of the group: the second waits for the end of the first.
+fn one_runs_at_a_time<S: EntryStore>(rt: &impl Abort, store: &mut S, book: &mut Book) {
+    let queues = enabled_queues(rt);
+    let mut engines = Engines::new(&queues.caps());
+    ready(rt, &queues, store);
+    assert!(rt; store.free() == store.cells());
+    engines.enable(&queues);
+    assert_eq!(rt; engines.dispatch(&queues, store, 0), DispatchAnswer::Idle);
+    let cell = put(rt, &queues, &engines, store, move_of(10, 0, 4));
+    let second = put(rt, &queues, &engines, store, move_of(11, 1, 1));
+    ready(rt, &queues, store);
+    let ticket = Ticket { cell, name: 10 };
+    let taken = DispatchAnswer::Taken { ticket, queue: 0 };
+    assert_eq!(rt; engines.dispatch(&queues, store, 0), taken);
+    ready(rt, &queues, store);
+    assert_eq!(rt; engines.dispatch(&queues, store, 0), DispatchAnswer::Idle);
+    ready(rt, &queues, store);
+    assert!(rt; book.fates().len() < book.capacity());
+    let other = Ticket { cell, name: 11 };
+    let gone = engines.finish(&queues, store, book, 0, other, Outcome::Success);
+    assert_eq!(rt; gone, FinishAnswer::Gone);
+    ready(rt, &queues, store);
+    assert!(rt; book.fates().len() < book.capacity());
+    let done = engines.finish(&queues, store, book, 0, ticket, Outcome::PageFault);
+    assert_eq!(rt; done, FinishAnswer::Done(0x03));
+    let row = FateRow {
+        name: 10,
+        parent: None,
+        fate: Fate::Completed(0x03),
+    };
+    assert_eq!(rt; book.fate(10), Some(row));
+    ready(rt, &queues, store);
+    let ticket = Ticket {
+        cell: second,
+        name: 11,
+    };
+    let taken = DispatchAnswer::Taken { ticket, queue: 1 };
+    assert_eq!(rt; engines.dispatch(&queues, store, 0), taken);
+}
+
+// Starts the one member that the engine of the device has.
+fn start_one<S: EntryStore>(
+    rt: &impl Abort,
+    queues: &Queues,
+    engines: &mut Engines,
+    store: &mut S,
+    book: &mut Book,
+) -> StartAnswer
+    requires { IsInStep queues.now engines.old (S.content store.old) }
+    ensures { IsInStep queues.now engines.new (S.content store.new) }
+{
+    let caps = queues.caps();
+    ready(rt, queues, store);
+    assert!(rt; caps.queues == 2 && caps.engines == 1);
+    let members = store.len(ListId(3));
+    assert!(rt; members <= 1);
+    assert!(rt; book.fates().len() + 1 <= book.capacity());
+    engines.start(queues, store, book, 0)
+}
+
+// Ends the entry of the ticket.
+fn end<S: EntryStore>(
+    rt: &impl Abort,
+    queues: &Queues,
+    engines: &mut Engines,
+    store: &mut S,
+    book: &mut Book,
+    ticket: Ticket,
+) -> FinishAnswer
+    requires { IsInStep queues.now engines.old (S.content store.old) }
+    ensures { IsInStep queues.now engines.new (S.content store.new) }
+{
+    ready(rt, queues, store);
+    assert!(rt; book.fates().len() < book.capacity());
+    engines.finish(queues, store, book, 0, ticket, Outcome::PageFault)
+}
+
+// Hands a move of one page in.
+fn fetch_move<S: EntryStore>(
+    rt: &impl Abort,
+    queues: &mut Queues,
+    engines: &mut Engines,
+    store: &mut S,
+) -> FetchAnswer
+    requires { IsInStep queues.old engines.old (S.content store.old) }
+    ensures { IsInStep queues.new engines.new (S.content store.new) }
+{
+    ready(rt, queues, store);
+    assert!(rt; store.cells() == cell_count(&queues.caps()));
+    assert!(rt; store.free() > 0);
+    assert!(rt; queues.next_name() < 100);
+    engines.fetch(queues, store, 0, move_of(0, 0, 1).desc)
+}
+
+// A batch of two: it ends after its members, and as failed where one of them failed.
+fn batch_ends_last<S: EntryStore>(rt: &impl Abort, store: &mut S, book: &mut Book) {
+    let mut queues = enabled_queues(rt);
+    let mut engines = Engines::new(&queues.caps());
+    ready(rt, &queues, store);
+    assert!(rt; store.free() == store.cells());
+    engines.enable(&queues);
+    assert_eq!(rt; fetch_move(rt, &mut queues, &mut engines, store), FetchAnswer::NoBatch);
+    let mut batch = move_of(20, 0, 1);
+    batch.desc.op = 1;
+    batch.desc.size = 2;
+    let cell = put(rt, &queues, &engines, store, batch);
+    ready(rt, &queues, store);
+    let ticket = Ticket { cell, name: 20 };
+    let taken = DispatchAnswer::Taken { ticket, queue: 0 };
+    assert_eq!(rt; engines.dispatch(&queues, store, 0), taken);
+    for _ in 0..2 {
+        let FetchAnswer::Fetched(member) = fetch_move(rt, &mut queues, &mut engines, store) else {
+            panic!(rt; "nothing was fetched");
+        };
+        let answer = start_one(rt, &queues, &mut engines, store, book);
+        assert_eq!(rt; answer, StartAnswer::Started(member));
+        let early = end(rt, &queues, &mut engines, store, book, ticket);
+        assert_eq!(rt; early, FinishAnswer::NotReady);
+        let failed = end(rt, &queues, &mut engines, store, book, member);
+        assert_eq!(rt; failed, FinishAnswer::Done(0x03));
+    }
+    assert_eq!(rt; fetch_move(rt, &mut queues, &mut engines, store), FetchAnswer::AllFetched);
+    let answer = start_one(rt, &queues, &mut engines, store, book);
+    assert_eq!(rt; answer, StartAnswer::Nothing);
+    let last = end(rt, &queues, &mut engines, store, book, ticket);
+    assert_eq!(rt; last, FinishAnswer::Done(0x05));
+}
+
+#[test]
+fn buffers_of_a_group(rt: HostRuntime) -> Result<(), Fail> {
+    let mut store = PlainStore::new(rt.alloc(), 4, 8)?;
+    let mut book = Book::new(rt.alloc(), 2)?;
+    one_runs_at_a_time(&rt, &mut store, &mut book);
+    Ok(())
+}
+
+#[test]
+fn members_of_a_batch(rt: HostRuntime) -> Result<(), Fail> {
+    let mut store = PlainStore::new(rt.alloc(), 4, 8)?;
+    let mut book = Book::new(rt.alloc(), 4)?;
+    batch_ends_last(&rt, &mut store, &mut book);
+    Ok(())
+}

@@ -1,0 +1,453 @@
+use super::*;
+use std::fmt::InlineText;
+use std::test::Fail;
+
+const CAPS: Caps = Caps {
+    queues: 2,
+    groups: 2,
+    engines: 2,
+    total_size: 8,
+    read_buffers: 16,
+    slots: 2,
+    max_batch_shift: 3,
+    max_xfer_shift: 20,
+};
+
+const SHARED: QueueConfig = QueueConfig {
+    size: 4,
+    threshold: 2,
+    dedicated: false,
+    priority: 1,
+    pasid: 0,
+    max_batch_shift: 3,
+    max_xfer_shift: 20,
+};
+
+const DEDICATED: QueueConfig = QueueConfig {
+    size: 2,
+    threshold: 0,
+    dedicated: true,
+    priority: 1,
+    pasid: 7,
+    max_batch_shift: 3,
+    max_xfer_shift: 20,
+};
+
+const FIRST: GroupConfig = GroupConfig {
+    queues: 1,
+    engines: 1,
+    reserved: 4,
+    allowed: 8,
+};
+
+const SECOND: GroupConfig = GroupConfig {
+    queues: 2,
+    engines: 2,
+    reserved: 8,
+    allowed: 12,
+};
+
+#[test]
+fn faults_have_numbers(rt: HostRuntime) {
+    let faults = [
+        (Fault::SizesTooLarge, 1),
+        (Fault::TwoGroups, 2),
+        (Fault::ReservedTooMany, 3),
+        (Fault::AllowedOutOfRange, 4),
+        (Fault::GroupWithoutEngine, 5),
+        (Fault::GroupWithoutQueue, 6),
+        (Fault::SizeZero, 7),
+        (Fault::PriorityZero, 8),
+        (Fault::ThresholdZero, 9),
+        (Fault::ThresholdAboveSize, 10),
+        (Fault::BatchTooLarge, 11),
+        (Fault::NoGroup, 12),
+        (Fault::BadCommand, 13),
+        (Fault::BadQueue, 14),
+        (Fault::Locked, 15),
+        (Fault::WrongState, 16),
+        (Fault::Busy, 17),
+        (Fault::PriorityTooLarge, 18),
+        (Fault::TransferTooLarge, 19),
+        (Fault::BadIndex, 20),
+    ];
+    for (fault, number) in faults {
+        assert_eq!(rt; fault.number(), number);
+    }
+}
+
+#[test]
+fn faults_have_names(rt: HostRuntime) {
+    let faults = [
+        (Fault::SizesTooLarge, "SizesTooLarge"),
+        (Fault::TwoGroups, "TwoGroups"),
+        (Fault::ReservedTooMany, "ReservedTooMany"),
+        (Fault::AllowedOutOfRange, "AllowedOutOfRange"),
+        (Fault::GroupWithoutEngine, "GroupWithoutEngine"),
+        (Fault::GroupWithoutQueue, "GroupWithoutQueue"),
+        (Fault::SizeZero, "SizeZero"),
+        (Fault::PriorityZero, "PriorityZero"),
+        (Fault::ThresholdZero, "ThresholdZero"),
+        (Fault::ThresholdAboveSize, "ThresholdAboveSize"),
+        (Fault::BatchTooLarge, "BatchTooLarge"),
+        (Fault::NoGroup, "NoGroup"),
+        (Fault::BadCommand, "BadCommand"),
+        (Fault::BadQueue, "BadQueue"),
+        (Fault::Locked, "Locked"),
+        (Fault::WrongState, "WrongState"),
+        (Fault::Busy, "Busy"),
+        (Fault::PriorityTooLarge, "PriorityTooLarge"),
+        (Fault::TransferTooLarge, "TransferTooLarge"),
+        (Fault::BadIndex, "BadIndex"),
+    ];
+    for (fault, name) in faults {
+        let said = fault.name();
+        assert_eq!(rt; said, name);
+    }
+}
+
+#[test]
+fn faults_print_as_sentences(rt: HostRuntime) {
+    let faults = [
+        (
+            Fault::SizesTooLarge,
+            "the sizes of all queues add up to more than the device has",
+        ),
+        (Fault::TwoGroups, "a queue or an engine is in two groups"),
+        (
+            Fault::ReservedTooMany,
+            "the groups reserve more read buffers than the device has",
+        ),
+        (
+            Fault::AllowedOutOfRange,
+            "a group may use fewer read buffers than it needs or more than the others leave",
+        ),
+        (
+            Fault::GroupWithoutEngine,
+            "a group has a queue and no engine",
+        ),
+        (
+            Fault::GroupWithoutQueue,
+            "a group has an engine and no queue",
+        ),
+        (Fault::SizeZero, "the size of the queue is zero"),
+        (Fault::PriorityZero, "the priority of the queue is zero"),
+        (
+            Fault::ThresholdZero,
+            "the threshold of the shared queue is zero",
+        ),
+        (
+            Fault::ThresholdAboveSize,
+            "the threshold of the shared queue is above its size",
+        ),
+        (
+            Fault::BatchTooLarge,
+            "the queue allows larger batches than the device",
+        ),
+        (Fault::NoGroup, "the queue is in no group"),
+        (Fault::BadCommand, "the word is no command"),
+        (
+            Fault::BadQueue,
+            "the command names no queue, or one that the device does not have",
+        ),
+        (
+            Fault::Locked,
+            "the configuration cannot be written while it is in use",
+        ),
+        (
+            Fault::WrongState,
+            "the device or a named queue is in the wrong state for the command",
+        ),
+        (Fault::Busy, "another command is active"),
+        (
+            Fault::PriorityTooLarge,
+            "the priority of the queue is above 15",
+        ),
+        (
+            Fault::TransferTooLarge,
+            "the queue allows larger transfers than the device",
+        ),
+        (
+            Fault::BadIndex,
+            "a queue, engine or group is named that the device does not have",
+        ),
+    ];
+    for (fault, sentence) in faults {
+        let said = InlineText::<96>::of(fault);
+        assert_eq!(rt; said.as_str(), sentence);
+    }
+}
+
+#[test]
+fn devices_within_limits(rt: HostRuntime) {
+    assert!(rt; check_caps(&CAPS));
+    assert_eq!(rt; cell_count(&CAPS), 28);
+    assert_eq!(rt; list_count(&CAPS), 6);
+    assert!(rt; !check_caps(&Caps { queues: 17, ..CAPS }));
+    let queues = zero_queues(&CAPS);
+    assert_eq!(rt; queues.as_slice(), [QueueConfig::default(); 2].as_slice());
+    let groups = zero_groups(&CAPS);
+    assert_eq!(rt; groups.as_slice(), [GroupConfig::default(); 2].as_slice());
+    let phases = off_phases(&CAPS);
+    assert_eq!(rt; phases.as_slice(), [Phase::Off; 2].as_slice());
+    let widest = Caps {
+        queues: 16,
+        groups: 8,
+        ..CAPS
+    };
+    assert!(rt; check_caps(&widest));
+    assert_eq!(rt; zero_queues(&widest).len(), MAX_QUEUES);
+    assert_eq!(rt; zero_groups(&widest).len(), MAX_GROUPS);
+}
+
+#[test]
+fn enabling_the_device(rt: HostRuntime) {
+    let cases = [
+        (DEDICATED, FIRST, SECOND, None),
+        (
+            DEDICATED,
+            FIRST,
+            GroupConfig {
+                queues: 4,
+                ..SECOND
+            },
+            Some(Fault::BadIndex),
+        ),
+        (
+            QueueConfig {
+                size: 5,
+                ..DEDICATED
+            },
+            FIRST,
+            SECOND,
+            Some(Fault::SizesTooLarge),
+        ),
+        (
+            DEDICATED,
+            FIRST,
+            GroupConfig {
+                queues: 3,
+                ..SECOND
+            },
+            Some(Fault::TwoGroups),
+        ),
+        (
+            DEDICATED,
+            FIRST,
+            GroupConfig {
+                engines: 3,
+                ..SECOND
+            },
+            Some(Fault::TwoGroups),
+        ),
+        (
+            DEDICATED,
+            FIRST,
+            GroupConfig {
+                reserved: 13,
+                ..SECOND
+            },
+            Some(Fault::ReservedTooMany),
+        ),
+        (
+            DEDICATED,
+            GroupConfig {
+                allowed: 9,
+                ..FIRST
+            },
+            SECOND,
+            Some(Fault::AllowedOutOfRange),
+        ),
+        (
+            DEDICATED,
+            FIRST,
+            GroupConfig {
+                engines: 0,
+                ..SECOND
+            },
+            Some(Fault::GroupWithoutEngine),
+        ),
+        (
+            DEDICATED,
+            FIRST,
+            GroupConfig {
+                queues: 0,
+                ..SECOND
+            },
+            Some(Fault::GroupWithoutQueue),
+        ),
+    ];
+    for (queue, first, second, fault) in cases {
+        assert_eq!(rt;
+            check_device(&CAPS, &[SHARED, queue], &[first, second]),
+            fault
+        );
+    }
+}
+
+#[test]
+fn enabling_a_queue(rt: HostRuntime) {
+    let groups = [FIRST, SECOND];
+    let cases = [
+        (0, SHARED, None),
+        (1, DEDICATED, None),
+        (0, QueueConfig { size: 0, ..SHARED }, Some(Fault::SizeZero)),
+        (
+            0,
+            QueueConfig {
+                priority: 0,
+                ..SHARED
+            },
+            Some(Fault::PriorityZero),
+        ),
+        (
+            0,
+            QueueConfig {
+                priority: 15,
+                ..SHARED
+            },
+            None,
+        ),
+        (
+            0,
+            QueueConfig {
+                priority: 16,
+                ..SHARED
+            },
+            Some(Fault::PriorityTooLarge),
+        ),
+        (
+            0,
+            QueueConfig {
+                threshold: 0,
+                ..SHARED
+            },
+            Some(Fault::ThresholdZero),
+        ),
+        (
+            0,
+            QueueConfig {
+                threshold: 4,
+                ..SHARED
+            },
+            None,
+        ),
+        (
+            0,
+            QueueConfig {
+                threshold: 5,
+                ..SHARED
+            },
+            Some(Fault::ThresholdAboveSize),
+        ),
+        (
+            0,
+            QueueConfig {
+                max_batch_shift: 4,
+                ..SHARED
+            },
+            Some(Fault::BatchTooLarge),
+        ),
+        (
+            0,
+            QueueConfig {
+                max_xfer_shift: 21,
+                ..SHARED
+            },
+            Some(Fault::TransferTooLarge),
+        ),
+        (2, SHARED, Some(Fault::NoGroup)),
+    ];
+    for (queue, config, fault) in cases {
+        assert_eq!(rt; check_queue(&CAPS, &groups, queue, &config), fault);
+    }
+}
+
+#[test]
+fn configurations_speak(rt: HostRuntime) {
+    let limits = SHARED.limits();
+    assert_eq!(rt; (limits.max_batch_shift, limits.max_xfer_shift), (3, 20));
+    let group = GroupConfig {
+        queues: 1 << 63 | 1,
+        engines: 2,
+        ..FIRST
+    };
+    assert!(rt; group.has_queue(0) && group.has_queue(63));
+    assert!(rt; !group.has_queue(1) && !group.has_queue(64));
+    assert!(rt; group.has_engine(1) && !group.has_engine(0));
+    assert_eq!(rt; Phase::default(), Phase::Off);
+}
+
+#[test]
+fn words_are_commands(rt: HostRuntime) {
+    let first = QueueMask { group: 0, mask: 1 };
+    let third = QueueMask { group: 0, mask: 4 };
+    let seventeenth = QueueMask { group: 1, mask: 1 };
+    let words = [
+        (0, Err(Fault::BadCommand)),
+        (0x0210_0000, Err(Fault::BadCommand)),
+        (0x00d0_0000, Err(Fault::BadCommand)),
+        (0x0010_0000, Ok(Command::EnableDevice)),
+        (0x8010_0000, Ok(Command::EnableDevice)),
+        (0x0020_0000, Ok(Command::DisableDevice)),
+        (0x8030_0000, Ok(Command::DrainAll)),
+        (0x0040_0000, Ok(Command::AbortAll)),
+        (0x8050_0000, Ok(Command::ResetDevice)),
+        (0x0060_0000, Ok(Command::EnableWq(0))),
+        (0x8060_0000, Ok(Command::EnableWq(0))),
+        (0x0060_0002, Ok(Command::EnableWq(2))),
+        (0x8070_0001, Ok(Command::DisableWq(first))),
+        (0x0071_0001, Ok(Command::DisableWq(seventeenth))),
+        (0x0070_0004, Ok(Command::DisableWq(third))),
+        (0x0080_0001, Ok(Command::DrainWq(first))),
+        (0x8090_0001, Ok(Command::AbortWq(first))),
+        (0x00a0_0001, Ok(Command::ResetWq(first))),
+        (0x80b0_0005, Ok(Command::DrainPasid(5))),
+        (0x00c0_0005, Ok(Command::AbortPasid(5))),
+    ];
+    for (word, command) in words {
+        assert_eq!(rt; CommandWord::parse(word), command, "at {word}");
+    }
+}
+
+#[test]
+fn commands_have_numbers_and_names(rt: HostRuntime) -> Result<(), Fail> {
+    let commands = [
+        (0x0010_0000, 1, "Enable Device"),
+        (0x0020_0000, 2, "Disable Device"),
+        (0x0030_0000, 3, "Drain All"),
+        (0x0040_0000, 4, "Abort All"),
+        (0x0050_0000, 5, "Reset Device"),
+        (0x0060_0000, 6, "Enable WQ"),
+        (0x0070_0000, 7, "Disable WQ"),
+        (0x0080_0000, 8, "Drain WQ"),
+        (0x0090_0000, 9, "Abort WQ"),
+        (0x00a0_0000, 10, "Reset WQ"),
+        (0x00b0_0000, 11, "Drain PASID"),
+        (0x00c0_0000, 12, "Abort PASID"),
+    ];
+    for (word, number, name) in commands {
+        let command = CommandWord::parse(word)?;
+        assert_eq!(rt; command.number(), number);
+        assert_eq!(rt; command.name(), name);
+    }
+    Ok(())
+}
+
+#[test]
+fn commands_name_queues(rt: HostRuntime) {
+    let mask = QueueMask {
+        group: 1,
+        mask: 0x8005,
+    };
+    assert_eq!(rt; mask.queues().as_slice(), [16, 18, 31].as_slice());
+    assert!(rt; mask.contains(16) && mask.contains(18) && mask.contains(31));
+    assert!(rt; !mask.contains(0) && !mask.contains(17) && !mask.contains(32));
+    assert_eq!(rt;
+        Command::DrainWq(mask).queues().as_slice(),
+        [16, 18, 31].as_slice()
+    );
+    assert_eq!(rt; Command::EnableWq(2).queues().as_slice(), [2].as_slice());
+    assert!(rt; Command::DrainAll.queues().is_empty());
+    assert!(rt; QueueMask { group: 1, mask: 0 }.queues().is_empty());
+}
