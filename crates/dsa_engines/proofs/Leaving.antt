@@ -70,7 +70,7 @@ lower setup content e cell entry once len he at =
       | inr m ↦ raises-members setup (unlinked content cell) content e n (subst (λ (i : ℕ). HoldsMore setup (unlinked content cell) content e i n) m (left-less setup content e at.list at.place cell entry once at.stands (omega (arith, m, len, he)) he))
     ]
 
-pub back : (setup : Setup) (content : Content) (e : ℕ) (cell : Cell) (entry : Entry) → uses content cell ≤ 1 → IsReady setup content → e < setup.caps.engines → StandsOn setup content e cell entry → GivesBack setup content (unlinked content cell) e (cond entry.running (need_of setup entry) 0)
+back : (setup : Setup) (content : Content) (e : ℕ) (cell : Cell) (entry : Entry) → uses content cell ≤ 1 → IsReady setup content → e < setup.caps.engines → StandsOn setup content e cell entry → GivesBack setup content (unlinked content cell) e (cond entry.running (need_of setup entry) 0)
 back setup content e cell entry once r he at =
     gives-back setup content (unlinked content cell) e (cond entry.running (need_of setup entry) 0) he r.groups (one-group setup content r (awake-on setup content e cell entry r at)) (lower setup content e cell entry once r.lists he at)
 

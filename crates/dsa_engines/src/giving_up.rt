@@ -10,7 +10,7 @@ use dsa_store::Entry;
 
 impl Engines {
     /// Gives back the read buffers that the entry held, if it ran, as it is taken out of the engine's lists.
-    pub fn release(&mut self, queues: &Queues, engine: u16, entry: &Entry)
+    pub fn removed(&mut self, queues: &Queues, engine: u16, entry: &Entry)
         requires { Holds (get_or self.old.homes engine None) (cond entry.now.running (need_of queues.now entry.now) 0) self.old.buffers }
         ensures { self.new ≡ record self.old { buffers = given (get_or self.old.homes engine None) (cond entry.now.running (need_of queues.now entry.now) 0) self.old.buffers } }
     {

@@ -8,11 +8,7 @@
 mod engines;
 mod fetching;
 mod finishing;
-<<<<<<< HEAD
 mod giving_up;
-=======
-mod releasing;
->>>>>>> a43ff39d3b2ad99a4a6a7d4c924329db5e91dcb5
 mod removing;
 mod starting;
 mod taking;
