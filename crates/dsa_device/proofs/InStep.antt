@@ -1,5 +1,5 @@
 -- What the engines keep agrees with the lists still, after a step that moves nothing on an engine.
-use Rattle.std.proofs.Common.{◌≡◌, ℕ, ◌+◌, ◌++◌, Bool, true, false, cond, List, [], ◌∷◌, Option, Some, None, refl, sym, ap, ◌∙◌, subst, inl, inr, arith, ⊎_elim}
+use Rattle.std.proofs.Common.{◌≡◌, ℕ, ◌++◌, Bool, false, cond, List, [], ◌∷◌, Option, Some, None, refl, sym, ap, ◌∙◌, subst, inl, inr, arith, ⊎_elim}
 use Rattle.std.specs.Prelude.{nat_lt, not, ◌&&◌, ◌==◌}
 use Rattle.std.proofs.lemmas.Bool.{not-false}
 use Rattle.std.proofs.lemmas.List.{get_or-set_other}
@@ -80,12 +80,12 @@ write_queue-in_step w gear q config none i =
     table3 (λ (r : WriteAnswer × Setup). IsInStep r.1 gear w.content) (not (has_queue w.setup q)) (not (is_off (phase_at w.setup q))) (not (is_off w.setup.device) && not (config.size == (queue_at w.setup.configs q).size)) _ _ _ _
     (λ t. i) (λ t. i) (λ t. i)
     (λ there off size. in_step-kept w.setup _ gear w.content w.content i (record {
-    caps = refl;
-    groups = refl;
-    device = λ n. n;
-    loads = λ k low. load-same w.setup _ (chain w.content k) (λ x m.
-        get_or-set_other w.setup.configs q x.1.queue config zero_queue (λ e.
-        not-both (is_off (phase_at w.setup q)) (not-false _ off) (subst (λ n. is_off (phase_at w.setup n) ≡ false) e (none k x m))));
+      caps = refl;
+      groups = refl;
+      device = λ n. n;
+      loads = λ k low. load-same w.setup _ (chain w.content k) (λ x m.
+          get_or-set_other w.setup.configs q x.1.queue config zero_queue (λ e.
+          not-both (is_off (phase_at w.setup q)) (not-false _ off) (subst (λ n. is_off (phase_at w.setup n) ≡ false) e (none k x m))));
     }))
 
 -- groups are written while the device is Off alone

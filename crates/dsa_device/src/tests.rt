@@ -273,7 +273,10 @@ fn move_from_submission_to_fate(rt: HostRuntime) -> Result<(), Fail> {
     assert_eq!(rt; device.fate(0), Some(Fate::Completed(0x03)));
     assert_eq!(rt; device.next_name(), 1);
     // The seven places are taken.
-    assert_eq!(rt; device.finish(0, ticket, Outcome::Success), FinishAnswer::Full);
+    assert_eq!(rt;
+        device.finish(0, ticket, Outcome::Success),
+        FinishAnswer::Full
+    );
     assert_eq!(rt; device.poll(), PollAnswer::Full);
     Ok(())
 }
@@ -281,7 +284,12 @@ fn move_from_submission_to_fate(rt: HostRuntime) -> Result<(), Fail> {
 #[test]
 fn drain_ends_with_its_batch(rt: HostRuntime) -> Result<(), Fail> {
     let mut device = enabled(&rt, 64)?;
-    assert!(rt; matches!(device.step(submission(BATCH)), Reply::Submit(SubmitAnswer::Accepted(_))));
+    assert!(rt;
+        matches!(
+            device.step(submission(BATCH)),
+            Reply::Submit(SubmitAnswer::Accepted(_))
+        )
+    );
     let DispatchAnswer::Taken { ticket, .. } = device.dispatch(0) else {
         return Err("idle")?;
     };
