@@ -1,0 +1,45 @@
+//! Runs examples: for each name on standard input, the document `NAME.json` over both stores. Its lines are to be those of
+//! `NAME.out`.
+#![tactic(auto)]
+
+use dsa_regs::{cell_count, list_count};
+use dsa_scenario::{ScenarioFault, check_document, parse_document, run_document, run_scenario};
+use dsa_store::PlainStore;
+use std::alloc::Global;
+use std::{fs, io};
+
+// The lines of the document in these bytes, over a store of vectors.
+fn render_plain(alloc: Global, bytes: &[u8]) -> Result<String, ScenarioFault> {
+    let document = parse_document(alloc, bytes)?;
+    check_document(&document)?;
+    let lists = list_count(&document.caps);
+    let store = PlainStore::new(alloc, lists, cell_count(&document.caps))?;
+    let text = run_document(alloc, store, &document)?;
+    Ok(text)
+}
+
+// Whether both stores come to these lines.
+fn is_same(alloc: Global, document: &[u8], lines: &[u8]) -> bool {
+    let mut reader = document;
+    let mut written = Vec::new(alloc);
+    let linked = run_scenario(alloc, &mut reader, &mut written);
+    let Ok(plain) = render_plain(alloc, document) else {
+        return false;
+    };
+    linked.is_ok() && written.as_slice() == lines && plain.as_bytes() == lines
+}
+
+fn main(rt: HostRuntime) -> io::Result<()> {
+    for line in rt.lines(rt.alloc()) {
+        let name = line?;
+        let document = fs::read(&rt, format!(in rt.alloc(); "{name}.json")?)?;
+        let lines = fs::read(&rt, format!(in rt.alloc(); "{name}.out")?)?;
+        let verdict = if is_same(rt.alloc(), &document, &lines) {
+            "as written"
+        } else {
+            "other lines"
+        };
+        println!(rt; "{name}: {verdict}")?;
+    }
+    Ok(())
+}
