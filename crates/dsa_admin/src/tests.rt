@@ -163,7 +163,7 @@ fn push<S: EntryStore>(
     requires { IsInStep queues.old engines.now (S.content store.old) }
     ensures { IsInStep queues.new engines.now (S.content store.new) }
 {
-    assert!(rt; store.lists() == list_count(&queues.caps()));
+    assert!(rt; is_ready(queues, store));
     assert!(rt; queues.has_queue(queue));
     assert!(rt; queues.next_name() < 1000);
     let entry = Entry {

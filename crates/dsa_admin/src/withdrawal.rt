@@ -49,7 +49,7 @@ fn release(queues: &Queues, engines: &mut Engines, engine: Option<u16>, entry: &
     ensures { engines.new ≡ record engines.old { buffers = released queues.now engines.old engine entry.now } }
 {
     if let Some(engine) = engine {
-        engines.release(queues, engine, entry);
+        engines.removed(queues, engine, entry);
     }
 }
 
