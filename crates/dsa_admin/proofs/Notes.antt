@@ -23,7 +23,7 @@ notes-turn setup content first now after n is h step =
     let xs : List (Option BatchNote) = first.notes in
     let same : kept_at setup content (renewed f n xs) n ≡ f n = ap (λ (note : Option BatchNote). kept_note setup (chain content (progress_list setup n)) note) (renewed-next f n xs None h) in
     let written : set now.notes n (kept_at setup content now.notes n) ≡ renewed f (n + 1) xs =
-        ap (λ (x : Gear). set x.notes n (kept_at setup content x.notes n)) is ∙ ap (λ (note : Option BatchNote). set (renewed f n xs) n note) same ∙ renewed-set f n xs h ∙ ap (λ (k : ℕ). renewed f k xs) (sym (add-one n)) in
+    ap (λ (x : Gear). set x.notes n (kept_at setup content x.notes n)) is ∙ ap (λ (note : Option BatchNote). set (renewed f n xs) n note) same ∙ renewed-set f n xs h ∙ ap (λ (k : ℕ). renewed f k xs) (sym (add-one n)) in
     step ∙ ap (λ (l : List (Option BatchNote)). record now { notes = l }) written ∙ ap (λ (x : Gear). record x { notes = renewed f (n + 1) xs }) is
 
 pub in_step-kept : (setup : Setup) (gear after : Gear) (content : Content) (f : ℕ → Option BatchNote) → IsInStep setup gear content → after ≡ record gear { notes = map f (numbers_below setup.caps.engines) } → IsInStep setup after content

@@ -47,7 +47,6 @@ rows-turn command content i k cell e at =
     = filter_more (is_meant command) l k (cell, e) at.within ∙ ap (λ (x : Slot). filter (is_meant command) (take k l) ++ cond (is_meant command x) (x ∷ []) []) at.slot in
     ap (map row) more ∙ map-append row (filter (is_meant command) (take k l)) (cond (is_in_scope command e) ((cell, e) ∷ []) []) ∙ ap (λ (rows : List FateRow). rows_of command (take k l) ++ rows) (map-cond row (is_in_scope command e) (cell, e))
 
-
 left-by : (command : Command) (content : Content) (i k : ℕ) (now : Content) (cell : Cell) → (t : AtTurn (is_spared command) content i k now cell) (b : Bool) → is_in_scope command t.entry ≡ b → cond b (unlinked now cell) now ≡ thinned (is_spared command) content i (k + 1)
 left-by command content i k now cell t true h = t.out (ap not h)
 left-by command content i k now cell t false h = t.stay (ap not h)

@@ -31,10 +31,7 @@ fn has_queue(queues: &Queues, queue: u32) -> bool
 fn has_queues(queues: &Queues, named: &QueueMask) -> bool
     ensures { result ≡ list_all (has_queue queues.now) (queues_of named.now) }
 {
-    named
-        .queues()
-        .iter()
-        .all(|queue| has_queue(queues, *queue))
+    named.queues().iter().all(|queue| has_queue(queues, *queue))
 }
 
 // Whether the mask names no queue, or one that the device does not have.

@@ -14,10 +14,8 @@ pub(crate) fn is_in_scope(command: &Command, entry: &Entry) -> bool
 {
     match command {
         Command::EnableDevice | Command::EnableWq(_) => false,
-        Command::DisableDevice
-        | Command::DrainAll
-        | Command::AbortAll
-        | Command::ResetDevice => true,
+        Command::DisableDevice | Command::DrainAll | Command::AbortAll | Command::ResetDevice =>
+            true,
         Command::DisableWq(queues)
         | Command::DrainWq(queues)
         | Command::AbortWq(queues)

@@ -14,11 +14,7 @@ impl Engines {
         requires { Holds (get_or self.old.homes engine None) (cond entry.now.running (need_of queues.now entry.now) 0) self.old.buffers }
         ensures { self.new ≡ record self.old { buffers = given (get_or self.old.homes engine None) (cond entry.now.running (need_of queues.now entry.now) 0) self.old.buffers } }
     {
-        let held = if entry.running {
-            queues.need(entry)
-        } else {
-            0
-        };
+        let held = if entry.running { queues.need(entry) } else { 0 };
         self.give_back(self.home(engine), held);
     }
 

@@ -43,7 +43,11 @@ fn add_dispatch(text: &mut String, answer: DispatchAnswer) -> Result<(), AllocEr
     ensures { OnOk result (string_bytes text.new ≡ string_bytes text.old ++ dispatch_text answer) }
 {
     match answer {
-        DispatchAnswer::Taken { ticket, queue } => write!(text, "taken {} from {queue}", ticket.name),
+        DispatchAnswer::Taken { ticket, queue } => write!(
+            text,
+            "taken {} from {queue}",
+            ticket.name
+        ),
         DispatchAnswer::Idle => text.push_str("idle"),
         DispatchAnswer::Full => text.push_str("full"),
     }
