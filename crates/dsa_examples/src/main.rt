@@ -1,9 +1,11 @@
-//! Runs examples: for each name on standard input, the document `NAME.json` over both stores. Its lines are to be those of
-//! `NAME.out`.
+//! Runs examples: for each name on standard input, the document `NAME.json`. Its lines, over both stores, are to be those of
+//! `NAME.out`; where there is a file `NAME.err` instead, it has to be refused with that line.
 #![tactic(auto)]
 
 use dsa_regs::{cell_count, list_count};
-use dsa_scenario::{ScenarioFault, check_document, parse_document, run_document, run_scenario};
+use dsa_scenario::{
+    ScenarioFault, check_document, parse_document, run_document, run_scenario, run_words,
+};
 use dsa_store::PlainStore;
 use std::alloc::Global;
 use std::{fs, io};
@@ -29,15 +31,32 @@ fn is_same(alloc: Global, document: &[u8], lines: &[u8]) -> bool {
     linked.is_ok() && written.as_slice() == lines && plain.as_bytes() == lines
 }
 
+// Whether the program ends with status 1, writes this line to standard error and nothing to standard output.
+fn is_refused(alloc: Global, document: &[u8], line: &[u8]) -> bool {
+    let mut reader = document;
+    let mut out = Vec::new(alloc);
+    let mut err = Vec::new(alloc);
+    let status = run_words(alloc, &[], &mut reader, &mut out, &mut err);
+    status == 1 && out.is_empty() && err.as_slice() == line
+}
+
 fn main(rt: HostRuntime) -> io::Result<()> {
     for line in rt.lines(rt.alloc()) {
         let name = line?;
         let document = fs::read(&rt, format!(in rt.alloc(); "{name}.json")?)?;
-        let lines = fs::read(&rt, format!(in rt.alloc(); "{name}.out")?)?;
-        let verdict = if is_same(rt.alloc(), &document, &lines) {
-            "as written"
+        let verdict = if let Ok(fault) = fs::read(&rt, format!(in rt.alloc(); "{name}.err")?) {
+            if is_refused(rt.alloc(), &document, &fault) {
+                "refused as written"
+            } else {
+                "not refused as written"
+            }
         } else {
-            "other lines"
+            let lines = fs::read(&rt, format!(in rt.alloc(); "{name}.out")?)?;
+            if is_same(rt.alloc(), &document, &lines) {
+                "as written"
+            } else {
+                "other lines"
+            }
         };
         println!(rt; "{name}: {verdict}")?;
     }
