@@ -1,0 +1,3 @@
+pub mod EqualParts
+pub mod EqualAnswers
+pub mod EqualSteps

@@ -1,6 +1,6 @@
 //! What can happen to the device: one event for each of its steps.
 
-ghost use Rattle.std.specs.Prelude.{◌≡◌};
+ghost use Rattle.std.specs.Prelude.{◌≡◌, ◌↔◌, IsTrue};
 
 use crate::answer::{Reply, Ticket};
 use dsa_desc::{Descriptor, Outcome};
@@ -103,5 +103,14 @@ impl Event {
             | Event::Finish { engine, .. } => Actor::Engine(*engine),
             _ => Actor::Admin,
         }
+    }
+}
+
+impl Step {
+    /// Whether the other step has the same event and the same answer.
+    pub fn is_same(&self, other: &Step) -> bool
+        ensures { IsTrue result ↔ (self.now ≡ other.now) }
+    {
+        *self == *other
     }
 }

@@ -1,0 +1,155 @@
+-- What steps are made of: parts that compare as equal are the same.
+use Rattle.std.proofs.Common.{◌≡◌, ℕ, ◌==◌, ◌&&◌, Bool, true, false, refl, ap}
+use Rattle.std.specs.Bool.{beq}
+use Rattle.std.proofs.lemmas.Bool.{and_parts, eqb-true}
+use Rattle.dsa_desc.specs.declared.Descriptor.{Descriptor}
+use Rattle.dsa_desc.specs.contracts.DescriptorPartialEq.TheImpl as descriptor_eq
+use Rattle.dsa_desc.specs.declared.Outcome.{Outcome}
+use Rattle.dsa_desc.specs.declared.Outcome.TheVariants as outcome
+use Rattle.dsa_desc.specs.contracts.OutcomePartialEq.TheImpl as outcome_eq
+use Rattle.dsa_regs.specs.declared.QueueConfig.{QueueConfig}
+use Rattle.dsa_regs.specs.contracts.QueueConfigPartialEq.TheImpl as queue_config_eq
+use Rattle.dsa_regs.specs.declared.GroupConfig.{GroupConfig}
+use Rattle.dsa_regs.specs.contracts.GroupConfigPartialEq.TheImpl as group_config_eq
+use Rattle.dsa_regs.specs.declared.QueueMask.{QueueMask}
+use Rattle.dsa_regs.specs.contracts.QueueMaskPartialEq.TheImpl as queue_mask_eq
+use Rattle.dsa_regs.specs.declared.Command.{Command}
+use Rattle.dsa_regs.specs.declared.Command.TheVariants as command
+use Rattle.dsa_regs.specs.contracts.CommandPartialEq.TheImpl as command_eq
+use Rattle.dsa_regs.specs.declared.Fault.{Fault}
+use Rattle.dsa_regs.specs.declared.Fault.TheVariants as fault
+use Rattle.dsa_regs.specs.contracts.FaultPartialEq.TheImpl as fault_eq
+use Rattle.dsa_store.specs.declared.entry.Cell.{Cell}
+use Rattle.dsa_store.specs.contracts.entry.CellPartialEq.TheImpl as cell_eq
+use Rattle.dsa_book.specs.declared.answer.Ticket.{Ticket}
+use Rattle.dsa_book.specs.contracts.answer.TicketPartialEq.TheImpl as ticket_eq
+use Rattle.dsa_book.specs.declared.event.Portal.{Portal}
+use Rattle.dsa_book.specs.declared.event.Portal.TheVariants as portal
+use Rattle.dsa_book.specs.contracts.event.PortalPartialEq.TheImpl as portal_eq
+use Rattle.dsa_book.specs.declared.event.Kind.{Kind}
+use Rattle.dsa_book.specs.declared.event.Kind.TheVariants as kind
+use Rattle.dsa_book.specs.contracts.event.KindPartialEq.TheImpl as kind_eq
+use Rattle.dsa_book.specs.declared.answer.Cause.{Cause}
+use Rattle.dsa_book.specs.declared.answer.Cause.TheVariants as cause
+use Rattle.dsa_book.specs.contracts.answer.CausePartialEq.TheImpl as cause_eq
+use Rattle.dsa_book.specs.declared.answer.NotedError.{NotedError}
+use Rattle.dsa_book.specs.contracts.answer.NotedErrorPartialEq.TheImpl as noted_error_eq
+
+-- what cannot be
+pub never : {X : Type 0} → false ≡ true → X
+never h = absurd cc
+
+pub same-number : (a b : ℕ) → (a == b) ≡ true → a ≡ b
+same-number = eqb-true
+
+-- the first of the tests that a comparison makes of its fields, and those that follow
+pub field : {T : Type 0} {eq : T → T → Bool} → ((a b : T) → eq a b ≡ true → a ≡ b) → (a b : T) (rest : Bool)
+    → (eq a b && rest) ≡ true → (a ≡ b) × (rest ≡ true)
+field {T} {eq} same a b rest h = let p = and_parts (eq a b) rest h in (same a b p.0, p.1)
+
+same-bool : (a b : Bool) → beq a b ≡ true → a ≡ b
+same-bool true true h = refl
+same-bool false false h = refl
+same-bool _ _ h = never h
+
+pub same-descriptor : (a b : Descriptor) → descriptor_eq.eq-value.it a b ≡ true → a ≡ b
+same-descriptor a b h =
+    let p = field same-number a.pasid b.pasid _ h in
+    let q = field same-number a.flags b.flags _ p.1 in
+    let r = field same-number a.op b.op _ q.1 in
+    λ i. record { pasid = p.0 i; flags = q.0 i; op = r.0 i; size = same-number a.size b.size r.1 i }
+
+pub same-outcome : (a b : Outcome) → outcome_eq.eq-value.it a b ≡ true → a ≡ b
+same-outcome outcome.Success outcome.Success h = refl
+same-outcome outcome.PageFault outcome.PageFault h = refl
+same-outcome _ _ h = never h
+
+pub same-queue_config : (a b : QueueConfig) → queue_config_eq.eq-value.it a b ≡ true → a ≡ b
+same-queue_config a b h =
+    let p = field same-number a.size b.size _ h in
+    let q = field same-number a.threshold b.threshold _ p.1 in
+    let r = field same-bool a.dedicated b.dedicated _ q.1 in
+    let s = field same-number a.priority b.priority _ r.1 in
+    let t = field same-number a.pasid b.pasid _ s.1 in
+    let u = field same-number a.max_batch_shift b.max_batch_shift _ t.1 in
+    λ i. record { size = p.0 i; threshold = q.0 i; dedicated = r.0 i; priority = s.0 i; pasid = t.0 i; max_batch_shift = u.0 i; max_xfer_shift = same-number a.max_xfer_shift b.max_xfer_shift u.1 i }
+
+pub same-group_config : (a b : GroupConfig) → group_config_eq.eq-value.it a b ≡ true → a ≡ b
+same-group_config a b h =
+    let p = field same-number a.queues b.queues _ h in
+    let q = field same-number a.engines b.engines _ p.1 in
+    let r = field same-number a.reserved b.reserved _ q.1 in
+    λ i. record { queues = p.0 i; engines = q.0 i; reserved = r.0 i; allowed = same-number a.allowed b.allowed r.1 i }
+
+pub same-queue_mask : (a b : QueueMask) → queue_mask_eq.eq-value.it a b ≡ true → a ≡ b
+same-queue_mask a b h =
+    let p = field same-number a.group b.group _ h in
+    λ i. record { group = p.0 i; mask = same-number a.mask b.mask p.1 i }
+
+pub same-command : (a b : Command) → command_eq.eq-value.it a b ≡ true → a ≡ b
+same-command command.EnableDevice command.EnableDevice h = refl
+same-command command.DisableDevice command.DisableDevice h = refl
+same-command command.DrainAll command.DrainAll h = refl
+same-command command.AbortAll command.AbortAll h = refl
+same-command command.ResetDevice command.ResetDevice h = refl
+same-command (command.EnableWq x0) (command.EnableWq y0) h = ap command.EnableWq (same-number x0 y0 h)
+same-command (command.DisableWq x0) (command.DisableWq y0) h = ap command.DisableWq (same-queue_mask x0 y0 h)
+same-command (command.DrainWq x0) (command.DrainWq y0) h = ap command.DrainWq (same-queue_mask x0 y0 h)
+same-command (command.AbortWq x0) (command.AbortWq y0) h = ap command.AbortWq (same-queue_mask x0 y0 h)
+same-command (command.ResetWq x0) (command.ResetWq y0) h = ap command.ResetWq (same-queue_mask x0 y0 h)
+same-command (command.DrainPasid x0) (command.DrainPasid y0) h = ap command.DrainPasid (same-number x0 y0 h)
+same-command (command.AbortPasid x0) (command.AbortPasid y0) h = ap command.AbortPasid (same-number x0 y0 h)
+same-command _ _ h = never h
+
+pub same-fault : (a b : Fault) → fault_eq.eq-value.it a b ≡ true → a ≡ b
+same-fault fault.SizesTooLarge fault.SizesTooLarge h = refl
+same-fault fault.TwoGroups fault.TwoGroups h = refl
+same-fault fault.ReservedTooMany fault.ReservedTooMany h = refl
+same-fault fault.AllowedOutOfRange fault.AllowedOutOfRange h = refl
+same-fault fault.GroupWithoutEngine fault.GroupWithoutEngine h = refl
+same-fault fault.GroupWithoutQueue fault.GroupWithoutQueue h = refl
+same-fault fault.SizeZero fault.SizeZero h = refl
+same-fault fault.PriorityZero fault.PriorityZero h = refl
+same-fault fault.ThresholdZero fault.ThresholdZero h = refl
+same-fault fault.ThresholdAboveSize fault.ThresholdAboveSize h = refl
+same-fault fault.BatchTooLarge fault.BatchTooLarge h = refl
+same-fault fault.NoGroup fault.NoGroup h = refl
+same-fault fault.BadCommand fault.BadCommand h = refl
+same-fault fault.BadQueue fault.BadQueue h = refl
+same-fault fault.Locked fault.Locked h = refl
+same-fault fault.WrongState fault.WrongState h = refl
+same-fault fault.Busy fault.Busy h = refl
+same-fault fault.PriorityTooLarge fault.PriorityTooLarge h = refl
+same-fault fault.TransferTooLarge fault.TransferTooLarge h = refl
+same-fault fault.BadIndex fault.BadIndex h = refl
+same-fault _ _ h = never h
+
+pub same-cell : (a b : Cell) → cell_eq.eq-value.it a b ≡ true → a ≡ b
+same-cell a b h = λ i. record { 0 = same-number a.0 b.0 h i }
+
+pub same-ticket : (a b : Ticket) → ticket_eq.eq-value.it a b ≡ true → a ≡ b
+same-ticket a b h =
+    let p = field same-cell a.cell b.cell _ h in
+    λ i. record { cell = p.0 i; name = same-number a.name b.name p.1 i }
+
+pub same-portal : (a b : Portal) → portal_eq.eq-value.it a b ≡ true → a ≡ b
+same-portal portal.Limited portal.Limited h = refl
+same-portal portal.Unlimited portal.Unlimited h = refl
+same-portal _ _ h = never h
+
+pub same-kind : (a b : Kind) → kind_eq.eq-value.it a b ≡ true → a ≡ b
+same-kind (kind.Enqcmd x0) (kind.Enqcmd y0) h = ap kind.Enqcmd (same-number x0 y0 h)
+same-kind kind.Movdir64b kind.Movdir64b h = refl
+same-kind _ _ h = never h
+
+pub same-cause : (a b : Cause) → cause_eq.eq-value.it a b ≡ true → a ≡ b
+same-cause cause.AtLimit cause.AtLimit h = refl
+same-cause cause.NotEnabled cause.NotEnabled h = refl
+same-cause cause.WrongKind cause.WrongKind h = refl
+same-cause _ _ h = never h
+
+pub same-noted_error : (a b : NotedError) → noted_error_eq.eq-value.it a b ≡ true → a ≡ b
+same-noted_error a b h =
+    let p = field same-number a.queue b.queue _ h in
+    let q = field same-cause a.cause b.cause _ p.1 in
+    λ i. record { queue = p.0 i; cause = q.0 i; overflow = same-bool a.overflow b.overflow q.1 i }
