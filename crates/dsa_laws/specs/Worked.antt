@@ -2,6 +2,8 @@
 use Rattle.std.specs.Prelude.{Bool, ℕ, not, List, [], ◌∷◌, ◌++◌, length, Option, option_map}
 use Rattle.dsa_desc.specs.declared.Descriptor.{Descriptor}
 use Rattle.dsa_desc.specs.declared.Outcome.TheVariants.{Success, PageFault}
+use Rattle.dsa_regs.specs.declared.Phase.{Phase}
+use Rattle.dsa_regs.specs.declared.QueueMask.{QueueMask}
 use Rattle.dsa_regs.specs.declared.QueueConfig.{QueueConfig}
 use Rattle.dsa_regs.specs.declared.GroupConfig.{GroupConfig}
 use Rattle.dsa_regs.specs.declared.Command.{Command}
@@ -131,11 +133,17 @@ configured first_queue second_queue first_group second_group =
     queue_written 0 first_queue Written ∷ queue_written 1 second_queue Written ∷
     group_written 0 first_group Written ∷ group_written 1 second_group Written ∷ []
 
+-- the device and both queues are enabled
+abbrev pub enabled : List Step
+enabled = issued EnableDevice (Ended 0) ∷ issued (EnableWq 0) (Ended 0) ∷ issued (EnableWq 1) (Ended 0) ∷ []
+
 -- a shared and a dedicated queue, each with an engine of its own, and all of it enabled
 abbrev pub setup : List Step
-setup =
-    configured shared_queue dedicated_queue first_group second_group
-    ++ issued EnableDevice (Ended 0) ∷ issued (EnableWq 0) (Ended 0) ∷ issued (EnableWq 1) (Ended 0) ∷ []
+setup = configured shared_queue dedicated_queue first_group second_group ++ enabled
+
+-- the queues of this mask, of the first sixteen
+abbrev pub masked : ℕ → QueueMask
+masked mask = record { group = 0; mask = mask }
 
 -- ---- what a list of steps leads to after the set-up
 
@@ -166,6 +174,14 @@ content_after steps = option_map (λ s. s.work.content) (state_after steps)
 -- the next name after them
 abbrev pub next_name_after : List Step → Option ℕ
 next_name_after steps = option_map (λ s. s.work.setup.next_name) (state_after steps)
+
+-- the phase of the device after them, and those of the queues by number
+abbrev pub phases_after : List Step → Option (Phase × List Phase)
+phases_after steps = option_map (λ s. (s.work.setup.device, s.work.setup.phases)) (state_after steps)
+
+-- the queues' configurations after them, by number
+abbrev pub configs_after : List Step → Option (List QueueConfig)
+configs_after steps = option_map (λ s. s.work.setup.configs) (state_after steps)
 
 -- a name with its parent and its fate
 abbrev pub row : ℕ → Option ℕ → Fate → FateRow

@@ -1,6 +1,9 @@
 //! Worked histories, by computation: each is a run of a device, and leads to what is said. After a part of it a wrong answer may not come.
 
+pub mod answers;
 pub mod batches;
 pub mod commands;
+pub mod members;
+pub mod phases;
 pub mod states;
 pub mod submissions;
