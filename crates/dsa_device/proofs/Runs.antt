@@ -5,48 +5,15 @@ use Rattle.std.proofs.lemmas.Option.{same_Some, option_and_then_some}
 use Rattle.std.proofs.lemmas.List.{append-nil, map-append, take_more}
 use Rattle.std.proofs.lemmas.List.Elements.{filter-append}
 use Rattle.dsa_regs.specs.declared.Caps.{Caps}
-use Rattle.dsa_book.specs.declared.answer.SubmitAnswer.TheVariants as submit
-use Rattle.dsa_book.specs.declared.answer.DispatchAnswer.TheVariants as dispatch
-use Rattle.dsa_book.specs.declared.answer.FetchAnswer.TheVariants as fetch
-use Rattle.dsa_book.specs.declared.answer.StartAnswer.TheVariants as start
-use Rattle.dsa_book.specs.declared.answer.FinishAnswer.TheVariants as finish
-use Rattle.dsa_book.specs.declared.answer.IssueAnswer.TheVariants as issue
-use Rattle.dsa_book.specs.declared.answer.PollAnswer.TheVariants as poll
-use Rattle.dsa_book.specs.declared.answer.WriteAnswer.TheVariants as write
-use Rattle.dsa_book.specs.declared.answer.ClearAnswer.TheVariants as clear
 use Rattle.dsa_book.specs.declared.answer.Reply.{Reply}
-use Rattle.dsa_book.specs.declared.answer.Reply.TheVariants as reply
 use Rattle.dsa_book.specs.declared.event.Event.{Event}
-use Rattle.dsa_book.specs.declared.event.Event.TheVariants as event
 use Rattle.dsa_book.specs.declared.event.Step.{Step}
-use Rattle.dsa_book.specs.Machine.{is_stored, is_full, replay, stored_steps, may_follow, is_run_after}
+use Rattle.dsa_book.specs.Machine.{is_stored, replay, stored_steps, may_follow, is_run_after}
 use Rattle.dsa_device.specs.Running.{Running, answered, IsReplay}
 use Rattle.dsa_device.specs.Runs.{IsRunOf}
-use Rattle.dsa_device.proofs.Steps.{answered_by_cases, answered-replay}
+use Rattle.dsa_device.proofs.Steps.{answered_by_cases, answered-replay, grows}
 
 -- ---- one call
-
--- Full is not kept
-full-unstored : (e : Event) (r : Reply) → is_full e r ≡ true → is_stored r ≡ false
-full-unstored e (reply.Submit submit.Full) h = refl
-full-unstored e (reply.Dispatch dispatch.Full) h = refl
-full-unstored e (reply.Fetch fetch.Full) h = refl
-full-unstored e (reply.Start start.Full) h = refl
-full-unstored e (reply.Finish finish.Full) h = refl
-full-unstored e (reply.Issue issue.Full) h = refl
-full-unstored e (reply.Poll poll.Full) h = refl
-full-unstored e (reply.Write write.Full) h = refl
-full-unstored e (reply.Clear clear.Full) h = refl
-full-unstored (event.Submit client queue portal kind desc) _ h = absurd cc
-full-unstored (event.Dispatch engine) _ h = absurd cc
-full-unstored (event.Fetch engine desc) _ h = absurd cc
-full-unstored (event.Start engine) _ h = absurd cc
-full-unstored (event.Finish engine ticket outcome) _ h = absurd cc
-full-unstored (event.Issue command) _ h = absurd cc
-full-unstored event.Poll _ h = absurd cc
-full-unstored (event.WriteQueue queue config) _ h = absurd cc
-full-unstored (event.WriteGroup group config) _ h = absurd cc
-full-unstored event.ClearError _ h = absurd cc
 
 kept-at : (h : List Step) (x : Step) (b : Bool) → cond b (h ++ x ∷ []) h ≡ h ++ cond b (x ∷ []) []
 kept-at h x true = refl
@@ -60,19 +27,17 @@ record IsCall (d : Running) (x : Step) (t : Running) : Type 0 where
   capacity : t.capacity ≡ d.capacity
 
 call-of : (d t : Running) (x : Step) → IsReplay d → answered d x.event x.reply ≡ Some t → IsCall d x t
-call-of d t x i a = answered_by_cases (IsCall d x) d t x.event x.reply a
-    (λ room full. record {
-      allowed = rw (room, full) refl;
-      history = let none = full-unstored x.event x.reply full in sym (rw none (append-nil d.history));
-      caps = refl;
-      capacity = refl;
-    })
-    (λ s room n. record {
-      allowed = rw (room, i.replayed, n) refl;
-      history = kept-at d.history x (is_stored x.reply);
-      caps = refl;
-      capacity = refl;
-    })
+call-of d t x i a =
+    let g = grows d t x.event x.reply a in
+    record {
+      allowed =
+          answered_by_cases (λ u. may_follow d.caps d.capacity d.history x ≡ true) d t x.event x.reply a
+          (λ room full. rw (room, full) refl)
+          (λ s room n. rw (room, i.replayed, n) refl);
+      history = g.history ∙ kept-at d.history x (is_stored x.reply);
+      caps = g.caps;
+      capacity = g.capacity;
+    }
 
 -- ---- a list of calls
 

@@ -14,6 +14,17 @@ use Rattle.dsa_store.specs.Content.{Content}
 use Rattle.dsa_book.specs.declared.event.Event.{Event}
 use Rattle.dsa_book.specs.declared.event.Step.{Step}
 use Rattle.dsa_book.specs.declared.answer.Reply.{Reply}
+use Rattle.dsa_book.specs.declared.answer.SubmitAnswer.TheVariants as submit
+use Rattle.dsa_book.specs.declared.answer.DispatchAnswer.TheVariants as dispatch
+use Rattle.dsa_book.specs.declared.answer.FetchAnswer.TheVariants as fetch
+use Rattle.dsa_book.specs.declared.answer.StartAnswer.TheVariants as start
+use Rattle.dsa_book.specs.declared.answer.FinishAnswer.TheVariants as finish
+use Rattle.dsa_book.specs.declared.answer.IssueAnswer.TheVariants as issue
+use Rattle.dsa_book.specs.declared.answer.PollAnswer.TheVariants as poll
+use Rattle.dsa_book.specs.declared.answer.WriteAnswer.TheVariants as write
+use Rattle.dsa_book.specs.declared.answer.ClearAnswer.TheVariants as clear
+use Rattle.dsa_book.specs.declared.answer.Reply.TheVariants as reply
+use Rattle.dsa_book.specs.declared.event.Event.TheVariants as event
 use Rattle.dsa_book.specs.declared.note.ActiveCommand.{ActiveCommand}
 use Rattle.dsa_book.specs.declared.fate.FateRow.{FateRow}
 use Rattle.dsa_book.specs.Records.{Records}
@@ -37,6 +48,43 @@ answered_by_cases P d t e r a full step = at_room (length d.history == d.capacit
     at_room : (b : Bool) → (length d.history == d.capacity) ≡ b → cond b (when (is_full e r) d) (option_map (stepped d e r) (next d.state e r)) ≡ Some t → P t
     at_room true room a = let p = when-some (is_full e r) d t a in subst P p.1 (full room p.0)
     at_room false room a = at_next (next d.state e r) refl room a
+
+-- Full is not kept
+full-unstored : (e : Event) (r : Reply) → is_full e r ≡ true → is_stored r ≡ false
+full-unstored e (reply.Submit submit.Full) h = refl
+full-unstored e (reply.Dispatch dispatch.Full) h = refl
+full-unstored e (reply.Fetch fetch.Full) h = refl
+full-unstored e (reply.Start start.Full) h = refl
+full-unstored e (reply.Finish finish.Full) h = refl
+full-unstored e (reply.Issue issue.Full) h = refl
+full-unstored e (reply.Poll poll.Full) h = refl
+full-unstored e (reply.Write write.Full) h = refl
+full-unstored e (reply.Clear clear.Full) h = refl
+full-unstored (event.Submit client queue portal kind desc) _ h = absurd cc
+full-unstored (event.Dispatch engine) _ h = absurd cc
+full-unstored (event.Fetch engine desc) _ h = absurd cc
+full-unstored (event.Start engine) _ h = absurd cc
+full-unstored (event.Finish engine ticket outcome) _ h = absurd cc
+full-unstored (event.Issue command) _ h = absurd cc
+full-unstored event.Poll _ h = absurd cc
+full-unstored (event.WriteQueue queue config) _ h = absurd cc
+full-unstored (event.WriteGroup group config) _ h = absurd cc
+full-unstored event.ClearError _ h = absurd cc
+
+-- the history has the step where it is kept, and the capacity and the capabilities stay
+pub record Grows (d : Running) (e : Event) (r : Reply) (t : Running) : Type 0 where
+  pub history : t.history ≡ recorded d.history (record { event = e; reply = r })
+  pub capacity : t.capacity ≡ d.capacity
+  pub caps : t.caps ≡ d.caps
+
+pub grows : (d t : Running) (e : Event) (r : Reply) → answered d e r ≡ Some t → Grows d e r t
+grows d t e r a = answered_by_cases (Grows d e r) d t e r a
+    (λ room full. record {
+      history = let none = full-unstored e r full in ap (λ (b : Bool). cond b (d.history ++ record { event = e; reply = r } ∷ []) d.history) (sym none);
+      capacity = refl;
+      caps = refl;
+    })
+    (λ s room n. record { history = refl; capacity = refl; caps = refl })
 
 -- the replay goes on by the step, where it is kept, and else stays
 pub replay-recorded : (caps : Caps) (h : List Step) (s t : State) (e : Event) (r : Reply) → replay caps h ≡ Some s → next s e r ≡ Some t → replay caps (recorded h (record { event = e; reply = r })) ≡ Some t
@@ -76,14 +124,11 @@ answered-replay d t e r i a = answered_by_cases IsReplay d t e r a (λ room full
   replayed = replay-recorded d.caps d.history d.state s e r i.replayed n;
 })
 
-answered-caps : (d t : Running) (e : Event) (r : Reply) → answered d e r ≡ Some t → t.caps ≡ d.caps
-answered-caps d t e r a = answered_by_cases (λ t. t.caps ≡ d.caps) d t e r a (λ room full. refl) (λ s room n. refl)
-
 -- what a layer's step keeps, the device keeps
 pub answered-whole : (cells cells' : ℕ) (gear gear' : Gear) (d t : Running) (e : Event) (r : Reply) → IsWhole cells gear d → cells' ≡ cells → IsInStep t.state.work.setup gear' t.state.work.content → answered d e r ≡ Some t → IsWhole cells' gear' t
 answered-whole cells cells' gear gear' d t e r w same in_step a = record {
   replay = answered-replay d t e r w.replay a;
-  same_cells = same ∙ w.same_cells ∙ ap cell_count (sym (answered-caps d t e r a));
+  same_cells = same ∙ w.same_cells ∙ ap cell_count (sym (grows d t e r a).caps);
   in_step = in_step;
 }
 

@@ -1,6 +1,7 @@
 //! What a device tells of itself.
 
-ghost use Rattle.std.specs.Prelude.{◌≡◌, ◌==◌, nat_lt, find};
+ghost use Rattle.std.specs.Prelude.{◌≡◌, ◌≤◌, ◌==◌, nat_lt, find};
+ghost use Rattle.dsa_regs.specs.Caps.{cell_count};
 ghost use Rattle.std.specs.Option.{option_map};
 ghost use Rattle.dsa_desc.specs.Rows.{when};
 ghost use Rattle.dsa_store.specs.Content.{held};
@@ -67,7 +68,8 @@ impl<S: EntryStore> Device<S> {
 
     /// The number of entries that the device holds, in all queues and engines.
     pub fn held(&self) -> u32
-        ensures { result ≡ held self.now.state.work.content }
+        ensures value { result ≡ held self.now.state.work.content }
+        ensures bound { result ≤ cell_count self.now.caps }
     {
         self.store.cells() - self.store.free()
     }
