@@ -1,0 +1,5 @@
+pub mod Compares
+pub mod Sums
+pub mod Steps
+pub mod Mismatches
+pub mod Fresh

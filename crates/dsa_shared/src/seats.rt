@@ -1,0 +1,243 @@
+//! The seats of a shared device.
+
+ghost use Rattle.std.specs.Prelude.{◌≡◌, ℕ, List, length};
+ghost use Rattle.dsa_book.specs.declared.event.Step.{Step};
+ghost use Rattle.dsa_book.specs.declared.event.Actor.{Actor};
+ghost use Rattle.dsa_book.specs.Totals.{total_accepted, total_retried, total_fetched, total_done, total_lost};
+ghost use Rattle.dsa_shared.specs.Seat.{client_of, engine_of, number_of, receipts_of};
+
+use crate::blanks::Sharing;
+use crate::counts::{accepted_in, done_in, fetched_in, lost_in, retried_in};
+use crate::receipts::Receipts;
+use dsa_book::{Actor, Step};
+use std::alloc::{Allocator, Global};
+use std::marker::Model;
+
+// A seat with a number.
+pub(crate) trait Numbered {
+    ghost number: { Self → ℕ };
+
+    ghost actor: { Self → Actor };
+
+    ghost receipts: { Self → List Step };
+
+    fn seat_number(&self) -> u16
+        ensures { result ≡ number self.now };
+
+    fn seat_actor(&self) -> Actor
+        ensures { result ≡ actor self.now };
+
+    fn seat_receipts(&self) -> &[Step]
+        ensures { result.now ≡ receipts self.now };
+}
+
+/// The seat of a client, which submits. Contracts see its number and its receipts.
+#[derive(Drop)]
+pub struct ClientSeat<L: Sharing, A: Allocator = Global> {
+    pub(crate) number: u16,
+    pub(crate) receipts: Receipts<L, A>,
+}
+
+impl<L: Sharing, A: Allocator> Model for ClientSeat<L, A> {
+    ghost use Rattle.std.specs.Prelude.{◌≡◌};
+    ghost use Rattle.dsa_shared.specs.Seat.{SeatLog};
+
+    ghost Value = { SeatLog };
+
+    ghost view = { λ s. record { number = s.number; receipts = s.receipts.steps } };
+
+    ghost invariant = { λ s. s.receipts.parts ≡ 1 };
+}
+
+impl<L: Sharing, A: Allocator> Numbered for ClientSeat<L, A> {
+    ghost number = { number_of };
+
+    ghost actor = { client_of };
+
+    ghost receipts = { receipts_of };
+
+    fn seat_number(&self) -> u16 {
+        self.number
+    }
+
+    fn seat_actor(&self) -> Actor {
+        Actor::Client(self.number)
+    }
+
+    fn seat_receipts(&self) -> &[Step] {
+        self.receipts.steps()
+    }
+}
+
+impl<L: Sharing, A: Allocator> ClientSeat<L, A> {
+    /// The number of the client, counted from 0.
+    pub fn number(&self) -> u16
+        ensures { result ≡ self.now.number }
+    {
+        self.number
+    }
+
+    /// The stored steps of this client, in the order in which it made them.
+    pub fn receipts(&self) -> &[Step]
+        ensures { result.now ≡ self.now.receipts }
+    {
+        self.receipts.steps()
+    }
+
+    /// The number of its stored steps.
+    pub fn steps(&self) -> u64
+        ensures { result ≡ length self.now.receipts }
+    {
+        self.receipts.steps().len() as u64
+    }
+
+    /// How many of its submissions were accepted.
+    pub fn accepted(&self) -> u64
+        ensures { result ≡ total_accepted self.now.receipts }
+    {
+        accepted_in(self.receipts.steps())
+    }
+
+    /// How many of its submissions were turned away for want of room, to come again.
+    pub fn retried(&self) -> u64
+        ensures { result ≡ total_retried self.now.receipts }
+    {
+        retried_in(self.receipts.steps())
+    }
+}
+
+/// The seat of an engine, which takes entries, works on them and ends them. Contracts see its number and
+/// its receipts.
+#[derive(Drop)]
+pub struct EngineSeat<L: Sharing, A: Allocator = Global> {
+    pub(crate) number: u16,
+    pub(crate) receipts: Receipts<L, A>,
+}
+
+impl<L: Sharing, A: Allocator> Model for EngineSeat<L, A> {
+    ghost use Rattle.std.specs.Prelude.{◌≡◌};
+    ghost use Rattle.dsa_shared.specs.Seat.{SeatLog};
+
+    ghost Value = { SeatLog };
+
+    ghost view = { λ s. record { number = s.number; receipts = s.receipts.steps } };
+
+    ghost invariant = { λ s. s.receipts.parts ≡ 1 };
+}
+
+impl<L: Sharing, A: Allocator> Numbered for EngineSeat<L, A> {
+    ghost number = { number_of };
+
+    ghost actor = { engine_of };
+
+    ghost receipts = { receipts_of };
+
+    fn seat_number(&self) -> u16 {
+        self.number
+    }
+
+    fn seat_actor(&self) -> Actor {
+        Actor::Engine(self.number)
+    }
+
+    fn seat_receipts(&self) -> &[Step] {
+        self.receipts.steps()
+    }
+}
+
+impl<L: Sharing, A: Allocator> EngineSeat<L, A> {
+    /// The number of the engine, counted from 0.
+    pub fn number(&self) -> u16
+        ensures { result ≡ self.now.number }
+    {
+        self.number
+    }
+
+    /// The stored steps of this engine, in the order in which it made them.
+    pub fn receipts(&self) -> &[Step]
+        ensures { result.now ≡ self.now.receipts }
+    {
+        self.receipts.steps()
+    }
+
+    /// The number of its stored steps.
+    pub fn steps(&self) -> u64
+        ensures { result ≡ length self.now.receipts }
+    {
+        self.receipts.steps().len() as u64
+    }
+
+    /// How many members it fetched.
+    pub fn fetched(&self) -> u64
+        ensures { result ≡ total_fetched self.now.receipts }
+    {
+        fetched_in(self.receipts.steps())
+    }
+
+    /// How many entries it ended.
+    pub fn done(&self) -> u64
+        ensures { result ≡ total_done self.now.receipts }
+    {
+        done_in(self.receipts.steps())
+    }
+
+    /// How many members it abandoned.
+    pub fn lost(&self) -> u64
+        ensures { result ≡ total_lost self.now.receipts }
+    {
+        lost_in(self.receipts.steps())
+    }
+}
+
+/// The seat of the administrator, who configures the device and commands it. Contracts see its receipts.
+#[derive(Drop)]
+pub struct AdminSeat<L: Sharing, A: Allocator = Global> {
+    pub(crate) receipts: Receipts<L, A>,
+}
+
+impl<L: Sharing, A: Allocator> Model for AdminSeat<L, A> {
+    ghost use Rattle.std.specs.Prelude.{◌≡◌, ◌+◌, List};
+    ghost use Rattle.dsa_book.specs.declared.event.Step.{Step};
+
+    ghost Value = { List Step };
+
+    ghost view = { λ s. s.receipts.steps };
+
+    // It has the parts of the ledger that no other seat has.
+    ghost invariant = { λ s. s.receipts.parts + L.clients + L.caps.engines ≡ L.parts };
+}
+
+impl<L: Sharing, A: Allocator> AdminSeat<L, A> {
+    /// The stored steps of the administrator, in the order in which it made them.
+    pub fn receipts(&self) -> &[Step]
+        ensures { result.now ≡ self.now }
+    {
+        self.receipts.steps()
+    }
+
+    /// The number of its stored steps.
+    pub fn steps(&self) -> u64
+        ensures { result ≡ length self.now }
+    {
+        self.receipts.steps().len() as u64
+    }
+
+    /// How many entries its commands aborted.
+    pub fn lost(&self) -> u64
+        ensures { result ≡ total_lost self.now }
+    {
+        lost_in(self.receipts.steps())
+    }
+}
+
+/// The seats of a shared device. Those that are lent to threads come back to their place before the device
+/// is settled.
+#[derive(Drop)]
+pub struct Seats<L: Sharing, A: Allocator = Global> {
+    /// A seat for each client number, in order.
+    pub clients: Vec<ClientSeat<L, A>, A>,
+    /// A seat for each engine number, in order.
+    pub engines: Vec<EngineSeat<L, A>, A>,
+    /// The administrator's.
+    pub admin: Option<AdminSeat<L, A>>,
+}
