@@ -1,0 +1,9 @@
+use Rattle.std.proofs.Common.{◌+◌, ◌≤◌}
+use Rattle.dsa_workers.proofs.Turns.{TurnsSoFar}
+use Rattle.dsa_workers.proofs.engine.serve.Given as goal
+
+abbrev pub invariant-loop-turn : goal.invariant-loop-turn
+invariant-loop-turn g l = record {
+  so_far : TurnsSoFar l.script l.fn.seat l.seat l.turn l.tickets.tickets;
+  room : l.run.turns ≤ l.tickets.room + l.turn;
+}

@@ -1,0 +1,137 @@
+-- What the next call of each worker is, after those that it has made.
+use Rattle.std.specs.Prelude.{◌≡◌, ℕ, ◌<◌, Bool, true, false, not, cond, ◌≤◌, ◌%◌, ◌==◌, ◌++◌, List, [], ◌∷◌, length, take, drop, fold, filter_map, count_by, Option, Some, None, IfSome, slice_get, slice_index_or}
+use Rattle.std.specs.Option.{option_map, option_map_or}
+use Rattle.dsa_desc.specs.Descriptor.{read}
+use Rattle.dsa_regs.specs.declared.Command.{Command}
+use Rattle.dsa_book.specs.declared.answer.Cause.TheVariants.{NotEnabled, WrongKind}
+use Rattle.dsa_book.specs.declared.answer.SubmitAnswer.TheVariants.{Accepted, Retry, Dropped, Full}
+use Rattle.dsa_book.specs.declared.answer.DispatchAnswer.TheVariants.{Taken, Full}
+use Rattle.dsa_book.specs.declared.answer.FetchAnswer.TheVariants.{Full}
+use Rattle.dsa_book.specs.declared.answer.StartAnswer.TheVariants.{Started, Full}
+use Rattle.dsa_book.specs.declared.answer.FinishAnswer.TheVariants.{Done, NotReady, Gone, Full}
+use Rattle.dsa_book.specs.declared.answer.IssueAnswer.TheVariants.{Ended, Refused, Full}
+use Rattle.dsa_book.specs.declared.answer.PollAnswer.TheVariants.{Finished, Full}
+use Rattle.dsa_book.specs.declared.answer.Ticket.{Ticket}
+use Rattle.dsa_book.specs.declared.answer.Reply.{Reply}
+use Rattle.dsa_book.specs.declared.answer.Reply.TheVariants.{Submit, Dispatch, Fetch, Start, Finish, Issue, Poll}
+use Rattle.dsa_book.specs.declared.event.Event.{Event}
+use Rattle.dsa_book.specs.declared.event.Event.TheVariants.{Submit, Dispatch, Fetch, Start, Finish, Issue, Poll}
+use Rattle.dsa_book.specs.declared.event.Step.{Step}
+use Rattle.dsa_shared.specs.Seat.{SeatLog, noted}
+use Rattle.dsa_workers.specs.declared.scripts.ClientStep.{ClientStep}
+use Rattle.dsa_workers.specs.declared.scripts.EngineScript.{EngineScript}
+
+-- each of these is what may come after those before it
+abbrev pub InOrder : {T : Type 0} → (List T → T → Type 0) → List T → Type 0
+InOrder {T} next turns = (k : ℕ) (d : T) → k < length turns → next (take k turns) (slice_index_or turns k d)
+
+-- the history has no room
+abbrev pub is_full : Reply → Bool
+is_full (Submit Full) = true
+is_full (Dispatch Full) = true
+is_full (Fetch Full) = true
+is_full (Start Full) = true
+is_full (Finish Full) = true
+is_full (Issue Full) = true
+is_full (Poll Full) = true
+is_full _ = false
+
+-- the worker goes on to the next step of its script
+abbrev pub goes_on : Reply → Bool
+goes_on (Submit (Accepted ticket)) = true
+goes_on (Submit (Dropped cause)) = true
+goes_on (Submit (Retry NotEnabled)) = true
+goes_on (Submit (Retry WrongKind)) = true
+goes_on (Issue (Ended aborted)) = true
+goes_on (Issue (Refused fault)) = true
+goes_on (Poll Finished) = true
+goes_on _ = false
+
+-- the reply is an answer to the event
+abbrev pub is_answer : Event → Reply → Bool
+is_answer (Submit client queue portal kind desc) (Submit answer) = true
+is_answer (Dispatch engine) (Dispatch answer) = true
+is_answer (Fetch engine desc) (Fetch answer) = true
+is_answer (Start engine) (Start answer) = true
+is_answer (Finish engine ticket outcome) (Finish answer) = true
+is_answer (Issue command) (Issue answer) = true
+is_answer Poll (Poll answer) = true
+is_answer _ _ = false
+
+-- the call was answered
+abbrev pub IsAnswered : Step → Type 0
+IsAnswered call = is_answer call.event call.reply ≡ true
+
+-- how many steps of its script the worker is through with after these calls
+abbrev pub passed : List Step → ℕ
+passed calls = count_by (λ call. goes_on call.reply) calls
+
+-- how many of these calls found the history full
+abbrev pub found_full : List Step → ℕ
+found_full calls = count_by (λ call. is_full call.reply) calls
+
+-- the last of these calls, if there is one, left the worker with the same step
+abbrev pub waits : List Step → Bool
+waits calls = fold (λ before call. not (goes_on call.reply)) false calls
+
+-- the submission of a step of a client's script
+abbrev pub submission : ℕ → ClientStep → Event
+submission client step = Submit client step.queue step.portal step.kind (read step.bytes)
+
+-- a client submits the first step of its script that it is not through with
+abbrev pub NextSubmission : ℕ → List ClientStep → List Step → Step → Type 0
+NextSubmission client script calls call = IsAnswered call × ((d : ClientStep) → call.event ≡ submission client (slice_index_or script (passed calls) d))
+
+-- the administrator asks after a command that waits, and else issues the first one that it is not
+-- through with
+abbrev pub NextCommand : List Command → List Step → Step → Type 0
+NextCommand script calls call = IsAnswered call × ((d : Command) → call.event ≡ cond (waits calls) Poll (Issue (slice_index_or script (passed calls) d)))
+
+-- the tickets of an engine's worker, oldest first, and the room for more
+pub record Pending : Type 0 where
+  pub tickets : List Ticket
+  pub room : ℕ
+
+-- no ticket, and room for so many
+abbrev pub HasRoom : Pending → ℕ → Type 0
+HasRoom pending most = (pending.tickets ≡ []) × (most ≤ pending.room)
+
+-- the tickets after an answer: a new one comes last, one that is not ready goes last, one that is over
+-- is dropped
+abbrev pub tickets_after : List Ticket → Reply → List Ticket
+tickets_after tickets (Dispatch (Taken ticket queue)) = tickets ++ ticket ∷ []
+tickets_after tickets (Start (Started ticket)) = tickets ++ ticket ∷ []
+tickets_after tickets (Finish NotReady) = drop 1 tickets ++ take 1 tickets
+tickets_after tickets (Finish (Done status)) = drop 1 tickets
+tickets_after tickets (Finish Gone) = drop 1 tickets
+tickets_after tickets _ = tickets
+
+-- the calls of these turns, some of which have none
+abbrev pub calls_of : List (Option Step) → List Step
+calls_of turns = filter_map (λ turn. turn) turns
+
+-- the tickets that these turns left
+abbrev pub tickets_of : List (Option Step) → List Ticket
+tickets_of turns = fold (λ tickets call. tickets_after tickets call.reply) [] (calls_of turns)
+
+-- what an engine's worker calls in a turn: it dispatches, fetches, starts and finishes in turn;
+-- it finishes the entry of its oldest ticket, and calls nothing where it has none
+abbrev pub engine_event : ℕ → EngineScript → ℕ → List Ticket → Option Event
+engine_event engine script turn tickets =
+    cond (turn % 4 == 0) (Some (Dispatch engine))
+    (cond (turn % 4 == 1) (Some (Fetch engine script.member))
+    (cond (turn % 4 == 2) (Some (Start engine))
+    (option_map (λ ticket. Finish engine ticket script.outcome) (slice_get tickets 0))))
+
+-- the call of a turn, if it has one
+abbrev pub call_of : Option Event → Option Reply → Option Step
+call_of (Some event) (Some reply) = Some (record { event = event; reply = reply })
+call_of _ _ = None
+
+-- a seat after a turn
+abbrev pub after_turn : SeatLog → Option Step → SeatLog
+after_turn seat turn = option_map_or (λ call. noted seat call.event call.reply) turn seat
+
+-- the turn of an engine's worker after those before it
+abbrev pub NextTurn : ℕ → EngineScript → List (Option Step) → Option Step → Type 0
+NextTurn engine script turns turn = IfSome turn IsAnswered × (option_map (λ call. call.event) turn ≡ engine_event engine script (length turns) (tickets_of turns))

@@ -1,0 +1,73 @@
+-- What workers do to the seats that they are lent.
+use Rattle.std.specs.Prelude.{◌≡◌, ◌≢◌, ◌↔◌, ℕ, ◌+◌, ◌<◌, ◌≤◌, ◌++◌, List, [], length, take, Option, IsSome, slice_index_or}
+use Rattle.std.specs.Option.{option_map_or}
+use Rattle.dsa_regs.specs.declared.Command.{Command}
+use Rattle.dsa_book.specs.declared.event.Step.{Step}
+use Rattle.dsa_book.specs.Machine.{stored_steps}
+use Rattle.dsa_book.specs.Totals.{total_accepted}
+use Rattle.dsa_shared.specs.Seat.{SeatLog}
+use Rattle.dsa_workers.specs.declared.scripts.ClientStep.{ClientStep}
+use Rattle.dsa_workers.specs.declared.scripts.EngineScript.{EngineScript}
+use Rattle.dsa_workers.specs.declared.scripts.Stint.{Stint}
+use Rattle.dsa_workers.specs.declared.scripts.WorkerEnd.TheVariants.{ScriptDone, TurnsOut, HistoryFull}
+use Rattle.dsa_workers.specs.declared.scripts.RunReport.{RunReport}
+use Rattle.dsa_workers.specs.Calls.{InOrder, passed, found_full, NextSubmission, NextCommand, NextTurn, calls_of}
+
+-- the receipts begin with the old ones, and at most so many were added
+pub record Grows (old new : List Step) (most : ℕ) : Type 0 where
+  pub prefix : take (length old) new ≡ old
+  pub bound : length new ≤ length old + most
+
+-- what a worker with a script of so many steps does in at most `limit` turns:
+-- one call a turn, of which the history kept some
+pub record RunsScript (next : List Step → Step → Type 0) (steps limit : ℕ) (old new : List Step) (stint : Stint) : Type 0 where
+  pub calls : List Step
+  pub receipts : new ≡ old ++ stored_steps calls
+  pub in_order : InOrder next calls
+  pub stops : InOrder (λ before call. found_full before ≡ 0) calls
+  pub turns : length calls ≡ stint.turns
+  pub within : stint.turns ≤ limit
+  pub short : passed calls ≤ steps
+  pub done : (stint.ended ≡ ScriptDone) ↔ (passed calls ≡ steps)
+  pub out_of_turns : stint.ended ≡ TurnsOut → stint.turns ≡ limit
+  pub full : (stint.ended ≡ HistoryFull) ↔ (0 < found_full calls)
+  pub grows : Grows old new stint.turns
+  pub enough : stint.ended ≡ ScriptDone → steps ≤ stint.turns
+
+-- what a client's worker does
+pub record RunsClient (script : List ClientStep) (limit : ℕ) (old new : SeatLog) (stint : Stint) : Type 0 where
+  pub number : new.number ≡ old.number
+  pub runs : RunsScript (NextSubmission old.number script) (length script) limit old.receipts new.receipts stint
+  pub accepts : total_accepted new.receipts ≤ total_accepted old.receipts + length script
+
+-- what the administrator's worker does
+abbrev pub RunsAdmin : List Command → ℕ → List Step → List Step → Stint → Type 0
+RunsAdmin script limit old new stint = RunsScript (NextCommand script) (length script) limit old new stint
+
+-- what an engine's worker does in at most `limit` turns, in some of which it may call nothing
+pub record RunsEngine (script : EngineScript) (limit : ℕ) (old new : SeatLog) (stint : Stint) : Type 0 where
+  pub turns : List (Option Step)
+  pub number : new.number ≡ old.number
+  pub receipts : new.receipts ≡ old.receipts ++ stored_steps (calls_of turns)
+  pub in_order : InOrder (NextTurn old.number script) turns
+  pub stops : InOrder (λ before turn. found_full (calls_of before) ≡ 0) turns
+  pub count : length turns ≡ stint.turns
+  pub within : stint.turns ≤ limit
+  pub out_of_turns : stint.ended ≡ TurnsOut → stint.turns ≡ limit
+  pub full : (stint.ended ≡ HistoryFull) ↔ (0 < found_full (calls_of turns))
+  pub unscripted : stint.ended ≢ ScriptDone
+  pub grows : Grows old.receipts new.receipts stint.turns
+
+-- a script for each seat, and a seat for each script
+pub record IsFitting (clients engines client_scripts engine_scripts : ℕ) (admin : Option (List Step)) : Type 0 where
+  pub each_client : clients ≡ client_scripts
+  pub each_engine : engines ≡ engine_scripts
+  pub has_admin : IsSome admin
+
+-- what the report says of a worker
+abbrev pub stint_at : {A : Type 0} → RunReport A → ℕ → Stint
+stint_at report worker = record { turns = slice_index_or report.turns.items worker 0; ended = slice_index_or report.ended.items worker TurnsOut }
+
+-- the receipts of the administrator's seat
+abbrev pub receipts_in : Option (List Step) → List Step
+receipts_in seat = option_map_or (λ receipts. receipts) seat []
