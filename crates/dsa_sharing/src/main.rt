@@ -1,0 +1,123 @@
+//! Four clients submit in threads of their own, an engine works, and the seats are settled.
+#![tactic(auto)]
+
+use anyhow::{Result, bail};
+use dsa_book::{DispatchAnswer, Kind, Portal};
+use dsa_cells::LinkedStore;
+use dsa_desc::Outcome;
+use dsa_device::Device;
+use dsa_regs::{Caps, Command, GroupConfig, QueueConfig, cell_count, check_caps, list_count};
+use dsa_shared::{AdminSeat, ClientSeat, EngineSeat, SharedDevice, Sharing};
+use dsa_store::EntryStore;
+use dsa_workers::{Program, run_program};
+use std::sync::Wait;
+
+const CAPS: Caps = Caps {
+    queues: 1,
+    groups: 1,
+    engines: 1,
+    total_size: 16,
+    read_buffers: 32,
+    slots: 4,
+    max_batch_shift: 3,
+    max_xfer_shift: 20,
+};
+
+const QUEUE: QueueConfig = QueueConfig {
+    size: 16,
+    threshold: 16,
+    dedicated: false,
+    priority: 1,
+    pasid: 0,
+    max_batch_shift: 3,
+    max_xfer_shift: 20,
+};
+
+const GROUP: GroupConfig = GroupConfig {
+    queues: 1,
+    engines: 1,
+    reserved: 0,
+    allowed: 32,
+};
+
+// A Move of 4096 bytes.
+fn one_move() -> [u8; 64] {
+    let mut bytes = [0u8; 64];
+    bytes[7] = 3;
+    bytes[33] = 0x10;
+    bytes
+}
+
+// Each client submits one Move; the engine works until all have ended.
+#[derive(Clone, Copy)]
+struct Moves {
+    clients: u16,
+}
+
+impl Program for Moves {
+    fn set_up<S: EntryStore, L: Sharing, R: Wait>(
+        &self,
+        rt: &R,
+        shared: &SharedDevice<S, L>,
+        seat: &mut AdminSeat<L>,
+    ) {
+        shared.write_queue(rt, seat, 0, QUEUE);
+        shared.write_group(rt, seat, 0, GROUP);
+        shared.issue(rt, seat, Command::EnableDevice);
+        shared.issue(rt, seat, Command::EnableWq(0));
+    }
+
+    fn submit<S: EntryStore, L: Sharing, R: Wait>(
+        &self,
+        rt: &R,
+        shared: &SharedDevice<S, L>,
+        seat: &mut ClientSeat<L>,
+    ) {
+        let kind = Kind::Enqcmd { pasid: 5 };
+        let bytes = one_move();
+        for _ in rt.forever() {
+            let answer = shared.submit(rt, seat, 0, Portal::Limited, kind, &bytes);
+            if answer.zf(kind) == Some(false) {
+                return;
+            }
+        }
+    }
+
+    fn serve<S: EntryStore, L: Sharing, R: Wait>(
+        &self,
+        rt: &R,
+        shared: &SharedDevice<S, L>,
+        seat: &mut EngineSeat<L>,
+    ) {
+        let mut left = self.clients;
+        for _ in rt.forever() {
+            if left == 0 {
+                return;
+            }
+            if let DispatchAnswer::Taken { ticket, .. } = shared.dispatch(rt, seat) {
+                shared.finish(rt, seat, ticket, Outcome::Success);
+                left -= 1;
+            }
+        }
+    }
+}
+
+fn main(rt: HostRuntime) -> Result<()> {
+    if !check_caps(&CAPS) {
+        bail!("no device has such capabilities");
+    }
+    let store = LinkedStore::new(rt.alloc(), list_count(&CAPS), cell_count(&CAPS))?;
+    let Ok(device) = Device::new(rt.alloc(), store, CAPS, 100) else {
+        bail!("no device was made");
+    };
+    let moves = Moves { clients: 4 };
+    let Ok(settled) = run_program(&rt, rt.alloc(), device, moves.clients, &moves) else {
+        bail!("not settled");
+    };
+    let totals = settled.totals;
+    println!(rt;
+        "accepted {}, done {}, held {}",
+        totals.accepted, totals.done, totals.held
+    )?;
+    Ok(())
+}
