@@ -8,6 +8,9 @@ use dsa_scenario::{
 };
 use dsa_store::PlainStore;
 use std::alloc::Global;
+use std::marker::Sync;
+use std::sync::Wait;
+use std::thread::Threads;
 use std::{fs, io};
 
 // The lines of the document in these bytes, over a store of vectors.
@@ -32,11 +35,16 @@ fn is_same(alloc: Global, document: &[u8], lines: &[u8]) -> bool {
 }
 
 // Whether the program ends with status 1, writes this line to standard error and nothing to standard output.
-fn is_refused(alloc: Global, document: &[u8], line: &[u8]) -> bool {
+fn is_refused<T: Threads + Wait + Sync>(
+    rt: &T,
+    alloc: Global,
+    document: &[u8],
+    line: &[u8],
+) -> bool {
     let mut reader = document;
     let mut out = Vec::new(alloc);
     let mut err = Vec::new(alloc);
-    let status = run_words(alloc, &[], &mut reader, &mut out, &mut err);
+    let status = run_words(rt, alloc, &[], &mut reader, &mut out, &mut err);
     status == 1 && out.is_empty() && err.as_slice() == line
 }
 
@@ -45,7 +53,7 @@ fn main(rt: HostRuntime) -> io::Result<()> {
         let name = line?;
         let document = fs::read(&rt, format!(in rt.alloc(); "{name}.json")?)?;
         let verdict = if let Ok(fault) = fs::read(&rt, format!(in rt.alloc(); "{name}.err")?) {
-            if is_refused(rt.alloc(), &document, &fault) {
+            if is_refused(&rt, rt.alloc(), &document, &fault) {
                 "refused as written"
             } else {
                 "not refused as written"

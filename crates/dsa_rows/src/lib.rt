@@ -11,3 +11,5 @@ mod memory;
 mod plain;
 #[cfg(test)]
 mod stores;
+#[cfg(test)]
+mod words;

@@ -1,6 +1,7 @@
-//! Reads a scenario document from standard input, and writes its lines to standard output.
+//! Reads a scenario document from standard input, and writes its lines to standard output; with the word `threads`, runs
+//! workers in threads on one shared device, and writes their totals.
 //!
-//! The exit status is 0 where all lines were written, 1 on a fault, whose line goes to standard error, and 2 where the words of
+//! The exit status is 0 where all was written, 1 on a fault, whose line goes to standard error, and 2 where the words of
 //! the command line are not understood.
 #![tactic(auto)]
 
@@ -15,10 +16,10 @@ fn main(rt: HostRuntime) -> ExitCode {
     let mut out = rt.stdout();
     let mut err = rt.stderr();
     let Ok(given) = env::args(&rt) else {
-        return ExitCode::from(tell(&mut err, ScenarioFault::OutOfMemory));
+        return ExitCode::from(tell(&mut err, &ScenarioFault::OutOfMemory));
     };
     let Ok(words) = given.skip(1).collect::<Vec<String>>(alloc) else {
-        return ExitCode::from(tell(&mut err, ScenarioFault::OutOfMemory));
+        return ExitCode::from(tell(&mut err, &ScenarioFault::OutOfMemory));
     };
-    ExitCode::from(run_words(alloc, &words, &mut reader, &mut out, &mut err))
+    ExitCode::from(run_words(&rt, alloc, &words, &mut reader, &mut out, &mut err))
 }

@@ -1,7 +1,13 @@
+pub mod Accepted
 pub mod Bytes
 pub mod Fresh
 pub mod Hex
+pub mod OptionNumbers
+pub mod Pushes
 pub mod Records
 pub mod StepObjects
+pub mod Submissions
+pub mod ThreadTotals
 pub mod Tickets
 pub mod Whole
+pub mod WriteFaults

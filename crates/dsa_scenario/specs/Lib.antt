@@ -4,3 +4,5 @@ pub mod Document
 pub mod Lines
 pub mod Run
 pub mod Scenario
+pub mod Threads
+pub mod Words

@@ -1,13 +1,26 @@
-//! The words of the command line.
+//! What the words of the command line make the program do.
 
-ghost use Rattle.std.specs.Prelude.{◌≡◌, ◌⊎◌, ◌≤◌, ◌^◌, ℕ, List, [], length};
+ghost use Rattle.std.specs.Prelude.{◌≡◌, ◌≢◌, ◌⊎◌, ◌≤◌, ◌^◌, ℕ, List, length, take, map, string_bytes};
 ghost use Rattle.std.specs.Io.KnownBytes.{Consumes, IsAtEnd, Appends, Keeps};
+ghost use Rattle.clap.specs.Words.{Row, kind_of};
+ghost use Rattle.dsa_shared.specs.declared.settle.Totals.{Totals};
+ghost use Rattle.dsa_scenario.specs.declared.options.Workload.{Workload};
 ghost use Rattle.dsa_scenario.specs.Scenario.{IsRenderingOf};
+ghost use Rattle.dsa_scenario.specs.Threads.{IsInRange, AreTotalsOf, totals_text};
+ghost use Rattle.dsa_scenario.specs.Words.{AreNumbersOf, IsMistaken, NameThreads};
 
 use crate::faults::ScenarioFault;
+use crate::options::{Asked, Workload, read_words};
 use crate::scenario::run_scenario;
+use crate::threads::run_workload;
+use clap::Error;
+use clap::error::ErrorKind;
 use std::alloc::Global;
+use std::fmt::Display;
 use std::io::{Read, Write};
+use std::marker::Sync;
+use std::sync::Wait;
+use std::thread::Threads;
 
 /// The exit status of a run that was done.
 const DONE: u8 = 0;
@@ -19,40 +32,131 @@ const FAILED: u8 = 1;
 const REFUSED: u8 = 2;
 
 /// Writes the line of a fault, and gives the exit status. A line that `err` does not take changes nothing.
-pub fn tell<E: Write>(err: &mut E, fault: ScenarioFault) -> u8
+pub fn tell<E: Write, F: Display>(err: &mut E, fault: &F) -> u8
     ensures { result ≡ 1 }
 {
     let _ = writeln!(err, "dsa_run: {fault}");
     FAILED
 }
 
-/// Does what the words after the program's name ask, and gives the exit status.
-///
-/// Without words it reads a document from `reader` and writes its lines to `out`. The status is 0 where all lines were
-/// written. Else it is 1, and `err` gets the line of the fault. Words are not understood: the status is 2, and nothing is
-/// read or written.
-pub fn run_words<R: Read, O: Write, E: Write>(
+// Runs the scenario that the reader gives.
+fn run_input<R: Read, O: Write, E: Write>(
     alloc: Global,
-    words: &[String],
     reader: &mut R,
     out: &mut O,
     err: &mut E,
 ) -> u8
-    ensures words { (length words.now ≡ 0) ⊎ (result ≡ 2) }
-    ensures refused { result ≡ 2 → Keeps (O.contents out.old) (O.contents out.new) }
     ensures done { result ≡ 0 → (bytes : List ℕ) × (lines : List ℕ)
         × Consumes (R.remaining reader.old) (R.remaining reader.new) bytes
         × IsAtEnd (R.remaining reader.new)
         × (length bytes ≤ 2 ^ 20)
         × IsRenderingOf bytes lines
         × Appends (O.contents out.old) (O.contents out.new) lines }
-    ensures statuses { (result ≡ 0) ⊎ (result ≡ 1) ⊎ ((result ≡ 2) × (1 ≤ length words.now)) }
+    ensures failed { result ≡ 1 → Keeps (O.contents out.old) (O.contents out.new)
+        ⊎ ((bytes : List ℕ) × (lines : List ℕ) × (count : ℕ)
+        × Consumes (R.remaining reader.old) (R.remaining reader.new) bytes
+        × IsAtEnd (R.remaining reader.new)
+        × IsRenderingOf bytes lines
+        × Appends (O.contents out.old) (O.contents out.new) (take count lines)) }
+    ensures statuses { (result ≡ 0) ⊎ (result ≡ 1) }
 {
-    if !words.is_empty() {
-        return REFUSED;
-    }
     match run_scenario(alloc, reader, out) {
         Ok(()) => DONE,
-        Err(fault) => tell(err, fault),
+        Err(fault) => tell(err, &fault),
+    }
+}
+
+// Runs workers in threads, and writes their totals.
+fn run_workers<T: Threads + Wait + Sync, O: Write, E: Write>(
+    rt: &T,
+    alloc: Global,
+    load: &Workload,
+    out: &mut O,
+    err: &mut E,
+) -> u8
+    requires { IsInRange load.now }
+    ensures done { result ≡ 0 → (totals : Totals) × AreTotalsOf load.now totals
+        × Appends (O.contents out.old) (O.contents out.new) (totals_text totals) }
+    ensures failed { result ≡ 1 → Keeps (O.contents out.old) (O.contents out.new)
+        ⊎ ((totals : Totals) × (count : ℕ) × AreTotalsOf load.now totals
+        × Appends (O.contents out.old) (O.contents out.new) (take count (totals_text totals))) }
+    ensures statuses { (result ≡ 0) ⊎ (result ≡ 1) }
+{
+    match run_workload(rt, alloc, load, out) {
+        Ok(()) => DONE,
+        Err(fault) => tell(err, &fault),
+    }
+}
+
+// Shows what `clap` has to say, and gives the exit status: help goes to `out`, all else to `err`.
+fn show<O: Write, E: Write>(out: &mut O, err: &mut E, error: &Error) -> u8
+    ensures refused { result ≡ 2 → Keeps (O.contents out.old) (O.contents out.new) }
+    ensures mistake { result ≡ 2 → (kind_of error.now ≢ ErrorKind.OutOfMemory)
+        × (kind_of error.now ≢ ErrorKind.DisplayHelp) × (kind_of error.now ≢ ErrorKind.DisplayVersion) }
+    ensures memory { kind_of error.now ≡ ErrorKind.OutOfMemory → (result ≡ 1) × Keeps (O.contents out.old) (O.contents out.new) }
+    ensures statuses { result ≤ 2 }
+{
+    if error.kind() == ErrorKind::OutOfMemory {
+        return tell(err, &ScenarioFault::OutOfMemory);
+    }
+    if error.use_stderr() {
+        let _ = write!(err, "{error}");
+        return REFUSED;
+    }
+    match write!(out, "{error}") {
+        Ok(()) => DONE,
+        Err(_) => tell(err, &ScenarioFault::Write),
+    }
+}
+
+/// Does what the words after the program's name ask, and gives the exit status.
+///
+/// Without words it reads a document from `reader` and writes its lines to `out`. With the word `threads` it
+/// runs workers in threads on one shared device, and writes their totals to `out`. Help goes to `out`.
+///
+/// The status is 0 where all of it was written, and 1 on a fault, whose line goes to `err`. It is 2 where the
+/// words are not understood, and `err` gets what `clap` says of them.
+pub fn run_words<T: Threads + Wait + Sync, R: Read, O: Write, E: Write>(
+    rt: &T,
+    alloc: Global,
+    words: &[String],
+    reader: &mut R,
+    out: &mut O,
+    err: &mut E,
+) -> u8
+    ensures done { length words.now ≡ 0 → result ≡ 0 → (bytes : List ℕ) × (lines : List ℕ)
+        × Consumes (R.remaining reader.old) (R.remaining reader.new) bytes
+        × IsAtEnd (R.remaining reader.new)
+        × (length bytes ≤ 2 ^ 20)
+        × IsRenderingOf bytes lines
+        × Appends (O.contents out.old) (O.contents out.new) lines }
+    ensures threads { result ≡ 0 → (rows : List Row) → NameThreads (map string_bytes words.now) rows
+        → (load : Workload) × (totals : Totals) × AreNumbersOf rows load × IsInRange load × AreTotalsOf load totals
+        × Appends (O.contents out.old) (O.contents out.new) (totals_text totals) }
+
+    // Where it fails, nothing was written, or the first bytes of the lines.
+    ensures failed { length words.now ≡ 0 → result ≡ 1 → Keeps (O.contents out.old) (O.contents out.new)
+        ⊎ ((bytes : List ℕ) × (lines : List ℕ) × (count : ℕ)
+        × Consumes (R.remaining reader.old) (R.remaining reader.new) bytes
+        × IsAtEnd (R.remaining reader.new)
+        × IsRenderingOf bytes lines
+        × Appends (O.contents out.old) (O.contents out.new) (take count lines)) }
+    ensures threads_failed { result ≡ 1 → (rows : List Row) → NameThreads (map string_bytes words.now) rows
+        → Keeps (O.contents out.old) (O.contents out.new)
+        ⊎ ((load : Workload) × (totals : Totals) × (count : ℕ) × AreNumbersOf rows load × IsInRange load × AreTotalsOf load totals
+        × Appends (O.contents out.old) (O.contents out.new) (take count (totals_text totals))) }
+
+    // Words that are not understood.
+    ensures refused { result ≡ 2 → Keeps (O.contents out.old) (O.contents out.new) }
+    ensures mistake { result ≡ 2 → IsMistaken (map string_bytes words.now) }
+    ensures statuses { (result ≡ 0) ⊎ (result ≡ 1) ⊎ ((result ≡ 2) × (1 ≤ length words.now)) }
+{
+    if words.is_empty() {
+        return run_input(alloc, reader, out, err);
+    }
+    match read_words(alloc, words) {
+        Ok(Asked::Scenario) => run_input(alloc, reader, out, err),
+        Ok(Asked::Threads(load)) => run_workers(rt, alloc, &load, out, err),
+        Err(error) => show(out, err, &error),
     }
 }
