@@ -1,0 +1,6 @@
+use Rattle.std.proofs.Crossing.{frees as heap}
+use Rattle.dsa_shared_tests.proofs.memory.run_without_memory.Goals as goal
+
+-- A block goes back as one of the heap does, from any thread.
+pub run_threads-ran-requires-frees-A-Allocator : goal.run_threads-ran-requires-frees-A-Allocator
+run_threads-ran-requires-frees-A-Allocator g c κs within = record { frees = λ a τ p. heap.frees a.now.inner τ p }

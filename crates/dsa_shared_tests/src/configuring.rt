@@ -1,0 +1,111 @@
+//! Configurations that are refused, told to the administrator's seat.
+
+use crate::playing::Play;
+use crate::steps::{
+    DEDICATED_QUEUE, FIRST_GROUP, FIRST_QUEUE, SECOND_GROUP, SHARED_QUEUE, enables, ended,
+    group_written, issued, queue_written, totals, writes,
+};
+use crate::stores::{Trial, over_both_stores};
+use dsa_book::{IssueAnswer, Step, WriteAnswer};
+use dsa_regs::{Command, Fault, GroupConfig, QueueConfig};
+use std::test::Fail;
+
+const WRITTEN: WriteAnswer = WriteAnswer::Written;
+
+const LOCKED: WriteAnswer = WriteAnswer::Refused(Fault::Locked);
+
+fn refused(command: Command, fault: Fault) -> Step {
+    issued(command, IssueAnswer::Refused(fault))
+}
+
+fn group(number: u16, config: GroupConfig) -> Step {
+    group_written(number, config, WRITTEN)
+}
+
+// One of the four writes is changed, and the fault that enabling the device then has.
+fn changes() -> [(usize, Step, Fault); 5] {
+    let reserves = GroupConfig {
+        reserved: 13,
+        ..SECOND_GROUP
+    };
+    let shares = GroupConfig {
+        engines: 3,
+        ..SECOND_GROUP
+    };
+    let serves_none = GroupConfig {
+        queues: 0,
+        ..SECOND_GROUP
+    };
+    let allows = GroupConfig {
+        allowed: 9,
+        ..FIRST_GROUP
+    };
+    let large = QueueConfig {
+        size: 5,
+        ..DEDICATED_QUEUE
+    };
+    [
+        (3, group(1, reserves), Fault::ReservedTooMany),
+        (3, group(1, shares), Fault::TwoGroups),
+        (3, group(1, serves_none), Fault::GroupWithoutQueue),
+        (2, group(0, allows), Fault::AllowedOutOfRange),
+        (1, queue_written(1, large, WRITTEN), Fault::SizesTooLarge),
+    ]
+}
+
+#[test]
+fn device_is_not_enabled(rt: HostRuntime) -> Result<(), Fail> {
+    for (place, write, fault) in changes() {
+        let mut writes = writes();
+        assert!(rt; place < writes.len());
+        writes[place] = write;
+        let [a, b, c, d] = writes;
+        let play = Play {
+            capacity: 100,
+            steps: &[a, b, c, d, refused(Command::EnableDevice, fault)],
+            fates: &[],
+            totals: totals(0, 0, 0, 0, 0, 0, 4),
+        };
+        over_both_stores(&rt, rt.alloc(), Trial::Play(play))?;
+    }
+    Ok(())
+}
+
+#[test]
+fn queue_is_not_enabled(rt: HostRuntime) -> Result<(), Fail> {
+    let enable = Command::EnableWq(0);
+    let threshold = |threshold| {
+        let config = QueueConfig {
+            threshold,
+            ..SHARED_QUEUE
+        };
+        queue_written(0, config, WRITTEN)
+    };
+    let [a, b, c, d] = writes();
+    let [e, f, g] = enables();
+    let play = Play {
+        capacity: 100,
+        steps: &[
+            a,
+            b,
+            c,
+            d,
+            e,
+            f,
+            g,
+            ended(Command::DisableWq(FIRST_QUEUE), 0),
+            threshold(0),
+            refused(enable, Fault::ThresholdZero),
+            threshold(5),
+            refused(enable, Fault::ThresholdAboveSize),
+            threshold(4),
+            ended(enable, 0),
+            queue_written(0, SHARED_QUEUE, LOCKED),
+            group_written(0, FIRST_GROUP, LOCKED),
+            refused(Command::EnableDevice, Fault::WrongState),
+        ],
+        fates: &[],
+        totals: totals(0, 0, 0, 0, 0, 0, 12),
+    };
+    over_both_stores(&rt, rt.alloc(), Trial::Play(play))
+}

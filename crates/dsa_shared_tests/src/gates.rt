@@ -1,0 +1,108 @@
+//! Gates that tests hold their workers at.
+
+use dsa_workers::{Gate, RunReport};
+use std::alloc::{AllocError, Global};
+use std::process::Abort;
+use std::sync::atomic::{AtomicU32, Ordering};
+use std::thread;
+use std::time::{Clock, Duration};
+
+/// Lets other threads run before each turn of a client, so that engines serve what clients send.
+#[derive(Drop)]
+pub struct Yielding {
+    pub clients: usize,
+}
+
+impl Gate for Yielding {
+    fn pass(&self, worker: usize, _turn: u32) {
+        if worker < self.clients {
+            thread::yield_now();
+        }
+    }
+}
+
+/// Counts how often each worker has passed, and the passes with another turn than the one that was due.
+#[derive(Drop)]
+pub struct Passes {
+    counts: Vec<AtomicU32>,
+    misplaced: AtomicU32,
+}
+
+impl Passes {
+    pub fn new(alloc: Global, workers: usize) -> Result<Passes, AllocError> {
+        let mut counts = Vec::with_capacity(alloc, workers)?;
+        for _worker in 0..workers {
+            counts.push(AtomicU32::new(0))?;
+        }
+        Ok(Passes {
+            counts,
+            misplaced: AtomicU32::new(0),
+        })
+    }
+
+    /// No worker has passed.
+    pub fn are_none(&self, rt: &impl Abort) {
+        for count in &self.counts {
+            assert_eq!(rt; count.load(Ordering::SeqCst), 0);
+        }
+        assert_eq!(rt; self.misplaced.load(Ordering::SeqCst), 0);
+    }
+
+    /// Each worker has passed with the turns 0, 1 and so on up to the number of turns that the report
+    /// gives it.
+    pub fn are_those_of(&self, rt: &impl Abort, report: &RunReport) {
+        assert_eq!(rt; self.misplaced.load(Ordering::SeqCst), 0);
+        assert_eq!(rt; self.counts.len(), report.turns.len());
+        for (count, turns) in self.counts.iter().zip(&report.turns) {
+            assert_eq!(rt;
+                u64::from(count.load(Ordering::SeqCst)),
+                u64::from(*turns) + 1
+            );
+        }
+    }
+}
+
+impl Gate for Passes {
+    fn pass(&self, worker: usize, turn: u32) {
+        let due = self
+            .counts
+            .get(worker)
+            .map(|count| count.fetch_add(1, Ordering::SeqCst));
+        if due != Some(turn) {
+            self.misplaced.fetch_add(1, Ordering::SeqCst);
+        }
+    }
+}
+
+/// Holds each of two clients before its first turn until the other has come there, and notes one that
+/// waited in vain.
+#[derive(Drop)]
+pub struct Meeting<'a, R: Clock> {
+    pub clock: &'a R,
+    pub passes: Passes,
+    pub first_has_come: AtomicU32,
+    pub second_has_come: AtomicU32,
+    pub missed: AtomicU32,
+}
+
+impl<'a, R: Clock> Gate for Meeting<'a, R> {
+    fn pass(&self, worker: usize, turn: u32) {
+        self.passes.pass(worker, turn);
+        if worker >= 2 || turn != 0 {
+            return;
+        }
+        let (mine, other) = if worker == 0 {
+            (&self.first_has_come, &self.second_has_come)
+        } else {
+            (&self.second_has_come, &self.first_has_come)
+        };
+        mine.fetch_add(1, Ordering::SeqCst);
+        for _look in 0..20_000u32 {
+            if other.load(Ordering::SeqCst) != 0 {
+                return;
+            }
+            thread::sleep(self.clock, Duration::from_millis(1));
+        }
+        self.missed.fetch_add(1, Ordering::SeqCst);
+    }
+}

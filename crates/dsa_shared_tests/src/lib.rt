@@ -1,0 +1,30 @@
+//! Tests of the device that threads share and of its workers: each over both stores.
+#![tactic(auto)]
+
+#[cfg(test)]
+mod accounts;
+#[cfg(test)]
+mod configuring;
+#[cfg(test)]
+mod gates;
+#[cfg(test)]
+mod histories;
+#[cfg(test)]
+mod memory;
+#[cfg(test)]
+mod playing;
+#[cfg(test)]
+mod refusing;
+#[cfg(test)]
+mod seating;
+#[cfg(test)]
+mod sharing;
+#[cfg(test)]
+mod soak;
+#[cfg(test)]
+mod steps;
+#[cfg(test)]
+mod stores;
+mod strangers;
+#[cfg(test)]
+mod working;
