@@ -1,0 +1,257 @@
+/* dsa_model.h: a proved model of the shared part of the Intel Data Streaming Accelerator, for C and C++.
+ *
+ * A program steps a device in place of the hardware: it writes descriptors to portals, takes the part of the engines, and issues
+ * commands. Each step is one call, and its answer says what the device did. What a call does to the device, and which answer it
+ * gives, is proved; docs/C.md says what is proved of each call and what is trusted.
+ *
+ * What the caller keeps to, since nothing checks it:
+ *   - No pointer is null. A handle starts as DSA_CLOSED, and after that only these calls write to it. It is never copied.
+ *   - A handle stays on the thread that opened it, where its calls come one at a time. Different handles are independent.
+ *   - dsa_open and dsa_close take and free memory: they are not for signal handlers, nor for the child of a fork of a process with
+ *     threads. The other calls take no memory, so a handler may make them, unless it interrupts a call on the same handle.
+ * All numbers may be wrong: a queue, group or engine that the device does not have, a portal, an outcome, a word. They are answered.
+ *
+ * Link with libdsa_model.a and the C library alone. */
+#ifndef DSA_MODEL_H
+#define DSA_MODEL_H
+
+#include <stdbool.h>
+#include <stddef.h>
+#include <stdint.h>
+
+#ifdef __cplusplus
+extern "C" {
+#endif
+
+#define DSA_VERSION 1u
+
+/* A device, or none. Opaque. */
+struct dsa_model {
+	void *at;
+	bool holds;
+};
+#define DSA_CLOSED { NULL, false }
+
+/* ---- what goes in ---- */
+
+/* The 64 bytes of a descriptor, as the hardware reads them. */
+struct dsa_descriptor {
+	uint8_t bytes[64];
+};
+
+/* What the device has. */
+struct dsa_caps {
+	uint16_t queues;         /* work queues, 1 to 16 */
+	uint16_t groups;         /* 1 to 8 */
+	uint16_t engines;        /* 1 to 8 */
+	uint16_t total_size;     /* entries that all queues together may hold, 1 to 128 */
+	uint16_t read_buffers;   /* 1 to 255 */
+	uint16_t slots;          /* submitted descriptors that an engine may have in progress, 1 to 16 */
+	uint8_t max_batch_shift; /* a batch has at most 2 to this many members, 1 to 6 */
+	uint8_t max_xfer_shift;  /* a transfer has at most 2 to this many bytes, 0 to 31 */
+};
+
+/* The configuration of a work queue. */
+struct dsa_queue {
+	uint16_t size;
+	uint16_t threshold;      /* of the limited portal; a dedicated queue ignores it */
+	uint8_t dedicated;       /* 0 or 1 */
+	uint8_t priority;        /* 1 to 15 */
+	uint8_t max_batch_shift;
+	uint8_t max_xfer_shift;
+	uint32_t pasid;          /* of a dedicated queue; 20 bits */
+};
+
+/* The configuration of a group. */
+struct dsa_group {
+	uint64_t queues;         /* bit k for queue k */
+	uint64_t engines;        /* bit k for engine k */
+	uint16_t reserved;       /* read buffers that are kept for the group */
+	uint16_t allowed;        /* read buffers that it may have in use */
+};
+
+/* What a queue allows its descriptors, as powers of two. */
+struct dsa_limits {
+	uint8_t max_batch_shift;
+	uint8_t max_xfer_shift;
+};
+
+enum dsa_portal { DSA_LIMITED = 0, DSA_UNLIMITED = 1 };
+enum dsa_outcome { DSA_SUCCESS = 0, DSA_PAGE_FAULT = 1 };
+
+/* The word of a command, to be written by dsa_command: its number, 1 to 12, and an operand of 20 bits. */
+#define DSA_COMMAND(number, operand) (((uint32_t)(number) << 20) | ((uint32_t)(operand) & 0xfffffu))
+enum dsa_command_number {
+	DSA_ENABLE_DEVICE = 1, DSA_DISABLE_DEVICE, DSA_DRAIN_ALL, DSA_ABORT_ALL, DSA_RESET_DEVICE,
+	DSA_ENABLE_WQ, DSA_DISABLE_WQ, DSA_DRAIN_WQ, DSA_ABORT_WQ, DSA_RESET_WQ, DSA_DRAIN_PASID, DSA_ABORT_PASID
+};
+
+/* ---- what comes out ---- */
+
+enum dsa_kind {
+	DSA_NO_DEVICE = 0,    /* the handle has none */
+	DSA_ACCEPTED = 1,     /* name, cell: the entry stands last in its queue */
+	DSA_RETRY = 2,        /* more: enum dsa_cause; ENQCMD is to come again (zero flag set) */
+	DSA_DROPPED = 3,      /* more: enum dsa_cause; MOVDIR64B wrote what no queue took */
+	DSA_TAKEN = 4,        /* name, cell: the entry runs now; more: its queue */
+	DSA_IDLE = 5,         /* no queue has an entry that the engine may take */
+	DSA_FETCHED = 6,      /* name, cell: the member stands last */
+	DSA_NO_BATCH = 7,
+	DSA_ALL_FETCHED = 8,
+	DSA_STARTED = 9,      /* name, cell: the member runs now */
+	DSA_FENCE_WAIT = 10,
+	DSA_NO_BUFFERS = 11,
+	DSA_ABANDONED = 12,   /* more: how many members ended behind a fence */
+	DSA_NOTHING = 13,     /* no member, no command, no error, no such step */
+	DSA_DONE = 14,        /* more: the completion status */
+	DSA_NOT_READY = 15,   /* a batch whose members have not all ended */
+	DSA_GONE = 16,        /* no running entry of the engine has that cell and name */
+	DSA_ENDED = 17,       /* more: how many entries were aborted; the command is over */
+	DSA_ACTIVE = 18,      /* the command waits */
+	DSA_REFUSED = 19,     /* more: number of the fault; nothing changed */
+	DSA_FINISHED = 20,    /* the command that waited is over */
+	DSA_WRITTEN = 21,
+	DSA_CLEARED = 22,     /* name: the queue; cell: 1 if more were dropped since, else 0; more: enum dsa_cause */
+	DSA_FULL = 23,        /* the history has no room; nothing changed */
+	DSA_BAD_ARGUMENT = 24 /* a portal, an outcome or a 0-or-1 that is neither; nothing changed */
+};
+enum dsa_cause { DSA_AT_LIMIT = 1, DSA_NOT_ENABLED = 2, DSA_WRONG_KIND = 3 };
+
+/* An answer. Numbers that its kind does not speak of are 0. */
+struct dsa_answer {
+	uint32_t kind; /* enum dsa_kind */
+	uint32_t name;
+	uint32_t cell;
+	uint32_t more;
+};
+
+enum dsa_ending_kind { DSA_NOT_ENDED = 0, DSA_COMPLETED = 1, DSA_ABORTED = 2, DSA_BEHIND_FENCE = 3 };
+
+/* How an entry ended. */
+struct dsa_ending {
+	uint32_t kind;   /* enum dsa_ending_kind; DSA_NOT_ENDED where there is no such row, and then the rest is 0 */
+	uint32_t name;
+	uint32_t parent; /* the name of its batch, UINT32_MAX where it was submitted */
+	uint32_t number; /* the status, or the number of the command that aborted it */
+};
+
+enum dsa_open_result {
+	DSA_OPENED = 0, DSA_BAD_CAPS = 1, DSA_BAD_CAPACITY = 2, DSA_BAD_STORE = 3, DSA_OUT_OF_MEMORY = 4, DSA_ALREADY_OPEN = 5
+};
+
+/* Where a number is not to be had. */
+#define DSA_NONE UINT64_MAX
+
+/* ---- the device ---- */
+
+/* Opens a device that is off, with nothing configured; its history has room for that many steps, at most 1048576. Gives an
+ * enum dsa_open_result: the first fault that stands, or DSA_OUT_OF_MEMORY where none does. DSA_BAD_STORE does not come. On anything
+ * but DSA_OPENED the handle is as it was. All memory is taken here, in proportion to the capacity and the cells. */
+uint32_t dsa_open(struct dsa_model *handle, const struct dsa_caps *caps, uint64_t capacity);
+
+/* Closes the device and frees its memory. On a closed handle it does nothing. */
+void dsa_close(struct dsa_model *handle);
+
+/* ---- steps ---- */
+
+/* A client writes a descriptor to a portal (enum dsa_portal): by ENQCMD, under its PASID, or by MOVDIR64B. */
+struct dsa_answer dsa_enqcmd(struct dsa_model *handle, uint16_t client, uint16_t queue, uint32_t portal, uint32_t pasid,
+                             const struct dsa_descriptor *descriptor);
+struct dsa_answer dsa_movdir64b(struct dsa_model *handle, uint16_t client, uint16_t queue, uint32_t portal,
+                                const struct dsa_descriptor *descriptor);
+
+/* An engine takes the front of a queue of its group. */
+struct dsa_answer dsa_dispatch(struct dsa_model *handle, uint16_t engine);
+/* An engine hands in the next member of its batch. */
+struct dsa_answer dsa_fetch(struct dsa_model *handle, uint16_t engine, const struct dsa_descriptor *descriptor);
+/* An engine starts the first of its members that does not run. */
+struct dsa_answer dsa_start(struct dsa_model *handle, uint16_t engine);
+/* An engine ends the running entry of that cell and name, with an enum dsa_outcome. */
+struct dsa_answer dsa_finish(struct dsa_model *handle, uint16_t engine, uint32_t cell, uint32_t name, uint32_t outcome);
+
+/* A word is written to the command register (DSA_COMMAND); one that is no command is refused with fault 13, even by a closed handle. */
+struct dsa_answer dsa_command(struct dsa_model *handle, uint32_t word);
+/* Asks whether the active command is over. */
+struct dsa_answer dsa_poll(struct dsa_model *handle);
+/* Configurations are written while they are not in use. */
+struct dsa_answer dsa_write_queue(struct dsa_model *handle, uint16_t queue, const struct dsa_queue *config);
+struct dsa_answer dsa_write_group(struct dsa_model *handle, uint16_t group, const struct dsa_group *config);
+/* Clears the noted error, and tells it. */
+struct dsa_answer dsa_clear_error(struct dsa_model *handle);
+
+/* ---- reads: none changes the device; each gives DSA_NONE, DSA_NO_DEVICE or DSA_NOT_ENDED on a closed handle ---- */
+
+uint64_t dsa_capacity(struct dsa_model *handle);
+uint64_t dsa_occupancy(struct dsa_model *handle, uint16_t queue); /* entries that wait; DSA_NONE: no such queue */
+uint64_t dsa_used(struct dsa_model *handle, uint16_t group);      /* read buffers in use; DSA_NONE: no such group */
+uint64_t dsa_held(struct dsa_model *handle);                      /* entries in all queues and engines */
+uint64_t dsa_next_name(struct dsa_model *handle);                 /* the name that the next entry gets */
+uint64_t dsa_active(struct dsa_model *handle);                    /* number of the command that is not over; DSA_NONE: none */
+uint64_t dsa_history_length(struct dsa_model *handle);            /* stored steps; the history is full at dsa_capacity */
+uint64_t dsa_fates_length(struct dsa_model *handle);              /* entries that ended */
+struct dsa_answer dsa_noted(struct dsa_model *handle);            /* DSA_CLEARED with the noted error, or DSA_NOTHING */
+struct dsa_answer dsa_history_answer(struct dsa_model *handle, uint64_t position); /* of a stored step, the first at 0 */
+struct dsa_ending dsa_fate_at(struct dsa_model *handle, uint64_t position);        /* in the order of endings, the first at 0 */
+struct dsa_ending dsa_fate_of(struct dsa_model *handle, uint32_t name);            /* DSA_NOT_ENDED: still held, or no such name */
+
+/* ---- descriptors: these need no device; `member` is 0 for one that is submitted, else it is in a batch ---- */
+
+uint32_t dsa_check(const struct dsa_descriptor *descriptor, const struct dsa_limits *limits, uint32_t member); /* 0 or a status */
+uint32_t dsa_need(const struct dsa_descriptor *descriptor, const struct dsa_limits *limits, uint32_t member);  /* read buffers */
+uint32_t dsa_status(const struct dsa_descriptor *descriptor, const struct dsa_limits *limits, uint32_t member,
+                    uint32_t outcome); /* 0 where the outcome is neither */
+void dsa_image(const struct dsa_descriptor *descriptor, uint32_t pasid, struct dsa_descriptor *image); /* what ENQCMD writes */
+
+uint32_t dsa_version(void);
+
+#ifdef __cplusplus
+}
+#endif
+
+/* ---- names: C of this header, tested and not proved ---- */
+
+static inline const char *dsa_kind_name(uint32_t kind)
+{
+	static const char *const names[] = {
+		"no device", "accepted", "retry", "dropped", "taken", "idle", "fetched", "no batch", "all fetched", "started",
+		"fence wait", "no buffers", "abandoned", "nothing", "done", "not ready", "gone", "ended", "active", "refused",
+		"finished", "written", "cleared", "full", "bad argument"
+	};
+	return kind < sizeof names / sizeof names[0] ? names[kind] : "?";
+}
+
+static inline const char *dsa_fault_name(uint32_t number)
+{
+	static const char *const names[] = {
+		"?", "SizesTooLarge", "TwoGroups", "ReservedTooMany", "AllowedOutOfRange", "GroupWithoutEngine", "GroupWithoutQueue",
+		"SizeZero", "PriorityZero", "ThresholdZero", "ThresholdAboveSize", "BatchTooLarge", "NoGroup", "BadCommand", "BadQueue",
+		"Locked", "WrongState", "Busy", "PriorityTooLarge", "TransferTooLarge", "BadIndex"
+	};
+	return number < sizeof names / sizeof names[0] ? names[number] : "?";
+}
+
+static inline const char *dsa_command_name(uint32_t number)
+{
+	static const char *const names[] = {
+		"?", "Enable Device", "Disable Device", "Drain All", "Abort All", "Reset Device", "Enable WQ", "Disable WQ", "Drain WQ",
+		"Abort WQ", "Reset WQ", "Drain PASID", "Abort PASID"
+	};
+	return number < sizeof names / sizeof names[0] ? names[number] : "?";
+}
+
+static inline const char *dsa_status_name(uint32_t status)
+{
+	switch (status) {
+	case 0x00: return "DSA_COMP_NONE";
+	case 0x01: return "DSA_COMP_SUCCESS";
+	case 0x03: return "DSA_COMP_PAGE_FAULT_NOBOF";
+	case 0x05: return "DSA_COMP_BATCH_FAIL";
+	case 0x10: return "DSA_COMP_BAD_OPCODE";
+	case 0x11: return "DSA_COMP_INVALID_FLAGS";
+	case 0x13: return "DSA_COMP_XFER_ERANGE";
+	case 0x14: return "DSA_COMP_DESC_CNT_ERANGE";
+	default: return "?";
+	}
+}
+
+#endif

@@ -1,0 +1,32 @@
+-- What opening a device does.
+use Rattle.std.specs.Prelude.{◌≡◌, ℕ, None, Some}
+use Rattle.dsa_desc.specs.Rows.{first_row}
+use Rattle.dsa_regs.specs.declared.Caps.{Caps}
+use Rattle.dsa_device.specs.Running.{opened}
+use Rattle.dsa_machine.specs.Opening.{opening_table, opening_fault}
+use Rattle.dsa_c.specs.declared.opening.DeviceCaps.{DeviceCaps}
+use Rattle.dsa_c.specs.Calls.{opening_number}
+use Rattle.dsa_c.specs.Place.{HeldMachine}
+
+abbrev pub caps_of : DeviceCaps → Caps
+caps_of caps = record {
+  queues = caps.queues;
+  groups = caps.groups;
+  engines = caps.engines;
+  total_size = caps.total_size;
+  read_buffers = caps.read_buffers;
+  slots = caps.slots;
+  max_batch_shift = caps.max_batch_shift;
+  max_xfer_shift = caps.max_xfer_shift;
+}
+
+-- after an opening that ended with this number, where there was no device: an opened one exactly with 0, and else none, for the first fault
+-- that stands, or for want of memory where none does
+abbrev pub IsOpened : Caps → ℕ → ℕ → HeldMachine → Type 0
+IsOpened caps capacity number None = number ≡ opening_number (opening_fault caps capacity)
+IsOpened caps capacity number (Some machine) = (number ≡ 0) × ((first_row (opening_table caps capacity) ≡ None) × (machine.device ≡ opened caps capacity))
+
+-- a device that is open stays as it is, and 5 says so
+abbrev pub IsOpening : HeldMachine → Caps → ℕ → ℕ → HeldMachine → Type 0
+IsOpening None caps capacity number after = IsOpened caps capacity number after
+IsOpening (Some machine) caps capacity number after = (number ≡ 5) × (after ≡ Some machine)

@@ -1,0 +1,70 @@
+//! What C holds of a device.
+
+ghost use Rattle.std.specs.Prelude.{◌≡◌, Some, None, is_some, option_map};
+
+use crate::place::Place;
+use crate::unboxed::Unboxed;
+use dsa_machine::Machine;
+use std::alloc::Global;
+use std::mem::replace;
+
+/// A device that C holds, or none. C makes one of zeros, and never writes to it.
+#[repr(C)]
+pub struct Handle {
+    pub(crate) place: Place,
+    holds: bool,
+    ghost agrees: { holds ≡ is_some place.machine },
+}
+
+impl Handle {
+    /// The handle of no device.
+    fn closed(alloc: Global) -> Handle
+        ensures { result.place.machine ≡ None }
+    {
+        Handle {
+            place: Place::empty(alloc),
+            holds: false,
+        }
+    }
+
+    /// The handle of this machine.
+    fn of(machine: Box<Machine>) -> Handle
+        ensures { result.place.machine ≡ Some machine.value }
+    {
+        Handle {
+            place: Place::of(Unboxed::of(machine)),
+            holds: true,
+        }
+    }
+
+    fn into_box(self) -> Option<Box<Machine>>
+        ensures { option_map (λ machine. machine.value) result ≡ self.place.machine }
+    {
+        let Handle { place, holds } = self;
+        if holds {
+            return Some(place.unboxed().boxed());
+        }
+        None
+    }
+
+    /// Takes the machine, where there is one. The handle has none from then on.
+    pub(crate) fn take(&mut self, alloc: Global) -> Option<Box<Machine>>
+        ensures machine { option_map (λ machine. machine.value) result ≡ self.old.place.machine }
+        ensures closed { self.new.place.machine ≡ None }
+    {
+        replace(self, Handle::closed(alloc)).into_box()
+    }
+
+    /// Puts the machine in. One that was there is let go.
+    pub(crate) fn put(&mut self, machine: Box<Machine>)
+        ensures { self.new.place.machine ≡ Some machine.value }
+    {
+        *self = Handle::of(machine);
+    }
+}
+
+impl Drop for Handle {
+    fn drop(self) {
+        drop(self.into_box());
+    }
+}

@@ -1,0 +1,11 @@
+//! The calls for C. `dsa_model.h` says of each what it does; a handle is one that C made of zeros and gave to these calls alone.
+#![tactic(auto)]
+
+mod answer;
+mod handle;
+mod opening;
+mod place;
+mod reads;
+mod steps;
+mod unboxed;
+mod words;

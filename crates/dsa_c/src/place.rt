@@ -1,0 +1,59 @@
+//! Where a machine lies, by a pointer that C may keep.
+
+ghost use Rattle.std.specs.Prelude.{◌≡◌, Some, None, IsSome};
+ghost use Rattle.dsa_c.specs.Place.{HeldMachine, held_machine_coded};
+
+use crate::unboxed::Unboxed;
+use dsa_machine::Machine;
+use std::alloc::Global;
+use std::marker::Model;
+
+/// A machine on the heap, or none. The pointer's type does not say what lies there, so that C may keep it.
+#[repr(C)]
+#[derive(Drop)]
+pub struct Place {
+    at: *mut u8,
+    alloc: Global,
+    pub ghost machine: { HeldMachine } by { held_machine_coded },
+}
+
+impl Model for Place {
+    ghost use Rattle.dsa_c.specs.Place.{place_owns};
+
+    ghost also_owns = { λ p. place_owns p.alloc p.at p.machine };
+}
+
+impl Place {
+    /// The place of no machine.
+    pub(crate) fn empty(alloc: Global) -> Place
+        ensures { result.machine ≡ None }
+    {
+        Place {
+            at: std::ptr::null_mut(),
+            alloc,
+        }
+    }
+
+    /// The place of this machine.
+    pub(crate) fn of(machine: Unboxed<Machine, Global>) -> Place
+        ensures { result.machine ≡ Some machine.value }
+    {
+        let Unboxed { to, alloc } = machine;
+        Place {
+            at: to as *mut u8,
+            alloc,
+        }
+    }
+
+    /// The machine that lies there.
+    pub(crate) fn unboxed(self) -> Unboxed<Machine, Global>
+        requires { IsSome self.machine }
+        ensures { self.machine ≡ Some result.value }
+    {
+        let Place { at, alloc } = self;
+        Unboxed {
+            to: at as *mut Machine,
+            alloc,
+        }
+    }
+}

@@ -1,0 +1,197 @@
+//! What the device behind a handle tells of itself. No read changes it.
+
+ghost use Rattle.std.specs.Prelude.{◌≡◌, ◌==◌, ℕ, nat_lt, find, length, slice_get, option_map};
+ghost use Rattle.dsa_desc.specs.Rows.{when};
+ghost use Rattle.dsa_regs.specs.Command.{number_of};
+ghost use Rattle.dsa_store.specs.Content.{held};
+ghost use Rattle.dsa_book.specs.State.{occupancy};
+ghost use Rattle.dsa_book.specs.Work.{used};
+ghost use Rattle.dsa_c.specs.Calls.{asked, asked_for, or_none, noted_of, reply_at};
+ghost use Rattle.dsa_c.specs.Answers.{ending_of};
+
+use crate::answer::{Answer, Ending};
+use crate::handle::Handle;
+use dsa_book::FateRow;
+use std::alloc::Global;
+
+// A number that may not be there.
+fn or_none(number: Option<u64>) -> u64
+    ensures { result ≡ or_none number }
+{
+    number.unwrap_or(u64::MAX)
+}
+
+// The row of that name.
+fn row_of(rows: &[FateRow], name: u32) -> Option<FateRow>
+    ensures { result ≡ find (λ row. row.name == name) rows.now }
+{
+    rows.iter().copied().find(|row| row.name == name)
+}
+
+/// For how many steps the history has room.
+#[unsafe(no_mangle)]
+pub extern "C" fn dsa_capacity(alloc: Global, handle: &mut Handle) -> u64
+    ensures value { result ≡ or_none (asked handle.old.place.machine (λ d. d.capacity)) }
+    ensures same { handle.new.place.machine ≡ handle.old.place.machine }
+{
+    let Some(machine) = handle.take(alloc) else {
+        return or_none(None);
+    };
+    let capacity = machine.device.capacity();
+    handle.put(machine);
+    capacity
+}
+
+/// The number of entries that wait in the queue.
+#[unsafe(no_mangle)]
+pub extern "C" fn dsa_occupancy(alloc: Global, handle: &mut Handle, queue: u16) -> u64
+    ensures value { result ≡ or_none (asked_for handle.old.place.machine (λ d. when (nat_lt queue d.caps.queues) (occupancy d.state.work.content queue))) }
+    ensures same { handle.new.place.machine ≡ handle.old.place.machine }
+{
+    let Some(machine) = handle.take(alloc) else {
+        return or_none(None);
+    };
+    let occupancy = machine.device.occupancy(queue);
+    handle.put(machine);
+    or_none(occupancy.map(u64::from))
+}
+
+/// The number of read buffers that the group uses.
+#[unsafe(no_mangle)]
+pub extern "C" fn dsa_used(alloc: Global, handle: &mut Handle, group: u16) -> u64
+    ensures value { result ≡ or_none (asked_for handle.old.place.machine (λ d. when (nat_lt group d.caps.groups) (used d.state.work group))) }
+    ensures same { handle.new.place.machine ≡ handle.old.place.machine }
+{
+    let Some(machine) = handle.take(alloc) else {
+        return or_none(None);
+    };
+    let used = machine.device.used(group);
+    handle.put(machine);
+    or_none(used.map(u64::from))
+}
+
+/// The number of entries that the device holds.
+#[unsafe(no_mangle)]
+pub extern "C" fn dsa_held(alloc: Global, handle: &mut Handle) -> u64
+    ensures value { result ≡ or_none (asked handle.old.place.machine (λ d. held d.state.work.content)) }
+    ensures same { handle.new.place.machine ≡ handle.old.place.machine }
+{
+    let Some(machine) = handle.take(alloc) else {
+        return or_none(None);
+    };
+    let held = machine.device.held();
+    handle.put(machine);
+    u64::from(held)
+}
+
+/// The name that the next entry gets.
+#[unsafe(no_mangle)]
+pub extern "C" fn dsa_next_name(alloc: Global, handle: &mut Handle) -> u64
+    ensures value { result ≡ or_none (asked handle.old.place.machine (λ d. d.state.work.setup.next_name)) }
+    ensures same { handle.new.place.machine ≡ handle.old.place.machine }
+{
+    let Some(machine) = handle.take(alloc) else {
+        return or_none(None);
+    };
+    let name = machine.device.next_name();
+    handle.put(machine);
+    u64::from(name)
+}
+
+/// The number of the command that is not over yet.
+#[unsafe(no_mangle)]
+pub extern "C" fn dsa_active(alloc: Global, handle: &mut Handle) -> u64
+    ensures value { result ≡ or_none (asked_for handle.old.place.machine (λ d. option_map (λ active. number_of active.command) d.state.active)) }
+    ensures same { handle.new.place.machine ≡ handle.old.place.machine }
+{
+    let Some(machine) = handle.take(alloc) else {
+        return or_none(None);
+    };
+    let active = machine.device.active();
+    handle.put(machine);
+    or_none(active.map(|command| u64::from(command.number())))
+}
+
+/// The number of steps that were stored.
+#[unsafe(no_mangle)]
+pub extern "C" fn dsa_history_length(alloc: Global, handle: &mut Handle) -> u64
+    ensures value { result ≡ or_none (asked handle.old.place.machine (λ d. length d.history)) }
+    ensures same { handle.new.place.machine ≡ handle.old.place.machine }
+{
+    let Some(machine) = handle.take(alloc) else {
+        return or_none(None);
+    };
+    let length = machine.device.history().len();
+    handle.put(machine);
+    length as u64
+}
+
+/// The number of entries that ended.
+#[unsafe(no_mangle)]
+pub extern "C" fn dsa_fates_length(alloc: Global, handle: &mut Handle) -> u64
+    ensures value { result ≡ or_none (asked handle.old.place.machine (λ d. length d.state.work.fates)) }
+    ensures same { handle.new.place.machine ≡ handle.old.place.machine }
+{
+    let Some(machine) = handle.take(alloc) else {
+        return or_none(None);
+    };
+    let length = machine.device.fates().len();
+    handle.put(machine);
+    length as u64
+}
+
+/// The noted error.
+#[unsafe(no_mangle)]
+pub extern "C" fn dsa_noted(alloc: Global, handle: &mut Handle) -> Answer
+    ensures value { result ≡ noted_of handle.old.place.machine }
+    ensures same { handle.new.place.machine ≡ handle.old.place.machine }
+{
+    let Some(machine) = handle.take(alloc) else {
+        return Answer::no_device();
+    };
+    let noted = machine.device.noted();
+    handle.put(machine);
+    Answer::noted(noted)
+}
+
+/// The answer of the stored step at this position, the first one at 0.
+#[unsafe(no_mangle)]
+pub extern "C" fn dsa_history_answer(alloc: Global, handle: &mut Handle, position: u64) -> Answer
+    ensures value { result ≡ reply_at handle.old.place.machine position }
+    ensures same { handle.new.place.machine ≡ handle.old.place.machine }
+{
+    let Some(machine) = handle.take(alloc) else {
+        return Answer::no_device();
+    };
+    let step = machine.device.history().get(position as usize).copied();
+    handle.put(machine);
+    Answer::of_step(step)
+}
+
+/// The fate at this position, in the order in which entries ended, the first one at 0.
+#[unsafe(no_mangle)]
+pub extern "C" fn dsa_fate_at(alloc: Global, handle: &mut Handle, position: u64) -> Ending
+    ensures value { result ≡ ending_of (asked_for handle.old.place.machine (λ d. slice_get d.state.work.fates position)) }
+    ensures same { handle.new.place.machine ≡ handle.old.place.machine }
+{
+    let Some(machine) = handle.take(alloc) else {
+        return Ending::of(None);
+    };
+    let row = machine.device.fates().get(position as usize).copied();
+    handle.put(machine);
+    Ending::of(row)
+}
+
+/// The fate of the entry of this name.
+#[unsafe(no_mangle)]
+pub extern "C" fn dsa_fate_of(alloc: Global, handle: &mut Handle, name: u32) -> Ending
+    ensures value { result ≡ ending_of (asked_for handle.old.place.machine (λ d. find (λ row. row.name == name) d.state.work.fates)) }
+    ensures same { handle.new.place.machine ≡ handle.old.place.machine }
+{
+    let Some(machine) = handle.take(alloc) else {
+        return Ending::of(None);
+    };
+    let row = row_of(machine.device.fates(), name);
+    handle.put(machine);
+    Ending::of(row)
+}

@@ -1,0 +1,45 @@
+//! One device over a store of linked cells, as a type with no parameters.
+#![tactic(auto)]
+
+ghost use Rattle.std.specs.Prelude.{◌≡◌, None, IfOk, IfErr};
+ghost use Rattle.dsa_desc.specs.Rows.{first_row};
+ghost use Rattle.dsa_device.specs.Running.{opened};
+ghost use Rattle.dsa_machine.specs.Opening.{opening_table, opening_fault};
+
+use dsa_cells::LinkedStore;
+use dsa_device::{Device, MakeFault};
+use dsa_regs::{Caps, cell_count, check_caps, list_count};
+use std::alloc::Global;
+
+/// The most steps that a history may have room for (profile).
+const MAX_CAPACITY: u64 = 1_048_576;
+
+/// A device and its store.
+#[derive(Drop)]
+pub struct Machine {
+    pub device: Device<LinkedStore>,
+}
+
+impl Machine {
+    /// A device that is `Off`, with nothing configured and nothing held. The fault is the first that stands; want of memory
+    /// comes where none does.
+    pub fn new(alloc: Global, caps: Caps, capacity: u64) -> Result<Machine, MakeFault>
+        ensures opened { IfOk result (λ machine. machine.device ≡ opened caps capacity) }
+        ensures no_fault { IfOk result (λ machine. first_row (opening_table caps capacity) ≡ None) }
+        ensures fault { IfErr result (λ fault. fault ≡ opening_fault caps capacity) }
+    {
+        if !check_caps(&caps) {
+            return Err(MakeFault::BadCaps);
+        }
+        if capacity > MAX_CAPACITY {
+            return Err(MakeFault::BadCapacity);
+        }
+        let Ok(store) = LinkedStore::new(alloc, list_count(&caps), cell_count(&caps)) else {
+            return Err(MakeFault::OutOfMemory);
+        };
+        match Device::new(alloc, store, caps, capacity) {
+            Ok(device) => Ok(Machine { device }),
+            Err((fault, _)) => Err(fault),
+        }
+    }
+}
