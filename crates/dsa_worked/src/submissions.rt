@@ -13,8 +13,8 @@ ghost use Rattle.dsa_book.specs.declared.fate.Fate.TheVariants.{Completed};
 ghost use Rattle.dsa_book.specs.Machine.{is_run};
 ghost use Rattle.dsa_book.specs.Totals.{steps_of};
 ghost use Rattle.dsa_regs.specs.Worked.{caps};
-ghost use Rattle.dsa_laws.specs.Worked.{setup, is_run_here, may_not_follow, fates_after, content_after, next_name_after, account_after, row, slot, no_op, move, ticket, written, enqcmd, enqcmd_unlimited, movdir, dispatched, finished, cleared};
-ghost use Rattle.dsa_laws.specs.WorkedSubmissions.{one_move, two_portals, dedicated_queue_overflows, causes_of_retry, first_drop_is_noted, transfer_sizes, operations_and_flags, history_is_full, no_room_at_all, forged_tickets, of_two_clients};
+ghost use Rattle.dsa_worked.specs.Setup.{setup, is_run_here, may_not_follow, fates_after, content_after, next_name_after, account_after, row, slot, no_op, move, ticket, written, enqcmd, enqcmd_unlimited, movdir, dispatched, finished, cleared};
+ghost use Rattle.dsa_worked.specs.Submissions.{one_move, two_portals, dedicated_queue_overflows, causes_of_retry, first_drop_is_noted, transfer_sizes, operations_and_flags, history_is_full, no_room_at_all, forged_tickets, of_two_clients};
 
 /// A Move from its submission to its status.
 pub fn one_move()

@@ -17,7 +17,7 @@ use Rattle.dsa_book.specs.declared.answer.WriteAnswer.TheVariants.{Written, Refu
 use Rattle.dsa_book.specs.declared.answer.ClearAnswer.TheVariants.{Cleared, Nothing, Full}
 use Rattle.dsa_regs.specs.Worked.{shared_queue, dedicated_queue, first_group}
 use Rattle.dsa_regs.specs.Config.{zero_group}
-use Rattle.dsa_laws.specs.Worked.{no_op, move, batch, fenced, ticket, written, enqcmd, movdir, dispatched, fetched, started, finished, issued, polled, cleared, queue_written, group_written, configured, enabled}
+use Rattle.dsa_worked.specs.Setup.{no_op, move, batch, fenced, ticket, written, enqcmd, movdir, dispatched, fetched, started, finished, issued, polled, cleared, queue_written, group_written, configured, enabled}
 
 -- ---- a choice of queues
 

@@ -8,7 +8,7 @@ use Rattle.dsa_book.specs.declared.fate.FateRow.{FateRow}
 use Rattle.dsa_book.specs.State.{Work}
 use Rattle.dsa_book.specs.Work.{in_progress, all_used}
 use Rattle.dsa_laws.specs.Engines.{holds_batch}
-use Rattle.dsa_laws.specs.Worked.{no_op, row, slot, state_after}
+use Rattle.dsa_worked.specs.Setup.{no_op, row, slot, state_after}
 
 -- what is seen of the work after the set-up and these steps
 abbrev pub seen_after : {X : Type 0} → (Work → X) → List Step → Option X

@@ -12,7 +12,7 @@ use Rattle.dsa_book.specs.declared.answer.PollAnswer.TheVariants.{Finished, Acti
 use Rattle.dsa_book.specs.declared.answer.WriteAnswer.TheVariants.{Written, Refused}
 use Rattle.dsa_book.specs.declared.answer.ClearAnswer.TheVariants.{Nothing}
 use Rattle.dsa_regs.specs.Worked.{shared_queue, dedicated_queue, first_group}
-use Rattle.dsa_laws.specs.Worked.{no_op, ticket, masked, enqcmd, movdir, dispatched, finished, issued, polled, cleared, queue_written, group_written}
+use Rattle.dsa_worked.specs.Setup.{no_op, ticket, masked, enqcmd, movdir, dispatched, finished, issued, polled, cleared, queue_written, group_written}
 
 -- ---- which commands may come
 

@@ -14,8 +14,8 @@ ghost use Rattle.dsa_book.specs.declared.fate.Fate.TheVariants.{Completed, Abort
 ghost use Rattle.dsa_book.specs.Machine.{is_run};
 ghost use Rattle.dsa_regs.specs.Worked.{caps, shared_queue, dedicated_queue, first_group};
 ghost use Rattle.dsa_regs.specs.Config.{zero_queue};
-ghost use Rattle.dsa_laws.specs.Worked.{room, is_run_here, may_not_follow, fates_after, content_after, phases_after, configs_after, row, slot, no_op, ticket, masked, enqcmd, movdir, issued, polled, cleared, queue_written, group_written};
-ghost use Rattle.dsa_laws.specs.WorkedPhases.{commands_while_off, commands_of_a_queue_that_is_off, masks_with_a_missing_queue, commands_while_busy, drain_of_one_queue_of_two, abort_of_one_queue_of_two, disable_of_one_queue_of_two, enable_of_one_queue_of_two, disable_with_a_queue_that_is_off, reset_of_all, reset_of_one_queue_of_two, writes_and_locks};
+ghost use Rattle.dsa_worked.specs.Setup.{room, is_run_here, may_not_follow, fates_after, content_after, phases_after, configs_after, row, slot, no_op, ticket, masked, enqcmd, movdir, issued, polled, cleared, queue_written, group_written};
+ghost use Rattle.dsa_worked.specs.Phases.{commands_while_off, commands_of_a_queue_that_is_off, masks_with_a_missing_queue, commands_while_busy, drain_of_one_queue_of_two, abort_of_one_queue_of_two, disable_of_one_queue_of_two, enable_of_one_queue_of_two, disable_with_a_queue_that_is_off, reset_of_all, reset_of_one_queue_of_two, writes_and_locks};
 
 /// While the device is Off it may be enabled and reset, and nothing else.
 pub fn commands_while_off()

@@ -10,8 +10,8 @@ ghost use Rattle.dsa_book.specs.declared.answer.IssueAnswer.TheVariants.{Ended};
 ghost use Rattle.dsa_book.specs.declared.fate.Fate.TheVariants.{Completed, Aborted, Abandoned};
 ghost use Rattle.dsa_book.specs.Machine.{is_run};
 ghost use Rattle.dsa_regs.specs.Worked.{caps};
-ghost use Rattle.dsa_laws.specs.Worked.{room, is_run_here, may_not_follow, fates_after, content_after, row, slot, no_op, batch, fenced, ticket, masked, dispatched, fetched, started, finished, faulted, issued};
-ghost use Rattle.dsa_laws.specs.WorkedMembers.{batch_is_not_ready, batches_beside_a_batch, failures_beside_a_batch, three_are_abandoned, fence_waits_behind_a_failure, no_fence_behind_a_failure, fence_on_an_unsupported_operation, few_buffers, fence_before_buffers, failure_before_buffers, small_limits, limits_of_a_queue, abort_of_all_lists, abort_beside_a_batch};
+ghost use Rattle.dsa_worked.specs.Setup.{room, is_run_here, may_not_follow, fates_after, content_after, row, slot, no_op, batch, fenced, ticket, masked, dispatched, fetched, started, finished, faulted, issued};
+ghost use Rattle.dsa_worked.specs.Members.{batch_is_not_ready, batches_beside_a_batch, failures_beside_a_batch, three_are_abandoned, fence_waits_behind_a_failure, no_fence_behind_a_failure, fence_on_an_unsupported_operation, few_buffers, fence_before_buffers, failure_before_buffers, small_limits, limits_of_a_queue, abort_of_all_lists, abort_beside_a_batch};
 
 /// A batch ends when all its members were fetched and have ended, with 0x01 whatever the outcome that it is ended with.
 pub fn batch_is_not_ready()

@@ -11,8 +11,8 @@ ghost use Rattle.dsa_book.specs.declared.answer.PollAnswer.TheVariants.{Finished
 ghost use Rattle.dsa_book.specs.declared.fate.Fate.TheVariants.{Completed, Aborted};
 ghost use Rattle.dsa_book.specs.Machine.{is_run};
 ghost use Rattle.dsa_regs.specs.Worked.{caps, dedicated_queue, first_group, second_group};
-ghost use Rattle.dsa_laws.specs.Worked.{room, setup, is_run_here, may_not_follow, fates_after, content_after, next_name_after, account_after, row, slot, no_op, batch, ticket, enqcmd, dispatched, finished, issued, polled};
-ghost use Rattle.dsa_laws.specs.WorkedCommands.{drain_of_a_queue, drain_of_a_batch, drain_of_a_pasid, abort_of_a_pasid, abort_takes_members, old_ticket_is_gone, abort_and_reset, names_go_on_after_a_reset, reset_of_a_queue, disable_and_enable_again, refused_enables_and_writes, priorities, queues_that_are_not_there, refused_device};
+ghost use Rattle.dsa_worked.specs.Setup.{room, setup, is_run_here, may_not_follow, fates_after, content_after, next_name_after, account_after, row, slot, no_op, batch, ticket, enqcmd, dispatched, finished, issued, polled};
+ghost use Rattle.dsa_worked.specs.Commands.{drain_of_a_queue, drain_of_a_batch, drain_of_a_pasid, abort_of_a_pasid, abort_takes_members, old_ticket_is_gone, abort_and_reset, names_go_on_after_a_reset, reset_of_a_queue, disable_and_enable_again, refused_enables_and_writes, priorities, queues_that_are_not_there, refused_device};
 
 /// A drain of a queue waits for what was submitted before it: it does not end at once, and what comes later does not hold it up.
 pub fn drain_of_a_queue()

@@ -15,7 +15,7 @@ use Rattle.dsa_book.specs.declared.answer.PollAnswer.TheVariants.{Full}
 use Rattle.dsa_book.specs.declared.answer.WriteAnswer.TheVariants.{Full}
 use Rattle.dsa_book.specs.declared.answer.ClearAnswer.TheVariants.{Cleared, Nothing}
 use Rattle.dsa_regs.specs.Worked.{shared_queue, dedicated_queue, first_group, second_group}
-use Rattle.dsa_laws.specs.Worked.{no_op, drain, move, fenced, ticket, step, written, enqcmd, enqcmd_unlimited, movdir, dispatched, finished, issued, polled, cleared, queue_written, group_written}
+use Rattle.dsa_worked.specs.Setup.{no_op, drain, move, fenced, ticket, step, written, enqcmd, enqcmd_unlimited, movdir, dispatched, finished, issued, polled, cleared, queue_written, group_written}
 
 -- a Move from its submission to its status
 abbrev pub one_move : List Step

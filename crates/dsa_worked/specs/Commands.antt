@@ -19,7 +19,7 @@ use Rattle.dsa_book.specs.declared.answer.PollAnswer.TheVariants.{Finished, Acti
 use Rattle.dsa_book.specs.declared.answer.WriteAnswer.TheVariants.{Written, Refused}
 use Rattle.dsa_book.specs.declared.answer.ClearAnswer.TheVariants.{Nothing}
 use Rattle.dsa_regs.specs.Worked.{shared_queue, first_group}
-use Rattle.dsa_laws.specs.Worked.{no_op, batch, ticket, written, enqcmd, enqcmd_unlimited, movdir, dispatched, fetched, started, finished, issued, polled, cleared, queue_written, group_written, configured, setup}
+use Rattle.dsa_worked.specs.Setup.{no_op, batch, ticket, written, enqcmd, enqcmd_unlimited, movdir, dispatched, fetched, started, finished, issued, polled, cleared, queue_written, group_written, configured, setup}
 
 -- a drain of queue 0 waits for what was submitted before it, and for nothing else
 abbrev pub drain_of_a_queue : List Step

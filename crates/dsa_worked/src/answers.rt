@@ -20,10 +20,10 @@ ghost use Rattle.dsa_book.specs.declared.event.Kind.TheVariants.{Enqcmd, Movdir6
 ghost use Rattle.dsa_book.specs.declared.event.Portal.TheVariants.{Limited, Unlimited};
 ghost use Rattle.dsa_book.specs.Machine.{is_run, is_legal, stored_steps};
 ghost use Rattle.dsa_regs.specs.Worked.{caps, shared_queue, dedicated_queue, first_group};
-ghost use Rattle.dsa_laws.specs.Worked.{room, setup, is_run_here, may_not_follow, state_after, no_op, move, batch, ticket, masked, step, written, enqcmd, movdir, dispatched, fetched, started, finished, issued, polled, cleared, queue_written, group_written};
-ghost use Rattle.dsa_laws.specs.WorkedSubmissions.{one_move, dedicated_queue_overflows};
-ghost use Rattle.dsa_laws.specs.WorkedBatches.{three_groups, fence_waits, failure_abandons};
-ghost use Rattle.dsa_laws.specs.WorkedAnswers.{two_queues_of_a_group, a_choice_of_queues, one_of_two_queues_waits, slots_are_full, one_group, buffers_of_two_engines, engines_that_are_not_there, steps_not_stored, steps_stored, room_for_steps_not_stored, each_event_is_full};
+ghost use Rattle.dsa_worked.specs.Setup.{room, setup, is_run_here, may_not_follow, state_after, no_op, move, batch, ticket, masked, step, written, enqcmd, movdir, dispatched, fetched, started, finished, issued, polled, cleared, queue_written, group_written};
+ghost use Rattle.dsa_worked.specs.Submissions.{one_move, dedicated_queue_overflows};
+ghost use Rattle.dsa_worked.specs.Batches.{three_groups, fence_waits, failure_abandons};
+ghost use Rattle.dsa_worked.specs.Answers.{two_queues_of_a_group, a_choice_of_queues, one_of_two_queues_waits, slots_are_full, one_group, buffers_of_two_engines, engines_that_are_not_there, steps_not_stored, steps_stored, room_for_steps_not_stored, each_event_is_full};
 
 /// Of two queues with work an engine takes the front of either, and nothing else.
 pub fn a_choice_of_queues()

@@ -14,7 +14,7 @@ use Rattle.dsa_book.specs.declared.answer.FinishAnswer.TheVariants.{Done, NotRea
 use Rattle.dsa_book.specs.declared.answer.IssueAnswer.TheVariants.{Ended}
 use Rattle.dsa_book.specs.declared.answer.WriteAnswer.TheVariants.{Written}
 use Rattle.dsa_regs.specs.Worked.{shared_queue}
-use Rattle.dsa_laws.specs.Worked.{no_op, move, batch, fenced, ticket, written, enqcmd, movdir, dispatched, fetched, started, finished, faulted, issued, queue_written, group_written}
+use Rattle.dsa_worked.specs.Setup.{no_op, move, batch, fenced, ticket, written, enqcmd, movdir, dispatched, fetched, started, finished, faulted, issued, queue_written, group_written}
 
 -- members start while buffers are to be had, and a group does not go past what it is allowed
 abbrev pub buffers_of_a_batch : List Step

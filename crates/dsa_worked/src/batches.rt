@@ -8,8 +8,8 @@ ghost use Rattle.dsa_book.specs.declared.answer.FinishAnswer.TheVariants.{Done, 
 ghost use Rattle.dsa_book.specs.declared.fate.Fate.TheVariants.{Completed, Abandoned};
 ghost use Rattle.dsa_book.specs.Machine.{is_run};
 ghost use Rattle.dsa_regs.specs.Worked.{caps};
-ghost use Rattle.dsa_laws.specs.Worked.{room, setup, is_run_here, may_not_follow, fates_after, content_after, account_after, row, slot, no_op, move, batch, ticket, dispatched, fetched, started, finished};
-ghost use Rattle.dsa_laws.specs.WorkedBatches.{buffers_of_a_batch, fence_waits, failure_abandons, batch_counts, batch_in_a_batch, more_slots, buffers_of_two_groups, three_groups, three_groups_setup, buffers_reserved_for_another};
+ghost use Rattle.dsa_worked.specs.Setup.{room, setup, is_run_here, may_not_follow, fates_after, content_after, account_after, row, slot, no_op, move, batch, ticket, dispatched, fetched, started, finished};
+ghost use Rattle.dsa_worked.specs.Batches.{buffers_of_a_batch, fence_waits, failure_abandons, batch_counts, batch_in_a_batch, more_slots, buffers_of_two_groups, three_groups, three_groups_setup, buffers_reserved_for_another};
 
 /// Members start while buffers are to be had, and no longer.
 pub fn buffers_of_a_batch()

@@ -9,7 +9,7 @@ use Rattle.dsa_book.specs.declared.answer.StartAnswer.TheVariants.{Started, Fenc
 use Rattle.dsa_book.specs.declared.answer.FinishAnswer.TheVariants.{Done, NotReady}
 use Rattle.dsa_book.specs.declared.answer.IssueAnswer.TheVariants.{Ended}
 use Rattle.dsa_regs.specs.Worked.{shared_queue, dedicated_queue, first_group, second_group}
-use Rattle.dsa_laws.specs.Worked.{no_op, drain, move, batch, fenced, ticket, masked, enqcmd, movdir, dispatched, fetched, started, finished, faulted, issued, configured, enabled}
+use Rattle.dsa_worked.specs.Setup.{no_op, drain, move, batch, fenced, ticket, masked, enqcmd, movdir, dispatched, fetched, started, finished, faulted, issued, configured, enabled}
 
 -- ---- the end of a batch
 

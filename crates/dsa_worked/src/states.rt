@@ -6,11 +6,11 @@ ghost use Rattle.dsa_book.specs.State.{occupancy};
 ghost use Rattle.dsa_book.specs.Work.{all_used, used, members, note_at};
 ghost use Rattle.dsa_laws.specs.WellFormed.{held_named, fates_named, runs_first};
 ghost use Rattle.dsa_laws.specs.Accounts.{submitted_entries, member_entries, only_members_abandoned};
-ghost use Rattle.dsa_laws.specs.Worked.{row};
-ghost use Rattle.dsa_laws.specs.WorkedSubmissions.{two_portals};
-ghost use Rattle.dsa_laws.specs.WorkedBatches.{buffers_of_a_batch, fence_waits, failure_abandons};
-ghost use Rattle.dsa_laws.specs.WorkedCommands.{abort_takes_members};
-ghost use Rattle.dsa_laws.specs.WorkedStates.{seen_after, batches_on, covered_by, running_member, waiting_member, one_abandoned_member, one_abandoned_entry};
+ghost use Rattle.dsa_worked.specs.Setup.{row};
+ghost use Rattle.dsa_worked.specs.Submissions.{two_portals};
+ghost use Rattle.dsa_worked.specs.Batches.{buffers_of_a_batch, fence_waits, failure_abandons};
+ghost use Rattle.dsa_worked.specs.Commands.{abort_takes_members};
+ghost use Rattle.dsa_worked.specs.States.{seen_after, batches_on, covered_by, running_member, waiting_member, one_abandoned_member, one_abandoned_entry};
 
 /// A batch of which one member ended and one was abandoned: one entry was submitted, and two are members.
 pub fn entries_of_a_failed_batch()
