@@ -1,10 +1,10 @@
-//! Commands: their numbers, names and words, and the queues that they name.
+//! Commands: their numbers, names and words, whom they are about and what they do.
 
 ghost use Rattle.std.specs.Prelude.{◌≡◌, ℕ, ◌<◌, ◌/◌, ◌%◌, ◌^◌, ◌==◌};
 ghost use Rattle.std.specs.List.{list_any};
 
 use crate::configurations::has_number;
-use crate::{Command, Fault, QUEUES_IN_MASK, QueueMask};
+use crate::{Command, Deed, Fault, QUEUES_IN_MASK, QueueMask, Scope};
 use arrayvec::ArrayVec;
 
 /// The numbers of the queues that a command names.
@@ -44,8 +44,38 @@ impl QueueMask {
     }
 }
 
+impl Scope {
+    ghost use Rattle.dsa_regs.specs.Command.{queues_in};
+
+    /// Whether the queue is one of those named.
+    pub fn contains(&self, queue: u16) -> bool
+        ensures { result ≡ list_any (λ k. k == queue) (queues_in self.now) }
+    {
+        match self {
+            Scope::Queue(named) => *named == u32::from(queue),
+            Scope::Queues(named) => named.contains(queue),
+            Scope::Device | Scope::Pasid(_) => false,
+        }
+    }
+
+    /// The queues that are named, in order; none where the scope is the device or a PASID.
+    pub fn queues(&self) -> QueueNumbers
+        ensures { result.items ≡ queues_in self.now }
+    {
+        match self {
+            Scope::Queue(queue) => {
+                let mut queues = ArrayVec::new();
+                queues.push(*queue);
+                queues
+            }
+            Scope::Queues(named) => named.queues(),
+            Scope::Device | Scope::Pasid(_) => ArrayVec::new(),
+        }
+    }
+}
+
 impl Command {
-    ghost use Rattle.dsa_regs.specs.Command.{number_of, command_name, named_queues};
+    ghost use Rattle.dsa_regs.specs.Command.{number_of, command_name, scope_of, deed_of, named_queues};
 
     /// The number of the command, 1 to 12 (Intel DSA specification, Command register).
     pub fn number(&self) -> u8
@@ -87,22 +117,51 @@ impl Command {
         }
     }
 
+    /// Whom the command is about.
+    pub fn scope(&self) -> Scope
+        ensures { result ≡ scope_of self.now }
+    {
+        match self {
+            Command::EnableDevice => Scope::Device,
+            Command::DisableDevice => Scope::Device,
+            Command::DrainAll => Scope::Device,
+            Command::AbortAll => Scope::Device,
+            Command::ResetDevice => Scope::Device,
+            Command::EnableWq(queue) => Scope::Queue(*queue),
+            Command::DisableWq(queues) => Scope::Queues(*queues),
+            Command::DrainWq(queues) => Scope::Queues(*queues),
+            Command::AbortWq(queues) => Scope::Queues(*queues),
+            Command::ResetWq(queues) => Scope::Queues(*queues),
+            Command::DrainPasid(pasid) => Scope::Pasid(*pasid),
+            Command::AbortPasid(pasid) => Scope::Pasid(*pasid),
+        }
+    }
+
+    /// What the command does with whom it is about.
+    pub fn deed(&self) -> Deed
+        ensures { result ≡ deed_of self.now }
+    {
+        match self {
+            Command::EnableDevice => Deed::Enable,
+            Command::DisableDevice => Deed::Disable,
+            Command::DrainAll => Deed::Drain,
+            Command::AbortAll => Deed::Abort,
+            Command::ResetDevice => Deed::Reset,
+            Command::EnableWq(_) => Deed::Enable,
+            Command::DisableWq(_) => Deed::Disable,
+            Command::DrainWq(_) => Deed::Drain,
+            Command::AbortWq(_) => Deed::Abort,
+            Command::ResetWq(_) => Deed::Reset,
+            Command::DrainPasid(_) => Deed::Drain,
+            Command::AbortPasid(_) => Deed::Abort,
+        }
+    }
+
     /// The queues that the command names, in order; none for commands that name no queue.
     pub fn queues(&self) -> QueueNumbers
         ensures { result.items ≡ named_queues self.now }
     {
-        match self {
-            Command::EnableWq(queue) => {
-                let mut queues = ArrayVec::new();
-                queues.push(*queue);
-                queues
-            }
-            Command::DisableWq(mask)
-            | Command::DrainWq(mask)
-            | Command::AbortWq(mask)
-            | Command::ResetWq(mask) => mask.queues(),
-            _ => ArrayVec::new(),
-        }
+        self.scope().queues()
     }
 }
 

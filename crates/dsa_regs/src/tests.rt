@@ -450,4 +450,7 @@ fn commands_name_queues(rt: HostRuntime) {
     assert_eq!(rt; Command::EnableWq(2).queues().as_slice(), [2].as_slice());
     assert!(rt; Command::DrainAll.queues().is_empty());
     assert!(rt; QueueMask { group: 1, mask: 0 }.queues().is_empty());
+    assert!(rt; Scope::Queues(mask).contains(18) && !Scope::Queues(mask).contains(17));
+    assert!(rt; Scope::Queue(17).contains(17) && !Scope::Queue(17).contains(1));
+    assert!(rt; !Scope::Device.contains(0) && !Scope::Pasid(0).contains(0));
 }
