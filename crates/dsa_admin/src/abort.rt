@@ -15,7 +15,7 @@ use crate::withdrawal::withdraw;
 use dsa_book::{BatchNote, Book, IssueAnswer};
 use dsa_engines::Engines;
 use dsa_queues::Queues;
-use dsa_regs::{Command, Phase, QueueMask};
+use dsa_regs::{Command, ListUse, Phase, QueueMask};
 use dsa_store::{Entry, EntryStore, ListId};
 
 fn is_noted(queues: &Queues, note: &BatchNote, entry: &Entry) -> bool
@@ -53,7 +53,7 @@ fn keep_note<S: EntryStore>(queues: &Queues, engines: &mut Engines, store: &S, e
     let Some(note) = engines.note(engine) else {
         return;
     };
-    let list = ListId(queues.caps().queues + engine);
+    let list = queues.list(ListUse::Progress(engine));
     if has_batch(queues, store, &note, list) {
         return;
     }

@@ -13,7 +13,7 @@ use crate::scope::is_in_scope;
 use dsa_book::{Book, Fate, FateRow};
 use dsa_engines::Engines;
 use dsa_queues::Queues;
-use dsa_regs::Command;
+use dsa_regs::{Command, ListUse};
 use dsa_store::{Entry, EntryStore, ListId};
 
 // The row of an entry that the command takes out.
@@ -32,15 +32,10 @@ fn engine_of(queues: &Queues, list: ListId) -> Option<u16>
     requires { list.0 < list_count queues.now.caps }
     ensures { IsListOf queues.now result list.0 }
 {
-    let caps = queues.caps();
-    if list.0 < caps.queues {
-        return None;
+    match queues.list_use(list) {
+        ListUse::Queue(_) => None,
+        ListUse::Progress(engine) | ListUse::Members(engine) => Some(engine),
     }
-    let place = list.0 - caps.queues;
-    if place < caps.engines {
-        return Some(place);
-    }
-    Some(place - caps.engines)
 }
 
 // The engine gives up what the entry held; a queue's entry held nothing.

@@ -9,6 +9,8 @@ use Rattle.dsa_regs.specs.Numbers.{has, numbers_below}
 use Rattle.dsa_regs.specs.declared.GroupConfig.{GroupConfig}
 use Rattle.dsa_regs.specs.Config.{group_at}
 use Rattle.dsa_regs.specs.Buffers.{fits}
+use Rattle.dsa_regs.specs.Caps.{list_number}
+use Rattle.dsa_regs.specs.declared.layout.ListUse.TheVariants.{Progress, Members}
 use Rattle.dsa_store.specs.declared.entry.Cell.{Cell}
 use Rattle.dsa_store.specs.declared.entry.Entry.{Entry}
 use Rattle.dsa_store.specs.Content.{Slot, chain, is_cell, pushed, without_front, emptied, unlinked}
@@ -29,13 +31,13 @@ use Rattle.dsa_book.specs.State.{Setup, Work, has_queue, is_member, need_of, sta
 
 -- ---- what an engine has. An engine that the device does not have has nothing
 
--- behind the lists of the queues, one of submitted entries in progress for each engine (profile)
+-- the list of the submitted entries in progress on the engine (profile)
 abbrev pub progress_list : Setup → ℕ → ℕ
-progress_list setup e = setup.caps.queues + e
+progress_list setup e = list_number setup.caps (Progress e)
 
--- behind these, one of batch members for each engine (profile)
+-- the list of the members of its batch (profile)
 abbrev pub member_list : Setup → ℕ → ℕ
-member_list setup e = setup.caps.queues + setup.caps.engines + e
+member_list setup e = list_number setup.caps (Members e)
 
 -- the submitted entries in progress on an engine
 abbrev pub in_progress : Work → ℕ → List Slot

@@ -7,7 +7,6 @@ use Rattle.std.specs.Prelude.{IfSome, MatchOption}
 use Rattle.std.specs.Option.{IfNone}
 use Rattle.std.specs.List.{list_any}
 use Rattle.std.proofs.lemmas.List.Folds.{list_any-append}
-use Rattle.dsa_regs.specs.declared.Caps.{Caps}
 use Rattle.dsa_regs.specs.declared.GroupConfig.{GroupConfig}
 use Rattle.dsa_regs.specs.Numbers.{has, numbers_below}
 use Rattle.dsa_regs.specs.Config.{group_at, zero_group}
@@ -156,13 +155,13 @@ in_step-taken setup gear after content e q g n cell entry r s on o hq notes home
     }
 
 -- the same, by what the calls leave one after another
-pub in_step-after : (setup : Setup) (gear took noted after : Gear) (content now : Content) (e q g n : ℕ) (cell : Cell) (entry : Entry) (caps : Caps) → IsReady setup content → IsInStep setup gear content → (is_off setup.device ≡ false → IsOpen setup content e g) → q < setup.caps.queues → slice_get (chain content q) 0 ≡ Some (cell, entry) → caps ≡ setup.caps
-    → now ≡ pushed (without_front content q) (caps.queues + e) cell (as_running entry) → n ≡ need_of setup entry
+pub in_step-after : (setup : Setup) (gear took noted after : Gear) (content now : Content) (e q g n : ℕ) (cell : Cell) (entry : Entry) (p : ℕ) → IsReady setup content → IsInStep setup gear content → (is_off setup.device ≡ false → IsOpen setup content e g) → q < setup.caps.queues → slice_get (chain content q) 0 ≡ Some (cell, entry) → p ≡ progress_list setup e
+    → now ≡ pushed (without_front content q) p cell (as_running entry) → n ≡ need_of setup entry
     → took ≡ record gear { buffers = record gear.buffers { used = set gear.buffers.used g (get_or gear.buffers.used g 0 + n) } } → noted ≡ record took { notes = cond (is_batch_of setup entry) (with_note took.notes e (Some (opened_note entry))) took.notes } → after ≡ noted
     → IsInStep setup after now
-in_step-after setup gear took noted after content now e q g n cell entry caps r s group hq hf same is ne te de ae =
+in_step-after setup gear took noted after content now e q g n cell entry p r s group hq hf same is ne te de ae =
     let on : is_off setup.device ≡ false = awake setup content q (cell, entry) r hf in
-    let taken_is : now ≡ pushed (without_front content q) (progress_list setup e) cell (as_running entry) = is ∙ ap (λ (x : Caps). pushed (without_front content q) (x.queues + e) cell (as_running entry)) same in
+    let taken_is : now ≡ pushed (without_front content q) (progress_list setup e) cell (as_running entry) = is ∙ ap (λ (i : ℕ). pushed (without_front content q) i cell (as_running entry)) same in
     rw (ae, de, te, taken_is) (in_step-taken setup gear (record gear { buffers = record gear.buffers { used = set gear.buffers.used g (get_or gear.buffers.used g 0 + n) }; notes = cond (is_batch_of setup entry) (with_note gear.notes e (Some (opened_note entry))) gear.notes }) content e q g n cell entry r s on (group on) hq (length-opened (is_batch_of setup entry) gear.notes e (Some (opened_note entry))) refl refl ne)
 
 -- ---- the queue that is chosen

@@ -5,7 +5,6 @@ use Rattle.std.specs.List.{find, filter}
 use Rattle.std.proofs.lemmas.Bool.{lt-ltb, cases_Bool, cases_eq, cases_lt, and_parts}
 use Rattle.std.proofs.lemmas.List.Elements.{filter-append}
 use Rattle.dsa_desc.specs.Rows.{when}
-use Rattle.dsa_regs.specs.declared.Caps.{Caps}
 use Rattle.dsa_store.specs.declared.entry.Cell.{Cell}
 use Rattle.dsa_store.specs.declared.entry.Entry.{Entry}
 use Rattle.dsa_store.specs.Content.{Slot, Content, is_cell, chain, count, uses, list_of, entry_of, StandsAt}
@@ -212,15 +211,20 @@ here setup content e i t entry once h is mine got = on (placed content t.cell)
 
 -- by what the code knows of the capabilities
 
-pub outside : (setup : Setup) (content : Content) (caps : Caps) (e i : ℕ) (t : Ticket) → uses content t.cell ≤ 1 → e < caps.engines → caps ≡ setup.caps → Some i ≡ list_of content t.cell → false ≡ (i == caps.queues + e || i == caps.queues + caps.engines + e) → find (is_ticket t) (running_on (lists_alone setup content) e) ≡ None
-outside setup content caps e i t once h same is test =
-    let n = neither i (setup.caps.queues + e) (setup.caps.queues + setup.caps.engines + e) (sym (test ∙ ap (λ (c : Caps). i == c.queues + e || i == c.queues + c.engines + e) same)) in
-    elsewhere setup content e i t once (rw (← same) h) (sym is) n.0 n.1
+pub outside : (setup : Setup) (content : Content) (e i p m : ℕ) (t : Ticket) → uses content t.cell ≤ 1 → e < setup.caps.engines
+    → p ≡ progress_list setup e → m ≡ member_list setup e → Some i ≡ list_of content t.cell → false ≡ (i == p || i == m)
+    → find (is_ticket t) (running_on (lists_alone setup content) e) ≡ None
+outside setup content e i p m t once h pe me is test =
+    let n = neither i p m (sym test) in
+    elsewhere setup content e i t once h (sym is) (λ q. n.0 (q ∙ sym pe)) (λ q. n.1 (q ∙ sym me))
 
-pub inside : (setup : Setup) (content : Content) (caps : Caps) (e i : ℕ) (t : Ticket) (entry : Entry) (b : Bool) → uses content t.cell ≤ 1 → e < caps.engines → caps ≡ setup.caps → Some i ≡ list_of content t.cell → true ≡ (i == caps.queues + e || i == caps.queues + caps.engines + e) → Some entry ≡ entry_of content t.cell → b ≡ (entry.running && entry.name == t.name) → find (is_ticket t) (running_on (lists_alone setup content) e) ≡ when b (t.cell, entry)
-inside setup content caps e i t entry b once h same is test got be =
-    let mine = either i (setup.caps.queues + e) (setup.caps.queues + setup.caps.engines + e) (sym (test ∙ ap (λ (c : Caps). i == c.queues + e || i == c.queues + c.engines + e) same)) in
-    here setup content e i t entry once (rw (← same) h) (sym is) mine (sym got) ∙ ap (λ (x : Bool). when x (t.cell, entry)) (sym be)
+pub inside : (setup : Setup) (content : Content) (e i p m : ℕ) (t : Ticket) (entry : Entry) (b : Bool) → uses content t.cell ≤ 1 → e < setup.caps.engines
+    → p ≡ progress_list setup e → m ≡ member_list setup e → Some i ≡ list_of content t.cell → true ≡ (i == p || i == m)
+    → Some entry ≡ entry_of content t.cell → b ≡ (entry.running && entry.name == t.name)
+    → find (is_ticket t) (running_on (lists_alone setup content) e) ≡ when b (t.cell, entry)
+inside setup content e i p m t entry b once h pe me is test got be =
+    let mine : IsMine setup e i = elim (either i p m (sym test)) [ inl q ↦ inl (q ∙ pe) | inr q ↦ inr (q ∙ me) ] in
+    here setup content e i t entry once h (sym is) mine (sym got) ∙ ap (λ (x : Bool). when x (t.cell, entry)) (sym be)
 
 -- ---- what is known of an entry that is found
 

@@ -12,6 +12,7 @@ use crate::Engines;
 use dsa_book::{BatchNote, FetchAnswer, Ticket};
 use dsa_desc::Descriptor;
 use dsa_queues::Queues;
+use dsa_regs::ListUse;
 use dsa_store::{Cell, Entry, EntryStore, ListId};
 
 // The first entry of the list that has the name. Looks at those before it.
@@ -73,7 +74,7 @@ impl Engines {
         let Some(note) = self.note(engine) else {
             return FetchAnswer::NoBatch;
         };
-        let progress = ListId(caps.queues + engine);
+        let progress = queues.list(ListUse::Progress(engine));
         let Some((_, batch)) = find_named(store, progress, note.batch) else {
             return FetchAnswer::NoBatch;
         };
@@ -88,7 +89,7 @@ impl Engines {
             queue: batch.queue,
             running: false,
         };
-        let members = ListId(caps.queues + caps.engines + engine);
+        let members = queues.list(ListUse::Members(engine));
         let Some(cell) = store.push_back(members, member) else {
             unreachable!();
         };

@@ -12,12 +12,13 @@ use crate::fetching::is_all_fetched;
 use dsa_book::{BatchNote, Book, Fate, FateRow, FinishAnswer, Ticket};
 use dsa_desc::Outcome;
 use dsa_queues::Queues;
+use dsa_regs::ListUse;
 use dsa_store::{Entry, EntryStore, ListId};
 
-fn is_either(list: ListId, one: u16, other: u16) -> bool
-    ensures { result ≡ (list.0 == one || list.0 == other) }
+fn is_either(list: ListId, one: ListId, other: ListId) -> bool
+    ensures { result ≡ (list.0 == one.0 || list.0 == other.0) }
 {
-    list.0 == one || list.0 == other
+    list.0 == one.0 || list.0 == other.0
 }
 
 // Whether the entry in the ticket's cell runs and has its name.
@@ -42,11 +43,9 @@ fn find_running<S: EntryStore>(
         return None;
     }
     let list = store.list_of(ticket.cell)?;
-    if !is_either(
-        list,
-        caps.queues + engine,
-        caps.queues + caps.engines + engine,
-    ) {
+    let progress = queues.list(ListUse::Progress(engine));
+    let members = queues.list(ListUse::Members(engine));
+    if !is_either(list, progress, members) {
         return None;
     }
     let entry = store.get(ticket.cell)?;
@@ -64,8 +63,7 @@ impl Engines {
         requires engine { engine < queues.now.caps.engines }
         ensures { result ≡ is_unfinished (work queues.now self.now (S.content store.now) []) engine }
     {
-        let caps = queues.caps();
-        if store.len(ListId(caps.queues + caps.engines + engine)) > 0 {
+        if store.len(queues.list(ListUse::Members(engine))) > 0 {
             return true;
         }
         match self.note(engine) {

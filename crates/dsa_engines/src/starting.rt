@@ -13,6 +13,7 @@ ghost use Rattle.dsa_engines.specs.Engines.{work, lists_alone, IsInStep, IsReady
 use crate::Engines;
 use dsa_book::{BatchNote, Book, Fate, FateRow, StartAnswer, Ticket};
 use dsa_queues::Queues;
+use dsa_regs::ListUse;
 use dsa_store::{Cell, Entry, EntryStore, ListId};
 
 // The first entry of the list that does not run. Looks at those before it.
@@ -142,7 +143,7 @@ impl Engines {
         if engine >= caps.engines {
             return StartAnswer::Nothing;
         }
-        let list = ListId(caps.queues + caps.engines + engine);
+        let list = queues.list(ListUse::Members(engine));
         let Some((cell, entry)) = first_waiting(store, list) else {
             return StartAnswer::Nothing;
         };

@@ -13,6 +13,7 @@ ghost use Rattle.dsa_engines.specs.Engines.{work, IsInStep, IsReady, IsOpen};
 use crate::Engines;
 use dsa_book::{BatchNote, DispatchAnswer, Ticket};
 use dsa_queues::Queues;
+use dsa_regs::ListUse;
 use dsa_store::{Cell, Entry, EntryStore, ListId, front_slot};
 
 // The front of one list goes to the end of the other, and runs.
@@ -47,7 +48,7 @@ impl Engines {
         if engine >= caps.engines {
             return None;
         }
-        if store.len(ListId(caps.queues + engine)) >= u32::from(caps.slots) {
+        if store.len(queues.list(ListUse::Progress(engine))) >= u32::from(caps.slots) {
             return None;
         }
         self.home(engine)
@@ -171,7 +172,7 @@ impl Engines {
         let Some((cell, entry)) = front_slot(store, ListId(queue)) else {
             unreachable!();
         };
-        let progress = ListId(queues.caps().queues + engine);
+        let progress = queues.list(ListUse::Progress(engine));
         run_front(store, ListId(queue), progress, (cell, entry));
         self.take(group, queues.need(&entry));
         self.open_note(queues, engine, &entry);

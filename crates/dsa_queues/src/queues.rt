@@ -1,7 +1,7 @@
 //! What is kept of the queues and groups: a reader and a setter for each part.
 
 ghost use Rattle.std.specs.Prelude.{◌≡◌, ◌+◌, ◌==◌, ◌<◌, ◌^◌, true, false, IsTrue, IfSome, slice_set, position, Some};
-ghost use Rattle.dsa_regs.specs.Caps.{check_caps};
+ghost use Rattle.dsa_regs.specs.Caps.{HasList, check_caps, list_count, list_number};
 ghost use Rattle.dsa_regs.specs.Numbers.{has};
 ghost use Rattle.dsa_regs.specs.Config.{queue_at, group_at};
 ghost use Rattle.dsa_book.specs.State.{Setup, opening_setup, phase_at, is_off, has_queue, limits_at, need_of, status_of, is_batch_of};
@@ -12,10 +12,10 @@ ghost use Rattle.dsa_queues.specs.Queues.{IsWhole};
 use dsa_book::{Cause, ClearAnswer, NotedError};
 use dsa_desc::{Outcome, QueueLimits};
 use dsa_regs::{
-    Caps, GroupConfig, GroupTable, Phase, PhaseTable, QueueConfig, QueueTable, off_phases,
+    Caps, GroupConfig, GroupTable, ListUse, Phase, PhaseTable, QueueConfig, QueueTable, off_phases,
     zero_groups, zero_queues,
 };
-use dsa_store::Entry;
+use dsa_store::{Entry, ListId};
 use std::marker::Model;
 
 /// The configurations and phases of a device, its next name and its noted error (profile).
@@ -90,6 +90,25 @@ impl Queues {
         ensures whole { IsWhole self.now }
     {
         self.caps
+    }
+
+    /// The list of the store that is for this.
+    #[inline(always)]
+    pub fn list(&self, list: ListUse) -> ListId
+        requires { HasList self.now.caps list }
+        ensures { result.0 ≡ list_number self.now.caps list }
+    {
+        ListId(self.caps.list_number(list))
+    }
+
+    /// What the list of the store is for.
+    #[inline(always)]
+    pub fn list_use(&self, list: ListId) -> ListUse
+        requires { list.0 < list_count self.now.caps }
+        ensures list { HasList self.now.caps result }
+        ensures number { list_number self.now.caps result ≡ list.0 }
+    {
+        self.caps.list_use(list.0)
     }
 
     #[inline(always)]

@@ -13,7 +13,7 @@ returns-in_err-list g c =
 
 pub returns-then-not-is_either : goal.returns-then-not-is_either
 returns-then-not-is_either g c =
-    outside c.args.queues.now (g.S.EntryStore.content c.args.store.now) c.caps-caps.result c.args.engine c.in_ok-list.list.0 c.args.ticket ((g.met.S.EntryStore.sound c.args.store.now).once c.args.ticket.cell) c.if-engine-caps.false c.caps-caps.ensures.value c.in_ok-list.ensures c.if-not-is_either.ensures
+    outside c.args.queues.now (g.S.EntryStore.content c.args.store.now) c.args.engine c.in_ok-list.list.0 c.list-progress.result.0 c.list-members.result.0 c.args.ticket ((g.met.S.EntryStore.sound c.args.store.now).once c.args.ticket.cell) (omega (arith, c.if-engine-caps.false, ap (λ (x : Caps). x.engines) c.caps-caps.ensures.value)) c.list-progress.ensures c.list-members.ensures c.in_ok-list.ensures c.if-not-is_either.ensures
 
 pub returns-in_err-entry : goal.returns-in_err-entry
 returns-in_err-entry g c =
@@ -22,10 +22,10 @@ returns-in_err-entry g c =
 
 pub returns-then-is_meant : goal.returns-then-is_meant
 returns-then-is_meant g c =
-    inside c.args.queues.now (g.S.EntryStore.content c.args.store.now) c.caps-caps.result c.args.engine c.in_ok-list.list.0 c.args.ticket c.in_ok-entry.entry c.is_meant.result ((g.met.S.EntryStore.sound c.args.store.now).once c.args.ticket.cell) c.if-engine-caps.false c.caps-caps.ensures.value c.in_ok-list.ensures c.if-not-is_either.ensures c.in_ok-entry.ensures c.is_meant.ensures
+    inside c.args.queues.now (g.S.EntryStore.content c.args.store.now) c.args.engine c.in_ok-list.list.0 c.list-progress.result.0 c.list-members.result.0 c.args.ticket c.in_ok-entry.entry c.is_meant.result ((g.met.S.EntryStore.sound c.args.store.now).once c.args.ticket.cell) (omega (arith, c.if-engine-caps.false, ap (λ (x : Caps). x.engines) c.caps-caps.ensures.value)) c.list-progress.ensures c.list-members.ensures c.in_ok-list.ensures c.if-not-is_either.ensures c.in_ok-entry.ensures c.is_meant.ensures
     ∙ rw c.if-is_meant.true refl
 
 pub returns-else-is_meant : goal.returns-else-is_meant
 returns-else-is_meant g c =
-    inside c.args.queues.now (g.S.EntryStore.content c.args.store.now) c.caps-caps.result c.args.engine c.in_ok-list.list.0 c.args.ticket c.in_ok-entry.entry c.is_meant.result ((g.met.S.EntryStore.sound c.args.store.now).once c.args.ticket.cell) c.if-engine-caps.false c.caps-caps.ensures.value c.in_ok-list.ensures c.if-not-is_either.ensures c.in_ok-entry.ensures c.is_meant.ensures
+    inside c.args.queues.now (g.S.EntryStore.content c.args.store.now) c.args.engine c.in_ok-list.list.0 c.list-progress.result.0 c.list-members.result.0 c.args.ticket c.in_ok-entry.entry c.is_meant.result ((g.met.S.EntryStore.sound c.args.store.now).once c.args.ticket.cell) (omega (arith, c.if-engine-caps.false, ap (λ (x : Caps). x.engines) c.caps-caps.ensures.value)) c.list-progress.ensures c.list-members.ensures c.in_ok-list.ensures c.if-not-is_either.ensures c.in_ok-entry.ensures c.is_meant.ensures
     ∙ rw c.if-is_meant.false refl
