@@ -1,3 +1,5 @@
 pub mod EqualParts
 pub mod EqualAnswers
 pub mod EqualSteps
+pub mod Replay
+pub mod Phases

@@ -19,12 +19,12 @@ use Rattle.dsa_book.specs.Work.{used, all_used, members, member_list, note_at, b
 use Rattle.dsa_laws.specs.WellFormed.{IsWellFormed, none_runs, runs_first}
 use Rattle.dsa_laws.proofs.Histories.{replay-well_formed}
 use Rattle.dsa_laws.proofs.Entries.{none-held}
-use Rattle.dsa_laws.proofs.FreeCells.{accepting-room, fetching-room}
-use Rattle.dsa_laws.proofs.Totals.{replay-names-le}
+use Rattle.dsa_accounts.proofs.FreeCells.{accepting-room, fetching-room}
+use Rattle.dsa_accounts.proofs.Totals.{replay-names-le}
 use Rattle.dsa_engines.specs.Engines.{Gear, IsReady, WaitInOrder, is_fetching, is_running, lists_alone}
 use Rattle.dsa_buffers.specs.Buffers.{Buffers}
 use Rattle.dsa_engines.proofs.Used.{buffers-at_rest}
-use Rattle.dsa_laws.proofs.Numbers.{get_or-each}
+use Rattle.dsa_regs.proofs.NumberLists.{get_or-each}
 use Rattle.std.proofs.lemmas.List.{get_or-replicate}
 use Rattle.dsa_device.specs.Running.{Running, IsReplay, IsWhole}
 

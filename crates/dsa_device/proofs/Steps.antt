@@ -32,8 +32,8 @@ use Rattle.dsa_book.specs.State.{Setup, State}
 use Rattle.dsa_book.specs.Machine.{next, is_stored, recorded, is_full, is_legal, replay}
 use Rattle.dsa_engines.specs.Engines.{Gear, IsInStep, work}
 use Rattle.dsa_device.specs.Running.{Running, running, stepped, answered, IsReplay, IsWhole}
-use Rattle.dsa_laws.proofs.Keeps.{next_keeps}
-use Rattle.dsa_laws.proofs.Replay.{replay-snoc}
+use Rattle.dsa_answers.proofs.Keeps.{next_keeps}
+use Rattle.dsa_book.proofs.Replay.{replay-snoc}
 
 -- what a reply came of: a history without room, or a step of the machine
 pub answered_by_cases : (P : Running → Type 0) (d t : Running) (e : Event) (r : Reply) → answered d e r ≡ Some t

@@ -27,8 +27,9 @@ use Rattle.dsa_laws.proofs.Covering.{AreWithin, needed, all_needed, within-less,
 use Rattle.dsa_laws.proofs.Entries.{in-use-below, none-held}
 use Rattle.dsa_laws.proofs.Needs.{weight, weight-waiting, weight-run, weight-same, sum-within, sum_on, used_on-sum, sum_on-less, HasMore, sum_on-others, sum_on-mine}
 use Rattle.dsa_laws.proofs.Orders.{chain-set}
-use Rattle.dsa_laws.proofs.Setups.{not-both, on-not_off}
-use Rattle.dsa_laws.proofs.Numbers.{get_or-each}
+use Rattle.dsa_desc.proofs.Tables.{not-both}
+use Rattle.dsa_book.proofs.Phases.{on-not_off}
+use Rattle.dsa_regs.proofs.NumberLists.{get_or-each}
 use Rattle.dsa_laws.proofs.Shapes.{below-engines, waiting-engine, stopped-caps, stopped-configs, stopped-groups}
 use Rattle.dsa_desc.proofs.Tables.{no-row}
 use Rattle.dsa_laws.specs.Lists.{In}

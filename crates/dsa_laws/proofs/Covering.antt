@@ -13,9 +13,9 @@ use Rattle.dsa_regs.specs.declared.GroupConfig.{GroupConfig}
 use Rattle.dsa_regs.specs.Numbers.{has, numbers_below}
 use Rattle.dsa_regs.specs.Config.{zero_group, group_at, is_in_two, total_reserved}
 use Rattle.dsa_regs.specs.Buffers.{covered, fits}
-use Rattle.dsa_laws.proofs.Numbers.{get_or-each, get_or-past}
-use Rattle.dsa_laws.proofs.Setups.{not-both}
-use Rattle.dsa_laws.proofs.Shapes.{length-each}
+use Rattle.dsa_regs.proofs.NumberLists.{get_or-each, get_or-past}
+use Rattle.dsa_desc.proofs.Tables.{not-both}
+use Rattle.dsa_regs.proofs.NumberLists.{length-each}
 
 -- ---- what is in use or reserved
 

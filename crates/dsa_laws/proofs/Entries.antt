@@ -5,7 +5,7 @@ use Rattle.std.specs.List.{list_any}
 use Rattle.std.proofs.lemmas.Bool.{cases_Bool, ltb-true, ltb-false, and_parts, or_parts, not-true}
 use Rattle.std.proofs.Math.ListN.{get_or-eq_default}
 use Rattle.dsa_regs.specs.Caps.{list_count}
-use Rattle.dsa_laws.proofs.Numbers.{get_or-each}
+use Rattle.dsa_regs.proofs.NumberLists.{get_or-each}
 use Rattle.dsa_desc.specs.Descriptor.{pasid_of}
 use Rattle.dsa_regs.specs.declared.Caps.{Caps}
 use Rattle.dsa_regs.specs.declared.Phase.{Phase}
@@ -21,7 +21,8 @@ use Rattle.dsa_laws.specs.Change.{Change, IsAccepted, IsFetched, same, is_noted,
 use Rattle.dsa_laws.specs.WellFormed.{HasShape, IsPlaced, NoneOff, PasidsFit, HasLawfulEntries, HasLawfulSetup}
 use Rattle.dsa_laws.proofs.Contents.{In-find, In-chain, In-filtered, each-set, each-pushed, each-without_front, each-filtered, chain-empty, none-In}
 use Rattle.dsa_laws.proofs.Shapes.{on-queue, below-engines, In-cond}
-use Rattle.dsa_laws.proofs.Setups.{not-both, on-not_off}
+use Rattle.dsa_desc.proofs.Tables.{not-both}
+use Rattle.dsa_book.proofs.Phases.{on-not_off}
 use Rattle.dsa_laws.specs.Lists.{In, EachAt}
 
 pub In-front : (x : Slot) (xs : List Slot) → slice_get xs 0 ≡ Some x → In x xs

@@ -25,8 +25,9 @@ use Rattle.dsa_laws.specs.WellFormed.{HasShape, CellsOnce, NamesOnce, held_named
 use Rattle.dsa_laws.proofs.Contents.{In-append, In-filter, In-find, In-chain, sum-without}
 use Rattle.dsa_laws.proofs.Shapes.{on-queue, note-engine, below-engines, member_list-in, progress_list-in, queue_list-in, waiting-engine, In-cond, waiting-members}
 use Rattle.dsa_laws.specs.Lists.{In}
-use Rattle.dsa_laws.proofs.Fates.{length-rows}
-use Rattle.dsa_laws.proofs.Names.{stopped-names}
+use Rattle.dsa_laws.proofs.Shapes.{stopped-names}
+use Rattle.std.proofs.Common.{length-append}
+use Rattle.std.proofs.lemmas.List.{length-map}
 
 -- ---- cells and names, as sums
 
@@ -65,6 +66,9 @@ abbrev next_of : Work → ℕ
 next_of w = w.setup.next_name
 
 -- ---- words
+
+pub length-rows : (fates : List FateRow) (fate : Fate) (xs : List Slot) → length (fates ++ map (fate_row fate) xs) ≡ length fates + length xs
+length-rows fates fate xs = length-append fates (map (fate_row fate) xs) ∙ ap (λ n. length fates + n) (length-map xs (fate_row fate))
 
 pub count-rows : (fate : Fate) (n : ℕ) (xs : List Slot) → count_by (λ row. row.name == n) (map (fate_row fate) xs) ≡ count_by (λ slot. slot.1.name == n) xs
 count-rows fate n [] = refl

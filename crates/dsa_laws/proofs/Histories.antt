@@ -21,7 +21,7 @@ use Rattle.dsa_laws.proofs.Orders.{lists-in_order, of-lists_in_order, order-chan
 use Rattle.dsa_laws.proofs.Engines.{engines-change, engines-opening}
 use Rattle.dsa_laws.proofs.Buffering.{buffers-change, buffers-opening}
 use Rattle.dsa_store.specs.declared.entry.Cell.{Cell}
-use Rattle.dsa_laws.proofs.Replay.{replay_none}
+use Rattle.dsa_book.proofs.Replay.{replay_none}
 use Rattle.dsa_laws.proofs.Contents.{all_held-empty}
 use Rattle.dsa_laws.specs.Engines.{HasLawfulEngines}
 use Rattle.dsa_laws.specs.Buffering.{HasBuffers}

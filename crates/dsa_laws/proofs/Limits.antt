@@ -25,8 +25,9 @@ use Rattle.dsa_laws.specs.Change.{Change, same, is_noted, is_accepted, is_taken,
 use Rattle.dsa_laws.specs.WellFormed.{HasShape, HasLawfulSetup, HasLawfulEntries, IsWithinLimits, NoteFits, NotesFit}
 use Rattle.dsa_laws.proofs.Contents.{chain-filtered, In-filtered, none-In, chain-empty, length-filter-le}
 use Rattle.dsa_laws.proofs.Shapes.{on-queue, stopped-configs, progress-at}
-use Rattle.dsa_laws.proofs.Setups.{not-both, on-not_off}
-use Rattle.dsa_laws.proofs.Numbers.{get_or-each}
+use Rattle.dsa_desc.proofs.Tables.{not-both}
+use Rattle.dsa_book.proofs.Phases.{on-not_off}
+use Rattle.dsa_regs.proofs.NumberLists.{get_or-each}
 use Rattle.dsa_desc.proofs.Tables.{no-row}
 use Rattle.dsa_laws.specs.Engines.{IsLawfulEngine, HasLawfulEngines}
 use Rattle.dsa_book.specs.declared.note.BatchNote.{BatchNote}

@@ -19,7 +19,7 @@ use Rattle.dsa_book.specs.Commands.{kept_note, aborted}
 use Rattle.dsa_laws.specs.Change.{Change, same, is_noted, is_accepted, is_taken, is_fetched, is_started, is_abandoned, is_ended, is_device_enabled, is_queue_enabled, is_waiting, is_over, is_aborted, is_device_reset, is_queues_reset, is_queue_written, is_group_written}
 use Rattle.dsa_laws.specs.WellFormed.{HasShape, HasLawfulSetup, HasLawfulEntries, NoteFits, NotesFit}
 use Rattle.dsa_laws.proofs.Entries.{In-front}
-use Rattle.dsa_laws.proofs.Numbers.{get_or-each, get_or-past}
+use Rattle.dsa_regs.proofs.NumberLists.{get_or-each, get_or-past}
 use Rattle.dsa_desc.proofs.Tables.{no-row}
 
 -- ---- the size of a batch

@@ -1,5 +1,5 @@
 -- The lengths of all lists stay.
-use Rattle.std.proofs.Common.{drop, ◌≡◌, ℕ, zero, suc, ◌<◌, Bool, true, false, cond, List, [], ◌∷◌, length, map, set, get_or, Option, Some, None, refl, sym, ap, ◌∙◌, subst, arith, length-append, ◌+◌}
+use Rattle.std.proofs.Common.{drop, ◌≡◌, ℕ, zero, suc, ◌<◌, Bool, true, false, cond, List, [], ◌∷◌, length, set, get_or, Option, Some, None, refl, sym, ap, ◌∙◌, subst, arith, ◌+◌}
 use Rattle.std.specs.Prelude.{nat_lt}
 use Rattle.std.proofs.lemmas.List.{length-set, length-map, length-replicate}
 use Rattle.std.proofs.lemmas.Bool.{ltb-true, lt-ltb}
@@ -8,7 +8,6 @@ use Rattle.dsa_regs.specs.declared.Phase.{Phase}
 use Rattle.dsa_regs.specs.declared.Phase.TheVariants.{Off, Stopping}
 use Rattle.dsa_regs.specs.declared.Command.{Command}
 use Rattle.dsa_regs.specs.declared.Command.TheVariants.{DisableDevice, DisableWq}
-use Rattle.dsa_regs.specs.Numbers.{numbers_below}
 use Rattle.dsa_regs.specs.Caps.{list_count}
 use Rattle.dsa_store.specs.Content.{Slot, chain}
 use Rattle.dsa_book.specs.declared.note.BatchNote.{BatchNote}
@@ -19,13 +18,7 @@ use Rattle.dsa_laws.specs.Change.{Change, same, is_noted, is_accepted, is_taken,
 use Rattle.dsa_laws.specs.WellFormed.{HasShape}
 use Rattle.dsa_laws.proofs.Contents.{In-find}
 use Rattle.dsa_laws.specs.Lists.{In}
-
-pub length-numbers : (n : ℕ) → length (numbers_below n) ≡ n
-length-numbers zero = refl
-length-numbers (suc n) = let more = length-append (numbers_below n) (n ∷ []) in let rest = length-numbers n in omega (arith, more, rest)
-
-pub length-each : {X : Type 0} (f : ℕ → X) (n : ℕ) → length (map f (numbers_below n)) ≡ n
-length-each f n = length-map (numbers_below n) f ∙ length-numbers n
+use Rattle.dsa_regs.proofs.NumberLists.{length-each}
 
 -- the shape of a state that differs from one with it in no length
 same_shape : (caps : Caps) (w w' : Work) → HasShape caps w → w'.setup.caps ≡ w.setup.caps → length w'.content ≡ length w.content → length w'.setup.configs ≡ length w.setup.configs
@@ -53,6 +46,11 @@ pub stopped-groups : (command : Command) (phase : Phase) (setup : Setup) → (st
 stopped-groups DisableDevice phase setup = refl
 stopped-groups (DisableWq queues) phase setup = refl
 stopped-groups _ phase setup = refl
+
+pub stopped-names : (command : Command) (phase : Phase) (setup : Setup) → (stopped command phase setup).next_name ≡ setup.next_name
+stopped-names DisableDevice phase setup = refl
+stopped-names (DisableWq queues) phase setup = refl
+stopped-names _ phase setup = refl
 
 stopped-phases : (command : Command) (phase : Phase) (setup : Setup) → setup.caps.queues ≡ length setup.phases → length (stopped command phase setup).phases ≡ length setup.phases
 stopped-phases DisableDevice phase setup h = length-each _ setup.caps.queues ∙ h

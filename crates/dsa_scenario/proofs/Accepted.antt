@@ -13,7 +13,7 @@ use Rattle.dsa_book.specs.declared.event.Step.{Step}
 use Rattle.dsa_book.specs.State.{State, opening}
 use Rattle.dsa_book.specs.Machine.{next, replay, replay_from, dispatch_part, fetch_part, start_part, finish_part, issue_part, poll_part, write_part, clear_part}
 use Rattle.dsa_book.specs.Totals.{actor_of, same_actor, steps_of, is_accepted, total_accepted}
-use Rattle.dsa_laws.proofs.Replay.{replay_none}
+use Rattle.dsa_book.proofs.Replay.{replay_none}
 
 abbrev pub is_client : Actor → Bool
 is_client (Client k) = true

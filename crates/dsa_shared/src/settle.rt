@@ -3,7 +3,7 @@
 ghost use Rattle.std.specs.Prelude.{◌≡◌, ◌≢◌, ◌+◌, ◌↔◌, ◌≤◌, ◌^◌, true, IsSome, IfOk, OnOk, IfErr, length, sum_by};
 ghost use Rattle.dsa_store.specs.Content.{held};
 ghost use Rattle.dsa_laws.specs.WellFormed.{IsWellFormed};
-ghost use Rattle.dsa_laws.specs.Accounts.{submitted_entries, member_entries, only_members_abandoned};
+ghost use Rattle.dsa_accounts.specs.Accounts.{submitted_entries, member_entries, only_members_abandoned};
 ghost use Rattle.dsa_device.specs.Running.{IsReplay};
 ghost use Rattle.dsa_shared.specs.Settle.{IsComplete, Match, over_seats};
 ghost use Rattle.dsa_shared.specs.Totals.{totals_of, AreSums, Balance};

@@ -5,7 +5,7 @@ ghost use Rattle.dsa_book.specs.declared.fate.Fate.TheVariants.{Abandoned};
 ghost use Rattle.dsa_book.specs.State.{occupancy};
 ghost use Rattle.dsa_book.specs.Work.{all_used, used, members, note_at};
 ghost use Rattle.dsa_laws.specs.WellFormed.{held_named, fates_named, runs_first};
-ghost use Rattle.dsa_laws.specs.Accounts.{submitted_entries, member_entries, only_members_abandoned};
+ghost use Rattle.dsa_accounts.specs.Accounts.{submitted_entries, member_entries, only_members_abandoned};
 ghost use Rattle.dsa_worked.specs.Setup.{row};
 ghost use Rattle.dsa_worked.specs.Submissions.{two_portals};
 ghost use Rattle.dsa_worked.specs.Batches.{buffers_of_a_batch, fence_waits, failure_abandons};

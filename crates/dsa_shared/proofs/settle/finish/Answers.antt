@@ -1,9 +1,9 @@
 use Rattle.std.proofs.Common.{◌≡◌, length, ap, sym, ◌∙◌, subst, cond, arith}
 use Rattle.dsa_store.specs.Content.{held}
 use Rattle.dsa_book.specs.Totals.{is_accepted, is_retried, is_fetched, is_done, lost_by}
-use Rattle.dsa_laws.proofs.Totals.{replay-held}
-use Rattle.dsa_laws.proofs.Accounted.{replay-accepted, replay-fetched}
-use Rattle.dsa_laws.proofs.Abandons.{replay-lawful}
+use Rattle.dsa_accounts.proofs.Totals.{replay-held}
+use Rattle.dsa_accounts.proofs.Accounted.{replay-accepted, replay-fetched}
+use Rattle.dsa_accounts.proofs.Abandons.{replay-lawful}
 use Rattle.dsa_shared.specs.Settle.{over_seats}
 use Rattle.dsa_device.specs.Running.{Running}
 use Rattle.dsa_shared.specs.Totals.{totals_of, Balance}

@@ -1,0 +1,5 @@
+use Rattle.dsa_accounts.proofs.Fates.{replay-rows}
+use Rattle.dsa_accounts.proofs.laws.fates_are_counted.Goals as goal
+
+pub returns : goal.returns
+returns c = replay-rows

@@ -1,0 +1,5 @@
+use Rattle.dsa_accounts.proofs.Names.{replay-names}
+use Rattle.dsa_accounts.proofs.laws.names_are_given_in_turn.Goals as goal
+
+pub returns : goal.returns
+returns c = replay-names

@@ -1,0 +1,5 @@
+pub mod Keeps
+pub mod Choices
+pub mod Stops
+pub mod Writes
+pub mod Retries

@@ -1,0 +1,349 @@
+-- What is Stopping is what the active command disables.
+use Rattle.std.proofs.Common.{◌≡◌, ℕ, Bool, true, false, cond, not, ◌&&◌, List, [], ◌∷◌, length, Option, Some, None, option_map, option_and_then, refl, sym, ap, subst, ◌∙◌}
+use Rattle.std.specs.Prelude.{zero, suc, ◌==◌, find, replicate, get_or, slice_set, is_some}
+use Rattle.dsa_desc.specs.declared.Descriptor.{Descriptor}
+use Rattle.dsa_desc.specs.declared.Outcome.{Outcome}
+use Rattle.dsa_desc.specs.Rows.{when}
+use Rattle.dsa_desc.proofs.Tables.{when-some, one_row, table2, table3}
+use Rattle.dsa_regs.specs.declared.Caps.{Caps}
+use Rattle.dsa_regs.specs.declared.Phase.{Phase}
+use Rattle.dsa_regs.specs.declared.Phase.TheVariants.{Off, On, Stopping}
+use Rattle.dsa_regs.specs.declared.Command.{Command}
+use Rattle.dsa_regs.specs.declared.Command.TheVariants.{EnableDevice, DisableDevice, DrainAll, AbortAll, ResetDevice, EnableWq, DisableWq, DrainWq, AbortWq, ResetWq, DrainPasid, AbortPasid}
+use Rattle.dsa_regs.specs.declared.Fault.{Fault}
+use Rattle.dsa_regs.specs.declared.Fault.TheVariants.{BadQueue, WrongState, Busy, BadIndex, Locked}
+use Rattle.dsa_regs.specs.declared.QueueConfig.{QueueConfig}
+use Rattle.dsa_regs.specs.declared.GroupConfig.{GroupConfig}
+use Rattle.dsa_regs.specs.Command.{named_queues}
+use Rattle.dsa_store.specs.declared.entry.Cell.{Cell}
+use Rattle.dsa_store.specs.Content.{Slot}
+use Rattle.dsa_book.specs.declared.note.BatchNote.{BatchNote}
+use Rattle.dsa_book.specs.declared.note.ActiveCommand.{ActiveCommand}
+use Rattle.dsa_book.specs.declared.answer.NotedError.{NotedError}
+use Rattle.dsa_book.specs.declared.event.Portal.{Portal}
+use Rattle.dsa_book.specs.declared.event.Kind.{Kind}
+use Rattle.dsa_book.specs.declared.event.Kind.TheVariants.{Enqcmd, Movdir64b}
+use Rattle.dsa_book.specs.declared.event.Step.{Step}
+use Rattle.dsa_book.specs.declared.answer.Cause.{Cause}
+use Rattle.dsa_book.specs.declared.answer.Cause.TheVariants.{AtLimit, NotEnabled, WrongKind}
+use Rattle.dsa_book.specs.declared.answer.SubmitAnswer.{SubmitAnswer}
+use Rattle.dsa_book.specs.declared.answer.DispatchAnswer.{DispatchAnswer}
+use Rattle.dsa_book.specs.declared.answer.DispatchAnswer.TheVariants.{Taken, Idle, Full}
+use Rattle.dsa_book.specs.declared.answer.FetchAnswer.{FetchAnswer}
+use Rattle.dsa_book.specs.declared.answer.FetchAnswer.TheVariants.{AllFetched}
+use Rattle.dsa_book.specs.declared.answer.StartAnswer.{StartAnswer}
+use Rattle.dsa_book.specs.declared.answer.StartAnswer.TheVariants.{Started, FenceWait, NoBuffers, Abandoned}
+use Rattle.dsa_book.specs.declared.answer.FinishAnswer.{FinishAnswer}
+use Rattle.dsa_book.specs.declared.answer.FinishAnswer.TheVariants.{Done, NotReady}
+use Rattle.dsa_book.specs.declared.answer.IssueAnswer.{IssueAnswer}
+use Rattle.dsa_book.specs.declared.answer.IssueAnswer.TheVariants.{Refused}
+use Rattle.dsa_book.specs.declared.answer.PollAnswer.{PollAnswer}
+use Rattle.dsa_book.specs.declared.answer.WriteAnswer.{WriteAnswer}
+use Rattle.dsa_book.specs.declared.answer.WriteAnswer.TheVariants.{Written, Refused}
+use Rattle.dsa_book.specs.declared.event.Event.{Event}
+use Rattle.dsa_book.specs.declared.event.Event.TheVariants.{Submit, Dispatch, Fetch, Start, Finish, Issue, Poll, WriteQueue, WriteGroup, ClearError}
+use Rattle.dsa_book.specs.declared.answer.Reply.{Reply}
+use Rattle.dsa_book.specs.declared.answer.Reply.TheVariants.{Submit, Dispatch, Fetch, Start, Finish, Issue, Poll, Write, Clear}
+use Rattle.dsa_book.specs.Same.{same_submit, same_fetch, same_start, same_finish, same_issue, same_poll, same_write, same_clear}
+use Rattle.dsa_book.specs.State.{Setup, Intake, Work, State, opening, is_ticket, ticket_of, is_off, phase_at}
+use Rattle.dsa_book.specs.Submit.{submit, turned_away, accepted}
+use Rattle.dsa_book.specs.Work.{front_of, qualifies, taken, fetch, fetch_for, fetch_of, fetched, note_at, batch_on, start, start_of, started, abandoned, members, first_waiting, finish, finish_of, last_status, ended, running_on}
+use Rattle.dsa_book.specs.Commands.{issue, check_of, refused_or, carried_out, waits, poll, poll_of, stopped, names, with_phases, write_queue, write_group, clear, clear_of}
+use Rattle.dsa_book.specs.Machine.{next, replay, replay_from, with_work, with_intake, with_setup, intake_of, accepted_cell, fetched_cell, cell_or_first, may_use}
+use Rattle.dsa_answers.specs.Stops.{is_stopping, stops_device, stops_queue, is_active_command, StopsByCommand, IsAtRest}
+use Rattle.dsa_book.proofs.Replay.{replay_none}
+use Rattle.dsa_book.proofs.Phases.{by_phase}
+
+-- ---- the words of one phase and one command
+
+-- the same, of what a step may change
+pub record Stops (setup : Setup) (active : Option ActiveCommand) : Type 0 where
+  pub device : is_stopping setup.device ≡ true → is_active_command stops_device active ≡ true
+  pub queues : (q : ℕ) → is_stopping (phase_at setup q) ≡ true → is_active_command (λ command. stops_queue command q) active ≡ true
+
+pub of-stops : (s : State) → Stops s.work.setup s.active → StopsByCommand s
+of-stops s h = record { device = h.device; queues = h.queues }
+
+-- nothing is Stopping
+resting : (setup : Setup) (active : Option ActiveCommand) → is_stopping setup.device ≡ false → ((q : ℕ) → is_stopping (phase_at setup q) ≡ false) → Stops setup active
+resting setup active d p = record {
+  device = λ h. absurd cc;
+  queues = λ q h. let e = p q in absurd cc;
+}
+
+-- without an active command nothing is Stopping
+at-rest : (setup : Setup) (active : Option ActiveCommand) → active ≡ None → Stops setup active → IsAtRest setup
+at-rest setup active n h = record {
+  device = none (is_stopping setup.device) (λ t. ap (is_active_command stops_device) (sym n) ∙ h.device t);
+  queues = λ q. none (is_stopping (phase_at setup q)) (λ t. ap (is_active_command (λ command. stops_queue command q)) (sym n) ∙ h.queues q t);
+}
+  where
+    none : (b : Bool) → (b ≡ true → false ≡ true) → b ≡ false
+    none true f = sym (f refl)
+    none false f = refl
+
+-- ---- submit
+
+turned_away-stops : (s s' : State) (q : ℕ) (kind : Kind) (cause : Cause) → Stops s.work.setup s.active → with_intake s (turned_away (intake_of s) q kind cause).1 ≡ s' → Stops s'.work.setup s'.active
+turned_away-stops s s' q (Enqcmd pasid) cause i e = subst (λ t. Stops t.work.setup t.active) e (record { device = i.device; queues = i.queues })
+turned_away-stops s s' q Movdir64b cause i e = subst (λ t. Stops t.work.setup t.active) e (record { device = i.device; queues = i.queues })
+
+submit-stops : (s s' : State) (client q : ℕ) (portal : Portal) (kind : Kind) (d : Descriptor) (a : SubmitAnswer) → Stops s.work.setup s.active → next s (Submit client q portal kind d) (Submit a) ≡ Some s' → Stops s'.work.setup s'.active
+submit-stops s s' client q portal kind d a i h =
+    let cell = cell_or_first (accepted_cell a) in
+    let r = submit (intake_of s) q portal kind d cell in
+    let p = when-some (same_submit a r.0 && may_use s.work.setup s.work.content (accepted_cell a)) (with_intake s r.1) s' h in
+    let P : SubmitAnswer × Intake → Type 0 = λ r. with_intake s r.1 ≡ s' → Stops s'.work.setup s'.active in
+    table3 P _ _ _ (turned_away (intake_of s) q kind NotEnabled) (turned_away (intake_of s) q kind WrongKind) (turned_away (intake_of s) q kind AtLimit) (accepted (intake_of s) q kind d cell)
+    (λ x e. turned_away-stops s s' q kind NotEnabled i e)
+    (λ x e. turned_away-stops s s' q kind WrongKind i e)
+    (λ x e. turned_away-stops s s' q kind AtLimit i e)
+    (λ x y z e. subst (λ t. Stops t.work.setup t.active) e (record { device = i.device; queues = i.queues }))
+    p.1
+
+-- ---- the engines' steps, which leave phases as they are
+
+-- a state with a work of the same phases
+kept : (s s' : State) (w : Work) → Stops s.work.setup s.active → w.setup.device ≡ s.work.setup.device → w.setup.phases ≡ s.work.setup.phases → with_work s w ≡ s' → Stops s'.work.setup s'.active
+kept s s' w i d p e = subst (λ t. Stops t.work.setup t.active) e (record {
+  device = λ h. i.device (sym (ap is_stopping d) ∙ h);
+  queues = λ q h. i.queues q (sym (ap (λ (phases : List Phase). is_stopping (get_or phases q Off)) p) ∙ h);
+})
+
+-- whether a work has the phases of the state
+abbrev HasPhases : State → Work → Type 0
+HasPhases s w = (w.setup.device ≡ s.work.setup.device) × (w.setup.phases ≡ s.work.setup.phases)
+
+dispatch-phases : (s s' : State) (e : ℕ) (a : DispatchAnswer) → Stops s.work.setup s.active → next s (Dispatch e) (Dispatch a) ≡ Some s' → Stops s'.work.setup s'.active
+dispatch-phases s s' e (Taken t q) i h = found (front_of s.work q) h
+  where
+    tested : (front : Slot) (b : Bool) → option_map (with_work s) (when b (taken s.work e q front)) ≡ Some s' → Stops s'.work.setup s'.active
+    tested front true h = kept s s' (taken s.work e q front) i refl refl cc
+    tested front false h = absurd cc
+
+    found : (o : Option Slot) → option_map (with_work s) (option_and_then (λ front. when (qualifies s.work e q && is_ticket t front) (taken s.work e q front)) o) ≡ Some s' → Stops s'.work.setup s'.active
+    found None h = absurd cc
+    found (Some front) h = tested front (qualifies s.work e q && is_ticket t front) h
+dispatch-phases s s' e Idle i h = idle _ h
+  where
+    idle : (b : Bool) → option_map (with_work s) (when b s.work) ≡ Some s' → Stops s'.work.setup s'.active
+    idle true h = kept s s' s.work i refl refl cc
+    idle false h = absurd cc
+dispatch-phases s s' e Full i h = absurd cc
+
+fetch_of-phases : (s : State) (e : ℕ) (d : Descriptor) (c : Cell) (note : BatchNote) (o : Option Slot) → HasPhases s (fetch_of s.work e d c note o).1
+fetch_of-phases s e d c note None = (refl, refl)
+fetch_of-phases s e d c note (Some batch) = one_row (λ (r : FetchAnswer × Work). HasPhases s r.1) _ (AllFetched, s.work) (fetched s.work e d c note batch.1) (refl, refl) (refl, refl)
+
+fetch-phases : (s : State) (e : ℕ) (d : Descriptor) (c : Cell) (o : Option BatchNote) → HasPhases s (fetch_for s.work e d c o).1
+fetch-phases s e d c None = (refl, refl)
+fetch-phases s e d c (Some note) = fetch_of-phases s e d c note (batch_on s.work e note)
+
+start-phases : (s : State) (e : ℕ) (o : Option Slot) → HasPhases s (start_of s.work e o).1
+start-phases s e None = (refl, refl)
+start-phases s e (Some slot) =
+    table3 (λ (r : StartAnswer × Work). HasPhases s r.1) _ _ _ (FenceWait, s.work) (Abandoned (length (members s.work e)), abandoned s.work e) (NoBuffers, s.work) (Started (ticket_of slot), started s.work e)
+    (λ x. (refl, refl)) (λ x. (refl, refl)) (λ x. (refl, refl)) (λ x y z. (refl, refl))
+
+finish-phases : (s : State) (e : ℕ) (outcome : Outcome) (o : Option Slot) → HasPhases s (finish_of s.work e outcome o).1
+finish-phases s e outcome None = (refl, refl)
+finish-phases s e outcome (Some slot) =
+    one_row (λ (r : FinishAnswer × Work). HasPhases s r.1) _ (NotReady, s.work) (Done (last_status s.work e slot outcome), ended s.work e slot outcome) (refl, refl) (refl, refl)
+
+-- ---- writes and the noted error
+
+-- a set-up with the phases of the state
+abbrev HasSame : State → Setup → Type 0
+HasSame s setup = (setup.device ≡ s.work.setup.device) × (setup.phases ≡ s.work.setup.phases)
+
+write_queue-phases : (s : State) (q : ℕ) (config : QueueConfig) → HasSame s (write_queue s.work.setup q config).1
+write_queue-phases s q config =
+    table3 (λ (r : WriteAnswer × Setup). HasSame s r.1) _ _ _ (Refused BadIndex, s.work.setup) (Refused Locked, s.work.setup) (Refused Locked, s.work.setup) (Written, record s.work.setup { configs = slice_set s.work.setup.configs q config })
+    (λ x. (refl, refl)) (λ x. (refl, refl)) (λ x. (refl, refl)) (λ x y z. (refl, refl))
+
+write_group-phases : (s : State) (g : ℕ) (config : GroupConfig) → HasSame s (write_group s.work.setup g config).1
+write_group-phases s g config =
+    table2 (λ (r : WriteAnswer × Setup). HasSame s r.1) _ _ (Refused BadIndex, s.work.setup) (Refused Locked, s.work.setup) (Written, record s.work.setup { groups = slice_set s.work.setup.groups g config })
+    (λ x. (refl, refl)) (λ x. (refl, refl)) (λ x y. (refl, refl))
+
+clear-phases : (s : State) (o : Option NotedError) → HasSame s (clear_of s.work.setup o).1
+clear-phases s None = (refl, refl)
+clear-phases s (Some noted) = (refl, refl)
+
+kept-setup : (s s' : State) (setup : Setup) → Stops s.work.setup s.active → HasSame s setup → with_setup s setup ≡ s' → Stops s'.work.setup s'.active
+kept-setup s s' setup i p e = kept s s' (record s.work { setup = setup }) i p.0 p.1 e
+
+-- ---- commands
+
+-- what a command stops is what it is said to stop
+stopped-stops : (setup : Setup) (command : Command) (mark : ℕ) → IsAtRest setup → Stops (stopped command Stopping setup) (Some (record { command = command; mark = mark }))
+stopped-stops setup DisableDevice mark i = record { device = λ h. refl; queues = λ q h. refl }
+stopped-stops setup (DisableWq queues) mark i = record {
+  device = λ h. let e = i.device in absurd cc;
+  queues = λ q.
+      by_phase (λ p. is_stopping p ≡ true → names (named_queues (DisableWq queues)) q ≡ true) (names (named_queues (DisableWq queues))) Stopping setup q
+      (λ t h. t) (λ t h. let e = i.queues q in absurd cc) (λ h. absurd cc);
+}
+stopped-stops setup EnableDevice mark i = resting setup _ i.device i.queues
+stopped-stops setup DrainAll mark i = resting setup _ i.device i.queues
+stopped-stops setup AbortAll mark i = resting setup _ i.device i.queues
+stopped-stops setup ResetDevice mark i = resting setup _ i.device i.queues
+stopped-stops setup (EnableWq queue) mark i = resting setup _ i.device i.queues
+stopped-stops setup (DrainWq queues) mark i = resting setup _ i.device i.queues
+stopped-stops setup (AbortWq queues) mark i = resting setup _ i.device i.queues
+stopped-stops setup (ResetWq queues) mark i = resting setup _ i.device i.queues
+stopped-stops setup (DrainPasid pasid) mark i = resting setup _ i.device i.queues
+stopped-stops setup (AbortPasid pasid) mark i = resting setup _ i.device i.queues
+
+-- phases that are set to one that is not Stopping
+set-rests : (setup : Setup) (test : ℕ → Bool) (p : Phase) (q : ℕ) → is_stopping p ≡ false → (test q ≡ false → is_stopping (phase_at setup q) ≡ false) → is_stopping (phase_at (with_phases test p setup) q) ≡ false
+set-rests setup test p q h k = by_phase (λ p. is_stopping p ≡ false) test p setup q (λ t. h) k refl
+
+-- with what it stopped Off, nothing is Stopping
+over-rests : (setup : Setup) (active : ActiveCommand) → Stops setup (Some active) → IsAtRest (stopped active.command Off setup)
+over-rests setup active i = by active.command (record { device = i.device; queues = i.queues })
+  where
+    phases : (command : Command) → stops_device command ≡ false → ((q : ℕ) → stops_queue command q ≡ false) → Stops setup (Some (record { command = command; mark = active.mark })) → IsAtRest setup
+    phases command d p i = record {
+      device = none (is_stopping setup.device) (λ t. sym d ∙ i.device t);
+      queues = λ q. none (is_stopping (phase_at setup q)) (λ t. sym (p q) ∙ i.queues q t);
+    }
+      where
+        none : (b : Bool) → (b ≡ true → false ≡ true) → b ≡ false
+        none true f = sym (f refl)
+        none false f = refl
+
+    off : (p : Phase) → not (is_off p) ≡ false → is_stopping p ≡ false
+    off Off h = refl
+    off On h = refl
+    off Stopping h = absurd cc
+
+    none : (b : Bool) → (b ≡ true → false ≡ true) → b ≡ false
+    none true f = sym (f refl)
+    none false f = refl
+
+    by : (command : Command) → Stops setup (Some (record { command = command; mark = active.mark })) → IsAtRest (stopped command Off setup)
+    by DisableDevice i = record {
+      device = refl;
+      queues = λ q. set-rests setup (λ q. not (is_off (phase_at setup q))) Off q refl (λ t. off (phase_at setup q) t);
+    }
+    by (DisableWq queues) i = record {
+      device = none (is_stopping setup.device) i.device;
+      queues = λ q. set-rests setup (names (named_queues (DisableWq queues))) Off q refl (λ t. none (is_stopping (phase_at setup q)) (λ h. sym t ∙ i.queues q h));
+    }
+    by EnableDevice i = phases EnableDevice refl (λ q. refl) i
+    by DrainAll i = phases DrainAll refl (λ q. refl) i
+    by AbortAll i = phases AbortAll refl (λ q. refl) i
+    by ResetDevice i = phases ResetDevice refl (λ q. refl) i
+    by (EnableWq queue) i = phases (EnableWq queue) refl (λ q. refl) i
+    by (DrainWq queues) i = phases (DrainWq queues) refl (λ q. refl) i
+    by (AbortWq queues) i = phases (AbortWq queues) refl (λ q. refl) i
+    by (ResetWq queues) i = phases (ResetWq queues) refl (λ q. refl) i
+    by (DrainPasid pasid) i = phases (DrainPasid pasid) refl (λ q. refl) i
+    by (AbortPasid pasid) i = phases (AbortPasid pasid) refl (λ q. refl) i
+
+-- the end of a command that was never active: what it would have stopped is Off, or as it was
+at-once : (setup : Setup) (command : Command) → IsAtRest setup → IsAtRest (stopped command Off setup)
+at-once setup command i = over-rests setup (record { command = command; mark = 0 }) (resting setup _ i.device i.queues)
+
+of-rest : (setup : Setup) (active : Option ActiveCommand) → IsAtRest setup → Stops setup active
+of-rest setup active i = resting setup active i.device i.queues
+
+waits-stops : (s : State) (command : Command) → IsAtRest s.work.setup → let t = (waits s command).1 in Stops t.work.setup t.active
+waits-stops s command i = test (λ (r : IssueAnswer × State). Stops r.1.work.setup r.1.active) _ _ _
+    (λ x. of-rest _ s.active (at-once s.work.setup command i))
+    (λ x. stopped-stops s.work.setup command s.work.setup.next_name i)
+  where
+    test : {X : Type 0} (P : X → Type 0) (a : Bool) (x last : X) → (a ≡ true → P x) → (a ≡ false → P last) → P (cond a x last)
+    test P true x last p q = p refl
+    test P false x last p q = q refl
+
+-- each queue of a device that was reset is Off
+reset-rests : (phases : ℕ) (q : ℕ) → is_stopping (get_or (replicate phases Off) q Off) ≡ false
+reset-rests phases q = ap is_stopping (all-off phases q)
+  where
+    all-off : (n q : ℕ) → get_or (replicate n Off) q Off ≡ Off
+    all-off zero q = refl
+    all-off (suc n) zero = refl
+    all-off (suc n) (suc q) = all-off n q
+
+carried_out-stops : (s : State) (command : Command) → IsAtRest s.work.setup → let t = (carried_out s command).1 in Stops t.work.setup t.active
+carried_out-stops s EnableDevice i = resting _ s.active refl i.queues
+carried_out-stops s (EnableWq queue) i = resting _ s.active i.device (λ q. set-rests s.work.setup (λ k. k == queue) On q refl (λ t. i.queues q))
+carried_out-stops s DisableDevice i = waits-stops s DisableDevice i
+carried_out-stops s (DisableWq queues) i = waits-stops s (DisableWq queues) i
+carried_out-stops s DrainAll i = waits-stops s DrainAll i
+carried_out-stops s (DrainWq queues) i = waits-stops s (DrainWq queues) i
+carried_out-stops s (DrainPasid pasid) i = waits-stops s (DrainPasid pasid) i
+carried_out-stops s AbortAll i = of-rest _ s.active i
+carried_out-stops s (AbortWq queues) i = of-rest _ s.active i
+carried_out-stops s (AbortPasid pasid) i = of-rest _ s.active i
+carried_out-stops s ResetDevice i = resting _ s.active refl (reset-rests s.work.setup.caps.queues)
+carried_out-stops s (ResetWq queues) i = resting _ s.active i.device (λ q. set-rests s.work.setup (names (named_queues (ResetWq queues))) Off q refl (λ t. i.queues q))
+
+refused_or-stops : (s : State) (o : Option Fault) (r : IssueAnswer × State) → Stops s.work.setup s.active → Stops r.1.work.setup r.1.active → let t = (refused_or s o r).1 in Stops t.work.setup t.active
+refused_or-stops s None r i k = k
+refused_or-stops s (Some fault) r i k = i
+
+issue-stops : (s : State) (command : Command) → Stops s.work.setup s.active → let t = (issue s command).1 in Stops t.work.setup t.active
+issue-stops s command i =
+    table3 (λ (r : IssueAnswer × State). Stops r.1.work.setup r.1.active) _ _ _ (Refused Busy, s) (Refused BadQueue, s) (Refused WrongState, s) (refused_or s (check_of s.work.setup command) (carried_out s command))
+    (λ x. i) (λ x. i) (λ x. i)
+    (λ x y z. refused_or-stops s (check_of s.work.setup command) (carried_out s command) i (carried_out-stops s command (at-rest s.work.setup s.active (no-command s.active x) i)))
+  where
+    no-command : (o : Option ActiveCommand) → is_some o ≡ false → o ≡ None
+    no-command None h = refl
+    no-command (Some active) h = absurd cc
+
+poll-stops : (s : State) (o : Option ActiveCommand) → s.active ≡ o → Stops s.work.setup s.active → let t = (poll_of s o).1 in Stops t.work.setup t.active
+poll-stops s None e i = i
+poll-stops s (Some active) e i = test (λ (r : PollAnswer × State). Stops r.1.work.setup r.1.active) _ _ _
+    (λ x. of-rest _ None (over-rests s.work.setup active (subst (λ o. Stops s.work.setup o) e i)))
+    (λ x. i)
+  where
+    test : {X : Type 0} (P : X → Type 0) (a : Bool) (x last : X) → (a ≡ true → P x) → (a ≡ false → P last) → P (cond a x last)
+    test P true x last p q = p refl
+    test P false x last p q = q refl
+
+-- ---- any step, and any history
+
+next-stops : (s s' : State) (event : Event) (reply : Reply) → Stops s.work.setup s.active → next s event reply ≡ Some s' → Stops s'.work.setup s'.active
+next-stops s s' (Submit client q portal kind d) (Submit a) i h = submit-stops s s' client q portal kind d a i h
+next-stops s s' (Dispatch e) (Dispatch a) i h = dispatch-phases s s' e a i h
+next-stops s s' (Fetch e d) (Fetch a) i h =
+    let c = cell_or_first (fetched_cell a) in
+    let p = fetch-phases s e d c (note_at s.work e) in
+    kept s s' (fetch s.work e d c).1 i p.0 p.1 (when-some (same_fetch a (fetch s.work e d c).0 && may_use s.work.setup s.work.content (fetched_cell a)) _ s' h).1
+next-stops s s' (Start e) (Start a) i h =
+    let p = start-phases s e (first_waiting s.work e) in
+    kept s s' (start s.work e).1 i p.0 p.1 (when-some (same_start a (start s.work e).0) _ s' h).1
+next-stops s s' (Finish e t outcome) (Finish a) i h =
+    let p = finish-phases s e outcome (find (is_ticket t) (running_on s.work e)) in
+    kept s s' (finish s.work e t outcome).1 i p.0 p.1 (when-some (same_finish a (finish s.work e t outcome).0) _ s' h).1
+next-stops s s' (Issue command) (Issue a) i h = subst (λ t. Stops t.work.setup t.active) (when-some (same_issue a (issue s command).0) (issue s command).1 s' h).1 (issue-stops s command i)
+next-stops s s' Poll (Poll a) i h = subst (λ t. Stops t.work.setup t.active) (when-some (same_poll a (poll s).0) (poll s).1 s' h).1 (poll-stops s s.active refl i)
+next-stops s s' (WriteQueue q config) (Write a) i h =
+    kept-setup s s' (write_queue s.work.setup q config).1 i (write_queue-phases s q config) (when-some (same_write a (write_queue s.work.setup q config).0) _ s' h).1
+next-stops s s' (WriteGroup g config) (Write a) i h =
+    kept-setup s s' (write_group s.work.setup g config).1 i (write_group-phases s g config) (when-some (same_write a (write_group s.work.setup g config).0) _ s' h).1
+next-stops s s' ClearError (Clear a) i h =
+    kept-setup s s' (clear s.work.setup).1 i (clear-phases s s.work.setup.noted) (when-some (same_clear a (clear s.work.setup).0) _ s' h).1
+next-stops s s' _ _ i h = absurd cc
+
+-- what every step keeps, every history keeps
+replay-stops : (h : List Step) (s s' : State) → Stops s.work.setup s.active → replay_from (Some s) h ≡ Some s' → Stops s'.work.setup s'.active
+replay-stops [] s s' i e = let is : s ≡ s' = cc in subst (λ t. Stops t.work.setup t.active) is i
+replay-stops (x ∷ h) s s' i e = go (λ t j r. replay-stops h t s' j r) (next s x.event x.reply) refl e
+  where
+    go : ((t : State) → Stops t.work.setup t.active → replay_from (Some t) h ≡ Some s' → Stops s'.work.setup s'.active) → (o : Option State) → next s x.event x.reply ≡ o → replay_from o h ≡ Some s' → Stops s'.work.setup s'.active
+    go more None n e = absurd (replay_none h s' e)
+    go more (Some t) n e = more t (next-stops s t x.event x.reply i n) e
+
+from-opening : (caps : Caps) (h : List Step) (s : State) → replay caps h ≡ Some s → Stops s.work.setup s.active
+from-opening caps h s e = replay-stops h (opening caps) s (resting _ None refl (reset-rests caps.queues)) e
+
+pub histories-stop : (caps : Caps) (h : List Step) (s : State) → replay caps h ≡ Some s → StopsByCommand s
+histories-stop caps h s e = of-stops s (from-opening caps h s e)
+
+pub histories-rest : (caps : Caps) (h : List Step) (s : State) → replay caps h ≡ Some s → s.active ≡ None → IsAtRest s.work.setup
+histories-rest caps h s e n = at-rest s.work.setup s.active n (from-opening caps h s e)

@@ -1,0 +1,3 @@
+pub mod Choices
+pub mod Stops
+pub mod Writes

@@ -1,5 +1,0 @@
-use Rattle.dsa_laws.proofs.Accounted.{replay-accepted}
-use Rattle.dsa_laws.proofs.laws.accepted_entries_are_held_or_have_a_fate.Goals as goal
-
-pub returns : goal.returns
-returns c = replay-accepted

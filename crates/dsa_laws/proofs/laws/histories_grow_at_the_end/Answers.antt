@@ -1,5 +1,0 @@
-use Rattle.dsa_laws.proofs.Replay.{replay-snoc}
-use Rattle.dsa_laws.proofs.laws.histories_grow_at_the_end.Goals as goal
-
-pub returns : goal.returns
-returns c = replay-snoc

@@ -1,5 +1,0 @@
-use Rattle.dsa_laws.proofs.Abandons.{replay-lawful}
-use Rattle.dsa_laws.proofs.laws.members_alone_are_abandoned.Goals as goal
-
-pub returns : goal.returns
-returns c = replay-lawful

@@ -1,5 +1,0 @@
-use Rattle.dsa_laws.proofs.Names.{replay-names}
-use Rattle.dsa_laws.proofs.laws.names_are_given_in_turn.Goals as goal
-
-pub returns : goal.returns
-returns c = replay-names

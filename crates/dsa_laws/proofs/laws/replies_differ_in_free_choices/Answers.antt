@@ -1,5 +1,0 @@
-use Rattle.dsa_laws.proofs.Choices.{replies-alike}
-use Rattle.dsa_laws.proofs.laws.replies_differ_in_free_choices.Goals as goal
-
-pub returns : goal.returns
-returns c = replies-alike

@@ -1,5 +1,0 @@
-use Rattle.dsa_laws.proofs.Retries.{retry-at-limit}
-use Rattle.dsa_laws.proofs.laws.retries_come_at_the_limit.Goals as goal
-
-pub returns : goal.returns
-returns c = retry-at-limit
