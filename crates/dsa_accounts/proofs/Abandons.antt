@@ -3,9 +3,8 @@ use Rattle.std.proofs.Common.{◌≡◌, ℕ, ◌||◌, not, Bool, true, false, 
 use Rattle.std.specs.Prelude.{filter, is_some}
 use Rattle.std.proofs.lemmas.List.Folds.{list_all-append}
 use Rattle.dsa_regs.specs.declared.Caps.{Caps}
-use Rattle.dsa_regs.specs.declared.Command.{Command}
-use Rattle.dsa_regs.specs.declared.Command.TheVariants.{ResetDevice, ResetWq}
-use Rattle.dsa_regs.specs.Command.{number_of}
+use Rattle.dsa_regs.specs.declared.Scope.{Scope}
+use Rattle.dsa_regs.specs.declared.Scope.TheVariants.{Device}
 use Rattle.dsa_store.specs.Content.{Slot, all_held}
 use Rattle.dsa_book.specs.declared.event.Step.{Step}
 use Rattle.dsa_book.specs.declared.fate.Fate.{Fate}
@@ -38,10 +37,10 @@ abandoned-rows [] each = refl
 abandoned-rows (x ∷ xs) each = and_from _ _ (or_left (is_some x.1.parent) false (each x (inl refl))) (abandoned-rows xs (λ y i. each y (inr i)))
 
 -- a command's scope ends
-aborted-lawful : (command : Command) (w : Work) → only_members_abandoned w.fates ≡ true → only_members_abandoned (aborted command w).fates ≡ true
-aborted-lawful command w old =
-    let gone = filter (λ slot. is_in_scope command slot.1) (all_held w.content) in
-    let fate = Aborted (number_of command) in
+aborted-lawful : (number : ℕ) (scope : Scope) (w : Work) → only_members_abandoned w.fates ≡ true → only_members_abandoned (aborted number scope w).fates ≡ true
+aborted-lawful number scope w old =
+    let gone = filter (λ slot. is_in_scope scope slot.1) (all_held w.content) in
+    let fate = Aborted number in
     more-rows w.fates fate gone old (other-rows fate gone refl)
 
 -- all in an engine's list of members are members
@@ -68,9 +67,9 @@ lawful-change caps s s' w h (is_device_enabled c) = subst Lawful c.after h
 lawful-change caps s s' w h (is_queue_enabled c) = subst Lawful c.after h
 lawful-change caps s s' w h (is_waiting c) = subst Lawful c.after h
 lawful-change caps s s' w h (is_over c) = subst Lawful c.after h
-lawful-change caps s s' w h (is_aborted c) = subst Lawful c.after (aborted-lawful c.command s.work h)
-lawful-change caps s s' w h (is_device_reset c) = subst Lawful c.after (aborted-lawful ResetDevice s.work h)
-lawful-change caps s s' w h (is_queues_reset c) = subst Lawful c.after (aborted-lawful (ResetWq c.queues) s.work h)
+lawful-change caps s s' w h (is_aborted c) = subst Lawful c.after (aborted-lawful c.number c.scope s.work h)
+lawful-change caps s s' w h (is_device_reset c) = subst Lawful c.after (aborted-lawful c.number Device s.work h)
+lawful-change caps s s' w h (is_queues_reset c) = subst Lawful c.after (aborted-lawful c.number c.scope s.work h)
 lawful-change caps s s' w h (is_queue_written c) = subst Lawful c.after h
 lawful-change caps s s' w h (is_group_written c) = subst Lawful c.after h
 

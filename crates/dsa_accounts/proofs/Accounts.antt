@@ -3,9 +3,8 @@ use Rattle.std.proofs.Common.{◌≡◌, ℕ, ◌+◌, ◌<◌, ◌≤◌, not, 
 use Rattle.std.specs.Prelude.{sum_by, count_by, filter, is_some, is_none}
 use Rattle.std.proofs.lemmas.List.Sums.{sum_by-cons, sum_by-append, count_by-le-length}
 use Rattle.dsa_regs.specs.declared.Caps.{Caps}
-use Rattle.dsa_regs.specs.declared.Command.{Command}
-use Rattle.dsa_regs.specs.declared.Command.TheVariants.{ResetDevice, ResetWq}
-use Rattle.dsa_regs.specs.Command.{number_of}
+use Rattle.dsa_regs.specs.declared.Scope.{Scope}
+use Rattle.dsa_regs.specs.declared.Scope.TheVariants.{Device}
 use Rattle.dsa_store.specs.Content.{Slot, Content, all_held, is_cell, pushed}
 use Rattle.dsa_store.proofs.Sums.{sum-set, sum-pushed, uses-counted, sum-split, all_held-filtered}
 use Rattle.dsa_book.specs.declared.fate.Fate.{Fate}
@@ -80,10 +79,10 @@ parts {X} parent (x ∷ xs) =
 abbrev pub SameAccount : State → State → Type 0
 SameAccount s t = submitted_entries t.work ≡ submitted_entries s.work
 
-aborted-account : (command : Command) (w w' : Work) → w'.content ≡ (aborted command w).content → w'.fates ≡ (aborted command w).fates → submitted_entries w' ≡ submitted_entries w
-aborted-account command w w' content fates =
-    let test : Slot → Bool = λ slot. is_in_scope command slot.1 in
-    left-account w w' (Aborted (number_of command)) (filter test (all_held w.content))
+aborted-account : (number : ℕ) (scope : Scope) (w w' : Work) → w'.content ≡ (aborted number scope w).content → w'.fates ≡ (aborted number scope w).fates → submitted_entries w' ≡ submitted_entries w
+aborted-account number scope w w' content fates =
+    let test : Slot → Bool = λ slot. is_in_scope scope slot.1 in
+    left-account w w' (Aborted number) (filter test (all_held w.content))
     (
     let a = ap (λ (c : Content). sum_by weight (all_held c)) content in
     let b = ap (λ (xs : List Slot). sum_by weight xs) (all_held-filtered (λ slot. not (test slot)) w.content) in
@@ -124,9 +123,9 @@ account-change caps s s' h once (is_device_enabled c) n = subst (λ t. SameAccou
 account-change caps s s' h once (is_queue_enabled c) n = subst (λ t. SameAccount s t) c.after refl
 account-change caps s s' h once (is_waiting c) n = subst (λ t. SameAccount s t) c.after refl
 account-change caps s s' h once (is_over c) n = subst (λ t. SameAccount s t) c.after refl
-account-change caps s s' h once (is_aborted c) n = subst (λ t. SameAccount s t) c.after (aborted-account c.command s.work (aborted c.command s.work) refl refl)
-account-change caps s s' h once (is_device_reset c) n = subst (λ t. SameAccount s t) c.after (aborted-account ResetDevice s.work (aborted ResetDevice s.work) refl refl)
-account-change caps s s' h once (is_queues_reset c) n = subst (λ t. SameAccount s t) c.after (aborted-account (ResetWq c.queues) s.work (aborted (ResetWq c.queues) s.work) refl refl)
+account-change caps s s' h once (is_aborted c) n = subst (λ t. SameAccount s t) c.after (aborted-account c.number c.scope s.work (aborted c.number c.scope s.work) refl refl)
+account-change caps s s' h once (is_device_reset c) n = subst (λ t. SameAccount s t) c.after (aborted-account c.number Device s.work (aborted c.number Device s.work) refl refl)
+account-change caps s s' h once (is_queues_reset c) n = subst (λ t. SameAccount s t) c.after (aborted-account c.number c.scope s.work (aborted c.number c.scope s.work) refl refl)
 account-change caps s s' h once (is_queue_written c) n = subst (λ t. SameAccount s t) c.after refl
 account-change caps s s' h once (is_group_written c) n = subst (λ t. SameAccount s t) c.after refl
 

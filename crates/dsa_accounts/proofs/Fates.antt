@@ -8,7 +8,10 @@ use Rattle.dsa_desc.specs.Rows.{when}
 use Rattle.dsa_desc.proofs.Tables.{first_row_or-each, when-some}
 use Rattle.dsa_regs.specs.declared.Caps.{Caps}
 use Rattle.dsa_regs.specs.declared.Command.{Command}
-use Rattle.dsa_regs.specs.declared.Command.TheVariants.{EnableDevice, DisableDevice, DrainAll, AbortAll, ResetDevice, EnableWq, DisableWq, DrainWq, AbortWq, ResetWq, DrainPasid, AbortPasid}
+use Rattle.dsa_regs.specs.declared.Scope.{Scope}
+use Rattle.dsa_regs.specs.declared.Deed.{Deed}
+use Rattle.dsa_regs.specs.declared.Deed.TheVariants.{Enable, Abort, Reset}
+use Rattle.dsa_regs.specs.Command.{number_of, scope_of, deed_of}
 use Rattle.dsa_regs.specs.declared.Fault.{Fault}
 use Rattle.dsa_regs.specs.declared.QueueConfig.{QueueConfig}
 use Rattle.dsa_regs.specs.declared.GroupConfig.{GroupConfig}
@@ -42,7 +45,7 @@ use Rattle.dsa_book.specs.Same.{same_submit, same_fetch, same_start, same_finish
 use Rattle.dsa_book.specs.State.{Work, State, opening, is_ticket, ticket_of, is_batch_of}
 use Rattle.dsa_book.specs.Submit.{submit}
 use Rattle.dsa_book.specs.Work.{qualifies, front_of, taken, fetch, fetch_of, fetch_for, note_at, batch_on, start, start_of, start_table, started, first_waiting, is_unfinished, last_status, ended, finish, finish_of, running_on}
-use Rattle.dsa_book.specs.Commands.{issue, issue_table, check_of, refused_or, carried_out, waits, poll, poll_of, write_queue, write_group, clear}
+use Rattle.dsa_book.specs.Commands.{issue, issue_table, check_of, refused_or, carried_out, done_by, waits, poll, poll_of, write_queue, write_group, clear}
 use Rattle.dsa_book.specs.Machine.{next, replay, with_work, with_intake, with_setup, intake_of, accepted_cell, fetched_cell, cell_or_first, may_use}
 use Rattle.std.proofs.Common.{length, map, filter, ◌++◌, length-append, eqb-true, zero-add}
 use Rattle.std.proofs.lemmas.List.{length-map}
@@ -54,7 +57,7 @@ use Rattle.dsa_book.specs.declared.answer.StartAnswer.TheVariants.{FenceWait, No
 use Rattle.dsa_book.specs.declared.answer.FinishAnswer.TheVariants.{Gone}
 use Rattle.dsa_book.specs.declared.answer.IssueAnswer.TheVariants.{Ended, Active, Refused}
 use Rattle.dsa_book.specs.Work.{is_all_fetched, fetched, members, fate_row}
-use Rattle.dsa_book.specs.Commands.{is_in_scope}
+use Rattle.dsa_book.specs.Commands.{is_in_scope, aborted, count_in_scope}
 use Rattle.dsa_book.specs.Totals.{ended_by, is_done, lost_by, total_done, total_lost}
 use Rattle.dsa_desc.proofs.Tables.{cond-each}
 use Rattle.dsa_book.proofs.Replay.{replay-adds}
@@ -182,29 +185,25 @@ waits-rows s command =
     let same = sym (add-zero (rows_of s)) in
     cond-each P _ _ _ same same
 
-carried_out-rows : (s : State) (command : Command) → rows_of (carried_out s command).1 ≡ rows_of s + ended_by (Issue (carried_out s command).0)
-carried_out-rows s EnableDevice = sym (add-zero (rows_of s))
-carried_out-rows s (EnableWq queue) = sym (add-zero (rows_of s))
-carried_out-rows s DisableDevice = waits-rows s DisableDevice
-carried_out-rows s (DisableWq queues) = waits-rows s (DisableWq queues)
-carried_out-rows s DrainAll = waits-rows s DrainAll
-carried_out-rows s (DrainWq queues) = waits-rows s (DrainWq queues)
-carried_out-rows s (DrainPasid pasid) = waits-rows s (DrainPasid pasid)
-carried_out-rows s AbortAll = length-rows s.work.fates (Aborted 4) (filter (λ slot. is_in_scope AbortAll slot.1) (all_held s.work.content))
-carried_out-rows s (AbortWq queues) = length-rows s.work.fates (Aborted 9) (filter (λ slot. is_in_scope (AbortWq queues) slot.1) (all_held s.work.content))
-carried_out-rows s (AbortPasid pasid) = length-rows s.work.fates (Aborted 12) (filter (λ slot. is_in_scope (AbortPasid pasid) slot.1) (all_held s.work.content))
-carried_out-rows s ResetDevice = length-rows s.work.fates (Aborted 5) (filter (λ slot. is_in_scope ResetDevice slot.1) (all_held s.work.content))
-carried_out-rows s (ResetWq queues) = length-rows s.work.fates (Aborted 10) (filter (λ slot. is_in_scope (ResetWq queues) slot.1) (all_held s.work.content))
+aborted-rows : (s : State) (command : Command) (scope : Scope) → length (aborted (number_of command) scope s.work).fates ≡ rows_of s + count_in_scope scope s.work.content
+aborted-rows s command scope = length-rows s.work.fates (Aborted (number_of command)) (filter (λ slot. is_in_scope scope slot.1) (all_held s.work.content))
+
+done-rows : (s : State) (command : Command) (deed : Deed) (scope : Scope)
+    → rows_of (done_by s command deed scope).1 ≡ rows_of s + ended_by (Issue (done_by s command deed scope).0)
+done-rows s command Enable scope = sym (add-zero (rows_of s))
+done-rows s command Abort scope = aborted-rows s command scope
+done-rows s command Reset scope = aborted-rows s command scope
+done-rows s command _ scope = waits-rows s command
 
 refused_or-rows : (s : State) (o : Option Fault) (command : Command) → rows_of (refused_or s o (carried_out s command)).1 ≡ rows_of s + ended_by (Issue (refused_or s o (carried_out s command)).0)
-refused_or-rows s None command = carried_out-rows s command
+refused_or-rows s None command = done-rows s command (deed_of command) (scope_of command)
 refused_or-rows s (Some fault) command = sym (add-zero (rows_of s))
 
 issue-rows : (s : State) (command : Command) → rows_of (issue s command).1 ≡ rows_of s + ended_by (Issue (issue s command).0)
 issue-rows s command =
     let P : IssueAnswer × State → Type 0 = λ r. rows_of r.1 ≡ rows_of s + ended_by (Issue r.0) in
     let same = sym (add-zero (rows_of s)) in
-    first_row_or-each P (issue_table s command) (refused_or s (check_of s.work.setup command) (carried_out s command)) (same, (same, (same, tt))) (refused_or-rows s (check_of s.work.setup command) command)
+    first_row_or-each P (issue_table s command) (refused_or s (check_of s.work.setup (deed_of command) (scope_of command)) (carried_out s command)) (same, (same, (same, tt))) (refused_or-rows s (check_of s.work.setup (deed_of command) (scope_of command)) command)
 
 same_issue-ended : (a b : IssueAnswer) → same_issue a b ≡ true → ended_by (Issue a) ≡ ended_by (Issue b)
 same_issue-ended (Ended a) (Ended b) h = eqb-true a b h

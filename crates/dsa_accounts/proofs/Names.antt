@@ -9,7 +9,11 @@ use Rattle.dsa_desc.proofs.Tables.{first_row_or-each, one_row, when-some, cond-e
 use Rattle.dsa_regs.specs.declared.Caps.{Caps}
 use Rattle.dsa_regs.specs.declared.Phase.{Phase}
 use Rattle.dsa_regs.specs.declared.Command.{Command}
-use Rattle.dsa_regs.specs.declared.Command.TheVariants.{EnableDevice, DisableDevice, DrainAll, AbortAll, ResetDevice, EnableWq, DisableWq, DrainWq, AbortWq, ResetWq, DrainPasid, AbortPasid}
+use Rattle.dsa_regs.specs.declared.Scope.{Scope}
+use Rattle.dsa_regs.specs.declared.Deed.{Deed}
+use Rattle.dsa_regs.specs.declared.Deed.TheVariants.{Enable, Disable, Abort, Reset}
+use Rattle.dsa_regs.specs.declared.Scope.TheVariants.{Device}
+use Rattle.dsa_regs.specs.Command.{scope_of, deed_of}
 use Rattle.dsa_regs.specs.declared.Fault.{Fault}
 use Rattle.dsa_regs.specs.declared.QueueConfig.{QueueConfig}
 use Rattle.dsa_regs.specs.declared.GroupConfig.{GroupConfig}
@@ -48,7 +52,7 @@ use Rattle.dsa_book.specs.Same.{same_submit, same_fetch, same_start, same_finish
 use Rattle.dsa_book.specs.State.{Setup, Intake, Work, State, opening, is_ticket, ticket_of, is_batch_of}
 use Rattle.dsa_book.specs.Submit.{submit, submit_table, turned_away, accepted}
 use Rattle.dsa_book.specs.Work.{qualifies, front_of, taken, fetch, fetch_of, fetch_for, note_at, batch_on, start, start_of, start_table, started, first_waiting, is_unfinished, last_status, ended, finish, finish_of, running_on}
-use Rattle.dsa_book.specs.Commands.{issue, issue_table, write_queue_table, write_group_table, check_of, refused_or, carried_out, waits, poll, poll_of, stopped, write_queue, write_group, clear, clear_of}
+use Rattle.dsa_book.specs.Commands.{issue, issue_table, write_queue_table, write_group_table, check_of, refused_or, carried_out, done_by, waits, poll, poll_of, stopped, write_queue, write_group, clear, clear_of}
 use Rattle.dsa_book.specs.Machine.{next, replay, with_work, with_intake, with_setup, intake_of, accepted_cell, fetched_cell, cell_or_first, may_use}
 use Rattle.dsa_book.specs.Totals.{named_by, is_accepted, is_fetched, total_accepted, total_fetched}
 use Rattle.std.proofs.lemmas.Bool.{and_parts}
@@ -151,37 +155,31 @@ finish_step s s' e t outcome a h =
 waits-names : (s : State) (command : Command) → name_of (waits s command).1 ≡ name_of s
 waits-names s command =
     let P : IssueAnswer × State → Type 0 = λ r. name_of r.1 ≡ name_of s in
-    cond-each P _ _ _ (stopped-names command _ s.work.setup) (stopped-names command _ s.work.setup)
+    cond-each P _ _ _ (stopped-names _ _ _ s.work.setup) (stopped-names _ _ _ s.work.setup)
 
-carried_out-names : (s : State) (command : Command) → name_of (carried_out s command).1 ≡ name_of s
-carried_out-names s EnableDevice = refl
-carried_out-names s (EnableWq queue) = refl
-carried_out-names s DisableDevice = waits-names s DisableDevice
-carried_out-names s (DisableWq queues) = waits-names s (DisableWq queues)
-carried_out-names s DrainAll = waits-names s DrainAll
-carried_out-names s (DrainWq queues) = waits-names s (DrainWq queues)
-carried_out-names s (DrainPasid pasid) = waits-names s (DrainPasid pasid)
-carried_out-names s AbortAll = refl
-carried_out-names s (AbortWq queues) = refl
-carried_out-names s (AbortPasid pasid) = refl
-carried_out-names s ResetDevice = refl
-carried_out-names s (ResetWq queues) = refl
+done-names : (s : State) (command : Command) (deed : Deed) (scope : Scope) → name_of (done_by s command deed scope).1 ≡ name_of s
+done-names s command Enable Device = refl
+done-names s command Enable scope = refl
+done-names s command Abort scope = refl
+done-names s command Reset Device = refl
+done-names s command Reset scope = refl
+done-names s command _ scope = waits-names s command
 
 refused_or-names : (s : State) (o : Option Fault) (command : Command) → name_of (refused_or s o (carried_out s command)).1 ≡ name_of s
-refused_or-names s None command = carried_out-names s command
+refused_or-names s None command = done-names s command (deed_of command) (scope_of command)
 refused_or-names s (Some fault) command = refl
 
 issue_step : (s s' : State) (command : Command) (a : IssueAnswer) → next s (Issue command) (Issue a) ≡ Some s' → name_of s' ≡ name_of s
 issue_step s s' command a h =
     let P : IssueAnswer × State → Type 0 = λ r. name_of r.1 ≡ name_of s in
     let p = when-some (same_issue a (issue s command).0) (issue s command).1 s' h in
-    sym (ap name_of p.1) ∙ first_row_or-each P (issue_table s command) (refused_or s (check_of s.work.setup command) (carried_out s command)) (refl, (refl, (refl, tt))) (refused_or-names s (check_of s.work.setup command) command)
+    sym (ap name_of p.1) ∙ first_row_or-each P (issue_table s command) (refused_or s (check_of s.work.setup (deed_of command) (scope_of command)) (carried_out s command)) (refl, (refl, (refl, tt))) (refused_or-names s (check_of s.work.setup (deed_of command) (scope_of command)) command)
 
 poll_of-names : (s : State) (o : Option ActiveCommand) → name_of (poll_of s o).1 ≡ name_of s
 poll_of-names s None = refl
 poll_of-names s (Some active) =
     let P : PollAnswer × State → Type 0 = λ r. name_of r.1 ≡ name_of s in
-    cond-each P _ _ _ (stopped-names active.command _ s.work.setup) refl
+    cond-each P _ _ _ (stopped-names _ _ _ s.work.setup) refl
 
 poll_step : (s s' : State) (a : PollAnswer) → next s Poll (Poll a) ≡ Some s' → name_of s' ≡ name_of s
 poll_step s s' a h =

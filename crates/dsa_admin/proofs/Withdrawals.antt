@@ -8,7 +8,7 @@ use Rattle.std.proofs.lemmas.List.Filters.{length-filter_both}
 use Rattle.std.proofs.lemmas.List.Edits.{map_over_more}
 use Rattle.std.specs.List.{filter}
 use Rattle.dsa_regs.specs.declared.Command.{Command}
-use Rattle.dsa_regs.specs.Command.{number_of}
+use Rattle.dsa_regs.specs.Command.{number_of, scope_of}
 use Rattle.dsa_store.specs.declared.entry.Cell.{Cell}
 use Rattle.dsa_store.specs.declared.entry.Entry.{Entry}
 use Rattle.dsa_store.specs.Content.{Slot, Content, chain, uses, held, first_cell, entry_of, unlinked, kept, all_held, StandsAt}
@@ -39,15 +39,15 @@ map-cond row true s = refl
 map-cond row false s = refl
 
 -- one more place of the list
-pub rows-turn : (command : Command) (content : Content) (i k : ℕ) (cell : Cell) (e : Entry) → StandsAt content i k cell e → rows_of command (take (k + 1) (chain content i)) ≡ rows_of command (take k (chain content i)) ++ cond (is_in_scope command e) (fate_row (Aborted (number_of command)) (cell, e) ∷ []) []
+pub rows-turn : (command : Command) (content : Content) (i k : ℕ) (cell : Cell) (e : Entry) → StandsAt content i k cell e → rows_of command (take (k + 1) (chain content i)) ≡ rows_of command (take k (chain content i)) ++ cond (is_in_scope (scope_of command) e) (fate_row (Aborted (number_of command)) (cell, e) ∷ []) []
 rows-turn command content i k cell e at =
     let l : List Slot = chain content i in
     let row : Slot → FateRow = fate_row (Aborted (number_of command)) in
-    let more : filter (is_meant command) (take (k + 1) l) ≡ filter (is_meant command) (take k l) ++ cond (is_in_scope command e) ((cell, e) ∷ []) []
+    let more : filter (is_meant command) (take (k + 1) l) ≡ filter (is_meant command) (take k l) ++ cond (is_in_scope (scope_of command) e) ((cell, e) ∷ []) []
     = filter_more (is_meant command) l k (cell, e) at.within ∙ ap (λ (x : Slot). filter (is_meant command) (take k l) ++ cond (is_meant command x) (x ∷ []) []) at.slot in
-    ap (map row) more ∙ map-append row (filter (is_meant command) (take k l)) (cond (is_in_scope command e) ((cell, e) ∷ []) []) ∙ ap (λ (rows : List FateRow). rows_of command (take k l) ++ rows) (map-cond row (is_in_scope command e) (cell, e))
+    ap (map row) more ∙ map-append row (filter (is_meant command) (take k l)) (cond (is_in_scope (scope_of command) e) ((cell, e) ∷ []) []) ∙ ap (λ (rows : List FateRow). rows_of command (take k l) ++ rows) (map-cond row (is_in_scope (scope_of command) e) (cell, e))
 
-left-by : (command : Command) (content : Content) (i k : ℕ) (now : Content) (cell : Cell) → (t : AtTurn (is_spared command) content i k now cell) (b : Bool) → is_in_scope command t.entry ≡ b → cond b (unlinked now cell) now ≡ thinned (is_spared command) content i (k + 1)
+left-by : (command : Command) (content : Content) (i k : ℕ) (now : Content) (cell : Cell) → (t : AtTurn (is_spared command) content i k now cell) (b : Bool) → is_in_scope (scope_of command) t.entry ≡ b → cond b (unlinked now cell) now ≡ thinned (is_spared command) content i (k + 1)
 left-by command content i k now cell t true h = t.out (ap not h)
 left-by command content i k now cell t false h = t.stay (ap not h)
 
@@ -77,7 +77,7 @@ pub record IsWithdrawn (command : Command) (content : Content) (first : Records)
 pub withdrawn-room : (content : Content) (book : Records) (cell : Cell) (got : Option Entry) (e : Entry) → length book.fates + held content ≤ book.capacity → got ≡ entry_of content cell → got ≡ Some e → length book.fates < book.capacity
 withdrawn-room content book cell got e room read is = omega (arith, room, (used-entry content cell e (sym read ∙ is)).1)
 
-withdrawn-turn : (command : Command) (content : Content) (first : Records) (i k : ℕ) (now after : Content) (book later : Records) (cell : Cell) (got : Option Entry) (e : Entry) (b : Bool) → ((c : Cell) → uses now c ≤ 1) → i < length content → k < length (chain content i) → first_cell (drop k (chain content i)) ≡ Some cell → IsWithdrawn command content first i k now book → got ≡ entry_of now cell → got ≡ Some e → is_in_scope command e ≡ b → after ≡ cond b (unlinked now cell) now → later ≡ record book { fates = book.fates ++ cond b (fate_row (Aborted (number_of command)) (cell, e) ∷ []) [] } → IsWithdrawn command content first i (k + 1) after later
+withdrawn-turn : (command : Command) (content : Content) (first : Records) (i k : ℕ) (now after : Content) (book later : Records) (cell : Cell) (got : Option Entry) (e : Entry) (b : Bool) → ((c : Cell) → uses now c ≤ 1) → i < length content → k < length (chain content i) → first_cell (drop k (chain content i)) ≡ Some cell → IsWithdrawn command content first i k now book → got ≡ entry_of now cell → got ≡ Some e → is_in_scope (scope_of command) e ≡ b → after ≡ cond b (unlinked now cell) now → later ≡ record book { fates = book.fates ++ cond b (fate_row (Aborted (number_of command)) (cell, e) ∷ []) [] } → IsWithdrawn command content first i (k + 1) after later
 withdrawn-turn command content first i k now after book later cell got e b once hi h front w read is scope left rows =
     let t : AtTurn (is_spared command) content i k now cell = at-turn (is_spared command) content i k now cell once hi h w.left front in
     let found : entry_of now cell ≡ Some e = sym read ∙ is in
@@ -86,7 +86,7 @@ withdrawn-turn command content first i k now after book later cell got e b once 
     let row : FateRow = fate_row (Aborted (number_of command)) (cell, e) in
     let here : StandsAt content i k cell e = subst (λ (x : Entry). StandsAt content i k cell x) same t.stands in
     record {
-      left = left ∙ left-by command content i k now cell t b (ap (is_in_scope command) same ∙ scope);
+      left = left ∙ left-by command content i k now cell t b (ap (is_in_scope (scope_of command)) same ∙ scope);
       rows = book-turn first book later _ _ _ w.rows rows (rows-turn command content i k cell e here ∙ ap (λ (c : Bool). rows_of command (take k (chain content i)) ++ cond c (row ∷ []) []) scope);
       room =
           let full : later.capacity ≡ book.capacity = ap (λ (x : Records). x.capacity) rows in
@@ -95,12 +95,12 @@ withdrawn-turn command content first i k now after book later cell got e b once 
     }
 
 -- a cell that the command is not about stays
-pub withdrawn-stays : (command : Command) (content : Content) (first : Records) (i k : ℕ) (now : Content) (book : Records) (cell : Cell) (got : Option Entry) (e : Entry) → ((c : Cell) → uses now c ≤ 1) → i < length content → k < length (chain content i) → first_cell (drop k (chain content i)) ≡ Some cell → IsWithdrawn command content first i k now book → got ≡ entry_of now cell → got ≡ Some e → is_in_scope command e ≡ false → IsWithdrawn command content first i (k + 1) now book
+pub withdrawn-stays : (command : Command) (content : Content) (first : Records) (i k : ℕ) (now : Content) (book : Records) (cell : Cell) (got : Option Entry) (e : Entry) → ((c : Cell) → uses now c ≤ 1) → i < length content → k < length (chain content i) → first_cell (drop k (chain content i)) ≡ Some cell → IsWithdrawn command content first i k now book → got ≡ entry_of now cell → got ≡ Some e → is_in_scope (scope_of command) e ≡ false → IsWithdrawn command content first i (k + 1) now book
 withdrawn-stays command content first i k now book cell got e once hi h front w read is scope =
     withdrawn-turn command content first i k now now book book cell got e false once hi h front w read is scope refl (ap (λ (l : List FateRow). record book { fates = l }) (sym (append-nil book.fates)))
 
 -- a cell that the command is about leaves, with its row
-pub withdrawn-leaves : (command : Command) (content : Content) (first : Records) (i k : ℕ) (now after : Content) (book later : Records) (cell : Cell) (got : Option Entry) (e : Entry) (row : FateRow) → ((c : Cell) → uses now c ≤ 1) → i < length content → k < length (chain content i) → first_cell (drop k (chain content i)) ≡ Some cell → IsWithdrawn command content first i k now book → got ≡ entry_of now cell → got ≡ Some e → is_in_scope command e ≡ true → after ≡ unlinked now cell → row ≡ row_of command e → later ≡ record book { fates = book.fates ++ row ∷ [] } → IsWithdrawn command content first i (k + 1) after later
+pub withdrawn-leaves : (command : Command) (content : Content) (first : Records) (i k : ℕ) (now after : Content) (book later : Records) (cell : Cell) (got : Option Entry) (e : Entry) (row : FateRow) → ((c : Cell) → uses now c ≤ 1) → i < length content → k < length (chain content i) → first_cell (drop k (chain content i)) ≡ Some cell → IsWithdrawn command content first i k now book → got ≡ entry_of now cell → got ≡ Some e → is_in_scope (scope_of command) e ≡ true → after ≡ unlinked now cell → row ≡ row_of command e → later ≡ record book { fates = book.fates ++ row ∷ [] } → IsWithdrawn command content first i (k + 1) after later
 withdrawn-leaves command content first i k now after book later cell got e row once hi h front w read is scope left row_is rows =
     withdrawn-turn command content first i k now after book later cell got e true once hi h front w read is scope left (rows ∙ ap (λ (x : FateRow). record book { fates = book.fates ++ x ∷ [] }) row_is)
 
@@ -146,7 +146,7 @@ swept-length command content now n is = grind (arith, common_steps, is)
 pub swept-chain : (command : Command) (content now : Content) (n : ℕ) → n < length content → now ≡ swept command content n → chain now n ≡ chain content n
 swept-chain command content now n h is = grind (arith, common_steps, is)
 
-pub swept-all : (command : Command) (content : Content) (n : ℕ) → length content ≤ n → swept command content n ≡ kept (λ entry. not (is_in_scope command entry)) content
+pub swept-all : (command : Command) (content : Content) (n : ℕ) → length content ≤ n → swept command content n ≡ kept (λ entry. not (is_in_scope (scope_of command) entry)) content
 swept-all command content n h = grind (arith, common_steps, h)
 
 -- the rows of one list after those of the lists before it
@@ -225,18 +225,18 @@ gear-turn first now after b is step =
 -- ---- an abort as a whole
 
 -- what is taken out and what stays are all that was held
-pub held-kept : (command : Command) (content : Content) → held (kept (λ entry. not (is_in_scope command entry)) content) + count_in_scope command content ≡ held content
+pub held-kept : (command : Command) (content : Content) → held (kept (λ entry. not (is_in_scope (scope_of command) entry)) content) + count_in_scope (scope_of command) content ≡ held content
 held-kept command content =
     let both : length (filter (is_meant command) (all_held content)) + length (filter (is_spared command) (all_held content)) ≡ length (all_held content) = length-filter_both (is_meant command) (is_spared command) (λ x. refl) (all_held content) in
-    let left : held (kept (λ entry. not (is_in_scope command entry)) content) ≡ length (filter (is_spared command) (all_held content)) = held-counted (kept (λ entry. not (is_in_scope command entry)) content) ∙ ap length (all_held-kept (λ entry. not (is_in_scope command entry)) content) in
+    let left : held (kept (λ entry. not (is_in_scope (scope_of command) entry)) content) ≡ length (filter (is_spared command) (all_held content)) = held-counted (kept (λ entry. not (is_in_scope (scope_of command) entry)) content) ∙ ap length (all_held-kept (λ entry. not (is_in_scope (scope_of command) entry)) content) in
     omega (arith, both, left, held-counted content)
 
-pub ready-kept : (command : Command) (setup : Setup) (content now : Content) → IsReady setup content → now ≡ kept (λ entry. not (is_in_scope command entry)) content → IsReady setup now
+pub ready-kept : (command : Command) (setup : Setup) (content now : Content) → IsReady setup content → now ≡ kept (λ entry. not (is_in_scope (scope_of command) entry)) content → IsReady setup now
 ready-kept command setup content now r is =
     ready-less setup content now r (ap length is ∙ length-map content (filter (is_spared command))) (rw is (omega (arith, held-kept command content)))
 
 -- so many more cells are free
-pub freed : (command : Command) (content now : Content) (free later cells : ℕ) → free + held content ≡ cells → later + held now ≡ cells → now ≡ kept (λ entry. not (is_in_scope command entry)) content → later ≡ free + count_in_scope command content
+pub freed : (command : Command) (content now : Content) (free later cells : ℕ) → free + held content ≡ cells → later + held now ≡ cells → now ≡ kept (λ entry. not (is_in_scope (scope_of command) entry)) content → later ≡ free + count_in_scope (scope_of command) content
 freed command content now free later cells before after is =
-    let left : held now ≡ held (kept (λ entry. not (is_in_scope command entry)) content) = ap held is in
+    let left : held now ≡ held (kept (λ entry. not (is_in_scope (scope_of command) entry)) content) = ap held is in
     omega (arith, before, after, left, held-kept command content)

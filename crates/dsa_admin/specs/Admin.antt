@@ -2,7 +2,9 @@
 use Rattle.std.specs.Prelude.{◌≡◌, ℕ, Bool, true, false, None, not, cond, ◌&&◌, ◌||◌, ◌==◌, nat_le, List, length, map, filter, Option}
 use Rattle.std.specs.List.{list_all}
 use Rattle.dsa_regs.specs.declared.Command.{Command}
-use Rattle.dsa_regs.specs.Command.{number_of}
+use Rattle.dsa_regs.specs.declared.Scope.{Scope}
+use Rattle.dsa_regs.specs.declared.Deed.{Deed}
+use Rattle.dsa_regs.specs.Command.{number_of, scope_of, deed_of}
 use Rattle.dsa_store.specs.declared.entry.Entry.{Entry}
 use Rattle.dsa_store.specs.Content.{Slot, Content}
 use Rattle.dsa_book.specs.declared.note.BatchNote.{BatchNote}
@@ -13,20 +15,19 @@ use Rattle.dsa_book.specs.State.{Setup, State, has_queue, is_batch_of}
 use Rattle.dsa_book.specs.Work.{fate_row}
 use Rattle.dsa_queues.specs.Queues.{IsWhole}
 use Rattle.dsa_engines.specs.Engines.{Gear, work}
-use Rattle.dsa_book.specs.Commands.{is_in_scope, is_awaited, is_disable, is_bad_queues, may_come, check_of}
+use Rattle.dsa_book.specs.Commands.{is_in_scope, is_awaited, is_bad_queues, may_come, check_of}
 
 -- the entries that keep an active command from its end (Intel DSA: disable and drain commands)
 abbrev pub is_waited_for : ActiveCommand → Entry → Bool
-is_waited_for active entry =
-    cond (is_disable active.command) (is_in_scope active.command) (is_awaited active.command active.mark) entry
+is_waited_for active entry = is_awaited (deed_of active.command) (scope_of active.command) active.mark entry
 
 -- the command is about the entry
 abbrev pub is_meant : Command → Slot → Bool
-is_meant command slot = is_in_scope command slot.1
+is_meant command slot = is_in_scope (scope_of command) slot.1
 
 -- the command is not about the entry
 abbrev pub is_spared : Command → Slot → Bool
-is_spared command slot = not (is_in_scope command slot.1)
+is_spared command slot = not (is_in_scope (scope_of command) slot.1)
 
 -- the row of an entry that the command takes out (profile)
 abbrev pub row_of : Command → Entry → FateRow
@@ -41,16 +42,16 @@ abbrev pub is_noted : Setup → BatchNote → Entry → Bool
 is_noted setup note entry = is_batch_of setup entry && entry.name == note.batch
 
 -- no queue is named, or one that the device does not have (profile)
-abbrev pub is_bad_mask : Setup → List ℕ → Bool
-is_bad_mask setup named = nat_le (length named) 0 || not (list_all (has_queue setup) named)
+abbrev pub names_bad_queue : Setup → List ℕ → Bool
+names_bad_queue setup named = nat_le (length named) 0 || not (list_all (has_queue setup) named)
 
 -- what a command sees and changes: the queues, what the engines keep, the entries, the rows, and the active command (profile)
 abbrev pub state : Setup → Gear → Content → List FateRow → Option ActiveCommand → State
 state setup gear content fates active = record { work = work setup gear content fates; active = active }
 
 -- nothing but another active command refuses it
-pub record IsUnrefused (setup : Setup) (command : Command) : Type 0 where
+pub record IsUnrefused (setup : Setup) (deed : Deed) (scope : Scope) : Type 0 where
   pub whole : IsWhole setup
-  pub known : is_bad_queues setup command ≡ false
-  pub ready : may_come setup command ≡ true
-  pub checked : check_of setup command ≡ None
+  pub known : is_bad_queues setup scope ≡ false
+  pub ready : may_come setup deed scope ≡ true
+  pub checked : check_of setup deed scope ≡ None

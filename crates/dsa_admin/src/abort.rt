@@ -4,10 +4,10 @@ ghost use Rattle.std.specs.Prelude.{◌≡◌, ◌+◌, ◌<◌, ◌≤◌, None
 ghost use Rattle.dsa_regs.specs.Numbers.{numbers_below};
 ghost use Rattle.dsa_store.specs.Content.{chain, held};
 ghost use Rattle.dsa_book.specs.Work.{progress_list};
-ghost use Rattle.dsa_book.specs.Commands.{aborted, aborts, carried_out, count_in_scope, has_batch, kept_note, reset};
+ghost use Rattle.dsa_book.specs.Commands.{aborted, aborts, count_in_scope, has_batch, kept_note, reset};
 ghost use Rattle.dsa_engines.specs.Engines.{IsInStep, IsReady, work};
 ghost use Rattle.dsa_queues.specs.Queues.{IsWhole};
-ghost use Rattle.dsa_regs.specs.declared.Command.TheVariants.{ResetDevice, ResetWq};
+ghost use Rattle.dsa_regs.specs.Command.{number_of, scope_of};
 ghost use Rattle.dsa_book.specs.declared.note.ActiveCommand.{ActiveCommand};
 ghost use Rattle.dsa_admin.specs.Admin.{is_noted, state};
 
@@ -15,7 +15,7 @@ use crate::withdrawal::withdraw;
 use dsa_book::{BatchNote, Book, IssueAnswer};
 use dsa_engines::Engines;
 use dsa_queues::Queues;
-use dsa_regs::{Command, ListUse, Phase, QueueMask};
+use dsa_regs::{Command, ListUse, Phase, Scope};
 use dsa_store::{Entry, EntryStore, ListId};
 
 fn is_noted(queues: &Queues, note: &BatchNote, entry: &Entry) -> bool
@@ -83,8 +83,8 @@ pub(crate) fn abort<S: EntryStore>(
     requires ready { IsReady queues.now (S.content store.old) }
     requires in_step { IsInStep queues.now engines.old (S.content store.old) }
     requires room { length book.old.fates + held (S.content store.old) ≤ book.old.capacity }
-    ensures work { aborted command.now (work queues.now engines.old (S.content store.old) book.old.fates) ≡ work queues.now engines.new (S.content store.new) book.new.fates }
-    ensures count { result ≡ count_in_scope command.now (S.content store.old) }
+    ensures work { aborted (number_of command.now) (scope_of command.now) (work queues.now engines.old (S.content store.old) book.old.fates) ≡ work queues.now engines.new (S.content store.new) book.new.fates }
+    ensures count { result ≡ count_in_scope (scope_of command.now) (S.content store.old) }
     ensures book { book.new ≡ record book.old { fates = book.new.fates } }
     ensures in_step { IsInStep queues.now engines.new (S.content store.new) }
     ensures cells { S.cells store.new ≡ S.cells store.old }
@@ -106,7 +106,7 @@ pub(crate) fn abort_alone<S: EntryStore>(
     requires ready { IsReady queues.now (S.content store.old) }
     requires in_step { IsInStep queues.now engines.old (S.content store.old) }
     requires room { length book.old.fates + held (S.content store.old) ≤ book.old.capacity }
-    ensures aborted { (active : Option ActiveCommand) → aborts (state queues.now engines.old (S.content store.old) book.old.fates active) command.now (λ setup. setup)
+    ensures aborted { (active : Option ActiveCommand) → aborts (state queues.now engines.old (S.content store.old) book.old.fates active) (number_of command.now) (scope_of command.now) (λ setup. setup)
         ≡ (result, state queues.now engines.new (S.content store.new) book.new.fates active) }
     ensures book { book.new ≡ record book.old { fates = book.new.fates } }
     ensures in_step { IsInStep queues.now engines.new (S.content store.new) }
@@ -116,47 +116,38 @@ pub(crate) fn abort_alone<S: EntryStore>(
     IssueAnswer::Ended { aborted }
 }
 
-/// Reset Device: everything is aborted, and the device is as it was at first, but for the next name.
-pub(crate) fn reset_device<S: EntryStore>(
-    queues: &mut Queues,
-    engines: &mut Engines,
-    store: &mut S,
-    book: &mut Book,
-) -> IssueAnswer
-    requires ready { IsReady queues.old (S.content store.old) }
-    requires in_step { IsInStep queues.old engines.old (S.content store.old) }
-    requires room { length book.old.fates + held (S.content store.old) ≤ book.old.capacity }
-    ensures reset { (active : Option ActiveCommand) → aborts (state queues.old engines.old (S.content store.old) book.old.fates active) ResetDevice reset
-        ≡ (result, state queues.new engines.new (S.content store.new) book.new.fates active) }
-    ensures book { book.new ≡ record book.old { fates = book.new.fates } }
-    ensures in_step { IsInStep queues.new engines.new (S.content store.new) }
-    ensures cells { S.cells store.new ≡ S.cells store.old }
+// Reset Device: all is as at first, but for the next name. Reset WQ: the named queues are `Off`, and keep the size alone.
+fn reset_scope(queues: &mut Queues, scope: &Scope)
+    ensures { queues.new ≡ reset scope.now queues.old }
 {
-    let aborted = abort(queues, engines, store, book, &Command::ResetDevice);
-    queues.reset();
-    IssueAnswer::Ended { aborted }
+    match scope {
+        Scope::Device => queues.reset(),
+        _ => {
+            queues.set_phases(scope, Phase::Off);
+            queues.keep_sizes(scope);
+        }
+    }
 }
 
-/// Reset WQ: what the named queues' entries are is aborted, the queues are `Off`, and keep of their configuration the size.
-pub(crate) fn reset_queues<S: EntryStore>(
+/// Aborts what the command is about, and resets it.
+pub(crate) fn reset<S: EntryStore>(
     queues: &mut Queues,
     engines: &mut Engines,
     store: &mut S,
     book: &mut Book,
-    named: QueueMask,
+    command: &Command,
 ) -> IssueAnswer
     requires whole { IsWhole queues.old }
     requires ready { IsReady queues.old (S.content store.old) }
     requires in_step { IsInStep queues.old engines.old (S.content store.old) }
     requires room { length book.old.fates + held (S.content store.old) ≤ book.old.capacity }
-    ensures reset { (active : Option ActiveCommand) → carried_out (state queues.old engines.old (S.content store.old) book.old.fates active) (ResetWq named)
+    ensures reset { (active : Option ActiveCommand) → aborts (state queues.old engines.old (S.content store.old) book.old.fates active) (number_of command.now) (scope_of command.now) (reset (scope_of command.now))
         ≡ (result, state queues.new engines.new (S.content store.new) book.new.fates active) }
     ensures book { book.new ≡ record book.old { fates = book.new.fates } }
     ensures in_step { IsInStep queues.new engines.new (S.content store.new) }
     ensures cells { S.cells store.new ≡ S.cells store.old }
 {
-    let aborted = abort(queues, engines, store, book, &Command::ResetWq(named));
-    queues.set_phases(&named, Phase::Off);
-    queues.keep_sizes(&named);
+    let aborted = abort(queues, engines, store, book, command);
+    reset_scope(queues, &command.scope());
     IssueAnswer::Ended { aborted }
 }

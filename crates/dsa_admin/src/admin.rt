@@ -5,19 +5,20 @@ ghost use Rattle.dsa_store.specs.Content.{Content, held};
 ghost use Rattle.dsa_book.specs.declared.fate.FateRow.{FateRow};
 ghost use Rattle.dsa_book.specs.declared.note.ActiveCommand.{ActiveCommand};
 ghost use Rattle.dsa_regs.specs.Caps.{check_caps};
-ghost use Rattle.dsa_regs.specs.declared.Command.TheVariants.{EnableDevice, EnableWq};
+ghost use Rattle.dsa_regs.specs.declared.Deed.TheVariants.{Enable};
+ghost use Rattle.dsa_regs.specs.Command.{scope_of, deed_of};
 ghost use Rattle.dsa_book.specs.State.{State};
-ghost use Rattle.dsa_book.specs.Commands.{issue, poll, refused_or, carried_out, waits, stopped, may_come};
+ghost use Rattle.dsa_book.specs.Commands.{issue, poll, refused_or, carried_out, waits, stopped, enabled, may_come};
 ghost use Rattle.dsa_engines.specs.Engines.{Gear, IsInStep, IsReady};
 ghost use Rattle.dsa_admin.specs.Admin.{IsUnrefused, state};
 
-use crate::abort::{abort_alone, reset_device, reset_queues};
+use crate::abort::{abort_alone, reset};
 use crate::ends::is_at_end;
 use crate::refusals::{check, is_bad_queues, may_come};
 use dsa_book::{ActiveCommand, Book, IssueAnswer, PollAnswer};
 use dsa_engines::Engines;
 use dsa_queues::Queues;
-use dsa_regs::{Command, Fault, Phase};
+use dsa_regs::{Command, Deed, Fault, Phase, Scope};
 use dsa_store::EntryStore;
 use std::marker::Model;
 
@@ -36,41 +37,39 @@ impl Model for Admin {
     ghost view = { λ a. a.active };
 }
 
-// The device with its queues, or the named queues, come to this phase; other commands stop nothing.
+// A disable brings the device with its queues, or the named queues, to this phase; other commands stop nothing.
 fn stop(queues: &mut Queues, command: &Command, phase: Phase)
-    ensures { queues.new ≡ stopped command.now phase queues.old }
+    ensures { queues.new ≡ stopped (deed_of command.now) (scope_of command.now) phase queues.old }
 {
-    match command {
-        Command::DisableDevice => {
+    let Deed::Disable = command.deed() else {
+        return;
+    };
+    match command.scope() {
+        Scope::Device => {
             queues.set_live_phases(phase);
             queues.set_device(phase);
         }
-        Command::DisableWq(named) => queues.set_phases(named, phase),
-        _ => {}
+        scope => queues.set_phases(&scope, phase),
     }
 }
 
-fn enable_device(queues: &mut Queues, engines: &mut Engines) -> IssueAnswer
-    requires unrefused { IsUnrefused queues.old EnableDevice }
+// The device or the queue is On; no command enables by a mask or a PASID.
+fn enable(queues: &mut Queues, engines: &mut Engines, scope: &Scope)
+    requires unrefused { IsUnrefused queues.old Enable scope.now }
     requires caps { IsTrue (check_caps queues.old.caps) }
     requires notes { length engines.old.notes ≡ queues.old.caps.engines }
-    ensures enabled { (content : Content) (fates : List FateRow) (active : Option ActiveCommand) → carried_out (state queues.old engines.old content fates active) EnableDevice
-        ≡ (result, state queues.new engines.new content fates active) }
-    ensures in_step { (content : Content) → held content ≡ 0 → IsInStep queues.new engines.new content }
+    ensures enabled { queues.new ≡ enabled scope.now queues.old }
+    ensures notes { engines.new.notes ≡ engines.old.notes }
+    ensures in_step { (content : Content) → IsReady queues.old content → IsInStep queues.old engines.old content → IsInStep queues.new engines.new content }
 {
-    queues.set_device(Phase::On);
-    engines.enable(queues);
-    IssueAnswer::Ended { aborted: 0 }
-}
-
-fn enable_queue(queues: &mut Queues, queue: u32) -> IssueAnswer
-    requires unrefused { IsUnrefused queues.old (EnableWq queue) }
-    ensures enabled { (gear : Gear) (content : Content) (fates : List FateRow) (active : Option ActiveCommand) → carried_out (state queues.old gear content fates active) (EnableWq queue)
-        ≡ (result, state queues.new gear content fates active) }
-    ensures in_step { (gear : Gear) (content : Content) → IsInStep queues.old gear content → IsInStep queues.new gear content }
-{
-    queues.set_phase(queue as u16, Phase::On);
-    IssueAnswer::Ended { aborted: 0 }
+    match scope {
+        Scope::Device => {
+            queues.set_device(Phase::On);
+            engines.enable(queues);
+        }
+        Scope::Queue(queue) => queues.set_phase(*queue as u16, Phase::On),
+        _ => {}
+    }
 }
 
 impl Admin {
@@ -92,18 +91,20 @@ impl Admin {
     // The first refusal that stands.
     fn refusal(&self, queues: &Queues, command: &Command) -> Option<Fault>
         ensures refused { (s : State) → s.active ≡ self.now → s.work.setup ≡ queues.now → issue s command.now ≡ refused_or s result (carried_out s command.now) }
-        ensures unrefused { result ≡ None → IsUnrefused queues.now command.now }
+        ensures unrefused { result ≡ None → IsUnrefused queues.now (deed_of command.now) (scope_of command.now) }
     {
         if self.active.is_some() {
             return Some(Fault::Busy);
         }
-        if is_bad_queues(queues, command) {
+        let deed = command.deed();
+        let scope = command.scope();
+        if is_bad_queues(queues, &scope) {
             return Some(Fault::BadQueue);
         }
-        if !may_come(queues, command) {
+        if !may_come(queues, deed, &scope) {
             return Some(Fault::WrongState);
         }
-        check(queues, command)
+        check(queues, deed, &scope)
     }
 
     // The command ends at once where nothing is to be waited for, else it is active from here on.
@@ -115,7 +116,7 @@ impl Admin {
     ) -> IssueAnswer
         ensures waiting { (gear : Gear) (fates : List FateRow) → waits (state queues.old gear (S.content store.now) fates self.old) command
             ≡ (result, state queues.new gear (S.content store.now) fates self.new) }
-        ensures in_step { (gear : Gear) → may_come queues.old command ≡ true → IsInStep queues.old gear (S.content store.now) → IsInStep queues.new gear (S.content store.now) }
+        ensures in_step { (gear : Gear) → may_come queues.old (deed_of command) (scope_of command) ≡ true → IsInStep queues.old gear (S.content store.now) → IsInStep queues.new gear (S.content store.now) }
     {
         let active = ActiveCommand {
             command,
@@ -139,7 +140,7 @@ impl Admin {
         book: &mut Book,
         command: Command,
     ) -> IssueAnswer
-        requires unrefused { IsUnrefused queues.old command }
+        requires unrefused { IsUnrefused queues.old (deed_of command) (scope_of command) }
         requires ready { IsReady queues.old (S.content store.old) }
         requires in_step { IsInStep queues.old engines.old (S.content store.old) }
         requires room { length book.old.fates + held (S.content store.old) ≤ book.old.capacity }
@@ -149,19 +150,15 @@ impl Admin {
         ensures in_step { IsInStep queues.new engines.new (S.content store.new) }
         ensures cells { S.cells store.new ≡ S.cells store.old }
     {
-        match command {
-            Command::EnableDevice => enable_device(queues, engines),
-            Command::EnableWq(queue) => enable_queue(queues, queue),
-            Command::DisableDevice
-            | Command::DisableWq(_)
-            | Command::DrainAll
-            | Command::DrainWq(_)
-            | Command::DrainPasid(_) => self.wait(queues, store, command),
-            Command::AbortAll | Command::AbortWq(_) | Command::AbortPasid(_) => {
-                abort_alone(queues, engines, store, book, &command)
+        match command.deed() {
+            Deed::Enable => {
+                enable(queues, engines, &command.scope());
+                IssueAnswer::Ended { aborted: 0 }
             }
-            Command::ResetDevice => reset_device(queues, engines, store, book),
-            Command::ResetWq(named) => reset_queues(queues, engines, store, book, named),
+            Deed::Disable => self.wait(queues, store, command),
+            Deed::Drain => self.wait(queues, store, command),
+            Deed::Abort => abort_alone(queues, engines, store, book, &command),
+            Deed::Reset => reset(queues, engines, store, book, &command),
         }
     }
 

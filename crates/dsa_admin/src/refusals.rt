@@ -1,15 +1,15 @@
 //! What refuses a command.
 
-ghost use Rattle.std.specs.Prelude.{◌≡◌, None, true, false};
+ghost use Rattle.std.specs.Prelude.{◌≡◌, None, false};
 ghost use Rattle.std.specs.List.{list_all};
 ghost use Rattle.dsa_book.specs.State.{has_queue, phase_at};
-ghost use Rattle.dsa_book.specs.Commands.{is_bad_queues, may_come, check_of, all_on};
-ghost use Rattle.dsa_regs.specs.Command.{queues_of};
+ghost use Rattle.dsa_book.specs.Commands.{is_bad_queues, suits, may_come, check_of};
+ghost use Rattle.dsa_regs.specs.Command.{queues_in};
 ghost use Rattle.dsa_queues.specs.Queues.{IsWhole};
-ghost use Rattle.dsa_admin.specs.Admin.{is_bad_mask};
+ghost use Rattle.dsa_admin.specs.Admin.{names_bad_queue};
 
 use dsa_queues::Queues;
-use dsa_regs::{Command, Fault, Phase, QueueMask, check_device, check_queue};
+use dsa_regs::{Deed, Fault, Phase, Scope, check_device, check_queue};
 
 // The phase of the queue; `Off` where the device has no such queue.
 fn phase_of(queues: &Queues, queue: u32) -> Phase
@@ -28,68 +28,73 @@ fn has_queue(queues: &Queues, queue: u32) -> bool
     queue < u32::from(queues.caps().queues)
 }
 
-fn has_queues(queues: &Queues, named: &QueueMask) -> bool
-    ensures { result ≡ list_all (has_queue queues.now) (queues_of named.now) }
+fn has_queues(queues: &Queues, scope: &Scope) -> bool
+    ensures { result ≡ list_all (has_queue queues.now) (queues_in scope.now) }
 {
-    named.queues().iter().all(|queue| has_queue(queues, *queue))
+    scope.queues().iter().all(|queue| has_queue(queues, *queue))
 }
 
-// Whether the mask names no queue, or one that the device does not have.
-fn is_bad_mask(queues: &Queues, named: &QueueMask) -> bool
-    ensures { result ≡ is_bad_mask queues.now (queues_of named.now) }
+// Whether no queue is named, or one that the device does not have.
+fn names_bad_queue(queues: &Queues, scope: &Scope) -> bool
+    ensures { result ≡ names_bad_queue queues.now (queues_in scope.now) }
 {
-    named.queues().is_empty() || !has_queues(queues, named)
+    scope.queues().is_empty() || !has_queues(queues, scope)
 }
 
-/// Whether the command names no queue, or one that the device does not have. Commands that name none by nature are no such.
-pub(crate) fn is_bad_queues(queues: &Queues, command: &Command) -> bool
-    ensures { result ≡ is_bad_queues queues.now command.now }
+/// Whether a scope of queues names none, or one that the device does not have. Other scopes name none by nature.
+pub(crate) fn is_bad_queues(queues: &Queues, scope: &Scope) -> bool
+    ensures { result ≡ is_bad_queues queues.now scope.now }
 {
-    match command {
-        Command::EnableWq(queue) => !has_queue(queues, *queue),
-        Command::DisableWq(named) => is_bad_mask(queues, named),
-        Command::DrainWq(named) => is_bad_mask(queues, named),
-        Command::AbortWq(named) => is_bad_mask(queues, named),
-        Command::ResetWq(named) => is_bad_mask(queues, named),
+    match scope {
+        Scope::Queue(_) => names_bad_queue(queues, scope),
+        Scope::Queues(_) => names_bad_queue(queues, scope),
         _ => false,
     }
 }
 
-fn are_on(queues: &Queues, named: &QueueMask) -> bool
-    ensures { result ≡ all_on queues.now (queues_of named.now) }
+// Whether the deed may find the device or a queue in this phase.
+fn suits(deed: Deed, phase: Phase) -> bool
+    ensures { result ≡ suits deed phase }
 {
-    named
-        .queues()
-        .iter()
-        .all(|queue| phase_of(queues, *queue) == Phase::On)
-}
-
-/// Whether the device and the queues stand as the command needs.
-pub(crate) fn may_come(queues: &Queues, command: &Command) -> bool
-    ensures { result ≡ may_come queues.now command.now }
-{
-    let is_on = queues.device() == Phase::On;
-    match command {
-        Command::EnableDevice => queues.device() == Phase::Off,
-        Command::ResetDevice => true,
-        Command::EnableWq(queue) => is_on && phase_of(queues, *queue) == Phase::Off,
-        Command::DisableWq(named) => is_on && are_on(queues, named),
-        Command::DrainWq(named) => is_on && are_on(queues, named),
-        Command::AbortWq(named) => is_on && are_on(queues, named),
-        _ => is_on,
+    match deed {
+        Deed::Enable => phase == Phase::Off,
+        Deed::Reset => true,
+        _ => phase == Phase::On,
     }
 }
 
-/// What the configuration has against the command, which is one of the two that enable.
-pub(crate) fn check(queues: &Queues, command: &Command) -> Option<Fault>
-    requires { is_bad_queues queues.now command.now ≡ false }
-    ensures fault { result ≡ check_of queues.now command.now }
+fn all_suit(queues: &Queues, deed: Deed, scope: &Scope) -> bool
+    ensures { result ≡ list_all (λ q. suits deed (phase_at queues.now q)) (queues_in scope.now) }
+{
+    scope
+        .queues()
+        .iter()
+        .all(|queue| suits(deed, phase_of(queues, *queue)))
+}
+
+/// Whether the device and the queues stand as the deed needs.
+pub(crate) fn may_come(queues: &Queues, deed: Deed, scope: &Scope) -> bool
+    ensures { result ≡ may_come queues.now deed scope.now }
+{
+    match scope {
+        Scope::Device => suits(deed, queues.device()),
+        _ => queues.device() == Phase::On && all_suit(queues, deed, scope),
+    }
+}
+
+/// What the configuration has against an enable; nothing against any other deed.
+pub(crate) fn check(queues: &Queues, deed: Deed, scope: &Scope) -> Option<Fault>
+    requires { is_bad_queues queues.now scope.now ≡ false }
+    ensures fault { result ≡ check_of queues.now deed scope.now }
     ensures whole { IsWhole queues.now }
 {
     let caps = queues.caps();
-    match command {
-        Command::EnableDevice => check_device(&caps, queues.configs(), queues.groups()),
-        Command::EnableWq(queue) => {
+    let Deed::Enable = deed else {
+        return None;
+    };
+    match scope {
+        Scope::Device => check_device(&caps, queues.configs(), queues.groups()),
+        Scope::Queue(queue) => {
             let queue = *queue as u16;
             check_queue(&caps, queues.groups(), queue, &queues.queue(queue))
         }

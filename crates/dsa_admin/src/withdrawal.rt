@@ -2,6 +2,7 @@
 
 ghost use Rattle.std.specs.Prelude.{◌≡◌, ◌+◌, ◌<◌, ◌≤◌, ◌++◌, filter, length, not, slice_set};
 ghost use Rattle.dsa_regs.specs.Caps.{list_count};
+ghost use Rattle.dsa_regs.specs.Command.{scope_of};
 ghost use Rattle.dsa_store.specs.Content.{all_held, chain, held, kept};
 ghost use Rattle.dsa_book.specs.declared.fate.Fate.TheVariants.{Aborted};
 ghost use Rattle.dsa_book.specs.Commands.{is_in_scope};
@@ -68,6 +69,7 @@ fn withdraw_from<S: EntryStore>(
     ensures cells { S.cells store.new ≡ S.cells store.old }
 {
     let engine = engine_of(queues, list);
+    let scope = command.scope();
     let mut at = store.front(list);
     for _place in 0..store.len(list) {
         let Some(cell) = at else { unreachable!() };
@@ -75,7 +77,7 @@ fn withdraw_from<S: EntryStore>(
             unreachable!()
         };
         at = store.next(cell);
-        if !is_in_scope(command, &entry) {
+        if !is_in_scope(&scope, &entry) {
             continue;
         }
         let _ = store.unlink(cell);
@@ -95,7 +97,7 @@ pub(crate) fn withdraw<S: EntryStore>(
     requires ready { IsReady queues.now (S.content store.old) }
     requires in_step { IsInStep queues.now engines.old (S.content store.old) }
     requires room { length book.old.fates + held (S.content store.old) ≤ book.old.capacity }
-    ensures left { S.content store.new ≡ kept (λ entry. not (is_in_scope command.now entry)) (S.content store.old) }
+    ensures left { S.content store.new ≡ kept (λ entry. not (is_in_scope (scope_of command.now) entry)) (S.content store.old) }
     ensures rows { book.new ≡ record book.old { fates = book.old.fates ++ rows_of command.now (all_held (S.content store.old)) } }
     ensures gear { engines.new ≡ record engines.old { buffers = engines.new.buffers } }
     ensures in_step { IsInStep queues.now engines.new (S.content store.new) }

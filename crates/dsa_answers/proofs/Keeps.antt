@@ -42,8 +42,11 @@ use Rattle.dsa_book.specs.Work.{start, start_of, first_waiting, finish, finish_o
 use Rattle.dsa_book.specs.State.{is_ticket}
 use Rattle.std.specs.Prelude.{find}
 use Rattle.dsa_book.specs.Machine.{next, is_stored, with_work, with_setup, cell_or_first, fetched_cell, may_use}
-use Rattle.dsa_book.specs.Commands.{issue, carried_out, refused_or, waits, check_of, poll, poll_of, write_queue, write_group, clear, clear_of}
-use Rattle.dsa_regs.specs.declared.Command.TheVariants.{EnableDevice, DisableDevice, DrainAll, AbortAll, ResetDevice, EnableWq, DisableWq, DrainWq, AbortWq, ResetWq, DrainPasid, AbortPasid}
+use Rattle.dsa_book.specs.Commands.{issue, carried_out, done_by, refused_or, waits, check_of, poll, poll_of, write_queue, write_group, clear, clear_of}
+use Rattle.dsa_regs.specs.declared.Scope.{Scope}
+use Rattle.dsa_regs.specs.declared.Deed.{Deed}
+use Rattle.dsa_regs.specs.declared.Deed.TheVariants.{Enable, Abort, Reset}
+use Rattle.dsa_regs.specs.Command.{scope_of, deed_of}
 use Rattle.dsa_book.specs.declared.event.Portal.{Portal}
 use Rattle.dsa_book.specs.declared.event.Kind.{Kind}
 use Rattle.std.proofs.lemmas.Bool.{and_parts}
@@ -159,23 +162,15 @@ waits_rows : (over : Bool) (x y : State) → is_stored (Issue (cond {A = IssueAn
 waits_rows true x y h = cc
 waits_rows false x y h = cc
 
-waits-stored : (s : State) (command : Command) → is_stored (Issue (waits s command).0) ≡ false → ⊥
-waits-stored s command h = waits_rows _ _ _ h
+done-stored : (s : State) (command : Command) (deed : Deed) (scope : Scope) → is_stored (Issue (done_by s command deed scope).0) ≡ false → ⊥
+done-stored s command Enable scope h = cc
+done-stored s command Abort scope h = cc
+done-stored s command Reset scope h = cc
+done-stored s command _ scope h = waits_rows _ _ _ h
 
 refused_or-keeps : (s : State) (o : Option Fault) (command : Command) → is_stored (Issue (refused_or s o (carried_out s command)).0) ≡ false → (refused_or s o (carried_out s command)).1 ≡ s
 refused_or-keeps s (Some fault) command h = refl
-refused_or-keeps s None EnableDevice h = absurd cc
-refused_or-keeps s None (EnableWq queue) h = absurd cc
-refused_or-keeps s None DisableDevice h = absurd (waits-stored s DisableDevice h)
-refused_or-keeps s None (DisableWq queues) h = absurd (waits-stored s (DisableWq queues) h)
-refused_or-keeps s None DrainAll h = absurd (waits-stored s DrainAll h)
-refused_or-keeps s None (DrainWq queues) h = absurd (waits-stored s (DrainWq queues) h)
-refused_or-keeps s None (DrainPasid pasid) h = absurd (waits-stored s (DrainPasid pasid) h)
-refused_or-keeps s None AbortAll h = absurd cc
-refused_or-keeps s None (AbortWq queues) h = absurd cc
-refused_or-keeps s None (AbortPasid pasid) h = absurd cc
-refused_or-keeps s None ResetDevice h = absurd cc
-refused_or-keeps s None (ResetWq queues) h = absurd cc
+refused_or-keeps s None command h = absurd (done-stored s command (deed_of command) (scope_of command) h)
 
 issue_rows : (busy bad early : Bool) (s : State) (r : IssueAnswer × State)
     → (is_stored (Issue r.0) ≡ false → r.1 ≡ s)
@@ -187,7 +182,7 @@ issue_rows false false true s r k h = refl
 issue_rows false false false s r k h = k h
 
 issue-keeps : (s : State) (command : Command) → is_stored (Issue (issue s command).0) ≡ false → (issue s command).1 ≡ s
-issue-keeps s command h = issue_rows _ _ _ s _ (refused_or-keeps s (check_of s.work.setup command) command) h
+issue-keeps s command h = issue_rows _ _ _ s _ (refused_or-keeps s (check_of s.work.setup (deed_of command) (scope_of command)) command) h
 
 same_issue-stored : (a b : IssueAnswer) → same_issue a b ≡ true → is_stored (Issue a) ≡ is_stored (Issue b)
 same_issue-stored (Ended a) (Ended b) h = refl

@@ -9,12 +9,15 @@ use Rattle.dsa_regs.specs.declared.Caps.{Caps}
 use Rattle.dsa_regs.specs.declared.Phase.{Phase}
 use Rattle.dsa_regs.specs.declared.Phase.TheVariants.{Off, On, Stopping}
 use Rattle.dsa_regs.specs.declared.Command.{Command}
-use Rattle.dsa_regs.specs.declared.Command.TheVariants.{EnableDevice, DisableDevice, DrainAll, AbortAll, ResetDevice, EnableWq, DisableWq, DrainWq, AbortWq, ResetWq, DrainPasid, AbortPasid}
+use Rattle.dsa_regs.specs.declared.Scope.{Scope}
+use Rattle.dsa_regs.specs.declared.Scope.TheVariants.{Device, Queue}
+use Rattle.dsa_regs.specs.declared.Deed.{Deed}
+use Rattle.dsa_regs.specs.declared.Deed.TheVariants.{Enable, Disable, Abort, Reset}
 use Rattle.dsa_regs.specs.declared.Fault.{Fault}
 use Rattle.dsa_regs.specs.declared.Fault.TheVariants.{BadQueue, WrongState, Busy, BadIndex, Locked}
 use Rattle.dsa_regs.specs.declared.QueueConfig.{QueueConfig}
 use Rattle.dsa_regs.specs.declared.GroupConfig.{GroupConfig}
-use Rattle.dsa_regs.specs.Command.{named_queues}
+use Rattle.dsa_regs.specs.Command.{scope_of, deed_of, queues_in}
 use Rattle.dsa_store.specs.declared.entry.Cell.{Cell}
 use Rattle.dsa_store.specs.Content.{Slot}
 use Rattle.dsa_book.specs.declared.note.BatchNote.{BatchNote}
@@ -48,7 +51,7 @@ use Rattle.dsa_book.specs.Same.{same_submit, same_fetch, same_start, same_finish
 use Rattle.dsa_book.specs.State.{Setup, Intake, Work, State, opening, is_ticket, ticket_of, is_off, phase_at}
 use Rattle.dsa_book.specs.Submit.{submit, turned_away, accepted}
 use Rattle.dsa_book.specs.Work.{front_of, qualifies, taken, fetch, fetch_for, fetch_of, fetched, note_at, batch_on, start, start_of, started, abandoned, members, first_waiting, finish, finish_of, last_status, ended, running_on}
-use Rattle.dsa_book.specs.Commands.{issue, check_of, refused_or, carried_out, waits, poll, poll_of, stopped, names, with_phases, write_queue, write_group, clear, clear_of}
+use Rattle.dsa_book.specs.Commands.{issue, check_of, refused_or, carried_out, done_by, waits, poll, poll_of, stopped, names, with_phases, write_queue, write_group, clear, clear_of}
 use Rattle.dsa_book.specs.Machine.{next, replay, replay_from, with_work, with_intake, with_setup, intake_of, accepted_cell, fetched_cell, cell_or_first, may_use}
 use Rattle.dsa_answers.specs.Stops.{is_stopping, stops_device, stops_queue, is_active_command, StopsByCommand, IsAtRest}
 use Rattle.dsa_book.proofs.Replay.{replay_none}
@@ -57,30 +60,33 @@ use Rattle.dsa_book.proofs.Phases.{by_phase}
 -- ---- the words of one phase and one command
 
 -- the same, of what a step may change
-pub record Stops (setup : Setup) (active : Option ActiveCommand) : Type 0 where
-  pub device : is_stopping setup.device ≡ true → is_active_command stops_device active ≡ true
-  pub queues : (q : ℕ) → is_stopping (phase_at setup q) ≡ true → is_active_command (λ command. stops_queue command q) active ≡ true
+pub record StopsBy (setup : Setup) (whole : Bool) (named : ℕ → Bool) : Type 0 where
+  pub device : is_stopping setup.device ≡ true → whole ≡ true
+  pub queues : (q : ℕ) → is_stopping (phase_at setup q) ≡ true → named q ≡ true
+
+abbrev pub Stops : Setup → Option ActiveCommand → Type 0
+Stops setup active = StopsBy setup (is_active_command stops_device active) (λ q. is_active_command (λ deed scope. stops_queue deed scope q) active)
 
 pub of-stops : (s : State) → Stops s.work.setup s.active → StopsByCommand s
 of-stops s h = record { device = h.device; queues = h.queues }
 
 -- nothing is Stopping
-resting : (setup : Setup) (active : Option ActiveCommand) → is_stopping setup.device ≡ false → ((q : ℕ) → is_stopping (phase_at setup q) ≡ false) → Stops setup active
-resting setup active d p = record {
+resting : {whole : Bool} {named : ℕ → Bool} (setup : Setup) → is_stopping setup.device ≡ false → ((q : ℕ) → is_stopping (phase_at setup q) ≡ false) → StopsBy setup whole named
+resting setup d p = record {
   device = λ h. absurd cc;
   queues = λ q h. let e = p q in absurd cc;
 }
+
+none : (b : Bool) → (b ≡ true → false ≡ true) → b ≡ false
+none true f = sym (f refl)
+none false f = refl
 
 -- without an active command nothing is Stopping
 at-rest : (setup : Setup) (active : Option ActiveCommand) → active ≡ None → Stops setup active → IsAtRest setup
 at-rest setup active n h = record {
   device = none (is_stopping setup.device) (λ t. ap (is_active_command stops_device) (sym n) ∙ h.device t);
-  queues = λ q. none (is_stopping (phase_at setup q)) (λ t. ap (is_active_command (λ command. stops_queue command q)) (sym n) ∙ h.queues q t);
+  queues = λ q. none (is_stopping (phase_at setup q)) (λ t. ap (is_active_command (λ deed scope. stops_queue deed scope q)) (sym n) ∙ h.queues q t);
 }
-  where
-    none : (b : Bool) → (b ≡ true → false ≡ true) → b ≡ false
-    none true f = sym (f refl)
-    none false f = refl
 
 -- ---- submit
 
@@ -176,83 +182,44 @@ kept-setup s s' setup i p e = kept s s' (record s.work { setup = setup }) i p.0 
 -- ---- commands
 
 -- what a command stops is what it is said to stop
-stopped-stops : (setup : Setup) (command : Command) (mark : ℕ) → IsAtRest setup → Stops (stopped command Stopping setup) (Some (record { command = command; mark = mark }))
-stopped-stops setup DisableDevice mark i = record { device = λ h. refl; queues = λ q h. refl }
-stopped-stops setup (DisableWq queues) mark i = record {
+stopped-stops : (setup : Setup) (deed : Deed) (scope : Scope) → IsAtRest setup → StopsBy (stopped deed scope Stopping setup) (stops_device deed scope) (stops_queue deed scope)
+stopped-stops setup Disable Device i = record { device = λ h. refl; queues = λ q h. refl }
+stopped-stops setup Disable scope i = record {
   device = λ h. let e = i.device in absurd cc;
   queues = λ q.
-      by_phase (λ p. is_stopping p ≡ true → names (named_queues (DisableWq queues)) q ≡ true) (names (named_queues (DisableWq queues))) Stopping setup q
+      by_phase (λ p. is_stopping p ≡ true → names (queues_in scope) q ≡ true) (names (queues_in scope)) Stopping setup q
       (λ t h. t) (λ t h. let e = i.queues q in absurd cc) (λ h. absurd cc);
 }
-stopped-stops setup EnableDevice mark i = resting setup _ i.device i.queues
-stopped-stops setup DrainAll mark i = resting setup _ i.device i.queues
-stopped-stops setup AbortAll mark i = resting setup _ i.device i.queues
-stopped-stops setup ResetDevice mark i = resting setup _ i.device i.queues
-stopped-stops setup (EnableWq queue) mark i = resting setup _ i.device i.queues
-stopped-stops setup (DrainWq queues) mark i = resting setup _ i.device i.queues
-stopped-stops setup (AbortWq queues) mark i = resting setup _ i.device i.queues
-stopped-stops setup (ResetWq queues) mark i = resting setup _ i.device i.queues
-stopped-stops setup (DrainPasid pasid) mark i = resting setup _ i.device i.queues
-stopped-stops setup (AbortPasid pasid) mark i = resting setup _ i.device i.queues
+stopped-stops setup _ scope i = resting setup i.device i.queues
 
 -- phases that are set to one that is not Stopping
 set-rests : (setup : Setup) (test : ℕ → Bool) (p : Phase) (q : ℕ) → is_stopping p ≡ false → (test q ≡ false → is_stopping (phase_at setup q) ≡ false) → is_stopping (phase_at (with_phases test p setup) q) ≡ false
 set-rests setup test p q h k = by_phase (λ p. is_stopping p ≡ false) test p setup q (λ t. h) k refl
 
 -- with what it stopped Off, nothing is Stopping
-over-rests : (setup : Setup) (active : ActiveCommand) → Stops setup (Some active) → IsAtRest (stopped active.command Off setup)
-over-rests setup active i = by active.command (record { device = i.device; queues = i.queues })
+over-rests : (setup : Setup) (deed : Deed) (scope : Scope) → StopsBy setup (stops_device deed scope) (stops_queue deed scope) → IsAtRest (stopped deed scope Off setup)
+over-rests setup Disable Device i = record {
+  device = refl;
+  queues = λ q. set-rests setup (λ q. not (is_off (phase_at setup q))) Off q refl (λ t. off (phase_at setup q) t);
+}
   where
-    phases : (command : Command) → stops_device command ≡ false → ((q : ℕ) → stops_queue command q ≡ false) → Stops setup (Some (record { command = command; mark = active.mark })) → IsAtRest setup
-    phases command d p i = record {
-      device = none (is_stopping setup.device) (λ t. sym d ∙ i.device t);
-      queues = λ q. none (is_stopping (phase_at setup q)) (λ t. sym (p q) ∙ i.queues q t);
-    }
-      where
-        none : (b : Bool) → (b ≡ true → false ≡ true) → b ≡ false
-        none true f = sym (f refl)
-        none false f = refl
-
     off : (p : Phase) → not (is_off p) ≡ false → is_stopping p ≡ false
     off Off h = refl
     off On h = refl
     off Stopping h = absurd cc
-
-    none : (b : Bool) → (b ≡ true → false ≡ true) → b ≡ false
-    none true f = sym (f refl)
-    none false f = refl
-
-    by : (command : Command) → Stops setup (Some (record { command = command; mark = active.mark })) → IsAtRest (stopped command Off setup)
-    by DisableDevice i = record {
-      device = refl;
-      queues = λ q. set-rests setup (λ q. not (is_off (phase_at setup q))) Off q refl (λ t. off (phase_at setup q) t);
-    }
-    by (DisableWq queues) i = record {
-      device = none (is_stopping setup.device) i.device;
-      queues = λ q. set-rests setup (names (named_queues (DisableWq queues))) Off q refl (λ t. none (is_stopping (phase_at setup q)) (λ h. sym t ∙ i.queues q h));
-    }
-    by EnableDevice i = phases EnableDevice refl (λ q. refl) i
-    by DrainAll i = phases DrainAll refl (λ q. refl) i
-    by AbortAll i = phases AbortAll refl (λ q. refl) i
-    by ResetDevice i = phases ResetDevice refl (λ q. refl) i
-    by (EnableWq queue) i = phases (EnableWq queue) refl (λ q. refl) i
-    by (DrainWq queues) i = phases (DrainWq queues) refl (λ q. refl) i
-    by (AbortWq queues) i = phases (AbortWq queues) refl (λ q. refl) i
-    by (ResetWq queues) i = phases (ResetWq queues) refl (λ q. refl) i
-    by (DrainPasid pasid) i = phases (DrainPasid pasid) refl (λ q. refl) i
-    by (AbortPasid pasid) i = phases (AbortPasid pasid) refl (λ q. refl) i
-
--- the end of a command that was never active: what it would have stopped is Off, or as it was
-at-once : (setup : Setup) (command : Command) → IsAtRest setup → IsAtRest (stopped command Off setup)
-at-once setup command i = over-rests setup (record { command = command; mark = 0 }) (resting setup _ i.device i.queues)
+over-rests setup Disable scope i = record {
+  device = none (is_stopping setup.device) i.device;
+  queues = λ q. set-rests setup (names (queues_in scope)) Off q refl (λ t. none (is_stopping (phase_at setup q)) (λ h. sym t ∙ i.queues q h));
+}
+over-rests setup _ scope i = record { device = none _ i.device; queues = λ q. none _ (i.queues q) }
 
 of-rest : (setup : Setup) (active : Option ActiveCommand) → IsAtRest setup → Stops setup active
-of-rest setup active i = resting setup active i.device i.queues
+of-rest setup active i = resting setup i.device i.queues
 
 waits-stops : (s : State) (command : Command) → IsAtRest s.work.setup → let t = (waits s command).1 in Stops t.work.setup t.active
 waits-stops s command i = test (λ (r : IssueAnswer × State). Stops r.1.work.setup r.1.active) _ _ _
-    (λ x. of-rest _ s.active (at-once s.work.setup command i))
-    (λ x. stopped-stops s.work.setup command s.work.setup.next_name i)
+    (λ x. of-rest _ s.active (over-rests s.work.setup (deed_of command) (scope_of command) (resting s.work.setup i.device i.queues)))
+    (λ x. stopped-stops s.work.setup (deed_of command) (scope_of command) i)
   where
     test : {X : Type 0} (P : X → Type 0) (a : Bool) (x last : X) → (a ≡ true → P x) → (a ≡ false → P last) → P (cond a x last)
     test P true x last p q = p refl
@@ -267,19 +234,14 @@ reset-rests phases q = ap is_stopping (all-off phases q)
     all-off (suc n) zero = refl
     all-off (suc n) (suc q) = all-off n q
 
-carried_out-stops : (s : State) (command : Command) → IsAtRest s.work.setup → let t = (carried_out s command).1 in Stops t.work.setup t.active
-carried_out-stops s EnableDevice i = resting _ s.active refl i.queues
-carried_out-stops s (EnableWq queue) i = resting _ s.active i.device (λ q. set-rests s.work.setup (λ k. k == queue) On q refl (λ t. i.queues q))
-carried_out-stops s DisableDevice i = waits-stops s DisableDevice i
-carried_out-stops s (DisableWq queues) i = waits-stops s (DisableWq queues) i
-carried_out-stops s DrainAll i = waits-stops s DrainAll i
-carried_out-stops s (DrainWq queues) i = waits-stops s (DrainWq queues) i
-carried_out-stops s (DrainPasid pasid) i = waits-stops s (DrainPasid pasid) i
-carried_out-stops s AbortAll i = of-rest _ s.active i
-carried_out-stops s (AbortWq queues) i = of-rest _ s.active i
-carried_out-stops s (AbortPasid pasid) i = of-rest _ s.active i
-carried_out-stops s ResetDevice i = resting _ s.active refl (reset-rests s.work.setup.caps.queues)
-carried_out-stops s (ResetWq queues) i = resting _ s.active i.device (λ q. set-rests s.work.setup (names (named_queues (ResetWq queues))) Off q refl (λ t. i.queues q))
+done-stops : (s : State) (command : Command) (deed : Deed) (scope : Scope) → IsAtRest s.work.setup → let t = (done_by s command deed scope).1 in Stops t.work.setup t.active
+done-stops s command Enable Device i = resting _ refl i.queues
+done-stops s command Enable (Queue queue) i = resting _ i.device (λ q. set-rests s.work.setup (λ k. k == queue) On q refl (λ t. i.queues q))
+done-stops s command Enable scope i = of-rest _ s.active i
+done-stops s command Abort scope i = of-rest _ s.active i
+done-stops s command Reset Device i = resting _ refl (reset-rests s.work.setup.caps.queues)
+done-stops s command Reset scope i = resting _ i.device (λ q. set-rests s.work.setup (names (queues_in scope)) Off q refl (λ t. i.queues q))
+done-stops s command _ scope i = waits-stops s command i
 
 refused_or-stops : (s : State) (o : Option Fault) (r : IssueAnswer × State) → Stops s.work.setup s.active → Stops r.1.work.setup r.1.active → let t = (refused_or s o r).1 in Stops t.work.setup t.active
 refused_or-stops s None r i k = k
@@ -287,9 +249,9 @@ refused_or-stops s (Some fault) r i k = i
 
 issue-stops : (s : State) (command : Command) → Stops s.work.setup s.active → let t = (issue s command).1 in Stops t.work.setup t.active
 issue-stops s command i =
-    table3 (λ (r : IssueAnswer × State). Stops r.1.work.setup r.1.active) _ _ _ (Refused Busy, s) (Refused BadQueue, s) (Refused WrongState, s) (refused_or s (check_of s.work.setup command) (carried_out s command))
+    table3 (λ (r : IssueAnswer × State). Stops r.1.work.setup r.1.active) _ _ _ (Refused Busy, s) (Refused BadQueue, s) (Refused WrongState, s) (refused_or s (check_of s.work.setup (deed_of command) (scope_of command)) (carried_out s command))
     (λ x. i) (λ x. i) (λ x. i)
-    (λ x y z. refused_or-stops s (check_of s.work.setup command) (carried_out s command) i (carried_out-stops s command (at-rest s.work.setup s.active (no-command s.active x) i)))
+    (λ x y z. refused_or-stops s (check_of s.work.setup (deed_of command) (scope_of command)) (carried_out s command) i (done-stops s command (deed_of command) (scope_of command) (at-rest s.work.setup s.active (no-command s.active x) i)))
   where
     no-command : (o : Option ActiveCommand) → is_some o ≡ false → o ≡ None
     no-command None h = refl
@@ -298,7 +260,7 @@ issue-stops s command i =
 poll-stops : (s : State) (o : Option ActiveCommand) → s.active ≡ o → Stops s.work.setup s.active → let t = (poll_of s o).1 in Stops t.work.setup t.active
 poll-stops s None e i = i
 poll-stops s (Some active) e i = test (λ (r : PollAnswer × State). Stops r.1.work.setup r.1.active) _ _ _
-    (λ x. of-rest _ None (over-rests s.work.setup active (subst (λ o. Stops s.work.setup o) e i)))
+    (λ x. of-rest _ None (over-rests s.work.setup (deed_of active.command) (scope_of active.command) (subst (λ o. Stops s.work.setup o) e i)))
     (λ x. i)
   where
     test : {X : Type 0} (P : X → Type 0) (a : Bool) (x last : X) → (a ≡ true → P x) → (a ≡ false → P last) → P (cond a x last)
@@ -340,7 +302,7 @@ replay-stops (x ∷ h) s s' i e = go (λ t j r. replay-stops h t s' j r) (next s
     go more (Some t) n e = more t (next-stops s t x.event x.reply i n) e
 
 from-opening : (caps : Caps) (h : List Step) (s : State) → replay caps h ≡ Some s → Stops s.work.setup s.active
-from-opening caps h s e = replay-stops h (opening caps) s (resting _ None refl (reset-rests caps.queues)) e
+from-opening caps h s e = replay-stops h (opening caps) s (resting _ refl (reset-rests caps.queues)) e
 
 pub histories-stop : (caps : Caps) (h : List Step) (s : State) → replay caps h ≡ Some s → StopsByCommand s
 histories-stop caps h s e = of-stops s (from-opening caps h s e)

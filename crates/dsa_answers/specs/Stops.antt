@@ -1,13 +1,15 @@
 -- What is Stopping, and by which command.
-use Rattle.std.specs.Prelude.{◌≡◌, ℕ, Bool, true, false, ◌==◌, Option, Some, None}
-use Rattle.std.specs.List.{list_any}
+use Rattle.std.specs.Prelude.{◌≡◌, ℕ, Bool, true, false, Option, Some, None}
 use Rattle.dsa_regs.specs.declared.Phase.{Phase}
 use Rattle.dsa_regs.specs.declared.Phase.TheVariants.{Stopping}
-use Rattle.dsa_regs.specs.declared.Command.{Command}
-use Rattle.dsa_regs.specs.declared.Command.TheVariants.{DisableDevice, DisableWq}
-use Rattle.dsa_regs.specs.Command.{named_queues}
+use Rattle.dsa_regs.specs.declared.Scope.{Scope}
+use Rattle.dsa_regs.specs.declared.Scope.TheVariants.{Device}
+use Rattle.dsa_regs.specs.declared.Deed.{Deed}
+use Rattle.dsa_regs.specs.declared.Deed.TheVariants.{Disable}
+use Rattle.dsa_regs.specs.Command.{scope_of, deed_of, queues_in}
 use Rattle.dsa_book.specs.declared.note.ActiveCommand.{ActiveCommand}
 use Rattle.dsa_book.specs.State.{Setup, State, phase_at}
+use Rattle.dsa_book.specs.Commands.{names}
 
 -- whether the device or a queue waits for the end of a disable
 abbrev pub is_stopping : Phase → Bool
@@ -15,25 +17,25 @@ is_stopping Stopping = true
 is_stopping _ = false
 
 -- whether the command disables the device (Intel DSA: Disable Device)
-abbrev pub stops_device : Command → Bool
-stops_device DisableDevice = true
-stops_device _ = false
+abbrev pub stops_device : Deed → Scope → Bool
+stops_device Disable Device = true
+stops_device _ _ = false
 
 -- whether it disables the queue (Intel DSA: Disable Device, Disable WQ)
-abbrev pub stops_queue : Command → ℕ → Bool
-stops_queue DisableDevice q = true
-stops_queue (DisableWq queues) q = list_any (λ k. k == q) (named_queues (DisableWq queues))
-stops_queue _ q = false
+abbrev pub stops_queue : Deed → Scope → ℕ → Bool
+stops_queue Disable Device q = true
+stops_queue Disable scope q = names (queues_in scope) q
+stops_queue _ _ q = false
 
 -- whether the active command passes, where there is one
-abbrev pub is_active_command : (Command → Bool) → Option ActiveCommand → Bool
+abbrev pub is_active_command : (Deed → Scope → Bool) → Option ActiveCommand → Bool
 is_active_command test None = false
-is_active_command test (Some active) = test active.command
+is_active_command test (Some active) = test (deed_of active.command) (scope_of active.command)
 
 -- what is Stopping is what the active command disables (profile)
 pub record StopsByCommand (s : State) : Type 0 where
   pub device : is_stopping s.work.setup.device ≡ true → is_active_command stops_device s.active ≡ true
-  pub queues : (q : ℕ) → is_stopping (phase_at s.work.setup q) ≡ true → is_active_command (λ command. stops_queue command q) s.active ≡ true
+  pub queues : (q : ℕ) → is_stopping (phase_at s.work.setup q) ≡ true → is_active_command (λ deed scope. stops_queue deed scope q) s.active ≡ true
 
 -- neither the device nor a queue is Stopping (profile)
 pub record IsAtRest (setup : Setup) : Type 0 where

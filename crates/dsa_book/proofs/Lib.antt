@@ -3,3 +3,4 @@ pub mod EqualAnswers
 pub mod EqualSteps
 pub mod Replay
 pub mod Phases
+pub mod Scopes

@@ -7,12 +7,15 @@ use Rattle.dsa_regs.specs.declared.Phase.TheVariants.{Off, On, Stopping}
 use Rattle.dsa_regs.specs.declared.QueueConfig.{QueueConfig}
 use Rattle.dsa_regs.specs.declared.GroupConfig.{GroupConfig}
 use Rattle.dsa_regs.specs.declared.Command.{Command}
-use Rattle.dsa_regs.specs.declared.Command.TheVariants.{EnableDevice, DisableDevice, DrainAll, AbortAll, ResetDevice, EnableWq, DisableWq, DrainWq, AbortWq, ResetWq, DrainPasid, AbortPasid}
+use Rattle.dsa_regs.specs.declared.Scope.{Scope}
+use Rattle.dsa_regs.specs.declared.Scope.TheVariants.{Device, Queue, Pasid}
+use Rattle.dsa_regs.specs.declared.Deed.{Deed}
+use Rattle.dsa_regs.specs.declared.Deed.TheVariants.{Enable, Disable, Abort, Reset}
 use Rattle.dsa_regs.specs.declared.Fault.{Fault}
 use Rattle.dsa_regs.specs.declared.Fault.TheVariants.{BadQueue, Locked, WrongState, Busy, BadIndex}
 use Rattle.dsa_regs.specs.Numbers.{numbers_below}
 use Rattle.dsa_regs.specs.Config.{zero_queue, queue_at, check_device, check_queue}
-use Rattle.dsa_regs.specs.Command.{number_of, named_queues}
+use Rattle.dsa_regs.specs.Command.{number_of, scope_of, deed_of, queues_in}
 use Rattle.dsa_store.specs.declared.entry.Entry.{Entry}
 use Rattle.dsa_store.specs.Content.{Slot, Content, chain, all_held, kept}
 use Rattle.dsa_book.specs.declared.answer.NotedError.{NotedError}
@@ -36,17 +39,11 @@ use Rattle.dsa_book.specs.Work.{progress_list, note_at, fate_row}
 abbrev pub names : List ℕ → ℕ → Bool
 names queues q = list_any (λ k. k == q) queues
 
--- the entries that a command is about: all, those of the named queues, or those of one PASID (Intel DSA: drain and abort commands)
-abbrev pub is_in_scope : Command → Entry → Bool
-is_in_scope EnableDevice entry = false
-is_in_scope DisableDevice entry = true
-is_in_scope DrainAll entry = true
-is_in_scope AbortAll entry = true
-is_in_scope ResetDevice entry = true
-is_in_scope (EnableWq queue) entry = false
-is_in_scope (DrainPasid pasid) entry = entry.desc.pasid == pasid
-is_in_scope (AbortPasid pasid) entry = entry.desc.pasid == pasid
-is_in_scope command entry = names (named_queues command) entry.queue
+-- the entries of a scope: all, those of the queues that it names, or those of one PASID (Intel DSA: drain and abort commands)
+abbrev pub is_in_scope : Scope → Entry → Bool
+is_in_scope Device entry = true
+is_in_scope (Pasid pasid) entry = entry.desc.pasid == pasid
+is_in_scope scope entry = names (queues_in scope) entry.queue
 
 -- ---- ends
 
@@ -54,20 +51,14 @@ is_in_scope command entry = names (named_queues command) entry.queue
 abbrev pub holds : (Entry → Bool) → Content → Bool
 holds test content = list_any (λ slot. test slot.1) (all_held content)
 
--- a submitted entry that came before the drain (Intel DSA: a drain waits for the descriptors submitted before it)
-abbrev pub is_awaited : Command → ℕ → Entry → Bool
-is_awaited command mark entry = is_in_scope command entry && not (is_member entry) && nat_lt entry.name mark
+-- the entries that keep a command from its end: all of a disable's scope, and of a drain's what was submitted before it (Intel DSA: disable and drain commands)
+abbrev pub is_awaited : Deed → Scope → ℕ → Entry → Bool
+is_awaited Disable scope mark entry = is_in_scope scope entry
+is_awaited _ scope mark entry = is_in_scope scope entry && not (is_member entry) && nat_lt entry.name mark
 
--- the commands that end when all of their scope is gone (Intel DSA: disable commands)
-abbrev pub is_disable : Command → Bool
-is_disable DisableDevice = true
-is_disable (DisableWq queues) = true
-is_disable _ = false
-
--- a disable waits for all that is held of its scope, a drain for what was submitted before it (Intel DSA: disable and drain commands)
+-- a command is at its end when nothing is held that it waits for (Intel DSA: disable and drain commands)
 abbrev pub is_at_end : ActiveCommand → Content → Bool
-is_at_end active content =
-    not (holds (cond (is_disable active.command) (is_in_scope active.command) (is_awaited active.command active.mark)) content)
+is_at_end active content = not (holds (is_awaited (deed_of active.command) (scope_of active.command) active.mark) content)
 
 -- ---- phases and configurations
 
@@ -80,11 +71,17 @@ with_phases test phase setup =
 abbrev pub with_device : Phase → Setup → Setup
 with_device phase setup = record setup { device = phase }
 
--- the device with its queues, or the named queues, come to this phase; other commands stop nothing (Intel DSA: disable commands)
-abbrev pub stopped : Command → Phase → Setup → Setup
-stopped DisableDevice phase setup = with_device phase (with_phases (λ q. not (is_off (phase_at setup q))) phase setup)
-stopped (DisableWq queues) phase setup = with_phases (names (named_queues (DisableWq queues))) phase setup
-stopped _ phase setup = setup
+-- a disable brings the device with its queues, or the queues that it names, to this phase; other deeds stop nothing (Intel DSA: disable commands)
+abbrev pub stopped : Deed → Scope → Phase → Setup → Setup
+stopped Disable Device phase setup = with_device phase (with_phases (λ q. not (is_off (phase_at setup q))) phase setup)
+stopped Disable scope phase setup = with_phases (names (queues_in scope)) phase setup
+stopped _ scope phase setup = setup
+
+-- Enable Device has the device On, and Enable WQ its queue (Intel DSA: enable commands)
+abbrev pub enabled : Scope → Setup → Setup
+enabled Device setup = with_device On setup
+enabled (Queue queue) setup = with_phases (λ q. q == queue) On setup
+enabled _ setup = setup
 
 -- all zero but the size (Intel DSA: Reset WQ)
 abbrev pub size_alone : QueueConfig → QueueConfig
@@ -95,9 +92,10 @@ abbrev pub with_sizes_alone : List ℕ → Setup → Setup
 with_sizes_alone queues setup =
     record setup { configs = map (λ q. cond (names queues q) (size_alone (queue_at setup.configs q)) (queue_at setup.configs q)) (numbers_below setup.caps.queues) }
 
--- all zero and Off again; the names that were given are not given again (profile)
-abbrev pub reset : Setup → Setup
-reset setup = record (opening_setup setup.caps) { next_name = setup.next_name }
+-- Reset Device has all zero and Off again, and the names that were given are not given again; Reset WQ has its queues Off, with their sizes alone (Intel DSA: reset commands; the names are the profile's)
+abbrev pub reset : Scope → Setup → Setup
+reset Device setup = record (opening_setup setup.caps) { next_name = setup.next_name }
+reset scope setup = with_sizes_alone (queues_in scope) (with_phases (names (queues_in scope)) Off setup)
 
 -- ---- abort
 
@@ -110,49 +108,44 @@ abbrev pub kept_note : Setup → List Slot → Option BatchNote → Option Batch
 kept_note setup xs None = None
 kept_note setup xs (Some note) = cond (has_batch setup note xs) (Some note) None
 
--- what the scope holds ends, list by list and each front first; the rest keeps its order (Intel DSA: abort commands; the order is the profile's)
-abbrev pub aborted : Command → Work → Work
-aborted command w =
-    let content = kept (λ entry. not (is_in_scope command entry)) w.content in
+-- what the scope holds ends by the command of this number, list by list and each front first; the rest keeps its order (Intel DSA: abort commands; the order is the profile's)
+abbrev pub aborted : ℕ → Scope → Work → Work
+aborted number scope w =
+    let content = kept (λ entry. not (is_in_scope scope entry)) w.content in
     record w {
       content = content;
       notes = map (λ e. kept_note w.setup (chain content (progress_list w.setup e)) (note_at w e)) (numbers_below w.setup.caps.engines);
-      fates = w.fates ++ map (fate_row (Aborted (number_of command))) (filter (λ slot. is_in_scope command slot.1) (all_held w.content));
+      fates = w.fates ++ map (fate_row (Aborted number)) (filter (λ slot. is_in_scope scope slot.1) (all_held w.content));
     }
 
 -- how many entries the scope holds
-abbrev pub count_in_scope : Command → Content → ℕ
-count_in_scope command content = length (filter (λ slot. is_in_scope command slot.1) (all_held content))
+abbrev pub count_in_scope : Scope → Content → ℕ
+count_in_scope scope content = length (filter (λ slot. is_in_scope scope slot.1) (all_held content))
 
 -- ---- issue
 
--- a command names no queue, or one that the device does not have (profile)
-abbrev pub is_bad_queues : Setup → Command → Bool
-is_bad_queues setup (EnableWq queue) = not (has_queue setup queue)
-is_bad_queues setup command =
-    cond (nat_le 7 (number_of command) && nat_le (number_of command) 10)
-    (nat_le (length (named_queues command)) 0 || not (list_all (has_queue setup) (named_queues command)))
-    false
+-- a scope of queues that names none, or one that the device does not have (profile)
+abbrev pub is_bad_queues : Setup → Scope → Bool
+is_bad_queues setup Device = false
+is_bad_queues setup (Pasid pasid) = false
+is_bad_queues setup scope = nat_le (length (queues_in scope)) 0 || not (list_all (has_queue setup) (queues_in scope))
 
--- whether all these queues are On
-abbrev pub all_on : Setup → List ℕ → Bool
-all_on setup queues = list_all (λ q. is_on (phase_at setup q)) queues
+-- the phase in which a deed finds the device or a queue: an enable Off, a reset any, all else On (profile)
+abbrev pub suits : Deed → Phase → Bool
+suits Enable phase = is_off phase
+suits Reset phase = true
+suits _ phase = is_on phase
 
--- the device and the queues stand as the command needs (profile)
-abbrev pub may_come : Setup → Command → Bool
-may_come setup EnableDevice = is_off setup.device
-may_come setup ResetDevice = true
-may_come setup (EnableWq queue) = is_on setup.device && is_off (phase_at setup queue)
-may_come setup (DisableWq queues) = is_on setup.device && all_on setup (named_queues (DisableWq queues))
-may_come setup (DrainWq queues) = is_on setup.device && all_on setup (named_queues (DrainWq queues))
-may_come setup (AbortWq queues) = is_on setup.device && all_on setup (named_queues (AbortWq queues))
-may_come setup _ = is_on setup.device
+-- the device stands as the deed needs, or it is On and so do the queues that are named (profile)
+abbrev pub may_come : Setup → Deed → Scope → Bool
+may_come setup deed Device = suits deed setup.device
+may_come setup deed scope = is_on setup.device && list_all (λ q. suits deed (phase_at setup q)) (queues_in scope)
 
 -- what the configuration has against it (Intel DSA: errors of the enable commands; the order is the profile's)
-abbrev pub check_of : Setup → Command → Option Fault
-check_of setup EnableDevice = check_device setup.caps setup.configs setup.groups
-check_of setup (EnableWq queue) = check_queue setup.caps setup.groups queue (queue_at setup.configs queue)
-check_of setup _ = None
+abbrev pub check_of : Setup → Deed → Scope → Option Fault
+check_of setup Enable Device = check_device setup.caps setup.configs setup.groups
+check_of setup Enable (Queue queue) = check_queue setup.caps setup.groups queue (queue_at setup.configs queue)
+check_of setup _ _ = None
 
 -- with this set-up
 abbrev pub with_setup : Work → Setup → Work
@@ -163,35 +156,30 @@ abbrev pub ended_at_once : State → ℕ → Work → IssueAnswer × State
 ended_at_once s n w = (Ended n, record s { work = w })
 
 -- what the scope holds ends, and the set-up changes so
-abbrev pub aborts : State → Command → (Setup → Setup) → IssueAnswer × State
-aborts s command change =
-    let w = aborted command s.work in
-    ended_at_once s (count_in_scope command s.work.content) (with_setup w (change w.setup))
+abbrev pub aborts : State → ℕ → Scope → (Setup → Setup) → IssueAnswer × State
+aborts s number scope change =
+    let w = aborted number scope s.work in
+    ended_at_once s (count_in_scope scope s.work.content) (with_setup w (change w.setup))
 
 -- the command ends at once where nothing is to be waited for, else it is active from here on (profile)
 abbrev pub waits : State → Command → IssueAnswer × State
 waits s command =
     let active : ActiveCommand = record { command = command; mark = s.work.setup.next_name } in
+    let stop = stopped (deed_of command) (scope_of command) in
     cond (is_at_end active s.work.content)
-    (ended_at_once s 0 (with_setup s.work (stopped command Off s.work.setup)))
-    (Active, record { work = with_setup s.work (stopped command Stopping s.work.setup); active = Some active })
+    (ended_at_once s 0 (with_setup s.work (stop Off s.work.setup)))
+    (Active, record { work = with_setup s.work (stop Stopping s.work.setup); active = Some active })
 
--- what each command does (Intel DSA: administrative commands)
+-- what each deed does with a scope; the command is what it is active by, and what it aborts by (Intel DSA: administrative commands)
+abbrev pub done_by : State → Command → Deed → Scope → IssueAnswer × State
+done_by s command Enable scope = ended_at_once s 0 (with_setup s.work (enabled scope s.work.setup))
+done_by s command Abort scope = aborts s (number_of command) scope (λ setup. setup)
+done_by s command Reset scope = aborts s (number_of command) scope (reset scope)
+done_by s command _ scope = waits s command
+
+-- what a command does (Intel DSA: administrative commands)
 abbrev pub carried_out : State → Command → IssueAnswer × State
-carried_out s EnableDevice = ended_at_once s 0 (with_setup s.work (with_device On s.work.setup))
-carried_out s (EnableWq queue) = ended_at_once s 0 (with_setup s.work (with_phases (λ q. q == queue) On s.work.setup))
-carried_out s DisableDevice = waits s DisableDevice
-carried_out s (DisableWq queues) = waits s (DisableWq queues)
-carried_out s DrainAll = waits s DrainAll
-carried_out s (DrainWq queues) = waits s (DrainWq queues)
-carried_out s (DrainPasid pasid) = waits s (DrainPasid pasid)
-carried_out s AbortAll = aborts s AbortAll (λ setup. setup)
-carried_out s (AbortWq queues) = aborts s (AbortWq queues) (λ setup. setup)
-carried_out s (AbortPasid pasid) = aborts s (AbortPasid pasid) (λ setup. setup)
-carried_out s ResetDevice = aborts s ResetDevice reset
-carried_out s (ResetWq queues) =
-    let named = named_queues (ResetWq queues) in
-    aborts s (ResetWq queues) (λ setup. with_sizes_alone named (with_phases (names named) Off setup))
+carried_out s command = done_by s command (deed_of command) (scope_of command)
 
 -- a fault of the check refuses the command, and nothing changes
 abbrev pub refused_or : State → Option Fault → IssueAnswer × State → IssueAnswer × State
@@ -202,12 +190,12 @@ refused_or s (Some fault) done = (Refused fault, s)
 abbrev pub issue_table : State → Command → List (Bool × (IssueAnswer × State))
 issue_table s command =
     (is_some s.active, (Refused Busy, s)) ∷
-    (is_bad_queues s.work.setup command, (Refused BadQueue, s)) ∷
-    (not (may_come s.work.setup command), (Refused WrongState, s)) ∷ []
+    (is_bad_queues s.work.setup (scope_of command), (Refused BadQueue, s)) ∷
+    (not (may_come s.work.setup (deed_of command) (scope_of command)), (Refused WrongState, s)) ∷ []
 
 -- the answer to a command and what it leaves: the first refusal that stands, or its effect (profile)
 abbrev pub issue : State → Command → IssueAnswer × State
-issue s command = first_row_or (issue_table s command) (refused_or s (check_of s.work.setup command) (carried_out s command))
+issue s command = first_row_or (issue_table s command) (refused_or s (check_of s.work.setup (deed_of command) (scope_of command)) (carried_out s command))
 
 -- ---- poll
 
@@ -216,7 +204,7 @@ abbrev pub poll_of : State → Option ActiveCommand → PollAnswer × State
 poll_of s None = (Nothing, s)
 poll_of s (Some active) =
     cond (is_at_end active s.work.content)
-    (Finished, record { work = with_setup s.work (stopped active.command Off s.work.setup); active = None })
+    (Finished, record { work = with_setup s.work (stopped (deed_of active.command) (scope_of active.command) Off s.work.setup); active = None })
     (Active, s)
 
 -- the answer to one who asks after the active command, and what it leaves (profile)

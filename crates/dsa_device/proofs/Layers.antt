@@ -8,7 +8,10 @@ use Rattle.dsa_desc.specs.declared.Outcome.{Outcome}
 use Rattle.dsa_desc.specs.Rows.{when}
 use Rattle.dsa_desc.proofs.Tables.{first_row_or-each, one_row}
 use Rattle.dsa_regs.specs.declared.Command.{Command}
-use Rattle.dsa_regs.specs.declared.Command.TheVariants.{EnableDevice, DisableDevice, DrainAll, AbortAll, ResetDevice, EnableWq, DisableWq, DrainWq, AbortWq, ResetWq, DrainPasid, AbortPasid}
+use Rattle.dsa_regs.specs.declared.Scope.{Scope}
+use Rattle.dsa_regs.specs.declared.Deed.{Deed}
+use Rattle.dsa_regs.specs.declared.Deed.TheVariants.{Enable, Abort, Reset}
+use Rattle.dsa_regs.specs.Command.{scope_of, deed_of}
 use Rattle.dsa_regs.specs.declared.Fault.{Fault}
 use Rattle.dsa_regs.specs.Fault.{fault_number}
 use Rattle.dsa_regs.specs.declared.QueueConfig.{QueueConfig}
@@ -39,7 +42,7 @@ use Rattle.dsa_book.specs.declared.note.BatchNote.{BatchNote}
 use Rattle.dsa_book.specs.State.{Setup, Intake, Work, State, is_ticket, is_batch_of}
 use Rattle.dsa_book.specs.Work.{dispatch, running_on, finish, finish_of, is_unfinished, last_status, members, first_waiting, start, start_of, start_table, note_at, batch_on, is_all_fetched, fetch, fetch_for, fetch_of}
 use Rattle.dsa_book.specs.Submit.{submit, submit_table, turned_away, accepted}
-use Rattle.dsa_book.specs.Commands.{issue, issue_table, refused_or, check_of, carried_out, waits, is_at_end, count_in_scope, poll, poll_of, write_queue, write_queue_table, write_group, write_group_table, clear, clear_of}
+use Rattle.dsa_book.specs.Commands.{issue, issue_table, refused_or, check_of, carried_out, done_by, waits, is_at_end, count_in_scope, poll, poll_of, write_queue, write_queue_table, write_group, write_group_table, clear, clear_of}
 use Rattle.dsa_book.specs.Machine.{next, intake_of, with_intake, with_setup, with_work, accepted_cell, fetched_cell, cell_or_first, may_use}
 
 -- what holds of both holds of the one that is tested
@@ -115,30 +118,19 @@ fetch-self w e desc cell = noted (note_at w e)
 waits-self : (s : State) (command : Command) → same_issue (waits s command).0 (waits s command).0 ≡ true
 waits-self s command = either (λ (r : IssueAnswer × State). same_issue r.0 r.0 ≡ true) (is_at_end (record { command = command; mark = s.work.setup.next_name }) s.work.content) _ _ refl refl
 
-aborts-self : (s : State) (command : Command) → (count_in_scope command s.work.content == count_in_scope command s.work.content) ≡ true
-aborts-self s command = eq-eqb (count_in_scope command s.work.content) _ refl
-
-carried_out-self : (s : State) (command : Command) → same_issue (carried_out s command).0 (carried_out s command).0 ≡ true
-carried_out-self s EnableDevice = refl
-carried_out-self s DisableDevice = waits-self s DisableDevice
-carried_out-self s DrainAll = waits-self s DrainAll
-carried_out-self s AbortAll = aborts-self s AbortAll
-carried_out-self s ResetDevice = aborts-self s ResetDevice
-carried_out-self s (EnableWq queue) = refl
-carried_out-self s (DisableWq queues) = waits-self s (DisableWq queues)
-carried_out-self s (DrainWq queues) = waits-self s (DrainWq queues)
-carried_out-self s (AbortWq queues) = aborts-self s (AbortWq queues)
-carried_out-self s (ResetWq queues) = aborts-self s (ResetWq queues)
-carried_out-self s (DrainPasid pasid) = waits-self s (DrainPasid pasid)
-carried_out-self s (AbortPasid pasid) = aborts-self s (AbortPasid pasid)
+done-self : (s : State) (command : Command) (deed : Deed) (scope : Scope) → same_issue (done_by s command deed scope).0 (done_by s command deed scope).0 ≡ true
+done-self s command Enable scope = refl
+done-self s command Abort scope = eq-eqb (count_in_scope scope s.work.content) _ refl
+done-self s command Reset scope = eq-eqb (count_in_scope scope s.work.content) _ refl
+done-self s command _ scope = waits-self s command
 
 issue-self : (s : State) (command : Command) → same_issue (issue s command).0 (issue s command).0 ≡ true
 issue-self s command =
-    first_row_or-each (λ (r : IssueAnswer × State). same_issue r.0 r.0 ≡ true) (issue_table s command) (refused_or s (check_of s.work.setup command) (carried_out s command))
-    (refl, (refl, (refl, tt))) (go (check_of s.work.setup command))
+    first_row_or-each (λ (r : IssueAnswer × State). same_issue r.0 r.0 ≡ true) (issue_table s command) (refused_or s (check_of s.work.setup (deed_of command) (scope_of command)) (carried_out s command))
+    (refl, (refl, (refl, tt))) (go (check_of s.work.setup (deed_of command) (scope_of command)))
   where
     go : (fault : Option Fault) → same_issue (refused_or s fault (carried_out s command)).0 (refused_or s fault (carried_out s command)).0 ≡ true
-    go None = carried_out-self s command
+    go None = done-self s command (deed_of command) (scope_of command)
     go (Some fault) = eq-eqb (fault_number fault) _ refl
 
 poll-self : (s : State) → same_poll (poll s).0 (poll s).0 ≡ true

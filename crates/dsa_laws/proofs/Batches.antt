@@ -3,9 +3,9 @@ use Rattle.std.proofs.Common.{◌≡◌, ◌≢◌, ℕ, zero, suc, ◌+◌, ◌
 use Rattle.std.specs.Prelude.{count_by, sum_by}
 use Rattle.std.specs.List.{list_any}
 use Rattle.std.proofs.lemmas.List.Sums.{sum_by-cons, sum_by-append, sum_by_push}
-use Rattle.dsa_regs.specs.declared.Command.{Command}
-use Rattle.dsa_regs.specs.declared.Command.TheVariants.{EnableDevice, DisableDevice, DrainAll, AbortAll, ResetDevice, EnableWq, DisableWq, DrainWq, AbortWq, ResetWq, DrainPasid, AbortPasid}
-use Rattle.dsa_regs.specs.Command.{named_queues}
+use Rattle.dsa_regs.specs.declared.Scope.{Scope}
+use Rattle.dsa_regs.specs.declared.Scope.TheVariants.{Device, Pasid}
+use Rattle.dsa_regs.specs.Command.{queues_in}
 use Rattle.dsa_store.specs.Content.{Slot, Content, chain, all_held}
 use Rattle.dsa_book.specs.declared.note.BatchNote.{BatchNote}
 use Rattle.dsa_book.specs.State.{Setup, is_batch_of}
@@ -200,23 +200,14 @@ with_none setup ps ms o h =
 -- ---- an abort
 
 -- the entries that an abort leaves
-abbrev pub is_left : Command → Slot → Bool
-is_left command x = not (is_in_scope command x.1)
+abbrev pub is_left : Scope → Slot → Bool
+is_left scope x = not (is_in_scope scope x.1)
 
--- a command is about a member and its batch, or about neither
-scope-alike : (command : Command) (m b : Slot) → IsAlike m b → is_in_scope command m.1 ≡ is_in_scope command b.1
-scope-alike EnableDevice m b h = refl
-scope-alike DisableDevice m b h = refl
-scope-alike DrainAll m b h = refl
-scope-alike AbortAll m b h = refl
-scope-alike ResetDevice m b h = refl
-scope-alike (EnableWq queue) m b h = refl
-scope-alike (DisableWq queues) m b h = ap (names (named_queues (DisableWq queues))) h.queue
-scope-alike (DrainWq queues) m b h = ap (names (named_queues (DrainWq queues))) h.queue
-scope-alike (AbortWq queues) m b h = ap (names (named_queues (AbortWq queues))) h.queue
-scope-alike (ResetWq queues) m b h = ap (names (named_queues (ResetWq queues))) h.queue
-scope-alike (DrainPasid pasid) m b h = ap (λ p. p == pasid) h.pasid
-scope-alike (AbortPasid pasid) m b h = ap (λ p. p == pasid) h.pasid
+-- a member and its batch are both of a scope, or neither is
+scope-alike : (scope : Scope) (m b : Slot) → IsAlike m b → is_in_scope scope m.1 ≡ is_in_scope scope b.1
+scope-alike Device m b h = refl
+scope-alike (Pasid pasid) m b h = ap (λ p. p == pasid) h.pasid
+scope-alike scope m b h = ap (names (queues_in scope)) h.queue
 
 any-In : {X : Type 0} (p : X → Bool) (xs : List X) → list_any p xs ≡ true → (x : X) × (In x xs × (p x ≡ true))
 any-In p [] h = absurd cc
@@ -253,34 +244,34 @@ count-none p (x ∷ xs) h =
     omega (arith, c, here, rest)
 
 -- a batch goes with all its members, or stays
-pub with_abort : (command : Command) (setup : Setup) (ps ms : List Slot) (o : Option BatchNote) → IsLawfulEngine setup ps ms o
-    → IsLawfulEngine setup (filter (is_left command) ps) (filter (is_left command) ms) (kept_note setup (filter (is_left command) ps) o)
-with_abort command setup ps ms None h = record {
-  no_batch = let less = sum-filter-le (λ x. cond (holds_batch setup x) 1 0) (is_left command) ps in let old = h.no_batch in omega (arith, less, old);
-  no_members = ap (filter (is_left command)) h.no_members;
+pub with_abort : (scope : Scope) (setup : Setup) (ps ms : List Slot) (o : Option BatchNote) → IsLawfulEngine setup ps ms o
+    → IsLawfulEngine setup (filter (is_left scope) ps) (filter (is_left scope) ms) (kept_note setup (filter (is_left scope) ps) o)
+with_abort scope setup ps ms None h = record {
+  no_batch = let less = sum-filter-le (λ x. cond (holds_batch setup x) 1 0) (is_left scope) ps in let old = h.no_batch in omega (arith, less, old);
+  no_members = ap (filter (is_left scope)) h.no_members;
 }
-with_abort command setup ps ms (Some n) h = go (has_batch setup n (filter (is_left command) ps)) refl
+with_abort scope setup ps ms (Some n) h = go (has_batch setup n (filter (is_left scope) ps)) refl
   where
-    named : (x : Slot) → In x ps → holds_batch setup x ≡ true → In x (filter (is_left command) ps) → has_batch setup n (filter (is_left command) ps) ≡ true
+    named : (x : Slot) → In x ps → holds_batch setup x ≡ true → In x (filter (is_left scope) ps) → has_batch setup n (filter (is_left scope) ps) ≡ true
     named x i t j =
         let name : (x.1.name == n.batch) ≡ true = eq-eqb x.1.name n.batch (sym (h.noted x i t).name) in
-        In-any (λ slot. is_batch_of setup slot.1 && slot.1.name == n.batch) x (filter (is_left command) ps) j (ap (λ (b : Bool). b && x.1.name == n.batch) t ∙ name)
+        In-any (λ slot. is_batch_of setup slot.1 && slot.1.name == n.batch) x (filter (is_left scope) ps) j (ap (λ (b : Bool). b && x.1.name == n.batch) t ∙ name)
 
-    gone : has_batch setup n (filter (is_left command) ps) ≡ false → (x : Slot) → In x ms → is_left command x ≡ false
+    gone : has_batch setup n (filter (is_left scope) ps) ≡ false → (x : Slot) → In x ms → is_left scope x ≡ false
     gone f x i =
         let batch = counted-In (holds_batch setup) ps h.one_batch in
-        let out : is_left command batch.0 ≡ false = false_from_ne_true (is_left command batch.0) (λ t. not-both _ (named batch.0 batch.1.0 batch.1.1 (In-passing (is_left command) batch.0 ps batch.1.0 t)) f) in
-        ap not (scope-alike command x batch.0 (h.alike x batch.0 i batch.1.0 batch.1.1)) ∙ out
+        let out : is_left scope batch.0 ≡ false = false_from_ne_true (is_left scope batch.0) (λ t. not-both _ (named batch.0 batch.1.0 batch.1.1 (In-passing (is_left scope) batch.0 ps batch.1.0 t)) f) in
+        ap not (scope-alike scope x batch.0 (h.alike x batch.0 i batch.1.0 batch.1.1)) ∙ out
 
-    go : (b : Bool) → has_batch setup n (filter (is_left command) ps) ≡ b → IsLawfulEngine setup (filter (is_left command) ps) (filter (is_left command) ms) (cond b (Some n) None)
+    go : (b : Bool) → has_batch setup n (filter (is_left scope) ps) ≡ b → IsLawfulEngine setup (filter (is_left scope) ps) (filter (is_left scope) ms) (cond b (Some n) None)
     go true t =
-        let batch = any-In (λ slot. is_batch_of setup slot.1 && slot.1.name == n.batch) (filter (is_left command) ps) t in
-        let some = In-counted (holds_batch setup) batch.0 (filter (is_left command) ps) batch.1.0 (and_parts _ _ batch.1.1).0 in
-        let less = sum-filter-le (λ x. cond (holds_batch setup x) 1 0) (is_left command) ps in
+        let batch = any-In (λ slot. is_batch_of setup slot.1 && slot.1.name == n.batch) (filter (is_left scope) ps) t in
+        let some = In-counted (holds_batch setup) batch.0 (filter (is_left scope) ps) batch.1.0 (and_parts _ _ batch.1.1).0 in
+        let less = sum-filter-le (λ x. cond (holds_batch setup x) 1 0) (is_left scope) ps in
         let one = h.one_batch in
-        fewer setup ps (filter (is_left command) ps) ms (filter (is_left command) ms) (Some n) (omega (arith, some, less, one))
-        (λ x i. (In-filter (is_left command) x ps i).0) (λ x i. (In-filter (is_left command) x ms i).0) (length-filter-le (is_left command) ms) h
+        fewer setup ps (filter (is_left scope) ps) ms (filter (is_left scope) ms) (Some n) (omega (arith, some, less, one))
+        (λ x i. (In-filter (is_left scope) x ps i).0) (λ x i. (In-filter (is_left scope) x ms i).0) (length-filter-le (is_left scope) ms) h
     go false f = record {
-      no_batch = count-none (holds_batch setup) (filter (is_left command) ps) (λ x j. false_from_ne_true (holds_batch setup x) (λ t. not-both _ (named x (In-filter (is_left command) x ps j).0 t j) f));
-      no_members = filter-none (is_left command) ms (count-none (is_left command) ms (gone f));
+      no_batch = count-none (holds_batch setup) (filter (is_left scope) ps) (λ x j. false_from_ne_true (holds_batch setup x) (λ t. not-both _ (named x (In-filter (is_left scope) x ps j).0 t j) f));
+      no_members = filter-none (is_left scope) ms (count-none (is_left scope) ms (gone f));
     }

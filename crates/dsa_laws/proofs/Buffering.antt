@@ -10,14 +10,17 @@ use Rattle.dsa_regs.specs.declared.GroupConfig.{GroupConfig}
 use Rattle.dsa_regs.specs.declared.QueueConfig.{QueueConfig}
 use Rattle.dsa_regs.specs.Numbers.{has, numbers_below}
 use Rattle.dsa_regs.specs.declared.Phase.TheVariants.{Off, Stopping}
-use Rattle.dsa_regs.specs.declared.Command.{Command}
-use Rattle.dsa_regs.specs.declared.Command.TheVariants.{DisableDevice, DisableWq, ResetWq}
-use Rattle.dsa_regs.specs.Command.{named_queues}
+use Rattle.dsa_regs.specs.declared.Scope.{Scope}
+use Rattle.dsa_regs.specs.declared.Scope.TheVariants.{Device}
+use Rattle.dsa_regs.specs.declared.Deed.{Deed}
+use Rattle.dsa_regs.specs.declared.Deed.TheVariants.{Disable}
+use Rattle.dsa_regs.specs.Command.{queues_in}
 use Rattle.dsa_regs.specs.Config.{zero_queue, group_at, queue_at, is_in_two, total_size, total_reserved, groups_table, check_device}
 use Rattle.dsa_regs.specs.Buffers.{covered, fits}
 use Rattle.dsa_store.specs.Content.{Slot, Content, is_cell, chain, pushed, without_front}
 use Rattle.dsa_book.specs.State.{Setup, Work, State, opening, is_off, phase_at}
 use Rattle.dsa_book.specs.Work.{progress_list, member_list, members, first_waiting, used_on, has_room, as_running, run, with_first_run}
+use Rattle.dsa_book.proofs.Scopes.{unnamed}
 use Rattle.dsa_book.specs.Commands.{stopped, may_come, names, size_alone, is_in_scope}
 use Rattle.dsa_laws.specs.Change.{Change, same, is_noted, is_accepted, is_taken, is_fetched, is_started, is_abandoned, is_ended, is_device_enabled, is_queue_enabled, is_waiting, is_over, is_aborted, is_device_reset, is_queues_reset, is_queue_written, is_group_written}
 use Rattle.dsa_laws.specs.WellFormed.{HasShape, HasLawfulSetup, HasLawfulEntries, IsWellFormed}
@@ -220,15 +223,15 @@ queues_reset-configs caps w qs q shape on out =
     get_or-each (λ k. cond (names qs k) (size_alone (queue_at w.setup.configs k)) (queue_at w.setup.configs k)) w.setup.caps.queues q zero_queue (in-use-below caps w q shape on)
     ∙ ap (λ (b : Bool). cond b (size_alone (queue_at w.setup.configs q)) (queue_at w.setup.configs q)) out
 
-waiting-on : (setup : Setup) (command : Command) → may_come setup command ≡ true → is_off (stopped command Stopping setup).device ≡ false → is_off setup.device ≡ false
-waiting-on setup DisableDevice may n = on-not_off setup.device may
-waiting-on setup (DisableWq queues) may n = n
-waiting-on setup _ may n = n
+waiting-on : (setup : Setup) (deed : Deed) (scope : Scope) → may_come setup deed scope ≡ true → is_off (stopped deed scope Stopping setup).device ≡ false → is_off setup.device ≡ false
+waiting-on setup Disable Device may n = on-not_off setup.device may
+waiting-on setup Disable scope may n = n
+waiting-on setup _ scope may n = n
 
-over-on : (setup : Setup) (command : Command) → is_off (stopped command Off setup).device ≡ false → is_off setup.device ≡ false
-over-on setup DisableDevice n = absurd cc
-over-on setup (DisableWq queues) n = n
-over-on setup _ n = n
+over-on : (setup : Setup) (deed : Deed) (scope : Scope) → is_off (stopped deed scope Off setup).device ≡ false → is_off setup.device ≡ false
+over-on setup Disable Device n = absurd cc
+over-on setup Disable scope n = n
+over-on setup _ scope n = n
 
 -- ---- each kind
 
@@ -273,23 +276,23 @@ kept-change caps s s' shape setup entries h (is_queue_enabled c) =
     subst (λ t. HasBuffers caps t.work) c.after (settled caps s.work _ shape refl refl refl (λ n. n) (λ k x i. refl) h)
 kept-change caps s s' shape setup entries h (is_waiting c) =
     subst (λ t. HasBuffers caps t.work) c.after
-    (settled caps s.work _ shape refl (stopped-caps c.command Stopping s.work.setup) (stopped-groups c.command Stopping s.work.setup) (waiting-on s.work.setup c.command c.may)
-    (λ k x i. ap (λ (cs : List QueueConfig). queue_at cs x.1.queue) (stopped-configs c.command Stopping s.work.setup)) h)
+    (settled caps s.work _ shape refl (stopped-caps c.deed c.scope Stopping s.work.setup) (stopped-groups c.deed c.scope Stopping s.work.setup) (waiting-on s.work.setup c.deed c.scope c.may)
+    (λ k x i. ap (λ (cs : List QueueConfig). queue_at cs x.1.queue) (stopped-configs c.deed c.scope Stopping s.work.setup)) h)
 kept-change caps s s' shape setup entries h (is_over c) =
     subst (λ t. HasBuffers caps t.work) c.after
-    (settled caps s.work _ shape refl (stopped-caps c.command.command Off s.work.setup) (stopped-groups c.command.command Off s.work.setup) (over-on s.work.setup c.command.command)
-    (λ k x i. ap (λ (cs : List QueueConfig). queue_at cs x.1.queue) (stopped-configs c.command.command Off s.work.setup)) h)
+    (settled caps s.work _ shape refl (stopped-caps c.deed c.scope Off s.work.setup) (stopped-groups c.deed c.scope Off s.work.setup) (over-on s.work.setup c.deed c.scope)
+    (λ k x i. ap (λ (cs : List QueueConfig). queue_at cs x.1.queue) (stopped-configs c.deed c.scope Off s.work.setup)) h)
 kept-change caps s s' shape setup entries h (is_aborted c) =
-    subst (λ t. HasBuffers caps t.work) c.after (lighter caps s.work _ shape refl (filtered-within (weight s.work.setup) (λ slot. not (is_in_scope c.command slot.1)) s.work.content) h)
+    subst (λ t. HasBuffers caps t.work) c.after (lighter caps s.work _ shape refl (filtered-within (weight s.work.setup) (λ slot. not (is_in_scope c.scope slot.1)) s.work.content) h)
 kept-change caps s s' shape setup entries h (is_device_reset c) = subst (λ t. HasBuffers caps t.work) c.after (while-off caps _ refl)
 kept-change caps s s' shape setup entries h (is_queues_reset c) =
-    let qs = named_queues (ResetWq c.queues) in
+    let qs = queues_in c.scope in
     subst (λ t. HasBuffers caps t.work) c.after
     (no-more caps s.work _ shape.same_caps shape.same_caps refl (λ n. n)
     (λ k x i.
-    let j = In-filtered (λ slot. not (names qs slot.1.queue)) s.work.content k x i in
-    queues_reset-configs caps s.work qs x.1.queue shape (entries.none_off k x j.0) (not-true _ j.1))
-    (filtered-within (weight s.work.setup) (λ slot. not (names qs slot.1.queue)) s.work.content) h)
+    let j = In-filtered (λ slot. not (is_in_scope c.scope slot.1)) s.work.content k x i in
+    queues_reset-configs caps s.work qs x.1.queue shape (entries.none_off k x j.0) (unnamed c.scope x.1 (not-true _ j.1)))
+    (filtered-within (weight s.work.setup) (λ slot. not (is_in_scope c.scope slot.1)) s.work.content) h)
 kept-change caps s s' shape setup entries h (is_queue_written c) =
     subst (λ t. HasBuffers caps t.work) c.after
     (settled caps s.work _ shape refl refl refl (λ n. n)

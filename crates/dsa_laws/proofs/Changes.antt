@@ -7,7 +7,11 @@ use Rattle.dsa_desc.specs.Rows.{when}
 use Rattle.dsa_desc.proofs.Tables.{when-some, table1, table2, table3}
 use Rattle.dsa_regs.specs.declared.Phase.TheVariants.{Off, Stopping}
 use Rattle.dsa_regs.specs.declared.Command.{Command}
-use Rattle.dsa_regs.specs.declared.Command.TheVariants.{EnableDevice, DisableDevice, DrainAll, AbortAll, ResetDevice, EnableWq, DisableWq, DrainWq, AbortWq, ResetWq, DrainPasid, AbortPasid}
+use Rattle.dsa_regs.specs.declared.Scope.{Scope}
+use Rattle.dsa_regs.specs.declared.Scope.TheVariants.{Device, Queue}
+use Rattle.dsa_regs.specs.declared.Deed.{Deed}
+use Rattle.dsa_regs.specs.declared.Deed.TheVariants.{Enable, Abort, Reset}
+use Rattle.dsa_regs.specs.Command.{number_of, scope_of, deed_of}
 use Rattle.dsa_regs.specs.declared.Fault.{Fault}
 use Rattle.dsa_regs.specs.declared.QueueConfig.{QueueConfig}
 use Rattle.dsa_regs.specs.declared.GroupConfig.{GroupConfig}
@@ -48,7 +52,7 @@ use Rattle.dsa_book.specs.Same.{same_submit, same_fetch, same_start, same_finish
 use Rattle.dsa_book.specs.State.{Setup, Intake, Work, State, is_ticket, ticket_of, is_batch_of}
 use Rattle.dsa_book.specs.Submit.{submit, turned_away, accepted, noted_more}
 use Rattle.dsa_book.specs.Work.{qualifies, front_of, taken, fetch, fetch_of, fetch_for, fetched, note_at, batch_on, is_all_fetched, start, start_of, started, abandoned, members, first_waiting, is_unfinished, last_status, ended, finish, finish_of, running_on}
-use Rattle.dsa_book.specs.Commands.{issue, check_of, refused_or, carried_out, waits, poll, poll_of, stopped, write_queue, write_group, clear, clear_of, is_at_end, is_bad_queues, may_come}
+use Rattle.dsa_book.specs.Commands.{issue, check_of, refused_or, carried_out, done_by, waits, poll, poll_of, stopped, write_queue, write_group, clear, clear_of, is_at_end, is_bad_queues, may_come}
 use Rattle.dsa_book.specs.Machine.{next, with_work, with_intake, with_setup, intake_of, accepted_cell, fetched_cell, cell_or_first, may_use}
 use Rattle.dsa_laws.specs.Change.{Change, set_up, same, is_noted, is_accepted, is_taken, is_fetched, is_started, is_abandoned, is_ended, is_device_enabled, is_queue_enabled, is_waiting, is_over, is_aborted, is_device_reset, is_queues_reset, is_queue_written, is_group_written}
 use Rattle.std.proofs.lemmas.Bool.{and_parts, not-false}
@@ -172,44 +176,41 @@ finish-change s s' e t outcome a h =
 
 -- ---- issue and poll
 
-waits-change : (s s' : State) (command : Command) → may_come s.work.setup command ≡ true → (waits s command).1 ≡ s' → Change s s'
+waits-change : (s s' : State) (command : Command) → may_come s.work.setup (deed_of command) (scope_of command) ≡ true → (waits s command).1 ≡ s' → Change s s'
 waits-change s s' command may x =
     let active : ActiveCommand = record { command = command; mark = s.work.setup.next_name } in
     let P : IssueAnswer × State → Type 0 = λ r. r.1 ≡ s' → Change s s' in
     test P (is_at_end active s.work.content)
-    (Ended 0, set_up s s.active (stopped command Off s.work.setup))
-    (Active, set_up s (Some active) (stopped command Stopping s.work.setup))
-    (λ u x. is_over (record { command = active; over = u; active = s.active; after = x }))
-    (λ u x. is_waiting (record { command = command; may = may; active = Some active; after = x }))
+    (Ended 0, set_up s s.active (stopped (deed_of command) (scope_of command) Off s.work.setup))
+    (Active, set_up s (Some active) (stopped (deed_of command) (scope_of command) Stopping s.work.setup))
+    (λ u x. is_over (record { deed = deed_of command; scope = scope_of command; mark = active.mark; over = u; active = s.active; after = x }))
+    (λ u x. is_waiting (record { deed = deed_of command; scope = scope_of command; may = may; active = Some active; after = x }))
     x
 
-carried_out-change : (s s' : State) (command : Command) → may_come s.work.setup command ≡ true → check_of s.work.setup command ≡ None → (carried_out s command).1 ≡ s' → Change s s'
-carried_out-change s s' EnableDevice may check x = is_device_enabled (record { off = may; check = check; after = x })
-carried_out-change s s' (EnableWq queue) may check x = is_queue_enabled (record { queue = queue; on = (and_parts _ _ may).0; check = check; after = x })
-carried_out-change s s' DisableDevice may check x = waits-change s s' DisableDevice may x
-carried_out-change s s' (DisableWq queues) may check x = waits-change s s' (DisableWq queues) may x
-carried_out-change s s' DrainAll may check x = waits-change s s' DrainAll may x
-carried_out-change s s' (DrainWq queues) may check x = waits-change s s' (DrainWq queues) may x
-carried_out-change s s' (DrainPasid pasid) may check x = waits-change s s' (DrainPasid pasid) may x
-carried_out-change s s' AbortAll may check x = is_aborted (record { command = AbortAll; after = x })
-carried_out-change s s' (AbortWq queues) may check x = is_aborted (record { command = AbortWq queues; after = x })
-carried_out-change s s' (AbortPasid pasid) may check x = is_aborted (record { command = AbortPasid pasid; after = x })
-carried_out-change s s' ResetDevice may check x = is_device_reset (record { after = x })
-carried_out-change s s' (ResetWq queues) may check x = is_queues_reset (record { queues = queues; after = x })
+done-change : (s s' : State) (command : Command) (deed : Deed) (scope : Scope) → may_come s.work.setup deed scope ≡ true → check_of s.work.setup deed scope ≡ None
+    → ((waits s command).1 ≡ s' → Change s s') → (done_by s command deed scope).1 ≡ s' → Change s s'
+done-change s s' command Enable Device may check w x = is_device_enabled (record { off = may; check = check; after = x })
+done-change s s' command Enable (Queue queue) may check w x = is_queue_enabled (record { queue = queue; on = (and_parts _ _ may).0; check = check; after = x })
+done-change s s' command Enable scope may check w x = same x
+done-change s s' command Abort scope may check w x = is_aborted (record { number = number_of command; scope = scope; after = x })
+done-change s s' command Reset Device may check w x = is_device_reset (record { number = number_of command; after = x })
+done-change s s' command Reset scope may check w x = is_queues_reset (record { number = number_of command; scope = scope; after = x })
+done-change s s' command _ scope may check w x = w x
 
-refused_or-change : (s s' : State) (command : Command) (o : Option Fault) → may_come s.work.setup command ≡ true → check_of s.work.setup command ≡ o → (refused_or s o (carried_out s command)).1 ≡ s' → Change s s'
-refused_or-change s s' command None may check x = carried_out-change s s' command may check x
+refused_or-change : (s s' : State) (command : Command) (o : Option Fault) → may_come s.work.setup (deed_of command) (scope_of command) ≡ true
+    → check_of s.work.setup (deed_of command) (scope_of command) ≡ o → (refused_or s o (carried_out s command)).1 ≡ s' → Change s s'
+refused_or-change s s' command None may check x = done-change s s' command (deed_of command) (scope_of command) may check (λ t. waits-change s s' command may t) x
 refused_or-change s s' command (Some fault) may check x = same x
 
 issue-change : (s s' : State) (command : Command) (a : IssueAnswer) → next s (Issue command) (Issue a) ≡ Some s' → Change s s'
 issue-change s s' command a h =
     let p = when-some (same_issue a (issue s command).0) (issue s command).1 s' h in
     let P : IssueAnswer × State → Type 0 = λ r. r.1 ≡ s' → Change s s' in
-    table3 P (is_some s.active) (is_bad_queues s.work.setup command) (not (may_come s.work.setup command)) _ _ _ (refused_or s (check_of s.work.setup command) (carried_out s command))
+    table3 P (is_some s.active) (is_bad_queues s.work.setup (scope_of command)) (not (may_come s.work.setup (deed_of command) (scope_of command))) _ _ _ (refused_or s (check_of s.work.setup (deed_of command) (scope_of command)) (carried_out s command))
     (λ u x. same x)
     (λ u x. same x)
     (λ u x. same x)
-    (λ u v t x. refused_or-change s s' command (check_of s.work.setup command) (not-false _ t) refl x)
+    (λ u v t x. refused_or-change s s' command (check_of s.work.setup (deed_of command) (scope_of command)) (not-false _ t) refl x)
     p.1
 
 poll-change : (s s' : State) (a : PollAnswer) → next s Poll (Poll a) ≡ Some s' → Change s s'
@@ -221,8 +222,8 @@ poll-change s s' a h =
     polled None x = same x
     polled (Some active) x =
         let P : PollAnswer × State → Type 0 = λ r. r.1 ≡ s' → Change s s' in
-        test P (is_at_end active s.work.content) (Finished, set_up s None (stopped active.command Off s.work.setup)) (Active, s)
-        (λ u x. is_over (record { command = active; over = u; active = None; after = x }))
+        test P (is_at_end active s.work.content) (Finished, set_up s None (stopped (deed_of active.command) (scope_of active.command) Off s.work.setup)) (Active, s)
+        (λ u x. is_over (record { deed = deed_of active.command; scope = scope_of active.command; mark = active.mark; over = u; active = None; after = x }))
         (λ u x. same x)
         x
 

@@ -10,18 +10,19 @@ use Rattle.dsa_desc.specs.Descriptor.{with_pasid, is_successful, is_lawful_batch
 use Rattle.dsa_regs.specs.declared.Caps.{Caps}
 use Rattle.dsa_regs.specs.declared.QueueConfig.{QueueConfig}
 use Rattle.dsa_regs.specs.declared.Phase.TheVariants.{Off, Stopping}
-use Rattle.dsa_regs.specs.declared.Command.{Command}
-use Rattle.dsa_regs.specs.declared.Command.TheVariants.{ResetDevice, ResetWq}
+use Rattle.dsa_regs.specs.declared.Scope.{Scope}
+use Rattle.dsa_regs.specs.declared.Scope.TheVariants.{Device}
 use Rattle.dsa_regs.specs.Caps.{list_count}
 use Rattle.dsa_regs.specs.Config.{queue_at, limits_of, zero_queue}
-use Rattle.dsa_regs.specs.Command.{named_queues}
+use Rattle.dsa_regs.specs.Command.{queues_in}
 use Rattle.dsa_store.specs.Content.{Slot, Content, is_cell, chain, count, uses, without_front, unlinked}
 use Rattle.dsa_store.proofs.Places.{filter-absent}
 use Rattle.dsa_store.proofs.Sums.{uses-counted}
 use Rattle.dsa_book.specs.declared.note.BatchNote.{BatchNote}
 use Rattle.dsa_book.specs.State.{Setup, Work, State, opening, opening_setup, is_off, is_member, is_batch_of, phase_at, status_of}
 use Rattle.dsa_book.specs.Work.{progress_list, member_list, in_progress, members, note_at, running_on, run, is_unfinished, note_after, with_first_run, opened_note, taken, ended}
-use Rattle.dsa_book.specs.Commands.{aborted, kept_note, names, size_alone}
+use Rattle.dsa_book.proofs.Scopes.{unnamed}
+use Rattle.dsa_book.specs.Commands.{aborted, is_in_scope, kept_note, names, size_alone}
 use Rattle.dsa_laws.specs.Change.{Change, same, is_noted, is_accepted, is_taken, is_fetched, is_started, is_abandoned, is_ended, is_device_enabled, is_queue_enabled, is_waiting, is_over, is_aborted, is_device_reset, is_queues_reset, is_queue_written, is_group_written}
 use Rattle.dsa_laws.specs.WellFormed.{HasShape, NoneOff, NamesOnce, IsWellFormed}
 use Rattle.dsa_laws.specs.Engines.{holds_batch, IsAlike, IsLawfulEngine, HasLawfulEngines}
@@ -53,17 +54,17 @@ configs-kept caps s s' h a (is_abandoned c) = subst (KeepsConfigs s) c.after (λ
 configs-kept caps s s' h a (is_ended c) = subst (KeepsConfigs s) c.after (λ k x i. refl)
 configs-kept caps s s' h a (is_device_enabled c) = subst (KeepsConfigs s) c.after (λ k x i. refl)
 configs-kept caps s s' h a (is_queue_enabled c) = subst (KeepsConfigs s) c.after (λ k x i. refl)
-configs-kept caps s s' h a (is_waiting c) = subst (KeepsConfigs s) c.after (λ k x i. ap (λ (l : List QueueConfig). queue_at l x.1.queue) (stopped-configs c.command Stopping s.work.setup))
-configs-kept caps s s' h a (is_over c) = subst (KeepsConfigs s) c.after (λ k x i. ap (λ (l : List QueueConfig). queue_at l x.1.queue) (stopped-configs c.command.command Off s.work.setup))
+configs-kept caps s s' h a (is_waiting c) = subst (KeepsConfigs s) c.after (λ k x i. ap (λ (l : List QueueConfig). queue_at l x.1.queue) (stopped-configs c.deed c.scope Stopping s.work.setup))
+configs-kept caps s s' h a (is_over c) = subst (KeepsConfigs s) c.after (λ k x i. ap (λ (l : List QueueConfig). queue_at l x.1.queue) (stopped-configs c.deed c.scope Off s.work.setup))
 configs-kept caps s s' h a (is_aborted c) = subst (KeepsConfigs s) c.after (λ k x i. refl)
 configs-kept caps s s' h a (is_device_reset c) = subst (KeepsConfigs s) c.after (λ k x i. not-both false (In-filtered (λ slot. not true) s.work.content k x i).1 refl)
 configs-kept caps s s' h a (is_queues_reset c) =
-    let qs = named_queues (ResetWq c.queues) in
+    let qs = queues_in c.scope in
     subst (KeepsConfigs s) c.after (λ k x i.
-    let old = In-filtered (λ slot. not (names qs slot.1.queue)) s.work.content k x i in
+    let old = In-filtered (λ slot. not (is_in_scope c.scope slot.1)) s.work.content k x i in
     let below = in-use-below caps s.work x.1.queue h (a k x old.0) in
     get_or-each (λ q. cond (names qs q) (size_alone (queue_at s.work.setup.configs q)) (queue_at s.work.setup.configs q)) s.work.setup.caps.queues x.1.queue zero_queue below
-    ∙ ap (λ (b : Bool). cond b (size_alone (queue_at s.work.setup.configs x.1.queue)) (queue_at s.work.setup.configs x.1.queue)) (not-true _ old.1))
+    ∙ ap (λ (b : Bool). cond b (size_alone (queue_at s.work.setup.configs x.1.queue)) (queue_at s.work.setup.configs x.1.queue)) (unnamed c.scope x.1 (not-true _ old.1)))
 configs-kept caps s s' h a (is_queue_written c) =
     subst (KeepsConfigs s) c.after (λ k x i. get_or-set_other s.work.setup.configs c.queue x.1.queue c.config zero_queue
     (λ (e : x.1.queue ≡ c.queue). not-both (is_off (phase_at s.work.setup c.queue)) c.off (subst (λ q. is_off (phase_at s.work.setup q) ≡ false) e (a k x i))))
@@ -261,18 +262,18 @@ front_taken w k e q x i j inside list note may own old =
     (cond-other b w.notes k e (Some (opened_note x.1)) n) old)
 
 -- an abort
-scope_aborted : (w : Work) (command : Command) (e : ℕ) → e < w.setup.caps.engines → LawAt w.setup w e → LawAt w.setup (aborted command w) e
-scope_aborted w command e i h =
-    let c = (aborted command w).content in
-    let p = is_left command in
+scope_aborted : (w : Work) (number : ℕ) (scope : Scope) (e : ℕ) → e < w.setup.caps.engines → LawAt w.setup w e → LawAt w.setup (aborted number scope w) e
+scope_aborted w number scope e i h =
+    let c = (aborted number scope w).content in
+    let p = is_left scope in
     let ps = chain w.content (progress_list w.setup e) in
     let ms = chain w.content (member_list w.setup e) in
     let left : chain c (progress_list w.setup e) ≡ filter p ps = chain-filtered p w.content (progress_list w.setup e) in
-    carry w.setup (filter p ps) (chain c (progress_list w.setup e)) (filter p ms) (chain c (member_list w.setup e)) (kept_note w.setup (filter p ps) (note_at w e)) (note_at (aborted command w) e)
+    carry w.setup (filter p ps) (chain c (progress_list w.setup e)) (filter p ms) (chain c (member_list w.setup e)) (kept_note w.setup (filter p ps) (note_at w e)) (note_at (aborted number scope w) e)
     left
     (chain-filtered p w.content (member_list w.setup e))
     (get_or-each (λ k. kept_note w.setup (chain c (progress_list w.setup k)) (note_at w k)) w.setup.caps.engines e None i ∙ ap (λ xs. kept_note w.setup xs (note_at w e)) left)
-    (with_abort command w.setup ps ms (note_at w e) h)
+    (with_abort scope w.setup ps ms (note_at w e) h)
 
 -- the entry in progress that has the name of the batch is like each of the batches there
 alike-batch : (w : Work) (k : ℕ) (n : BatchNote) (x batch : Slot) → NamesOnce w → IsAlike x batch → In batch (chain w.content (progress_list w.setup k)) → batch.1.name ≡ n.batch
@@ -362,9 +363,9 @@ lists-change caps s s' e w i h (is_device_enabled c) = subst (λ t. LawAt s.work
 lists-change caps s s' e w i h (is_queue_enabled c) = subst (λ t. LawAt s.work.setup t.work e) c.after (lists-of s.work e i h)
 lists-change caps s s' e w i h (is_waiting c) = subst (λ t. LawAt s.work.setup t.work e) c.after (lists-of s.work e i h)
 lists-change caps s s' e w i h (is_over c) = subst (λ t. LawAt s.work.setup t.work e) c.after (lists-of s.work e i h)
-lists-change caps s s' e w i h (is_aborted c) = subst (λ t. LawAt s.work.setup t.work e) c.after (scope_aborted s.work c.command e (ltb-true e s.work.setup.caps.engines i) (lists-of s.work e i h))
-lists-change caps s s' e w i h (is_device_reset c) = subst (λ t. LawAt s.work.setup t.work e) c.after (scope_aborted s.work ResetDevice e (ltb-true e s.work.setup.caps.engines i) (lists-of s.work e i h))
-lists-change caps s s' e w i h (is_queues_reset c) = subst (λ t. LawAt s.work.setup t.work e) c.after (scope_aborted s.work (ResetWq c.queues) e (ltb-true e s.work.setup.caps.engines i) (lists-of s.work e i h))
+lists-change caps s s' e w i h (is_aborted c) = subst (λ t. LawAt s.work.setup t.work e) c.after (scope_aborted s.work c.number c.scope e (ltb-true e s.work.setup.caps.engines i) (lists-of s.work e i h))
+lists-change caps s s' e w i h (is_device_reset c) = subst (λ t. LawAt s.work.setup t.work e) c.after (scope_aborted s.work c.number Device e (ltb-true e s.work.setup.caps.engines i) (lists-of s.work e i h))
+lists-change caps s s' e w i h (is_queues_reset c) = subst (λ t. LawAt s.work.setup t.work e) c.after (scope_aborted s.work c.number c.scope e (ltb-true e s.work.setup.caps.engines i) (lists-of s.work e i h))
 lists-change caps s s' e w i h (is_queue_written c) = subst (λ t. LawAt s.work.setup t.work e) c.after (lists-of s.work e i h)
 lists-change caps s s' e w i h (is_group_written c) = subst (λ t. LawAt s.work.setup t.work e) c.after (lists-of s.work e i h)
 

@@ -10,13 +10,16 @@ use Rattle.dsa_desc.specs.Descriptor.{pasid_of}
 use Rattle.dsa_regs.specs.declared.Caps.{Caps}
 use Rattle.dsa_regs.specs.declared.Phase.{Phase}
 use Rattle.dsa_regs.specs.declared.Phase.TheVariants.{Off, On, Stopping}
-use Rattle.dsa_regs.specs.declared.Command.{Command}
-use Rattle.dsa_regs.specs.declared.Command.TheVariants.{DisableDevice, ResetDevice, DisableWq, ResetWq}
-use Rattle.dsa_regs.specs.Command.{named_queues}
+use Rattle.dsa_regs.specs.declared.Scope.{Scope}
+use Rattle.dsa_regs.specs.declared.Scope.TheVariants.{Device}
+use Rattle.dsa_regs.specs.declared.Deed.{Deed}
+use Rattle.dsa_regs.specs.declared.Deed.TheVariants.{Disable}
+use Rattle.dsa_regs.specs.Command.{queues_in}
 use Rattle.dsa_store.specs.Content.{Slot, Content, chain, all_held, without_front}
 use Rattle.dsa_book.specs.State.{Work, State, opening, is_off, phase_at}
 use Rattle.dsa_book.specs.Work.{progress_list, member_list, in_progress, members, run, with_first_run}
-use Rattle.dsa_book.specs.Commands.{stopped, with_phases, names, is_in_scope, is_at_end}
+use Rattle.dsa_book.proofs.Scopes.{unnamed}
+use Rattle.dsa_book.specs.Commands.{stopped, with_phases, names, is_in_scope, holds, is_awaited}
 use Rattle.dsa_laws.specs.Change.{Change, IsAccepted, IsFetched, same, is_noted, is_accepted, is_taken, is_fetched, is_started, is_abandoned, is_ended, is_device_enabled, is_queue_enabled, is_waiting, is_over, is_aborted, is_device_reset, is_queues_reset, is_queue_written, is_group_written}
 use Rattle.dsa_laws.specs.WellFormed.{HasShape, IsPlaced, NoneOff, PasidsFit, HasLawfulEntries, HasLawfulSetup}
 use Rattle.dsa_laws.proofs.Contents.{In-find, In-chain, In-filtered, each-set, each-pushed, each-without_front, each-filtered, chain-empty, none-In}
@@ -69,7 +72,7 @@ each-content P r s s' (is_queue_enabled c) a n m = subst (λ t. EachAt (λ k. P)
 each-content P r s s' (is_waiting c) a n m = subst (λ t. EachAt (λ k. P) t.work.content) c.after a
 each-content P r s s' (is_over c) a n m = subst (λ t. EachAt (λ k. P) t.work.content) c.after a
 each-content P r s s' (is_aborted c) a n m = subst (λ t. EachAt (λ k. P) t.work.content) c.after (each-filtered (λ k. P) _ s.work.content a)
-each-content P r s s' (is_device_reset c) a n m = subst (λ t. EachAt (λ k. P) t.work.content) c.after (each-filtered (λ k. P) (λ x. not (is_in_scope ResetDevice x.1)) s.work.content a)
+each-content P r s s' (is_device_reset c) a n m = subst (λ t. EachAt (λ k. P) t.work.content) c.after (each-filtered (λ k. P) (λ x. not (is_in_scope Device x.1)) s.work.content a)
 each-content P r s s' (is_queues_reset c) a n m = subst (λ t. EachAt (λ k. P) t.work.content) c.after (each-filtered (λ k. P) _ s.work.content a)
 each-content P r s s' (is_queue_written c) a n m = subst (λ t. EachAt (λ k. P) t.work.content) c.after a
 each-content P r s s' (is_group_written c) a n m = subst (λ t. EachAt (λ k. P) t.work.content) c.after a
@@ -114,7 +117,7 @@ placed-change caps s s' h a (is_queue_enabled c) = subst (λ t. EachAt (IsPlaced
 placed-change caps s s' h a (is_waiting c) = subst (λ t. EachAt (IsPlaced caps) t.work.content) c.after a
 placed-change caps s s' h a (is_over c) = subst (λ t. EachAt (IsPlaced caps) t.work.content) c.after a
 placed-change caps s s' h a (is_aborted c) = subst (λ t. EachAt (IsPlaced caps) t.work.content) c.after (each-filtered (IsPlaced caps) _ s.work.content a)
-placed-change caps s s' h a (is_device_reset c) = subst (λ t. EachAt (IsPlaced caps) t.work.content) c.after (each-filtered (IsPlaced caps) (λ x. not (is_in_scope ResetDevice x.1)) s.work.content a)
+placed-change caps s s' h a (is_device_reset c) = subst (λ t. EachAt (IsPlaced caps) t.work.content) c.after (each-filtered (IsPlaced caps) (λ x. not (is_in_scope Device x.1)) s.work.content a)
 placed-change caps s s' h a (is_queues_reset c) = subst (λ t. EachAt (IsPlaced caps) t.work.content) c.after (each-filtered (IsPlaced caps) _ s.work.content a)
 placed-change caps s s' h a (is_queue_written c) = subst (λ t. EachAt (IsPlaced caps) t.work.content) c.after a
 placed-change caps s s' h a (is_group_written c) = subst (λ t. EachAt (IsPlaced caps) t.work.content) c.after a
@@ -151,18 +154,19 @@ kept-phase caps w test p q h out n =
     tested true t (inr g) = g
     tested false t o = n
 
-over-off : (caps : Caps) (w : Work) (c : Command) (mark : ℕ) → HasShape caps w → is_at_end (record { command = c; mark = mark }) w.content ≡ true
-    → (k : ℕ) (x : Slot) → In x (chain w.content k) → is_off (phase_at w.setup x.1.queue) ≡ false → is_off (phase_at (stopped c Off w.setup) x.1.queue) ≡ false
-over-off caps w DisableDevice mark h e k x i p = absurd (not-both true refl (none-slot (λ slot. true) w.content k x (not-true _ e) i))
-over-off caps w (DisableWq queues) mark h e k x i p =
-    let out = none-slot (λ slot. names (named_queues (DisableWq queues)) slot.1.queue) w.content k x (not-true _ e) i in
-    kept-phase caps w (names (named_queues (DisableWq queues))) Off x.1.queue h (inl out) p
-over-off caps w _ mark h e k x i p = p
+over-off : (caps : Caps) (w : Work) (deed : Deed) (scope : Scope) (mark : ℕ) → HasShape caps w → not (holds (is_awaited deed scope mark) w.content) ≡ true
+    → (k : ℕ) (x : Slot) → In x (chain w.content k) → is_off (phase_at w.setup x.1.queue) ≡ false → is_off (phase_at (stopped deed scope Off w.setup) x.1.queue) ≡ false
+over-off caps w Disable Device mark h e k x i p = absurd (not-both true refl (none-slot (λ slot. true) w.content k x (not-true _ e) i))
+over-off caps w Disable scope mark h e k x i p =
+    let out = none-slot (λ slot. is_in_scope scope slot.1) w.content k x (not-true _ e) i in
+    kept-phase caps w (names (queues_in scope)) Off x.1.queue h (inl (unnamed scope x.1 out)) p
+over-off caps w _ scope mark h e k x i p = p
 
-waiting-off : (caps : Caps) (w : Work) (c : Command) → HasShape caps w → (q : ℕ) → is_off (phase_at w.setup q) ≡ false → is_off (phase_at (stopped c Stopping w.setup) q) ≡ false
-waiting-off caps w DisableDevice h q n = kept-phase caps w (λ k. not (is_off (phase_at w.setup k))) Stopping q h (inr refl) n
-waiting-off caps w (DisableWq queues) h q n = kept-phase caps w (names (named_queues (DisableWq queues))) Stopping q h (inr refl) n
-waiting-off caps w _ h q n = n
+waiting-off : (caps : Caps) (w : Work) (deed : Deed) (scope : Scope) → HasShape caps w → (q : ℕ)
+    → is_off (phase_at w.setup q) ≡ false → is_off (phase_at (stopped deed scope Stopping w.setup) q) ≡ false
+waiting-off caps w Disable Device h q n = kept-phase caps w (λ k. not (is_off (phase_at w.setup k))) Stopping q h (inr refl) n
+waiting-off caps w Disable scope h q n = kept-phase caps w (names (queues_in scope)) Stopping q h (inr refl) n
+waiting-off caps w _ scope h q n = n
 
 -- the same of what entries there are after the change, by the phases before it
 old-off : (s s' : State) → NoneOff s.work → Change s s' → EachAt (λ k x. is_off (phase_at s.work.setup x.1.queue) ≡ false) s'.work.content
@@ -185,13 +189,13 @@ phases-kept caps s s' h (is_abandoned c) = subst (λ t. KeepsPhases s t) c.after
 phases-kept caps s s' h (is_ended c) = subst (λ t. KeepsPhases s t) c.after (λ k x i p. p)
 phases-kept caps s s' h (is_device_enabled c) = subst (λ t. KeepsPhases s t) c.after (λ k x i p. p)
 phases-kept caps s s' h (is_queue_enabled c) = subst (λ t. KeepsPhases s t) c.after (λ k x i p. kept-phase caps s.work (λ q. q == c.queue) On x.1.queue h (inr refl) p)
-phases-kept caps s s' h (is_waiting c) = subst (λ t. KeepsPhases s t) c.after (λ k x i p. waiting-off caps s.work c.command h x.1.queue p)
-phases-kept caps s s' h (is_over c) = subst (λ t. KeepsPhases s t) c.after (λ k x i p. over-off caps s.work c.command.command c.command.mark h c.over k x i p)
+phases-kept caps s s' h (is_waiting c) = subst (λ t. KeepsPhases s t) c.after (λ k x i p. waiting-off caps s.work c.deed c.scope h x.1.queue p)
+phases-kept caps s s' h (is_over c) = subst (λ t. KeepsPhases s t) c.after (λ k x i p. over-off caps s.work c.deed c.scope c.mark h c.over k x i p)
 phases-kept caps s s' h (is_aborted c) = subst (λ t. KeepsPhases s t) c.after (λ k x i p. p)
 phases-kept caps s s' h (is_device_reset c) = subst (λ t. KeepsPhases s t) c.after (λ k x i p. not-both false (In-filtered (λ slot. not true) s.work.content k x i).1 refl)
 phases-kept caps s s' h (is_queues_reset c) =
-    let qs = named_queues (ResetWq c.queues) in
-    subst (λ t. KeepsPhases s t) c.after (λ k x i p. kept-phase caps s.work (names qs) Off x.1.queue h (inl (not-true _ (In-filtered (λ slot. not (names qs slot.1.queue)) s.work.content k x i).1)) p)
+    let qs = queues_in c.scope in
+    subst (λ t. KeepsPhases s t) c.after (λ k x i p. kept-phase caps s.work (names qs) Off x.1.queue h (inl (unnamed c.scope x.1 (not-true _ (In-filtered (λ slot. not (is_in_scope c.scope slot.1)) s.work.content k x i).1))) p)
 phases-kept caps s s' h (is_queue_written c) = subst (λ t. KeepsPhases s t) c.after (λ k x i p. p)
 phases-kept caps s s' h (is_group_written c) = subst (λ t. KeepsPhases s t) c.after (λ k x i p. p)
 

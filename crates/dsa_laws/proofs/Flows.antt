@@ -8,8 +8,8 @@ use Rattle.std.proofs.lemmas.Bool.Decides.{nat_tests}
 use Rattle.dsa_regs.specs.declared.Caps.{Caps}
 use Rattle.dsa_regs.specs.Caps.{cell_count}
 use Rattle.dsa_regs.specs.declared.Phase.TheVariants.{Off, Stopping}
-use Rattle.dsa_regs.specs.declared.Command.{Command}
-use Rattle.dsa_regs.specs.declared.Command.TheVariants.{ResetDevice, ResetWq}
+use Rattle.dsa_regs.specs.declared.Scope.{Scope}
+use Rattle.dsa_regs.specs.declared.Scope.TheVariants.{Device}
 use Rattle.dsa_store.specs.declared.entry.Cell.{Cell}
 use Rattle.dsa_store.specs.Content.{Slot, Content, chain, uses, all_held, is_cell, is_free, pushed, without_front}
 use Rattle.dsa_store.proofs.Sums.{sum-set, sum-pushed, sum-without_front, sum-split, uses-counted, held-counted, is_free-unused, all_held-filtered}
@@ -188,9 +188,9 @@ sum-taken f alike content q to front qin toin h = go (chain content q) refl h
         omega (arith, less, more, ran, weight)
 
 -- an aborted scope
-aborted-flow : (caps : Caps) (command : Command) (w w' : Work) → UsesOnce caps w → w'.content ≡ (aborted command w).content → w'.fates ≡ (aborted command w).fates → next_of w' ≡ next_of w → IsFlow caps w w'
-aborted-flow caps command w w' once content fates next =
-    let test : Slot → Bool = λ slot. is_in_scope command slot.1 in
+aborted-flow : (caps : Caps) (number : ℕ) (scope : Scope) (w w' : Work) → UsesOnce caps w → w'.content ≡ (aborted number scope w).content → w'.fates ≡ (aborted number scope w).fates → next_of w' ≡ next_of w → IsFlow caps w w'
+aborted-flow caps number scope w w' once content fates next =
+    let test : Slot → Bool = λ slot. is_in_scope scope slot.1 in
     left caps w w' _ (filter test (all_held w.content)) once
     (λ f.
     let a = ap (λ (c : Content). sum_by f (all_held c)) content in
@@ -254,11 +254,11 @@ flow-change caps s s' h once (is_ended c) =
     omega (arith, all, is, single)) refl refl)
 flow-change caps s s' h once (is_device_enabled c) = subst (λ t. IsFlow caps s.work t.work) c.after (unmoved caps s.work _ (uses-once caps s.work once) refl refl refl)
 flow-change caps s s' h once (is_queue_enabled c) = subst (λ t. IsFlow caps s.work t.work) c.after (unmoved caps s.work _ (uses-once caps s.work once) refl refl refl)
-flow-change caps s s' h once (is_waiting c) = subst (λ t. IsFlow caps s.work t.work) c.after (unmoved caps s.work _ (uses-once caps s.work once) refl refl (stopped-names c.command Stopping s.work.setup))
-flow-change caps s s' h once (is_over c) = subst (λ t. IsFlow caps s.work t.work) c.after (unmoved caps s.work _ (uses-once caps s.work once) refl refl (stopped-names c.command.command Off s.work.setup))
-flow-change caps s s' h once (is_aborted c) = subst (λ t. IsFlow caps s.work t.work) c.after (aborted-flow caps c.command s.work _ (uses-once caps s.work once) refl refl refl)
-flow-change caps s s' h once (is_device_reset c) = subst (λ t. IsFlow caps s.work t.work) c.after (aborted-flow caps ResetDevice s.work _ (uses-once caps s.work once) refl refl refl)
-flow-change caps s s' h once (is_queues_reset c) = subst (λ t. IsFlow caps s.work t.work) c.after (aborted-flow caps (ResetWq c.queues) s.work _ (uses-once caps s.work once) refl refl refl)
+flow-change caps s s' h once (is_waiting c) = subst (λ t. IsFlow caps s.work t.work) c.after (unmoved caps s.work _ (uses-once caps s.work once) refl refl (stopped-names c.deed c.scope Stopping s.work.setup))
+flow-change caps s s' h once (is_over c) = subst (λ t. IsFlow caps s.work t.work) c.after (unmoved caps s.work _ (uses-once caps s.work once) refl refl (stopped-names c.deed c.scope Off s.work.setup))
+flow-change caps s s' h once (is_aborted c) = subst (λ t. IsFlow caps s.work t.work) c.after (aborted-flow caps c.number c.scope s.work _ (uses-once caps s.work once) refl refl refl)
+flow-change caps s s' h once (is_device_reset c) = subst (λ t. IsFlow caps s.work t.work) c.after (aborted-flow caps c.number Device s.work _ (uses-once caps s.work once) refl refl refl)
+flow-change caps s s' h once (is_queues_reset c) = subst (λ t. IsFlow caps s.work t.work) c.after (aborted-flow caps c.number c.scope s.work _ (uses-once caps s.work once) refl refl refl)
 flow-change caps s s' h once (is_queue_written c) = subst (λ t. IsFlow caps s.work t.work) c.after (unmoved caps s.work _ (uses-once caps s.work once) refl refl refl)
 flow-change caps s s' h once (is_group_written c) = subst (λ t. IsFlow caps s.work t.work) c.after (unmoved caps s.work _ (uses-once caps s.work once) refl refl refl)
 

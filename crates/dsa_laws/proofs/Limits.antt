@@ -9,11 +9,11 @@ use Rattle.dsa_regs.specs.declared.QueueConfig.{QueueConfig}
 use Rattle.dsa_regs.specs.declared.GroupConfig.{GroupConfig}
 use Rattle.dsa_regs.specs.declared.Phase.{Phase}
 use Rattle.dsa_regs.specs.declared.Phase.TheVariants.{Off, Stopping}
-use Rattle.dsa_regs.specs.declared.Command.{Command}
-use Rattle.dsa_regs.specs.declared.Command.TheVariants.{ResetWq}
+use Rattle.dsa_regs.specs.declared.Scope.{Scope}
+use Rattle.dsa_regs.specs.declared.Deed.{Deed}
 use Rattle.dsa_regs.specs.Config.{queue_at, check_queue, queue_table, zero_queue}
 use Rattle.dsa_regs.specs.Caps.{list_count}
-use Rattle.dsa_regs.specs.Command.{named_queues}
+use Rattle.dsa_regs.specs.Command.{queues_in}
 use Rattle.dsa_store.specs.Content.{Slot, Content, chain, pushed, without_front}
 use Rattle.dsa_book.specs.declared.event.Portal.{Portal}
 use Rattle.dsa_book.specs.declared.event.Portal.TheVariants.{Limited, Unlimited}
@@ -124,8 +124,8 @@ pub taken-test : (w : Work) (e q : ℕ) (front : Slot) → qualifies w e q ≡ t
 taken-test w e q front h f =
     subst (λ o. passes (may_take w e) o ≡ true) f (and_parts _ _ (and_parts _ _ h).1).1
 
-same-stopped : (command : Command) (phase : Phase) (setup : Setup) (q : ℕ) → (queue_at (stopped command phase setup).configs q).size ≡ (queue_at setup.configs q).size
-same-stopped command phase setup q = ap (λ (c : List QueueConfig). (queue_at c q).size) (stopped-configs command phase setup)
+same-stopped : (deed : Deed) (scope : Scope) (phase : Phase) (setup : Setup) (q : ℕ) → (queue_at (stopped deed scope phase setup).configs q).size ≡ (queue_at setup.configs q).size
+same-stopped deed scope phase setup q = ap (λ (c : List QueueConfig). (queue_at c q).size) (stopped-configs deed scope phase setup)
 
 off-empty : (caps : Caps) (w : Work) (q : ℕ) → HasLawfulEntries caps w → q < caps.queues → is_off (phase_at w.setup q) ≡ true → length (chain w.content q) ≡ 0
 off-empty caps w q h i off = ap (λ (xs : List Slot). length xs) (none-In (chain w.content q) (λ x j.
@@ -227,8 +227,8 @@ lists_fit-change caps s s' shape setup entries h (is_abandoned c) =
 lists_fit-change caps s s' shape setup entries h (is_ended c) = subst (λ t. ListsFit caps t.work) c.after (shorter caps s.work _ h (size-filtered _ s.work.content) (λ q i. refl))
 lists_fit-change caps s s' shape setup entries h (is_device_enabled c) = subst (λ t. ListsFit caps t.work) c.after (shorter caps s.work _ h (as-before s.work.content) (λ q i. refl))
 lists_fit-change caps s s' shape setup entries h (is_queue_enabled c) = subst (λ t. ListsFit caps t.work) c.after (shorter caps s.work _ h (as-before s.work.content) (λ q i. refl))
-lists_fit-change caps s s' shape setup entries h (is_waiting c) = subst (λ t. ListsFit caps t.work) c.after (shorter caps s.work _ h (as-before s.work.content) (λ q i. same-stopped c.command Stopping s.work.setup q))
-lists_fit-change caps s s' shape setup entries h (is_over c) = subst (λ t. ListsFit caps t.work) c.after (shorter caps s.work _ h (as-before s.work.content) (λ q i. same-stopped c.command.command Off s.work.setup q))
+lists_fit-change caps s s' shape setup entries h (is_waiting c) = subst (λ t. ListsFit caps t.work) c.after (shorter caps s.work _ h (as-before s.work.content) (λ q i. same-stopped c.deed c.scope Stopping s.work.setup q))
+lists_fit-change caps s s' shape setup entries h (is_over c) = subst (λ t. ListsFit caps t.work) c.after (shorter caps s.work _ h (as-before s.work.content) (λ q i. same-stopped c.deed c.scope Off s.work.setup q))
 lists_fit-change caps s s' shape setup entries h (is_aborted c) = subst (λ t. ListsFit caps t.work) c.after (shorter caps s.work _ h (size-filtered _ s.work.content) (λ q i. refl))
 lists_fit-change caps s s' shape setup entries h (is_device_reset c) =
     let none : (k : ℕ) → length (chain (map (filter (λ (slot : Slot). not true)) s.work.content) k) ≡ 0
@@ -238,7 +238,7 @@ lists_fit-change caps s s' shape setup entries h (is_device_reset c) =
       slots = λ e i. let z = none (caps.queues + e) in omega (arith, z);
     })
 lists_fit-change caps s s' shape setup entries h (is_queues_reset c) =
-    let qs = named_queues (ResetWq c.queues) in
+    let qs = queues_in c.scope in
     let size = ap (λ (c : Caps). c.queues) shape.same_caps in
     subst (λ t. ListsFit caps t.work) c.after (shorter caps s.work _ h (size-filtered _ s.work.content) (λ q i.
     ap (λ (c : QueueConfig). c.size) (get_or-each (λ k. cond (names qs k) (size_alone (queue_at s.work.setup.configs k)) (queue_at s.work.setup.configs k)) s.work.setup.caps.queues q zero_queue (omega (arith, i, size)))

@@ -8,8 +8,8 @@ use Rattle.dsa_desc.specs.declared.QueueLimits.{QueueLimits}
 use Rattle.dsa_desc.specs.Rows.{first_row_or}
 use Rattle.dsa_desc.specs.Descriptor.{is_lawful_batch, is_batch, is_within, is_well_formed, is_supported, is_fenced, is_transfer, check, is_successful}
 use Rattle.dsa_regs.specs.declared.Caps.{Caps}
-use Rattle.dsa_regs.specs.declared.Command.{Command}
-use Rattle.dsa_regs.specs.declared.Command.TheVariants.{ResetDevice, ResetWq}
+use Rattle.dsa_regs.specs.declared.Scope.{Scope}
+use Rattle.dsa_regs.specs.declared.Scope.TheVariants.{Device}
 use Rattle.dsa_regs.specs.Config.{queue_at, queue_table}
 use Rattle.dsa_store.specs.Content.{Slot, chain}
 use Rattle.dsa_book.specs.declared.note.BatchNote.{BatchNote}
@@ -75,14 +75,14 @@ kept-fits : (caps : Caps) (setup : Setup) (xs : List Slot) (o : Option BatchNote
 kept-fits caps setup xs None h = h
 kept-fits caps setup xs (Some n) h = fits-cond caps _ (Some n) None (λ t. h) tt
 
-aborted-fits : (caps : Caps) (command : Command) (w : Work) → NotesFit caps w → (j : ℕ) → NoteFits caps (get_or (aborted command w).notes j None)
-aborted-fits caps command w h j = ⊎_elim
-    (λ t. subst (NoteFits caps) (sym (get_or-each f w.setup.caps.engines j None (ltb-true j w.setup.caps.engines t))) (kept-fits caps w.setup (chain (aborted command w).content (progress_list w.setup j)) (note_at w j) (h j)))
+aborted-fits : (caps : Caps) (number : ℕ) (scope : Scope) (w : Work) → NotesFit caps w → (j : ℕ) → NoteFits caps (get_or (aborted number scope w).notes j None)
+aborted-fits caps number scope w h j = ⊎_elim
+    (λ t. subst (NoteFits caps) (sym (get_or-each f w.setup.caps.engines j None (ltb-true j w.setup.caps.engines t))) (kept-fits caps w.setup (chain (aborted number scope w).content (progress_list w.setup j)) (note_at w j) (h j)))
     (λ e. subst (NoteFits caps) (sym (get_or-past f w.setup.caps.engines j None (ltb-false j w.setup.caps.engines e))) tt)
     (cases_Bool (nat_lt j w.setup.caps.engines))
   where
     f : ℕ → Option BatchNote
-    f = λ e. kept_note w.setup (chain (aborted command w).content (progress_list w.setup e)) (note_at w e)
+    f = λ e. kept_note w.setup (chain (aborted number scope w).content (progress_list w.setup e)) (note_at w e)
 
 taken-fits : (caps : Caps) (b : Bool) (notes : List (Option BatchNote)) (e : ℕ) (x : Option BatchNote) → ((j : ℕ) → NoteFits caps (get_or notes j None)) → (b ≡ true → NoteFits caps x) → (j : ℕ) → NoteFits caps (get_or (cond b (set notes e x) notes) j None)
 taken-fits caps true notes e x a p j = set-notes caps notes e x a (p refl) j
@@ -118,9 +118,9 @@ notes-change caps s s' shape setup entries h (is_device_enabled c) = subst (λ t
 notes-change caps s s' shape setup entries h (is_queue_enabled c) = subst (λ t. NotesFit caps t.work) c.after h
 notes-change caps s s' shape setup entries h (is_waiting c) = subst (λ t. NotesFit caps t.work) c.after h
 notes-change caps s s' shape setup entries h (is_over c) = subst (λ t. NotesFit caps t.work) c.after h
-notes-change caps s s' shape setup entries h (is_aborted c) = subst (λ t. NotesFit caps t.work) c.after (aborted-fits caps c.command s.work h)
-notes-change caps s s' shape setup entries h (is_device_reset c) = subst (λ t. NotesFit caps t.work) c.after (aborted-fits caps ResetDevice s.work h)
-notes-change caps s s' shape setup entries h (is_queues_reset c) = subst (λ t. NotesFit caps t.work) c.after (aborted-fits caps (ResetWq c.queues) s.work h)
+notes-change caps s s' shape setup entries h (is_aborted c) = subst (λ t. NotesFit caps t.work) c.after (aborted-fits caps c.number c.scope s.work h)
+notes-change caps s s' shape setup entries h (is_device_reset c) = subst (λ t. NotesFit caps t.work) c.after (aborted-fits caps c.number Device s.work h)
+notes-change caps s s' shape setup entries h (is_queues_reset c) = subst (λ t. NotesFit caps t.work) c.after (aborted-fits caps c.number c.scope s.work h)
 notes-change caps s s' shape setup entries h (is_queue_written c) = subst (λ t. NotesFit caps t.work) c.after h
 notes-change caps s s' shape setup entries h (is_group_written c) = subst (λ t. NotesFit caps t.work) c.after h
 

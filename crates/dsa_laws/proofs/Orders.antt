@@ -2,7 +2,7 @@
 use Rattle.std.proofs.Common.{drop, ◌≡◌, ℕ, zero, suc, ◌+◌, ◌≤◌, not, Bool, true, false, cond, List, [], ◌∷◌, ◌++◌, map, set, refl, sym, ap, ◌∙◌, subst, ◌⊎◌, inl, inr, arith, ⊎_elim, ◌-◌, ◌<◌, length}
 use Rattle.std.specs.Prelude.{filter, nat_lt}
 use Rattle.dsa_regs.specs.declared.Caps.{Caps}
-use Rattle.dsa_regs.specs.declared.Command.TheVariants.{ResetDevice}
+use Rattle.dsa_regs.specs.declared.Scope.TheVariants.{Device}
 use Rattle.dsa_regs.specs.Caps.{list_count}
 use Rattle.dsa_store.specs.Content.{Slot, Content, chain, without_front}
 use Rattle.dsa_book.specs.State.{Work, State, opening}
@@ -139,7 +139,7 @@ order-change caps s s' shape h (is_queue_enabled c) = subst (InOrder caps) c.aft
 order-change caps s s' shape h (is_waiting c) = subst (InOrder caps) c.after h
 order-change caps s s' shape h (is_over c) = subst (InOrder caps) c.after h
 order-change caps s s' shape h (is_aborted c) = subst (InOrder caps) c.after (filtered-order caps _ s.work h)
-order-change caps s s' shape h (is_device_reset c) = subst (InOrder caps) c.after (filtered-order caps (λ x. not (is_in_scope ResetDevice x.1)) s.work h)
+order-change caps s s' shape h (is_device_reset c) = subst (InOrder caps) c.after (filtered-order caps (λ x. not (is_in_scope Device x.1)) s.work h)
 order-change caps s s' shape h (is_queues_reset c) = subst (InOrder caps) c.after (filtered-order caps _ s.work h)
 order-change caps s s' shape h (is_queue_written c) = subst (InOrder caps) c.after h
 order-change caps s s' shape h (is_group_written c) = subst (InOrder caps) c.after h

@@ -6,8 +6,10 @@ use Rattle.std.proofs.lemmas.Bool.{ltb-true, lt-ltb}
 use Rattle.dsa_regs.specs.declared.Caps.{Caps}
 use Rattle.dsa_regs.specs.declared.Phase.{Phase}
 use Rattle.dsa_regs.specs.declared.Phase.TheVariants.{Off, Stopping}
-use Rattle.dsa_regs.specs.declared.Command.{Command}
-use Rattle.dsa_regs.specs.declared.Command.TheVariants.{DisableDevice, DisableWq}
+use Rattle.dsa_regs.specs.declared.Scope.{Scope}
+use Rattle.dsa_regs.specs.declared.Scope.TheVariants.{Device}
+use Rattle.dsa_regs.specs.declared.Deed.{Deed}
+use Rattle.dsa_regs.specs.declared.Deed.TheVariants.{Disable}
 use Rattle.dsa_regs.specs.Caps.{list_count}
 use Rattle.dsa_store.specs.Content.{Slot, chain}
 use Rattle.dsa_book.specs.declared.note.BatchNote.{BatchNote}
@@ -32,36 +34,36 @@ length-cond_set false xs i x = refl
 queues-of : (caps : Caps) (w : Work) → HasShape caps w → w.setup.caps.queues ≡ length w.setup.phases
 queues-of caps w h = ap (λ (c : Caps). c.queues) h.same_caps ∙ sym h.phases
 
-pub stopped-caps : (command : Command) (phase : Phase) (setup : Setup) → (stopped command phase setup).caps ≡ setup.caps
-stopped-caps DisableDevice phase setup = refl
-stopped-caps (DisableWq queues) phase setup = refl
-stopped-caps _ phase setup = refl
+pub stopped-caps : (deed : Deed) (scope : Scope) (phase : Phase) (setup : Setup) → (stopped deed scope phase setup).caps ≡ setup.caps
+stopped-caps Disable Device phase setup = refl
+stopped-caps Disable scope phase setup = refl
+stopped-caps _ scope phase setup = refl
 
-pub stopped-configs : (command : Command) (phase : Phase) (setup : Setup) → (stopped command phase setup).configs ≡ setup.configs
-stopped-configs DisableDevice phase setup = refl
-stopped-configs (DisableWq queues) phase setup = refl
-stopped-configs _ phase setup = refl
+pub stopped-configs : (deed : Deed) (scope : Scope) (phase : Phase) (setup : Setup) → (stopped deed scope phase setup).configs ≡ setup.configs
+stopped-configs Disable Device phase setup = refl
+stopped-configs Disable scope phase setup = refl
+stopped-configs _ scope phase setup = refl
 
-pub stopped-groups : (command : Command) (phase : Phase) (setup : Setup) → (stopped command phase setup).groups ≡ setup.groups
-stopped-groups DisableDevice phase setup = refl
-stopped-groups (DisableWq queues) phase setup = refl
-stopped-groups _ phase setup = refl
+pub stopped-groups : (deed : Deed) (scope : Scope) (phase : Phase) (setup : Setup) → (stopped deed scope phase setup).groups ≡ setup.groups
+stopped-groups Disable Device phase setup = refl
+stopped-groups Disable scope phase setup = refl
+stopped-groups _ scope phase setup = refl
 
-pub stopped-names : (command : Command) (phase : Phase) (setup : Setup) → (stopped command phase setup).next_name ≡ setup.next_name
-stopped-names DisableDevice phase setup = refl
-stopped-names (DisableWq queues) phase setup = refl
-stopped-names _ phase setup = refl
+pub stopped-names : (deed : Deed) (scope : Scope) (phase : Phase) (setup : Setup) → (stopped deed scope phase setup).next_name ≡ setup.next_name
+stopped-names Disable Device phase setup = refl
+stopped-names Disable scope phase setup = refl
+stopped-names _ scope phase setup = refl
 
-stopped-phases : (command : Command) (phase : Phase) (setup : Setup) → setup.caps.queues ≡ length setup.phases → length (stopped command phase setup).phases ≡ length setup.phases
-stopped-phases DisableDevice phase setup h = length-each _ setup.caps.queues ∙ h
-stopped-phases (DisableWq queues) phase setup h = length-each _ setup.caps.queues ∙ h
-stopped-phases _ phase setup h = refl
+stopped-phases : (deed : Deed) (scope : Scope) (phase : Phase) (setup : Setup) → setup.caps.queues ≡ length setup.phases → length (stopped deed scope phase setup).phases ≡ length setup.phases
+stopped-phases Disable Device phase setup h = length-each _ setup.caps.queues ∙ h
+stopped-phases Disable scope phase setup h = length-each _ setup.caps.queues ∙ h
+stopped-phases _ scope phase setup h = refl
 
-stopped_shape : (caps : Caps) (w : Work) (command : Command) (phase : Phase) → HasShape caps w → HasShape caps (record w { setup = stopped command phase w.setup })
-stopped_shape caps w command phase h =
-    same_shape caps w (record w { setup = stopped command phase w.setup }) h
-    (stopped-caps command phase w.setup) refl (ap length (stopped-configs command phase w.setup))
-    (stopped-phases command phase w.setup (queues-of caps w h)) (ap length (stopped-groups command phase w.setup)) refl
+stopped_shape : (caps : Caps) (w : Work) (deed : Deed) (scope : Scope) (phase : Phase) → HasShape caps w → HasShape caps (record w { setup = stopped deed scope phase w.setup })
+stopped_shape caps w deed scope phase h =
+    same_shape caps w (record w { setup = stopped deed scope phase w.setup }) h
+    (stopped-caps deed scope phase w.setup) refl (ap length (stopped-configs deed scope phase w.setup))
+    (stopped-phases deed scope phase w.setup (queues-of caps w h)) (ap length (stopped-groups deed scope phase w.setup)) refl
 
 pub shape-change : (caps : Caps) (s s' : State) → HasShape caps s.work → Change s s' → HasShape caps s'.work
 shape-change caps s s' h (same c) = subst (λ t. HasShape caps t.work) c h
@@ -81,8 +83,8 @@ shape-change caps s s' h (is_ended c) =
 shape-change caps s s' h (is_device_enabled c) = subst (λ t. HasShape caps t.work) c.after (same_shape caps s.work _ h refl refl refl refl refl refl)
 shape-change caps s s' h (is_queue_enabled c) =
     subst (λ t. HasShape caps t.work) c.after (same_shape caps s.work _ h refl refl refl (length-each _ s.work.setup.caps.queues ∙ queues-of caps s.work h) refl refl)
-shape-change caps s s' h (is_waiting c) = subst (λ t. HasShape caps t.work) c.after (stopped_shape caps s.work c.command Stopping h)
-shape-change caps s s' h (is_over c) = subst (λ t. HasShape caps t.work) c.after (stopped_shape caps s.work c.command.command Off h)
+shape-change caps s s' h (is_waiting c) = subst (λ t. HasShape caps t.work) c.after (stopped_shape caps s.work c.deed c.scope Stopping h)
+shape-change caps s s' h (is_over c) = subst (λ t. HasShape caps t.work) c.after (stopped_shape caps s.work c.deed c.scope Off h)
 shape-change caps s s' h (is_aborted c) =
     let notes = length-each _ s.work.setup.caps.engines ∙ ap (λ (c : Caps). c.engines) h.same_caps ∙ sym h.notes in
     subst (λ t. HasShape caps t.work) c.after (same_shape caps s.work _ h refl (length-map s.work.content _) refl refl refl notes)

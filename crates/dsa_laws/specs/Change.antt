@@ -5,12 +5,12 @@ use Rattle.dsa_desc.specs.declared.Outcome.{Outcome}
 use Rattle.dsa_regs.specs.declared.Phase.TheVariants.{Off, On, Stopping}
 use Rattle.dsa_regs.specs.declared.QueueConfig.{QueueConfig}
 use Rattle.dsa_regs.specs.declared.GroupConfig.{GroupConfig}
-use Rattle.dsa_regs.specs.declared.QueueMask.{QueueMask}
-use Rattle.dsa_regs.specs.declared.Command.{Command}
-use Rattle.dsa_regs.specs.declared.Command.TheVariants.{ResetDevice, ResetWq}
+use Rattle.dsa_regs.specs.declared.Scope.{Scope}
+use Rattle.dsa_regs.specs.declared.Scope.TheVariants.{Device}
+use Rattle.dsa_regs.specs.declared.Deed.{Deed}
 use Rattle.dsa_regs.specs.Caps.{cell_count}
 use Rattle.dsa_regs.specs.Config.{queue_at, check_device, check_queue}
-use Rattle.dsa_regs.specs.Command.{named_queues}
+use Rattle.dsa_regs.specs.Command.{queues_in}
 use Rattle.dsa_store.specs.declared.entry.Cell.{Cell}
 use Rattle.dsa_store.specs.Content.{Slot, is_free}
 use Rattle.dsa_book.specs.declared.answer.Ticket.{Ticket}
@@ -22,7 +22,7 @@ use Rattle.dsa_book.specs.declared.note.ActiveCommand.{ActiveCommand}
 use Rattle.dsa_book.specs.State.{Setup, State, is_on, is_off, phase_at, has_queue, occupancy, need_of, is_batch_of, is_ticket}
 use Rattle.dsa_book.specs.Submit.{limit_of, accepted, is_movdir64b}
 use Rattle.dsa_book.specs.Work.{front_of, qualifies, taken, note_at, batch_on, is_all_fetched, fetched, first_waiting, has_room, started, abandoned, running_on, is_unfinished, ended, is_front, has_failed}
-use Rattle.dsa_book.specs.Commands.{is_at_end, with_device, with_phases, stopped, may_come, aborted, reset, names, with_sizes_alone}
+use Rattle.dsa_book.specs.Commands.{holds, is_awaited, with_device, with_phases, stopped, may_come, aborted, reset, names, with_sizes_alone}
 use Rattle.dsa_book.specs.Machine.{with_work, with_intake, with_setup, intake_of}
 use Rattle.dsa_desc.specs.Descriptor.{is_fenced}
 use Rattle.std.specs.Bool.{beq}
@@ -113,31 +113,37 @@ pub record IsQueueEnabled (s s' : State) : Type 0 where
 
 -- a disable or a drain is not over at once: what it disables is Stopping (Intel DSA: Disable Device, Disable WQ, Drain)
 pub record IsWaiting (s s' : State) : Type 0 where
-  pub command : Command
-  pub may : may_come s.work.setup command ≡ true
+  pub deed : Deed
+  pub scope : Scope
+  pub may : may_come s.work.setup deed scope ≡ true
   pub active : Option ActiveCommand
-  pub after : set_up s active (stopped command Stopping s.work.setup) ≡ s'
+  pub after : set_up s active (stopped deed scope Stopping s.work.setup) ≡ s'
 
 -- a disable or a drain is over: what it disables is Off (Intel DSA: Disable Device, Disable WQ, Drain)
 pub record IsOver (s s' : State) : Type 0 where
-  pub command : ActiveCommand
-  pub over : is_at_end command s.work.content ≡ true
+  pub deed : Deed
+  pub scope : Scope
+  pub mark : ℕ
+  pub over : not (holds (is_awaited deed scope mark) s.work.content) ≡ true
   pub active : Option ActiveCommand
-  pub after : set_up s active (stopped command.command Off s.work.setup) ≡ s'
+  pub after : set_up s active (stopped deed scope Off s.work.setup) ≡ s'
 
 -- the entries in the scope of a command are aborted (Intel DSA: Abort WQ, Abort PASID, Abort All)
 pub record IsAborted (s s' : State) : Type 0 where
-  pub command : Command
-  pub after : with_work s (aborted command s.work) ≡ s'
+  pub number : ℕ
+  pub scope : Scope
+  pub after : with_work s (aborted number scope s.work) ≡ s'
 
 -- all entries are aborted and the set-up is as at first, but for the names that were given (Intel DSA: Reset Device)
 pub record IsDeviceReset (s s' : State) : Type 0 where
-  pub after : with_work s (record (aborted ResetDevice s.work) { setup = reset s.work.setup }) ≡ s'
+  pub number : ℕ
+  pub after : with_work s (record (aborted number Device s.work) { setup = reset Device s.work.setup }) ≡ s'
 
 -- the entries of the queues are aborted, and the queues are Off with their sizes alone (Intel DSA: Reset WQ)
 pub record IsQueuesReset (s s' : State) : Type 0 where
-  pub queues : QueueMask
-  pub after : with_work s (record (aborted (ResetWq queues) s.work) { setup = with_sizes_alone (named_queues (ResetWq queues)) (with_phases (names (named_queues (ResetWq queues))) Off s.work.setup) }) ≡ s'
+  pub number : ℕ
+  pub scope : Scope
+  pub after : with_work s (record (aborted number scope s.work) { setup = with_sizes_alone (queues_in scope) (with_phases (names (queues_in scope)) Off s.work.setup) }) ≡ s'
 
 -- a queue that is Off is configured, its size only while the device is Off (Intel DSA: work queue configuration)
 pub record IsQueueWritten (s s' : State) : Type 0 where

@@ -1,17 +1,17 @@
 //! What commands change of the queues.
 
 ghost use Rattle.std.specs.Prelude.{◌≡◌, not};
-ghost use Rattle.dsa_regs.specs.Command.{queues_of};
+ghost use Rattle.dsa_regs.specs.Command.{queues_in};
 ghost use Rattle.dsa_book.specs.State.{phase_at, is_off};
 ghost use Rattle.dsa_book.specs.Commands.{names, with_phases, with_sizes_alone};
 
 use crate::Queues;
-use dsa_regs::{Phase, QueueConfig, QueueMask};
+use dsa_regs::{Phase, QueueConfig, Scope};
 
 impl Queues {
     /// Gives the named queues this phase. A number that no queue has names nothing.
-    pub fn set_phases(&mut self, named: &QueueMask, phase: Phase)
-        ensures { self.new ≡ with_phases (names (queues_of named.now)) phase self.old }
+    pub fn set_phases(&mut self, named: &Scope, phase: Phase)
+        ensures { self.new ≡ with_phases (names (queues_in named.now)) phase self.old }
     {
         for queue in 0..self.caps().queues {
             if named.contains(queue) {
@@ -32,11 +32,11 @@ impl Queues {
     }
 
     /// Makes the configurations of the named queues zero but for their sizes.
-    pub fn keep_sizes(&mut self, mask: &QueueMask)
-        ensures { self.new ≡ with_sizes_alone (queues_of mask.now) self.old }
+    pub fn keep_sizes(&mut self, named: &Scope)
+        ensures { self.new ≡ with_sizes_alone (queues_in named.now) self.old }
     {
         for queue in 0..self.caps().queues {
-            if mask.contains(queue) {
+            if named.contains(queue) {
                 let size = self.queue(queue).size;
                 self.set_queue(
                     queue,

@@ -2,6 +2,7 @@
 
 ghost use Rattle.std.specs.Prelude.{◌≡◌, ◌+◌, ◌==◌, ◌<◌, ◌^◌, true, false, IsTrue, IfSome, slice_set, position, Some};
 ghost use Rattle.dsa_regs.specs.Caps.{HasList, check_caps, list_count, list_number};
+ghost use Rattle.dsa_regs.specs.declared.Scope.TheVariants.{Device};
 ghost use Rattle.dsa_regs.specs.Numbers.{has};
 ghost use Rattle.dsa_regs.specs.Config.{queue_at, group_at};
 ghost use Rattle.dsa_book.specs.State.{Setup, opening_setup, phase_at, is_off, has_queue, limits_at, need_of, status_of, is_batch_of};
@@ -76,7 +77,7 @@ impl Queues {
 
     /// All zero, `Off` and with no error noted again, but for the next name, so that no name is given twice.
     pub fn reset(&mut self)
-        ensures { self.new ≡ reset self.old }
+        ensures { self.new ≡ reset Device self.old }
     {
         let next_name = self.next_name;
         *self = Queues::new(self.caps);

@@ -4,7 +4,8 @@ use crate::Queues;
 use dsa_book::{Cause, ClearAnswer, Kind, NotedError, Portal, SubmitAnswer, Ticket, WriteAnswer};
 use dsa_desc::{Descriptor, Outcome, QueueLimits};
 use dsa_regs::{
-    Caps, Fault, GroupConfig, Phase, QueueConfig, QueueMask, cell_count, check_caps, list_count,
+    Caps, Fault, GroupConfig, Phase, QueueConfig, QueueMask, Scope, cell_count, check_caps,
+    list_count,
 };
 use dsa_store::{EntryStore, ListId, PlainStore, front_slot};
 use std::process::Abort;
@@ -205,7 +206,7 @@ fn turned_away<S: EntryStore>(rt: &impl Abort, store: &mut S) {
         submit(rt, &mut queues, store, 0, Portal::Limited, Kind::Movdir64b),
         SubmitAnswer::Dropped(wrong)
     );
-    queues.set_phases(&QueueMask { group: 0, mask: 1 }, Phase::Stopping);
+    queues.set_phases(&Scope::Queue(0), Phase::Stopping);
     let off = Cause::NotEnabled;
     assert_eq!(rt;
         submit(rt, &mut queues, store, 0, Portal::Limited, ENQCMD),
@@ -311,11 +312,11 @@ fn writes_are_refused(rt: HostRuntime) {
 #[test]
 fn commands_change_phases_and_configurations(rt: HostRuntime) {
     let mut queues = enabled(&rt);
-    queues.set_phases(&QueueMask { group: 0, mask: 2 }, Phase::Off);
+    queues.set_phases(&Scope::Queue(1), Phase::Off);
     queues.set_live_phases(Phase::Stopping);
     assert_eq!(rt; queues.phase(0), Phase::Stopping);
     assert_eq!(rt; queues.phase(1), Phase::Off);
-    queues.keep_sizes(&QueueMask { group: 0, mask: 1 });
+    queues.keep_sizes(&Scope::Queues(QueueMask { group: 0, mask: 1 }));
     let size = QueueConfig {
         size: 4,
         ..QueueConfig::default()

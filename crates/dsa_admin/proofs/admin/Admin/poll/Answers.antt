@@ -4,4 +4,4 @@ use Rattle.dsa_admin.proofs.Commands.{in_step-stopped}
 use Rattle.dsa_admin.proofs.admin.Admin.poll.Goals as goal
 
 pub returns-clause-in_step : goal.returns-clause-in_step
-returns-clause-in_step g c = λ gear s. rw c.stop.ensures (in_step-stopped c.in-Some.active.command Off c.args.queues.now gear (g.S.EntryStore.content c.args.store.now) (λ off. absurd (true≢false off)) s)
+returns-clause-in_step g c = λ gear s. rw c.stop.ensures (in_step-stopped _ _ Off c.args.queues.now gear (g.S.EntryStore.content c.args.store.now) (λ off. absurd (true≢false off)) s)

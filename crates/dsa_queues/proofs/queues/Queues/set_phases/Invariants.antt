@@ -1,5 +1,5 @@
 use Rattle.std.proofs.Common.{◌≡◌, cond}
-use Rattle.dsa_regs.specs.Command.{queues_of}
+use Rattle.dsa_regs.specs.Command.{queues_in}
 use Rattle.dsa_book.specs.State.{phase_at}
 use Rattle.dsa_book.specs.Commands.{names}
 use Rattle.dsa_queues.proofs.Renewing.{renewed}
@@ -7,4 +7,4 @@ use Rattle.dsa_queues.proofs.queues.Queues.set_phases.Given as goal
 
 abbrev pub invariant-loop-queue : goal.invariant-loop-queue
 invariant-loop-queue l =
-    l.self ≡ record l.fn.self { phases = renewed (λ q. cond (names (queues_of l.named) q) l.phase (phase_at l.fn.self q)) l.queue l.fn.self.phases }
+    l.self ≡ record l.fn.self { phases = renewed (λ q. cond (names (queues_in l.named) q) l.phase (phase_at l.fn.self q)) l.queue l.fn.self.phases }
