@@ -1,10 +1,9 @@
 -- Only members are abandoned.
-use Rattle.std.proofs.Common.{◌≡◌, ℕ, ◌||◌, not, Bool, true, false, List, [], ◌∷◌, ◌++◌, map, Some, refl, ap, ◌∙◌, subst, inl, inr, arith}
+use Rattle.std.proofs.Common.{◌≡◌, ℕ, ◌||◌, not, Bool, true, false, List, [], ◌∷◌, ◌++◌, map, Some, refl, ap, ◌∙◌, inl, inr, arith}
 use Rattle.std.specs.Prelude.{filter, is_some}
 use Rattle.std.proofs.lemmas.List.Folds.{list_all-append}
 use Rattle.dsa_regs.specs.declared.Caps.{Caps}
 use Rattle.dsa_regs.specs.declared.Scope.{Scope}
-use Rattle.dsa_regs.specs.declared.Scope.TheVariants.{Device}
 use Rattle.dsa_store.specs.Content.{Slot, all_held}
 use Rattle.dsa_book.specs.declared.event.Step.{Step}
 use Rattle.dsa_book.specs.declared.fate.Fate.{Fate}
@@ -14,7 +13,8 @@ use Rattle.dsa_book.specs.State.{Work, State, opening}
 use Rattle.dsa_book.specs.Work.{fate_row, member_list, members, last_status}
 use Rattle.dsa_book.specs.Commands.{is_in_scope, aborted}
 use Rattle.dsa_book.specs.Machine.{replay}
-use Rattle.dsa_laws.specs.Change.{Change, same, is_noted, is_accepted, is_taken, is_fetched, is_started, is_abandoned, is_ended, is_device_enabled, is_queue_enabled, is_waiting, is_over, is_aborted, is_device_reset, is_queues_reset, is_queue_written, is_group_written}
+use Rattle.dsa_laws.specs.Change.{Change}
+use Rattle.dsa_laws.proofs.Effects.{by_effect}
 use Rattle.dsa_laws.specs.WellFormed.{HasShape, HasLawfulEntries, IsWellFormed}
 use Rattle.dsa_accounts.specs.Accounts.{was_abandoned, only_members_abandoned}
 use Rattle.dsa_laws.proofs.Shapes.{In-cond}
@@ -51,27 +51,15 @@ members-have_parent caps w e shape entries x i =
     (entries.placed (member_list w.setup e) x (In-cond _ x _ i).1).member (omega (arith, q, n))
 
 lawful-change : (caps : Caps) (s s' : State) → IsWellFormed caps s → Lawful s → Change s s' → Lawful s'
-lawful-change caps s s' w h (same c) = subst Lawful c h
-lawful-change caps s s' w h (is_noted c) = subst Lawful c.after h
-lawful-change caps s s' w h (is_accepted c) = subst Lawful c.after h
-lawful-change caps s s' w h (is_taken c) = subst Lawful c.after h
-lawful-change caps s s' w h (is_fetched c) = subst Lawful c.after h
-lawful-change caps s s' w h (is_started c) = subst Lawful c.after h
-lawful-change caps s s' w h (is_abandoned c) =
-    subst Lawful c.after
-    (more-rows s.work.fates Abandoned (members s.work c.engine) h (abandoned-rows (members s.work c.engine) (members-have_parent caps s.work c.engine w.shape w.entries)))
-lawful-change caps s s' w h (is_ended c) =
-    subst Lawful c.after
-    (let fate = Completed (last_status s.work c.engine c.slot c.outcome) in more-rows s.work.fates fate (c.slot ∷ []) h (other-rows fate (c.slot ∷ []) refl))
-lawful-change caps s s' w h (is_device_enabled c) = subst Lawful c.after h
-lawful-change caps s s' w h (is_queue_enabled c) = subst Lawful c.after h
-lawful-change caps s s' w h (is_waiting c) = subst Lawful c.after h
-lawful-change caps s s' w h (is_over c) = subst Lawful c.after h
-lawful-change caps s s' w h (is_aborted c) = subst Lawful c.after (aborted-lawful c.number c.scope s.work h)
-lawful-change caps s s' w h (is_device_reset c) = subst Lawful c.after (aborted-lawful c.number Device s.work h)
-lawful-change caps s s' w h (is_queues_reset c) = subst Lawful c.after (aborted-lawful c.number c.scope s.work h)
-lawful-change caps s s' w h (is_queue_written c) = subst Lawful c.after h
-lawful-change caps s s' w h (is_group_written c) = subst Lawful c.after h
+lawful-change caps s s' w h c = by_effect (λ w. only_members_abandoned w.fates ≡ true) s s' c
+    (λ e. ap only_members_abandoned e.fates ∙ h)
+    (λ c. h)
+    (λ c. h)
+    (λ c. h)
+    (λ c. h)
+    (λ c. more-rows s.work.fates Abandoned (members s.work c.engine) h (abandoned-rows (members s.work c.engine) (members-have_parent caps s.work c.engine w.shape w.entries)))
+    (λ c. let fate = Completed (last_status s.work c.engine c.slot c.outcome) in more-rows s.work.fates fate (c.slot ∷ []) h (other-rows fate (c.slot ∷ []) refl))
+    (λ c. aborted-lawful c.number c.scope s.work h)
 
 pub replay-lawful : (caps : Caps) (h : List Step) (s : State) → replay caps h ≡ Some s → only_members_abandoned s.work.fates ≡ true
 replay-lawful caps h s e =

@@ -47,11 +47,8 @@ use Rattle.dsa_book.specs.Submit.{submit}
 use Rattle.dsa_book.specs.Work.{qualifies, front_of, taken, fetch, fetch_of, fetch_for, note_at, batch_on, start, start_of, start_table, started, first_waiting, is_unfinished, last_status, ended, finish, finish_of, running_on}
 use Rattle.dsa_book.specs.Commands.{issue, issue_table, check_of, refused_or, carried_out, done_by, waits, poll, poll_of, write_queue, write_group, clear}
 use Rattle.dsa_book.specs.Machine.{next, replay, with_work, with_intake, with_setup, intake_of, accepted_cell, fetched_cell, cell_or_first, may_use}
-use Rattle.std.proofs.Common.{length, map, filter, ◌++◌, length-append, eqb-true, zero-add}
-use Rattle.std.proofs.lemmas.List.{length-map}
+use Rattle.std.proofs.Common.{length, filter, length-append, eqb-true, zero-add}
 use Rattle.dsa_store.specs.Content.{all_held}
-use Rattle.dsa_book.specs.declared.fate.FateRow.{FateRow}
-use Rattle.dsa_book.specs.declared.fate.Fate.{Fate}
 use Rattle.dsa_book.specs.declared.fate.Fate.TheVariants.{Completed, Aborted, Abandoned}
 use Rattle.dsa_book.specs.declared.answer.StartAnswer.TheVariants.{FenceWait, NoBuffers, Abandoned, Nothing}
 use Rattle.dsa_book.specs.declared.answer.FinishAnswer.TheVariants.{Gone}

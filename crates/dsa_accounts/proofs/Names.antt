@@ -7,11 +7,10 @@ use Rattle.dsa_desc.specs.declared.Outcome.{Outcome}
 use Rattle.dsa_desc.specs.Rows.{when}
 use Rattle.dsa_desc.proofs.Tables.{first_row_or-each, one_row, when-some, cond-each}
 use Rattle.dsa_regs.specs.declared.Caps.{Caps}
-use Rattle.dsa_regs.specs.declared.Phase.{Phase}
 use Rattle.dsa_regs.specs.declared.Command.{Command}
 use Rattle.dsa_regs.specs.declared.Scope.{Scope}
 use Rattle.dsa_regs.specs.declared.Deed.{Deed}
-use Rattle.dsa_regs.specs.declared.Deed.TheVariants.{Enable, Disable, Abort, Reset}
+use Rattle.dsa_regs.specs.declared.Deed.TheVariants.{Enable, Abort, Reset}
 use Rattle.dsa_regs.specs.declared.Scope.TheVariants.{Device}
 use Rattle.dsa_regs.specs.Command.{scope_of, deed_of}
 use Rattle.dsa_regs.specs.declared.Fault.{Fault}
@@ -52,7 +51,7 @@ use Rattle.dsa_book.specs.Same.{same_submit, same_fetch, same_start, same_finish
 use Rattle.dsa_book.specs.State.{Setup, Intake, Work, State, opening, is_ticket, ticket_of, is_batch_of}
 use Rattle.dsa_book.specs.Submit.{submit, submit_table, turned_away, accepted}
 use Rattle.dsa_book.specs.Work.{qualifies, front_of, taken, fetch, fetch_of, fetch_for, note_at, batch_on, start, start_of, start_table, started, first_waiting, is_unfinished, last_status, ended, finish, finish_of, running_on}
-use Rattle.dsa_book.specs.Commands.{issue, issue_table, write_queue_table, write_group_table, check_of, refused_or, carried_out, done_by, waits, poll, poll_of, stopped, write_queue, write_group, clear, clear_of}
+use Rattle.dsa_book.specs.Commands.{issue, issue_table, write_queue_table, write_group_table, check_of, refused_or, carried_out, done_by, waits, poll, poll_of, write_queue, write_group, clear, clear_of}
 use Rattle.dsa_book.specs.Machine.{next, replay, with_work, with_intake, with_setup, intake_of, accepted_cell, fetched_cell, cell_or_first, may_use}
 use Rattle.dsa_book.specs.Totals.{named_by, is_accepted, is_fetched, total_accepted, total_fetched}
 use Rattle.std.proofs.lemmas.Bool.{and_parts}

@@ -22,12 +22,13 @@ use Rattle.dsa_book.specs.State.{Setup, Work, State, opening, is_off, phase_at}
 use Rattle.dsa_book.specs.Work.{progress_list, member_list, members, first_waiting, used_on, has_room, as_running, run, with_first_run}
 use Rattle.dsa_book.proofs.Scopes.{unnamed}
 use Rattle.dsa_book.specs.Commands.{stopped, may_come, names, size_alone, is_in_scope}
-use Rattle.dsa_laws.specs.Change.{Change, same, is_noted, is_accepted, is_taken, is_fetched, is_started, is_abandoned, is_ended, is_device_enabled, is_queue_enabled, is_waiting, is_over, is_aborted, is_device_reset, is_queues_reset, is_queue_written, is_group_written}
+use Rattle.dsa_laws.specs.Change.{Change}
+use Rattle.dsa_laws.proofs.Effects.{by_effect, by_setting}
 use Rattle.dsa_laws.specs.WellFormed.{HasShape, HasLawfulSetup, HasLawfulEntries, IsWellFormed}
 use Rattle.dsa_laws.specs.Buffering.{HasBuffers}
 use Rattle.dsa_laws.proofs.Contents.{chain-filtered, sum-filter-le, In-filtered, chain-other}
 use Rattle.dsa_laws.proofs.Covering.{AreWithin, needed, all_needed, within-less, within-more, within-none}
-use Rattle.dsa_laws.proofs.Entries.{in-use-below, none-held}
+use Rattle.dsa_laws.proofs.Entries.{none-held, configs-kept}
 use Rattle.dsa_laws.proofs.Needs.{weight, weight-waiting, weight-run, weight-same, sum-within, sum_on, used_on-sum, sum_on-less, HasMore, sum_on-others, sum_on-mine}
 use Rattle.dsa_laws.proofs.Orders.{chain-set}
 use Rattle.dsa_desc.proofs.Tables.{not-both}
@@ -215,14 +216,6 @@ enabled-buffers caps w w' shape setup entries off check same_caps groups content
     used_on-sum caps w' e is ∙ sum_on-none caps (weight w'.setup) w'.content e (λ k.
     ap (λ (c : Content). sum_by (weight w'.setup) (chain c k)) content ∙ ap (λ (xs : List Slot). sum_by (weight w'.setup) xs) (none-held caps w setup entries off k))))
 
--- ---- the limits of what is held stay
-
-queues_reset-configs : (caps : Caps) (w : Work) (qs : List ℕ) (q : ℕ) → HasShape caps w → is_off (phase_at w.setup q) ≡ false → names qs q ≡ false
-    → queue_at (map (λ k. cond (names qs k) (size_alone (queue_at w.setup.configs k)) (queue_at w.setup.configs k)) (numbers_below w.setup.caps.queues)) q ≡ queue_at w.setup.configs q
-queues_reset-configs caps w qs q shape on out =
-    get_or-each (λ k. cond (names qs k) (size_alone (queue_at w.setup.configs k)) (queue_at w.setup.configs k)) w.setup.caps.queues q zero_queue (in-use-below caps w q shape on)
-    ∙ ap (λ (b : Bool). cond b (size_alone (queue_at w.setup.configs q)) (queue_at w.setup.configs q)) out
-
 waiting-on : (setup : Setup) (deed : Deed) (scope : Scope) → may_come setup deed scope ≡ true → is_off (stopped deed scope Stopping setup).device ≡ false → is_off setup.device ≡ false
 waiting-on setup Disable Device may n = on-not_off setup.device may
 waiting-on setup Disable scope may n = n
@@ -233,76 +226,50 @@ over-on setup Disable Device n = absurd cc
 over-on setup Disable scope n = n
 over-on setup _ scope n = n
 
--- ---- each kind
+-- ---- what is held, and then the set-up
 
 -- the content alone has changed, and no list needs more
 lighter : (caps : Caps) (w w' : Work) → HasShape caps w → w'.setup ≡ w.setup → ((k : ℕ) → sum_by (weight w.setup) (chain w'.content k) ≤ sum_by (weight w.setup) (chain w.content k)) → HasBuffers caps w → HasBuffers caps w'
 lighter caps w w' shape is lists h = no-more caps w w' shape.same_caps (ap (λ (s : Setup). s.caps) is ∙ shape.same_caps) (ap (λ (s : Setup). s.groups) is) (λ n. subst (λ (s : Setup). is_off s.device ≡ false) is n)
     (λ k x i. ap (λ (s : Setup). queue_at s.configs x.1.queue) is) lists h
 
--- the setup alone has changed, and what is held has the limits that it had
-settled : (caps : Caps) (w w' : Work) → HasShape caps w → w'.content ≡ w.content → w'.setup.caps ≡ w.setup.caps → w'.setup.groups ≡ w.setup.groups → (is_off w'.setup.device ≡ false → is_off w.setup.device ≡ false)
-    → ((k : ℕ) (x : Slot) → In x (chain w.content k) → queue_at w'.setup.configs x.1.queue ≡ queue_at w.setup.configs x.1.queue) → HasBuffers caps w → HasBuffers caps w'
-settled caps w w' shape content same_caps groups off configs h = no-more caps w w' shape.same_caps (same_caps ∙ shape.same_caps) groups off
-    (λ k x i. configs k x (subst (λ (c : Content). In x (chain c k)) content i))
-    (λ k. let e = ap (λ (c : Content). sum_by (weight w.setup) (chain c k)) content in omega (arith, e))
-    h
-
-kept-change : (caps : Caps) (s s' : State) → HasShape caps s.work → HasLawfulSetup s.work.setup → HasLawfulEntries caps s.work → HasBuffers caps s.work → Change s s' → HasBuffers caps s'.work
-kept-change caps s s' shape setup entries h (same c) = subst (λ t. HasBuffers caps t.work) c h
-kept-change caps s s' shape setup entries h (is_noted c) = subst (λ t. HasBuffers caps t.work) c.after (settled caps s.work _ shape refl refl refl (λ n. n) (λ k x i. refl) h)
-kept-change caps s s' shape setup entries h (is_accepted c) =
-    subst (λ t. HasBuffers caps t.work) c.after
-    (no-more caps s.work _ shape.same_caps shape.same_caps refl (λ n. n) (λ k x i. refl) (pushed-light (weight s.work.setup) s.work.content c.queue _ (weight-waiting s.work.setup _ refl)) h)
-kept-change caps s s' shape setup entries h (is_taken c) =
+-- what is held after a change, by the set-up before it
+buffers-effect : (caps : Caps) (s s' : State) → HasShape caps s.work → HasLawfulSetup s.work.setup → HasBuffers caps s.work → Change s s' → HasBuffers caps (record s'.work { setup = s.work.setup })
+buffers-effect caps s s' shape setup h c =
+    let light = λ (w' : Work) (is : w'.setup ≡ s.work.setup) (lists : (k : ℕ) → sum_by (weight s.work.setup) (chain w'.content k) ≤ sum_by (weight s.work.setup) (chain s.work.content k)). lighter caps s.work w' shape is lists h in
+    by_effect (λ w. HasBuffers caps (record w { setup = s.work.setup })) s s' c
+    (λ e. light _ refl (λ k. let same = ap (λ (c : Content). sum_by (weight s.work.setup) (chain c k)) e.content in omega (arith, same)))
+    (λ c. light _ refl (pushed-light (weight s.work.setup) s.work.content c.queue _ (weight-waiting s.work.setup _ refl)))
+    (λ c.
     let engine = below-engines caps s.work c.engine shape (and_parts _ _ (and_parts _ _ c.qualifies).0).0 in
-    subst (λ t. HasBuffers caps t.work) c.after
-    (one-more caps s.work _ c.engine _ _ shape setup refl (taken-more caps s.work c.engine c.queue c.front (weight s.work.setup) shape engine)
+    one-more caps s.work _ c.engine _ _ shape setup refl (taken-more caps s.work c.engine c.queue c.front (weight s.work.setup) shape engine)
     (subst (λ n. has_room s.work c.engine n ≡ true) (sym (weight-run s.work.setup c.front)) (and_parts _ _ (and_parts _ _ (taken-test s.work c.engine c.queue c.front c.qualifies c.is_front)).0).1) h)
-kept-change caps s s' shape setup entries h (is_fetched c) =
-    subst (λ t. HasBuffers caps t.work) c.after
-    (no-more caps s.work _ shape.same_caps shape.same_caps refl (λ n. n) (λ k x i. refl) (pushed-light (weight s.work.setup) s.work.content (member_list s.work.setup c.engine) _ (weight-waiting s.work.setup _ refl)) h)
-kept-change caps s s' shape setup entries h (is_started c) =
-    subst (λ t. HasBuffers caps t.work) c.after
-    (one-more caps s.work _ c.engine _ _ shape setup refl (started-more caps s.work c.engine c.slot (weight s.work.setup) shape c.is_first)
+    (λ c. light _ refl (pushed-light (weight s.work.setup) s.work.content (member_list s.work.setup c.engine) _ (weight-waiting s.work.setup _ refl)))
+    (λ c. one-more caps s.work _ c.engine _ _ shape setup refl (started-more caps s.work c.engine c.slot (weight s.work.setup) shape c.is_first)
     (subst (λ n. has_room s.work c.engine n ≡ true) (sym (weight-run s.work.setup c.slot)) c.room) h)
-kept-change caps s s' shape setup entries h (is_abandoned c) =
-    subst (λ t. HasBuffers caps t.work) c.after (lighter caps s.work _ shape refl (emptied-within (weight s.work.setup) s.work.content (member_list s.work.setup c.engine)) h)
-kept-change caps s s' shape setup entries h (is_ended c) =
-    subst (λ t. HasBuffers caps t.work) c.after (lighter caps s.work _ shape refl (filtered-within (weight s.work.setup) (λ slot. not (is_cell c.slot.0 slot)) s.work.content) h)
-kept-change caps s s' shape setup entries h (is_device_enabled c) =
-    subst (λ t. HasBuffers caps t.work) c.after (enabled-buffers caps s.work _ shape setup entries c.off c.check refl refl refl)
-kept-change caps s s' shape setup entries h (is_queue_enabled c) =
-    subst (λ t. HasBuffers caps t.work) c.after (settled caps s.work _ shape refl refl refl (λ n. n) (λ k x i. refl) h)
-kept-change caps s s' shape setup entries h (is_waiting c) =
-    subst (λ t. HasBuffers caps t.work) c.after
-    (settled caps s.work _ shape refl (stopped-caps c.deed c.scope Stopping s.work.setup) (stopped-groups c.deed c.scope Stopping s.work.setup) (waiting-on s.work.setup c.deed c.scope c.may)
-    (λ k x i. ap (λ (cs : List QueueConfig). queue_at cs x.1.queue) (stopped-configs c.deed c.scope Stopping s.work.setup)) h)
-kept-change caps s s' shape setup entries h (is_over c) =
-    subst (λ t. HasBuffers caps t.work) c.after
-    (settled caps s.work _ shape refl (stopped-caps c.deed c.scope Off s.work.setup) (stopped-groups c.deed c.scope Off s.work.setup) (over-on s.work.setup c.deed c.scope)
-    (λ k x i. ap (λ (cs : List QueueConfig). queue_at cs x.1.queue) (stopped-configs c.deed c.scope Off s.work.setup)) h)
-kept-change caps s s' shape setup entries h (is_aborted c) =
-    subst (λ t. HasBuffers caps t.work) c.after (lighter caps s.work _ shape refl (filtered-within (weight s.work.setup) (λ slot. not (is_in_scope c.scope slot.1)) s.work.content) h)
-kept-change caps s s' shape setup entries h (is_device_reset c) = subst (λ t. HasBuffers caps t.work) c.after (while-off caps _ refl)
-kept-change caps s s' shape setup entries h (is_queues_reset c) =
-    let qs = queues_in c.scope in
-    subst (λ t. HasBuffers caps t.work) c.after
-    (no-more caps s.work _ shape.same_caps shape.same_caps refl (λ n. n)
-    (λ k x i.
-    let j = In-filtered (λ slot. not (is_in_scope c.scope slot.1)) s.work.content k x i in
-    queues_reset-configs caps s.work qs x.1.queue shape (entries.none_off k x j.0) (unnamed c.scope x.1 (not-true _ j.1)))
-    (filtered-within (weight s.work.setup) (λ slot. not (is_in_scope c.scope slot.1)) s.work.content) h)
-kept-change caps s s' shape setup entries h (is_queue_written c) =
-    subst (λ t. HasBuffers caps t.work) c.after
-    (settled caps s.work _ shape refl refl refl (λ n. n)
-    (λ k x i. get_or-set_other s.work.setup.configs c.queue x.1.queue c.config zero_queue (λ (e : x.1.queue ≡ c.queue).
-    not-both (is_off (phase_at s.work.setup c.queue)) c.off (subst (λ q. is_off (phase_at s.work.setup q) ≡ false) e (entries.none_off k x i))))
-    h)
-kept-change caps s s' shape setup entries h (is_group_written c) = subst (λ t. HasBuffers caps t.work) c.after (while-off caps _ c.off)
+    (λ c. light _ refl (emptied-within (weight s.work.setup) s.work.content (member_list s.work.setup c.engine)))
+    (λ c. light _ refl (filtered-within (weight s.work.setup) (λ slot. not (is_cell c.slot.0 slot)) s.work.content))
+    (λ c. light _ refl (filtered-within (weight s.work.setup) (λ slot. not (is_in_scope c.scope slot.1)) s.work.content))
 
 pub buffers-change : (caps : Caps) (s s' : State) → IsWellFormed caps s → Change s s' → HasBuffers caps s'.work
-buffers-change caps s s' w c = kept-change caps s s' w.shape w.setup w.entries w.buffers c
+buffers-change caps s s' w c = by_setting After s s' c
+    (λ e. settle _ e.caps e.groups (λ n. ap is_off (sym e.device) ∙ n))
+    (λ c configs. enabled-buffers caps s.work _ w.shape w.setup w.entries c.off c.check refl refl (ap (λ (t : State). t.work.content) (sym c.after)))
+    (λ c. settle _ refl refl (λ n. n))
+    (λ c. settle _ (stopped-caps c.deed c.scope Stopping s.work.setup) (stopped-groups c.deed c.scope Stopping s.work.setup) (waiting-on s.work.setup c.deed c.scope c.may))
+    (λ c. settle _ (stopped-caps c.deed c.scope Off s.work.setup) (stopped-groups c.deed c.scope Off s.work.setup) (over-on s.work.setup c.deed c.scope))
+    (λ c configs. while-off caps _ refl)
+    (λ c. settle _ refl refl (λ n. n))
+    (λ c. settle _ refl refl (λ n. n))
+    (λ c configs. while-off caps _ c.off)
+    (configs-kept caps s s' w.shape w.entries.none_off c)
+  where
+    After : Setup → Type 0
+    After = λ setup. ((k : ℕ) (x : Slot) → In x (chain s'.work.content k) → queue_at setup.configs x.1.queue ≡ queue_at s.work.setup.configs x.1.queue) → HasBuffers caps (record s'.work { setup = setup })
+
+    settle : (setup : Setup) → setup.caps ≡ s.work.setup.caps → setup.groups ≡ s.work.setup.groups → (is_off setup.device ≡ false → is_off s.work.setup.device ≡ false) → After setup
+    settle setup same groups off configs = no-more caps (record s'.work { setup = s.work.setup }) (record s'.work { setup = setup }) w.shape.same_caps (same ∙ w.shape.same_caps) groups off configs (λ k. omega arith)
+        (buffers-effect caps s s' w.shape w.setup w.buffers c)
 
 pub buffers-opening : (caps : Caps) → HasBuffers caps (opening caps).work
 buffers-opening caps = while-off caps (opening caps).work refl

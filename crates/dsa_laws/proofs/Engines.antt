@@ -23,7 +23,8 @@ use Rattle.dsa_book.specs.State.{Setup, Work, State, opening, opening_setup, is_
 use Rattle.dsa_book.specs.Work.{progress_list, member_list, in_progress, members, note_at, running_on, run, is_unfinished, note_after, with_first_run, opened_note, taken, ended}
 use Rattle.dsa_book.proofs.Scopes.{unnamed}
 use Rattle.dsa_book.specs.Commands.{aborted, is_in_scope, kept_note, names, size_alone}
-use Rattle.dsa_laws.specs.Change.{Change, same, is_noted, is_accepted, is_taken, is_fetched, is_started, is_abandoned, is_ended, is_device_enabled, is_queue_enabled, is_waiting, is_over, is_aborted, is_device_reset, is_queues_reset, is_queue_written, is_group_written}
+use Rattle.dsa_laws.specs.Change.{Change}
+use Rattle.dsa_laws.proofs.Effects.{by_effect}
 use Rattle.dsa_laws.specs.WellFormed.{HasShape, NoneOff, NamesOnce, IsWellFormed}
 use Rattle.dsa_laws.specs.Engines.{holds_batch, IsAlike, IsLawfulEngine, HasLawfulEngines}
 use Rattle.dsa_laws.proofs.Contents.{In-append, In-counted, In-filter, In-filtered, In-find, In-same, chain-filtered, sum-list-le, sum-without, chain-other, chain-same}
@@ -31,44 +32,11 @@ use Rattle.dsa_laws.proofs.Shapes.{shape-change, shape-opening, stopped-configs,
 use Rattle.dsa_desc.proofs.Tables.{not-both}
 use Rattle.dsa_book.proofs.Phases.{on-not_off}
 use Rattle.dsa_regs.proofs.NumberLists.{get_or-each}
-use Rattle.dsa_laws.proofs.Entries.{in-use-below}
+use Rattle.dsa_laws.proofs.Entries.{in-use-below, configs-kept}
 use Rattle.dsa_laws.proofs.Batches.{by_setup, with_front, with_member, with_run, with_none, with_end, is_left, with_abort, sum-two, length-none}
 use Rattle.dsa_laws.specs.Lists.{In}
 use Rattle.dsa_laws.proofs.Flows.{names-counted}
 use Rattle.dsa_laws.proofs.Limits.{size-filtered, taken-test}
-
--- ---- the limits of the queues that entries name
-
--- the queue of each entry is configured as before
-abbrev KeepsConfigs : State → State → Type 0
-KeepsConfigs s t = (k : ℕ) (x : Slot) → In x (chain t.work.content k) → queue_at t.work.setup.configs x.1.queue ≡ queue_at s.work.setup.configs x.1.queue
-
-configs-kept : (caps : Caps) (s s' : State) → HasShape caps s.work → NoneOff s.work → Change s s' → KeepsConfigs s s'
-configs-kept caps s s' h a (same c) = subst (KeepsConfigs s) c (λ k x i. refl)
-configs-kept caps s s' h a (is_noted c) = subst (KeepsConfigs s) c.after (λ k x i. refl)
-configs-kept caps s s' h a (is_accepted c) = subst (KeepsConfigs s) c.after (λ k x i. refl)
-configs-kept caps s s' h a (is_taken c) = subst (KeepsConfigs s) c.after (λ k x i. refl)
-configs-kept caps s s' h a (is_fetched c) = subst (KeepsConfigs s) c.after (λ k x i. refl)
-configs-kept caps s s' h a (is_started c) = subst (KeepsConfigs s) c.after (λ k x i. refl)
-configs-kept caps s s' h a (is_abandoned c) = subst (KeepsConfigs s) c.after (λ k x i. refl)
-configs-kept caps s s' h a (is_ended c) = subst (KeepsConfigs s) c.after (λ k x i. refl)
-configs-kept caps s s' h a (is_device_enabled c) = subst (KeepsConfigs s) c.after (λ k x i. refl)
-configs-kept caps s s' h a (is_queue_enabled c) = subst (KeepsConfigs s) c.after (λ k x i. refl)
-configs-kept caps s s' h a (is_waiting c) = subst (KeepsConfigs s) c.after (λ k x i. ap (λ (l : List QueueConfig). queue_at l x.1.queue) (stopped-configs c.deed c.scope Stopping s.work.setup))
-configs-kept caps s s' h a (is_over c) = subst (KeepsConfigs s) c.after (λ k x i. ap (λ (l : List QueueConfig). queue_at l x.1.queue) (stopped-configs c.deed c.scope Off s.work.setup))
-configs-kept caps s s' h a (is_aborted c) = subst (KeepsConfigs s) c.after (λ k x i. refl)
-configs-kept caps s s' h a (is_device_reset c) = subst (KeepsConfigs s) c.after (λ k x i. not-both false (In-filtered (λ slot. not true) s.work.content k x i).1 refl)
-configs-kept caps s s' h a (is_queues_reset c) =
-    let qs = queues_in c.scope in
-    subst (KeepsConfigs s) c.after (λ k x i.
-    let old = In-filtered (λ slot. not (is_in_scope c.scope slot.1)) s.work.content k x i in
-    let below = in-use-below caps s.work x.1.queue h (a k x old.0) in
-    get_or-each (λ q. cond (names qs q) (size_alone (queue_at s.work.setup.configs q)) (queue_at s.work.setup.configs q)) s.work.setup.caps.queues x.1.queue zero_queue below
-    ∙ ap (λ (b : Bool). cond b (size_alone (queue_at s.work.setup.configs x.1.queue)) (queue_at s.work.setup.configs x.1.queue)) (unnamed c.scope x.1 (not-true _ old.1)))
-configs-kept caps s s' h a (is_queue_written c) =
-    subst (KeepsConfigs s) c.after (λ k x i. get_or-set_other s.work.setup.configs c.queue x.1.queue c.config zero_queue
-    (λ (e : x.1.queue ≡ c.queue). not-both (is_off (phase_at s.work.setup c.queue)) c.off (subst (λ q. is_off (phase_at s.work.setup q) ≡ false) e (a k x i))))
-configs-kept caps s s' h a (is_group_written c) = subst (KeepsConfigs s) c.after (λ k x i. refl)
 
 -- ---- an engine's lists by their numbers
 
@@ -97,7 +65,8 @@ of-lists caps w shape h e = ⊎_elim
     law = λ b. IsLawfulEngine w.setup (cond b (chain w.content (progress_list w.setup e)) []) (cond b (chain w.content (member_list w.setup e)) []) (note_at w e)
 
 -- the same batches by the setup after the change
-setup-after : (caps : Caps) (s s' : State) (e : ℕ) → HasShape caps s.work → HasShape caps s'.work → KeepsConfigs s s' → LawAt s.work.setup s'.work e → LawAt s'.work.setup s'.work e
+setup-after : (caps : Caps) (s s' : State) (e : ℕ) → HasShape caps s.work → HasShape caps s'.work → ((k : ℕ) (x : Slot) → In x (chain s'.work.content k) → queue_at s'.work.setup.configs x.1.queue ≡ queue_at s.work.setup.configs x.1.queue)
+    → LawAt s.work.setup s'.work e → LawAt s'.work.setup s'.work e
 setup-after caps s s' e before after kept h =
     let caps' : s.work.setup.caps ≡ s'.work.setup.caps = before.same_caps ∙ sym after.same_caps in
     subst (λ (c : Caps). IsLawfulEngine s'.work.setup (chain s'.work.content (c.queues + e)) (chain s'.work.content (c.queues + c.engines + e)) (note_at s'.work e)) caps'
@@ -287,22 +256,22 @@ alike-batch w k n x batch names like i is h b j t =
     subst (IsAlike x) (In-same named batch b (chain w.content (progress_list w.setup k)) one i j (eq-eqb batch.1.name n.batch is) (eq-eqb b.1.name n.batch (sym (h.noted b j t).name))) like
 
 lists-change : (caps : Caps) (s s' : State) (e : ℕ) → IsWellFormed caps s → nat_lt e s.work.setup.caps.engines ≡ true → HasLawfulEngines s.work → Change s s' → LawAt s.work.setup s'.work e
-lists-change caps s s' e w i h (same c) = subst (λ t. LawAt s.work.setup t.work e) c (lists-of s.work e i h)
-lists-change caps s s' e w i h (is_noted c) = subst (λ t. LawAt s.work.setup t.work e) c.after (lists-of s.work e i h)
-lists-change caps s s' e w i h (is_accepted c) =
+lists-change caps s s' e w i h c = by_effect (λ w. LawAt s.work.setup w e) s s' c
+    (λ k. stays s.work.setup s.work.content s'.work.content s.work.notes s'.work.notes e (ap (λ (l : Content). chain l (progress_list s.work.setup e)) k.content) (ap (λ (l : Content). chain l (member_list s.work.setup e)) k.content)
+    (ap (λ (ns : List (Option BatchNote)). get_or ns e None) k.notes) (lists-of s.work e i h))
+    (λ c.
     let inside = in-use-below caps s.work c.queue w.shape (on-not_off _ c.on) in
-    subst (λ t. LawAt s.work.setup t.work e) c.after (queue_set s.work c.queue e _ inside (lists-of s.work e i h))
-lists-change caps s s' e w i h (is_taken c) =
+    (queue_set s.work c.queue e _ inside (lists-of s.work e i h)))
+    (λ c.
     let tests = (and_parts _ _ c.qualifies).0 in
     let j = (and_parts _ _ tests).0 in
     let below = below-engines caps s.work c.engine w.shape j in
     let size = w.shape.notes in
     let note : c.engine < length s.work.notes = omega (arith, below, size) in
     let may = taken-test s.work c.engine c.queue c.front c.qualifies c.is_front in
-    subst (λ t. LawAt s.work.setup t.work e) c.after
     (front_taken s.work c.engine e c.queue c.front (ltb-true e s.work.setup.caps.engines i) (ltb-true c.engine s.work.setup.caps.engines j) (ltb-true c.queue s.work.setup.caps.queues (and_parts _ _ tests).1)
-    (progress_list-in caps s.work c.engine w.shape below) note (and_parts _ _ may).1 (lists-of s.work c.engine j h) (lists-of s.work e i h))
-lists-change caps s s' e w i h (is_fetched c) =
+    (progress_list-in caps s.work c.engine w.shape below) note (and_parts _ _ may).1 (lists-of s.work c.engine j h) (lists-of s.work e i h)))
+    (λ c.
     let k = c.engine in
     let found = In-find (λ slot. slot.1.name == c.note.batch) c.batch (in_progress s.work k) c.is_batch in
     let here = In-cond _ c.batch _ found.0 in
@@ -323,33 +292,30 @@ lists-change caps s s' e w i h (is_fetched c) =
     let own : IsLawfulEngine s.work.setup (chain s.work.content (progress_list s.work.setup k)) (chain s.work.content (member_list s.work.setup k)) (Some c.note)
     = subst (IsLawfulEngine s.work.setup (chain s.work.content (progress_list s.work.setup k)) (chain s.work.content (member_list s.work.setup k))) c.is_note (lists-of s.work k j h) in
     let like : IsAlike member c.batch = record { queue = refl; pasid = w.entries.pasids (progress_list s.work.setup k) c.batch here.1 } in
-    subst (λ t. LawAt s.work.setup t.work e) c.after
     (members_set s.work k e (chain s.work.content (member_list s.work.setup k) ++ member ∷ []) (set s.work.notes k more) more (ltb-true e s.work.setup.caps.engines i) (ltb-true k s.work.setup.caps.engines j)
     (member_list-in caps s.work k w.shape below) (note-same s.work.notes k more (omega (arith, below, size))) (λ n. note-other s.work.notes k e more n)
     (with_member s.work.setup (chain s.work.content (progress_list s.work.setup k)) (chain s.work.content (member_list s.work.setup k)) c.note member refl
     (alike-batch s.work k c.note member c.batch w.names like here.1 (eqb-true c.batch.1.name c.note.batch found.1) own) own)
-    (lists-of s.work e i h))
-lists-change caps s s' e w i h (is_started c) =
+    (lists-of s.work e i h)))
+    (λ c.
     let j = waiting-engine s.work c.engine c.slot c.is_first in
     let list = member_list-in caps s.work c.engine w.shape (below-engines caps s.work c.engine w.shape j) in
     let is = waiting-members s.work c.engine c.slot c.is_first in
     let own = lists-of s.work c.engine j h in
-    subst (λ t. LawAt s.work.setup t.work e) c.after
     (members_set s.work c.engine e (with_first_run (members s.work c.engine)) s.work.notes (note_at s.work c.engine) (ltb-true e s.work.setup.caps.engines i) (ltb-true c.engine s.work.setup.caps.engines j) list refl (λ n. refl)
     (with_run s.work.setup (chain s.work.content (progress_list s.work.setup c.engine)) (members s.work c.engine) (note_at s.work c.engine)
     (subst (λ xs. IsLawfulEngine s.work.setup (chain s.work.content (progress_list s.work.setup c.engine)) xs (note_at s.work c.engine)) (sym is) own))
-    (lists-of s.work e i h))
-lists-change caps s s' e w i h (is_abandoned c) =
+    (lists-of s.work e i h)))
+    (λ c.
     let j = waiting-engine s.work c.engine c.slot c.is_first in
     let below = below-engines caps s.work c.engine w.shape j in
     let list = member_list-in caps s.work c.engine w.shape below in
     let note : c.engine < length s.work.notes = let size = w.shape.notes in omega (arith, below, size) in
     let closed : Option BatchNote = option_map (λ (note : BatchNote). record note { closed = true }) (note_at s.work c.engine) in
-    subst (λ t. LawAt s.work.setup t.work e) c.after
     (members_set s.work c.engine e [] _ closed (ltb-true e s.work.setup.caps.engines i) (ltb-true c.engine s.work.setup.caps.engines j) list (note-same s.work.notes c.engine closed note) (λ n. note-other s.work.notes c.engine e closed n)
     (with_none s.work.setup (chain s.work.content (progress_list s.work.setup c.engine)) (chain s.work.content (member_list s.work.setup c.engine)) (note_at s.work c.engine) (lists-of s.work c.engine j h))
-    (lists-of s.work e i h))
-lists-change caps s s' e w i h (is_ended c) =
+    (lists-of s.work e i h)))
+    (λ c.
     let k = c.engine in
     let found = (In-filter _ c.slot (in_progress s.work k ++ members s.work k) (In-find _ c.slot (running_on s.work k) c.is_found).0).0 in
     let place : (nat_lt k s.work.setup.caps.engines ≡ true) × (In c.slot (chain s.work.content (progress_list s.work.setup k)) ⊎ In c.slot (chain s.work.content (member_list s.work.setup k)))
@@ -357,17 +323,8 @@ lists-change caps s s' e w i h (is_ended c) =
     let below = below-engines caps s.work k w.shape place.0 in
     let size = w.shape.notes in
     let once = w.cells.once c.slot.0 in
-    subst (λ t. LawAt s.work.setup t.work e) c.after
-    (entry_ended s.work k e c.slot c.outcome (omega (arith, below, size)) (ltb-true e s.work.setup.caps.engines i) place.0 once place.1 c.ready (lists-of s.work k place.0 h) (lists-of s.work e i h))
-lists-change caps s s' e w i h (is_device_enabled c) = subst (λ t. LawAt s.work.setup t.work e) c.after (lists-of s.work e i h)
-lists-change caps s s' e w i h (is_queue_enabled c) = subst (λ t. LawAt s.work.setup t.work e) c.after (lists-of s.work e i h)
-lists-change caps s s' e w i h (is_waiting c) = subst (λ t. LawAt s.work.setup t.work e) c.after (lists-of s.work e i h)
-lists-change caps s s' e w i h (is_over c) = subst (λ t. LawAt s.work.setup t.work e) c.after (lists-of s.work e i h)
-lists-change caps s s' e w i h (is_aborted c) = subst (λ t. LawAt s.work.setup t.work e) c.after (scope_aborted s.work c.number c.scope e (ltb-true e s.work.setup.caps.engines i) (lists-of s.work e i h))
-lists-change caps s s' e w i h (is_device_reset c) = subst (λ t. LawAt s.work.setup t.work e) c.after (scope_aborted s.work c.number Device e (ltb-true e s.work.setup.caps.engines i) (lists-of s.work e i h))
-lists-change caps s s' e w i h (is_queues_reset c) = subst (λ t. LawAt s.work.setup t.work e) c.after (scope_aborted s.work c.number c.scope e (ltb-true e s.work.setup.caps.engines i) (lists-of s.work e i h))
-lists-change caps s s' e w i h (is_queue_written c) = subst (λ t. LawAt s.work.setup t.work e) c.after (lists-of s.work e i h)
-lists-change caps s s' e w i h (is_group_written c) = subst (λ t. LawAt s.work.setup t.work e) c.after (lists-of s.work e i h)
+    (entry_ended s.work k e c.slot c.outcome (omega (arith, below, size)) (ltb-true e s.work.setup.caps.engines i) place.0 once place.1 c.ready (lists-of s.work k place.0 h) (lists-of s.work e i h)))
+    (λ c. scope_aborted s.work c.number c.scope e (ltb-true e s.work.setup.caps.engines i) (lists-of s.work e i h))
 
 pub engines-change : (caps : Caps) (s s' : State) → IsWellFormed caps s → Change s s' → HasLawfulEngines s'.work
 engines-change caps s s' w c =

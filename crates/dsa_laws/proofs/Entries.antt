@@ -20,10 +20,19 @@ use Rattle.dsa_book.specs.State.{Work, State, opening, is_off, phase_at}
 use Rattle.dsa_book.specs.Work.{progress_list, member_list, in_progress, members, run, with_first_run}
 use Rattle.dsa_book.proofs.Scopes.{unnamed}
 use Rattle.dsa_book.specs.Commands.{stopped, with_phases, names, is_in_scope, holds, is_awaited}
-use Rattle.dsa_laws.specs.Change.{Change, IsAccepted, IsFetched, same, is_noted, is_accepted, is_taken, is_fetched, is_started, is_abandoned, is_ended, is_device_enabled, is_queue_enabled, is_waiting, is_over, is_aborted, is_device_reset, is_queues_reset, is_queue_written, is_group_written}
+use Rattle.dsa_laws.specs.Change.{Change, IsAccepted, IsTaken, IsFetched, IsStarted}
+use Rattle.dsa_laws.proofs.Effects.{by_effect, by_setting}
 use Rattle.dsa_laws.specs.WellFormed.{HasShape, IsPlaced, NoneOff, PasidsFit, HasLawfulEntries, HasLawfulSetup}
 use Rattle.dsa_laws.proofs.Contents.{In-find, In-chain, In-filtered, each-set, each-pushed, each-without_front, each-filtered, chain-empty, none-In}
-use Rattle.dsa_laws.proofs.Shapes.{on-queue, below-engines, In-cond}
+use Rattle.dsa_laws.proofs.Shapes.{on-queue, below-engines, In-cond, stopped-configs}
+use Rattle.std.proofs.Common.{get_or, ◌∙◌}
+use Rattle.std.proofs.lemmas.List.{get_or-set_other}
+use Rattle.dsa_regs.specs.declared.QueueConfig.{QueueConfig}
+use Rattle.dsa_regs.specs.Config.{queue_at, zero_queue}
+use Rattle.dsa_book.specs.Submit.{accepted}
+use Rattle.dsa_book.specs.Work.{taken, fetched, started}
+use Rattle.dsa_book.specs.Commands.{size_alone}
+use Rattle.dsa_book.specs.Machine.{intake_of, with_intake}
 use Rattle.dsa_desc.proofs.Tables.{not-both}
 use Rattle.dsa_book.proofs.Phases.{on-not_off}
 use Rattle.dsa_laws.specs.Lists.{In, EachAt}
@@ -50,32 +59,30 @@ first_run-each P r (y ∷ ys) a x i = go (first_run-each P r ys (λ z j. a z (in
 pasid-again : (p : ℕ) → pasid_of (pasid_of p) ≡ pasid_of p
 pasid-again p = omega arith
 
+-- entries leave or stay: what holds of each by its list is to be seen of those that come, and of those that begin to run
+each-effect : (P : ℕ → Slot → Type 0) (s s' : State) → EachAt P s.work.content → Change s s'
+    → ((c : IsAccepted s s') → EachAt P (with_intake s (accepted (intake_of s) c.queue c.kind c.desc c.cell).1).work.content)
+    → ((c : IsTaken s s') → EachAt P (taken s.work c.engine c.queue c.front).content)
+    → ((c : IsFetched s s') → EachAt P (fetched s.work c.engine c.desc c.cell c.note c.batch.1).1.content)
+    → ((c : IsStarted s s') → EachAt P (started s.work c.engine).content)
+    → EachAt P s'.work.content
+each-effect P s s' a c accept take fetch start = by_effect (λ w. EachAt P w.content) s s' c
+    (λ e. subst (EachAt P) (sym e.content) a)
+    accept take fetch start
+    (λ c. each-set P s.work.content _ [] a (λ x i. absurd i))
+    (λ c. each-filtered P _ s.work.content a)
+    (λ c. each-filtered P _ s.work.content a)
+
 -- what is the same wherever an entry stands and whether it runs or not: it is enough to see it of what comes
 each-content : (P : Slot → Type 0) → ((x : Slot) → P x → P (run x)) → (s s' : State) → Change s s' → EachAt (λ k. P) s.work.content
     → ((c : IsAccepted s s') (x : Slot) → x.1.queue ≡ c.queue → pasid_of x.1.desc.pasid ≡ x.1.desc.pasid → P x)
     → ((c : IsFetched s s') (x : Slot) → x.1.queue ≡ c.batch.1.queue → pasid_of x.1.desc.pasid ≡ x.1.desc.pasid → P x)
     → EachAt (λ k. P) s'.work.content
-each-content P r s s' (same c) a n m = subst (λ t. EachAt (λ k. P) t.work.content) c a
-each-content P r s s' (is_noted c) a n m = subst (λ t. EachAt (λ k. P) t.work.content) c.after a
-each-content P r s s' (is_accepted c) a n m = subst (λ t. EachAt (λ k. P) t.work.content) c.after (each-pushed (λ k. P) s.work.content c.queue _ a (n c _ refl (pasid-again _)))
-each-content P r s s' (is_taken c) a n m =
-    subst (λ t. EachAt (λ k. P) t.work.content) c.after
-    (each-pushed (λ k. P) (without_front s.work.content c.queue) _ (run c.front) (each-without_front (λ k. P) s.work.content c.queue a) (r c.front (a c.queue c.front (In-front c.front _ c.is_front))))
-each-content P r s s' (is_fetched c) a n m = subst (λ t. EachAt (λ k. P) t.work.content) c.after (each-pushed (λ k. P) s.work.content _ _ a (m c _ refl (pasid-again _)))
-each-content P r s s' (is_started c) a n m =
-    subst (λ t. EachAt (λ k. P) t.work.content) c.after
-    (each-set (λ k. P) s.work.content _ (with_first_run (members s.work c.engine)) a (first_run-each P r (members s.work c.engine) (λ x i. a _ x (In-cond _ x _ i).1)))
-each-content P r s s' (is_abandoned c) a n m = subst (λ t. EachAt (λ k. P) t.work.content) c.after (each-set (λ k. P) s.work.content _ [] a (λ x i. absurd i))
-each-content P r s s' (is_ended c) a n m = subst (λ t. EachAt (λ k. P) t.work.content) c.after (each-filtered (λ k. P) _ s.work.content a)
-each-content P r s s' (is_device_enabled c) a n m = subst (λ t. EachAt (λ k. P) t.work.content) c.after a
-each-content P r s s' (is_queue_enabled c) a n m = subst (λ t. EachAt (λ k. P) t.work.content) c.after a
-each-content P r s s' (is_waiting c) a n m = subst (λ t. EachAt (λ k. P) t.work.content) c.after a
-each-content P r s s' (is_over c) a n m = subst (λ t. EachAt (λ k. P) t.work.content) c.after a
-each-content P r s s' (is_aborted c) a n m = subst (λ t. EachAt (λ k. P) t.work.content) c.after (each-filtered (λ k. P) _ s.work.content a)
-each-content P r s s' (is_device_reset c) a n m = subst (λ t. EachAt (λ k. P) t.work.content) c.after (each-filtered (λ k. P) (λ x. not (is_in_scope Device x.1)) s.work.content a)
-each-content P r s s' (is_queues_reset c) a n m = subst (λ t. EachAt (λ k. P) t.work.content) c.after (each-filtered (λ k. P) _ s.work.content a)
-each-content P r s s' (is_queue_written c) a n m = subst (λ t. EachAt (λ k. P) t.work.content) c.after a
-each-content P r s s' (is_group_written c) a n m = subst (λ t. EachAt (λ k. P) t.work.content) c.after a
+each-content P r s s' c a n m = each-effect (λ k. P) s s' a c
+    (λ c. each-pushed (λ k. P) s.work.content c.queue _ a (n c _ refl (pasid-again _)))
+    (λ c. each-pushed (λ k. P) (without_front s.work.content c.queue) _ (run c.front) (each-without_front (λ k. P) s.work.content c.queue a) (r c.front (a c.queue c.front (In-front c.front _ c.is_front))))
+    (λ c. each-pushed (λ k. P) s.work.content _ _ a (m c _ refl (pasid-again _)))
+    (λ c. each-set (λ k. P) s.work.content _ (with_first_run (members s.work c.engine)) a (first_run-each P r (members s.work c.engine) (λ x i. a _ x (In-cond _ x _ i).1)))
 
 pub pasids-change : (s s' : State) → PasidsFit s.work → Change s s' → PasidsFit s'.work
 pasids-change s s' h c = each-content (λ x. pasid_of x.1.desc.pasid ≡ x.1.desc.pasid) (λ x p. p) s s' c h (λ c x e p. p) (λ c x e p. p)
@@ -89,38 +96,20 @@ member_list-past : (caps : Caps) (w : Work) (e : ℕ) → HasShape caps w → ca
 member_list-past caps w e h = let a = ap (λ (c : Caps). c.queues) h.same_caps in let b = ap (λ (c : Caps). c.engines) h.same_caps in omega (arith, a, b)
 
 pub placed-change : (caps : Caps) (s s' : State) → HasShape caps s.work → EachAt (IsPlaced caps) s.work.content → Change s s' → EachAt (IsPlaced caps) s'.work.content
-placed-change caps s s' h a (same c) = subst (λ t. EachAt (IsPlaced caps) t.work.content) c a
-placed-change caps s s' h a (is_noted c) = subst (λ t. EachAt (IsPlaced caps) t.work.content) c.after a
-placed-change caps s s' h a (is_accepted c) =
+placed-change caps s s' h a c = each-effect (IsPlaced caps) s s' a c
+    (λ c.
     let inside = on-queue caps s.work c.queue h c.on in
-    subst (λ t. EachAt (IsPlaced caps) t.work.content) c.after
-    (each-pushed (IsPlaced caps) s.work.content c.queue _ a (record { member = λ i. absurd (omega (arith, inside, i)); queue = λ i. refl; submitted = λ i. refl; waiting = λ i. refl; running = λ i j. absurd (omega (arith, inside, i)) }))
-placed-change caps s s' h a (is_taken c) =
+    each-pushed (IsPlaced caps) s.work.content c.queue _ a (record { member = λ i. absurd (omega (arith, inside, i)); queue = λ i. refl; submitted = λ i. refl; waiting = λ i. refl; running = λ i j. absurd (omega (arith, inside, i)) }))
+    (λ c.
     let q = ap (λ (c : Caps). c.queues) h.same_caps in
     let inside = queue-below caps s.work c.queue h (and_parts _ _ (and_parts _ _ c.qualifies).0).1 in
     let engine = below-engines caps s.work c.engine h (and_parts _ _ (and_parts _ _ c.qualifies).0).0 in
     let front = a c.queue c.front (In-front c.front _ c.is_front) in
-    subst (λ t. EachAt (IsPlaced caps) t.work.content) c.after
-    (each-pushed (IsPlaced caps) (without_front s.work.content c.queue) (progress_list s.work.setup c.engine) (run c.front) (each-without_front (IsPlaced caps) s.work.content c.queue a)
+    each-pushed (IsPlaced caps) (without_front s.work.content c.queue) (progress_list s.work.setup c.engine) (run c.front) (each-without_front (IsPlaced caps) s.work.content c.queue a)
     (record { member = λ i. absurd (omega (arith, q, i, engine)); queue = λ i. absurd (omega (arith, q, i)); submitted = λ i. front.submitted (omega (arith, inside)); waiting = λ i. absurd (omega (arith, q, i)); running = λ i j. refl }))
-placed-change caps s s' h a (is_fetched c) =
-    subst (λ t. EachAt (IsPlaced caps) t.work.content) c.after
-    (each-pushed (IsPlaced caps) s.work.content (member_list s.work.setup c.engine) _ a (placed-member caps _ _ (member_list-past caps s.work c.engine h) refl))
-placed-change caps s s' h a (is_started c) =
-    subst (λ t. EachAt (IsPlaced caps) t.work.content) c.after
-    (each-set (IsPlaced caps) s.work.content (member_list s.work.setup c.engine) (with_first_run (members s.work c.engine)) a (λ x i. placed-member caps _ x (member_list-past caps s.work c.engine h)
+    (λ c. each-pushed (IsPlaced caps) s.work.content (member_list s.work.setup c.engine) _ a (placed-member caps _ _ (member_list-past caps s.work c.engine h) refl))
+    (λ c. each-set (IsPlaced caps) s.work.content (member_list s.work.setup c.engine) (with_first_run (members s.work c.engine)) a (λ x i. placed-member caps _ x (member_list-past caps s.work c.engine h)
     (first_run-each (λ x. is_some x.1.parent ≡ true) (λ x p. p) (members s.work c.engine) (λ x j. (a (member_list s.work.setup c.engine) x (In-cond _ x _ j).1).member (member_list-past caps s.work c.engine h)) x i)))
-placed-change caps s s' h a (is_abandoned c) = subst (λ t. EachAt (IsPlaced caps) t.work.content) c.after (each-set (IsPlaced caps) s.work.content _ [] a (λ x i. absurd i))
-placed-change caps s s' h a (is_ended c) = subst (λ t. EachAt (IsPlaced caps) t.work.content) c.after (each-filtered (IsPlaced caps) _ s.work.content a)
-placed-change caps s s' h a (is_device_enabled c) = subst (λ t. EachAt (IsPlaced caps) t.work.content) c.after a
-placed-change caps s s' h a (is_queue_enabled c) = subst (λ t. EachAt (IsPlaced caps) t.work.content) c.after a
-placed-change caps s s' h a (is_waiting c) = subst (λ t. EachAt (IsPlaced caps) t.work.content) c.after a
-placed-change caps s s' h a (is_over c) = subst (λ t. EachAt (IsPlaced caps) t.work.content) c.after a
-placed-change caps s s' h a (is_aborted c) = subst (λ t. EachAt (IsPlaced caps) t.work.content) c.after (each-filtered (IsPlaced caps) _ s.work.content a)
-placed-change caps s s' h a (is_device_reset c) = subst (λ t. EachAt (IsPlaced caps) t.work.content) c.after (each-filtered (IsPlaced caps) (λ x. not (is_in_scope Device x.1)) s.work.content a)
-placed-change caps s s' h a (is_queues_reset c) = subst (λ t. EachAt (IsPlaced caps) t.work.content) c.after (each-filtered (IsPlaced caps) _ s.work.content a)
-placed-change caps s s' h a (is_queue_written c) = subst (λ t. EachAt (IsPlaced caps) t.work.content) c.after a
-placed-change caps s s' h a (is_group_written c) = subst (λ t. EachAt (IsPlaced caps) t.work.content) c.after a
 
 -- ---- no entry names a queue that is Off
 
@@ -174,30 +163,44 @@ old-off s s' a c = each-content (λ x. is_off (phase_at s.work.setup x.1.queue) 
     (λ c x e p. subst (λ q. is_off (phase_at s.work.setup q) ≡ false) (sym e) (on-not_off _ c.on))
     (λ c x e p. subst (λ q. is_off (phase_at s.work.setup q) ≡ false) (sym e) (a _ c.batch (In-cond _ c.batch _ (In-find _ c.batch (in_progress s.work c.engine) c.is_batch).0).1))
 
--- a queue that an entry names is not set to Off
-abbrev KeepsPhases : State → State → Type 0
-KeepsPhases s t = (k : ℕ) (x : Slot) → In x (chain t.work.content k) → is_off (phase_at s.work.setup x.1.queue) ≡ false → is_off (phase_at t.work.setup x.1.queue) ≡ false
+-- what is held after a change, as its last state is made
+pub In-after : (s t : State) → t ≡ s → (k : ℕ) (x : Slot) → In x (chain s.work.content k) → In x (chain t.work.content k)
+In-after s t e k x i = subst (λ (u : State). In x (chain u.work.content k)) (sym e) i
 
-phases-kept : (caps : Caps) (s s' : State) → HasShape caps s.work → Change s s' → KeepsPhases s s'
-phases-kept caps s s' h (same c) = subst (λ t. KeepsPhases s t) c (λ k x i p. p)
-phases-kept caps s s' h (is_noted c) = subst (λ t. KeepsPhases s t) c.after (λ k x i p. p)
-phases-kept caps s s' h (is_accepted c) = subst (λ t. KeepsPhases s t) c.after (λ k x i p. p)
-phases-kept caps s s' h (is_taken c) = subst (λ t. KeepsPhases s t) c.after (λ k x i p. p)
-phases-kept caps s s' h (is_fetched c) = subst (λ t. KeepsPhases s t) c.after (λ k x i p. p)
-phases-kept caps s s' h (is_started c) = subst (λ t. KeepsPhases s t) c.after (λ k x i p. p)
-phases-kept caps s s' h (is_abandoned c) = subst (λ t. KeepsPhases s t) c.after (λ k x i p. p)
-phases-kept caps s s' h (is_ended c) = subst (λ t. KeepsPhases s t) c.after (λ k x i p. p)
-phases-kept caps s s' h (is_device_enabled c) = subst (λ t. KeepsPhases s t) c.after (λ k x i p. p)
-phases-kept caps s s' h (is_queue_enabled c) = subst (λ t. KeepsPhases s t) c.after (λ k x i p. kept-phase caps s.work (λ q. q == c.queue) On x.1.queue h (inr refl) p)
-phases-kept caps s s' h (is_waiting c) = subst (λ t. KeepsPhases s t) c.after (λ k x i p. waiting-off caps s.work c.deed c.scope h x.1.queue p)
-phases-kept caps s s' h (is_over c) = subst (λ t. KeepsPhases s t) c.after (λ k x i p. over-off caps s.work c.deed c.scope c.mark h c.over k x i p)
-phases-kept caps s s' h (is_aborted c) = subst (λ t. KeepsPhases s t) c.after (λ k x i p. p)
-phases-kept caps s s' h (is_device_reset c) = subst (λ t. KeepsPhases s t) c.after (λ k x i p. not-both false (In-filtered (λ slot. not true) s.work.content k x i).1 refl)
-phases-kept caps s s' h (is_queues_reset c) =
+-- a queue that an entry names is not set to Off
+phases-kept : (caps : Caps) (s s' : State) → HasShape caps s.work → Change s s' → (k : ℕ) (x : Slot) → In x (chain s'.work.content k)
+    → is_off (phase_at s.work.setup x.1.queue) ≡ false → is_off (phase_at s'.work.setup x.1.queue) ≡ false
+phases-kept caps s s' h c k x i p = by_setting (λ setup. is_off (phase_at setup x.1.queue) ≡ false) s s' c
+    (λ e. subst (λ (l : List Phase). is_off (get_or l x.1.queue Off) ≡ false) (sym e.phases) p)
+    (λ c. p)
+    (λ c. kept-phase caps s.work (λ q. q == c.queue) On x.1.queue h (inr refl) p)
+    (λ c. waiting-off caps s.work c.deed c.scope h x.1.queue p)
+    (λ c. over-off caps s.work c.deed c.scope c.mark h c.over k x (In-after s' _ c.after k x i) p)
+    (λ c. not-both false (In-filtered (λ slot. not true) s.work.content k x (In-after s' _ c.after k x i)).1 refl)
+    (λ c.
+    kept-phase caps s.work (names (queues_in c.scope)) Off x.1.queue h (inl (unnamed c.scope x.1 (not-true _ (In-filtered (λ slot. not (is_in_scope c.scope slot.1)) s.work.content k x (In-after s' _ c.after k x i)).1))) p)
+    (λ c. p)
+    (λ c. p)
+
+-- and is configured as before
+pub configs-kept : (caps : Caps) (s s' : State) → HasShape caps s.work → NoneOff s.work → Change s s' → (k : ℕ) (x : Slot) → In x (chain s'.work.content k)
+    → queue_at s'.work.setup.configs x.1.queue ≡ queue_at s.work.setup.configs x.1.queue
+configs-kept caps s s' h a c k x i = by_setting (λ setup. queue_at setup.configs x.1.queue ≡ queue_at s.work.setup.configs x.1.queue) s s' c
+    (λ e. ap (λ (l : List QueueConfig). queue_at l x.1.queue) e.configs)
+    (λ c. refl)
+    (λ c. refl)
+    (λ c. ap (λ (l : List QueueConfig). queue_at l x.1.queue) (stopped-configs c.deed c.scope Stopping s.work.setup))
+    (λ c. ap (λ (l : List QueueConfig). queue_at l x.1.queue) (stopped-configs c.deed c.scope Off s.work.setup))
+    (λ c. not-both false (In-filtered (λ slot. not true) s.work.content k x (In-after s' _ c.after k x i)).1 refl)
+    (λ c.
     let qs = queues_in c.scope in
-    subst (λ t. KeepsPhases s t) c.after (λ k x i p. kept-phase caps s.work (names qs) Off x.1.queue h (inl (unnamed c.scope x.1 (not-true _ (In-filtered (λ slot. not (is_in_scope c.scope slot.1)) s.work.content k x i).1))) p)
-phases-kept caps s s' h (is_queue_written c) = subst (λ t. KeepsPhases s t) c.after (λ k x i p. p)
-phases-kept caps s s' h (is_group_written c) = subst (λ t. KeepsPhases s t) c.after (λ k x i p. p)
+    let old = In-filtered (λ slot. not (is_in_scope c.scope slot.1)) s.work.content k x (In-after s' _ c.after k x i) in
+    let below = in-use-below caps s.work x.1.queue h (a k x old.0) in
+    get_or-each (λ q. cond (names qs q) (size_alone (queue_at s.work.setup.configs q)) (queue_at s.work.setup.configs q)) s.work.setup.caps.queues x.1.queue zero_queue below
+    ∙ ap (λ (b : Bool). cond b (size_alone (queue_at s.work.setup.configs x.1.queue)) (queue_at s.work.setup.configs x.1.queue)) (unnamed c.scope x.1 (not-true _ old.1)))
+    (λ c. get_or-set_other s.work.setup.configs c.queue x.1.queue c.config zero_queue
+    (λ (e : x.1.queue ≡ c.queue). not-both (is_off (phase_at s.work.setup c.queue)) c.off (subst (λ q. is_off (phase_at s.work.setup q) ≡ false) e (a k x (In-after s' _ c.after k x i)))))
+    (λ c. refl)
 
 pub off-change : (caps : Caps) (s s' : State) → HasShape caps s.work → NoneOff s.work → Change s s' → NoneOff s'.work
 off-change caps s s' h a c k x i = phases-kept caps s s' h c k x i (old-off s s' a c k x i)

@@ -20,14 +20,16 @@ use Rattle.dsa_book.specs.declared.fate.Fate.TheVariants.{Abandoned}
 use Rattle.dsa_book.specs.State.{Work, State, is_ticket}
 use Rattle.dsa_book.specs.Work.{progress_list, member_list, in_progress, members, running_on, as_running, run, with_first_run, fate_row}
 use Rattle.dsa_book.specs.Commands.{is_in_scope, aborted}
-use Rattle.dsa_laws.specs.Change.{Change, same, is_noted, is_accepted, is_taken, is_fetched, is_started, is_abandoned, is_ended, is_device_enabled, is_queue_enabled, is_waiting, is_over, is_aborted, is_device_reset, is_queues_reset, is_queue_written, is_group_written}
+use Rattle.dsa_laws.specs.Change.{Change}
+use Rattle.dsa_laws.proofs.Effects.{by_effect}
 use Rattle.dsa_laws.specs.WellFormed.{HasShape, CellsOnce, NamesOnce, held_named, fates_named}
 use Rattle.dsa_laws.proofs.Contents.{In-append, In-filter, In-find, In-chain, sum-without}
 use Rattle.dsa_laws.proofs.Shapes.{on-queue, note-engine, below-engines, member_list-in, progress_list-in, queue_list-in, waiting-engine, In-cond, waiting-members}
 use Rattle.dsa_laws.specs.Lists.{In}
 use Rattle.dsa_laws.proofs.Shapes.{stopped-names}
 use Rattle.std.proofs.Common.{length-append}
-use Rattle.std.proofs.lemmas.List.{length-map}
+use Rattle.std.proofs.lemmas.List.{length-map, append-nil}
+use Rattle.dsa_regs.proofs.NumberSums.{sum-map}
 
 -- ---- cells and names, as sums
 
@@ -56,8 +58,8 @@ pub record IsFlow (caps : Caps) (w w' : Work) : Type 0 where
   pub came : List Slot
   pub gone : List Slot
   pub sums : (f : Slot → ℕ) → ((slot : Slot) → f (run slot) ≡ f slot) → sum_by f (all_held w'.content) + sum_by f gone ≡ sum_by f (all_held w.content) + sum_by f came
-  pub rows : (name : ℕ) → fates_named w' name ≡ fates_named w name + count_by (λ slot. slot.1.name == name) gone
-  pub more : length w'.fates ≡ length w.fates + length gone
+  pub fate : Fate
+  pub fates : w'.fates ≡ w.fates ++ map (fate_row fate) gone
   pub next : w'.setup.next_name ≡ w.setup.next_name + length came
   pub names : (name : ℕ) → count_by (λ slot. slot.1.name == name) came + cond (nat_lt name w.setup.next_name) 1 0 ≡ cond (nat_lt name w'.setup.next_name) 1 0
   pub cells : (cell : Cell) → uses w.content cell + count_by (is_cell cell) came ≤ cond (nat_lt cell.0 (cell_count caps)) 1 0
@@ -70,18 +72,11 @@ next_of w = w.setup.next_name
 pub length-rows : (fates : List FateRow) (fate : Fate) (xs : List Slot) → length (fates ++ map (fate_row fate) xs) ≡ length fates + length xs
 length-rows fates fate xs = length-append fates (map (fate_row fate) xs) ∙ ap (λ n. length fates + n) (length-map xs (fate_row fate))
 
-pub count-rows : (fate : Fate) (n : ℕ) (xs : List Slot) → count_by (λ row. row.name == n) (map (fate_row fate) xs) ≡ count_by (λ slot. slot.1.name == n) xs
-count-rows fate n [] = refl
-count-rows fate n (x ∷ xs) =
-    let a = sum_by-cons (λ (row : FateRow). cond (row.name == n) 1 0) (fate_row fate x) (map (fate_row fate) xs) in
-    let b = sum_by-cons (λ (slot : Slot). cond (slot.1.name == n) 1 0) x xs in
-    let rest = count-rows fate n xs in
-    omega (arith, a, b, rest)
-
-rows-appended : (fates : List FateRow) (fate : Fate) (xs : List Slot) (n : ℕ) → count_by (λ row. row.name == n) (fates ++ map (fate_row fate) xs) ≡ count_by (λ row. row.name == n) fates + count_by (λ slot. slot.1.name == n) xs
-rows-appended fates fate xs n =
-    let a = sum_by-append (λ (row : FateRow). cond (row.name == n) 1 0) fates (map (fate_row fate) xs) in
-    let b = count-rows fate n xs in
+-- a count of rows, by the entries that the new ones are of
+pub rows-counted : (g : FateRow → Bool) (fates : List FateRow) (fate : Fate) (xs : List Slot) → count_by g (fates ++ map (fate_row fate) xs) ≡ count_by g fates + count_by (λ slot. g (fate_row fate slot)) xs
+rows-counted g fates fate xs =
+    let a = sum_by-append (λ (row : FateRow). cond (g row) 1 0) fates (map (fate_row fate) xs) in
+    let b = sum-map (λ (row : FateRow). cond (g row) 1 0) (fate_row fate) xs in
     omega (arith, a, b)
 
 sum-first_run : (f : Slot → ℕ) → ((slot : Slot) → f (run slot) ≡ f slot) → (xs : List Slot) → sum_by f (with_first_run xs) ≡ sum_by f xs
@@ -125,8 +120,8 @@ still caps w w' once sums fates next = record {
   came = [];
   gone = [];
   sums = λ f alike. let e = sums f alike in omega (arith, e);
-  rows = λ n. let e = ap (λ (rows : List FateRow). count_by (λ row. row.name == n) rows) fates in omega (arith, e);
-  more = let e = ap (λ (rows : List FateRow). length rows) fates in omega (arith, e);
+  fate = Abandoned;
+  fates = fates ∙ sym (append-nil w.fates);
   next = omega (arith, next);
   names = λ n. let e : ◌≡◌ {A = ℕ} (cond (nat_lt n (next_of w)) 1 0) (cond (nat_lt n (next_of w')) 1 0) = ap (λ k. cond {A = ℕ} (nat_lt n k) 1 0) (sym next) in omega (arith, e);
   cells = λ n. let e = once n in omega (arith, e);
@@ -142,8 +137,8 @@ entered caps w w' x once sums fates next name free = record {
   came = x ∷ [];
   gone = [];
   sums = λ f alike. let e = sums f in let c = sum_by-cons f x [] in omega (arith, e, c);
-  rows = λ n. let e = ap (λ (rows : List FateRow). count_by (λ row. row.name == n) rows) fates in omega (arith, e);
-  more = let e = ap (λ (rows : List FateRow). length rows) fates in omega (arith, e);
+  fate = Abandoned;
+  fates = fates ∙ sym (append-nil w.fates);
   next = omega (arith, next);
   names = λ n.
       let c = sum_by-cons (λ (slot : Slot). cond (slot.1.name == n) 1 0) x [] in
@@ -161,8 +156,8 @@ left caps w w' fate gone once sums fates next = record {
   came = [];
   gone = gone;
   sums = λ f alike. let e = sums f in omega (arith, e);
-  rows = λ n. ap (λ (rows : List FateRow). count_by (λ row. row.name == n) rows) fates ∙ rows-appended w.fates fate gone n;
-  more = ap (λ (rows : List FateRow). length rows) fates ∙ length-rows w.fates fate gone;
+  fate = fate;
+  fates = fates;
   next = omega (arith, next);
   names = λ n. let e : ◌≡◌ {A = ℕ} (cond (nat_lt n (next_of w)) 1 0) (cond (nat_lt n (next_of w')) 1 0) = ap (λ k. cond {A = ℕ} (nat_lt n k) 1 0) (sym next) in omega (arith, e);
   cells = λ n. let e = once n in omega (arith, e);
@@ -208,59 +203,47 @@ running-slot w e ticket slot h =
     (In-append slot (in_progress w e) (members w e) i)
 
 pub flow-change : (caps : Caps) (s s' : State) → HasShape caps s.work → CellsOnce caps s.work → Change s s' → IsFlow caps s.work s'.work
-flow-change caps s s' h once (same c) = subst (λ t. IsFlow caps s.work t.work) c (unmoved caps s.work s.work (uses-once caps s.work once) refl refl refl)
-flow-change caps s s' h once (is_noted c) = subst (λ t. IsFlow caps s.work t.work) c.after (unmoved caps s.work _ (uses-once caps s.work once) refl refl refl)
-flow-change caps s s' h once (is_accepted c) =
+flow-change caps s s' h once c =
+    let uses = uses-once caps s.work once in
+    by_effect (IsFlow caps s.work) s s' c
+    (λ e. unmoved caps s.work s'.work uses e.content e.fates e.names)
+    (λ c.
     let inside = queue_list-in caps s.work c.queue h (on-queue caps s.work c.queue h c.on) in
-    subst (λ t. IsFlow caps s.work t.work) c.after
-    (entered caps s.work _ _ (uses-once caps s.work once) (λ f. sum-pushed f s.work.content c.queue _ _ inside) refl refl refl (free-caps caps s.work c.cell h c.free))
-flow-change caps s s' h once (is_taken c) =
+    (entered caps s.work _ _ uses (λ f. sum-pushed f s.work.content c.queue _ _ inside) refl refl refl (free-caps caps s.work c.cell h c.free)))
+    (λ c.
     let tests = (and_parts _ _ c.qualifies).0 in
     let engine = progress_list-in caps s.work c.engine h (below-engines caps s.work c.engine h (and_parts _ _ tests).0) in
     let queue = queue_list-in caps s.work c.queue h (let i = ltb-true c.queue s.work.setup.caps.queues (and_parts _ _ tests).1 in let e = ap (λ (c : Caps). c.queues) h.same_caps in omega (arith, i, e)) in
-    subst (λ t. IsFlow caps s.work t.work) c.after
-    (still caps s.work _ (uses-once caps s.work once) (λ f alike. sum-taken f alike s.work.content c.queue (progress_list s.work.setup c.engine) c.front queue engine c.is_front) refl refl)
-flow-change caps s s' h once (is_fetched c) =
+    (still caps s.work _ uses (λ f alike. sum-taken f alike s.work.content c.queue (progress_list s.work.setup c.engine) c.front queue engine c.is_front) refl refl))
+    (λ c.
     let inside = member_list-in caps s.work c.engine h (note-engine caps s.work c.engine c.note h c.is_note) in
-    subst (λ t. IsFlow caps s.work t.work) c.after
-    (entered caps s.work _ _ (uses-once caps s.work once) (λ f. sum-pushed f s.work.content (member_list s.work.setup c.engine) _ _ inside) refl refl refl (free-caps caps s.work c.cell h c.free))
-flow-change caps s s' h once (is_started c) =
+    (entered caps s.work _ _ uses (λ f. sum-pushed f s.work.content (member_list s.work.setup c.engine) _ _ inside) refl refl refl (free-caps caps s.work c.cell h c.free)))
+    (λ c.
     let e = waiting-engine s.work c.engine c.slot c.is_first in
     let inside = member_list-in caps s.work c.engine h (below-engines caps s.work c.engine h e) in
     let is = waiting-members s.work c.engine c.slot c.is_first in
-    subst (λ t. IsFlow caps s.work t.work) c.after
-    (still caps s.work _ (uses-once caps s.work once) (λ f alike.
+    (still caps s.work _ uses (λ f alike.
     let all = sum-set f s.work.content (member_list s.work.setup c.engine) (with_first_run (members s.work c.engine)) inside in
     let ran = sum-first_run f alike (members s.work c.engine) in
     let old = ap (λ (xs : List Slot). sum_by f xs) is in
-    omega (arith, all, ran, old)) refl refl)
-flow-change caps s s' h once (is_abandoned c) =
+    omega (arith, all, ran, old)) refl refl))
+    (λ c.
     let e = waiting-engine s.work c.engine c.slot c.is_first in
     let inside = member_list-in caps s.work c.engine h (below-engines caps s.work c.engine h e) in
     let is = waiting-members s.work c.engine c.slot c.is_first in
-    subst (λ t. IsFlow caps s.work t.work) c.after
-    (left caps s.work _ Abandoned (members s.work c.engine) (uses-once caps s.work once) (λ f.
+    (left caps s.work _ Abandoned (members s.work c.engine) uses (λ f.
     let all = sum-set f s.work.content (member_list s.work.setup c.engine) [] inside in
     let old = ap (λ (xs : List Slot). sum_by f xs) is in
-    omega (arith, all, old)) refl refl)
-flow-change caps s s' h once (is_ended c) =
+    omega (arith, all, old)) refl refl))
+    (λ c.
     let inside = running-slot s.work c.engine c.ticket c.slot c.is_found in
     let one : count_by (is_cell c.slot.0) (all_held s.work.content) ≤ 1 = let a = once.once c.slot.0 in let u = uses-counted s.work.content c.slot.0 in omega (arith, a, u) in
-    subst (λ t. IsFlow caps s.work t.work) c.after
-    (left caps s.work _ _ (c.slot ∷ []) (uses-once caps s.work once) (λ f.
+    (left caps s.work _ _ (c.slot ∷ []) uses (λ f.
     let all = sum-without f (is_cell c.slot.0) c.slot (all_held s.work.content) one inside (eq-eqb c.slot.0.0 c.slot.0.0 refl) in
     let is = ap (λ (xs : List Slot). sum_by f xs) (all_held-filtered (λ slot. not (is_cell c.slot.0 slot)) s.work.content) in
     let single = sum_by-cons f c.slot [] in
-    omega (arith, all, is, single)) refl refl)
-flow-change caps s s' h once (is_device_enabled c) = subst (λ t. IsFlow caps s.work t.work) c.after (unmoved caps s.work _ (uses-once caps s.work once) refl refl refl)
-flow-change caps s s' h once (is_queue_enabled c) = subst (λ t. IsFlow caps s.work t.work) c.after (unmoved caps s.work _ (uses-once caps s.work once) refl refl refl)
-flow-change caps s s' h once (is_waiting c) = subst (λ t. IsFlow caps s.work t.work) c.after (unmoved caps s.work _ (uses-once caps s.work once) refl refl (stopped-names c.deed c.scope Stopping s.work.setup))
-flow-change caps s s' h once (is_over c) = subst (λ t. IsFlow caps s.work t.work) c.after (unmoved caps s.work _ (uses-once caps s.work once) refl refl (stopped-names c.deed c.scope Off s.work.setup))
-flow-change caps s s' h once (is_aborted c) = subst (λ t. IsFlow caps s.work t.work) c.after (aborted-flow caps c.number c.scope s.work _ (uses-once caps s.work once) refl refl refl)
-flow-change caps s s' h once (is_device_reset c) = subst (λ t. IsFlow caps s.work t.work) c.after (aborted-flow caps c.number Device s.work _ (uses-once caps s.work once) refl refl refl)
-flow-change caps s s' h once (is_queues_reset c) = subst (λ t. IsFlow caps s.work t.work) c.after (aborted-flow caps c.number c.scope s.work _ (uses-once caps s.work once) refl refl refl)
-flow-change caps s s' h once (is_queue_written c) = subst (λ t. IsFlow caps s.work t.work) c.after (unmoved caps s.work _ (uses-once caps s.work once) refl refl refl)
-flow-change caps s s' h once (is_group_written c) = subst (λ t. IsFlow caps s.work t.work) c.after (unmoved caps s.work _ (uses-once caps s.work once) refl refl refl)
+    omega (arith, all, is, single)) refl refl))
+    (λ c. aborted-flow caps c.number c.scope s.work _ uses refl refl c.names)
 
 -- ---- what follows
 
@@ -288,7 +271,7 @@ names-flow caps w w' names flow = record {
       let after = held-counted w'.content in
       let c = length-sum flow.came in
       let d = length-sum flow.gone in
-      let more = flow.more in
+      let more = ap (λ (rows : List FateRow). length rows) flow.fates ∙ length-rows w.fates flow.fate flow.gone in
       let next = flow.next in
       let old = names.counted in
       omega (arith, sums, a, b, before, after, c, d, more, next, old);
@@ -297,7 +280,7 @@ names-flow caps w w' names flow = record {
     counted : NamesCounted w'
     counted name =
         let sums = flow.sums (λ slot. cond (slot.1.name == name) 1 0) (λ slot. refl) in
-        let rows = flow.rows name in
+        let rows = ap (λ (rows : List FateRow). count_by (λ row. row.name == name) rows) flow.fates ∙ rows-counted (λ row. row.name == name) w.fates flow.fate flow.gone in
         let given = flow.names name in
         let old = names-counted w names name in
         omega (arith, sums, rows, given, old)

@@ -19,9 +19,11 @@ use Rattle.dsa_book.specs.declared.event.Portal.{Portal}
 use Rattle.dsa_book.specs.declared.event.Portal.TheVariants.{Limited, Unlimited}
 use Rattle.dsa_book.specs.State.{Setup, Work, State, opening, is_off, phase_at}
 use Rattle.dsa_book.specs.Submit.{limit_of}
-use Rattle.dsa_book.specs.Work.{progress_list, member_list, in_progress, may_take, front_of, qualifies, members, note_at}
+use Rattle.dsa_book.specs.Work.{run, progress_list, member_list, in_progress, may_take, front_of, qualifies, members, note_at}
 use Rattle.dsa_book.specs.Commands.{stopped, names, size_alone}
-use Rattle.dsa_laws.specs.Change.{Change, same, is_noted, is_accepted, is_taken, is_fetched, is_started, is_abandoned, is_ended, is_device_enabled, is_queue_enabled, is_waiting, is_over, is_aborted, is_device_reset, is_queues_reset, is_queue_written, is_group_written}
+use Rattle.dsa_laws.specs.Change.{Change}
+use Rattle.dsa_laws.proofs.Effects.{by_effect, by_setting}
+use Rattle.dsa_laws.proofs.Entries.{In-after}
 use Rattle.dsa_laws.specs.WellFormed.{HasShape, HasLawfulSetup, HasLawfulEntries, IsWithinLimits, NoteFits, NotesFit}
 use Rattle.dsa_laws.proofs.Contents.{chain-filtered, In-filtered, none-In, chain-empty, length-filter-le}
 use Rattle.dsa_laws.proofs.Shapes.{on-queue, stopped-configs, progress-at}
@@ -40,12 +42,6 @@ size-set (m ∷ ms) zero l zero = inl (refl, omega arith)
 size-set (m ∷ ms) zero l (suc j) = inr refl
 size-set (m ∷ ms) (suc k) l zero = inr refl
 size-set (m ∷ ms) (suc k) l (suc j) = ⊎_elim (λ h. let e = h.0 in inl (omega (arith, e), h.1)) (λ h. inr h) (size-set ms k l j)
-
-pub size-pushed : (c : Content) (k : ℕ) (x : Slot) (j : ℕ) → ((j ≡ k) × (length (chain (pushed c k x.0 x.1) j) ≤ length (chain c k) + 1)) ⊎ (length (chain (pushed c k x.0 x.1) j) ≡ length (chain c j))
-size-pushed c k x j = ⊎_elim
-    (λ h. let e = h.1 in let more = length-append (chain c k) (x ∷ []) in inl (h.0, omega (arith, e, more)))
-    (λ h. inr h)
-    (size-set c k (chain c k ++ x ∷ []) j)
 
 rest-le : (xs : List Slot) → length (drop 1 xs) ≤ length xs
 rest-le [] = omega arith
@@ -86,18 +82,22 @@ limit-le caps groups q config Limited h = go config.dedicated refl
 -- ---- limits
 
 -- no list is longer than its queue's size, or than the slots of an engine, by the number of the list
-pub record ListsFit (caps : Caps) (w : Work) : Type 0 where
-  pub queues : (q : ℕ) → q < caps.queues → length (chain w.content q) ≤ (queue_at w.setup.configs q).size
-  pub slots : (e : ℕ) → e < caps.engines → length (chain w.content (caps.queues + e)) ≤ caps.slots
+pub record ListsFit (caps : Caps) (configs : List QueueConfig) (content : Content) : Type 0 where
+  pub queues : (q : ℕ) → q < caps.queues → length (chain content q) ≤ (queue_at configs q).size
+  pub slots : (e : ℕ) → e < caps.engines → length (chain content (caps.queues + e)) ≤ caps.slots
 
-pub lists-fit : (caps : Caps) (w : Work) → HasShape caps w → IsWithinLimits caps w → ListsFit caps w
+-- of a work's lists, by its configuration
+abbrev pub Fitting : Caps → Work → Type 0
+Fitting caps w = ListsFit caps w.setup.configs w.content
+
+pub lists-fit : (caps : Caps) (w : Work) → HasShape caps w → IsWithinLimits caps w → Fitting caps w
 lists-fit caps w shape h = record {
   queues = h.queues;
   slots = λ e i. let is = ap (λ (xs : List Slot). length xs) (progress-at caps w e shape i) in let old = h.slots e i in omega (arith, is, old);
 }
 
 -- with members that are no more than were fetched, and these than a batch may have
-pub of-lists_fit : (caps : Caps) (w : Work) → HasShape caps w → ListsFit caps w → NotesFit caps w → HasLawfulEngines w → IsWithinLimits caps w
+pub of-lists_fit : (caps : Caps) (w : Work) → HasShape caps w → Fitting caps w → NotesFit caps w → HasLawfulEngines w → IsWithinLimits caps w
 of-lists_fit caps w shape h notes engines = record {
   queues = h.queues;
   slots = λ e i. let is = ap (λ (xs : List Slot). length xs) (progress-at caps w e shape i) in let old = h.slots e i in omega (arith, is, old);
@@ -108,24 +108,17 @@ of-lists_fit caps w shape h notes engines = record {
     few e None fits law = let none = ap (λ (xs : List Slot). length xs) law.no_members in omega (arith, none)
     few e (Some note) fits law = let most = law.most in let a = fits.fetched in let b = fits.count in omega (arith, most, a, b)
 
--- lists that are no longer, at sizes that are no less
-shorter : (caps : Caps) (w w' : Work) → ListsFit caps w → ((k : ℕ) → length (chain w'.content k) ≤ length (chain w.content k))
-    → ((q : ℕ) → q < caps.queues → (queue_at w'.setup.configs q).size ≡ (queue_at w.setup.configs q).size) → ListsFit caps w'
-shorter caps w w' h lists sizes = record {
-  queues = λ q i. let a = h.queues q i in let b = lists q in let c = sizes q i in omega (arith, a, b, c);
+-- lists that are no longer
+shorter : (caps : Caps) (configs : List QueueConfig) (c c' : Content) → ListsFit caps configs c → ((k : ℕ) → length (chain c' k) ≤ length (chain c k)) → ListsFit caps configs c'
+shorter caps configs c c' h lists = record {
+  queues = λ q i. let a = h.queues q i in let b = lists q in omega (arith, a, b);
   slots = λ e i. let a = h.slots e i in let b = lists (caps.queues + e) in omega (arith, a, b);
 }
-
-as-before : (c : Content) (k : ℕ) → length (chain c k) ≤ length (chain c k)
-as-before c k = omega arith
 
 -- the front that an engine takes may be taken
 pub taken-test : (w : Work) (e q : ℕ) (front : Slot) → qualifies w e q ≡ true → front_of w q ≡ Some front → may_take w e front ≡ true
 taken-test w e q front h f =
     subst (λ o. passes (may_take w e) o ≡ true) f (and_parts _ _ (and_parts _ _ h).1).1
-
-same-stopped : (deed : Deed) (scope : Scope) (phase : Phase) (setup : Setup) (q : ℕ) → (queue_at (stopped deed scope phase setup).configs q).size ≡ (queue_at setup.configs q).size
-same-stopped deed scope phase setup q = ap (λ (c : List QueueConfig). (queue_at c q).size) (stopped-configs deed scope phase setup)
 
 off-empty : (caps : Caps) (w : Work) (q : ℕ) → HasLawfulEntries caps w → q < caps.queues → is_off (phase_at w.setup q) ≡ true → length (chain w.content q) ≡ 0
 off-empty caps w q h i off = ap (λ (xs : List Slot). length xs) (none-In (chain w.content q) (λ x j.
@@ -135,125 +128,97 @@ sized : (b : Bool) (c : QueueConfig) → (cond b (size_alone c) c).size ≡ c.si
 sized true c = refl
 sized false c = refl
 
--- the members' list is none of these
-member-limits : (caps : Caps) (w w' : Work) (e : ℕ) (l : List Slot) → HasShape caps w → ListsFit caps w → w'.content ≡ set w.content (member_list w.setup e) l
-    → ((q : ℕ) → q < caps.queues → (queue_at w'.setup.configs q).size ≡ (queue_at w.setup.configs q).size) → ListsFit caps w'
-member-limits caps w w' e l shape h is sizes =
-    let a = ap (λ (c : Caps). c.queues) shape.same_caps in
-    let b = ap (λ (c : Caps). c.engines) shape.same_caps in
-    record {
-      queues = λ q i.
-          let at = ap (λ (c : Content). length (chain c q)) is in
-          let size = sizes q i in
-          ⊎_elim
-          (λ p. let k = p.0 in absurd (omega (arith, k, i, a)))
-          (λ p. let old = h.queues q i in omega (arith, p, old, at, size))
-          (size-set w.content (member_list w.setup e) l q);
-      slots = λ f i.
-          let at = ap (λ (c : Content). length (chain c (caps.queues + f))) is in
-          ⊎_elim
-          (λ p. let k = p.0 in absurd (omega (arith, k, i, a, b)))
-          (λ p. let old = h.slots f i in omega (arith, p, old, at))
-          (size-set w.content (member_list w.setup e) l (caps.queues + f));
-    }
-
--- an entry comes to a queue that has room
-queue-limits : (caps : Caps) (w w' : Work) (q : ℕ) (x : Slot) → ListsFit caps w → q < caps.queues → length (chain w.content q) < (queue_at w.setup.configs q).size
-    → w'.content ≡ pushed w.content q x.0 x.1 → w'.setup.configs ≡ w.setup.configs → ListsFit caps w'
-queue-limits caps w w' q x h inside room is configs = record {
-  queues = λ j i.
-      let at = ap (λ (c : Content). length (chain c j)) is in
-      let size = ap (λ (c : List QueueConfig). (queue_at c j).size) configs in
-      ⊎_elim
-      (λ p. let n = p.1 in let same = ap (λ k. (queue_at w.setup.configs k).size) p.0 in omega (arith, n, room, same, at, size))
-      (λ p. let old = h.queues j i in omega (arith, p, old, at, size))
-      (size-pushed w.content q x j);
-  slots = λ e i.
-      let at = ap (λ (c : Content). length (chain c (caps.queues + e))) is in
-      ⊎_elim
-      (λ p. let k = p.0 in absurd (omega (arith, k, inside)))
-      (λ p. let old = h.slots e i in omega (arith, p, old, at))
-      (size-pushed w.content q x (caps.queues + e));
+-- a list is set that is none of these, or that has room
+set-limits : (caps : Caps) (configs : List QueueConfig) (c : Content) (k : ℕ) (l : List Slot) → ListsFit caps configs c
+    → (k < caps.queues → length l ≤ (queue_at configs k).size) → (caps.queues ≤ k → k < caps.queues + caps.engines → length l ≤ caps.slots) → ListsFit caps configs (set c k l)
+set-limits caps configs c k l h queue slot = record {
+  queues = λ q i. ⊎_elim
+      (λ p. let new = queue (subst (λ j. j < caps.queues) p.0 i) in let size = ap (λ j. (queue_at configs j).size) p.0 in let n = p.1 in omega (arith, new, size, n))
+      (λ p. let old = h.queues q i in omega (arith, p, old))
+      (size-set c k l q);
+  slots = λ e i. ⊎_elim
+      (λ p. let at = p.0 in let new = slot (omega (arith, at)) (omega (arith, at, i)) in let n = p.1 in omega (arith, new, n))
+      (λ p. let old = h.slots e i in omega (arith, p, old))
+      (size-set c k l (caps.queues + e));
 }
 
--- a front comes to an engine that has a slot
-slot-limits : (caps : Caps) (w w' : Work) (q e : ℕ) (x : Slot) → HasShape caps w → ListsFit caps w → length (chain w.content (progress_list w.setup e)) < caps.slots
-    → w'.content ≡ pushed (without_front w.content q) (progress_list w.setup e) x.0 x.1 → w'.setup.configs ≡ w.setup.configs → ListsFit caps w'
-slot-limits caps w w' q e x shape h room is configs =
-    let a = ap (λ (c : Caps). c.queues) shape.same_caps in
-    let there = size-without_front w.content q (progress_list w.setup e) in
-    record {
-      queues = λ j i.
-          let at = ap (λ (c : Content). length (chain c j)) is in
-          let size = ap (λ (c : List QueueConfig). (queue_at c j).size) configs in
-          let less = size-without_front w.content q j in
-          ⊎_elim
-          (λ p. let k = p.0 in absurd (omega (arith, k, i, a)))
-          (λ p. let old = h.queues j i in omega (arith, p, old, at, size, less))
-          (size-pushed (without_front w.content q) (progress_list w.setup e) x j);
-      slots = λ f i.
-          let at = ap (λ (c : Content). length (chain c (caps.queues + f))) is in
-          let less = size-without_front w.content q (caps.queues + f) in
-          ⊎_elim
-          (λ p. let n = p.1 in omega (arith, n, there, room, at))
-          (λ p. let old = h.slots f i in omega (arith, p, old, at, less))
-          (size-pushed (without_front w.content q) (progress_list w.setup e) x (caps.queues + f));
-    }
-
-pub lists_fit-change : (caps : Caps) (s s' : State) → HasShape caps s.work → HasLawfulSetup s.work.setup → HasLawfulEntries caps s.work → ListsFit caps s.work → Change s s' → ListsFit caps s'.work
-lists_fit-change caps s s' shape setup entries h (same c) = subst (λ t. ListsFit caps t.work) c h
-lists_fit-change caps s s' shape setup entries h (is_noted c) = subst (λ t. ListsFit caps t.work) c.after (shorter caps s.work _ h (as-before s.work.content) (λ q i. refl))
-lists_fit-change caps s s' shape setup entries h (is_accepted c) =
+-- the lists after a change, at the sizes before it
+lists-effect : (caps : Caps) (s s' : State) → HasShape caps s.work → HasLawfulSetup s.work.setup → Fitting caps s.work → Change s s' → ListsFit caps s.work.setup.configs s'.work.content
+lists-effect caps s s' shape setup h c = by_effect (λ w. ListsFit caps s.work.setup.configs w.content) s s' c
+    (λ e. subst (ListsFit caps s.work.setup.configs) (sym e.content) h)
+    (λ c.
     let inside = on-queue caps s.work c.queue shape c.on in
     let below = leb-false (limit_of (queue_at s.work.setup.configs c.queue) c.portal) (length (chain s.work.content c.queue)) c.below in
     let limit = limit-le s.work.setup.caps s.work.setup.groups c.queue (queue_at s.work.setup.configs c.queue) c.portal (setup.queue c.queue (on-not_off _ c.on)) in
-    subst (λ t. ListsFit caps t.work) c.after (queue-limits caps s.work _ c.queue _ h inside (omega (arith, below, limit)) refl refl)
-lists_fit-change caps s s' shape setup entries h (is_taken c) =
-    let tests = (and_parts _ _ c.qualifies).0 in
-    let b = ap (λ (c : Caps). c.slots) shape.same_caps in
-    let engine : nat_lt c.engine s.work.setup.caps.engines ≡ true = (and_parts _ _ tests).0 in
+    set-limits caps s.work.setup.configs s.work.content c.queue _ h (λ i. omega (arith, below, limit, length-append {A = Slot})) (λ i j. absurd (omega (arith, inside, i))))
+    (λ c.
     let e = c.engine in
+    let a = ap (λ (c : Caps). c.queues) shape.same_caps in
+    let b = ap (λ (c : Caps). c.slots) shape.same_caps in
+    let engine : nat_lt e s.work.setup.caps.engines ≡ true = (and_parts _ _ (and_parts _ _ c.qualifies).0).0 in
     let may : may_take s.work e c.front ≡ true = taken-test s.work e c.queue c.front c.qualifies c.is_front in
     let room = ltb-true (length (in_progress s.work e)) s.work.setup.caps.slots (and_parts _ _ (and_parts _ _ may).0).0 in
     let is : length (in_progress s.work e) ≡ length (chain s.work.content (progress_list s.work.setup e)) = ap (λ (t : Bool). length (cond t (chain s.work.content (progress_list s.work.setup e)) [])) engine in
-    let fits : length (chain s.work.content (progress_list s.work.setup e)) < caps.slots = omega (arith, is, room, b) in
-    subst (λ t. ListsFit caps t.work) c.after (slot-limits caps s.work _ c.queue c.engine _ shape h fits refl refl)
-lists_fit-change caps s s' shape setup entries h (is_fetched c) =
-    subst (λ t. ListsFit caps t.work) c.after (member-limits caps s.work _ c.engine _ shape h refl (λ q i. refl))
-lists_fit-change caps s s' shape setup entries h (is_started c) =
-    subst (λ t. ListsFit caps t.work) c.after (member-limits caps s.work _ c.engine _ shape h refl (λ q i. refl))
-lists_fit-change caps s s' shape setup entries h (is_abandoned c) =
-    subst (λ t. ListsFit caps t.work) c.after (member-limits caps s.work _ c.engine _ shape h refl (λ q i. refl))
-lists_fit-change caps s s' shape setup entries h (is_ended c) = subst (λ t. ListsFit caps t.work) c.after (shorter caps s.work _ h (size-filtered _ s.work.content) (λ q i. refl))
-lists_fit-change caps s s' shape setup entries h (is_device_enabled c) = subst (λ t. ListsFit caps t.work) c.after (shorter caps s.work _ h (as-before s.work.content) (λ q i. refl))
-lists_fit-change caps s s' shape setup entries h (is_queue_enabled c) = subst (λ t. ListsFit caps t.work) c.after (shorter caps s.work _ h (as-before s.work.content) (λ q i. refl))
-lists_fit-change caps s s' shape setup entries h (is_waiting c) = subst (λ t. ListsFit caps t.work) c.after (shorter caps s.work _ h (as-before s.work.content) (λ q i. same-stopped c.deed c.scope Stopping s.work.setup q))
-lists_fit-change caps s s' shape setup entries h (is_over c) = subst (λ t. ListsFit caps t.work) c.after (shorter caps s.work _ h (as-before s.work.content) (λ q i. same-stopped c.deed c.scope Off s.work.setup q))
-lists_fit-change caps s s' shape setup entries h (is_aborted c) = subst (λ t. ListsFit caps t.work) c.after (shorter caps s.work _ h (size-filtered _ s.work.content) (λ q i. refl))
-lists_fit-change caps s s' shape setup entries h (is_device_reset c) =
-    let none : (k : ℕ) → length (chain (map (filter (λ (slot : Slot). not true)) s.work.content) k) ≡ 0
-    = λ k. ap (λ (xs : List Slot). length xs) (none-In (chain (map (filter (λ (slot : Slot). not true)) s.work.content) k) (λ x i. not-both false (In-filtered (λ slot. not true) s.work.content k x i).1 refl)) in
-    subst (λ t. ListsFit caps t.work) c.after (record {
+    let front = without_front s.work.content c.queue in
+    let there = size-without_front s.work.content c.queue (progress_list s.work.setup e) in
+    let more = length-append (chain front (progress_list s.work.setup e)) (run c.front ∷ []) in
+    set-limits caps s.work.setup.configs front (progress_list s.work.setup e) _
+    (shorter caps s.work.setup.configs s.work.content front h (size-without_front s.work.content c.queue))
+    (λ i. absurd (omega (arith, i, a))) (λ i j. omega (arith, is, room, b, there, more)))
+    (λ c. member-limits c.engine _)
+    (λ c. member-limits c.engine _)
+    (λ c. member-limits c.engine _)
+    (λ c. shorter caps s.work.setup.configs s.work.content _ h (size-filtered _ s.work.content))
+    (λ c. shorter caps s.work.setup.configs s.work.content _ h (size-filtered _ s.work.content))
+  where
+    member-limits : (e : ℕ) (l : List Slot) → ListsFit caps s.work.setup.configs (set s.work.content (member_list s.work.setup e) l)
+    member-limits e l =
+        let a = ap (λ (c : Caps). c.queues) shape.same_caps in
+        let b = ap (λ (c : Caps). c.engines) shape.same_caps in
+        set-limits caps s.work.setup.configs s.work.content (member_list s.work.setup e) l h (λ i. absurd (omega (arith, i, a))) (λ i j. absurd (omega (arith, j, a, b)))
+
+pub lists_fit-change : (caps : Caps) (s s' : State) → HasShape caps s.work → HasLawfulSetup s.work.setup → HasLawfulEntries caps s.work → Fitting caps s.work → Change s s' → Fitting caps s'.work
+lists_fit-change caps s s' shape setup entries fit c = by_setting (λ setup. ListsFit caps setup.configs s'.work.content) s s' c
+    (λ e. subst (λ l. ListsFit caps l s'.work.content) (sym e.configs) h)
+    (λ c. h)
+    (λ c. h)
+    (λ c. subst (λ l. ListsFit caps l s'.work.content) (sym (stopped-configs c.deed c.scope Stopping s.work.setup)) h)
+    (λ c. subst (λ l. ListsFit caps l s'.work.content) (sym (stopped-configs c.deed c.scope Off s.work.setup)) h)
+    (λ c.
+    let none : (k : ℕ) → length (chain s'.work.content k) ≡ 0
+    = λ k. ap (λ (xs : List Slot). length xs) (none-In (chain s'.work.content k) (λ x i. not-both false (In-filtered (λ slot. not true) s.work.content k x (In-after s' _ c.after k x i)).1 refl)) in
+    record {
       queues = λ q i. let e = none q in omega (arith, e);
       slots = λ e i. let z = none (caps.queues + e) in omega (arith, z);
     })
-lists_fit-change caps s s' shape setup entries h (is_queues_reset c) =
+    (λ c.
     let qs = queues_in c.scope in
     let size = ap (λ (c : Caps). c.queues) shape.same_caps in
-    subst (λ t. ListsFit caps t.work) c.after (shorter caps s.work _ h (size-filtered _ s.work.content) (λ q i.
+    resized (λ q i.
     ap (λ (c : QueueConfig). c.size) (get_or-each (λ k. cond (names qs k) (size_alone (queue_at s.work.setup.configs k)) (queue_at s.work.setup.configs k)) s.work.setup.caps.queues q zero_queue (omega (arith, i, size)))
     ∙ sized (names qs q) (queue_at s.work.setup.configs q)))
-lists_fit-change caps s s' shape setup entries h (is_queue_written c) =
-    subst (λ t. ListsFit caps t.work) c.after (record {
+    (λ c. record {
       queues = λ q i. ⊎_elim
-          (λ (e : q ≡ c.queue). let none = off-empty caps s.work q entries i (subst (λ k. is_off (phase_at s.work.setup k) ≡ true) (sym e) c.off) in omega (arith, none))
+          (λ (e : q ≡ c.queue).
+          let none = off-empty caps s.work q entries i (subst (λ k. is_off (phase_at s.work.setup k) ≡ true) (sym e) c.off) in
+          let same = ap (λ (t : State). length (chain t.work.content q)) c.after in
+          omega (arith, none, same))
           (λ (e : q ≢ c.queue). let old = h.queues q i in let same = ap (λ (c : QueueConfig). c.size) (get_or-set_other s.work.setup.configs c.queue q c.config zero_queue e) in omega (arith, old, same))
           (cases_eq q c.queue);
       slots = h.slots;
     })
-lists_fit-change caps s s' shape setup entries h (is_group_written c) = subst (λ t. ListsFit caps t.work) c.after (shorter caps s.work _ h (as-before s.work.content) (λ q i. refl))
+    (λ c. h)
+  where
+    h : ListsFit caps s.work.setup.configs s'.work.content
+    h = lists-effect caps s s' shape setup fit c
 
-pub lists_fit-opening : (caps : Caps) → ListsFit caps (opening caps).work
+    resized : {configs : List QueueConfig} → ((q : ℕ) → q < caps.queues → (queue_at configs q).size ≡ (queue_at s.work.setup.configs q).size) → ListsFit caps configs s'.work.content
+    resized sizes = record {
+      queues = λ q i. let old = h.queues q i in let size = sizes q i in omega (arith, old, size);
+      slots = h.slots;
+    }
+
+pub lists_fit-opening : (caps : Caps) → Fitting caps (opening caps).work
 lists_fit-opening caps = record {
   queues = λ q i. let e = ap (λ (xs : List Slot). length xs) (chain-empty (list_count caps) q) in omega (arith, e);
   slots = λ e i. let z = ap (λ (xs : List Slot). length xs) (chain-empty (list_count caps) (caps.queues + e)) in omega (arith, z);

@@ -16,7 +16,8 @@ use Rattle.dsa_book.specs.declared.note.BatchNote.{BatchNote}
 use Rattle.dsa_book.specs.State.{Setup, Work, State, opening, is_off, is_member, phase_at, limits_at, is_batch_of, status_of}
 use Rattle.dsa_book.specs.Work.{note_at, opened_note, note_after, progress_list}
 use Rattle.dsa_book.specs.Commands.{kept_note, aborted}
-use Rattle.dsa_laws.specs.Change.{Change, same, is_noted, is_accepted, is_taken, is_fetched, is_started, is_abandoned, is_ended, is_device_enabled, is_queue_enabled, is_waiting, is_over, is_aborted, is_device_reset, is_queues_reset, is_queue_written, is_group_written}
+use Rattle.dsa_laws.specs.Change.{Change}
+use Rattle.dsa_laws.proofs.Effects.{by_effect}
 use Rattle.dsa_laws.specs.WellFormed.{HasShape, HasLawfulSetup, HasLawfulEntries, NoteFits, NotesFit}
 use Rattle.dsa_laws.proofs.Entries.{In-front}
 use Rattle.dsa_regs.proofs.NumberLists.{get_or-each, get_or-past}
@@ -94,35 +95,25 @@ after-fits caps false true x y p q = p
 after-fits caps false false x y p q = q
 
 pub notes-change : (caps : Caps) (s s' : State) → HasShape caps s.work → HasLawfulSetup s.work.setup → HasLawfulEntries caps s.work → NotesFit caps s.work → Change s s' → NotesFit caps s'.work
-notes-change caps s s' shape setup entries h (same c) = subst (λ t. NotesFit caps t.work) c h
-notes-change caps s s' shape setup entries h (is_noted c) = subst (λ t. NotesFit caps t.work) c.after h
-notes-change caps s s' shape setup entries h (is_accepted c) = subst (λ t. NotesFit caps t.work) c.after h
-notes-change caps s s' shape setup entries h (is_taken c) =
+notes-change caps s s' shape setup entries h c = by_effect (NotesFit caps) s s' c
+    (λ e. subst (λ (ns : List (Option BatchNote)). (j : ℕ) → NoteFits caps (get_or ns j None)) (sym e.notes) h)
+    (λ c. h)
+    (λ c.
     let off = entries.none_off c.queue c.front (In-front c.front (chain s.work.content c.queue) c.is_front) in
-    subst (λ t. NotesFit caps t.work) c.after
-    (taken-fits caps (is_batch_of s.work.setup c.front.1) s.work.notes c.engine (Some (opened_note c.front.1)) h
+    taken-fits caps (is_batch_of s.work.setup c.front.1) s.work.notes c.engine (Some (opened_note c.front.1)) h
     (λ b. record { fetched = omega arith; count = front-size caps s.work c.front shape setup off b }))
-notes-change caps s s' shape setup entries h (is_fetched c) =
+    (λ c.
     let old : NoteFits caps (Some c.note) = subst (NoteFits caps) c.is_note (h c.engine) in
     let below = leb-false c.note.count c.note.fetched (or_parts c.note.closed _ c.more).1 in
     let most = old.count in
-    subst (λ t. NotesFit caps t.work) c.after (set-notes caps s.work.notes c.engine _ h (record { fetched = omega (arith, below); count = omega (arith, most) }))
-notes-change caps s s' shape setup entries h (is_started c) = subst (λ t. NotesFit caps t.work) c.after h
-notes-change caps s s' shape setup entries h (is_abandoned c) =
-    subst (λ t. NotesFit caps t.work) c.after (set-notes caps s.work.notes c.engine _ h (marked caps (λ (note : BatchNote). record note { closed = true }) (λ n. refl) (λ n. refl) (note_at s.work c.engine) (h c.engine)))
-notes-change caps s s' shape setup entries h (is_ended c) =
+    set-notes caps s.work.notes c.engine _ h (record { fetched = omega (arith, below); count = omega (arith, most) }))
+    (λ c. h)
+    (λ c. set-notes caps s.work.notes c.engine _ h (marked caps (λ (note : BatchNote). record note { closed = true }) (λ n. refl) (λ n. refl) (note_at s.work c.engine) (h c.engine)))
+    (λ c.
     let failed = marked caps (λ (note : BatchNote). record note { failed = true }) (λ n. refl) (λ n. refl) (note_at s.work c.engine) (h c.engine) in
-    subst (λ t. NotesFit caps t.work) c.after (set-notes caps s.work.notes c.engine (note_after s.work c.engine c.slot c.outcome) h
+    set-notes caps s.work.notes c.engine (note_after s.work c.engine c.slot c.outcome) h
     (after-fits caps (is_batch_of s.work.setup c.slot.1) (is_member c.slot.1 && not (is_successful (status_of s.work.setup c.slot.1 c.outcome))) (option_map (λ (note : BatchNote). record note { failed = true }) (note_at s.work c.engine)) (note_at s.work c.engine) failed (h c.engine)))
-notes-change caps s s' shape setup entries h (is_device_enabled c) = subst (λ t. NotesFit caps t.work) c.after h
-notes-change caps s s' shape setup entries h (is_queue_enabled c) = subst (λ t. NotesFit caps t.work) c.after h
-notes-change caps s s' shape setup entries h (is_waiting c) = subst (λ t. NotesFit caps t.work) c.after h
-notes-change caps s s' shape setup entries h (is_over c) = subst (λ t. NotesFit caps t.work) c.after h
-notes-change caps s s' shape setup entries h (is_aborted c) = subst (λ t. NotesFit caps t.work) c.after (aborted-fits caps c.number c.scope s.work h)
-notes-change caps s s' shape setup entries h (is_device_reset c) = subst (λ t. NotesFit caps t.work) c.after (aborted-fits caps c.number Device s.work h)
-notes-change caps s s' shape setup entries h (is_queues_reset c) = subst (λ t. NotesFit caps t.work) c.after (aborted-fits caps c.number c.scope s.work h)
-notes-change caps s s' shape setup entries h (is_queue_written c) = subst (λ t. NotesFit caps t.work) c.after h
-notes-change caps s s' shape setup entries h (is_group_written c) = subst (λ t. NotesFit caps t.work) c.after h
+    (λ c. aborted-fits caps c.number c.scope s.work h)
 
 none-noted : (n e : ℕ) → ◌≡◌ {A = Option BatchNote} (get_or (replicate n None) e None) None
 none-noted zero e = refl

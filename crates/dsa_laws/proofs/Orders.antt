@@ -8,7 +8,8 @@ use Rattle.dsa_store.specs.Content.{Slot, Content, chain, without_front}
 use Rattle.dsa_book.specs.State.{Work, State, opening}
 use Rattle.dsa_book.specs.Work.{progress_list, member_list, members, run, with_first_run}
 use Rattle.dsa_book.specs.Commands.{is_in_scope}
-use Rattle.dsa_laws.specs.Change.{Change, same, is_noted, is_accepted, is_taken, is_fetched, is_started, is_abandoned, is_ended, is_device_enabled, is_queue_enabled, is_waiting, is_over, is_aborted, is_device_reset, is_queues_reset, is_queue_written, is_group_written}
+use Rattle.dsa_laws.specs.Change.{Change}
+use Rattle.dsa_laws.proofs.Effects.{by_effect}
 use Rattle.dsa_laws.specs.WellFormed.{HasShape, MembersInOrder, runs_first, none_runs}
 use Rattle.dsa_laws.proofs.Contents.{chain-filtered, chain-empty}
 use Rattle.dsa_laws.proofs.Entries.{queue-below}
@@ -101,9 +102,6 @@ of-lists_in_order caps w shape h e =
     let n = ap (λ (c : Caps). c.engines) shape.same_caps in
     cond_both (nat_lt e w.setup.caps.engines) (chain w.content (member_list w.setup e)) [] (λ xs. runs_first xs ≡ true) (λ t. h (member_list w.setup e) (omega (arith, q, n))) (λ f. refl)
 
-abbrev InOrder : Caps → State → Type 0
-InOrder caps t = ListsInOrder caps t.work
-
 filtered-order : (caps : Caps) (p : Slot → Bool) (w : Work) → ListsInOrder caps w → (k : ℕ) → caps.queues + caps.engines ≤ k → runs_first (chain (map (filter p) w.content) k) ≡ true
 filtered-order caps p w h k i = ap runs_first (chain-filtered p w.content k) ∙ first-filter p (chain w.content k) (h k i)
 
@@ -111,38 +109,24 @@ set-order : (caps : Caps) (w : Work) (k : ℕ) (l : List Slot) → ListsInOrder 
 set-order caps w k l h b = each-list (λ xs. runs_first xs ≡ true) (caps.queues + caps.engines) w.content k l h b
 
 pub order-change : (caps : Caps) (s s' : State) → HasShape caps s.work → ListsInOrder caps s.work → Change s s' → ListsInOrder caps s'.work
-order-change caps s s' shape h (same c) = subst (InOrder caps) c h
-order-change caps s s' shape h (is_noted c) = subst (InOrder caps) c.after h
-order-change caps s s' shape h (is_accepted c) =
-    let inside = on-queue caps s.work c.queue shape c.on in
-    subst (InOrder caps) c.after (set-order caps s.work c.queue _ h (λ i. absurd (omega (arith, i, inside))))
-order-change caps s s' shape h (is_taken c) =
+order-change caps s s' shape h c = by_effect (ListsInOrder caps) s s' c
+    (λ e. subst (λ (l : Content). (k : ℕ) → caps.queues + caps.engines ≤ k → runs_first (chain l k) ≡ true) (sym e.content) h)
+    (λ c. let inside = on-queue caps s.work c.queue shape c.on in set-order caps s.work c.queue _ h (λ i. absurd (omega (arith, i, inside))))
+    (λ c.
     let tests = (and_parts _ _ c.qualifies).0 in
     let engine = below-engines caps s.work c.engine shape (and_parts _ _ tests).0 in
     let inside = queue-below caps s.work c.queue shape (and_parts _ _ tests).1 in
     let a = ap (λ (c : Caps). c.queues) shape.same_caps in
-    subst (InOrder caps) c.after
-    (each-list (λ xs. runs_first xs ≡ true) (caps.queues + caps.engines) (without_front s.work.content c.queue) (progress_list s.work.setup c.engine) _
+    each-list (λ xs. runs_first xs ≡ true) (caps.queues + caps.engines) (without_front s.work.content c.queue) (progress_list s.work.setup c.engine) _
     (set-order caps s.work c.queue (drop 1 (chain s.work.content c.queue)) h (λ i. absurd (omega (arith, i, inside))))
     (λ i. absurd (omega (arith, i, engine, a))))
-order-change caps s s' shape h (is_fetched c) =
-    let k = member_list s.work.setup c.engine in
-    subst (InOrder caps) c.after (set-order caps s.work k _ h (λ i. first-push (chain s.work.content k) _ refl (h k i)))
-order-change caps s s' shape h (is_started c) =
-    let k = member_list s.work.setup c.engine in
+    (λ c. let k = member_list s.work.setup c.engine in set-order caps s.work k _ h (λ i. first-push (chain s.work.content k) _ refl (h k i)))
+    (λ c.
     let is = waiting-members s.work c.engine c.slot c.is_first in
-    subst (InOrder caps) c.after (set-order caps s.work k (with_first_run (members s.work c.engine)) h (λ i. first-first_run (members s.work c.engine) (ap runs_first is ∙ h k i)))
-order-change caps s s' shape h (is_abandoned c) = subst (InOrder caps) c.after (set-order caps s.work (member_list s.work.setup c.engine) [] h (λ i. refl))
-order-change caps s s' shape h (is_ended c) = subst (InOrder caps) c.after (filtered-order caps _ s.work h)
-order-change caps s s' shape h (is_device_enabled c) = subst (InOrder caps) c.after h
-order-change caps s s' shape h (is_queue_enabled c) = subst (InOrder caps) c.after h
-order-change caps s s' shape h (is_waiting c) = subst (InOrder caps) c.after h
-order-change caps s s' shape h (is_over c) = subst (InOrder caps) c.after h
-order-change caps s s' shape h (is_aborted c) = subst (InOrder caps) c.after (filtered-order caps _ s.work h)
-order-change caps s s' shape h (is_device_reset c) = subst (InOrder caps) c.after (filtered-order caps (λ x. not (is_in_scope Device x.1)) s.work h)
-order-change caps s s' shape h (is_queues_reset c) = subst (InOrder caps) c.after (filtered-order caps _ s.work h)
-order-change caps s s' shape h (is_queue_written c) = subst (InOrder caps) c.after h
-order-change caps s s' shape h (is_group_written c) = subst (InOrder caps) c.after h
+    set-order caps s.work _ (with_first_run (members s.work c.engine)) h (λ i. first-first_run (members s.work c.engine) (ap runs_first is ∙ h (member_list s.work.setup c.engine) i)))
+    (λ c. set-order caps s.work (member_list s.work.setup c.engine) [] h (λ i. refl))
+    (λ c. filtered-order caps _ s.work h)
+    (λ c. filtered-order caps _ s.work h)
 
 pub order-opening : (caps : Caps) → ListsInOrder caps (opening caps).work
 order-opening caps k i = ap runs_first (chain-empty (list_count caps) k)

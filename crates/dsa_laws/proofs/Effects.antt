@@ -1,0 +1,132 @@
+-- What changes do, in eight kinds by what is held and in nine by the set-up: each law says what these mean for it.
+use Rattle.std.proofs.Common.{◌≡◌, ◌==◌, ℕ, refl, subst}
+use Rattle.std.specs.Prelude.{slice_set}
+use Rattle.dsa_regs.specs.declared.Phase.TheVariants.{Off, On, Stopping}
+use Rattle.dsa_regs.specs.declared.Scope.{Scope}
+use Rattle.dsa_regs.specs.declared.Scope.TheVariants.{Device}
+use Rattle.dsa_regs.specs.Command.{queues_in}
+use Rattle.dsa_book.specs.State.{Setup, Work, State}
+use Rattle.dsa_book.specs.Submit.{accepted}
+use Rattle.dsa_book.specs.Work.{taken, fetched, started, abandoned, ended}
+use Rattle.dsa_book.specs.Commands.{stopped, with_device, with_phases, with_sizes_alone, names, aborted, reset}
+use Rattle.dsa_book.specs.Machine.{intake_of, with_intake}
+use Rattle.dsa_laws.specs.Change.{Change, IsAccepted, IsTaken, IsFetched, IsStarted, IsAbandoned, IsEnded, IsDeviceEnabled, IsQueueEnabled, IsWaiting, IsOver, IsDeviceReset, IsQueuesReset, IsQueueWritten, IsGroupWritten, same, is_noted, is_accepted, is_taken, is_fetched, is_started, is_abandoned, is_ended, is_device_enabled, is_queue_enabled, is_waiting, is_over, is_aborted, is_device_reset, is_queues_reset, is_queue_written, is_group_written}
+use Rattle.dsa_laws.proofs.Shapes.{stopped-caps, stopped-names}
+
+-- ---- by what is held
+
+-- nothing but the set-up has changed, and of that neither the capabilities nor the names
+pub record IsSetUp (w w' : Work) : Type 0 where
+  pub content : w'.content ≡ w.content
+  pub notes : w'.notes ≡ w.notes
+  pub fates : w'.fates ≡ w.fates
+  pub caps : w'.setup.caps ≡ w.setup.caps
+  pub names : w'.setup.next_name ≡ w.setup.next_name
+
+-- what a command has in its scope is gone; a reset sets up too
+pub record IsRemoved (w : Work) : Type 0 where
+  pub number : ℕ
+  pub scope : Scope
+  pub setup : Setup
+  pub caps : setup.caps ≡ w.setup.caps
+  pub names : setup.next_name ≡ w.setup.next_name
+
+-- what is left then
+abbrev pub removed : (w : Work) → IsRemoved w → Work
+removed w c = record (aborted c.number c.scope w) { setup = c.setup }
+
+-- a fact of what a change leaves, by what it does to what is held
+pub by_effect : (P : Work → Type 0) (s s' : State) → Change s s'
+    → (IsSetUp s.work s'.work → P s'.work)
+    → ((c : IsAccepted s s') → P (with_intake s (accepted (intake_of s) c.queue c.kind c.desc c.cell).1).work)
+    → ((c : IsTaken s s') → P (taken s.work c.engine c.queue c.front))
+    → ((c : IsFetched s s') → P (fetched s.work c.engine c.desc c.cell c.note c.batch.1).1)
+    → ((c : IsStarted s s') → P (started s.work c.engine))
+    → ((c : IsAbandoned s s') → P (abandoned s.work c.engine))
+    → ((c : IsEnded s s') → P (ended s.work c.engine c.slot c.outcome))
+    → ((c : IsRemoved s.work) → P (removed s.work c))
+    → P s'.work
+by_effect P s s' c set accept take fetch start abandon end remove = go c
+  where
+    is_set : (t : State) → t ≡ s' → IsSetUp s.work t.work → P s'.work
+    is_set t e h = set (subst (λ (t : State). IsSetUp s.work t.work) e h)
+
+    kept : (setup : Setup) → setup.caps ≡ s.work.setup.caps → setup.next_name ≡ s.work.setup.next_name → IsSetUp s.work (record s.work { setup = setup })
+    kept setup caps names = record { content = refl; notes = refl; fates = refl; caps = caps; names = names }
+
+    is_removed : (number : ℕ) (scope : Scope) (setup : Setup) → setup.caps ≡ s.work.setup.caps → setup.next_name ≡ s.work.setup.next_name → P (record (aborted number scope s.work) { setup = setup })
+    is_removed number scope setup caps names = remove (record { number = number; scope = scope; setup = setup; caps = caps; names = names })
+
+    at : (t : State) → t ≡ s' → P t.work → P s'.work
+    at t e p = subst (λ (t : State). P t.work) e p
+
+    go : Change s s' → P s'.work
+    go (same e) = is_set s e (kept s.work.setup refl refl)
+    go (is_noted c) = is_set _ c.after (kept _ refl refl)
+    go (is_accepted c) = at _ c.after (accept c)
+    go (is_taken c) = at _ c.after (take c)
+    go (is_fetched c) = at _ c.after (fetch c)
+    go (is_started c) = at _ c.after (start c)
+    go (is_abandoned c) = at _ c.after (abandon c)
+    go (is_ended c) = at _ c.after (end c)
+    go (is_device_enabled c) = is_set _ c.after (kept _ refl refl)
+    go (is_queue_enabled c) = is_set _ c.after (kept _ refl refl)
+    go (is_waiting c) = is_set _ c.after (kept _ (stopped-caps c.deed c.scope Stopping s.work.setup) (stopped-names c.deed c.scope Stopping s.work.setup))
+    go (is_over c) = is_set _ c.after (kept _ (stopped-caps c.deed c.scope Off s.work.setup) (stopped-names c.deed c.scope Off s.work.setup))
+    go (is_aborted c) = at _ c.after (is_removed c.number c.scope s.work.setup refl refl)
+    go (is_device_reset c) = at _ c.after (is_removed c.number Device _ refl refl)
+    go (is_queues_reset c) = at _ c.after (is_removed c.number c.scope _ refl refl)
+    go (is_queue_written c) = is_set _ c.after (kept _ refl refl)
+    go (is_group_written c) = is_set _ c.after (kept _ refl refl)
+
+-- ---- by the set-up
+
+-- the device, its queues and its groups are as they were
+pub record IsUnmoved (setup setup' : Setup) : Type 0 where
+  pub caps : setup'.caps ≡ setup.caps
+  pub configs : setup'.configs ≡ setup.configs
+  pub groups : setup'.groups ≡ setup.groups
+  pub phases : setup'.phases ≡ setup.phases
+  pub device : setup'.device ≡ setup.device
+
+-- a fact of the set-up that a change leaves
+pub by_setting : (P : Setup → Type 0) (s s' : State) → Change s s'
+    → (IsUnmoved s.work.setup s'.work.setup → P s'.work.setup)
+    → (IsDeviceEnabled s s' → P (with_device On s.work.setup))
+    → ((c : IsQueueEnabled s s') → P (with_phases (λ each. each == c.queue) On s.work.setup))
+    → ((c : IsWaiting s s') → P (stopped c.deed c.scope Stopping s.work.setup))
+    → ((c : IsOver s s') → P (stopped c.deed c.scope Off s.work.setup))
+    → (IsDeviceReset s s' → P (reset Device s.work.setup))
+    → ((c : IsQueuesReset s s') → P (with_sizes_alone (queues_in c.scope) (with_phases (names (queues_in c.scope)) Off s.work.setup)))
+    → ((c : IsQueueWritten s s') → P (record s.work.setup { configs = slice_set s.work.setup.configs c.queue c.config }))
+    → ((c : IsGroupWritten s s') → P (record s.work.setup { groups = slice_set s.work.setup.groups c.group c.config }))
+    → P s'.work.setup
+by_setting P s s' c stay device queue wait over reset resets write group = go c
+  where
+    stays : (t : State) → t ≡ s' → IsUnmoved s.work.setup t.work.setup → P s'.work.setup
+    stays t e h = stay (subst (λ (t : State). IsUnmoved s.work.setup t.work.setup) e h)
+
+    unmoved : (setup : Setup) → setup.caps ≡ s.work.setup.caps → setup.configs ≡ s.work.setup.configs → setup.groups ≡ s.work.setup.groups → setup.phases ≡ s.work.setup.phases → setup.device ≡ s.work.setup.device → IsUnmoved s.work.setup setup
+    unmoved setup a b c d e = record { caps = a; configs = b; groups = c; phases = d; device = e }
+
+    at : (t : State) → t ≡ s' → P t.work.setup → P s'.work.setup
+    at t e p = subst (λ (t : State). P t.work.setup) e p
+
+    go : Change s s' → P s'.work.setup
+    go (same e) = stays s e (unmoved _ refl refl refl refl refl)
+    go (is_noted c) = stays _ c.after (unmoved _ refl refl refl refl refl)
+    go (is_accepted c) = stays _ c.after (unmoved _ refl refl refl refl refl)
+    go (is_taken c) = stays _ c.after (unmoved _ refl refl refl refl refl)
+    go (is_fetched c) = stays _ c.after (unmoved _ refl refl refl refl refl)
+    go (is_started c) = stays _ c.after (unmoved _ refl refl refl refl refl)
+    go (is_abandoned c) = stays _ c.after (unmoved _ refl refl refl refl refl)
+    go (is_ended c) = stays _ c.after (unmoved _ refl refl refl refl refl)
+    go (is_device_enabled c) = at _ c.after (device c)
+    go (is_queue_enabled c) = at _ c.after (queue c)
+    go (is_waiting c) = at _ c.after (wait c)
+    go (is_over c) = at _ c.after (over c)
+    go (is_aborted c) = stays _ c.after (unmoved _ refl refl refl refl refl)
+    go (is_device_reset c) = at _ c.after (reset c)
+    go (is_queues_reset c) = at _ c.after (resets c)
+    go (is_queue_written c) = at _ c.after (write c)
+    go (is_group_written c) = at _ c.after (group c)
