@@ -1,181 +1,506 @@
--- What callers see of a store: the lists of cells with their entries.
-use Rattle.std.proofs.Common.{◌≡◌, ℕ, zero, suc, ◌-◌, ◌<◌, ◌≢◌, inl, inr, Bool, not, List, [], ◌∷◌, ◌++◌, length, take, Option, None, Some, get_or, set, cond, refl, sym, ap, ◌∙◌, subst, arith, ext_get_or}
-use Rattle.std.proofs.lemmas.Bool.Decides.{eqb_tells, leb_tells}
-use Rattle.std.proofs.lemmas.List.{length-map, get_or-take, get_or-set_same, get_or-set_other, length-take-le}
+-- What callers see of a store: the lists of cells with their entries, and what each write makes of them.
+use Rattle.std.proofs.Common.{◌≡◌, ℕ, suc, ◌+◌, ◌-◌, ◌<◌, ◌≤◌, ◌≢◌, inl, inr, Bool, true, false, List, [], ◌∷◌, ◌++◌}
+use Rattle.std.proofs.Common.{length, map, take, drop, None, Some, get_or, set, cond, ◌==◌, sum_by, refl, sym}
+use Rattle.std.proofs.Common.{ap, ◌∙◌, subst, arith, take_all, length-append, length-set}
+use Rattle.std.proofs.lemmas.Bool.Decides.{leb_tells}
+use Rattle.std.proofs.lemmas.Grind.{common_steps}
+use Rattle.std.proofs.lemmas.List.{length-map, map-set, map-append, get_or-take, get_or-set_same, get_or-set_other}
+use Rattle.std.proofs.lemmas.List.{length-take-le, take-set-le}
+use Rattle.std.proofs.lemmas.List.Sums.{sum_by_more, sum_by-take-le}
+use Rattle.std.proofs.Math.Seq.{take-set-lt}
 use Rattle.std.proofs.Math.ListN.{get_or-map}
-use Rattle.dsa_store.specs.declared.entry.Entry.{Entry}
+use Rattle.std.specs.List.{remove}
 use Rattle.dsa_store.specs.declared.entry.Cell.{Cell}
+use Rattle.dsa_store.specs.declared.entry.Entry.{Entry}
+use Rattle.dsa_store.specs.Content.{Slot, Content, is_cell, chain, uses, held, first_cell}
+use Rattle.dsa_store.specs.Content.{pushed, moved as move, unlinked, replaced, emptied, StandsAt}
+use Rattle.dsa_store.proofs.Finding.{uses-stands, entry_of-at, list_of-at, next_of-at, unlinked-at, unlinked-none}
+use Rattle.dsa_store.proofs.Finding.{replaced-none, entry_of-none, list_of-none, next_of-none}
 use Rattle.dsa_cells.specs.declared.links.Node.{Node}
 use Rattle.dsa_cells.specs.declared.links.Header.{Header}
-use Rattle.dsa_cells.specs.Array.{no_entry, node_at, header_at}
-use Rattle.dsa_cells.specs.Partition.{first_or, times, IsHeader, list_at}
-use Rattle.dsa_cells.specs.Writes.{lacking}
-use Rattle.dsa_cells.specs.Invariant.{IsStore, IsUnused}
-use Rattle.dsa_cells.specs.Content.{stamped, contents}
-use Rattle.dsa_cells.proofs.Numbered.{list_in, first_cell, either, first_some, entry_in, entry_of, after_in, cell_after, without_cell, with_entry}
-use Rattle.dsa_cells.proofs.Chain.{times-other, Once, Once-middle, split_at}
-use Rattle.dsa_cells.proofs.Ends.{next_is}
-use Rattle.dsa_cells.proofs.Moves.{Once-list, lacking-none, stands_in}
-pub use Rattle.dsa_cells.specs.Owners.{none_at, none_past}
+use Rattle.dsa_cells.specs.Array.{no_entry, node_at, no_node, header_at, entries_of, owners_of}
+use Rattle.dsa_cells.specs.Partition.{first_or, Linked, times, in_use, cells_of, list_at, lists_of}
+use Rattle.dsa_cells.specs.Writes.{lacking, appended, moved, given_back, changed}
+use Rattle.dsa_cells.specs.Invariant.{place, IsStore, IsWhole}
+use Rattle.dsa_cells.specs.Content.{slot, contents, content_at, cell_of, IsUnused, IsUsed}
+use Rattle.dsa_cells.specs.Owners.{is_partition, owner_is}
+use Rattle.dsa_cells.specs.Naming.{uses-slots, held-slots, IsSound-from_whole}
+use Rattle.dsa_cells.proofs.Chain.{times-append, times-head, Linked-right, Linked-agree, split_at, map-changed}
+use Rattle.dsa_cells.proofs.Chain.{length-changed, changed-links}
+use Rattle.dsa_cells.proofs.Joining.{list_at-in, AreHeaders-agree, stands_in, names_in, lists_is, store_found}
+use Rattle.dsa_cells.proofs.Moving.{lacking-split}
 
--- one list
+-- ---- one list
 
-pub entry_in-none : (es : List Entry) (c : ℕ) (xs : List ℕ) → times c xs ≡ 0 → entry_in c (stamped es xs) ≡ None
-entry_in-none es c [] h = refl
-entry_in-none es c (x ∷ xs) h = elim (eqb_tells x c) [
-  | inl w ↦ absurd (let k : times c (x ∷ xs) ≡ suc (times c xs) = ap (λ (b : Bool). cond b (suc (times c xs)) (times c xs)) w.0 in omega arith)
-  | inr w ↦ ap (λ (b : Bool). cond b (Some (get_or es x no_entry)) (entry_in c (stamped es xs))) w.0 ∙ entry_in-none es c xs (sym (times-other c x xs w.1) ∙ h)
-]
+-- the entry that is read of a cell
+pub entry_is : (s : List Node) (x : ℕ) → get_or (entries_of s) x no_entry ≡ (node_at s x).entry
+entry_is s x = get_or-map (λ (t : Node). t.entry) s x no_node
 
-pub entry_in-some : (es : List Entry) (c : ℕ) (xs : List ℕ) → 0 < times c xs → entry_in c (stamped es xs) ≡ Some (get_or es c no_entry)
-entry_in-some es c [] h = absurd (omega arith)
-entry_in-some es c (x ∷ xs) h = elim (eqb_tells x c) [
-  | inl w ↦ ap (λ (b : Bool). cond b (Some (get_or es x no_entry)) (entry_in c (stamped es xs))) w.0 ∙ ap (λ (y : ℕ). Some (get_or es y no_entry)) w.1
-  | inr w ↦ ap (λ (b : Bool). cond b (Some (get_or es x no_entry)) (entry_in c (stamped es xs))) w.0 ∙ entry_in-some es c xs (subst (λ (n : ℕ). 0 < n) (times-other c x xs w.1) h)
-]
+-- the front is the first cell
+pub first-slots : (es : List Entry) (xs : List ℕ) → first_cell (map (slot es) xs) ≡ cell_of (first_or xs None)
+first-slots es [] = refl
+first-slots es (x ∷ xs) = refl
 
-pub after_in-none : (es : List Entry) (c : ℕ) (xs : List ℕ) → times c xs ≡ 0 → after_in c (stamped es xs) ≡ None
-after_in-none es c [] h = refl
-after_in-none es c (x ∷ xs) h = elim (eqb_tells x c) [
-  | inl w ↦ absurd (let k : times c (x ∷ xs) ≡ suc (times c xs) = ap (λ (b : Bool). cond b (suc (times c xs)) (times c xs)) w.0 in omega arith)
-  | inr w ↦ ap (λ (b : Bool). cond b (first_cell (stamped es xs)) (after_in c (stamped es xs))) w.0 ∙ after_in-none es c xs (sym (times-other c x xs w.1) ∙ h)
-]
+-- a cell between two parts
+slot-mid : (es : List Entry) (xs : List ℕ) (c : ℕ) (zs : List ℕ) (d : Slot) →
+    get_or (map (slot es) (xs ++ c ∷ zs)) (length xs) d ≡ slot es c
+slot-mid es [] c zs d = refl
+slot-mid es (x ∷ xs) c zs d = slot-mid es xs c zs d
 
-pub after_in-some : (es : List Entry) (c : ℕ) (xs zs : List ℕ) → times c xs ≡ 0 → after_in c (stamped es (xs ++ c ∷ zs)) ≡ first_cell (stamped es zs)
-after_in-some es c [] zs h = elim (eqb_tells c c) [
-  | inl w ↦ ap (λ (b : Bool). cond b (first_cell (stamped es zs)) (after_in c (stamped es zs))) w.0
-  | inr w ↦ absurd (w.1 refl)
-]
-after_in-some es c (x ∷ xs) zs h = elim (eqb_tells x c) [
-  | inl w ↦ absurd (let k : times c (x ∷ xs) ≡ suc (times c xs) = ap (λ (b : Bool). cond b (suc (times c xs)) (times c xs)) w.0 in omega arith)
-  | inr w ↦
-      ap (λ (b : Bool). cond b (first_cell (stamped es (xs ++ c ∷ zs))) (after_in c (stamped es (xs ++ c ∷ zs)))) w.0
-      ∙ after_in-some es c xs zs (sym (times-other c x xs w.1) ∙ h)
-]
+drop-mid : (es : List Entry) (xs : List ℕ) (c : ℕ) (zs : List ℕ) →
+    drop (suc (length xs)) (map (slot es) (xs ++ c ∷ zs)) ≡ map (slot es) zs
+drop-mid es [] c zs = refl
+drop-mid es (x ∷ xs) c zs = drop-mid es xs c zs
 
-pub stamped-lacking : (es : List Entry) (c : ℕ) (xs : List ℕ) → stamped es (lacking c xs) ≡ without_cell c (stamped es xs)
-stamped-lacking es c [] = refl
-stamped-lacking es c (x ∷ xs) = elim (eqb_tells x c) [
-  | inl w ↦
-      ap (λ (b : Bool). stamped es (cond (not b) (x ∷ lacking c xs) (lacking c xs))) w.0 ∙ stamped-lacking es c xs
-      ∙ sym (ap (λ (b : Bool). cond (not b) ((x, get_or es x no_entry) ∷ without_cell c (stamped es xs)) (without_cell c (stamped es xs))) w.0)
-  | inr w ↦
-      ap (λ (b : Bool). stamped es (cond (not b) (x ∷ lacking c xs) (lacking c xs))) w.0
-      ∙ ap (λ (ps : List (ℕ × Entry)). (x, get_or es x no_entry) ∷ ps) (stamped-lacking es c xs)
-      ∙ sym (ap (λ (b : Bool). cond (not b) ((x, get_or es x no_entry) ∷ without_cell c (stamped es xs)) (without_cell c (stamped es xs))) w.0)
-]
-
-pub without_cell-none : (es : List Entry) (c : ℕ) (xs : List ℕ) → times c xs ≡ 0 → without_cell c (stamped es xs) ≡ stamped es xs
-without_cell-none es c xs h = sym (stamped-lacking es c xs) ∙ ap (stamped es) (lacking-none c xs h)
+remove-mid : (es : List Entry) (xs : List ℕ) (c : ℕ) (zs : List ℕ) →
+    remove (map (slot es) (xs ++ c ∷ zs)) (length xs) ≡ map (slot es) (xs ++ zs)
+remove-mid es [] c zs = refl
+remove-mid es (x ∷ xs) c zs = ap (λ (l : List Slot). slot es x ∷ l) (remove-mid es xs c zs)
 
 -- an entry is written
-pub stamped-set : (es : List Entry) (c : ℕ) (e : Entry) (xs : List ℕ) → c < length es → stamped (set es c e) xs ≡ with_entry c e (stamped es xs)
-stamped-set es c e [] lt = refl
-stamped-set es c e (x ∷ xs) lt = elim (eqb_tells x c) [
-  | inl w ↦
-      ap (λ (p : ℕ × Entry). p ∷ stamped (set es c e) xs) (pair w.1)
-      ∙ ap (λ (ps : List (ℕ × Entry)). (c, e) ∷ ps) (stamped-set es c e xs lt)
-      ∙ sym (ap (λ (b : Bool). cond b (c, e) (x, get_or es x no_entry) ∷ with_entry c e (stamped es xs)) w.0)
-  | inr w ↦
-      ap (λ (f : Entry). (x, f) ∷ stamped (set es c e) xs) (get_or-set_other es c x e no_entry w.1)
-      ∙ ap (λ (ps : List (ℕ × Entry)). (x, get_or es x no_entry) ∷ ps) (stamped-set es c e xs lt)
-      ∙ sym (ap (λ (b : Bool). cond b (c, e) (x, get_or es x no_entry) ∷ with_entry c e (stamped es xs)) w.0)
-]
+slot-set : (es : List Entry) (c : ℕ) (e : Entry) (x : ℕ) → c < length es →
+    slot (set es c e) x ≡ cond (x == c) (record { 0 = x }, e) (slot es x)
+slot-set es c e x lt = ap (λ (f : Entry). let s : Slot = (record { 0 = x }, f) in s) (entry-set es c e x lt)
+    ∙ choose (x == c) (record { 0 = x }) e (get_or es x no_entry)
   where
-    pair : x ≡ c → ◌≡◌ {A = ℕ × Entry} (x, get_or (set es c e) x no_entry) (c, e)
-    pair q =
-        let at : ℕ → ℕ × Entry = λ y. (y, get_or (set es c e) y no_entry) in
-        let with : Entry → ℕ × Entry = λ f. (c, f) in
-        ap at q ∙ ap with (get_or-set_same es c e no_entry lt)
+    entry-set : (es : List Entry) (c : ℕ) (e : Entry) (x : ℕ) → c < length es → get_or (set es c e) x no_entry ≡
+        cond (x == c) e (get_or es x no_entry)
+    entry-set es c e x lt = grind (arith, common_steps)
 
--- all lists
+    choose : (b : Bool) (cell : Cell) (e f : Entry) → ◌≡◌ {A = Slot} (cell, cond b e f) (cond b (cell, e) (cell, f))
+    choose true cell e f = refl
+    choose false cell e f = refl
 
-pub either-none : {X : Type 0} (o : Option X) → either o None ≡ o
-either-none None = refl
-either-none (Some x) = refl
+slots-set : (es : List Entry) (c : ℕ) (e : Entry) (xs : List ℕ) → c < length es
+    → map (slot (set es c e)) xs ≡ map (λ s. cond (is_cell (record { 0 = c }) s) (s.0, e) s) (map (slot es) xs)
+slots-set es c e [] lt = refl
+slots-set es c e (x ∷ xs) lt =
+    ap (λ (s : Slot). s ∷ map (slot (set es c e)) xs) (slot-set es c e x lt)
+    ∙ ap (λ (l : List Slot). cond (x == c) (record { 0 = x }, e) (slot es x) ∷ l) (slots-set es c e xs lt)
 
-pub first_some-none : {X : Type 0} (f : List (ℕ × Entry) → Option X) (ls : List (List (ℕ × Entry))) → ((m : ℕ) → m < length ls → f (list_in ls m) ≡ None) → first_some f ls ≡ None
-first_some-none f [] h = refl
-first_some-none f (ps ∷ ls) h =
-    ap (λ o. either o (first_some f ls)) (h 0 (omega arith)) ∙ first_some-none f ls (λ m lt. h (suc m) (omega (arith, lt)))
+lists-set : (es : List Entry) (c : ℕ) (e : Entry) (lists : List (List ℕ)) → c < length es
+    → map (map (slot (set es c e))) lists ≡ replaced (map (map (slot es)) lists) (record { 0 = c }) e
+lists-set es c e [] lt = refl
+lists-set es c e (xs ∷ lists) lt =
+    ap (λ (l : List Slot). l ∷ map (map (slot (set es c e))) lists) (slots-set es c e xs lt)
+    ∙ ap (λ (ls : Content). map (λ s. cond (is_cell (record { 0 = c }) s) (s.0, e) s) (map (slot es) xs) ∷
+    ls) (lists-set es c e lists lt)
 
-pub first_some-at : {X : Type 0} (f : List (ℕ × Entry) → Option X) (ls : List (List (ℕ × Entry))) (l : ℕ) → l < length ls
-    → ((m : ℕ) → m < length ls → m ≢ l → f (list_in ls m) ≡ None) → first_some f ls ≡ f (list_in ls l)
-first_some-at f [] l lt h = absurd (omega arith)
-first_some-at f (ps ∷ ls) zero lt h =
-    ap (either (f ps)) (first_some-none f ls (λ m k. h (suc m) (omega (arith, k)) (λ e. absurd (omega (arith, e))))) ∙ either-none (f ps)
-first_some-at f (ps ∷ ls) (suc l) lt h =
-    ap (λ o. either o (first_some f ls)) (h 0 (omega arith) (λ e. absurd (omega (arith, e))))
-    ∙ first_some-at f ls l (omega arith) (λ m k ne. h (suc m) (omega (arith, k)) (λ e. ne (omega (arith, e))))
+-- ---- all lists
 
+-- all but the last are seen
 pub length-contents : (es : List Entry) (lists : List (List ℕ)) → length (contents es lists) ≡ length lists - 1
-length-contents es lists = length-map (take (length lists - 1) lists) (stamped es) ∙ length-take-le (length lists - 1) lists (omega arith)
+length-contents es lists = length-map (take (length lists - 1) lists) (map (slot es))
+    ∙ length-take-le (length lists - 1) lists (omega arith)
 
-pub list_in-contents : (es : List Entry) (lists : List (List ℕ)) (l : ℕ) → l < length lists - 1 → list_in (contents es lists) l ≡ stamped es (list_at lists l)
-list_in-contents es lists l lt =
-    get_or-map (stamped es) (take (length lists - 1) lists) l [] ∙ ap (stamped es) (get_or-take (length lists - 1) lists l [] lt)
+-- a list that is seen
+pub chain-contents : (es : List Entry) (lists : List (List ℕ)) (l : ℕ) → l < length lists - 1 →
+    chain (contents es lists) l ≡ map (slot es) (list_at lists l)
+chain-contents es lists l lt =
+    get_or-map (map (slot es)) (take (length lists - 1) lists) l []
+    ∙ ap (map (slot es)) (get_or-take (length lists - 1) lists l [] lt)
 
--- two contents are equal where their lists are
-pub contents_are : (ls ms : List (List (ℕ × Entry))) → length ls ≡ length ms → ((l : ℕ) → l < length ls → list_in ls l ≡ list_in ms l) → ls ≡ ms
-contents_are ls ms e h = ext_get_or [] ls ms e h
+-- a sum over all lists, the last of which is not seen
+pub sum-in_use : (f : List ℕ → ℕ) (lists : List (List ℕ)) → 0 < length lists
+    → sum_by f (in_use lists) + f (list_at lists (length lists - 1)) ≡ sum_by f lists
+sum-in_use f lists lt =
+    let n = length lists - 1 in
+    omega (
+      arith,
+      sum_by_more f lists n [] (omega (arith, lt)),
+      ap (sum_by f)
+          (take_all (n + 1) lists (omega (arith, lt))),
+    )
 
--- a cell in use
+-- a list is written that is seen
+pub contents-set : (es : List Entry) (lists : List (List ℕ)) (l : ℕ) (ys : List ℕ) → l < length lists - 1
+    → contents es (set lists l ys) ≡ set (contents es lists) l (map (slot es) ys)
+contents-set es lists l ys lt =
+    ap (λ (n : ℕ). map (map (slot es)) (take (n - 1) (set lists l ys))) (length-set lists l ys)
+    ∙ ap (map (map (slot es))) (take-set-lt (length lists - 1) lists l ys lt)
+    ∙ map-set (map (slot es)) (in_use lists) l ys
 
-pub none_unused : (s : List Node) (r : List Header) (lists : List (List ℕ)) (c n m : ℕ) → IsStore s r lists → IsUnused s n c → m < n → times c (list_at lists m) ≡ 0
-none_unused s r lists c n m st un lt = elim (leb_tells (length s) c) [
-  | inl w ↦ none_past s r lists c m st w.1
-  | inr w ↦ none_at s r lists c m st w.1 (λ e. absurd (omega (arith, un w.1, e)))
-]
+-- the free list is written
+pub contents-set_free : (es : List Entry) (lists : List (List ℕ)) (l : ℕ) (ys : List ℕ) → length lists - 1 ≤ l
+    → contents es (set lists l ys) ≡ contents es lists
+contents-set_free es lists l ys le =
+    ap (λ (n : ℕ). map (map (slot es)) (take (n - 1) (set lists l ys))) (length-set lists l ys)
+    ∙ ap (map (map (slot es))) (take-set-le (length lists - 1) lists l ys le)
 
-pub entry_of-unused : (s : List Node) (r : List Header) (lists : List (List ℕ)) (es : List Entry) (c : ℕ) → IsStore s r lists → IsUnused s (length lists - 1) c → entry_of c (contents es lists) ≡ None
-entry_of-unused s r lists es c st un =
-    first_some-none (entry_in c) (contents es lists) (λ m lt.
-    let k : m < length lists - 1 = omega (arith, lt, length-contents es lists) in
-    ap (entry_in c) (list_in-contents es lists m k) ∙ entry_in-none es c (list_at lists m) (none_unused s r lists c (length lists - 1) m st un k))
+-- a cell comes behind a list that is seen
+contents-appended : (es : List Entry) (lists : List (List ℕ)) (l c : ℕ) → l < length lists - 1
+    → contents es (appended lists l (c ∷ [])) ≡ pushed (contents es lists) l (record { 0 = c }) (get_or es c no_entry)
+contents-appended es lists l c lt =
+    contents-set es lists l (list_at lists l ++ c ∷ []) lt
+    ∙ ap (set (contents es lists) l) (map-append (slot es) (list_at lists l) (c ∷ [])
+    ∙ ap (λ (ls : List Slot). ls ++ slot es c ∷ []) (sym (chain-contents es lists l lt)))
 
-pub cell_after-unused : (s : List Node) (r : List Header) (lists : List (List ℕ)) (es : List Entry) (c : ℕ) → IsStore s r lists → IsUnused s (length lists - 1) c → cell_after c (contents es lists) ≡ None
-cell_after-unused s r lists es c st un =
-    first_some-none (after_in c) (contents es lists) (λ m lt.
-    let k : m < length lists - 1 = omega (arith, lt, length-contents es lists) in
-    ap (after_in c) (list_in-contents es lists m k) ∙ after_in-none es c (list_at lists m) (none_unused s r lists c (length lists - 1) m st un k))
+-- a cell that a list names stands there
+stands : (es : List Entry) (lists : List (List ℕ)) (l c : ℕ) (xs zs : List ℕ) → l < length lists - 1 →
+    list_at lists l ≡ xs ++ c ∷ zs
+    → StandsAt (contents es lists) l (length xs) (record { 0 = c }) (get_or es c no_entry)
+stands es lists l c xs zs lt is =
+    let at = chain-contents es lists l lt ∙ ap (map (slot es)) is in
+    record {
+      within = omega (arith, ap length at, length-map (xs ++ c ∷ zs) (slot es), length-append xs (c ∷ zs));
+      slot = ap (λ (ls : List Slot). get_or ls (length xs) (slot es c)) at ∙ slot-mid es xs c zs (slot es c);
+    }
 
-pub entry_of-used : (s : List Node) (r : List Header) (lists : List (List ℕ)) (es : List Entry) (c : ℕ) → IsStore s r lists → c < length s → (node_at s c).owner < length lists - 1
-    → entry_of c (contents es lists) ≡ Some (get_or es c no_entry)
-entry_of-used s r lists es c st lt used =
-    let l = (node_at s c).owner in
-    first_some-at (entry_in c) (contents es lists) l (omega (arith, used, length-contents es lists)) (λ m k ne.
-    let k2 : m < length lists - 1 = omega (arith, k, length-contents es lists) in
-    ap (entry_in c) (list_in-contents es lists m k2) ∙ entry_in-none es c (list_at lists m) (none_at s r lists c m st lt ne))
-    ∙ ap (entry_in c) (list_in-contents es lists l used)
-    ∙ entry_in-some es c (list_at lists l) (omega (arith, stands_in s r lists c st lt))
+-- ---- what a whole store tells of a cell
 
--- the cell of this number
-abbrev pub cell_of : Option ℕ → Option Cell
-cell_of None = None
-cell_of (Some c) = Some (record { 0 = c })
+-- the lists are as many as their headers
+pub length-lists : (s : List Node) (r : List Header) → length (lists_of s r) ≡ length r
+length-lists s r = length-map r (cells_of s)
 
-pub first_cell-stamped : (es : List Entry) (xs : List ℕ) (o : Option ℕ) → o ≡ first_or xs None → cell_of o ≡ first_cell (stamped es xs)
-first_cell-stamped es [] o e = ap cell_of e
-first_cell-stamped es (x ∷ xs) o e = ap cell_of e
-
-pub cell_after-used : (s : List Node) (r : List Header) (lists : List (List ℕ)) (es : List Entry) (c : ℕ) → IsStore s r lists → c < length s → (node_at s c).owner < length lists - 1
-    → cell_after c (contents es lists) ≡ cell_of (node_at s c).next
-cell_after-used s r lists es c st lt used =
-    let l = (node_at s c).owner in
-    let one = stands_in s r lists c st lt in
-    let parts = split_at c (list_at lists l) (omega (arith, one)) in
-    first_some-at (after_in c) (contents es lists) l (omega (arith, used, length-contents es lists)) (λ m k ne.
-    let k2 : m < length lists - 1 = omega (arith, k, length-contents es lists) in
-    ap (after_in c) (list_in-contents es lists m k2) ∙ after_in-none es c (list_at lists m) (none_at s r lists c m st lt ne))
-    ∙ ap (after_in c) (list_in-contents es lists l used)
-    ∙ go parts.0 parts.1 parts.2
+-- a cell that names a list in use
+pub used : (s : List Node) (r : List Header) (cell : Cell) (node : Node) → IsWhole s r → cell.0 < length s → node ≡ node_at s cell.0
+    → node.owner < length r - 1 → IsUsed s r cell node
+used s r cell node i lt same listed = go parts.0 parts.1 parts.2
   where
-    go : (xs zs : List ℕ) → list_at lists (node_at s c).owner ≡ xs ++ c ∷ zs → after_in c (stamped es (list_at lists (node_at s c).owner)) ≡ cell_of (node_at s c).next
+    lists : List (List ℕ)
+    lists = lists_of s r
+
+    l : ℕ
+    l = (node_at s cell.0).owner
+
+    l_in : l < length lists - 1
+    l_in = omega (arith, listed, ap (λ (t : Node). t.owner) same, length-lists s r)
+
+    one : times cell.0 (list_at lists l) ≡ 1
+    one = stands_in s r lists cell.0 i.store lt
+
+    parts : (xs : List ℕ) × (zs : List ℕ) × (list_at lists l ≡ xs ++ cell.0 ∷ zs)
+    parts = split_at cell.0 (list_at lists l) (omega (arith, one))
+
+    go : (xs zs : List ℕ) → list_at lists l ≡ xs ++ cell.0 ∷ zs → IsUsed s r cell node
     go xs zs is =
-        let l = (node_at s c).owner in
-        let in_lists : l < length lists = omega (arith, used) in
-        let once : Once (xs ++ c ∷ zs) = subst Once is (Once-list s r lists l st) in
-        let header : IsHeader s (header_at r l) (xs ++ c ∷ zs) = subst (IsHeader s (header_at r l)) is (st.ends.each l in_lists) in
-        ap (λ (ys : List ℕ). after_in c (stamped es ys)) is
-        ∙ after_in-some es c xs zs (omega (arith, Once-middle xs zs c once))
-        ∙ sym (first_cell-stamped es zs (node_at s c).next (next_is s xs zs c header.links))
+        let es = entries_of s in
+        let C = content_at s r in
+        let at = stands es lists l cell.0 xs zs l_in is in
+        let once = (IsSound-from_whole s r i).once cell in
+        let links = subst (λ (ys : List ℕ). Linked s None ys None) is
+        (i.store.ends.each l (omega (arith, l_in))).links in
+        let next = (Linked-right s None xs (cell.0 ∷ zs) None links).1 in
+        let own = ap (λ (t : Node). t.owner) same in
+        let behind = ap (λ (ls : List Slot). drop (suc (length xs)) ls) (chain-contents es lists l l_in
+        ∙ ap (map (slot es)) is) ∙ drop-mid es xs cell.0 zs in
+        record {
+          inside = lt;
+          same = same;
+          listed = listed;
+          used = uses-stands at;
+          list = list_of-at C l (length xs) cell (get_or es cell.0 no_entry) once at ∙ ap Some (sym own);
+          entry = entry_of-at C l (length xs) cell (get_or es cell.0 no_entry) once at ∙ ap Some (entry_is s cell.0)
+              ∙ ap (λ (t : Node). Some t.entry) (sym same);
+          next = next_of-at C l (length xs) cell (get_or es cell.0 no_entry) once at ∙ ap first_cell behind
+              ∙ first-slots es zs
+              ∙ ap cell_of (sym next ∙ ap (λ (t : Node). t.next) (sym same));
+        }
+
+unused_uses : (s : List Node) (r : List Header) (cell : Cell) → IsWhole s r →
+    (cell.0 < length s → length r - 1 ≤ (node_at s cell.0).owner)
+    → uses (content_at s r) cell ≡ 0
+unused_uses s r cell i h =
+    let lists = lists_of s r in
+    let c = cell.0 in
+    let parts = is_partition s r lists i.store in
+    let sum = uses-slots (entries_of s) cell (in_use lists) in
+    let size = length-lists s r in
+    elim (leb_tells (length s) c) [
+      | inl w ↦ omega (arith, sum, sum_by-take-le (times c) lists (length lists - 1), parts.only c w.1)
+      | inr w ↦
+          let one = stands_in s r lists c i.store w.1 in
+          let l_in = list_at-in lists (node_at s c).owner c (omega (arith, one)) in
+          let last : (node_at s c).owner ≡ length lists - 1 = omega (arith, l_in, h w.1, size) in
+          omega (
+            arith,
+            sum,
+            sum-in_use (times c) lists (omega (arith, l_in)),
+            parts.once c w.1,
+            ap
+                (λ (n : ℕ). times c (list_at lists n)) last,
+            one,
+          )
+    ]
+
+-- a cell that names none
+pub unused : (s : List Node) (r : List Header) (cell : Cell) → IsWhole s r →
+    (cell.0 < length s → length r - 1 ≤ (node_at s cell.0).owner) → IsUnused s r cell
+unused s r cell i h =
+    let C = content_at s r in
+    let none = unused_uses s r cell i h in
+    record {
+      none = none;
+      list = list_of-none C cell none;
+      entry = entry_of-none C cell none;
+      next = next_of-none C cell none;
+      unlinked = unlinked-none C cell none;
+      replaced = λ e. replaced-none C cell e none;
+    }
+
+-- the front of a list
+pub record Front (s : List Node) (r : List Header) (l c : ℕ) : Type 0 where
+  pub inside : c < length s
+  pub owner : (node_at s c).owner ≡ l
+  pub behind : List ℕ
+  pub is : list_at (lists_of s r) l ≡ c ∷ behind
+
+pub front : (s : List Node) (r : List Header) (l c : ℕ) → IsWhole s r → first_or (list_at (lists_of s r) l) None ≡
+    Some c → Front s r l c
+front s r l c i h =
+    let f = first_is (list_at (lists_of s r) l) c h in
+    let named : 0 < times c (list_at (lists_of s r) l) = omega (arith, ap (times c) f.1, times-head c f.0) in
+    let n = names_in s r (lists_of s r) l c i.store named in
+    record { inside = n.0; owner = n.1; behind = f.0; is = f.1 }
+  where
+    first_is : (xs : List ℕ) (c : ℕ) → first_or xs None ≡ Some c → (zs : List ℕ) × (xs ≡ c ∷ zs)
+    first_is [] c e = absurd (cc)
+    first_is (x ∷ xs) c e = let same : x ≡ c = cc in (xs, ap (λ (y : ℕ). y ∷ xs) same)
+
+-- its length
+pub len-is : (s : List Node) (r : List Header) (l : ℕ) → IsWhole s r → l < length (content_at s r) →
+    (header_at r l).count ≡ length (chain (content_at s r) l)
+len-is s r l i lt =
+    let lists = lists_of s r in
+    let k : l < length lists - 1 = omega (arith, lt, length-contents (entries_of s) lists) in
+    (i.store.ends.each l (omega (arith, k))).count
+    ∙ sym (ap length (chain-contents (entries_of s) lists l k) ∙ length-map (list_at lists l) (slot (entries_of s)))
+
+-- its front
+pub front-is : (s : List Node) (r : List Header) (l : ℕ) → l < length (content_at s r)
+    → first_cell (chain (content_at s r) l) ≡ cell_of (first_or (list_at (lists_of s r) l) None)
+front-is s r l lt =
+    let lists = lists_of s r in
+    ap first_cell (chain-contents (entries_of s) lists l (omega (arith, lt, length-contents (entries_of s) lists)))
+    ∙ first-slots (entries_of s) (list_at lists l)
+
+-- the cells that are held and those that are free are all
+pub held-is : (s : List Node) (r : List Header) → IsWhole s r →
+    held (content_at s r) + length (list_at (lists_of s r) (length (content_at s r))) ≡ length s
+held-is s r i =
+    let lists = lists_of s r in
+    let size = length-contents (entries_of s) lists in
+    omega (
+      arith,
+      held-slots (entries_of s) (in_use lists),
+      sum-in_use length lists
+          (omega (arith, i.free, length-lists s r)),
+      i.store.total,
+      ap (λ (n : ℕ). length (list_at lists n)) size,
+    )
+
+-- ---- what the calls leave
+
+-- an entry is written into a cell
+pub content-written : (s : List Node) (r : List Header) (c : ℕ) (e : Entry) → c < length s
+    → contents (set (entries_of s) c e) (lists_of s r) ≡ replaced (content_at s r) (record { 0 = c }) e
+content-written s r c e lt = lists-set (entries_of s) c e (in_use (lists_of s r))
+    (omega (arith, lt, length-map s (λ (t : Node). t.entry)))
+
+-- a cell comes from the free list to another, with an entry
+pub content-pushed : (s : List Node) (r : List Header) (c to : ℕ) (e : Entry) → c < length s →
+    IsUnused s r (record { 0 = c }) → to < length (content_at s r)
+    → contents (set (entries_of s) c e) (moved (lists_of s r) c (length (content_at s r)) to) ≡
+    pushed (content_at s r) to (record { 0 = c }) e
+content-pushed s r c to e lt un to_in =
+    let lists = lists_of s r in
+    let es = entries_of s in
+    let f = length (content_at s r) in
+    let size = length-contents es lists in
+    let xs = lacking c (list_at lists f) in
+    let size2 = length-set lists f xs in
+    contents-appended (set es c e) (set lists f xs) to c (omega (arith, to_in, size, size2))
+    ∙ ap (λ (x : Content). pushed x to (record { 0 = c }) (get_or (set es c e) c no_entry))
+    (contents-set_free (set es c e) lists f xs (omega (arith, size)) ∙ content-written s r c e lt ∙ un.replaced e)
+    ∙ ap (pushed (content_at s r) to (record { 0 = c })) (get_or-set_same es c e no_entry
+    (omega (arith, lt, length-map s (λ (t : Node). t.entry))))
+
+-- the front of a list comes behind another
+pub content-moved : (s : List Node) (r : List Header) (c from to : ℕ) → IsWhole s r → Front s r from c →
+    from < length (content_at s r)
+    → to < length (content_at s r) → from ≢ to → contents (entries_of s) (moved (lists_of s r) c from to) ≡
+    move (content_at s r) from to
+content-moved s r c from to i f from_in to_in ne =
+    let lists = lists_of s r in
+    let es = entries_of s in
+    let C = content_at s r in
+    let size = length-contents es lists in
+    let xs = lacking c (list_at lists from) in
+    let size2 = length-set lists from xs in
+    let one = stands_in s r lists c i.store f.inside in
+    let once : times c (list_at lists from) ≡ 1 = ap (λ (n : ℕ). times c (list_at lists n)) (sym f.owner) ∙ one in
+    let less : xs ≡ f.behind = ap (lacking c) f.is
+    ∙ lacking-split c [] f.behind (omega (arith, once, ap (times c) f.is, times-head c f.behind)) in
+    let left = contents-set es lists from xs (omega (arith, from_in, size))
+    ∙ ap (λ (ys : List ℕ). set C from (map (slot es) ys)) less in
+    let front = chain-contents es lists from (omega (arith, from_in, size)) ∙ ap (map (slot es)) f.is in
+    contents-appended es (set lists from xs) to c (omega (arith, to_in, size, size2))
+    ∙ ap (λ (x : Content). pushed x to (record { 0 = c }) (get_or es c no_entry)) left
+    ∙ ap (λ (l : List Slot). set (set C from (map (slot es) f.behind)) to (l ++ slot es c ∷ []))
+    (get_or-set_other C from to (map (slot es) f.behind) [] (λ e. ne (sym e)))
+    ∙ sym (ap (λ (l : List Slot). set (set C from (drop 1 l)) to (chain C to ++ take 1 l)) front)
+
+-- a cell comes to the free list
+pub content-unlinked : (s : List Node) (r : List Header) (cell : Cell) (node : Node) → IsWhole s r →
+    IsUsed s r cell node
+    → contents (entries_of s) (moved (lists_of s r) cell.0 (node_at s cell.0).owner (length (content_at s r))) ≡
+    unlinked (content_at s r) cell
+content-unlinked s r cell node i u = go parts.0 parts.1 parts.2
+  where
+    lists : List (List ℕ)
+    lists = lists_of s r
+
+    l : ℕ
+    l = (node_at s cell.0).owner
+
+    one : times cell.0 (list_at lists l) ≡ 1
+    one = stands_in s r lists cell.0 i.store u.inside
+
+    parts : (xs : List ℕ) × (zs : List ℕ) × (list_at lists l ≡ xs ++ cell.0 ∷ zs)
+    parts = split_at cell.0 (list_at lists l) (omega (arith, one))
+
+    go : (xs zs : List ℕ) → list_at lists l ≡ xs ++ cell.0 ∷ zs
+        → contents (entries_of s) (moved lists cell.0 l (length (content_at s r))) ≡ unlinked (content_at s r) cell
+    go xs zs is =
+        let es = entries_of s in
+        let C = content_at s r in
+        let size = length-contents es lists in
+        let ys = lacking cell.0 (list_at lists l) in
+        let l_in : l < length lists - 1 = omega (
+          arith,
+          u.listed,
+          ap (λ (t : Node). t.owner) u.same,
+          length-lists s
+              r,
+        ) in
+        let less : ys ≡ xs ++ zs = ap (lacking cell.0) is
+        ∙ lacking-split cell.0 xs zs (omega (
+          arith,
+          one,
+          ap (times cell.0) is,
+          times-append cell.0 xs (cell.0 ∷
+              zs),
+          times-head cell.0 zs,
+        )) in
+        let at = chain-contents es lists l l_in ∙ ap (map (slot es)) is in
+        contents-set_free es (set lists l ys) (length C) (list_at (set lists l ys) (length C) ++ cell.0 ∷
+        []) (omega (arith, size, length-set lists l ys))
+        ∙ contents-set es lists l ys l_in ∙ ap (λ (x : List ℕ). set C l (map (slot es) x)) less
+        ∙ ap (set C l) (sym (ap (λ (x : List Slot). remove x (length xs)) at ∙ remove-mid es xs cell.0 zs))
+        ∙ sym (unlinked-at C l (length xs) cell (get_or es cell.0 no_entry) ((IsSound-from_whole s r i).once cell)
+        (stands es lists l cell.0 xs zs l_in is))
+
+-- a list comes to the free list
+pub content-emptied : (s : List Node) (r : List Header) (l : ℕ) → l < length (content_at s r)
+    → contents (entries_of s) (given_back (lists_of s r) l (length (content_at s r))) ≡ emptied (content_at s r) l
+content-emptied s r l lt =
+    let lists = lists_of s r in
+    let es = entries_of s in
+    let size = length-contents es lists in
+    let none : List ℕ = [] in
+    let rest = set lists l none in
+    contents-set_free es rest (length (content_at s r)) (list_at rest (length (content_at s r)) ++ list_at lists l)
+    (omega (arith, size, length-set lists l none))
+    ∙ contents-set es lists l none (omega (arith, lt, size))
+
+-- the same entries in the same lists
+pub contents-is : {es fs : List Entry} {ls ms : List (List ℕ)} → es ≡ fs → ls ≡ ms → contents es ls ≡ contents fs ms
+contents-is {es} {fs} {ls} {ms} e f = ap (λ (x : List Entry). contents x ls) e ∙ ap (contents fs) f
+
+-- the same move
+pub moved-is : {ls ms : List (List ℕ)} {m n to p : ℕ} (c : ℕ) → ls ≡ ms → m ≡ n → to ≡ p →
+    moved ls c m to ≡ moved ms c n p
+moved-is {ls} {ms} {m} {n} {to} {p} c e f g =
+    ap (λ (x : List (List ℕ)). moved x c m to) e ∙ ap (λ (x : ℕ). moved ms c x to) f ∙ ap (moved ms c n) g
+
+-- ---- the ends of a store
+
+-- a list that callers may name has a header
+pub in_headers : (s : List Node) (r : List Header) (l : ℕ) → l < length (content_at s r) → l < length r
+in_headers s r l lt = omega (arith, lt, length-contents (entries_of s) (lists_of s r), length-lists s r)
+
+-- the lists in use are all but one
+pub in_use_is : (s : List Node) (r : List Header) → length (content_at s r) ≡ length r - 1
+in_use_is s r = omega (arith, length-contents (entries_of s) (lists_of s r), length-lists s r)
+
+-- the free list is empty where all cells are held
+pub full-when : (s : List Node) (r : List Header) (n : ℕ) → IsWhole s r → n ≡ length (content_at s r) →
+    first_or (list_at (lists_of s r) n) None ≡ None
+    → held (content_at s r) ≡ length s
+full-when s r n i e h = omega (
+  arith,
+  held-is s r i,
+  ap (λ (k : ℕ). length (list_at (lists_of s r) k)) e,
+  none_is
+      (list_at (lists_of s r) n) h,
+)
+  where
+    none_is : (xs : List ℕ) → first_or xs None ≡ None → length xs ≡ 0
+    none_is [] e = refl
+    none_is (x ∷ xs) e = absurd (cc)
+
+-- and only there
+pub not-full : (s : List Node) (r : List Header) (n c : ℕ) → IsWhole s r → n ≡ length (content_at s r) →
+    Front s r n c → held (content_at s r) ≡ length s → ⊥
+not-full s r n c i e f full =
+    omega (arith, full, held-is s r i, ap (λ (k : ℕ). length (list_at (lists_of s r) k)) e, ap length f.is)
+
+-- its count
+pub free-is : (s : List Node) (r : List Header) (k : ℕ) → IsWhole s r → k ≡ length r →
+    (header_at r (k - 1)).count + held (content_at s r) ≡ length s
+free-is s r k i e =
+    let n = length (content_at s r) in
+    let same : k - 1 ≡ n = omega (arith, e, length-contents (entries_of s) (lists_of s r), length-lists s r) in
+    omega (
+      arith,
+      ap (λ (m : ℕ). (header_at r m).count) same,
+      (i.store.ends.each n
+          (omega (arith, same, e, i.free, length-lists s r))).count,
+      held-is s r i,
+    )
+
+-- ---- an entry is written
+
+-- what it leaves
+pub record Written (s : List Node) (r : List Header) (c : ℕ) (e : Entry) (t : List Node) : Type 0 where
+  pub whole : IsWhole t r
+  pub lists : lists_of t r ≡ lists_of s r
+  pub entries : entries_of t ≡ set (entries_of s) c e
+  pub owner : (node_at t c).owner ≡ (node_at s c).owner
+  pub size : length t ≡ length s
+
+pub written : (s : List Node) (r : List Header) (c : ℕ) (t : Node) (e : Entry) → t ≡ node_at s c → IsWhole s r →
+    Written s r c e (set s c (record t { entry = e }))
+written s r c t e is i = subst (λ (u : Node). Written s r c e (set s c (record u { entry = e }))) (sym is) made
+  where
+    f : Node → Node
+    f = λ u. record u { entry = e }
+
+    s2 : List Node
+    s2 = changed f s (Some c)
+
+    owners : owners_of s2 ≡ owners_of s
+    owners = map-changed (λ u. u.owner) f s (Some c) (λ u. refl)
+
+    store : IsStore s2 r (lists_of s r)
+    store = record {
+      ends = AreHeaders-agree s s2 r (lists_of s r) (λ m k.
+          Linked-agree s s2 None (list_at (lists_of s r) m) None (λ x h. changed-links f s (Some c) x (λ u. refl)
+          (λ u. refl)) k) i.store.ends;
+      placed = λ l x. i.store.placed l x ∙ sym (ap (λ (os : List ℕ). place os l x) owners);
+      total = i.store.total ∙ sym (length-changed f s (Some c));
+    }
+
+    made : Written s r c e s2
+    made = record {
+      whole = record {
+        store = store_found s2 r (lists_of s r) store;
+        free = i.free;
+        few_cells = omega (arith, i.few_cells, length-changed f s (Some c));
+        few_lists = i.few_lists;
+      };
+      lists = lists_is s2 r (lists_of s r) store.ends;
+      entries = map-set (λ (u : Node). u.entry) s c (f (node_at s c));
+      owner = sym (owner_is s2 c) ∙ ap (λ (os : List ℕ). get_or os c 0) owners ∙ owner_is s c;
+      size = length-changed f s (Some c);
+    }

@@ -6,7 +6,13 @@ use Rattle.dsa_cells.specs.declared.links.Header.{Header}
 
 -- what a cell holds before its first use
 abbrev pub no_entry : Entry
-no_entry = record { name = 0; parent = None; desc = record { pasid = 0; flags = 0; op = 0; size = 0 }; queue = 0; running = false }
+no_entry = record {
+  name = 0;
+  parent = None;
+  desc = record { pasid = 0; flags = 0; op = 0; size = 0 };
+  queue = 0;
+  running = false;
+}
 
 -- what stands past the end of the array
 abbrev pub no_node : Node

@@ -1,32 +1,45 @@
 -- What the lists of a store hold.
-use Rattle.std.specs.Prelude.{ℕ, List, map, slice_index_or}
+use Rattle.std.specs.Prelude.{◌≡◌, ℕ, ◌-◌, ◌<◌, List, Option, None, Some, length, map, slice_index_or}
+use Rattle.dsa_store.specs.declared.entry.Cell.{Cell}
 use Rattle.dsa_store.specs.declared.entry.Entry.{Entry}
-use Rattle.dsa_store.specs.Content.{Slot, Content}
+use Rattle.dsa_store.specs.Content.{Slot, Content, uses, entry_of, list_of, next_of, unlinked, replaced}
 use Rattle.dsa_cells.specs.declared.links.Node.{Node}
 use Rattle.dsa_cells.specs.declared.links.Header.{Header}
-use Rattle.dsa_cells.specs.Array.{no_entry, entries_of}
+use Rattle.dsa_cells.specs.Array.{no_entry, node_at, entries_of}
 use Rattle.dsa_cells.specs.Partition.{lists_of, in_use}
 
--- these cells, each by its number with its entry
-abbrev pub stamped : List Entry → List ℕ → List (ℕ × Entry)
-stamped entries cells = map (λ cell. (cell, slice_index_or entries cell no_entry)) cells
+-- a cell with what it holds
+abbrev pub slot : List Entry → ℕ → Slot
+slot entries cell = (record { 0 = cell }, slice_index_or entries cell no_entry)
 
--- the lists but that of the free cells, each cell by its number with its entry
-abbrev pub contents : List Entry → List (List ℕ) → List (List (ℕ × Entry))
-contents entries lists = map (stamped entries) (in_use lists)
-
--- the same of the lists that the array stands for
-abbrev pub numbered : List Node → List Header → List (List (ℕ × Entry))
-numbered nodes headers = contents (entries_of nodes) (lists_of nodes headers)
-
--- a cell by its number with its entry, as a slot
-abbrev pub paired : ℕ × Entry → Slot
-paired p = (record { 0 = p.0 }, p.1)
-
--- lists of those
-abbrev pub shown : List (List (ℕ × Entry)) → Content
-shown lists = map (map paired) lists
+-- the lists but that of the free cells, each cell with what it holds
+abbrev pub contents : List Entry → List (List ℕ) → Content
+contents entries lists = map (map (slot entries)) (in_use lists)
 
 -- what the lists in use hold
 abbrev pub content_at : List Node → List Header → Content
-content_at nodes headers = shown (numbered nodes headers)
+content_at nodes headers = contents (entries_of nodes) (lists_of nodes headers)
+
+-- the cell of this number
+abbrev pub cell_of : Option ℕ → Option Cell
+cell_of None = None
+cell_of (Some cell) = Some (record { 0 = cell })
+
+-- no list in use names the cell, and so much callers may know of it
+pub record IsUnused (nodes : List Node) (headers : List Header) (cell : Cell) : Type 0 where
+  pub none : uses (content_at nodes headers) cell ≡ 0
+  pub list : list_of (content_at nodes headers) cell ≡ None
+  pub entry : entry_of (content_at nodes headers) cell ≡ None
+  pub next : next_of (content_at nodes headers) cell ≡ None
+  pub unlinked : unlinked (content_at nodes headers) cell ≡ content_at nodes headers
+  pub replaced : (entry : Entry) → replaced (content_at nodes headers) cell entry ≡ content_at nodes headers
+
+-- that is the node of the cell, and says what callers may know of it
+pub record IsUsed (nodes : List Node) (headers : List Header) (cell : Cell) (node : Node) : Type 0 where
+  pub inside : cell.0 < length nodes
+  pub same : node ≡ node_at nodes cell.0
+  pub listed : node.owner < length headers - 1
+  pub used : 0 < uses (content_at nodes headers) cell
+  pub list : list_of (content_at nodes headers) cell ≡ Some node.owner
+  pub entry : entry_of (content_at nodes headers) cell ≡ Some node.entry
+  pub next : next_of (content_at nodes headers) cell ≡ cell_of node.next

@@ -1,10 +1,11 @@
 -- What a store of linked cells keeps, which has one proof at most.
-use Rattle.std.specs.Prelude.{◌≡◌, ℕ, ◌<◌, ◌≤◌, ◌^◌, List, [], ◌∷◌, length, Option, Some, slice_index_or, cond, ◌&&◌, ◌==◌, ltb, sum_by}
+use Rattle.std.specs.Prelude.{◌≡◌, ℕ, ◌<◌, ◌≤◌, ◌^◌, List, [], ◌∷◌, length, Option, Some, slice_index_or, cond, ◌&&◌}
+use Rattle.std.specs.Prelude.{◌==◌, ltb, sum_by}
 use Rattle.std.specs.Coded.{Unit-prop}
 use Rattle.std.proofs.Props.{props}
 use Rattle.dsa_cells.specs.declared.links.Node.{Node}
 use Rattle.dsa_cells.specs.declared.links.Header.{Header}
-use Rattle.dsa_cells.specs.Array.{node_at, owners_of}
+use Rattle.dsa_cells.specs.Array.{owners_of}
 use Rattle.dsa_cells.specs.Partition.{Linked, AreHeaders, list_at, lists_of, times}
 
 -- 1 where a cell of the array bears the number of that list, else 0
@@ -24,19 +25,13 @@ pub record IsWhole (nodes : List Node) (headers : List Header) : Type 0 where
   pub few_cells : length nodes < 2 ^ 32
   pub few_lists : length headers ≤ 2 ^ 16
 
-pub Linked-prop : (nodes : List Node) (before : Option ℕ) (cells : List ℕ) (after : Option ℕ) → IsProp (Linked nodes before cells after)
+-- the links of a list have one proof at most
+pub Linked-prop : (nodes : List Node) (before : Option ℕ) (cells : List ℕ) (after : Option ℕ)
+    → IsProp (Linked nodes before cells after)
 Linked-prop nodes before [] after = Unit-prop
-Linked-prop nodes before (cell ∷ cells) after = let rest = Linked-prop nodes (Some cell) cells after in Prim.hlevel (props, rest)
+Linked-prop nodes before (cell ∷ cells) after =
+    let rest = Linked-prop nodes (Some cell) cells after in Prim.hlevel (props, rest)
 
+-- and so has the whole
 pub IsWhole-prop : (nodes : List Node) (headers : List Header) → IsProp (IsWhole nodes headers)
 IsWhole-prop nodes headers = Prim.hlevel (props, Linked-prop)
-
--- none of the first n lists names the cell
-abbrev pub IsUnused : List Node → ℕ → ℕ → Type 0
-IsUnused nodes n cell = cell < length nodes → n ≤ (node_at nodes cell).owner
-
--- that is the node of the cell, and one of the first n lists names it
-pub record IsUsed (nodes : List Node) (n cell : ℕ) (node : Node) : Type 0 where
-  pub inside : cell < length nodes
-  pub listed : (node_at nodes cell).owner < n
-  pub same : node ≡ node_at nodes cell

@@ -1,5 +1,6 @@
 -- Which lists an array of linked cells stands for, and that they share its cells out (profile).
-use Rattle.std.specs.Prelude.{◌≡◌, ℕ, zero, suc, ◌-◌, ◌<◌, ◌≤◌, List, [], ◌∷◌, length, map, take, Option, None, Some, slice_index_or, cond, ◌==◌, sum_by}
+use Rattle.std.specs.Prelude.{◌≡◌, ℕ, zero, suc, ◌-◌, ◌<◌, ◌≤◌, List, [], ◌∷◌, length, map, take, Option, None, Some}
+use Rattle.std.specs.Prelude.{slice_index_or, cond, ◌==◌, sum_by}
 use Rattle.dsa_cells.specs.declared.links.Node.{Node}
 use Rattle.dsa_cells.specs.declared.links.Header.{Header}
 use Rattle.dsa_cells.specs.Array.{node_at, header_at}
@@ -36,13 +37,16 @@ abbrev pub last_or : List ℕ → Option ℕ → Option ℕ
 last_or [] before = before
 last_or (cell ∷ cells) before = last_or cells (Some cell)
 
--- the previous of each cell is the one before it and its next is the one behind it, where the two outside stand before the first and behind the last
+-- the previous of each cell is the one before it and its next is the one behind it, where the two
+-- outside stand before the first and behind the last
 abbrev pub Linked : List Node → Option ℕ → List ℕ → Option ℕ → Type 0
 Linked nodes before [] after = Unit {0}
 Linked nodes before (cell ∷ cells) after =
-    ((node_at nodes cell).previous ≡ before) × ((node_at nodes cell).next ≡ first_or cells after) × Linked nodes (Some cell) cells after
+    ((node_at nodes cell).previous ≡ before) × ((node_at nodes cell).next ≡ first_or cells after) ×
+    Linked nodes (Some cell) cells after
 
--- the header and the links are those of these cells: nothing stands before the first or behind the last, and with no cell there is no head and no tail
+-- the header and the links are those of these cells: nothing stands before the first or behind the
+-- last, and with no cell there is no head and no tail
 pub record IsHeader (nodes : List Node) (header : Header) (cells : List ℕ) : Type 0 where
   pub head : header.head ≡ first_or cells None
   pub tail : header.tail ≡ last_or cells None

@@ -1,9 +1,9 @@
 //! The nodes of the cells and the headers of the lists, and the few writes that move a cell, or a whole list, to the end of a list.
 
-ghost use Rattle.std.specs.Prelude.{◌≡◌, ℕ, ◌+◌, ◌-◌, ◌^◌, ◌<◌, ◌≤◌, ◌≢◌, length, Option};
+ghost use Rattle.std.specs.Prelude.{◌≡◌, ℕ, ◌+◌, ◌-◌, ◌^◌, ◌<◌, ◌≤◌, ◌≢◌, length, Option, Some};
 ghost use Rattle.dsa_cells.specs.Array.{node_at, entries_of};
 ghost use Rattle.dsa_cells.specs.Partition.{lists_of, cells_of, list_at};
-ghost use Rattle.dsa_cells.specs.Writes.{without, with_last, detached, attached, InRange, AreInside, moved, marked, joined, header_joined, given_back};
+ghost use Rattle.dsa_cells.specs.Writes.{without, with_last, alone, detached, InRange, AreInside, moved, marked, joined, header_joined, given_back};
 ghost use Rattle.dsa_cells.specs.Invariant.{IsStore};
 
 use dsa_store::Entry;
@@ -53,17 +53,17 @@ pub fn attach(nodes: &mut [Node], header: &mut Header, list: u16, cell: u32)
     requires cell_in { cell < length nodes.old }
     requires tail_in { InRange nodes.old header.old.tail }
     requires room { header.old.count + 1 < 2 ^ 32 }
-    ensures nodes { nodes.new ≡ attached nodes.old cell list header.old.tail }
+    ensures nodes { nodes.new ≡ joined (alone nodes.old cell list) header.old.tail (Some cell) }
     ensures header { header.new ≡ with_last header.old cell }
 {
-    let last = header.tail;
     let node = &mut nodes[cell as usize];
     node.next = None;
-    node.previous = last;
     node.owner = list;
+    let last = header.tail;
+    join(nodes, last, Some(cell));
     match last {
         None => header.head = Some(cell),
-        Some(before) => nodes[before as usize].next = Some(cell),
+        Some(_) => {}
     }
     header.tail = Some(cell);
     header.count += 1;
@@ -74,6 +74,7 @@ pub fn transfer(nodes: &mut [Node], headers: &mut [Header], cell: u32, to: u16)
     requires store { IsStore nodes.old headers.old (lists_of nodes.old headers.old) }
     requires cell_in { cell < length nodes.old }
     requires to_in { to < length headers.old }
+    requires apart { (node_at nodes.old cell).owner ≢ to }
     requires few { length nodes.old < 2 ^ 32 }
     ensures store { IsStore nodes.new headers.new (lists_of nodes.new headers.new) }
     ensures lists { lists_of nodes.new headers.new ≡ moved (lists_of nodes.old headers.old) cell (node_at nodes.old cell).owner to }

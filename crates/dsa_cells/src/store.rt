@@ -1,9 +1,11 @@
 //! The store: lists over one array of linked cells.
 
-ghost use Rattle.std.specs.Prelude.{◌≡◌, ℕ, List, [], length, IfOk, MatchOption, replicate};
-ghost use Rattle.dsa_cells.specs.Partition.{AreHeaders, IsPartition};
-ghost use Rattle.dsa_cells.specs.Invariant.{IsWhole, IsWhole-prop, IsUnused, IsUsed};
-ghost use Rattle.dsa_cells.specs.Content.{content_at};
+ghost use Rattle.std.specs.Prelude.{◌≡◌, ◌≢◌, ◌<◌, ℕ, List, [], length, IfOk, MatchOption, None, slice_set, replicate};
+ghost use Rattle.dsa_cells.specs.Array.{node_at, entries_of};
+ghost use Rattle.dsa_cells.specs.Partition.{AreHeaders, IsPartition, first_or, list_at};
+ghost use Rattle.dsa_cells.specs.Writes.{moved, given_back};
+ghost use Rattle.dsa_cells.specs.Invariant.{IsWhole, IsWhole-prop};
+ghost use Rattle.dsa_cells.specs.Content.{content_at, IsUnused, IsUsed};
 ghost use Rattle.dsa_cells.specs.Naming.{IsSound-from_whole};
 
 use crate::fresh::{fresh_headers, fresh_nodes};
@@ -50,6 +52,71 @@ impl<A: Allocator> LinkedStore<A> {
         ensures once { IsPartition (⟦<LinkedStore<A> as EntryStore>⟧.cells self.now) (all_lists self.now) }
         ensures content { ⟦<LinkedStore<A> as EntryStore>⟧.content self.now ≡ slots_in_use self.now }
     {}
+
+    /// The first cell of a list, that of the free cells included.
+    #[inline(always)]
+    fn head(&self, list: u16) -> Option<u32>
+        requires { list < length (headers_of self.now) }
+        ensures { result ≡ first_or (list_at (all_lists self.now) list) None }
+    {
+        self.headers[list as usize].head
+    }
+
+    /// The node of the cell, if it is in use.
+    #[inline(always)]
+    fn used_node(&self, cell: Cell) -> Option<Node>
+        ensures { MatchOption result (IsUnused (array_of self.now) (headers_of self.now) cell) (λ node. IsUsed (array_of self.now) (headers_of self.now) cell node) }
+    {
+        let at = cell.0 as usize;
+        if at >= self.nodes.len() {
+            return None;
+        }
+        let node = self.nodes[at];
+        if (node.owner as usize) < self.headers.len() - 1 {
+            Some(node)
+        } else {
+            None
+        }
+    }
+
+    /// Writes another entry into the cell.
+    #[inline(always)]
+    fn write(&mut self, cell: u32, entry: Entry)
+        requires { cell < length (array_of self.old) }
+        ensures lists { all_lists self.new ≡ all_lists self.old }
+        ensures entries { entries_of (array_of self.new) ≡ slice_set (entries_of (array_of self.old)) cell entry }
+        ensures owner { (node_at (array_of self.new) cell).owner ≡ (node_at (array_of self.old) cell).owner }
+        ensures headers { headers_of self.new ≡ headers_of self.old }
+        ensures size { length (array_of self.new) ≡ length (array_of self.old) }
+    {
+        self.nodes[cell as usize].entry = entry;
+    }
+
+    /// Moves a cell from the list that it stands in to the end of another.
+    #[inline(always)]
+    fn transfer(&mut self, cell: u32, to: u16)
+        requires cell_in { cell < length (array_of self.old) }
+        requires to_in { to < length (headers_of self.old) }
+        requires apart { (node_at (array_of self.old) cell).owner ≢ to }
+        ensures lists { all_lists self.new ≡ moved (all_lists self.old) cell (node_at (array_of self.old) cell).owner to }
+        ensures entries { entries_of (array_of self.new) ≡ entries_of (array_of self.old) }
+        ensures sizes { length (array_of self.new) ≡ length (array_of self.old) }
+    {
+        transfer(&mut self.nodes, &mut self.headers, cell, to);
+    }
+
+    /// Moves all cells of a list to the end of another.
+    #[inline(always)]
+    fn splice(&mut self, from: u16, to: u16)
+        requires from_in { from < length (headers_of self.old) }
+        requires to_in { to < length (headers_of self.old) }
+        requires apart { from ≢ to }
+        ensures lists { all_lists self.new ≡ given_back (all_lists self.old) from to }
+        ensures entries { entries_of (array_of self.new) ≡ entries_of (array_of self.old) }
+        ensures sizes { length (array_of self.new) ≡ length (array_of self.old) }
+    {
+        splice(&mut self.nodes, &mut self.headers, from, to);
+    }
 }
 
 impl<A: Allocator> EntryStore for LinkedStore<A> {
@@ -79,10 +146,9 @@ impl<A: Allocator> EntryStore for LinkedStore<A> {
     /// one link of the old last of `list`, and the headers of the two lists.
     #[inline(always)]
     fn push_back(&mut self, list: ListId, entry: Entry) -> Option<Cell> {
-        let free = self.headers.len() - 1;
-        let cell = self.headers[free].head?;
-        self.nodes[cell as usize].entry = entry;
-        transfer(&mut self.nodes, &mut self.headers, cell, list.0);
+        let cell = self.head(self.lists())?;
+        self.write(cell, entry);
+        self.transfer(cell, list.0);
         Some(Cell(cell))
     }
 
@@ -90,8 +156,8 @@ impl<A: Allocator> EntryStore for LinkedStore<A> {
     /// and the headers of the two lists.
     #[inline(always)]
     fn move_front(&mut self, from: ListId, to: ListId) -> Option<Cell> {
-        let cell = self.headers[from.0 as usize].head?;
-        transfer(&mut self.nodes, &mut self.headers, cell, to.0);
+        let cell = self.head(from.0)?;
+        self.transfer(cell, to.0);
         Some(Cell(cell))
     }
 
@@ -99,29 +165,28 @@ impl<A: Allocator> EntryStore for LinkedStore<A> {
     /// and the headers of its list and of the free one. The entry stays where it was.
     #[inline(always)]
     fn unlink(&mut self, cell: Cell) -> Option<(ListId, Entry)> {
-        let free = self.headers.len() - 1;
-        let node = used_node(&self.nodes, free, cell)?;
-        transfer(&mut self.nodes, &mut self.headers, cell.0, free as u16);
+        let node = self.used_node(cell)?;
+        self.transfer(cell.0, self.lists());
         Some((ListId(node.owner), node.entry))
     }
 
     #[inline(always)]
     fn get(&self, cell: Cell) -> Option<Entry> {
-        let node = used_node(&self.nodes, self.headers.len() - 1, cell)?;
+        let node = self.used_node(cell)?;
         Some(node.entry)
     }
 
     #[inline(always)]
     fn list_of(&self, cell: Cell) -> Option<ListId> {
-        let node = used_node(&self.nodes, self.headers.len() - 1, cell)?;
+        let node = self.used_node(cell)?;
         Some(ListId(node.owner))
     }
 
     #[inline(always)]
     fn set(&mut self, cell: Cell, entry: Entry) -> bool {
-        match used_node(&self.nodes, self.headers.len() - 1, cell) {
+        match self.used_node(cell) {
             Some(_) => {
-                self.nodes[cell.0 as usize].entry = entry;
+                self.write(cell.0, entry);
                 true
             }
             None => false,
@@ -130,12 +195,12 @@ impl<A: Allocator> EntryStore for LinkedStore<A> {
 
     #[inline(always)]
     fn front(&self, list: ListId) -> Option<Cell> {
-        self.headers[list.0 as usize].head.map(Cell)
+        self.head(list.0).map(Cell)
     }
 
     #[inline(always)]
     fn next(&self, cell: Cell) -> Option<Cell> {
-        let node = used_node(&self.nodes, self.headers.len() - 1, cell)?;
+        let node = self.used_node(cell)?;
         node.next.map(Cell)
     }
 
@@ -149,25 +214,7 @@ impl<A: Allocator> EntryStore for LinkedStore<A> {
     /// and the headers of the two lists.
     fn give_back(&mut self, list: ListId) -> u32 {
         let count = self.len(list);
-        let free = self.headers.len() - 1;
-        splice(&mut self.nodes, &mut self.headers, list.0, free as u16);
+        self.splice(list.0, self.lists());
         count
-    }
-}
-
-// The node of the cell, if it stands in one of the first `lists` lists.
-#[inline(always)]
-fn used_node(nodes: &[Node], lists: usize, cell: Cell) -> Option<Node>
-    ensures { MatchOption result (IsUnused nodes.now lists cell.0) (λ node. IsUsed nodes.now lists cell.0 node) }
-{
-    let at = cell.0 as usize;
-    if at >= nodes.len() {
-        return None;
-    }
-    let node = nodes[at];
-    if (node.owner as usize) < lists {
-        Some(node)
-    } else {
-        None
     }
 }

@@ -1,10 +1,10 @@
-use Rattle.std.proofs.Common.{◌≡◌, ◌-◌}
+use Rattle.std.proofs.Common.{◌-◌}
 use Rattle.dsa_cells.specs.Partition.{walk}
-use Rattle.dsa_cells.specs.Writes.{marked, AreInside}
+use Rattle.dsa_cells.specs.Writes.{marked}
+use Rattle.dsa_cells.proofs.Splicing.{Marking}
 use Rattle.dsa_cells.proofs.links.mark.Given as goal
 
 abbrev pub invariant-loop-step : goal.invariant-loop-step
-invariant-loop-step l = record {
-  rest : marked l.nodes (walk l.nodes (l.fn.header.count - l._step) l.at) l.owner ≡ marked l.initial.nodes (walk l.initial.nodes l.fn.header.count l.fn.header.head) l.owner;
-  inside : AreInside l.nodes (walk l.nodes (l.fn.header.count - l._step) l.at);
-}
+invariant-loop-step l =
+    Marking l.nodes (l.fn.header.count - l._step) l.at l.owner (marked l.initial.nodes
+    (walk l.initial.nodes l.fn.header.count l.fn.header.head) l.owner)

@@ -1,59 +1,67 @@
-use Rattle.std.proofs.Common.{◌≡◌, ℕ, ◌<◌, length, List, ◌∙◌, subst, sym, arith}
-use Rattle.std.proofs.lemmas.List.{length-map}
-use Rattle.dsa_cells.specs.declared.links.Node.{Node}
-use Rattle.dsa_cells.specs.declared.links.Header.{Header}
-use Rattle.dsa_cells.specs.Array.{header_at}
+use Rattle.std.proofs.Common.{◌≡◌, List, ℕ, ◌∙◌, refl, subst, sym, arith}
+use Rattle.std.proofs.Math.ListN.{get_or-map}
+use Rattle.dsa_cells.specs.Array.{header_at, no_header}
 use Rattle.dsa_cells.specs.Partition.{lists_of, list_at, cells_of}
-use Rattle.dsa_cells.specs.Writes.{AreInside, marked, given_back}
-use Rattle.dsa_cells.specs.Invariant.{IsStore}
-use Rattle.dsa_cells.proofs.Stores.{lists_is, store_found, cells_are}
-use Rattle.dsa_cells.proofs.Marking.{entries-marked}
-use Rattle.dsa_cells.proofs.Moves.{Within-list}
-use Rattle.dsa_cells.proofs.Splicing.{spliced, headers_spliced, store-spliced, tail-marked, head-marked, counts-fit, entries-joined}
+use Rattle.dsa_cells.specs.Writes.{AreInside, marked}
+use Rattle.dsa_cells.proofs.Joining.{map-joined, lists_is, store_found}
+use Rattle.dsa_cells.proofs.Splicing.{splice, entries-marked}
 use Rattle.dsa_cells.proofs.links.splice.Goals as goal
-
--- the cells_of of a header is its list
-cells_at : (s : List Node) (r : List Header) (l : ℕ) → IsStore s r (lists_of s r) → l < length r → cells_of s (header_at r l) ≡ list_at (lists_of s r) l
-cells_at s r l st lt = cells_are s (header_at r l) (list_at (lists_of s r) l) (st.ends.each l (omega (arith, lt, length-map r (cells_of s))))
 
 pub mark-requires : goal.mark-requires
 mark-requires c =
-    let s = c.args.nodes.now in let r = c.args.headers.now in
-    subst (λ (xs : List ℕ). AreInside s xs) (sym (cells_at s r c.args.from c.requires.store c.requires.from_in)) (Within-list s r (lists_of s r) c.args.from c.requires.store)
+    let s = c.args.nodes.now in
+    let r = c.args.headers.now in
+    let e : cells_of s (header_at r c.args.from) ≡ list_at (lists_of s r) c.args.from = sym (get_or-map (cells_of s) r
+    c.args.from no_header) in
+    subst (λ (xs : List ℕ). AreInside s xs) (sym e) (splice _ _ _ c.args.from c.args.to c.requires.store
+    c.requires.from_in c.requires.to_in c.requires.apart).cells
 
 pub join-requires-clause-before_in : goal.join-requires-clause-before_in
 join-requires-clause-before_in c =
-    let s = c.args.nodes.now in let r = c.args.headers.now in
-    rw (c.mark.ensures, cells_at s r c.args.from c.requires.store c.requires.from_in)
-    (tail-marked s r (lists_of s r) c.args.from c.args.to c.requires.store (omega (arith, c.requires.to_in, length-map r (cells_of s))))
+    let s = c.args.nodes.now in
+    let r = c.args.headers.now in
+    let e : cells_of s (header_at r c.args.from) ≡ list_at (lists_of s r) c.args.from = sym (get_or-map (cells_of s) r
+    c.args.from no_header) in
+    rw (c.mark.ensures, e) (splice _ _ _ c.args.from c.args.to c.requires.store c.requires.from_in c.requires.to_in
+    c.requires.apart).tail
 
 pub join-requires-clause-after_in : goal.join-requires-clause-after_in
 join-requires-clause-after_in c =
-    let s = c.args.nodes.now in let r = c.args.headers.now in
-    rw (c.mark.ensures, cells_at s r c.args.from c.requires.store c.requires.from_in)
-    (head-marked s r (lists_of s r) c.args.from c.args.to c.requires.store (omega (arith, c.requires.from_in, length-map r (cells_of s))))
+    let s = c.args.nodes.now in
+    let r = c.args.headers.now in
+    let e : cells_of s (header_at r c.args.from) ≡ list_at (lists_of s r) c.args.from = sym (get_or-map (cells_of s) r
+    c.args.from no_header) in
+    rw (c.mark.ensures, e) (splice _ _ _ c.args.from c.args.to c.requires.store c.requires.from_in c.requires.to_in
+    c.requires.apart).head
 
 pub joined_ends-requires : goal.joined_ends-requires
 joined_ends-requires c =
-    let s = c.args.nodes.now in let r = c.args.headers.now in
-    let fit = counts-fit s r (lists_of s r) c.args.from c.args.to c.requires.store (omega (arith, c.requires.from_in, length-map r (cells_of s))) (omega (arith, c.requires.to_in, length-map r (cells_of s))) c.requires.apart in
-    omega (arith, fit, c.requires.few)
+    let t = splice _ _ _ c.args.from c.args.to c.requires.store c.requires.from_in c.requires.to_in c.requires.apart in
+    omega (arith, t.fits, c.requires.few)
 
 pub returns-clause-store : goal.returns-clause-store
 returns-clause-store c =
-    let s = c.args.nodes.now in let r = c.args.headers.now in
-    rw (c.joined_ends.ensures, c.join.ensures, c.mark.ensures, cells_at s r c.args.from c.requires.store c.requires.from_in)
-    (store_found (spliced s r (lists_of s r) c.args.from c.args.to) (headers_spliced r c.args.from c.args.to) (given_back (lists_of s r) c.args.from c.args.to)
-    (store-spliced s r (lists_of s r) c.args.from c.args.to c.requires.store (omega (arith, c.requires.from_in, length-map r (cells_of s))) (omega (arith, c.requires.to_in, length-map r (cells_of s))) c.requires.apart))
+    let s = c.args.nodes.now in
+    let r = c.args.headers.now in
+    let e : cells_of s (header_at r c.args.from) ≡ list_at (lists_of s r) c.args.from = sym (get_or-map (cells_of s) r
+    c.args.from no_header) in
+    let t = splice _ _ _ c.args.from c.args.to c.requires.store c.requires.from_in c.requires.to_in c.requires.apart in
+    rw (c.joined_ends.ensures, c.join.ensures, c.mark.ensures, e) (store_found _ _ _ t.store)
 
 pub returns-clause-lists : goal.returns-clause-lists
 returns-clause-lists c =
-    let s = c.args.nodes.now in let r = c.args.headers.now in
-    rw (c.joined_ends.ensures, c.join.ensures, c.mark.ensures, cells_at s r c.args.from c.requires.store c.requires.from_in)
-    (lists_is (spliced s r (lists_of s r) c.args.from c.args.to) (headers_spliced r c.args.from c.args.to) (given_back (lists_of s r) c.args.from c.args.to)
-    (store-spliced s r (lists_of s r) c.args.from c.args.to c.requires.store (omega (arith, c.requires.from_in, length-map r (cells_of s))) (omega (arith, c.requires.to_in, length-map r (cells_of s))) c.requires.apart).ends)
+    let s = c.args.nodes.now in
+    let r = c.args.headers.now in
+    let e : cells_of s (header_at r c.args.from) ≡ list_at (lists_of s r) c.args.from = sym (get_or-map (cells_of s) r
+    c.args.from no_header) in
+    let t = splice _ _ _ c.args.from c.args.to c.requires.store c.requires.from_in c.requires.to_in c.requires.apart in
+    rw (c.joined_ends.ensures, c.join.ensures, c.mark.ensures, e) (lists_is _ _ _ t.store.ends)
 
 pub returns-clause-entries : goal.returns-clause-entries
 returns-clause-entries c =
-    let s = c.args.nodes.now in let r = c.args.headers.now in
-    rw (c.join.ensures, c.mark.ensures) (entries-joined (marked s (cells_of s (header_at r c.args.from)) c.args.to) _ _ ∙ entries-marked s (cells_of s (header_at r c.args.from)) c.args.to)
+    let s = c.args.nodes.now in
+    let r = c.args.headers.now in
+    rw (c.join.ensures, c.mark.ensures)
+    (map-joined (λ t. t.entry) (marked s (cells_of s (header_at r c.args.from)) c.args.to) _ _ (λ t o. refl)
+    (λ t o. refl)
+    ∙ entries-marked s (cells_of s (header_at r c.args.from)) c.args.to)

@@ -1,11 +1,12 @@
-use Rattle.std.proofs.Common.{arith, ap, ◌∙◌}
-use Rattle.dsa_cells.specs.Content.{shown}
+use Rattle.std.proofs.Common.{arith}
 use Rattle.dsa_cells.proofs.Opening.{sound-fresh, content-fresh}
-use Rattle.dsa_cells.proofs.Bridge.{shown-empty}
 use Rattle.dsa_cells.proofs.store.LinkedStore.new.Goals as goal
 
 pub invariant_of-result : goal.invariant_of-result
-invariant_of-result g c = record { whole = sound-fresh c.in_ok-nodes.nodes.items c.in_ok-headers.headers.items c.args.cells c.args.lists c.in_ok-nodes.ensures c.in_ok-headers.ensures (omega arith) (omega arith) }
+invariant_of-result g c = record {
+  whole = sound-fresh _ _ c.args.cells c.args.lists c.in_ok-nodes.ensures
+      c.in_ok-headers.ensures (omega arith) (omega arith);
+}
 
 pub returns-clause-empty : goal.returns-clause-empty
-returns-clause-empty g c = ap shown (content-fresh c.in_ok-nodes.nodes.items c.in_ok-headers.headers.items c.args.cells c.args.lists c.in_ok-nodes.ensures c.in_ok-headers.ensures) ∙ shown-empty c.args.lists
+returns-clause-empty g c = content-fresh _ _ c.args.cells c.args.lists c.in_ok-nodes.ensures c.in_ok-headers.ensures

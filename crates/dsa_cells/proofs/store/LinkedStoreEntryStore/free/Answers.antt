@@ -2,16 +2,14 @@ use Rattle.std.proofs.Common.{◌≡◌, ◌-◌, length, ap, arith}
 use Rattle.std.proofs.lemmas.List.{get_or_read}
 use Rattle.dsa_cells.specs.declared.links.Header.{Header}
 use Rattle.dsa_cells.specs.Array.{header_at, no_header}
-use Rattle.dsa_cells.specs.Content.{numbered}
-use Rattle.dsa_cells.proofs.Reading.{free-is}
-use Rattle.dsa_cells.proofs.Bridge.{held-shown}
+use Rattle.dsa_cells.proofs.Contents.{free-is}
 use Rattle.dsa_cells.proofs.store.LinkedStoreEntryStore.free.Goals as goal
 
 pub returns : goal.returns
 returns g c =
     let s = c.args.self.now.nodes.items in
     let r = c.args.self.now.headers.items in
-    let C = numbered s r in
     let k : c.len.result ≡ length r = omega (arith, c.len.ensures, c.args.self.now.headers.ok.0) in
-    let read : c.index.result.now ≡ header_at r (c.len.result - 1) = get_or_read r _ _ (omega (arith, k, c.args.self.now.whole.free)) c.index.ensures no_header in
-    omega (arith, ap (λ (t : Header). t.count) read, held-shown C, free-is s r c.len.result c.args.self.now.whole k)
+    let read : c.index.result.now ≡ header_at r (c.len.result - 1) =
+    get_or_read r _ _ (omega (arith, k, c.args.self.now.whole.free)) c.index.ensures no_header in
+    omega (arith, ap (λ (t : Header). t.count) read, free-is s r c.len.result c.args.self.now.whole k)

@@ -1,0 +1,231 @@
+-- A cell goes from its list to the end of another.
+use Rattle.std.proofs.Common.{◌≡◌, ℕ, suc, ◌+◌, ◌<◌, ◌≤◌, ◌≢◌, List, [], ◌∷◌, ◌++◌, length, Option, None, Some}
+use Rattle.std.proofs.Common.{set, cond, ◌==◌, sum_by, refl, sym, ap, ◌∙◌, subst, arith, length-append}
+use Rattle.std.proofs.Common.{length-set}
+use Rattle.std.proofs.lemmas.Bool.Decides.{nat_tests}
+use Rattle.std.proofs.lemmas.Grind.{common_steps}
+use Rattle.std.proofs.lemmas.List.{map-set}
+use Rattle.std.proofs.lemmas.List.Sums.{sum_by-set, get_or-le-sum_by}
+use Rattle.std.specs.Option.{option_or}
+use Rattle.dsa_cells.specs.declared.links.Node.{Node}
+use Rattle.dsa_cells.specs.declared.links.Header.{Header}
+use Rattle.dsa_cells.specs.Array.{node_at, header_at, owners_of, entries_of}
+use Rattle.dsa_cells.specs.Partition.{first_or, last_or, Linked, times, IsHeader, AreHeaders, list_at}
+use Rattle.dsa_cells.specs.Writes.{InRange, AreInside, joined, header_joined, detached, without, lacking}
+use Rattle.dsa_cells.specs.Writes.{alone, with_last, or_else, moved}
+use Rattle.dsa_cells.specs.Invariant.{place, IsStore}
+use Rattle.dsa_cells.specs.Owners.{owner_is, length-owners}
+use Rattle.dsa_cells.proofs.Chain.{times-append, times-head, times-tail, Names-more, Names-first, Names-last}
+use Rattle.dsa_cells.proofs.Chain.{InRange-of, Linked-right, Linked-other, split_at, changed-here, map-changed}
+use Rattle.dsa_cells.proofs.Chain.{length-changed}
+use Rattle.dsa_cells.proofs.Joining.{map-joined, length-joined, list_at-set, list_at-in, AreHeaders-agree}
+use Rattle.dsa_cells.proofs.Joining.{or_else-last, ends-joined, ends-left, stands_in, names_in, distinct}
+
+-- a list without a cell that it does not name
+pub lacking-none : (c : ℕ) (xs : List ℕ) → times c xs ≡ 0 → lacking c xs ≡ xs
+lacking-none c [] h = refl
+lacking-none c (x ∷ xs) h = grind (arith, nat_tests, lacking-none c xs)
+
+-- a list without a cell that it names once
+pub lacking-split : (c : ℕ) (xs zs : List ℕ) → times c xs + times c zs ≡ 0 → lacking c (xs ++ c ∷ zs) ≡ xs ++ zs
+lacking-split c [] zs h = grind (arith, nat_tests, lacking-none c zs)
+lacking-split c (x ∷ xs) zs h = grind (arith, nat_tests, lacking-split c xs zs)
+
+times-lacking : (c x : ℕ) (xs : List ℕ) → times x (lacking c xs) ≡ cond (x == c) 0 (times x xs)
+times-lacking c x [] = grind arith
+times-lacking c x (y ∷ xs) = grind (arith, nat_tests, times-lacking c x xs)
+
+length-lacking : (c : ℕ) (xs : List ℕ) → times c xs + length (lacking c xs) ≡ length xs
+length-lacking c [] = refl
+length-lacking c (x ∷ xs) = grind (arith, nat_tests, length-lacking c xs)
+
+times-last : (x c : ℕ) (ys : List ℕ) → times x (ys ++ c ∷ []) ≡ times x ys + cond (c == x) 1 0
+times-last x c ys = grind (arith, nat_tests, times-append x ys (c ∷ []))
+
+place-set : (os : List ℕ) (c to l x : ℕ) → c < length os → place (set os c to) l x ≡
+    cond (x == c) (cond (to == l) 1 0) (place os l x)
+place-set os c to l x lt = grind (arith, common_steps)
+
+-- the lists once the cell has left its own
+abbrev pub left : List (List ℕ) → ℕ → ℕ → List (List ℕ)
+left lists from c = set lists from (lacking c (list_at lists from))
+
+-- what a list names then
+times-left : (s : List Node) (r : List Header) (lists : List (List ℕ)) (c m x : ℕ) → IsStore s r lists →
+    c < length s → (node_at s c).owner < length lists
+    → times x (list_at (left lists (node_at s c).owner c) m) ≡ cond (x == c) 0 (times x (list_at lists m))
+times-left s r lists c m x st lt in_lists =
+    let from = (node_at s c).owner in
+    let e = list_at-set lists from m (lacking c (list_at lists from)) in_lists in
+    let k = times-lacking c x (list_at lists from) in
+    let p = st.placed m x in
+    let o = owner_is s c in
+    grind (arith, nat_tests, e, k, p, o)
+
+-- the headers then
+abbrev pub headers_left : List Node → List Header → ℕ → List Header
+headers_left s r c = let from = (node_at s c).owner in set r from (without (header_at r from) (node_at s c))
+
+-- the entries stay
+pub entries-moved : (s : List Node) (c to : ℕ) (o : Option ℕ) →
+    entries_of (joined (alone (detached s c) c to) o (Some c)) ≡ entries_of s
+entries-moved s c to o =
+    map-joined (λ t. t.entry) (alone (detached s c) c to) o (Some c) (λ t q. refl) (λ t q. refl)
+    ∙ map-changed (λ t. t.entry) (λ t. record t { next = None; owner = to }) (detached s c) (Some c) (λ t. refl)
+    ∙ map-joined (λ t. t.entry) s (node_at s c).previous (node_at s c).next (λ t q. refl) (λ t q. refl)
+
+-- the header of a list of one cell
+abbrev pub one_cell : ℕ → Header
+one_cell c = record { head = Some c; tail = Some c; count = 1 }
+
+-- behind which that list comes
+with_last-is : (s : List Node) (h : Header) (ys : List ℕ) (c : ℕ) → IsHeader s h ys → header_joined h (one_cell c) ≡ with_last h c
+with_last-is s h ys c i =
+    let head : option_or h.head (Some c) ≡ or_else h.tail (Some c) h.head =
+    ap (λ (o : Option ℕ). option_or o (Some c)) i.head ∙ go ys
+    ∙ sym (ap (λ (o : Option ℕ). or_else o (Some c) h.head) i.tail ∙ ap (or_else (last_or ys None) (Some c)) i.head) in
+    ap (λ (o : Option ℕ). let header : Header = record { head = o; tail = Some c; count = h.count + 1 } in header) head
+  where
+    go : (ys : List ℕ) → option_or (first_or ys None) (Some c) ≡ or_else (last_or ys None) (Some c) (first_or ys None)
+    go [] = refl
+    go (y ∷ ys) = sym (or_else-last ys y (Some c) (Some y))
+
+-- what the two steps of a transfer ask for, and what it leaves
+pub record Transfer (s : List Node) (r : List Header) (lists : List (List ℕ)) (c to : ℕ) : Type 0 where
+  pub next : InRange s (node_at s c).next
+  pub previous : InRange s (node_at s c).previous
+  pub owner : (node_at s c).owner < length r
+  pub counted : 0 < (header_at r (node_at s c).owner).count
+  pub tail : InRange (detached s c) (header_at (headers_left s r c) to).tail
+  pub room : (header_at (headers_left s r c) to).count + 1 ≤ length s
+  pub store : IsStore (joined (alone (detached s c) c to) (header_at (headers_left s r c) to).tail (Some c))
+      (set (headers_left s r c) to (with_last (header_at (headers_left s r c) to) c))
+      (moved lists c (node_at s c).owner to)
+
+pub transfer : (s : List Node) (r : List Header) (lists : List (List ℕ)) (c to : ℕ) → IsStore s r lists →
+    c < length s → to < length r
+    → (node_at s c).owner ≢ to → Transfer s r lists c to
+transfer s r lists c to st lt to_r ne = go parts.0 parts.1 parts.2
+  where
+    from : ℕ
+    from = (node_at s c).owner
+
+    one : times c (list_at lists from) ≡ 1
+    one = stands_in s r lists c st lt
+
+    parts : (xs : List ℕ) × (zs : List ℕ) × (list_at lists from ≡ xs ++ c ∷ zs)
+    parts = split_at c (list_at lists from) (omega (arith, one))
+
+    in_lists : from < length lists
+    in_lists = list_at-in lists from c (omega (arith, one))
+
+    to_lists : to < length lists
+    to_lists = omega (arith, to_r, st.ends.sizes)
+
+    to_left : to < length (left lists from c)
+    to_left = omega (arith, to_lists, length-set lists from (lacking c (list_at lists from)))
+
+    size1 : length (detached s c) ≡ length s
+    size1 = length-joined s (node_at s c).previous (node_at s c).next
+
+    total1 : suc (sum_by length (left lists from c)) ≡ length s
+    total1 = omega (
+      arith,
+      one,
+      st.total,
+      length-lacking c (list_at lists from),
+      sum_by-set length lists from
+          (lacking c (list_at lists from)) [] in_lists,
+    )
+
+    owners : owners_of (joined (alone (detached s c) c to) (header_at (headers_left s r c) to).tail (Some c)) ≡
+        set (owners_of s) c to
+    owners =
+        map-joined (λ t. t.owner) (alone (detached s c) c to) (header_at (headers_left s r c) to).tail (Some c)
+        (λ t o. refl) (λ t o. refl)
+        ∙ map-set (λ t. t.owner) (detached s c) c (record (node_at (detached s c) c) { next = None; owner = to })
+        ∙ ap (λ (os : List ℕ). set os c to) (map-joined (λ t. t.owner) s (node_at s c).previous (node_at s c).next
+        (λ t o. refl) (λ t o. refl))
+
+    placed : (m x : ℕ) → times x (list_at (moved lists c from to) m) ≡ place (set (owners_of s) c to) m x
+    placed m x =
+        let e = list_at-set (left lists from c) to m (list_at (left lists from c) to ++ c ∷ []) to_left in
+        let k = times-last x c (list_at (left lists from c) to) in
+        let here = times-left s r lists c to x st lt in_lists in
+        let there = times-left s r lists c m x st lt in_lists in
+        let p = st.placed m x in
+        let q = st.placed to x in
+        let w = place-set (owners_of s) c to m x (omega (arith, lt, length-owners s)) in
+        grind (arith, nat_tests, e, k, here, there, p, q, w)
+
+    go : (xs zs : List ℕ) → list_at lists from ≡ xs ++ c ∷ zs → Transfer s r lists c to
+    go xs zs is =
+        let s1 = detached s c in
+        let r1 = headers_left s r c in
+        let lists1 = left lists from c in
+        let inside : AreInside s (xs ++ c ∷ zs) = λ x h. (names_in s r lists from x st
+        (subst (λ (ys : List ℕ). 0 < times x ys) (sym is) h)).0 in
+        let once : times c (xs ++ c ∷ zs) ≡ 1 = ap (times c) (sym is) ∙ one in
+        let less : lacking c (list_at lists from) ≡ xs ++ zs =
+        ap (lacking c) is ∙ lacking-split c xs zs (omega (arith, once, times-append c xs (c ∷ zs), times-head c zs)) in
+        let ends1 : AreHeaders s1 r1 lists1 = subst (λ (ys : List ℕ). AreHeaders s1 r1 (set lists from ys)) (sym less)
+        (ends-left s r lists from c xs zs st.ends in_lists is inside (λ m x other.
+        omega (arith, ap (times x) is, distinct s r lists from m x st other))) in
+        let f : Node → Node = λ t. record t { next = None; owner = to } in
+        let s2 = alone s1 c to in
+        let ends2 : AreHeaders s2 r1 lists1 = AreHeaders-agree s1 s2 r1 lists1 (λ m k.
+        Linked-other f s1 (Some c) (c ∷ []) None (list_at lists1 m) None (omega (arith, times-head c []))
+        (λ x. let e = times-left s r lists c m x st lt in_lists in let d = distinct s r lists m (suc m) x st
+        (λ q. omega (arith, q)) in grind (arith, nat_tests, e, d)) k) ends1 in
+        let at = changed-here f s1 c (omega (arith, lt, size1)) in
+        let h = Linked-right s None xs (c ∷ zs) None (subst (λ (ys : List ℕ). Linked s None ys None) is
+        (st.ends.each from in_lists).links) in
+        let end = ends1.each to to_left in
+        let listed : AreInside s1 (list_at lists1 to) = λ x k.
+        let e = times-left s r lists c to x st lt in_lists in
+        let some : 0 < times x (list_at lists to) = grind (arith, nat_tests, e, k) in
+        omega (arith, size1, (names_in s r lists to x st some).0) in
+        record {
+          next = InRange-of s (xs ++ c ∷ zs) (first_or zs None) (node_at s c).next inside
+              (Names-more zs (xs ++ c ∷ zs) (first_or zs None) (λ x. omega (
+                arith,
+                times-append x xs (c ∷
+                    zs),
+                times-tail x c zs,
+              )) (Names-first zs)) h.1;
+          previous = InRange-of s (xs ++ c ∷ zs) (last_or xs None) (node_at s c).previous inside
+              (Names-more xs (xs ++ c ∷ zs) (last_or xs None) (λ x. omega (arith, times-append x xs (c ∷ zs)))
+              (Names-last xs)) h.0;
+          owner = omega (arith, in_lists, st.ends.sizes);
+          counted = omega (arith, (st.ends.each from in_lists).count, one, length-lacking c (list_at lists from));
+          tail = InRange-of s1 (list_at lists1 to) (last_or (list_at lists1 to) None) (header_at r1 to).tail listed
+              (Names-last (list_at lists1 to)) end.tail;
+          room = omega (arith, end.count, total1, get_or-le-sum_by length lists1 to [] to_left);
+          store = record {
+            ends = subst (λ (h : Header). AreHeaders (joined s2 (header_at r1 to).tail (Some c)) (set r1 to h)
+                (moved lists c from to)) (with_last-is s2 (header_at r1 to) (list_at lists1 to) c (ends2.each to to_left))
+                (ends-joined s2 r1 lists1 to (one_cell c) (node_at s2 c).previous (c ∷ []) ends2 to_left
+                (record { head = refl; tail = refl; count = refl; links = (refl, ap (λ (t : Node). t.next) at, tt) })
+                (λ x k.
+                let e = times-last x c (list_at lists1 to) in
+                let i = listed x in
+                let n = length-changed f s1 (Some c) in
+                let big : length s2 ≡ length s = omega (arith, n, size1) in
+                grind (arith, nat_tests, e, k, i, lt, big, size1))
+                (λ m x other.
+                let e = times-left s r lists c m x st lt in_lists in
+                let k = times-left s r lists c to x st lt in_lists in
+                let d = distinct s r lists to m x st other in
+                grind (arith, nat_tests, e, k, d)));
+            placed = λ m x. placed m x ∙ sym (ap (λ (os : List ℕ). place os m x) owners);
+            total = omega (
+              arith,
+              total1,
+              size1,
+              length-append (list_at lists1 to) (c ∷ []),
+              sum_by-set length lists1 to (list_at lists1 to ++ c ∷ []) [] to_left,
+              length-joined s2 (header_at r1 to).tail (Some c),
+              length-changed f s1 (Some c),
+            );
+          };
+        }
