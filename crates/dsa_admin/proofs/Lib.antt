@@ -1,6 +1,5 @@
 pub mod Withdrawals
 pub mod Waits
-pub mod Leaving
 pub mod Notes
 pub mod Commands
 pub mod Resizing

@@ -1,7 +1,6 @@
 -- Lists that a command is taken out of, one after the other.
-use Rattle.std.proofs.Common.{◌≡◌, ℕ, ◌+◌, ◌<◌, ◌≤◌, Bool, true, false, not, cond, List, [], ◌∷◌, ◌++◌, take, drop, length, map, set, Option, Some, None, refl, subst, append_assoc, inl, inr, sym, ap, ◌∙◌, arith}
+use Rattle.std.proofs.Common.{◌≡◌, ℕ, ◌+◌, ◌<◌, ◌≤◌, Bool, true, false, not, cond, List, ◌∷◌, ◌++◌, take, drop, length, map, set, Option, Some, None, refl, subst, append_assoc, sym, ap, ◌∙◌, arith, []}
 use Rattle.std.proofs.lemmas.Grind.{common_steps, flat_map-append}
-use Rattle.std.proofs.lemmas.Bool.{cases_Bool}
 use Rattle.std.proofs.lemmas.List.{length-set, length-append, length-map, map-append, append-nil, take_more}
 use Rattle.std.proofs.lemmas.List.Elements.{filter-append, filter_more}
 use Rattle.std.proofs.lemmas.List.Filters.{length-filter_both}
@@ -11,19 +10,18 @@ use Rattle.dsa_regs.specs.declared.Command.{Command}
 use Rattle.dsa_regs.specs.Command.{number_of, scope_of}
 use Rattle.dsa_store.specs.declared.entry.Cell.{Cell}
 use Rattle.dsa_store.specs.declared.entry.Entry.{Entry}
-use Rattle.dsa_store.specs.Content.{Slot, Content, chain, uses, held, first_cell, entry_of, unlinked, kept, all_held, StandsAt}
+use Rattle.dsa_store.specs.Content.{Slot, Content, chain, uses, held, first_cell, entry_of, next_of, unlinked, kept, all_held, StandsAt}
 use Rattle.dsa_store.proofs.Finding.{entry_of-none}
-use Rattle.dsa_store.proofs.Lists.{held-set, held-unlinked, length-le-held}
+use Rattle.dsa_store.proofs.Lists.{held-set, held-unlinked}
 use Rattle.dsa_store.proofs.Sums.{held-counted, all_held-kept}
 use Rattle.dsa_store.proofs.Turns.{AtTurn, at-turn, thinned}
 use Rattle.dsa_book.specs.declared.fate.Fate.TheVariants.{Aborted}
 use Rattle.dsa_book.specs.declared.fate.FateRow.{FateRow}
 use Rattle.dsa_book.specs.Records.{Records}
-use Rattle.dsa_book.specs.State.{Setup, is_off}
+use Rattle.dsa_book.specs.State.{Setup}
 use Rattle.dsa_book.specs.Work.{fate_row}
 use Rattle.dsa_book.specs.Commands.{is_in_scope, count_in_scope}
-use Rattle.dsa_buffers.specs.Buffers.{Buffers}
-use Rattle.dsa_engines.specs.Engines.{Gear, IsReady}
+use Rattle.dsa_engines.specs.Engines.{IsReady}
 use Rattle.dsa_admin.specs.Admin.{is_meant, is_spared, row_of, rows_of}
 
 -- ---- a cell
@@ -47,9 +45,25 @@ rows-turn command content i k cell e at =
     = filter_more (is_meant command) l k (cell, e) at.within ∙ ap (λ (x : Slot). filter (is_meant command) (take k l) ++ cond (is_meant command x) (x ∷ []) []) at.slot in
     ap (map row) more ∙ map-append row (filter (is_meant command) (take k l)) (cond (is_in_scope (scope_of command) e) ((cell, e) ∷ []) []) ∙ ap (λ (rows : List FateRow). rows_of command (take k l) ++ rows) (map-cond row (is_in_scope (scope_of command) e) (cell, e))
 
-left-by : (command : Command) (content : Content) (i k : ℕ) (now : Content) (cell : Cell) → (t : AtTurn (is_spared command) content i k now cell) (b : Bool) → is_in_scope (scope_of command) t.entry ≡ b → cond b (unlinked now cell) now ≡ thinned (is_spared command) content i (k + 1)
-left-by command content i k now cell t true h = t.out (ap not h)
-left-by command content i k now cell t false h = t.stay (ap not h)
+-- what is known of the cell at place k, with the entry that the store gives for it
+pub record LooksAt (p : Slot → Bool) (content : Content) (i k : ℕ) (now : Content) (cell : Cell) (e : Entry) : Type 0 where
+  pub stands : StandsAt content i k cell e
+  pub now_stands : StandsAt now i (length (filter p (take k (chain content i)))) cell e
+  pub found : entry_of now cell ≡ Some e
+  pub next : next_of now cell ≡ first_cell (drop (k + 1) (chain content i))
+  pub out : p (cell, e) ≡ false → unlinked now cell ≡ thinned p content i (k + 1)
+  pub stay : p (cell, e) ≡ true → now ≡ thinned p content i (k + 1)
+
+pub looks-at : (p : Slot → Bool) (content : Content) (i k : ℕ) (now : Content) (cell : Cell) (got : Option Entry) (e : Entry) → ((c : Cell) → uses now c ≤ 1) → i < length content → k < length (chain content i) → first_cell (drop k (chain content i)) ≡ Some cell → now ≡ thinned p content i k → got ≡ entry_of now cell → got ≡ Some e → LooksAt p content i k now cell e
+looks-at p content i k now cell got e once hi h front left read is =
+    let t : AtTurn p content i k now cell = at-turn p content i k now cell once hi h left front in
+    let told : ◌≡◌ {A = Option Entry} (Some t.entry) (Some e) = sym t.get ∙ sym read ∙ is in
+    let same : t.entry ≡ e = cc in
+    subst (LooksAt p content i k now cell) same (record { stands = t.stands; now_stands = t.now_stands; found = t.get; next = t.next; out = t.out; stay = t.stay })
+
+left-by : (command : Command) (content : Content) (i k : ℕ) (now : Content) (cell : Cell) (e : Entry) → LooksAt (is_spared command) content i k now cell e → (b : Bool) → is_in_scope (scope_of command) e ≡ b → cond b (unlinked now cell) now ≡ thinned (is_spared command) content i (k + 1)
+left-by command content i k now cell e t true h = t.out (ap not h)
+left-by command content i k now cell e t false h = t.stay (ap not h)
 
 -- room for the rows of what is held is left
 room-turn : (now after : Content) (cell : Cell) (e : Entry) (rows more : List FateRow) (row : FateRow) (capacity : ℕ) (b : Bool) → entry_of now cell ≡ Some e → after ≡ cond b (unlinked now cell) now → more ≡ rows ++ cond b (row ∷ []) [] → length rows + held now ≤ capacity → length more + held after ≤ capacity
@@ -77,52 +91,33 @@ pub record IsWithdrawn (command : Command) (content : Content) (first : Records)
 pub withdrawn-room : (content : Content) (book : Records) (cell : Cell) (got : Option Entry) (e : Entry) → length book.fates + held content ≤ book.capacity → got ≡ entry_of content cell → got ≡ Some e → length book.fates < book.capacity
 withdrawn-room content book cell got e room read is = omega (arith, room, (used-entry content cell e (sym read ∙ is)).1)
 
-withdrawn-turn : (command : Command) (content : Content) (first : Records) (i k : ℕ) (now after : Content) (book later : Records) (cell : Cell) (got : Option Entry) (e : Entry) (b : Bool) → ((c : Cell) → uses now c ≤ 1) → i < length content → k < length (chain content i) → first_cell (drop k (chain content i)) ≡ Some cell → IsWithdrawn command content first i k now book → got ≡ entry_of now cell → got ≡ Some e → is_in_scope (scope_of command) e ≡ b → after ≡ cond b (unlinked now cell) now → later ≡ record book { fates = book.fates ++ cond b (fate_row (Aborted (number_of command)) (cell, e) ∷ []) [] } → IsWithdrawn command content first i (k + 1) after later
-withdrawn-turn command content first i k now after book later cell got e b once hi h front w read is scope left rows =
-    let t : AtTurn (is_spared command) content i k now cell = at-turn (is_spared command) content i k now cell once hi h w.left front in
-    let found : entry_of now cell ≡ Some e = sym read ∙ is in
-    let told : ◌≡◌ {A = Option Entry} (Some t.entry) (Some e) = sym t.get ∙ found in
-    let same : t.entry ≡ e = cc in
+withdrawn-turn : (command : Command) (content : Content) (first : Records) (i k : ℕ) (now after : Content) (book later : Records) (cell : Cell) (e : Entry) (b : Bool) → LooksAt (is_spared command) content i k now cell e → IsWithdrawn command content first i k now book → is_in_scope (scope_of command) e ≡ b → after ≡ cond b (unlinked now cell) now
+    → later ≡ record book { fates = book.fates ++ cond b (fate_row (Aborted (number_of command)) (cell, e) ∷ []) [] } → IsWithdrawn command content first i (k + 1) after later
+withdrawn-turn command content first i k now after book later cell e b t w scope left rows =
     let row : FateRow = fate_row (Aborted (number_of command)) (cell, e) in
-    let here : StandsAt content i k cell e = subst (λ (x : Entry). StandsAt content i k cell x) same t.stands in
     record {
-      left = left ∙ left-by command content i k now cell t b (ap (is_in_scope (scope_of command)) same ∙ scope);
-      rows = book-turn first book later _ _ _ w.rows rows (rows-turn command content i k cell e here ∙ ap (λ (c : Bool). rows_of command (take k (chain content i)) ++ cond c (row ∷ []) []) scope);
+      left = left ∙ left-by command content i k now cell e t b scope;
+      rows = book-turn first book later _ _ _ w.rows rows (rows-turn command content i k cell e t.stands ∙ ap (λ (c : Bool). rows_of command (take k (chain content i)) ++ cond c (row ∷ []) []) scope);
       room =
           let full : later.capacity ≡ book.capacity = ap (λ (x : Records). x.capacity) rows in
           let more : later.fates ≡ book.fates ++ cond b (row ∷ []) [] = ap (λ (x : Records). x.fates) rows in
-          rw full (room-turn now after cell e book.fates later.fates row book.capacity b found left more w.room);
+          rw full (room-turn now after cell e book.fates later.fates row book.capacity b t.found left more w.room);
     }
 
 -- a cell that the command is not about stays
-pub withdrawn-stays : (command : Command) (content : Content) (first : Records) (i k : ℕ) (now : Content) (book : Records) (cell : Cell) (got : Option Entry) (e : Entry) → ((c : Cell) → uses now c ≤ 1) → i < length content → k < length (chain content i) → first_cell (drop k (chain content i)) ≡ Some cell → IsWithdrawn command content first i k now book → got ≡ entry_of now cell → got ≡ Some e → is_in_scope (scope_of command) e ≡ false → IsWithdrawn command content first i (k + 1) now book
-withdrawn-stays command content first i k now book cell got e once hi h front w read is scope =
-    withdrawn-turn command content first i k now now book book cell got e false once hi h front w read is scope refl (ap (λ (l : List FateRow). record book { fates = l }) (sym (append-nil book.fates)))
+pub withdrawn-stays : (command : Command) (content : Content) (first : Records) (i k : ℕ) (now : Content) (book : Records) (cell : Cell) (e : Entry) → LooksAt (is_spared command) content i k now cell e → IsWithdrawn command content first i k now book → is_in_scope (scope_of command) e ≡ false → IsWithdrawn command content first i (k + 1) now book
+withdrawn-stays command content first i k now book cell e t w scope =
+    withdrawn-turn command content first i k now now book book cell e false t w scope refl (ap (λ (l : List FateRow). record book { fates = l }) (sym (append-nil book.fates)))
 
 -- a cell that the command is about leaves, with its row
-pub withdrawn-leaves : (command : Command) (content : Content) (first : Records) (i k : ℕ) (now after : Content) (book later : Records) (cell : Cell) (got : Option Entry) (e : Entry) (row : FateRow) → ((c : Cell) → uses now c ≤ 1) → i < length content → k < length (chain content i) → first_cell (drop k (chain content i)) ≡ Some cell → IsWithdrawn command content first i k now book → got ≡ entry_of now cell → got ≡ Some e → is_in_scope (scope_of command) e ≡ true → after ≡ unlinked now cell → row ≡ row_of command e → later ≡ record book { fates = book.fates ++ row ∷ [] } → IsWithdrawn command content first i (k + 1) after later
-withdrawn-leaves command content first i k now after book later cell got e row once hi h front w read is scope left row_is rows =
-    withdrawn-turn command content first i k now after book later cell got e true once hi h front w read is scope left (rows ∙ ap (λ (x : FateRow). record book { fates = book.fates ++ x ∷ [] }) row_is)
-
--- where a cell stands that is looked at
-pub withdrawn-stands : (command : Command) (content : Content) (i k : ℕ) (now : Content) (cell : Cell) (got : Option Entry) (e : Entry) → ((c : Cell) → uses now c ≤ 1) → i < length content → k < length (chain content i) → first_cell (drop k (chain content i)) ≡ Some cell → now ≡ thinned (is_spared command) content i k → got ≡ entry_of now cell → got ≡ Some e → StandsAt now i (length (filter (is_spared command) (take k (chain content i)))) cell e
-withdrawn-stands command content i k now cell got e once hi h front left read is =
-    let t : AtTurn (is_spared command) content i k now cell = at-turn (is_spared command) content i k now cell once hi h left front in
-    let told : ◌≡◌ {A = Option Entry} (Some t.entry) (Some e) = sym t.get ∙ sym read ∙ is in
-    let same : t.entry ≡ e = cc in
-    subst (λ (x : Entry). StandsAt now i (length (filter (is_spared command) (take k (chain content i)))) cell x) same t.now_stands
+pub withdrawn-leaves : (command : Command) (content : Content) (first : Records) (i k : ℕ) (now after : Content) (book later : Records) (cell : Cell) (e : Entry) (row : FateRow) → LooksAt (is_spared command) content i k now cell e → IsWithdrawn command content first i k now book → is_in_scope (scope_of command) e ≡ true → after ≡ unlinked now cell → row ≡ row_of command e
+    → later ≡ record book { fates = book.fates ++ row ∷ [] } → IsWithdrawn command content first i (k + 1) after later
+withdrawn-leaves command content first i k now after book later cell e row t w scope left row_is rows =
+    withdrawn-turn command content first i k now after book later cell e true t w scope left (rows ∙ ap (λ (x : FateRow). record book { fates = book.fates ++ x ∷ [] }) row_is)
 
 -- the store's lists are no fewer, and something is held while a list has a place left
 pub length-thinned : (p : Slot → Bool) (content now : Content) (i k : ℕ) → now ≡ thinned p content i k → length now ≡ length content
 length-thinned p content now i k is = ap length is ∙ length-set content i (filter p (take k (chain content i)) ++ drop k (chain content i))
-
--- while a place of a list is looked at the device is not Off
-pub awake-at : (setup : Setup) (content : Content) (i k : ℕ) → IsReady setup content → k < length (chain content i) → is_off setup.device ≡ false
-awake-at setup content i k r h =
-    elim (cases_Bool (is_off setup.device)) [
-      | inl off ↦ absurd (omega (arith, r.idle off, length-le-held content i, h))
-      | inr on ↦ on
-    ]
 
 -- what the store gives for a cell of the list is an entry
 pub withdrawn-found : (p : Slot → Bool) (content : Content) (i k : ℕ) (now : Content) (cell : Cell) (got : Option Entry) → ((c : Cell) → uses now c ≤ 1) → i < length content → k < length (chain content i) → first_cell (drop k (chain content i)) ≡ Some cell → now ≡ thinned p content i k → got ≡ entry_of now cell → got ≡ None → ⊥
@@ -145,9 +140,6 @@ swept-length command content now n is = grind (arith, common_steps, is)
 
 pub swept-chain : (command : Command) (content now : Content) (n : ℕ) → n < length content → now ≡ swept command content n → chain now n ≡ chain content n
 swept-chain command content now n h is = grind (arith, common_steps, is)
-
-pub swept-all : (command : Command) (content : Content) (n : ℕ) → length content ≤ n → swept command content n ≡ kept (λ entry. not (is_in_scope (scope_of command) entry)) content
-swept-all command content n h = grind (arith, common_steps, h)
 
 -- the rows of one list after those of the lists before it
 pub rows-lists : (command : Command) (content : Content) (n : ℕ) → n < length content → rows_of command (all_held (take (n + 1) content)) ≡ rows_of command (all_held (take n content)) ++ rows_of command (chain content n)
@@ -216,12 +208,6 @@ swept-none command setup content first r room = record {
   ready = r;
 }
 
--- only the buffers have changed
-pub gear-turn : (first now after : Gear) (b : Buffers) → now ≡ record first { buffers = now.buffers } → after ≡ record now { buffers = b } → after ≡ record first { buffers = after.buffers }
-gear-turn first now after b is step =
-    let told : after.buffers ≡ b = ap (λ (x : Gear). x.buffers) step in
-    step ∙ ap (λ (x : Gear). record x { buffers = b }) is ∙ ap (λ (x : Buffers). record first { buffers = x }) (sym told)
-
 -- ---- an abort as a whole
 
 -- what is taken out and what stays are all that was held
@@ -230,10 +216,6 @@ held-kept command content =
     let both : length (filter (is_meant command) (all_held content)) + length (filter (is_spared command) (all_held content)) ≡ length (all_held content) = length-filter_both (is_meant command) (is_spared command) (λ x. refl) (all_held content) in
     let left : held (kept (λ entry. not (is_in_scope (scope_of command) entry)) content) ≡ length (filter (is_spared command) (all_held content)) = held-counted (kept (λ entry. not (is_in_scope (scope_of command) entry)) content) ∙ ap length (all_held-kept (λ entry. not (is_in_scope (scope_of command) entry)) content) in
     omega (arith, both, left, held-counted content)
-
-pub ready-kept : (command : Command) (setup : Setup) (content now : Content) → IsReady setup content → now ≡ kept (λ entry. not (is_in_scope (scope_of command) entry)) content → IsReady setup now
-ready-kept command setup content now r is =
-    ready-less setup content now r (ap length is ∙ length-map content (filter (is_spared command))) (rw is (omega (arith, held-kept command content)))
 
 -- so many more cells are free
 pub freed : (command : Command) (content now : Content) (free later cells : ℕ) → free + held content ≡ cells → later + held now ≡ cells → now ≡ kept (λ entry. not (is_in_scope (scope_of command) entry)) content → later ≡ free + count_in_scope (scope_of command) content

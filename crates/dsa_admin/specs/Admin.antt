@@ -1,9 +1,10 @@
 -- What a command waits for, and what it takes out of a list.
-use Rattle.std.specs.Prelude.{◌≡◌, ℕ, Bool, true, false, None, not, cond, ◌&&◌, ◌||◌, ◌==◌, nat_le, List, length, map, filter, Option}
+use Rattle.std.specs.Prelude.{◌≡◌, ℕ, Bool, true, false, None, not, cond, ◌||◌, nat_le, List, length, map, filter, Option}
 use Rattle.std.specs.List.{list_all}
 use Rattle.dsa_regs.specs.declared.Command.{Command}
 use Rattle.dsa_regs.specs.declared.Scope.{Scope}
 use Rattle.dsa_regs.specs.declared.Deed.{Deed}
+use Rattle.dsa_regs.specs.declared.layout.ListUse.{ListUse}
 use Rattle.dsa_regs.specs.Command.{number_of, scope_of, deed_of}
 use Rattle.dsa_store.specs.declared.entry.Entry.{Entry}
 use Rattle.dsa_store.specs.Content.{Slot, Content}
@@ -11,11 +12,11 @@ use Rattle.dsa_book.specs.declared.note.BatchNote.{BatchNote}
 use Rattle.dsa_book.specs.declared.note.ActiveCommand.{ActiveCommand}
 use Rattle.dsa_book.specs.declared.fate.Fate.TheVariants.{Aborted}
 use Rattle.dsa_book.specs.declared.fate.FateRow.{FateRow}
-use Rattle.dsa_book.specs.State.{Setup, State, has_queue, is_batch_of}
+use Rattle.dsa_book.specs.State.{Setup, State, has_queue}
 use Rattle.dsa_book.specs.Work.{fate_row}
 use Rattle.dsa_queues.specs.Queues.{IsWhole}
-use Rattle.dsa_engines.specs.Engines.{Gear, work}
-use Rattle.dsa_book.specs.Commands.{is_in_scope, is_awaited, is_bad_queues, may_come, check_of}
+use Rattle.dsa_engines.specs.Engines.{Gear, noteless, work}
+use Rattle.dsa_book.specs.Commands.{is_in_scope, takes_batch, is_awaited, is_bad_queues, may_come, check_of}
 
 -- the entries that keep an active command from its end (Intel DSA: disable and drain commands)
 abbrev pub is_waited_for : ActiveCommand → Entry → Bool
@@ -37,9 +38,9 @@ row_of command entry = record { name = entry.name; parent = entry.parent; fate =
 abbrev pub rows_of : Command → List Slot → List FateRow
 rows_of command xs = map (fate_row (Aborted (number_of command))) (filter (is_meant command) xs)
 
--- the entry is the batch that the note is of
-abbrev pub is_noted : Setup → BatchNote → Entry → Bool
-is_noted setup note entry = is_batch_of setup entry && entry.name == note.batch
+-- the notes after the command took its entries out of a list: that of an engine goes with a well-formed Batch in progress there (profile)
+abbrev pub notes_left : Setup → Scope → ListUse → List Slot → List (Option BatchNote) → List (Option BatchNote)
+notes_left setup scope from xs notes = cond (takes_batch setup scope xs) (noteless from notes) notes
 
 -- no queue is named, or one that the device does not have (profile)
 abbrev pub names_bad_queue : Setup → List ℕ → Bool

@@ -1,2 +1,1 @@
 pub mod Admin
-pub mod Leaving

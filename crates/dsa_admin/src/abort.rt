@@ -1,78 +1,23 @@
 //! Aborts: what ends, what stays, and how many entries those were.
 
-ghost use Rattle.std.specs.Prelude.{◌≡◌, ◌+◌, ◌<◌, ◌≤◌, None, Option, get_or, length, map, slice_set};
-ghost use Rattle.dsa_regs.specs.Numbers.{numbers_below};
-ghost use Rattle.dsa_store.specs.Content.{chain, held};
-ghost use Rattle.dsa_book.specs.Work.{progress_list};
-ghost use Rattle.dsa_book.specs.Commands.{aborted, aborts, count_in_scope, has_batch, kept_note, reset};
+ghost use Rattle.std.specs.Prelude.{◌≡◌, ◌+◌, ◌≤◌, Option, length};
+ghost use Rattle.dsa_store.specs.Content.{held};
+ghost use Rattle.dsa_book.specs.Commands.{aborted, aborts, count_in_scope, reset};
 ghost use Rattle.dsa_engines.specs.Engines.{IsInStep, IsReady, work};
 ghost use Rattle.dsa_queues.specs.Queues.{IsWhole};
 ghost use Rattle.dsa_regs.specs.Command.{number_of, scope_of};
 ghost use Rattle.dsa_book.specs.declared.note.ActiveCommand.{ActiveCommand};
-ghost use Rattle.dsa_admin.specs.Admin.{is_noted, state};
+ghost use Rattle.dsa_admin.specs.Admin.{state};
 
 use crate::withdrawal::withdraw;
-use dsa_book::{BatchNote, Book, IssueAnswer};
+use dsa_book::{Book, IssueAnswer};
 use dsa_engines::Engines;
 use dsa_queues::Queues;
-use dsa_regs::{Command, ListUse, Phase, Scope};
-use dsa_store::{Entry, EntryStore, ListId};
-
-fn is_noted(queues: &Queues, note: &BatchNote, entry: &Entry) -> bool
-    ensures { result ≡ is_noted queues.now note.now entry.now }
-{
-    queues.is_batch(entry) && entry.name == note.batch
-}
-
-// Whether the note's batch is in the list.
-fn has_batch<S: EntryStore>(queues: &Queues, store: &S, note: &BatchNote, list: ListId) -> bool
-    requires { list.0 < length (S.content store.now) }
-    ensures { result ≡ has_batch queues.now note.now (chain (S.content store.now) list.0) }
-{
-    let mut at = store.front(list);
-    for _place in 0..store.len(list) {
-        let Some(cell) = at else { unreachable!() };
-        let Some(entry) = store.get(cell) else {
-            unreachable!()
-        };
-        if is_noted(queues, note, &entry) {
-            return true;
-        }
-        at = store.next(cell);
-    }
-    false
-}
-
-// A note stays while its batch is in progress.
-fn keep_note<S: EntryStore>(queues: &Queues, engines: &mut Engines, store: &S, engine: u16)
-    requires ready { IsReady queues.now (S.content store.now) }
-    requires engine { engine < queues.now.caps.engines }
-    requires notes { length engines.old.notes ≡ queues.now.caps.engines }
-    ensures { engines.new ≡ record engines.old { notes = slice_set engines.old.notes engine (kept_note queues.now (chain (S.content store.now) (progress_list queues.now engine)) (get_or engines.old.notes engine None)) } }
-{
-    let Some(note) = engines.note(engine) else {
-        return;
-    };
-    let list = queues.list(ListUse::Progress(engine));
-    if has_batch(queues, store, &note, list) {
-        return;
-    }
-    engines.drop_note(engine);
-}
-
-// The notes of batches that are no longer in progress go.
-fn keep_notes<S: EntryStore>(queues: &Queues, engines: &mut Engines, store: &S)
-    requires ready { IsReady queues.now (S.content store.now) }
-    requires notes { length engines.old.notes ≡ queues.now.caps.engines }
-    ensures { engines.new ≡ record engines.old { notes = map (λ e. kept_note queues.now (chain (S.content store.now) (progress_list queues.now e)) (get_or engines.old.notes e None)) (numbers_below queues.now.caps.engines) } }
-{
-    for engine in 0..queues.caps().engines {
-        keep_note(queues, engines, store, engine);
-    }
-}
+use dsa_regs::{Command, Phase, Scope};
+use dsa_store::EntryStore;
 
 /// Ends what the command is about, list by list and the front first, and gives the number of entries that it ended.
-/// Writes a row for each, gives back the read buffers of those that ran, and drops the notes of batches that are gone.
+/// Writes a row for each, gives back the read buffers of those that ran, and drops the notes of batches that end.
 pub(crate) fn abort<S: EntryStore>(
     queues: &Queues,
     engines: &mut Engines,
@@ -91,7 +36,6 @@ pub(crate) fn abort<S: EntryStore>(
 {
     let free = store.free();
     withdraw(queues, engines, store, book, command);
-    keep_notes(queues, engines, store);
     store.free() - free
 }
 

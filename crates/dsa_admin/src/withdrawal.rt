@@ -1,20 +1,21 @@
 //! What an abort takes out of the lists.
 
-ghost use Rattle.std.specs.Prelude.{◌≡◌, ◌+◌, ◌<◌, ◌≤◌, ◌++◌, filter, length, not, slice_set};
-ghost use Rattle.dsa_regs.specs.Caps.{list_count};
+ghost use Rattle.std.specs.Prelude.{◌≡◌, ◌+◌, ◌<◌, ◌≤◌, ◌++◌, None, filter, get_or, length, map, not, slice_set};
+ghost use Rattle.dsa_regs.specs.Caps.{list_use};
 ghost use Rattle.dsa_regs.specs.Command.{scope_of};
+ghost use Rattle.dsa_regs.specs.Numbers.{numbers_below};
 ghost use Rattle.dsa_store.specs.Content.{all_held, chain, held, kept};
 ghost use Rattle.dsa_book.specs.declared.fate.Fate.TheVariants.{Aborted};
-ghost use Rattle.dsa_book.specs.Commands.{is_in_scope};
+ghost use Rattle.dsa_book.specs.Work.{progress_list};
+ghost use Rattle.dsa_book.specs.Commands.{is_in_scope, kept_note};
 ghost use Rattle.dsa_engines.specs.Engines.{IsInStep, IsReady};
-ghost use Rattle.dsa_admin.specs.Admin.{is_spared, row_of, rows_of};
-ghost use Rattle.dsa_admin.specs.Leaving.{IsListOf, MayRelease, released};
+ghost use Rattle.dsa_admin.specs.Admin.{is_spared, notes_left, row_of, rows_of};
 
 use crate::scope::is_in_scope;
 use dsa_book::{Book, Fate, FateRow};
 use dsa_engines::Engines;
 use dsa_queues::Queues;
-use dsa_regs::{Command, ListUse};
+use dsa_regs::Command;
 use dsa_store::{Entry, EntryStore, ListId};
 
 // The row of an entry that the command takes out.
@@ -25,27 +26,6 @@ fn row_of(command: &Command, entry: &Entry) -> FateRow
         name: entry.name,
         parent: entry.parent,
         fate: Fate::Aborted(command.number()),
-    }
-}
-
-// The engine whose list it is; none where it is a queue's.
-fn engine_of(queues: &Queues, list: ListId) -> Option<u16>
-    requires { list.0 < list_count queues.now.caps }
-    ensures { IsListOf queues.now result list.0 }
-{
-    match queues.list_use(list) {
-        ListUse::Queue(_) => None,
-        ListUse::Progress(engine) | ListUse::Members(engine) => Some(engine),
-    }
-}
-
-// The engine gives up what the entry held; a queue's entry held nothing.
-fn release(queues: &Queues, engines: &mut Engines, engine: Option<u16>, entry: &Entry)
-    requires { MayRelease queues.now engines.old engine entry.now }
-    ensures { engines.new ≡ record engines.old { buffers = released queues.now engines.old engine entry.now } }
-{
-    if let Some(engine) = engine {
-        engines.removed(queues, engine, entry);
     }
 }
 
@@ -64,11 +44,11 @@ fn withdraw_from<S: EntryStore>(
     requires room { length book.old.fates + held (S.content store.old) ≤ book.old.capacity }
     ensures left { S.content store.new ≡ slice_set (S.content store.old) list.0 (filter (is_spared command.now) (chain (S.content store.old) list.0)) }
     ensures rows { book.new ≡ record book.old { fates = book.old.fates ++ rows_of command.now (chain (S.content store.old) list.0) } }
-    ensures gear { engines.new ≡ record engines.old { buffers = engines.new.buffers } }
+    ensures notes { engines.new.notes ≡ notes_left queues.now (scope_of command.now) (list_use queues.now.caps list.0) (chain (S.content store.old) list.0) engines.old.notes }
     ensures in_step { IsInStep queues.now engines.new (S.content store.new) }
     ensures cells { S.cells store.new ≡ S.cells store.old }
 {
-    let engine = engine_of(queues, list);
+    let from = queues.list_use(list);
     let scope = command.scope();
     let mut at = store.front(list);
     for _place in 0..store.len(list) {
@@ -82,11 +62,12 @@ fn withdraw_from<S: EntryStore>(
         }
         let _ = store.unlink(cell);
         book.add_row(row_of(command, &entry));
-        release(queues, engines, engine, &entry);
+        engines.removed(queues, from, &entry);
     }
 }
 
-/// Takes out what the command is about, list by list and the front first, and writes a row for each.
+/// Takes out what the command is about, list by list and the front first, and writes a row for each. What an engine kept of it
+/// goes.
 pub(crate) fn withdraw<S: EntryStore>(
     queues: &Queues,
     engines: &mut Engines,
@@ -99,7 +80,7 @@ pub(crate) fn withdraw<S: EntryStore>(
     requires room { length book.old.fates + held (S.content store.old) ≤ book.old.capacity }
     ensures left { S.content store.new ≡ kept (λ entry. not (is_in_scope (scope_of command.now) entry)) (S.content store.old) }
     ensures rows { book.new ≡ record book.old { fates = book.old.fates ++ rows_of command.now (all_held (S.content store.old)) } }
-    ensures gear { engines.new ≡ record engines.old { buffers = engines.new.buffers } }
+    ensures notes { engines.new.notes ≡ map (λ e. kept_note queues.now (scope_of command.now) (chain (S.content store.old) (progress_list queues.now e)) (get_or engines.old.notes e None)) (numbers_below queues.now.caps.engines) }
     ensures in_step { IsInStep queues.now engines.new (S.content store.new) }
     ensures cells { S.cells store.new ≡ S.cells store.old }
 {

@@ -1,5 +1,5 @@
 -- Commands, configuration and the noted error: the administrator's steps.
-use Rattle.std.specs.Prelude.{ℕ, Bool, true, false, not, cond, ◌&&◌, ◌||◌, ◌==◌, nat_lt, nat_le, List, [], ◌∷◌, ◌++◌, length, map, filter, slice_set, Option, Some, None, is_some}
+use Rattle.std.specs.Prelude.{ℕ, Bool, true, false, not, cond, ◌&&◌, ◌||◌, ◌==◌, nat_lt, nat_le, List, ◌∷◌, ◌++◌, length, map, filter, slice_set, Option, Some, None, is_some, []}
 use Rattle.std.specs.List.{list_any, list_all}
 use Rattle.dsa_desc.specs.Rows.{first_row_or}
 use Rattle.dsa_regs.specs.declared.Phase.{Phase}
@@ -99,22 +99,20 @@ reset scope setup = with_sizes_alone (queues_in scope) (with_phases (names (queu
 
 -- ---- abort
 
--- whether the note's batch is among these
-abbrev pub has_batch : Setup → BatchNote → List Slot → Bool
-has_batch setup note xs = list_any (λ slot. is_batch_of setup slot.1 && slot.1.name == note.batch) xs
+-- whether a well-formed Batch among these is in the scope
+abbrev pub takes_batch : Setup → Scope → List Slot → Bool
+takes_batch setup scope xs = list_any (λ slot. is_batch_of setup slot.1 && is_in_scope scope slot.1) xs
 
--- a note stays while its batch is in progress (profile)
-abbrev pub kept_note : Setup → List Slot → Option BatchNote → Option BatchNote
-kept_note setup xs None = None
-kept_note setup xs (Some note) = cond (has_batch setup note xs) (Some note) None
+-- the note of an engine goes with a well-formed Batch that is in progress there (profile)
+abbrev pub kept_note : Setup → Scope → List Slot → Option BatchNote → Option BatchNote
+kept_note setup scope xs note = cond (takes_batch setup scope xs) None note
 
 -- what the scope holds ends by the command of this number, list by list and each front first; the rest keeps its order (Intel DSA: abort commands; the order is the profile's)
 abbrev pub aborted : ℕ → Scope → Work → Work
 aborted number scope w =
-    let content = kept (λ entry. not (is_in_scope scope entry)) w.content in
     record w {
-      content = content;
-      notes = map (λ e. kept_note w.setup (chain content (progress_list w.setup e)) (note_at w e)) (numbers_below w.setup.caps.engines);
+      content = kept (λ entry. not (is_in_scope scope entry)) w.content;
+      notes = map (λ e. kept_note w.setup scope (chain w.content (progress_list w.setup e)) (note_at w e)) (numbers_below w.setup.caps.engines);
       fates = w.fates ++ map (fate_row (Aborted number)) (filter (λ slot. is_in_scope scope slot.1) (all_held w.content));
     }
 

@@ -1,5 +1,5 @@
 -- The state of the written machine, by what each layer of the device keeps. (profile)
-use Rattle.std.specs.Prelude.{ℕ, Bool, true, false, ◌&&◌, ◌==◌, nat_lt, List, [], length, replicate, get_or, Option, None, is_some}
+use Rattle.std.specs.Prelude.{ℕ, Bool, true, false, cond, ◌&&◌, ◌==◌, nat_lt, List, length, replicate, get_or, Option, None, is_some, []}
 use Rattle.dsa_desc.specs.declared.Outcome.{Outcome}
 use Rattle.dsa_desc.specs.declared.QueueLimits.{QueueLimits}
 use Rattle.dsa_desc.specs.Descriptor.{need, status, is_lawful_batch}
@@ -102,6 +102,10 @@ limits_at setup q = limits_of (queue_at setup.configs q)
 -- how many read buffers an entry takes while it runs, by the limits of its queue (profile)
 abbrev pub need_of : Setup → Entry → ℕ
 need_of setup entry = need entry.desc (limits_at setup entry.queue) (is_member entry)
+
+-- how many read buffers an entry holds: while it runs what it takes, and else none (profile)
+abbrev pub held_by : Setup → Entry → ℕ
+held_by setup entry = cond entry.running (need_of setup entry) 0
 
 -- the status that an entry completes with, by the limits of its queue (profile)
 abbrev pub status_of : Setup → Entry → Outcome → ℕ

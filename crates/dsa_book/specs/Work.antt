@@ -1,5 +1,5 @@
 -- The steps of an engine: dispatch, fetch, start, finish.
-use Rattle.std.specs.Prelude.{ℕ, ◌+◌, Bool, true, false, not, cond, ◌&&◌, ◌||◌, ◌==◌, nat_lt, nat_le, List, [], ◌∷◌, ◌++◌, length, map, filter, find, position, sum_by, get_or, slice_get, slice_set, Option, Some, None, is_none, option_map, option_and_then}
+use Rattle.std.specs.Prelude.{ℕ, ◌+◌, Bool, true, false, not, cond, ◌&&◌, ◌||◌, ◌==◌, nat_lt, nat_le, List, ◌∷◌, ◌++◌, length, map, filter, find, position, sum_by, get_or, slice_get, slice_set, Option, Some, None, is_none, option_map, option_and_then, []}
 use Rattle.std.specs.List.{list_any}
 use Rattle.dsa_desc.specs.declared.Descriptor.{Descriptor}
 use Rattle.dsa_desc.specs.declared.Outcome.{Outcome}
@@ -27,7 +27,7 @@ use Rattle.dsa_book.specs.declared.answer.StartAnswer.{StartAnswer}
 use Rattle.dsa_book.specs.declared.answer.StartAnswer.TheVariants.{Started, FenceWait, NoBuffers, Abandoned, Nothing}
 use Rattle.dsa_book.specs.declared.answer.FinishAnswer.{FinishAnswer}
 use Rattle.dsa_book.specs.declared.answer.FinishAnswer.TheVariants.{Done, NotReady, Gone}
-use Rattle.dsa_book.specs.State.{Setup, Work, has_queue, is_member, need_of, status_of, is_batch_of, ticket_of, is_ticket}
+use Rattle.dsa_book.specs.State.{Setup, Work, has_queue, is_member, need_of, held_by, status_of, is_batch_of, ticket_of, is_ticket}
 
 -- ---- what an engine has. An engine that the device does not have has nothing
 
@@ -69,9 +69,9 @@ group_of w e = group_in w.setup.groups e
 
 -- ---- read buffers
 
--- how many read buffers the running entries of an engine have taken (profile)
+-- how many read buffers the entries of an engine hold (profile)
 abbrev pub used_on : Work → ℕ → ℕ
-used_on w e = sum_by (λ slot. need_of w.setup slot.1) (running_on w e)
+used_on w e = sum_by (λ slot. held_by w.setup slot.1) (in_progress w e ++ members w e)
 
 -- how many those of the group's engines have taken (profile)
 abbrev pub used : Work → ℕ → ℕ

@@ -1,5 +1,5 @@
 -- What a fetch finds and leaves.
-use Rattle.std.proofs.Common.{◌≡◌, ℕ, zero, suc, ◌+◌, ◌*◌, ◌<◌, ◌≤◌, Bool, true, false, cond, ◌==◌, ◌++◌, nat_lt, List, [], ◌∷◌, length, set, get_or, Option, Some, None, refl, sym, ◌∙◌, ap, subst, inl, inr, arith}
+use Rattle.std.proofs.Common.{◌≡◌, ℕ, ◌+◌, ◌*◌, ◌<◌, Bool, true, false, cond, ◌==◌, ◌++◌, nat_lt, List, [], ◌∷◌, length, set, get_or, Option, Some, None, refl, sym, ◌∙◌, ap, subst, inl, inr, arith}
 use Rattle.std.proofs.lemmas.Bool.{cases_Bool, lt-ltb}
 use Rattle.std.specs.List.{find}
 use Rattle.std.proofs.lemmas.List.{get_or-set_same, get_or-set_other, length-set}
@@ -10,24 +10,13 @@ use Rattle.dsa_store.specs.declared.entry.Entry.{Entry}
 use Rattle.dsa_store.specs.Content.{Slot, Content, chain, pushed}
 use Rattle.dsa_store.proofs.Lists.{length-le-held}
 use Rattle.dsa_book.specs.declared.note.BatchNote.{BatchNote}
-use Rattle.dsa_book.specs.declared.answer.FetchAnswer.TheVariants.{Fetched, NoBatch}
+use Rattle.dsa_book.specs.declared.answer.FetchAnswer.TheVariants.{Fetched}
 use Rattle.dsa_book.specs.declared.fate.FateRow.{FateRow}
 use Rattle.dsa_book.specs.State.{Setup, is_off, need_of}
 use Rattle.dsa_book.specs.Work.{progress_list, member_list, fetch, is_all_fetched}
 use Rattle.dsa_engines.specs.Engines.{Gear, work, IsInStep, IsReady, is_fetching}
 use Rattle.dsa_engines.proofs.Used.{load-nil, load-cons, load-append, HoldsMore}
 use Rattle.dsa_engines.proofs.Members.{buffers-same}
-
-past : (l : List (Option BatchNote)) (k : ℕ) → length l ≤ k → get_or l k None ≡ None
-past [] k h = refl
-past (x ∷ l) zero h = absurd (omega (arith, h))
-past (x ∷ l) (suc k) h = past l k (omega (arith, h))
-
--- an engine that the device does not have has no note
-pub fetch-past : (setup : Setup) (gear : Gear) (content : Content) (fates : List FateRow) (e : ℕ) (desc : Descriptor) (cell : Cell) → IsInStep setup gear content → setup.caps.engines ≤ e → fetch (work setup gear content fates) e desc cell ≡ (NoBatch, work setup gear content fates)
-fetch-past setup gear content fates e desc cell s h =
-    let none : get_or gear.notes e None ≡ None = past gear.notes e (omega (arith, s.notes, h)) in
-    rw none refl
 
 pub is-fetching : (setup : Setup) (gear : Gear) (content : Content) (e i : ℕ) (note : BatchNote) (batch : Slot) → e < setup.caps.engines → i ≡ progress_list setup e → get_or gear.notes e None ≡ Some note → find (λ slot. slot.1.name == note.batch) (chain content i) ≡ Some batch → is_all_fetched note ≡ false → is_fetching (work setup gear content []) e ≡ true
 is-fetching setup gear content e i note batch he ie noted found left =

@@ -14,7 +14,7 @@ use Rattle.dsa_regs.specs.Buffers.{fits}
 use Rattle.dsa_store.specs.declared.entry.Cell.{Cell}
 use Rattle.dsa_store.specs.declared.entry.Entry.{Entry}
 use Rattle.dsa_store.specs.Content.{Slot, Content, chain, uses, moved, replaced, pushed, without_front}
-use Rattle.dsa_store.proofs.Lists.{length-le-held, length-pushed}
+use Rattle.dsa_store.proofs.Lists.{length-le-held}
 use Rattle.dsa_store.proofs.Turns.{replaced-moved}
 use Rattle.dsa_buffers.specs.Buffers.{Buffers}
 use Rattle.dsa_queues.proofs.Groups.{hit-at}
@@ -50,11 +50,6 @@ home-of setup gear content e s on h = ap (λ (l : List (Option ℕ)). get_or l e
 
 no-front : (setup : Setup) (gear : Gear) (content : Content) (e q : ℕ) → slice_get (chain content q) 0 ≡ None → qualifies (work setup gear content []) e q ≡ false
 no-front setup gear content e q h = rw h (grind (arith, common_steps))
-
-no-engine : (setup : Setup) (gear : Gear) (content : Content) (e q : ℕ) → setup.caps.engines ≤ e → qualifies (work setup gear content []) e q ≡ false
-no-engine setup gear content e q h =
-    let lt : nat_lt e setup.caps.engines ≡ false = grind arith in
-    rw lt refl
 
 asleep : (setup : Setup) (content : Content) (q : ℕ) → IsReady setup content → is_off setup.device ≡ true → slice_get (chain content q) 0 ≡ None
 asleep setup content q r off = ap (λ (l : List Slot). slice_get l 0) (empty-list (chain content q) (omega (arith, r.idle off, length-le-held content q)))
@@ -125,9 +120,6 @@ fits-taken setup gear content e g q n front r s group hq hf taking is =
 pub length-opened : (b : Bool) (notes : List (Option BatchNote)) (e : ℕ) (new : Option BatchNote) → length (cond b (set notes e new) notes) ≡ length notes
 length-opened true notes e new = length-set notes e new
 length-opened false notes e new = refl
-
-length-taken : (content : Content) (from to : ℕ) (cell : Cell) (entry : Entry) → length (pushed (without_front content from) to cell entry) ≡ length content
-length-taken content from to cell entry = length-pushed (without_front content from) to cell entry ∙ length-set content from (drop 1 (chain content from))
 
 taken-more : (setup : Setup) (content : Content) (e q : ℕ) (cell : Cell) (entry : Entry) → length content ≡ setup.caps.queues + 2 * setup.caps.engines → e < setup.caps.engines → q < setup.caps.queues
     → HoldsMore setup content (pushed (without_front content q) (progress_list setup e) cell (as_running entry)) e (progress_list setup e) (need_of setup entry)

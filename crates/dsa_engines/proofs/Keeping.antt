@@ -1,10 +1,10 @@
 -- What leaves the kept numbers in step: a change that touches no list of an engine.
-use Rattle.std.proofs.Common.{◌≡◌, ℕ, ◌<◌, ◌≤◌, false, [], ◌∷◌, ◌++◌, refl, sym, ◌∙◌, ap, arith}
+use Rattle.std.proofs.Common.{◌≡◌, ℕ, ◌<◌, ◌≤◌, false, List, set, ◌∷◌, ◌++◌, refl, sym, ◌∙◌, ap, arith, []}
 use Rattle.std.proofs.lemmas.List.{get_or-set_other}
 use Rattle.dsa_regs.specs.declared.Caps.{Caps}
 use Rattle.dsa_store.specs.declared.entry.Cell.{Cell}
 use Rattle.dsa_store.specs.declared.entry.Entry.{Entry}
-use Rattle.dsa_store.specs.Content.{Content, chain, pushed}
+use Rattle.dsa_store.specs.Content.{Slot, Content, chain, pushed}
 use Rattle.dsa_book.specs.State.{Setup, is_off}
 use Rattle.dsa_engines.specs.Engines.{Gear, IsInStep}
 use Rattle.dsa_engines.proofs.Used.{load, used-kept}
@@ -23,11 +23,15 @@ in_step-kept setup more gear content now s k = record {
   buffers = λ on. s.buffers (k.device on) ∙ used-kept setup more content now k.caps k.groups k.loads;
 }
 
--- an entry that goes to a queue
-pub in_step-pushed : (setup : Setup) (gear : Gear) (content : Content) (q : ℕ) (cell : Cell) (entry : Entry) → IsInStep setup gear content → q < setup.caps.queues → IsInStep setup gear (pushed content q cell entry)
-in_step-pushed setup gear content q cell entry s hq = in_step-kept setup setup gear content (pushed content q cell entry) s (record {
+-- a queue's list, whatever it comes to
+pub in_step-queue : (setup : Setup) (gear : Gear) (content : Content) (q : ℕ) (l : List Slot) → IsInStep setup gear content → q < setup.caps.queues → IsInStep setup gear (set content q l)
+in_step-queue setup gear content q l s hq = in_step-kept setup setup gear content (set content q l) s (record {
   caps = refl;
   groups = refl;
   device = λ on. on;
-  loads = λ j low. ap (load setup) (get_or-set_other content q j (chain content q ++ (cell, entry) ∷ []) [] (λ e. absurd (omega (arith, e, hq, low))));
+  loads = λ j low. ap (load setup) (get_or-set_other content q j l [] (λ e. absurd (omega (arith, e, hq, low))));
 })
+
+-- an entry that goes to a queue
+pub in_step-pushed : (setup : Setup) (gear : Gear) (content : Content) (q : ℕ) (cell : Cell) (entry : Entry) → IsInStep setup gear content → q < setup.caps.queues → IsInStep setup gear (pushed content q cell entry)
+in_step-pushed setup gear content q cell entry s hq = in_step-queue setup gear content q (chain content q ++ (cell, entry) ∷ []) s hq

@@ -1,5 +1,5 @@
 -- The read buffers in use, as one list of one engine changes.
-use Rattle.std.proofs.Common.{◌≡◌, ℕ, zero, suc, ◌+◌, ◌-◌, ◌<◌, ◌≤◌, ◌≢◌, Bool, true, false, cond, ◌&&◌, nat_lt, List, [], ◌∷◌, ◌++◌, map, replicate, length, set, get_or, Option, Some, None, eqb, refl, sym, ◌∙◌, ap, arith, inl, inr}
+use Rattle.std.proofs.Common.{◌≡◌, ℕ, zero, suc, ◌+◌, ◌-◌, ◌<◌, ◌≤◌, ◌≢◌, Bool, true, false, cond, ◌&&◌, nat_lt, List, ◌∷◌, ◌++◌, map, replicate, length, set, get_or, Option, Some, None, eqb, refl, sym, ◌∙◌, ap, arith, inl, inr, []}
 use Rattle.std.proofs.lemmas.Grind.{common_steps}
 use Rattle.std.specs.List.{filter, sum_by}
 use Rattle.std.proofs.lemmas.List.{ext_get_or, length-set, length-map, map-append, get_or-set_same, set-set, set-get_or}
@@ -14,7 +14,7 @@ use Rattle.dsa_regs.specs.declared.GroupConfig.{GroupConfig}
 use Rattle.dsa_regs.specs.Config.{zero_group, group_at}
 use Rattle.dsa_store.specs.Content.{Slot, Content, chain, held}
 use Rattle.dsa_store.proofs.Lists.{length-le-held}
-use Rattle.dsa_book.specs.State.{Setup, need_of}
+use Rattle.dsa_book.specs.State.{Setup, need_of, held_by}
 use Rattle.dsa_book.specs.Work.{used_on, used, all_used, group_in, progress_list, member_list}
 use Rattle.dsa_buffers.specs.Buffers.{Buffers}
 use Rattle.dsa_queues.proofs.Groups.{hit-at}
@@ -24,32 +24,36 @@ use Rattle.dsa_engines.specs.Engines.{lists_alone, buffers_of, buffers_at_rest, 
 abbrev pub EachInOneGroup : Setup → Type 0
 EachInOneGroup setup = (e g : ℕ) → e < setup.caps.engines → g < length setup.groups → has (group_at setup.groups g).engines e ≡ true → group_in setup.groups e ≡ Some g
 
--- what the running entries of a list need
+-- what the entries of a list hold
 pub load : Setup → List Slot → ℕ
-load setup l = sum_by (λ held. need_of setup held.1) (filter (λ held. held.1.running) l)
+load setup l = sum_by (λ slot. held_by setup slot.1) l
 
+-- without entries nothing is held
 pub load-nil : (setup : Setup) → load setup [] ≡ 0
 unfolding load
 load-nil setup = refl
 
+-- two lists one after the other hold what both do
 pub load-append : (setup : Setup) (a b : List Slot) → load setup (a ++ b) ≡ load setup a + load setup b
 unfolding load
-load-append setup a b =
-    ap (sum_by (λ held. need_of setup held.1)) (filter-append (λ held. held.1.running) a b)
-    ∙ sum_by-append (λ held. need_of setup held.1) (filter (λ held. held.1.running) a) (filter (λ held. held.1.running) b)
+load-append setup a b = sum_by-append (λ slot. held_by setup slot.1) a b
 
-pub load-cons : (setup : Setup) (s : Slot) (l : List Slot) → load setup (s ∷ l) ≡ cond s.1.running (need_of setup s.1) 0 + load setup l
+-- one entry more
+pub load-cons : (setup : Setup) (s : Slot) (l : List Slot) → load setup (s ∷ l) ≡ held_by setup s.1 + load setup l
 unfolding load
-load-cons setup s l = on s.1.running
-  where
-    on : (b : Bool) → sum_by (λ held. need_of setup held.1) (cond b (s ∷ filter (λ held. held.1.running) l) (filter (λ held. held.1.running) l)) ≡ cond b (need_of setup s.1) 0 + sum_by (λ held. need_of setup held.1) (filter (λ held. held.1.running) l)
-    on true = sum_by-cons (λ held. need_of setup held.1) s (filter (λ held. held.1.running) l)
-    on false = omega arith
+load-cons setup s l = sum_by-cons (λ slot. held_by setup slot.1) s l
 
+-- where none runs nothing is held
 pub none-load : (setup : Setup) (l : List Slot) → filter (λ held. held.1.running) l ≡ [] → load setup l ≡ 0
-unfolding load
-none-load setup l h = ap (sum_by (λ (held : Slot). need_of setup held.1)) h
+none-load setup [] h = load-nil setup
+none-load setup (s ∷ l) h = load-cons setup s l ∙ on s.1.running h (none-load setup l)
+  where
+    on : (b : Bool) → cond b (s ∷ filter (λ held. held.1.running) l) (filter (λ held. held.1.running) l) ≡ []
+        → (filter (λ held. held.1.running) l ≡ [] → load setup l ≡ 0) → cond b (need_of setup s.1) 0 + load setup l ≡ 0
+    on true e rest = absurd cc
+    on false e rest = omega (arith, rest e)
 
+-- an engine holds what its two lists do
 used_on-loads : (setup : Setup) (c : Content) (e : ℕ) → e < setup.caps.engines → used_on (lists_alone setup c) e ≡ load setup (chain c (progress_list setup e)) + load setup (chain c (member_list setup e))
 unfolding load
 used_on-loads setup c e h =

@@ -1,16 +1,19 @@
 -- What the engines keep beside the lists, and how it agrees with them.
-use Rattle.std.specs.Prelude.{◌≡◌, ℕ, ◌-◌, ◌<◌, ◌≤◌, IsTrue, true, false, Bool, not, ◌&&◌, is_some, List, [], ◌∷◌, length, map, filter, replicate, slice_index, slice_set, Option, Some, None}
+use Rattle.std.specs.Prelude.{◌≡◌, ℕ, ◌-◌, ◌<◌, ◌≤◌, IsTrue, true, false, Bool, not, ◌&&◌, is_some, cond, List, ◌∷◌, length, map, filter, replicate, get_or, slice_index, slice_set, Option, Some, None, []}
 use Rattle.dsa_desc.specs.Rows.{passes}
 use Rattle.dsa_regs.specs.declared.Caps.{Caps}
-use Rattle.dsa_regs.specs.Caps.{check_caps, list_count}
+use Rattle.dsa_regs.specs.declared.layout.ListUse.{ListUse}
+use Rattle.dsa_regs.specs.declared.layout.ListUse.TheVariants.{Queue, Progress, Members}
+use Rattle.dsa_regs.specs.Caps.{check_caps, list_count, engine_of}
+use Rattle.dsa_store.specs.declared.entry.Entry.{Entry}
 use Rattle.dsa_regs.specs.Config.{check_device}
 use Rattle.dsa_regs.specs.Numbers.{numbers_below}
 use Rattle.dsa_store.specs.Content.{Slot, Content, chain, held}
 use Rattle.dsa_buffers.specs.Buffers.{Buffers}
 use Rattle.dsa_book.specs.declared.note.BatchNote.{BatchNote}
 use Rattle.dsa_book.specs.declared.fate.FateRow.{FateRow}
-use Rattle.dsa_book.specs.State.{Setup, Work, is_off}
-use Rattle.dsa_book.specs.Work.{all_used, group_in, progress_list, batch_on, is_all_fetched, note_at}
+use Rattle.dsa_book.specs.State.{Setup, Work, is_off, held_by, is_batch_of}
+use Rattle.dsa_book.specs.Work.{all_used, group_in, progress_list, batch_on, is_all_fetched, note_at, with_note}
 
 -- a note or none for each engine, the read buffers of the groups, and the group of each engine (profile)
 pub record Gear : Type 0 where
@@ -72,6 +75,29 @@ given (Some g) n b = record b { used = slice_set b.used g (slice_index b.used g 
 abbrev pub Holds : Option ℕ → ℕ → Buffers → Type 0
 Holds None n b = Unit {0}
 Holds (Some g) n b = (g < length b.groups) × (n ≤ slice_index b.used g)
+
+-- the read buffers without those of the entry, which stood in a list of that engine; in a queue it held none
+abbrev pub released : Setup → Gear → Option ℕ → Entry → Buffers
+released setup gear None entry = gear.buffers
+released setup gear (Some e) entry = given (get_or gear.homes e None) (held_by setup entry) gear.buffers
+
+-- the group of that engine holds them
+abbrev pub MayRelease : Setup → Gear → Option ℕ → Entry → Type 0
+MayRelease setup gear None entry = Unit {0}
+MayRelease setup gear (Some e) entry = Holds (get_or gear.homes e None) (held_by setup entry) gear.buffers
+
+-- the notes without the one of an engine whose list in progress this is
+abbrev pub noteless : ListUse → List (Option BatchNote) → List (Option BatchNote)
+noteless (Queue q) notes = notes
+noteless (Progress e) notes = with_note notes e None
+noteless (Members e) notes = notes
+
+-- what the engines keep once an entry has left such a list: it gives back what it held, and a well-formed Batch in progress takes the engine's note along (profile)
+abbrev pub removed : Setup → ListUse → Entry → Gear → Gear
+removed setup from entry gear = record gear {
+  notes = cond (is_batch_of setup entry) (noteless from gear.notes) gear.notes;
+  buffers = released setup gear (engine_of from) entry;
+}
 
 -- the device has the engine, the engine is of the group, and has a slot left
 pub record IsOpen (setup : Setup) (content : Content) (e g : ℕ) : Type 0 where

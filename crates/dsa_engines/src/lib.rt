@@ -8,7 +8,6 @@
 mod engines;
 mod fetching;
 mod finishing;
-mod giving_up;
 mod removing;
 mod starting;
 mod taking;

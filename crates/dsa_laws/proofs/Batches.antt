@@ -1,5 +1,5 @@
 -- The batch of an engine, as its lists and its note change.
-use Rattle.std.proofs.Common.{◌≡◌, ◌≢◌, ℕ, zero, suc, ◌+◌, ◌≤◌, ◌&&◌, ◌||◌, ◌==◌, not, Bool, true, false, cond, List, [], ◌∷◌, ◌++◌, length, filter, Option, Some, None, option_map, is_none, refl, sym, ap, ◌∙◌, subst, ◌⊎◌, inl, inr, arith, ⊎_elim, length-append, eq-eqb}
+use Rattle.std.proofs.Common.{◌≡◌, ◌≢◌, ℕ, zero, suc, ◌+◌, ◌≤◌, ◌&&◌, ◌||◌, ◌==◌, not, Bool, true, false, cond, List, ◌∷◌, ◌++◌, length, filter, Option, Some, None, option_map, is_none, refl, sym, ap, ◌∙◌, subst, ◌⊎◌, inl, inr, arith, ⊎_elim, length-append, []}
 use Rattle.std.specs.Prelude.{count_by, sum_by}
 use Rattle.std.specs.List.{list_any}
 use Rattle.std.proofs.lemmas.List.Sums.{sum_by-cons, sum_by-append, sum_by_push}
@@ -7,13 +7,14 @@ use Rattle.dsa_regs.specs.declared.Scope.{Scope}
 use Rattle.dsa_regs.specs.declared.Scope.TheVariants.{Device, Pasid}
 use Rattle.dsa_regs.specs.Command.{queues_in}
 use Rattle.dsa_store.specs.Content.{Slot, Content, chain, all_held}
+use Rattle.dsa_store.proofs.Sums.{sum-split}
 use Rattle.dsa_book.specs.declared.note.BatchNote.{BatchNote}
 use Rattle.dsa_book.specs.State.{Setup, is_batch_of}
 use Rattle.dsa_book.specs.Work.{run, opened_note, with_first_run}
-use Rattle.dsa_book.specs.Commands.{is_in_scope, names, has_batch, kept_note}
+use Rattle.dsa_book.specs.Commands.{is_in_scope, names, takes_batch, kept_note}
 use Rattle.dsa_laws.specs.Engines.{holds_batch, IsNoteOf, IsAlike, IsLawfulEngine}
-use Rattle.dsa_laws.proofs.Contents.{In-append, In-counted, In-filter, filter-none, sum-filter-le, sum-list-le, length-filter-le}
 use Rattle.dsa_desc.proofs.Tables.{not-both}
+use Rattle.dsa_laws.proofs.Contents.{In-append, In-counted, In-filter, filter-none, sum-list-le, length-filter-le}
 use Rattle.std.proofs.lemmas.Bool.{and_parts, false_from_ne_true}
 use Rattle.dsa_laws.proofs.Entries.{first_run-each}
 use Rattle.dsa_laws.specs.Lists.{In}
@@ -23,19 +24,6 @@ use Rattle.dsa_laws.specs.Lists.{In}
 pub length-none : {X : Type 0} (xs : List X) → length xs ≤ 0 → xs ≡ []
 length-none [] h = refl
 length-none (x ∷ xs) h = absurd (omega (arith, h))
-
--- where a test counts one, there is one that passes
-pub counted-In : {X : Type 0} (p : X → Bool) (xs : List X) → count_by p xs ≡ 1 → (x : X) × (In x xs × (p x ≡ true))
-counted-In p [] h = absurd (omega (arith, h))
-counted-In {X} p (x ∷ xs) h = go (counted-In p xs) (p x) refl
-  where
-    go : (count_by p xs ≡ 1 → (y : X) × (In y xs × (p y ≡ true))) → (b : Bool) → p x ≡ b → (y : X) × (In y (x ∷ xs) × (p y ≡ true))
-    go more true q = (x, (inl refl, q))
-    go more false q =
-        let c = sum_by-cons (λ y. cond (p y) 1 0) x xs in
-        let zero : ◌≡◌ {A = ℕ} (cond (p x) 1 0) 0 = ap (λ (b : Bool). cond {A = ℕ} b 1 0) q in
-        let r = more (omega (arith, h, c, zero)) in
-        (r.0, (inr r.1.0, r.1.1))
 
 -- two lists together hold no more than all do
 pub sum-two : (f : Slot → ℕ) (c : Content) (i j : ℕ) → i ≢ j → sum_by f (chain c i) + sum_by f (chain c j) ≤ sum_by f (all_held c)
@@ -199,6 +187,10 @@ with_none setup ps ms o h =
 
 -- ---- an abort
 
+-- the entries that an abort takes
+abbrev is_taken_out : Scope → Slot → Bool
+is_taken_out scope x = is_in_scope scope x.1
+
 -- the entries that an abort leaves
 abbrev pub is_left : Scope → Slot → Bool
 is_left scope x = not (is_in_scope scope x.1)
@@ -243,35 +235,37 @@ count-none p (x ∷ xs) h =
     let rest = count-none p xs (λ y i. h y (inr i)) in
     omega (arith, c, here, rest)
 
+-- a batch in the scope is the only one in progress, and no member is left
+goes-along : (scope : Scope) (setup : Setup) (ps ms : List Slot) (o : Option BatchNote) (x : Slot) → In x ps → holds_batch setup x ≡ true → is_taken_out scope x ≡ true → IsLawfulEngine setup ps ms o
+    → (count_by (holds_batch setup) ps ≡ 1) × ((m : Slot) → In m ms → is_left scope m ≡ false)
+goes-along scope setup ps ms None x i t s h =
+    let some = In-counted (holds_batch setup) x ps i t in
+    let none = h.no_batch in
+    absurd (omega (arith, some, none))
+goes-along scope setup ps ms (Some n) x i t s h = (h.one_batch, λ m j. ap not (scope-alike scope m x (h.alike m x j i t) ∙ s))
+
 -- a batch goes with all its members, or stays
 pub with_abort : (scope : Scope) (setup : Setup) (ps ms : List Slot) (o : Option BatchNote) → IsLawfulEngine setup ps ms o
-    → IsLawfulEngine setup (filter (is_left scope) ps) (filter (is_left scope) ms) (kept_note setup (filter (is_left scope) ps) o)
-with_abort scope setup ps ms None h = record {
-  no_batch = let less = sum-filter-le (λ x. cond (holds_batch setup x) 1 0) (is_left scope) ps in let old = h.no_batch in omega (arith, less, old);
-  no_members = ap (filter (is_left scope)) h.no_members;
-}
-with_abort scope setup ps ms (Some n) h = go (has_batch setup n (filter (is_left scope) ps)) refl
+    → IsLawfulEngine setup (filter (is_left scope) ps) (filter (is_left scope) ms) (kept_note setup scope ps o)
+with_abort scope setup ps ms o h = go (takes_batch setup scope ps) refl
   where
-    named : (x : Slot) → In x ps → holds_batch setup x ≡ true → In x (filter (is_left scope) ps) → has_batch setup n (filter (is_left scope) ps) ≡ true
-    named x i t j =
-        let name : (x.1.name == n.batch) ≡ true = eq-eqb x.1.name n.batch (sym (h.noted x i t).name) in
-        In-any (λ slot. is_batch_of setup slot.1 && slot.1.name == n.batch) x (filter (is_left scope) ps) j (ap (λ (b : Bool). b && x.1.name == n.batch) t ∙ name)
-
-    gone : has_batch setup n (filter (is_left scope) ps) ≡ false → (x : Slot) → In x ms → is_left scope x ≡ false
-    gone f x i =
-        let batch = counted-In (holds_batch setup) ps h.one_batch in
-        let out : is_left scope batch.0 ≡ false = false_from_ne_true (is_left scope batch.0) (λ t. not-both _ (named batch.0 batch.1.0 batch.1.1 (In-passing (is_left scope) batch.0 ps batch.1.0 t)) f) in
-        ap not (scope-alike scope x batch.0 (h.alike x batch.0 i batch.1.0 batch.1.1)) ∙ out
-
-    go : (b : Bool) → has_batch setup n (filter (is_left scope) ps) ≡ b → IsLawfulEngine setup (filter (is_left scope) ps) (filter (is_left scope) ms) (cond b (Some n) None)
+    go : (b : Bool) → takes_batch setup scope ps ≡ b → IsLawfulEngine setup (filter (is_left scope) ps) (filter (is_left scope) ms) (cond b None o)
     go true t =
-        let batch = any-In (λ slot. is_batch_of setup slot.1 && slot.1.name == n.batch) (filter (is_left scope) ps) t in
-        let some = In-counted (holds_batch setup) batch.0 (filter (is_left scope) ps) batch.1.0 (and_parts _ _ batch.1.1).0 in
-        let less = sum-filter-le (λ x. cond (holds_batch setup x) 1 0) (is_left scope) ps in
-        let one = h.one_batch in
-        fewer setup ps (filter (is_left scope) ps) ms (filter (is_left scope) ms) (Some n) (omega (arith, some, less, one))
+        let batch = any-In (λ slot. is_batch_of setup slot.1 && is_in_scope scope slot.1) ps t in
+        let both = and_parts _ _ batch.1.1 in
+        let along = goes-along scope setup ps ms o batch.0 batch.1.0 both.0 both.1 h in
+        let some = In-counted (holds_batch setup) batch.0 (filter (is_taken_out scope) ps) (In-passing (is_taken_out scope) batch.0 ps batch.1.0 both.1) both.0 in
+        let all = sum-split (λ x. cond (holds_batch setup x) 1 0) (is_taken_out scope) ps in
+        let one = along.0 in
+        record {
+          no_batch = omega (arith, all, some, one);
+          no_members = filter-none (is_left scope) ms (count-none (is_left scope) ms along.1);
+        }
+    go false f =
+        let none = count-none (holds_batch setup) (filter (is_taken_out scope) ps) (λ x j.
+            let i = In-filter (is_taken_out scope) x ps j in
+            false_from_ne_true (holds_batch setup x) (λ t.
+            not-both _ (In-any (λ slot. is_batch_of setup slot.1 && is_in_scope scope slot.1) x ps i.0 (ap (λ (b : Bool). b && is_in_scope scope x.1) t ∙ i.1)) f)) in
+        let all = sum-split (λ x. cond (holds_batch setup x) 1 0) (is_taken_out scope) ps in
+        fewer setup ps (filter (is_left scope) ps) ms (filter (is_left scope) ms) o (omega (arith, all, none))
         (λ x i. (In-filter (is_left scope) x ps i).0) (λ x i. (In-filter (is_left scope) x ms i).0) (length-filter-le (is_left scope) ms) h
-    go false f = record {
-      no_batch = count-none (holds_batch setup) (filter (is_left scope) ps) (λ x j. false_from_ne_true (holds_batch setup x) (λ t. not-both _ (named x (In-filter (is_left scope) x ps j).0 t j) f));
-      no_members = filter-none (is_left scope) ms (count-none (is_left scope) ms (gone f));
-    }

@@ -1,5 +1,5 @@
 -- Each engine has a note exactly where it works on a batch, whatever step is made.
-use Rattle.std.proofs.Common.{drop, ◌≡◌, ◌≢◌, ℕ, ◌+◌, ◌<◌, ◌≤◌, ◌&&◌, ◌||◌, ◌==◌, not, Bool, true, false, cond, List, [], ◌∷◌, ◌++◌, length, filter, set, get_or, Option, Some, None, option_map, is_none, refl, sym, ap, ◌∙◌, subst, ◌⊎◌, inl, inr, arith, ⊎_elim, eq-eqb, eqb-true}
+use Rattle.std.proofs.Common.{drop, ◌≡◌, ◌≢◌, ℕ, ◌+◌, ◌<◌, ◌≤◌, ◌&&◌, ◌||◌, ◌==◌, not, Bool, true, false, cond, List, ◌∷◌, ◌++◌, length, filter, set, get_or, Option, Some, None, option_map, is_none, refl, sym, ap, ◌∙◌, subst, ◌⊎◌, inl, inr, arith, ⊎_elim, eq-eqb, eqb-true, []}
 use Rattle.std.specs.Prelude.{nat_lt, count_by, sum_by}
 use Rattle.std.proofs.lemmas.Bool.Decides.{nat_tests}
 use Rattle.std.proofs.lemmas.Bool.{cases_Bool, cases_eq, ltb-true, ltb-false, and_parts, or_parts, not-true}
@@ -237,11 +237,10 @@ scope_aborted w number scope e i h =
     let p = is_left scope in
     let ps = chain w.content (progress_list w.setup e) in
     let ms = chain w.content (member_list w.setup e) in
-    let left : chain c (progress_list w.setup e) ≡ filter p ps = chain-filtered p w.content (progress_list w.setup e) in
-    carry w.setup (filter p ps) (chain c (progress_list w.setup e)) (filter p ms) (chain c (member_list w.setup e)) (kept_note w.setup (filter p ps) (note_at w e)) (note_at (aborted number scope w) e)
-    left
+    carry w.setup (filter p ps) (chain c (progress_list w.setup e)) (filter p ms) (chain c (member_list w.setup e)) (kept_note w.setup scope ps (note_at w e)) (note_at (aborted number scope w) e)
+    (chain-filtered p w.content (progress_list w.setup e))
     (chain-filtered p w.content (member_list w.setup e))
-    (get_or-each (λ k. kept_note w.setup (chain c (progress_list w.setup k)) (note_at w k)) w.setup.caps.engines e None i ∙ ap (λ xs. kept_note w.setup xs (note_at w e)) left)
+    (get_or-each (λ k. kept_note w.setup scope (chain w.content (progress_list w.setup k)) (note_at w k)) w.setup.caps.engines e None i)
     (with_abort scope w.setup ps ms (note_at w e) h)
 
 -- the entry in progress that has the name of the batch is like each of the batches there

@@ -1,5 +1,5 @@
 -- What each engine needs, as one list of entries changes.
-use Rattle.std.proofs.Common.{◌≡◌, ◌≢◌, ℕ, ◌+◌, ◌<◌, ◌≤◌, ◌++◌, Bool, true, false, cond, List, [], ◌∷◌, refl, ap, ◌∙◌, subst, ◌⊎◌, inl, inr, arith, ⊎_elim}
+use Rattle.std.proofs.Common.{◌≡◌, ◌≢◌, ℕ, ◌+◌, ◌<◌, ◌≤◌, Bool, true, false, cond, List, ◌∷◌, refl, ap, ◌∙◌, subst, ◌⊎◌, inl, inr, arith, ⊎_elim, []}
 use Rattle.std.specs.Prelude.{sum_by, nat_lt}
 use Rattle.std.proofs.lemmas.List.Sums.{sum_by-cons, sum_by-append}
 use Rattle.std.proofs.lemmas.Bool.{ltb-true}
@@ -8,16 +8,16 @@ use Rattle.dsa_regs.specs.declared.QueueConfig.{QueueConfig}
 use Rattle.dsa_regs.specs.Config.{queue_at, limits_of}
 use Rattle.dsa_desc.specs.Descriptor.{need}
 use Rattle.dsa_store.specs.Content.{Slot, Content, chain}
-use Rattle.dsa_book.specs.State.{Setup, Work, is_member, need_of}
+use Rattle.dsa_book.specs.State.{Setup, Work, is_member, need_of, held_by}
 use Rattle.dsa_book.specs.Work.{in_progress, members, progress_list, member_list, used_on, run}
-use Rattle.dsa_laws.proofs.Covering.{sum-filtered, cond-le}
+use Rattle.dsa_laws.proofs.Covering.{cond-le}
 use Rattle.dsa_laws.specs.Lists.{In}
 
 -- ---- one entry
 
--- what an entry needs while it runs
+-- what the entry of the slot holds
 pub weight : Setup → Slot → ℕ
-weight setup slot = cond slot.1.running (need_of setup slot.1) 0
+weight setup slot = held_by setup slot.1
 
 pub weight-waiting : (setup : Setup) (slot : Slot) → slot.1.running ≡ false → weight setup slot ≡ 0
 unfolding weight
@@ -57,8 +57,7 @@ both-lists false f xs ys = omega arith
 pub used_on-sum : (caps : Caps) (w : Work) (e : ℕ) → w.setup.caps ≡ caps → used_on w e ≡ sum_on caps (weight w.setup) w.content e
 unfolding weight
 used_on-sum caps w e same =
-    sum-filtered (λ (slot : Slot). need_of w.setup slot.1) (λ slot. slot.1.running) (in_progress w e ++ members w e)
-    ∙ sum_by-append (weight w.setup) (in_progress w e) (members w e)
+    sum_by-append (weight w.setup) (in_progress w e) (members w e)
     ∙ both-lists (nat_lt e w.setup.caps.engines) (weight w.setup) (chain w.content (progress_list w.setup e)) (chain w.content (member_list w.setup e))
     ∙ ap (λ (k : Caps). sum_on k (weight w.setup) w.content e) same
 

@@ -1,5 +1,5 @@
 -- The numbers of the batch notes.
-use Rattle.std.proofs.Common.{◌≡◌, ℕ, zero, suc, ◌<◌, ◌≤◌, ◌^◌, ◌&&◌, not, Bool, true, false, cond, List, [], ◌∷◌, set, get_or, replicate, Option, Some, None, option_map, refl, sym, ap, subst, arith, ⊎_elim, eqb-true}
+use Rattle.std.proofs.Common.{◌≡◌, ℕ, zero, suc, ◌<◌, ◌≤◌, ◌^◌, ◌&&◌, not, Bool, true, false, cond, List, ◌∷◌, set, get_or, replicate, Option, Some, None, option_map, refl, sym, ap, subst, arith, ⊎_elim, eqb-true, []}
 use Rattle.std.specs.Prelude.{nat_lt}
 use Rattle.std.proofs.lemmas.Bool.{cases_Bool, ltb-true, ltb-false, leb-true, leb-false, and_parts, or_parts}
 use Rattle.std.proofs.Math.Nat.{pow-le-pow_right}
@@ -13,7 +13,7 @@ use Rattle.dsa_regs.specs.declared.Scope.TheVariants.{Device}
 use Rattle.dsa_regs.specs.Config.{queue_at, queue_table}
 use Rattle.dsa_store.specs.Content.{Slot, chain}
 use Rattle.dsa_book.specs.declared.note.BatchNote.{BatchNote}
-use Rattle.dsa_book.specs.State.{Setup, Work, State, opening, is_off, is_member, phase_at, limits_at, is_batch_of, status_of}
+use Rattle.dsa_book.specs.State.{Work, State, opening, is_off, is_member, phase_at, limits_at, is_batch_of, status_of}
 use Rattle.dsa_book.specs.Work.{note_at, opened_note, note_after, progress_list}
 use Rattle.dsa_book.specs.Commands.{kept_note, aborted}
 use Rattle.dsa_laws.specs.Change.{Change}
@@ -72,18 +72,14 @@ fits-cond : (caps : Caps) (b : Bool) (x y : Option BatchNote) → (b ≡ true �
 fits-cond caps true x y p q = p refl
 fits-cond caps false x y p q = q
 
-kept-fits : (caps : Caps) (setup : Setup) (xs : List Slot) (o : Option BatchNote) → NoteFits caps o → NoteFits caps (kept_note setup xs o)
-kept-fits caps setup xs None h = h
-kept-fits caps setup xs (Some n) h = fits-cond caps _ (Some n) None (λ t. h) tt
-
 aborted-fits : (caps : Caps) (number : ℕ) (scope : Scope) (w : Work) → NotesFit caps w → (j : ℕ) → NoteFits caps (get_or (aborted number scope w).notes j None)
 aborted-fits caps number scope w h j = ⊎_elim
-    (λ t. subst (NoteFits caps) (sym (get_or-each f w.setup.caps.engines j None (ltb-true j w.setup.caps.engines t))) (kept-fits caps w.setup (chain (aborted number scope w).content (progress_list w.setup j)) (note_at w j) (h j)))
+    (λ t. subst (NoteFits caps) (sym (get_or-each f w.setup.caps.engines j None (ltb-true j w.setup.caps.engines t))) (fits-cond caps _ None (note_at w j) (λ t. tt) (h j)))
     (λ e. subst (NoteFits caps) (sym (get_or-past f w.setup.caps.engines j None (ltb-false j w.setup.caps.engines e))) tt)
     (cases_Bool (nat_lt j w.setup.caps.engines))
   where
     f : ℕ → Option BatchNote
-    f = λ e. kept_note w.setup (chain (aborted number scope w).content (progress_list w.setup e)) (note_at w e)
+    f = λ e. kept_note w.setup scope (chain w.content (progress_list w.setup e)) (note_at w e)
 
 taken-fits : (caps : Caps) (b : Bool) (notes : List (Option BatchNote)) (e : ℕ) (x : Option BatchNote) → ((j : ℕ) → NoteFits caps (get_or notes j None)) → (b ≡ true → NoteFits caps x) → (j : ℕ) → NoteFits caps (get_or (cond b (set notes e x) notes) j None)
 taken-fits caps true notes e x a p j = set-notes caps notes e x a (p refl) j

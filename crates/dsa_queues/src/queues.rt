@@ -1,11 +1,11 @@
 //! What is kept of the queues and groups: a reader and a setter for each part.
 
 ghost use Rattle.std.specs.Prelude.{◌≡◌, ◌+◌, ◌==◌, ◌<◌, ◌^◌, true, false, IsTrue, IfSome, slice_set, position, Some};
-ghost use Rattle.dsa_regs.specs.Caps.{HasList, check_caps, list_count, list_number};
+ghost use Rattle.dsa_regs.specs.Caps.{HasList, check_caps, list_count, list_number, list_use};
 ghost use Rattle.dsa_regs.specs.declared.Scope.TheVariants.{Device};
 ghost use Rattle.dsa_regs.specs.Numbers.{has};
 ghost use Rattle.dsa_regs.specs.Config.{queue_at, group_at};
-ghost use Rattle.dsa_book.specs.State.{Setup, opening_setup, phase_at, is_off, has_queue, limits_at, need_of, status_of, is_batch_of};
+ghost use Rattle.dsa_book.specs.State.{Setup, opening_setup, phase_at, is_off, has_queue, limits_at, need_of, held_by, status_of, is_batch_of};
 ghost use Rattle.dsa_book.specs.Submit.{noted_more};
 ghost use Rattle.dsa_book.specs.Commands.{clear, reset, with_device, with_phases};
 ghost use Rattle.dsa_queues.specs.Queues.{IsWhole};
@@ -106,6 +106,7 @@ impl Queues {
     #[inline(always)]
     pub fn list_use(&self, list: ListId) -> ListUse
         requires { list.0 < list_count self.now.caps }
+        ensures use_of { result ≡ list_use self.now.caps list.0 }
         ensures list { HasList self.now.caps result }
         ensures number { list_number self.now.caps result ≡ list.0 }
     {
@@ -298,7 +299,7 @@ impl Queues {
         self.queue(queue).limits()
     }
 
-    /// The read buffers that the entry holds while it runs, 0 to 4.
+    /// The read buffers that the entry takes as it starts, 0 to 4.
     #[inline(always)]
     pub fn need(&self, entry: &Entry) -> u8
         ensures { result ≡ need_of self.now entry.now }
@@ -306,6 +307,14 @@ impl Queues {
         entry
             .desc
             .need(&self.limits(entry.queue), entry.parent.is_some())
+    }
+
+    /// The read buffers that the entry holds: none while it does not run.
+    #[inline(always)]
+    pub fn held_by(&self, entry: &Entry) -> u8
+        ensures { result ≡ held_by self.now entry.now }
+    {
+        if entry.running { self.need(entry) } else { 0 }
     }
 
     /// The status that the entry ends with, a well-formed Batch as if its members were successful.

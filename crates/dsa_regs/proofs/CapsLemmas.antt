@@ -1,9 +1,12 @@
 -- Devices within the limits.
-use Rattle.std.proofs.Common.{◌+◌, ◌^◌, ◌≤◌, IsTrue, pow_mono, arith}
+use Rattle.std.proofs.Common.{◌≡◌, ℕ, ◌+◌, ◌-◌, ◌^◌, ◌<◌, ◌≤◌, Bool, true, false, cond, nat_lt, IsTrue, refl, pow_mono, arith}
 use Rattle.std.proofs.lemmas.Nat.{mul-le}
+use Rattle.std.proofs.lemmas.Bool.{ltb-true, ltb-false}
 use Rattle.std.proofs.lemmas.Bool.Decides.{nat_tests}
 use Rattle.dsa_regs.specs.declared.Caps.{Caps}
-use Rattle.dsa_regs.specs.Caps.{check_caps, cell_count}
+use Rattle.dsa_regs.specs.declared.layout.ListUse.{ListUse}
+use Rattle.dsa_regs.specs.declared.layout.ListUse.TheVariants.{Queue, Progress, Members}
+use Rattle.dsa_regs.specs.Caps.{check_caps, cell_count, list_count, list_number, list_use, HasList}
 
 -- the cells of the largest device
 pub cell_count-bound : (caps : Caps) → IsTrue (check_caps caps) → cell_count caps ≤ 768
@@ -16,3 +19,21 @@ cell_count-bound caps h =
     let each : caps.slots + 2 ^ caps.max_batch_shift ≤ 80 = omega arith in
     let all = mul-le caps.engines (caps.slots + 2 ^ caps.max_batch_shift) 8 80 engines each in
     omega (arith, all)
+
+-- what a list of the device is for: the device has it, and it has that number
+pub record IsUse (caps : Caps) (list : ListUse) (n : ℕ) : Type 0 where
+  pub has : HasList caps list
+  pub number : list_number caps list ≡ n
+
+-- the use that a number is read back to
+pub read-back : (caps : Caps) (n : ℕ) → n < list_count caps → IsUse caps (list_use caps n) n
+read-back caps n h = on (nat_lt n caps.queues) refl (nat_lt (n - caps.queues) caps.engines) refl
+  where
+    on : (a : Bool) → nat_lt n caps.queues ≡ a → (b : Bool) → nat_lt (n - caps.queues) caps.engines ≡ b
+        → IsUse caps (cond a (Queue n) (cond b (Progress (n - caps.queues)) (Members (n - caps.queues - caps.engines)))) n
+    on true p b q = record { has = ltb-true n caps.queues p; number = refl }
+    on false p true q = record { has = ltb-true (n - caps.queues) caps.engines q; number = omega (arith, ltb-false n caps.queues p) }
+    on false p false q =
+        let past = ltb-false n caps.queues p in
+        let behind = ltb-false (n - caps.queues) caps.engines q in
+        record { has = omega (arith, h, past, behind); number = omega (arith, past, behind) }

@@ -1,7 +1,7 @@
 //! The layout of the lists: which list of the store is for what.
 
 ghost use Rattle.std.specs.Prelude.{◌≡◌, ◌<◌, IsTrue};
-ghost use Rattle.dsa_regs.specs.Caps.{HasList, check_caps, list_count, list_number};
+ghost use Rattle.dsa_regs.specs.Caps.{HasList, check_caps, engine_of, list_count, list_number, list_use};
 
 use crate::Caps;
 
@@ -14,6 +14,20 @@ pub enum ListUse {
     Progress(u16),
     /// The members of the batch that an engine works on.
     Members(u16),
+}
+
+impl ListUse {
+    /// The engine whose list it is. `None` where it is a queue's.
+    #[inline(always)]
+    pub fn engine(self) -> Option<u16>
+        ensures { result ≡ engine_of self }
+    {
+        match self {
+            ListUse::Queue(_) => None,
+            ListUse::Progress(engine) => Some(engine),
+            ListUse::Members(engine) => Some(engine),
+        }
+    }
 }
 
 impl Caps {
@@ -35,6 +49,7 @@ impl Caps {
     #[inline(always)]
     pub fn list_use(&self, number: u16) -> ListUse
         requires { number < list_count self.now }
+        ensures use_of { result ≡ list_use self.now number }
         ensures list { HasList self.now result }
         ensures number { list_number self.now result ≡ number }
     {

@@ -1,12 +1,8 @@
 use Rattle.std.proofs.Common.{arith, ◌≡◌, ◌+◌, ◌∙◌}
 use Rattle.dsa_regs.specs.Command.{scope_of}
 use Rattle.dsa_book.specs.Commands.{count_in_scope}
-use Rattle.dsa_admin.proofs.Withdrawals.{ready-kept, freed}
-use Rattle.dsa_admin.proofs.Notes.{in_step-kept}
+use Rattle.dsa_admin.proofs.Withdrawals.{freed}
 use Rattle.dsa_admin.proofs.abort.abort.Goals as goal
-
-pub keep_notes-requires-clause-ready : goal.keep_notes-requires-clause-ready
-keep_notes-requires-clause-ready g c = ready-kept c.args.command.now c.args.queues.now _ _ c.requires.ready c.withdraw.ensures.left
 
 pub overflow_sub-result : goal.overflow_sub-result
 overflow_sub-result g c =
@@ -17,6 +13,3 @@ pub returns-clause-count : goal.returns-clause-count
 returns-clause-count g c =
     let more : c.free.result ≡ c.free-free.result + count_in_scope (scope_of c.args.command.now) (g.S.EntryStore.content c.args.store.now) = freed c.args.command.now _ _ _ _ _ c.free-free.ensures (c.free.ensures ∙ c.withdraw.ensures.cells) c.withdraw.ensures.left in
     omega (arith, more)
-
-pub returns-clause-in_step : goal.returns-clause-in_step
-returns-clause-in_step g c = in_step-kept c.args.queues.now c.withdraw.new.engines _ _ _ c.withdraw.ensures.in_step c.keep_notes.ensures

@@ -1,12 +1,11 @@
-use Rattle.std.proofs.Common.{◌≡◌, ◌<◌, arith}
+use Rattle.std.proofs.Common.{◌<◌, arith}
 use Rattle.std.proofs.lemmas.Grind.{common_steps}
-use Rattle.dsa_engines.specs.Engines.{IsInStep, IsReady}
-use Rattle.dsa_admin.proofs.Leaving.{in_step-pushed}
+use Rattle.dsa_engines.specs.Engines.{IsInStep}
+use Rattle.dsa_engines.proofs.Keeping.{in_step-pushed}
 use Rattle.dsa_admin.proofs.tests.push.Goals as goal
 
 pub returns : goal.returns
 returns g c =
-    let ready : IsReady c.args.queues.now (g.S.EntryStore.content c.args.store.now) = c.is_ready.ensures (grind (arith, common_steps)) in
     let within : c.args.queue < c.args.queues.now.caps.queues = grind (arith, common_steps, c.has_queue.ensures) in
-    let s : IsInStep c.args.queues.now c.args.engines.now (g.S.EntryStore.content c.push_back.new.self) = in_step-pushed c.args.queues.now c.args.engines.now (g.S.EntryStore.content c.args.store.now) _ c.args.queue c.in-Some.cell _ ready c.requires within c.in-Some.ensures.some in
+    let s : IsInStep c.args.queues.now c.args.engines.now (g.S.EntryStore.content c.push_back.new.self) = rw c.in-Some.ensures.some (in_step-pushed c.args.queues.now c.args.engines.now (g.S.EntryStore.content c.args.store.now) c.args.queue c.in-Some.cell _ c.requires within) in
     rw c.give_name.ensures.after (record { notes = s.notes; homes = s.homes; buffers = s.buffers })
