@@ -2,7 +2,7 @@
 use Rattle.std.specs.Prelude.{◌≡◌, ℕ, ◌+◌, ◌^◌, ◌<◌, ◌≤◌, ◌==◌, ◌&&◌, Bool, true, false, cond, not, List, [], ◌∷◌, length, count_by, Option, Some, None, is_some, ⊤}
 use Rattle.dsa_desc.specs.Descriptor.{pasid_of}
 use Rattle.dsa_regs.specs.declared.Caps.{Caps}
-use Rattle.dsa_regs.specs.Caps.{cell_count, list_count}
+use Rattle.dsa_regs.specs.Caps.{cell_count, first_members, list_count}
 use Rattle.dsa_regs.specs.Config.{queue_at, check_device, check_queue}
 use Rattle.dsa_store.specs.declared.entry.Cell.{Cell}
 use Rattle.dsa_store.specs.Content.{Slot, uses, held, all_held}
@@ -60,10 +60,10 @@ pub record IsPlaced (caps : Caps) (list : ℕ) (slot : Slot) : Type 0 where
   pub queue : list < caps.queues → slot.1.queue ≡ list
   pub waiting : list < caps.queues → slot.1.running ≡ false
   -- in progress on an engine, it runs
-  pub running : caps.queues ≤ list → list < caps.queues + caps.engines → slot.1.running ≡ true
+  pub running : caps.queues ≤ list → list < first_members caps → slot.1.running ≡ true
   -- in both it has no parent, and in an engine's list of members it has one
-  pub submitted : list < caps.queues + caps.engines → slot.1.parent ≡ None
-  pub member : caps.queues + caps.engines ≤ list → is_some slot.1.parent ≡ true
+  pub submitted : list < first_members caps → slot.1.parent ≡ None
+  pub member : first_members caps ≤ list → is_some slot.1.parent ≡ true
 
 -- no entry names a queue that is Off (Intel DSA: Disable WQ)
 abbrev pub NoneOff : Work → Type 0
