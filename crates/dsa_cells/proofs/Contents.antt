@@ -108,8 +108,7 @@ sum-in_use f lists lt =
     omega (
       arith,
       sum_by_more f lists n [] (omega (arith, lt)),
-      ap (sum_by f)
-          (take_all (n + 1) lists (omega (arith, lt))),
+      ap (sum_by f) (take_all (n + 1) lists (omega (arith, lt))),
     )
 
 -- a list is written that is seen
@@ -135,68 +134,78 @@ contents-appended es lists l c lt =
     ∙ ap (set (contents es lists) l) (map-append (slot es) (list_at lists l) (c ∷ [])
     ∙ ap (λ (ls : List Slot). ls ++ slot es c ∷ []) (sym (chain-contents es lists l lt)))
 
--- a cell that a list names stands there
-stands : (es : List Entry) (lists : List (List ℕ)) (l c : ℕ) (xs zs : List ℕ) → l < length lists - 1 →
-    list_at lists l ≡ xs ++ c ∷ zs
-    → StandsAt (contents es lists) l (length xs) (record { 0 = c }) (get_or es c no_entry)
-stands es lists l c xs zs lt is =
-    let at = chain-contents es lists l lt ∙ ap (map (slot es)) is in
-    record {
-      within = omega (arith, ap length at, length-map (xs ++ c ∷ zs) (slot es), length-append xs (c ∷ zs));
-      slot = ap (λ (ls : List Slot). get_or ls (length xs) (slot es c)) at ∙ slot-mid es xs c zs (slot es c);
-    }
-
 -- ---- what a whole store tells of a cell
 
 -- the lists are as many as their headers
 pub length-lists : (s : List Node) (r : List Header) → length (lists_of s r) ≡ length r
 length-lists s r = length-map r (cells_of s)
 
+-- the place of a cell that names a list in use
+record Standing (s : List Node) (r : List Header) (cell : Cell) : Type 0 where
+  before : List ℕ
+  behind : List ℕ
+  listed : (node_at s cell.0).owner < length (lists_of s r) - 1
+  is : list_at (lists_of s r) (node_at s cell.0).owner ≡ before ++ cell.0 ∷ behind
+  chain : chain (content_at s r) (node_at s cell.0).owner ≡ map (slot (entries_of s)) (before ++ cell.0 ∷ behind)
+  stands : StandsAt (content_at s r) (node_at s cell.0).owner (length before) cell (node_at s cell.0).entry
+  once : times cell.0 before + times cell.0 behind ≡ 0
+
+standing : (s : List Node) (r : List Header) (cell : Cell) → IsWhole s r → cell.0 < length s
+    → (node_at s cell.0).owner < length r - 1 → Standing s r cell
+standing s r cell i lt listed =
+    let lists = lists_of s r in
+    let es = entries_of s in
+    let l = (node_at s cell.0).owner in
+    let one = stands_in s r lists cell.0 i.store lt in
+    let parts = split_at cell.0 (list_at lists l) (omega (arith, one)) in
+    let xs = parts.0 in
+    let zs = parts.1 in
+    let l_in : l < length lists - 1 = omega (arith, listed, length-lists s r) in
+    let at = chain-contents es lists l l_in ∙ ap (map (slot es)) parts.2 in
+    let size = length-map (xs ++ cell.0 ∷ zs) (slot es) in
+    let same : slot es cell.0 ≡ (cell, (node_at s cell.0).entry) =
+    ap (λ (e : Entry). let k : Slot = (cell, e) in k) (entry_is s cell.0) in
+    record {
+      before = xs;
+      behind = zs;
+      listed = l_in;
+      is = parts.2;
+      chain = at;
+      stands = record {
+        within = omega (arith, ap length at, size, length-append xs (cell.0 ∷ zs));
+        slot = ap (λ (ls : List Slot). get_or ls (length xs) (cell, (node_at s cell.0).entry)) at
+            ∙ slot-mid es xs cell.0 zs (cell, (node_at s cell.0).entry) ∙ same;
+      };
+      once = omega (arith, one, ap (times cell.0) parts.2, times-append cell.0 xs (cell.0 ∷ zs), times-head cell.0 zs);
+    }
+
 -- a cell that names a list in use
-pub used : (s : List Node) (r : List Header) (cell : Cell) (node : Node) → IsWhole s r → cell.0 < length s → node ≡ node_at s cell.0
-    → node.owner < length r - 1 → IsUsed s r cell node
-used s r cell node i lt same listed = go parts.0 parts.1 parts.2
-  where
-    lists : List (List ℕ)
-    lists = lists_of s r
+pub used : (s : List Node) (r : List Header) (cell : Cell) (node : Node) → IsWhole s r → cell.0 < length s
+    → node ≡ node_at s cell.0 → node.owner < length r - 1 → IsUsed s r cell node
+used s r cell node i lt same listed =
+    let C = content_at s r in
+    let l = (node_at s cell.0).owner in
+    let e = (node_at s cell.0).entry in
+    let own = ap (λ (t : Node). t.owner) same in
+    let p = standing s r cell i lt (omega (arith, listed, own)) in
+    let k = length p.before in
+    let once = (IsSound-from_whole s r i).once cell in
+    let in_lists : l < length (lists_of s r) = omega (arith, p.listed) in
+    let links = subst (λ (ys : List ℕ). Linked s None ys None) p.is (i.store.ends.each l in_lists).links in
+    let next = (Linked-right s None p.before (cell.0 ∷ p.behind) None links).1 in
+    let behind = ap (drop (suc k)) p.chain ∙ drop-mid (entries_of s) p.before cell.0 p.behind in
+    record {
+      inside = lt;
+      same = same;
+      listed = listed;
+      used = uses-stands p.stands;
+      list = list_of-at C l k cell e once p.stands ∙ ap Some (sym own);
+      entry = entry_of-at C l k cell e once p.stands ∙ ap (λ (t : Node). Some t.entry) (sym same);
+      next = next_of-at C l k cell e once p.stands ∙ ap first_cell behind ∙ first-slots (entries_of s) p.behind
+          ∙ ap cell_of (sym next ∙ ap (λ (t : Node). t.next) (sym same));
+    }
 
-    l : ℕ
-    l = (node_at s cell.0).owner
-
-    l_in : l < length lists - 1
-    l_in = omega (arith, listed, ap (λ (t : Node). t.owner) same, length-lists s r)
-
-    one : times cell.0 (list_at lists l) ≡ 1
-    one = stands_in s r lists cell.0 i.store lt
-
-    parts : (xs : List ℕ) × (zs : List ℕ) × (list_at lists l ≡ xs ++ cell.0 ∷ zs)
-    parts = split_at cell.0 (list_at lists l) (omega (arith, one))
-
-    go : (xs zs : List ℕ) → list_at lists l ≡ xs ++ cell.0 ∷ zs → IsUsed s r cell node
-    go xs zs is =
-        let es = entries_of s in
-        let C = content_at s r in
-        let at = stands es lists l cell.0 xs zs l_in is in
-        let once = (IsSound-from_whole s r i).once cell in
-        let links = subst (λ (ys : List ℕ). Linked s None ys None) is
-        (i.store.ends.each l (omega (arith, l_in))).links in
-        let next = (Linked-right s None xs (cell.0 ∷ zs) None links).1 in
-        let own = ap (λ (t : Node). t.owner) same in
-        let behind = ap (λ (ls : List Slot). drop (suc (length xs)) ls) (chain-contents es lists l l_in
-        ∙ ap (map (slot es)) is) ∙ drop-mid es xs cell.0 zs in
-        record {
-          inside = lt;
-          same = same;
-          listed = listed;
-          used = uses-stands at;
-          list = list_of-at C l (length xs) cell (get_or es cell.0 no_entry) once at ∙ ap Some (sym own);
-          entry = entry_of-at C l (length xs) cell (get_or es cell.0 no_entry) once at ∙ ap Some (entry_is s cell.0)
-              ∙ ap (λ (t : Node). Some t.entry) (sym same);
-          next = next_of-at C l (length xs) cell (get_or es cell.0 no_entry) once at ∙ ap first_cell behind
-              ∙ first-slots es zs
-              ∙ ap cell_of (sym next ∙ ap (λ (t : Node). t.next) (sym same));
-        }
-
+-- no list in use names a cell that names none
 unused_uses : (s : List Node) (r : List Header) (cell : Cell) → IsWhole s r →
     (cell.0 < length s → length r - 1 ≤ (node_at s cell.0).owner)
     → uses (content_at s r) cell ≡ 0
@@ -217,8 +226,7 @@ unused_uses s r cell i h =
             sum,
             sum-in_use (times c) lists (omega (arith, l_in)),
             parts.once c w.1,
-            ap
-                (λ (n : ℕ). times c (list_at lists n)) last,
+            ap (λ (n : ℕ). times c (list_at lists n)) last,
             one,
           )
     ]
@@ -283,8 +291,7 @@ held-is s r i =
     omega (
       arith,
       held-slots (entries_of s) (in_use lists),
-      sum-in_use length lists
-          (omega (arith, i.free, length-lists s r)),
+      sum-in_use length lists (omega (arith, i.free, length-lists s r)),
       i.store.total,
       ap (λ (n : ℕ). length (list_at lists n)) size,
     )
@@ -341,54 +348,28 @@ content-moved s r c from to i f from_in to_in ne =
     ∙ sym (ap (λ (l : List Slot). set (set C from (drop 1 l)) to (chain C to ++ take 1 l)) front)
 
 -- a cell comes to the free list
-pub content-unlinked : (s : List Node) (r : List Header) (cell : Cell) (node : Node) → IsWhole s r →
-    IsUsed s r cell node
-    → contents (entries_of s) (moved (lists_of s r) cell.0 (node_at s cell.0).owner (length (content_at s r))) ≡
-    unlinked (content_at s r) cell
-content-unlinked s r cell node i u = go parts.0 parts.1 parts.2
-  where
-    lists : List (List ℕ)
-    lists = lists_of s r
-
-    l : ℕ
-    l = (node_at s cell.0).owner
-
-    one : times cell.0 (list_at lists l) ≡ 1
-    one = stands_in s r lists cell.0 i.store u.inside
-
-    parts : (xs : List ℕ) × (zs : List ℕ) × (list_at lists l ≡ xs ++ cell.0 ∷ zs)
-    parts = split_at cell.0 (list_at lists l) (omega (arith, one))
-
-    go : (xs zs : List ℕ) → list_at lists l ≡ xs ++ cell.0 ∷ zs
-        → contents (entries_of s) (moved lists cell.0 l (length (content_at s r))) ≡ unlinked (content_at s r) cell
-    go xs zs is =
-        let es = entries_of s in
-        let C = content_at s r in
-        let size = length-contents es lists in
-        let ys = lacking cell.0 (list_at lists l) in
-        let l_in : l < length lists - 1 = omega (
-          arith,
-          u.listed,
-          ap (λ (t : Node). t.owner) u.same,
-          length-lists s
-              r,
-        ) in
-        let less : ys ≡ xs ++ zs = ap (lacking cell.0) is
-        ∙ lacking-split cell.0 xs zs (omega (
-          arith,
-          one,
-          ap (times cell.0) is,
-          times-append cell.0 xs (cell.0 ∷
-              zs),
-          times-head cell.0 zs,
-        )) in
-        let at = chain-contents es lists l l_in ∙ ap (map (slot es)) is in
-        contents-set_free es (set lists l ys) (length C) (list_at (set lists l ys) (length C) ++ cell.0 ∷
-        []) (omega (arith, size, length-set lists l ys))
-        ∙ contents-set es lists l ys l_in ∙ ap (λ (x : List ℕ). set C l (map (slot es) x)) less
-        ∙ ap (set C l) (sym (ap (λ (x : List Slot). remove x (length xs)) at ∙ remove-mid es xs cell.0 zs))
-        ∙ sym (unlinked-at C l (length xs) cell (get_or es cell.0 no_entry) ((IsSound-from_whole s r i).once cell)
-        (stands es lists l cell.0 xs zs l_in is))
+pub content-unlinked : (s : List Node) (r : List Header) (cell : Cell) (node : Node) → IsWhole s r
+    → IsUsed s r cell node
+    → contents (entries_of s) (moved (lists_of s r) cell.0 (node_at s cell.0).owner (length (content_at s r)))
+    ≡ unlinked (content_at s r) cell
+content-unlinked s r cell node i u =
+    let lists = lists_of s r in
+    let es = entries_of s in
+    let C = content_at s r in
+    let f = length C in
+    let l = (node_at s cell.0).owner in
+    let p = standing s r cell i u.inside (omega (arith, u.listed, ap (λ (t : Node). t.owner) u.same)) in
+    let ys = lacking cell.0 (list_at lists l) in
+    let rest = set lists l ys in
+    let less : ys ≡ p.before ++ p.behind =
+    ap (lacking cell.0) p.is ∙ lacking-split cell.0 p.before p.behind p.once in
+    let last : length rest - 1 ≤ f = omega (arith, length-contents es lists, length-set lists l ys) in
+    contents-set_free es rest f (list_at rest f ++ cell.0 ∷ []) last
+    ∙ contents-set es lists l ys p.listed ∙ ap (λ (x : List ℕ). set C l (map (slot es) x)) less
+    ∙ ap (set C l) (sym (ap (λ (x : List Slot). remove x (length p.before)) p.chain
+    ∙ remove-mid es p.before cell.0 p.behind))
+    ∙ sym (unlinked-at C l (length p.before) cell (node_at s cell.0).entry
+    ((IsSound-from_whole s r i).once cell) p.stands)
 
 -- a list comes to the free list
 pub content-emptied : (s : List Node) (r : List Header) (l : ℕ) → l < length (content_at s r)
@@ -431,8 +412,7 @@ full-when s r n i e h = omega (
   arith,
   held-is s r i,
   ap (λ (k : ℕ). length (list_at (lists_of s r) k)) e,
-  none_is
-      (list_at (lists_of s r) n) h,
+  none_is (list_at (lists_of s r) n) h,
 )
   where
     none_is : (xs : List ℕ) → first_or xs None ≡ None → length xs ≡ 0
@@ -454,8 +434,7 @@ free-is s r k i e =
     omega (
       arith,
       ap (λ (m : ℕ). (header_at r m).count) same,
-      (i.store.ends.each n
-          (omega (arith, same, e, i.free, length-lists s r))).count,
+      (i.store.ends.each n (omega (arith, same, e, i.free, length-lists s r))).count,
       held-is s r i,
     )
 

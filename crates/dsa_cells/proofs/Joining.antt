@@ -170,8 +170,7 @@ ends-left s r lists from c xs zs a lt is w d =
     let here = Linked-right s None xs (c ∷ zs) None h.links in
     let fewer : (x : ℕ) → times x xs + times x zs ≤ times x (xs ++ c ∷ zs) = λ x. omega (
       arith,
-      times-append x xs (c ∷
-          zs),
+      times-append x xs (c ∷ zs),
       times-tail x c zs,
     ) in
     let once = λ (x : ℕ). d (suc from) x (λ e. omega (arith, e)) in
@@ -190,8 +189,7 @@ ends-left s r lists from c xs zs a lt is w d =
         arith,
         once x,
         fewer x,
-        times-append
-            x xs zs,
+        times-append x xs zs,
       ))
           (λ x k. w x (omega (arith, k, fewer x, times-append x xs zs))) (Linked-left s None xs (c ∷ zs) None h.links)
           here.2);

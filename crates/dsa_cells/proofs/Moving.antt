@@ -79,7 +79,8 @@ abbrev pub one_cell : ℕ → Header
 one_cell c = record { head = Some c; tail = Some c; count = 1 }
 
 -- behind which that list comes
-with_last-is : (s : List Node) (h : Header) (ys : List ℕ) (c : ℕ) → IsHeader s h ys → header_joined h (one_cell c) ≡ with_last h c
+with_last-is : (s : List Node) (h : Header) (ys : List ℕ) (c : ℕ) → IsHeader s h ys
+    → header_joined h (one_cell c) ≡ with_last h c
 with_last-is s h ys c i =
     let head : option_or h.head (Some c) ≡ or_else h.tail (Some c) h.head =
     ap (λ (o : Option ℕ). option_or o (Some c)) i.head ∙ go ys
@@ -134,8 +135,7 @@ transfer s r lists c to st lt to_r ne = go parts.0 parts.1 parts.2
       one,
       st.total,
       length-lacking c (list_at lists from),
-      sum_by-set length lists from
-          (lacking c (list_at lists from)) [] in_lists,
+      sum_by-set length lists from (lacking c (list_at lists from)) [] in_lists,
     )
 
     owners : owners_of (joined (alone (detached s c) c to) (header_at (headers_left s r c) to).tail (Some c)) ≡
@@ -189,8 +189,7 @@ transfer s r lists c to st lt to_r ne = go parts.0 parts.1 parts.2
           next = InRange-of s (xs ++ c ∷ zs) (first_or zs None) (node_at s c).next inside
               (Names-more zs (xs ++ c ∷ zs) (first_or zs None) (λ x. omega (
                 arith,
-                times-append x xs (c ∷
-                    zs),
+                times-append x xs (c ∷ zs),
                 times-tail x c zs,
               )) (Names-first zs)) h.1;
           previous = InRange-of s (xs ++ c ∷ zs) (last_or xs None) (node_at s c).previous inside
@@ -203,7 +202,8 @@ transfer s r lists c to st lt to_r ne = go parts.0 parts.1 parts.2
           room = omega (arith, end.count, total1, get_or-le-sum_by length lists1 to [] to_left);
           store = record {
             ends = subst (λ (h : Header). AreHeaders (joined s2 (header_at r1 to).tail (Some c)) (set r1 to h)
-                (moved lists c from to)) (with_last-is s2 (header_at r1 to) (list_at lists1 to) c (ends2.each to to_left))
+                (moved lists c from to))
+                (with_last-is s2 (header_at r1 to) (list_at lists1 to) c (ends2.each to to_left))
                 (ends-joined s2 r1 lists1 to (one_cell c) (node_at s2 c).previous (c ∷ []) ends2 to_left
                 (record { head = refl; tail = refl; count = refl; links = (refl, ap (λ (t : Node). t.next) at, tt) })
                 (λ x k.

@@ -108,8 +108,7 @@ store-fresh s n lists f = record {
   total = omega (
     arith,
     sum_by-append length (replicate lists no_cells) (upto 0 n ∷ []),
-    sum_by-replicate length lists
-        no_cells,
+    sum_by-replicate length lists no_cells,
     length-upto 0 n,
     f.size,
   );

@@ -100,8 +100,7 @@ mark-some s n i c owner o target lt is m =
                 omega (
                   arith,
                   a.inside x (omega (arith, later, times-tail x c (walk s k o))),
-                  length-changed
-                      (λ u. record u { owner = owner }) s (Some c),
+                  length-changed (λ u. record u { owner = owner }) s (Some c),
                 );
           },
         )
@@ -144,8 +143,7 @@ splice s r lists from to st from_r to_r ne = record {
     (st.ends.each to in_to).count,
     (st.ends.each from in_from).count,
     total1,
-    ap length
-        kept,
+    ap length kept,
     get_or-le-sum_by length rest to [] to_rest,
   );
   store = record {

@@ -27,8 +27,7 @@ sum-one c (xs ∷ lists) zero h =
       arith,
       sum_by-cons (times c) xs lists,
       none,
-      sum-one c lists (length lists)
-          (λ m ne. h (suc m) (λ e. omega (arith, e))),
+      sum-one c lists (length lists) (λ m ne. h (suc m) (λ e. omega (arith, e))),
     )
 sum-one c (xs ∷ lists) (suc l) h =
     let none : times c xs ≡ 0 = h 0 (λ e. omega (arith, e)) in
@@ -36,8 +35,7 @@ sum-one c (xs ∷ lists) (suc l) h =
       arith,
       sum_by-cons (times c) xs lists,
       none,
-      sum-one c lists l
-          (λ m ne. h (suc m) (λ e. ne (omega (arith, e)))),
+      sum-one c lists l (λ m ne. h (suc m) (λ e. ne (omega (arith, e)))),
     )
 
 -- the lists of a store share its cells out
