@@ -35,34 +35,41 @@ abbrev after_reset : Scope → Setup → Setup
 after_reset scope setup = with_sizes_alone (queues_in scope) (with_phases (names (queues_in scope)) Off setup)
 
 -- a queue that is not named keeps its configuration
-config-same : (scope : Scope) (setup : Setup) (q : ℕ) → IsWhole setup → names (queues_in scope) q ≡ false → queue_at (after_reset scope setup).configs q ≡ queue_at setup.configs q
+config-same : (scope : Scope) (setup : Setup) (q : ℕ) → IsWhole setup → names (queues_in scope) q ≡ false
+    → queue_at (after_reset scope setup).configs q ≡ queue_at setup.configs q
 config-same scope setup q w out = on (cases_lt q setup.caps.queues)
   where
     f : ℕ → QueueConfig
     f k = cond (names (queues_in scope) k) (size_alone (queue_at setup.configs k)) (queue_at setup.configs k)
 
-    on : (q < setup.caps.queues) ⊎ (setup.caps.queues ≤ q) → queue_at (after_reset scope setup).configs q ≡ queue_at setup.configs q
+    on : (q < setup.caps.queues) ⊎ (setup.caps.queues ≤ q)
+        → queue_at (after_reset scope setup).configs q ≡ queue_at setup.configs q
     on (inl h) = get_or-each f zero_queue setup.caps.queues q h ∙ rw out refl
     on (inr h) = grind (arith, common_steps, length-each f setup.caps.queues, w.configs, h)
 
 -- and its entries hold what they held
-held-same : (scope : Scope) (setup : Setup) (e : Entry) → IsWhole setup → is_in_scope scope e ≡ false → held_by (after_reset scope setup) e ≡ held_by setup e
+held-same : (scope : Scope) (setup : Setup) (e : Entry) → IsWhole setup → is_in_scope scope e ≡ false
+    → held_by (after_reset scope setup) e ≡ held_by setup e
 held-same scope setup e w out =
     ap (λ (config : QueueConfig). cond {A = ℕ} e.running (need e.desc (limits_of config) (is_member e)) 0) (config-same scope setup e.queue w (unnamed scope e out))
 
 -- so does what is left of a list
-load-spared : (scope : Scope) (setup : Setup) → IsWhole setup → (l : List Slot) → load (after_reset scope setup) (filter (λ (s : Slot). not (is_in_scope scope s.1)) l) ≡ load setup (filter (λ (s : Slot). not (is_in_scope scope s.1)) l)
+load-spared : (scope : Scope) (setup : Setup) → IsWhole setup → (l : List Slot)
+    → load (after_reset scope setup) (filter (λ (s : Slot). not (is_in_scope scope s.1)) l) ≡ load setup (filter (λ (s : Slot). not (is_in_scope scope s.1)) l)
 load-spared scope setup w [] = load-nil (after_reset scope setup) ∙ sym (load-nil setup)
 load-spared scope setup w (s ∷ l) = on (is_in_scope scope s.1) refl (load-spared scope setup w l)
   where
-    on : (b : Bool) → is_in_scope scope s.1 ≡ b → load (after_reset scope setup) (filter (λ (x : Slot). not (is_in_scope scope x.1)) l) ≡ load setup (filter (λ (x : Slot). not (is_in_scope scope x.1)) l)
+    on : (b : Bool) → is_in_scope scope s.1 ≡ b
+        → load (after_reset scope setup) (filter (λ (x : Slot). not (is_in_scope scope x.1)) l) ≡ load setup (filter (λ (x : Slot). not (is_in_scope scope x.1)) l)
         → load (after_reset scope setup) (cond (not b) (s ∷ filter (λ (x : Slot). not (is_in_scope scope x.1)) l) (filter (λ (x : Slot). not (is_in_scope scope x.1)) l)) ≡ load setup (cond (not b) (s ∷ filter (λ (x : Slot). not (is_in_scope scope x.1)) l) (filter (λ (x : Slot). not (is_in_scope scope x.1)) l))
     on true is h = h
     on false is h =
         let rest : List Slot = filter (λ (x : Slot). not (is_in_scope scope x.1)) l in
         load-cons (after_reset scope setup) s rest ∙ rw (held-same scope setup s.1 w is, h) (sym (load-cons setup s rest))
 
-chain-kept : (test : Entry → Bool) (content : Content) (i : ℕ) → chain (kept test content) i ≡ filter (λ (s : Slot). test s.1) (chain content i)
+-- a list of what is kept
+chain-kept : (test : Entry → Bool) (content : Content) (i : ℕ)
+    → chain (kept test content) i ≡ filter (λ (s : Slot). test s.1) (chain content i)
 chain-kept test [] i = refl
 chain-kept test (l ∷ ls) zero = refl
 chain-kept test (l ∷ ls) (suc i) = chain-kept test ls i
@@ -72,8 +79,10 @@ pub reset-named : (scope : Scope) (setup : Setup) → (scope ≡ Device → ⊥)
 reset-named Device setup n = absurd (n refl)
 reset-named _ setup n = refl
 
+-- so a reset of named queues
 in_step-named : (scope : Scope) (setup : Setup) (gear : Gear) (content now : Content) → IsWhole setup
-    → now ≡ kept (λ entry. not (is_in_scope scope entry)) content → IsInStep setup gear now → IsInStep (after_reset scope setup) gear now
+    → now ≡ kept (λ entry. not (is_in_scope scope entry)) content → IsInStep setup gear now
+    → IsInStep (after_reset scope setup) gear now
 in_step-named scope setup gear content now w is s = in_step-kept setup (after_reset scope setup) gear now now s (record {
   caps = refl;
   groups = refl;
@@ -83,6 +92,7 @@ in_step-named scope setup gear content now w is s = in_step-kept setup (after_re
 
 -- a reset leaves what the engines keep in step with what it left
 pub in_step-reset : (scope : Scope) (setup : Setup) (gear : Gear) (content now : Content) → IsWhole setup
-    → now ≡ kept (λ entry. not (is_in_scope scope entry)) content → IsInStep setup gear now → IsInStep (reset scope setup) gear now
+    → now ≡ kept (λ entry. not (is_in_scope scope entry)) content → IsInStep setup gear now
+    → IsInStep (reset scope setup) gear now
 in_step-reset Device setup gear content now w is s = record { notes = s.notes; homes = λ x. absurd cc; buffers = λ x. absurd cc }
 in_step-reset scope setup gear content now w is s = in_step-named scope setup gear content now w is s

@@ -27,7 +27,8 @@ use Rattle.dsa_admin.specs.Admin.{is_meant, is_spared, row_of, rows_of}
 -- ---- a cell
 
 -- a cell that has an entry is one of those held
-pub used-entry : (content : Content) (cell : Cell) (e : Entry) → entry_of content cell ≡ Some e → (1 ≤ uses content cell) × (held (unlinked content cell) + 1 ≤ held content)
+pub used-entry : (content : Content) (cell : Cell) (e : Entry) → entry_of content cell ≡ Some e
+    → (1 ≤ uses content cell) × (held (unlinked content cell) + 1 ≤ held content)
 used-entry content cell e h =
     let some : 1 ≤ uses content cell = grind (arith, h, entry_of-none content cell) in
     (some, omega (arith, some, held-unlinked content cell))
@@ -37,7 +38,9 @@ map-cond row true s = refl
 map-cond row false s = refl
 
 -- one more place of the list
-pub rows-turn : (command : Command) (content : Content) (i k : ℕ) (cell : Cell) (e : Entry) → StandsAt content i k cell e → rows_of command (take (k + 1) (chain content i)) ≡ rows_of command (take k (chain content i)) ++ cond (is_in_scope (scope_of command) e) (fate_row (Aborted (number_of command)) (cell, e) ∷ []) []
+pub rows-turn : (command : Command) (content : Content) (i k : ℕ) (cell : Cell) (e : Entry)
+    → StandsAt content i k cell e
+    → rows_of command (take (k + 1) (chain content i)) ≡ rows_of command (take k (chain content i)) ++ cond (is_in_scope (scope_of command) e) (fate_row (Aborted (number_of command)) (cell, e) ∷ []) []
 rows-turn command content i k cell e at =
     let l : List Slot = chain content i in
     let row : Slot → FateRow = fate_row (Aborted (number_of command)) in
@@ -54,19 +57,28 @@ pub record LooksAt (p : Slot → Bool) (content : Content) (i k : ℕ) (now : Co
   pub out : p (cell, e) ≡ false → unlinked now cell ≡ thinned p content i (k + 1)
   pub stay : p (cell, e) ≡ true → now ≡ thinned p content i (k + 1)
 
-pub looks-at : (p : Slot → Bool) (content : Content) (i k : ℕ) (now : Content) (cell : Cell) (got : Option Entry) (e : Entry) → ((c : Cell) → uses now c ≤ 1) → i < length content → k < length (chain content i) → first_cell (drop k (chain content i)) ≡ Some cell → now ≡ thinned p content i k → got ≡ entry_of now cell → got ≡ Some e → LooksAt p content i k now cell e
+-- the walk stands at that cell
+pub looks-at : (p : Slot → Bool) (content : Content) (i k : ℕ) (now : Content) (cell : Cell) (got : Option Entry) (e : Entry)
+    → ((c : Cell) → uses now c ≤ 1) → i < length content → k < length (chain content i)
+    → first_cell (drop k (chain content i)) ≡ Some cell → now ≡ thinned p content i k → got ≡ entry_of now cell
+    → got ≡ Some e → LooksAt p content i k now cell e
 looks-at p content i k now cell got e once hi h front left read is =
     let t : AtTurn p content i k now cell = at-turn p content i k now cell once hi h left front in
     let told : ◌≡◌ {A = Option Entry} (Some t.entry) (Some e) = sym t.get ∙ sym read ∙ is in
     let same : t.entry ≡ e = cc in
     subst (LooksAt p content i k now cell) same (record { stands = t.stands; now_stands = t.now_stands; found = t.get; next = t.next; out = t.out; stay = t.stay })
 
-left-by : (command : Command) (content : Content) (i k : ℕ) (now : Content) (cell : Cell) (e : Entry) → LooksAt (is_spared command) content i k now cell e → (b : Bool) → is_in_scope (scope_of command) e ≡ b → cond b (unlinked now cell) now ≡ thinned (is_spared command) content i (k + 1)
+-- it leaves, or stays, as the scope says
+left-by : (command : Command) (content : Content) (i k : ℕ) (now : Content) (cell : Cell) (e : Entry)
+    → LooksAt (is_spared command) content i k now cell e → (b : Bool) → is_in_scope (scope_of command) e ≡ b
+    → cond b (unlinked now cell) now ≡ thinned (is_spared command) content i (k + 1)
 left-by command content i k now cell e t true h = t.out (ap not h)
 left-by command content i k now cell e t false h = t.stay (ap not h)
 
 -- room for the rows of what is held is left
-room-turn : (now after : Content) (cell : Cell) (e : Entry) (rows more : List FateRow) (row : FateRow) (capacity : ℕ) (b : Bool) → entry_of now cell ≡ Some e → after ≡ cond b (unlinked now cell) now → more ≡ rows ++ cond b (row ∷ []) [] → length rows + held now ≤ capacity → length more + held after ≤ capacity
+room-turn : (now after : Content) (cell : Cell) (e : Entry) (rows more : List FateRow) (row : FateRow) (capacity : ℕ) (b : Bool)
+    → entry_of now cell ≡ Some e → after ≡ cond b (unlinked now cell) now → more ≡ rows ++ cond b (row ∷ []) []
+    → length rows + held now ≤ capacity → length more + held after ≤ capacity
 room-turn now after cell e rows more row capacity true h is rs room =
     let used : (1 ≤ uses now cell) × (held (unlinked now cell) + 1 ≤ held now) = used-entry now cell e h in
     let count : length more ≡ length rows + 1 = grind (arith, common_steps, rs) in
@@ -77,7 +89,9 @@ room-turn now after cell e rows more row capacity false h is rs room =
     let left : held after ≡ held now = ap held is in
     omega (arith, count, left, room)
 
-book-turn : (first now after : Records) (xs more all : List FateRow) → now ≡ record first { fates = first.fates ++ xs } → after ≡ record now { fates = now.fates ++ more } → all ≡ xs ++ more → after ≡ record first { fates = first.fates ++ all }
+book-turn : (first now after : Records) (xs more all : List FateRow) → now ≡ record first { fates = first.fates ++ xs }
+    → after ≡ record now { fates = now.fates ++ more } → all ≡ xs ++ more
+    → after ≡ record first { fates = first.fates ++ all }
 book-turn first now after xs more all is step every =
     let joined : now.fates ++ more ≡ first.fates ++ all = ap (λ (b : Records). b.fates ++ more) is ∙ append_assoc first.fates xs more ∙ ap (λ (l : List FateRow). first.fates ++ l) (sym every) in
     step ∙ ap (λ (l : List FateRow). record now { fates = l }) joined ∙ ap (λ (b : Records). record b { fates = first.fates ++ all }) is
@@ -88,11 +102,17 @@ pub record IsWithdrawn (command : Command) (content : Content) (first : Records)
   pub rows : book ≡ record first { fates = first.fates ++ rows_of command (take k (chain content i)) }
   pub room : length book.fates + held now ≤ book.capacity
 
-pub withdrawn-room : (content : Content) (book : Records) (cell : Cell) (got : Option Entry) (e : Entry) → length book.fates + held content ≤ book.capacity → got ≡ entry_of content cell → got ≡ Some e → length book.fates < book.capacity
+pub withdrawn-room : (content : Content) (book : Records) (cell : Cell) (got : Option Entry) (e : Entry)
+    → length book.fates + held content ≤ book.capacity → got ≡ entry_of content cell → got ≡ Some e
+    → length book.fates < book.capacity
 withdrawn-room content book cell got e room read is = omega (arith, room, (used-entry content cell e (sym read ∙ is)).1)
 
-withdrawn-turn : (command : Command) (content : Content) (first : Records) (i k : ℕ) (now after : Content) (book later : Records) (cell : Cell) (e : Entry) (b : Bool) → LooksAt (is_spared command) content i k now cell e → IsWithdrawn command content first i k now book → is_in_scope (scope_of command) e ≡ b → after ≡ cond b (unlinked now cell) now
-    → later ≡ record book { fates = book.fates ++ cond b (fate_row (Aborted (number_of command)) (cell, e) ∷ []) [] } → IsWithdrawn command content first i (k + 1) after later
+-- one more place
+withdrawn-turn : (command : Command) (content : Content) (first : Records) (i k : ℕ) (now after : Content) (book later : Records) (cell : Cell) (e : Entry) (b : Bool)
+    → LooksAt (is_spared command) content i k now cell e → IsWithdrawn command content first i k now book
+    → is_in_scope (scope_of command) e ≡ b → after ≡ cond b (unlinked now cell) now
+    → later ≡ record book { fates = book.fates ++ cond b (fate_row (Aborted (number_of command)) (cell, e) ∷ []) [] }
+    → IsWithdrawn command content first i (k + 1) after later
 withdrawn-turn command content first i k now after book later cell e b t w scope left rows =
     let row : FateRow = fate_row (Aborted (number_of command)) (cell, e) in
     record {
@@ -105,22 +125,30 @@ withdrawn-turn command content first i k now after book later cell e b t w scope
     }
 
 -- a cell that the command is not about stays
-pub withdrawn-stays : (command : Command) (content : Content) (first : Records) (i k : ℕ) (now : Content) (book : Records) (cell : Cell) (e : Entry) → LooksAt (is_spared command) content i k now cell e → IsWithdrawn command content first i k now book → is_in_scope (scope_of command) e ≡ false → IsWithdrawn command content first i (k + 1) now book
+pub withdrawn-stays : (command : Command) (content : Content) (first : Records) (i k : ℕ) (now : Content) (book : Records) (cell : Cell) (e : Entry)
+    → LooksAt (is_spared command) content i k now cell e → IsWithdrawn command content first i k now book
+    → is_in_scope (scope_of command) e ≡ false → IsWithdrawn command content first i (k + 1) now book
 withdrawn-stays command content first i k now book cell e t w scope =
     withdrawn-turn command content first i k now now book book cell e false t w scope refl (ap (λ (l : List FateRow). record book { fates = l }) (sym (append-nil book.fates)))
 
 -- a cell that the command is about leaves, with its row
-pub withdrawn-leaves : (command : Command) (content : Content) (first : Records) (i k : ℕ) (now after : Content) (book later : Records) (cell : Cell) (e : Entry) (row : FateRow) → LooksAt (is_spared command) content i k now cell e → IsWithdrawn command content first i k now book → is_in_scope (scope_of command) e ≡ true → after ≡ unlinked now cell → row ≡ row_of command e
+pub withdrawn-leaves : (command : Command) (content : Content) (first : Records) (i k : ℕ) (now after : Content) (book later : Records) (cell : Cell) (e : Entry) (row : FateRow)
+    → LooksAt (is_spared command) content i k now cell e → IsWithdrawn command content first i k now book
+    → is_in_scope (scope_of command) e ≡ true → after ≡ unlinked now cell → row ≡ row_of command e
     → later ≡ record book { fates = book.fates ++ row ∷ [] } → IsWithdrawn command content first i (k + 1) after later
 withdrawn-leaves command content first i k now after book later cell e row t w scope left row_is rows =
     withdrawn-turn command content first i k now after book later cell e true t w scope left (rows ∙ ap (λ (x : FateRow). record book { fates = book.fates ++ x ∷ [] }) row_is)
 
 -- the store's lists are no fewer, and something is held while a list has a place left
-pub length-thinned : (p : Slot → Bool) (content now : Content) (i k : ℕ) → now ≡ thinned p content i k → length now ≡ length content
+pub length-thinned : (p : Slot → Bool) (content now : Content) (i k : ℕ) → now ≡ thinned p content i k
+    → length now ≡ length content
 length-thinned p content now i k is = ap length is ∙ length-set content i (filter p (take k (chain content i)) ++ drop k (chain content i))
 
 -- what the store gives for a cell of the list is an entry
-pub withdrawn-found : (p : Slot → Bool) (content : Content) (i k : ℕ) (now : Content) (cell : Cell) (got : Option Entry) → ((c : Cell) → uses now c ≤ 1) → i < length content → k < length (chain content i) → first_cell (drop k (chain content i)) ≡ Some cell → now ≡ thinned p content i k → got ≡ entry_of now cell → got ≡ None → ⊥
+pub withdrawn-found : (p : Slot → Bool) (content : Content) (i k : ℕ) (now : Content) (cell : Cell) (got : Option Entry)
+    → ((c : Cell) → uses now c ≤ 1) → i < length content → k < length (chain content i)
+    → first_cell (drop k (chain content i)) ≡ Some cell → now ≡ thinned p content i k → got ≡ entry_of now cell
+    → got ≡ None → ⊥
 withdrawn-found p content i k now cell got once hi h front left read none =
     let t : AtTurn p content i k now cell = at-turn p content i k now cell once hi h left front in
     let told : ◌≡◌ {A = Option Entry} None (Some t.entry) = sym none ∙ read ∙ t.get in
@@ -132,17 +160,22 @@ withdrawn-found p content i k now cell got once hi h front left read none =
 abbrev pub swept : Command → Content → ℕ → Content
 swept command content n = map (filter (is_spared command)) (take n content) ++ drop n content
 
-pub swept-turn : (command : Command) (content now : Content) (n : ℕ) → n < length content → now ≡ swept command content n → set now n (filter (is_spared command) (chain now n)) ≡ swept command content (n + 1)
+pub swept-turn : (command : Command) (content now : Content) (n : ℕ) → n < length content
+    → now ≡ swept command content n
+    → set now n (filter (is_spared command) (chain now n)) ≡ swept command content (n + 1)
 swept-turn command content now n h is = map_over_more (filter (is_spared command)) content now n (chain now n) h is (grind (arith, common_steps, is, h))
 
-pub swept-length : (command : Command) (content now : Content) (n : ℕ) → now ≡ swept command content n → length now ≡ length content
+pub swept-length : (command : Command) (content now : Content) (n : ℕ) → now ≡ swept command content n
+    → length now ≡ length content
 swept-length command content now n is = grind (arith, common_steps, is)
 
-pub swept-chain : (command : Command) (content now : Content) (n : ℕ) → n < length content → now ≡ swept command content n → chain now n ≡ chain content n
+pub swept-chain : (command : Command) (content now : Content) (n : ℕ) → n < length content
+    → now ≡ swept command content n → chain now n ≡ chain content n
 swept-chain command content now n h is = grind (arith, common_steps, is)
 
 -- the rows of one list after those of the lists before it
-pub rows-lists : (command : Command) (content : Content) (n : ℕ) → n < length content → rows_of command (all_held (take (n + 1) content)) ≡ rows_of command (all_held (take n content)) ++ rows_of command (chain content n)
+pub rows-lists : (command : Command) (content : Content) (n : ℕ) → n < length content
+    → rows_of command (all_held (take (n + 1) content)) ≡ rows_of command (all_held (take n content)) ++ rows_of command (chain content n)
 rows-lists command content n h =
     let row : Slot → FateRow = fate_row (Aborted (number_of command)) in
     let one : all_held (take (n + 1) content) ≡ all_held (take n content) ++ chain content n
@@ -151,7 +184,10 @@ rows-lists command content n h =
     ∙ ap (map row) (filter-append (is_meant command) (all_held (take n content)) (chain content n))
     ∙ map-append row (filter (is_meant command) (all_held (take n content))) (filter (is_meant command) (chain content n))
 
-room-lists : (command : Command) (now after : Content) (n : ℕ) (rows more : List FateRow) (capacity : ℕ) → n < length now → after ≡ set now n (filter (is_spared command) (chain now n)) → more ≡ rows ++ rows_of command (chain now n) → length rows + held now ≤ capacity → length more + held after ≤ capacity
+room-lists : (command : Command) (now after : Content) (n : ℕ) (rows more : List FateRow) (capacity : ℕ)
+    → n < length now → after ≡ set now n (filter (is_spared command) (chain now n))
+    → more ≡ rows ++ rows_of command (chain now n) → length rows + held now ≤ capacity
+    → length more + held after ≤ capacity
 room-lists command now after n rows more capacity h is rs room =
     let row : Slot → FateRow = fate_row (Aborted (number_of command)) in
     let both : length (filter (is_meant command) (chain now n)) + length (filter (is_spared command) (chain now n)) ≡ length (chain now n) = length-filter_both (is_meant command) (is_spared command) (λ x. refl) (chain now n) in
@@ -161,7 +197,8 @@ room-lists command now after n rows more capacity h is rs room =
     omega (arith, both, less, left, count, room)
 
 -- the lists and what is held of a device that took entries out are still those of a device
-pub ready-less : (setup : Setup) (content now : Content) → IsReady setup content → length now ≡ length content → held now ≤ held content → IsReady setup now
+pub ready-less : (setup : Setup) (content now : Content) → IsReady setup content → length now ≡ length content
+    → held now ≤ held content → IsReady setup now
 ready-less setup content now r len less = record {
   caps = r.caps;
   lists = len ∙ r.lists;
@@ -177,15 +214,21 @@ pub record IsSwept (command : Command) (setup : Setup) (content : Content) (firs
   pub room : length book.fates + held now ≤ book.capacity
   pub ready : IsReady setup now
 
-held-less : (command : Command) (now : Content) (n : ℕ) → n < length now → held (set now n (filter (is_spared command) (chain now n))) ≤ held now
+held-less : (command : Command) (now : Content) (n : ℕ) → n < length now
+    → held (set now n (filter (is_spared command) (chain now n))) ≤ held now
 held-less command now n h =
     let both : length (filter (is_meant command) (chain now n)) + length (filter (is_spared command) (chain now n)) ≡ length (chain now n) = length-filter_both (is_meant command) (is_spared command) (λ x. refl) (chain now n) in
     omega (arith, both, held-set now n (filter (is_spared command) (chain now n)) h)
 
-pub swept-within : (command : Command) (content now : Content) (n : ℕ) → n < length content → now ≡ swept command content n → n < length now
+pub swept-within : (command : Command) (content now : Content) (n : ℕ) → n < length content
+    → now ≡ swept command content n → n < length now
 swept-within command content now n h is = rw (swept-length command content now n is) h
 
-pub swept-next : (command : Command) (setup : Setup) (content : Content) (first : Records) (n : ℕ) (now after : Content) (book later : Records) → n < length content → IsSwept command setup content first n now book → after ≡ set now n (filter (is_spared command) (chain now n)) → later ≡ record book { fates = book.fates ++ rows_of command (chain now n) } → IsSwept command setup content first (n + 1) after later
+pub swept-next : (command : Command) (setup : Setup) (content : Content) (first : Records) (n : ℕ) (now after : Content) (book later : Records)
+    → n < length content → IsSwept command setup content first n now book
+    → after ≡ set now n (filter (is_spared command) (chain now n))
+    → later ≡ record book { fates = book.fates ++ rows_of command (chain now n) }
+    → IsSwept command setup content first (n + 1) after later
 swept-next command setup content first n now after book later h s left rows =
     let same : chain now n ≡ chain content n = swept-chain command content now n h s.left in
     let within : n < length now = swept-within command content now n h s.left in
@@ -200,7 +243,8 @@ swept-next command setup content first n now after book later h s left rows =
     }
 
 -- at first nothing is taken out
-pub swept-none : (command : Command) (setup : Setup) (content : Content) (first : Records) → IsReady setup content → length first.fates + held content ≤ first.capacity → IsSwept command setup content first 0 content first
+pub swept-none : (command : Command) (setup : Setup) (content : Content) (first : Records) → IsReady setup content
+    → length first.fates + held content ≤ first.capacity → IsSwept command setup content first 0 content first
 swept-none command setup content first r room = record {
   left = refl;
   rows = ap (λ (l : List FateRow). record first { fates = l }) (sym (append-nil first.fates));
@@ -211,14 +255,17 @@ swept-none command setup content first r room = record {
 -- ---- an abort as a whole
 
 -- what is taken out and what stays are all that was held
-pub held-kept : (command : Command) (content : Content) → held (kept (λ entry. not (is_in_scope (scope_of command) entry)) content) + count_in_scope (scope_of command) content ≡ held content
+pub held-kept : (command : Command) (content : Content)
+    → held (kept (λ entry. not (is_in_scope (scope_of command) entry)) content) + count_in_scope (scope_of command) content ≡ held content
 held-kept command content =
     let both : length (filter (is_meant command) (all_held content)) + length (filter (is_spared command) (all_held content)) ≡ length (all_held content) = length-filter_both (is_meant command) (is_spared command) (λ x. refl) (all_held content) in
     let left : held (kept (λ entry. not (is_in_scope (scope_of command) entry)) content) ≡ length (filter (is_spared command) (all_held content)) = held-counted (kept (λ entry. not (is_in_scope (scope_of command) entry)) content) ∙ ap length (all_held-kept (λ entry. not (is_in_scope (scope_of command) entry)) content) in
     omega (arith, both, left, held-counted content)
 
 -- so many more cells are free
-pub freed : (command : Command) (content now : Content) (free later cells : ℕ) → free + held content ≡ cells → later + held now ≡ cells → now ≡ kept (λ entry. not (is_in_scope (scope_of command) entry)) content → later ≡ free + count_in_scope (scope_of command) content
+pub freed : (command : Command) (content now : Content) (free later cells : ℕ) → free + held content ≡ cells
+    → later + held now ≡ cells → now ≡ kept (λ entry. not (is_in_scope (scope_of command) entry)) content
+    → later ≡ free + count_in_scope (scope_of command) content
 freed command content now free later cells before after is =
     let left : held now ≡ held (kept (λ entry. not (is_in_scope (scope_of command) entry)) content) = ap held is in
     omega (arith, before, after, left, held-kept command content)

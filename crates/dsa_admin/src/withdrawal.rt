@@ -66,8 +66,8 @@ fn withdraw_from<S: EntryStore>(
     }
 }
 
-/// Takes out what the command is about, list by list and the front first, and writes a row for each. What an engine kept of it
-/// goes.
+/// Takes out what the command is about, list by list and the front first, and writes a row for each.
+/// With a well-formed Batch in progress its engine's note goes.
 pub(crate) fn withdraw<S: EntryStore>(
     queues: &Queues,
     engines: &mut Engines,

@@ -16,7 +16,8 @@ pub record KeepsLoads (setup more : Setup) (content now : Content) : Type 0 wher
   pub device : is_off more.device ≡ false → is_off setup.device ≡ false
   pub loads : (j : ℕ) → setup.caps.queues ≤ j → load more (chain now j) ≡ load setup (chain content j)
 
-pub in_step-kept : (setup more : Setup) (gear : Gear) (content now : Content) → IsInStep setup gear content → KeepsLoads setup more content now → IsInStep more gear now
+pub in_step-kept : (setup more : Setup) (gear : Gear) (content now : Content) → IsInStep setup gear content
+    → KeepsLoads setup more content now → IsInStep more gear now
 in_step-kept setup more gear content now s k = record {
   notes = s.notes ∙ ap (λ (c : Caps). c.engines) (sym k.caps);
   homes = λ on. s.homes (k.device on) ∙ rw (k.caps, k.groups) refl;
@@ -24,7 +25,8 @@ in_step-kept setup more gear content now s k = record {
 }
 
 -- a queue's list, whatever it comes to
-pub in_step-queue : (setup : Setup) (gear : Gear) (content : Content) (q : ℕ) (l : List Slot) → IsInStep setup gear content → q < setup.caps.queues → IsInStep setup gear (set content q l)
+pub in_step-queue : (setup : Setup) (gear : Gear) (content : Content) (q : ℕ) (l : List Slot)
+    → IsInStep setup gear content → q < setup.caps.queues → IsInStep setup gear (set content q l)
 in_step-queue setup gear content q l s hq = in_step-kept setup setup gear content (set content q l) s (record {
   caps = refl;
   groups = refl;
@@ -33,5 +35,6 @@ in_step-queue setup gear content q l s hq = in_step-kept setup setup gear conten
 })
 
 -- an entry that goes to a queue
-pub in_step-pushed : (setup : Setup) (gear : Gear) (content : Content) (q : ℕ) (cell : Cell) (entry : Entry) → IsInStep setup gear content → q < setup.caps.queues → IsInStep setup gear (pushed content q cell entry)
+pub in_step-pushed : (setup : Setup) (gear : Gear) (content : Content) (q : ℕ) (cell : Cell) (entry : Entry)
+    → IsInStep setup gear content → q < setup.caps.queues → IsInStep setup gear (pushed content q cell entry)
 in_step-pushed setup gear content q cell entry s hq = in_step-queue setup gear content q (chain content q ++ (cell, entry) ∷ []) s hq

@@ -31,7 +31,8 @@ pub record IsLeaving (setup : Setup) (gear : Gear) (content : Content) (i k : �
   pub stands : StandsAt content i k cell entry
 
 -- while the device is Off nothing stands in a list
-pub awake-at : (setup : Setup) (content : Content) (i k : ℕ) → IsReady setup content → k < length (chain content i) → is_off setup.device ≡ false
+pub awake-at : (setup : Setup) (content : Content) (i k : ℕ) → IsReady setup content → k < length (chain content i)
+    → is_off setup.device ≡ false
 awake-at setup content i k r h =
     elim (cases_Bool (is_off setup.device)) [
       | inl off ↦ absurd (omega (arith, r.idle off, length-le-held content i, h))
@@ -39,19 +40,24 @@ awake-at setup content i k r h =
     ]
 
 -- by a first content of the same device
-pub is-leaving : (setup : Setup) (gear : Gear) (first content : Content) (i j k : ℕ) (cell : Cell) (entry : Entry) → IsReady setup first → j < length (chain first i) → IsInStep setup gear content → uses content cell ≤ 1 → i < length content → StandsAt content i k cell entry → IsLeaving setup gear content i k cell entry
+pub is-leaving : (setup : Setup) (gear : Gear) (first content : Content) (i j k : ℕ) (cell : Cell) (entry : Entry)
+    → IsReady setup first → j < length (chain first i) → IsInStep setup gear content → uses content cell ≤ 1
+    → i < length content → StandsAt content i k cell entry → IsLeaving setup gear content i k cell entry
 is-leaving setup gear first content i j k cell entry r within s once inside at =
     let on = awake-at setup first i j r within in
     record { on = on; groups = r.groups; alone = one-group setup first r on; in_step = s; once = once; inside = inside; stands = at }
 
 -- one that stands in a list of an engine
-pub leaving-on : (setup : Setup) (gear : Gear) (content : Content) (e : ℕ) (cell : Cell) (entry : Entry) → IsReady setup content → IsInStep setup gear content → uses content cell ≤ 1 → e < setup.caps.engines → (at : StandsOn setup content e cell entry) → IsLeaving setup gear content at.list at.place cell entry
+pub leaving-on : (setup : Setup) (gear : Gear) (content : Content) (e : ℕ) (cell : Cell) (entry : Entry)
+    → IsReady setup content → IsInStep setup gear content → uses content cell ≤ 1 → e < setup.caps.engines
+    → (at : StandsOn setup content e cell entry) → IsLeaving setup gear content at.list at.place cell entry
 leaving-on setup gear content e cell entry r s once he at =
     is-leaving setup gear content content at.list at.place at.place cell entry r at.stands.within s once
     (elim at.mine [ inl p ↦ omega (arith, p, r.lists, he) | inr m ↦ omega (arith, m, r.lists, he) ]) at.stands
 
 -- a list holds less by what the entry does
-load-remove : (setup : Setup) (l : List Slot) (k : ℕ) (s : Slot) → k < length l → get_or l k s ≡ s → load setup l ≡ load setup (remove l k) + held_by setup s.1
+load-remove : (setup : Setup) (l : List Slot) (k : ℕ) (s : Slot) → k < length l → get_or l k s ≡ s
+    → load setup l ≡ load setup (remove l k) + held_by setup s.1
 load-remove setup [] k s h e = absurd (omega arith)
 load-remove setup (x ∷ l) zero s h e =
     let same : held_by setup x.1 ≡ held_by setup s.1 = ap (λ (y : Slot). held_by setup y.1) e in
@@ -60,7 +66,9 @@ load-remove setup (x ∷ l) (suc k) s h e =
     omega (arith, load-cons setup x l, load-cons setup x (remove l k), load-remove setup l k s (omega arith) e)
 
 -- before the entry left, its list held what it holds more
-left-less : (setup : Setup) (gear : Gear) (content : Content) (e i k : ℕ) (cell : Cell) (entry : Entry) → IsLeaving setup gear content i k cell entry → e < setup.caps.engines → HoldsMore setup (unlinked content cell) content e i (held_by setup entry)
+left-less : (setup : Setup) (gear : Gear) (content : Content) (e i k : ℕ) (cell : Cell) (entry : Entry)
+    → IsLeaving setup gear content i k cell entry → e < setup.caps.engines
+    → HoldsMore setup (unlinked content cell) content e i (held_by setup entry)
 left-less setup gear content e i k cell entry l he =
     let is = unlinked-at content i k cell entry l.once l.stands in
     record {
@@ -69,21 +77,30 @@ left-less setup gear content e i k cell entry l he =
       mine = rw (is, get_or-set_same content i (remove (chain content i) k) [] l.inside) (load-remove setup (chain content i) k (cell, entry) l.stands.within l.stands.slot);
     }
 
-raises-list : (setup : Setup) (before after : Content) (e i n : ℕ) → IsMine setup e i → HoldsMore setup before after e i n → RaisesOne setup before after e n
+-- either of its two lists
+raises-list : (setup : Setup) (before after : Content) (e i n : ℕ) → IsMine setup e i
+    → HoldsMore setup before after e i n → RaisesOne setup before after e n
 raises-list setup before after e i n (inl is) h = raises-progress setup before after e n (subst (λ (j : ℕ). HoldsMore setup before after e j n) is h)
 raises-list setup before after e i n (inr is) h = raises-members setup before after e n (subst (λ (j : ℕ). HoldsMore setup before after e j n) is h)
 
 -- the group of its engine gives back what it held
-gives : (setup : Setup) (gear : Gear) (content : Content) (e i k : ℕ) (cell : Cell) (entry : Entry) → IsLeaving setup gear content i k cell entry → e < setup.caps.engines → IsMine setup e i → GivesBack setup content (unlinked content cell) e (held_by setup entry)
+gives : (setup : Setup) (gear : Gear) (content : Content) (e i k : ℕ) (cell : Cell) (entry : Entry)
+    → IsLeaving setup gear content i k cell entry → e < setup.caps.engines → IsMine setup e i
+    → GivesBack setup content (unlinked content cell) e (held_by setup entry)
 gives setup gear content e i k cell entry l he is =
     gives-back setup content (unlinked content cell) e (held_by setup entry) he l.groups l.alone (raises-list setup (unlinked content cell) content e i (held_by setup entry) is (left-less setup gear content e i k cell entry l he))
 
-pub holds-left : (setup : Setup) (gear : Gear) (content : Content) (e i k : ℕ) (cell : Cell) (entry : Entry) → IsLeaving setup gear content i k cell entry → e < setup.caps.engines → IsMine setup e i → Holds (get_or gear.homes e None) (held_by setup entry) gear.buffers
+-- and holds as much before
+pub holds-left : (setup : Setup) (gear : Gear) (content : Content) (e i k : ℕ) (cell : Cell) (entry : Entry)
+    → IsLeaving setup gear content i k cell entry → e < setup.caps.engines → IsMine setup e i
+    → Holds (get_or gear.homes e None) (held_by setup entry) gear.buffers
 holds-left setup gear content e i k cell entry l he is =
     rw (home-of setup gear content e l.in_step l.on he, l.in_step.buffers l.on) (gives setup gear content e i k cell entry l he is).holds
 
 -- and then the kept numbers agree again
-pub in_step-left : (setup : Setup) (gear : Gear) (content : Content) (e i k : ℕ) (cell : Cell) (entry : Entry) (notes : List (Option BatchNote)) → IsLeaving setup gear content i k cell entry → e < setup.caps.engines → IsMine setup e i → length notes ≡ length gear.notes
+pub in_step-left : (setup : Setup) (gear : Gear) (content : Content) (e i k : ℕ) (cell : Cell) (entry : Entry) (notes : List (Option BatchNote))
+    → IsLeaving setup gear content i k cell entry → e < setup.caps.engines → IsMine setup e i
+    → length notes ≡ length gear.notes
     → IsInStep setup (record gear { notes = notes; buffers = given (get_or gear.homes e None) (held_by setup entry) gear.buffers }) (unlinked content cell)
 in_step-left setup gear content e i k cell entry notes l he is len = record {
   notes = len ∙ l.in_step.notes;
@@ -93,18 +110,26 @@ in_step-left setup gear content e i k cell entry notes l he is len = record {
 
 -- ---- a removal
 
-pub may-release : (setup : Setup) (gear : Gear) (content : Content) (from : ListUse) (i k : ℕ) (cell : Cell) (entry : Entry) → IsLeaving setup gear content i k cell entry → HasList setup.caps from → list_number setup.caps from ≡ i → MayRelease setup gear (engine_of from) entry
+-- what the list is for says whose group
+pub may-release : (setup : Setup) (gear : Gear) (content : Content) (from : ListUse) (i k : ℕ) (cell : Cell) (entry : Entry)
+    → IsLeaving setup gear content i k cell entry → HasList setup.caps from → list_number setup.caps from ≡ i
+    → MayRelease setup gear (engine_of from) entry
 may-release setup gear content (Queue q) i k cell entry l has at = tt
 may-release setup gear content (Progress e) i k cell entry l has at = holds-left setup gear content e i k cell entry l has (inl (sym at))
 may-release setup gear content (Members e) i k cell entry l has at = holds-left setup gear content e i k cell entry l has (inr (sym at))
 
-length-noteless : (from : ListUse) (b : Bool) (notes : List (Option BatchNote)) → length (cond b (noteless from notes) notes) ≡ length notes
+-- the list of notes keeps its length
+length-noteless : (from : ListUse) (b : Bool) (notes : List (Option BatchNote))
+    → length (cond b (noteless from notes) notes) ≡ length notes
 length-noteless from false notes = refl
 length-noteless (Queue q) true notes = refl
 length-noteless (Progress e) true notes = length-set notes e None
 length-noteless (Members e) true notes = refl
 
-pub in_step-removed : (setup : Setup) (gear : Gear) (content : Content) (from : ListUse) (i k : ℕ) (cell : Cell) (entry : Entry) → IsLeaving setup gear content i k cell entry → HasList setup.caps from → list_number setup.caps from ≡ i → IsInStep setup (removed setup from entry gear) (unlinked content cell)
+-- what the engines keep agrees with the lists again
+pub in_step-removed : (setup : Setup) (gear : Gear) (content : Content) (from : ListUse) (i k : ℕ) (cell : Cell) (entry : Entry)
+    → IsLeaving setup gear content i k cell entry → HasList setup.caps from → list_number setup.caps from ≡ i
+    → IsInStep setup (removed setup from entry gear) (unlinked content cell)
 in_step-removed setup gear content (Queue q) i k cell entry l has at =
     let low : i < setup.caps.queues = omega (arith, has, at) in
     let s : IsInStep setup gear (unlinked content cell) = rw (unlinked-at content i k cell entry l.once l.stands) (in_step-queue setup gear content i (remove (chain content i) k) l.in_step low) in
