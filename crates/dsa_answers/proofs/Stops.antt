@@ -1,10 +1,8 @@
 -- What is Stopping is what the active command disables.
-use Rattle.std.proofs.Common.{◌≡◌, ℕ, Bool, true, false, cond, not, ◌&&◌, List, [], ◌∷◌, length, Option, Some, None, option_map, option_and_then, refl, sym, ap, subst, ◌∙◌}
+use Rattle.std.proofs.Common.{◌≡◌, ℕ, Bool, true, false, cond, not, List, [], ◌∷◌, Option, Some, None, refl, sym, ap, subst, ◌∙◌}
 use Rattle.std.specs.Prelude.{zero, suc, ◌==◌, find, replicate, get_or, slice_set, is_some}
 use Rattle.dsa_desc.specs.declared.Descriptor.{Descriptor}
-use Rattle.dsa_desc.specs.declared.Outcome.{Outcome}
-use Rattle.dsa_desc.specs.Rows.{when}
-use Rattle.dsa_desc.proofs.Tables.{when-some, one_row, table2, table3}
+use Rattle.dsa_desc.proofs.Tables.{first_row_or-each, one_row, table3}
 use Rattle.dsa_regs.specs.declared.Caps.{Caps}
 use Rattle.dsa_regs.specs.declared.Phase.{Phase}
 use Rattle.dsa_regs.specs.declared.Phase.TheVariants.{Off, On, Stopping}
@@ -14,7 +12,7 @@ use Rattle.dsa_regs.specs.declared.Scope.TheVariants.{Device, Queue}
 use Rattle.dsa_regs.specs.declared.Deed.{Deed}
 use Rattle.dsa_regs.specs.declared.Deed.TheVariants.{Enable, Disable, Abort, Reset}
 use Rattle.dsa_regs.specs.declared.Fault.{Fault}
-use Rattle.dsa_regs.specs.declared.Fault.TheVariants.{BadQueue, WrongState, Busy, BadIndex, Locked}
+use Rattle.dsa_regs.specs.declared.Fault.TheVariants.{BadQueue, WrongState, Busy}
 use Rattle.dsa_regs.specs.declared.QueueConfig.{QueueConfig}
 use Rattle.dsa_regs.specs.declared.GroupConfig.{GroupConfig}
 use Rattle.dsa_regs.specs.Command.{scope_of, deed_of, queues_in}
@@ -30,14 +28,8 @@ use Rattle.dsa_book.specs.declared.event.Step.{Step}
 use Rattle.dsa_book.specs.declared.answer.Cause.{Cause}
 use Rattle.dsa_book.specs.declared.answer.Cause.TheVariants.{AtLimit, NotEnabled, WrongKind}
 use Rattle.dsa_book.specs.declared.answer.SubmitAnswer.{SubmitAnswer}
-use Rattle.dsa_book.specs.declared.answer.DispatchAnswer.{DispatchAnswer}
-use Rattle.dsa_book.specs.declared.answer.DispatchAnswer.TheVariants.{Taken, Idle, Full}
 use Rattle.dsa_book.specs.declared.answer.FetchAnswer.{FetchAnswer}
 use Rattle.dsa_book.specs.declared.answer.FetchAnswer.TheVariants.{AllFetched}
-use Rattle.dsa_book.specs.declared.answer.StartAnswer.{StartAnswer}
-use Rattle.dsa_book.specs.declared.answer.StartAnswer.TheVariants.{Started, FenceWait, NoBuffers, Abandoned}
-use Rattle.dsa_book.specs.declared.answer.FinishAnswer.{FinishAnswer}
-use Rattle.dsa_book.specs.declared.answer.FinishAnswer.TheVariants.{Done, NotReady}
 use Rattle.dsa_book.specs.declared.answer.IssueAnswer.{IssueAnswer}
 use Rattle.dsa_book.specs.declared.answer.IssueAnswer.TheVariants.{Refused}
 use Rattle.dsa_book.specs.declared.answer.PollAnswer.{PollAnswer}
@@ -46,13 +38,14 @@ use Rattle.dsa_book.specs.declared.answer.WriteAnswer.TheVariants.{Written, Refu
 use Rattle.dsa_book.specs.declared.event.Event.{Event}
 use Rattle.dsa_book.specs.declared.event.Event.TheVariants.{Submit, Dispatch, Fetch, Start, Finish, Issue, Poll, WriteQueue, WriteGroup, ClearError}
 use Rattle.dsa_book.specs.declared.answer.Reply.{Reply}
-use Rattle.dsa_book.specs.declared.answer.Reply.TheVariants.{Submit, Dispatch, Fetch, Start, Finish, Issue, Poll, Write, Clear}
-use Rattle.dsa_book.specs.Same.{same_submit, same_fetch, same_start, same_finish, same_issue, same_poll, same_write, same_clear}
-use Rattle.dsa_book.specs.State.{Setup, Intake, Work, State, opening, is_ticket, ticket_of, is_off, phase_at}
-use Rattle.dsa_book.specs.Submit.{submit, turned_away, accepted}
-use Rattle.dsa_book.specs.Work.{front_of, qualifies, taken, fetch, fetch_for, fetch_of, fetched, note_at, batch_on, start, start_of, started, abandoned, members, first_waiting, finish, finish_of, last_status, ended, running_on}
-use Rattle.dsa_book.specs.Commands.{issue, check_of, refused_or, carried_out, done_by, waits, poll, poll_of, stopped, names, with_phases, write_queue, write_group, clear, clear_of}
-use Rattle.dsa_book.specs.Machine.{next, replay, replay_from, with_work, with_intake, with_setup, intake_of, accepted_cell, fetched_cell, cell_or_first, may_use}
+use Rattle.dsa_book.specs.State.{Setup, Intake, Work, State, opening, is_ticket, is_off, phase_at}
+use Rattle.dsa_book.specs.Submit.{submit, submit_table, turned_away, accepted}
+use Rattle.dsa_book.specs.Work.{dispatch, fetch_for, fetch_of, fetched, note_at, batch_on, start, first_waiting, finish, running_on}
+use Rattle.dsa_book.specs.Commands.{issue, check_of, refused_or, carried_out, done_by, waits, poll_of, stopped, names, with_phases, write_queue, write_queue_table, write_group, write_group_table, clear_of}
+use Rattle.dsa_book.specs.Machine.{next, reply_of, replay, replay_from, intake_of}
+use Rattle.dsa_book.specs.Choice.{Choice, cell_of}
+use Rattle.dsa_book.proofs.Nexts.{next-each}
+use Rattle.dsa_book.proofs.Leaving.{dispatch-setup, start_of-setup, finish_of-setup}
 use Rattle.dsa_answers.specs.Stops.{is_stopping, stops_device, stops_queue, is_active_command, StopsByCommand, IsAtRest}
 use Rattle.dsa_book.proofs.Replay.{replay_none}
 use Rattle.dsa_book.proofs.Phases.{by_phase}
@@ -88,96 +81,52 @@ at-rest setup active n h = record {
   queues = λ q. none (is_stopping (phase_at setup q)) (λ t. ap (is_active_command (λ deed scope. stops_queue deed scope q)) (sym n) ∙ h.queues q t);
 }
 
--- ---- submit
-
-turned_away-stops : (s s' : State) (q : ℕ) (kind : Kind) (cause : Cause) → Stops s.work.setup s.active → with_intake s (turned_away (intake_of s) q kind cause).1 ≡ s' → Stops s'.work.setup s'.active
-turned_away-stops s s' q (Enqcmd pasid) cause i e = subst (λ t. Stops t.work.setup t.active) e (record { device = i.device; queues = i.queues })
-turned_away-stops s s' q Movdir64b cause i e = subst (λ t. Stops t.work.setup t.active) e (record { device = i.device; queues = i.queues })
-
-submit-stops : (s s' : State) (client q : ℕ) (portal : Portal) (kind : Kind) (d : Descriptor) (a : SubmitAnswer) → Stops s.work.setup s.active → next s (Submit client q portal kind d) (Submit a) ≡ Some s' → Stops s'.work.setup s'.active
-submit-stops s s' client q portal kind d a i h =
-    let cell = cell_or_first (accepted_cell a) in
-    let r = submit (intake_of s) q portal kind d cell in
-    let p = when-some (same_submit a r.0 && may_use s.work.setup s.work.content (accepted_cell a)) (with_intake s r.1) s' h in
-    let P : SubmitAnswer × Intake → Type 0 = λ r. with_intake s r.1 ≡ s' → Stops s'.work.setup s'.active in
-    table3 P _ _ _ (turned_away (intake_of s) q kind NotEnabled) (turned_away (intake_of s) q kind WrongKind) (turned_away (intake_of s) q kind AtLimit) (accepted (intake_of s) q kind d cell)
-    (λ x e. turned_away-stops s s' q kind NotEnabled i e)
-    (λ x e. turned_away-stops s s' q kind WrongKind i e)
-    (λ x e. turned_away-stops s s' q kind AtLimit i e)
-    (λ x y z e. subst (λ t. Stops t.work.setup t.active) e (record { device = i.device; queues = i.queues }))
-    p.1
-
--- ---- the engines' steps, which leave phases as they are
-
--- a state with a work of the same phases
-kept : (s s' : State) (w : Work) → Stops s.work.setup s.active → w.setup.device ≡ s.work.setup.device → w.setup.phases ≡ s.work.setup.phases → with_work s w ≡ s' → Stops s'.work.setup s'.active
-kept s s' w i d p e = subst (λ t. Stops t.work.setup t.active) e (record {
-  device = λ h. i.device (sym (ap is_stopping d) ∙ h);
-  queues = λ q h. i.queues q (sym (ap (λ (phases : List Phase). is_stopping (get_or phases q Off)) p) ∙ h);
-})
-
--- whether a work has the phases of the state
-abbrev HasPhases : State → Work → Type 0
-HasPhases s w = (w.setup.device ≡ s.work.setup.device) × (w.setup.phases ≡ s.work.setup.phases)
-
-dispatch-phases : (s s' : State) (e : ℕ) (a : DispatchAnswer) → Stops s.work.setup s.active → next s (Dispatch e) (Dispatch a) ≡ Some s' → Stops s'.work.setup s'.active
-dispatch-phases s s' e (Taken t q) i h = found (front_of s.work q) h
-  where
-    tested : (front : Slot) (b : Bool) → option_map (with_work s) (when b (taken s.work e q front)) ≡ Some s' → Stops s'.work.setup s'.active
-    tested front true h = kept s s' (taken s.work e q front) i refl refl cc
-    tested front false h = absurd cc
-
-    found : (o : Option Slot) → option_map (with_work s) (option_and_then (λ front. when (qualifies s.work e q && is_ticket t front) (taken s.work e q front)) o) ≡ Some s' → Stops s'.work.setup s'.active
-    found None h = absurd cc
-    found (Some front) h = tested front (qualifies s.work e q && is_ticket t front) h
-dispatch-phases s s' e Idle i h = idle _ h
-  where
-    idle : (b : Bool) → option_map (with_work s) (when b s.work) ≡ Some s' → Stops s'.work.setup s'.active
-    idle true h = kept s s' s.work i refl refl cc
-    idle false h = absurd cc
-dispatch-phases s s' e Full i h = absurd cc
-
-fetch_of-phases : (s : State) (e : ℕ) (d : Descriptor) (c : Cell) (note : BatchNote) (o : Option Slot) → HasPhases s (fetch_of s.work e d c note o).1
-fetch_of-phases s e d c note None = (refl, refl)
-fetch_of-phases s e d c note (Some batch) = one_row (λ (r : FetchAnswer × Work). HasPhases s r.1) _ (AllFetched, s.work) (fetched s.work e d c note batch.1) (refl, refl) (refl, refl)
-
-fetch-phases : (s : State) (e : ℕ) (d : Descriptor) (c : Cell) (o : Option BatchNote) → HasPhases s (fetch_for s.work e d c o).1
-fetch-phases s e d c None = (refl, refl)
-fetch-phases s e d c (Some note) = fetch_of-phases s e d c note (batch_on s.work e note)
-
-start-phases : (s : State) (e : ℕ) (o : Option Slot) → HasPhases s (start_of s.work e o).1
-start-phases s e None = (refl, refl)
-start-phases s e (Some slot) =
-    table3 (λ (r : StartAnswer × Work). HasPhases s r.1) _ _ _ (FenceWait, s.work) (Abandoned (length (members s.work e)), abandoned s.work e) (NoBuffers, s.work) (Started (ticket_of slot), started s.work e)
-    (λ x. (refl, refl)) (λ x. (refl, refl)) (λ x. (refl, refl)) (λ x y z. (refl, refl))
-
-finish-phases : (s : State) (e : ℕ) (outcome : Outcome) (o : Option Slot) → HasPhases s (finish_of s.work e outcome o).1
-finish-phases s e outcome None = (refl, refl)
-finish-phases s e outcome (Some slot) =
-    one_row (λ (r : FinishAnswer × Work). HasPhases s r.1) _ (NotReady, s.work) (Done (last_status s.work e slot outcome), ended s.work e slot outcome) (refl, refl) (refl, refl)
-
--- ---- writes and the noted error
+-- ---- the steps that leave phases as they are
 
 -- a set-up with the phases of the state
 abbrev HasSame : State → Setup → Type 0
 HasSame s setup = (setup.device ≡ s.work.setup.device) × (setup.phases ≡ s.work.setup.phases)
 
+kept : (s : State) (setup : Setup) → Stops s.work.setup s.active → HasSame s setup → Stops setup s.active
+kept s setup i p = record {
+  device = λ h. i.device (sym (ap is_stopping p.0) ∙ h);
+  queues = λ q h. i.queues q (sym (ap (λ (phases : List Phase). is_stopping (get_or phases q Off)) p.1) ∙ h);
+}
+
+turned_away-phases : (s : State) (q : ℕ) (kind : Kind) (cause : Cause) → HasSame s (turned_away (intake_of s) q kind cause).1.setup
+turned_away-phases s q (Enqcmd pasid) cause = (refl, refl)
+turned_away-phases s q Movdir64b cause = (refl, refl)
+
+submit-phases : (s : State) (q : ℕ) (portal : Portal) (kind : Kind) (d : Descriptor) (cell : Cell) → HasSame s (submit (intake_of s) q portal kind d cell).1.setup
+submit-phases s q portal kind d cell =
+    first_row_or-each (λ (r : SubmitAnswer × Intake). HasSame s r.1.setup) (submit_table (intake_of s) q portal kind) (accepted (intake_of s) q kind d cell)
+    (turned_away-phases s q kind NotEnabled, (turned_away-phases s q kind WrongKind, (turned_away-phases s q kind AtLimit, tt))) (refl, refl)
+
+-- an engine's step but for a fetch leaves the set-up
+of-same : (s : State) (w : Work) → w.setup ≡ s.work.setup → HasSame s w.setup
+of-same s w e = (ap (λ (setup : Setup). setup.device) e, ap (λ (setup : Setup). setup.phases) e)
+
+fetch_of-phases : (s : State) (e : ℕ) (d : Descriptor) (c : Cell) (note : BatchNote) (o : Option Slot) → HasSame s (fetch_of s.work e d c note o).1.setup
+fetch_of-phases s e d c note None = (refl, refl)
+fetch_of-phases s e d c note (Some batch) = one_row (λ (r : FetchAnswer × Work). HasSame s r.1.setup) _ (AllFetched, s.work) (fetched s.work e d c note batch.1) (refl, refl) (refl, refl)
+
+fetch-phases : (s : State) (e : ℕ) (d : Descriptor) (c : Cell) (o : Option BatchNote) → HasSame s (fetch_for s.work e d c o).1.setup
+fetch-phases s e d c None = (refl, refl)
+fetch-phases s e d c (Some note) = fetch_of-phases s e d c note (batch_on s.work e note)
+
 write_queue-phases : (s : State) (q : ℕ) (config : QueueConfig) → HasSame s (write_queue s.work.setup q config).1
 write_queue-phases s q config =
-    table3 (λ (r : WriteAnswer × Setup). HasSame s r.1) _ _ _ (Refused BadIndex, s.work.setup) (Refused Locked, s.work.setup) (Refused Locked, s.work.setup) (Written, record s.work.setup { configs = slice_set s.work.setup.configs q config })
-    (λ x. (refl, refl)) (λ x. (refl, refl)) (λ x. (refl, refl)) (λ x y z. (refl, refl))
+    first_row_or-each (λ (r : WriteAnswer × Setup). HasSame s r.1) (write_queue_table s.work.setup q config) (Written, record s.work.setup { configs = slice_set s.work.setup.configs q config })
+    ((refl, refl), ((refl, refl), ((refl, refl), tt))) (refl, refl)
 
 write_group-phases : (s : State) (g : ℕ) (config : GroupConfig) → HasSame s (write_group s.work.setup g config).1
 write_group-phases s g config =
-    table2 (λ (r : WriteAnswer × Setup). HasSame s r.1) _ _ (Refused BadIndex, s.work.setup) (Refused Locked, s.work.setup) (Written, record s.work.setup { groups = slice_set s.work.setup.groups g config })
-    (λ x. (refl, refl)) (λ x. (refl, refl)) (λ x y. (refl, refl))
+    first_row_or-each (λ (r : WriteAnswer × Setup). HasSame s r.1) (write_group_table s.work.setup g) (Written, record s.work.setup { groups = slice_set s.work.setup.groups g config })
+    ((refl, refl), ((refl, refl), tt)) (refl, refl)
 
 clear-phases : (s : State) (o : Option NotedError) → HasSame s (clear_of s.work.setup o).1
 clear-phases s None = (refl, refl)
 clear-phases s (Some noted) = (refl, refl)
-
-kept-setup : (s s' : State) (setup : Setup) → Stops s.work.setup s.active → HasSame s setup → with_setup s setup ≡ s' → Stops s'.work.setup s'.active
-kept-setup s s' setup i p e = kept s s' (record s.work { setup = setup }) i p.0 p.1 e
 
 -- ---- commands
 
@@ -269,28 +218,21 @@ poll-stops s (Some active) e i = test (λ (r : PollAnswer × State). Stops r.1.w
 
 -- ---- any step, and any history
 
+reply-stops : (s : State) (event : Event) (choice : Choice) → Stops s.work.setup s.active → let t = (reply_of s event choice).1 in Stops t.work.setup t.active
+reply-stops s (Submit client q portal kind d) choice i = kept s _ i (submit-phases s q portal kind d (cell_of choice))
+reply-stops s (Dispatch e) choice i = kept s _ i (of-same s (dispatch s.work e choice).1 (dispatch-setup s.work e choice))
+reply-stops s (Fetch e d) choice i = kept s _ i (fetch-phases s e d (cell_of choice) (note_at s.work e))
+reply-stops s (Start e) choice i = kept s _ i (of-same s (start s.work e).1 (start_of-setup s.work e (first_waiting s.work e)))
+reply-stops s (Finish e t outcome) choice i =
+    kept s _ i (of-same s (finish s.work e t outcome).1 (finish_of-setup s.work e outcome (find (is_ticket t) (running_on s.work e))))
+reply-stops s (Issue command) choice i = issue-stops s command i
+reply-stops s Poll choice i = poll-stops s s.active refl i
+reply-stops s (WriteQueue q config) choice i = kept s _ i (write_queue-phases s q config)
+reply-stops s (WriteGroup g config) choice i = kept s _ i (write_group-phases s g config)
+reply-stops s ClearError choice i = kept s _ i (clear-phases s s.work.setup.noted)
+
 next-stops : (s s' : State) (event : Event) (reply : Reply) → Stops s.work.setup s.active → next s event reply ≡ Some s' → Stops s'.work.setup s'.active
-next-stops s s' (Submit client q portal kind d) (Submit a) i h = submit-stops s s' client q portal kind d a i h
-next-stops s s' (Dispatch e) (Dispatch a) i h = dispatch-phases s s' e a i h
-next-stops s s' (Fetch e d) (Fetch a) i h =
-    let c = cell_or_first (fetched_cell a) in
-    let p = fetch-phases s e d c (note_at s.work e) in
-    kept s s' (fetch s.work e d c).1 i p.0 p.1 (when-some (same_fetch a (fetch s.work e d c).0 && may_use s.work.setup s.work.content (fetched_cell a)) _ s' h).1
-next-stops s s' (Start e) (Start a) i h =
-    let p = start-phases s e (first_waiting s.work e) in
-    kept s s' (start s.work e).1 i p.0 p.1 (when-some (same_start a (start s.work e).0) _ s' h).1
-next-stops s s' (Finish e t outcome) (Finish a) i h =
-    let p = finish-phases s e outcome (find (is_ticket t) (running_on s.work e)) in
-    kept s s' (finish s.work e t outcome).1 i p.0 p.1 (when-some (same_finish a (finish s.work e t outcome).0) _ s' h).1
-next-stops s s' (Issue command) (Issue a) i h = subst (λ t. Stops t.work.setup t.active) (when-some (same_issue a (issue s command).0) (issue s command).1 s' h).1 (issue-stops s command i)
-next-stops s s' Poll (Poll a) i h = subst (λ t. Stops t.work.setup t.active) (when-some (same_poll a (poll s).0) (poll s).1 s' h).1 (poll-stops s s.active refl i)
-next-stops s s' (WriteQueue q config) (Write a) i h =
-    kept-setup s s' (write_queue s.work.setup q config).1 i (write_queue-phases s q config) (when-some (same_write a (write_queue s.work.setup q config).0) _ s' h).1
-next-stops s s' (WriteGroup g config) (Write a) i h =
-    kept-setup s s' (write_group s.work.setup g config).1 i (write_group-phases s g config) (when-some (same_write a (write_group s.work.setup g config).0) _ s' h).1
-next-stops s s' ClearError (Clear a) i h =
-    kept-setup s s' (clear s.work.setup).1 i (clear-phases s s.work.setup.noted) (when-some (same_clear a (clear s.work.setup).0) _ s' h).1
-next-stops s s' _ _ i h = absurd cc
+next-stops s s' event reply i h = next-each (λ r t. Stops t.work.setup t.active) s s' event reply (λ choice may told. reply-stops s event choice i) h
 
 -- what every step keeps, every history keeps
 replay-stops : (h : List Step) (s s' : State) → Stops s.work.setup s.active → replay_from (Some s) h ≡ Some s' → Stops s'.work.setup s'.active

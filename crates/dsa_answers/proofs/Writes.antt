@@ -15,7 +15,7 @@ use Rattle.dsa_book.specs.declared.answer.WriteAnswer.TheVariants.{Written, Refu
 use Rattle.dsa_book.specs.declared.answer.Reply.{Reply}
 use Rattle.dsa_book.specs.declared.answer.Reply.TheVariants.{Write}
 use Rattle.dsa_book.specs.declared.event.Event.TheVariants.{WriteQueue, WriteGroup}
-use Rattle.dsa_book.specs.Same.{same_write}
+use Rattle.dsa_book.specs.Same.{same_reply}
 use Rattle.dsa_book.specs.State.{Setup, State, is_off, phase_at}
 use Rattle.dsa_book.specs.Commands.{write_queue, write_group}
 use Rattle.dsa_book.specs.Machine.{next, with_setup}
@@ -51,7 +51,7 @@ free-size device n k (inr e) = ap (λ (p : Phase). not (is_off p) && not (n == k
 pub queue-written : (s : State) (q : ℕ) (config : QueueConfig) → q < s.work.setup.caps.queues → phase_at s.work.setup q ≡ Off → (config.size ≡ (queue_at s.work.setup.configs q).size) ⊎ (s.work.setup.device ≡ Off)
     → next s (WriteQueue q config) (Write Written) ≡ Some (with_configs s (slice_set s.work.setup.configs q config))
 queue-written s q config below off size =
-    ap (λ (r : WriteAnswer × Setup). when (same_write Written r.0) (with_setup s r.1))
+    ap (λ (r : WriteAnswer × Setup). when (same_reply (Write Written) (Write r.0)) (with_setup s r.1))
     (no-row3 _ _ _ (Refused BadIndex, s.work.setup) (Refused Locked, s.work.setup) (Refused Locked, s.work.setup) (Written, record s.work.setup { configs = slice_set s.work.setup.configs q config })
     (ap not (lt-ltb q s.work.setup.caps.queues below)) (ap (λ (p : Phase). not (is_off p)) off) (free-size s.work.setup.device config.size _ size))
 
@@ -61,8 +61,8 @@ queue-nothing_else s s' q config reply below off size h = sym (replies-alike s _
 
 pub queue-no_other : (s s' : State) (q : ℕ) (config : QueueConfig) → next s (WriteQueue q config) (Write Written) ≡ Some s' → (q < s.work.setup.caps.queues) × (phase_at s.work.setup q ≡ Off)
 queue-no_other s s' q config h =
-    let p = when-some (same_write Written (write_queue s.work.setup q config).0) (with_setup s (write_queue s.work.setup q config).1) s' h in
-    table3 (λ (r : WriteAnswer × Setup). same_write Written r.0 ≡ true → (q < s.work.setup.caps.queues) × (phase_at s.work.setup q ≡ Off)) _ _ _
+    let p = when-some (same_reply (Write Written) (Write (write_queue s.work.setup q config).0)) (with_setup s (write_queue s.work.setup q config).1) s' h in
+    table3 (λ (r : WriteAnswer × Setup). same_reply (Write Written) (Write r.0) ≡ true → (q < s.work.setup.caps.queues) × (phase_at s.work.setup q ≡ Off)) _ _ _
     (Refused BadIndex, s.work.setup) (Refused Locked, s.work.setup) (Refused Locked, s.work.setup) (Written, record s.work.setup { configs = slice_set s.work.setup.configs q config })
     (λ x t. absurd cc) (λ x t. absurd cc) (λ x t. absurd cc)
     (λ x y z t. (ltb-true q s.work.setup.caps.queues (not-false _ x), is-off _ (not-false _ y)))
@@ -72,7 +72,7 @@ queue-no_other s s' q config h =
 
 pub group-written : (s : State) (g : ℕ) (config : GroupConfig) → g < s.work.setup.caps.groups → s.work.setup.device ≡ Off → next s (WriteGroup g config) (Write Written) ≡ Some (with_groups s (slice_set s.work.setup.groups g config))
 group-written s g config below off =
-    ap (λ (r : WriteAnswer × Setup). when (same_write Written r.0) (with_setup s r.1))
+    ap (λ (r : WriteAnswer × Setup). when (same_reply (Write Written) (Write r.0)) (with_setup s r.1))
     (no-row2 _ _ (Refused BadIndex, s.work.setup) (Refused Locked, s.work.setup) (Written, record s.work.setup { groups = slice_set s.work.setup.groups g config })
     (ap not (lt-ltb g s.work.setup.caps.groups below)) (ap (λ (p : Phase). not (is_off p)) off))
 
@@ -81,8 +81,8 @@ group-nothing_else s s' g config reply below off h = sym (replies-alike s _ s' (
 
 pub group-no_other : (s s' : State) (g : ℕ) (config : GroupConfig) → next s (WriteGroup g config) (Write Written) ≡ Some s' → (g < s.work.setup.caps.groups) × (s.work.setup.device ≡ Off)
 group-no_other s s' g config h =
-    let p = when-some (same_write Written (write_group s.work.setup g config).0) (with_setup s (write_group s.work.setup g config).1) s' h in
-    table2 (λ (r : WriteAnswer × Setup). same_write Written r.0 ≡ true → (g < s.work.setup.caps.groups) × (s.work.setup.device ≡ Off)) _ _
+    let p = when-some (same_reply (Write Written) (Write (write_group s.work.setup g config).0)) (with_setup s (write_group s.work.setup g config).1) s' h in
+    table2 (λ (r : WriteAnswer × Setup). same_reply (Write Written) (Write r.0) ≡ true → (g < s.work.setup.caps.groups) × (s.work.setup.device ≡ Off)) _ _
     (Refused BadIndex, s.work.setup) (Refused Locked, s.work.setup) (Written, record s.work.setup { groups = slice_set s.work.setup.groups g config })
     (λ x t. absurd cc) (λ x t. absurd cc)
     (λ x y t. (ltb-true g s.work.setup.caps.groups (not-false _ x), is-off _ (not-false _ y)))

@@ -1,6 +1,6 @@
 //! Laws of single steps, each on a function with nothing to do: what may be answered, what it leaves as it is, and what is Stopping.
 
-ghost use Rattle.std.specs.Prelude.{◌≡◌, ◌⊎◌, ◌↔◌, ℕ, ◌<◌, ◌≤◌, [], ◌∷◌, ◌++◌, List, slice_set, None, Some, false, IsTrue, option_and_then};
+ghost use Rattle.std.specs.Prelude.{◌≡◌, ◌⊎◌, ◌↔◌, ℕ, ◌<◌, ◌≤◌, [], ◌∷◌, ◌++◌, List, slice_set, None, Some, true, false, IsTrue, option_and_then};
 ghost use Rattle.dsa_desc.specs.declared.Descriptor.{Descriptor};
 ghost use Rattle.dsa_regs.specs.declared.Caps.{Caps};
 ghost use Rattle.dsa_regs.specs.declared.Phase.TheVariants.{Off};
@@ -19,6 +19,8 @@ ghost use Rattle.dsa_book.specs.declared.answer.Cause.{Cause};
 ghost use Rattle.dsa_book.specs.declared.answer.SubmitAnswer.{SubmitAnswer};
 ghost use Rattle.dsa_book.specs.declared.answer.Reply.{Reply};
 ghost use Rattle.dsa_book.specs.declared.answer.Reply.TheVariants as reply;
+ghost use Rattle.dsa_book.specs.Same.{same_reply};
+ghost use Rattle.dsa_book.specs.Choice.{chosen};
 ghost use Rattle.dsa_book.specs.State.{State, is_on, occupancy, phase_at};
 ghost use Rattle.dsa_book.specs.Machine.{next, is_stored, replay};
 ghost use Rattle.dsa_book.specs.Submit.{limit_of};
@@ -41,9 +43,19 @@ pub fn retries_come_at_the_limit()
     ensures { (s s' : State) (client queue pasid : ℕ) (portal : Portal) (desc : Descriptor) (answer : SubmitAnswer) → IsTrue (is_on (phase_at s.work.setup queue)) → (queue_at s.work.setup.configs queue).dedicated ≡ false → next s (event.Submit client queue portal (kind.Enqcmd pasid) desc) (reply.Submit answer) ≡ Some s' → (answer ≡ SubmitAnswer.Retry Cause.AtLimit) ↔ (limit_of (queue_at s.work.setup.configs queue) portal ≤ occupancy s.work.content queue) }
 {}
 
-/// Two replies to one event that may both come in a state are equal, but for the cell of an entry that comes in and the queue that one is taken from.
+/// Replies that pass for the same are equal, and each reply passes for itself.
+pub fn same_replies_are_equal()
+    ensures equal { (a b : Reply) → same_reply a b ≡ true → a ≡ b }
+    ensures itself { (a : Reply) → same_reply a a ≡ true }
+{}
+
+/// Two replies to one event that may both come in a state are equal, but for the cell of an entry that comes in
+/// and the queue that one is taken from; where these are the same, the replies and the states after them are.
 pub fn replies_differ_in_free_choices()
-    ensures { (s s' s'' : State) (event : Event) (first second : Reply) → next s event first ≡ Some s' → next s event second ≡ Some s'' → AreAlike first second }
+    ensures alike { (s s' s'' : State) (event : Event) (first second : Reply) → next s event first ≡ Some s'
+        → next s event second ≡ Some s'' → AreAlike first second }
+    ensures decided { (s s' s'' : State) (event : Event) (first second : Reply) → next s event first ≡ Some s'
+        → next s event second ≡ Some s'' → chosen first ≡ chosen second → (first ≡ second) × (s' ≡ s'') }
 {}
 
 /// What is Stopping is what the active command disables, so without an active command nothing is.

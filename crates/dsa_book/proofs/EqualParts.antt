@@ -1,7 +1,8 @@
 -- What steps are made of: parts that compare as equal are the same.
-use Rattle.std.proofs.Common.{◌≡◌, ℕ, ◌==◌, ◌&&◌, Bool, true, false, refl, ap}
+use Rattle.std.proofs.Common.{◌≡◌, ℕ, ◌==◌, ◌&&◌, Bool, true, false, refl, ap, ◌∙◌}
 use Rattle.std.specs.Bool.{beq}
 use Rattle.std.proofs.lemmas.Bool.{and_parts, eqb-true}
+use Rattle.std.proofs.Math.Bool.{and_assoc}
 use Rattle.dsa_desc.specs.declared.Descriptor.{Descriptor}
 use Rattle.dsa_desc.specs.contracts.DescriptorPartialEq.TheImpl as descriptor_eq
 use Rattle.dsa_desc.specs.declared.Outcome.{Outcome}
@@ -19,6 +20,7 @@ use Rattle.dsa_regs.specs.contracts.CommandPartialEq.TheImpl as command_eq
 use Rattle.dsa_regs.specs.declared.Fault.{Fault}
 use Rattle.dsa_regs.specs.declared.Fault.TheVariants as fault
 use Rattle.dsa_regs.specs.contracts.FaultPartialEq.TheImpl as fault_eq
+use Rattle.dsa_regs.specs.Fault.{same_fault}
 use Rattle.dsa_store.specs.declared.entry.Cell.{Cell}
 use Rattle.dsa_store.specs.contracts.entry.CellPartialEq.TheImpl as cell_eq
 use Rattle.dsa_book.specs.declared.answer.Ticket.{Ticket}
@@ -34,6 +36,7 @@ use Rattle.dsa_book.specs.declared.answer.Cause.TheVariants as cause
 use Rattle.dsa_book.specs.contracts.answer.CausePartialEq.TheImpl as cause_eq
 use Rattle.dsa_book.specs.declared.answer.NotedError.{NotedError}
 use Rattle.dsa_book.specs.contracts.answer.NotedErrorPartialEq.TheImpl as noted_error_eq
+use Rattle.dsa_book.specs.Same.{same_ticket, same_cause, same_noted}
 
 -- what cannot be
 pub never : {X : Type 0} → false ≡ true → X
@@ -101,29 +104,6 @@ same-command (command.DrainPasid x0) (command.DrainPasid y0) h = ap command.Drai
 same-command (command.AbortPasid x0) (command.AbortPasid y0) h = ap command.AbortPasid (same-number x0 y0 h)
 same-command _ _ h = never h
 
-pub same-fault : (a b : Fault) → fault_eq.eq-value.it a b ≡ true → a ≡ b
-same-fault fault.SizesTooLarge fault.SizesTooLarge h = refl
-same-fault fault.TwoGroups fault.TwoGroups h = refl
-same-fault fault.ReservedTooMany fault.ReservedTooMany h = refl
-same-fault fault.AllowedOutOfRange fault.AllowedOutOfRange h = refl
-same-fault fault.GroupWithoutEngine fault.GroupWithoutEngine h = refl
-same-fault fault.GroupWithoutQueue fault.GroupWithoutQueue h = refl
-same-fault fault.SizeZero fault.SizeZero h = refl
-same-fault fault.PriorityZero fault.PriorityZero h = refl
-same-fault fault.ThresholdZero fault.ThresholdZero h = refl
-same-fault fault.ThresholdAboveSize fault.ThresholdAboveSize h = refl
-same-fault fault.BatchTooLarge fault.BatchTooLarge h = refl
-same-fault fault.NoGroup fault.NoGroup h = refl
-same-fault fault.BadCommand fault.BadCommand h = refl
-same-fault fault.BadQueue fault.BadQueue h = refl
-same-fault fault.Locked fault.Locked h = refl
-same-fault fault.WrongState fault.WrongState h = refl
-same-fault fault.Busy fault.Busy h = refl
-same-fault fault.PriorityTooLarge fault.PriorityTooLarge h = refl
-same-fault fault.TransferTooLarge fault.TransferTooLarge h = refl
-same-fault fault.BadIndex fault.BadIndex h = refl
-same-fault _ _ h = never h
-
 pub same-cell : (a b : Cell) → cell_eq.eq-value.it a b ≡ true → a ≡ b
 same-cell a b h = λ i. record { 0 = same-number a.0 b.0 h i }
 
@@ -142,14 +122,54 @@ same-kind (kind.Enqcmd x0) (kind.Enqcmd y0) h = ap kind.Enqcmd (same-number x0 y
 same-kind kind.Movdir64b kind.Movdir64b h = refl
 same-kind _ _ h = never h
 
-pub same-cause : (a b : Cause) → cause_eq.eq-value.it a b ≡ true → a ≡ b
-same-cause cause.AtLimit cause.AtLimit h = refl
-same-cause cause.NotEnabled cause.NotEnabled h = refl
-same-cause cause.WrongKind cause.WrongKind h = refl
-same-cause _ _ h = never h
+-- a test of the definitions says what the comparison does, and the same alone passes
+abbrev pub Tested : {T : Type 0} → (T → T → Bool) → (T → T → Bool) → T → T → Type 0
+Tested same eq a b = (same a b ≡ eq a b) × (same a b ≡ true → a ≡ b)
 
-pub same-noted_error : (a b : NotedError) → noted_error_eq.eq-value.it a b ≡ true → a ≡ b
-same-noted_error a b h =
-    let p = field same-number a.queue b.queue _ h in
-    let q = field same-cause a.cause b.cause _ p.1 in
-    λ i. record { queue = p.0 i; cause = q.0 i; overflow = same-bool a.overflow b.overflow q.1 i }
+pub numbers : (a b : ℕ) → Tested (λ a b. a == b) (λ a b. a == b) a b
+numbers a b = (refl, same-number a b)
+
+pub faults : (a b : Fault) → Tested same_fault fault_eq.eq-value.it a b
+faults fault.SizesTooLarge fault.SizesTooLarge = (refl, λ h. refl)
+faults fault.TwoGroups fault.TwoGroups = (refl, λ h. refl)
+faults fault.ReservedTooMany fault.ReservedTooMany = (refl, λ h. refl)
+faults fault.AllowedOutOfRange fault.AllowedOutOfRange = (refl, λ h. refl)
+faults fault.GroupWithoutEngine fault.GroupWithoutEngine = (refl, λ h. refl)
+faults fault.GroupWithoutQueue fault.GroupWithoutQueue = (refl, λ h. refl)
+faults fault.SizeZero fault.SizeZero = (refl, λ h. refl)
+faults fault.PriorityZero fault.PriorityZero = (refl, λ h. refl)
+faults fault.ThresholdZero fault.ThresholdZero = (refl, λ h. refl)
+faults fault.ThresholdAboveSize fault.ThresholdAboveSize = (refl, λ h. refl)
+faults fault.BatchTooLarge fault.BatchTooLarge = (refl, λ h. refl)
+faults fault.NoGroup fault.NoGroup = (refl, λ h. refl)
+faults fault.BadCommand fault.BadCommand = (refl, λ h. refl)
+faults fault.BadQueue fault.BadQueue = (refl, λ h. refl)
+faults fault.Locked fault.Locked = (refl, λ h. refl)
+faults fault.WrongState fault.WrongState = (refl, λ h. refl)
+faults fault.Busy fault.Busy = (refl, λ h. refl)
+faults fault.PriorityTooLarge fault.PriorityTooLarge = (refl, λ h. refl)
+faults fault.TransferTooLarge fault.TransferTooLarge = (refl, λ h. refl)
+faults fault.BadIndex fault.BadIndex = (refl, λ h. refl)
+faults _ _ = (refl, λ h. never h)
+
+pub tickets : (a b : Ticket) → Tested same_ticket ticket_eq.eq-value.it a b
+tickets a b = (refl, same-ticket a b)
+
+pub causes : (a b : Cause) → Tested same_cause cause_eq.eq-value.it a b
+causes cause.AtLimit cause.AtLimit = (refl, λ h. refl)
+causes cause.NotEnabled cause.NotEnabled = (refl, λ h. refl)
+causes cause.WrongKind cause.WrongKind = (refl, λ h. refl)
+causes _ _ = (refl, λ h. never h)
+
+pub noted_errors : (a b : NotedError) → Tested same_noted noted_error_eq.eq-value.it a b
+noted_errors a b = (
+  and_assoc (a.queue == b.queue) (same_cause a.cause b.cause) (beq a.overflow b.overflow) ∙ rw (causes a.cause b.cause).0 refl,
+  λ h.
+      let p = and_parts (a.queue == b.queue && same_cause a.cause b.cause) (beq a.overflow b.overflow) h in
+      let q = and_parts (a.queue == b.queue) (same_cause a.cause b.cause) p.0 in
+      λ i. record {
+        queue = same-number a.queue b.queue q.0 i;
+        cause = (causes a.cause b.cause).1 q.1 i;
+        overflow = same-bool a.overflow b.overflow p.1 i;
+      },
+)

@@ -6,7 +6,7 @@ use Rattle.dsa_book.specs.contracts.event.EventPartialEq.TheImpl as event_eq
 use Rattle.dsa_book.specs.declared.event.Step.{Step}
 use Rattle.dsa_book.specs.contracts.event.StepPartialEq.TheImpl as step_eq
 use Rattle.dsa_book.proofs.EqualParts.{never, same-number, field, same-descriptor, same-outcome, same-queue_config, same-group_config, same-command, same-ticket, same-portal, same-kind}
-use Rattle.dsa_book.proofs.EqualAnswers.{same-reply}
+use Rattle.dsa_book.proofs.EqualReplies.{same-reply}
 use Rattle.dsa_book.specs.contracts.event.StepEq.TheImpl.Laws as step_laws
 
 pub same-event : (a b : Event) → event_eq.eq-value.it a b ≡ true → a ≡ b

@@ -1,5 +1,6 @@
 pub mod Same
 pub mod State
+pub mod Choice
 pub mod Submit
 pub mod Work
 pub mod Commands

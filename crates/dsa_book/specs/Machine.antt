@@ -1,69 +1,28 @@
 -- The machine: what may follow a state, replays, legal histories and runs.
-use Rattle.std.specs.Prelude.{ℕ, Bool, true, false, cond, ◌&&◌, ◌==◌, List, [], ◌∷◌, ◌++◌, length, filter, Option, Some, None, is_some, option_map, option_and_then}
+use Rattle.std.specs.Prelude.{ℕ, Bool, true, false, cond, ◌&&◌, ◌==◌, List, [], ◌∷◌, ◌++◌, length, filter, Option, Some, None, is_some, option_and_then}
 use Rattle.std.specs.List.{list_all}
-use Rattle.dsa_desc.specs.declared.Descriptor.{Descriptor}
-use Rattle.dsa_desc.specs.declared.Outcome.{Outcome}
 use Rattle.dsa_desc.specs.Rows.{when}
 use Rattle.dsa_regs.specs.declared.Caps.{Caps}
-use Rattle.dsa_regs.specs.declared.Command.{Command}
-use Rattle.dsa_regs.specs.declared.QueueConfig.{QueueConfig}
-use Rattle.dsa_regs.specs.declared.GroupConfig.{GroupConfig}
-use Rattle.dsa_regs.specs.Caps.{cell_count}
-use Rattle.dsa_store.specs.declared.entry.Cell.{Cell}
-use Rattle.dsa_store.specs.Content.{Content, is_free}
-use Rattle.dsa_book.specs.declared.answer.Ticket.{Ticket}
-use Rattle.dsa_book.specs.declared.answer.SubmitAnswer.{SubmitAnswer}
 use Rattle.dsa_book.specs.declared.answer.SubmitAnswer.TheVariants.{Accepted, Retry, Dropped, Full}
-use Rattle.dsa_book.specs.declared.answer.DispatchAnswer.{DispatchAnswer}
 use Rattle.dsa_book.specs.declared.answer.DispatchAnswer.TheVariants.{Taken, Full}
-use Rattle.dsa_book.specs.declared.answer.FetchAnswer.{FetchAnswer}
 use Rattle.dsa_book.specs.declared.answer.FetchAnswer.TheVariants.{Fetched, Full}
-use Rattle.dsa_book.specs.declared.answer.StartAnswer.{StartAnswer}
 use Rattle.dsa_book.specs.declared.answer.StartAnswer.TheVariants.{Started, Abandoned, Full}
-use Rattle.dsa_book.specs.declared.answer.FinishAnswer.{FinishAnswer}
 use Rattle.dsa_book.specs.declared.answer.FinishAnswer.TheVariants.{Done, Full}
-use Rattle.dsa_book.specs.declared.answer.IssueAnswer.{IssueAnswer}
 use Rattle.dsa_book.specs.declared.answer.IssueAnswer.TheVariants.{Ended, Active, Full}
-use Rattle.dsa_book.specs.declared.answer.PollAnswer.{PollAnswer}
 use Rattle.dsa_book.specs.declared.answer.PollAnswer.TheVariants.{Finished, Full}
-use Rattle.dsa_book.specs.declared.answer.WriteAnswer.{WriteAnswer}
 use Rattle.dsa_book.specs.declared.answer.WriteAnswer.TheVariants.{Written, Full}
-use Rattle.dsa_book.specs.declared.answer.ClearAnswer.{ClearAnswer}
 use Rattle.dsa_book.specs.declared.answer.ClearAnswer.TheVariants.{Cleared, Full}
 use Rattle.dsa_book.specs.declared.answer.Reply.{Reply}
 use Rattle.dsa_book.specs.declared.answer.Reply.TheVariants.{Submit, Dispatch, Fetch, Start, Finish, Issue, Poll, Write, Clear}
-use Rattle.dsa_book.specs.declared.event.Portal.{Portal}
-use Rattle.dsa_book.specs.declared.event.Kind.{Kind}
 use Rattle.dsa_book.specs.declared.event.Event.{Event}
 use Rattle.dsa_book.specs.declared.event.Event.TheVariants.{Submit, Dispatch, Fetch, Start, Finish, Issue, Poll, WriteQueue, WriteGroup, ClearError}
 use Rattle.dsa_book.specs.declared.event.Step.{Step}
-use Rattle.dsa_book.specs.Same.{same_submit, same_fetch, same_start, same_finish, same_issue, same_poll, same_write, same_clear}
+use Rattle.dsa_book.specs.Same.{same_reply}
+use Rattle.dsa_book.specs.Choice.{Choice, chosen, is_nothing, cell_of, may_enter}
 use Rattle.dsa_book.specs.State.{Setup, Intake, Work, State, opening}
 use Rattle.dsa_book.specs.Submit.{submit}
-use Rattle.dsa_book.specs.Work.{dispatch, fetch, start, finish}
+use Rattle.dsa_book.specs.Work.{may_leave, dispatch, fetch, start, finish}
 use Rattle.dsa_book.specs.Commands.{issue, poll, write_queue, write_group, clear}
-
--- ---- the cell that an answer names, which is to be one that no list names
-
--- the cell that an accepted entry is given
-abbrev pub accepted_cell : SubmitAnswer → Option Cell
-accepted_cell (Accepted ticket) = Some ticket.cell
-accepted_cell _ = None
-
--- the cell that a fetched member is given
-abbrev pub fetched_cell : FetchAnswer → Option Cell
-fetched_cell (Fetched ticket) = Some ticket.cell
-fetched_cell _ = None
-
--- that cell, where there is one
-abbrev pub cell_or_first : Option Cell → Cell
-cell_or_first None = record { 0 = 0 }
-cell_or_first (Some cell) = cell
-
--- a cell that is given is one of the device's, and no list names it (profile)
-abbrev pub may_use : Setup → Content → Option Cell → Bool
-may_use setup content None = true
-may_use setup content (Some cell) = is_free (cell_count setup.caps) content cell
 
 -- ---- the parts of a state that a step changed
 
@@ -83,104 +42,39 @@ with_setup s setup = with_work s (record s.work { setup = setup })
 abbrev pub intake_of : State → Intake
 intake_of s = record { setup = s.work.setup; content = s.work.content }
 
--- ---- one event with its answer: the state after it, where the answer may come
-
--- a submission: the first cause that stands, or accepted in a cell that no list names
-abbrev pub on_submit : State → ℕ → Portal → Kind → Descriptor → SubmitAnswer → Option State
-on_submit s queue portal kind desc answer =
-    let r = submit (intake_of s) queue portal kind desc (cell_or_first (accepted_cell answer)) in
-    when (same_submit answer r.0 && may_use s.work.setup s.work.content (accepted_cell answer)) (with_intake s r.1)
-
--- a dispatch: from any queue that qualifies, or Idle
-abbrev pub on_dispatch : State → ℕ → DispatchAnswer → Option State
-on_dispatch s engine answer = option_map (with_work s) (dispatch s.work engine answer)
-
--- a fetch: the member in a cell that no list names
-abbrev pub on_fetch : State → ℕ → Descriptor → FetchAnswer → Option State
-on_fetch s engine desc answer =
-    let r = fetch s.work engine desc (cell_or_first (fetched_cell answer)) in
-    when (same_fetch answer r.0 && may_use s.work.setup s.work.content (fetched_cell answer)) (with_work s r.1)
-
--- a start of a member
-abbrev pub on_start : State → ℕ → StartAnswer → Option State
-on_start s engine answer = let r = start s.work engine in when (same_start answer r.0) (with_work s r.1)
-
--- an end of an entry
-abbrev pub on_finish : State → ℕ → Ticket → Outcome → FinishAnswer → Option State
-on_finish s engine ticket outcome answer = let r = finish s.work engine ticket outcome in when (same_finish answer r.0) (with_work s r.1)
-
--- a command
-abbrev pub on_issue : State → Command → IssueAnswer → Option State
-on_issue s command answer = let r = issue s command in when (same_issue answer r.0) r.1
-
--- a look at the active command
-abbrev pub on_poll : State → PollAnswer → Option State
-on_poll s answer = let r = poll s in when (same_poll answer r.0) r.1
-
--- a write of a queue's configuration
-abbrev pub on_write_queue : State → ℕ → QueueConfig → WriteAnswer → Option State
-on_write_queue s queue config answer = let r = write_queue s.work.setup queue config in when (same_write answer r.0) (with_setup s r.1)
-
--- a write of a group's configuration
-abbrev pub on_write_group : State → ℕ → GroupConfig → WriteAnswer → Option State
-on_write_group s group config answer = let r = write_group s.work.setup group config in when (same_write answer r.0) (with_setup s r.1)
-
--- a clearing of the noted error
-abbrev pub on_clear : State → ClearAnswer → Option State
-on_clear s answer = let r = clear s.work.setup in when (same_clear answer r.0) (with_setup s r.1)
-
--- ---- the answer in a reply of each kind
-
-abbrev pub submit_part : Reply → Option SubmitAnswer
-submit_part (Submit answer) = Some answer
-submit_part _ = None
-
-abbrev pub dispatch_part : Reply → Option DispatchAnswer
-dispatch_part (Dispatch answer) = Some answer
-dispatch_part _ = None
-
-abbrev pub fetch_part : Reply → Option FetchAnswer
-fetch_part (Fetch answer) = Some answer
-fetch_part _ = None
-
-abbrev pub start_part : Reply → Option StartAnswer
-start_part (Start answer) = Some answer
-start_part _ = None
-
-abbrev pub finish_part : Reply → Option FinishAnswer
-finish_part (Finish answer) = Some answer
-finish_part _ = None
-
-abbrev pub issue_part : Reply → Option IssueAnswer
-issue_part (Issue answer) = Some answer
-issue_part _ = None
-
-abbrev pub poll_part : Reply → Option PollAnswer
-poll_part (Poll answer) = Some answer
-poll_part _ = None
-
-abbrev pub write_part : Reply → Option WriteAnswer
-write_part (Write answer) = Some answer
-write_part _ = None
-
-abbrev pub clear_part : Reply → Option ClearAnswer
-clear_part (Clear answer) = Some answer
-clear_part _ = None
-
 -- ---- one step
 
--- the state after the event with this reply, where the reply is of the event's kind and may come (profile)
+-- what may be chosen at the event: a cell where an entry may come in, a queue where one is taken, else nothing (profile)
+abbrev pub may_choose : State → Event → Choice → Bool
+may_choose s (Submit client queue portal kind desc) choice = may_enter s.work.setup s.work.content choice
+may_choose s (Dispatch engine) choice = may_leave s.work engine choice
+may_choose s (Fetch engine desc) choice = may_enter s.work.setup s.work.content choice
+may_choose s event choice = is_nothing choice
+
+-- a layer's answer as a reply, and what it leaves put back in the state
+abbrev pub replied : {A X : Type 0} → (A → Reply) → (X → State) → A × X → Reply × State
+replied reply put r = (reply r.0, put r.1)
+
+-- the reply to an event, given what is free, and the state after it (profile)
+abbrev pub reply_of : State → Event → Choice → Reply × State
+reply_of s (Submit client queue portal kind desc) choice =
+    replied Submit (with_intake s) (submit (intake_of s) queue portal kind desc (cell_of choice))
+reply_of s (Dispatch engine) choice = replied Dispatch (with_work s) (dispatch s.work engine choice)
+reply_of s (Fetch engine desc) choice = replied Fetch (with_work s) (fetch s.work engine desc (cell_of choice))
+reply_of s (Start engine) choice = replied Start (with_work s) (start s.work engine)
+reply_of s (Finish engine ticket outcome) choice = replied Finish (with_work s) (finish s.work engine ticket outcome)
+reply_of s (Issue command) choice = replied Issue (λ after. after) (issue s command)
+reply_of s Poll choice = replied Poll (λ after. after) (poll s)
+reply_of s (WriteQueue queue config) choice = replied Write (with_setup s) (write_queue s.work.setup queue config)
+reply_of s (WriteGroup group config) choice = replied Write (with_setup s) (write_group s.work.setup group config)
+reply_of s ClearError choice = replied Clear (with_setup s) (clear s.work.setup)
+
+-- the state after the event with this reply, where it is the machine's for a choice that may be made (profile)
 abbrev pub next : State → Event → Reply → Option State
-next s (Submit client queue portal kind desc) reply = option_and_then (on_submit s queue portal kind desc) (submit_part reply)
-next s (Dispatch engine) reply = option_and_then (on_dispatch s engine) (dispatch_part reply)
-next s (Fetch engine desc) reply = option_and_then (on_fetch s engine desc) (fetch_part reply)
-next s (Start engine) reply = option_and_then (on_start s engine) (start_part reply)
-next s (Finish engine ticket outcome) reply = option_and_then (on_finish s engine ticket outcome) (finish_part reply)
-next s (Issue command) reply = option_and_then (on_issue s command) (issue_part reply)
-next s Poll reply = option_and_then (on_poll s) (poll_part reply)
-next s (WriteQueue queue config) reply = option_and_then (on_write_queue s queue config) (write_part reply)
-next s (WriteGroup group config) reply = option_and_then (on_write_group s group config) (write_part reply)
-next s ClearError reply = option_and_then (on_clear s) (clear_part reply)
+next s event reply =
+    let choice = chosen reply in
+    let r = reply_of s event choice in
+    when (may_choose s event choice && same_reply reply r.0) r.1
 
 -- the replies that a history keeps
 abbrev pub is_stored : Reply → Bool
@@ -220,18 +114,21 @@ abbrev pub is_legal : Caps → List Step → Bool
 is_legal caps history = list_all (λ step. is_stored step.reply) history && is_some (replay caps history)
 
 -- the reply Full of the event's own kind
+abbrev pub full_reply : Event → Reply
+full_reply (Submit client queue portal kind desc) = Submit Full
+full_reply (Dispatch engine) = Dispatch Full
+full_reply (Fetch engine desc) = Fetch Full
+full_reply (Start engine) = Start Full
+full_reply (Finish engine ticket outcome) = Finish Full
+full_reply (Issue command) = Issue Full
+full_reply Poll = Poll Full
+full_reply (WriteQueue queue config) = Write Full
+full_reply (WriteGroup group config) = Write Full
+full_reply ClearError = Clear Full
+
+-- whether it is that reply
 abbrev pub is_full : Event → Reply → Bool
-is_full (Submit client queue portal kind desc) (Submit Full) = true
-is_full (Dispatch engine) (Dispatch Full) = true
-is_full (Fetch engine desc) (Fetch Full) = true
-is_full (Start engine) (Start Full) = true
-is_full (Finish engine ticket outcome) (Finish Full) = true
-is_full (Issue command) (Issue Full) = true
-is_full Poll (Poll Full) = true
-is_full (WriteQueue queue config) (Write Full) = true
-is_full (WriteGroup group config) (Write Full) = true
-is_full ClearError (Clear Full) = true
-is_full _ _ = false
+is_full event reply = same_reply reply (full_reply event)
 
 -- the steps of a list that a history keeps
 abbrev pub stored_steps : List Step → List Step

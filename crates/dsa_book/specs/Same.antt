@@ -1,4 +1,4 @@
--- Whether two answers are the same.
+-- Whether two replies are the same.
 use Rattle.std.specs.Prelude.{Bool, true, false, ◌&&◌, ◌==◌}
 use Rattle.std.specs.Bool.{beq}
 use Rattle.dsa_regs.specs.Fault.{same_fault}
@@ -6,22 +6,17 @@ use Rattle.dsa_book.specs.declared.answer.Ticket.{Ticket}
 use Rattle.dsa_book.specs.declared.answer.Cause.{Cause}
 use Rattle.dsa_book.specs.declared.answer.Cause.TheVariants.{AtLimit, NotEnabled, WrongKind}
 use Rattle.dsa_book.specs.declared.answer.NotedError.{NotedError}
-use Rattle.dsa_book.specs.declared.answer.SubmitAnswer.{SubmitAnswer}
-use Rattle.dsa_book.specs.declared.answer.SubmitAnswer.TheVariants.{Accepted, Retry, Dropped}
-use Rattle.dsa_book.specs.declared.answer.FetchAnswer.{FetchAnswer}
-use Rattle.dsa_book.specs.declared.answer.FetchAnswer.TheVariants.{Fetched, NoBatch, AllFetched}
-use Rattle.dsa_book.specs.declared.answer.StartAnswer.{StartAnswer}
-use Rattle.dsa_book.specs.declared.answer.StartAnswer.TheVariants.{Started, FenceWait, NoBuffers, Abandoned, Nothing}
-use Rattle.dsa_book.specs.declared.answer.FinishAnswer.{FinishAnswer}
-use Rattle.dsa_book.specs.declared.answer.FinishAnswer.TheVariants.{Done, NotReady, Gone}
-use Rattle.dsa_book.specs.declared.answer.IssueAnswer.{IssueAnswer}
-use Rattle.dsa_book.specs.declared.answer.IssueAnswer.TheVariants.{Ended, Active, Refused}
-use Rattle.dsa_book.specs.declared.answer.PollAnswer.{PollAnswer}
-use Rattle.dsa_book.specs.declared.answer.PollAnswer.TheVariants.{Finished, Active, Nothing}
-use Rattle.dsa_book.specs.declared.answer.WriteAnswer.{WriteAnswer}
-use Rattle.dsa_book.specs.declared.answer.WriteAnswer.TheVariants.{Written, Refused}
-use Rattle.dsa_book.specs.declared.answer.ClearAnswer.{ClearAnswer}
-use Rattle.dsa_book.specs.declared.answer.ClearAnswer.TheVariants.{Cleared, Nothing}
+use Rattle.dsa_book.specs.declared.answer.SubmitAnswer.TheVariants.{Accepted, Retry, Dropped, Full}
+use Rattle.dsa_book.specs.declared.answer.DispatchAnswer.TheVariants.{Taken, Idle, Full}
+use Rattle.dsa_book.specs.declared.answer.FetchAnswer.TheVariants.{Fetched, NoBatch, AllFetched, Full}
+use Rattle.dsa_book.specs.declared.answer.StartAnswer.TheVariants.{Started, FenceWait, NoBuffers, Abandoned, Nothing, Full}
+use Rattle.dsa_book.specs.declared.answer.FinishAnswer.TheVariants.{Done, NotReady, Gone, Full}
+use Rattle.dsa_book.specs.declared.answer.IssueAnswer.TheVariants.{Ended, Active, Refused, Full}
+use Rattle.dsa_book.specs.declared.answer.PollAnswer.TheVariants.{Finished, Active, Nothing, Full}
+use Rattle.dsa_book.specs.declared.answer.WriteAnswer.TheVariants.{Written, Refused, Full}
+use Rattle.dsa_book.specs.declared.answer.ClearAnswer.TheVariants.{Cleared, Nothing, Full}
+use Rattle.dsa_book.specs.declared.answer.Reply.{Reply}
+use Rattle.dsa_book.specs.declared.answer.Reply.TheVariants.{Submit, Dispatch, Fetch, Start, Finish, Issue, Poll, Write, Clear}
 
 -- the same cell and the same name
 abbrev pub same_ticket : Ticket → Ticket → Bool
@@ -38,51 +33,41 @@ same_cause _ _ = false
 abbrev pub same_noted : NotedError → NotedError → Bool
 same_noted a b = a.queue == b.queue && same_cause a.cause b.cause && beq a.overflow b.overflow
 
--- Full is the answer of no step of the machine, so it is the same as none.
-abbrev pub same_submit : SubmitAnswer → SubmitAnswer → Bool
-same_submit (Accepted a) (Accepted b) = same_ticket a b
-same_submit (Retry a) (Retry b) = same_cause a b
-same_submit (Dropped a) (Dropped b) = same_cause a b
-same_submit _ _ = false
-
-abbrev pub same_fetch : FetchAnswer → FetchAnswer → Bool
-same_fetch (Fetched a) (Fetched b) = same_ticket a b
-same_fetch NoBatch NoBatch = true
-same_fetch AllFetched AllFetched = true
-same_fetch _ _ = false
-
-abbrev pub same_start : StartAnswer → StartAnswer → Bool
-same_start (Started a) (Started b) = same_ticket a b
-same_start FenceWait FenceWait = true
-same_start NoBuffers NoBuffers = true
-same_start (Abandoned a) (Abandoned b) = a == b
-same_start Nothing Nothing = true
-same_start _ _ = false
-
-abbrev pub same_finish : FinishAnswer → FinishAnswer → Bool
-same_finish (Done a) (Done b) = a == b
-same_finish NotReady NotReady = true
-same_finish Gone Gone = true
-same_finish _ _ = false
-
-abbrev pub same_issue : IssueAnswer → IssueAnswer → Bool
-same_issue (Ended a) (Ended b) = a == b
-same_issue Active Active = true
-same_issue (Refused a) (Refused b) = same_fault a b
-same_issue _ _ = false
-
-abbrev pub same_poll : PollAnswer → PollAnswer → Bool
-same_poll Finished Finished = true
-same_poll Active Active = true
-same_poll Nothing Nothing = true
-same_poll _ _ = false
-
-abbrev pub same_write : WriteAnswer → WriteAnswer → Bool
-same_write Written Written = true
-same_write (Refused a) (Refused b) = same_fault a b
-same_write _ _ = false
-
-abbrev pub same_clear : ClearAnswer → ClearAnswer → Bool
-same_clear (Cleared a) (Cleared b) = same_noted a b
-same_clear Nothing Nothing = true
-same_clear _ _ = false
+-- the same answer of the same kind
+abbrev pub same_reply : Reply → Reply → Bool
+same_reply (Submit (Accepted a)) (Submit (Accepted b)) = same_ticket a b
+same_reply (Submit (Retry a)) (Submit (Retry b)) = same_cause a b
+same_reply (Submit (Dropped a)) (Submit (Dropped b)) = same_cause a b
+same_reply (Submit Full) (Submit Full) = true
+same_reply (Dispatch (Taken a q)) (Dispatch (Taken b p)) = same_ticket a b && q == p
+same_reply (Dispatch Idle) (Dispatch Idle) = true
+same_reply (Dispatch Full) (Dispatch Full) = true
+same_reply (Fetch (Fetched a)) (Fetch (Fetched b)) = same_ticket a b
+same_reply (Fetch NoBatch) (Fetch NoBatch) = true
+same_reply (Fetch AllFetched) (Fetch AllFetched) = true
+same_reply (Fetch Full) (Fetch Full) = true
+same_reply (Start (Started a)) (Start (Started b)) = same_ticket a b
+same_reply (Start FenceWait) (Start FenceWait) = true
+same_reply (Start NoBuffers) (Start NoBuffers) = true
+same_reply (Start (Abandoned a)) (Start (Abandoned b)) = a == b
+same_reply (Start Nothing) (Start Nothing) = true
+same_reply (Start Full) (Start Full) = true
+same_reply (Finish (Done a)) (Finish (Done b)) = a == b
+same_reply (Finish NotReady) (Finish NotReady) = true
+same_reply (Finish Gone) (Finish Gone) = true
+same_reply (Finish Full) (Finish Full) = true
+same_reply (Issue (Ended a)) (Issue (Ended b)) = a == b
+same_reply (Issue Active) (Issue Active) = true
+same_reply (Issue (Refused a)) (Issue (Refused b)) = same_fault a b
+same_reply (Issue Full) (Issue Full) = true
+same_reply (Poll Finished) (Poll Finished) = true
+same_reply (Poll Active) (Poll Active) = true
+same_reply (Poll Nothing) (Poll Nothing) = true
+same_reply (Poll Full) (Poll Full) = true
+same_reply (Write Written) (Write Written) = true
+same_reply (Write (Refused a)) (Write (Refused b)) = same_fault a b
+same_reply (Write Full) (Write Full) = true
+same_reply (Clear (Cleared a)) (Clear (Cleared b)) = same_noted a b
+same_reply (Clear Nothing) (Clear Nothing) = true
+same_reply (Clear Full) (Clear Full) = true
+same_reply _ _ = false

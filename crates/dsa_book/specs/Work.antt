@@ -1,10 +1,10 @@
 -- The steps of an engine: dispatch, fetch, start, finish.
-use Rattle.std.specs.Prelude.{ℕ, ◌+◌, Bool, true, false, not, cond, ◌&&◌, ◌||◌, ◌==◌, nat_lt, nat_le, List, ◌∷◌, ◌++◌, length, map, filter, find, position, sum_by, get_or, slice_get, slice_set, Option, Some, None, is_none, option_map, option_and_then, []}
+use Rattle.std.specs.Prelude.{ℕ, ◌+◌, Bool, true, false, not, cond, ◌&&◌, ◌||◌, ◌==◌, nat_lt, nat_le, List, [], ◌∷◌, ◌++◌, length, map, filter, find, position, sum_by, get_or, slice_get, slice_set, Option, Some, None, is_none, option_map}
 use Rattle.std.specs.List.{list_any}
 use Rattle.dsa_desc.specs.declared.Descriptor.{Descriptor}
 use Rattle.dsa_desc.specs.declared.Outcome.{Outcome}
 use Rattle.dsa_desc.specs.Descriptor.{with_pasid, is_fenced, is_successful}
-use Rattle.dsa_desc.specs.Rows.{first_row_or, when, passes}
+use Rattle.dsa_desc.specs.Rows.{first_row_or, passes}
 use Rattle.dsa_regs.specs.Numbers.{has, numbers_below}
 use Rattle.dsa_regs.specs.declared.GroupConfig.{GroupConfig}
 use Rattle.dsa_regs.specs.Config.{group_at}
@@ -20,13 +20,14 @@ use Rattle.dsa_book.specs.declared.fate.Fate.{Fate}
 use Rattle.dsa_book.specs.declared.fate.Fate.TheVariants.{Completed, Abandoned}
 use Rattle.dsa_book.specs.declared.fate.FateRow.{FateRow}
 use Rattle.dsa_book.specs.declared.answer.DispatchAnswer.{DispatchAnswer}
-use Rattle.dsa_book.specs.declared.answer.DispatchAnswer.TheVariants.{Taken, Idle, Full}
+use Rattle.dsa_book.specs.declared.answer.DispatchAnswer.TheVariants.{Taken, Idle}
 use Rattle.dsa_book.specs.declared.answer.FetchAnswer.{FetchAnswer}
 use Rattle.dsa_book.specs.declared.answer.FetchAnswer.TheVariants.{Fetched, NoBatch, AllFetched}
 use Rattle.dsa_book.specs.declared.answer.StartAnswer.{StartAnswer}
 use Rattle.dsa_book.specs.declared.answer.StartAnswer.TheVariants.{Started, FenceWait, NoBuffers, Abandoned, Nothing}
 use Rattle.dsa_book.specs.declared.answer.FinishAnswer.{FinishAnswer}
 use Rattle.dsa_book.specs.declared.answer.FinishAnswer.TheVariants.{Done, NotReady, Gone}
+use Rattle.dsa_book.specs.Choice.{Choice, nothing, in_cell, from_queue}
 use Rattle.dsa_book.specs.State.{Setup, Work, has_queue, is_member, need_of, held_by, status_of, is_batch_of, ticket_of, is_ticket}
 
 -- ---- what an engine has. An engine that the device does not have has nothing
@@ -125,12 +126,21 @@ taken w e q front = record w {
   notes = cond (is_batch_of w.setup front.1) (with_note w.notes e (Some (opened_note front.1))) w.notes;
 }
 
--- the front of any qualifying queue may be taken, and Idle comes exactly where none qualifies (Intel DSA: the choice among work queues is free)
-abbrev pub dispatch : Work → ℕ → DispatchAnswer → Option Work
-dispatch w e (Taken ticket q) =
-    option_and_then (λ front. when (qualifies w e q && is_ticket ticket front) (taken w e q front)) (front_of w q)
-dispatch w e Idle = when (not (list_any (qualifies w e) (numbers_below w.setup.caps.queues))) w
-dispatch w e Full = None
+-- any qualifying queue may be chosen, and nothing where none qualifies (Intel DSA: the choice of a queue is free)
+abbrev pub may_leave : Work → ℕ → Choice → Bool
+may_leave w e nothing = not (list_any (qualifies w e) (numbers_below w.setup.caps.queues))
+may_leave w e (from_queue q) = qualifies w e q
+may_leave w e (in_cell cell) = false
+
+-- the front is taken, where there is one (profile)
+abbrev pub dispatch_of : Work → ℕ → ℕ → Option Slot → DispatchAnswer × Work
+dispatch_of w e q None = (Idle, w)
+dispatch_of w e q (Some front) = (Taken (ticket_of front) q, taken w e q front)
+
+-- the answer to a dispatch and what it leaves: the chosen queue's front is taken, and Idle comes without one (profile)
+abbrev pub dispatch : Work → ℕ → Choice → DispatchAnswer × Work
+dispatch w e (from_queue q) = dispatch_of w e q (front_of w q)
+dispatch w e _ = (Idle, w)
 
 -- ---- fetch
 

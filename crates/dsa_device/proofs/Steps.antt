@@ -14,22 +14,13 @@ use Rattle.dsa_store.specs.Content.{Content}
 use Rattle.dsa_book.specs.declared.event.Event.{Event}
 use Rattle.dsa_book.specs.declared.event.Step.{Step}
 use Rattle.dsa_book.specs.declared.answer.Reply.{Reply}
-use Rattle.dsa_book.specs.declared.answer.SubmitAnswer.TheVariants as submit
-use Rattle.dsa_book.specs.declared.answer.DispatchAnswer.TheVariants as dispatch
-use Rattle.dsa_book.specs.declared.answer.FetchAnswer.TheVariants as fetch
-use Rattle.dsa_book.specs.declared.answer.StartAnswer.TheVariants as start
-use Rattle.dsa_book.specs.declared.answer.FinishAnswer.TheVariants as finish
-use Rattle.dsa_book.specs.declared.answer.IssueAnswer.TheVariants as issue
-use Rattle.dsa_book.specs.declared.answer.PollAnswer.TheVariants as poll
-use Rattle.dsa_book.specs.declared.answer.WriteAnswer.TheVariants as write
-use Rattle.dsa_book.specs.declared.answer.ClearAnswer.TheVariants as clear
-use Rattle.dsa_book.specs.declared.answer.Reply.TheVariants as reply
 use Rattle.dsa_book.specs.declared.event.Event.TheVariants as event
 use Rattle.dsa_book.specs.declared.note.ActiveCommand.{ActiveCommand}
 use Rattle.dsa_book.specs.declared.fate.FateRow.{FateRow}
 use Rattle.dsa_book.specs.Records.{Records}
 use Rattle.dsa_book.specs.State.{Setup, State}
-use Rattle.dsa_book.specs.Machine.{next, is_stored, recorded, is_full, is_legal, replay}
+use Rattle.dsa_book.specs.Machine.{next, is_stored, recorded, full_reply, is_full, is_legal, replay}
+use Rattle.dsa_book.proofs.EqualReplies.{equal-replies}
 use Rattle.dsa_engines.specs.Engines.{Gear, IsInStep, work}
 use Rattle.dsa_device.specs.Running.{Running, running, stepped, answered, IsReplay, IsWhole}
 use Rattle.dsa_answers.proofs.Keeps.{next_keeps}
@@ -51,25 +42,11 @@ answered_by_cases P d t e r a full step = at_room (length d.history == d.capacit
 
 -- Full is not kept
 full-unstored : (e : Event) (r : Reply) → is_full e r ≡ true → is_stored r ≡ false
-full-unstored e (reply.Submit submit.Full) h = refl
-full-unstored e (reply.Dispatch dispatch.Full) h = refl
-full-unstored e (reply.Fetch fetch.Full) h = refl
-full-unstored e (reply.Start start.Full) h = refl
-full-unstored e (reply.Finish finish.Full) h = refl
-full-unstored e (reply.Issue issue.Full) h = refl
-full-unstored e (reply.Poll poll.Full) h = refl
-full-unstored e (reply.Write write.Full) h = refl
-full-unstored e (reply.Clear clear.Full) h = refl
-full-unstored (event.Submit client queue portal kind desc) _ h = absurd cc
-full-unstored (event.Dispatch engine) _ h = absurd cc
-full-unstored (event.Fetch engine desc) _ h = absurd cc
-full-unstored (event.Start engine) _ h = absurd cc
-full-unstored (event.Finish engine ticket outcome) _ h = absurd cc
-full-unstored (event.Issue command) _ h = absurd cc
-full-unstored event.Poll _ h = absurd cc
-full-unstored (event.WriteQueue queue config) _ h = absurd cc
-full-unstored (event.WriteGroup group config) _ h = absurd cc
-full-unstored event.ClearError _ h = absurd cc
+full-unstored e r h = ap is_stored (equal-replies r (full_reply e) h) ∙ unstored e
+  where
+    unstored : (e : Event) → is_stored (full_reply e) ≡ false
+    unstored event.Poll = refl
+    unstored _ = refl
 
 -- the history has the step where it is kept, and the capacity and the capabilities stay
 pub record Grows (d : Running) (e : Event) (r : Reply) (t : Running) : Type 0 where

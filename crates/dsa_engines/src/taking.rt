@@ -7,7 +7,9 @@ ghost use Rattle.dsa_regs.specs.Buffers.{fits};
 ghost use Rattle.dsa_store.specs.Content.{chain, pushed, without_front};
 ghost use Rattle.dsa_book.specs.declared.fate.FateRow.{FateRow};
 ghost use Rattle.dsa_book.specs.State.{is_off, need_of, is_batch_of};
-ghost use Rattle.dsa_book.specs.Work.{qualifies, dispatch, as_running, opened_note, with_note};
+ghost use Rattle.dsa_book.specs.declared.answer.Reply.TheVariants as reply;
+ghost use Rattle.dsa_book.specs.Choice.{chosen};
+ghost use Rattle.dsa_book.specs.Work.{qualifies, may_leave, dispatch, as_running, opened_note, with_note};
 ghost use Rattle.dsa_engines.specs.Engines.{work, IsInStep, IsReady, IsOpen};
 
 use crate::Engines;
@@ -158,8 +160,11 @@ impl Engines {
     ) -> DispatchAnswer
         requires ready { IsReady queues.now (S.content store.old) }
         requires in_step { IsInStep queues.now self.old (S.content store.old) }
-        ensures step { (fates : List FateRow) → dispatch (work queues.now self.old (S.content store.old) fates) engine result
-            ≡ Some (work queues.now self.new (S.content store.new) fates) }
+        ensures step { (fates : List FateRow)
+            → dispatch (work queues.now self.old (S.content store.old) fates) engine (chosen (reply.Dispatch result))
+            ≡ (result, work queues.now self.new (S.content store.new) fates) }
+        ensures free { may_leave (work queues.now self.old (S.content store.old) []) engine (chosen (reply.Dispatch result))
+            ≡ true }
         ensures cells { S.cells store.new ≡ S.cells store.old }
         ensures in_step { IsInStep queues.now self.new (S.content store.new) }
     {

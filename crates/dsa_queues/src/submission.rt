@@ -1,6 +1,6 @@
 //! Submission: ENQCMD and MOVDIR64B to either portal of a queue.
 
-ghost use Rattle.std.specs.Prelude.{◌≡◌, ℕ, ◌+◌, ◌<◌, ◌^◌, true, None, length};
+ghost use Rattle.std.specs.Prelude.{◌≡◌, ℕ, ◌+◌, ◌<◌, ◌^◌, true, length};
 ghost use Rattle.dsa_desc.specs.Rows.{when};
 ghost use Rattle.dsa_desc.specs.Descriptor.{with_pasid};
 ghost use Rattle.dsa_regs.specs.Config.{queue_at};
@@ -8,7 +8,8 @@ ghost use Rattle.dsa_regs.specs.Caps.{cell_count, list_count};
 ghost use Rattle.dsa_store.specs.Content.{Content, held};
 ghost use Rattle.dsa_book.specs.State.{occupancy, has_queue};
 ghost use Rattle.dsa_book.specs.Submit.{submit, turned_away, limit_of, pasid_by, is_movdir64b};
-ghost use Rattle.dsa_book.specs.Machine.{accepted_cell, cell_or_first, may_use};
+ghost use Rattle.dsa_book.specs.declared.answer.Reply.TheVariants as reply;
+ghost use Rattle.dsa_book.specs.Choice.{chosen, nothing, cell_of, may_enter};
 ghost use Rattle.dsa_queues.specs.Queues.{intake, is_accepting};
 
 use crate::Queues;
@@ -47,7 +48,7 @@ impl Queues {
     // ENQCMD is told to come again, MOVDIR64B leaves a noted error.
     fn turned_away(&mut self, queue: u16, kind: Kind, cause: Cause) -> SubmitAnswer
         ensures answer { (content : Content) → turned_away (intake self.old content) queue kind cause ≡ (result, intake self.new content) }
-        ensures no_cell { accepted_cell result ≡ None }
+        ensures no_cell { chosen (reply.Submit result) ≡ nothing }
     {
         match kind {
             Kind::Enqcmd { .. } => SubmitAnswer::Retry(cause),
@@ -76,9 +77,9 @@ impl Queues {
         requires cells { S.cells store.old ≡ cell_count self.old.caps }
         requires room { is_accepting (intake self.old (S.content store.old)) queue portal kind ≡ true → held (S.content store.old) < S.cells store.old }
         requires names { is_accepting (intake self.old (S.content store.old)) queue portal kind ≡ true → self.old.next_name + 1 < 2 ^ 32 }
-        ensures answer { submit (intake self.old (S.content store.old)) queue portal kind desc (cell_or_first (accepted_cell result))
+        ensures answer { submit (intake self.old (S.content store.old)) queue portal kind desc (cell_of (chosen (reply.Submit result)))
             ≡ (result, intake self.new (S.content store.new)) }
-        ensures free { may_use self.old (S.content store.old) (accepted_cell result) ≡ true }
+        ensures free { may_enter self.old (S.content store.old) (chosen (reply.Submit result)) ≡ true }
         ensures cells { S.cells store.new ≡ S.cells store.old }
     {
         if self.phase(queue) != Phase::On {

@@ -1,6 +1,5 @@
 -- Only a client's steps accept a descriptor.
-use Rattle.std.proofs.Common.{◌≡◌, ℕ, List, [], ◌∷◌, Bool, true, false, cond, Option, Some, None, option_and_then, refl, ◌∙◌, arith}
-use Rattle.std.specs.Prelude.{is_some}
+use Rattle.std.proofs.Common.{◌≡◌, ℕ, List, [], ◌∷◌, Bool, true, false, cond, Option, Some, None, refl, ◌∙◌, arith}
 use Rattle.std.proofs.lemmas.List.Sums.{sum_by-cons}
 use Rattle.dsa_regs.specs.declared.Caps.{Caps}
 use Rattle.dsa_book.specs.declared.event.Actor.{Actor}
@@ -8,10 +7,11 @@ use Rattle.dsa_book.specs.declared.event.Actor.TheVariants.{Client, Engine, Admi
 use Rattle.dsa_book.specs.declared.event.Event.{Event}
 use Rattle.dsa_book.specs.declared.event.Event.TheVariants as event
 use Rattle.dsa_book.specs.declared.answer.Reply.{Reply}
-use Rattle.dsa_book.specs.declared.answer.Reply.TheVariants as reply
 use Rattle.dsa_book.specs.declared.event.Step.{Step}
 use Rattle.dsa_book.specs.State.{State, opening}
-use Rattle.dsa_book.specs.Machine.{next, replay, replay_from, dispatch_part, fetch_part, start_part, finish_part, issue_part, poll_part, write_part, clear_part}
+use Rattle.dsa_book.specs.Machine.{next, reply_of, replay, replay_from}
+use Rattle.dsa_book.specs.Choice.{Choice}
+use Rattle.dsa_book.proofs.Nexts.{next-each}
 use Rattle.dsa_book.specs.Totals.{actor_of, same_actor, steps_of, is_accepted, total_accepted}
 use Rattle.dsa_book.proofs.Replay.{replay_none}
 
@@ -19,54 +19,14 @@ abbrev pub is_client : Actor → Bool
 is_client (Client k) = true
 is_client _ = false
 
--- a reply that may come is one of the event's kind
-has_part : {A : Type 0} (f : A → Option State) (o : Option A) (s : State) → option_and_then f o ≡ Some s → is_some o ≡ true
-has_part f None s h = absurd cc
-has_part f (Some a) s h = refl
-
-no_dispatch : (r : Reply) → is_some (dispatch_part r) ≡ true → is_accepted r ≡ false
-no_dispatch (reply.Submit a) h = absurd cc
-no_dispatch _ h = refl
-
-no_fetch : (r : Reply) → is_some (fetch_part r) ≡ true → is_accepted r ≡ false
-no_fetch (reply.Submit a) h = absurd cc
-no_fetch _ h = refl
-
-no_start : (r : Reply) → is_some (start_part r) ≡ true → is_accepted r ≡ false
-no_start (reply.Submit a) h = absurd cc
-no_start _ h = refl
-
-no_finish : (r : Reply) → is_some (finish_part r) ≡ true → is_accepted r ≡ false
-no_finish (reply.Submit a) h = absurd cc
-no_finish _ h = refl
-
-no_issue : (r : Reply) → is_some (issue_part r) ≡ true → is_accepted r ≡ false
-no_issue (reply.Submit a) h = absurd cc
-no_issue _ h = refl
-
-no_poll : (r : Reply) → is_some (poll_part r) ≡ true → is_accepted r ≡ false
-no_poll (reply.Submit a) h = absurd cc
-no_poll _ h = refl
-
-no_write : (r : Reply) → is_some (write_part r) ≡ true → is_accepted r ≡ false
-no_write (reply.Submit a) h = absurd cc
-no_write _ h = refl
-
-no_clear : (r : Reply) → is_some (clear_part r) ≡ true → is_accepted r ≡ false
-no_clear (reply.Submit a) h = absurd cc
-no_clear _ h = refl
+-- the machine's reply to what is not a client's accepts nothing
+accepts-nothing : (s : State) (e : Event) (choice : Choice) → is_client (actor_of e) ≡ false
+    → is_accepted (reply_of s e choice).0 ≡ false
+accepts-nothing s (event.Submit client queue portal kind desc) choice other = absurd cc
+accepts-nothing s _ choice other = refl
 
 not_accepted : (s s' : State) (e : Event) (r : Reply) → next s e r ≡ Some s' → is_client (actor_of e) ≡ false → is_accepted r ≡ false
-not_accepted s s' (event.Submit client queue portal kind desc) r h other = absurd cc
-not_accepted s s' (event.Dispatch k) r h other = no_dispatch r (has_part _ _ s' h)
-not_accepted s s' (event.Fetch k desc) r h other = no_fetch r (has_part _ _ s' h)
-not_accepted s s' (event.Start k) r h other = no_start r (has_part _ _ s' h)
-not_accepted s s' (event.Finish k ticket outcome) r h other = no_finish r (has_part _ _ s' h)
-not_accepted s s' (event.Issue command) r h other = no_issue r (has_part _ _ s' h)
-not_accepted s s' event.Poll r h other = no_poll r (has_part _ _ s' h)
-not_accepted s s' (event.WriteQueue queue config) r h other = no_write r (has_part _ _ s' h)
-not_accepted s s' (event.WriteGroup group config) r h other = no_write r (has_part _ _ s' h)
-not_accepted s s' event.ClearError r h other = no_clear r (has_part _ _ s' h)
+not_accepted s s' e r h other = next-each (λ r t. is_accepted r ≡ false) s s' e r (λ choice may told. accepts-nothing s e choice other) h
 
 same_kind : (a b : Actor) → same_actor a b ≡ true → is_client a ≡ is_client b
 same_kind (Client a) (Client b) h = refl

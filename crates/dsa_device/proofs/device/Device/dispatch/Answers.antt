@@ -24,7 +24,7 @@ step g c =
     step_by_parts _ _ i.caps i.queues i.queues i.engines c.dispatch-answer.new.self content content' i.admin i.admin i.book c.record.new.self i.book.fates
     (event.Dispatch c.args.engine) (reply.Dispatch c.dispatch-answer.result)
     c.self.invariant (sym c.is_full.ensures.full ∙ c.if-is_full.false) c.record.ensures
-    (next-dispatch d.state c.args.engine c.dispatch-answer.result (work i.queues c.dispatch-answer.new.self content' i.book.fates) (c.dispatch-answer.ensures.step i.book.fates))
+    (next-dispatch d.state c.args.engine c.dispatch-answer.result (work i.queues c.dispatch-answer.new.self content' i.book.fates) (c.dispatch-answer.ensures.step i.book.fates) c.dispatch-answer.ensures.free)
     c.dispatch-answer.ensures.cells c.dispatch-answer.ensures.in_step
 
 pub invariant_of-self : goal.invariant_of-self

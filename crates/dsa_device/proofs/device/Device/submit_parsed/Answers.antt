@@ -3,7 +3,7 @@ use Rattle.dsa_book.specs.declared.answer.SubmitAnswer.{SubmitAnswer}
 use Rattle.dsa_book.specs.declared.event.Event.TheVariants as event
 use Rattle.dsa_book.specs.declared.answer.Reply.TheVariants as reply
 use Rattle.dsa_book.specs.State.{Intake}
-use Rattle.dsa_book.specs.Machine.{accepted_cell, cell_or_first}
+use Rattle.dsa_book.specs.Choice.{chosen, cell_of}
 use Rattle.dsa_queues.specs.Queues.{intake}
 use Rattle.dsa_device.specs.Running.{running}
 use Rattle.dsa_device.proofs.Known.{ready, store_cells, accepting, names_fit}
@@ -35,7 +35,7 @@ step g c =
     let i = c.self.inside in
     let before = intake i.queues (g.S.EntryStore.content i.store) in
     let after = intake c.submit-answer.new.self (g.S.EntryStore.content c.submit-answer.new.store) in
-    let keeps = subst (λ (r : SubmitAnswer × Intake). KeepsLoads i.queues r.1.setup (g.S.EntryStore.content i.store) r.1.content) c.submit-answer.ensures.answer (submit-keeps before c.args.queue c.args.portal c.args.kind c.args.desc (cell_or_first (accepted_cell c.submit-answer.result))) in
+    let keeps = subst (λ (r : SubmitAnswer × Intake). KeepsLoads i.queues r.1.setup (g.S.EntryStore.content i.store) r.1.content) c.submit-answer.ensures.answer (submit-keeps before c.args.queue c.args.portal c.args.kind c.args.desc (cell_of (chosen (reply.Submit c.submit-answer.result)))) in
     step_by_parts _ _ i.caps i.queues c.submit-answer.new.self i.engines i.engines (g.S.EntryStore.content i.store) (g.S.EntryStore.content c.submit-answer.new.store) i.admin i.admin i.book c.record.new.self i.book.fates
     (event.Submit c.args.client c.args.queue c.args.portal c.args.kind c.args.desc) (reply.Submit c.submit-answer.result)
     c.self.invariant (sym c.is_full.ensures.full ∙ c.if-is_full.false) c.record.ensures

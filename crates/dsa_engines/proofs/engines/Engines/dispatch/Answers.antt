@@ -4,8 +4,8 @@ use Rattle.dsa_engines.specs.Engines.{work}
 use Rattle.dsa_engines.proofs.Dispatching.{none-below, within-groups, fits-taken, in_step-after}
 use Rattle.dsa_engines.proofs.engines.Engines.dispatch.Goals as goal
 
-pub returns-in_default-clause-step : goal.returns-in_default-clause-step
-returns-in_default-clause-step g c fates =
+pub returns-in_default-clause-free : goal.returns-in_default-clause-free
+returns-in_default-clause-free g c =
     let none = none-below (qualifies (work c.args.queues.now c.args.self.now (g.S.EntryStore.content c.args.store.now) []) c.args.engine) c.args.queues.now.caps.queues c.in_default.ensures.none in
     rw none refl
 

@@ -1,0 +1,41 @@
+-- What is free in a step: the cell of an entry that comes in, and the queue that one is taken from.
+use Rattle.std.specs.Prelude.{ℕ, Bool, true, false}
+use Rattle.dsa_regs.specs.Caps.{cell_count}
+use Rattle.dsa_store.specs.declared.entry.Cell.{Cell}
+use Rattle.dsa_store.specs.Content.{Content, is_free}
+use Rattle.dsa_book.specs.declared.answer.Ticket.{Ticket}
+use Rattle.dsa_book.specs.declared.answer.SubmitAnswer.TheVariants.{Accepted}
+use Rattle.dsa_book.specs.declared.answer.DispatchAnswer.TheVariants.{Taken}
+use Rattle.dsa_book.specs.declared.answer.FetchAnswer.TheVariants.{Fetched}
+use Rattle.dsa_book.specs.declared.answer.Reply.{Reply}
+use Rattle.dsa_book.specs.declared.answer.Reply.TheVariants.{Submit, Dispatch, Fetch}
+use Rattle.dsa_book.specs.State.{Setup}
+
+-- nothing is chosen, or the cell of an entry that comes in, or the queue that one is taken from (profile)
+pub data Choice : Type 0 where
+  nothing : Choice
+  in_cell : Cell → Choice
+  from_queue : ℕ → Choice
+
+-- what was chosen, by the reply
+abbrev pub chosen : Reply → Choice
+chosen (Submit (Accepted ticket)) = in_cell ticket.cell
+chosen (Dispatch (Taken ticket queue)) = from_queue queue
+chosen (Fetch (Fetched ticket)) = in_cell ticket.cell
+chosen _ = nothing
+
+-- whether nothing is chosen
+abbrev pub is_nothing : Choice → Bool
+is_nothing nothing = true
+is_nothing _ = false
+
+-- the cell that is chosen
+abbrev pub cell_of : Choice → Cell
+cell_of (in_cell cell) = cell
+cell_of _ = record { 0 = 0 }
+
+-- the cell of an entry that comes in is one of the device's, and no list names it (profile)
+abbrev pub may_enter : Setup → Content → Choice → Bool
+may_enter setup content nothing = true
+may_enter setup content (in_cell cell) = is_free (cell_count setup.caps) content cell
+may_enter setup content (from_queue queue) = false
