@@ -263,9 +263,9 @@ with_abort scope setup ps ms o h = go (takes_batch setup scope ps) refl
         }
     go false f =
         let none = count-none (holds_batch setup) (filter (is_taken_out scope) ps) (λ x j.
-            let i = In-filter (is_taken_out scope) x ps j in
-            false_from_ne_true (holds_batch setup x) (λ t.
-            not-both _ (In-any (λ slot. is_batch_of setup slot.1 && is_in_scope scope slot.1) x ps i.0 (ap (λ (b : Bool). b && is_in_scope scope x.1) t ∙ i.1)) f)) in
+        let i = In-filter (is_taken_out scope) x ps j in
+        false_from_ne_true (holds_batch setup x) (λ t.
+        not-both _ (In-any (λ slot. is_batch_of setup slot.1 && is_in_scope scope slot.1) x ps i.0 (ap (λ (b : Bool). b && is_in_scope scope x.1) t ∙ i.1)) f)) in
         let all = sum-split (λ x. cond (holds_batch setup x) 1 0) (is_taken_out scope) ps in
         fewer setup ps (filter (is_left scope) ps) ms (filter (is_left scope) ms) o (omega (arith, all, none))
         (λ x i. (In-filter (is_left scope) x ps i).0) (λ x i. (In-filter (is_left scope) x ms i).0) (length-filter-le (is_left scope) ms) h

@@ -90,8 +90,16 @@ submit-change s q portal kind d choice may =
     (λ x told. turned_away-change s q kind AtLimit)
     (λ x y z told.
     let is : IsAccepted s (with_intake s (accepted i q kind d (cell_of choice)).1) = record {
-      queue = q; portal = portal; kind = kind; desc = d; cell = cell_of choice;
-      on = not-false _ x; of_kind = not-false _ y; below = z; free = free_of s choice (cell_of choice) may told; after = refl;
+      queue = q;
+      portal = portal;
+      kind = kind;
+      desc = d;
+      cell = cell_of choice;
+      on = not-false _ x;
+      of_kind = not-false _ y;
+      below = z;
+      free = free_of s choice (cell_of choice) may told;
+      after = refl;
     } in
     (is_accepted is, λ ticket e. is))
 
@@ -124,8 +132,16 @@ fetch_of-change s e d choice note (Some batch) may n m =
     (λ u told. (same refl, λ ticket e. absurd cc))
     (λ u told.
     let is : IsFetched s (with_work s (fetched s.work e d (cell_of choice) note batch.1).1) = record {
-      engine = e; desc = d; cell = cell_of choice; note = note; batch = batch;
-      is_note = n; is_batch = m; more = u; free = free_of s choice (cell_of choice) may told; after = refl;
+      engine = e;
+      desc = d;
+      cell = cell_of choice;
+      note = note;
+      batch = batch;
+      is_note = n;
+      is_batch = m;
+      more = u;
+      free = free_of s choice (cell_of choice) may told;
+      after = refl;
     } in
     (is_fetched is, λ ticket e. is))
 
@@ -169,10 +185,19 @@ waits-change s command may =
     (Ended 0, set_up s s.active (stopped (deed_of command) (scope_of command) Off s.work.setup))
     (Active, set_up s (Some active) (stopped (deed_of command) (scope_of command) Stopping s.work.setup))
     (λ u. is_over (record {
-      deed = deed_of command; scope = scope_of command; mark = active.mark; over = u; active = s.active; after = refl;
+      deed = deed_of command;
+      scope = scope_of command;
+      mark = active.mark;
+      over = u;
+      active = s.active;
+      after = refl;
     }))
     (λ u. is_waiting (record {
-      deed = deed_of command; scope = scope_of command; may = may; active = Some active; after = refl;
+      deed = deed_of command;
+      scope = scope_of command;
+      may = may;
+      active = Some active;
+      after = refl;
     }))
 
 done-change : (s : State) (command : Command) (deed : Deed) (scope : Scope) → may_come s.work.setup deed scope ≡ true
@@ -217,7 +242,12 @@ poll_of-change s (Some active) =
     test (λ (r : PollAnswer × State). Change s r.1) (is_at_end active s.work.content)
     (Finished, set_up s None (stopped deed scope Off s.work.setup)) (Active, s)
     (λ u. is_over (record {
-      deed = deed; scope = scope; mark = active.mark; over = u; active = None; after = refl;
+      deed = deed;
+      scope = scope;
+      mark = active.mark;
+      over = u;
+      active = None;
+      after = refl;
     }))
     (λ u. same refl)
 
