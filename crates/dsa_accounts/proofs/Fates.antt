@@ -4,7 +4,7 @@ use Rattle.std.specs.Prelude.{find, ⊤}
 use Rattle.std.proofs.lemmas.List.Sums.{sum_by-cons}
 use Rattle.dsa_desc.specs.declared.Descriptor.{Descriptor}
 use Rattle.dsa_desc.specs.declared.Outcome.{Outcome}
-use Rattle.dsa_desc.proofs.Tables.{first_row_or-each}
+use Rattle.dsa_base.proofs.Tables.{first_row_or-each}
 use Rattle.dsa_regs.specs.declared.Caps.{Caps}
 use Rattle.dsa_regs.specs.declared.Command.{Command}
 use Rattle.dsa_regs.specs.declared.Scope.{Scope}
@@ -43,7 +43,7 @@ use Rattle.dsa_book.specs.declared.answer.IssueAnswer.TheVariants.{Ended}
 use Rattle.dsa_book.specs.Work.{is_all_fetched, fetched, members, fate_row}
 use Rattle.dsa_book.specs.Commands.{is_in_scope, aborted, count_in_scope}
 use Rattle.dsa_book.specs.Totals.{ended_by, is_done, lost_by, total_done, total_lost}
-use Rattle.dsa_desc.proofs.Tables.{cond-each}
+use Rattle.dsa_base.proofs.Tables.{cond-each}
 use Rattle.dsa_book.proofs.Replay.{replay-adds}
 use Rattle.dsa_accounts.proofs.Names.{unchanged}
 use Rattle.dsa_laws.proofs.Flows.{length-rows}

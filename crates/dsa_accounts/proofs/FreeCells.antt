@@ -2,11 +2,11 @@
 use Rattle.std.proofs.Common.{◌≡◌, ℕ, ◌+◌, ◌^◌, ◌<◌, ◌≤◌, true, false, List, [], length, Some, None, sym, ap, subst, arith, ⊎_elim}
 use Rattle.std.specs.Prelude.{sum_by}
 use Rattle.std.proofs.lemmas.Bool.{cases_Bool, ltb-false, leb-false, or_parts, not-false}
-use Rattle.dsa_desc.specs.Rows.{first_row}
+use Rattle.dsa_base.specs.Rows.{first_row}
 use Rattle.dsa_regs.specs.declared.Caps.{Caps}
 use Rattle.dsa_regs.specs.declared.QueueConfig.{QueueConfig}
 use Rattle.dsa_regs.specs.Caps.{cell_count, list_count}
-use Rattle.dsa_regs.specs.Numbers.{numbers_below}
+use Rattle.dsa_base.specs.Numbers.{numbers_below}
 use Rattle.dsa_regs.specs.Config.{queue_at, zero_queue, groups_table, total_size}
 use Rattle.dsa_store.specs.Content.{Slot, Content, chain, held}
 use Rattle.dsa_book.specs.declared.event.Portal.{Portal}
@@ -22,10 +22,10 @@ use Rattle.dsa_accounts.specs.FreeCells.{HasFreeCell}
 use Rattle.dsa_laws.proofs.Shapes.{on-queue, note-engine, members-at}
 use Rattle.dsa_accounts.proofs.UnusedCells.{free-cell}
 use Rattle.dsa_laws.proofs.Histories.{replay-well_formed}
-use Rattle.dsa_regs.proofs.NumberSums.{sum-places, sum-equal}
-use Rattle.dsa_regs.proofs.NumberSums.{sum-split_numbers, sum-plus, sum-same, sum-numbers-le, sum-numbers-lt}
+use Rattle.dsa_base.proofs.NumberSums.{sum-places, sum-equal}
+use Rattle.dsa_base.proofs.NumberSums.{sum-split_numbers, sum-plus, sum-same, sum-numbers-le, sum-numbers-lt}
 use Rattle.dsa_book.proofs.Phases.{on-not_off}
-use Rattle.dsa_desc.proofs.Tables.{no-row}
+use Rattle.dsa_base.proofs.Tables.{no-row}
 use Rattle.dsa_laws.proofs.Limits.{limit-le, lists-fit}
 use Rattle.dsa_laws.proofs.Entries.{none-held}
 use Rattle.dsa_laws.specs.Engines.{IsLawfulEngine}

@@ -3,7 +3,7 @@ use Rattle.std.proofs.Common.{◌≡◌, ℕ, ◌+◌, cond, List, [], ◌∷◌
 use Rattle.std.specs.Prelude.{find, ⊤}
 use Rattle.std.proofs.lemmas.List.Sums.{sum_by-cons}
 use Rattle.dsa_desc.specs.declared.Descriptor.{Descriptor}
-use Rattle.dsa_desc.proofs.Tables.{first_row_or-each, one_row, cond-each}
+use Rattle.dsa_base.proofs.Tables.{first_row_or-each, one_row, cond-each}
 use Rattle.dsa_regs.specs.declared.Caps.{Caps}
 use Rattle.dsa_regs.specs.declared.Command.{Command}
 use Rattle.dsa_regs.specs.declared.Scope.{Scope}

@@ -4,12 +4,12 @@ use Rattle.std.specs.Prelude.{sum_by, count_by, nat_lt}
 use Rattle.std.proofs.lemmas.Bool.{cases_eq}
 use Rattle.std.proofs.lemmas.Bool.Decides.{nat_tests}
 use Rattle.std.proofs.lemmas.List.Sums.{sum_by-cons, sum_by_push}
-use Rattle.dsa_regs.specs.Numbers.{numbers_below}
+use Rattle.dsa_base.specs.Numbers.{numbers_below}
 use Rattle.dsa_store.specs.declared.entry.Cell.{Cell}
 use Rattle.dsa_store.specs.Content.{Slot, Content, is_cell, uses, held, all_held, is_free}
 use Rattle.dsa_store.proofs.Sums.{uses-counted, held-counted, unused-is_free}
-use Rattle.dsa_regs.proofs.NumberSums.{sum-equal}
-use Rattle.dsa_regs.proofs.NumberSums.{sum-plus, sum-same}
+use Rattle.dsa_base.proofs.NumberSums.{sum-equal}
+use Rattle.dsa_base.proofs.NumberSums.{sum-plus, sum-same}
 
 abbrev cell_at : ℕ → Cell
 cell_at k = record { 0 = k }

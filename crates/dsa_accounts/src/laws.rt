@@ -1,7 +1,7 @@
 //! Laws of accounts, each on a function with nothing to do. A history is a list of steps from the opening of a device with these capabilities.
 
 ghost use Rattle.std.specs.Prelude.{◌≡◌, ℕ, ◌+◌, ◌<◌, ◌≤◌, List, length, None, Some, true, false};
-ghost use Rattle.dsa_desc.specs.Rows.{first_row};
+ghost use Rattle.dsa_base.specs.Rows.{first_row};
 ghost use Rattle.dsa_regs.specs.declared.Caps.{Caps};
 ghost use Rattle.dsa_regs.specs.Caps.{cell_count};
 ghost use Rattle.dsa_store.specs.Content.{held};

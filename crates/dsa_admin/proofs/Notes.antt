@@ -6,7 +6,7 @@ use Rattle.dsa_regs.specs.declared.Scope.{Scope}
 use Rattle.dsa_regs.specs.declared.layout.ListUse.{ListUse}
 use Rattle.dsa_regs.specs.declared.layout.ListUse.TheVariants.{Queue, Progress, Members}
 use Rattle.dsa_regs.specs.Caps.{list_count, list_use}
-use Rattle.dsa_regs.specs.Numbers.{numbers_below}
+use Rattle.dsa_base.specs.Numbers.{numbers_below}
 use Rattle.dsa_regs.proofs.CapsLemmas.{IsUse, read-back}
 use Rattle.dsa_store.specs.declared.entry.Cell.{Cell}
 use Rattle.dsa_store.specs.declared.entry.Entry.{Entry}

@@ -10,7 +10,7 @@ use Rattle.dsa_regs.specs.declared.QueueConfig.{QueueConfig}
 use Rattle.dsa_regs.specs.declared.Scope.{Scope}
 use Rattle.dsa_regs.specs.declared.Scope.TheVariants.{Device}
 use Rattle.dsa_regs.specs.declared.Phase.TheVariants.{Off}
-use Rattle.dsa_regs.specs.Numbers.{numbers_below}
+use Rattle.dsa_base.specs.Numbers.{numbers_below}
 use Rattle.dsa_regs.specs.Config.{zero_queue, queue_at, limits_of}
 use Rattle.dsa_regs.specs.Command.{queues_in}
 use Rattle.dsa_store.specs.declared.entry.Entry.{Entry}

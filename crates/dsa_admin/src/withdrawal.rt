@@ -3,7 +3,7 @@
 ghost use Rattle.std.specs.Prelude.{◌≡◌, ◌+◌, ◌<◌, ◌≤◌, ◌++◌, None, filter, get_or, length, map, not, slice_set};
 ghost use Rattle.dsa_regs.specs.Caps.{list_use};
 ghost use Rattle.dsa_regs.specs.Command.{scope_of};
-ghost use Rattle.dsa_regs.specs.Numbers.{numbers_below};
+ghost use Rattle.dsa_base.specs.Numbers.{numbers_below};
 ghost use Rattle.dsa_store.specs.Content.{all_held, chain, held, kept};
 ghost use Rattle.dsa_book.specs.declared.fate.Fate.TheVariants.{Aborted};
 ghost use Rattle.dsa_book.specs.Work.{progress_list};

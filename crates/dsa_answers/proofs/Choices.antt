@@ -5,9 +5,9 @@ use Rattle.std.specs.List.{list_any}
 use Rattle.std.proofs.lemmas.Bool.{and_parts, ltb-true}
 use Rattle.std.proofs.lemmas.Option.{same_Some}
 use Rattle.dsa_desc.specs.declared.Descriptor.{Descriptor}
-use Rattle.dsa_desc.specs.Rows.{first_row_or, passes}
-use Rattle.dsa_regs.specs.Numbers.{numbers_below}
-use Rattle.dsa_regs.proofs.NumberLemmas.{numbers_below-hit}
+use Rattle.dsa_base.specs.Rows.{first_row_or, passes}
+use Rattle.dsa_base.specs.Numbers.{numbers_below}
+use Rattle.dsa_base.proofs.NumberLemmas.{numbers_below-hit}
 use Rattle.dsa_store.specs.declared.entry.Cell.{Cell}
 use Rattle.dsa_store.specs.Content.{Slot}
 use Rattle.dsa_book.specs.declared.answer.SubmitAnswer.{SubmitAnswer}
@@ -29,7 +29,7 @@ use Rattle.dsa_book.specs.Choice.{Choice, nothing, from_queue, chosen, cell_of}
 use Rattle.dsa_book.specs.Machine.{intake_of, may_choose, reply_of, next}
 use Rattle.dsa_book.proofs.Nexts.{next-is}
 use Rattle.dsa_answers.specs.Choices.{AreAlike}
-use Rattle.dsa_desc.proofs.Tables.{not-both}
+use Rattle.dsa_base.proofs.Tables.{not-both}
 
 -- a reply is like itself
 alike-self : (a : Reply) → AreAlike a a

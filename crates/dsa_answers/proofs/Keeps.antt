@@ -37,7 +37,7 @@ use Rattle.dsa_book.specs.Submit.{submit, submit_table, accepted, turned_away}
 use Rattle.dsa_book.specs.declared.answer.Cause.{Cause}
 use Rattle.dsa_book.specs.declared.answer.Cause.TheVariants.{AtLimit, NotEnabled, WrongKind}
 use Rattle.dsa_book.specs.declared.event.Kind.TheVariants.{Enqcmd, Movdir64b}
-use Rattle.dsa_desc.proofs.Tables.{first_row_or-each, one_row}
+use Rattle.dsa_base.proofs.Tables.{first_row_or-each, one_row}
 use Rattle.dsa_book.proofs.Nexts.{next-each}
 use Rattle.dsa_book.specs.Commands.{issue, issue_table, write_queue, write_queue_table, write_group, write_group_table, carried_out, done_by, refused_or, check_of, poll_of, clear_of}
 use Rattle.dsa_regs.specs.declared.Scope.{Scope}

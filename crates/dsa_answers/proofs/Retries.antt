@@ -4,7 +4,7 @@ use Rattle.std.specs.Prelude.{IsTrue, not, nat_le, ◌↔◌}
 use Rattle.std.specs.Bool.{beq}
 use Rattle.std.proofs.lemmas.Bool.{leb-true, leb-false}
 use Rattle.dsa_desc.specs.declared.Descriptor.{Descriptor}
-use Rattle.dsa_desc.proofs.Tables.{table3}
+use Rattle.dsa_base.proofs.Tables.{table3}
 use Rattle.dsa_regs.specs.Config.{queue_at}
 use Rattle.dsa_book.specs.declared.event.Portal.{Portal}
 use Rattle.dsa_book.specs.declared.event.Kind.TheVariants.{Enqcmd}

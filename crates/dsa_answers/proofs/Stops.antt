@@ -2,7 +2,7 @@
 use Rattle.std.proofs.Common.{◌≡◌, ℕ, Bool, true, false, cond, not, List, [], ◌∷◌, Option, Some, None, refl, sym, ap, subst, ◌∙◌}
 use Rattle.std.specs.Prelude.{zero, suc, ◌==◌, find, replicate, get_or, slice_set, is_some}
 use Rattle.dsa_desc.specs.declared.Descriptor.{Descriptor}
-use Rattle.dsa_desc.proofs.Tables.{first_row_or-each, one_row, table3}
+use Rattle.dsa_base.proofs.Tables.{first_row_or-each, one_row, table3}
 use Rattle.dsa_regs.specs.declared.Caps.{Caps}
 use Rattle.dsa_regs.specs.declared.Phase.{Phase}
 use Rattle.dsa_regs.specs.declared.Phase.TheVariants.{Off, On, Stopping}

@@ -2,8 +2,8 @@
 use Rattle.std.proofs.Common.{◌≡◌, ◌⊎◌, inl, inr, ℕ, ◌<◌, Bool, true, false, not, ◌&&◌, [], ◌∷◌, Some, refl, sym, ap, ◌∙◌}
 use Rattle.std.specs.Prelude.{◌==◌, slice_set}
 use Rattle.std.proofs.lemmas.Bool.{eq-eqb, ltb-true, lt-ltb, not-false}
-use Rattle.dsa_desc.specs.Rows.{first_row_or, when}
-use Rattle.dsa_desc.proofs.Tables.{when-some, table2, table3}
+use Rattle.dsa_base.specs.Rows.{first_row_or, when}
+use Rattle.dsa_base.proofs.Tables.{when-some, table2, table3}
 use Rattle.dsa_regs.specs.declared.Phase.{Phase}
 use Rattle.dsa_regs.specs.declared.Phase.TheVariants.{Off, On, Stopping}
 use Rattle.dsa_regs.specs.declared.QueueConfig.{QueueConfig}

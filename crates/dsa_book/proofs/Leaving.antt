@@ -1,7 +1,7 @@
 -- A dispatch, a start and an end leave the set-up as it was.
 use Rattle.std.proofs.Common.{◌≡◌, ℕ, [], ◌∷◌, ◌&&◌, Option, Some, None, refl}
 use Rattle.dsa_desc.specs.declared.Outcome.{Outcome}
-use Rattle.dsa_desc.proofs.Tables.{first_row_or-each}
+use Rattle.dsa_base.proofs.Tables.{first_row_or-each}
 use Rattle.dsa_store.specs.Content.{Slot}
 use Rattle.dsa_book.specs.declared.answer.StartAnswer.{StartAnswer}
 use Rattle.dsa_book.specs.declared.answer.StartAnswer.TheVariants.{Started}

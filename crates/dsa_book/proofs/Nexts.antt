@@ -1,7 +1,7 @@
 -- What a reply that may come says: it is the machine's reply to the event, given what was free to choose.
 use Rattle.std.proofs.Common.{◌≡◌, ◌&&◌, true, Some, refl, sym, ap, subst}
 use Rattle.std.proofs.lemmas.Bool.{and_parts}
-use Rattle.dsa_desc.proofs.Tables.{when-some}
+use Rattle.dsa_base.proofs.Tables.{when-some}
 use Rattle.dsa_book.specs.declared.answer.Reply.{Reply}
 use Rattle.dsa_book.specs.declared.event.Event.{Event}
 use Rattle.dsa_book.specs.Same.{same_reply}

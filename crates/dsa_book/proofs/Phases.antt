@@ -4,7 +4,7 @@ use Rattle.std.specs.Prelude.{nat_lt}
 use Rattle.std.proofs.lemmas.Bool.{cases_Bool, ltb-true, ltb-false}
 use Rattle.dsa_regs.specs.declared.Phase.{Phase}
 use Rattle.dsa_regs.specs.declared.Phase.TheVariants.{Off, On, Stopping}
-use Rattle.dsa_regs.proofs.NumberLists.{get_or-each, get_or-past}
+use Rattle.dsa_base.proofs.NumberLists.{get_or-each, get_or-past}
 use Rattle.dsa_book.specs.State.{Setup, is_on, is_off, phase_at}
 use Rattle.dsa_book.specs.Commands.{with_phases}
 

@@ -1,7 +1,7 @@
 -- Commands, configuration and the noted error: the administrator's steps.
 use Rattle.std.specs.Prelude.{ℕ, Bool, true, false, not, cond, ◌&&◌, ◌||◌, ◌==◌, nat_lt, nat_le, List, ◌∷◌, ◌++◌, length, map, filter, slice_set, Option, Some, None, is_some, []}
 use Rattle.std.specs.List.{list_any, list_all}
-use Rattle.dsa_desc.specs.Rows.{first_row_or}
+use Rattle.dsa_base.specs.Rows.{first_row_or}
 use Rattle.dsa_regs.specs.declared.Phase.{Phase}
 use Rattle.dsa_regs.specs.declared.Phase.TheVariants.{Off, On, Stopping}
 use Rattle.dsa_regs.specs.declared.QueueConfig.{QueueConfig}
@@ -13,7 +13,7 @@ use Rattle.dsa_regs.specs.declared.Deed.{Deed}
 use Rattle.dsa_regs.specs.declared.Deed.TheVariants.{Enable, Disable, Abort, Reset}
 use Rattle.dsa_regs.specs.declared.Fault.{Fault}
 use Rattle.dsa_regs.specs.declared.Fault.TheVariants.{BadQueue, Locked, WrongState, Busy, BadIndex}
-use Rattle.dsa_regs.specs.Numbers.{numbers_below}
+use Rattle.dsa_base.specs.Numbers.{numbers_below}
 use Rattle.dsa_regs.specs.Config.{zero_queue, queue_at, check_device, check_queue}
 use Rattle.dsa_regs.specs.Command.{number_of, scope_of, deed_of, queues_in}
 use Rattle.dsa_store.specs.declared.entry.Entry.{Entry}

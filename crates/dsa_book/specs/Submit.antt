@@ -3,7 +3,7 @@ use Rattle.std.specs.Prelude.{ℕ, ◌+◌, Bool, true, false, not, cond, nat_le
 use Rattle.std.specs.Bool.{beq}
 use Rattle.dsa_desc.specs.declared.Descriptor.{Descriptor}
 use Rattle.dsa_desc.specs.Descriptor.{with_pasid}
-use Rattle.dsa_desc.specs.Rows.{first_row_or}
+use Rattle.dsa_base.specs.Rows.{first_row_or}
 use Rattle.dsa_regs.specs.declared.QueueConfig.{QueueConfig}
 use Rattle.dsa_regs.specs.Config.{queue_at}
 use Rattle.dsa_store.specs.declared.entry.Cell.{Cell}

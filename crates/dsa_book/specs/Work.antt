@@ -4,8 +4,8 @@ use Rattle.std.specs.List.{list_any}
 use Rattle.dsa_desc.specs.declared.Descriptor.{Descriptor}
 use Rattle.dsa_desc.specs.declared.Outcome.{Outcome}
 use Rattle.dsa_desc.specs.Descriptor.{with_pasid, is_fenced, is_successful}
-use Rattle.dsa_desc.specs.Rows.{first_row_or, passes}
-use Rattle.dsa_regs.specs.Numbers.{has, numbers_below}
+use Rattle.dsa_base.specs.Rows.{first_row_or, passes}
+use Rattle.dsa_base.specs.Numbers.{has, numbers_below}
 use Rattle.dsa_regs.specs.declared.GroupConfig.{GroupConfig}
 use Rattle.dsa_regs.specs.Config.{group_at}
 use Rattle.dsa_regs.specs.Buffers.{fits}

@@ -1,6 +1,6 @@
 -- What opening a device does.
 use Rattle.std.specs.Prelude.{◌≡◌, ℕ, None, Some}
-use Rattle.dsa_desc.specs.Rows.{first_row}
+use Rattle.dsa_base.specs.Rows.{first_row}
 use Rattle.dsa_regs.specs.declared.Caps.{Caps}
 use Rattle.dsa_device.specs.Running.{opened}
 use Rattle.dsa_machine.specs.Opening.{opening_table, opening_fault}

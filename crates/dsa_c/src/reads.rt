@@ -1,7 +1,7 @@
 //! What the device behind a handle tells of itself. No read changes it.
 
 ghost use Rattle.std.specs.Prelude.{◌≡◌, ◌==◌, ℕ, nat_lt, find, length, slice_get, option_map};
-ghost use Rattle.dsa_desc.specs.Rows.{when};
+ghost use Rattle.dsa_base.specs.Rows.{when};
 ghost use Rattle.dsa_regs.specs.Command.{number_of};
 ghost use Rattle.dsa_store.specs.Content.{held};
 ghost use Rattle.dsa_book.specs.State.{occupancy};

@@ -5,7 +5,7 @@ use Rattle.std.proofs.lemmas.Bool.{not-false}
 use Rattle.std.proofs.lemmas.List.{get_or-set_other}
 use Rattle.dsa_desc.specs.declared.Descriptor.{Descriptor}
 use Rattle.dsa_desc.specs.Descriptor.{need}
-use Rattle.dsa_desc.proofs.Tables.{first_row_or-each, table2, table3}
+use Rattle.dsa_base.proofs.Tables.{first_row_or-each, table2, table3}
 use Rattle.dsa_regs.specs.declared.QueueConfig.{QueueConfig}
 use Rattle.dsa_regs.specs.declared.GroupConfig.{GroupConfig}
 use Rattle.dsa_regs.specs.Config.{zero_queue, queue_at, limits_of}
@@ -24,7 +24,7 @@ use Rattle.dsa_book.specs.Submit.{submit, submit_table, turned_away, accepted}
 use Rattle.dsa_book.specs.Commands.{write_queue, write_group, clear, clear_of}
 use Rattle.dsa_laws.specs.Lists.{In}
 use Rattle.dsa_laws.specs.WellFormed.{NoneOff}
-use Rattle.dsa_desc.proofs.Tables.{not-both}
+use Rattle.dsa_base.proofs.Tables.{not-both}
 use Rattle.dsa_laws.proofs.Orders.{chain-set}
 use Rattle.dsa_engines.specs.Engines.{Gear, IsInStep}
 use Rattle.dsa_engines.proofs.Used.{load, load-nil, load-cons, load-append}

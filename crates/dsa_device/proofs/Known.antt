@@ -2,7 +2,7 @@
 use Rattle.std.proofs.Common.{◌≡◌, ◌≢◌, ℕ, suc, ◌+◌, ◌^◌, ◌<◌, ◌≤◌, ◌==◌, Bool, true, false, List, [], ◌∷◌, length, Option, Some, None, IsTrue, refl, sym, ap, ◌∙◌, subst, arith, get_or}
 use Rattle.std.specs.Prelude.{is_none, is_some, filter, not, cond, ◌&&◌, nat_lt}
 use Rattle.std.proofs.lemmas.Bool.{lt-ltb, eqb-false, not-true, and_parts}
-use Rattle.dsa_desc.specs.Rows.{passes, when}
+use Rattle.dsa_base.specs.Rows.{passes, when}
 use Rattle.dsa_regs.specs.declared.Phase.{Phase}
 use Rattle.dsa_regs.specs.declared.Phase.TheVariants.{Off, On, Stopping}
 use Rattle.dsa_regs.specs.declared.Caps.{Caps}
@@ -24,7 +24,7 @@ use Rattle.dsa_accounts.proofs.Totals.{replay-names-le}
 use Rattle.dsa_engines.specs.Engines.{Gear, IsReady, WaitInOrder, is_fetching, is_running, lists_alone}
 use Rattle.dsa_buffers.specs.Buffers.{Buffers}
 use Rattle.dsa_engines.proofs.Used.{buffers-at_rest}
-use Rattle.dsa_regs.proofs.NumberLists.{get_or-each}
+use Rattle.dsa_base.proofs.NumberLists.{get_or-each}
 use Rattle.std.proofs.lemmas.List.{get_or-replicate}
 use Rattle.dsa_device.specs.Running.{Running, IsReplay, IsWhole}
 

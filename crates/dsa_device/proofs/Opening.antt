@@ -1,7 +1,7 @@
 -- A device as it is made.
 use Rattle.std.proofs.Common.{◌≡◌, ℕ, ◌^◌, ◌≤◌, IsTrue, List, [], length, replicate, None, refl, sym, ap, ◌∙◌, subst, arith, Option}
 use Rattle.std.proofs.lemmas.Bool.{eqb-true, ltb-false, and_parts, not-false}
-use Rattle.dsa_desc.proofs.Tables.{no-row}
+use Rattle.dsa_base.proofs.Tables.{no-row}
 use Rattle.dsa_regs.specs.declared.Caps.{Caps}
 use Rattle.dsa_regs.specs.Caps.{check_caps, cell_count, list_count}
 use Rattle.dsa_store.specs.Content.{Slot, Content, held}

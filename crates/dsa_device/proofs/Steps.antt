@@ -6,8 +6,8 @@ use Rattle.std.proofs.lemmas.Option.{same_Some}
 use Rattle.std.proofs.lemmas.Bool.{eqb-false, and_parts}
 use Rattle.std.proofs.lemmas.List.{length_push}
 use Rattle.std.proofs.lemmas.List.Folds.{list_all-append}
-use Rattle.dsa_desc.specs.Rows.{when}
-use Rattle.dsa_desc.proofs.Tables.{when-some}
+use Rattle.dsa_base.specs.Rows.{when}
+use Rattle.dsa_base.proofs.Tables.{when-some}
 use Rattle.dsa_regs.specs.declared.Caps.{Caps}
 use Rattle.dsa_regs.specs.Caps.{cell_count}
 use Rattle.dsa_store.specs.Content.{Content}

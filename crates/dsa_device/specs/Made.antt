@@ -1,6 +1,6 @@
 -- What keeps a device from being made.
 use Rattle.std.specs.Prelude.{ℕ, ◌^◌, Bool, not, ◌&&◌, ◌==◌, nat_lt, List, [], ◌∷◌, length, Option}
-use Rattle.dsa_desc.specs.Rows.{first_row, first_row_or}
+use Rattle.dsa_base.specs.Rows.{first_row, first_row_or}
 use Rattle.dsa_regs.specs.declared.Caps.{Caps}
 use Rattle.dsa_regs.specs.Caps.{check_caps, cell_count, list_count}
 use Rattle.dsa_store.specs.Content.{Content, held}

@@ -1,6 +1,6 @@
 -- A device as its callers see it, and what each call makes of it.
 use Rattle.std.specs.Prelude.{◌≡◌, ℕ, ◌^◌, ◌≤◌, ◌==◌, cond, true, IsTrue, List, [], length, Option, Some, option_map}
-use Rattle.dsa_desc.specs.Rows.{when}
+use Rattle.dsa_base.specs.Rows.{when}
 use Rattle.dsa_regs.specs.declared.Caps.{Caps}
 use Rattle.dsa_regs.specs.Caps.{check_caps, cell_count}
 use Rattle.dsa_store.specs.Content.{Content}

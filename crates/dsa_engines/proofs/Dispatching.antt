@@ -8,7 +8,7 @@ use Rattle.std.specs.Option.{IfNone}
 use Rattle.std.specs.List.{list_any}
 use Rattle.std.proofs.lemmas.List.Folds.{list_any-append}
 use Rattle.dsa_regs.specs.declared.GroupConfig.{GroupConfig}
-use Rattle.dsa_regs.specs.Numbers.{has, numbers_below}
+use Rattle.dsa_base.specs.Numbers.{has, numbers_below}
 use Rattle.dsa_regs.specs.Config.{group_at, zero_group}
 use Rattle.dsa_regs.specs.Buffers.{fits}
 use Rattle.dsa_store.specs.declared.entry.Cell.{Cell}

@@ -4,7 +4,7 @@ use Rattle.std.proofs.lemmas.Grind.{common_steps}
 use Rattle.std.specs.List.{find, filter}
 use Rattle.std.proofs.lemmas.Bool.{lt-ltb, cases_Bool, cases_eq, cases_lt, and_parts}
 use Rattle.std.proofs.lemmas.List.Elements.{filter-append}
-use Rattle.dsa_desc.specs.Rows.{when}
+use Rattle.dsa_base.specs.Rows.{when}
 use Rattle.dsa_store.specs.declared.entry.Cell.{Cell}
 use Rattle.dsa_store.specs.declared.entry.Entry.{Entry}
 use Rattle.dsa_store.specs.Content.{Slot, Content, is_cell, chain, count, uses, list_of, entry_of, StandsAt}

@@ -6,10 +6,10 @@ use Rattle.std.proofs.lemmas.Grind.{common_steps}
 use Rattle.std.proofs.lemmas.List.{length-map, map-append}
 use Rattle.std.proofs.lemmas.List.Sums.{sum_by-cons, get_or-le-sum_by}
 use Rattle.std.proofs.lemmas.List.Folds.{list_any-append}
-use Rattle.dsa_desc.specs.Rows.{first_row}
+use Rattle.dsa_base.specs.Rows.{first_row}
 use Rattle.dsa_regs.specs.declared.Fault.{Fault}
 use Rattle.dsa_regs.specs.declared.GroupConfig.{GroupConfig}
-use Rattle.dsa_regs.specs.Numbers.{has, numbers_below}
+use Rattle.dsa_base.specs.Numbers.{has, numbers_below}
 use Rattle.dsa_regs.specs.Config.{zero_group, is_in_two, groups_table, total_size}
 use Rattle.dsa_queues.proofs.Groups.{position-hit}
 use Rattle.dsa_store.specs.Content.{Content}

@@ -4,11 +4,11 @@ use Rattle.std.proofs.lemmas.Grind.{common_steps}
 use Rattle.std.proofs.lemmas.Bool.{cases_Bool, lt-ltb, and_parts}
 use Rattle.std.specs.List.{find}
 use Rattle.std.proofs.lemmas.List.{get_or-set_same, get_or-set_other, length-set}
-use Rattle.dsa_desc.specs.Rows.{passes}
+use Rattle.dsa_base.specs.Rows.{passes}
 use Rattle.dsa_desc.specs.Descriptor.{is_fenced}
 use Rattle.dsa_regs.specs.Buffers.{fits}
 use Rattle.dsa_regs.specs.declared.GroupConfig.{GroupConfig}
-use Rattle.dsa_regs.specs.Numbers.{has}
+use Rattle.dsa_base.specs.Numbers.{has}
 use Rattle.dsa_regs.specs.Config.{zero_group}
 use Rattle.dsa_queues.proofs.Groups.{hit-at}
 use Rattle.dsa_store.specs.declared.entry.Cell.{Cell}

@@ -1,13 +1,13 @@
 -- What the engines keep beside the lists, and how it agrees with them.
 use Rattle.std.specs.Prelude.{◌≡◌, ℕ, ◌-◌, ◌<◌, ◌≤◌, IsTrue, true, false, Bool, not, ◌&&◌, is_some, cond, List, ◌∷◌, length, map, filter, replicate, get_or, slice_index, slice_set, Option, Some, None, []}
-use Rattle.dsa_desc.specs.Rows.{passes}
+use Rattle.dsa_base.specs.Rows.{passes}
 use Rattle.dsa_regs.specs.declared.Caps.{Caps}
 use Rattle.dsa_regs.specs.declared.layout.ListUse.{ListUse}
 use Rattle.dsa_regs.specs.declared.layout.ListUse.TheVariants.{Queue, Progress, Members}
 use Rattle.dsa_regs.specs.Caps.{check_caps, list_count, engine_of}
 use Rattle.dsa_store.specs.declared.entry.Entry.{Entry}
 use Rattle.dsa_regs.specs.Config.{check_device}
-use Rattle.dsa_regs.specs.Numbers.{numbers_below}
+use Rattle.dsa_base.specs.Numbers.{numbers_below}
 use Rattle.dsa_store.specs.Content.{Slot, Content, chain, held}
 use Rattle.dsa_buffers.specs.Buffers.{Buffers}
 use Rattle.dsa_book.specs.declared.note.BatchNote.{BatchNote}

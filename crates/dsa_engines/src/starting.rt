@@ -1,7 +1,7 @@
 //! Start: an engine starts the first of its members that does not run.
 
 ghost use Rattle.std.specs.Prelude.{◌≡◌, ℕ, ◌<◌, ◌≤◌, ◌+◌, ◌&&◌, ◌++◌, not, true, false, Some, None, [], map, length, find, get_or, slice_get, slice_set, option_map, MatchOption};
-ghost use Rattle.dsa_desc.specs.Rows.{passes};
+ghost use Rattle.dsa_base.specs.Rows.{passes};
 ghost use Rattle.dsa_desc.specs.Descriptor.{is_fenced};
 ghost use Rattle.dsa_regs.specs.Buffers.{fits};
 ghost use Rattle.dsa_store.specs.Content.{chain, is_cell};

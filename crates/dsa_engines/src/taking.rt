@@ -2,7 +2,7 @@
 
 ghost use Rattle.std.specs.Prelude.{◌≡◌, ℕ, List, ◌<◌, ◌≢◌, ◌&&◌, ◌||◌, not, is_none, true, false, Some, None, [], length, get_or, slice_get, slice_index, slice_set, cond, IfSome, IfNone, MatchOption};
 ghost use Rattle.std.specs.List.{list_any};
-ghost use Rattle.dsa_regs.specs.Numbers.{numbers_below};
+ghost use Rattle.dsa_base.specs.Numbers.{numbers_below};
 ghost use Rattle.dsa_regs.specs.Buffers.{fits};
 ghost use Rattle.dsa_store.specs.Content.{chain, pushed, without_front};
 ghost use Rattle.dsa_book.specs.declared.fate.FateRow.{FateRow};

@@ -13,7 +13,7 @@ use Rattle.dsa_book.specs.State.{Setup, is_batch_of}
 use Rattle.dsa_book.specs.Work.{run, opened_note, with_first_run}
 use Rattle.dsa_book.specs.Commands.{is_in_scope, names, takes_batch, kept_note}
 use Rattle.dsa_laws.specs.Engines.{holds_batch, IsNoteOf, IsAlike, IsLawfulEngine}
-use Rattle.dsa_desc.proofs.Tables.{not-both}
+use Rattle.dsa_base.proofs.Tables.{not-both}
 use Rattle.dsa_laws.proofs.Contents.{In-append, In-counted, In-filter, filter-none, sum-list-le, length-filter-le}
 use Rattle.std.proofs.lemmas.Bool.{and_parts, false_from_ne_true}
 use Rattle.dsa_laws.proofs.Entries.{first_run-each}

@@ -4,11 +4,11 @@ use Rattle.std.specs.Prelude.{sum_by, filter, find, position, nat_lt}
 use Rattle.std.proofs.lemmas.List.Sums.{sum_by-cons, sum_by_push}
 use Rattle.std.proofs.lemmas.Bool.{ltb-false, and_parts, or_parts, not-true}
 use Rattle.std.proofs.lemmas.List.{get_or-set_other}
-use Rattle.dsa_desc.specs.Rows.{passes}
+use Rattle.dsa_base.specs.Rows.{passes}
 use Rattle.dsa_regs.specs.declared.Caps.{Caps}
 use Rattle.dsa_regs.specs.declared.GroupConfig.{GroupConfig}
 use Rattle.dsa_regs.specs.declared.QueueConfig.{QueueConfig}
-use Rattle.dsa_regs.specs.Numbers.{has, numbers_below}
+use Rattle.dsa_base.specs.Numbers.{has, numbers_below}
 use Rattle.dsa_regs.specs.declared.Phase.TheVariants.{Off, Stopping}
 use Rattle.dsa_regs.specs.declared.Scope.{Scope}
 use Rattle.dsa_regs.specs.declared.Scope.TheVariants.{Device}
@@ -31,11 +31,11 @@ use Rattle.dsa_laws.proofs.Covering.{AreWithin, needed, all_needed, within-less,
 use Rattle.dsa_laws.proofs.Entries.{none-held, configs-kept}
 use Rattle.dsa_laws.proofs.Needs.{weight, weight-waiting, weight-run, weight-same, sum-within, sum_on, used_on-sum, sum_on-less, HasMore, sum_on-others, sum_on-mine}
 use Rattle.dsa_laws.proofs.Orders.{chain-set}
-use Rattle.dsa_desc.proofs.Tables.{not-both}
+use Rattle.dsa_base.proofs.Tables.{not-both}
 use Rattle.dsa_book.proofs.Phases.{on-not_off}
-use Rattle.dsa_regs.proofs.NumberLists.{get_or-each}
+use Rattle.dsa_base.proofs.NumberLists.{get_or-each}
 use Rattle.dsa_laws.proofs.Shapes.{below-engines, waiting-engine, stopped-caps, stopped-configs, stopped-groups}
-use Rattle.dsa_desc.proofs.Tables.{no-row}
+use Rattle.dsa_base.proofs.Tables.{no-row}
 use Rattle.dsa_laws.specs.Lists.{In}
 use Rattle.dsa_laws.proofs.Limits.{taken-test}
 

@@ -7,15 +7,15 @@ use Rattle.std.proofs.lemmas.List.Quantifiers.{position-Some}
 use Rattle.std.proofs.lemmas.List.Sums.{sum_by-cons, sum_by_push, get_or-le-sum_by, sum_by-le-sum_by}
 use Rattle.std.proofs.lemmas.List.Folds.{list_any-append}
 use Rattle.std.proofs.lemmas.Bool.{cases_eq, cases_Bool, cases_lt, ltb-false, leb-true, and_parts, or_parts}
-use Rattle.dsa_desc.specs.Rows.{passes}
+use Rattle.dsa_base.specs.Rows.{passes}
 use Rattle.dsa_regs.specs.declared.Caps.{Caps}
 use Rattle.dsa_regs.specs.declared.GroupConfig.{GroupConfig}
-use Rattle.dsa_regs.specs.Numbers.{has, numbers_below}
+use Rattle.dsa_base.specs.Numbers.{has, numbers_below}
 use Rattle.dsa_regs.specs.Config.{zero_group, group_at, is_in_two, total_reserved}
 use Rattle.dsa_regs.specs.Buffers.{covered, fits}
-use Rattle.dsa_regs.proofs.NumberLists.{get_or-each, get_or-past}
-use Rattle.dsa_desc.proofs.Tables.{not-both}
-use Rattle.dsa_regs.proofs.NumberLists.{length-each}
+use Rattle.dsa_base.proofs.NumberLists.{get_or-each, get_or-past}
+use Rattle.dsa_base.proofs.Tables.{not-both}
+use Rattle.dsa_base.proofs.NumberLists.{length-each}
 
 -- ---- what is in use or reserved
 

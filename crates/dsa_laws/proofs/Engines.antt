@@ -29,9 +29,9 @@ use Rattle.dsa_laws.specs.WellFormed.{HasShape, NoneOff, NamesOnce, IsWellFormed
 use Rattle.dsa_laws.specs.Engines.{holds_batch, IsAlike, IsLawfulEngine, HasLawfulEngines}
 use Rattle.dsa_laws.proofs.Contents.{In-append, In-counted, In-filter, In-filtered, In-find, In-same, chain-filtered, sum-list-le, sum-without, chain-other, chain-same}
 use Rattle.dsa_laws.proofs.Shapes.{shape-change, shape-opening, stopped-configs, In-cond, below-engines, member_list-in, progress_list-in, waiting-engine, waiting-members}
-use Rattle.dsa_desc.proofs.Tables.{not-both}
+use Rattle.dsa_base.proofs.Tables.{not-both}
 use Rattle.dsa_book.proofs.Phases.{on-not_off}
-use Rattle.dsa_regs.proofs.NumberLists.{get_or-each}
+use Rattle.dsa_base.proofs.NumberLists.{get_or-each}
 use Rattle.dsa_laws.proofs.Entries.{in-use-below, configs-kept}
 use Rattle.dsa_laws.proofs.Batches.{by_setup, with_front, with_member, with_run, with_none, with_end, is_left, with_abort, sum-two, length-none}
 use Rattle.dsa_laws.specs.Lists.{In}

@@ -5,7 +5,7 @@ use Rattle.std.specs.List.{list_any}
 use Rattle.std.proofs.lemmas.Bool.{cases_Bool, ltb-true, ltb-false, and_parts, or_parts, not-true}
 use Rattle.std.proofs.Math.ListN.{get_or-eq_default}
 use Rattle.dsa_regs.specs.Caps.{list_count}
-use Rattle.dsa_regs.proofs.NumberLists.{get_or-each}
+use Rattle.dsa_base.proofs.NumberLists.{get_or-each}
 use Rattle.dsa_desc.specs.Descriptor.{pasid_of}
 use Rattle.dsa_regs.specs.declared.Caps.{Caps}
 use Rattle.dsa_regs.specs.declared.Phase.{Phase}
@@ -33,7 +33,7 @@ use Rattle.dsa_book.specs.Submit.{accepted}
 use Rattle.dsa_book.specs.Work.{taken, fetched, started}
 use Rattle.dsa_book.specs.Commands.{size_alone}
 use Rattle.dsa_book.specs.Machine.{intake_of, with_intake}
-use Rattle.dsa_desc.proofs.Tables.{not-both}
+use Rattle.dsa_base.proofs.Tables.{not-both}
 use Rattle.dsa_book.proofs.Phases.{on-not_off}
 use Rattle.dsa_laws.specs.Lists.{In, EachAt}
 

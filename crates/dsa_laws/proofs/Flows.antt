@@ -29,7 +29,7 @@ use Rattle.dsa_laws.specs.Lists.{In}
 use Rattle.dsa_laws.proofs.Shapes.{stopped-names}
 use Rattle.std.proofs.Common.{length-append}
 use Rattle.std.proofs.lemmas.List.{length-map, append-nil}
-use Rattle.dsa_regs.proofs.NumberSums.{sum-map}
+use Rattle.dsa_base.proofs.NumberSums.{sum-map}
 
 -- ---- cells and names, as sums
 

@@ -3,7 +3,7 @@ use Rattle.std.proofs.Common.{drop, ◌≡◌, ◌≢◌, ℕ, zero, suc, ◌+�
 use Rattle.std.specs.Prelude.{filter, nat_lt}
 use Rattle.std.proofs.lemmas.Bool.{cases_eq, ltb-true, ltb-false, leb-false, and_parts}
 use Rattle.std.proofs.lemmas.List.{get_or-set_other}
-use Rattle.dsa_desc.specs.Rows.{passes}
+use Rattle.dsa_base.specs.Rows.{passes}
 use Rattle.dsa_regs.specs.declared.Caps.{Caps}
 use Rattle.dsa_regs.specs.declared.QueueConfig.{QueueConfig}
 use Rattle.dsa_regs.specs.declared.GroupConfig.{GroupConfig}
@@ -27,10 +27,10 @@ use Rattle.dsa_laws.proofs.Entries.{In-after}
 use Rattle.dsa_laws.specs.WellFormed.{HasShape, HasLawfulSetup, HasLawfulEntries, IsWithinLimits, NoteFits, NotesFit}
 use Rattle.dsa_laws.proofs.Contents.{chain-filtered, In-filtered, none-In, chain-empty, length-filter-le}
 use Rattle.dsa_laws.proofs.Shapes.{on-queue, stopped-configs, progress-at}
-use Rattle.dsa_desc.proofs.Tables.{not-both}
+use Rattle.dsa_base.proofs.Tables.{not-both}
 use Rattle.dsa_book.proofs.Phases.{on-not_off}
-use Rattle.dsa_regs.proofs.NumberLists.{get_or-each}
-use Rattle.dsa_desc.proofs.Tables.{no-row}
+use Rattle.dsa_base.proofs.NumberLists.{get_or-each}
+use Rattle.dsa_base.proofs.Tables.{no-row}
 use Rattle.dsa_laws.specs.Engines.{IsLawfulEngine, HasLawfulEngines}
 use Rattle.dsa_book.specs.declared.note.BatchNote.{BatchNote}
 

@@ -5,7 +5,7 @@ use Rattle.std.proofs.lemmas.Bool.{cases_Bool, ltb-true, ltb-false, leb-true, le
 use Rattle.std.proofs.Math.Nat.{pow-le-pow_right}
 use Rattle.dsa_desc.specs.declared.Descriptor.{Descriptor}
 use Rattle.dsa_desc.specs.declared.QueueLimits.{QueueLimits}
-use Rattle.dsa_desc.specs.Rows.{first_row_or}
+use Rattle.dsa_base.specs.Rows.{first_row_or}
 use Rattle.dsa_desc.specs.Descriptor.{is_lawful_batch, is_batch, is_within, is_well_formed, is_supported, is_fenced, is_transfer, check, is_successful}
 use Rattle.dsa_regs.specs.declared.Caps.{Caps}
 use Rattle.dsa_regs.specs.declared.Scope.{Scope}
@@ -20,8 +20,8 @@ use Rattle.dsa_laws.specs.Change.{Change}
 use Rattle.dsa_laws.proofs.Effects.{by_effect}
 use Rattle.dsa_laws.specs.WellFormed.{HasShape, HasLawfulSetup, HasLawfulEntries, NoteFits, NotesFit}
 use Rattle.dsa_laws.proofs.Entries.{In-front}
-use Rattle.dsa_regs.proofs.NumberLists.{get_or-each, get_or-past}
-use Rattle.dsa_desc.proofs.Tables.{no-row}
+use Rattle.dsa_base.proofs.NumberLists.{get_or-each, get_or-past}
+use Rattle.dsa_base.proofs.Tables.{no-row}
 
 -- ---- the size of a batch
 

@@ -20,7 +20,7 @@ use Rattle.dsa_laws.specs.Change.{Change, same, is_noted, is_accepted, is_taken,
 use Rattle.dsa_laws.specs.WellFormed.{HasShape}
 use Rattle.dsa_laws.proofs.Contents.{In-find}
 use Rattle.dsa_laws.specs.Lists.{In}
-use Rattle.dsa_regs.proofs.NumberLists.{length-each}
+use Rattle.dsa_base.proofs.NumberLists.{length-each}
 
 -- the shape of a state that differs from one with it in no length
 same_shape : (caps : Caps) (w w' : Work) → HasShape caps w → w'.setup.caps ≡ w.setup.caps → length w'.content ≡ length w.content → length w'.setup.configs ≡ length w.setup.configs

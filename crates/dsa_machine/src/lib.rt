@@ -2,7 +2,7 @@
 #![tactic(auto)]
 
 ghost use Rattle.std.specs.Prelude.{◌≡◌, None, IfOk, IfErr};
-ghost use Rattle.dsa_desc.specs.Rows.{first_row};
+ghost use Rattle.dsa_base.specs.Rows.{first_row};
 ghost use Rattle.dsa_device.specs.Running.{opened};
 ghost use Rattle.dsa_machine.specs.Opening.{opening_table, opening_fault};
 

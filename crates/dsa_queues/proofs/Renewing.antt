@@ -2,7 +2,7 @@
 use Rattle.std.proofs.Common.{◌≡◌, ℕ, zero, suc, ◌<◌, ◌≤◌, cond, ◌==◌, List, ◌++◌, length, map, drop, set, get_or, refl, sym, ◌∙◌, arith}
 use Rattle.std.proofs.lemmas.Grind.{common_steps}
 use Rattle.std.proofs.Math.Seq.{drop-cons, set-append_seam}
-use Rattle.dsa_regs.specs.Numbers.{numbers_below}
+use Rattle.dsa_base.specs.Numbers.{numbers_below}
 
 -- the first n places are what f gives for them, the rest are as they were
 abbrev pub renewed : {X : Type 0} → (ℕ → X) → ℕ → List X → List X

@@ -3,7 +3,7 @@ use Rattle.std.proofs.Common.{◌≡◌, ℕ, suc, ◌+◌, ◌<◌, List, map, 
 use Rattle.dsa_regs.specs.declared.Phase.{Phase}
 use Rattle.dsa_regs.specs.declared.Phase.TheVariants.{Off}
 use Rattle.dsa_regs.specs.declared.QueueConfig.{QueueConfig}
-use Rattle.dsa_regs.specs.Numbers.{numbers_below}
+use Rattle.dsa_base.specs.Numbers.{numbers_below}
 use Rattle.dsa_regs.specs.Config.{zero_queue, queue_at}
 use Rattle.dsa_book.specs.State.{Setup, phase_at}
 use Rattle.dsa_queues.proofs.Renewing.{renewed, renewed-set, renewed-same, renewed-next, renewed-all}

@@ -1,6 +1,6 @@
 -- What the queues and a store keep together, and whether a submission is accepted.
 use Rattle.std.specs.Prelude.{◌≡◌, ℕ, Bool, true, length, is_none}
-use Rattle.dsa_desc.specs.Rows.{first_row}
+use Rattle.dsa_base.specs.Rows.{first_row}
 use Rattle.dsa_regs.specs.Caps.{check_caps}
 use Rattle.dsa_store.specs.Content.{Content}
 use Rattle.dsa_book.specs.declared.event.Portal.{Portal}

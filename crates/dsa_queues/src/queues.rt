@@ -3,7 +3,7 @@
 ghost use Rattle.std.specs.Prelude.{◌≡◌, ◌+◌, ◌==◌, ◌<◌, ◌^◌, true, false, IsTrue, IfSome, slice_set, position, Some};
 ghost use Rattle.dsa_regs.specs.Caps.{HasList, check_caps, list_count, list_number, list_use};
 ghost use Rattle.dsa_regs.specs.declared.Scope.TheVariants.{Device};
-ghost use Rattle.dsa_regs.specs.Numbers.{has};
+ghost use Rattle.dsa_base.specs.Numbers.{has};
 ghost use Rattle.dsa_regs.specs.Config.{queue_at, group_at};
 ghost use Rattle.dsa_book.specs.State.{Setup, opening_setup, phase_at, is_off, has_queue, limits_at, need_of, held_by, status_of, is_batch_of};
 ghost use Rattle.dsa_book.specs.Submit.{noted_more};

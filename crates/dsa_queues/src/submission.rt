@@ -1,7 +1,7 @@
 //! Submission: ENQCMD and MOVDIR64B to either portal of a queue.
 
 ghost use Rattle.std.specs.Prelude.{◌≡◌, ℕ, ◌+◌, ◌<◌, ◌^◌, true, length};
-ghost use Rattle.dsa_desc.specs.Rows.{when};
+ghost use Rattle.dsa_base.specs.Rows.{when};
 ghost use Rattle.dsa_desc.specs.Descriptor.{with_pasid};
 ghost use Rattle.dsa_regs.specs.Config.{queue_at};
 ghost use Rattle.dsa_regs.specs.Caps.{cell_count, list_count};

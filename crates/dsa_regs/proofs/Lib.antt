@@ -1,5 +1,2 @@
-pub mod NumberLemmas
 pub mod MaskLemmas
 pub mod CapsLemmas
-pub mod NumberLists
-pub mod NumberSums

@@ -7,7 +7,7 @@ use Rattle.std.proofs.lemmas.Bool.Decides.{nat_tests}
 use Rattle.std.proofs.lemmas.List.{map-append}
 use Rattle.std.proofs.lemmas.List.Elements.{filter-append}
 use Rattle.std.proofs.lemmas.List.Folds.{list_any-append}
-use Rattle.dsa_regs.specs.Numbers.{has, numbers_below}
+use Rattle.dsa_base.specs.Numbers.{has, numbers_below}
 
 one-last : (f : ℕ → ℕ) (p test : ℕ → Bool) (n : ℕ) (b : Bool) → p n ≡ b → list_any test (map f (filter p (n ∷ []))) ≡ (b && test (f n))
 one-last f p test n true e = grind (arith, common_steps)

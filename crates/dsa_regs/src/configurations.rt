@@ -1,7 +1,7 @@
 //! What a queue's and a group's configuration say.
 
 ghost use Rattle.std.specs.Prelude.{◌≡◌};
-ghost use Rattle.dsa_regs.specs.Numbers.{has};
+ghost use Rattle.dsa_base.specs.Numbers.{has};
 
 use crate::{GroupConfig, QueueConfig};
 use dsa_desc::QueueLimits;

@@ -3,7 +3,7 @@
 ghost use Rattle.std.specs.Prelude.{◌≡◌, ◌≤◌, ◌==◌, nat_lt, find};
 ghost use Rattle.dsa_regs.specs.Caps.{cell_count};
 ghost use Rattle.std.specs.Option.{option_map};
-ghost use Rattle.dsa_desc.specs.Rows.{when};
+ghost use Rattle.dsa_base.specs.Rows.{when};
 ghost use Rattle.dsa_store.specs.Content.{held};
 ghost use Rattle.dsa_book.specs.State.{occupancy};
 ghost use Rattle.dsa_book.specs.Work.{used};

@@ -1,7 +1,7 @@
 use Rattle.std.proofs.Common.{◌≤◌, ◌^◌, pow_mono, arith}
 use Rattle.std.proofs.lemmas.Grind.{common_steps}
 use Rattle.std.proofs.lemmas.Nat.{pow_pos}
-use Rattle.dsa_regs.proofs.NumberLemmas.{div-none}
+use Rattle.dsa_base.proofs.NumberLemmas.{div-none}
 use Rattle.dsa_regs.proofs.checks.is_past.Goals as goal
 
 pub returns-then-count-lt64 : goal.returns-then-count-lt64

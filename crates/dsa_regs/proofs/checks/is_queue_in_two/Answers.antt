@@ -1,8 +1,8 @@
 use Rattle.std.proofs.Common.{◌<◌, nat_lt, count_by, sym, arith}
 use Rattle.std.proofs.lemmas.Bool.{lt-ltb}
 use Rattle.std.proofs.lemmas.Grind.{common_steps}
-use Rattle.dsa_regs.specs.Numbers.{has}
-use Rattle.dsa_regs.proofs.NumberLemmas.{numbers_below-hit}
+use Rattle.dsa_base.specs.Numbers.{has}
+use Rattle.dsa_base.proofs.NumberLemmas.{numbers_below-hit}
 use Rattle.dsa_regs.proofs.checks.is_queue_in_two.Goals as goal
 
 pub returns-then-groups_with_queue-gt1 : goal.returns-then-groups_with_queue-gt1

@@ -1,5 +1,5 @@
 use Rattle.std.proofs.Common.{◌∙◌, nat_lt, ap}
-use Rattle.dsa_desc.specs.Rows.{when}
+use Rattle.dsa_base.specs.Rows.{when}
 use Rattle.dsa_regs.specs.declared.Caps.{Caps}
 use Rattle.dsa_book.specs.State.{occupancy}
 use Rattle.dsa_device.proofs.Known.{ready, well_formed, occupancy_fits}

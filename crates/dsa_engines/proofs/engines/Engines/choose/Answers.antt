@@ -2,7 +2,7 @@ use Rattle.std.proofs.Common.{◌≡◌, ◌∙◌, ◌<◌, ◌+◌, ℕ, Optio
 use Rattle.std.specs.Prelude.{MatchOption}
 use Rattle.std.specs.List.{list_any}
 use Rattle.dsa_regs.specs.declared.Caps.{Caps}
-use Rattle.dsa_regs.specs.Numbers.{numbers_below}
+use Rattle.dsa_base.specs.Numbers.{numbers_below}
 use Rattle.dsa_book.specs.Work.{qualifies}
 use Rattle.dsa_engines.specs.Engines.{work}
 use Rattle.dsa_engines.proofs.Dispatching.{kept-best, some-best}

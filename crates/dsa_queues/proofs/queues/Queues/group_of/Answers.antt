@@ -1,6 +1,6 @@
 use Rattle.std.proofs.Common.{arith}
 use Rattle.std.proofs.lemmas.Grind.{common_steps}
-use Rattle.dsa_regs.specs.Numbers.{has}
+use Rattle.dsa_base.specs.Numbers.{has}
 use Rattle.dsa_queues.proofs.Groups.{position-hit, position-none}
 use Rattle.dsa_queues.proofs.queues.Queues.group_of.Goals as goal
 

@@ -1,6 +1,6 @@
 use Rattle.std.proofs.Common.{◌≡◌, false, take}
 use Rattle.std.specs.List.{list_any}
-use Rattle.dsa_regs.specs.Numbers.{has}
+use Rattle.dsa_base.specs.Numbers.{has}
 use Rattle.dsa_queues.proofs.queues.Queues.group_of.Given as goal
 
 abbrev pub invariant-loop-group : goal.invariant-loop-group

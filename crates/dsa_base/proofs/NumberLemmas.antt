@@ -4,7 +4,7 @@ use Rattle.std.specs.List.{list_any}
 use Rattle.std.proofs.lemmas.Grind.{common_steps}
 use Rattle.std.proofs.lemmas.List.Folds.{list_any-append}
 use Rattle.std.proofs.Math.Nat.{div-eq_of_lt, lt-div-mul-add}
-use Rattle.dsa_regs.specs.Numbers.{numbers_below}
+use Rattle.dsa_base.specs.Numbers.{numbers_below}
 
 -- a number below the bound that passes a test
 pub numbers_below-hit : (p : ℕ → Bool) (n k : ℕ) → k < n → p k ≡ true → list_any p (numbers_below n) ≡ true

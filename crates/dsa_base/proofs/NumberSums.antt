@@ -4,7 +4,7 @@ use Rattle.std.specs.Prelude.{sum_by}
 use Rattle.std.proofs.lemmas.Bool.{cases_eq}
 use Rattle.std.proofs.lemmas.List.Sums.{sum_by-cons, sum_by_push}
 use Rattle.std.proofs.Math.Nat.{suc-mul}
-use Rattle.dsa_regs.specs.Numbers.{numbers_below}
+use Rattle.dsa_base.specs.Numbers.{numbers_below}
 
 -- the numbers below a + b are those below a, and those from a on
 pub sum-split_numbers : (F : ℕ → ℕ) (a b : ℕ) → sum_by F (numbers_below (a + b)) ≡ sum_by F (numbers_below a) + sum_by (λ k. F (a + k)) (numbers_below b)

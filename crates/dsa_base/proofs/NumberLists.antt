@@ -3,7 +3,7 @@ use Rattle.std.proofs.Common.{◌≡◌, ◌≢◌, ℕ, zero, suc, ◌+◌, ◌
 use Rattle.std.proofs.lemmas.List.{get_or-map, length-map}
 use Rattle.std.proofs.lemmas.Bool.{cases_eq}
 use Rattle.std.proofs.Math.ListN.{get_or-eq_default}
-use Rattle.dsa_regs.specs.Numbers.{numbers_below}
+use Rattle.dsa_base.specs.Numbers.{numbers_below}
 
 pub length-numbers : (n : ℕ) → length (numbers_below n) ≡ n
 length-numbers zero = refl

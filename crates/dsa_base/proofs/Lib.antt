@@ -1,0 +1,4 @@
+pub mod Tables
+pub mod NumberLemmas
+pub mod NumberLists
+pub mod NumberSums
