@@ -15,7 +15,7 @@ use Rattle.dsa_book.specs.declared.note.BatchNote.{BatchNote}
 use Rattle.dsa_book.specs.State.{Setup, is_batch_of}
 use Rattle.dsa_book.specs.Work.{progress_list}
 use Rattle.dsa_book.specs.Commands.{is_in_scope, takes_batch, kept_note}
-use Rattle.dsa_queues.proofs.Renewing.{renewed, renewed-set, renewed-next, renewed-all}
+use Rattle.dsa_base.proofs.Renewing.{renewed, renewed-set, renewed-next, renewed-all}
 use Rattle.dsa_engines.specs.Engines.{Gear, noteless, removed}
 use Rattle.dsa_admin.specs.Admin.{notes_left}
 

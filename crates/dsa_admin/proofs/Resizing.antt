@@ -1,8 +1,7 @@
 -- Queues that lose all but their sizes: what other queues' entries need stays.
-use Rattle.std.proofs.Common.{◌≡◌, ℕ, zero, suc, ◌<◌, ◌≤◌, Bool, true, false, not, cond, List, ◌∷◌, map, get_or, refl, sym, ap, ◌∙◌, inl, inr, arith, []}
+use Rattle.std.proofs.Common.{◌≡◌, ℕ, zero, suc, ◌<◌, ◌≤◌, Bool, true, false, not, cond, List, ◌∷◌, refl, sym, ap, ◌∙◌, inl, inr, arith, []}
 use Rattle.std.proofs.lemmas.Grind.{common_steps}
 use Rattle.std.proofs.lemmas.Bool.{cases_lt}
-use Rattle.std.proofs.lemmas.List.{map-append}
 use Rattle.std.specs.List.{filter}
 use mathlib.Core.Logic.{◌⊎◌}
 use Rattle.dsa_desc.specs.Descriptor.{need}
@@ -10,25 +9,18 @@ use Rattle.dsa_regs.specs.declared.QueueConfig.{QueueConfig}
 use Rattle.dsa_regs.specs.declared.Scope.{Scope}
 use Rattle.dsa_regs.specs.declared.Scope.TheVariants.{Device}
 use Rattle.dsa_regs.specs.declared.Phase.TheVariants.{Off}
-use Rattle.dsa_base.specs.Numbers.{numbers_below}
 use Rattle.dsa_regs.specs.Config.{zero_queue, queue_at, limits_of}
 use Rattle.dsa_regs.specs.Command.{queues_in}
 use Rattle.dsa_store.specs.declared.entry.Entry.{Entry}
 use Rattle.dsa_store.specs.Content.{Slot, Content, chain, kept}
 use Rattle.dsa_queues.specs.Queues.{IsWhole}
-use Rattle.dsa_queues.proofs.Renewing.{length-each}
+use Rattle.dsa_base.proofs.NumberLists.{get_or-each, length-each}
 use Rattle.dsa_book.specs.State.{Setup, held_by, is_member}
 use Rattle.dsa_book.proofs.Scopes.{unnamed}
 use Rattle.dsa_book.specs.Commands.{is_in_scope, names, with_phases, with_sizes_alone, size_alone, reset}
 use Rattle.dsa_engines.specs.Engines.{Gear, IsInStep}
 use Rattle.dsa_engines.proofs.Keeping.{in_step-kept}
 use Rattle.dsa_engines.proofs.Used.{load, load-nil, load-cons}
-
-get_or-each : {X : Type 0} (f : ℕ → X) (d : X) (n k : ℕ) → k < n → get_or (map f (numbers_below n)) k d ≡ f k
-get_or-each f d zero k h = absurd (omega arith)
-get_or-each f d (suc n) k h =
-    rw (map-append f (numbers_below n) (n ∷ []))
-    (grind (arith, common_steps, length-each f n, get_or-each f d n k))
 
 -- the set-up after Reset WQ
 abbrev after_reset : Scope → Setup → Setup
@@ -44,7 +36,7 @@ config-same scope setup q w out = on (cases_lt q setup.caps.queues)
 
     on : (q < setup.caps.queues) ⊎ (setup.caps.queues ≤ q)
         → queue_at (after_reset scope setup).configs q ≡ queue_at setup.configs q
-    on (inl h) = get_or-each f zero_queue setup.caps.queues q h ∙ rw out refl
+    on (inl h) = get_or-each f setup.caps.queues q zero_queue h ∙ rw out refl
     on (inr h) = grind (arith, common_steps, length-each f setup.caps.queues, w.configs, h)
 
 -- and its entries hold what they held

@@ -1,6 +1,7 @@
 -- A list made of a function of the numbers below a bound.
-use Rattle.std.proofs.Common.{◌≡◌, ◌≢◌, ℕ, zero, suc, ◌+◌, ◌<◌, ◌≤◌, List, [], ◌∷◌, ◌++◌, length, map, get_or, refl, sym, ap, ◌∙◌, subst, arith, ⊎_elim, length-append}
-use Rattle.std.proofs.lemmas.List.{get_or-map, length-map}
+use Rattle.std.proofs.Common.{◌≡◌, ◌≢◌, ℕ, zero, suc, ◌+◌, ◌<◌, ◌≤◌, List, [], ◌∷◌, ◌++◌, length, map, replicate, set, get_or, refl, sym, ap, ◌∙◌, subst, arith, ⊎_elim, length-append}
+use Rattle.std.proofs.lemmas.Grind.{common_steps}
+use Rattle.std.proofs.lemmas.List.{ext_get_or, get_or-map, length-map, length-replicate, length-set, map-append}
 use Rattle.std.proofs.lemmas.Bool.{cases_eq}
 use Rattle.std.proofs.Math.ListN.{get_or-eq_default}
 use Rattle.dsa_base.specs.Numbers.{numbers_below}
@@ -40,3 +41,27 @@ get_or-each f n q d h =
 
 pub get_or-past : {X : Type 0} (f : ℕ → X) (n q : ℕ) (d : X) → n ≤ q → get_or (map f (numbers_below n)) q d ≡ d
 get_or-past f n q d h = let size = length-each f n in get_or-eq_default (map f (numbers_below n)) d (omega (arith, size, h))
+
+-- where f' is f below the bound the tables are the same
+pub same-table : {X : Type 0} (f f' : ℕ → X) (n : ℕ) → ((k : ℕ) → k < n → f' k ≡ f k)
+    → map f' (numbers_below n) ≡ map f (numbers_below n)
+same-table f f' zero h = refl
+same-table f f' (suc n) h =
+    map-append f' (numbers_below n) (n ∷ [])
+    ∙ rw (same-table f f' n (λ k lt. h k (omega (arith, lt))), h n (omega arith)) (sym (map-append f (numbers_below n) (n ∷ [])))
+
+-- a table of f with one number raised is the table of f'
+pub raised-table : (f f' : ℕ → ℕ) (n k more : ℕ) → k < n → ((j : ℕ) → j < n → j ≢ k → f' j ≡ f j) → f' k ≡ f k + more
+    → map f' (numbers_below n) ≡ set (map f (numbers_below n)) k (get_or (map f (numbers_below n)) k 0 + more)
+raised-table f f' n k more h same raised =
+    let old : List ℕ = map f (numbers_below n) in
+    let new : length (map f' (numbers_below n)) ≡ n = length-each f' n in
+    let len : length old ≡ n = length-each f n in
+    ext_get_or 0 _ _ (omega (arith, new, len, length-set old k (get_or old k 0 + more)))
+    (λ i l. grind (arith, common_steps, new, len, h, l, raised, same i, get_or-each f n i 0, get_or-each f' n i 0, get_or-each f n k 0))
+
+-- a table of zeros
+pub zero-table : (f : ℕ → ℕ) (n : ℕ) → ((k : ℕ) → f k ≡ 0) → map f (numbers_below n) ≡ replicate n 0
+zero-table f n h =
+    ext_get_or 0 _ _ (length-each f n ∙ sym (length-replicate n 0))
+    (λ i l. grind (arith, common_steps, length-each f n, l, get_or-each f n i 0, h i))

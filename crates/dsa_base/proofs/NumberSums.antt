@@ -1,8 +1,10 @@
 -- Sums over the numbers below a bound.
-use Rattle.std.proofs.Common.{◌≡◌, ℕ, zero, suc, ◌+◌, ◌*◌, ◌<◌, ◌≤◌, List, [], ◌∷◌, length, map, get_or, refl, ap, subst, arith, ⊎_elim}
-use Rattle.std.specs.Prelude.{sum_by}
+use Rattle.std.proofs.Common.{◌≡◌, ◌≢◌, ℕ, zero, suc, ◌+◌, ◌*◌, ◌<◌, ◌≤◌, Bool, cond, ◌&&◌, nat_lt, eqb, ◌∙◌, List, [], ◌∷◌, length, map, get_or, refl, ap, subst, arith, ⊎_elim}
+use Rattle.std.specs.Prelude.{sum_by, filter}
 use Rattle.std.proofs.lemmas.Bool.{cases_eq}
-use Rattle.std.proofs.lemmas.List.Sums.{sum_by-cons, sum_by_push}
+use Rattle.std.proofs.lemmas.Grind.{common_steps}
+use Rattle.std.proofs.lemmas.List.Elements.{filter-append}
+use Rattle.std.proofs.lemmas.List.Sums.{sum_by-append, sum_by-cons, sum_by_push}
 use Rattle.std.proofs.Math.Nat.{suc-mul}
 use Rattle.dsa_base.specs.Numbers.{numbers_below}
 
@@ -89,3 +91,22 @@ sum-map g f (x ∷ xs) = let more = sum-map g f xs in let a = sum_by-cons g (f x
 pub sum-equal : {X : Type 0} (f g : X → ℕ) (xs : List X) → ((x : X) → f x ≡ g x) → sum_by f xs ≡ sum_by g xs
 sum-equal f g [] h = refl
 sum-equal f g (x ∷ xs) h = let more = sum-equal f g xs h in let one = h x in let a = sum_by-cons f x xs in let b = sum_by-cons g x xs in omega (arith, more, one, a, b)
+
+-- where each is nothing the sum is
+pub zero-sum : {X : Type 0} (f : X → ℕ) (xs : List X) → ((x : X) → f x ≡ 0) → sum_by f xs ≡ 0
+zero-sum f [] h = refl
+zero-sum f (x ∷ xs) h =
+    let here = h x in
+    omega (arith, sum_by-cons f x xs, here, zero-sum f xs h)
+
+-- of the numbers below a bound that pass a test, where one number gives n more
+pub sum-raised : (p : ℕ → Bool) (f f' : ℕ → ℕ) (e n : ℕ) → ((k : ℕ) → k ≢ e → f' k ≡ f k) → f' e ≡ f e + n → (N : ℕ)
+    → sum_by f' (filter p (numbers_below N)) ≡ sum_by f (filter p (numbers_below N)) + cond (nat_lt e N && p e) n 0
+sum-raised p f f' e n same more zero = grind arith
+sum-raised p f f' e n same more (suc N) =
+    let new = ap (sum_by f') (filter-append p (numbers_below N) (N ∷ [])) ∙ sum_by-append f' (filter p (numbers_below N)) (filter p (N ∷ [])) in
+    let old = ap (sum_by f) (filter-append p (numbers_below N) (N ∷ [])) ∙ sum_by-append f (filter p (numbers_below N)) (filter p (N ∷ [])) in
+    let last : sum_by f' (filter p (N ∷ [])) ≡ sum_by f (filter p (N ∷ [])) + cond (eqb N e && p e) n 0 = grind (arith, common_steps, same N, more) in
+    let before = sum-raised p f f' e n same more N in
+    let split : cond (nat_lt e (suc N) && p e) n 0 ≡ cond (nat_lt e N && p e) n 0 + cond (eqb N e && p e) n 0 = grind (arith, common_steps) in
+    omega (arith, new, old, last, before, split)

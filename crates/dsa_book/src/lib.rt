@@ -1,11 +1,11 @@
 //! Events, answers and fates of the device, and the book that keeps its history. The definitions of the whole machine stand in `specs/`.
 #![tactic(auto)]
 
-pub mod answer;
-pub mod book;
-pub mod event;
-pub mod fate;
-pub mod note;
+mod answer;
+mod book;
+mod event;
+mod fate;
+mod note;
 #[cfg(test)]
 mod tests;
 

@@ -4,6 +4,6 @@
 mod fresh;
 mod links;
 mod rows;
-pub mod store;
+mod store;
 
 pub use store::LinkedStore;

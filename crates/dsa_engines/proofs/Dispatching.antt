@@ -17,7 +17,7 @@ use Rattle.dsa_store.specs.Content.{Slot, Content, chain, uses, moved, replaced,
 use Rattle.dsa_store.proofs.Lists.{length-le-held}
 use Rattle.dsa_store.proofs.Turns.{replaced-moved}
 use Rattle.dsa_buffers.specs.Buffers.{Buffers}
-use Rattle.dsa_queues.proofs.Groups.{hit-at}
+use Rattle.dsa_base.proofs.FirstPlaces.{hit-at}
 use Rattle.dsa_book.specs.declared.note.BatchNote.{BatchNote}
 use Rattle.dsa_book.specs.State.{Setup, is_off, need_of, is_batch_of}
 use Rattle.dsa_book.specs.Work.{progress_list, qualifies, group_in, as_running, with_note, opened_note}

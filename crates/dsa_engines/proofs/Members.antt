@@ -10,7 +10,7 @@ use Rattle.dsa_regs.specs.Buffers.{fits}
 use Rattle.dsa_regs.specs.declared.GroupConfig.{GroupConfig}
 use Rattle.dsa_base.specs.Numbers.{has}
 use Rattle.dsa_regs.specs.Config.{zero_group}
-use Rattle.dsa_queues.proofs.Groups.{hit-at}
+use Rattle.dsa_base.proofs.FirstPlaces.{hit-at}
 use Rattle.dsa_store.specs.declared.entry.Cell.{Cell}
 use Rattle.dsa_store.specs.declared.entry.Entry.{Entry}
 use Rattle.dsa_store.specs.Content.{Slot, Content, is_cell, chain, count, uses, replaced, emptied}

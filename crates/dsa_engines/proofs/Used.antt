@@ -1,14 +1,15 @@
 -- The read buffers in use, as one list of one engine changes.
-use Rattle.std.proofs.Common.{◌≡◌, ℕ, zero, suc, ◌+◌, ◌-◌, ◌<◌, ◌≤◌, ◌≢◌, Bool, true, false, cond, ◌&&◌, nat_lt, List, ◌∷◌, ◌++◌, map, replicate, length, set, get_or, Option, Some, None, eqb, refl, sym, ◌∙◌, ap, arith, inl, inr, []}
+use Rattle.std.proofs.Common.{◌≡◌, ℕ, ◌+◌, ◌-◌, ◌<◌, ◌≤◌, ◌≢◌, Bool, true, false, cond, ◌&&◌, nat_lt, List, ◌∷◌, ◌++◌, map, replicate, length, set, get_or, Option, Some, None, refl, sym, ◌∙◌, ap, arith, inl, inr, []}
 use Rattle.std.proofs.lemmas.Grind.{common_steps}
 use Rattle.std.specs.List.{filter, sum_by}
-use Rattle.std.proofs.lemmas.List.{ext_get_or, length-set, length-map, map-append, get_or-set_same, set-set, set-get_or}
-use Rattle.std.proofs.lemmas.List.Elements.{filter-append}
+use Rattle.std.proofs.lemmas.List.{get_or-set_same, set-set, set-get_or}
 use Rattle.std.proofs.lemmas.List.Sums.{sum_by-cons, sum_by-append}
 use Rattle.std.proofs.lemmas.Bool.{cases_lt}
 use Rattle.std.proofs.lemmas.Option.{same_Some}
 use mathlib.Core.Logic.{◌⊎◌}
 use Rattle.dsa_base.specs.Numbers.{has, numbers_below}
+use Rattle.dsa_base.proofs.NumberLists.{length-each, raised-table, same-table, zero-table}
+use Rattle.dsa_base.proofs.NumberSums.{sum-equal, sum-raised, zero-sum}
 use Rattle.dsa_regs.specs.declared.Caps.{Caps}
 use Rattle.dsa_regs.specs.declared.GroupConfig.{GroupConfig}
 use Rattle.dsa_regs.specs.Config.{zero_group, group_at}
@@ -17,7 +18,7 @@ use Rattle.dsa_store.proofs.Lists.{length-le-held}
 use Rattle.dsa_book.specs.State.{Setup, need_of, held_by}
 use Rattle.dsa_book.specs.Work.{used_on, used, all_used, group_in, progress_list, member_list}
 use Rattle.dsa_buffers.specs.Buffers.{Buffers}
-use Rattle.dsa_queues.proofs.Groups.{hit-at}
+use Rattle.dsa_base.proofs.FirstPlaces.{hit-at}
 use Rattle.dsa_engines.specs.Engines.{lists_alone, buffers_of, buffers_at_rest, given, Holds}
 
 -- each engine is of one group at most
@@ -109,42 +110,6 @@ raises-members setup before after e n h = record {
       omega (arith, a, b, s, h.mine);
 }
 
--- ---- sums over the numbers below a bound
-
-sum-same : (p : ℕ → Bool) (f f' : ℕ → ℕ) (e n : ℕ) → ((k : ℕ) → k ≢ e → f' k ≡ f k) → f' e ≡ f e + n → (N : ℕ) → sum_by f' (filter p (numbers_below N)) ≡ sum_by f (filter p (numbers_below N)) + cond (nat_lt e N && p e) n 0
-sum-same p f f' e n same more zero = grind arith
-sum-same p f f' e n same more (suc N) =
-    let new = ap (sum_by f') (filter-append p (numbers_below N) (N ∷ [])) ∙ sum_by-append f' (filter p (numbers_below N)) (filter p (N ∷ [])) in
-    let old = ap (sum_by f) (filter-append p (numbers_below N) (N ∷ [])) ∙ sum_by-append f (filter p (numbers_below N)) (filter p (N ∷ [])) in
-    let last : sum_by f' (filter p (N ∷ [])) ≡ sum_by f (filter p (N ∷ [])) + cond (eqb N e && p e) n 0 = grind (arith, common_steps, same N, more) in
-    let before = sum-same p f f' e n same more N in
-    let split : cond (nat_lt e (suc N) && p e) n 0 ≡ cond (nat_lt e N && p e) n 0 + cond (eqb N e && p e) n 0 = grind (arith, common_steps) in
-    omega (arith, new, old, last, before, split)
-
-length-numbers : (N : ℕ) → length (numbers_below N) ≡ N
-length-numbers zero = refl
-length-numbers (suc N) = grind (arith, common_steps, length-numbers N)
-
-get_or-numbers : (f : ℕ → ℕ) (N k : ℕ) → k < N → get_or (map f (numbers_below N)) k 0 ≡ f k
-get_or-numbers f zero k h = absurd (omega arith)
-get_or-numbers f (suc N) k h =
-    rw (map-append f (numbers_below N) (N ∷ []))
-    (grind (arith, common_steps, length-map (numbers_below N) f, length-numbers N, get_or-numbers f N k))
-
--- a table of f with one number raised is the table of f'
-pub raised-table : (f f' : ℕ → ℕ) (N g n : ℕ) → g < N → ((k : ℕ) → k < N → k ≢ g → f' k ≡ f k) → f' g ≡ f g + n → map f' (numbers_below N) ≡ set (map f (numbers_below N)) g (get_or (map f (numbers_below N)) g 0 + n)
-raised-table f f' N g n h same more =
-    let len' : length (map f' (numbers_below N)) ≡ N = length-map (numbers_below N) f' ∙ length-numbers N in
-    let len : length (map f (numbers_below N)) ≡ N = length-map (numbers_below N) f ∙ length-numbers N in
-    ext_get_or 0 _ _ (omega (arith, len', len, length-set (map f (numbers_below N)) g (get_or (map f (numbers_below N)) g 0 + n)))
-    (λ i l. grind (arith, common_steps, len', len, h, l, more, same i, get_or-numbers f N i, get_or-numbers f' N i, get_or-numbers f N g))
-
--- where f' is f below N the tables are the same
-same-table : (f f' : ℕ → ℕ) (N : ℕ) → ((k : ℕ) → k < N → f' k ≡ f k) → map f' (numbers_below N) ≡ map f (numbers_below N)
-same-table f f' zero h = refl
-same-table f f' (suc N) h =
-    map-append f' (numbers_below N) (N ∷ []) ∙ rw (same-table f f' N (λ k lt. h k (omega (arith, lt))), h N (omega arith)) (sym (map-append f (numbers_below N) (N ∷ [])))
-
 pub used-raised : (setup : Setup) (before after : Content) (e n g : ℕ) → e < setup.caps.engines → length setup.groups ≡ setup.caps.groups → g < length setup.groups → EachInOneGroup setup → group_in setup.groups e ≡ Some g → has (group_at setup.groups g).engines e ≡ true → RaisesOne setup before after e n
     → all_used (lists_alone setup after) ≡ set (all_used (lists_alone setup before)) g (get_or (all_used (lists_alone setup before)) g 0 + n)
 used-raised setup before after e n g he hg h alone is has_e r =
@@ -153,7 +118,7 @@ used-raised setup before after e n g he hg h alone is has_e r =
     (sum g ∙ mine (has (group_at setup.groups g).engines e) has_e)
   where
     sum : (k : ℕ) → used (lists_alone setup after) k ≡ used (lists_alone setup before) k + cond (nat_lt e setup.caps.engines && has (group_at setup.groups k).engines e) n 0
-    sum k = sum-same (has (group_at setup.groups k).engines) (used_on (lists_alone setup before)) (used_on (lists_alone setup after)) e n r.same r.more setup.caps.engines
+    sum k = sum-raised (has (group_at setup.groups k).engines) (used_on (lists_alone setup before)) (used_on (lists_alone setup after)) e n r.same r.more setup.caps.engines
 
     other : (k : ℕ) → k < length setup.groups → k ≢ g → (b : Bool) → has (group_at setup.groups k).engines e ≡ b → used (lists_alone setup before) k + cond (nat_lt e setup.caps.engines && b) n 0 ≡ used (lists_alone setup before) k
     other k lt ne true b = absurd (ne (same_Some k g (sym (alone e k he lt b) ∙ is)))
@@ -168,7 +133,7 @@ pub used-homeless : (setup : Setup) (before after : Content) (e n : ℕ) → e <
 used-homeless setup before after e n he hg alone is r = same-table (used (lists_alone setup before)) (used (lists_alone setup after)) setup.caps.groups (λ k lt. sum k ∙ none k (omega (arith, lt, hg)) (has (group_at setup.groups k).engines e) refl)
   where
     sum : (k : ℕ) → used (lists_alone setup after) k ≡ used (lists_alone setup before) k + cond (nat_lt e setup.caps.engines && has (group_at setup.groups k).engines e) n 0
-    sum k = sum-same (has (group_at setup.groups k).engines) (used_on (lists_alone setup before)) (used_on (lists_alone setup after)) e n r.same r.more setup.caps.engines
+    sum k = sum-raised (has (group_at setup.groups k).engines) (used_on (lists_alone setup before)) (used_on (lists_alone setup after)) e n r.same r.more setup.caps.engines
 
     none : (k : ℕ) → k < length setup.groups → (b : Bool) → has (group_at setup.groups k).engines e ≡ b → used (lists_alone setup before) k + cond (nat_lt e setup.caps.engines && b) n 0 ≡ used (lists_alone setup before) k
     none k lt true b = let both : ◌≡◌ {A = Option ℕ} None (Some k) = sym is ∙ alone e k he lt b in absurd (cc)
@@ -182,7 +147,7 @@ given-back xs ys g n h is =
     (omega (arith, at), rw (less, is, set-set ys g (get_or ys g 0 + n) (get_or ys g 0), set-get_or ys g 0) refl)
 
 length-used : (setup : Setup) (c : Content) → length (all_used (lists_alone setup c)) ≡ setup.caps.groups
-length-used setup c = length-map (numbers_below setup.caps.groups) (used (lists_alone setup c)) ∙ length-numbers setup.caps.groups
+length-used setup c = length-each (used (lists_alone setup c)) setup.caps.groups
 
 -- as an engine holds n less, its group, if it has one, gives n back
 pub record GivesBack (setup : Setup) (before after : Content) (e n : ℕ) : Type 0 where
@@ -218,16 +183,6 @@ given-none (Some g) b =
 
 -- ---- a device on which nothing is held
 
-zero-sum : (f : ℕ → ℕ) (xs : List ℕ) → ((k : ℕ) → f k ≡ 0) → sum_by f xs ≡ 0
-zero-sum f [] h = refl
-zero-sum f (x ∷ xs) h =
-    let here = h x in
-    omega (arith, sum_by-cons f x xs, here, zero-sum f xs h)
-
-map-zeros : (xs : List ℕ) → map {B = ℕ} (λ (k : ℕ). 0) xs ≡ replicate {A = ℕ} (length xs) 0
-map-zeros [] = refl
-map-zeros (x ∷ xs) = ap (λ (l : List ℕ). let m : List ℕ = 0 ∷ l in m) (map-zeros xs)
-
 pub empty-list : (l : List Slot) → length l ≤ 0 → l ≡ []
 empty-list [] h = refl
 empty-list (s ∷ l) h = absurd (omega (arith, h))
@@ -248,9 +203,9 @@ rest-on setup c e h = on (cases_lt e setup.caps.engines)
 pub buffers-at_rest : (setup : Setup) (c : Content) → length setup.groups ≡ setup.caps.groups → held c ≡ 0 → buffers_at_rest setup ≡ buffers_of setup c
 buffers-at_rest setup c len h =
     let zeros : all_used (lists_alone setup c) ≡ replicate (length setup.groups) 0 =
-    same-table (λ (k : ℕ). 0) (used (lists_alone setup c)) setup.caps.groups (λ k lt. zero-sum (used_on (lists_alone setup c)) (filter (has (group_at setup.groups k).engines) (numbers_below setup.caps.engines)) (λ e. rest-on setup c e h))
-    ∙ map-zeros (numbers_below setup.caps.groups)
-    ∙ ap (λ (n : ℕ). replicate {A = ℕ} n 0) (length-numbers setup.caps.groups ∙ sym len) in
+        zero-table (used (lists_alone setup c)) setup.caps.groups (λ k. zero-sum (used_on (lists_alone setup c))
+            (filter (has (group_at setup.groups k).engines) (numbers_below setup.caps.engines)) (λ e. rest-on setup c e h))
+        ∙ ap (λ (n : ℕ). replicate {A = ℕ} n 0) (sym len) in
     ap (λ (u : List ℕ). let b : Buffers = record { total = setup.caps.read_buffers; groups = setup.groups; used = u } in b) (sym zeros)
 
 -- the read buffers as they are made
@@ -277,12 +232,6 @@ used_on-kept setup more c now e same loads = on (cases_lt e setup.caps.engines)
         omega (arith, a, b, p, m)
     on (inr past) = used_on-past more now e (omega (arith, past, engines)) ∙ sym (used_on-past setup c e past)
 
-sum-kept : (f f' : ℕ → ℕ) (xs : List ℕ) → ((k : ℕ) → f' k ≡ f k) → sum_by f' xs ≡ sum_by f xs
-sum-kept f f' [] h = refl
-sum-kept f f' (x ∷ xs) h =
-    let here = h x in
-    omega (arith, sum_by-cons f x xs, sum_by-cons f' x xs, here, sum-kept f f' xs h)
-
 pub used-kept : (setup more : Setup) (c now : Content) → more.caps ≡ setup.caps → more.groups ≡ setup.groups → ((j : ℕ) → setup.caps.queues ≤ j → load more (chain now j) ≡ load setup (chain c j)) → buffers_of setup c ≡ buffers_of more now
 used-kept setup more c now same groups loads =
     let table : all_used (lists_alone more now) ≡ all_used (lists_alone setup c) =
@@ -290,7 +239,7 @@ used-kept setup more c now same groups loads =
     ∙ same-table (used (lists_alone setup c)) (used (lists_alone more now)) setup.caps.groups (λ g lt.
     ap (λ (x : Caps). sum_by (used_on (lists_alone more now)) (filter (has (group_at more.groups g).engines) (numbers_below x.engines))) same
     ∙ ap (λ (gs : List GroupConfig). sum_by (used_on (lists_alone more now)) (filter (has (group_at gs g).engines) (numbers_below setup.caps.engines))) groups
-    ∙ sum-kept (used_on (lists_alone setup c)) (used_on (lists_alone more now)) (filter (has (group_at setup.groups g).engines) (numbers_below setup.caps.engines)) (λ e. used_on-kept setup more c now e same loads)) in
+    ∙ sum-equal (used_on (lists_alone more now)) (used_on (lists_alone setup c)) (filter (has (group_at setup.groups g).engines) (numbers_below setup.caps.engines)) (λ e. used_on-kept setup more c now e same loads)) in
     let b : Buffers = record { total = setup.caps.read_buffers; groups = setup.groups; used = all_used (lists_alone more now) } in
     ap (λ (u : List ℕ). let x : Buffers = record { total = setup.caps.read_buffers; groups = setup.groups; used = u } in x) (sym table)
     ∙ ap (λ (x : Caps). let y : Buffers = record { total = x.read_buffers; groups = setup.groups; used = all_used (lists_alone more now) } in y) (sym same)

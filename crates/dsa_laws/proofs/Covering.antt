@@ -1,21 +1,20 @@
 -- What the groups use or have reserved, as what their engines need changes.
-use Rattle.std.proofs.Common.{◌≡◌, ◌≢◌, ℕ, zero, suc, ◌+◌, ◌<◌, ◌≤◌, ◌||◌, Bool, true, false, cond, List, [], ◌∷◌, length, map, set, get_or, Option, Some, None, refl, sym, ap, ◌∙◌, subst, arith, ⊎_elim}
+use Rattle.std.proofs.Common.{◌≡◌, ◌≢◌, ℕ, zero, suc, ◌+◌, ◌<◌, ◌≤◌, Bool, true, false, cond, List, [], ◌∷◌, length, map, set, get_or, Option, Some, None, refl, sym, ap, ◌∙◌, subst, arith, ⊎_elim}
 use Rattle.std.specs.Prelude.{sum_by, count_by, filter, position, nat_lt, nat_le}
-use Rattle.std.specs.List.{list_any}
 use Rattle.std.proofs.lemmas.List.{length-set, get_or-set_same, get_or-set_other}
 use Rattle.std.proofs.lemmas.List.Quantifiers.{position-Some}
-use Rattle.std.proofs.lemmas.List.Sums.{sum_by-cons, sum_by_push, get_or-le-sum_by, sum_by-le-sum_by}
-use Rattle.std.proofs.lemmas.List.Folds.{list_any-append}
-use Rattle.std.proofs.lemmas.Bool.{cases_eq, cases_Bool, cases_lt, ltb-false, leb-true, and_parts, or_parts}
+use Rattle.std.proofs.lemmas.List.Sums.{sum_by-cons, sum_by_push, sum_by-le-sum_by}
+use Rattle.std.proofs.lemmas.Bool.{cases_eq, cases_Bool, cases_lt, ltb-false, leb-true, and_parts}
 use Rattle.dsa_base.specs.Rows.{passes}
 use Rattle.dsa_regs.specs.declared.Caps.{Caps}
 use Rattle.dsa_regs.specs.declared.GroupConfig.{GroupConfig}
 use Rattle.dsa_base.specs.Numbers.{has, numbers_below}
 use Rattle.dsa_regs.specs.Config.{zero_group, group_at, is_in_two, total_reserved}
 use Rattle.dsa_regs.specs.Buffers.{covered, fits}
-use Rattle.dsa_base.proofs.NumberLists.{get_or-each, get_or-past}
+use Rattle.dsa_base.proofs.Counts.{one-place}
+use Rattle.dsa_base.proofs.NumberLemmas.{numbers_below-miss}
+use Rattle.dsa_base.proofs.NumberLists.{get_or-each, get_or-past, length-each}
 use Rattle.dsa_base.proofs.Tables.{not-both}
-use Rattle.dsa_base.proofs.NumberLists.{length-each}
 
 -- ---- what is in use or reserved
 
@@ -74,41 +73,6 @@ sum-once f f' e n (suc N) h m =
     let last = h N q in
     omega (arith, rest, last, a, b))
     (cases_eq N e)
-
--- ---- a number that stands in one set alone
-
-none-any : (p : ℕ → Bool) (N k : ℕ) → list_any p (numbers_below N) ≡ false → k < N → p k ≡ false
-none-any p zero k h l = absurd (omega (arith, l))
-none-any p (suc N) k h l =
-    let both : (list_any p (numbers_below N) || (p N || false)) ≡ false = sym (list_any-append p (numbers_below N) (N ∷ [])) ∙ h in
-    ⊎_elim
-    (λ (q : k ≡ N). ap p q ∙ (or_parts (p N) false (or_parts _ _ both).1).0)
-    (λ (q : k ≢ N). none-any p N k (or_parts _ _ both).0 (omega (arith, l, q)))
-    (cases_eq k N)
-
-some-counted : {X : Type 0} (p : X → Bool) (xs : List X) (j : ℕ) (d : X) → j < length xs → p (get_or xs j d) ≡ true → 1 ≤ count_by p xs
-some-counted p xs j d l t =
-    let one : ◌≡◌ {A = ℕ} (cond (p (get_or xs j d)) 1 0) 1 = ap (λ (b : Bool). cond {A = ℕ} b 1 0) t in
-    let part = get_or-le-sum_by (λ x. cond (p x) 1 0) xs j d l in
-    omega (arith, one, part)
-
--- where a test passes once at most, it passes at one place
-pub one-place : {X : Type 0} (p : X → Bool) (xs : List X) (i j : ℕ) (d : X) → count_by p xs ≤ 1 → i < length xs → j < length xs → p (get_or xs i d) ≡ true → p (get_or xs j d) ≡ true → i ≡ j
-one-place p [] i j d h k l t u = absurd (omega (arith, k))
-one-place p (x ∷ xs) zero zero d h k l t u = refl
-one-place p (x ∷ xs) zero (suc j) d h k l t u =
-    let c = sum_by-cons (λ y. cond (p y) 1 0) x xs in
-    let one : ◌≡◌ {A = ℕ} (cond (p x) 1 0) 1 = ap (λ (b : Bool). cond {A = ℕ} b 1 0) t in
-    let rest = some-counted p xs j d (omega (arith, l)) u in
-    absurd (omega (arith, h, c, one, rest))
-one-place p (x ∷ xs) (suc i) zero d h k l t u =
-    let c = sum_by-cons (λ y. cond (p y) 1 0) x xs in
-    let one : ◌≡◌ {A = ℕ} (cond (p x) 1 0) 1 = ap (λ (b : Bool). cond {A = ℕ} b 1 0) u in
-    let rest = some-counted p xs i d (omega (arith, k)) t in
-    absurd (omega (arith, h, c, one, rest))
-one-place p (x ∷ xs) (suc i) (suc j) d h k l t u =
-    let c = sum_by-cons (λ y. cond (p y) 1 0) x xs in
-    ap suc (one-place p xs i j d (omega (arith, h, c)) (omega (arith, k)) (omega (arith, l)) t u)
 
 -- ---- both bounds, by what each engine needs
 
@@ -226,7 +190,7 @@ pub within-more : (caps : Caps) (groups : List GroupConfig) (f f' : ℕ → ℕ)
 within-more caps groups f f' e n w size inside alone room others mine = go (position (λ g. has g.engines e) groups) refl room
   where
     once : count_by (λ (g : GroupConfig). has g.engines e) groups ≤ 1
-    once = let h = ltb-false 1 (count_by (λ (g : GroupConfig). has g.engines e) groups) (none-any (λ k. nat_lt 1 (count_by (λ (g : GroupConfig). has g.engines k) groups)) caps.engines e alone inside) in omega (arith, h)
+    once = let h = ltb-false 1 (count_by (λ (g : GroupConfig). has g.engines e) groups) (numbers_below-miss (λ k. nat_lt 1 (count_by (λ (g : GroupConfig). has g.engines k) groups)) caps.engines e alone inside) in omega (arith, h)
 
     go : (o : Option ℕ) → position (λ g. has g.engines e) groups ≡ o → passes (λ g. fits caps.read_buffers groups (all_needed f caps groups) g n) o ≡ true → AreWithin caps groups f'
     go None is r = absurd cc

@@ -6,7 +6,7 @@ use Rattle.dsa_regs.specs.declared.QueueConfig.{QueueConfig}
 use Rattle.dsa_base.specs.Numbers.{numbers_below}
 use Rattle.dsa_regs.specs.Config.{zero_queue, queue_at}
 use Rattle.dsa_book.specs.State.{Setup, phase_at}
-use Rattle.dsa_queues.proofs.Renewing.{renewed, renewed-set, renewed-same, renewed-next, renewed-all}
+use Rattle.dsa_base.proofs.Renewing.{renewed, renewed-set, renewed-same, renewed-next, renewed-all}
 
 one-more : {X : Type 0} (f : ℕ → X) (n : ℕ) (xs : List X) → renewed f (suc n) xs ≡ renewed f (n + 1) xs
 one-more f n xs = ap (λ (k : ℕ). renewed f k xs) (sym (add-one n))

@@ -1,10 +1,10 @@
 //! Lists of cells with entries: what a store of them does, and one that keeps a vector for each list.
 #![tactic(auto)]
 
-pub mod entry;
-pub mod plain;
-pub mod store;
-pub mod walk;
+mod entry;
+mod plain;
+mod store;
+mod walk;
 
 pub use entry::{Cell, Entry, ListId};
 pub use plain::PlainStore;

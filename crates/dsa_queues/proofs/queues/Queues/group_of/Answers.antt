@@ -1,7 +1,7 @@
 use Rattle.std.proofs.Common.{arith}
 use Rattle.std.proofs.lemmas.Grind.{common_steps}
 use Rattle.dsa_base.specs.Numbers.{has}
-use Rattle.dsa_queues.proofs.Groups.{position-hit, position-none}
+use Rattle.dsa_base.proofs.FirstPlaces.{position-hit, position-none}
 use Rattle.dsa_queues.proofs.queues.Queues.group_of.Goals as goal
 
 pub returns-then-has_engine : goal.returns-then-has_engine

@@ -2,7 +2,7 @@ use Rattle.std.proofs.Common.{◌≡◌, cond}
 use Rattle.dsa_regs.specs.Config.{queue_at}
 use Rattle.dsa_regs.specs.Command.{queues_in}
 use Rattle.dsa_book.specs.Commands.{names, size_alone}
-use Rattle.dsa_queues.proofs.Renewing.{renewed}
+use Rattle.dsa_base.proofs.Renewing.{renewed}
 use Rattle.dsa_queues.proofs.queues.Queues.keep_sizes.Given as goal
 
 abbrev pub invariant-loop-queue : goal.invariant-loop-queue

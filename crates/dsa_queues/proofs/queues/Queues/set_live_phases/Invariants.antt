@@ -1,6 +1,6 @@
 use Rattle.std.proofs.Common.{◌≡◌, cond, not}
 use Rattle.dsa_book.specs.State.{phase_at, is_off}
-use Rattle.dsa_queues.proofs.Renewing.{renewed}
+use Rattle.dsa_base.proofs.Renewing.{renewed}
 use Rattle.dsa_queues.proofs.queues.Queues.set_live_phases.Given as goal
 
 abbrev pub invariant-loop-queue : goal.invariant-loop-queue

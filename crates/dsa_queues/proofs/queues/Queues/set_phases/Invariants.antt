@@ -2,7 +2,7 @@ use Rattle.std.proofs.Common.{◌≡◌, cond}
 use Rattle.dsa_regs.specs.Command.{queues_in}
 use Rattle.dsa_book.specs.State.{phase_at}
 use Rattle.dsa_book.specs.Commands.{names}
-use Rattle.dsa_queues.proofs.Renewing.{renewed}
+use Rattle.dsa_base.proofs.Renewing.{renewed}
 use Rattle.dsa_queues.proofs.queues.Queues.set_phases.Given as goal
 
 abbrev pub invariant-loop-queue : goal.invariant-loop-queue

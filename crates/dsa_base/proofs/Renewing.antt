@@ -3,17 +3,11 @@ use Rattle.std.proofs.Common.{◌≡◌, ℕ, zero, suc, ◌<◌, ◌≤◌, con
 use Rattle.std.proofs.lemmas.Grind.{common_steps}
 use Rattle.std.proofs.Math.Seq.{drop-cons, set-append_seam}
 use Rattle.dsa_base.specs.Numbers.{numbers_below}
+use Rattle.dsa_base.proofs.NumberLists.{length-each}
 
 -- the first n places are what f gives for them, the rest are as they were
 abbrev pub renewed : {X : Type 0} → (ℕ → X) → ℕ → List X → List X
 renewed f n xs = map f (numbers_below n) ++ drop n xs
-
-length-numbers : (n : ℕ) → length (numbers_below n) ≡ n
-length-numbers zero = refl
-length-numbers (suc n) = let further = length-numbers n in grind (arith, common_steps, further)
-
-pub length-each : {X : Type 0} (f : ℕ → X) (n : ℕ) → length (map f (numbers_below n)) ≡ n
-length-each f n = let size = length-numbers n in grind (arith, common_steps, size)
 
 pub renewed-set : {X : Type 0} (f : ℕ → X) (n : ℕ) (xs : List X) → n < length xs → set (renewed f n xs) n (f n) ≡ renewed f (suc n) xs
 renewed-set f n xs h =
