@@ -6,3 +6,4 @@ pub mod Turns
 pub mod Partition
 pub mod Search
 pub mod Steps
+pub mod Walks

@@ -9,4 +9,4 @@ mod walk;
 pub use entry::{Cell, Entry, ListId};
 pub use plain::PlainStore;
 pub use store::{EntryStore, cells_stand_once};
-pub use walk::front_slot;
+pub use walk::{Walk, front_slot, slots};

@@ -1,10 +1,13 @@
 //! Reads of a list by its cells.
 
 ghost use Rattle.std.specs.Prelude.{◌≡◌, ℕ, ◌<◌, length, slice_get};
-ghost use Rattle.dsa_store.specs.Content.{chain};
+ghost use Rattle.std.specs.Iterator.{YieldsFirst, item_count};
+ghost use Rattle.std.specs.Iterator.Runs.{YieldsInOrder};
+ghost use Rattle.dsa_store.specs.Content.{Slot, chain};
 
 use crate::entry::{Cell, Entry, ListId};
 use crate::store::EntryStore;
+use std::marker::Model;
 
 /// The front of a list, with its entry. `None` exactly when the list is empty. Two reads of the store.
 pub fn front_slot<S: EntryStore>(store: &S, list: ListId) -> Option<(Cell, Entry)>
@@ -14,4 +17,48 @@ pub fn front_slot<S: EntryStore>(store: &S, list: ListId) -> Option<(Cell, Entry
     let cell = store.front(list)?;
     let entry = store.get(cell)?;
     Some((cell, entry))
+}
+
+/// The cells of a list in its order, each with its entry, seen as the list of those that are left.
+#[derive(Drop)]
+pub struct Walk<'a, S: EntryStore> {
+    store: &'a S,
+    at: Option<Cell>,
+}
+
+impl<'a, S: EntryStore> Model for Walk<'a, S> {
+    ghost use Rattle.std.specs.Prelude.{List};
+    ghost use Rattle.dsa_store.specs.Content.{Slot};
+    ghost use Rattle.dsa_store.specs.Walk.{slots_from};
+
+    ghost Value = { List Slot };
+
+    ghost view = { λ walk. slots_from (S.content walk.store.now) walk.at };
+}
+
+impl<'a, S: EntryStore> Iterator for Walk<'a, S> {
+    type Item = (Cell, Entry);
+
+    ghost next_gives = { YieldsFirst (λ rest. rest) };
+
+    ghost remaining = { item_count (λ rest. rest) };
+
+    fn next(&mut self) -> Option<(Cell, Entry)> {
+        let cell = self.at?;
+        let entry = self.store.get(cell)?;
+        self.at = self.store.next(cell);
+        Some((cell, entry))
+    }
+}
+
+/// The cells of the list in its order, each with its entry. One read of the store, and two more for each cell.
+pub fn slots<S: EntryStore>(store: &S, list: ListId) -> Walk<'_, S>
+    requires { list.0 < length (S.content store.now) }
+    ensures rest { result ≡ chain (S.content store.now) list.0 }
+    ensures runs { YieldsInOrder (YieldsFirst {A = Slot} (λ rest. rest)) (λ rest. rest) }
+{
+    Walk {
+        store,
+        at: store.front(list),
+    }
 }

@@ -1,0 +1,110 @@
+-- A walk along a list, by its front and what follows each cell.
+use Rattle.std.proofs.Common.{◌≡◌, ℕ, zero, suc, ◌<◌, ◌≤◌, true, List, [], ◌∷◌, drop, length, get_or, Option, Some, None, inl, inr, refl, sym, ap, ◌∙◌, arith, drop-cons}
+use Rattle.std.specs.Iterator.{YieldsFirst}
+use Rattle.std.specs.Iterator.Runs.{YieldsInOrder}
+use Rattle.std.proofs.iter.runs.Sources.{from_front, as_is}
+use Rattle.std.proofs.lemmas.Iterator.{YieldsList}
+use Rattle.std.proofs.lemmas.Iterator.Consumers.{YieldsList-from_first}
+use Rattle.std.proofs.lemmas.List.{append-nil}
+use Rattle.dsa_store.specs.declared.entry.Cell.{Cell}
+use Rattle.dsa_store.specs.declared.entry.Entry.{Entry}
+use Rattle.dsa_store.specs.Content.{Slot, Content, is_cell, chain, count, uses, first_cell, entry_of, next_of, StandsAt}
+use Rattle.dsa_store.specs.Walk.{from_cell, slots_from}
+use Rattle.dsa_store.proofs.Places.{count-cons, count-at}
+use Rattle.dsa_store.proofs.Lists.{uses-cons}
+use Rattle.dsa_store.proofs.Finding.{absent-before, absent-after, tail-stands, is_cell-slot, placed, entry_of-at, entry_of-none, next_of-at}
+
+-- a list without the cell has nothing from it on
+from_cell-absent : (cell : Cell) (l : List Slot) → count cell l ≡ 0 → from_cell cell l ≡ []
+from_cell-absent cell [] h = refl
+from_cell-absent cell (s ∷ l) h = grind (arith, count-cons cell s l, from_cell-absent cell l)
+
+-- a list with the cell at place k has from it on what stands from there
+from_cell-at : (cell : Cell) (l : List Slot) (k : ℕ) (d : Slot) → k < length l → is_cell cell (get_or l k d) ≡ true
+    → count cell l ≤ 1 → from_cell cell l ≡ drop k l
+from_cell-at cell [] k d h e o = absurd (omega arith)
+from_cell-at cell (s ∷ l) zero d h e o = grind (arith, e)
+from_cell-at cell (s ∷ l) (suc k) d h e o =
+    grind (arith, count-cons cell s l, count-at cell l k d, from_cell-at cell l k d)
+
+-- from a cell that no list names on there is nothing
+slots_from-none : (content : Content) (cell : Cell) → uses content cell ≡ 0 → slots_from content (Some cell) ≡ []
+slots_from-none [] cell h = refl
+slots_from-none (l ∷ ls) cell h =
+    grind (arith, uses-cons l ls cell, from_cell-absent cell l, slots_from-none ls cell)
+
+-- from the cell at place k of list i on there is what stands from there
+pub slots_from-at : (content : Content) (i k : ℕ) (cell : Cell) (e : Entry) → uses content cell ≤ 1
+    → StandsAt content i k cell e → slots_from content (Some cell) ≡ drop k (chain content i)
+slots_from-at [] i k cell e o h = absurd (omega (arith, h.within))
+slots_from-at (l ∷ ls) zero k cell e o h =
+    let a : (count cell l ≡ 1) × (uses ls cell ≡ 0) = absent-after l ls k cell e o h in
+    rw (from_cell-at cell l k (cell, e) h.within (is_cell-slot cell e _ h.slot) (omega arith), slots_from-none ls cell a.1)
+    (append-nil (drop k l))
+slots_from-at (l ∷ ls) (suc i) k cell e o h =
+    let a : (count cell l ≡ 0) × (uses ls cell ≤ 1) = absent-before l ls i k cell e o h in
+    rw (from_cell-absent cell l a.0) (slots_from-at ls i k cell e a.1 (tail-stands h))
+
+-- what is left of a list has its first cell at that place
+drop-front : (l : List Slot) (k : ℕ) (s : Slot) (m : List Slot) → drop k l ≡ s ∷ m
+    → (k < length l) × (get_or l k s ≡ s)
+drop-front [] zero s m h = absurd cc
+drop-front [] (suc k) s m h = absurd cc
+drop-front (x ∷ l) zero s m h = (omega arith, cc)
+drop-front (x ∷ l) (suc k) s m h =
+    let r : (k < length l) × (get_or l k s ≡ s) = drop-front l k s m h in
+    (omega (arith, r.0), r.1)
+
+-- what is left of a list is what stands from its first cell on
+pub slots_from-rest : (content : Content) (i k : ℕ) → ((c : Cell) → uses content c ≤ 1)
+    → slots_from content (first_cell (drop k (chain content i))) ≡ drop k (chain content i)
+slots_from-rest content i k once = go (drop k (chain content i)) refl
+  where
+    go : (l : List Slot) → drop k (chain content i) ≡ l → slots_from content (first_cell l) ≡ l
+    go [] h = refl
+    go (s ∷ m) h =
+        let p : (k < length (chain content i)) × (get_or (chain content i) k s ≡ s) = drop-front (chain content i) k s m h in
+        slots_from-at content i k s.0 s.1 (once s.0) (record { within = p.0; slot = p.1 }) ∙ h
+
+-- and so is the whole list, from its front on
+pub slots_from-front : (content : Content) (i : ℕ) (at : Option Cell) → ((c : Cell) → uses content c ≤ 1)
+    → at ≡ first_cell (chain content i) → slots_from content at ≡ chain content i
+slots_from-front content i at once h = ap (slots_from content) h ∙ slots_from-rest content i 0 once
+
+-- where a cell has no entry the walk has ended
+pub slots_from-end : (content : Content) (cell : Cell) → ((c : Cell) → uses content c ≤ 1) → entry_of content cell ≡ None
+    → slots_from content (Some cell) ≡ []
+slots_from-end content cell once h =
+    elim (placed content cell) [
+      | inl none ↦ slots_from-none content cell none
+      | inr s ↦
+          let both : ◌≡◌ {A = Option Entry} None (Some s.entry) = sym h ∙ entry_of-at content s.list s.place cell s.entry (once cell) s.at in
+          absurd (cc)
+    ]
+
+-- where a cell has an entry the walk goes on behind it
+pub slots_from-turn : (content : Content) (cell : Cell) (e : Entry) → ((c : Cell) → uses content c ≤ 1)
+    → entry_of content cell ≡ Some e
+    → slots_from content (Some cell) ≡ (cell, e) ∷ slots_from content (next_of content cell)
+slots_from-turn content cell e once h =
+    elim (placed content cell) [
+      | inl none ↦
+          let both : ◌≡◌ {A = Option Entry} None (Some e) = sym (entry_of-none content cell none) ∙ h in
+          absurd (cc)
+      | inr s ↦
+          let both : ◌≡◌ {A = Option Entry} (Some s.entry) (Some e) = sym (entry_of-at content s.list s.place cell s.entry (once cell) s.at) ∙ h in
+          let same : s.entry ≡ e = cc in
+          let slot = (s.at.slot ∙ ap (λ (x : Entry). let y : Slot = (cell, x) in y) same) in
+          slots_from-at content s.list s.place cell s.entry (once cell) s.at
+          ∙ drop-cons (chain content s.list) s.place (cell, s.entry) s.at.within
+          ∙ rw (slot, next_of-at content s.list s.place cell s.entry (once cell) s.at, slots_from-rest content s.list (suc s.place) once) refl
+    ]
+
+-- a walk that has a list left gives that list
+pub walked : {s l : List Slot} → s ≡ l → YieldsList (YieldsFirst (λ rest. rest)) (λ x. x) s l
+walked h = YieldsList-from_first (λ x. x) (λ rest. rest) _ h
+
+-- and so does each of its runs
+pub walk-runs : YieldsInOrder (YieldsFirst {A = Slot} (λ rest. rest)) (λ rest. rest)
+walk-runs p s = as_is p p.from (from_front (YieldsFirst {A = Slot} (λ rest. rest)) (λ x. x) (λ rest. rest)
+    (λ s t h. ap length h.0) (λ s x t h. h) p s)
