@@ -1,6 +1,6 @@
 -- A history accepts and fetches as many entries as have a fate row or are held.
-use Rattle.std.proofs.Common.{◌≡◌, ◌+◌, cond, List, [], Some, refl, ap, arith}
-use Rattle.std.specs.Prelude.{count_by}
+use Rattle.std.proofs.Common.{◌≡◌, ◌+◌, cond, List, [], Some, refl, ap, subst, arith}
+use Rattle.std.specs.Prelude.{count_by, is_none}
 use Rattle.dsa_regs.specs.declared.Caps.{Caps}
 use Rattle.dsa_regs.specs.Caps.{list_count}
 use Rattle.dsa_store.specs.Content.{Slot, all_held}
@@ -29,12 +29,16 @@ use Rattle.dsa_book.proofs.Replay.{replay-adds}
 unnamed : (caps : Caps) (s s' : State) (event : Event) (reply : Reply) → IsWellFormed caps s → named_by reply ≡ 0 → next s event reply ≡ Some s' → submitted_entries s'.work ≡ submitted_entries s.work + 0
 unnamed caps s s' event reply w none h =
     let names = next-names s s' event reply h in
-    let kept = account-change caps s s' w.shape w.cells (next-change s s' event reply h) (omega (arith, names, none)) in
+    let kept = account-change is_none caps s s' w.shape w.cells (next-change s s' event reply h) (omega (arith, names, none)) in
     omega (arith, kept)
 
 next-account : (caps : Caps) (s s' : State) (event : Event) (reply : Reply) → IsWellFormed caps s → next s event reply ≡ Some s' → submitted_entries s'.work ≡ submitted_entries s.work + cond (is_accepted reply) 1 0
-next-account caps s s' event (Submit (Accepted ticket)) w h = accepted-account caps s s' w.shape (next-accepted s s' event ticket h)
-next-account caps s s' event (Fetch (Fetched ticket)) w h = let kept = fetched-account caps s s' w.shape (next-fetched s s' event ticket h) in omega (arith, kept)
+next-account caps s s' event (Submit (Accepted ticket)) w h =
+    let c = next-accepted s s' event ticket h in
+    subst (λ t. submitted_entries t.work ≡ submitted_entries s.work + 1) c.after (accepted-account is_none caps s s' w.shape c)
+next-account caps s s' event (Fetch (Fetched ticket)) w h =
+    let c = next-fetched s s' event ticket h in
+    subst (λ t. submitted_entries t.work ≡ submitted_entries s.work + 0) c.after (fetched-account is_none caps s s' w.shape c)
 next-account caps s s' event reply w h = unnamed caps s s' event reply w refl h
 
 nothing-held : (caps : Caps) → all_held (opening caps).work.content ≡ []

@@ -19,25 +19,31 @@ use Rattle.dsa_accounts.proofs.Names.{name_of}
 
 -- ---- words
 
-abbrev weight : Slot → ℕ
-weight slot = cond (is_submitted_slot slot) 1 0
+-- how many entries have a fate row or are held, among those whose parent passes
+abbrev pub entries_with : (Option ℕ → Bool) → Work → ℕ
+entries_with p w = count_by (λ row. p row.parent) w.fates + count_by (λ slot. p slot.1.parent) (all_held w.content)
+
+abbrev weight : (Option ℕ → Bool) → Slot → ℕ
+weight p slot = cond (p slot.1.parent) 1 0
 
 -- what is gone is counted by its row, and what moved or began to run as before
-account-flow : (caps : Caps) (w w' : Work) (flow : IsFlow caps w w') → submitted_entries w' ≡ submitted_entries w + count_by is_submitted_slot flow.came
-account-flow caps w w' flow =
-    let sums = flow.sums weight (λ slot. refl) in
-    let rows = ap (λ (rows : List FateRow). count_by is_submitted_row rows) flow.fates ∙ rows-counted is_submitted_row w.fates flow.fate flow.gone in
+account-flow : (p : Option ℕ → Bool) (caps : Caps) (w w' : Work) (flow : IsFlow caps w w')
+    → entries_with p w' ≡ entries_with p w + count_by (λ slot. p slot.1.parent) flow.came
+account-flow p caps w w' flow =
+    let sums = flow.sums (weight p) (λ slot. refl) in
+    let test : FateRow → Bool = λ row. p row.parent in
+    let rows = ap (λ (rows : List FateRow). count_by test rows) flow.fates ∙ rows-counted test w.fates flow.fate flow.gone in
     omega (arith, sums, rows)
 
--- what comes is counted where it has no parent
-entered-account : (w w' : Work) (k : ℕ) (x : Slot) (b : Bool) → k < length w.content → w'.content ≡ pushed w.content k x.0 x.1 → w'.fates ≡ w.fates → is_submitted_slot x ≡ b
-    → submitted_entries w' ≡ submitted_entries w + cond b 1 0
-entered-account w w' k x b inside content fates is =
-    let sum = sum-pushed weight w.content k x.0 x.1 inside in
-    let slots = ap (λ (c : Content). sum_by weight (all_held c)) content in
-    let rows = ap (λ (rows : List FateRow). count_by is_submitted_row rows) fates in
-    let one : weight x ≡ cond b 1 0 = ap (λ (t : Bool). cond {A = ℕ} t 1 0) is in
-    omega (arith, sum, slots, rows, one)
+-- what comes is counted where its parent passes
+entered-account : (p : Option ℕ → Bool) (w w' : Work) (k : ℕ) (x : Slot) → k < length w.content
+    → w'.content ≡ pushed w.content k x.0 x.1 → w'.fates ≡ w.fates
+    → entries_with p w' ≡ entries_with p w + cond (p x.1.parent) 1 0
+entered-account p w w' k x inside content fates =
+    let sum = sum-pushed (weight p) w.content k x.0 x.1 inside in
+    let slots = ap (λ (c : Content). sum_by (weight p) (all_held c)) content in
+    let rows = ap (λ (rows : List FateRow). count_by (λ row. p row.parent) rows) fates in
+    omega (arith, sum, slots, rows)
 
 -- those with a parent and those without are all
 pub parts : {X : Type 0} (parent : X → Option ℕ) (xs : List X) → count_by (λ x. is_none (parent x)) xs + count_by (λ x. is_some (parent x)) xs ≡ length xs
@@ -55,26 +61,26 @@ parts {X} parent (x ∷ xs) =
 
 -- ---- each change
 
-abbrev pub SameAccount : State → State → Type 0
-SameAccount s t = submitted_entries t.work ≡ submitted_entries s.work
-
 -- a change that gives no name
-pub account-change : (caps : Caps) (s s' : State) → HasShape caps s.work → CellsOnce caps s.work → Change s s' → name_of s' ≡ name_of s → SameAccount s s'
-account-change caps s s' h once c n =
+pub account-change : (p : Option ℕ → Bool) (caps : Caps) (s s' : State) → HasShape caps s.work → CellsOnce caps s.work
+    → Change s s' → name_of s' ≡ name_of s → entries_with p s'.work ≡ entries_with p s.work
+account-change p caps s s' h once c n =
     let flow = flow-change caps s s' h once c in
-    let all = account-flow caps s.work s'.work flow in
-    let none = count_by-le-length is_submitted_slot flow.came in
+    let all = account-flow p caps s.work s'.work flow in
+    let none = count_by-le-length (λ (slot : Slot). p slot.1.parent) flow.came in
     let names = flow.next in
     omega (arith, all, none, names, n)
 
-pub accepted-account : (caps : Caps) (s s' : State) → HasShape caps s.work → IsAccepted s s' → submitted_entries s'.work ≡ submitted_entries s.work + 1
-accepted-account caps s s' h c =
+-- an accepted entry has no parent
+pub accepted-account : (p : Option ℕ → Bool) (caps : Caps) (s s' : State) → HasShape caps s.work → (c : IsAccepted s s')
+    → entries_with p (with_intake s (accepted (intake_of s) c.queue c.kind c.desc c.cell).1).work ≡ entries_with p s.work + cond (p None) 1 0
+accepted-account p caps s s' h c =
     let inside = queue_list-in caps s.work c.queue h (on-queue caps s.work c.queue h c.on) in
-    subst (λ t. submitted_entries t.work ≡ submitted_entries s.work + 1) c.after
-    (entered-account s.work (with_intake s (accepted (intake_of s) c.queue c.kind c.desc c.cell).1).work c.queue _ true inside refl refl refl)
+    entered-account p s.work (with_intake s (accepted (intake_of s) c.queue c.kind c.desc c.cell).1).work c.queue _ inside refl refl
 
-pub fetched-account : (caps : Caps) (s s' : State) → HasShape caps s.work → IsFetched s s' → SameAccount s s'
-fetched-account caps s s' h c =
+-- a member has its batch as parent
+pub fetched-account : (p : Option ℕ → Bool) (caps : Caps) (s s' : State) → HasShape caps s.work → (c : IsFetched s s')
+    → entries_with p (fetched s.work c.engine c.desc c.cell c.note c.batch.1).1 ≡ entries_with p s.work + cond (p (Some c.note.batch)) 1 0
+fetched-account p caps s s' h c =
     let inside = member_list-in caps s.work c.engine h (note-engine caps s.work c.engine c.note h c.is_note) in
-    let same = entered-account s.work (fetched s.work c.engine c.desc c.cell c.note c.batch.1).1 (member_list s.work.setup c.engine) _ false inside refl refl refl in
-    subst (λ t. SameAccount s t) c.after (omega (arith, same))
+    entered-account p s.work (fetched s.work c.engine c.desc c.cell c.note c.batch.1).1 (member_list s.work.setup c.engine) _ inside refl refl

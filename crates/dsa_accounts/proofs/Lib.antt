@@ -4,5 +4,8 @@ pub mod Totals
 pub mod Accounts
 pub mod Accounted
 pub mod Abandons
+pub mod NotedBatches
+pub mod BatchCounts
+pub mod EndedBatches
 pub mod FreeCells
 pub mod UnusedCells

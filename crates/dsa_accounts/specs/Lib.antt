@@ -1,2 +1,3 @@
 pub mod Accounts
+pub mod BatchCounts
 pub mod FreeCells

@@ -1,20 +1,26 @@
 //! Laws of accounts, each on a function with nothing to do. A history is a list of steps from the opening of a device with these capabilities.
 
-ghost use Rattle.std.specs.Prelude.{◌≡◌, ℕ, ◌+◌, ◌<◌, ◌≤◌, List, length, None, Some, true, false};
+ghost use Rattle.std.specs.Prelude.{◌≡◌, ℕ, ◌+◌, ◌<◌, ◌≤◌, List, ◌∷◌, ◌++◌, length, find, None, Some, true, false};
+ghost use Rattle.dsa_desc.specs.declared.Outcome.{Outcome};
 ghost use Rattle.dsa_base.specs.Rows.{first_row};
 ghost use Rattle.dsa_regs.specs.declared.Caps.{Caps};
 ghost use Rattle.dsa_regs.specs.Caps.{cell_count};
-ghost use Rattle.dsa_store.specs.Content.{held};
+ghost use Rattle.dsa_store.specs.Content.{held, Slot};
+ghost use Rattle.dsa_book.specs.declared.answer.FinishAnswer.TheVariants.{Done};
+ghost use Rattle.dsa_book.specs.declared.answer.Reply.TheVariants as reply;
+ghost use Rattle.dsa_book.specs.declared.answer.Ticket.{Ticket};
+ghost use Rattle.dsa_book.specs.declared.event.Event.TheVariants.{Finish};
 ghost use Rattle.dsa_book.specs.declared.event.Kind.{Kind};
 ghost use Rattle.dsa_book.specs.declared.event.Portal.{Portal};
 ghost use Rattle.dsa_book.specs.declared.event.Step.{Step};
 ghost use Rattle.dsa_book.specs.declared.note.BatchNote.{BatchNote};
-ghost use Rattle.dsa_book.specs.State.{State};
+ghost use Rattle.dsa_book.specs.State.{State, is_batch_of, is_ticket};
 ghost use Rattle.dsa_book.specs.Machine.{intake_of, next, replay};
 ghost use Rattle.dsa_book.specs.Submit.{submit_table};
-ghost use Rattle.dsa_book.specs.Work.{is_all_fetched, note_at};
+ghost use Rattle.dsa_book.specs.Work.{is_all_fetched, note_at, running_on};
 ghost use Rattle.dsa_book.specs.Totals.{total_accepted, total_fetched, total_done, total_lost};
 ghost use Rattle.dsa_accounts.specs.Accounts.{submitted_entries, member_entries, only_members_abandoned};
+ghost use Rattle.dsa_accounts.specs.BatchCounts.{AddsUp, HasEnded};
 ghost use Rattle.dsa_accounts.specs.FreeCells.{HasFreeCell};
 
 /// Each accepted and each fetched entry has a name of its own, and the next name is their number.
@@ -58,4 +64,14 @@ pub fn accepting_queues_find_a_free_cell()
 pub fn open_batches_find_a_free_cell()
     ensures room { (caps : Caps) (history : List Step) (s : State) (engine : ℕ) (note : BatchNote) → replay caps history ≡ Some s → note_at s.work engine ≡ Some note → is_all_fetched note ≡ false → held s.work.content < cell_count caps }
     ensures cell { (caps : Caps) (history : List Step) (s : State) (engine : ℕ) (note : BatchNote) → replay caps history ≡ Some s → note_at s.work engine ≡ Some note → is_all_fetched note ≡ false → HasFreeCell caps s.work }
+{}
+
+/// While an engine works on a batch, each member that was fetched of it is done, abandoned or held.
+pub fn members_of_an_open_batch_add_up()
+    ensures { (caps : Caps) (history : List Step) (s : State) (engine : ℕ) (note : BatchNote) → replay caps history ≡ Some s → note_at s.work engine ≡ Some note → AddsUp s.work note }
+{}
+
+/// A well-formed Batch of n ends once all n members are done, or once its rest is abandoned, and then the done and the abandoned ones are at most n; no member is held then, none was ever aborted, and all this stays so.
+pub fn members_of_an_ended_batch_add_up()
+    ensures { (caps : Caps) (before after : List Step) (s s' : State) (engine : ℕ) (ticket : Ticket) (outcome : Outcome) (status : ℕ) (batch : Slot) → replay caps before ≡ Some s → find (is_ticket ticket) (running_on s.work engine) ≡ Some batch → is_batch_of s.work.setup batch.1 ≡ true → replay caps (before ++ record { event = Finish engine ticket outcome; reply = reply.Finish (Done status) } ∷ after) ≡ Some s' → HasEnded s'.work batch.1.name batch.1.desc.size }
 {}

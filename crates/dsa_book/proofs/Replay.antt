@@ -29,11 +29,17 @@ replay-adds P measure gain each (x ∷ h) s s' p e = go (λ t q r. replay-adds P
         let sum = sum_by-cons (λ (step : Step). gain step.reply) x h in
         omega (arith, here, rest, sum)
 
-pub replay_from-snoc : (xs : List Step) (o : Option State) (y : Step) → replay_from o (xs ++ y ∷ []) ≡ option_and_then (λ s. next s y.event y.reply) (replay_from o xs)
-replay_from-snoc [] None y = refl
-replay_from-snoc [] (Some s) y = refl
-replay_from-snoc (x ∷ xs) None y = refl
-replay_from-snoc (x ∷ xs) (Some s) y = replay_from-snoc xs (next s x.event x.reply) y
+-- steps that follow others go on from where those lead
+pub replay_from-append : (xs ys : List Step) (o : Option State) → replay_from o (xs ++ ys) ≡ replay_from (replay_from o xs) ys
+replay_from-append [] ys o = refl
+replay_from-append (x ∷ xs) [] None = refl
+replay_from-append (x ∷ xs) (y ∷ ys) None = refl
+replay_from-append (x ∷ xs) ys (Some s) = replay_from-append xs ys (next s x.event x.reply)
 
+-- and so does one step
 pub replay-snoc : (caps : Caps) (xs : List Step) (y : Step) → replay caps (xs ++ y ∷ []) ≡ option_and_then (λ s. next s y.event y.reply) (replay caps xs)
-replay-snoc caps xs y = replay_from-snoc xs (Some (opening caps)) y
+replay-snoc caps xs y = replay_from-append xs (y ∷ []) (Some (opening caps)) ∙ one (replay caps xs)
+  where
+    one : (o : Option State) → replay_from o (y ∷ []) ≡ option_and_then (λ s. next s y.event y.reply) o
+    one None = refl
+    one (Some s) = refl

@@ -196,7 +196,7 @@ abbrev pub is_left : Scope → Slot → Bool
 is_left scope x = not (is_in_scope scope x.1)
 
 -- a member and its batch are both of a scope, or neither is
-scope-alike : (scope : Scope) (m b : Slot) → IsAlike m b → is_in_scope scope m.1 ≡ is_in_scope scope b.1
+pub scope-alike : (scope : Scope) (m b : Slot) → IsAlike m b → is_in_scope scope m.1 ≡ is_in_scope scope b.1
 scope-alike Device m b h = refl
 scope-alike (Pasid pasid) m b h = ap (λ p. p == pasid) h.pasid
 scope-alike scope m b h = ap (names (queues_in scope)) h.queue
@@ -209,7 +209,7 @@ any-In {X} p (x ∷ xs) h = go (any-In p xs) (p x) refl h
     go more true q h = (x, (inl refl, q))
     go more false q h = let r = more h in (r.0, (inr r.1.0, r.1.1))
 
-In-any : {X : Type 0} (p : X → Bool) (x : X) (xs : List X) → In x xs → p x ≡ true → list_any p xs ≡ true
+pub In-any : {X : Type 0} (p : X → Bool) (x : X) (xs : List X) → In x xs → p x ≡ true → list_any p xs ≡ true
 In-any p x [] i t = absurd i
 In-any p x (y ∷ ys) (inl e) t = ap (λ (b : Bool). b || list_any p ys) (ap p e ∙ t)
 In-any p x (y ∷ ys) (inr i) t = go (p y) (In-any p x ys i t)
@@ -227,7 +227,7 @@ In-passing p x (y ∷ ys) (inr i) t = go (p y) (In-passing p x ys i t)
     go true j = inr j
     go false j = j
 
-count-none : {X : Type 0} (p : X → Bool) (xs : List X) → ((x : X) → In x xs → p x ≡ false) → count_by p xs ≡ 0
+pub count-none : {X : Type 0} (p : X → Bool) (xs : List X) → ((x : X) → In x xs → p x ≡ false) → count_by p xs ≡ 0
 count-none p [] h = refl
 count-none p (x ∷ xs) h =
     let c = sum_by-cons (λ y. cond (p y) 1 0) x xs in

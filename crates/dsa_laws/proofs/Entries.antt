@@ -60,7 +60,7 @@ pasid-again : (p : ℕ) → pasid_of (pasid_of p) ≡ pasid_of p
 pasid-again p = omega arith
 
 -- entries leave or stay: what holds of each by its list is to be seen of those that come, and of those that begin to run
-each-effect : (P : ℕ → Slot → Type 0) (s s' : State) → EachAt P s.work.content → Change s s'
+pub each-effect : (P : ℕ → Slot → Type 0) (s s' : State) → EachAt P s.work.content → Change s s'
     → ((c : IsAccepted s s') → EachAt P (with_intake s (accepted (intake_of s) c.queue c.kind c.desc c.cell).1).work.content)
     → ((c : IsTaken s s') → EachAt P (taken s.work c.engine c.queue c.front).content)
     → ((c : IsFetched s s') → EachAt P (fetched s.work c.engine c.desc c.cell c.note c.batch.1).1.content)

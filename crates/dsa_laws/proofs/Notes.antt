@@ -111,7 +111,7 @@ notes-change caps s s' shape setup entries h c = by_effect (NotesFit caps) s s' 
     (after-fits caps (is_batch_of s.work.setup c.slot.1) (is_member c.slot.1 && not (is_successful (status_of s.work.setup c.slot.1 c.outcome))) (option_map (λ (note : BatchNote). record note { failed = true }) (note_at s.work c.engine)) (note_at s.work c.engine) failed (h c.engine)))
     (λ c. aborted-fits caps c.number c.scope s.work h)
 
-none-noted : (n e : ℕ) → ◌≡◌ {A = Option BatchNote} (get_or (replicate n None) e None) None
+pub none-noted : (n e : ℕ) → ◌≡◌ {A = Option BatchNote} (get_or (replicate n None) e None) None
 none-noted zero e = refl
 none-noted (suc n) zero = refl
 none-noted (suc n) (suc e) = none-noted n e
