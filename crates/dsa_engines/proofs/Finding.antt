@@ -2,68 +2,21 @@
 use Rattle.std.proofs.Common.{◌≡◌, ℕ, zero, suc, ◌+◌, ◌<◌, ◌≤◌, ◌≢◌, Bool, true, false, cond, ◌&&◌, ◌||◌, ◌==◌, nat_lt, List, [], ◌∷◌, ◌++◌, length, get_or, Option, Some, None, refl, sym, subst, ◌∙◌, ap, ◌⊎◌, inl, inr, arith}
 use Rattle.std.proofs.lemmas.Grind.{common_steps}
 use Rattle.std.specs.List.{find, filter}
-use Rattle.std.proofs.lemmas.Bool.{lt-ltb, cases_Bool, cases_eq, cases_lt, and_parts}
+use Rattle.std.proofs.lemmas.Bool.{lt-ltb, cases_eq, cases_lt, and_parts}
 use Rattle.std.proofs.lemmas.List.Elements.{filter-append}
 use Rattle.dsa_base.specs.Rows.{when}
 use Rattle.dsa_store.specs.declared.entry.Cell.{Cell}
 use Rattle.dsa_store.specs.declared.entry.Entry.{Entry}
 use Rattle.dsa_store.specs.Content.{Slot, Content, is_cell, chain, count, uses, list_of, entry_of, StandsAt}
 use Rattle.dsa_store.proofs.Places.{count-nil, count-cons, count-at, is_cell-itself}
-use Rattle.dsa_store.proofs.Lists.{cell_eq, uses-nil, uses-cons, count-le-uses}
-use Rattle.dsa_store.proofs.Finding.{count-stands, list_of-at, entry_of-at, entry_of-none}
+use Rattle.dsa_store.proofs.Lists.{uses-cons, count-le-uses}
+use Rattle.dsa_store.proofs.Finding.{Stands, placed, count-stands, list_of-at, entry_of-at, entry_of-none}
 use Rattle.dsa_book.specs.declared.answer.Ticket.{Ticket}
 use Rattle.dsa_book.specs.State.{Setup, is_ticket}
 use Rattle.dsa_book.specs.Work.{progress_list, member_list, running_on}
 use Rattle.dsa_engines.specs.Engines.{lists_alone, is_running}
 
 -- ---- where a cell stands
-
--- the cell stands at a place of some list
-pub record Stands (content : Content) (cell : Cell) : Type 0 where
-  pub list : ℕ
-  pub place : ℕ
-  pub entry : Entry
-  pub at : StandsAt content list place cell entry
-
--- an entry of the list in the cell, at its place
-pub record StandsIn (l : List Slot) (cell : Cell) : Type 0 where
-  pub place : ℕ
-  pub entry : Entry
-  pub within : place < length l
-  pub slot : get_or l place (cell, entry) ≡ (cell, entry)
-
-first-place : (cell : Cell) (s : Slot) (l : List Slot) → is_cell cell s ≡ true → StandsIn (s ∷ l) cell
-first-place cell s l is = record { place = zero; entry = s.1; within = omega arith; slot = ap (λ (c : Cell). let t : Slot = (c, s.1) in t) (cell_eq s.0 cell (grind (arith, is))) }
-
-later-place : (cell : Cell) (s : Slot) (l : List Slot) → StandsIn l cell → StandsIn (s ∷ l) cell
-later-place cell s l at = record { place = suc at.place; entry = at.entry; within = omega (arith, at.within); slot = at.slot }
-
-place-in : (cell : Cell) (l : List Slot) → 1 ≤ count cell l → StandsIn l cell
-place-in cell [] h = absurd (omega (arith, h, count-nil cell))
-place-in cell (s ∷ l) h =
-    elim (cases_Bool (is_cell cell s)) [
-      | inl is ↦ first-place cell s l is
-      | inr is ↦
-          let none : ◌≡◌ {A = ℕ} (cond (is_cell cell s) 1 0) 0 = ap (λ (b : Bool). cond {A = ℕ} b 1 0) is in
-          later-place cell s l (place-in cell l (omega (arith, h, count-cons cell s l, none)))
-    ]
-
-in-first : (l : List Slot) (ls : Content) (cell : Cell) → StandsIn l cell → Stands (l ∷ ls) cell
-in-first l ls cell p = record { list = zero; place = p.place; entry = p.entry; at = record { within = p.within; slot = p.slot } }
-
-in-later : (l : List Slot) (ls : Content) (cell : Cell) → Stands ls cell → Stands (l ∷ ls) cell
-in-later l ls cell s = record { list = suc s.list; place = s.place; entry = s.entry; at = record { within = s.at.within; slot = s.at.slot } }
-
-pub placed : (content : Content) (cell : Cell) → (uses content cell ≡ 0) ⊎ Stands content cell
-placed [] cell = inl (uses-nil cell)
-placed (l ∷ ls) cell =
-    elim (cases_lt 0 (count cell l)) [
-      | inl some ↦ inr (in-first l ls cell (place-in cell l (omega (arith, some))))
-      | inr none ↦ elim (placed ls cell) [
-        | inl z ↦ inl (omega (arith, uses-cons l ls cell, none, z))
-        | inr s ↦ inr (in-later l ls cell s)
-      ]
-    ]
 
 -- two lists together name a cell no more often than all do
 count-apart : (content : Content) (i j : ℕ) (cell : Cell) → i ≢ j → count cell (chain content i) + count cell (chain content j) ≤ uses content cell

@@ -4,7 +4,6 @@ pub mod Dispatching
 pub mod Finding
 pub mod Leaving
 pub mod Ending
-pub mod Walking
 pub mod Members
 pub mod Batches
 pub mod Keeping

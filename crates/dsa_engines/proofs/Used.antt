@@ -203,9 +203,9 @@ rest-on setup c e h = on (cases_lt e setup.caps.engines)
 pub buffers-at_rest : (setup : Setup) (c : Content) → length setup.groups ≡ setup.caps.groups → held c ≡ 0 → buffers_at_rest setup ≡ buffers_of setup c
 buffers-at_rest setup c len h =
     let zeros : all_used (lists_alone setup c) ≡ replicate (length setup.groups) 0 =
-        zero-table (used (lists_alone setup c)) setup.caps.groups (λ k. zero-sum (used_on (lists_alone setup c))
-            (filter (has (group_at setup.groups k).engines) (numbers_below setup.caps.engines)) (λ e. rest-on setup c e h))
-        ∙ ap (λ (n : ℕ). replicate {A = ℕ} n 0) (sym len) in
+    zero-table (used (lists_alone setup c)) setup.caps.groups (λ k. zero-sum (used_on (lists_alone setup c))
+    (filter (has (group_at setup.groups k).engines) (numbers_below setup.caps.engines)) (λ e. rest-on setup c e h))
+    ∙ ap (λ (n : ℕ). replicate {A = ℕ} n 0) (sym len) in
     ap (λ (u : List ℕ). let b : Buffers = record { total = setup.caps.read_buffers; groups = setup.groups; used = u } in b) (sym zeros)
 
 -- the read buffers as they are made

@@ -14,27 +14,14 @@ use dsa_book::{BatchNote, FetchAnswer, Ticket};
 use dsa_desc::Descriptor;
 use dsa_queues::Queues;
 use dsa_regs::ListUse;
-use dsa_store::{Cell, Entry, EntryStore, ListId};
+use dsa_store::{Cell, Entry, EntryStore, ListId, slots};
 
 // The first entry of the list that has the name. Looks at those before it.
 fn find_named<S: EntryStore>(store: &S, list: ListId, name: u32) -> Option<(Cell, Entry)>
     requires { list.0 < length (S.content store.now) }
     ensures { result ≡ find (λ slot. slot.1.name == name) (chain (S.content store.now) list.0) }
 {
-    let mut at = store.front(list);
-    for _place in 0..store.len(list) {
-        let Some(cell) = at else {
-            unreachable!();
-        };
-        let Some(entry) = store.get(cell) else {
-            unreachable!();
-        };
-        if entry.name == name {
-            return Some((cell, entry));
-        }
-        at = store.next(cell);
-    }
-    None
+    slots(store, list).find(|slot| slot.1.name == name)
 }
 
 // Whether no member is to be fetched any more.

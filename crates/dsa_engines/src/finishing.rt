@@ -49,11 +49,7 @@ fn find_running<S: EntryStore>(
         return None;
     }
     let entry = store.get(ticket.cell)?;
-    if is_meant(ticket, &entry) {
-        Some(entry)
-    } else {
-        None
-    }
+    is_meant(ticket, &entry).then_some(entry)
 }
 
 impl Engines {

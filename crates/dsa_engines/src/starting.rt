@@ -14,27 +14,14 @@ use crate::Engines;
 use dsa_book::{BatchNote, Book, Fate, FateRow, StartAnswer, Ticket};
 use dsa_queues::Queues;
 use dsa_regs::ListUse;
-use dsa_store::{Cell, Entry, EntryStore, ListId};
+use dsa_store::{Cell, Entry, EntryStore, ListId, slots};
 
 // The first entry of the list that does not run. Looks at those before it.
 fn first_waiting<S: EntryStore>(store: &S, list: ListId) -> Option<(Cell, Entry)>
     requires { list.0 < length (S.content store.now) }
     ensures { result ≡ find (λ slot. not slot.1.running) (chain (S.content store.now) list.0) }
 {
-    let mut at = store.front(list);
-    for _place in 0..store.len(list) {
-        let Some(cell) = at else {
-            unreachable!();
-        };
-        let Some(entry) = store.get(cell) else {
-            unreachable!();
-        };
-        if !entry.running {
-            return Some((cell, entry));
-        }
-        at = store.next(cell);
-    }
-    None
+    slots(store, list).find(|slot| !slot.1.running)
 }
 
 // Whether the entry is fenced, and stands behind others.
@@ -57,20 +44,12 @@ fn abandon_all<S: EntryStore>(store: &S, book: &mut Book, list: ListId)
     requires room { length book.old.fates + length (chain (S.content store.now) list.0) ≤ book.old.capacity }
     ensures { book.new ≡ record book.old { fates = book.old.fates ++ map (fate_row Abandoned) (chain (S.content store.now) list.0) } }
 {
-    let mut at = store.front(list);
-    for _place in 0..store.len(list) {
-        let Some(cell) = at else {
-            unreachable!();
-        };
-        let Some(entry) = store.get(cell) else {
-            unreachable!();
-        };
+    for (_, entry) in slots(store, list) {
         book.add_row(FateRow {
             name: entry.name,
             parent: entry.parent,
             fate: Fate::Abandoned,
         });
-        at = store.next(cell);
     }
 }
 
@@ -121,7 +100,7 @@ impl Engines {
     /// `Nothing` where no member waits. A fenced member waits for all members before it (`FenceWait`), and if one of them
     /// was not successful all members that are left end as `Abandoned`, and the batch is closed. `NoBuffers` where the read
     /// buffers that the member needs do not fit the group. Else it is `Started`, and takes them.
-    /// Looks at the members before the first that waits, and an abandon at all.
+    /// Looks at the members up to the first that waits, and at all of them where they are abandoned.
     pub fn start<S: EntryStore>(
         &mut self,
         queues: &Queues,
