@@ -8,25 +8,14 @@ ghost use Rattle.dsa_admin.specs.Admin.{is_waited_for};
 
 use crate::scope::is_waited_for;
 use dsa_book::ActiveCommand;
-use dsa_store::{EntryStore, ListId};
+use dsa_store::{EntryStore, ListId, slots};
 
 // Whether the list has an entry that the command waits for.
 fn is_awaited_in<S: EntryStore>(store: &S, active: &ActiveCommand, list: ListId) -> bool
     requires { list.0 < length (S.content store.now) }
     ensures { result ≡ list_any (λ slot. is_waited_for active.now slot.1) (chain (S.content store.now) list.0) }
 {
-    let mut at = store.front(list);
-    for _place in 0..store.len(list) {
-        let Some(cell) = at else { unreachable!() };
-        let Some(entry) = store.get(cell) else {
-            unreachable!()
-        };
-        if is_waited_for(active, &entry) {
-            return true;
-        }
-        at = store.next(cell);
-    }
-    false
+    slots(store, list).any(|slot| is_waited_for(active, &slot.1))
 }
 
 /// Whether nothing is held that the command waits for. Walks the lists.
