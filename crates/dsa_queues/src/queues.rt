@@ -113,6 +113,7 @@ impl Queues {
         self.caps.list_use(list.0)
     }
 
+    /// The phase of the device.
     #[inline(always)]
     pub fn device(&self) -> Phase
         ensures { result ≡ self.now.device }
@@ -120,6 +121,7 @@ impl Queues {
         self.device
     }
 
+    /// Brings the device to this phase, and no queue.
     #[inline(always)]
     pub fn set_device(&mut self, phase: Phase)
         ensures { self.new ≡ with_device phase self.old }
@@ -147,6 +149,7 @@ impl Queues {
         }
     }
 
+    /// Brings the queue to this phase.
     #[inline(always)]
     pub fn set_phase(&mut self, queue: u16, phase: Phase)
         requires { has_queue self.old queue ≡ true }
@@ -175,6 +178,7 @@ impl Queues {
         self.configs.as_slice()
     }
 
+    /// Gives the queue this configuration.
     #[inline(always)]
     pub fn set_queue(&mut self, queue: u16, config: QueueConfig)
         requires { has_queue self.old queue ≡ true }
@@ -202,6 +206,7 @@ impl Queues {
         self.groups.as_slice()
     }
 
+    /// Gives the group this configuration.
     #[inline(always)]
     pub fn set_group(&mut self, group: u16, config: GroupConfig)
         requires { group < self.old.caps.groups }
@@ -245,7 +250,7 @@ impl Queues {
         self.noted = Some(noted_more(self.noted, queue, cause));
     }
 
-    /// Removes the noted error and gives it (profile).
+    /// Removes the noted error and gives it; `Nothing` where none was noted (profile).
     pub fn clear_error(&mut self) -> ClearAnswer
         ensures { clear self.old ≡ (result, self.new) }
     {
