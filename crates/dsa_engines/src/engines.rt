@@ -35,7 +35,7 @@ impl Model for Engines {
 
 // No note, for each engine.
 fn no_notes(engines: u16) -> ArrayVec<Option<BatchNote>, MAX_ENGINES>
-    requires { engines ≤ 8 }
+    requires { engines ≤ MAX_ENGINES }
     ensures { result.items ≡ replicate engines None }
 {
     let mut notes = ArrayVec::new();
@@ -47,7 +47,7 @@ fn no_notes(engines: u16) -> ArrayVec<Option<BatchNote>, MAX_ENGINES>
 
 // The group of each engine.
 fn homes(queues: &Queues) -> ArrayVec<Option<u16>, MAX_ENGINES>
-    requires { queues.now.caps.engines ≤ 8 }
+    requires { queues.now.caps.engines ≤ MAX_ENGINES }
     ensures { result.items ≡ homes_of queues.now }
 {
     let mut homes = ArrayVec::new();
