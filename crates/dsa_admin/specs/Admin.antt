@@ -18,7 +18,7 @@ use Rattle.dsa_queues.specs.Queues.{IsWhole}
 use Rattle.dsa_engines.specs.Engines.{Gear, noteless, work}
 use Rattle.dsa_book.specs.Commands.{is_in_scope, takes_batch, is_awaited, is_bad_queues, may_come, check_of}
 
--- the entries that keep an active command from its end (Intel DSA: disable and drain commands)
+-- the entries that keep an active command from its end (Intel DSA: a drain waits for what was submitted before it; the rest is the profile's)
 abbrev pub is_waited_for : ActiveCommand → Entry → Bool
 is_waited_for active entry = is_awaited (deed_of active.command) (scope_of active.command) active.mark entry
 

@@ -162,7 +162,7 @@ impl Admin {
         }
     }
 
-    /// Issues a command (Intel DSA, administrative commands).
+    /// Issues a command.
     ///
     /// The first refusal that stands answers it, and then nothing changes: `Busy` while another command is active, `BadQueue`
     /// where it names no queue or one that the device does not have, `WrongState` where the device or the queues do not

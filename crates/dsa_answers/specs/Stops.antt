@@ -16,12 +16,12 @@ abbrev pub is_stopping : Phase → Bool
 is_stopping Stopping = true
 is_stopping _ = false
 
--- whether the command disables the device (Intel DSA: Disable Device)
+-- whether the command disables the device (profile)
 abbrev pub stops_device : Deed → Scope → Bool
 stops_device Disable Device = true
 stops_device _ _ = false
 
--- whether it disables the queue (Intel DSA: Disable Device, Disable WQ)
+-- whether it disables the queue (profile)
 abbrev pub stops_queue : Deed → Scope → ℕ → Bool
 stops_queue Disable Device q = true
 stops_queue Disable scope q = names (queues_in scope) q

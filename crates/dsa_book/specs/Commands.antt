@@ -39,7 +39,7 @@ use Rattle.dsa_book.specs.Work.{progress_list, note_at, fate_row}
 abbrev pub names : List ℕ → ℕ → Bool
 names queues q = list_any (λ k. k == q) queues
 
--- the entries of a scope: all, those of the queues that it names, or those of one PASID (Intel DSA: drain and abort commands)
+-- the entries of a scope: all, those of the queues that it names, or those of one PASID (profile)
 abbrev pub is_in_scope : Scope → Entry → Bool
 is_in_scope Device entry = true
 is_in_scope (Pasid pasid) entry = entry.desc.pasid == pasid
@@ -51,12 +51,12 @@ is_in_scope scope entry = names (queues_in scope) entry.queue
 abbrev pub holds : (Entry → Bool) → Content → Bool
 holds test content = list_any (λ slot. test slot.1) (all_held content)
 
--- the entries that keep a command from its end: all of a disable's scope, and of a drain's what was submitted before it (Intel DSA: disable and drain commands)
+-- the entries that keep a command from its end: of a drain's scope what was submitted before it (Intel DSA: drain commands), and all of a disable's (profile)
 abbrev pub is_awaited : Deed → Scope → ℕ → Entry → Bool
 is_awaited Disable scope mark entry = is_in_scope scope entry
 is_awaited _ scope mark entry = is_in_scope scope entry && not (is_member entry) && nat_lt entry.name mark
 
--- a command is at its end when nothing is held that it waits for (Intel DSA: disable and drain commands)
+-- a command is at its end when nothing is held that it waits for (profile)
 abbrev pub is_at_end : ActiveCommand → Content → Bool
 is_at_end active content = not (holds (is_awaited (deed_of active.command) (scope_of active.command) active.mark) content)
 
@@ -71,19 +71,19 @@ with_phases test phase setup =
 abbrev pub with_device : Phase → Setup → Setup
 with_device phase setup = record setup { device = phase }
 
--- a disable brings the device with its queues, or the queues that it names, to this phase; other deeds stop nothing (Intel DSA: disable commands)
+-- a disable brings the device with its queues, or the queues that it names, to this phase; other deeds stop nothing (profile)
 abbrev pub stopped : Deed → Scope → Phase → Setup → Setup
 stopped Disable Device phase setup = with_device phase (with_phases (λ q. not (is_off (phase_at setup q))) phase setup)
 stopped Disable scope phase setup = with_phases (names (queues_in scope)) phase setup
 stopped _ scope phase setup = setup
 
--- Enable Device has the device On, and Enable WQ its queue (Intel DSA: enable commands)
+-- Enable Device has the device On, and Enable WQ its queue (profile)
 abbrev pub enabled : Scope → Setup → Setup
 enabled Device setup = with_device On setup
 enabled (Queue queue) setup = with_phases (λ q. q == queue) On setup
 enabled _ setup = setup
 
--- all zero but the size (Intel DSA: Reset WQ)
+-- all zero but the size (profile)
 abbrev pub size_alone : QueueConfig → QueueConfig
 size_alone config = record zero_queue { size = config.size }
 
@@ -92,7 +92,7 @@ abbrev pub with_sizes_alone : List ℕ → Setup → Setup
 with_sizes_alone queues setup =
     record setup { configs = map (λ q. cond (names queues q) (size_alone (queue_at setup.configs q)) (queue_at setup.configs q)) (numbers_below setup.caps.queues) }
 
--- Reset Device has all zero and Off again, and the names that were given are not given again; Reset WQ has its queues Off, with their sizes alone (Intel DSA: reset commands; the names are the profile's)
+-- Reset Device has all zero and Off again, and the names that were given are not given again; Reset WQ has its queues Off, with their sizes alone (profile)
 abbrev pub reset : Scope → Setup → Setup
 reset Device setup = record (opening_setup setup.caps) { next_name = setup.next_name }
 reset scope setup = with_sizes_alone (queues_in scope) (with_phases (names (queues_in scope)) Off setup)
@@ -107,7 +107,7 @@ takes_batch setup scope xs = list_any (λ slot. is_batch_of setup slot.1 && is_i
 abbrev pub kept_note : Setup → Scope → List Slot → Option BatchNote → Option BatchNote
 kept_note setup scope xs note = cond (takes_batch setup scope xs) None note
 
--- what the scope holds ends by the command of this number, list by list and each front first; the rest keeps its order (Intel DSA: abort commands; the order is the profile's)
+-- what the scope holds ends by the command of this number, list by list and each front first; the rest keeps its order (profile)
 abbrev pub aborted : ℕ → Scope → Work → Work
 aborted number scope w =
     record w {
@@ -139,7 +139,7 @@ abbrev pub may_come : Setup → Deed → Scope → Bool
 may_come setup deed Device = suits deed setup.device
 may_come setup deed scope = is_on setup.device && list_all (λ q. suits deed (phase_at setup q)) (queues_in scope)
 
--- what the configuration has against it (Intel DSA: errors of the enable commands; the order is the profile's)
+-- what the configuration has against it (profile)
 abbrev pub check_of : Setup → Deed → Scope → Option Fault
 check_of setup Enable Device = check_device setup.caps setup.configs setup.groups
 check_of setup Enable (Queue queue) = check_queue setup.caps setup.groups queue (queue_at setup.configs queue)
@@ -168,14 +168,14 @@ waits s command =
     (ended_at_once s 0 (with_setup s.work (stop Off s.work.setup)))
     (Active, record { work = with_setup s.work (stop Stopping s.work.setup); active = Some active })
 
--- what each deed does with a scope; the command is what it is active by, and what it aborts by (Intel DSA: administrative commands)
+-- what each deed does with a scope; the command is what it is active by, and what it aborts by (profile)
 abbrev pub done_by : State → Command → Deed → Scope → IssueAnswer × State
 done_by s command Enable scope = ended_at_once s 0 (with_setup s.work (enabled scope s.work.setup))
 done_by s command Abort scope = aborts s (number_of command) scope (λ setup. setup)
 done_by s command Reset scope = aborts s (number_of command) scope (reset scope)
 done_by s command _ scope = waits s command
 
--- what a command does (Intel DSA: administrative commands)
+-- what a command does (profile)
 abbrev pub carried_out : State → Command → IssueAnswer × State
 carried_out s command = done_by s command (deed_of command) (scope_of command)
 
@@ -211,7 +211,7 @@ poll s = poll_of s s.active
 
 -- ---- writes and clear, which see the queues' layer alone
 
--- what refuses a queue's configuration, in this order: it is locked while the queue is not Off, its size while the device is not (Intel DSA: work queue configuration; the order is the profile's)
+-- what refuses a queue's configuration, in this order: it is locked while the queue is not Off, its size while the device is not (profile)
 abbrev pub write_queue_table : Setup → ℕ → QueueConfig → List (Bool × (WriteAnswer × Setup))
 write_queue_table setup q config =
     (not (has_queue setup q), (Refused BadIndex, setup)) ∷
@@ -223,7 +223,7 @@ abbrev pub write_queue : Setup → ℕ → QueueConfig → WriteAnswer × Setup
 write_queue setup q config =
     first_row_or (write_queue_table setup q config) (Written, record setup { configs = slice_set setup.configs q config })
 
--- what refuses a group's configuration, in this order: it is locked while the device is not Off (Intel DSA: group configuration; the order is the profile's)
+-- what refuses a group's configuration, in this order: it is locked while the device is not Off (profile)
 abbrev pub write_group_table : Setup → ℕ → List (Bool × (WriteAnswer × Setup))
 write_group_table setup g =
     (not (nat_lt g setup.caps.groups), (Refused BadIndex, setup)) ∷

@@ -76,7 +76,7 @@ next s event reply =
     let r = reply_of s event choice in
     when (may_choose s event choice && same_reply reply r.0) r.1
 
--- the replies that a history keeps
+-- the replies that a history keeps (profile)
 abbrev pub is_stored : Reply → Bool
 is_stored (Submit (Accepted ticket)) = true
 is_stored (Submit (Retry cause)) = true
@@ -109,11 +109,11 @@ replay_from (Some s) (step ∷ steps) = replay_from (next s step.event step.repl
 abbrev pub replay : Caps → List Step → Option State
 replay caps history = replay_from (Some (opening caps)) history
 
--- a history: each step is one that is kept, and may follow those before it
+-- a history: each step is one that is kept, and may follow those before it (profile)
 abbrev pub is_legal : Caps → List Step → Bool
 is_legal caps history = list_all (λ step. is_stored step.reply) history && is_some (replay caps history)
 
--- the reply Full of the event's own kind
+-- the reply Full of the event's own kind (profile)
 abbrev pub full_reply : Event → Reply
 full_reply (Submit client queue portal kind desc) = Submit Full
 full_reply (Dispatch engine) = Dispatch Full
@@ -134,7 +134,7 @@ is_full event reply = same_reply reply (full_reply event)
 abbrev pub stored_steps : List Step → List Step
 stored_steps steps = filter (λ step. is_stored step.reply) steps
 
--- the step may come where this history of a device with this capacity stands
+-- the step may come where this history of a device with this capacity stands (profile)
 abbrev pub may_follow : Caps → ℕ → List Step → Step → Bool
 may_follow caps capacity history step =
     cond (length history == capacity)
@@ -148,6 +148,6 @@ is_run_after caps capacity history (step ∷ steps) =
     may_follow caps capacity history step
     && is_run_after caps capacity (history ++ stored_steps (step ∷ [])) steps
 
--- what a device of this capacity may answer, step by step
+-- what a device of this capacity may answer, step by step (profile)
 abbrev pub is_run : Caps → ℕ → List Step → Bool
 is_run caps capacity steps = is_run_after caps capacity [] steps

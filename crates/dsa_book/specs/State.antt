@@ -1,4 +1,4 @@
--- The state of the written machine, by what each layer of the device keeps. (profile)
+-- The state of the written machine, by what each layer of the device keeps (profile).
 use Rattle.std.specs.Prelude.{ℕ, Bool, true, false, cond, ◌&&◌, ◌==◌, nat_lt, List, length, replicate, get_or, Option, None, is_some, []}
 use Rattle.dsa_desc.specs.declared.Outcome.{Outcome}
 use Rattle.dsa_desc.specs.declared.QueueLimits.{QueueLimits}
@@ -81,11 +81,11 @@ abbrev pub is_off : Phase → Bool
 is_off Off = true
 is_off _ = false
 
--- a queue that the device does not have is Off
+-- a queue that the device does not have is Off (profile)
 abbrev pub phase_at : Setup → ℕ → Phase
 phase_at setup q = get_or setup.phases q Off
 
--- the device has the queues below the number of its capabilities (Intel DSA: work queue capabilities)
+-- the device has the queues below the number of its capabilities (profile)
 abbrev pub has_queue : Setup → ℕ → Bool
 has_queue setup q = nat_lt q setup.caps.queues
 
@@ -95,7 +95,7 @@ has_queue setup q = nat_lt q setup.caps.queues
 abbrev pub is_member : Entry → Bool
 is_member entry = is_some entry.parent
 
--- the limits of a queue (Intel DSA: maximum transfer size and maximum batch size of a work queue)
+-- the limits of a queue (profile)
 abbrev pub limits_at : Setup → ℕ → QueueLimits
 limits_at setup q = limits_of (queue_at setup.configs q)
 
@@ -117,7 +117,7 @@ is_batch_of setup entry = is_lawful_batch entry.desc (limits_at setup entry.queu
 
 -- ---- lists and names
 
--- the entries that wait in the queue; one that an engine has taken is not counted (Intel DSA: work queue occupancy)
+-- the entries that wait in the queue; one that an engine has taken is not counted (profile)
 abbrev pub occupancy : Content → ℕ → ℕ
 occupancy content q = length (chain content q)
 

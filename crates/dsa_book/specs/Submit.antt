@@ -19,7 +19,7 @@ use Rattle.dsa_book.specs.declared.answer.SubmitAnswer.{SubmitAnswer}
 use Rattle.dsa_book.specs.declared.answer.SubmitAnswer.TheVariants.{Accepted, Retry, Dropped}
 use Rattle.dsa_book.specs.State.{Intake, occupancy, phase_at, is_on}
 
--- the threshold bounds the limited portal of a shared queue, and in all other cases the size does (Intel DSA: portals and the work queue threshold)
+-- the threshold bounds the limited portal of a shared queue, and in all other cases the size does (profile)
 abbrev pub limit_of : QueueConfig → Portal → ℕ
 limit_of config Limited = cond config.dedicated config.size config.threshold
 limit_of config Unlimited = config.size
@@ -39,7 +39,7 @@ abbrev pub noted_more : Option NotedError → ℕ → Cause → NotedError
 noted_more None q cause = record { queue = q; cause = cause; overflow = false }
 noted_more (Some noted) q cause = record noted { overflow = true }
 
--- ENQCMD is told to come again (Intel SDM: ENQCMD); MOVDIR64B is told nothing, and leaves a noted error (profile)
+-- ENQCMD is told to come again, and MOVDIR64B nothing (Intel SDM: ENQCMD, MOVDIR64B); what is dropped leaves a noted error (profile)
 abbrev pub turned_away : Intake → ℕ → Kind → Cause → SubmitAnswer × Intake
 turned_away i q (Enqcmd pasid) cause = (Retry cause, i)
 turned_away i q Movdir64b cause =
@@ -77,7 +77,7 @@ submit i q portal kind desc cell = first_row_or (submit_table i q portal kind) (
 
 -- ---- the zero flag
 
--- what the program sees: clear for accepted by ENQCMD, set for retry (Intel SDM: ENQCMD); of MOVDIR64B and of a full history nothing
+-- what the program sees: clear for accepted by ENQCMD, set for retry, and of MOVDIR64B nothing (Intel SDM: ENQCMD, MOVDIR64B); of a full history nothing (profile)
 abbrev pub zf : SubmitAnswer → Kind → Option Bool
 zf (Accepted ticket) (Enqcmd pasid) = Some false
 zf (Retry cause) kind = Some true

@@ -60,7 +60,7 @@ note_at w e = get_or w.notes e None
 abbrev pub with_note : List (Option BatchNote) → ℕ → Option BatchNote → List (Option BatchNote)
 with_note notes e note = slice_set notes e note
 
--- the first of the groups that has the engine; while the device is enabled there is no other (Intel DSA: groups)
+-- the first of the groups that has the engine; while the device is enabled there is no other (profile)
 abbrev pub group_in : List GroupConfig → ℕ → Option ℕ
 group_in groups e = position (λ g. has g.engines e) groups
 
@@ -82,7 +82,7 @@ used w g = sum_by (used_on w) (filter (has (group_at w.setup.groups g).engines) 
 abbrev pub all_used : Work → List ℕ
 all_used w = map (used w) (numbers_below w.setup.caps.groups)
 
--- n more buffers fit the group of the engine (Intel DSA: read buffers allowed and reserved)
+-- n more buffers fit the group of the engine (profile)
 abbrev pub has_room : Work → ℕ → ℕ → Bool
 has_room w e n = passes (λ g. fits w.setup.caps.read_buffers w.setup.groups (all_used w) g n) (group_of w e)
 
@@ -99,7 +99,7 @@ may_take w e front =
     && has_room w e (need_of w.setup front.1)
     && (is_none (note_at w e) || not (is_batch_of w.setup front.1))
 
--- a queue is served front first (Intel DSA: work queues)
+-- a queue is served front first (profile)
 abbrev pub front_of : Work → ℕ → Option Slot
 front_of w q = slice_get (chain w.content q) 0
 
@@ -126,7 +126,7 @@ taken w e q front = record w {
   notes = cond (is_batch_of w.setup front.1) (with_note w.notes e (Some (opened_note front.1))) w.notes;
 }
 
--- any qualifying queue may be chosen, and nothing where none qualifies (Intel DSA: the choice of a queue is free)
+-- any qualifying queue may be chosen, and nothing where none qualifies (Intel DSA: any engine of a group takes from any work queue of the group; which of them qualify is the profile's)
 abbrev pub may_leave : Work → ℕ → Choice → Bool
 may_leave w e nothing = not (list_any (qualifies w e) (numbers_below w.setup.caps.queues))
 may_leave w e (from_queue q) = qualifies w e q
@@ -152,7 +152,7 @@ is_all_fetched note = note.closed || nat_le note.count note.fetched
 abbrev pub batch_on : Work → ℕ → BatchNote → Option Slot
 batch_on w e note = find (λ slot. slot.1.name == note.batch) (in_progress w e)
 
--- the member stands last among the members, with the next name, the given cell, and the batch's PASID and queue (Intel DSA: batch descriptors)
+-- the member stands last among the members, with the next name, the given cell, and the batch's PASID and queue (profile)
 abbrev pub fetched : Work → ℕ → Descriptor → Cell → BatchNote → Entry → FetchAnswer × Work
 fetched w e desc cell note batch = (
   Fetched (record { cell = cell; name = w.setup.next_name }),
@@ -171,7 +171,7 @@ fetched w e desc cell note batch = (
   },
 )
 
--- nothing is fetched past the count of the batch (Intel DSA: batch descriptors)
+-- nothing is fetched past the count of the batch (profile)
 abbrev pub fetch_of : Work → ℕ → Descriptor → Cell → BatchNote → Option Slot → FetchAnswer × Work
 fetch_of w e desc cell note None = (NoBatch, w)
 fetch_of w e desc cell note (Some batch) =
@@ -239,11 +239,11 @@ start w e = start_of w e (first_waiting w e)
 
 -- ---- finish
 
--- members are left, or may still be fetched (Intel DSA: a batch completes after all its descriptors)
+-- members are left, or may still be fetched (profile)
 abbrev pub is_unfinished : Work → ℕ → Bool
 is_unfinished w e = nat_lt 0 (length (members w e)) || passes (λ note. not (is_all_fetched note)) (note_at w e)
 
--- a batch with a member that was not successful ends with 0x05 (Intel DSA: batch completion; the number is that of the Linux header)
+-- a batch with a member that was not successful ends with 0x05 (profile; the number is equal to that of the Linux header)
 abbrev pub last_status : Work → ℕ → Slot → Outcome → ℕ
 last_status w e slot outcome =
     cond (is_batch_of w.setup slot.1 && has_failed w e) 0x05 (status_of w.setup slot.1 outcome)

@@ -167,8 +167,9 @@ pub enum Reply {
 impl SubmitAnswer {
     ghost use Rattle.dsa_book.specs.Submit.{zf};
 
-    /// The zero flag after the instruction (Intel SDM, ENQCMD): clear where the descriptor was accepted, set where the program is
-    /// to come again. MOVDIR64B is posted and reports nothing, and a full history is no answer of a device.
+    /// The zero flag after the instruction: clear where the descriptor was accepted, set where the program is to come
+    /// again; MOVDIR64B is posted and reports nothing (Intel SDM, ENQCMD and MOVDIR64B). A full history is no answer of a
+    /// device, and reports nothing (profile).
     pub fn zf(&self, kind: Kind) -> Option<bool>
         ensures { result ≡ zf self.now kind }
     {

@@ -27,7 +27,7 @@ operation_text op = unwrap_or (operation_name op) (codes "Operation 0x" ++ hexad
 abbrev pub flags_text : ℕ → List ℕ
 flags_text flags = codes "0x" ++ hexadecimal 6 flags
 
--- what the size of a descriptor counts (Intel DSA specification, Batch)
+-- what the size of a descriptor counts (Intel DSA specification, descriptor format)
 abbrev pub size_label : Descriptor → List ℕ
 size_label d = if is_batch d then codes "count" else codes "size"
 

@@ -1,5 +1,5 @@
-//! Completion status numbers, by their names in the public header `linux/idxd.h`. Which of them
-//! completes what is the profile's.
+//! Completion status numbers: the profile's choice, and equal to those of the public header
+//! `linux/idxd.h`, whose names they have. Which of them completes what is the profile's, too.
 
 /// No status: no check has failed.
 pub const DSA_COMP_NONE: u8 = 0x00;

@@ -5,9 +5,10 @@ ghost use Rattle.std.specs.Prelude.{⊤, ◌≡◌, [], ◌∷◌, codes};
 use crate::Descriptor;
 use bitflags::{Flag, Flags, bitflag_items};
 
-/// The 24 flag bits of a descriptor, by the names of the public header `linux/idxd.h`
-/// (`IDXD_OP_FLAG_FENCE` and so on; Intel DSA specification, descriptor flags). Only `FENCE` has an
-/// effect here: all others, also those without a name, are accepted and ignored (profile).
+/// The 24 flag bits of a descriptor, by their names in the public header `linux/idxd.h`
+/// (`IDXD_OP_FLAG_FENCE` and so on). `FENCE` is bit 0 (Intel DSA specification, descriptor flags).
+/// Only it has an effect here: all others, also those without a name, are accepted and ignored
+/// (profile).
 #[derive(Clone, Copy, Debug, PartialEq, Eq)]
 pub struct DescriptorFlags(u32);
 

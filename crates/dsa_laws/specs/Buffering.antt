@@ -6,7 +6,7 @@ use Rattle.dsa_regs.specs.Buffers.{covered}
 use Rattle.dsa_book.specs.State.{Work, is_off}
 use Rattle.dsa_book.specs.Work.{used, all_used}
 
--- the two bounds on read buffers, while the device is not Off (Intel DSA: read buffers allowed and reserved for a group)
+-- the two bounds on read buffers, while the device is not Off (profile)
 pub record HasBuffers (caps : Caps) (w : Work) : Type 0 where
   -- what runs on a group's engines needs no more than the group is allowed
   pub allowed : is_off w.setup.device ≡ false → (group : ℕ) → group < caps.groups → used w group ≤ (group_at w.setup.groups group).allowed

@@ -29,7 +29,7 @@ use Rattle.std.specs.Bool.{beq}
 
 -- ---- entries
 
--- a descriptor comes to a queue that is On and below the limit of the portal, with a free cell (Intel DSA: enqueue to a shared and to a dedicated work queue)
+-- a descriptor comes to a queue that is On and below the limit of the portal, with a free cell (profile)
 pub record IsAccepted (s s' : State) : Type 0 where
   pub queue : ℕ
   pub portal : Portal
@@ -42,7 +42,7 @@ pub record IsAccepted (s s' : State) : Type 0 where
   pub free : is_free (cell_count s.work.setup.caps) s.work.content cell ≡ true
   pub after : with_intake s (accepted (intake_of s) queue kind desc cell).1 ≡ s'
 
--- an engine takes the front of a queue for which it qualifies (Intel DSA: groups and engines; the choice among queues: profile)
+-- an engine takes the front of a queue for which it qualifies (Intel DSA: any engine of a group takes from any work queue of the group; when it qualifies is the profile's)
 pub record IsTaken (s s' : State) : Type 0 where
   pub engine : ℕ
   pub queue : ℕ
@@ -51,7 +51,7 @@ pub record IsTaken (s s' : State) : Type 0 where
   pub qualifies : qualifies s.work engine queue ≡ true
   pub after : with_work s (taken s.work engine queue front) ≡ s'
 
--- an engine fetches the next member of its batch, with a free cell (Intel DSA: Batch descriptor)
+-- an engine fetches the next member of its batch, with a free cell (profile)
 pub record IsFetched (s s' : State) : Type 0 where
   pub engine : ℕ
   pub desc : Descriptor
@@ -64,7 +64,7 @@ pub record IsFetched (s s' : State) : Type 0 where
   pub free : is_free (cell_count s.work.setup.caps) s.work.content cell ≡ true
   pub after : with_work s (fetched s.work engine desc cell note batch.1).1 ≡ s'
 
--- the first member that waits begins to run: its read buffers fit, and with a fence it stands before all others and none has failed (Intel DSA: read buffers, fence)
+-- the first member that waits begins to run: its read buffers fit, and with a fence it stands before all others and none has failed (Intel DSA: fence; the read buffers are the profile's)
 pub record IsStarted (s s' : State) : Type 0 where
   pub engine : ℕ
   pub slot : Slot
@@ -82,7 +82,7 @@ pub record IsAbandoned (s s' : State) : Type 0 where
   pub failed : (is_fenced slot.1.desc && has_failed s.work engine) ≡ true
   pub after : with_work s (abandoned s.work engine) ≡ s'
 
--- an entry that runs ends, a batch after its members (Intel DSA: completion)
+-- an entry that runs ends, a batch after its members (profile)
 pub record IsEnded (s s' : State) : Type 0 where
   pub engine : ℕ
   pub ticket : Ticket
@@ -98,20 +98,20 @@ pub record IsEnded (s s' : State) : Type 0 where
 abbrev pub set_up : State → Option ActiveCommand → Setup → State
 set_up s active setup = record { work = record s.work { setup = setup }; active = active }
 
--- Enable Device, where the configuration has no fault (Intel DSA: Enable Device)
+-- Enable Device, where the configuration has no fault (profile)
 pub record IsDeviceEnabled (s s' : State) : Type 0 where
   pub off : is_off s.work.setup.device ≡ true
   pub check : check_device s.work.setup.caps s.work.setup.configs s.work.setup.groups ≡ None
   pub after : set_up s s.active (with_device On s.work.setup) ≡ s'
 
--- Enable WQ, where the queue has no fault (Intel DSA: Enable WQ)
+-- Enable WQ, where the queue has no fault (profile)
 pub record IsQueueEnabled (s s' : State) : Type 0 where
   pub queue : ℕ
   pub on : is_on s.work.setup.device ≡ true
   pub check : check_queue s.work.setup.caps s.work.setup.groups queue (queue_at s.work.setup.configs queue) ≡ None
   pub after : set_up s s.active (with_phases (λ each. each == queue) On s.work.setup) ≡ s'
 
--- a disable or a drain is not over at once: what it disables is Stopping (Intel DSA: Disable Device, Disable WQ, Drain)
+-- a disable or a drain is not over at once: what it disables is Stopping (profile)
 pub record IsWaiting (s s' : State) : Type 0 where
   pub deed : Deed
   pub scope : Scope
@@ -119,7 +119,7 @@ pub record IsWaiting (s s' : State) : Type 0 where
   pub active : Option ActiveCommand
   pub after : set_up s active (stopped deed scope Stopping s.work.setup) ≡ s'
 
--- a disable or a drain is over: what it disables is Off (Intel DSA: Disable Device, Disable WQ, Drain)
+-- a disable or a drain is over: what it disables is Off (profile)
 pub record IsOver (s s' : State) : Type 0 where
   pub deed : Deed
   pub scope : Scope
@@ -128,24 +128,24 @@ pub record IsOver (s s' : State) : Type 0 where
   pub active : Option ActiveCommand
   pub after : set_up s active (stopped deed scope Off s.work.setup) ≡ s'
 
--- the entries in the scope of a command are aborted (Intel DSA: Abort WQ, Abort PASID, Abort All)
+-- the entries in the scope of a command are aborted (profile)
 pub record IsAborted (s s' : State) : Type 0 where
   pub number : ℕ
   pub scope : Scope
   pub after : with_work s (aborted number scope s.work) ≡ s'
 
--- all entries are aborted and the set-up is as at first, but for the names that were given (Intel DSA: Reset Device)
+-- all entries are aborted and the set-up is as at first, but for the names that were given (profile)
 pub record IsDeviceReset (s s' : State) : Type 0 where
   pub number : ℕ
   pub after : with_work s (record (aborted number Device s.work) { setup = reset Device s.work.setup }) ≡ s'
 
--- the entries of the queues are aborted, and the queues are Off with their sizes alone (Intel DSA: Reset WQ)
+-- the entries of the queues are aborted, and the queues are Off with their sizes alone (profile)
 pub record IsQueuesReset (s s' : State) : Type 0 where
   pub number : ℕ
   pub scope : Scope
   pub after : with_work s (record (aborted number scope s.work) { setup = with_sizes_alone (queues_in scope) (with_phases (names (queues_in scope)) Off s.work.setup) }) ≡ s'
 
--- a queue that is Off is configured, its size only while the device is Off (Intel DSA: work queue configuration)
+-- a queue that is Off is configured, its size only while the device is Off (profile)
 pub record IsQueueWritten (s s' : State) : Type 0 where
   pub queue : ℕ
   pub config : QueueConfig
@@ -154,14 +154,14 @@ pub record IsQueueWritten (s s' : State) : Type 0 where
   pub size : (not (is_off s.work.setup.device) && not (config.size == (queue_at s.work.setup.configs queue).size)) ≡ false
   pub after : with_setup s (record s.work.setup { configs = slice_set s.work.setup.configs queue config }) ≡ s'
 
--- a group is configured while the device is Off (Intel DSA: group configuration)
+-- a group is configured while the device is Off (profile)
 pub record IsGroupWritten (s s' : State) : Type 0 where
   pub group : ℕ
   pub config : GroupConfig
   pub off : is_off s.work.setup.device ≡ true
   pub after : with_setup s (record s.work.setup { groups = slice_set s.work.setup.groups group config }) ≡ s'
 
--- an error is noted, or read and cleared (Intel DSA: software error)
+-- an error is noted, or read and cleared (profile)
 pub record IsNoted (s s' : State) : Type 0 where
   pub noted : Option NotedError
   pub after : with_setup s (record s.work.setup { noted = noted }) ≡ s'

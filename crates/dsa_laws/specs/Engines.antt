@@ -6,7 +6,7 @@ use Rattle.dsa_book.specs.State.{Setup, Work, is_batch_of}
 use Rattle.dsa_book.specs.Work.{in_progress, members, note_at}
 use Rattle.dsa_laws.specs.Lists.{In}
 
--- the slot holds a well-formed Batch, by the limits of its queue (Intel DSA: Batch descriptor)
+-- the slot holds a well-formed Batch, by the limits of its queue (profile)
 abbrev pub holds_batch : Setup → Slot → Bool
 holds_batch setup slot = is_batch_of setup slot.1
 
@@ -15,7 +15,7 @@ pub record IsNoteOf (note : BatchNote) (batch : Slot) : Type 0 where
   pub name : note.batch ≡ batch.1.name
   pub count : note.count ≡ batch.1.desc.size
 
--- a member has the queue and the PASID of its batch (Intel DSA: Batch descriptor)
+-- a member has the queue and the PASID of its batch (profile)
 pub record IsAlike (member batch : Slot) : Type 0 where
   pub queue : member.1.queue ≡ batch.1.queue
   pub pasid : member.1.desc.pasid ≡ batch.1.desc.pasid

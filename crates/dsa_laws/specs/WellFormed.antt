@@ -45,7 +45,7 @@ pub record NamesOnce (w : Work) : Type 0 where
 
 -- ---- the device and its queues
 
--- a queue is enabled, or still stopping, only while the device is, and what is not disabled has no fault (Intel DSA: Enable Device, Enable WQ)
+-- a queue is enabled, or still stopping, only while the device is, and what is not disabled has no fault (profile)
 pub record HasLawfulSetup (setup : Setup) : Type 0 where
   pub phases : (queue : ℕ) → is_off (phase_at setup queue) ≡ false → is_off setup.device ≡ false
   pub on : (queue : ℕ) → is_on (phase_at setup queue) ≡ true → is_on setup.device ≡ true
@@ -65,7 +65,7 @@ pub record IsPlaced (caps : Caps) (list : ℕ) (slot : Slot) : Type 0 where
   pub submitted : list < first_members caps → slot.1.parent ≡ None
   pub member : first_members caps ≤ list → is_some slot.1.parent ≡ true
 
--- no entry names a queue that is Off (Intel DSA: Disable WQ)
+-- no entry names a queue that is Off (profile)
 abbrev pub NoneOff : Work → Type 0
 NoneOff w = EachAt (λ list slot. is_off (phase_at w.setup slot.1.queue) ≡ false) w.content
 
@@ -81,7 +81,7 @@ pub record HasLawfulEntries (caps : Caps) (w : Work) : Type 0 where
 
 -- ---- the limits
 
--- no queue holds more than its size (Intel DSA: work queue size), and no engine more in progress than it has slots, or more members than a batch may have (profile)
+-- no queue holds more than its size, and no engine more in progress than it has slots, or more members than a batch may have (profile)
 pub record IsWithinLimits (caps : Caps) (w : Work) : Type 0 where
   pub queues : (queue : ℕ) → queue < caps.queues → occupancy w.content queue ≤ (queue_at w.setup.configs queue).size
   pub slots : (engine : ℕ) → engine < caps.engines → length (in_progress w engine) ≤ caps.slots

@@ -30,8 +30,8 @@ impl<S: EntryStore> Device<S> {
         self.book.capacity() as u64
     }
 
-    /// The number of entries that wait in the queue; those that engines have taken are not counted (Intel DSA
-    /// specification, work queue occupancy). `None` exactly when the device has no such queue.
+    /// The number of entries that wait in the queue; those that engines have taken are not counted (profile). `None`
+    /// exactly when the device has no such queue.
     pub fn occupancy(&self, queue: u16) -> Option<u16>
         ensures { result ≡ when (nat_lt queue self.now.caps.queues) (occupancy self.now.state.work.content queue) }
     {
