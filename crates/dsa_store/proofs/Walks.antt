@@ -1,8 +1,6 @@
 -- A walk along a list, by its front and what follows each cell.
 use Rattle.std.proofs.Common.{◌≡◌, ℕ, zero, suc, ◌<◌, ◌≤◌, true, List, [], ◌∷◌, drop, length, get_or, Option, Some, None, inl, inr, refl, sym, ap, ◌∙◌, arith, drop-cons}
 use Rattle.std.specs.Iterator.{YieldsFirst}
-use Rattle.std.specs.Iterator.Runs.{YieldsInOrder}
-use Rattle.std.proofs.iter.runs.Sources.{from_front, as_is}
 use Rattle.std.proofs.lemmas.Iterator.{YieldsList}
 use Rattle.std.proofs.lemmas.Iterator.Consumers.{YieldsList-from_first}
 use Rattle.std.proofs.lemmas.List.{append-nil}
@@ -39,8 +37,8 @@ pub slots_from-at : (content : Content) (i k : ℕ) (cell : Cell) (e : Entry) �
 slots_from-at [] i k cell e o h = absurd (omega (arith, h.within))
 slots_from-at (l ∷ ls) zero k cell e o h =
     let a : (count cell l ≡ 1) × (uses ls cell ≡ 0) = absent-after l ls k cell e o h in
-    rw (from_cell-at cell l k (cell, e) h.within (is_cell-slot cell e _ h.slot) (omega arith), slots_from-none ls cell a.1)
-    (append-nil (drop k l))
+    let here = from_cell-at cell l k (cell, e) h.within (is_cell-slot cell e _ h.slot) (omega arith) in
+    rw (here, slots_from-none ls cell a.1) (append-nil (drop k l))
 slots_from-at (l ∷ ls) (suc i) k cell e o h =
     let a : (count cell l ≡ 0) × (uses ls cell ≤ 1) = absent-before l ls i k cell e o h in
     rw (from_cell-absent cell l a.0) (slots_from-at ls i k cell e a.1 (tail-stands h))
@@ -63,7 +61,7 @@ slots_from-rest content i k once = go (drop k (chain content i)) refl
     go : (l : List Slot) → drop k (chain content i) ≡ l → slots_from content (first_cell l) ≡ l
     go [] h = refl
     go (s ∷ m) h =
-        let p : (k < length (chain content i)) × (get_or (chain content i) k s ≡ s) = drop-front (chain content i) k s m h in
+        let p = drop-front (chain content i) k s m h in
         slots_from-at content i k s.0 s.1 (once s.0) (record { within = p.0; slot = p.1 }) ∙ h
 
 -- and so is the whole list, from its front on
@@ -72,13 +70,14 @@ pub slots_from-front : (content : Content) (i : ℕ) (at : Option Cell) → ((c 
 slots_from-front content i at once h = ap (slots_from content) h ∙ slots_from-rest content i 0 once
 
 -- where a cell has no entry the walk has ended
-pub slots_from-end : (content : Content) (cell : Cell) → ((c : Cell) → uses content c ≤ 1) → entry_of content cell ≡ None
-    → slots_from content (Some cell) ≡ []
+pub slots_from-end : (content : Content) (cell : Cell) → ((c : Cell) → uses content c ≤ 1)
+    → entry_of content cell ≡ None → slots_from content (Some cell) ≡ []
 slots_from-end content cell once h =
     elim (placed content cell) [
       | inl none ↦ slots_from-none content cell none
       | inr s ↦
-          let both : ◌≡◌ {A = Option Entry} None (Some s.entry) = sym h ∙ entry_of-at content s.list s.place cell s.entry (once cell) s.at in
+          let both : ◌≡◌ {A = Option Entry} None (Some s.entry) =
+          sym h ∙ entry_of-at content s.list s.place cell s.entry (once cell) s.at in
           absurd (cc)
     ]
 
@@ -92,19 +91,16 @@ slots_from-turn content cell e once h =
           let both : ◌≡◌ {A = Option Entry} None (Some e) = sym (entry_of-none content cell none) ∙ h in
           absurd (cc)
       | inr s ↦
-          let both : ◌≡◌ {A = Option Entry} (Some s.entry) (Some e) = sym (entry_of-at content s.list s.place cell s.entry (once cell) s.at) ∙ h in
+          let both : ◌≡◌ {A = Option Entry} (Some s.entry) (Some e) =
+          sym (entry_of-at content s.list s.place cell s.entry (once cell) s.at) ∙ h in
           let same : s.entry ≡ e = cc in
           let slot = (s.at.slot ∙ ap (λ (x : Entry). let y : Slot = (cell, x) in y) same) in
+          let next = next_of-at content s.list s.place cell s.entry (once cell) s.at in
           slots_from-at content s.list s.place cell s.entry (once cell) s.at
           ∙ drop-cons (chain content s.list) s.place (cell, s.entry) s.at.within
-          ∙ rw (slot, next_of-at content s.list s.place cell s.entry (once cell) s.at, slots_from-rest content s.list (suc s.place) once) refl
+          ∙ rw (slot, next, slots_from-rest content s.list (suc s.place) once) refl
     ]
 
 -- a walk that has a list left gives that list
 pub walked : {s l : List Slot} → s ≡ l → YieldsList (YieldsFirst (λ rest. rest)) (λ x. x) s l
 walked h = YieldsList-from_first (λ x. x) (λ rest. rest) _ h
-
--- and so does each of its runs
-pub walk-runs : YieldsInOrder (YieldsFirst {A = Slot} (λ rest. rest)) (λ rest. rest)
-walk-runs p s = as_is p p.from (from_front (YieldsFirst {A = Slot} (λ rest. rest)) (λ x. x) (λ rest. rest)
-    (λ s t h. ap length h.0) (λ s x t h. h) p s)

@@ -2,8 +2,7 @@
 
 ghost use Rattle.std.specs.Prelude.{◌≡◌, ℕ, ◌<◌, length, slice_get};
 ghost use Rattle.std.specs.Iterator.{YieldsFirst, item_count};
-ghost use Rattle.std.specs.Iterator.Runs.{YieldsInOrder};
-ghost use Rattle.dsa_store.specs.Content.{Slot, chain};
+ghost use Rattle.dsa_store.specs.Content.{chain};
 
 use crate::entry::{Cell, Entry, ListId};
 use crate::store::EntryStore;
@@ -54,8 +53,7 @@ impl<'a, S: EntryStore> Iterator for Walk<'a, S> {
 /// The cells of the list in its order, each with its entry. One read of the store, and two more for each cell.
 pub fn slots<S: EntryStore>(store: &S, list: ListId) -> Walk<'_, S>
     requires { list.0 < length (S.content store.now) }
-    ensures rest { result ≡ chain (S.content store.now) list.0 }
-    ensures runs { YieldsInOrder (YieldsFirst {A = Slot} (λ rest. rest)) (λ rest. rest) }
+    ensures { result ≡ chain (S.content store.now) list.0 }
 {
     Walk {
         store,

@@ -9,4 +9,4 @@ use borrow.Author.Tests.{tests}
 pub returns : goal.returns
 returns g c =
     any_from_yields_List (λ (slot : Slot). is_waited_for c.args.active.now slot.1) _ _ c.any.result c.any.ensures.ran
-    (walked c.slots.ensures.rest) (λ x b q k. search (rules, tests))
+    (walked c.slots.ensures) (λ x b q k. search (rules, tests))

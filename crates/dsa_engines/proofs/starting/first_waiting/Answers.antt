@@ -10,4 +10,4 @@ pub returns : goal.returns
 returns g c =
     sym (option_map_id c.find.result)
     ∙ find_from_yields_List (λ (slot : Slot). not slot.1.running) _ _ c.find.result c.find.ensures.ran
-    (walked c.slots.ensures.rest) (λ x b q k. search (rules, tests))
+    (walked c.slots.ensures) (λ x b q k. search (rules, tests))
