@@ -17,7 +17,7 @@ use Rattle.dsa_laws.specs.Change.{Change}
 use Rattle.dsa_laws.proofs.Effects.{by_effect}
 use Rattle.dsa_laws.specs.WellFormed.{HasShape, HasLawfulEntries, IsWellFormed}
 use Rattle.dsa_accounts.specs.Accounts.{was_abandoned, only_members_abandoned}
-use Rattle.dsa_laws.proofs.Shapes.{In-cond}
+use Rattle.dsa_laws.proofs.Shapes.{queues-same, engines-same, In-cond}
 use Rattle.dsa_laws.proofs.Histories.{well_formed-change, well_formed-opening, replay_keeps}
 use Rattle.std.proofs.lemmas.Bool.{and_from, or_left, or_right}
 use Rattle.dsa_laws.specs.Lists.{In}
@@ -46,8 +46,8 @@ aborted-lawful number scope w old =
 -- all in an engine's list of members are members
 members-have_parent : (caps : Caps) (w : Work) (e : ℕ) → HasShape caps w → HasLawfulEntries caps w → (x : Slot) → In x (members w e) → is_some x.1.parent ≡ true
 members-have_parent caps w e shape entries x i =
-    let q = ap (λ (c : Caps). c.queues) shape.same_caps in
-    let n = ap (λ (c : Caps). c.engines) shape.same_caps in
+    let q = queues-same shape in
+    let n = engines-same shape in
     (entries.placed (member_list w.setup e) x (In-cond _ x _ i).1).member (omega (arith, q, n))
 
 lawful-change : (caps : Caps) (s s' : State) → IsWellFormed caps s → Lawful s → Change s s' → Lawful s'

@@ -1,51 +1,35 @@
 -- A history accepts and fetches as many entries as have a fate row or are held.
-use Rattle.std.proofs.Common.{◌≡◌, ◌+◌, cond, List, [], Some, refl, ap, subst, arith}
+use Rattle.std.proofs.Common.{◌≡◌, ◌+◌, cond, List, [], Some, refl, sym, ap, ◌∙◌, arith}
 use Rattle.std.specs.Prelude.{count_by, is_none}
 use Rattle.dsa_regs.specs.declared.Caps.{Caps}
 use Rattle.dsa_regs.specs.Caps.{list_count}
 use Rattle.dsa_store.specs.Content.{Slot, all_held}
 use Rattle.dsa_store.proofs.Sums.{held-counted}
-use Rattle.dsa_book.specs.declared.answer.SubmitAnswer.TheVariants.{Accepted}
-use Rattle.dsa_book.specs.declared.answer.FetchAnswer.TheVariants.{Fetched}
 use Rattle.dsa_book.specs.declared.answer.Reply.{Reply}
-use Rattle.dsa_book.specs.declared.answer.Reply.TheVariants.{Submit, Fetch}
 use Rattle.dsa_book.specs.declared.fate.FateRow.{FateRow}
 use Rattle.dsa_book.specs.declared.event.Event.{Event}
 use Rattle.dsa_book.specs.declared.event.Step.{Step}
 use Rattle.dsa_book.specs.State.{State, opening}
 use Rattle.dsa_book.specs.Machine.{next, replay}
-use Rattle.dsa_book.specs.Totals.{named_by, is_accepted, total_accepted, total_fetched}
+use Rattle.dsa_book.specs.Totals.{is_accepted, total_accepted, total_fetched}
 use Rattle.dsa_laws.specs.WellFormed.{IsWellFormed}
 use Rattle.dsa_accounts.specs.Accounts.{is_submitted_slot, submitted_entries, member_entries}
-use Rattle.dsa_laws.proofs.Changes.{next-change, next-accepted, next-fetched}
-use Rattle.dsa_accounts.proofs.Names.{next-names, replay-names}
-use Rattle.dsa_accounts.proofs.Accounts.{account-change, accepted-account, fetched-account, parts}
+use Rattle.dsa_laws.proofs.Changes.{next-change, next-tells}
+use Rattle.dsa_accounts.proofs.Totals.{replay-names}
+use Rattle.dsa_accounts.proofs.Accounts.{change-entries, parts}
 use Rattle.dsa_laws.proofs.Histories.{well_formed-change, well_formed-opening, replay-well_formed}
 use Rattle.dsa_laws.proofs.Contents.{all_held-empty}
 use Rattle.dsa_book.proofs.Replay.{replay-adds}
 
--- ---- any step
-
-unnamed : (caps : Caps) (s s' : State) (event : Event) (reply : Reply) → IsWellFormed caps s → named_by reply ≡ 0 → next s event reply ≡ Some s' → submitted_entries s'.work ≡ submitted_entries s.work + 0
-unnamed caps s s' event reply w none h =
-    let names = next-names s s' event reply h in
-    let kept = account-change is_none caps s s' w.shape w.cells (next-change s s' event reply h) (omega (arith, names, none)) in
-    omega (arith, kept)
-
-next-account : (caps : Caps) (s s' : State) (event : Event) (reply : Reply) → IsWellFormed caps s → next s event reply ≡ Some s' → submitted_entries s'.work ≡ submitted_entries s.work + cond (is_accepted reply) 1 0
-next-account caps s s' event (Submit (Accepted ticket)) w h =
-    let c = next-accepted s s' event ticket h in
-    subst (λ t. submitted_entries t.work ≡ submitted_entries s.work + 1) c.after (accepted-account is_none caps s s' w.shape c)
-next-account caps s s' event (Fetch (Fetched ticket)) w h =
-    let c = next-fetched s s' event ticket h in
-    subst (λ t. submitted_entries t.work ≡ submitted_entries s.work + 0) c.after (fetched-account is_none caps s s' w.shape c)
-next-account caps s s' event reply w h = unnamed caps s s' event reply w refl h
-
-nothing-held : (caps : Caps) → all_held (opening caps).work.content ≡ []
-nothing-held caps = all_held-empty (list_count caps)
+-- each step adds a submission where it accepts one
+next-account : (caps : Caps) (s s' : State) (event : Event) (reply : Reply) → IsWellFormed caps s → next s event reply ≡ Some s'
+    → submitted_entries s'.work ≡ submitted_entries s.work + cond (is_accepted reply) 1 0
+next-account caps s s' event reply w h =
+    let told = next-tells s s' event reply h in
+    change-entries is_none caps s s' w.shape w.cells told.change ∙ ap (λ n. submitted_entries s.work + n) (sym told.accepted)
 
 none-at-first : (caps : Caps) → submitted_entries (opening caps).work ≡ 0
-none-at-first caps = let e = ap (λ (xs : List Slot). count_by is_submitted_slot xs) (nothing-held caps) in omega (arith, e)
+none-at-first caps = let e = ap (λ (xs : List Slot). count_by is_submitted_slot xs) (all_held-empty (list_count caps)) in omega (arith, e)
 
 pub replay-accepted : (caps : Caps) (h : List Step) (s : State) → replay caps h ≡ Some s → total_accepted h ≡ submitted_entries s.work
 replay-accepted caps h s e =

@@ -10,12 +10,12 @@ use Rattle.dsa_book.specs.State.{Work, State}
 use Rattle.dsa_book.specs.Work.{member_list, fetched}
 use Rattle.dsa_book.specs.Submit.{accepted}
 use Rattle.dsa_book.specs.Machine.{with_intake, intake_of}
-use Rattle.dsa_laws.specs.Change.{Change, IsAccepted, IsFetched}
+use Rattle.dsa_laws.specs.Change.{Change}
+use Rattle.dsa_laws.proofs.Effects.{by_count, came}
 use Rattle.dsa_laws.specs.WellFormed.{HasShape, CellsOnce}
 use Rattle.dsa_accounts.specs.Accounts.{is_submitted_row, is_submitted_slot, submitted_entries}
 use Rattle.dsa_laws.proofs.Shapes.{on-queue, note-engine, member_list-in, queue_list-in}
 use Rattle.dsa_laws.proofs.Flows.{flow-change, rows-counted, IsFlow}
-use Rattle.dsa_accounts.proofs.Names.{name_of}
 
 -- ---- words
 
@@ -36,14 +36,15 @@ account-flow p caps w w' flow =
     omega (arith, sums, rows)
 
 -- what comes is counted where its parent passes
-entered-account : (p : Option ℕ → Bool) (w w' : Work) (k : ℕ) (x : Slot) → k < length w.content
+entered : (p : Option ℕ → Bool) (w w' : Work) (k : ℕ) (x : Slot) → k < length w.content
     → w'.content ≡ pushed w.content k x.0 x.1 → w'.fates ≡ w.fates
-    → entries_with p w' ≡ entries_with p w + cond (p x.1.parent) 1 0
-entered-account p w w' k x inside content fates =
+    → entries_with p w' ≡ entries_with p w + count_by p (x.1.parent ∷ [])
+entered p w w' k x inside content fates =
     let sum = sum-pushed (weight p) w.content k x.0 x.1 inside in
     let slots = ap (λ (c : Content). sum_by (weight p) (all_held c)) content in
     let rows = ap (λ (rows : List FateRow). count_by (λ row. p row.parent) rows) fates in
-    omega (arith, sum, slots, rows)
+    let one = sum_by-cons (λ (o : Option ℕ). cond (p o) 1 0) x.1.parent [] in
+    omega (arith, sum, slots, rows, one)
 
 -- those with a parent and those without are all
 pub parts : {X : Type 0} (parent : X → Option ℕ) (xs : List X) → count_by (λ x. is_none (parent x)) xs + count_by (λ x. is_some (parent x)) xs ≡ length xs
@@ -59,28 +60,35 @@ parts {X} parent (x ∷ xs) =
     either None = refl
     either (Some n) = refl
 
--- ---- each change
+-- ---- any change
 
--- a change that gives no name
-pub account-change : (p : Option ℕ → Bool) (caps : Caps) (s s' : State) → HasShape caps s.work → CellsOnce caps s.work
-    → Change s s' → name_of s' ≡ name_of s → entries_with p s'.work ≡ entries_with p s.work
-account-change p caps s s' h once c n =
-    let flow = flow-change caps s s' h once c in
-    let all = account-flow p caps s.work s'.work flow in
-    let none = count_by-le-length (λ (slot : Slot). p slot.1.parent) flow.came in
-    let names = flow.next in
-    omega (arith, all, none, names, n)
-
--- an accepted entry has no parent
-pub accepted-account : (p : Option ℕ → Bool) (caps : Caps) (s s' : State) → HasShape caps s.work → (c : IsAccepted s s')
-    → entries_with p (with_intake s (accepted (intake_of s) c.queue c.kind c.desc c.cell).1).work ≡ entries_with p s.work + cond (p None) 1 0
-accepted-account p caps s s' h c =
-    let inside = queue_list-in caps s.work c.queue h (on-queue caps s.work c.queue h c.on) in
-    entered-account p s.work (with_intake s (accepted (intake_of s) c.queue c.kind c.desc c.cell).1).work c.queue _ inside refl refl
-
--- a member has its batch as parent
-pub fetched-account : (p : Option ℕ → Bool) (caps : Caps) (s s' : State) → HasShape caps s.work → (c : IsFetched s s')
-    → entries_with p (fetched s.work c.engine c.desc c.cell c.note c.batch.1).1 ≡ entries_with p s.work + cond (p (Some c.note.batch)) 1 0
-fetched-account p caps s s' h c =
+-- what comes in is counted by its parent
+pub change-entries : (p : Option ℕ → Bool) (caps : Caps) (s s' : State) → HasShape caps s.work → CellsOnce caps s.work
+    → (c : Change s s') → entries_with p s'.work ≡ entries_with p s.work + count_by p (came c)
+change-entries p caps s s' h once c =
+    by_count (λ xs n w. Kept w → entries_with p w ≡ entries_with p s.work + count_by p xs) s s' c
+    (λ e same. same e.names)
+    (λ c same.
+    let after = (with_intake s (accepted (intake_of s) c.queue c.kind c.desc c.cell).1).work in
+    entered p s.work after c.queue _ (queue_list-in caps s.work c.queue h (on-queue caps s.work c.queue h c.on)) refl refl)
+    (λ c same. same refl)
+    (λ c same.
     let inside = member_list-in caps s.work c.engine h (note-engine caps s.work c.engine c.note h c.is_note) in
-    entered-account p s.work (fetched s.work c.engine c.desc c.cell c.note c.batch.1).1 (member_list s.work.setup c.engine) _ inside refl refl
+    entered p s.work (fetched s.work c.engine c.desc c.cell c.note c.batch.1).1 (member_list s.work.setup c.engine) _ inside refl refl)
+    (λ c same. same refl)
+    (λ c same. same refl)
+    (λ c same. same refl)
+    (λ c same. same c.names)
+    kept
+  where
+    -- without a new name nothing comes in
+    Kept : Work → Type 0
+    Kept = λ w. w.setup.next_name ≡ s.work.setup.next_name → entries_with p w ≡ entries_with p s.work + 0
+
+    kept : Kept s'.work
+    kept names =
+        let flow = flow-change caps s s' h once c in
+        let all = account-flow p caps s.work s'.work flow in
+        let none = count_by-le-length (λ (slot : Slot). p slot.1.parent) flow.came in
+        let next = flow.next in
+        omega (arith, all, none, next, names)

@@ -24,7 +24,7 @@ use Rattle.dsa_laws.specs.Engines.{IsLawfulEngine}
 use Rattle.dsa_laws.specs.WellFormed.{IsWellFormed}
 use Rattle.dsa_laws.proofs.Batches.{count-none}
 use Rattle.dsa_laws.proofs.Contents.{In-append, In-counted, In-filter, In-find, In-chain, each-set, each-pushed, each-without_front, all_held-empty, chain-empty}
-use Rattle.dsa_laws.proofs.Effects.{by_effect, removed}
+use Rattle.dsa_laws.proofs.Effects.{by_count, removed}
 use Rattle.dsa_laws.proofs.Entries.{In-front, each-effect}
 use Rattle.dsa_laws.proofs.Flows.{flow-change, rows-counted}
 use Rattle.dsa_laws.proofs.Histories.{replay_keeps, well_formed-change, well_formed-opening}
@@ -32,7 +32,7 @@ use Rattle.dsa_laws.proofs.Notes.{none-noted}
 use Rattle.dsa_laws.proofs.Shapes.{In-cond, note-engine, below-engines, waiting-engine}
 use Rattle.dsa_accounts.specs.Accounts.{was_abandoned}
 use Rattle.dsa_accounts.specs.BatchCounts.{is_of, was_completed, was_aborted, members_ended, members_abandoned, members_aborted, AddsUp}
-use Rattle.dsa_accounts.proofs.Accounts.{entries_with, account-change, accepted-account, fetched-account}
+use Rattle.dsa_accounts.proofs.Accounts.{entries_with, change-entries}
 use Rattle.dsa_accounts.proofs.NotedBatches.{In-progress, is_of-parent, parent-is_of, noted, noted-batch, noted-place, noted-once, noted-left}
 
 -- ---- rows
@@ -151,12 +151,9 @@ pub record CountsMembers (w : Work) : Type 0 where
 
 -- ---- each change
 
--- without a new name the members of each batch are as many as before
-abbrev Kept : Work → Work → Type 0
-Kept w w' = w'.setup.next_name ≡ w.setup.next_name → (batch : ℕ) → members_of w' batch ≡ members_of w batch
-
-kept : (caps : Caps) (s s' : State) → IsWellFormed caps s → Change s s' → Kept s.work s'.work
-kept caps s s' w c same batch = account-change (is_of batch) caps s s' w.shape w.cells c same
+-- as many members of each batch as there were, and what came in
+abbrev Adds : Work → List (Option ℕ) → Work → Type 0
+Adds w xs w' = (batch : ℕ) → members_of w' batch ≡ members_of w batch + count_by (is_of batch) xs
 
 -- a note that was set, or one that stays
 set-cases : (notes : List (Option BatchNote)) (e j : ℕ) (o : Option BatchNote) (n : BatchNote) → e < length notes
@@ -217,28 +214,28 @@ abandoned-apart caps s e j n w apart is x i = false_from_ne_true (is_of n.batch 
         noted-once caps s e j m n w q is (same_Some m.batch n.batch (sym ((noted caps s e m w q).parents x i) ∙ parent))
 
 notes-change : (caps : Caps) (s s' : State) → IsWellFormed caps s → CountsMembers s.work → Change s s' → (j : ℕ) (n : BatchNote) → note_at s'.work j ≡ Some n → Counts s'.work n
-notes-change caps s s' w counts c = by_effect (λ w'. Kept s.work w' → (j : ℕ) (n : BatchNote) → note_at w' j ≡ Some n → Counts w' n) s s' c
-    (λ e same j n h. unended s.work s'.work n e.fates (same e.names n.batch) (counts.notes j n (ap (λ (ns : List (Option BatchNote)). get_or ns j None) (sym e.notes) ∙ h)))
-    (λ c same j n h. let all = accepted-account (is_of n.batch) caps s s' w.shape c in unended s.work _ n refl (omega (arith, all)) (counts.notes j n h))
+notes-change caps s s' w counts c = by_count (λ xs k w'. Adds s.work xs w' → (j : ℕ) (n : BatchNote) → note_at w' j ≡ Some n → Counts w' n) s s' c
+    (λ e same j n h. unended s.work s'.work n e.fates (none (same n.batch)) (counts.notes j n (ap (λ (ns : List (Option BatchNote)). get_or ns j None) (sym e.notes) ∙ h)))
+    (λ c same j n h. unended s.work _ n refl (none (same n.batch)) (counts.notes j n h))
     (λ c same j n h.
     let after = taken s.work c.engine c.queue c.front in
     let tests = (and_parts _ _ c.qualifies).0 in
     let front = In-front c.front _ c.is_front in
     let below = ltb-true c.queue s.work.setup.caps.queues (and_parts _ _ tests).1 in
     ⊎_elim
-    (λ (o : opened_note c.front.1 ≡ n). subst (Counts after) o (fresh after (opened_note c.front.1) (same refl c.front.1.name ∙ counts.queued c.queue c.front below front) refl refl))
-    (λ old. unended s.work after n refl (same refl n.batch) (counts.notes j n old))
+    (λ (o : opened_note c.front.1 ≡ n). subst (Counts after) o (fresh after (opened_note c.front.1) (none (same c.front.1.name) ∙ counts.queued c.queue c.front below front) refl refl))
+    (λ old. unended s.work after n refl (none (same n.batch)) (counts.notes j n old))
     (opened _ s.work.notes c.engine j (opened_note c.front.1) n (engine-noted caps s c.engine w (and_parts _ _ tests).0) h))
     (λ c same j n h.
     let after = (fetched s.work c.engine c.desc c.cell c.note c.batch.1).1 in
     let more : BatchNote = record c.note { fetched = c.note.fetched + 1 } in
     let inside = note-engine caps s.work c.engine c.note w.shape c.is_note in
     let size = w.shape.notes in
-    let all = fetched-account (is_of n.batch) caps s s' w.shape c in
+    let all = same n.batch in
     ⊎_elim
     (λ (o : ◌≡◌ {A = Option BatchNote} (Some more) (Some n)). subst (Counts after) (same_Some more n o) (
     let old = counts.notes c.engine c.note c.is_note in
-    let all = fetched-account (is_of c.note.batch) caps s s' w.shape c in
+    let all = same c.note.batch in
     let own : ◌≡◌ {A = ℕ} (cond (is_of c.note.batch (Some c.note.batch)) 1 0) 1 = ap (λ (b : Bool). cond {A = ℕ} b 1 0) (eq-eqb c.note.batch c.note.batch refl) in
     let before = old.fetched in
     record { fetched = omega (arith, all, own, before); unclosed = old.unclosed; closed = old.closed; none_aborted = old.none_aborted }))
@@ -247,7 +244,7 @@ notes-change caps s s' w counts c = by_effect (λ w'. Kept s.work w' → (j : �
     let none : ◌≡◌ {A = ℕ} (cond (is_of n.batch (Some c.note.batch)) 1 0) 0 = ap (λ (b : Bool). cond {A = ℕ} b 1 0) other in
     unended s.work after n refl (omega (arith, all, none)) (counts.notes j n old.1))
     (set-cases s.work.notes c.engine j (Some more) n (omega (arith, inside, size)) h))
-    (λ c same j n h. unended s.work _ n refl (same refl n.batch) (counts.notes j n h))
+    (λ c same j n h. unended s.work _ n refl (none (same n.batch)) (counts.notes j n h))
     (λ c same j n h.
     let after = abandoned s.work c.engine in
     let close : BatchNote → BatchNote = λ note. record note { closed = true } in
@@ -260,14 +257,14 @@ notes-change caps s s' w counts c = by_effect (λ w'. Kept s.work w' → (j : �
     let old = counts.notes c.engine m r.1.0 in
     let one = abandoned-one caps s c.engine m c.slot w r.1.0 slot in
     subst (Counts after) r.1.1 (record {
-      fetched = same refl m.batch ∙ old.fetched;
+      fetched = none (same m.batch) ∙ old.fetched;
       unclosed = λ no. absurd cc;
       closed = λ yes. let more = rows-more was_abandoned s.work after Abandoned (members s.work c.engine) m.batch refl in omega (arith, more, one);
       none_aborted = rows-other was_aborted s.work after Abandoned (members s.work c.engine) m.batch refl refl ∙ old.none_aborted;
     }))
     (λ old.
     let apart = abandoned-apart caps s c.engine j n w old.0 old.1 in
-    alike s.work after n n refl refl refl (same refl n.batch)
+    alike s.work after n n refl refl refl (none (same n.batch))
     (rows-apart was_abandoned s.work after Abandoned (members s.work c.engine) n.batch apart refl)
     (rows-apart was_aborted s.work after Abandoned (members s.work c.engine) n.batch apart refl) (counts.notes j n old.1))
     (set-cases s.work.notes c.engine j _ n inside h))
@@ -282,9 +279,9 @@ notes-change caps s s' w counts c = by_effect (λ w'. Kept s.work w' → (j : �
     let r = failed _ _ (note_at s.work k) n o in
     let m = r.0 in
     let is = r.1.1 in
-    alike s.work after m n is.0 is.1.0 is.1.1 (same refl m.batch)
+    alike s.work after m n is.0 is.1.0 is.1.1 (none (same m.batch))
     (rows-other was_abandoned s.work after fate (c.slot ∷ []) m.batch refl refl) (rows-other was_aborted s.work after fate (c.slot ∷ []) m.batch refl refl) (counts.notes k m r.1.0))
-    (λ old. alike s.work after n n refl refl refl (same refl n.batch)
+    (λ old. alike s.work after n n refl refl refl (none (same n.batch))
     (rows-other was_abandoned s.work after fate (c.slot ∷ []) n.batch refl refl) (rows-other was_aborted s.work after fate (c.slot ∷ []) n.batch refl refl) (counts.notes j n old.1))
     (set-cases s.work.notes k j _ n inside h))
     (λ c same j n h.
@@ -295,13 +292,16 @@ notes-change caps s s' w counts c = by_effect (λ w'. Kept s.work w' → (j : �
     (λ inside.
     let old = stays _ _ n (sym (get_or-each note s.work.setup.caps.engines j None inside) ∙ h) in
     let apart : (x : Slot) → In x gone → is_of n.batch x.1.parent ≡ false = λ x i. noted-left caps s j n c.scope x w old.1 old.0 i in
-    alike s.work after n n refl refl refl (same c.names n.batch)
+    alike s.work after n n refl refl refl (none (same n.batch))
     (rows-other was_abandoned s.work after (Aborted c.number) gone n.batch refl refl)
     (rows-apart was_aborted s.work after (Aborted c.number) gone n.batch apart refl) (counts.notes j n old.1))
     (λ past. absurd (nothing (sym (get_or-past note s.work.setup.caps.engines j None past) ∙ h)))
     (cases_lt j s.work.setup.caps.engines))
-    (kept caps s s' w c)
+    (λ batch. change-entries (is_of batch) caps s s' w.shape w.cells c)
   where
+    none : {m n : ℕ} → m ≡ n + 0 → m ≡ n
+    none e = omega (arith, e)
+
     nothing : {A : Type 0} {a : A} → ◌≡◌ {A = Option A} None (Some a) → ⊥
     nothing h = cc
 
@@ -314,20 +314,12 @@ IsUnused w name = (members_of w name ≡ 0) × ((e : ℕ) (n : BatchNote) → no
 -- only of a noted batch members are fetched
 pub members-change : (caps : Caps) (s s' : State) (name : ℕ) → IsWellFormed caps s → Change s s'
     → ((e : ℕ) (n : BatchNote) → note_at s.work e ≡ Some n → n.batch ≡ name → ⊥) → members_of s'.work name ≡ members_of s.work name
-members-change caps s s' name w c apart = by_effect (λ w'. Kept s.work w' → members_of w' name ≡ members_of s.work name) s s' c
-    (λ e same. same e.names name)
-    (λ c same. let all = accepted-account (is_of name) caps s s' w.shape c in omega (arith, all))
-    (λ c same. same refl name)
-    (λ c same.
-    let all = fetched-account (is_of name) caps s s' w.shape c in
-    let other = false_from_ne_true (c.note.batch == name) (λ t. apart c.engine c.note c.is_note (eqb-true c.note.batch name t)) in
-    let none : ◌≡◌ {A = ℕ} (cond (is_of name (Some c.note.batch)) 1 0) 0 = ap (λ (b : Bool). cond {A = ℕ} b 1 0) other in
-    omega (arith, all, none))
-    (λ c same. same refl name)
-    (λ c same. same refl name)
-    (λ c same. same refl name)
-    (λ c same. same c.names name)
-    (kept caps s s' w c)
+members-change caps s s' name w c apart =
+    let all = change-entries (is_of name) caps s s' w.shape w.cells c in
+    let none = by_count (λ xs k w'. count_by (is_of name) xs ≡ 0) s s' c (λ e. refl) (λ c. refl) (λ c. refl)
+    (λ c. ap (λ (b : Bool). 0 + cond {A = ℕ} b 1 0) (false_from_ne_true (c.note.batch == name) (λ t. apart c.engine c.note c.is_note (eqb-true c.note.batch name t))))
+    (λ c. refl) (λ c. refl) (λ c. refl) (λ c. refl) in
+    omega (arith, all, none)
 
 -- a name that is not given yet
 unused-not_given : (caps : Caps) (s : State) (name : ℕ) → IsWellFormed caps s → CountsMembers s.work → s.work.setup.next_name ≤ name → IsUnused s.work name

@@ -34,7 +34,7 @@ use Rattle.dsa_laws.proofs.Changes.{next-change}
 use Rattle.dsa_laws.proofs.Contents.{In-append, In-chain, In-counted, In-filter, In-find, sum-filter-le}
 use Rattle.dsa_laws.proofs.Flows.{flow-change, names-counted, rows-counted}
 use Rattle.dsa_laws.proofs.Histories.{replay_keeps, replay-well_formed, well_formed-change}
-use Rattle.dsa_laws.proofs.Shapes.{In-cond}
+use Rattle.dsa_laws.proofs.Shapes.{queues-same, engines-same, In-cond}
 use Rattle.dsa_accounts.specs.BatchCounts.{is_of, was_completed, was_aborted, members_ended, members_held, HasEnded}
 use Rattle.dsa_accounts.specs.Accounts.{was_abandoned}
 use Rattle.dsa_accounts.proofs.BatchCounts.{CountsMembers, adds-up, members-change, replay-counts, rows-apart}
@@ -163,8 +163,8 @@ after-end caps s e batch outcome count w i h =
     let fate = Completed (last_status s.work e batch outcome) in
     let place = In-cond _ batch _ i in
     let engine = ltb-true e s.work.setup.caps.engines place.0 in
-    let queues = ap (λ (c : Caps). c.queues) w.shape.same_caps in
-    let engines = ap (λ (c : Caps). c.engines) w.shape.same_caps in
+    let queues = queues-same w.shape in
+    let engines = engines-same w.shape in
     let parent = (w.entries.placed (progress_list s.work.setup e) batch place.1).submitted (omega (arith, engine, queues, engines)) in
     let test : Slot → Bool = λ slot. is_of name slot.1.parent in
     let own : FateRow → Bool = λ row. row.name == name in

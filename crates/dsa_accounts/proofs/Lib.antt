@@ -1,5 +1,3 @@
-pub mod Names
-pub mod Fates
 pub mod Totals
 pub mod Accounts
 pub mod Accounted

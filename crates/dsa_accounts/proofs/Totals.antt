@@ -1,22 +1,120 @@
--- What the totals of a history say of what is held.
-use Rattle.std.proofs.Common.{◌≡◌, ◌+◌, ◌≤◌, List, [], ◌∷◌, length, Some, arith}
-use Rattle.std.specs.Prelude.{sum_by}
+-- What the totals of a history say of its names, of its fate rows and of what is held.
+use Rattle.std.proofs.Common.{◌≡◌, ℕ, ◌+◌, ◌≤◌, cond, ◌++◌, List, [], ◌∷◌, length, map, Some, Option, sum_by, refl, sym, ap, ◌∙◌, arith, add-zero, zero-add}
+use Rattle.std.specs.Prelude.{⊤, filter}
 use Rattle.std.proofs.lemmas.List.Sums.{sum_by-cons}
 use Rattle.dsa_regs.specs.declared.Caps.{Caps}
-use Rattle.dsa_store.specs.Content.{held}
-use Rattle.dsa_book.specs.declared.event.Step.{Step}
-use Rattle.dsa_book.specs.declared.answer.Reply.{Reply}
-use Rattle.dsa_book.specs.declared.answer.Reply.TheVariants.{Submit, Fetch}
+use Rattle.dsa_store.specs.Content.{Slot, all_held, held}
 use Rattle.dsa_book.specs.declared.answer.SubmitAnswer.TheVariants.{Accepted}
 use Rattle.dsa_book.specs.declared.answer.FetchAnswer.TheVariants.{Fetched}
-use Rattle.dsa_book.specs.State.{State}
-use Rattle.dsa_book.specs.Machine.{replay}
-use Rattle.dsa_book.specs.Totals.{named_by, total_accepted, total_fetched, total_done, total_lost}
-use Rattle.dsa_accounts.proofs.Names.{replay-names, named_total}
-use Rattle.dsa_accounts.proofs.Fates.{replay-rows}
+use Rattle.dsa_book.specs.declared.answer.StartAnswer.TheVariants.{Abandoned}
+use Rattle.dsa_book.specs.declared.answer.FinishAnswer.TheVariants.{Done}
+use Rattle.dsa_book.specs.declared.answer.IssueAnswer.TheVariants.{Ended}
+use Rattle.dsa_book.specs.declared.answer.Reply.{Reply}
+use Rattle.dsa_book.specs.declared.answer.Reply.TheVariants.{Submit, Fetch, Start, Finish, Issue}
+use Rattle.dsa_book.specs.declared.event.Event.{Event}
+use Rattle.dsa_book.specs.declared.event.Step.{Step}
+use Rattle.dsa_book.specs.declared.fate.Fate.TheVariants as fate
+use Rattle.dsa_book.specs.declared.fate.FateRow.{FateRow}
+use Rattle.dsa_book.specs.State.{State, opening}
+use Rattle.dsa_book.specs.Work.{last_status, members}
+use Rattle.dsa_book.specs.Commands.{is_in_scope}
+use Rattle.dsa_book.specs.Machine.{next, replay}
+use Rattle.dsa_book.specs.Totals.{named_by, ended_by, is_accepted, is_fetched, is_done, lost_by, total_accepted, total_fetched, total_done, total_lost}
+use Rattle.dsa_book.proofs.Replay.{replay-adds}
+use Rattle.dsa_accounts.proofs.Accounts.{parts}
+use Rattle.dsa_laws.specs.Change.{Change}
+use Rattle.dsa_laws.proofs.Changes.{next-tells}
+use Rattle.dsa_laws.proofs.Effects.{by_count, came, gone}
+use Rattle.dsa_laws.proofs.Flows.{length-rows}
 use Rattle.dsa_laws.proofs.Histories.{replay-well_formed}
 
-pub replay-held : (caps : Caps) (h : List Step) (s : State) → replay caps h ≡ Some s → total_accepted h + total_fetched h ≡ total_done h + total_lost h + held s.work.content
+-- the name that comes next
+abbrev pub name_of : State → ℕ
+name_of s = s.work.setup.next_name
+
+abbrev rows_of : State → ℕ
+rows_of s = length s.work.fates
+
+-- ---- one step
+
+-- what comes in takes the next name
+change-names : (s s' : State) (c : Change s s') → name_of s' ≡ name_of s + length (came c)
+change-names s s' c =
+    let same = sym (add-zero (name_of s)) in
+    by_count (λ xs n w. w.setup.next_name ≡ name_of s + length xs) s s' c
+    (λ e. e.names ∙ same) (λ c. refl) (λ c. same) (λ c. refl) (λ c. same) (λ c. same) (λ c. same) (λ c. c.names ∙ same)
+
+-- and what is gone leaves a row
+change-rows : (s s' : State) (c : Change s s') → rows_of s' ≡ rows_of s + gone c
+change-rows s s' c =
+    let same = sym (add-zero (rows_of s)) in
+    let rows = length-rows s.work.fates in
+    by_count (λ xs n w. length w.fates ≡ rows_of s + n) s s' c
+    (λ e. ap length e.fates ∙ same) (λ c. same) (λ c. same) (λ c. same) (λ c. same)
+    (λ c. rows fate.Abandoned (members s.work c.engine))
+    (λ c. rows (fate.Completed (last_status s.work c.engine c.slot c.outcome)) (c.slot ∷ []))
+    (λ c. rows (fate.Aborted c.number) (filter (λ slot. is_in_scope c.scope slot.1) (all_held s.work.content)))
+
+named_by-is : (r : Reply) → named_by r ≡ cond (is_accepted r) 1 0 + cond (is_fetched r) 1 0
+named_by-is (Submit (Accepted t)) = refl
+named_by-is (Fetch (Fetched t)) = refl
+named_by-is _ = refl
+
+ended_by-is : (r : Reply) → ended_by r ≡ cond (is_done r) 1 0 + lost_by r
+ended_by-is (Finish (Done status)) = refl
+ended_by-is (Start (Abandoned k)) = sym (zero-add k)
+ended_by-is (Issue (Ended aborted)) = sym (zero-add aborted)
+ended_by-is _ = refl
+
+-- each step gives as many names as its reply says
+pub next-names : (s s' : State) (event : Event) (reply : Reply) → next s event reply ≡ Some s' → name_of s' ≡ name_of s + named_by reply
+next-names s s' event reply h =
+    let told = next-tells s s' event reply h in
+    let names = change-names s s' told.change in
+    let is = named_by-is reply in
+    let accepted = told.accepted in
+    let fetched = told.fetched in
+    let all = parts (λ (o : Option ℕ). o) (came told.change) in
+    omega (arith, names, is, accepted, fetched, all)
+
+-- and as many fate rows
+next-rows : (s s' : State) (event : Event) (reply : Reply) → next s event reply ≡ Some s' → rows_of s' ≡ rows_of s + ended_by reply
+next-rows s s' event reply h =
+    let told = next-tells s s' event reply h in
+    change-rows s s' told.change ∙ ap (λ n. rows_of s + n) (sym told.ended)
+
+-- ---- any history
+
+-- what each step adds in two parts
+parts-added : (f g h : Reply → ℕ) → ((r : Reply) → f r ≡ g r + h r) → (steps : List Step)
+    → sum_by (λ step. f step.reply) steps ≡ sum_by (λ step. g step.reply) steps + sum_by (λ step. h step.reply) steps
+parts-added f g h is [] = refl
+parts-added f g h is (x ∷ steps) =
+    let one = is x.reply in
+    let rest = parts-added f g h is steps in
+    let a = sum_by-cons (λ (step : Step). f step.reply) x steps in
+    let b = sum_by-cons (λ (step : Step). g step.reply) x steps in
+    let c = sum_by-cons (λ (step : Step). h step.reply) x steps in
+    omega (arith, one, rest, a, b, c)
+
+named_total : (h : List Step) → sum_by (λ step. named_by step.reply) h ≡ total_accepted h + total_fetched h
+named_total = parts-added named_by (λ r. cond (is_accepted r) 1 0) (λ r. cond (is_fetched r) 1 0) named_by-is
+
+pub replay-names : (caps : Caps) (h : List Step) (s : State) → replay caps h ≡ Some s → total_accepted h + total_fetched h ≡ name_of s
+replay-names caps h s e =
+    let all = replay-adds (λ s. ⊤) name_of named_by (λ s s' x p n. (tt, next-names s s' x.event x.reply n)) h (opening caps) s tt e in
+    let named = named_total h in
+    omega (arith, all, named)
+
+pub replay-rows : (caps : Caps) (h : List Step) (s : State) → replay caps h ≡ Some s → total_done h + total_lost h ≡ rows_of s
+replay-rows caps h s e =
+    let all = replay-adds (λ s. ⊤) rows_of ended_by (λ s s' x p n. (tt, next-rows s s' x.event x.reply n)) h (opening caps) s tt e in
+    let ended = parts-added ended_by (λ r. cond (is_done r) 1 0) lost_by ended_by-is h in
+    omega (arith, all, ended)
+
+-- names are held or have a row
+pub replay-held : (caps : Caps) (h : List Step) (s : State) → replay caps h ≡ Some s
+    → total_accepted h + total_fetched h ≡ total_done h + total_lost h + held s.work.content
 replay-held caps h s e =
     let names = replay-names caps h s e in
     let rows = replay-rows caps h s e in
@@ -36,7 +134,8 @@ named-le (x ∷ h) =
     let c = sum_by-cons (λ (step : Step). named_by step.reply) x h in
     omega (arith, one, rest, c)
 
-pub replay-names-le : (caps : Caps) (h : List Step) (s : State) → replay caps h ≡ Some s → s.work.setup.next_name ≤ length h
+-- no step gives two names
+pub replay-names-le : (caps : Caps) (h : List Step) (s : State) → replay caps h ≡ Some s → name_of s ≤ length h
 replay-names-le caps h s e =
     let names = replay-names caps h s e in
     let total = named_total h in

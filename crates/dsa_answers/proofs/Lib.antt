@@ -1,4 +1,3 @@
-pub mod Keeps
 pub mod Choices
 pub mod Stops
 pub mod Writes

@@ -1,6 +1,7 @@
 -- What is Stopping is what the active command disables.
 use Rattle.std.proofs.Common.{◌≡◌, ℕ, Bool, true, false, cond, not, List, [], ◌∷◌, Option, Some, None, refl, sym, ap, subst, ◌∙◌}
 use Rattle.std.specs.Prelude.{zero, suc, ◌==◌, find, replicate, get_or, slice_set, is_some}
+use Rattle.std.proofs.lemmas.Bool.{cond_both}
 use Rattle.dsa_desc.specs.declared.Descriptor.{Descriptor}
 use Rattle.dsa_base.proofs.Tables.{first_row_or-each, one_row, table3}
 use Rattle.dsa_regs.specs.declared.Caps.{Caps}
@@ -166,13 +167,9 @@ of-rest : (setup : Setup) (active : Option ActiveCommand) → IsAtRest setup →
 of-rest setup active i = resting setup i.device i.queues
 
 waits-stops : (s : State) (command : Command) → IsAtRest s.work.setup → let t = (waits s command).1 in Stops t.work.setup t.active
-waits-stops s command i = test (λ (r : IssueAnswer × State). Stops r.1.work.setup r.1.active) _ _ _
+waits-stops s command i = cond_both _ _ _ (λ (r : IssueAnswer × State). Stops r.1.work.setup r.1.active)
     (λ x. of-rest _ s.active (over-rests s.work.setup (deed_of command) (scope_of command) (resting s.work.setup i.device i.queues)))
     (λ x. stopped-stops s.work.setup (deed_of command) (scope_of command) i)
-  where
-    test : {X : Type 0} (P : X → Type 0) (a : Bool) (x last : X) → (a ≡ true → P x) → (a ≡ false → P last) → P (cond a x last)
-    test P true x last p q = p refl
-    test P false x last p q = q refl
 
 -- each queue of a device that was reset is Off
 reset-rests : (phases : ℕ) (q : ℕ) → is_stopping (get_or (replicate phases Off) q Off) ≡ false
@@ -208,13 +205,9 @@ issue-stops s command i =
 
 poll-stops : (s : State) (o : Option ActiveCommand) → s.active ≡ o → Stops s.work.setup s.active → let t = (poll_of s o).1 in Stops t.work.setup t.active
 poll-stops s None e i = i
-poll-stops s (Some active) e i = test (λ (r : PollAnswer × State). Stops r.1.work.setup r.1.active) _ _ _
+poll-stops s (Some active) e i = cond_both _ _ _ (λ (r : PollAnswer × State). Stops r.1.work.setup r.1.active)
     (λ x. of-rest _ None (over-rests s.work.setup (deed_of active.command) (scope_of active.command) (subst (λ o. Stops s.work.setup o) e i)))
     (λ x. i)
-  where
-    test : {X : Type 0} (P : X → Type 0) (a : Bool) (x last : X) → (a ≡ true → P x) → (a ≡ false → P last) → P (cond a x last)
-    test P true x last p q = p refl
-    test P false x last p q = q refl
 
 -- ---- any step, and any history
 

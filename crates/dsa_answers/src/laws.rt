@@ -1,4 +1,4 @@
-//! Laws of single steps, each on a function with nothing to do: what may be answered, what it leaves as it is, and what is Stopping.
+//! Laws of single steps, each on a function with nothing to do: what may be answered, and what is Stopping.
 
 ghost use Rattle.std.specs.Prelude.{◌≡◌, ◌⊎◌, ◌↔◌, ℕ, ◌<◌, ◌≤◌, [], ◌∷◌, ◌++◌, List, slice_set, None, Some, true, false, IsTrue, option_and_then};
 ghost use Rattle.dsa_desc.specs.declared.Descriptor.{Descriptor};
@@ -22,16 +22,11 @@ ghost use Rattle.dsa_book.specs.declared.answer.Reply.TheVariants as reply;
 ghost use Rattle.dsa_book.specs.Same.{same_reply};
 ghost use Rattle.dsa_book.specs.Choice.{chosen};
 ghost use Rattle.dsa_book.specs.State.{State, is_on, occupancy, phase_at};
-ghost use Rattle.dsa_book.specs.Machine.{next, is_stored, replay};
+ghost use Rattle.dsa_book.specs.Machine.{next, replay};
 ghost use Rattle.dsa_book.specs.Submit.{limit_of};
 ghost use Rattle.dsa_answers.specs.Choices.{AreAlike};
 ghost use Rattle.dsa_answers.specs.Stops.{StopsByCommand, IsAtRest};
 ghost use Rattle.dsa_answers.specs.Writes.{with_configs, with_groups};
-
-/// A step whose reply is not stored changes nothing.
-pub fn unstored_steps_change_nothing()
-    ensures { (s s' : State) (event : Event) (reply : Reply) → next s event reply ≡ Some s' → is_stored reply ≡ false → s' ≡ s }
-{}
 
 /// The replay of a history and one more step is the next state of the history's replay.
 pub fn histories_grow_at_the_end()

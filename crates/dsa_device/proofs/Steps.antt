@@ -23,7 +23,7 @@ use Rattle.dsa_book.specs.Machine.{next, is_stored, recorded, full_reply, is_ful
 use Rattle.dsa_book.proofs.EqualReplies.{equal-replies}
 use Rattle.dsa_engines.specs.Engines.{Gear, IsInStep, work}
 use Rattle.dsa_device.specs.Running.{Running, running, stepped, answered, IsReplay, IsWhole}
-use Rattle.dsa_answers.proofs.Keeps.{next_keeps}
+use Rattle.dsa_laws.proofs.Changes.{next_keeps}
 use Rattle.dsa_book.proofs.Replay.{replay-snoc}
 
 -- what a reply came of: a history without room, or a step of the machine

@@ -23,7 +23,7 @@ use Rattle.dsa_book.specs.Work.{progress_list, member_list, members, first_waiti
 use Rattle.dsa_book.proofs.Scopes.{unnamed}
 use Rattle.dsa_book.specs.Commands.{stopped, may_come, names, size_alone, is_in_scope}
 use Rattle.dsa_laws.specs.Change.{Change}
-use Rattle.dsa_laws.proofs.Effects.{by_effect, by_setting}
+use Rattle.dsa_laws.proofs.Effects.{by_effect, by_setting, stopped-keeps}
 use Rattle.dsa_laws.specs.WellFormed.{HasShape, HasLawfulSetup, HasLawfulEntries, IsWellFormed}
 use Rattle.dsa_laws.specs.Buffering.{HasBuffers}
 use Rattle.dsa_laws.proofs.Contents.{chain-filtered, sum-filter-le, In-filtered, chain-other}
@@ -34,7 +34,7 @@ use Rattle.dsa_laws.proofs.Orders.{chain-set}
 use Rattle.dsa_base.proofs.Tables.{not-both}
 use Rattle.dsa_book.proofs.Phases.{on-not_off}
 use Rattle.dsa_base.proofs.NumberLists.{get_or-each}
-use Rattle.dsa_laws.proofs.Shapes.{below-engines, waiting-engine, stopped-caps, stopped-configs, stopped-groups}
+use Rattle.dsa_laws.proofs.Shapes.{below-engines, waiting-engine}
 use Rattle.dsa_base.proofs.Tables.{no-row}
 use Rattle.dsa_laws.specs.Lists.{In}
 use Rattle.dsa_laws.proofs.Limits.{taken-test}
@@ -256,8 +256,8 @@ buffers-change caps s s' w c = by_setting After s s' c
     (λ e. settle _ e.caps e.groups (λ n. ap is_off (sym e.device) ∙ n))
     (λ c configs. enabled-buffers caps s.work _ w.shape w.setup w.entries c.off c.check refl refl (ap (λ (t : State). t.work.content) (sym c.after)))
     (λ c. settle _ refl refl (λ n. n))
-    (λ c. settle _ (stopped-caps c.deed c.scope Stopping s.work.setup) (stopped-groups c.deed c.scope Stopping s.work.setup) (waiting-on s.work.setup c.deed c.scope c.may))
-    (λ c. settle _ (stopped-caps c.deed c.scope Off s.work.setup) (stopped-groups c.deed c.scope Off s.work.setup) (over-on s.work.setup c.deed c.scope))
+    (λ c. let stop = stopped-keeps c.deed c.scope Stopping s.work.setup in settle _ stop.caps stop.groups (waiting-on s.work.setup c.deed c.scope c.may))
+    (λ c. let stop = stopped-keeps c.deed c.scope Off s.work.setup in settle _ stop.caps stop.groups (over-on s.work.setup c.deed c.scope))
     (λ c configs. while-off caps _ refl)
     (λ c. settle _ refl refl (λ n. n))
     (λ c. settle _ refl refl (λ n. n))

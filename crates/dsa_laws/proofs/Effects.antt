@@ -1,17 +1,34 @@
 -- What changes do, in eight kinds by what is held and in nine by the set-up: each law says what these mean for it.
-use Rattle.std.proofs.Common.{◌≡◌, ◌==◌, ℕ, refl, subst}
+use Rattle.std.proofs.Common.{◌≡◌, ◌==◌, ℕ, ◌+◌, Option, Some, None, List, [], ◌∷◌, length, refl, subst}
 use Rattle.std.specs.Prelude.{slice_set}
+use Rattle.dsa_regs.specs.declared.Phase.{Phase}
 use Rattle.dsa_regs.specs.declared.Phase.TheVariants.{Off, On, Stopping}
+use Rattle.dsa_regs.specs.declared.Deed.{Deed}
+use Rattle.dsa_regs.specs.declared.Deed.TheVariants.{Disable}
 use Rattle.dsa_regs.specs.declared.Scope.{Scope}
 use Rattle.dsa_regs.specs.declared.Scope.TheVariants.{Device}
 use Rattle.dsa_regs.specs.Command.{queues_in}
 use Rattle.dsa_book.specs.State.{Setup, Work, State}
 use Rattle.dsa_book.specs.Submit.{accepted}
-use Rattle.dsa_book.specs.Work.{taken, fetched, started, abandoned, ended}
-use Rattle.dsa_book.specs.Commands.{stopped, with_device, with_phases, with_sizes_alone, names, aborted, reset}
+use Rattle.dsa_book.specs.declared.answer.NotedError.{NotedError}
+use Rattle.dsa_book.specs.Work.{members, taken, fetched, started, abandoned, ended}
+use Rattle.dsa_book.specs.Commands.{stopped, with_device, with_phases, with_sizes_alone, names, aborted, count_in_scope, reset}
 use Rattle.dsa_book.specs.Machine.{intake_of, with_intake}
 use Rattle.dsa_laws.specs.Change.{Change, IsAccepted, IsTaken, IsFetched, IsStarted, IsAbandoned, IsEnded, IsDeviceEnabled, IsQueueEnabled, IsWaiting, IsOver, IsDeviceReset, IsQueuesReset, IsQueueWritten, IsGroupWritten, same, is_noted, is_accepted, is_taken, is_fetched, is_started, is_abandoned, is_ended, is_device_enabled, is_queue_enabled, is_waiting, is_over, is_aborted, is_device_reset, is_queues_reset, is_queue_written, is_group_written}
-use Rattle.dsa_laws.proofs.Shapes.{stopped-caps, stopped-names}
+
+-- ---- what a disable sets
+
+-- but for the phases of the device and its queues the set-up stays
+pub record HasOtherPhases (setup setup' : Setup) : Type 0 where
+  pub caps : setup'.caps ≡ setup.caps
+  pub configs : setup'.configs ≡ setup.configs
+  pub groups : setup'.groups ≡ setup.groups
+  pub names : setup'.next_name ≡ setup.next_name
+
+pub stopped-keeps : (deed : Deed) (scope : Scope) (phase : Phase) (setup : Setup) → HasOtherPhases setup (stopped deed scope phase setup)
+stopped-keeps Disable Device phase setup = record { caps = refl; configs = refl; groups = refl; names = refl }
+stopped-keeps Disable scope phase setup = record { caps = refl; configs = refl; groups = refl; names = refl }
+stopped-keeps _ scope phase setup = record { caps = refl; configs = refl; groups = refl; names = refl }
 
 -- ---- by what is held
 
@@ -35,32 +52,51 @@ pub record IsRemoved (w : Work) : Type 0 where
 abbrev pub removed : (w : Work) → IsRemoved w → Work
 removed w c = record (aborted c.number c.scope w) { setup = c.setup }
 
--- a fact of what a change leaves, by what it does to what is held
-pub by_effect : (P : Work → Type 0) (s s' : State) → Change s s'
-    → (IsSetUp s.work s'.work → P s'.work)
-    → ((c : IsAccepted s s') → P (with_intake s (accepted (intake_of s) c.queue c.kind c.desc c.cell).1).work)
-    → ((c : IsTaken s s') → P (taken s.work c.engine c.queue c.front))
-    → ((c : IsFetched s s') → P (fetched s.work c.engine c.desc c.cell c.note c.batch.1).1)
-    → ((c : IsStarted s s') → P (started s.work c.engine))
-    → ((c : IsAbandoned s s') → P (abandoned s.work c.engine))
-    → ((c : IsEnded s s') → P (ended s.work c.engine c.slot c.outcome))
-    → ((c : IsRemoved s.work) → P (removed s.work c))
-    → P s'.work
-by_effect P s s' c set accept take fetch start abandon end remove = go c
+-- the parents of the entries that come in by a change: an accepted one has none, a member has its batch
+abbrev pub came : {s s' : State} → Change s s' → List (Option ℕ)
+came (is_accepted c) = None ∷ []
+came (is_fetched c) = Some c.note.batch ∷ []
+came _ = []
+
+-- how many entries it gives a fate
+abbrev pub gone : {s s' : State} → Change s s' → ℕ
+gone {s} (is_abandoned c) = length (members s.work c.engine)
+gone (is_ended c) = 1
+gone {s} (is_aborted c) = count_in_scope c.scope s.work.content
+gone {s} (is_device_reset c) = count_in_scope Device s.work.content
+gone {s} (is_queues_reset c) = count_in_scope c.scope s.work.content
+gone _ = 0
+
+-- a fact of what a change leaves, of what comes in and of how many are gone, by what it does to what is held
+pub by_count : (P : List (Option ℕ) → ℕ → Work → Type 0) (s s' : State) (c : Change s s')
+    → (IsSetUp s.work s'.work → P [] 0 s'.work)
+    → ((c : IsAccepted s s') → P (None ∷ []) 0 (with_intake s (accepted (intake_of s) c.queue c.kind c.desc c.cell).1).work)
+    → ((c : IsTaken s s') → P [] 0 (taken s.work c.engine c.queue c.front))
+    → ((c : IsFetched s s') → P (Some c.note.batch ∷ []) 0 (fetched s.work c.engine c.desc c.cell c.note c.batch.1).1)
+    → ((c : IsStarted s s') → P [] 0 (started s.work c.engine))
+    → ((c : IsAbandoned s s') → P [] (length (members s.work c.engine)) (abandoned s.work c.engine))
+    → ((c : IsEnded s s') → P [] 1 (ended s.work c.engine c.slot c.outcome))
+    → ((c : IsRemoved s.work) → P [] (count_in_scope c.scope s.work.content) (removed s.work c))
+    → P (came c) (gone c) s'.work
+by_count P s s' c set accept take fetch start abandon end remove = go c
   where
-    is_set : (t : State) → t ≡ s' → IsSetUp s.work t.work → P s'.work
+    is_set : (t : State) → t ≡ s' → IsSetUp s.work t.work → P [] 0 s'.work
     is_set t e h = set (subst (λ (t : State). IsSetUp s.work t.work) e h)
 
-    kept : (setup : Setup) → setup.caps ≡ s.work.setup.caps → setup.next_name ≡ s.work.setup.next_name → IsSetUp s.work (record s.work { setup = setup })
+    kept : (setup : Setup) → setup.caps ≡ s.work.setup.caps → setup.next_name ≡ s.work.setup.next_name
+        → IsSetUp s.work (record s.work { setup = setup })
     kept setup caps names = record { content = refl; notes = refl; fates = refl; caps = caps; names = names }
 
-    is_removed : (number : ℕ) (scope : Scope) (setup : Setup) → setup.caps ≡ s.work.setup.caps → setup.next_name ≡ s.work.setup.next_name → P (record (aborted number scope s.work) { setup = setup })
-    is_removed number scope setup caps names = remove (record { number = number; scope = scope; setup = setup; caps = caps; names = names })
+    at : {xs : List (Option ℕ)} {n : ℕ} (t : State) → t ≡ s' → P xs n t.work → P xs n s'.work
+    at {xs} {n} t e p = subst (λ (t : State). P xs n t.work) e p
 
-    at : (t : State) → t ≡ s' → P t.work → P s'.work
-    at t e p = subst (λ (t : State). P t.work) e p
+    is_removed : (number : ℕ) (scope : Scope) (setup : Setup) → setup.caps ≡ s.work.setup.caps
+        → setup.next_name ≡ s.work.setup.next_name
+        → P [] (count_in_scope scope s.work.content) (record (aborted number scope s.work) { setup = setup })
+    is_removed number scope setup caps names =
+        remove (record { number = number; scope = scope; setup = setup; caps = caps; names = names })
 
-    go : Change s s' → P s'.work
+    go : (c : Change s s') → P (came c) (gone c) s'.work
     go (same e) = is_set s e (kept s.work.setup refl refl)
     go (is_noted c) = is_set _ c.after (kept _ refl refl)
     go (is_accepted c) = at _ c.after (accept c)
@@ -71,13 +107,26 @@ by_effect P s s' c set accept take fetch start abandon end remove = go c
     go (is_ended c) = at _ c.after (end c)
     go (is_device_enabled c) = is_set _ c.after (kept _ refl refl)
     go (is_queue_enabled c) = is_set _ c.after (kept _ refl refl)
-    go (is_waiting c) = is_set _ c.after (kept _ (stopped-caps c.deed c.scope Stopping s.work.setup) (stopped-names c.deed c.scope Stopping s.work.setup))
-    go (is_over c) = is_set _ c.after (kept _ (stopped-caps c.deed c.scope Off s.work.setup) (stopped-names c.deed c.scope Off s.work.setup))
+    go (is_waiting c) = let stop = stopped-keeps c.deed c.scope Stopping s.work.setup in is_set _ c.after (kept _ stop.caps stop.names)
+    go (is_over c) = let stop = stopped-keeps c.deed c.scope Off s.work.setup in is_set _ c.after (kept _ stop.caps stop.names)
     go (is_aborted c) = at _ c.after (is_removed c.number c.scope s.work.setup refl refl)
     go (is_device_reset c) = at _ c.after (is_removed c.number Device _ refl refl)
     go (is_queues_reset c) = at _ c.after (is_removed c.number c.scope _ refl refl)
     go (is_queue_written c) = is_set _ c.after (kept _ refl refl)
     go (is_group_written c) = is_set _ c.after (kept _ refl refl)
+
+-- the same of a fact of what it leaves alone
+pub by_effect : (P : Work → Type 0) (s s' : State) → Change s s'
+    → (IsSetUp s.work s'.work → P s'.work)
+    → ((c : IsAccepted s s') → P (with_intake s (accepted (intake_of s) c.queue c.kind c.desc c.cell).1).work)
+    → ((c : IsTaken s s') → P (taken s.work c.engine c.queue c.front))
+    → ((c : IsFetched s s') → P (fetched s.work c.engine c.desc c.cell c.note c.batch.1).1)
+    → ((c : IsStarted s s') → P (started s.work c.engine))
+    → ((c : IsAbandoned s s') → P (abandoned s.work c.engine))
+    → ((c : IsEnded s s') → P (ended s.work c.engine c.slot c.outcome))
+    → ((c : IsRemoved s.work) → P (removed s.work c))
+    → P s'.work
+by_effect P = by_count (λ xs n. P)
 
 -- ---- by the set-up
 
@@ -106,26 +155,32 @@ by_setting P s s' c stay device queue wait over reset resets write group = go c
     stays : (t : State) → t ≡ s' → IsUnmoved s.work.setup t.work.setup → P s'.work.setup
     stays t e h = stay (subst (λ (t : State). IsUnmoved s.work.setup t.work.setup) e h)
 
-    unmoved : (setup : Setup) → setup.caps ≡ s.work.setup.caps → setup.configs ≡ s.work.setup.configs → setup.groups ≡ s.work.setup.groups → setup.phases ≡ s.work.setup.phases → setup.device ≡ s.work.setup.device → IsUnmoved s.work.setup setup
-    unmoved setup a b c d e = record { caps = a; configs = b; groups = c; phases = d; device = e }
+    unmoved : (name : ℕ) (noted : Option NotedError) → IsUnmoved s.work.setup (record s.work.setup { next_name = name; noted = noted })
+    unmoved name noted = record { caps = refl; configs = refl; groups = refl; phases = refl; device = refl }
+
+    still : IsUnmoved s.work.setup s.work.setup
+    still = unmoved s.work.setup.next_name s.work.setup.noted
+
+    one_more : IsUnmoved s.work.setup (record s.work.setup { next_name = s.work.setup.next_name + 1 })
+    one_more = unmoved (s.work.setup.next_name + 1) s.work.setup.noted
 
     at : (t : State) → t ≡ s' → P t.work.setup → P s'.work.setup
     at t e p = subst (λ (t : State). P t.work.setup) e p
 
     go : Change s s' → P s'.work.setup
-    go (same e) = stays s e (unmoved _ refl refl refl refl refl)
-    go (is_noted c) = stays _ c.after (unmoved _ refl refl refl refl refl)
-    go (is_accepted c) = stays _ c.after (unmoved _ refl refl refl refl refl)
-    go (is_taken c) = stays _ c.after (unmoved _ refl refl refl refl refl)
-    go (is_fetched c) = stays _ c.after (unmoved _ refl refl refl refl refl)
-    go (is_started c) = stays _ c.after (unmoved _ refl refl refl refl refl)
-    go (is_abandoned c) = stays _ c.after (unmoved _ refl refl refl refl refl)
-    go (is_ended c) = stays _ c.after (unmoved _ refl refl refl refl refl)
+    go (same e) = stays s e still
+    go (is_noted c) = stays _ c.after (unmoved s.work.setup.next_name c.noted)
+    go (is_accepted c) = stays _ c.after one_more
+    go (is_taken c) = stays _ c.after still
+    go (is_fetched c) = stays _ c.after one_more
+    go (is_started c) = stays _ c.after still
+    go (is_abandoned c) = stays _ c.after still
+    go (is_ended c) = stays _ c.after still
     go (is_device_enabled c) = at _ c.after (device c)
     go (is_queue_enabled c) = at _ c.after (queue c)
     go (is_waiting c) = at _ c.after (wait c)
     go (is_over c) = at _ c.after (over c)
-    go (is_aborted c) = stays _ c.after (unmoved _ refl refl refl refl refl)
+    go (is_aborted c) = stays _ c.after still
     go (is_device_reset c) = at _ c.after (reset c)
     go (is_queues_reset c) = at _ c.after (resets c)
     go (is_queue_written c) = at _ c.after (write c)

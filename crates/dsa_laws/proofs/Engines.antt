@@ -28,7 +28,7 @@ use Rattle.dsa_laws.proofs.Effects.{by_effect}
 use Rattle.dsa_laws.specs.WellFormed.{HasShape, NoneOff, NamesOnce, IsWellFormed}
 use Rattle.dsa_laws.specs.Engines.{holds_batch, IsAlike, IsLawfulEngine, HasLawfulEngines}
 use Rattle.dsa_laws.proofs.Contents.{In-append, In-counted, In-filter, In-filtered, In-find, In-same, chain-filtered, sum-list-le, sum-without, chain-other, chain-same}
-use Rattle.dsa_laws.proofs.Shapes.{shape-change, shape-opening, stopped-configs, In-cond, below-engines, member_list-in, progress_list-in, waiting-engine, waiting-members}
+use Rattle.dsa_laws.proofs.Shapes.{engines-same, shape-change, shape-opening, In-cond, below-engines, member_list-in, progress_list-in, waiting-engine, waiting-members}
 use Rattle.dsa_base.proofs.Tables.{not-both}
 use Rattle.dsa_book.proofs.Phases.{on-not_off}
 use Rattle.dsa_base.proofs.NumberLists.{get_or-each}
@@ -56,7 +56,7 @@ of-lists caps w shape h e = ⊎_elim
     (λ t. subst law (sym t) (h e t))
     (λ f.
     let past = ltb-false e w.setup.caps.engines f in
-    let engines = ap (λ (c : Caps). c.engines) shape.same_caps in
+    let engines = engines-same shape in
     let none : note_at w e ≡ None = get_or-eq_default w.notes None (omega (arith, past, engines, shape.notes)) in
     subst law (sym f) (subst (IsLawfulEngine w.setup [] []) (sym none) (record { no_batch = refl; no_members = refl })))
     (cases_Bool (nat_lt e w.setup.caps.engines))

@@ -21,10 +21,10 @@ use Rattle.dsa_book.specs.Work.{progress_list, member_list, in_progress, members
 use Rattle.dsa_book.proofs.Scopes.{unnamed}
 use Rattle.dsa_book.specs.Commands.{stopped, with_phases, names, is_in_scope, holds, is_awaited}
 use Rattle.dsa_laws.specs.Change.{Change, IsAccepted, IsTaken, IsFetched, IsStarted}
-use Rattle.dsa_laws.proofs.Effects.{by_effect, by_setting}
+use Rattle.dsa_laws.proofs.Effects.{by_effect, by_setting, stopped-keeps}
 use Rattle.dsa_laws.specs.WellFormed.{HasShape, IsPlaced, NoneOff, PasidsFit, HasLawfulEntries, HasLawfulSetup}
 use Rattle.dsa_laws.proofs.Contents.{In-find, In-chain, In-filtered, each-set, each-pushed, each-without_front, each-filtered, chain-empty, none-In}
-use Rattle.dsa_laws.proofs.Shapes.{on-queue, below-engines, In-cond, stopped-configs}
+use Rattle.dsa_laws.proofs.Shapes.{queues-same, engines-same, on-queue, below-engines, In-cond}
 use Rattle.std.proofs.Common.{get_or, ◌∙◌}
 use Rattle.std.proofs.lemmas.List.{get_or-set_other}
 use Rattle.dsa_regs.specs.declared.QueueConfig.{QueueConfig}
@@ -42,7 +42,7 @@ In-front x [] h = absurd cc
 In-front x (y ∷ ys) h = inl cc
 
 pub queue-below : (caps : Caps) (w : Work) (q : ℕ) → HasShape caps w → nat_lt q w.setup.caps.queues ≡ true → q < caps.queues
-queue-below caps w q h t = let i = ltb-true q w.setup.caps.queues t in let e = ap (λ (c : Caps). c.queues) h.same_caps in omega (arith, i, e)
+queue-below caps w q h t = let i = ltb-true q w.setup.caps.queues t in let e = queues-same h in omega (arith, i, e)
 
 -- what holds of each of a list, and is not changed when an entry begins to run, holds when the first begins to run
 pub first_run-each : (P : Slot → Type 0) → ((x : Slot) → P x → P (run x)) → (xs : List Slot) → ((x : Slot) → In x xs → P x) → (x : Slot) → In x (with_first_run xs) → P x
@@ -93,7 +93,7 @@ placed-member : (caps : Caps) (k : ℕ) (x : Slot) → caps.queues + caps.engine
 placed-member caps k x h m = record { member = λ i. m; queue = λ i. absurd (omega (arith, h, i)); submitted = λ i. absurd (omega (arith, h, i)); waiting = λ i. absurd (omega (arith, h, i)); running = λ i j. absurd (omega (arith, h, j)) }
 
 member_list-past : (caps : Caps) (w : Work) (e : ℕ) → HasShape caps w → caps.queues + caps.engines ≤ member_list w.setup e
-member_list-past caps w e h = let a = ap (λ (c : Caps). c.queues) h.same_caps in let b = ap (λ (c : Caps). c.engines) h.same_caps in omega (arith, a, b)
+member_list-past caps w e h = let a = queues-same h in let b = engines-same h in omega (arith, a, b)
 
 pub placed-change : (caps : Caps) (s s' : State) → HasShape caps s.work → EachAt (IsPlaced caps) s.work.content → Change s s' → EachAt (IsPlaced caps) s'.work.content
 placed-change caps s s' h a c = each-effect (IsPlaced caps) s s' a c
@@ -101,7 +101,7 @@ placed-change caps s s' h a c = each-effect (IsPlaced caps) s s' a c
     let inside = on-queue caps s.work c.queue h c.on in
     each-pushed (IsPlaced caps) s.work.content c.queue _ a (record { member = λ i. absurd (omega (arith, inside, i)); queue = λ i. refl; submitted = λ i. refl; waiting = λ i. refl; running = λ i j. absurd (omega (arith, inside, i)) }))
     (λ c.
-    let q = ap (λ (c : Caps). c.queues) h.same_caps in
+    let q = queues-same h in
     let inside = queue-below caps s.work c.queue h (and_parts _ _ (and_parts _ _ c.qualifies).0).1 in
     let engine = below-engines caps s.work c.engine h (and_parts _ _ (and_parts _ _ c.qualifies).0).0 in
     let front = a c.queue c.front (In-front c.front _ c.is_front) in
@@ -128,7 +128,7 @@ in-use-below caps w q h n = ⊎_elim
     (λ t. ltb-true q w.setup.caps.queues t)
     (λ f.
     let e = ltb-false q w.setup.caps.queues f in
-    let size = ap (λ (c : Caps). c.queues) h.same_caps in
+    let size = queues-same h in
     let off : phase_at w.setup q ≡ Off = get_or-eq_default w.setup.phases Off (omega (arith, e, size, h.phases)) in
     not-both (is_off (phase_at w.setup q)) (ap is_off off) n)
     (cases_Bool (nat_lt q w.setup.caps.queues))
@@ -189,8 +189,8 @@ configs-kept caps s s' h a c k x i = by_setting (λ setup. queue_at setup.config
     (λ e. ap (λ (l : List QueueConfig). queue_at l x.1.queue) e.configs)
     (λ c. refl)
     (λ c. refl)
-    (λ c. ap (λ (l : List QueueConfig). queue_at l x.1.queue) (stopped-configs c.deed c.scope Stopping s.work.setup))
-    (λ c. ap (λ (l : List QueueConfig). queue_at l x.1.queue) (stopped-configs c.deed c.scope Off s.work.setup))
+    (λ c. ap (λ (l : List QueueConfig). queue_at l x.1.queue) (stopped-keeps c.deed c.scope Stopping s.work.setup).configs)
+    (λ c. ap (λ (l : List QueueConfig). queue_at l x.1.queue) (stopped-keeps c.deed c.scope Off s.work.setup).configs)
     (λ c. not-both false (In-filtered (λ slot. not true) s.work.content k x (In-after s' _ c.after k x i)).1 refl)
     (λ c.
     let qs = queues_in c.scope in

@@ -24,9 +24,8 @@ use Rattle.dsa_laws.specs.Change.{Change}
 use Rattle.dsa_laws.proofs.Effects.{by_effect}
 use Rattle.dsa_laws.specs.WellFormed.{HasShape, CellsOnce, NamesOnce, held_named, fates_named}
 use Rattle.dsa_laws.proofs.Contents.{In-append, In-filter, In-find, In-chain, sum-without}
-use Rattle.dsa_laws.proofs.Shapes.{on-queue, note-engine, below-engines, member_list-in, progress_list-in, queue_list-in, waiting-engine, In-cond, waiting-members}
+use Rattle.dsa_laws.proofs.Shapes.{queues-same, on-queue, note-engine, below-engines, member_list-in, progress_list-in, queue_list-in, waiting-engine, In-cond, waiting-members}
 use Rattle.dsa_laws.specs.Lists.{In}
-use Rattle.dsa_laws.proofs.Shapes.{stopped-names}
 use Rattle.std.proofs.Common.{length-append}
 use Rattle.std.proofs.lemmas.List.{length-map, append-nil}
 use Rattle.dsa_base.proofs.NumberSums.{sum-map}
@@ -213,7 +212,7 @@ flow-change caps s s' h once c =
     (λ c.
     let tests = (and_parts _ _ c.qualifies).0 in
     let engine = progress_list-in caps s.work c.engine h (below-engines caps s.work c.engine h (and_parts _ _ tests).0) in
-    let queue = queue_list-in caps s.work c.queue h (let i = ltb-true c.queue s.work.setup.caps.queues (and_parts _ _ tests).1 in let e = ap (λ (c : Caps). c.queues) h.same_caps in omega (arith, i, e)) in
+    let queue = queue_list-in caps s.work c.queue h (let i = ltb-true c.queue s.work.setup.caps.queues (and_parts _ _ tests).1 in let e = queues-same h in omega (arith, i, e)) in
     (still caps s.work _ uses (λ f alike. sum-taken f alike s.work.content c.queue (progress_list s.work.setup c.engine) c.front queue engine c.is_front) refl refl))
     (λ c.
     let inside = member_list-in caps s.work c.engine h (note-engine caps s.work c.engine c.note h c.is_note) in

@@ -22,11 +22,11 @@ use Rattle.dsa_book.specs.Submit.{limit_of}
 use Rattle.dsa_book.specs.Work.{run, progress_list, member_list, in_progress, may_take, front_of, qualifies, members, note_at}
 use Rattle.dsa_book.specs.Commands.{stopped, names, size_alone}
 use Rattle.dsa_laws.specs.Change.{Change}
-use Rattle.dsa_laws.proofs.Effects.{by_effect, by_setting}
+use Rattle.dsa_laws.proofs.Effects.{by_effect, by_setting, stopped-keeps}
 use Rattle.dsa_laws.proofs.Entries.{In-after}
 use Rattle.dsa_laws.specs.WellFormed.{HasShape, HasLawfulSetup, HasLawfulEntries, IsWithinLimits, NoteFits, NotesFit}
 use Rattle.dsa_laws.proofs.Contents.{chain-filtered, In-filtered, none-In, chain-empty, length-filter-le}
-use Rattle.dsa_laws.proofs.Shapes.{on-queue, stopped-configs, progress-at}
+use Rattle.dsa_laws.proofs.Shapes.{queues-same, engines-same, on-queue, progress-at}
 use Rattle.dsa_base.proofs.Tables.{not-both}
 use Rattle.dsa_book.proofs.Phases.{on-not_off}
 use Rattle.dsa_base.proofs.NumberLists.{get_or-each}
@@ -153,7 +153,7 @@ lists-effect caps s s' shape setup h c = by_effect (λ w. ListsFit caps s.work.s
     set-limits caps s.work.setup.configs s.work.content c.queue _ h (λ i. omega (arith, below, limit, length-append {A = Slot})) (λ i j. absurd (omega (arith, inside, i))))
     (λ c.
     let e = c.engine in
-    let a = ap (λ (c : Caps). c.queues) shape.same_caps in
+    let a = queues-same shape in
     let b = ap (λ (c : Caps). c.slots) shape.same_caps in
     let engine : nat_lt e s.work.setup.caps.engines ≡ true = (and_parts _ _ (and_parts _ _ c.qualifies).0).0 in
     let may : may_take s.work e c.front ≡ true = taken-test s.work e c.queue c.front c.qualifies c.is_front in
@@ -173,8 +173,8 @@ lists-effect caps s s' shape setup h c = by_effect (λ w. ListsFit caps s.work.s
   where
     member-limits : (e : ℕ) (l : List Slot) → ListsFit caps s.work.setup.configs (set s.work.content (member_list s.work.setup e) l)
     member-limits e l =
-        let a = ap (λ (c : Caps). c.queues) shape.same_caps in
-        let b = ap (λ (c : Caps). c.engines) shape.same_caps in
+        let a = queues-same shape in
+        let b = engines-same shape in
         set-limits caps s.work.setup.configs s.work.content (member_list s.work.setup e) l h (λ i. absurd (omega (arith, i, a))) (λ i j. absurd (omega (arith, j, a, b)))
 
 pub lists_fit-change : (caps : Caps) (s s' : State) → HasShape caps s.work → HasLawfulSetup s.work.setup → HasLawfulEntries caps s.work → Fitting caps s.work → Change s s' → Fitting caps s'.work
@@ -182,8 +182,8 @@ lists_fit-change caps s s' shape setup entries fit c = by_setting (λ setup. Lis
     (λ e. subst (λ l. ListsFit caps l s'.work.content) (sym e.configs) h)
     (λ c. h)
     (λ c. h)
-    (λ c. subst (λ l. ListsFit caps l s'.work.content) (sym (stopped-configs c.deed c.scope Stopping s.work.setup)) h)
-    (λ c. subst (λ l. ListsFit caps l s'.work.content) (sym (stopped-configs c.deed c.scope Off s.work.setup)) h)
+    (λ c. subst (λ l. ListsFit caps l s'.work.content) (sym (stopped-keeps c.deed c.scope Stopping s.work.setup).configs) h)
+    (λ c. subst (λ l. ListsFit caps l s'.work.content) (sym (stopped-keeps c.deed c.scope Off s.work.setup).configs) h)
     (λ c.
     let none : (k : ℕ) → length (chain s'.work.content k) ≡ 0
     = λ k. ap (λ (xs : List Slot). length xs) (none-In (chain s'.work.content k) (λ x i. not-both false (In-filtered (λ slot. not true) s.work.content k x (In-after s' _ c.after k x i)).1 refl)) in
@@ -193,7 +193,7 @@ lists_fit-change caps s s' shape setup entries fit c = by_setting (λ setup. Lis
     })
     (λ c.
     let qs = queues_in c.scope in
-    let size = ap (λ (c : Caps). c.queues) shape.same_caps in
+    let size = queues-same shape in
     resized (λ q i.
     ap (λ (c : QueueConfig). c.size) (get_or-each (λ k. cond (names qs k) (size_alone (queue_at s.work.setup.configs k)) (queue_at s.work.setup.configs k)) s.work.setup.caps.queues q zero_queue (omega (arith, i, size)))
     ∙ sized (names qs q) (queue_at s.work.setup.configs q)))

@@ -13,7 +13,7 @@ use Rattle.dsa_laws.proofs.Effects.{by_effect}
 use Rattle.dsa_laws.specs.WellFormed.{HasShape, MembersInOrder, runs_first, none_runs}
 use Rattle.dsa_laws.proofs.Contents.{chain-filtered, chain-empty}
 use Rattle.dsa_laws.proofs.Entries.{queue-below}
-use Rattle.dsa_laws.proofs.Shapes.{on-queue, below-engines, waiting-members, members-at}
+use Rattle.dsa_laws.proofs.Shapes.{queues-same, engines-same, on-queue, below-engines, waiting-members, members-at}
 use Rattle.std.proofs.lemmas.Bool.{and_parts, and_from, cases_lt, cond_both}
 use Rattle.std.proofs.Math.ListN.{get_or-eq_default}
 
@@ -98,8 +98,8 @@ lists-in_order caps w shape h k past = ⊎_elim
 
 pub of-lists_in_order : (caps : Caps) (w : Work) → HasShape caps w → ListsInOrder caps w → MembersInOrder w
 of-lists_in_order caps w shape h e =
-    let q = ap (λ (c : Caps). c.queues) shape.same_caps in
-    let n = ap (λ (c : Caps). c.engines) shape.same_caps in
+    let q = queues-same shape in
+    let n = engines-same shape in
     cond_both (nat_lt e w.setup.caps.engines) (chain w.content (member_list w.setup e)) [] (λ xs. runs_first xs ≡ true) (λ t. h (member_list w.setup e) (omega (arith, q, n))) (λ f. refl)
 
 filtered-order : (caps : Caps) (p : Slot → Bool) (w : Work) → ListsInOrder caps w → (k : ℕ) → caps.queues + caps.engines ≤ k → runs_first (chain (map (filter p) w.content) k) ≡ true
@@ -116,7 +116,7 @@ order-change caps s s' shape h c = by_effect (ListsInOrder caps) s s' c
     let tests = (and_parts _ _ c.qualifies).0 in
     let engine = below-engines caps s.work c.engine shape (and_parts _ _ tests).0 in
     let inside = queue-below caps s.work c.queue shape (and_parts _ _ tests).1 in
-    let a = ap (λ (c : Caps). c.queues) shape.same_caps in
+    let a = queues-same shape in
     each-list (λ xs. runs_first xs ≡ true) (caps.queues + caps.engines) (without_front s.work.content c.queue) (progress_list s.work.setup c.engine) _
     (set-order caps s.work c.queue (drop 1 (chain s.work.content c.queue)) h (λ i. absurd (omega (arith, i, inside))))
     (λ i. absurd (omega (arith, i, engine, a))))

@@ -11,96 +11,82 @@ use Rattle.dsa_regs.specs.declared.Scope.TheVariants.{Device}
 use Rattle.dsa_regs.specs.declared.Deed.{Deed}
 use Rattle.dsa_regs.specs.declared.Deed.TheVariants.{Disable}
 use Rattle.dsa_regs.specs.Caps.{list_count}
-use Rattle.dsa_store.specs.Content.{Slot, chain}
+use Rattle.dsa_store.specs.Content.{Slot, chain, without_front}
 use Rattle.dsa_book.specs.declared.note.BatchNote.{BatchNote}
 use Rattle.dsa_book.specs.State.{Setup, Work, State, opening, is_on, phase_at}
 use Rattle.dsa_book.specs.Work.{progress_list, member_list, in_progress, members, note_at, first_waiting}
 use Rattle.dsa_book.specs.Commands.{stopped}
-use Rattle.dsa_laws.specs.Change.{Change, same, is_noted, is_accepted, is_taken, is_fetched, is_started, is_abandoned, is_ended, is_device_enabled, is_queue_enabled, is_waiting, is_over, is_aborted, is_device_reset, is_queues_reset, is_queue_written, is_group_written}
+use Rattle.dsa_laws.specs.Change.{Change}
+use Rattle.dsa_laws.proofs.Effects.{by_effect, by_setting, stopped-keeps}
 use Rattle.dsa_laws.specs.WellFormed.{HasShape}
 use Rattle.dsa_laws.proofs.Contents.{In-find}
 use Rattle.dsa_laws.specs.Lists.{In}
 use Rattle.dsa_base.proofs.NumberLists.{length-each}
 
--- the shape of a state that differs from one with it in no length
-same_shape : (caps : Caps) (w w' : Work) → HasShape caps w → w'.setup.caps ≡ w.setup.caps → length w'.content ≡ length w.content → length w'.setup.configs ≡ length w.setup.configs
-    → length w'.setup.phases ≡ length w.setup.phases → length w'.setup.groups ≡ length w.setup.groups → length w'.notes ≡ length w.notes → HasShape caps w'
-same_shape caps w w' h a b c d e f = record { same_caps = a ∙ h.same_caps; lists = b ∙ h.lists; configs = c ∙ h.configs; phases = d ∙ h.phases; groups = e ∙ h.groups; notes = f ∙ h.notes }
+-- ---- capabilities stay
+
+pub queues-same : {caps : Caps} {w : Work} → HasShape caps w → w.setup.caps.queues ≡ caps.queues
+queues-same h = ap (λ (c : Caps). c.queues) h.same_caps
+
+pub engines-same : {caps : Caps} {w : Work} → HasShape caps w → w.setup.caps.engines ≡ caps.engines
+engines-same h = ap (λ (c : Caps). c.engines) h.same_caps
+
+-- ---- the lengths
 
 length-cond_set : {X : Type 0} (b : Bool) (xs : List X) (i : ℕ) (x : X) → length (cond b (set xs i x) xs) ≡ length xs
 length-cond_set true xs i x = length-set xs i x
 length-cond_set false xs i x = refl
 
-queues-of : (caps : Caps) (w : Work) → HasShape caps w → w.setup.caps.queues ≡ length w.setup.phases
-queues-of caps w h = ap (λ (c : Caps). c.queues) h.same_caps ∙ sym h.phases
+stopped-phases : (deed : Deed) (scope : Scope) (phase : Phase) (setup : Setup) (n : ℕ) → setup.caps.queues ≡ n → length setup.phases ≡ n
+    → length (stopped deed scope phase setup).phases ≡ n
+stopped-phases Disable Device phase setup n q h = length-each _ setup.caps.queues ∙ q
+stopped-phases Disable scope phase setup n q h = length-each _ setup.caps.queues ∙ q
+stopped-phases _ scope phase setup n q h = h
 
-pub stopped-caps : (deed : Deed) (scope : Scope) (phase : Phase) (setup : Setup) → (stopped deed scope phase setup).caps ≡ setup.caps
-stopped-caps Disable Device phase setup = refl
-stopped-caps Disable scope phase setup = refl
-stopped-caps _ scope phase setup = refl
-
-pub stopped-configs : (deed : Deed) (scope : Scope) (phase : Phase) (setup : Setup) → (stopped deed scope phase setup).configs ≡ setup.configs
-stopped-configs Disable Device phase setup = refl
-stopped-configs Disable scope phase setup = refl
-stopped-configs _ scope phase setup = refl
-
-pub stopped-groups : (deed : Deed) (scope : Scope) (phase : Phase) (setup : Setup) → (stopped deed scope phase setup).groups ≡ setup.groups
-stopped-groups Disable Device phase setup = refl
-stopped-groups Disable scope phase setup = refl
-stopped-groups _ scope phase setup = refl
-
-pub stopped-names : (deed : Deed) (scope : Scope) (phase : Phase) (setup : Setup) → (stopped deed scope phase setup).next_name ≡ setup.next_name
-stopped-names Disable Device phase setup = refl
-stopped-names Disable scope phase setup = refl
-stopped-names _ scope phase setup = refl
-
-stopped-phases : (deed : Deed) (scope : Scope) (phase : Phase) (setup : Setup) → setup.caps.queues ≡ length setup.phases → length (stopped deed scope phase setup).phases ≡ length setup.phases
-stopped-phases Disable Device phase setup h = length-each _ setup.caps.queues ∙ h
-stopped-phases Disable scope phase setup h = length-each _ setup.caps.queues ∙ h
-stopped-phases _ scope phase setup h = refl
-
-stopped_shape : (caps : Caps) (w : Work) (deed : Deed) (scope : Scope) (phase : Phase) → HasShape caps w → HasShape caps (record w { setup = stopped deed scope phase w.setup })
-stopped_shape caps w deed scope phase h =
-    same_shape caps w (record w { setup = stopped deed scope phase w.setup }) h
-    (stopped-caps deed scope phase w.setup) refl (ap length (stopped-configs deed scope phase w.setup))
-    (stopped-phases deed scope phase w.setup (queues-of caps w h)) (ap length (stopped-groups deed scope phase w.setup)) refl
+-- a configuration for each queue and each group, and a phase for each queue
+abbrev HasTables : Caps → Setup → Type 0
+HasTables caps setup = (length setup.configs ≡ caps.queues) × ((length setup.phases ≡ caps.queues) × (length setup.groups ≡ caps.groups))
 
 pub shape-change : (caps : Caps) (s s' : State) → HasShape caps s.work → Change s s' → HasShape caps s'.work
-shape-change caps s s' h (same c) = subst (λ t. HasShape caps t.work) c h
-shape-change caps s s' h (is_noted c) = subst (λ t. HasShape caps t.work) c.after (same_shape caps s.work _ h refl refl refl refl refl refl)
-shape-change caps s s' h (is_accepted c) = subst (λ t. HasShape caps t.work) c.after (same_shape caps s.work _ h refl (length-set s.work.content c.queue _) refl refl refl refl)
-shape-change caps s s' h (is_taken c) =
-    let lists = length-set (set s.work.content c.queue (drop 1 (chain s.work.content c.queue))) (progress_list s.work.setup c.engine) _ ∙ length-set s.work.content c.queue (drop 1 (chain s.work.content c.queue)) in
-    subst (λ t. HasShape caps t.work) c.after (same_shape caps s.work _ h refl lists refl refl refl (length-cond_set _ s.work.notes c.engine _))
-shape-change caps s s' h (is_fetched c) =
-    subst (λ t. HasShape caps t.work) c.after (same_shape caps s.work _ h refl (length-set s.work.content (member_list s.work.setup c.engine) _) refl refl refl (length-set s.work.notes c.engine _))
-shape-change caps s s' h (is_started c) =
-    subst (λ t. HasShape caps t.work) c.after (same_shape caps s.work _ h refl (length-set s.work.content (member_list s.work.setup c.engine) _) refl refl refl refl)
-shape-change caps s s' h (is_abandoned c) =
-    subst (λ t. HasShape caps t.work) c.after (same_shape caps s.work _ h refl (length-set s.work.content (member_list s.work.setup c.engine) _) refl refl refl (length-set s.work.notes c.engine _))
-shape-change caps s s' h (is_ended c) =
-    subst (λ t. HasShape caps t.work) c.after (same_shape caps s.work _ h refl (length-map s.work.content _) refl refl refl (length-set s.work.notes c.engine _))
-shape-change caps s s' h (is_device_enabled c) = subst (λ t. HasShape caps t.work) c.after (same_shape caps s.work _ h refl refl refl refl refl refl)
-shape-change caps s s' h (is_queue_enabled c) =
-    subst (λ t. HasShape caps t.work) c.after (same_shape caps s.work _ h refl refl refl (length-each _ s.work.setup.caps.queues ∙ queues-of caps s.work h) refl refl)
-shape-change caps s s' h (is_waiting c) = subst (λ t. HasShape caps t.work) c.after (stopped_shape caps s.work c.deed c.scope Stopping h)
-shape-change caps s s' h (is_over c) = subst (λ t. HasShape caps t.work) c.after (stopped_shape caps s.work c.deed c.scope Off h)
-shape-change caps s s' h (is_aborted c) =
-    let notes = length-each _ s.work.setup.caps.engines ∙ ap (λ (c : Caps). c.engines) h.same_caps ∙ sym h.notes in
-    subst (λ t. HasShape caps t.work) c.after (same_shape caps s.work _ h refl (length-map s.work.content _) refl refl refl notes)
-shape-change caps s s' h (is_device_reset c) =
-    let notes = length-each _ s.work.setup.caps.engines ∙ ap (λ (c : Caps). c.engines) h.same_caps ∙ sym h.notes in
-    let configs = length-replicate s.work.setup.caps.queues _ ∙ ap (λ (c : Caps). c.queues) h.same_caps ∙ sym h.configs in
-    let phases = length-replicate s.work.setup.caps.queues _ ∙ ap (λ (c : Caps). c.queues) h.same_caps ∙ sym h.phases in
-    let groups = length-replicate s.work.setup.caps.groups _ ∙ ap (λ (c : Caps). c.groups) h.same_caps ∙ sym h.groups in
-    subst (λ t. HasShape caps t.work) c.after (same_shape caps s.work _ h refl (length-map s.work.content _) configs phases groups notes)
-shape-change caps s s' h (is_queues_reset c) =
-    let notes = length-each _ s.work.setup.caps.engines ∙ ap (λ (c : Caps). c.engines) h.same_caps ∙ sym h.notes in
-    let configs = length-each _ s.work.setup.caps.queues ∙ ap (λ (c : Caps). c.queues) h.same_caps ∙ sym h.configs in
-    let phases = length-each _ s.work.setup.caps.queues ∙ ap (λ (c : Caps). c.queues) h.same_caps ∙ sym h.phases in
-    subst (λ t. HasShape caps t.work) c.after (same_shape caps s.work _ h refl (length-map s.work.content _) configs phases refl notes)
-shape-change caps s s' h (is_queue_written c) = subst (λ t. HasShape caps t.work) c.after (same_shape caps s.work _ h refl refl (length-set s.work.setup.configs c.queue c.config) refl refl refl)
-shape-change caps s s' h (is_group_written c) = subst (λ t. HasShape caps t.work) c.after (same_shape caps s.work _ h refl refl refl refl (length-set s.work.setup.groups c.group c.config) refl)
+shape-change caps s s' h c = record {
+  same_caps = held.0 ∙ h.same_caps;
+  lists = held.1.0 ∙ h.lists;
+  configs = tables.0;
+  phases = tables.1.0;
+  groups = tables.1.1;
+  notes = held.1.1 ∙ h.notes;
+}
+  where
+    w : Work
+    w = s.work
+
+    held : (s'.work.setup.caps ≡ w.setup.caps) × ((length s'.work.content ≡ length w.content) × (length s'.work.notes ≡ length w.notes))
+    held = by_effect (λ t. (t.setup.caps ≡ w.setup.caps) × ((length t.content ≡ length w.content) × (length t.notes ≡ length w.notes))) s s' c
+        (λ e. (e.caps, (ap length e.content, ap length e.notes)))
+        (λ c. (refl, (length-set w.content c.queue _, refl)))
+        (λ c. (refl, (length-set (without_front w.content c.queue) (progress_list w.setup c.engine) _ ∙ length-set w.content c.queue _, length-cond_set _ w.notes c.engine _)))
+        (λ c. (refl, (length-set w.content (member_list w.setup c.engine) _, length-set w.notes c.engine _)))
+        (λ c. (refl, (length-set w.content (member_list w.setup c.engine) _, refl)))
+        (λ c. (refl, (length-set w.content (member_list w.setup c.engine) _, length-set w.notes c.engine _)))
+        (λ c. (refl, (length-map w.content _, length-set w.notes c.engine _)))
+        (λ c. (c.caps, (length-map w.content _, length-each _ w.setup.caps.engines ∙ engines-same h ∙ sym h.notes)))
+
+    waits : (deed : Deed) (scope : Scope) (phase : Phase) → HasTables caps (stopped deed scope phase w.setup)
+    waits deed scope phase =
+        let stop = stopped-keeps deed scope phase w.setup in
+        (ap length stop.configs ∙ h.configs, (stopped-phases deed scope phase w.setup caps.queues (queues-same h) h.phases, ap length stop.groups ∙ h.groups))
+
+    tables : HasTables caps s'.work.setup
+    tables = by_setting (HasTables caps) s s' c
+        (λ e. (ap length e.configs ∙ h.configs, (ap length e.phases ∙ h.phases, ap length e.groups ∙ h.groups)))
+        (λ c. (h.configs, (h.phases, h.groups)))
+        (λ c. (h.configs, (length-each _ w.setup.caps.queues ∙ queues-same h, h.groups)))
+        (λ c. waits c.deed c.scope Stopping)
+        (λ c. waits c.deed c.scope Off)
+        (λ c. (length-replicate w.setup.caps.queues _ ∙ queues-same h, (length-replicate w.setup.caps.queues _ ∙ queues-same h, length-replicate w.setup.caps.groups _ ∙ ap (λ (c : Caps). c.groups) h.same_caps)))
+        (λ c. (length-each _ w.setup.caps.queues ∙ queues-same h, (length-each _ w.setup.caps.queues ∙ queues-same h, h.groups)))
+        (λ c. (length-set w.setup.configs c.queue c.config ∙ h.configs, (h.phases, h.groups)))
+        (λ c. (h.configs, (h.phases, length-set w.setup.groups c.group c.config ∙ h.groups)))
 
 pub shape-opening : (caps : Caps) → HasShape caps (opening caps).work
 shape-opening caps = record {
@@ -135,19 +121,19 @@ In-cond true x l i = (refl, i)
 In-cond false x l i = absurd i
 
 pub below-engines : (caps : Caps) (w : Work) (e : ℕ) → HasShape caps w → nat_lt e w.setup.caps.engines ≡ true → e < caps.engines
-below-engines caps w e h t = let i = ltb-true e w.setup.caps.engines t in let same = ap (λ (c : Caps). c.engines) h.same_caps in omega (arith, i, same)
+below-engines caps w e h t = let i = ltb-true e w.setup.caps.engines t in let same = engines-same h in omega (arith, i, same)
 
 -- the list of an engine's members is one of the lists
 pub member_list-in : (caps : Caps) (w : Work) (e : ℕ) → HasShape caps w → e < caps.engines → member_list w.setup e < length w.content
 member_list-in caps w e h i =
-    let a = ap (λ (c : Caps). c.engines) h.same_caps in
-    let b = ap (λ (c : Caps). c.queues) h.same_caps in
+    let a = engines-same h in
+    let b = queues-same h in
     omega (arith, i, a, b, h.lists)
 
 pub progress_list-in : (caps : Caps) (w : Work) (e : ℕ) → HasShape caps w → e < caps.engines → progress_list w.setup e < length w.content
 progress_list-in caps w e h i =
-    let a = ap (λ (c : Caps). c.engines) h.same_caps in
-    let b = ap (λ (c : Caps). c.queues) h.same_caps in
+    let a = engines-same h in
+    let b = queues-same h in
     omega (arith, i, a, b, h.lists)
 
 pub queue_list-in : (caps : Caps) (w : Work) (q : ℕ) → HasShape caps w → q < caps.queues → q < length w.content
@@ -169,7 +155,7 @@ pub waiting-members : (w : Work) (e : ℕ) (slot : Slot) → first_waiting w e �
 waiting-members w e slot h = members-is w e (waiting-engine w e slot h)
 
 engine-there : (caps : Caps) (w : Work) (e : ℕ) → HasShape caps w → e < caps.engines → nat_lt e w.setup.caps.engines ≡ true
-engine-there caps w e h i = let n = ap (λ (c : Caps). c.engines) h.same_caps in lt-ltb e w.setup.caps.engines (omega (arith, i, n))
+engine-there caps w e h i = let n = engines-same h in lt-ltb e w.setup.caps.engines (omega (arith, i, n))
 
 -- by their numbers
 pub members-at : (caps : Caps) (w : Work) (e : ℕ) → HasShape caps w → e < caps.engines → members w e ≡ chain w.content (caps.queues + caps.engines + e)

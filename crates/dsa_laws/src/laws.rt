@@ -1,6 +1,6 @@
 //! The laws, each on a function with nothing to do. A history is a list of steps from the opening of a device with these capabilities.
 
-ghost use Rattle.std.specs.Prelude.{◌≡◌, ℕ, ◌+◌, ◌<◌, ◌≤◌, List, Some};
+ghost use Rattle.std.specs.Prelude.{◌≡◌, ℕ, ◌+◌, ◌<◌, ◌≤◌, List, Some, false};
 ghost use Rattle.dsa_regs.specs.declared.Caps.{Caps};
 ghost use Rattle.dsa_regs.specs.declared.Phase.TheVariants.{Off};
 ghost use Rattle.dsa_store.specs.Content.{held};
@@ -8,7 +8,7 @@ ghost use Rattle.dsa_book.specs.declared.event.Event.{Event};
 ghost use Rattle.dsa_book.specs.declared.event.Step.{Step};
 ghost use Rattle.dsa_book.specs.declared.answer.Reply.{Reply};
 ghost use Rattle.dsa_book.specs.State.{State};
-ghost use Rattle.dsa_book.specs.Machine.{next, replay};
+ghost use Rattle.dsa_book.specs.Machine.{next, is_stored, replay};
 ghost use Rattle.dsa_laws.specs.Change.{Change};
 ghost use Rattle.dsa_laws.specs.WellFormed.{IsWellFormed, IsWithinLimits, held_named, fates_named};
 ghost use Rattle.dsa_laws.specs.Engines.{HasLawfulEngines};
@@ -17,6 +17,11 @@ ghost use Rattle.dsa_laws.specs.Buffering.{HasBuffers};
 /// Every step that may come is one of the changes, with the facts that it tested.
 pub fn steps_are_changes()
     ensures { (s s' : State) (event : Event) (reply : Reply) → next s event reply ≡ Some s' → Change s s' }
+{}
+
+/// A step whose reply is not stored changes nothing.
+pub fn unstored_steps_change_nothing()
+    ensures { (s s' : State) (event : Event) (reply : Reply) → next s event reply ≡ Some s' → is_stored reply ≡ false → s' ≡ s }
 {}
 
 /// Every state that a history leads to is well formed.

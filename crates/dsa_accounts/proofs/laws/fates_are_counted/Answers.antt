@@ -1,4 +1,4 @@
-use Rattle.dsa_accounts.proofs.Fates.{replay-rows}
+use Rattle.dsa_accounts.proofs.Totals.{replay-rows}
 use Rattle.dsa_accounts.proofs.laws.fates_are_counted.Goals as goal
 
 pub returns : goal.returns

@@ -1,4 +1,4 @@
-use Rattle.dsa_accounts.proofs.Names.{replay-names}
+use Rattle.dsa_accounts.proofs.Totals.{replay-names}
 use Rattle.dsa_accounts.proofs.laws.names_are_given_in_turn.Goals as goal
 
 pub returns : goal.returns

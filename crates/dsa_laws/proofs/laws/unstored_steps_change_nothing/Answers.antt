@@ -1,0 +1,5 @@
+use Rattle.dsa_laws.proofs.Changes.{next_keeps}
+use Rattle.dsa_laws.proofs.laws.unstored_steps_change_nothing.Goals as goal
+
+pub returns : goal.returns
+returns c = next_keeps
