@@ -35,12 +35,8 @@ pub fn fresh_nodes<A: Allocator>(
     for cell in 0..cells {
         nodes.push_reserved(Node {
             entry: NO_ENTRY,
-            next: if cell < cells - 1 {
-                Some(cell + 1)
-            } else {
-                None
-            },
-            previous: if cell > 0 { Some(cell - 1) } else { None },
+            next: (cell < cells - 1).then_some(cell + 1),
+            previous: cell.checked_sub(1),
             owner: list,
         });
     }
@@ -64,8 +60,8 @@ pub fn fresh_headers<A: Allocator>(
         });
     }
     headers.push_reserved(Header {
-        head: if cells > 0 { Some(0) } else { None },
-        tail: if cells > 0 { Some(cells - 1) } else { None },
+        head: (cells > 0).then_some(0),
+        tail: cells.checked_sub(1),
         count: cells,
     });
     Ok(headers)
