@@ -4,9 +4,13 @@
 //! its engine. The one in [`single`] has one shared queue.
 #![tactic(auto)]
 
-use dsa_book::Kind;
-use dsa_desc::Descriptor;
-use dsa_regs::{Caps, GroupConfig, QueueConfig, QueueMask};
+ghost use Rattle.std.specs.Prelude.{◌≡◌, ◌%◌, ◌^◌};
+ghost use Rattle.dsa_desc.specs.Descriptor.{read, with_pasid};
+
+use byteorder::{ByteOrder, LittleEndian};
+use dsa_book::{Event, Kind};
+use dsa_desc::{Descriptor, QueueLimits};
+use dsa_regs::{Caps, Command, GroupConfig, QueueConfig, QueueMask};
 
 pub mod single;
 
@@ -20,6 +24,12 @@ pub const CAPS: Caps = Caps {
     max_batch_shift: 3,
     max_xfer_shift: 20,
 };
+
+/// The lists that such a device asks of a store.
+pub const LISTS: u16 = 6;
+
+/// The cells that such a device asks of a store.
+pub const CELLS: u32 = 28;
 
 pub const FIRST_GROUP: GroupConfig = GroupConfig {
     queues: 1,
@@ -49,13 +59,21 @@ pub const DEDICATED_QUEUE: QueueConfig = QueueConfig {
     size: 2,
     threshold: 0,
     dedicated: true,
+    priority: 2,
     pasid: 7,
     ..SHARED_QUEUE
+};
+
+pub const LIMITS: QueueLimits = QueueLimits {
+    max_batch_shift: 3,
+    max_xfer_shift: 20,
 };
 
 pub const FIRST_QUEUE: QueueMask = QueueMask { group: 0, mask: 1 };
 
 pub const ENQCMD: Kind = Kind::Enqcmd { pasid: 5 };
+
+const FLAG_BITS: u32 = 0xff_ffff;
 
 pub const NO_OP: Descriptor = Descriptor {
     pasid: 0,
@@ -81,6 +99,24 @@ pub const LARGE_MOVE: Descriptor = Descriptor {
     ..MOVE
 };
 
+/// What configures and enables the shared queue, its group and the device.
+pub const ENABLED: [Event; 4] = [
+    Event::WriteQueue {
+        queue: 0,
+        config: SHARED_QUEUE,
+    },
+    Event::WriteGroup {
+        group: 0,
+        config: FIRST_GROUP,
+    },
+    Event::Issue {
+        command: Command::EnableDevice,
+    },
+    Event::Issue {
+        command: Command::EnableWq(0),
+    },
+];
+
 /// A Batch of so many members.
 pub fn batch_of(count: u32) -> Descriptor {
     Descriptor {
@@ -90,12 +126,14 @@ pub fn batch_of(count: u32) -> Descriptor {
     }
 }
 
-/// The 64 bytes of a descriptor.
-pub fn bytes_of(desc: Descriptor) -> [u8; 64] {
-    let [p0, p1, p2, p3] = desc.pasid.to_le_bytes();
-    let [f0, f1, f2, _] = desc.flags.to_le_bytes();
+/// The 64 bytes of a descriptor: its fields in their places, and 0 everywhere else.
+pub fn bytes_of(desc: Descriptor) -> [u8; 64]
+    ensures { read result ≡ record (with_pasid desc desc.pasid) { flags = desc.flags % 2 ^ 24 } }
+{
     let mut bytes = [0u8; 64];
-    bytes[..8].copy_from_slice(&[p0, p1, p2, p3, f0, f1, f2, desc.op]);
-    bytes[32..36].copy_from_slice(&desc.size.to_le_bytes());
+    LittleEndian::write_u32(&mut bytes, desc.pasid);
+    LittleEndian::write_u24(&mut bytes[4..], desc.flags & FLAG_BITS);
+    bytes[7] = desc.op;
+    LittleEndian::write_u32(&mut bytes[32..], desc.size);
     bytes
 }
