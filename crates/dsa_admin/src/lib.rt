@@ -6,8 +6,6 @@ mod admin;
 mod ends;
 mod refusals;
 mod scope;
-#[cfg(test)]
-mod tests;
 mod withdrawal;
 
 pub use admin::Admin;

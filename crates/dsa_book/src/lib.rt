@@ -6,8 +6,6 @@ mod book;
 mod event;
 mod fate;
 mod note;
-#[cfg(test)]
-mod tests;
 
 pub use answer::{
     Cause, ClearAnswer, DispatchAnswer, FetchAnswer, FinishAnswer, IssueAnswer, NotedError,

@@ -10,6 +10,3 @@ mod faults;
 
 pub use device::Device;
 pub use faults::MakeFault;
-
-#[cfg(test)]
-mod tests;

@@ -13,6 +13,3 @@ mod starting;
 mod taking;
 
 pub use engines::Engines;
-
-#[cfg(test)]
-mod tests;

@@ -13,6 +13,3 @@ mod submission;
 mod writes;
 
 pub use queues::Queues;
-
-#[cfg(test)]
-mod tests;

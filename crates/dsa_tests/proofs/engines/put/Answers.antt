@@ -1,9 +1,9 @@
-use Rattle.std.proofs.Common.{◌≡◌, ◌<◌, ◌∙◌, sym, subst, ap, arith}
+use Rattle.std.proofs.Common.{sym, subst, ap, arith}
 use Rattle.dsa_regs.specs.declared.Caps.{Caps}
 use Rattle.dsa_store.specs.Content.{Content}
 use Rattle.dsa_engines.specs.Engines.{IsInStep}
 use Rattle.dsa_engines.proofs.Keeping.{in_step-pushed}
-use Rattle.dsa_engines.proofs.tests.put.Goals as goal
+use Rattle.dsa_tests.proofs.engines.put.Goals as goal
 
 pub returns : goal.returns
 returns g c =

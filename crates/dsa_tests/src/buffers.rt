@@ -1,18 +1,11 @@
 //! Sixteen read buffers, of which each of three groups has 4 reserved and is allowed 8.
 
-use crate::ReadBuffers;
-use dsa_regs::GroupConfig;
-
-const GROUP: GroupConfig = GroupConfig {
-    queues: 1,
-    engines: 1,
-    reserved: 4,
-    allowed: 8,
-};
+use dsa_buffers::ReadBuffers;
+use dsa_fixtures::FIRST_GROUP;
 
 #[test]
 fn reserved_buffers_are_left_to_their_group(rt: HostRuntime) {
-    let mut buffers = ReadBuffers::new(16, &[GROUP; 3]);
+    let mut buffers = ReadBuffers::new(16, &[FIRST_GROUP; 3]);
     assert!(rt; buffers.fits(0, 4));
     buffers.take(0, 4);
     assert!(rt; buffers.fits(0, 4));

@@ -1,51 +1,16 @@
-use super::*;
+//! What may be configured and commanded: tables of faults, checks and command words.
+
+use dsa_fixtures::{
+    CAPS, DEDICATED_QUEUE as DEDICATED, FIRST_GROUP as FIRST, FIRST_QUEUE, SECOND_GROUP as SECOND,
+    SHARED_QUEUE as SHARED,
+};
+use dsa_regs::{
+    Caps, Command, CommandWord, Fault, GroupConfig, MAX_GROUPS, MAX_QUEUES, Phase, QueueConfig,
+    QueueMask, Scope, cell_count, check_caps, check_device, check_queue, list_count, off_phases,
+    zero_groups, zero_queues,
+};
 use std::fmt::InlineText;
 use std::test::Fail;
-
-const CAPS: Caps = Caps {
-    queues: 2,
-    groups: 2,
-    engines: 2,
-    total_size: 8,
-    read_buffers: 16,
-    slots: 2,
-    max_batch_shift: 3,
-    max_xfer_shift: 20,
-};
-
-const SHARED: QueueConfig = QueueConfig {
-    size: 4,
-    threshold: 2,
-    dedicated: false,
-    priority: 1,
-    pasid: 0,
-    max_batch_shift: 3,
-    max_xfer_shift: 20,
-};
-
-const DEDICATED: QueueConfig = QueueConfig {
-    size: 2,
-    threshold: 0,
-    dedicated: true,
-    priority: 1,
-    pasid: 7,
-    max_batch_shift: 3,
-    max_xfer_shift: 20,
-};
-
-const FIRST: GroupConfig = GroupConfig {
-    queues: 1,
-    engines: 1,
-    reserved: 4,
-    allowed: 8,
-};
-
-const SECOND: GroupConfig = GroupConfig {
-    queues: 2,
-    engines: 2,
-    reserved: 8,
-    allowed: 12,
-};
 
 #[test]
 fn faults_have_numbers(rt: HostRuntime) {
@@ -380,7 +345,6 @@ fn configurations_speak(rt: HostRuntime) {
 
 #[test]
 fn words_are_commands(rt: HostRuntime) {
-    let first = QueueMask { group: 0, mask: 1 };
     let third = QueueMask { group: 0, mask: 4 };
     let seventeenth = QueueMask { group: 1, mask: 1 };
     let words = [
@@ -396,12 +360,12 @@ fn words_are_commands(rt: HostRuntime) {
         (0x0060_0000, Ok(Command::EnableWq(0))),
         (0x8060_0000, Ok(Command::EnableWq(0))),
         (0x0060_0002, Ok(Command::EnableWq(2))),
-        (0x8070_0001, Ok(Command::DisableWq(first))),
+        (0x8070_0001, Ok(Command::DisableWq(FIRST_QUEUE))),
         (0x0071_0001, Ok(Command::DisableWq(seventeenth))),
         (0x0070_0004, Ok(Command::DisableWq(third))),
-        (0x0080_0001, Ok(Command::DrainWq(first))),
-        (0x8090_0001, Ok(Command::AbortWq(first))),
-        (0x00a0_0001, Ok(Command::ResetWq(first))),
+        (0x0080_0001, Ok(Command::DrainWq(FIRST_QUEUE))),
+        (0x8090_0001, Ok(Command::AbortWq(FIRST_QUEUE))),
+        (0x00a0_0001, Ok(Command::ResetWq(FIRST_QUEUE))),
         (0x80b0_0005, Ok(Command::DrainPasid(5))),
         (0x00c0_0005, Ok(Command::AbortPasid(5))),
     ];

@@ -1,26 +1,22 @@
 //! Each public call on examples from outside: the layout and the numbers of the public header
 //! `linux/idxd.h`, and printed text.
 
-use crate::completion::{
+use bitflags::Flags;
+use dsa_desc::completion::{
     DSA_COMP_BAD_OPCODE, DSA_COMP_DESC_CNT_ERANGE, DSA_COMP_INVALID_FLAGS, DSA_COMP_NONE,
     DSA_COMP_PAGE_FAULT_NOBOF, DSA_COMP_SUCCESS, DSA_COMP_XFER_ERANGE,
 };
-use crate::opcode::{
+use dsa_desc::opcode::{
     DSA_OPCODE_BATCH, DSA_OPCODE_COMPARE, DSA_OPCODE_DRAIN, DSA_OPCODE_MEMFILL, DSA_OPCODE_MEMMOVE,
     DSA_OPCODE_NOOP,
 };
-use crate::{Descriptor, DescriptorFlags, Outcome, QueueLimits, enqcmd_image};
-use bitflags::Flags;
+use dsa_desc::{Descriptor, DescriptorFlags, Outcome, QueueLimits, enqcmd_image};
+use dsa_fixtures::LIMITS;
 use std::test::Fail;
-
-const LIMITS: QueueLimits = QueueLimits {
-    max_batch_shift: 3,
-    max_xfer_shift: 20,
-};
 
 /// 64 bytes with these first eight and this size, the addresses and all after the size as a driver
 /// may leave them.
-fn bytes_of(head: [u8; 8], size: [u8; 4]) -> [u8; 64] {
+fn drivers_bytes(head: [u8; 8], size: [u8; 4]) -> [u8; 64] {
     let mut bytes = [0x5a; 64];
     bytes[..8].copy_from_slice(&head);
     bytes[32..36].copy_from_slice(&size);
@@ -103,7 +99,7 @@ fn reads_fields(rt: HostRuntime) {
             op,
             size: number,
         };
-        assert_eq!(rt; Descriptor::parse(&bytes_of(head, size)), want);
+        assert_eq!(rt; Descriptor::parse(&drivers_bytes(head, size)), want);
     }
 }
 
@@ -118,7 +114,7 @@ fn accepts_drivers_descriptors(rt: HostRuntime) {
         ([0x01, 0, 0, 0, 0x0c, 0, 0, 0x01], [8, 0, 0, 0]),
     ];
     for (head, size) in rows {
-        let descriptor = Descriptor::parse(&bytes_of(head, size));
+        let descriptor = Descriptor::parse(&drivers_bytes(head, size));
         assert!(rt; descriptor.is_well_formed(&LIMITS, false), "{descriptor}");
         assert_eq!(rt;
             descriptor.status(&LIMITS, false, Outcome::Success),
@@ -130,14 +126,14 @@ fn accepts_drivers_descriptors(rt: HostRuntime) {
 
 #[test]
 fn writes_images(rt: HostRuntime) {
-    let source = bytes_of([0xff, 0xff, 0xff, 0xff, 0x0c, 0, 0, 0x03], [0, 0x10, 0, 0]);
+    let source = drivers_bytes([0xff, 0xff, 0xff, 0xff, 0x0c, 0, 0, 0x03], [0, 0x10, 0, 0]);
     let rows = [
         (5, [0x05, 0, 0, 0]),
         (0xf_ffff, [0xff, 0xff, 0x0f, 0]),
         (0xffff_ffff, [0xff, 0xff, 0x0f, 0]),
     ];
     for (pasid, [first, second, third, fourth]) in rows {
-        let want = bytes_of(
+        let want = drivers_bytes(
             [first, second, third, fourth, 0x0c, 0, 0, 0x03],
             [0, 0x10, 0, 0],
         );

@@ -1,56 +1,18 @@
-//! Each call of a device over a store of vectors: one shared queue, one group and one engine.
+//! Each call of a device over a store of vectors: queue 0 is shared, with its group and its engine, and queue 1 is left Off.
 
-use crate::{Device, MakeFault};
 use dsa_book::{
     Cause, ClearAnswer, DispatchAnswer, Event, Fate, FetchAnswer, FinishAnswer, IssueAnswer, Kind,
     NotedError, PollAnswer, Portal, Reply, StartAnswer, Step, SubmitAnswer, Ticket, WriteAnswer,
 };
 use dsa_desc::{Descriptor, Outcome};
-use dsa_regs::{Caps, Command, Fault, GroupConfig, QueueConfig};
+use dsa_device::{Device, MakeFault};
+use dsa_fixtures::{
+    CAPS, CELLS, ENABLED, ENQCMD, FIRST_GROUP as GROUP, LISTS, MOVE as PAGE, NO_OP,
+    SHARED_QUEUE as QUEUE, batch_of,
+};
+use dsa_regs::{Caps, Command, Fault};
 use dsa_store::{Cell, Entry, EntryStore, ListId, PlainStore};
 use std::test::Fail;
-
-const CAPS: Caps = Caps {
-    queues: 1,
-    groups: 1,
-    engines: 1,
-    total_size: 4,
-    read_buffers: 16,
-    slots: 2,
-    max_batch_shift: 3,
-    max_xfer_shift: 20,
-};
-
-// The lists and cells that these capabilities ask of a store.
-const LISTS: u16 = 3;
-
-const CELLS: u32 = 14;
-
-const QUEUE: QueueConfig = QueueConfig {
-    size: 4,
-    threshold: 2,
-    dedicated: false,
-    priority: 1,
-    pasid: 0,
-    max_batch_shift: 3,
-    max_xfer_shift: 20,
-};
-
-const GROUP: GroupConfig = GroupConfig {
-    queues: 1,
-    engines: 1,
-    reserved: 4,
-    allowed: 8,
-};
-
-const ENQCMD: Kind = Kind::Enqcmd { pasid: 5 };
-
-const NO_OP: Descriptor = Descriptor {
-    pasid: 0,
-    flags: 0,
-    op: 0,
-    size: 0,
-};
 
 const TICKET: Ticket = Ticket {
     cell: Cell(0),
@@ -128,9 +90,9 @@ fn new_device(rt: HostRuntime) -> Result<(), Fail> {
     assert_eq!(rt; device.caps(), CAPS);
     assert_eq!(rt; device.capacity(), 8);
     assert_eq!(rt; device.occupancy(0), Some(0));
-    assert_eq!(rt; device.occupancy(1), None);
+    assert_eq!(rt; device.occupancy(2), None);
     assert_eq!(rt; device.used(0), Some(0));
-    assert_eq!(rt; device.used(1), None);
+    assert_eq!(rt; device.used(2), None);
     assert_eq!(rt; device.noted(), None);
     assert_eq!(rt; device.active(), None);
     assert_eq!(rt; device.held(), 0);
@@ -159,9 +121,9 @@ fn steps_while_off(rt: HostRuntime) -> Result<(), Fail> {
     assert_eq!(rt; device.clear_error(), ClearAnswer::Nothing);
     assert_eq!(rt; device.write_queue(0, QUEUE), WriteAnswer::Written);
     let missing = WriteAnswer::Refused(Fault::BadIndex);
-    assert_eq!(rt; device.write_queue(1, QUEUE), missing);
+    assert_eq!(rt; device.write_queue(2, QUEUE), missing);
     assert_eq!(rt; device.write_group(0, GROUP), WriteAnswer::Written);
-    assert_eq!(rt; device.write_group(1, GROUP), missing);
+    assert_eq!(rt; device.write_group(2, GROUP), missing);
     assert_eq!(rt; device.dispatch(0), DispatchAnswer::Idle);
     assert_eq!(rt; device.fetch(0, NO_OP), FetchAnswer::NoBatch);
     assert_eq!(rt; device.start(0), StartAnswer::Nothing);
@@ -200,39 +162,8 @@ fn no_room_for_any_step(rt: HostRuntime) -> Result<(), Fail> {
     Ok(())
 }
 
-// What enables the device with its queue.
-const ENABLED: [Event; 4] = [
-    Event::WriteQueue {
-        queue: 0,
-        config: QUEUE,
-    },
-    Event::WriteGroup {
-        group: 0,
-        config: GROUP,
-    },
-    Event::Issue {
-        command: Command::EnableDevice,
-    },
-    Event::Issue {
-        command: Command::EnableWq(0),
-    },
-];
-
 // A Memory Move of two pages.
-const MOVE: Descriptor = Descriptor {
-    pasid: 0,
-    flags: 0,
-    op: 3,
-    size: 8192,
-};
-
-// A Batch of two.
-const BATCH: Descriptor = Descriptor {
-    pasid: 0,
-    flags: 0,
-    op: 1,
-    size: 2,
-};
+const MOVE: Descriptor = Descriptor { size: 8192, ..PAGE };
 
 fn submission(desc: Descriptor) -> Event {
     Event::Submit {
@@ -286,7 +217,7 @@ fn drain_ends_with_its_batch(rt: HostRuntime) -> Result<(), Fail> {
     let mut device = enabled(&rt, 64)?;
     assert!(rt;
         matches!(
-            device.step(submission(BATCH)),
+            device.step(submission(batch_of(2))),
             Reply::Submit(SubmitAnswer::Accepted(_))
         )
     );

@@ -1,9 +1,12 @@
-use crate::{
+//! Replies, actors, and the book that keeps them.
+
+use dsa_book::{
     Actor, Book, Cause, ClearAnswer, DispatchAnswer, Event, Fate, FateRow, FetchAnswer,
     FinishAnswer, IssueAnswer, Kind, NotedError, PollAnswer, Portal, Reply, StartAnswer, Step,
     SubmitAnswer, Ticket, WriteAnswer,
 };
-use dsa_desc::{Descriptor, Outcome};
+use dsa_desc::Outcome;
+use dsa_fixtures::{ENQCMD, NO_OP};
 use dsa_regs::{Command, Fault, GroupConfig, QueueConfig};
 use dsa_store::Cell;
 use std::test::Fail;
@@ -11,13 +14,6 @@ use std::test::Fail;
 const TICKET: Ticket = Ticket {
     cell: Cell(3),
     name: 7,
-};
-
-const NO_OP: Descriptor = Descriptor {
-    pasid: 5,
-    flags: 0,
-    op: 0,
-    size: 0,
 };
 
 const NOTED: NotedError = NotedError {
@@ -32,15 +28,14 @@ fn row(name: u32, parent: Option<u32>, fate: Fate) -> FateRow {
 
 #[test]
 fn zero_flags(rt: HostRuntime) {
-    let enqcmd = Kind::Enqcmd { pasid: 5 };
     let table = [
-        (SubmitAnswer::Accepted(TICKET), enqcmd, Some(false)),
+        (SubmitAnswer::Accepted(TICKET), ENQCMD, Some(false)),
         (SubmitAnswer::Accepted(TICKET), Kind::Movdir64b, None),
-        (SubmitAnswer::Retry(Cause::AtLimit), enqcmd, Some(true)),
-        (SubmitAnswer::Retry(Cause::NotEnabled), enqcmd, Some(true)),
-        (SubmitAnswer::Retry(Cause::WrongKind), enqcmd, Some(true)),
+        (SubmitAnswer::Retry(Cause::AtLimit), ENQCMD, Some(true)),
+        (SubmitAnswer::Retry(Cause::NotEnabled), ENQCMD, Some(true)),
+        (SubmitAnswer::Retry(Cause::WrongKind), ENQCMD, Some(true)),
         (SubmitAnswer::Dropped(Cause::AtLimit), Kind::Movdir64b, None),
-        (SubmitAnswer::Full, enqcmd, None),
+        (SubmitAnswer::Full, ENQCMD, None),
         (SubmitAnswer::Full, Kind::Movdir64b, None),
     ];
     for (answer, kind, flag) in table {

@@ -1,90 +1,17 @@
 //! Each call at a store of vectors, on two queues: queue 0 is shared, of size 4 and threshold 2, and queue 1 dedicated, of size 2.
 
-use crate::Queues;
+use crate::setup::enabled;
 use dsa_book::{Cause, ClearAnswer, Kind, NotedError, Portal, SubmitAnswer, Ticket, WriteAnswer};
-use dsa_desc::{Descriptor, Outcome, QueueLimits};
-use dsa_regs::{
-    Caps, Fault, GroupConfig, Phase, QueueConfig, QueueMask, Scope, cell_count, check_caps,
-    list_count,
+use dsa_desc::Outcome;
+use dsa_fixtures::{
+    CAPS, CELLS, DEDICATED_QUEUE as DEDICATED, ENQCMD, FIRST_GROUP, FIRST_QUEUE, LIMITS, LISTS,
+    MOVE, SECOND_GROUP, SHARED_QUEUE as SHARED,
 };
+use dsa_queues::Queues;
+use dsa_regs::{Fault, GroupConfig, Phase, QueueConfig, Scope, cell_count, list_count};
 use dsa_store::{EntryStore, ListId, PlainStore, front_slot};
 use std::process::Abort;
 use std::test::Fail;
-
-const CAPS: Caps = Caps {
-    queues: 2,
-    groups: 2,
-    engines: 2,
-    total_size: 8,
-    read_buffers: 16,
-    slots: 2,
-    max_batch_shift: 3,
-    max_xfer_shift: 20,
-};
-
-const SHARED: QueueConfig = QueueConfig {
-    size: 4,
-    threshold: 2,
-    dedicated: false,
-    priority: 1,
-    pasid: 0,
-    max_batch_shift: 3,
-    max_xfer_shift: 20,
-};
-
-const DEDICATED: QueueConfig = QueueConfig {
-    size: 2,
-    threshold: 0,
-    dedicated: true,
-    priority: 2,
-    pasid: 7,
-    max_batch_shift: 3,
-    max_xfer_shift: 20,
-};
-
-const FIRST_GROUP: GroupConfig = GroupConfig {
-    queues: 1,
-    engines: 1,
-    reserved: 4,
-    allowed: 8,
-};
-
-const SECOND_GROUP: GroupConfig = GroupConfig {
-    queues: 2,
-    engines: 2,
-    reserved: 8,
-    allowed: 12,
-};
-
-const ENQCMD: Kind = Kind::Enqcmd { pasid: 5 };
-
-// A Memory Move of one page.
-const MOVE: Descriptor = Descriptor {
-    pasid: 0,
-    flags: 0,
-    op: 3,
-    size: 4096,
-};
-
-// The queues of a device before anything is written.
-fn unwritten(rt: &impl Abort) -> Queues {
-    assert!(rt; check_caps(&CAPS));
-    Queues::new(CAPS)
-}
-
-// The queues with both written and on.
-fn enabled(rt: &impl Abort) -> Queues {
-    let mut queues = unwritten(rt);
-    assert_eq!(rt; queues.write_queue(0, SHARED), WriteAnswer::Written);
-    assert_eq!(rt; queues.write_queue(1, DEDICATED), WriteAnswer::Written);
-    assert_eq!(rt; queues.write_group(0, FIRST_GROUP), WriteAnswer::Written);
-    assert_eq!(rt; queues.write_group(1, SECOND_GROUP), WriteAnswer::Written);
-    queues.set_device(Phase::On);
-    assert!(rt; queues.has_queue(0) && queues.has_queue(1) && !queues.has_queue(2));
-    queues.set_phase(0, Phase::On);
-    queues.set_phase(1, Phase::On);
-    queues
-}
 
 // The move is submitted, once it is seen that a cell and a name are left.
 fn submit<S: EntryStore>(
@@ -110,7 +37,7 @@ fn name_of(answer: SubmitAnswer) -> Option<u32> {
 }
 
 fn both_portals<S: EntryStore>(rt: &impl Abort, store: &mut S) {
-    let mut queues = enabled(rt);
+    let mut queues = enabled(rt, [FIRST_GROUP, SECOND_GROUP]);
     let full = SubmitAnswer::Retry(Cause::AtLimit);
     for name in 0..2 {
         let answer = submit(rt, &mut queues, store, 0, Portal::Limited, ENQCMD);
@@ -141,13 +68,13 @@ fn both_portals<S: EntryStore>(rt: &impl Abort, store: &mut S) {
 
 #[test]
 fn threshold_bounds_the_limited_portal(rt: HostRuntime) -> Result<(), Fail> {
-    let mut store = PlainStore::new(rt.alloc(), 6, 28)?;
+    let mut store = PlainStore::new(rt.alloc(), LISTS, CELLS)?;
     both_portals(&rt, &mut store);
     Ok(())
 }
 
 fn dropped_twice<S: EntryStore>(rt: &impl Abort, store: &mut S) {
-    let mut queues = enabled(rt);
+    let mut queues = enabled(rt, [FIRST_GROUP, SECOND_GROUP]);
     let full = SubmitAnswer::Dropped(Cause::AtLimit);
     let mut noted = NotedError {
         queue: 1,
@@ -190,13 +117,13 @@ fn dropped_twice<S: EntryStore>(rt: &impl Abort, store: &mut S) {
 
 #[test]
 fn dropped_descriptors_are_noted(rt: HostRuntime) -> Result<(), Fail> {
-    let mut store = PlainStore::new(rt.alloc(), 6, 28)?;
+    let mut store = PlainStore::new(rt.alloc(), LISTS, CELLS)?;
     dropped_twice(&rt, &mut store);
     Ok(())
 }
 
 fn turned_away<S: EntryStore>(rt: &impl Abort, store: &mut S) {
-    let mut queues = enabled(rt);
+    let mut queues = enabled(rt, [FIRST_GROUP, SECOND_GROUP]);
     let wrong = Cause::WrongKind;
     assert_eq!(rt;
         submit(rt, &mut queues, store, 1, Portal::Limited, ENQCMD),
@@ -231,13 +158,13 @@ fn turned_away<S: EntryStore>(rt: &impl Abort, store: &mut S) {
 
 #[test]
 fn causes_come_in_order(rt: HostRuntime) -> Result<(), Fail> {
-    let mut store = PlainStore::new(rt.alloc(), 6, 28)?;
+    let mut store = PlainStore::new(rt.alloc(), LISTS, CELLS)?;
     turned_away(&rt, &mut store);
     Ok(())
 }
 
 fn entries<S: EntryStore>(rt: &impl Abort, store: &mut S) {
-    let mut queues = enabled(rt);
+    let mut queues = enabled(rt, [FIRST_GROUP, SECOND_GROUP]);
     assert_eq!(rt;
         name_of(submit(rt, &mut queues, store, 0, Portal::Limited, ENQCMD)),
         Some(0)
@@ -260,14 +187,14 @@ fn entries<S: EntryStore>(rt: &impl Abort, store: &mut S) {
 
 #[test]
 fn entry_is_asked_about(rt: HostRuntime) -> Result<(), Fail> {
-    let mut store = PlainStore::new(rt.alloc(), 6, 28)?;
+    let mut store = PlainStore::new(rt.alloc(), LISTS, CELLS)?;
     entries(&rt, &mut store);
     Ok(())
 }
 
 #[test]
 fn parts_are_read(rt: HostRuntime) {
-    let queues = enabled(&rt);
+    let queues = enabled(&rt, [FIRST_GROUP, SECOND_GROUP]);
     assert_eq!(rt; queues.caps(), CAPS);
     assert_eq!(rt; queues.device(), Phase::On);
     assert_eq!(rt; queues.phase(1), Phase::On);
@@ -280,22 +207,19 @@ fn parts_are_read(rt: HostRuntime) {
     assert_eq!(rt; queues.group_of(2), None);
     assert!(rt; queues.has_queue_in(1, 1) && !queues.has_queue_in(1, 0));
     assert_eq!(rt; queues.priority(1), 2);
-    let limits = QueueLimits {
-        max_batch_shift: 3,
-        max_xfer_shift: 20,
-    };
-    assert_eq!(rt; queues.limits(0), limits);
+    assert_eq!(rt; queues.limits(0), LIMITS);
 }
 
 #[test]
 fn writes_are_refused(rt: HostRuntime) {
-    let mut queues = enabled(&rt);
+    let mut queues = enabled(&rt, [FIRST_GROUP, SECOND_GROUP]);
     let locked = WriteAnswer::Refused(Fault::Locked);
     let unknown = WriteAnswer::Refused(Fault::BadIndex);
     assert_eq!(rt; queues.write_queue(0, SHARED), locked);
     assert_eq!(rt; queues.write_queue(2, SHARED), unknown);
     assert_eq!(rt; queues.write_group(0, FIRST_GROUP), locked);
     assert_eq!(rt; queues.write_group(2, FIRST_GROUP), unknown);
+    assert!(rt; queues.has_queue(0));
     queues.set_phase(0, Phase::Off);
     let threshold = QueueConfig {
         threshold: 4,
@@ -311,12 +235,12 @@ fn writes_are_refused(rt: HostRuntime) {
 
 #[test]
 fn commands_change_phases_and_configurations(rt: HostRuntime) {
-    let mut queues = enabled(&rt);
+    let mut queues = enabled(&rt, [FIRST_GROUP, SECOND_GROUP]);
     queues.set_phases(&Scope::Queue(1), Phase::Off);
     queues.set_live_phases(Phase::Stopping);
     assert_eq!(rt; queues.phase(0), Phase::Stopping);
     assert_eq!(rt; queues.phase(1), Phase::Off);
-    queues.keep_sizes(&Scope::Queues(QueueMask { group: 0, mask: 1 }));
+    queues.keep_sizes(&Scope::Queues(FIRST_QUEUE));
     let size = QueueConfig {
         size: 4,
         ..QueueConfig::default()

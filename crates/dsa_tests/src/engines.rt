@@ -4,74 +4,44 @@ ghost use Rattle.std.specs.Prelude.{◌≡◌, None};
 ghost use Rattle.dsa_regs.specs.Config.{check_device};
 ghost use Rattle.dsa_engines.specs.Engines.{IsInStep, IsReady};
 
-use super::*;
+use crate::setup::enabled;
 use dsa_book::{
     Book, DispatchAnswer, Fate, FateRow, FetchAnswer, FinishAnswer, StartAnswer, Ticket,
 };
 use dsa_desc::{Descriptor, Outcome};
+use dsa_engines::Engines;
+use dsa_fixtures::{CELLS, LARGE_MOVE, LISTS, MOVE, batch_of};
 use dsa_queues::Queues;
-use dsa_regs::{
-    Caps, GroupConfig, Phase, QueueConfig, cell_count, check_caps, check_device, list_count,
-};
+use dsa_regs::{GroupConfig, Phase, cell_count, check_caps, check_device, list_count};
 use dsa_store::{Cell, Entry, EntryStore, ListId, PlainStore};
 use std::process::Abort;
 use std::test::Fail;
 
-const CAPS: Caps = Caps {
-    queues: 2,
-    groups: 1,
-    engines: 1,
-    total_size: 4,
-    read_buffers: 8,
-    slots: 2,
-    max_batch_shift: 1,
-    max_xfer_shift: 20,
-};
+// Both queues in the first group, which has four read buffers, and nothing in the second.
+const GROUPS: [GroupConfig; 2] = [
+    GroupConfig {
+        queues: 3,
+        engines: 1,
+        reserved: 0,
+        allowed: 4,
+    },
+    GroupConfig {
+        queues: 0,
+        engines: 0,
+        reserved: 0,
+        allowed: 0,
+    },
+];
 
-const QUEUE: QueueConfig = QueueConfig {
-    size: 2,
-    threshold: 2,
-    dedicated: false,
-    priority: 1,
-    pasid: 0,
-    max_batch_shift: 1,
-    max_xfer_shift: 20,
-};
-
-const GROUP: GroupConfig = GroupConfig {
-    queues: 3,
-    engines: 1,
-    reserved: 0,
-    allowed: 4,
-};
-
-// A memory move of as many pages of 4096 bytes.
-fn move_of(name: u32, queue: u16, pages: u8) -> Entry {
+// An entry that was submitted.
+fn entry(name: u32, queue: u16, desc: Descriptor) -> Entry {
     Entry {
         name,
         parent: None,
-        desc: Descriptor {
-            pasid: 5,
-            flags: 0,
-            op: 3,
-            size: 4096 * u32::from(pages),
-        },
+        desc,
         queue,
         running: false,
     }
-}
-
-// The queues of an enabled device.
-fn enabled_queues(rt: &impl Abort) -> Queues {
-    let mut queues = Queues::new(CAPS);
-    for queue in 0..2 {
-        assert!(rt; queues.has_queue(queue));
-        queues.set_queue(queue, QUEUE);
-    }
-    assert!(rt; queues.caps().groups == 1);
-    queues.set_group(0, GROUP);
-    queues.set_device(Phase::On);
-    queues
 }
 
 // What each call asks of the queues and the store, tested.
@@ -106,19 +76,19 @@ fn put<S: EntryStore>(
     cell
 }
 
-// Two entries that need all buffers of the group: the second waits for the end of the first.
+// The first of two entries needs all buffers of the group: the second waits for its end.
 fn one_runs_at_a_time<S: EntryStore>(rt: &impl Abort, store: &mut S, book: &mut Book) {
-    let queues = enabled_queues(rt);
+    let queues = enabled(rt, GROUPS);
     let mut engines = Engines::new(&queues.caps());
     ready(rt, &queues, store);
     assert!(rt; store.free() == store.cells());
     engines.enable(&queues);
     assert_eq!(rt; engines.dispatch(&queues, store, 0), DispatchAnswer::Idle);
-    let cell = put(rt, &queues, &engines, store, move_of(10, 0, 4));
-    let second = put(rt, &queues, &engines, store, move_of(11, 1, 1));
+    let cell = put(rt, &queues, &engines, store, entry(10, 1, LARGE_MOVE));
+    let second = put(rt, &queues, &engines, store, entry(11, 0, MOVE));
     ready(rt, &queues, store);
     let ticket = Ticket { cell, name: 10 };
-    let taken = DispatchAnswer::Taken { ticket, queue: 0 };
+    let taken = DispatchAnswer::Taken { ticket, queue: 1 };
     assert_eq!(rt; engines.dispatch(&queues, store, 0), taken);
     ready(rt, &queues, store);
     assert_eq!(rt; engines.dispatch(&queues, store, 0), DispatchAnswer::Idle);
@@ -142,7 +112,7 @@ fn one_runs_at_a_time<S: EntryStore>(rt: &impl Abort, store: &mut S, book: &mut 
         cell: second,
         name: 11,
     };
-    let taken = DispatchAnswer::Taken { ticket, queue: 1 };
+    let taken = DispatchAnswer::Taken { ticket, queue: 0 };
     assert_eq!(rt; engines.dispatch(&queues, store, 0), taken);
 }
 
@@ -159,8 +129,8 @@ fn start_one<S: EntryStore>(
 {
     let caps = queues.caps();
     ready(rt, queues, store);
-    assert!(rt; caps.queues == 2 && caps.engines == 1);
-    let members = store.len(ListId(3));
+    assert!(rt; caps.queues == 2 && caps.engines == 2);
+    let members = store.len(ListId(4));
     assert!(rt; members <= 1);
     assert!(rt; book.fates().len() + 1 <= book.capacity());
     engines.start(queues, store, book, 0)
@@ -197,12 +167,12 @@ fn fetch_move<S: EntryStore>(
     assert!(rt; store.cells() == cell_count(&queues.caps()));
     assert!(rt; store.free() > 0);
     assert!(rt; queues.next_name() < 100);
-    engines.fetch(queues, store, 0, move_of(0, 0, 1).desc)
+    engines.fetch(queues, store, 0, MOVE)
 }
 
 // A batch of two: it ends after its members, and as failed where one of them failed.
 fn batch_ends_last<S: EntryStore>(rt: &impl Abort, store: &mut S, book: &mut Book) {
-    let mut queues = enabled_queues(rt);
+    let mut queues = enabled(rt, GROUPS);
     let mut engines = Engines::new(&queues.caps());
     ready(rt, &queues, store);
     assert!(rt; store.free() == store.cells());
@@ -211,10 +181,7 @@ fn batch_ends_last<S: EntryStore>(rt: &impl Abort, store: &mut S, book: &mut Boo
         fetch_move(rt, &mut queues, &mut engines, store),
         FetchAnswer::NoBatch
     );
-    let mut batch = move_of(20, 0, 1);
-    batch.desc.op = 1;
-    batch.desc.size = 2;
-    let cell = put(rt, &queues, &engines, store, batch);
+    let cell = put(rt, &queues, &engines, store, entry(20, 0, batch_of(2)));
     ready(rt, &queues, store);
     let ticket = Ticket { cell, name: 20 };
     let taken = DispatchAnswer::Taken { ticket, queue: 0 };
@@ -242,7 +209,7 @@ fn batch_ends_last<S: EntryStore>(rt: &impl Abort, store: &mut S, book: &mut Boo
 
 #[test]
 fn buffers_of_a_group(rt: HostRuntime) -> Result<(), Fail> {
-    let mut store = PlainStore::new(rt.alloc(), 4, 8)?;
+    let mut store = PlainStore::new(rt.alloc(), LISTS, CELLS)?;
     let mut book = Book::new(rt.alloc(), 2)?;
     one_runs_at_a_time(&rt, &mut store, &mut book);
     Ok(())
@@ -250,7 +217,7 @@ fn buffers_of_a_group(rt: HostRuntime) -> Result<(), Fail> {
 
 #[test]
 fn members_of_a_batch(rt: HostRuntime) -> Result<(), Fail> {
-    let mut store = PlainStore::new(rt.alloc(), 4, 8)?;
+    let mut store = PlainStore::new(rt.alloc(), LISTS, CELLS)?;
     let mut book = Book::new(rt.alloc(), 4)?;
     batch_ends_last(&rt, &mut store, &mut book);
     Ok(())

@@ -1,0 +1,31 @@
+//! The queues of the small device, written and enabled.
+
+use dsa_book::WriteAnswer;
+use dsa_fixtures::{CAPS, DEDICATED_QUEUE, SHARED_QUEUE};
+use dsa_queues::Queues;
+use dsa_regs::{GroupConfig, Phase, check_caps};
+use std::process::Abort;
+
+/// The queues of a device that is Off, with both queues and both groups written.
+pub fn written(rt: &impl Abort, groups: [GroupConfig; 2]) -> Queues {
+    assert!(rt; check_caps(&CAPS));
+    let mut queues = Queues::new(CAPS);
+    assert_eq!(rt; queues.write_queue(0, SHARED_QUEUE), WriteAnswer::Written);
+    assert_eq!(rt;
+        queues.write_queue(1, DEDICATED_QUEUE),
+        WriteAnswer::Written
+    );
+    assert_eq!(rt; queues.write_group(0, groups[0]), WriteAnswer::Written);
+    assert_eq!(rt; queues.write_group(1, groups[1]), WriteAnswer::Written);
+    queues
+}
+
+/// The same with the device and both queues On.
+pub fn enabled(rt: &impl Abort, groups: [GroupConfig; 2]) -> Queues {
+    let mut queues = written(rt, groups);
+    queues.set_device(Phase::On);
+    assert!(rt; queues.has_queue(0) && queues.has_queue(1) && !queues.has_queue(2));
+    queues.set_phase(0, Phase::On);
+    queues.set_phase(1, Phase::On);
+    queues
+}
