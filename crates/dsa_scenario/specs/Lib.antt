@@ -6,3 +6,4 @@ pub mod Run
 pub mod Scenario
 pub mod Threads
 pub mod Words
+pub mod Worked

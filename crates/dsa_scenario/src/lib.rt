@@ -12,6 +12,7 @@ mod fields;
 mod lines;
 mod options;
 mod reading;
+pub mod rows;
 mod run;
 mod scenario;
 mod threads;

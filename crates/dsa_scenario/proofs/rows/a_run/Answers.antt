@@ -1,0 +1,15 @@
+use Rattle.std.proofs.Common.{refl}
+use Rattle.std.specs.Fmt.{digits}
+use Rattle.dsa_scenario.specs.Worked.{records_of_a_run}
+use Rattle.dsa_scenario.proofs.rows.a_run.Goals as goal
+
+pub returns : goal.returns
+unfolding digits
+returns c = record {
+  records = records_of_a_run;
+  last = _;
+  events = (refl, (refl, (refl, (refl, (refl, (refl, (refl, (refl, (refl, tt)))))))));
+  run = refl;
+  replayed = refl;
+  rendered = refl;
+}

@@ -1,0 +1,402 @@
+//! Worked documents, lines and words: what the definitions answer at chosen values, by computation.
+
+ghost use Rattle.std.specs.Prelude.{◌≡◌, ◌^◌, ◌++◌, [], ◌∷◌, codes, map, replicate, negsuc, Some, None, Ok, Err, true, false};
+ghost use Rattle.serde_json.specs.Data.{negative, null, boolean, number, string, array, no_items, item};
+ghost use Rattle.dsa_desc.specs.declared.Outcome.TheVariants.{Success, PageFault};
+ghost use Rattle.dsa_regs.specs.declared.Command.TheVariants.{EnableDevice, EnableWq};
+ghost use Rattle.dsa_regs.specs.declared.Fault.TheVariants.{BadCommand, Busy, BadIndex};
+ghost use Rattle.dsa_book.specs.declared.answer.Cause.TheVariants.{AtLimit, NotEnabled, WrongKind};
+ghost use Rattle.dsa_book.specs.declared.answer.ClearAnswer.TheVariants.{Cleared, Nothing, Full};
+ghost use Rattle.dsa_book.specs.declared.answer.DispatchAnswer.TheVariants.{Taken, Idle, Full};
+ghost use Rattle.dsa_book.specs.declared.answer.FetchAnswer.TheVariants.{Fetched, NoBatch, AllFetched, Full};
+ghost use Rattle.dsa_book.specs.declared.answer.FinishAnswer.TheVariants.{Done, NotReady, Gone, Full};
+ghost use Rattle.dsa_book.specs.declared.answer.IssueAnswer.TheVariants.{Ended, Active, Refused, Full};
+ghost use Rattle.dsa_book.specs.declared.answer.PollAnswer.TheVariants.{Finished, Active, Nothing, Full};
+ghost use Rattle.dsa_book.specs.declared.answer.Reply.TheVariants.{Submit, Dispatch, Fetch, Start, Finish, Issue, Poll, Write, Clear};
+ghost use Rattle.dsa_book.specs.declared.answer.StartAnswer.TheVariants.{Started, FenceWait, NoBuffers, Abandoned, Nothing, Full};
+ghost use Rattle.dsa_book.specs.declared.answer.SubmitAnswer.TheVariants.{Accepted, Retry, Dropped, Full};
+ghost use Rattle.dsa_book.specs.declared.answer.WriteAnswer.TheVariants.{Written, Refused, Full};
+ghost use Rattle.dsa_book.specs.declared.event.Event.TheVariants.{Submit, Dispatch, Fetch, Start, Finish, Issue, Poll, WriteQueue, WriteGroup, ClearError};
+ghost use Rattle.dsa_book.specs.declared.event.Kind.TheVariants.{Enqcmd, Movdir64b};
+ghost use Rattle.dsa_book.specs.declared.event.Portal.TheVariants.{Limited, Unlimited};
+ghost use Rattle.dsa_book.specs.declared.fate.Fate.TheVariants.{Completed, Aborted, Abandoned};
+ghost use Rattle.dsa_scenario.specs.declared.actions.Action.TheVariants.{Ask, Finish, Refuse};
+ghost use Rattle.dsa_scenario.specs.declared.faults.ScenarioFault.TheVariants.{NotJson, BadDocument, BadStep, BadCaps, BadCapacity};
+ghost use Rattle.dsa_scenario.specs.declared.options.Asked.TheVariants.{Scenario, Threads};
+ghost use Rattle.dsa_scenario.specs.declared.run.Record.TheVariants.{Refused};
+ghost use Rattle.clap.specs.declared.error.kind.ErrorKind.TheVariants.{UnknownArgument, InvalidSubcommand, ValueValidation, DisplayHelp};
+ghost use Rattle.dsa_scenario.specs.Fields.{whole_of, truth_of, text_of, hex_bytes_of};
+ghost use Rattle.dsa_scenario.specs.Actions.{caps_of, action_of};
+ghost use Rattle.dsa_scenario.specs.Document.{head_of, list_of, IsFaultOf};
+ghost use Rattle.dsa_scenario.specs.Lines.{reply_text, record_text, row_text, lines_of};
+ghost use Rattle.dsa_scenario.specs.Run.{ticket_of, event_of, steps_of, AreLinesOf};
+ghost use Rattle.dsa_scenario.specs.Scenario.{IsRenderingOf};
+ghost use Rattle.dsa_scenario.specs.Threads.{AreTotalsOf, IsInRange, Submits, caps_for, capacity_for, engine_script, group_config, move, queue_config, setup_events, submission_of, totals_text};
+ghost use Rattle.dsa_scenario.specs.Words.{AsksFor, IsMistaken, faults_of};
+ghost use Rattle.dsa_scenario.specs.Worked.{move_bytes, actions_of_a_run, lines_of_a_run, whole, read_number, fate, load, threads_with, value_in, command_in, smallest_caps_text, no_caps_text, document_text, object_of, changed, texts, takes, refuses, needs_each, are_below, is_truth, is_text, some_caps, some_document, queue_step, group_step, fill_text, fill, enqcmd_step, movdir_step, dispatch_step, fetch_step, start_step, finish_step, command_step, poll_step, clear_step, ticket, stepped, accepted, fetched};
+
+/// Numbers are whole, without sign, and below the limit of their field; the key stands in an object.
+pub fn numbers()
+    ensures zero { whole_of (2 ^ 8) (codes "n") (object_of ((codes "n", whole 0) ∷ [])) ≡ Some 0 }
+    ensures below { whole_of (2 ^ 8) (codes "n") (object_of ((codes "n", whole 255) ∷ [])) ≡ Some 255 }
+    ensures at { whole_of (2 ^ 8) (codes "n") (object_of ((codes "n", whole 256) ∷ [])) ≡ None }
+    ensures above { whole_of (2 ^ 8) (codes "n") (object_of ((codes "n", whole 257) ∷ [])) ≡ None }
+    ensures negative { whole_of (2 ^ 8) (codes "n") (object_of ((codes "n", number (negative (negsuc 0))) ∷ [])) ≡ None }
+    ensures text { whole_of (2 ^ 8) (codes "n") (object_of ((codes "n", string (codes "1")) ∷ [])) ≡ None }
+    ensures truth { whole_of (2 ^ 8) (codes "n") (object_of ((codes "n", boolean true) ∷ [])) ≡ None }
+    ensures other_key { whole_of (2 ^ 8) (codes "n") (object_of ((codes "N", whole 1) ∷ [])) ≡ None }
+    ensures no_object { whole_of (2 ^ 8) (codes "n") (whole 1) ≡ None }
+{}
+
+/// Truth values and texts are read as they stand, and nothing else is.
+pub fn truth_values_and_texts()
+    ensures yes { truth_of (codes "b") (object_of ((codes "b", boolean true) ∷ [])) ≡ Some true }
+    ensures no { truth_of (codes "b") (object_of ((codes "b", boolean false) ∷ [])) ≡ Some false }
+    ensures no_truth { truth_of (codes "b") (object_of ((codes "b", whole 1) ∷ [])) ≡ None }
+    ensures text { text_of (codes "t") (object_of ((codes "t", string (codes "yes")) ∷ [])) ≡ Some (codes "yes") }
+    ensures no_text { text_of (codes "t") (object_of ((codes "t", whole 1) ∷ [])) ≡ None }
+{}
+
+/// As JSON, a number has no fraction, exponent or sign, and of a key that comes twice the last value counts.
+#[tactic(auto, unfolding(serde_json::proofs::OnLiterals::serde_json_on_literals))]
+pub fn numbers_in_json()
+    ensures whole { read_number (codes "{\"n\": 7}") ≡ Some 7 }
+    ensures fraction { read_number (codes "{\"n\": 7.0}") ≡ None }
+    ensures exponent { read_number (codes "{\"n\": 7e0}") ≡ None }
+    ensures negative { read_number (codes "{\"n\": -7}") ≡ None }
+    ensures twice { read_number (codes "{\"n\": 7, \"n\": 8}") ≡ Some 8 }
+    ensures twice_and_no_number { read_number (codes "{\"n\": 7, \"n\": null}") ≡ None }
+{}
+
+/// Two hexadecimal digits are a byte, in either case.
+#[tactic(auto, unfolding(hex::proofs::OnLiterals::hex_on_literals))]
+pub fn hex_digits()
+    ensures none { hex_bytes_of [] ≡ Some (replicate 64 0) }
+    ensures lower { hex_bytes_of (codes "0a9f") ≡ Some (0x0a ∷ 0x9f ∷ replicate 62 0) }
+    ensures upper { hex_bytes_of (codes "A0F9") ≡ Some (0xa0 ∷ 0xf9 ∷ replicate 62 0) }
+    ensures odd { hex_bytes_of (codes "0a9") ≡ None }
+    ensures below_digits { hex_bytes_of (codes "0/") ≡ None }
+    ensures above_digits { hex_bytes_of (codes "0:") ≡ None }
+    ensures above_letters { hex_bytes_of (codes "0g") ≡ None }
+    ensures space { hex_bytes_of (codes " 0") ≡ None }
+{}
+
+/// At most 128 digits are the bytes of a descriptor.
+#[tactic(auto, unfolding(hex::proofs::OnLiterals::hex_on_literals))]
+pub fn hex_lengths()
+    ensures below { hex_bytes_of (replicate 126 49) ≡ Some (replicate 63 0x11 ++ 0 ∷ []) }
+    ensures most { hex_bytes_of (replicate 128 49) ≡ Some (replicate 64 0x11) }
+    ensures odd { hex_bytes_of (replicate 127 49) ≡ None }
+    ensures above { hex_bytes_of (replicate 130 49) ≡ None }
+{}
+
+/// The capabilities, each in a field of its own.
+pub fn caps_fields()
+    ensures read { caps_of (object_of some_caps) ≡ Some (record { queues = 1; groups = 2; engines = 3; total_size = 4; read_buffers = 5; slots = 6; max_batch_shift = 7; max_xfer_shift = 8 }) }
+    ensures needed { needs_each caps_of some_caps ≡ true }
+    ensures counts { are_below caps_of some_caps (2 ^ 16) (codes "queues" ∷ codes "groups" ∷ codes "engines" ∷ codes "total_size" ∷ codes "read_buffers" ∷ codes "slots" ∷ []) ≡ true }
+    ensures shifts { are_below caps_of some_caps (2 ^ 8) (codes "max_batch_shift" ∷ codes "max_xfer_shift" ∷ []) ≡ true }
+{}
+
+/// The three keys of a document. Others are ignored.
+pub fn document_fields()
+    ensures read { head_of (object_of some_document) ≡ Some (record { queues = 1; groups = 2; engines = 3; total_size = 4; read_buffers = 5; slots = 6; max_batch_shift = 7; max_xfer_shift = 8 }, 9, item (whole 1) no_items) }
+    ensures more { head_of (object_of ((codes "more", null) ∷ some_document)) ≡ head_of (object_of some_document) }
+    ensures needed { needs_each head_of some_document ≡ true }
+    ensures capacity { are_below head_of some_document (2 ^ 64) (codes "capacity" ∷ []) ≡ true }
+    ensures steps { takes head_of some_document (codes "steps") (array no_items ∷ []) ≡ true }
+    ensures no_steps { refuses head_of some_document (codes "steps") (null ∷ object_of [] ∷ whole 0 ∷ texts) ≡ true }
+    ensures no_caps { refuses head_of some_document (codes "caps") (null ∷ array no_items ∷ whole 0 ∷ texts) ≡ true }
+    ensures bare { head_of (array no_items) ≡ None }
+    ensures order { list_of (item (whole 1) (item (whole 2) no_items)) ≡ whole 1 ∷ whole 2 ∷ [] }
+{}
+
+/// A write of a queue's configuration.
+pub fn queue_steps()
+    ensures read { action_of (object_of queue_step) ≡ Some (Ask (WriteQueue 1 (record { size = 2; threshold = 3; dedicated = true; priority = 4; pasid = 5; max_batch_shift = 6; max_xfer_shift = 7 }))) }
+    ensures needed { needs_each action_of queue_step ≡ true }
+    ensures counts { are_below action_of queue_step (2 ^ 16) (codes "queue" ∷ codes "size" ∷ codes "threshold" ∷ []) ≡ true }
+    ensures small { are_below action_of queue_step (2 ^ 8) (codes "priority" ∷ codes "batch" ∷ codes "xfer" ∷ []) ≡ true }
+    ensures pasid { are_below action_of queue_step (2 ^ 32) (codes "pasid" ∷ []) ≡ true }
+    ensures dedicated { is_truth action_of queue_step (codes "dedicated") ≡ true }
+{}
+
+/// A write of a group's configuration.
+pub fn group_steps()
+    ensures read { action_of (object_of group_step) ≡ Some (Ask (WriteGroup 1 (record { queues = 2; engines = 3; reserved = 4; allowed = 5 }))) }
+    ensures needed { needs_each action_of group_step ≡ true }
+    ensures counts { are_below action_of group_step (2 ^ 16) (codes "group" ∷ codes "reserved" ∷ codes "allowed" ∷ []) ≡ true }
+    ensures sets { are_below action_of group_step (2 ^ 64) (codes "queues" ∷ codes "engines" ∷ []) ≡ true }
+{}
+
+/// A submission by ENQCMD.
+#[tactic(auto, unfolding(hex::proofs::OnLiterals::hex_on_literals))]
+pub fn enqcmd_steps()
+    ensures limited { action_of (object_of enqcmd_step) ≡ Some (Ask (Submit 1 2 Limited (Enqcmd 3) fill)) }
+    ensures unlimited { action_of (changed (codes "limited") (boolean false) enqcmd_step) ≡ Some (Ask (Submit 1 2 Unlimited (Enqcmd 3) fill)) }
+    ensures needed { needs_each action_of enqcmd_step ≡ true }
+    ensures counts { are_below action_of enqcmd_step (2 ^ 16) (codes "client" ∷ codes "queue" ∷ []) ≡ true }
+    ensures pasid { are_below action_of enqcmd_step (2 ^ 32) (codes "pasid" ∷ []) ≡ true }
+    ensures portal { is_truth action_of enqcmd_step (codes "limited") ≡ true }
+    ensures desc { is_text action_of enqcmd_step fill_text (codes "desc") ≡ true }
+    ensures bad_desc { refuses action_of enqcmd_step (codes "desc") (string (codes "0") ∷ string (codes "0x") ∷ []) ≡ true }
+{}
+
+/// A submission by MOVDIR64B, which names no PASID.
+#[tactic(auto, unfolding(hex::proofs::OnLiterals::hex_on_literals))]
+pub fn movdir_steps()
+    ensures unlimited { action_of (object_of movdir_step) ≡ Some (Ask (Submit 1 2 Unlimited Movdir64b fill)) }
+    ensures limited { action_of (changed (codes "limited") (boolean true) movdir_step) ≡ Some (Ask (Submit 1 2 Limited Movdir64b fill)) }
+    ensures needed { needs_each action_of movdir_step ≡ true }
+    ensures counts { are_below action_of movdir_step (2 ^ 16) (codes "client" ∷ codes "queue" ∷ []) ≡ true }
+    ensures portal { is_truth action_of movdir_step (codes "limited") ≡ true }
+    ensures desc { is_text action_of movdir_step fill_text (codes "desc") ≡ true }
+{}
+
+/// What engines do.
+#[tactic(auto, unfolding(hex::proofs::OnLiterals::hex_on_literals))]
+pub fn engine_steps()
+    ensures dispatch { action_of (object_of dispatch_step) ≡ Some (Ask (Dispatch 1)) }
+    ensures fetch { action_of (object_of fetch_step) ≡ Some (Ask (Fetch 1 fill)) }
+    ensures start { action_of (object_of start_step) ≡ Some (Ask (Start 1)) }
+    ensures finish { action_of (object_of finish_step) ≡ Some (Finish 1 2 PageFault) }
+    ensures finish_well { action_of (changed (codes "fault") (boolean false) finish_step) ≡ Some (Finish 1 2 Success) }
+    ensures needed { map (needs_each action_of) (dispatch_step ∷ fetch_step ∷ start_step ∷ finish_step ∷ []) ≡ replicate 4 true }
+    ensures engines { map (λ step. are_below action_of step (2 ^ 16) (codes "engine" ∷ [])) (dispatch_step ∷ fetch_step ∷ start_step ∷ finish_step ∷ []) ≡ replicate 4 true }
+    ensures name { are_below action_of finish_step (2 ^ 32) (codes "name" ∷ []) ≡ true }
+    ensures fault { is_truth action_of finish_step (codes "fault") ≡ true }
+    ensures desc { is_text action_of fetch_step fill_text (codes "desc") ≡ true }
+{}
+
+/// What the administrator does beside writes. A word that is no command is refused.
+pub fn admin_steps()
+    ensures command { action_of (object_of command_step) ≡ Some (Ask (Issue (EnableWq 2))) }
+    ensures no_command { action_of (changed (codes "word") (whole 0) command_step) ≡ Some (Refuse BadCommand) }
+    ensures poll { action_of (object_of poll_step) ≡ Some (Ask Poll) }
+    ensures clear { action_of (object_of clear_step) ≡ Some (Ask ClearError) }
+    ensures needed { map (needs_each action_of) (command_step ∷ poll_step ∷ clear_step ∷ []) ≡ replicate 3 true }
+    ensures word { are_below action_of command_step (2 ^ 32) (codes "word" ∷ []) ≡ true }
+{}
+
+/// No other text says what a step is, and no other value.
+pub fn kinds_of_steps()
+    ensures kind { is_text action_of poll_step (codes "poll") (codes "do") ≡ true }
+    ensures others { refuses action_of poll_step (codes "do") (map string (codes "" ∷ codes "Poll" ∷ codes "pol" ∷ codes "polls" ∷ codes "reset" ∷ [])) ≡ true }
+    ensures fields_of_another { action_of (changed (codes "do") (string (codes "start")) poll_step) ≡ None }
+    ensures more { action_of (object_of ((codes "engine", null) ∷ poll_step)) ≡ Some (Ask Poll) }
+    ensures no_object { action_of (string (codes "poll")) ≡ None }
+{}
+
+/// The lines of submissions.
+#[tactic(auto, unfolding(crate::specs::Worked::digits_on_literals))]
+pub fn submission_lines()
+    ensures accepted { reply_text (Submit (Accepted (ticket 7 12))) ≡ codes "accepted 12" }
+    ensures at_limit { reply_text (Submit (Retry AtLimit)) ≡ codes "retry at-limit" }
+    ensures not_enabled { reply_text (Submit (Retry NotEnabled)) ≡ codes "retry not-enabled" }
+    ensures wrong_kind { reply_text (Submit (Retry WrongKind)) ≡ codes "retry wrong-kind" }
+    ensures dropped { reply_text (Submit (Dropped AtLimit)) ≡ codes "dropped at-limit" }
+    ensures full { reply_text (Submit Full) ≡ codes "full" }
+{}
+
+/// The lines of what engines do.
+#[tactic(auto, unfolding(crate::specs::Worked::digits_on_literals))]
+pub fn engine_lines()
+    ensures taken { reply_text (Dispatch (Taken (ticket 7 12) 3)) ≡ codes "taken 12 from 3" }
+    ensures idle { reply_text (Dispatch Idle) ≡ codes "idle" }
+    ensures fetched { reply_text (Fetch (Fetched (ticket 7 12))) ≡ codes "fetched 12" }
+    ensures no_batch { reply_text (Fetch NoBatch) ≡ codes "no-batch" }
+    ensures all_fetched { reply_text (Fetch AllFetched) ≡ codes "all-fetched" }
+    ensures started { reply_text (Start (Started (ticket 7 12))) ≡ codes "started 12" }
+    ensures fence_wait { reply_text (Start FenceWait) ≡ codes "fence-wait" }
+    ensures no_buffers { reply_text (Start NoBuffers) ≡ codes "no-buffers" }
+    ensures abandoned { reply_text (Start (Abandoned 3)) ≡ codes "abandoned 3" }
+    ensures nothing { reply_text (Start Nothing) ≡ codes "nothing" }
+    ensures done { map (λ status. reply_text (Finish (Done status))) (0x01 ∷ 0x1a ∷ 0xa1 ∷ []) ≡ codes "done 01" ∷ codes "done 1a" ∷ codes "done a1" ∷ [] }
+    ensures not_ready { reply_text (Finish NotReady) ≡ codes "not-ready" }
+    ensures gone { reply_text (Finish Gone) ≡ codes "gone" }
+    ensures full { map reply_text (Dispatch Full ∷ Fetch Full ∷ Start Full ∷ Finish Full ∷ []) ≡ replicate 4 (codes "full") }
+{}
+
+/// The lines of what the administrator does.
+#[tactic(auto, unfolding(crate::specs::Worked::digits_on_literals))]
+pub fn admin_lines()
+    ensures ended { reply_text (Issue (Ended 3)) ≡ codes "ended 3" }
+    ensures active { reply_text (Issue Active) ≡ codes "active" }
+    ensures refused { reply_text (Issue (Refused Busy)) ≡ codes "refused 17 Busy" }
+    ensures finished { reply_text (Poll Finished) ≡ codes "finished" }
+    ensures still_active { reply_text (Poll Active) ≡ codes "active" }
+    ensures no_command { reply_text (Poll Nothing) ≡ codes "nothing" }
+    ensures written { reply_text (Write Written) ≡ codes "written" }
+    ensures not_written { reply_text (Write (Refused BadIndex)) ≡ codes "refused 20 BadIndex" }
+    ensures cleared { reply_text (Clear (Cleared (record { queue = 3; cause = WrongKind; overflow = false }))) ≡ codes "cleared 3 wrong-kind" }
+    ensures overflow { reply_text (Clear (Cleared (record { queue = 3; cause = AtLimit; overflow = true }))) ≡ codes "cleared 3 at-limit overflow" }
+    ensures not_noted { reply_text (Clear Nothing) ≡ codes "nothing" }
+    ensures full { map reply_text (Issue Full ∷ Poll Full ∷ Write Full ∷ Clear Full ∷ []) ≡ replicate 4 (codes "full") }
+{}
+
+/// The lines of fates, with the name of the batch for a member.
+#[tactic(auto, unfolding(crate::specs::Worked::digits_on_literals))]
+pub fn fate_lines()
+    ensures completed { row_text (record { name = 12; parent = None; fate = Completed 0x13 }) ≡ codes "fate 12 - completed 13" }
+    ensures member { row_text (record { name = 12; parent = Some 3; fate = Completed 0x01 }) ≡ codes "fate 12 3 completed 01" }
+    ensures aborted { row_text (record { name = 12; parent = None; fate = Aborted 12 }) ≡ codes "fate 12 - aborted 12" }
+    ensures abandoned { row_text (record { name = 12; parent = Some 0; fate = Abandoned }) ≡ codes "fate 12 0 abandoned" }
+{}
+
+/// A line for each record in order, and then for each fate in order.
+#[tactic(auto, unfolding(crate::specs::Worked::digits_on_literals))]
+pub fn lines_in_order()
+    ensures none { lines_of [] [] ≡ [] }
+    ensures refused { record_text (Refused BadCommand) ≡ codes "refused 13 BadCommand" }
+    ensures records { lines_of (accepted (ticket 7 0) ∷ Refused BadCommand ∷ []) [] ≡ codes "accepted 0\nrefused 13 BadCommand\n" }
+    ensures fates { lines_of [] (fate 1 Abandoned ∷ fate 0 (Completed 1) ∷ []) ≡ codes "fate 1 - abandoned\nfate 0 - completed 01\n" }
+    ensures both { lines_of (accepted (ticket 7 0) ∷ []) (fate 1 Abandoned ∷ []) ≡ codes "accepted 0\nfate 1 - abandoned\n" }
+{}
+
+/// A name stands for the first ticket that gave it, of a submission or of a member; a name that was not given for cell 0.
+pub fn tickets()
+    ensures submitted { ticket_of (accepted (ticket 7 12) ∷ []) 12 ≡ ticket 7 12 }
+    ensures member { ticket_of (fetched (ticket 7 12) ∷ []) 12 ≡ ticket 7 12 }
+    ensures among_others { ticket_of (accepted (ticket 5 0) ∷ Refused Busy ∷ fetched (ticket 6 1) ∷ accepted (ticket 7 2) ∷ []) 1 ≡ ticket 6 1 }
+    ensures first { ticket_of (accepted (ticket 5 0) ∷ accepted (ticket 6 0) ∷ []) 0 ≡ ticket 5 0 }
+    ensures not_given { ticket_of (accepted (ticket 5 0) ∷ []) 3 ≡ ticket 0 3 }
+    ensures started { ticket_of (stepped (Start 1) (Start (Started (ticket 7 12))) ∷ []) 12 ≡ ticket 0 12 }
+    ensures taken { ticket_of (stepped (Dispatch 1) (Dispatch (Taken (ticket 7 12) 3)) ∷ []) 12 ≡ ticket 0 12 }
+{}
+
+/// What an action asks of the device. A refused word asks nothing.
+pub fn events()
+    ensures ask { event_of [] (Ask Poll) ≡ Ok Poll }
+    ensures finish { event_of (accepted (ticket 7 12) ∷ []) (Finish 1 12 PageFault) ≡ Ok (Finish 1 (ticket 7 12) PageFault) }
+    ensures finish_unknown { event_of (accepted (ticket 7 12) ∷ []) (Finish 1 2 Success) ≡ Ok (Finish 1 (ticket 0 2) Success) }
+    ensures refuse { event_of [] (Refuse BadCommand) ≡ Err BadCommand }
+    ensures steps { steps_of (Refused Busy ∷ stepped Poll (Poll Nothing) ∷ Refused Busy ∷ []) ≡ record { event = Poll; reply = Poll Nothing } ∷ [] }
+{}
+
+/// What the words may be: none, or the command `threads` with its options.
+#[tactic(auto, unfolding(clap::proofs::OnLiterals::clap_on_literals))]
+pub fn words_understood()
+    ensures none { faults_of [] ≡ [] }
+    ensures scenario { command_in [] ≡ None }
+    ensures threads { faults_of (codes "threads" ∷ []) ≡ [] }
+    ensures workers { command_in (codes "threads" ∷ []) ≡ Some (codes "threads") }
+    ensures other_word { faults_of (codes "scenario" ∷ []) ≡ UnknownArgument ∷ InvalidSubcommand ∷ [] }
+    ensures option_alone { faults_of (codes "--clients" ∷ codes "2" ∷ []) ≡ UnknownArgument ∷ [] }
+    ensures other_option { faults_of (threads_with (codes "--queues") (codes "2")) ≡ UnknownArgument ∷ [] }
+    ensures help { faults_of (codes "--help" ∷ []) ≡ DisplayHelp ∷ [] }
+    ensures version { faults_of (codes "--version" ∷ []) ≡ UnknownArgument ∷ [] }
+{}
+
+/// The numbers of the options, where they are not given and where they are.
+#[tactic(auto, unfolding(clap::proofs::OnLiterals::clap_on_literals))]
+pub fn option_values()
+    ensures clients { value_in (codes "threads" ∷ []) (codes "clients") ≡ Some (codes "2") }
+    ensures engines { value_in (codes "threads" ∷ []) (codes "engines") ≡ Some (codes "2") }
+    ensures each { value_in (codes "threads" ∷ []) (codes "each") ≡ Some (codes "100") }
+    ensures turns { value_in (codes "threads" ∷ []) (codes "turns") ≡ Some (codes "10000") }
+    ensures given { value_in (threads_with (codes "--each") (codes "7")) (codes "each") ≡ Some (codes "7") }
+    ensures other { value_in (threads_with (codes "--each") (codes "7")) (codes "turns") ≡ Some (codes "10000") }
+{}
+
+/// The bounds of the options.
+#[tactic(auto, unfolding(clap::proofs::OnLiterals::clap_on_literals))]
+pub fn option_bounds()
+    ensures clients { map (λ n. faults_of (threads_with (codes "--clients") n)) (codes "0" ∷ codes "1" ∷ codes "16" ∷ codes "17" ∷ []) ≡ (ValueValidation ∷ []) ∷ [] ∷ [] ∷ (ValueValidation ∷ []) ∷ [] }
+    ensures engines { map (λ n. faults_of (threads_with (codes "--engines") n)) (codes "0" ∷ codes "1" ∷ codes "8" ∷ codes "9" ∷ []) ≡ (ValueValidation ∷ []) ∷ [] ∷ [] ∷ (ValueValidation ∷ []) ∷ [] }
+    ensures each { map (λ n. faults_of (threads_with (codes "--each") n)) (codes "0" ∷ codes "1" ∷ codes "1000" ∷ codes "1001" ∷ []) ≡ (ValueValidation ∷ []) ∷ [] ∷ [] ∷ (ValueValidation ∷ []) ∷ [] }
+    ensures turns { map (λ n. faults_of (threads_with (codes "--turns") n)) (codes "0" ∷ codes "1" ∷ codes "40000" ∷ codes "40001" ∷ []) ≡ (ValueValidation ∷ []) ∷ [] ∷ [] ∷ (ValueValidation ∷ []) ∷ [] }
+    ensures no_numbers { map (λ n. faults_of (threads_with (codes "--clients") n)) (codes "" ∷ codes "two" ∷ codes "1.0" ∷ []) ≡ (ValueValidation ∷ []) ∷ (ValueValidation ∷ []) ∷ (ValueValidation ∷ []) ∷ [] }
+{}
+
+/// What the workers share.
+pub fn threads_device()
+    ensures caps { caps_for 3 ≡ record { queues = 1; groups = 1; engines = 3; total_size = 16; read_buffers = 32; slots = 4; max_batch_shift = 3; max_xfer_shift = 20 } }
+    ensures capacity { capacity_for (load 2 3 5 7) ≡ 46 }
+    ensures queue { queue_config ≡ record { size = 16; threshold = 8; dedicated = false; priority = 1; pasid = 0; max_batch_shift = 3; max_xfer_shift = 20 } }
+    ensures group { group_config 1 ≡ record { queues = 1; engines = 1; reserved = 0; allowed = 32 } }
+    ensures engines { (group_config 8).engines ≡ 255 }
+    ensures setup { setup_events 3 ≡ WriteQueue 0 queue_config ∷ WriteGroup 0 (group_config 3) ∷ Issue EnableDevice ∷ Issue (EnableWq 0) ∷ [] }
+{}
+
+/// What the workers do.
+pub fn threads_workers()
+    ensures moved { move ≡ record { pasid = 0; flags = 0; op = 3; size = 4096 } }
+    ensures first { submission_of 0 ≡ Submit 0 0 Limited (Enqcmd 1) move }
+    ensures last { submission_of 15 ≡ Submit 15 0 Limited (Enqcmd 16) move }
+    ensures engine { engine_script ≡ record { member = record { pasid = 0; flags = 0; op = 0; size = 0 }; outcome = Success } }
+{}
+
+/// The totals, each in a line of its own.
+#[tactic(auto, unfolding(crate::specs::Worked::digits_on_literals))]
+pub fn total_lines()
+    ensures { totals_text (record { accepted = 1; fetched = 2; retried = 3; done = 4; lost = 5; held = 6; steps = 7 }) ≡ codes "accepted 1\nfetched 2\nretried 3\ndone 4\nlost 5\nheld 6\nbalanced\n" }
+{}
+
+/// A document without a fault, and with the greatest capacity.
+#[tactic(auto, unfolding(serde_json::proofs::OnLiterals::serde_json_on_literals))]
+pub fn documents_that_run()
+    ensures no_steps { IsRenderingOf (document_text smallest_caps_text (codes "1048576") []) [] }
+{}
+
+/// The faults of documents, in their order.
+#[tactic(auto, unfolding(serde_json::proofs::OnLiterals::serde_json_on_literals))]
+pub fn document_faults()
+    ensures empty { IsFaultOf [] NotJson }
+    ensures cut { IsFaultOf (codes "{") NotJson }
+    ensures no_keys { IsFaultOf (codes "{}") BadDocument }
+    ensures step { IsFaultOf (document_text no_caps_text (codes "1048577") (codes "{\"do\":\"poll\"},1,2")) (BadStep 1) }
+    ensures caps { IsFaultOf (document_text no_caps_text (codes "1048577") []) BadCaps }
+    ensures capacity { IsFaultOf (document_text smallest_caps_text (codes "1048577") []) BadCapacity }
+{}
+
+/// No fault is told that does not stand, or before which another stands.
+#[tactic(auto, unfolding(serde_json::proofs::OnLiterals::serde_json_on_literals))]
+pub fn faults_that_are_not_told()
+    ensures json { ¬ IsFaultOf (codes "{}") NotJson }
+    ensures second_step { ¬ IsFaultOf (document_text smallest_caps_text (codes "9") (codes "1,2")) (BadStep 1) }
+    ensures step_before_caps { ¬ IsFaultOf (document_text no_caps_text (codes "9") (codes "1")) BadCaps }
+    ensures caps_before_capacity { ¬ IsFaultOf (document_text no_caps_text (codes "1048577") []) BadCapacity }
+    ensures capacity { ¬ IsFaultOf (document_text smallest_caps_text (codes "1048576") []) BadCapacity }
+{}
+
+/// A run of a submission from its set-up to its end, with a refused word and an answer that is not stored.
+#[tactic(auto, unfolding(crate::specs::Worked::digits_on_literals))]
+pub fn a_run()
+    ensures { AreLinesOf (caps_for 1) 7 actions_of_a_run lines_of_a_run }
+{}
+
+/// The bounds of what may be asked for.
+pub fn loads()
+    ensures least { IsInRange (load 1 1 1 1) }
+    ensures most { IsInRange (load 16 8 1_000 40_000) }
+    ensures no_client { ¬ IsInRange (load 0 1 1 1) }
+    ensures many_clients { ¬ IsInRange (load 17 1 1 1) }
+    ensures no_engine { ¬ IsInRange (load 1 0 1 1) }
+    ensures many_engines { ¬ IsInRange (load 1 9 1 1) }
+    ensures nothing_each { ¬ IsInRange (load 1 1 0 1) }
+    ensures much_each { ¬ IsInRange (load 1 1 1_001 1) }
+    ensures no_turn { ¬ IsInRange (load 1 1 1 0) }
+    ensures many_turns { ¬ IsInRange (load 1 1 1 40_001) }
+{}
+
+/// What a client submits.
+pub fn submissions()
+    ensures { Submits 3 (record { queue = 0; portal = Limited; kind = Enqcmd 3; bytes = move_bytes }) }
+{}
+
+/// The totals of such a run, with room for no step more.
+#[tactic(auto, unfolding(dsa_store::specs::Content::held))]
+pub fn totals_of_a_run()
+    ensures { AreTotalsOf (load 1 1 1 1) (record { accepted = 1; fetched = 0; retried = 0; done = 1; lost = 0; held = 0; steps = 7 }) }
+{}
+
+/// What the words ask for, and which are mistaken.
+#[tactic(auto, unfolding(clap::proofs::OnLiterals::clap_on_literals))]
+pub fn asked()
+    ensures scenario { AsksFor [] Scenario }
+    ensures no_scenario { ¬ AsksFor (codes "threads" ∷ []) Scenario }
+    ensures threads { AsksFor (threads_with (codes "--engines") (codes "3")) (Threads (load 2 3 100 10_000)) }
+    ensures mistaken { IsMistaken (codes "scenario" ∷ []) }
+    ensures help { ¬ IsMistaken (codes "--help" ∷ []) }
+    ensures none { ¬ IsMistaken [] }
+{}
