@@ -8,18 +8,30 @@ use Rattle.dsa_regs.specs.Caps.{check_caps, cell_count, list_count}
 use Rattle.dsa_store.specs.Content.{Slot, Content, held}
 use Rattle.dsa_device.specs.Made.{is_store_of, make_fault}
 
+-- empty lists hold nothing
 held-replicate : (n : ℕ) → held (replicate n []) ≡ 0
 unfolding held
 held-replicate n = let e = sum_by-replicate {X = List Slot} length n [] in omega (arith, e)
 
 -- empty lists and cells in their numbers
-new-is_store_of : (caps : Caps) (cells : ℕ) (content : Content) → content ≡ replicate (list_count caps) [] → cells ≡ cell_count caps
+new-is_store_of : (caps : Caps) (cells : ℕ) (content : Content) → content ≡ replicate (list_count caps) []
+    → cells ≡ cell_count caps
     → is_store_of caps cells content ≡ true
 new-is_store_of caps cells content lists same =
-    rw (lists, same, held-replicate (list_count caps), length-replicate {A = List Slot} (list_count caps) [], eq-eqb (list_count caps) (list_count caps) refl, eq-eqb (cell_count caps) (cell_count caps) refl) refl
+    rw (
+      lists,
+      same,
+      held-replicate (list_count caps),
+      length-replicate {A = List Slot} (list_count caps) [],
+      eq-eqb (list_count caps) (list_count caps) refl,
+      eq-eqb (cell_count caps) (cell_count caps) refl,
+    ) refl
 
-pub new-make_fault : (caps : Caps) (capacity lists count cells : ℕ) (content : Content) → check_caps caps ≡ true → capacity ≤ 2 ^ 20
-    → lists ≡ list_count caps → count ≡ cell_count caps → content ≡ replicate lists [] → cells ≡ count → make_fault caps capacity cells content ≡ None
+-- so a device can be made over it
+pub new-make_fault : (caps : Caps) (capacity lists count cells : ℕ) (content : Content) → check_caps caps ≡ true
+    → capacity ≤ 2 ^ 20 → lists ≡ list_count caps → count ≡ cell_count caps → content ≡ replicate lists []
+    → cells ≡ count → make_fault caps capacity cells content ≡ None
 new-make_fault caps capacity lists count cells content good small are have empty same =
-    let listed : content ≡ replicate (list_count caps) [] = empty ∙ ap (λ (n : ℕ). replicate {A = List Slot} n []) are in
+    let listed : content ≡ replicate (list_count caps) [] =
+    empty ∙ ap (λ (n : ℕ). replicate {A = List Slot} n []) are in
     rw (good, le-ltb (2 ^ 20) capacity small, new-is_store_of caps cells content listed (same ∙ have)) refl

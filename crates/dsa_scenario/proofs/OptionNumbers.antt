@@ -10,14 +10,16 @@ use Rattle.clap.specs.declared.parser.matches.ArgMatches.TheViews.{out-ArgMatche
 use Rattle.clap.specs.declared.parser.matches.SubCommand.{SubCommand}
 
 -- what is read of a numeral in range
-pub reads_number : {E : Type 0} (gives : List ℕ → Result ℕ E → Type 0) → ((t : List ℕ) (r : Result ℕ E) → gives t r → ParsesUnsigned 32 10 t r)
+pub reads_number : {E : Type 0} (gives : List ℕ → Result ℕ E → Type 0)
+    → ((t : List ℕ) (r : Result ℕ E) → gives t r → ParsesUnsigned 32 10 t r)
     → (text : List ℕ) (read : Option ℕ) → ReadsOne gives text read → IsNumeral 10 (without_leading_plus text)
     → digits_value 10 (without_leading_plus text) < 2 ^ 32 → read ≡ Some (digits_value 10 (without_leading_plus text))
 reads_number gives parses text (Some n) h numeral low = ap Some (parses text (Ok n) h).1
 reads_number gives parses text None h numeral low = absurd (parses text (Err h.0) h.1 (numeral, low))
 
 -- both parts of what an option holds
-pub some_pair : {A B : Type 0} (o : Option (A × B)) (a : A) (b : B) → option_map (λ p. p.0) o ≡ Some a → option_map (λ p. p.1) o ≡ Some b → o ≡ Some (a, b)
+pub some_pair : {A B : Type 0} (o : Option (A × B)) (a : A) (b : B) → option_map (λ p. p.0) o ≡ Some a
+    → option_map (λ p. p.1) o ≡ Some b → o ≡ Some (a, b)
 some_pair None a b first second = absurd cc
 some_pair (Some p) a b first second =
     let left : p.0 ≡ a = cc in
@@ -27,6 +29,7 @@ some_pair (Some p) a b first second =
 -- the name of a subcommand that was met, by its matches
 pub name-rows : (m : ArgMatches) → option_map (λ p. p.0) (subcommand_rows_of m) ≡ subcommand_name_of m
 name-rows m = go (out-ArgMatches m).subcommand where
-  go : {Z : Type 0} (o : Option (Box SubCommand Z)) → option_map (λ p. p.0) (subcommand_rows o) ≡ option_map (λ b. (out-SubCommand (box_value b)).name.now) o
+  go : {Z : Type 0} (o : Option (Box SubCommand Z))
+      → option_map (λ p. p.0) (subcommand_rows o) ≡ option_map (λ b. (out-SubCommand (box_value b)).name.now) o
   go None = refl
   go (Some b) = refl

@@ -9,16 +9,24 @@ use Rattle.dsa_scenario.specs.declared.actions.Action.{Action}
 use Rattle.dsa_scenario.specs.Actions.{action_of}
 use Rattle.dsa_scenario.specs.Document.{IsBadAt}
 
+-- an item of a list, as JSON
 item_view : (vs : List Value) (i : ℕ) (v : Value) → v ≡ get_or vs i v → get_or (map view vs) i (view v) ≡ view v
 item_view vs i v is = get_or-map view vs i v ∙ ap view (sym is)
 
-pub parsed_more : (vs : List Value) (i : ℕ) (v : Value) (a : Action) (actions : List Action) → i < length vs → v ≡ get_or vs i v
+-- one step object more that is read
+pub parsed_more : (vs : List Value) (i : ℕ) (v : Value) (a : Action) (actions : List Action) → i < length vs
+    → v ≡ get_or vs i v
     → Some a ≡ action_of (view v) → map action_of (take i (map view vs)) ≡ map Some actions
     → map action_of (take (i + 1) (map view vs)) ≡ map Some (actions ++ a ∷ [])
 parsed_more vs i v a actions inside is asks h =
     let inside' : i < length (map view vs) = rw (length-map vs view) inside in
     rw (take_more (map view vs) i (view v) inside', map-append, map-append, h, item_view vs i v is, ← asks) refl
 
+-- the first that is none
 pub bad_here : (vs : List Value) (i : ℕ) (v : Value) (actions : List Action) → i < length vs → v ≡ get_or vs i v
     → None ≡ action_of (view v) → map action_of (take i (map view vs)) ≡ map Some actions → IsBadAt (map view vs) i
-bad_here vs i v actions inside is asks h = record { done = actions; before = h; here = rw (slice_get-map view vs i, slice_get_read vs (length vs) i v refl inside is, ← asks) refl }
+bad_here vs i v actions inside is asks h = record {
+  done = actions;
+  before = h;
+  here = rw (slice_get-map view vs i, slice_get_read vs (length vs) i v refl inside is, ← asks) refl;
+}

@@ -1,75 +1,66 @@
 -- A table by name keeps to the records, one more at a time.
-use Rattle.std.proofs.Common.{◌≡◌, ◌≢◌, ℕ, List, [], ◌∷◌, ◌++◌, true, false, Option, Some, None, refl, sym, ap, ◌∙◌, find, filter_map, eq-eqb, ne_eqb, nat_eq}
+use Rattle.std.proofs.Common.{◌≡◌, ℕ, List, [], ◌∷◌, ◌++◌, Bool, true, false, cond, Option, Some, None, refl, sym, ap, ◌∙◌, find, filter_map, nat_eq}
 use Rattle.std.specs.Prelude.{◌==◌, is_some}
 use Rattle.std.specs.Option.{option_or}
-use Rattle.std.proofs.lemmas.Bool.{false≢true}
-use Rattle.std.proofs.Math.Logic.{⊎_elim}
-use Rattle.std.proofs.lemmas.Bool.{cases_eq}
+use Rattle.std.proofs.lemmas.Bool.{eqb-true, false≢true}
 use Rattle.std.proofs.lemmas.List.Folds.{find-append}
 use Rattle.std.proofs.lemmas.List.Elements.{filter_map-append}
 use Rattle.dsa_book.specs.declared.answer.Ticket.{Ticket}
 use Rattle.dsa_scenario.specs.declared.run.Record.{Record}
 use Rattle.dsa_scenario.specs.Run.{given_by, found, IsTable}
 
-or_none : {A : Type 0} (o : Option A) → option_or o None ≡ o
+-- with nothing in its place, what there is stays
+or_none : {A : Type 0} (o : Option A) → o ≡ option_or o None
 or_none None = refl
 or_none (Some x) = refl
 
-or_known : {A : Type 0} (o p : Option A) → is_some o ≡ true → option_or o p ≡ o
+-- what there is needs nothing in its place
+or_known : {A : Type 0} (o p : Option A) → is_some o ≡ true → o ≡ option_or o p
 or_known None p h = absurd (false≢true h)
 or_known (Some x) p h = refl
 
-is_none_of : {A : Type 0} (o : Option A) → is_some o ≡ false → o ≡ None
-is_none_of None h = refl
-is_none_of (Some x) h = absurd (false≢true (sym h))
+-- where there is nothing, what stands in its place counts
+or_new : {A : Type 0} (o p : Option A) → is_some o ≡ false → p ≡ option_or o p
+or_new None p h = refl
+or_new (Some x) p h = absurd (false≢true (sym h))
 
-or_new : {A : Type 0} (o p : Option A) → o ≡ None → option_or o p ≡ p
-or_new o p e = rw e refl
+-- at each name the table has what it had, and else what the record gives
+renewed : (table more : ℕ → Option Ticket) (before : List Record) (r : Record) → IsTable table before
+    → ((q : ℕ) → more q ≡ option_or (table q) (found (r ∷ []) q)) → IsTable more (before ++ r ∷ [])
+renewed table more before r is each = λ q.
+    each q ∙ ap (λ o. option_or o (found (r ∷ []) q)) (is q)
+    ∙ sym (ap (find (λ t. t.name == q)) (filter_map-append given_by before (r ∷ []))
+    ∙ find-append (λ t. t.name == q) (filter_map given_by before) (filter_map given_by (r ∷ [])))
 
-found-snoc : (before : List Record) (r : Record) (q : ℕ) → found (before ++ r ∷ []) q ≡ option_or (found before q) (found (r ∷ []) q)
-found-snoc before r q =
-    ap (find (λ t. t.name == q)) (filter_map-append given_by before (r ∷ []))
-    ∙ find-append (λ t. t.name == q) (filter_map given_by before) (filter_map given_by (r ∷ []))
+-- and what it gives is its ticket, at the ticket's name
+renewed_by : (table more : ℕ → Option Ticket) (before : List Record) (r : Record) (t : Ticket) → IsTable table before
+    → Some t ≡ given_by r → ((q : ℕ) → more q ≡ option_or (table q) (cond (t.name == q) (Some t) None))
+    → IsTable more (before ++ r ∷ [])
+renewed_by table more before r t is e each = renewed table more before r is (λ q. each q ∙ (rw (← e) refl))
 
-none_here : (q : ℕ) (r : Record) → None ≡ given_by r → found (r ∷ []) q ≡ None
-none_here q r e = rw (← e) refl
-
-other_here : (q : ℕ) (r : Record) (t : Ticket) → Some t ≡ given_by r → t.name ≢ q → found (r ∷ []) q ≡ None
-other_here q r t e other = rw (← e, ne_eqb t.name q other) refl
-
-here : (q : ℕ) (r : Record) (t : Ticket) → Some t ≡ given_by r → t.name ≡ q → found (r ∷ []) q ≡ Some t
-here q r t e same = rw (← e, eq-eqb t.name q same) refl
-
--- a record that gives nothing at q
-passed : (table : ℕ → Option Ticket) (before : List Record) (r : Record) (q : ℕ) → IsTable table before → found (r ∷ []) q ≡ None
-    → table q ≡ found (before ++ r ∷ []) q
-passed table before r q is none = is q ∙ sym (found-snoc before r q ∙ ap (option_or (found before q)) none ∙ or_none (found before q))
-
--- a name that has a ticket keeps it
-kept : (table : ℕ → Option Ticket) (before : List Record) (r : Record) (q : ℕ) → IsTable table before → is_some (table q) ≡ true
-    → table q ≡ found (before ++ r ∷ []) q
-kept table before r q is has =
-    let known : is_some (found before q) ≡ true = sym (ap is_some (is q)) ∙ has in
-    is q ∙ sym (found-snoc before r q ∙ or_known (found before q) (found (r ∷ []) q) known)
-
-pub IsTable-nothing : (table : ℕ → Option Ticket) (before : List Record) (r : Record) → IsTable table before → None ≡ given_by r
+-- a record without a ticket changes nothing
+pub IsTable-nothing : (table : ℕ → Option Ticket) (before : List Record) (r : Record) → IsTable table before
+    → None ≡ given_by r
     → IsTable table (before ++ r ∷ [])
-IsTable-nothing table before r is e = λ q. passed table before r q is (none_here q r e)
+IsTable-nothing table before r is e = renewed table table before r is (λ q. or_none (table q) ∙ (rw (← e) refl))
 
-pub IsTable-again : (table : ℕ → Option Ticket) (before : List Record) (r : Record) (t : Ticket) → IsTable table before → Some t ≡ given_by r
-    → is_some (table t.name) ≡ true → IsTable table (before ++ r ∷ [])
-IsTable-again table before r t is e has = λ q. ⊎_elim
-    (λ (same : t.name ≡ q). kept table before r q is (ap (λ n. is_some (table n)) (sym same) ∙ has))
-    (λ (other : t.name ≢ q). passed table before r q is (other_here q r t e other))
-    (cases_eq t.name q)
+-- nor does a second ticket of a name
+pub IsTable-again : (table : ℕ → Option Ticket) (before : List Record) (r : Record) (t : Ticket) → IsTable table before
+    → Some t ≡ given_by r → is_some (table t.name) ≡ true → IsTable table (before ++ r ∷ [])
+IsTable-again table before r t is e has = renewed_by table table before r t is e (λ q. at q (t.name == q) refl) where
+  at : (q : ℕ) (b : Bool) → (t.name == q) ≡ b → table q ≡ option_or (table q) (cond b (Some t) None)
+  at q true same = or_known (table q) (Some t) (ap (λ n. is_some (table n)) (sym (eqb-true t.name q same)) ∙ has)
+  at q false other = or_none (table q)
 
 -- what is inserted at a new name
-pub IsTable-new : (table more : ℕ → Option Ticket) (before : List Record) (r : Record) (t : Ticket) → IsTable table before → Some t ≡ given_by r
-    → is_some (table t.name) ≡ false → more t.name ≡ Some t → ((q : ℕ) → nat_eq t.name q ≡ false → more q ≡ table q)
-    → IsTable more (before ++ r ∷ [])
-IsTable-new table more before r t is e absent put others = λ q. ⊎_elim
-    (λ (same : t.name ≡ q).
-    let unknown : found before q ≡ None = sym (is q) ∙ ap table (sym same) ∙ is_none_of (table t.name) absent in
-    ap more (sym same) ∙ put ∙ sym (found-snoc before r q ∙ or_new (found before q) (found (r ∷ []) q) unknown ∙ here q r t e same))
-    (λ (other : t.name ≢ q). others q (ne_eqb t.name q other) ∙ passed table before r q is (other_here q r t e other))
-    (cases_eq t.name q)
+pub IsTable-new : (table more : ℕ → Option Ticket) (before : List Record) (r : Record) (t : Ticket)
+    → IsTable table before
+    → Some t ≡ given_by r → is_some (table t.name) ≡ false → more t.name ≡ Some t
+    → ((q : ℕ) → nat_eq t.name q ≡ false → more q ≡ table q) → IsTable more (before ++ r ∷ [])
+IsTable-new table more before r t is e absent put others = renewed_by table more before r t is e
+    (λ q. at q (t.name == q) refl) where
+      at : (q : ℕ) (b : Bool) → (t.name == q) ≡ b → more q ≡ option_or (table q) (cond b (Some t) None)
+      at q true same =
+          let here = eqb-true t.name q same in
+          ap more (sym here) ∙ put ∙ or_new (table q) (Some t) (ap (λ n. is_some (table n)) (sym here) ∙ absent)
+      at q false other = others q other ∙ or_none (table q)

@@ -10,23 +10,40 @@ use Rattle.dsa_scenario.specs.declared.faults.ScenarioFault.TheVariants.{BadStep
 use Rattle.dsa_scenario.specs.Actions.{action_of}
 use Rattle.dsa_scenario.specs.Document.{list_of, head_of, IsJson, HasHead, IsDocument, IsFirstBad, IsFaultOf}
 
+-- the items of a list are the list
 list_of-items_of : (ds : List Data) → list_of (items_of ds) ≡ ds
 list_of-items_of [] = refl
 list_of-items_of (d ∷ ds) = ap (λ l. d ∷ l) (list_of-items_of ds)
 
+-- the head of a value, by its text
 has_head : (bytes : List ℕ) (v : Value) (caps : Caps) (capacity : ℕ) (steps : List Value) → IsJson bytes (view v)
     → Some (caps, capacity, items_view steps) ≡ head_of (view v) → HasHead bytes caps capacity (map view steps)
-has_head bytes v caps capacity steps h e = record { document = view v; items = items_view steps; json = h; head = sym e; listed = list_of-items_of (map view steps) }
+has_head bytes v caps capacity steps h e = record {
+  document = view v;
+  items = items_view steps;
+  json = h;
+  head = sym e;
+  listed = list_of-items_of (map view steps);
+}
 
+-- a value whose step objects are read is a document
 pub is_document : (bytes : List ℕ) (v : Value) (caps : Caps) (capacity : ℕ) (steps : List Value) (actions : List Action)
     → IsJson bytes (view v) → Some (caps, capacity, items_view steps) ≡ head_of (view v)
     → map action_of (map view steps) ≡ map Some actions → IsDocument bytes caps capacity actions
-is_document bytes v caps capacity steps actions h e asked = record { steps = map view steps; head = has_head bytes v caps capacity steps h e; asked = asked }
+is_document bytes v caps capacity steps actions h e asked =
+    record { steps = map view steps; head = has_head bytes v caps capacity steps h e; asked = asked }
 
+-- and one with a bad step object has that fault
 pub first_bad : (bytes : List ℕ) (v : Value) (caps : Caps) (capacity : ℕ) (steps : List Value) (e : ScenarioFault)
     → IsJson bytes (view v) → Some (caps, capacity, items_view steps) ≡ head_of (view v)
     → (e ≡ OutOfMemory) ⊎ IsFirstBad (map view steps) e → (e ≡ OutOfMemory) ⊎ IsFaultOf bytes e
 first_bad bytes v caps capacity steps e json head (inl h) = inl h
 first_bad bytes v caps capacity steps (BadStep i) json head (inr h) =
-    inr (record { caps = caps; capacity = capacity; steps = map view steps; head = has_head bytes v caps capacity steps json head; bad = h })
+    inr (record {
+      caps = caps;
+      capacity = capacity;
+      steps = map view steps;
+      head = has_head bytes v caps capacity steps json head;
+      bad = h;
+    })
 first_bad bytes v caps capacity steps _ json head (inr h) = absurd h

@@ -30,7 +30,16 @@ caps_of d = do
   slots ← whole_of (2 ^ 16) (codes "slots") d
   max_batch_shift ← whole_of (2 ^ 8) (codes "max_batch_shift") d
   max_xfer_shift ← whole_of (2 ^ 8) (codes "max_xfer_shift") d
-  Some (record { queues = queues; groups = groups; engines = engines; total_size = total_size; read_buffers = read_buffers; slots = slots; max_batch_shift = max_batch_shift; max_xfer_shift = max_xfer_shift })
+  Some (record {
+    queues = queues;
+    groups = groups;
+    engines = engines;
+    total_size = total_size;
+    read_buffers = read_buffers;
+    slots = slots;
+    max_batch_shift = max_batch_shift;
+    max_xfer_shift = max_xfer_shift;
+  })
 
 -- the configuration of a queue (profile)
 abbrev pub queue_config_of : Data → Option QueueConfig
@@ -42,7 +51,15 @@ queue_config_of d = do
   pasid ← whole_of (2 ^ 32) (codes "pasid") d
   max_batch_shift ← whole_of (2 ^ 8) (codes "batch") d
   max_xfer_shift ← whole_of (2 ^ 8) (codes "xfer") d
-  Some (record { size = size; threshold = threshold; dedicated = dedicated; priority = priority; pasid = pasid; max_batch_shift = max_batch_shift; max_xfer_shift = max_xfer_shift })
+  Some (record {
+    size = size;
+    threshold = threshold;
+    dedicated = dedicated;
+    priority = priority;
+    pasid = pasid;
+    max_batch_shift = max_batch_shift;
+    max_xfer_shift = max_xfer_shift;
+  })
 
 -- the configuration of a group (profile)
 abbrev pub group_config_of : Data → Option GroupConfig

@@ -101,7 +101,8 @@ overflow_text true = codes " overflow"
 overflow_text false = []
 
 abbrev pub noted_text : NotedError → List ℕ
-noted_text noted = codes "cleared " ++ decimal noted.queue ++ codes " " ++ cause_text noted.cause ++ overflow_text noted.overflow
+noted_text noted =
+    codes "cleared " ++ decimal noted.queue ++ codes " " ++ cause_text noted.cause ++ overflow_text noted.overflow
 
 abbrev pub clear_text : ClearAnswer → List ℕ
 clear_text (clear.Cleared noted) = noted_text noted
@@ -132,7 +133,8 @@ fate_text (Aborted command) = codes "aborted " ++ decimal command
 fate_text Abandoned = codes "abandoned"
 
 abbrev pub row_text : FateRow → List ℕ
-row_text row = codes "fate " ++ decimal row.name ++ codes " " ++ parent_text row.parent ++ codes " " ++ fate_text row.fate
+row_text row =
+    codes "fate " ++ decimal row.name ++ codes " " ++ parent_text row.parent ++ codes " " ++ fate_text row.fate
 
 -- ---- lines (profile)
 
@@ -147,4 +149,5 @@ record_text (Refused fault) = refusal_text fault
 
 -- a line for each step object, and then one for each entry that ended
 abbrev pub lines_of : List Record → List FateRow → List ℕ
-lines_of records fates = flat_map (λ entry. line_of (record_text entry)) records ++ flat_map (λ row. line_of (row_text row)) fates
+lines_of records fates =
+    flat_map (λ entry. line_of (record_text entry)) records ++ flat_map (λ row. line_of (row_text row)) fates

@@ -60,7 +60,8 @@ abbrev pub AreOf : List Record → List Action → List Record → Type 0
 AreOf before [] [] = ⊤
 AreOf before [] (entry ∷ entries) = ⊥
 AreOf before (action ∷ actions) [] = ⊥
-AreOf before (action ∷ actions) (entry ∷ entries) = (answered_by entry ≡ event_of before action) × AreOf (before ++ entry ∷ []) actions entries
+AreOf before (action ∷ actions) (entry ∷ entries) =
+    (answered_by entry ≡ event_of before action) × AreOf (before ++ entry ∷ []) actions entries
 
 -- ---- runs
 
@@ -73,7 +74,8 @@ step_of (Refused fault) = None
 abbrev pub steps_of : List Record → List Step
 steps_of records = filter_map step_of records
 
--- the lines are those of a run of these actions on a new device of these caps and this capacity, with the fates that its history leads to (profile)
+-- the lines are those of a run of these actions on a new device of these caps and this capacity,
+-- with the fates that its history leads to (profile)
 pub record AreLinesOf (caps : Caps) (capacity : ℕ) (actions : List Action) (lines : List ℕ) : Type 0 where
   pub records : List Record
   pub last : State

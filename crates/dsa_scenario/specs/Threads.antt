@@ -110,7 +110,8 @@ engine_script = record { member = record { pasid = 0; flags = 0; op = 0x00; size
 -- client c submits under PASID c + 1; the administrator has nothing to do
 pub record AreScriptsOf (load : Workload) (scripts : Scripts) : Type 0 where
   pub count : vec_len scripts.clients ≡ load.clients
-  pub clients : (c : ℕ) (d : Vec ClientStep) → c < load.clients → IsClientScript (c + 1) load.each (slice_index_or scripts.clients.items c d)
+  pub clients : (c : ℕ) (d : Vec ClientStep) → c < load.clients
+      → IsClientScript (c + 1) load.each (slice_index_or scripts.clients.items c d)
   pub engines : scripts.engines.items ≡ replicate load.engines engine_script
   pub admin : scripts.admin.items ≡ []
 
@@ -118,7 +119,8 @@ pub record AreScriptsOf (load : Workload) (scripts : Scripts) : Type 0 where
 abbrev pub submission_of : ℕ → Event
 submission_of c = Submit c 0 Limited (Enqcmd (c + 1)) move
 
--- what the seats have after the run: no client was accepted more often than it submits, and no worker made more steps than turns
+-- what the seats have after the run: no client was accepted more often than it submits, and no
+-- worker made more steps than turns
 pub record HaveWorked (load : Workload) (clients engines : List SeatLog) (admin : Option (List Step)) : Type 0 where
   pub client_count : length clients ≡ load.clients
   pub engine_count : length engines ≡ load.engines
@@ -126,7 +128,8 @@ pub record HaveWorked (load : Workload) (clients engines : List SeatLog) (admin 
   pub client_steps : All (λ seat. length seat.receipts ≤ load.turns) clients
   pub engine_steps : All (λ seat. length seat.receipts ≤ load.turns) engines
   pub numbers : (c : ℕ) (d : SeatLog) → c < load.clients → (slice_index_or clients c d).number ≡ c
-  pub submitted : (c : ℕ) (d : SeatLog) → c < load.clients → All (λ step. step.event ≡ submission_of c) (slice_index_or clients c d).receipts
+  pub submitted : (c : ℕ) (d : SeatLog) → c < load.clients
+      → All (λ step. step.event ≡ submission_of c) (slice_index_or clients c d).receipts
   pub setup : Follows (setup_events load.engines) [] (receipts_in admin)
 
 -- ---- the totals (profile)
@@ -144,8 +147,8 @@ totals_text t =
     ++ total_line (codes "held") t.held
     ++ line_of (codes "balanced")
 
--- the totals are those of a history of the device that is set up and to which each client submits what it is to, as often as it is to
--- at most; and they balance
+-- the totals are those of a history of the device that is set up and to which each client submits
+-- what it is to, as often as it is to at most; and they balance
 pub record AreTotalsOf (load : Workload) (totals : Totals) : Type 0 where
   pub history : List Step
   pub last : State

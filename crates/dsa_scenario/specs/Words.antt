@@ -32,7 +32,8 @@ threads_app =
 
 -- the program, whose one command is `threads`, by the words after its name (profile)
 abbrev pub program_app : App
-program_app = with_subcommand (on_top (λ top. record top { no_binary_name = true }) (new_app (codes "dsa_run"))) threads_app.top
+program_app =
+    with_subcommand (on_top (λ top. record top { no_binary_name = true }) (new_app (codes "dsa_run"))) threads_app.top
 
 -- what is wrong with the words, if anything; to ask for help counts too
 abbrev pub faults_of : List Text → Kinds

@@ -19,14 +19,17 @@ free = refl
 pub returns-in-Some-clause-faults : goal.returns-in-Some-clause-faults
 returns-in-Some-clause-faults c =
     let app = c.in_ok-command_line.ensures in
-    ap (λ (a : App). fault_of a (map string_bytes c.args.words.now)) (sym app) ∙ c.in_ok-matches.ensures.kinds (ap is_simple_and_free app ∙ free)
+    ap (λ (a : App). fault_of a (map string_bytes c.args.words.now)) (sym app)
+    ∙ c.in_ok-matches.ensures.kinds (ap is_simple_and_free app ∙ free)
 
 pub returns-in-Some-clause-asked : goal.returns-in-Some-clause-asked
 returns-in-Some-clause-asked c =
     let app = c.in_ok-command_line.ensures in
-    let met = (c.in_ok-matches.ensures.matches (ap is_simple app ∙ simple)).1 ∙ ap (λ (a : App). subcommand_of a (map string_bytes c.args.words.now)) app in
+    let met = (c.in_ok-matches.ensures.matches (ap is_simple app ∙ simple)).1
+    ∙ ap (λ (a : App). subcommand_of a (map string_bytes c.args.words.now)) app in
     let name = name-rows c.in_ok-matches.matches ∙ c.in-Some.ensures.found.0 refl in
-    let rows = some_pair (subcommand_rows_of c.in_ok-matches.matches) (codes "threads") (rows_of (found_of c.in-Some.given.now)) name c.in-Some.ensures.rows in (
+    let rows = some_pair (subcommand_rows_of c.in_ok-matches.matches) (codes "threads")
+    (rows_of (found_of c.in-Some.given.now)) name c.in-Some.ensures.rows in (
       rows_of (found_of c.in-Some.given.now),
       (returns-in-Some-clause-faults c, sym met ∙ rows),
       record {
@@ -40,4 +43,5 @@ returns-in-Some-clause-asked c =
 pub returns-clause-faults : goal.returns-clause-faults
 returns-clause-faults c =
     let app = c.in_ok-command_line.ensures in
-    ap (λ (a : App). fault_of a (map string_bytes c.args.words.now)) (sym app) ∙ c.in_ok-matches.ensures.kinds (ap is_simple_and_free app ∙ free)
+    ap (λ (a : App). fault_of a (map string_bytes c.args.words.now)) (sym app)
+    ∙ c.in_ok-matches.ensures.kinds (ap is_simple_and_free app ∙ free)

@@ -6,7 +6,8 @@ abbrev pub invariant-reads : goal.invariant-reads
 invariant-reads g l = record {
   same_reference : l.metered.reader.ghost_name ≡ l.initial.metered.reader.ghost_name;
   counted : 1_048_577 ≤ l.metered.left + vec_len l.bytes;
-  taken : Consumes (g.R.Read.remaining l.initial.metered.reader.now) (g.R.Read.remaining l.metered.reader.now) l.bytes.items;
+  taken : Consumes (g.R.Read.remaining l.initial.metered.reader.now) (g.R.Read.remaining l.metered.reader.now)
+      l.bytes.items;
 }
 
 abbrev pub decreases-reads : goal.decreases-reads

@@ -12,10 +12,12 @@ loop-action-preserved g c =
     let P : List Record → Type 0 = λ rs. IsTable (get nat_eq c.note_ticket.new.tickets) rs in (
       elim c.match-event_for.branch [
         | in-Ok w ↦
-            Runs-stepped _ _ _ _ _ _ _ _ _ _ _ c.loop-action-test.true c.loop-action.invariant.0 (w.in-Ok.ensures c.loop-action.records.items table) w.entry-is
+            Runs-stepped _ _ _ _ _ _ _ _ _ _ _ c.loop-action-test.true c.loop-action.invariant.0
+            (w.in-Ok.ensures c.loop-action.records.items table) w.entry-is
             (w.step-reply.ensures ∙ ap Some (sym w.device-is)) c.in_ok-push.ensures.items
         | in-Err w ↦
-            Runs-refused _ _ _ _ _ _ _ _ _ _ c.loop-action-test.true c.loop-action.invariant.0 (w.in-Err.ensures c.loop-action.records.items table) w.entry-is
+            Runs-refused _ _ _ _ _ _ _ _ _ _ c.loop-action-test.true c.loop-action.invariant.0
+            (w.in-Err.ensures c.loop-action.records.items table) w.entry-is
             w.device-is c.in_ok-push.ensures.items
       ],
       subst P (sym c.in_ok-push.ensures.items) (c.in_ok-note_ticket.ensures c.loop-action.records.items table),

@@ -5,4 +5,5 @@ use Rattle.dsa_scenario.proofs.Records.{Runs}
 use Rattle.dsa_scenario.proofs.run.run_actions.Given as goal
 
 abbrev pub invariant-loop-action : goal.invariant-loop-action
-invariant-loop-action g l = Runs l.initial.device l.device (take l.action-index l.actions) l.records.items × IsTable (get nat_eq l.tickets) l.records.items
+invariant-loop-action g l = Runs l.initial.device l.device (take l.action-index l.actions) l.records.items
+    × IsTable (get nat_eq l.tickets) l.records.items

@@ -7,5 +7,7 @@ pub returns-in-Ok-clause-ok : goal.returns-in-Ok-clause-ok
 returns-in-Ok-clause-ok g c =
     let ran = c.in-Ok.ensures in
     let begun : c.in-Some.admin.now ≡ [] = search rules in
-    have_worked c.args.load.now c.in_ok-scripts.scripts _ _ _ _ _ _ _ _ _ _ c.requires.clients c.requires.engines c.in_ok-scripts.ensures
-    refl (subst (λ r. Follows (setup_events c.args.load.now.engines) r c.set_up.new.admin) begun c.set_up.ensures) ran.back.0 ran.back.1 ran.clients ran.engines ran.admin
+    have_worked c.args.load.now c.in_ok-scripts.scripts _ _ _ _ _ _ _ _ _ _ c.requires.clients c.requires.engines
+    c.in_ok-scripts.ensures
+    refl (subst (λ r. Follows (setup_events c.args.load.now.engines) r c.set_up.new.admin) begun c.set_up.ensures)
+    ran.back.0 ran.back.1 ran.clients ran.engines ran.admin
