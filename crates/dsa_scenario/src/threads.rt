@@ -39,6 +39,14 @@ pub enum ThreadsFault {
     OutOfMemory,
 }
 
+// Holds nobody.
+#[derive(Drop)]
+struct OpenGate;
+
+impl Gate for OpenGate {
+    fn pass(&self, _worker: usize, _turn: u32) {}
+}
+
 impl From<AllocError> for ThreadsFault {
     ghost use Rattle.std.specs.Prelude.{◌≡◌};
     ghost use Rattle.dsa_scenario.specs.declared.threads.ThreadsFault.TheVariants.{OutOfMemory};
@@ -48,14 +56,6 @@ impl From<AllocError> for ThreadsFault {
     fn from(_refused: AllocError) -> ThreadsFault {
         ThreadsFault::OutOfMemory
     }
-}
-
-// Holds nobody.
-#[derive(Drop)]
-struct OpenGate;
-
-impl Gate for OpenGate {
-    fn pass(&self, _worker: usize, _turn: u32) {}
 }
 
 const QUEUE: QueueConfig = QueueConfig {
@@ -68,6 +68,9 @@ const QUEUE: QueueConfig = QueueConfig {
     max_xfer_shift: 20,
 };
 
+/// The steps that set the device up.
+const SETUP_STEPS: u64 = 4;
+
 const NO_OP: Descriptor = Descriptor {
     pasid: 0,
     flags: 0,
@@ -79,9 +82,6 @@ const ENGINE: EngineScript = EngineScript {
     member: NO_OP,
     outcome: Outcome::Success,
 };
-
-/// The steps that set the device up.
-const SETUP_STEPS: u64 = 4;
 
 fn caps_for(engines: u16) -> Caps
     ensures { result ≡ caps_for engines }
