@@ -20,7 +20,7 @@ use Rattle.dsa_accounts.specs.Accounts.{was_abandoned, only_members_abandoned}
 use Rattle.dsa_laws.proofs.Shapes.{queues-same, engines-same, In-cond}
 use Rattle.dsa_laws.proofs.Histories.{well_formed-change, well_formed-opening, replay_keeps}
 use Rattle.std.proofs.lemmas.Bool.{and_from, or_left, or_right}
-use Rattle.dsa_laws.specs.Lists.{In}
+use Rattle.dsa_base.specs.Lists.{In}
 
 abbrev Lawful : State → Type 0
 Lawful s = only_members_abandoned s.work.fates ≡ true

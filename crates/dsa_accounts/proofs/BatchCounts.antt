@@ -5,6 +5,8 @@ use Rattle.std.proofs.lemmas.Bool.{cases_eq, cases_lt, ltb-true, and_parts, fals
 use Rattle.std.proofs.lemmas.List.{get_or-set_same, get_or-set_other}
 use Rattle.std.proofs.lemmas.List.Sums.{sum_by-cons}
 use Rattle.std.proofs.lemmas.Option.{same_Some}
+use Rattle.dsa_base.proofs.Lists.{In-front, In-append, In-filter, In-find, get_or-replicated, set-cases}
+use Rattle.dsa_base.proofs.Counts.{In-counted, count-none}
 use Rattle.dsa_base.proofs.NumberLists.{get_or-each, get_or-past}
 use Rattle.dsa_regs.specs.declared.Caps.{Caps}
 use Rattle.dsa_regs.specs.Caps.{list_count}
@@ -18,17 +20,16 @@ use Rattle.dsa_book.specs.declared.event.Step.{Step}
 use Rattle.dsa_book.specs.Work.{abandoned, ended, fate_row, fetched, in_progress, last_status, member_list, members, note_at, opened_note, progress_list, running_on, taken}
 use Rattle.dsa_book.specs.Commands.{is_in_scope, kept_note}
 use Rattle.dsa_book.specs.Machine.{replay}
-use Rattle.dsa_laws.specs.Lists.{In, EachAt}
+use Rattle.dsa_base.specs.Lists.{In}
+use Rattle.dsa_laws.specs.Lists.{EachAt}
 use Rattle.dsa_laws.specs.Change.{Change}
 use Rattle.dsa_laws.specs.Engines.{IsLawfulEngine}
 use Rattle.dsa_laws.specs.WellFormed.{IsWellFormed}
-use Rattle.dsa_laws.proofs.Batches.{count-none}
-use Rattle.dsa_laws.proofs.Contents.{In-append, In-counted, In-filter, In-find, In-chain, each-set, each-pushed, each-without_front, all_held-empty, chain-empty}
+use Rattle.dsa_laws.proofs.Contents.{In-chain, each-set, each-pushed, each-without_front, all_held-empty, chain-empty}
 use Rattle.dsa_laws.proofs.Effects.{by_count, removed}
-use Rattle.dsa_laws.proofs.Entries.{In-front, each-effect}
+use Rattle.dsa_laws.proofs.Entries.{each-effect}
 use Rattle.dsa_laws.proofs.Flows.{flow-change, rows-counted}
 use Rattle.dsa_laws.proofs.Histories.{replay_keeps, well_formed-change, well_formed-opening}
-use Rattle.dsa_laws.proofs.Notes.{none-noted}
 use Rattle.dsa_laws.proofs.Shapes.{In-cond, note-engine, below-engines, waiting-engine}
 use Rattle.dsa_accounts.specs.Accounts.{was_abandoned}
 use Rattle.dsa_accounts.specs.BatchCounts.{is_of, was_completed, was_aborted, members_ended, members_abandoned, members_aborted, AddsUp}
@@ -156,12 +157,9 @@ abbrev Adds : Work → List (Option ℕ) → Work → Type 0
 Adds w xs w' = (batch : ℕ) → members_of w' batch ≡ members_of w batch + count_by (is_of batch) xs
 
 -- a note that was set, or one that stays
-set-cases : (notes : List (Option BatchNote)) (e j : ℕ) (o : Option BatchNote) (n : BatchNote) → e < length notes
+note-cases : (notes : List (Option BatchNote)) (e j : ℕ) (o : Option BatchNote) (n : BatchNote) → e < length notes
     → get_or (set notes e o) j None ≡ Some n → (o ≡ Some n) ⊎ ((j ≢ e) × (get_or notes j None ≡ Some n))
-set-cases notes e j o n inside h = ⊎_elim
-    (λ (q : j ≡ e). inl (sym (get_or-set_same notes e o None inside) ∙ ap (λ k. get_or (set notes e o) k None) (sym q) ∙ h))
-    (λ (q : j ≢ e). inr (q, sym (get_or-set_other notes e j o None q) ∙ h))
-    (cases_eq j e)
+note-cases notes e j o n inside h = ⊎_elim (λ a. inl (sym a.1 ∙ h)) (λ b. inr (b.0, sym b.1 ∙ h)) (set-cases notes e j o None inside)
 
 -- a note with other marks
 mapped : (f : BatchNote → BatchNote) (o : Option BatchNote) (m : BatchNote) → option_map f o ≡ Some m → (n : BatchNote) × ((o ≡ Some n) × (f n ≡ m))
@@ -171,7 +169,7 @@ mapped f (Some n) m h = (n, (refl, same_Some (f n) m h))
 -- a front that opens a note, or does not
 opened : (b : Bool) (notes : List (Option BatchNote)) (e j : ℕ) (o n : BatchNote) → e < length notes
     → get_or (cond b (set notes e (Some o)) notes) j None ≡ Some n → (o ≡ n) ⊎ (get_or notes j None ≡ Some n)
-opened true notes e j o n inside h = ⊎_elim (λ a. inl (same_Some o n a)) (λ b. inr b.1) (set-cases notes e j (Some o) n inside h)
+opened true notes e j o n inside h = ⊎_elim (λ a. inl (same_Some o n a)) (λ b. inr b.1) (note-cases notes e j (Some o) n inside h)
 opened false notes e j o n inside h = inr h
 
 -- the note of an engine after an end, if there is one
@@ -243,7 +241,7 @@ notes-change caps s s' w counts c = by_count (λ xs k w'. Adds s.work xs w' → 
     let other = false_from_ne_true (c.note.batch == n.batch) (λ t. old.0 (noted-once caps s j c.engine n c.note w old.1 c.is_note (sym (eqb-true c.note.batch n.batch t)))) in
     let none : ◌≡◌ {A = ℕ} (cond (is_of n.batch (Some c.note.batch)) 1 0) 0 = ap (λ (b : Bool). cond {A = ℕ} b 1 0) other in
     unended s.work after n refl (omega (arith, all, none)) (counts.notes j n old.1))
-    (set-cases s.work.notes c.engine j (Some more) n (omega (arith, inside, size)) h))
+    (note-cases s.work.notes c.engine j (Some more) n (omega (arith, inside, size)) h))
     (λ c same j n h. unended s.work _ n refl (none (same n.batch)) (counts.notes j n h))
     (λ c same j n h.
     let after = abandoned s.work c.engine in
@@ -267,7 +265,7 @@ notes-change caps s s' w counts c = by_count (λ xs k w'. Adds s.work xs w' → 
     alike s.work after n n refl refl refl (none (same n.batch))
     (rows-apart was_abandoned s.work after Abandoned (members s.work c.engine) n.batch apart refl)
     (rows-apart was_aborted s.work after Abandoned (members s.work c.engine) n.batch apart refl) (counts.notes j n old.1))
-    (set-cases s.work.notes c.engine j _ n inside h))
+    (note-cases s.work.notes c.engine j _ n inside h))
     (λ c same j n h.
     let after = ended s.work c.engine c.slot c.outcome in
     let k = c.engine in
@@ -283,7 +281,7 @@ notes-change caps s s' w counts c = by_count (λ xs k w'. Adds s.work xs w' → 
     (rows-other was_abandoned s.work after fate (c.slot ∷ []) m.batch refl refl) (rows-other was_aborted s.work after fate (c.slot ∷ []) m.batch refl refl) (counts.notes k m r.1.0))
     (λ old. alike s.work after n n refl refl refl (none (same n.batch))
     (rows-other was_abandoned s.work after fate (c.slot ∷ []) n.batch refl refl) (rows-other was_aborted s.work after fate (c.slot ∷ []) n.batch refl refl) (counts.notes j n old.1))
-    (set-cases s.work.notes k j _ n inside h))
+    (note-cases s.work.notes k j _ n inside h))
     (λ c same j n h.
     let after = removed s.work c in
     let note : ℕ → Option BatchNote = λ e. kept_note s.work.setup c.scope (chain s.work.content (progress_list s.work.setup e)) (note_at s.work e) in
@@ -374,7 +372,7 @@ counts-change caps s s' w w' counts c = record {
 
 pub counts-opening : (caps : Caps) → CountsMembers (opening caps).work
 counts-opening caps = record {
-  notes = λ e n h. absurd (nothing (sym (none-noted caps.engines e) ∙ h));
+  notes = λ e n h. absurd (nothing (sym (get_or-replicated None caps.engines e) ∙ h));
   queued = λ q x below i. absurd (subst (In x) (chain-empty (list_count caps) q) i);
   not_given = λ name past. let none = ap (λ (xs : List Slot). count_by (λ slot. is_of name slot.1.parent) xs) (all_held-empty (list_count caps)) in omega (arith, none);
 }

@@ -4,6 +4,8 @@ use Rattle.std.specs.Prelude.{count_by, nat_lt, nat_le, find, filter}
 use Rattle.std.proofs.lemmas.Bool.{or_parts, leb-true, ltb-true, ltb-false, not-false, false_from_ne_true}
 use Rattle.std.proofs.lemmas.Bool.Decides.{nat_tests}
 use Rattle.std.proofs.lemmas.List.Sums.{sum_by-cons}
+use Rattle.dsa_base.proofs.Lists.{length-none, In-append, In-filter, In-find}
+use Rattle.dsa_base.proofs.Counts.{In-counted, counted-In}
 use Rattle.dsa_base.specs.Rows.{passes}
 use Rattle.dsa_base.proofs.Tables.{table1}
 use Rattle.dsa_desc.specs.declared.Outcome.{Outcome}
@@ -27,18 +29,17 @@ use Rattle.dsa_book.proofs.Nexts.{next-each}
 use Rattle.dsa_book.proofs.Replay.{replay_from-append, replay_none}
 use Rattle.dsa_laws.specs.Change.{Change}
 use Rattle.dsa_laws.specs.Engines.{holds_batch, IsLawfulEngine}
-use Rattle.dsa_laws.specs.Lists.{In}
+use Rattle.dsa_base.specs.Lists.{In}
 use Rattle.dsa_laws.specs.WellFormed.{IsWellFormed, NoteFits, fates_named}
-use Rattle.dsa_laws.proofs.Batches.{length-none}
 use Rattle.dsa_laws.proofs.Changes.{next-change}
-use Rattle.dsa_laws.proofs.Contents.{In-append, In-chain, In-counted, In-filter, In-find, sum-filter-le}
+use Rattle.dsa_laws.proofs.Contents.{In-chain, sum-filter-le}
 use Rattle.dsa_laws.proofs.Flows.{flow-change, names-counted, rows-counted}
 use Rattle.dsa_laws.proofs.Histories.{replay_keeps, replay-well_formed, well_formed-change}
 use Rattle.dsa_laws.proofs.Shapes.{queues-same, engines-same, In-cond}
 use Rattle.dsa_accounts.specs.BatchCounts.{is_of, was_completed, was_aborted, members_ended, members_held, HasEnded}
 use Rattle.dsa_accounts.specs.Accounts.{was_abandoned}
 use Rattle.dsa_accounts.proofs.BatchCounts.{CountsMembers, adds-up, members-change, replay-counts, rows-apart}
-use Rattle.dsa_accounts.proofs.NotedBatches.{In-progress, counted-In, is_of-parent, noted, noted-batch, noted-member}
+use Rattle.dsa_accounts.proofs.NotedBatches.{In-progress, is_of-parent, noted, noted-batch, noted-member}
 
 -- ---- the step that ends a batch
 

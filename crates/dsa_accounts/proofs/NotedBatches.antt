@@ -7,6 +7,8 @@ use Rattle.std.proofs.lemmas.Bool.Decides.{nat_tests}
 use Rattle.std.proofs.lemmas.List.Sums.{sum_by-cons}
 use Rattle.std.proofs.lemmas.Option.{same_Some}
 use Rattle.std.proofs.Math.ListN.{get_or-eq_default}
+use Rattle.dsa_base.proofs.Lists.{In-append, In-filter, In-any}
+use Rattle.dsa_base.proofs.Counts.{In-counted, counted-In}
 use Rattle.dsa_base.proofs.Tables.{not-both}
 use Rattle.dsa_regs.specs.declared.Caps.{Caps}
 use Rattle.dsa_regs.specs.declared.Scope.{Scope}
@@ -16,29 +18,15 @@ use Rattle.dsa_book.specs.declared.note.BatchNote.{BatchNote}
 use Rattle.dsa_book.specs.State.{Work, State, is_batch_of}
 use Rattle.dsa_book.specs.Work.{in_progress, members, note_at, progress_list}
 use Rattle.dsa_book.specs.Commands.{is_in_scope, takes_batch}
-use Rattle.dsa_laws.specs.Lists.{In}
+use Rattle.dsa_base.specs.Lists.{In}
 use Rattle.dsa_laws.specs.Engines.{holds_batch, IsLawfulEngine}
 use Rattle.dsa_laws.specs.WellFormed.{IsWellFormed, NamesOnce}
-use Rattle.dsa_laws.proofs.Contents.{In-append, In-counted, In-filter}
 use Rattle.dsa_laws.proofs.Shapes.{In-cond, members-at}
-use Rattle.dsa_laws.proofs.Batches.{sum-two, scope-alike, In-any}
+use Rattle.dsa_laws.proofs.Batches.{sum-two, scope-alike}
 use Rattle.dsa_laws.proofs.Flows.{names-counted}
 use Rattle.dsa_accounts.specs.BatchCounts.{is_of}
 
 -- ---- lists
-
--- where a test is counted, one passes it
-pub counted-In : {X : Type 0} (p : X → Bool) (xs : List X) → 1 ≤ count_by p xs → (x : X) × (In x xs × (p x ≡ true))
-counted-In p [] h = absurd (omega (arith, h))
-counted-In {X} p (x ∷ xs) h = go (counted-In p xs) (p x) refl
-  where
-    go : (1 ≤ count_by p xs → (y : X) × (In y xs × (p y ≡ true))) → (b : Bool) → p x ≡ b → (y : X) × (In y (x ∷ xs) × (p y ≡ true))
-    go more true t = (x, (inl refl, t))
-    go more false f =
-        let c = sum_by-cons (λ y. cond (p y) 1 0) x xs in
-        let none : ◌≡◌ {A = ℕ} (cond (p x) 1 0) 0 = ap (λ (b : Bool). cond {A = ℕ} b 1 0) f in
-        let r = more (omega (arith, h, c, none)) in
-        (r.0, (inr r.1.0, r.1.1))
 
 -- what is held stands in one of the lists
 held-In : (x : Slot) (c : Content) → In x (all_held c) → (k : ℕ) × In x (chain c k)

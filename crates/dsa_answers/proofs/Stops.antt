@@ -3,6 +3,7 @@ use Rattle.std.proofs.Common.{◌≡◌, ℕ, Bool, true, false, cond, not, List
 use Rattle.std.specs.Prelude.{zero, suc, ◌==◌, find, replicate, get_or, slice_set, is_some}
 use Rattle.std.proofs.lemmas.Bool.{cond_both}
 use Rattle.dsa_desc.specs.declared.Descriptor.{Descriptor}
+use Rattle.dsa_base.proofs.Lists.{get_or-replicated}
 use Rattle.dsa_base.proofs.Tables.{first_row_or-each, one_row, table3}
 use Rattle.dsa_regs.specs.declared.Caps.{Caps}
 use Rattle.dsa_regs.specs.declared.Phase.{Phase}
@@ -173,12 +174,7 @@ waits-stops s command i = cond_both _ _ _ (λ (r : IssueAnswer × State). Stops 
 
 -- each queue of a device that was reset is Off
 reset-rests : (phases : ℕ) (q : ℕ) → is_stopping (get_or (replicate phases Off) q Off) ≡ false
-reset-rests phases q = ap is_stopping (all-off phases q)
-  where
-    all-off : (n q : ℕ) → get_or (replicate n Off) q Off ≡ Off
-    all-off zero q = refl
-    all-off (suc n) zero = refl
-    all-off (suc n) (suc q) = all-off n q
+reset-rests phases q = ap is_stopping (get_or-replicated Off phases q)
 
 done-stops : (s : State) (command : Command) (deed : Deed) (scope : Scope) → IsAtRest s.work.setup → let t = (done_by s command deed scope).1 in Stops t.work.setup t.active
 done-stops s command Enable Device i = resting _ refl i.queues

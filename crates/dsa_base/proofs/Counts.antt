@@ -1,9 +1,68 @@
 -- A test that few elements of a list pass.
-use Rattle.std.proofs.Common.{◌≡◌, ℕ, zero, suc, ◌+◌, ◌<◌, ◌≤◌, Bool, true, false, cond, ◌||◌, List, [], ◌∷◌, take, length, get_or, Some, refl, ap, arith}
+use Rattle.std.proofs.Common.{◌≡◌, ℕ, zero, suc, ◌+◌, ◌<◌, ◌≤◌, Bool, true, false, cond, ◌||◌, List, [], ◌∷◌, ◌++◌, take, length, filter, get_or, Some, refl, sym, ap, ◌∙◌, subst, inl, inr, ⊎_elim, arith}
 use Rattle.std.specs.Prelude.{count_by}
 use Rattle.std.specs.List.{list_any, position}
-use Rattle.std.proofs.lemmas.List.Sums.{sum_by-cons, get_or-le-sum_by}
+use Rattle.std.proofs.lemmas.List.Sums.{sum_by-cons, sum_by_push, get_or-le-sum_by, length-filter, count_by-le-length}
+use Rattle.dsa_base.specs.Lists.{In}
 use Rattle.dsa_base.proofs.FirstPlaces.{position-hit}
+use Rattle.dsa_base.proofs.Lists.{none-In, length-none, In-length, In-only, In-alone, In-push, In-filter, In-passing}
+use Rattle.dsa_base.proofs.Tables.{not-both}
+
+-- one more is counted where it passes
+pub count-cons : {X : Type 0} (p : X → Bool) (x : X) (xs : List X) (b : Bool) → p x ≡ b → count_by p (x ∷ xs) ≡ cond b 1 0 + count_by p xs
+count-cons p x xs b is = sum_by-cons (λ y. cond (p y) 1 0) x xs ∙ ap (λ (t : Bool). cond t 1 0 + count_by p xs) is
+
+pub count-push : {X : Type 0} (p : X → Bool) (xs : List X) (x : X) (b : Bool) → p x ≡ b → count_by p (xs ++ x ∷ []) ≡ count_by p xs + cond b 1 0
+count-push p xs x b is = sum_by_push (λ y. cond (p y) 1 0) xs x ∙ ap (λ (t : Bool). count_by p xs + cond t 1 0) is
+
+-- a filter leaves no more than there is
+pub length-filter-le : {X : Type 0} (p : X → Bool) (xs : List X) → length (filter p xs) ≤ length xs
+length-filter-le p xs = let a = length-filter p xs in let b = count_by-le-length p xs in omega (arith, a, b)
+
+-- and nothing where none passes
+pub filter-none : {X : Type 0} (p : X → Bool) (xs : List X) → count_by p xs ≡ 0 → filter p xs ≡ []
+filter-none p xs h = let size = length-filter p xs in length-none (filter p xs) (omega (arith, size, h))
+
+-- where a test passes once at most, the one that passes is all that passes
+pub filter-one : {X : Type 0} (p : X → Bool) (x : X) (xs : List X) → count_by p xs ≤ 1 → In x xs → p x ≡ true → filter p xs ≡ x ∷ []
+filter-one p x xs h i t = let size = length-filter p xs in In-alone x (filter p xs) (omega (arith, size, h)) (In-passing p x xs i t)
+
+-- so what passes is the same
+pub In-same : {X : Type 0} (p : X → Bool) (x y : X) (xs : List X) → count_by p xs ≤ 1 → In x xs → In y xs → p x ≡ true → p y ≡ true → x ≡ y
+In-same p x y xs h i j t u = In-only y x (subst (In y) (filter-one p x xs h i t) (In-passing p y xs j u))
+
+-- what stands there and passes is counted
+pub In-counted : {X : Type 0} (p : X → Bool) (x : X) (xs : List X) → In x xs → p x ≡ true → 1 ≤ count_by p xs
+In-counted p x xs i t =
+    let size = length-filter p xs in
+    let some = In-length x (filter p xs) (In-passing p x xs i t) in
+    omega (arith, size, some)
+
+-- where a test is counted, one passes it
+pub counted-In : {X : Type 0} (p : X → Bool) (xs : List X) → 1 ≤ count_by p xs → (x : X) × (In x xs × (p x ≡ true))
+counted-In {X} p xs h = go (filter p xs) refl
+  where
+    go : (ys : List X) → filter p xs ≡ ys → (x : X) × (In x xs × (p x ≡ true))
+    go [] e = let size = sym (length-filter p xs) ∙ ap length e in absurd (omega (arith, size, h))
+    go (y ∷ ys) e = (y, In-filter p y xs (subst (In y) (sym e) (inl refl)))
+
+-- where none passes, none is counted
+pub count-none : {X : Type 0} (p : X → Bool) (xs : List X) → ((x : X) → In x xs → p x ≡ false) → count_by p xs ≡ 0
+count-none p xs h =
+    sym (length-filter p xs) ∙ ap length (none-In (filter p xs) (λ x i. let r = In-filter p x xs i in not-both (p x) r.1 (h x r.0)))
+
+-- two tests that pass the same count the same
+pub count-alike : {X : Type 0} (p q : X → Bool) (xs : List X) → ((x : X) → In x xs → p x ≡ q x) → count_by p xs ≡ count_by q xs
+count-alike p q [] h = refl
+count-alike p q (x ∷ xs) h =
+    let a = count-cons p x xs (q x) (h x (inl refl)) in
+    let b = count-cons q x xs (q x) refl in
+    let rest = count-alike p q xs (λ y i. h y (inr i)) in
+    omega (arith, a, b, rest)
+
+-- what passes a test that the one more does not pass stands in the list
+pub In-old : {X : Type 0} (p : X → Bool) (x : X) (xs : List X) (y : X) → p y ≡ false → In x (xs ++ y ∷ []) → p x ≡ true → In x xs
+In-old p x xs y n i t = ⊎_elim (λ j. j) (λ e. not-both (p x) t (ap p (sym e) ∙ n)) (In-push x xs y i)
 
 -- where one passes, at least one is counted
 pub some-counted : {X : Type 0} (p : X → Bool) (xs : List X) (j : ℕ) (d : X)
@@ -19,15 +78,13 @@ pub one-place : {X : Type 0} (p : X → Bool) (xs : List X) (i j : ℕ) (d : X) 
 one-place p [] i j d h k l t u = absurd (omega (arith, k))
 one-place p (x ∷ xs) zero zero d h k l t u = refl
 one-place p (x ∷ xs) zero (suc j) d h k l t u =
-    let c = sum_by-cons (λ y. cond (p y) 1 0) x xs in
-    let one : ◌≡◌ {A = ℕ} (cond (p x) 1 0) 1 = ap (λ (b : Bool). cond {A = ℕ} b 1 0) t in
+    let c = count-cons p x xs true t in
     let rest = some-counted p xs j d (omega (arith, l)) u in
-    absurd (omega (arith, h, c, one, rest))
+    absurd (omega (arith, h, c, rest))
 one-place p (x ∷ xs) (suc i) zero d h k l t u =
-    let c = sum_by-cons (λ y. cond (p y) 1 0) x xs in
-    let one : ◌≡◌ {A = ℕ} (cond (p x) 1 0) 1 = ap (λ (b : Bool). cond {A = ℕ} b 1 0) u in
+    let c = count-cons p x xs true u in
     let rest = some-counted p xs i d (omega (arith, k)) t in
-    absurd (omega (arith, h, c, one, rest))
+    absurd (omega (arith, h, c, rest))
 one-place p (x ∷ xs) (suc i) (suc j) d h k l t u =
     let c = sum_by-cons (λ y. cond (p y) 1 0) x xs in
     ap suc (one-place p xs i j d (omega (arith, h, c)) (omega (arith, k)) (omega (arith, l)) t u)
@@ -45,7 +102,7 @@ none-before p (x ∷ xs) (suc k) d h l t =
     let c = sum_by-cons (λ y. cond (p y) 1 0) x xs in
     let rest = some-counted p xs k d (omega (arith, l)) t in
     before-test (p x) (list_any p (take k xs)) (omega (arith, c, h, rest))
-        (none-before p xs k d (omega (arith, c, h)) (omega (arith, l)) t)
+    (none-before p xs k d (omega (arith, c, h)) (omega (arith, l)) t)
 
 -- what passes a test that one passes at most is the first that does
 pub only-position : {X : Type 0} (p : X → Bool) (xs : List X) (k : ℕ) (d : X)

@@ -4,4 +4,5 @@ pub mod NumberLists
 pub mod NumberSums
 pub mod FirstPlaces
 pub mod Renewing
+pub mod Lists
 pub mod Counts

@@ -18,9 +18,9 @@ pub numbers_below-miss : (p : ℕ → Bool) (n k : ℕ) → list_any p (numbers_
 numbers_below-miss p zero k h l = absurd (omega (arith, l))
 numbers_below-miss p (suc n) k h l =
     let both : list_any p (numbers_below (suc n)) ≡ (list_any p (numbers_below n) || list_any p (n ∷ [])) =
-        list_any-append p (numbers_below n) (n ∷ []) in
+    list_any-append p (numbers_below n) (n ∷ []) in
     let further : k < n → p k ≡ false =
-        λ below. numbers_below-miss p n k (grind (arith, common_steps, both, h)) below in
+    λ below. numbers_below-miss p n k (grind (arith, common_steps, both, h)) below in
     grind (arith, common_steps, both, h, further)
 
 -- what a shift by a power leaves

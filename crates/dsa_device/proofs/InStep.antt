@@ -22,7 +22,7 @@ use Rattle.dsa_book.specs.declared.event.Kind.TheVariants.{Enqcmd, Movdir64b}
 use Rattle.dsa_book.specs.State.{Setup, Intake, Work, is_off, is_member, phase_at, has_queue}
 use Rattle.dsa_book.specs.Submit.{submit, submit_table, turned_away, accepted}
 use Rattle.dsa_book.specs.Commands.{write_queue, write_group, clear, clear_of}
-use Rattle.dsa_laws.specs.Lists.{In}
+use Rattle.dsa_base.specs.Lists.{In}
 use Rattle.dsa_laws.specs.WellFormed.{NoneOff}
 use Rattle.dsa_base.proofs.Tables.{not-both}
 use Rattle.dsa_laws.proofs.Orders.{chain-set}

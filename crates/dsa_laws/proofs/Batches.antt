@@ -3,6 +3,8 @@ use Rattle.std.proofs.Common.{◌≡◌, ◌≢◌, ℕ, zero, suc, ◌+◌, ◌
 use Rattle.std.specs.Prelude.{count_by, sum_by}
 use Rattle.std.specs.List.{list_any}
 use Rattle.std.proofs.lemmas.List.Sums.{sum_by-cons, sum_by-append, sum_by_push}
+use Rattle.dsa_base.proofs.Lists.{length-none, In-push, In-filter, In-passing, any-In, In-any}
+use Rattle.dsa_base.proofs.Counts.{count-push, length-filter-le, filter-none, In-counted, count-none, count-alike, In-old}
 use Rattle.dsa_regs.specs.declared.Scope.{Scope}
 use Rattle.dsa_regs.specs.declared.Scope.TheVariants.{Device, Pasid}
 use Rattle.dsa_regs.specs.Command.{queues_in}
@@ -14,16 +16,12 @@ use Rattle.dsa_book.specs.Work.{run, opened_note, with_first_run}
 use Rattle.dsa_book.specs.Commands.{is_in_scope, names, takes_batch, kept_note}
 use Rattle.dsa_laws.specs.Engines.{holds_batch, IsNoteOf, IsAlike, IsLawfulEngine}
 use Rattle.dsa_base.proofs.Tables.{not-both}
-use Rattle.dsa_laws.proofs.Contents.{In-append, In-counted, In-filter, filter-none, sum-list-le, length-filter-le}
+use Rattle.dsa_laws.proofs.Contents.{sum-list-le}
 use Rattle.std.proofs.lemmas.Bool.{and_parts, false_from_ne_true}
 use Rattle.dsa_laws.proofs.Entries.{first_run-each}
-use Rattle.dsa_laws.specs.Lists.{In}
+use Rattle.dsa_base.specs.Lists.{In}
 
 -- ---- lists
-
-pub length-none : {X : Type 0} (xs : List X) → length xs ≤ 0 → xs ≡ []
-length-none [] h = refl
-length-none (x ∷ xs) h = absurd (omega (arith, h))
 
 -- two lists together hold no more than all do
 pub sum-two : (f : Slot → ℕ) (c : Content) (i j : ℕ) → i ≢ j → sum_by f (chain c i) + sum_by f (chain c j) ≤ sum_by f (all_held c)
@@ -32,33 +30,6 @@ sum-two f (l ∷ ls) zero zero n = absurd (n refl)
 sum-two f (l ∷ ls) zero (suc j) n = let a = sum_by-append f l (all_held ls) in let b = sum-list-le f ls j in omega (arith, a, b)
 sum-two f (l ∷ ls) (suc i) zero n = let a = sum_by-append f l (all_held ls) in let b = sum-list-le f ls i in omega (arith, a, b)
 sum-two f (l ∷ ls) (suc i) (suc j) n = let a = sum_by-append f l (all_held ls) in let b = sum-two f ls i j (λ e. n (ap (λ k. suc k) e)) in omega (arith, a, b)
-
-pub count-alike : {X : Type 0} (p q : X → Bool) (xs : List X) → ((x : X) → In x xs → p x ≡ q x) → count_by p xs ≡ count_by q xs
-count-alike p q [] h = refl
-count-alike p q (x ∷ xs) h =
-    let a = sum_by-cons (λ y. cond (p y) 1 0) x xs in
-    let b = sum_by-cons (λ y. cond (q y) 1 0) x xs in
-    let here : ◌≡◌ {A = ℕ} (cond (p x) 1 0) (cond (q x) 1 0) = ap (λ (t : Bool). cond {A = ℕ} t 1 0) (h x (inl refl)) in
-    let rest = count-alike p q xs (λ y i. h y (inr i)) in
-    omega (arith, a, b, here, rest)
-
-pub count-push : {X : Type 0} (p : X → Bool) (xs : List X) (x : X) (b : Bool) → p x ≡ b → count_by p (xs ++ x ∷ []) ≡ count_by p xs + cond b 1 0
-count-push p xs x b is =
-    let more = sum_by_push (λ y. cond (p y) 1 0) xs x in
-    let here : ◌≡◌ {A = ℕ} (cond (p x) 1 0) (cond b 1 0) = ap (λ (t : Bool). cond {A = ℕ} t 1 0) is in
-    omega (arith, more, here)
-
--- one of a list with one more at its end stands in the list, or is that one
-In-push : {X : Type 0} (x : X) (xs : List X) (y : X) → In x (xs ++ y ∷ []) → In x xs ⊎ (y ≡ x)
-In-push x xs y i = ⊎_elim (λ j. inl j) (λ j. inr (only j)) (In-append x xs (y ∷ []) i)
-  where
-    only : In x (y ∷ []) → y ≡ x
-    only (inl e) = e
-    only (inr j) = absurd j
-
--- what passes a test that the one more does not pass stands in the list
-In-old : {X : Type 0} (p : X → Bool) (x : X) (xs : List X) (y : X) → p y ≡ false → In x (xs ++ y ∷ []) → p x ≡ true → In x xs
-In-old p x xs y n i t = ⊎_elim (λ j. j) (λ e. not-both (p x) t (ap p (sym e) ∙ n)) (In-push x xs y i)
 
 length-first_run : (xs : List Slot) → length (with_first_run xs) ≡ length xs
 length-first_run [] = refl
@@ -200,40 +171,6 @@ pub scope-alike : (scope : Scope) (m b : Slot) → IsAlike m b → is_in_scope s
 scope-alike Device m b h = refl
 scope-alike (Pasid pasid) m b h = ap (λ p. p == pasid) h.pasid
 scope-alike scope m b h = ap (names (queues_in scope)) h.queue
-
-any-In : {X : Type 0} (p : X → Bool) (xs : List X) → list_any p xs ≡ true → (x : X) × (In x xs × (p x ≡ true))
-any-In p [] h = absurd cc
-any-In {X} p (x ∷ xs) h = go (any-In p xs) (p x) refl h
-  where
-    go : (list_any p xs ≡ true → (y : X) × (In y xs × (p y ≡ true))) → (b : Bool) → p x ≡ b → (b || list_any p xs) ≡ true → (y : X) × (In y (x ∷ xs) × (p y ≡ true))
-    go more true q h = (x, (inl refl, q))
-    go more false q h = let r = more h in (r.0, (inr r.1.0, r.1.1))
-
-pub In-any : {X : Type 0} (p : X → Bool) (x : X) (xs : List X) → In x xs → p x ≡ true → list_any p xs ≡ true
-In-any p x [] i t = absurd i
-In-any p x (y ∷ ys) (inl e) t = ap (λ (b : Bool). b || list_any p ys) (ap p e ∙ t)
-In-any p x (y ∷ ys) (inr i) t = go (p y) (In-any p x ys i t)
-  where
-    go : (b : Bool) → list_any p ys ≡ true → (b || list_any p ys) ≡ true
-    go true h = refl
-    go false h = h
-
-In-passing : {X : Type 0} (p : X → Bool) (x : X) (xs : List X) → In x xs → p x ≡ true → In x (filter p xs)
-In-passing p x [] i t = absurd i
-In-passing p x (y ∷ ys) (inl e) t = subst (λ (b : Bool). In x (cond b (y ∷ filter p ys) (filter p ys))) (sym (ap p e ∙ t)) (inl e)
-In-passing p x (y ∷ ys) (inr i) t = go (p y) (In-passing p x ys i t)
-  where
-    go : (b : Bool) → In x (filter p ys) → In x (cond b (y ∷ filter p ys) (filter p ys))
-    go true j = inr j
-    go false j = j
-
-pub count-none : {X : Type 0} (p : X → Bool) (xs : List X) → ((x : X) → In x xs → p x ≡ false) → count_by p xs ≡ 0
-count-none p [] h = refl
-count-none p (x ∷ xs) h =
-    let c = sum_by-cons (λ y. cond (p y) 1 0) x xs in
-    let here : ◌≡◌ {A = ℕ} (cond (p x) 1 0) 0 = ap (λ (b : Bool). cond {A = ℕ} b 1 0) (h x (inl refl)) in
-    let rest = count-none p xs (λ y i. h y (inr i)) in
-    omega (arith, c, here, rest)
 
 -- a batch in the scope is the only one in progress, and no member is left
 goes-along : (scope : Scope) (setup : Setup) (ps ms : List Slot) (o : Option BatchNote) (x : Slot) → In x ps → holds_batch setup x ≡ true → is_taken_out scope x ≡ true → IsLawfulEngine setup ps ms o

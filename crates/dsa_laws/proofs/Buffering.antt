@@ -36,7 +36,7 @@ use Rattle.dsa_book.proofs.Phases.{on-not_off}
 use Rattle.dsa_base.proofs.NumberLists.{get_or-each}
 use Rattle.dsa_laws.proofs.Shapes.{below-engines, waiting-engine}
 use Rattle.dsa_base.proofs.Tables.{no-row}
-use Rattle.dsa_laws.specs.Lists.{In}
+use Rattle.dsa_base.specs.Lists.{In}
 use Rattle.dsa_laws.proofs.Limits.{taken-test}
 
 -- ---- the bounds, by what each engine needs

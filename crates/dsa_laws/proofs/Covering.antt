@@ -5,13 +5,13 @@ use Rattle.std.proofs.lemmas.List.{length-set, get_or-set_same, get_or-set_other
 use Rattle.std.proofs.lemmas.List.Quantifiers.{position-Some}
 use Rattle.std.proofs.lemmas.List.Sums.{sum_by-cons, sum_by_push, sum_by-le-sum_by}
 use Rattle.std.proofs.lemmas.Bool.{cases_eq, cases_Bool, cases_lt, ltb-false, leb-true, and_parts}
+use Rattle.dsa_base.proofs.Counts.{one-place}
 use Rattle.dsa_base.specs.Rows.{passes}
 use Rattle.dsa_regs.specs.declared.Caps.{Caps}
 use Rattle.dsa_regs.specs.declared.GroupConfig.{GroupConfig}
 use Rattle.dsa_base.specs.Numbers.{has, numbers_below}
 use Rattle.dsa_regs.specs.Config.{zero_group, group_at, is_in_two, total_reserved}
 use Rattle.dsa_regs.specs.Buffers.{covered, fits}
-use Rattle.dsa_base.proofs.Counts.{one-place}
 use Rattle.dsa_base.proofs.NumberLemmas.{numbers_below-miss}
 use Rattle.dsa_base.proofs.NumberLists.{get_or-each, get_or-past, length-each}
 use Rattle.dsa_base.proofs.Tables.{not-both}

@@ -5,6 +5,8 @@ use Rattle.std.proofs.lemmas.Bool.Decides.{nat_tests}
 use Rattle.std.proofs.lemmas.Bool.{cases_Bool, cases_eq, ltb-true, ltb-false, and_parts, or_parts, not-true}
 use Rattle.std.proofs.lemmas.List.{length-set, get_or-set_same, get_or-set_other, get_or-replicate}
 use Rattle.std.proofs.Math.ListN.{get_or-eq_default}
+use Rattle.dsa_base.proofs.Lists.{length-none, In-append, In-filter, In-find}
+use Rattle.dsa_base.proofs.Counts.{In-same, In-counted}
 use Rattle.dsa_desc.specs.declared.Outcome.{Outcome}
 use Rattle.dsa_desc.specs.Descriptor.{with_pasid, is_successful, is_lawful_batch}
 use Rattle.dsa_regs.specs.declared.Caps.{Caps}
@@ -27,14 +29,14 @@ use Rattle.dsa_laws.specs.Change.{Change}
 use Rattle.dsa_laws.proofs.Effects.{by_effect}
 use Rattle.dsa_laws.specs.WellFormed.{HasShape, NoneOff, NamesOnce, IsWellFormed}
 use Rattle.dsa_laws.specs.Engines.{holds_batch, IsAlike, IsLawfulEngine, HasLawfulEngines}
-use Rattle.dsa_laws.proofs.Contents.{In-append, In-counted, In-filter, In-filtered, In-find, In-same, chain-filtered, sum-list-le, sum-without, chain-other, chain-same}
+use Rattle.dsa_laws.proofs.Contents.{In-filtered, chain-filtered, sum-list-le, sum-without, chain-other, chain-same}
 use Rattle.dsa_laws.proofs.Shapes.{engines-same, shape-change, shape-opening, In-cond, below-engines, member_list-in, progress_list-in, waiting-engine, waiting-members}
 use Rattle.dsa_base.proofs.Tables.{not-both}
 use Rattle.dsa_book.proofs.Phases.{on-not_off}
 use Rattle.dsa_base.proofs.NumberLists.{get_or-each}
 use Rattle.dsa_laws.proofs.Entries.{in-use-below, configs-kept}
-use Rattle.dsa_laws.proofs.Batches.{by_setup, with_front, with_member, with_run, with_none, with_end, is_left, with_abort, sum-two, length-none}
-use Rattle.dsa_laws.specs.Lists.{In}
+use Rattle.dsa_laws.proofs.Batches.{by_setup, with_front, with_member, with_run, with_none, with_end, is_left, with_abort, sum-two}
+use Rattle.dsa_base.specs.Lists.{In}
 use Rattle.dsa_laws.proofs.Flows.{names-counted}
 use Rattle.dsa_laws.proofs.Limits.{size-filtered, taken-test}
 

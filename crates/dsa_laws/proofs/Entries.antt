@@ -4,6 +4,7 @@ use Rattle.std.specs.Prelude.{slice_get, nat_lt, is_some}
 use Rattle.std.specs.List.{list_any}
 use Rattle.std.proofs.lemmas.Bool.{cases_Bool, ltb-true, ltb-false, and_parts, or_parts, not-true}
 use Rattle.std.proofs.Math.ListN.{get_or-eq_default}
+use Rattle.dsa_base.proofs.Lists.{none-In, In-front, In-find}
 use Rattle.dsa_regs.specs.Caps.{list_count}
 use Rattle.dsa_base.proofs.NumberLists.{get_or-each}
 use Rattle.dsa_desc.specs.Descriptor.{pasid_of}
@@ -23,7 +24,7 @@ use Rattle.dsa_book.specs.Commands.{stopped, with_phases, names, is_in_scope, ho
 use Rattle.dsa_laws.specs.Change.{Change, IsAccepted, IsTaken, IsFetched, IsStarted}
 use Rattle.dsa_laws.proofs.Effects.{by_effect, by_setting, stopped-keeps}
 use Rattle.dsa_laws.specs.WellFormed.{HasShape, IsPlaced, NoneOff, PasidsFit, HasLawfulEntries, HasLawfulSetup}
-use Rattle.dsa_laws.proofs.Contents.{In-find, In-chain, In-filtered, each-set, each-pushed, each-without_front, each-filtered, chain-empty, none-In}
+use Rattle.dsa_laws.proofs.Contents.{In-chain, In-filtered, each-set, each-pushed, each-without_front, each-filtered, chain-empty}
 use Rattle.dsa_laws.proofs.Shapes.{queues-same, engines-same, on-queue, below-engines, In-cond}
 use Rattle.std.proofs.Common.{get_or, ◌∙◌}
 use Rattle.std.proofs.lemmas.List.{get_or-set_other}
@@ -35,11 +36,8 @@ use Rattle.dsa_book.specs.Commands.{size_alone}
 use Rattle.dsa_book.specs.Machine.{intake_of, with_intake}
 use Rattle.dsa_base.proofs.Tables.{not-both}
 use Rattle.dsa_book.proofs.Phases.{on-not_off}
-use Rattle.dsa_laws.specs.Lists.{In, EachAt}
-
-pub In-front : (x : Slot) (xs : List Slot) → slice_get xs 0 ≡ Some x → In x xs
-In-front x [] h = absurd cc
-In-front x (y ∷ ys) h = inl cc
+use Rattle.dsa_base.specs.Lists.{In}
+use Rattle.dsa_laws.specs.Lists.{EachAt}
 
 pub queue-below : (caps : Caps) (w : Work) (q : ℕ) → HasShape caps w → nat_lt q w.setup.caps.queues ≡ true → q < caps.queues
 queue-below caps w q h t = let i = ltb-true q w.setup.caps.queues t in let e = queues-same h in omega (arith, i, e)

@@ -3,6 +3,8 @@ use Rattle.std.proofs.Common.{drop, ◌≡◌, ◌≢◌, ℕ, zero, suc, ◌+�
 use Rattle.std.specs.Prelude.{filter, nat_lt}
 use Rattle.std.proofs.lemmas.Bool.{cases_eq, ltb-true, ltb-false, leb-false, and_parts}
 use Rattle.std.proofs.lemmas.List.{get_or-set_other}
+use Rattle.dsa_base.proofs.Lists.{none-In}
+use Rattle.dsa_base.proofs.Counts.{length-filter-le}
 use Rattle.dsa_base.specs.Rows.{passes}
 use Rattle.dsa_regs.specs.declared.Caps.{Caps}
 use Rattle.dsa_regs.specs.declared.QueueConfig.{QueueConfig}
@@ -25,7 +27,7 @@ use Rattle.dsa_laws.specs.Change.{Change}
 use Rattle.dsa_laws.proofs.Effects.{by_effect, by_setting, stopped-keeps}
 use Rattle.dsa_laws.proofs.Entries.{In-after}
 use Rattle.dsa_laws.specs.WellFormed.{HasShape, HasLawfulSetup, HasLawfulEntries, IsWithinLimits, NoteFits, NotesFit}
-use Rattle.dsa_laws.proofs.Contents.{chain-filtered, In-filtered, none-In, chain-empty, length-filter-le}
+use Rattle.dsa_laws.proofs.Contents.{chain-filtered, In-filtered, chain-empty}
 use Rattle.dsa_laws.proofs.Shapes.{queues-same, engines-same, on-queue, progress-at}
 use Rattle.dsa_base.proofs.Tables.{not-both}
 use Rattle.dsa_book.proofs.Phases.{on-not_off}

@@ -11,7 +11,7 @@ use Rattle.dsa_store.specs.Content.{Slot, Content, chain}
 use Rattle.dsa_book.specs.State.{Setup, Work, is_member, need_of, held_by}
 use Rattle.dsa_book.specs.Work.{in_progress, members, progress_list, member_list, used_on, run}
 use Rattle.dsa_laws.proofs.Covering.{cond-le}
-use Rattle.dsa_laws.specs.Lists.{In}
+use Rattle.dsa_base.specs.Lists.{In}
 
 -- ---- one entry
 

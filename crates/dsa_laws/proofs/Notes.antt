@@ -3,6 +3,7 @@ use Rattle.std.proofs.Common.{◌≡◌, ℕ, zero, suc, ◌<◌, ◌≤◌, ◌
 use Rattle.std.specs.Prelude.{nat_lt}
 use Rattle.std.proofs.lemmas.Bool.{cases_Bool, ltb-true, ltb-false, leb-true, leb-false, and_parts, or_parts}
 use Rattle.std.proofs.Math.Nat.{pow-le-pow_right}
+use Rattle.dsa_base.proofs.Lists.{In-front, get_or-replicated}
 use Rattle.dsa_desc.specs.declared.Descriptor.{Descriptor}
 use Rattle.dsa_desc.specs.declared.QueueLimits.{QueueLimits}
 use Rattle.dsa_base.specs.Rows.{first_row_or}
@@ -19,7 +20,6 @@ use Rattle.dsa_book.specs.Commands.{kept_note, aborted}
 use Rattle.dsa_laws.specs.Change.{Change}
 use Rattle.dsa_laws.proofs.Effects.{by_effect}
 use Rattle.dsa_laws.specs.WellFormed.{HasShape, HasLawfulSetup, HasLawfulEntries, NoteFits, NotesFit}
-use Rattle.dsa_laws.proofs.Entries.{In-front}
 use Rattle.dsa_base.proofs.NumberLists.{get_or-each, get_or-past}
 use Rattle.dsa_base.proofs.Tables.{no-row}
 
@@ -111,10 +111,5 @@ notes-change caps s s' shape setup entries h c = by_effect (NotesFit caps) s s' 
     (after-fits caps (is_batch_of s.work.setup c.slot.1) (is_member c.slot.1 && not (is_successful (status_of s.work.setup c.slot.1 c.outcome))) (option_map (λ (note : BatchNote). record note { failed = true }) (note_at s.work c.engine)) (note_at s.work c.engine) failed (h c.engine)))
     (λ c. aborted-fits caps c.number c.scope s.work h)
 
-pub none-noted : (n e : ℕ) → ◌≡◌ {A = Option BatchNote} (get_or (replicate n None) e None) None
-none-noted zero e = refl
-none-noted (suc n) zero = refl
-none-noted (suc n) (suc e) = none-noted n e
-
 pub notes-opening : (caps : Caps) → NotesFit caps (opening caps).work
-notes-opening caps e = subst (NoteFits caps) (sym (none-noted caps.engines e)) tt
+notes-opening caps e = subst (NoteFits caps) (sym (get_or-replicated None caps.engines e)) tt

@@ -3,6 +3,7 @@ use Rattle.std.proofs.Common.{drop, ◌≡◌, ℕ, zero, suc, ◌<◌, Bool, tr
 use Rattle.std.specs.Prelude.{nat_lt}
 use Rattle.std.proofs.lemmas.List.{length-set, length-map, length-replicate}
 use Rattle.std.proofs.lemmas.Bool.{ltb-true, lt-ltb}
+use Rattle.dsa_base.proofs.Lists.{In-find}
 use Rattle.dsa_regs.specs.declared.Caps.{Caps}
 use Rattle.dsa_regs.specs.declared.Phase.{Phase}
 use Rattle.dsa_regs.specs.declared.Phase.TheVariants.{Off, Stopping}
@@ -19,8 +20,7 @@ use Rattle.dsa_book.specs.Commands.{stopped}
 use Rattle.dsa_laws.specs.Change.{Change}
 use Rattle.dsa_laws.proofs.Effects.{by_effect, by_setting, stopped-keeps}
 use Rattle.dsa_laws.specs.WellFormed.{HasShape}
-use Rattle.dsa_laws.proofs.Contents.{In-find}
-use Rattle.dsa_laws.specs.Lists.{In}
+use Rattle.dsa_base.specs.Lists.{In}
 use Rattle.dsa_base.proofs.NumberLists.{length-each}
 
 -- ---- capabilities stay

@@ -4,7 +4,7 @@ use Rattle.dsa_store.specs.Content.{Slot}
 use Rattle.dsa_book.specs.declared.note.BatchNote.{BatchNote}
 use Rattle.dsa_book.specs.State.{Setup, Work, is_batch_of}
 use Rattle.dsa_book.specs.Work.{in_progress, members, note_at}
-use Rattle.dsa_laws.specs.Lists.{In}
+use Rattle.dsa_base.specs.Lists.{In}
 
 -- the slot holds a well-formed Batch, by the limits of its queue (profile)
 abbrev pub holds_batch : Setup → Slot → Bool

@@ -1,11 +1,7 @@
--- What stands in a list, and what holds of every entry.
-use Rattle.std.specs.Prelude.{◌≡◌, ℕ, ◌⊎◌, List, [], ◌∷◌}
+-- What holds of every entry.
+use Rattle.std.specs.Prelude.{ℕ}
+use Rattle.dsa_base.specs.Lists.{In}
 use Rattle.dsa_store.specs.Content.{Slot, Content, chain}
-
--- an element of a list
-abbrev pub In : {X : Type 0} → X → List X → Type 0
-In x [] = ⊥
-In x (y ∷ rest) = (y ≡ x) ⊎ In x rest
 
 -- P holds of each held entry, with the number of its list: first the queues' lists, then what the engines have in progress, then their members (profile)
 abbrev pub EachAt : (ℕ → Slot → Type 0) → Content → Type 0
