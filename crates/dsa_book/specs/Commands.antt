@@ -153,7 +153,7 @@ with_setup w setup = record w { setup = setup }
 abbrev pub ended_at_once : State → ℕ → Work → IssueAnswer × State
 ended_at_once s n w = (Ended n, record s { work = w })
 
--- what the scope holds ends, and the set-up changes so
+-- what the scope holds ends, and the set-up changes so (profile)
 abbrev pub aborts : State → ℕ → Scope → (Setup → Setup) → IssueAnswer × State
 aborts s number scope change =
     let w = aborted number scope s.work in
@@ -179,7 +179,7 @@ done_by s command _ scope = waits s command
 abbrev pub carried_out : State → Command → IssueAnswer × State
 carried_out s command = done_by s command (deed_of command) (scope_of command)
 
--- a fault of the check refuses the command, and nothing changes
+-- a fault of the check refuses the command, and nothing changes (profile)
 abbrev pub refused_or : State → Option Fault → IssueAnswer × State → IssueAnswer × State
 refused_or s None done = done
 refused_or s (Some fault) done = (Refused fault, s)

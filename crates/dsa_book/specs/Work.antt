@@ -217,7 +217,7 @@ abbrev pub with_first_run : List Slot → List Slot
 with_first_run [] = []
 with_first_run (slot ∷ rest) = cond slot.1.running (slot ∷ with_first_run rest) (run slot ∷ rest)
 
--- the first member that did not run runs
+-- the first member that did not run runs (profile)
 abbrev pub started : Work → ℕ → Work
 started w e = record w { content = slice_set w.content (member_list w.setup e) (with_first_run (members w e)) }
 
