@@ -141,21 +141,3 @@ fetching-room caps s e note w h more =
     let law : IsLawfulEngine s.work.setup (in_progress s.work e) (members s.work e) (Some note) = subst (IsLawfulEngine s.work.setup (in_progress s.work e) (members s.work e)) h (w.engines e) in
     let some = law.most in
     member-room caps s.work e w.shape w.setup w.entries w.limits (note-engine caps s.work e note w.shape h) (omega (arith, below, count, some))
-
--- ---- in every state of a history
-
-pub replay-accepting : (caps : Caps) (h : List Step) (s : State) (q : ℕ) (portal : Portal) (kind : Kind) → replay caps h ≡ Some s
-    → first_row (submit_table (intake_of s) q portal kind) ≡ None → held s.work.content < cell_count caps
-replay-accepting caps h s q portal kind e accepts = accepting-room caps s q portal kind (replay-well_formed caps h s e) accepts
-
-pub replay-accepting-cell : (caps : Caps) (h : List Step) (s : State) (q : ℕ) (portal : Portal) (kind : Kind) → replay caps h ≡ Some s
-    → first_row (submit_table (intake_of s) q portal kind) ≡ None → HasFreeCell caps s.work
-replay-accepting-cell caps h s q portal kind e accepts = free-cell (cell_count caps) s.work.content (replay-accepting caps h s q portal kind e accepts)
-
-pub replay-fetching : (caps : Caps) (h : List Step) (s : State) (e : ℕ) (note : BatchNote) → replay caps h ≡ Some s
-    → note_at s.work e ≡ Some note → is_all_fetched note ≡ false → held s.work.content < cell_count caps
-replay-fetching caps h s e note r is more = fetching-room caps s e note (replay-well_formed caps h s r) is more
-
-pub replay-fetching-cell : (caps : Caps) (h : List Step) (s : State) (e : ℕ) (note : BatchNote) → replay caps h ≡ Some s
-    → note_at s.work e ≡ Some note → is_all_fetched note ≡ false → HasFreeCell caps s.work
-replay-fetching-cell caps h s e note r is more = free-cell (cell_count caps) s.work.content (replay-fetching caps h s e note r is more)

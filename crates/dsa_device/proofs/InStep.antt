@@ -25,7 +25,7 @@ use Rattle.dsa_book.specs.Commands.{write_queue, write_group, clear, clear_of}
 use Rattle.dsa_base.specs.Lists.{In}
 use Rattle.dsa_laws.specs.WellFormed.{NoneOff}
 use Rattle.dsa_base.proofs.Tables.{not-both}
-use Rattle.dsa_laws.proofs.Orders.{chain-set}
+use Rattle.dsa_laws.proofs.Contents.{chain-set}
 use Rattle.dsa_engines.specs.Engines.{Gear, IsInStep}
 use Rattle.dsa_engines.proofs.Used.{load, load-nil, load-cons, load-append}
 use Rattle.dsa_engines.proofs.Keeping.{KeepsLoads, in_step-kept}

@@ -26,11 +26,10 @@ use Rattle.dsa_laws.specs.Change.{Change}
 use Rattle.dsa_laws.proofs.Effects.{by_effect, by_setting, stopped-keeps}
 use Rattle.dsa_laws.specs.WellFormed.{HasShape, HasLawfulSetup, HasLawfulEntries, IsWellFormed}
 use Rattle.dsa_laws.specs.Buffering.{HasBuffers}
-use Rattle.dsa_laws.proofs.Contents.{chain-filtered, sum-filter-le, In-filtered, chain-other}
+use Rattle.dsa_laws.proofs.Contents.{chain-set, chain-filtered, sum-filter-le, In-filtered, chain-other}
 use Rattle.dsa_laws.proofs.Covering.{AreWithin, needed, all_needed, within-less, within-more, within-none}
 use Rattle.dsa_laws.proofs.Entries.{none-held, configs-kept}
 use Rattle.dsa_laws.proofs.Needs.{weight, weight-waiting, weight-run, weight-same, sum-within, sum_on, used_on-sum, sum_on-less, HasMore, sum_on-others, sum_on-mine}
-use Rattle.dsa_laws.proofs.Orders.{chain-set}
 use Rattle.dsa_base.proofs.Tables.{not-both}
 use Rattle.dsa_book.proofs.Phases.{on-not_off}
 use Rattle.dsa_base.proofs.NumberLists.{get_or-each}

@@ -44,6 +44,14 @@ chain-other c k l j n = get_or-set_other c k j l [] n
 pub chain-same : (c : Content) (k : ℕ) (l : List Slot) → k < length c → chain (set c k l) k ≡ l
 chain-same c k l i = get_or-set_same c k l [] i
 
+-- each list after one is set: it is that one, or as it was
+pub chain-set : (c : Content) (k : ℕ) (l : List Slot) (j : ℕ) → ((j ≡ k) × (chain (set c k l) j ≡ l)) ⊎ (chain (set c k l) j ≡ chain c j)
+chain-set [] k l j = inr refl
+chain-set (m ∷ ms) zero l zero = inl (refl, refl)
+chain-set (m ∷ ms) zero l (suc j) = inr refl
+chain-set (m ∷ ms) (suc k) l zero = inr refl
+chain-set (m ∷ ms) (suc k) l (suc j) = ⊎_elim (λ h. let e = h.0 in inl (omega (arith, e), h.1)) (λ h. inr h) (chain-set ms k l j)
+
 -- where all lists are empty each is
 pub chain-empty : (n k : ℕ) → chain (replicate n []) k ≡ []
 chain-empty = get_or-replicated []

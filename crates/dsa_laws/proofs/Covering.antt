@@ -4,7 +4,7 @@ use Rattle.std.specs.Prelude.{sum_by, count_by, filter, position, nat_lt, nat_le
 use Rattle.std.proofs.lemmas.List.{length-set, get_or-set_same, get_or-set_other}
 use Rattle.std.proofs.lemmas.List.Quantifiers.{position-Some}
 use Rattle.std.proofs.lemmas.List.Sums.{sum_by-cons, sum_by_push, sum_by-le-sum_by}
-use Rattle.std.proofs.lemmas.Bool.{cases_eq, cases_Bool, cases_lt, ltb-false, leb-true, and_parts}
+use Rattle.std.proofs.lemmas.Bool.{false_from_ne_true, cases_eq, cases_Bool, cases_lt, ltb-false, leb-true, and_parts}
 use Rattle.dsa_base.proofs.Counts.{one-place}
 use Rattle.dsa_base.specs.Rows.{passes}
 use Rattle.dsa_regs.specs.declared.Caps.{Caps}
@@ -14,6 +14,8 @@ use Rattle.dsa_regs.specs.Config.{zero_group, group_at, is_in_two, total_reserve
 use Rattle.dsa_regs.specs.Buffers.{covered, fits}
 use Rattle.dsa_base.proofs.NumberLemmas.{numbers_below-miss}
 use Rattle.dsa_base.proofs.NumberLists.{get_or-each, get_or-past, length-each}
+use Rattle.dsa_base.proofs.NumberLemmas.{numbers_below-hit}
+use Rattle.dsa_base.proofs.NumberSums.{sum-numbers-le}
 use Rattle.dsa_base.proofs.Tables.{not-both}
 
 -- ---- what is in use or reserved
@@ -48,15 +50,6 @@ sum-filtered {X} f p (x ∷ xs) = go (p x) (sum-filtered f p xs) ∙ sym (sum_by
     go true more = let c = sum_by-cons f x (filter p xs) in omega (arith, more, c)
     go false more = omega (arith, more)
 
-sum-before : (f f' : ℕ → ℕ) (e N : ℕ) → N ≤ e → ((k : ℕ) → k ≢ e → f' k ≤ f k) → sum_by f' (numbers_below N) ≤ sum_by f (numbers_below N)
-sum-before f f' e zero l h = omega arith
-sum-before f f' e (suc N) l h =
-    let more = sum-before f f' e N (omega (arith, l)) h in
-    let last = h N (λ q. absurd (omega (arith, l, q))) in
-    let a = sum_by_push f (numbers_below N) N in
-    let b = sum_by_push f' (numbers_below N) N in
-    omega (arith, more, last, a, b)
-
 pub sum-once : (f f' : ℕ → ℕ) (e n N : ℕ) → ((k : ℕ) → k ≢ e → f' k ≤ f k) → f' e ≤ f e + n → sum_by f' (numbers_below N) ≤ sum_by f (numbers_below N) + n
 sum-once f f' e n zero h m = omega arith
 sum-once f f' e n (suc N) h m =
@@ -64,7 +57,7 @@ sum-once f f' e n (suc N) h m =
     let b = sum_by_push f' (numbers_below N) N in
     ⊎_elim
     (λ (q : N ≡ e).
-    let rest = sum-before f f' e N (omega (arith, q)) h in
+    let rest = sum-numbers-le f' f N (λ k i. h k (λ (r : k ≡ e). absurd (omega (arith, q, i, r)))) in
     let x = ap f q in
     let y = ap f' q in
     omega (arith, rest, x, y, m, a, b))

@@ -2,9 +2,9 @@
 use Rattle.std.proofs.Common.{◌≡◌, ℕ, ◌+◌, ◌<◌, ◌≤◌, ◌==◌, not, Bool, true, false, cond, List, [], ◌∷◌, Some, refl, sym, ap, subst, ◌⊎◌, inl, inr, arith, ⊎_elim}
 use Rattle.std.specs.Prelude.{slice_get, nat_lt, is_some}
 use Rattle.std.specs.List.{list_any}
-use Rattle.std.proofs.lemmas.Bool.{cases_Bool, ltb-true, ltb-false, and_parts, or_parts, not-true}
+use Rattle.std.proofs.lemmas.Bool.{false_from_ne_true, cases_Bool, ltb-true, ltb-false, and_parts, or_parts, not-true}
 use Rattle.std.proofs.Math.ListN.{get_or-eq_default}
-use Rattle.dsa_base.proofs.Lists.{none-In, In-front, In-find}
+use Rattle.dsa_base.proofs.Lists.{In-any, none-In, In-front, In-find}
 use Rattle.dsa_regs.specs.Caps.{list_count}
 use Rattle.dsa_base.proofs.NumberLists.{get_or-each}
 use Rattle.dsa_desc.specs.Descriptor.{pasid_of}
@@ -111,14 +111,9 @@ placed-change caps s s' h a c = each-effect (IsPlaced caps) s s' a c
 
 -- ---- no entry names a queue that is Off
 
-none-in : (test : Slot → Bool) (x : Slot) (xs : List Slot) → list_any test xs ≡ false → In x xs → test x ≡ false
-none-in test x [] h i = absurd i
-none-in test x (y ∷ ys) h (inl e) = subst (λ z. test z ≡ false) e (or_parts (test y) _ h).0
-none-in test x (y ∷ ys) h (inr i) = none-in test x ys (or_parts (test y) _ h).1 i
-
 -- nothing that is held is of what ends
 pub none-slot : (test : Slot → Bool) (content : Content) (k : ℕ) (x : Slot) → list_any test (all_held content) ≡ false → In x (chain content k) → test x ≡ false
-none-slot test content k x h i = none-in test x (all_held content) h (In-chain x content k i)
+none-slot test content k x h i = false_from_ne_true (test x) (λ t. not-both (list_any test (all_held content)) (In-any test x (all_held content) (In-chain x content k i) t) h)
 
 -- a queue that is not Off is one of the device's
 pub in-use-below : (caps : Caps) (w : Work) (q : ℕ) → HasShape caps w → is_off (phase_at w.setup q) ≡ false → q < w.setup.caps.queues

@@ -5,6 +5,7 @@ use Rattle.std.proofs.lemmas.List.{length-set}
 use Rattle.std.proofs.lemmas.List.Sums.{sum_by-cons, sum_by-append}
 use Rattle.std.proofs.lemmas.Bool.{cases_Bool, ltb-true, and_parts}
 use Rattle.std.proofs.lemmas.Bool.Decides.{nat_tests}
+use Rattle.dsa_base.proofs.Counts.{count-cons}
 use Rattle.dsa_base.proofs.Lists.{In-append, In-filter, In-find}
 use Rattle.dsa_regs.specs.declared.Caps.{Caps}
 use Rattle.dsa_regs.specs.Caps.{cell_count}
@@ -94,7 +95,6 @@ name-given n next = grind (arith, nat_tests)
 uses-with_free : (cells : ℕ) (content : Content) (x : Slot) → is_free cells content x.0 ≡ true → ((cell : Cell) → uses content cell ≤ cond (nat_lt cell.0 cells) 1 0) → (cell : Cell)
     → uses content cell + count_by (is_cell cell) (x ∷ []) ≤ cond (nat_lt cell.0 cells) 1 0
 uses-with_free cells content x free once cell =
-    let c = sum_by-cons (λ (s : Slot). cond (is_cell cell s) 1 0) x [] in
     let fresh = is_free-unused cells content x.0 free in
     let old = once cell in
     ⊎_elim
@@ -104,11 +104,9 @@ uses-with_free cells content x free once cell =
     let unused : uses content cell ≡ 0 = subst (λ k. uses content k ≡ 0) same fresh.1 in
     let below = fresh.0 in
     let room : ◌≡◌ {A = ℕ} (cond (nat_lt cell.0 cells) 1 0) 1 = grind (arith, nat_tests, e, below) in
-    let one : ◌≡◌ {A = ℕ} (cond (is_cell cell x) 1 0) 1 = ap (λ (b : Bool). cond {A = ℕ} b 1 0) t in
-    omega (arith, c, unused, room, one))
-    (λ (f : is_cell cell x ≡ false).
-    let no : ◌≡◌ {A = ℕ} (cond (is_cell cell x) 1 0) 0 = ap (λ (b : Bool). cond {A = ℕ} b 1 0) f in
-    omega (arith, c, no, old))
+    let one = count-cons (is_cell cell) x [] true t in
+    omega (arith, unused, room, one))
+    (λ (f : is_cell cell x ≡ false). let none = count-cons (is_cell cell) x [] false f in omega (arith, none, old))
     (cases_Bool (is_cell cell x))
 
 -- ---- flows

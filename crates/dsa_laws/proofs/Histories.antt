@@ -83,20 +83,3 @@ replay_keeps P keeps (x ∷ h) s s' p e = go (λ t q r. replay_keeps P keeps h t
 
 pub replay-well_formed : (caps : Caps) (h : List Step) (s : State) → replay caps h ≡ Some s → IsWellFormed caps s
 replay-well_formed caps h s e = replay_keeps (IsWellFormed caps) (well_formed-change caps) h (opening caps) s (well_formed-opening caps) e
-
--- ---- what this says of names, engines and read buffers
-
-pub replay-given : (caps : Caps) (h : List Step) (s : State) (name : ℕ) → replay caps h ≡ Some s → name < s.work.setup.next_name → held_named s.work name + fates_named s.work name ≡ 1
-replay-given caps h s name e below = (replay-well_formed caps h s e).names.given name below
-
-pub replay-not_given : (caps : Caps) (h : List Step) (s : State) (name : ℕ) → replay caps h ≡ Some s → s.work.setup.next_name ≤ name → held_named s.work name + fates_named s.work name ≡ 0
-replay-not_given caps h s name e past = (replay-well_formed caps h s e).names.not_given name past
-
-pub replay-limits : (caps : Caps) (h : List Step) (s : State) → replay caps h ≡ Some s → IsWithinLimits caps s.work
-replay-limits caps h s e = (replay-well_formed caps h s e).limits
-
-pub replay-engines : (caps : Caps) (h : List Step) (s : State) → replay caps h ≡ Some s → HasLawfulEngines s.work
-replay-engines caps h s e = (replay-well_formed caps h s e).engines
-
-pub replay-buffers : (caps : Caps) (h : List Step) (s : State) → replay caps h ≡ Some s → HasBuffers caps s.work
-replay-buffers caps h s e = (replay-well_formed caps h s e).buffers

@@ -27,7 +27,7 @@ use Rattle.dsa_laws.specs.Change.{Change}
 use Rattle.dsa_laws.proofs.Effects.{by_effect, by_setting, stopped-keeps}
 use Rattle.dsa_laws.proofs.Entries.{In-after}
 use Rattle.dsa_laws.specs.WellFormed.{HasShape, HasLawfulSetup, HasLawfulEntries, IsWithinLimits, NoteFits, NotesFit}
-use Rattle.dsa_laws.proofs.Contents.{chain-filtered, In-filtered, chain-empty}
+use Rattle.dsa_laws.proofs.Contents.{chain-set, chain-filtered, In-filtered, chain-empty}
 use Rattle.dsa_laws.proofs.Shapes.{queues-same, engines-same, on-queue, progress-at}
 use Rattle.dsa_base.proofs.Tables.{not-both}
 use Rattle.dsa_book.proofs.Phases.{on-not_off}
@@ -38,12 +38,9 @@ use Rattle.dsa_book.specs.declared.note.BatchNote.{BatchNote}
 
 -- ---- lengths of lists
 
-size-set : (c : Content) (k : ℕ) (l : List Slot) (j : ℕ) → ((j ≡ k) × (length (chain (set c k l) j) ≤ length l)) ⊎ (length (chain (set c k l) j) ≡ length (chain c j))
-size-set [] k l j = inr refl
-size-set (m ∷ ms) zero l zero = inl (refl, omega arith)
-size-set (m ∷ ms) zero l (suc j) = inr refl
-size-set (m ∷ ms) (suc k) l zero = inr refl
-size-set (m ∷ ms) (suc k) l (suc j) = ⊎_elim (λ h. let e = h.0 in inl (omega (arith, e), h.1)) (λ h. inr h) (size-set ms k l j)
+size-set : (c : Content) (k : ℕ) (l : List Slot) (j : ℕ)
+    → ((j ≡ k) × (length (chain (set c k l) j) ≡ length l)) ⊎ (length (chain (set c k l) j) ≡ length (chain c j))
+size-set c k l j = ⊎_elim (λ p. inl (p.0, ap length p.1)) (λ e. inr (ap length e)) (chain-set c k l j)
 
 rest-le : (xs : List Slot) → length (drop 1 xs) ≤ length xs
 rest-le [] = omega arith

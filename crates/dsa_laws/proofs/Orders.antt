@@ -11,7 +11,7 @@ use Rattle.dsa_book.specs.Commands.{is_in_scope}
 use Rattle.dsa_laws.specs.Change.{Change}
 use Rattle.dsa_laws.proofs.Effects.{by_effect}
 use Rattle.dsa_laws.specs.WellFormed.{HasShape, MembersInOrder, runs_first, none_runs}
-use Rattle.dsa_laws.proofs.Contents.{chain-filtered, chain-empty}
+use Rattle.dsa_laws.proofs.Contents.{chain-set, chain-filtered, chain-empty}
 use Rattle.dsa_laws.proofs.Entries.{queue-below}
 use Rattle.dsa_laws.proofs.Shapes.{queues-same, engines-same, on-queue, below-engines, waiting-members, members-at}
 use Rattle.std.proofs.lemmas.Bool.{and_parts, and_from, cases_lt, cond_both}
@@ -65,13 +65,6 @@ first-first_run (x ∷ xs) h = go x.1.running refl (first-first_run xs) h
     go : (r : Bool) → x.1.running ≡ r → (runs_first xs ≡ true → runs_first (with_first_run xs) ≡ true) → cond r (runs_first xs) (none_runs xs) ≡ true → runs_first (cond r (x ∷ with_first_run xs) (run x ∷ xs)) ≡ true
     go true e more h = ap (λ (k : Bool). cond k (runs_first (with_first_run xs)) (none_runs (with_first_run xs))) e ∙ more h
     go false e more h = none-first xs h
-
-pub chain-set : (c : Content) (k : ℕ) (l : List Slot) (j : ℕ) → ((j ≡ k) × (chain (set c k l) j ≡ l)) ⊎ (chain (set c k l) j ≡ chain c j)
-chain-set [] k l j = inr refl
-chain-set (m ∷ ms) zero l zero = inl (refl, refl)
-chain-set (m ∷ ms) zero l (suc j) = inr refl
-chain-set (m ∷ ms) (suc k) l zero = inr refl
-chain-set (m ∷ ms) (suc k) l (suc j) = ⊎_elim (λ h. let e = h.0 in inl (omega (arith, e), h.1)) (λ h. inr h) (chain-set ms k l j)
 
 -- a fact of each list from some number on, where one is set
 each-list : (L : List Slot → Type 0) (n : ℕ) (c : Content) (k : ℕ) (l : List Slot) → ((j : ℕ) → n ≤ j → L (chain c j)) → (n ≤ k → L l) → (j : ℕ) → n ≤ j → L (chain (set c k l) j)

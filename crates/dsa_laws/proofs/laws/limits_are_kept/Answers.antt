@@ -1,5 +1,5 @@
-use Rattle.dsa_laws.proofs.Histories.{replay-limits}
+use Rattle.dsa_laws.proofs.Histories.{replay-well_formed}
 use Rattle.dsa_laws.proofs.laws.limits_are_kept.Goals as goal
 
 pub returns : goal.returns
-returns c = replay-limits
+returns c = λ caps h s e. (replay-well_formed caps h s e).limits

@@ -1,5 +1,5 @@
-use Rattle.dsa_laws.proofs.Histories.{replay-buffers}
+use Rattle.dsa_laws.proofs.Histories.{replay-well_formed}
 use Rattle.dsa_laws.proofs.laws.read_buffers_are_covered.Goals as goal
 
 pub returns : goal.returns
-returns c = replay-buffers
+returns c = λ caps h s e. (replay-well_formed caps h s e).buffers
