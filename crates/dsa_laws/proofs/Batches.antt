@@ -1,8 +1,7 @@
 -- The batch of an engine, as its lists and its note change.
-use Rattle.std.proofs.Common.{◌≡◌, ◌≢◌, ℕ, zero, suc, ◌+◌, ◌≤◌, ◌&&◌, ◌||◌, ◌==◌, not, Bool, true, false, cond, List, ◌∷◌, ◌++◌, length, filter, Option, Some, None, option_map, is_none, refl, sym, ap, ◌∙◌, subst, ◌⊎◌, inl, inr, arith, ⊎_elim, length-append, []}
+use Rattle.std.proofs.Common.{◌≡◌, ◌≢◌, ℕ, zero, suc, ◌+◌, ◌≤◌, ◌&&◌, ◌||◌, ◌==◌, not, Bool, true, false, cond, List, ◌∷◌, ◌++◌, length, filter, Option, Some, None, option_map, is_none, refl, sym, ap, ◌∙◌, subst, arith, ⊎_elim, length-append, []}
 use Rattle.std.specs.Prelude.{count_by, sum_by}
-use Rattle.std.specs.List.{list_any}
-use Rattle.std.proofs.lemmas.List.Sums.{sum_by-cons, sum_by-append, sum_by_push}
+use Rattle.std.proofs.lemmas.List.Sums.{sum_by-append}
 use Rattle.dsa_base.proofs.Lists.{length-none, In-push, In-filter, In-passing, any-In, In-any}
 use Rattle.dsa_base.proofs.Counts.{count-push, length-filter-le, filter-none, In-counted, count-none, count-alike, In-old}
 use Rattle.dsa_regs.specs.declared.Scope.{Scope}

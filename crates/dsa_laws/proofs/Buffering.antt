@@ -2,37 +2,32 @@
 use Rattle.std.proofs.Common.{drop, ◌≡◌, ℕ, ◌+◌, ◌<◌, ◌≤◌, ◌++◌, Bool, true, false, not, cond, List, [], ◌∷◌, map, set, Some, None, refl, sym, ap, ◌∙◌, subst, inl, inr, arith, ⊎_elim}
 use Rattle.std.specs.Prelude.{sum_by, filter, find, position, nat_lt}
 use Rattle.std.proofs.lemmas.List.Sums.{sum_by-cons, sum_by_push}
-use Rattle.std.proofs.lemmas.Bool.{ltb-false, and_parts, or_parts, not-true}
-use Rattle.std.proofs.lemmas.List.{get_or-set_other}
+use Rattle.std.proofs.lemmas.Bool.{ltb-false, and_parts, or_parts}
 use Rattle.dsa_base.specs.Rows.{passes}
 use Rattle.dsa_regs.specs.declared.Caps.{Caps}
 use Rattle.dsa_regs.specs.declared.GroupConfig.{GroupConfig}
-use Rattle.dsa_regs.specs.declared.QueueConfig.{QueueConfig}
-use Rattle.dsa_base.specs.Numbers.{has, numbers_below}
+use Rattle.dsa_base.specs.Numbers.{has}
 use Rattle.dsa_regs.specs.declared.Phase.TheVariants.{Off, Stopping}
 use Rattle.dsa_regs.specs.declared.Scope.{Scope}
 use Rattle.dsa_regs.specs.declared.Scope.TheVariants.{Device}
 use Rattle.dsa_regs.specs.declared.Deed.{Deed}
 use Rattle.dsa_regs.specs.declared.Deed.TheVariants.{Disable}
-use Rattle.dsa_regs.specs.Command.{queues_in}
-use Rattle.dsa_regs.specs.Config.{zero_queue, group_at, queue_at, is_in_two, total_size, total_reserved, groups_table, check_device}
+use Rattle.dsa_regs.specs.Config.{group_at, queue_at, is_in_two, total_size, total_reserved, groups_table, check_device}
 use Rattle.dsa_regs.specs.Buffers.{covered, fits}
 use Rattle.dsa_store.specs.Content.{Slot, Content, is_cell, chain, pushed, without_front}
-use Rattle.dsa_book.specs.State.{Setup, Work, State, opening, is_off, phase_at}
+use Rattle.dsa_book.specs.State.{Setup, Work, State, opening, is_off}
 use Rattle.dsa_book.specs.Work.{progress_list, member_list, members, first_waiting, used_on, has_room, as_running, run, with_first_run}
-use Rattle.dsa_book.proofs.Scopes.{unnamed}
-use Rattle.dsa_book.specs.Commands.{stopped, may_come, names, size_alone, is_in_scope}
+use Rattle.dsa_book.specs.Commands.{stopped, may_come, is_in_scope}
 use Rattle.dsa_laws.specs.Change.{Change}
 use Rattle.dsa_laws.proofs.Effects.{by_effect, by_setting, stopped-keeps}
 use Rattle.dsa_laws.specs.WellFormed.{HasShape, HasLawfulSetup, HasLawfulEntries, IsWellFormed}
 use Rattle.dsa_laws.specs.Buffering.{HasBuffers}
-use Rattle.dsa_laws.proofs.Contents.{chain-set, chain-filtered, sum-filter-le, In-filtered, chain-other}
+use Rattle.dsa_laws.proofs.Contents.{chain-set, chain-filtered, sum-filter-le, chain-other}
 use Rattle.dsa_laws.proofs.Covering.{AreWithin, needed, all_needed, within-less, within-more, within-none}
 use Rattle.dsa_laws.proofs.Entries.{none-held, configs-kept}
 use Rattle.dsa_laws.proofs.Needs.{weight, weight-waiting, weight-run, weight-same, sum-within, sum_on, used_on-sum, sum_on-less, HasMore, sum_on-others, sum_on-mine}
 use Rattle.dsa_base.proofs.Tables.{not-both}
 use Rattle.dsa_book.proofs.Phases.{on-not_off}
-use Rattle.dsa_base.proofs.NumberLists.{get_or-each}
 use Rattle.dsa_laws.proofs.Shapes.{below-engines, waiting-engine}
 use Rattle.dsa_base.proofs.Tables.{no-row}
 use Rattle.dsa_base.specs.Lists.{In}

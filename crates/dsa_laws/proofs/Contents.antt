@@ -1,8 +1,7 @@
 -- Members, sums and facts of lists of lists, as each effect changes them.
-use Rattle.std.proofs.Common.{drop, ◌≡◌, ℕ, zero, suc, ◌+◌, ◌<◌, ◌≤◌, Bool, true, false, not, cond, List, [], ◌∷◌, ◌++◌, length, map, filter, set, Some, refl, sym, ap, ◌∙◌, subst, ◌⊎◌, inl, inr, arith, ⊎_elim, replicate, ◌≢◌}
-use Rattle.std.specs.Prelude.{sum_by, count_by, find, All}
-use Rattle.std.proofs.lemmas.List.Elements.{All-head, All-tail}
-use Rattle.std.proofs.lemmas.List.Sums.{sum_by-cons, sum_by-append, length-filter, count_by-le-length}
+use Rattle.std.proofs.Common.{drop, ◌≡◌, ℕ, zero, suc, ◌+◌, ◌<◌, ◌≤◌, Bool, true, not, List, [], ◌∷◌, ◌++◌, length, map, filter, set, refl, ap, subst, ◌⊎◌, inl, inr, arith, ⊎_elim, replicate, ◌≢◌}
+use Rattle.std.specs.Prelude.{sum_by, count_by}
+use Rattle.std.proofs.lemmas.List.Sums.{sum_by-cons, sum_by-append}
 use Rattle.dsa_base.proofs.Lists.{In-only, In-left, In-right, In-append, In-filter, get_or-replicated}
 use Rattle.dsa_base.proofs.Counts.{filter-one}
 use Rattle.dsa_store.specs.Content.{Slot, Content, chain, all_held, pushed, without_front}

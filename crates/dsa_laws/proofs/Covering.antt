@@ -4,7 +4,7 @@ use Rattle.std.specs.Prelude.{sum_by, count_by, filter, position, nat_lt, nat_le
 use Rattle.std.proofs.lemmas.List.{length-set, get_or-set_same, get_or-set_other}
 use Rattle.std.proofs.lemmas.List.Quantifiers.{position-Some}
 use Rattle.std.proofs.lemmas.List.Sums.{sum_by-cons, sum_by_push, sum_by-le-sum_by}
-use Rattle.std.proofs.lemmas.Bool.{false_from_ne_true, cases_eq, cases_Bool, cases_lt, ltb-false, leb-true, and_parts}
+use Rattle.std.proofs.lemmas.Bool.{cases_eq, cases_Bool, cases_lt, ltb-false, leb-true, and_parts}
 use Rattle.dsa_base.proofs.Counts.{one-place}
 use Rattle.dsa_base.specs.Rows.{passes}
 use Rattle.dsa_regs.specs.declared.Caps.{Caps}
@@ -14,7 +14,6 @@ use Rattle.dsa_regs.specs.Config.{zero_group, group_at, is_in_two, total_reserve
 use Rattle.dsa_regs.specs.Buffers.{covered, fits}
 use Rattle.dsa_base.proofs.NumberLemmas.{numbers_below-miss}
 use Rattle.dsa_base.proofs.NumberLists.{get_or-each, get_or-past, length-each}
-use Rattle.dsa_base.proofs.NumberLemmas.{numbers_below-hit}
 use Rattle.dsa_base.proofs.NumberSums.{sum-numbers-le}
 use Rattle.dsa_base.proofs.Tables.{not-both}
 

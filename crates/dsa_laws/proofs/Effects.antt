@@ -1,10 +1,13 @@
 -- What changes do, in eight kinds by what is held and in nine by the set-up: each law says what these mean for it.
-use Rattle.std.proofs.Common.{◌≡◌, ◌==◌, ℕ, ◌+◌, Option, Some, None, List, [], ◌∷◌, length, refl, subst}
+use Rattle.std.proofs.Common.{◌≡◌, ◌==◌, ◌<◌, Bool, true, false, cond, ℕ, ◌+◌, Option, Some, None, List, [], ◌∷◌, length, refl, subst}
 use Rattle.std.specs.Prelude.{slice_set}
 use Rattle.dsa_regs.specs.declared.Phase.{Phase}
 use Rattle.dsa_regs.specs.declared.Phase.TheVariants.{Off, On, Stopping}
 use Rattle.dsa_regs.specs.declared.Deed.{Deed}
 use Rattle.dsa_regs.specs.declared.Deed.TheVariants.{Disable}
+use Rattle.dsa_base.proofs.NumberLists.{get_or-each}
+use Rattle.dsa_regs.specs.Config.{queue_at, zero_queue}
+use Rattle.dsa_regs.specs.declared.QueueConfig.{QueueConfig}
 use Rattle.dsa_regs.specs.declared.Scope.{Scope}
 use Rattle.dsa_regs.specs.declared.Scope.TheVariants.{Device}
 use Rattle.dsa_regs.specs.Command.{queues_in}
@@ -12,7 +15,7 @@ use Rattle.dsa_book.specs.State.{Setup, Work, State}
 use Rattle.dsa_book.specs.Submit.{accepted}
 use Rattle.dsa_book.specs.declared.answer.NotedError.{NotedError}
 use Rattle.dsa_book.specs.Work.{members, taken, fetched, started, abandoned, ended}
-use Rattle.dsa_book.specs.Commands.{stopped, with_device, with_phases, with_sizes_alone, names, aborted, count_in_scope, reset}
+use Rattle.dsa_book.specs.Commands.{stopped, with_device, with_phases, with_sizes_alone, size_alone, names, aborted, count_in_scope, reset}
 use Rattle.dsa_book.specs.Machine.{intake_of, with_intake}
 use Rattle.dsa_laws.specs.Change.{Change, IsAccepted, IsTaken, IsFetched, IsStarted, IsAbandoned, IsEnded, IsDeviceEnabled, IsQueueEnabled, IsWaiting, IsOver, IsDeviceReset, IsQueuesReset, IsQueueWritten, IsGroupWritten, same, is_noted, is_accepted, is_taken, is_fetched, is_started, is_abandoned, is_ended, is_device_enabled, is_queue_enabled, is_waiting, is_over, is_aborted, is_device_reset, is_queues_reset, is_queue_written, is_group_written}
 
@@ -29,6 +32,18 @@ pub stopped-keeps : (deed : Deed) (scope : Scope) (phase : Phase) (setup : Setup
 stopped-keeps Disable Device phase setup = record { caps = refl; configs = refl; groups = refl; names = refl }
 stopped-keeps Disable scope phase setup = record { caps = refl; configs = refl; groups = refl; names = refl }
 stopped-keeps _ scope phase setup = record { caps = refl; configs = refl; groups = refl; names = refl }
+
+-- ---- what a reset of queues sets
+
+-- each configuration is as it was, or its size alone is left
+pub reset-config : (setup : Setup) (queues : List ℕ) (q : ℕ) → q < setup.caps.queues
+    → queue_at (with_sizes_alone queues setup).configs q ≡ cond (names queues q) (size_alone (queue_at setup.configs q)) (queue_at setup.configs q)
+reset-config setup queues q i =
+    get_or-each (λ k. cond (names queues k) (size_alone (queue_at setup.configs k)) (queue_at setup.configs k)) setup.caps.queues q zero_queue i
+
+pub reset-size : (b : Bool) (c : QueueConfig) → (cond b (size_alone c) c).size ≡ c.size
+reset-size true c = refl
+reset-size false c = refl
 
 -- ---- by what is held
 

@@ -2,7 +2,7 @@
 use Rattle.std.proofs.Common.{drop, ◌≡◌, ◌≢◌, ℕ, ◌+◌, ◌<◌, ◌≤◌, ◌&&◌, ◌||◌, ◌==◌, not, Bool, true, false, cond, List, ◌∷◌, ◌++◌, length, filter, set, get_or, Option, Some, None, option_map, is_none, refl, sym, ap, ◌∙◌, subst, ◌⊎◌, inl, inr, arith, ⊎_elim, eq-eqb, eqb-true, []}
 use Rattle.std.specs.Prelude.{nat_lt, count_by, sum_by}
 use Rattle.std.proofs.lemmas.Bool.Decides.{nat_tests}
-use Rattle.std.proofs.lemmas.Bool.{cases_Bool, cases_eq, ltb-true, ltb-false, and_parts, or_parts, not-true}
+use Rattle.std.proofs.lemmas.Bool.{cases_Bool, cases_eq, ltb-true, ltb-false, and_parts, or_parts}
 use Rattle.std.proofs.lemmas.List.{length-set, get_or-set_same, get_or-set_other, get_or-replicate}
 use Rattle.std.proofs.Math.ListN.{get_or-eq_default}
 use Rattle.dsa_base.proofs.Lists.{length-none, In-append, In-filter, In-find}
@@ -11,27 +11,22 @@ use Rattle.dsa_desc.specs.declared.Outcome.{Outcome}
 use Rattle.dsa_desc.specs.Descriptor.{with_pasid, is_successful, is_lawful_batch}
 use Rattle.dsa_regs.specs.declared.Caps.{Caps}
 use Rattle.dsa_regs.specs.declared.QueueConfig.{QueueConfig}
-use Rattle.dsa_regs.specs.declared.Phase.TheVariants.{Off, Stopping}
 use Rattle.dsa_regs.specs.declared.Scope.{Scope}
-use Rattle.dsa_regs.specs.declared.Scope.TheVariants.{Device}
 use Rattle.dsa_regs.specs.Caps.{list_count}
-use Rattle.dsa_regs.specs.Config.{queue_at, limits_of, zero_queue}
-use Rattle.dsa_regs.specs.Command.{queues_in}
+use Rattle.dsa_regs.specs.Config.{queue_at, limits_of}
 use Rattle.dsa_store.specs.Content.{Slot, Content, is_cell, chain, count, uses, without_front, unlinked}
 use Rattle.dsa_store.proofs.Places.{filter-absent}
 use Rattle.dsa_store.proofs.Sums.{uses-counted}
 use Rattle.dsa_book.specs.declared.note.BatchNote.{BatchNote}
-use Rattle.dsa_book.specs.State.{Setup, Work, State, opening, opening_setup, is_off, is_member, is_batch_of, phase_at, status_of}
+use Rattle.dsa_book.specs.State.{Setup, Work, State, opening, opening_setup, is_member, is_batch_of, status_of}
 use Rattle.dsa_book.specs.Work.{progress_list, member_list, in_progress, members, note_at, running_on, run, is_unfinished, note_after, with_first_run, opened_note, taken, ended}
-use Rattle.dsa_book.proofs.Scopes.{unnamed}
-use Rattle.dsa_book.specs.Commands.{aborted, is_in_scope, kept_note, names, size_alone}
+use Rattle.dsa_book.specs.Commands.{aborted, kept_note, names}
 use Rattle.dsa_laws.specs.Change.{Change}
 use Rattle.dsa_laws.proofs.Effects.{by_effect}
-use Rattle.dsa_laws.specs.WellFormed.{HasShape, NoneOff, NamesOnce, IsWellFormed}
+use Rattle.dsa_laws.specs.WellFormed.{HasShape, NamesOnce, IsWellFormed}
 use Rattle.dsa_laws.specs.Engines.{holds_batch, IsAlike, IsLawfulEngine, HasLawfulEngines}
 use Rattle.dsa_laws.proofs.Contents.{In-filtered, chain-filtered, sum-list-le, sum-without, chain-other, chain-same}
 use Rattle.dsa_laws.proofs.Shapes.{engines-same, shape-change, shape-opening, In-cond, below-engines, member_list-in, progress_list-in, waiting-engine, waiting-members}
-use Rattle.dsa_base.proofs.Tables.{not-both}
 use Rattle.dsa_book.proofs.Phases.{on-not_off}
 use Rattle.dsa_base.proofs.NumberLists.{get_or-each}
 use Rattle.dsa_laws.proofs.Entries.{in-use-below, configs-kept}

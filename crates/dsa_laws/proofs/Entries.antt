@@ -1,8 +1,8 @@
 -- What entries are, by the list in which they stand.
-use Rattle.std.proofs.Common.{◌≡◌, ℕ, ◌+◌, ◌<◌, ◌≤◌, ◌==◌, not, Bool, true, false, cond, List, [], ◌∷◌, Some, refl, sym, ap, subst, ◌⊎◌, inl, inr, arith, ⊎_elim}
-use Rattle.std.specs.Prelude.{slice_get, nat_lt, is_some}
+use Rattle.std.proofs.Common.{◌≡◌, ℕ, ◌+◌, ◌<◌, ◌≤◌, ◌==◌, not, Bool, true, false, cond, List, [], ◌∷◌, refl, sym, ap, subst, ◌⊎◌, inl, inr, arith, ⊎_elim}
+use Rattle.std.specs.Prelude.{nat_lt, is_some}
 use Rattle.std.specs.List.{list_any}
-use Rattle.std.proofs.lemmas.Bool.{false_from_ne_true, cases_Bool, ltb-true, ltb-false, and_parts, or_parts, not-true}
+use Rattle.std.proofs.lemmas.Bool.{false_from_ne_true, cases_Bool, ltb-true, ltb-false, and_parts, not-true}
 use Rattle.std.proofs.Math.ListN.{get_or-eq_default}
 use Rattle.dsa_base.proofs.Lists.{In-any, none-In, In-front, In-find}
 use Rattle.dsa_regs.specs.Caps.{list_count}
@@ -22,7 +22,7 @@ use Rattle.dsa_book.specs.Work.{progress_list, member_list, in_progress, members
 use Rattle.dsa_book.proofs.Scopes.{unnamed}
 use Rattle.dsa_book.specs.Commands.{stopped, with_phases, names, is_in_scope, holds, is_awaited}
 use Rattle.dsa_laws.specs.Change.{Change, IsAccepted, IsTaken, IsFetched, IsStarted}
-use Rattle.dsa_laws.proofs.Effects.{by_effect, by_setting, stopped-keeps}
+use Rattle.dsa_laws.proofs.Effects.{by_effect, by_setting, stopped-keeps, reset-config}
 use Rattle.dsa_laws.specs.WellFormed.{HasShape, IsPlaced, NoneOff, PasidsFit, HasLawfulEntries, HasLawfulSetup}
 use Rattle.dsa_laws.proofs.Contents.{In-chain, In-filtered, each-set, each-pushed, each-without_front, each-filtered, chain-empty}
 use Rattle.dsa_laws.proofs.Shapes.{queues-same, engines-same, on-queue, below-engines, In-cond}
@@ -189,7 +189,7 @@ configs-kept caps s s' h a c k x i = by_setting (λ setup. queue_at setup.config
     let qs = queues_in c.scope in
     let old = In-filtered (λ slot. not (is_in_scope c.scope slot.1)) s.work.content k x (In-after s' _ c.after k x i) in
     let below = in-use-below caps s.work x.1.queue h (a k x old.0) in
-    get_or-each (λ q. cond (names qs q) (size_alone (queue_at s.work.setup.configs q)) (queue_at s.work.setup.configs q)) s.work.setup.caps.queues x.1.queue zero_queue below
+    reset-config s.work.setup qs x.1.queue below
     ∙ ap (λ (b : Bool). cond b (size_alone (queue_at s.work.setup.configs x.1.queue)) (queue_at s.work.setup.configs x.1.queue)) (unnamed c.scope x.1 (not-true _ old.1)))
     (λ c. get_or-set_other s.work.setup.configs c.queue x.1.queue c.config zero_queue
     (λ (e : x.1.queue ≡ c.queue). not-both (is_off (phase_at s.work.setup c.queue)) c.off (subst (λ q. is_off (phase_at s.work.setup q) ≡ false) e (a k x (In-after s' _ c.after k x i)))))

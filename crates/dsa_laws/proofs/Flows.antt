@@ -9,9 +9,7 @@ use Rattle.dsa_base.proofs.Counts.{count-cons}
 use Rattle.dsa_base.proofs.Lists.{In-append, In-filter, In-find}
 use Rattle.dsa_regs.specs.declared.Caps.{Caps}
 use Rattle.dsa_regs.specs.Caps.{cell_count}
-use Rattle.dsa_regs.specs.declared.Phase.TheVariants.{Off, Stopping}
 use Rattle.dsa_regs.specs.declared.Scope.{Scope}
-use Rattle.dsa_regs.specs.declared.Scope.TheVariants.{Device}
 use Rattle.dsa_store.specs.declared.entry.Cell.{Cell}
 use Rattle.dsa_store.specs.Content.{Slot, Content, chain, uses, all_held, is_cell, is_free, pushed, without_front}
 use Rattle.dsa_store.proofs.Sums.{sum-set, sum-pushed, sum-without_front, sum-split, uses-counted, held-counted, is_free-unused, all_held-filtered}

@@ -1,5 +1,5 @@
 -- Every state that a history leads to is well formed.
-use Rattle.std.proofs.Common.{◌≡◌, ℕ, ◌==◌, List, [], ◌∷◌, length, replicate, Option, Some, None, refl, ap, subst, arith, ◌+◌, ◌∙◌, ◌<◌, ◌≤◌}
+use Rattle.std.proofs.Common.{◌≡◌, ◌==◌, List, [], ◌∷◌, length, replicate, Option, Some, None, refl, ap, subst, arith, ◌+◌, ◌∙◌}
 use Rattle.std.specs.Prelude.{count_by}
 use Rattle.dsa_regs.specs.declared.Caps.{Caps}
 use Rattle.dsa_regs.specs.Caps.{list_count}
@@ -9,7 +9,7 @@ use Rattle.dsa_book.specs.declared.event.Step.{Step}
 use Rattle.dsa_book.specs.State.{State, opening}
 use Rattle.dsa_book.specs.Machine.{next, replay_from, replay}
 use Rattle.dsa_laws.specs.Change.{Change}
-use Rattle.dsa_laws.specs.WellFormed.{IsWellFormed, held_named, fates_named, IsWithinLimits}
+use Rattle.dsa_laws.specs.WellFormed.{IsWellFormed}
 use Rattle.dsa_laws.proofs.Changes.{next-change}
 use Rattle.dsa_laws.proofs.Shapes.{shape-change, shape-opening}
 use Rattle.dsa_laws.proofs.Flows.{flow-change, cells-flow, names-flow}
@@ -23,8 +23,6 @@ use Rattle.dsa_laws.proofs.Buffering.{buffers-change, buffers-opening}
 use Rattle.dsa_store.specs.declared.entry.Cell.{Cell}
 use Rattle.dsa_book.proofs.Replay.{replay_none}
 use Rattle.dsa_laws.proofs.Contents.{all_held-empty}
-use Rattle.dsa_laws.specs.Engines.{HasLawfulEngines}
-use Rattle.dsa_laws.specs.Buffering.{HasBuffers}
 
 pub well_formed-change : (caps : Caps) (s s' : State) → IsWellFormed caps s → Change s s' → IsWellFormed caps s'
 well_formed-change caps s s' w c =

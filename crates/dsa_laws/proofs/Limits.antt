@@ -1,5 +1,5 @@
 -- No list grows past its limit.
-use Rattle.std.proofs.Common.{drop, ◌≡◌, ◌≢◌, ℕ, zero, suc, ◌+◌, ◌<◌, ◌≤◌, ◌&&◌, not, Bool, true, false, cond, List, [], ◌∷◌, ◌++◌, length, map, set, Some, None, refl, sym, ap, ◌∙◌, subst, ◌⊎◌, inl, inr, arith, ⊎_elim, length-append, ◌^◌, Option}
+use Rattle.std.proofs.Common.{drop, ◌≡◌, ◌≢◌, ℕ, ◌+◌, ◌<◌, ◌≤◌, ◌&&◌, not, Bool, true, false, cond, List, [], ◌∷◌, length, map, set, Some, None, refl, sym, ap, ◌∙◌, subst, ◌⊎◌, inl, inr, arith, ⊎_elim, length-append, ◌^◌, Option}
 use Rattle.std.specs.Prelude.{filter, nat_lt}
 use Rattle.std.proofs.lemmas.Bool.{cases_eq, ltb-true, ltb-false, leb-false, and_parts}
 use Rattle.std.proofs.lemmas.List.{get_or-set_other}
@@ -9,29 +9,25 @@ use Rattle.dsa_base.specs.Rows.{passes}
 use Rattle.dsa_regs.specs.declared.Caps.{Caps}
 use Rattle.dsa_regs.specs.declared.QueueConfig.{QueueConfig}
 use Rattle.dsa_regs.specs.declared.GroupConfig.{GroupConfig}
-use Rattle.dsa_regs.specs.declared.Phase.{Phase}
 use Rattle.dsa_regs.specs.declared.Phase.TheVariants.{Off, Stopping}
-use Rattle.dsa_regs.specs.declared.Scope.{Scope}
-use Rattle.dsa_regs.specs.declared.Deed.{Deed}
 use Rattle.dsa_regs.specs.Config.{queue_at, check_queue, queue_table, zero_queue}
 use Rattle.dsa_regs.specs.Caps.{list_count}
 use Rattle.dsa_regs.specs.Command.{queues_in}
-use Rattle.dsa_store.specs.Content.{Slot, Content, chain, pushed, without_front}
+use Rattle.dsa_store.specs.Content.{Slot, Content, chain, without_front}
 use Rattle.dsa_book.specs.declared.event.Portal.{Portal}
 use Rattle.dsa_book.specs.declared.event.Portal.TheVariants.{Limited, Unlimited}
-use Rattle.dsa_book.specs.State.{Setup, Work, State, opening, is_off, phase_at}
+use Rattle.dsa_book.specs.State.{Work, State, opening, is_off, phase_at}
 use Rattle.dsa_book.specs.Submit.{limit_of}
 use Rattle.dsa_book.specs.Work.{run, progress_list, member_list, in_progress, may_take, front_of, qualifies, members, note_at}
-use Rattle.dsa_book.specs.Commands.{stopped, names, size_alone}
+use Rattle.dsa_book.specs.Commands.{names}
 use Rattle.dsa_laws.specs.Change.{Change}
-use Rattle.dsa_laws.proofs.Effects.{by_effect, by_setting, stopped-keeps}
+use Rattle.dsa_laws.proofs.Effects.{by_effect, by_setting, stopped-keeps, reset-config, reset-size}
 use Rattle.dsa_laws.proofs.Entries.{In-after}
 use Rattle.dsa_laws.specs.WellFormed.{HasShape, HasLawfulSetup, HasLawfulEntries, IsWithinLimits, NoteFits, NotesFit}
 use Rattle.dsa_laws.proofs.Contents.{chain-set, chain-filtered, In-filtered, chain-empty}
 use Rattle.dsa_laws.proofs.Shapes.{queues-same, engines-same, on-queue, progress-at}
 use Rattle.dsa_base.proofs.Tables.{not-both}
 use Rattle.dsa_book.proofs.Phases.{on-not_off}
-use Rattle.dsa_base.proofs.NumberLists.{get_or-each}
 use Rattle.dsa_base.proofs.Tables.{no-row}
 use Rattle.dsa_laws.specs.Engines.{IsLawfulEngine, HasLawfulEngines}
 use Rattle.dsa_book.specs.declared.note.BatchNote.{BatchNote}
@@ -123,10 +119,6 @@ off-empty : (caps : Caps) (w : Work) (q : ℕ) → HasLawfulEntries caps w → q
 off-empty caps w q h i off = ap (λ (xs : List Slot). length xs) (none-In (chain w.content q) (λ x j.
     not-both (is_off (phase_at w.setup q)) off (subst (λ k. is_off (phase_at w.setup k) ≡ false) ((h.placed q x j).queue i) (h.none_off q x j))))
 
-sized : (b : Bool) (c : QueueConfig) → (cond b (size_alone c) c).size ≡ c.size
-sized true c = refl
-sized false c = refl
-
 -- a list is set that is none of these, or that has room
 set-limits : (caps : Caps) (configs : List QueueConfig) (c : Content) (k : ℕ) (l : List Slot) → ListsFit caps configs c
     → (k < caps.queues → length l ≤ (queue_at configs k).size) → (caps.queues ≤ k → k < caps.queues + caps.engines → length l ≤ caps.slots) → ListsFit caps configs (set c k l)
@@ -194,8 +186,8 @@ lists_fit-change caps s s' shape setup entries fit c = by_setting (λ setup. Lis
     let qs = queues_in c.scope in
     let size = queues-same shape in
     resized (λ q i.
-    ap (λ (c : QueueConfig). c.size) (get_or-each (λ k. cond (names qs k) (size_alone (queue_at s.work.setup.configs k)) (queue_at s.work.setup.configs k)) s.work.setup.caps.queues q zero_queue (omega (arith, i, size)))
-    ∙ sized (names qs q) (queue_at s.work.setup.configs q)))
+    ap (λ (c : QueueConfig). c.size) (reset-config s.work.setup qs q (omega (arith, i, size)))
+    ∙ reset-size (names qs q) (queue_at s.work.setup.configs q)))
     (λ c. record {
       queues = λ q i. ⊎_elim
           (λ (e : q ≡ c.queue).

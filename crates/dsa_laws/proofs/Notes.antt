@@ -1,5 +1,5 @@
 -- The numbers of the batch notes.
-use Rattle.std.proofs.Common.{◌≡◌, ℕ, zero, suc, ◌<◌, ◌≤◌, ◌^◌, ◌&&◌, not, Bool, true, false, cond, List, ◌∷◌, set, get_or, replicate, Option, Some, None, option_map, refl, sym, ap, subst, arith, ⊎_elim, eqb-true, []}
+use Rattle.std.proofs.Common.{◌≡◌, ℕ, zero, suc, ◌<◌, ◌≤◌, ◌^◌, ◌&&◌, not, Bool, true, false, cond, List, ◌∷◌, set, get_or, Option, Some, None, option_map, refl, sym, ap, subst, arith, ⊎_elim, eqb-true, []}
 use Rattle.std.specs.Prelude.{nat_lt}
 use Rattle.std.proofs.lemmas.Bool.{cases_Bool, ltb-true, ltb-false, leb-true, leb-false, and_parts, or_parts}
 use Rattle.std.proofs.Math.Nat.{pow-le-pow_right}
@@ -10,7 +10,6 @@ use Rattle.dsa_base.specs.Rows.{first_row_or}
 use Rattle.dsa_desc.specs.Descriptor.{is_lawful_batch, is_batch, is_within, is_well_formed, is_supported, is_fenced, is_transfer, check, is_successful}
 use Rattle.dsa_regs.specs.declared.Caps.{Caps}
 use Rattle.dsa_regs.specs.declared.Scope.{Scope}
-use Rattle.dsa_regs.specs.declared.Scope.TheVariants.{Device}
 use Rattle.dsa_regs.specs.Config.{queue_at, queue_table}
 use Rattle.dsa_store.specs.Content.{Slot, chain}
 use Rattle.dsa_book.specs.declared.note.BatchNote.{BatchNote}

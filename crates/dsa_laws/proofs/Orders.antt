@@ -1,13 +1,11 @@
 -- Members that run stand before the others.
-use Rattle.std.proofs.Common.{drop, ◌≡◌, ℕ, zero, suc, ◌+◌, ◌≤◌, not, Bool, true, false, cond, List, [], ◌∷◌, ◌++◌, map, set, refl, sym, ap, ◌∙◌, subst, ◌⊎◌, inl, inr, arith, ⊎_elim, ◌-◌, ◌<◌, length}
+use Rattle.std.proofs.Common.{drop, ◌≡◌, ℕ, ◌+◌, ◌≤◌, not, Bool, true, false, cond, List, [], ◌∷◌, ◌++◌, map, set, refl, sym, ap, ◌∙◌, subst, arith, ⊎_elim, ◌-◌, ◌<◌, length}
 use Rattle.std.specs.Prelude.{filter, nat_lt}
 use Rattle.dsa_regs.specs.declared.Caps.{Caps}
-use Rattle.dsa_regs.specs.declared.Scope.TheVariants.{Device}
 use Rattle.dsa_regs.specs.Caps.{list_count}
 use Rattle.dsa_store.specs.Content.{Slot, Content, chain, without_front}
 use Rattle.dsa_book.specs.State.{Work, State, opening}
 use Rattle.dsa_book.specs.Work.{progress_list, member_list, members, run, with_first_run}
-use Rattle.dsa_book.specs.Commands.{is_in_scope}
 use Rattle.dsa_laws.specs.Change.{Change}
 use Rattle.dsa_laws.proofs.Effects.{by_effect}
 use Rattle.dsa_laws.specs.WellFormed.{HasShape, MembersInOrder, runs_first, none_runs}
