@@ -1,5 +1,5 @@
 -- A history accepts and fetches as many entries as have a fate row or are held.
-use Rattle.std.proofs.Common.{◌≡◌, ◌+◌, cond, List, [], Some, refl, sym, ap, ◌∙◌, arith}
+use Rattle.std.proofs.Common.{◌≡◌, ◌+◌, cond, List, Some, sym, ap, ◌∙◌, arith}
 use Rattle.std.specs.Prelude.{count_by, is_none}
 use Rattle.dsa_regs.specs.declared.Caps.{Caps}
 use Rattle.dsa_regs.specs.Caps.{list_count}
@@ -22,23 +22,33 @@ use Rattle.dsa_laws.proofs.Contents.{all_held-empty}
 use Rattle.dsa_book.proofs.Replay.{replay-adds}
 
 -- each step adds a submission where it accepts one
-next-account : (caps : Caps) (s s' : State) (event : Event) (reply : Reply) → IsWellFormed caps s → next s event reply ≡ Some s'
+next-account : (caps : Caps) (s s' : State) (event : Event) (reply : Reply) → IsWellFormed caps s
+    → next s event reply ≡ Some s'
     → submitted_entries s'.work ≡ submitted_entries s.work + cond (is_accepted reply) 1 0
 next-account caps s s' event reply w h =
     let told = next-tells s s' event reply h in
-    change-entries is_none caps s s' w.shape w.cells told.change ∙ ap (λ n. submitted_entries s.work + n) (sym told.accepted)
+    change-entries is_none caps s s' w.shape w.cells told.change ∙ ap (λ n. submitted_entries s.work + n)
+    (sym told.accepted)
 
 none-at-first : (caps : Caps) → submitted_entries (opening caps).work ≡ 0
-none-at-first caps = let e = ap (λ (xs : List Slot). count_by is_submitted_slot xs) (all_held-empty (list_count caps)) in omega (arith, e)
+none-at-first caps = let e = ap (λ (xs : List Slot). count_by is_submitted_slot xs)
+    (all_held-empty (list_count caps)) in omega (arith, e)
 
-pub replay-accepted : (caps : Caps) (h : List Step) (s : State) → replay caps h ≡ Some s → total_accepted h ≡ submitted_entries s.work
+pub replay-accepted : (caps : Caps) (h : List Step) (s : State) → replay caps h ≡ Some s
+    → total_accepted h ≡ submitted_entries s.work
 replay-accepted caps h s e =
     let all = replay-adds (IsWellFormed caps) (λ t. submitted_entries t.work) (λ reply. cond (is_accepted reply) 1 0)
-    (λ s s' x w n. (well_formed-change caps s s' w (next-change s s' x.event x.reply n), next-account caps s s' x.event x.reply w n)) h (opening caps) s (well_formed-opening caps) e in
+    (λ s s' x w n. (
+      well_formed-change caps s s' w
+          (next-change s s' x.event x.reply n),
+      next-account caps s s' x.event x.reply w n,
+    )) h (opening caps) s
+    (well_formed-opening caps) e in
     let none = none-at-first caps in
     omega (arith, all, none)
 
-pub replay-fetched : (caps : Caps) (h : List Step) (s : State) → replay caps h ≡ Some s → total_fetched h ≡ member_entries s.work
+pub replay-fetched : (caps : Caps) (h : List Step) (s : State) → replay caps h ≡ Some s
+    → total_fetched h ≡ member_entries s.work
 replay-fetched caps h s e =
     let names = replay-names caps h s e in
     let counted = (replay-well_formed caps h s e).names.counted in

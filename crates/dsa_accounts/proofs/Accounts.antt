@@ -1,5 +1,5 @@
 -- Each accepted and each fetched entry has a fate row or is held, and only members are abandoned.
-use Rattle.std.proofs.Common.{◌≡◌, ℕ, ◌+◌, ◌<◌, Bool, true, false, cond, List, [], ◌∷◌, length, Option, Some, None, refl, ap, ◌∙◌, subst, arith}
+use Rattle.std.proofs.Common.{◌≡◌, ℕ, ◌+◌, ◌<◌, Bool, cond, List, [], ◌∷◌, length, Option, Some, None, refl, ap, ◌∙◌, arith}
 use Rattle.std.specs.Prelude.{sum_by, count_by, is_some, is_none}
 use Rattle.std.proofs.lemmas.List.Sums.{sum_by-cons, count_by-le-length}
 use Rattle.dsa_regs.specs.declared.Caps.{Caps}
@@ -13,7 +13,6 @@ use Rattle.dsa_book.specs.Machine.{with_intake, intake_of}
 use Rattle.dsa_laws.specs.Change.{Change}
 use Rattle.dsa_laws.proofs.Effects.{by_count, came}
 use Rattle.dsa_laws.specs.WellFormed.{HasShape, CellsOnce}
-use Rattle.dsa_accounts.specs.Accounts.{is_submitted_row, is_submitted_slot, submitted_entries}
 use Rattle.dsa_laws.proofs.Shapes.{on-queue, note-engine, member_list-in, queue_list-in}
 use Rattle.dsa_laws.proofs.Flows.{flow-change, rows-counted, IsFlow}
 
@@ -32,7 +31,8 @@ account-flow : (p : Option ℕ → Bool) (caps : Caps) (w w' : Work) (flow : IsF
 account-flow p caps w w' flow =
     let sums = flow.sums (weight p) (λ slot. refl) in
     let test : FateRow → Bool = λ row. p row.parent in
-    let rows = ap (λ (rows : List FateRow). count_by test rows) flow.fates ∙ rows-counted test w.fates flow.fate flow.gone in
+    let rows = ap (λ (rows : List FateRow). count_by test rows) flow.fates
+    ∙ rows-counted test w.fates flow.fate flow.gone in
     omega (arith, sums, rows)
 
 -- what comes is counted where its parent passes
@@ -47,7 +47,8 @@ entered p w w' k x inside content fates =
     omega (arith, sum, slots, rows, one)
 
 -- those with a parent and those without are all
-pub parts : {X : Type 0} (parent : X → Option ℕ) (xs : List X) → count_by (λ x. is_none (parent x)) xs + count_by (λ x. is_some (parent x)) xs ≡ length xs
+pub parts : {X : Type 0} (parent : X → Option ℕ) (xs : List X)
+    → count_by (λ x. is_none (parent x)) xs + count_by (λ x. is_some (parent x)) xs ≡ length xs
 parts parent [] = refl
 parts {X} parent (x ∷ xs) =
     let a = sum_by-cons (λ (y : X). cond (is_none (parent y)) 1 0) x xs in
@@ -70,11 +71,13 @@ change-entries p caps s s' h once c =
     (λ e same. same e.names)
     (λ c same.
     let after = (with_intake s (accepted (intake_of s) c.queue c.kind c.desc c.cell).1).work in
-    entered p s.work after c.queue _ (queue_list-in caps s.work c.queue h (on-queue caps s.work c.queue h c.on)) refl refl)
+    entered p s.work after c.queue _ (queue_list-in caps s.work c.queue h
+    (on-queue caps s.work c.queue h c.on)) refl refl)
     (λ c same. same refl)
     (λ c same.
     let inside = member_list-in caps s.work c.engine h (note-engine caps s.work c.engine c.note h c.is_note) in
-    entered p s.work (fetched s.work c.engine c.desc c.cell c.note c.batch.1).1 (member_list s.work.setup c.engine) _ inside refl refl)
+    entered p s.work (fetched s.work c.engine c.desc c.cell c.note c.batch.1).1
+    (member_list s.work.setup c.engine) _ inside refl refl)
     (λ c same. same refl)
     (λ c same. same refl)
     (λ c same. same refl)

@@ -11,17 +11,13 @@ use Rattle.dsa_regs.specs.Config.{queue_at, zero_queue, groups_table, total_size
 use Rattle.dsa_store.specs.Content.{Slot, Content, chain, held}
 use Rattle.dsa_book.specs.declared.event.Portal.{Portal}
 use Rattle.dsa_book.specs.declared.event.Kind.{Kind}
-use Rattle.dsa_book.specs.declared.event.Step.{Step}
 use Rattle.dsa_book.specs.declared.note.BatchNote.{BatchNote}
 use Rattle.dsa_book.specs.State.{Work, State, is_on, is_off, phase_at}
 use Rattle.dsa_book.specs.Submit.{limit_of, submit_table}
 use Rattle.dsa_book.specs.Work.{members, note_at, is_all_fetched, in_progress}
-use Rattle.dsa_book.specs.Machine.{intake_of, replay}
+use Rattle.dsa_book.specs.Machine.{intake_of}
 use Rattle.dsa_laws.specs.WellFormed.{HasShape, HasLawfulSetup, HasLawfulEntries, IsWithinLimits, NoteFits, IsWellFormed}
-use Rattle.dsa_accounts.specs.FreeCells.{HasFreeCell}
 use Rattle.dsa_laws.proofs.Shapes.{on-queue, note-engine, members-at}
-use Rattle.dsa_accounts.proofs.UnusedCells.{free-cell}
-use Rattle.dsa_laws.proofs.Histories.{replay-well_formed}
 use Rattle.dsa_base.proofs.NumberSums.{sum-places, sum-equal}
 use Rattle.dsa_base.proofs.NumberSums.{sum-split_numbers, sum-plus, sum-same, sum-numbers-le, sum-numbers-lt}
 use Rattle.dsa_book.proofs.Phases.{on-not_off}

@@ -1,10 +1,9 @@
 -- The batch of a note: it is in progress on one engine, and its members are held there.
-use Rattle.std.proofs.Common.{◌≡◌, ℕ, zero, suc, ◌+◌, ◌-◌, ◌<◌, ◌≤◌, ◌&&◌, ◌==◌, Bool, true, false, cond, List, [], ◌∷◌, length, filter, Option, Some, None, refl, sym, ap, ◌∙◌, subst, inl, inr, arith, ⊎_elim, eq-eqb, eqb-true}
-use Rattle.std.specs.Prelude.{count_by, nat_lt}
+use Rattle.std.proofs.Common.{◌≡◌, ℕ, zero, suc, ◌+◌, ◌-◌, ◌<◌, ◌≤◌, ◌&&◌, ◌==◌, Bool, true, false, cond, [], ◌∷◌, length, filter, Option, Some, None, refl, sym, ap, ◌∙◌, subst, arith, ⊎_elim, eq-eqb, eqb-true}
+use Rattle.std.specs.Prelude.{nat_lt}
 use Rattle.std.specs.List.{list_any}
 use Rattle.std.proofs.lemmas.Bool.{cases_eq, cases_lt, and_from, false_from_ne_true}
 use Rattle.std.proofs.lemmas.Bool.Decides.{nat_tests}
-use Rattle.std.proofs.lemmas.List.Sums.{sum_by-cons}
 use Rattle.std.proofs.lemmas.Option.{same_Some}
 use Rattle.std.proofs.Math.ListN.{get_or-eq_default}
 use Rattle.dsa_base.proofs.Lists.{In-append, In-filter, In-any}
@@ -31,7 +30,8 @@ use Rattle.dsa_accounts.specs.BatchCounts.{is_of}
 -- what is held stands in one of the lists
 held-In : (x : Slot) (c : Content) → In x (all_held c) → (k : ℕ) × In x (chain c k)
 held-In x [] i = absurd i
-held-In x (l ∷ ls) i = ⊎_elim (λ a. (zero, a)) (λ b. let r = held-In x ls b in (suc r.0, r.1)) (In-append x l (all_held ls) i)
+held-In x (l ∷ ls) i = ⊎_elim (λ a. (zero, a)) (λ b. let r = held-In x ls b in
+    (suc r.0, r.1)) (In-append x l (all_held ls) i)
 
 -- entries of one name stand in one list
 pub one-list : (w : Work) (x y : Slot) (i j : ℕ) → NamesOnce w → In x (chain w.content i) → In y (chain w.content j)
@@ -49,7 +49,8 @@ one-list w x y i j names a b same = ⊎_elim
     (cases_eq i j)
 
 -- what is in progress stands in that list
-pub In-progress : (x : Slot) (w : Work) (e : ℕ) → In x (in_progress w e) → In x (chain w.content (progress_list w.setup e))
+pub In-progress : (x : Slot) (w : Work) (e : ℕ) → In x (in_progress w e)
+    → In x (chain w.content (progress_list w.setup e))
 In-progress x w e i = (In-cond (nat_lt e w.setup.caps.engines) x (chain w.content (progress_list w.setup e)) i).1
 
 -- ---- names of parents
@@ -79,25 +80,30 @@ noted-batch caps s e n w is =
     (x.0, (x.1.0, (sym (law.noted x.0 x.1.0 x.1.1).name, x.1.1)))
 
 -- an entry that has the name of a noted batch stands in progress on that engine
-pub noted-place : (caps : Caps) (s : State) (e : ℕ) (n : BatchNote) (y : Slot) (k : ℕ) → IsWellFormed caps s → note_at s.work e ≡ Some n
+pub noted-place : (caps : Caps) (s : State) (e : ℕ) (n : BatchNote) (y : Slot) (k : ℕ) → IsWellFormed caps s
+    → note_at s.work e ≡ Some n
     → In y (chain s.work.content k) → y.1.name ≡ n.batch → k ≡ progress_list s.work.setup e
 noted-place caps s e n y k w is i named =
     let x = noted-batch caps s e n w is in
-    one-list s.work y x.0 k (progress_list s.work.setup e) w.names i (In-progress x.0 s.work e x.1.0) (named ∙ sym x.1.1.0)
+    one-list s.work y x.0 k (progress_list s.work.setup e) w.names i (In-progress x.0 s.work e x.1.0)
+    (named ∙ sym x.1.1.0)
 
 -- so no two engines have a note of one batch
 pub noted-once : (caps : Caps) (s : State) (e k : ℕ) (n m : BatchNote) → IsWellFormed caps s → note_at s.work e ≡ Some n
     → note_at s.work k ≡ Some m → n.batch ≡ m.batch → e ≡ k
 noted-once caps s e k n m w is also same =
     let x = noted-batch caps s e n w is in
-    let q = noted-place caps s k m x.0 (progress_list s.work.setup e) w also (In-progress x.0 s.work e x.1.0) (x.1.1.0 ∙ same) in
+    let q = noted-place caps s k m x.0 (progress_list s.work.setup e) w also (In-progress x.0 s.work e x.1.0)
+    (x.1.1.0 ∙ same) in
     omega (arith, q)
 
 -- and each held member of the batch is a member on that engine
-pub noted-member : (caps : Caps) (s : State) (e : ℕ) (n : BatchNote) (y : Slot) → IsWellFormed caps s → note_at s.work e ≡ Some n
+pub noted-member : (caps : Caps) (s : State) (e : ℕ) (n : BatchNote) (y : Slot) → IsWellFormed caps s
+    → note_at s.work e ≡ Some n
     → In y (all_held s.work.content) → y.1.parent ≡ Some n.batch → In y (members s.work e)
 noted-member caps s e n y w is held parent = ⊎_elim
-    (λ (below : k < first_members caps). let none = (w.entries.placed k y at.1).submitted below in absurd (nothing (sym none ∙ parent)))
+    (λ (below : k < first_members caps). let none = (w.entries.placed k y at.1).submitted below in
+    absurd (nothing (sym none ∙ parent)))
     (λ (past : first_members caps ≤ k). ⊎_elim
     (λ (inside : k < length s.work.content).
     let j = k - first_members caps in
@@ -129,7 +135,8 @@ noted-member caps s e n y w is held parent = ⊎_elim
         subst (λ k. In y (members s.work k)) (noted-once caps s j e m n w q is same) i
 
 -- where a scope leaves the batch, it takes none of its members
-pub noted-left : (caps : Caps) (s : State) (e : ℕ) (n : BatchNote) (scope : Scope) (y : Slot) → IsWellFormed caps s → note_at s.work e ≡ Some n
+pub noted-left : (caps : Caps) (s : State) (e : ℕ) (n : BatchNote) (scope : Scope) (y : Slot) → IsWellFormed caps s
+    → note_at s.work e ≡ Some n
     → takes_batch s.work.setup scope (chain s.work.content (progress_list s.work.setup e)) ≡ false
     → In y (filter (λ slot. is_in_scope scope slot.1) (all_held s.work.content)) → is_of n.batch y.1.parent ≡ false
 noted-left caps s e n scope y w is left i = false_from_ne_true (is_of n.batch y.1.parent) (λ t.

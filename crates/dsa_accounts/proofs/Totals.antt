@@ -1,9 +1,9 @@
 -- What the totals of a history say of its names, of its fate rows and of what is held.
-use Rattle.std.proofs.Common.{◌≡◌, ℕ, ◌+◌, ◌≤◌, cond, ◌++◌, List, [], ◌∷◌, length, map, Some, Option, sum_by, refl, sym, ap, ◌∙◌, arith, add-zero, zero-add}
+use Rattle.std.proofs.Common.{◌≡◌, ℕ, ◌+◌, ◌≤◌, cond, List, [], ◌∷◌, length, Some, Option, sum_by, refl, sym, ap, ◌∙◌, arith, add-zero, zero-add}
 use Rattle.std.specs.Prelude.{⊤, filter}
 use Rattle.std.proofs.lemmas.List.Sums.{sum_by-cons}
 use Rattle.dsa_regs.specs.declared.Caps.{Caps}
-use Rattle.dsa_store.specs.Content.{Slot, all_held, held}
+use Rattle.dsa_store.specs.Content.{all_held, held}
 use Rattle.dsa_book.specs.declared.answer.SubmitAnswer.TheVariants.{Accepted}
 use Rattle.dsa_book.specs.declared.answer.FetchAnswer.TheVariants.{Fetched}
 use Rattle.dsa_book.specs.declared.answer.StartAnswer.TheVariants.{Abandoned}
@@ -14,7 +14,6 @@ use Rattle.dsa_book.specs.declared.answer.Reply.TheVariants.{Submit, Fetch, Star
 use Rattle.dsa_book.specs.declared.event.Event.{Event}
 use Rattle.dsa_book.specs.declared.event.Step.{Step}
 use Rattle.dsa_book.specs.declared.fate.Fate.TheVariants as fate
-use Rattle.dsa_book.specs.declared.fate.FateRow.{FateRow}
 use Rattle.dsa_book.specs.State.{State, opening}
 use Rattle.dsa_book.specs.Work.{last_status, members}
 use Rattle.dsa_book.specs.Commands.{is_in_scope}
@@ -67,7 +66,8 @@ ended_by-is (Issue (Ended aborted)) = sym (zero-add aborted)
 ended_by-is _ = refl
 
 -- each step gives as many names as its reply says
-pub next-names : (s s' : State) (event : Event) (reply : Reply) → next s event reply ≡ Some s' → name_of s' ≡ name_of s + named_by reply
+pub next-names : (s s' : State) (event : Event) (reply : Reply) → next s event reply ≡ Some s'
+    → name_of s' ≡ name_of s + named_by reply
 next-names s s' event reply h =
     let told = next-tells s s' event reply h in
     let names = change-names s s' told.change in
@@ -78,7 +78,8 @@ next-names s s' event reply h =
     omega (arith, names, is, accepted, fetched, all)
 
 -- and as many fate rows
-next-rows : (s s' : State) (event : Event) (reply : Reply) → next s event reply ≡ Some s' → rows_of s' ≡ rows_of s + ended_by reply
+next-rows : (s s' : State) (event : Event) (reply : Reply) → next s event reply ≡ Some s'
+    → rows_of s' ≡ rows_of s + ended_by reply
 next-rows s s' event reply h =
     let told = next-tells s s' event reply h in
     change-rows s s' told.change ∙ ap (λ n. rows_of s + n) (sym told.ended)
@@ -100,15 +101,19 @@ parts-added f g h is (x ∷ steps) =
 named_total : (h : List Step) → sum_by (λ step. named_by step.reply) h ≡ total_accepted h + total_fetched h
 named_total = parts-added named_by (λ r. cond (is_accepted r) 1 0) (λ r. cond (is_fetched r) 1 0) named_by-is
 
-pub replay-names : (caps : Caps) (h : List Step) (s : State) → replay caps h ≡ Some s → total_accepted h + total_fetched h ≡ name_of s
+pub replay-names : (caps : Caps) (h : List Step) (s : State) → replay caps h ≡ Some s
+    → total_accepted h + total_fetched h ≡ name_of s
 replay-names caps h s e =
-    let all = replay-adds (λ s. ⊤) name_of named_by (λ s s' x p n. (tt, next-names s s' x.event x.reply n)) h (opening caps) s tt e in
+    let all = replay-adds (λ s. ⊤) name_of named_by (λ s s' x p n. (tt, next-names s s' x.event x.reply n)) h
+    (opening caps) s tt e in
     let named = named_total h in
     omega (arith, all, named)
 
-pub replay-rows : (caps : Caps) (h : List Step) (s : State) → replay caps h ≡ Some s → total_done h + total_lost h ≡ rows_of s
+pub replay-rows : (caps : Caps) (h : List Step) (s : State) → replay caps h ≡ Some s
+    → total_done h + total_lost h ≡ rows_of s
 replay-rows caps h s e =
-    let all = replay-adds (λ s. ⊤) rows_of ended_by (λ s s' x p n. (tt, next-rows s s' x.event x.reply n)) h (opening caps) s tt e in
+    let all = replay-adds (λ s. ⊤) rows_of ended_by (λ s s' x p n. (tt, next-rows s s' x.event x.reply n)) h
+    (opening caps) s tt e in
     let ended = parts-added ended_by (λ r. cond (is_done r) 1 0) lost_by ended_by-is h in
     omega (arith, all, ended)
 

@@ -1,5 +1,5 @@
 -- The members of a batch: how many are done, abandoned, aborted or still held.
-use Rattle.std.specs.Prelude.{◌≡◌, ℕ, ◌+◌, ◌≤◌, Bool, true, false, ◌&&◌, ◌==◌, Option, List, count_by}
+use Rattle.std.specs.Prelude.{◌≡◌, ℕ, ◌+◌, ◌≤◌, Bool, true, false, ◌&&◌, ◌==◌, Option, count_by}
 use Rattle.dsa_base.specs.Rows.{passes}
 use Rattle.dsa_store.specs.Content.{all_held}
 use Rattle.dsa_book.specs.declared.fate.Fate.{Fate}

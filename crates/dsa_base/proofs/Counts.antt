@@ -9,10 +9,12 @@ use Rattle.dsa_base.proofs.Lists.{none-In, length-none, In-length, In-only, In-a
 use Rattle.dsa_base.proofs.Tables.{not-both}
 
 -- one more is counted where it passes
-pub count-cons : {X : Type 0} (p : X → Bool) (x : X) (xs : List X) (b : Bool) → p x ≡ b → count_by p (x ∷ xs) ≡ cond b 1 0 + count_by p xs
+pub count-cons : {X : Type 0} (p : X → Bool) (x : X) (xs : List X) (b : Bool) → p x ≡ b
+    → count_by p (x ∷ xs) ≡ cond b 1 0 + count_by p xs
 count-cons p x xs b is = sum_by-cons (λ y. cond (p y) 1 0) x xs ∙ ap (λ (t : Bool). cond t 1 0 + count_by p xs) is
 
-pub count-push : {X : Type 0} (p : X → Bool) (xs : List X) (x : X) (b : Bool) → p x ≡ b → count_by p (xs ++ x ∷ []) ≡ count_by p xs + cond b 1 0
+pub count-push : {X : Type 0} (p : X → Bool) (xs : List X) (x : X) (b : Bool) → p x ≡ b
+    → count_by p (xs ++ x ∷ []) ≡ count_by p xs + cond b 1 0
 count-push p xs x b is = sum_by_push (λ y. cond (p y) 1 0) xs x ∙ ap (λ (t : Bool). count_by p xs + cond t 1 0) is
 
 -- a filter leaves no more than there is
@@ -24,11 +26,14 @@ pub filter-none : {X : Type 0} (p : X → Bool) (xs : List X) → count_by p xs 
 filter-none p xs h = let size = length-filter p xs in length-none (filter p xs) (omega (arith, size, h))
 
 -- where a test passes once at most, the one that passes is all that passes
-pub filter-one : {X : Type 0} (p : X → Bool) (x : X) (xs : List X) → count_by p xs ≤ 1 → In x xs → p x ≡ true → filter p xs ≡ x ∷ []
-filter-one p x xs h i t = let size = length-filter p xs in In-alone x (filter p xs) (omega (arith, size, h)) (In-passing p x xs i t)
+pub filter-one : {X : Type 0} (p : X → Bool) (x : X) (xs : List X) → count_by p xs ≤ 1 → In x xs → p x ≡ true
+    → filter p xs ≡ x ∷ []
+filter-one p x xs h i t = let size = length-filter p xs in In-alone x (filter p xs) (omega (arith, size, h))
+    (In-passing p x xs i t)
 
 -- so what passes is the same
-pub In-same : {X : Type 0} (p : X → Bool) (x y : X) (xs : List X) → count_by p xs ≤ 1 → In x xs → In y xs → p x ≡ true → p y ≡ true → x ≡ y
+pub In-same : {X : Type 0} (p : X → Bool) (x y : X) (xs : List X) → count_by p xs ≤ 1 → In x xs → In y xs
+    → p x ≡ true → p y ≡ true → x ≡ y
 In-same p x y xs h i j t u = In-only y x (subst (In y) (filter-one p x xs h i t) (In-passing p y xs j u))
 
 -- what stands there and passes is counted
@@ -49,10 +54,12 @@ counted-In {X} p xs h = go (filter p xs) refl
 -- where none passes, none is counted
 pub count-none : {X : Type 0} (p : X → Bool) (xs : List X) → ((x : X) → In x xs → p x ≡ false) → count_by p xs ≡ 0
 count-none p xs h =
-    sym (length-filter p xs) ∙ ap length (none-In (filter p xs) (λ x i. let r = In-filter p x xs i in not-both (p x) r.1 (h x r.0)))
+    sym (length-filter p xs) ∙ ap length (none-In (filter p xs) (λ x i. let r = In-filter p x xs i in
+    not-both (p x) r.1 (h x r.0)))
 
 -- two tests that pass the same count the same
-pub count-alike : {X : Type 0} (p q : X → Bool) (xs : List X) → ((x : X) → In x xs → p x ≡ q x) → count_by p xs ≡ count_by q xs
+pub count-alike : {X : Type 0} (p q : X → Bool) (xs : List X) → ((x : X) → In x xs → p x ≡ q x)
+    → count_by p xs ≡ count_by q xs
 count-alike p q [] h = refl
 count-alike p q (x ∷ xs) h =
     let a = count-cons p x xs (q x) (h x (inl refl)) in
@@ -61,7 +68,8 @@ count-alike p q (x ∷ xs) h =
     omega (arith, a, b, rest)
 
 -- what passes a test that the one more does not pass stands in the list
-pub In-old : {X : Type 0} (p : X → Bool) (x : X) (xs : List X) (y : X) → p y ≡ false → In x (xs ++ y ∷ []) → p x ≡ true → In x xs
+pub In-old : {X : Type 0} (p : X → Bool) (x : X) (xs : List X) (y : X) → p y ≡ false → In x (xs ++ y ∷ [])
+    → p x ≡ true → In x xs
 In-old p x xs y n i t = ⊎_elim (λ j. j) (λ e. not-both (p x) t (ap p (sym e) ∙ n)) (In-push x xs y i)
 
 -- where one passes, at least one is counted

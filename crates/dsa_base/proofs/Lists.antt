@@ -62,7 +62,8 @@ pub In-filter : {X : Type 0} (p : X → Bool) (x : X) (xs : List X) → In x (fi
 In-filter p x [] i = absurd i
 In-filter {X} p x (y ∷ ys) i = go (λ j. In-filter p x ys j) (p y) refl i
   where
-    go : (In x (filter p ys) → In x ys × (p x ≡ true)) → (b : Bool) → p y ≡ b → In x (cond b (y ∷ filter p ys) (filter p ys))
+    go : (In x (filter p ys) → In x ys × (p x ≡ true)) → (b : Bool) → p y ≡ b
+        → In x (cond b (y ∷ filter p ys) (filter p ys))
         → In x (y ∷ ys) × (p x ≡ true)
     go more true q (inl e) = (inl e, ap p (sym e) ∙ q)
     go more true q (inr i) = let r = more i in (inr r.0, r.1)
@@ -71,7 +72,8 @@ In-filter {X} p x (y ∷ ys) i = go (λ j. In-filter p x ys j) (p y) refl i
 -- and what passes it is left
 pub In-passing : {X : Type 0} (p : X → Bool) (x : X) (xs : List X) → In x xs → p x ≡ true → In x (filter p xs)
 In-passing p x [] i t = absurd i
-In-passing p x (y ∷ ys) (inl e) t = subst (λ (b : Bool). In x (cond b (y ∷ filter p ys) (filter p ys))) (sym (ap p e ∙ t)) (inl e)
+In-passing p x (y ∷ ys) (inl e) t = subst (λ (b : Bool). In x (cond b (y ∷ filter p ys) (filter p ys)))
+    (sym (ap p e ∙ t)) (inl e)
 In-passing p x (y ∷ ys) (inr i) t = go (p y) (In-passing p x ys i t)
   where
     go : (b : Bool) → In x (filter p ys) → In x (cond b (y ∷ filter p ys) (filter p ys))
@@ -93,7 +95,8 @@ pub any-In : {X : Type 0} (p : X → Bool) (xs : List X) → list_any p xs ≡ t
 any-In p [] h = absurd cc
 any-In {X} p (x ∷ xs) h = go (any-In p xs) (p x) refl h
   where
-    go : (list_any p xs ≡ true → (y : X) × (In y xs × (p y ≡ true))) → (b : Bool) → p x ≡ b → (b || list_any p xs) ≡ true
+    go : (list_any p xs ≡ true → (y : X) × (In y xs × (p y ≡ true))) → (b : Bool) → p x ≡ b
+        → (b || list_any p xs) ≡ true
         → (y : X) × (In y (x ∷ xs) × (p y ≡ true))
     go more true q h = (x, (inl refl, q))
     go more false q h = let r = more h in (r.0, (inr r.1.0, r.1.1))

@@ -78,11 +78,20 @@ stays : (s : State) (reply : Reply) → counted (accepts reply) ≡ 0 → counte
 stays s reply a f e = record { change = same refl; accepted = a; fetched = f; ended = e; kept = λ u. refl }
 
 -- the change is stored
-makes : {s t : State} (reply : Reply) (c : Change s t) → is_stored reply ≡ true → counted (accepts reply) ≡ count_by is_none (came c)
+makes : {s t : State} (reply : Reply) (c : Change s t) → is_stored reply ≡ true
+    → counted (accepts reply) ≡ count_by is_none (came c)
     → counted (fetches reply) ≡ count_by is_some (came c) → ended_by reply ≡ gone c → Tells s (reply, t)
-makes reply c stored a f e = record { change = c; accepted = a; fetched = f; ended = e; kept = λ u. not-both (is_stored reply) stored u }
+makes reply c stored a f e = record {
+  change = c;
+  accepted = a;
+  fetched = f;
+  ended = e;
+  kept = λ u. not-both
+      (is_stored reply) stored u;
+}
 
-test : {X : Type 0} (P : X → Type 0) (a : Bool) (x last : X) → (a ≡ true → P x) → (a ≡ false → P last) → P (cond a x last)
+test : {X : Type 0} (P : X → Type 0) (a : Bool) (x last : X) → (a ≡ true → P x) → (a ≡ false → P last)
+    → P (cond a x last)
 test P true x last p q = p refl
 test P false x last p q = q refl
 
@@ -92,10 +101,12 @@ test P false x last p q = q refl
 abbrev Submits : State → SubmitAnswer × Intake → Type 0
 Submits s r = Tells s (Submit r.0, with_intake s r.1)
 
-turned_away-tells : (s : State) (q : ℕ) (kind : Kind) (cause : Cause) → Submits s (turned_away (intake_of s) q kind cause)
+turned_away-tells : (s : State) (q : ℕ) (kind : Kind) (cause : Cause)
+    → Submits s (turned_away (intake_of s) q kind cause)
 turned_away-tells s q (Enqcmd pasid) cause = stays s (Submit (Retry cause)) refl refl refl
 turned_away-tells s q Movdir64b cause =
-    makes (Submit (Dropped cause)) (is_noted (record { noted = Some (noted_more s.work.setup.noted q cause); after = refl })) refl refl refl refl
+    makes (Submit (Dropped cause)) (is_noted
+    (record { noted = Some (noted_more s.work.setup.noted q cause); after = refl })) refl refl refl refl
 
 -- the cell that a reply tells of is free
 free_of : (s : State) (choice : Choice) (cell : Cell) → may_enter s.work.setup s.work.content choice ≡ true
@@ -134,7 +145,8 @@ dispatch_of-tells : (s : State) (e q : ℕ) (o : Option Slot) → front_of s.wor
     → let r = dispatch_of s.work e q o in Tells s (Dispatch r.0, with_work s r.1)
 dispatch_of-tells s e q None n may = stays s (Dispatch Idle) refl refl refl
 dispatch_of-tells s e q (Some front) n may =
-    makes (Dispatch (Taken (ticket_of front) q)) (is_taken (record { engine = e; queue = q; front = front; is_front = n; qualifies = may; after = refl })) refl refl refl refl
+    makes (Dispatch (Taken (ticket_of front) q)) (is_taken
+    (record { engine = e; queue = q; front = front; is_front = n; qualifies = may; after = refl })) refl refl refl refl
 
 dispatch-tells : (s : State) (e : ℕ) (choice : Choice) → may_leave s.work e choice ≡ true
     → let r = dispatch s.work e choice in Tells s (Dispatch r.0, with_work s r.1)
@@ -183,9 +195,11 @@ start_of-tells s e None n = stays s (Start Nothing) refl refl refl
 start_of-tells s e (Some slot) n =
     let k = length (members s.work e) in
     table3 (λ (r : StartAnswer × Work). Tells s (Start r.0, with_work s r.1)) _ _ _
-    (FenceWait, s.work) (Abandoned k, abandoned s.work e) (NoBuffers, s.work) (Started (ticket_of slot), started s.work e)
+    (FenceWait, s.work) (Abandoned k, abandoned s.work e) (NoBuffers, s.work)
+    (Started (ticket_of slot), started s.work e)
     (λ u. stays s (Start FenceWait) refl refl refl)
-    (λ u. makes (Start (Abandoned k)) (is_abandoned (record { engine = e; slot = slot; is_first = n; failed = u; after = refl })) refl refl refl refl)
+    (λ u. makes (Start (Abandoned k)) (is_abandoned
+    (record { engine = e; slot = slot; is_first = n; failed = u; after = refl })) refl refl refl refl)
     (λ u. stays s (Start NoBuffers) refl refl refl)
     (λ u v t. makes (Start (Started (ticket_of slot))) (is_started (record {
       engine = e;
@@ -199,12 +213,14 @@ start_of-tells s e (Some slot) n =
 
 -- ---- finish
 
-finish_of-tells : (s : State) (e : ℕ) (t : Ticket) (outcome : Outcome) (o : Option Slot) → find (is_ticket t) (running_on s.work e) ≡ o
+finish_of-tells : (s : State) (e : ℕ) (t : Ticket) (outcome : Outcome) (o : Option Slot)
+    → find (is_ticket t) (running_on s.work e) ≡ o
     → let r = finish_of s.work e outcome o in Tells s (Finish r.0, with_work s r.1)
 finish_of-tells s e t outcome None n = stays s (Finish Gone) refl refl refl
 finish_of-tells s e t outcome (Some slot) n =
     let status = last_status s.work e slot outcome in
-    table1 (λ (r : FinishAnswer × Work). Tells s (Finish r.0, with_work s r.1)) (is_batch_of s.work.setup slot.1 && is_unfinished s.work e)
+    table1 (λ (r : FinishAnswer × Work). Tells s (Finish r.0, with_work s r.1))
+    (is_batch_of s.work.setup slot.1 && is_unfinished s.work e)
     (NotReady, s.work) (Done status, ended s.work e slot outcome)
     (λ u. stays s (Finish NotReady) refl refl refl)
     (λ u. makes (Finish (Done status)) (is_ended (record {
@@ -223,40 +239,52 @@ finish_of-tells s e t outcome (Some slot) n =
 abbrev Issues : State → IssueAnswer × State → Type 0
 Issues s r = Tells s (Issue r.0, r.1)
 
-waits-tells : (s : State) (command : Command) → may_come s.work.setup (deed_of command) (scope_of command) ≡ true → Issues s (waits s command)
+waits-tells : (s : State) (command : Command) → may_come s.work.setup (deed_of command) (scope_of command) ≡ true
+    → Issues s (waits s command)
 waits-tells s command may =
     let deed = deed_of command in
     let scope = scope_of command in
     let active : ActiveCommand = record { command = command; mark = s.work.setup.next_name } in
     test (Issues s) (is_at_end active s.work.content)
-    (Ended 0, set_up s s.active (stopped deed scope Off s.work.setup)) (Active, set_up s (Some active) (stopped deed scope Stopping s.work.setup))
-    (λ u. makes (Issue (Ended 0)) (is_over (record { deed = deed; scope = scope; mark = active.mark; over = u; active = s.active; after = refl })) refl refl refl refl)
-    (λ u. makes (Issue Active) (is_waiting (record { deed = deed; scope = scope; may = may; active = Some active; after = refl })) refl refl refl refl)
+    (Ended 0, set_up s s.active (stopped deed scope Off s.work.setup))
+    (Active, set_up s (Some active) (stopped deed scope Stopping s.work.setup))
+    (λ u. makes (Issue (Ended 0)) (is_over
+    (record { deed = deed; scope = scope; mark = active.mark; over = u; active = s.active; after = refl })) refl refl refl refl)
+    (λ u. makes (Issue Active) (is_waiting
+    (record { deed = deed; scope = scope; may = may; active = Some active; after = refl })) refl refl refl refl)
 
 done-tells : (s : State) (command : Command) (deed : Deed) (scope : Scope) → may_come s.work.setup deed scope ≡ true
     → check_of s.work.setup deed scope ≡ None → Issues s (waits s command) → Issues s (done_by s command deed scope)
-done-tells s command Enable Device may check w = makes (Issue (Ended 0)) (is_device_enabled (record { off = may; check = check; after = refl })) refl refl refl refl
+done-tells s command Enable Device may check w = makes (Issue (Ended 0))
+    (is_device_enabled (record { off = may; check = check; after = refl })) refl refl refl refl
 done-tells s command Enable (Queue queue) may check w =
-    makes (Issue (Ended 0)) (is_queue_enabled (record { queue = queue; on = (and_parts _ _ may).0; check = check; after = refl })) refl refl refl refl
+    makes (Issue (Ended 0)) (is_queue_enabled
+    (record { queue = queue; on = (and_parts _ _ may).0; check = check; after = refl })) refl refl refl refl
 done-tells s command Enable scope may check w = stays s (Issue (Ended 0)) refl refl refl
 done-tells s command Abort scope may check w =
-    makes (Issue (Ended (count_in_scope scope s.work.content))) (is_aborted (record { number = number_of command; scope = scope; after = refl })) refl refl refl refl
+    makes (Issue (Ended (count_in_scope scope s.work.content)))
+    (is_aborted (record { number = number_of command; scope = scope; after = refl })) refl refl refl refl
 done-tells s command Reset Device may check w =
-    makes (Issue (Ended (count_in_scope Device s.work.content))) (is_device_reset (record { number = number_of command; after = refl })) refl refl refl refl
+    makes (Issue (Ended (count_in_scope Device s.work.content)))
+    (is_device_reset (record { number = number_of command; after = refl })) refl refl refl refl
 done-tells s command Reset scope may check w =
-    makes (Issue (Ended (count_in_scope scope s.work.content))) (is_queues_reset (record { number = number_of command; scope = scope; after = refl })) refl refl refl refl
+    makes (Issue (Ended (count_in_scope scope s.work.content)))
+    (is_queues_reset (record { number = number_of command; scope = scope; after = refl })) refl refl refl refl
 done-tells s command _ scope may check w = w
 
-refused_or-tells : (s : State) (command : Command) (o : Option Fault) → may_come s.work.setup (deed_of command) (scope_of command) ≡ true
+refused_or-tells : (s : State) (command : Command) (o : Option Fault)
+    → may_come s.work.setup (deed_of command) (scope_of command) ≡ true
     → check_of s.work.setup (deed_of command) (scope_of command) ≡ o → Issues s (refused_or s o (carried_out s command))
-refused_or-tells s command None may check = done-tells s command (deed_of command) (scope_of command) may check (waits-tells s command may)
+refused_or-tells s command None may check = done-tells s command (deed_of command) (scope_of command) may check
+    (waits-tells s command may)
 refused_or-tells s command (Some fault) may check = stays s (Issue (Refused fault)) refl refl refl
 
 issue-tells : (s : State) (command : Command) → Issues s (issue s command)
 issue-tells s command =
     let deed = deed_of command in
     let scope = scope_of command in
-    table3 (Issues s) (is_some s.active) (is_bad_queues s.work.setup scope) (not (may_come s.work.setup deed scope)) _ _ _
+    table3 (Issues s) (is_some s.active) (is_bad_queues s.work.setup scope)
+    (not (may_come s.work.setup deed scope)) _ _ _
     (refused_or s (check_of s.work.setup deed scope) (carried_out s command))
     (λ u. stays s (Issue (Refused Busy)) refl refl refl)
     (λ u. stays s (Issue (Refused BadQueue)) refl refl refl)
@@ -270,7 +298,8 @@ poll_of-tells s (Some active) =
     let scope = scope_of active.command in
     test (λ (r : PollAnswer × State). Tells s (Poll r.0, r.1)) (is_at_end active s.work.content)
     (Finished, set_up s None (stopped deed scope Off s.work.setup)) (Active, s)
-    (λ u. makes (Poll Finished) (is_over (record { deed = deed; scope = scope; mark = active.mark; over = u; active = None; after = refl })) refl refl refl refl)
+    (λ u. makes (Poll Finished) (is_over
+    (record { deed = deed; scope = scope; mark = active.mark; over = u; active = None; after = refl })) refl refl refl refl)
     (λ u. stays s (Poll Active) refl refl refl)
 
 -- ---- writes and clear
@@ -281,12 +310,14 @@ Writes s r = Tells s (Write r.0, with_setup s r.1)
 
 write_queue-tells : (s : State) (q : ℕ) (config : QueueConfig) → Writes s (write_queue s.work.setup q config)
 write_queue-tells s q config =
-    table3 (Writes s) _ _ _ (Refused BadIndex, s.work.setup) (Refused Locked, s.work.setup) (Refused Locked, s.work.setup)
+    table3 (Writes s) _ _ _ (Refused BadIndex, s.work.setup) (Refused Locked, s.work.setup)
+    (Refused Locked, s.work.setup)
     (Written, record s.work.setup { configs = slice_set s.work.setup.configs q config })
     (λ u. stays s (Write (Refused BadIndex)) refl refl refl)
     (λ u. stays s (Write (Refused Locked)) refl refl refl)
     (λ u. stays s (Write (Refused Locked)) refl refl refl)
-    (λ u v t. makes (Write Written) (is_queue_written (record { queue = q; config = config; has = not-false _ u; off = not-false _ v; size = t; after = refl })) refl refl refl refl)
+    (λ u v t. makes (Write Written) (is_queue_written
+    (record { queue = q; config = config; has = not-false _ u; off = not-false _ v; size = t; after = refl })) refl refl refl refl)
 
 write_group-tells : (s : State) (g : ℕ) (config : GroupConfig) → Writes s (write_group s.work.setup g config)
 write_group-tells s g config =
@@ -294,11 +325,14 @@ write_group-tells s g config =
     (Written, record s.work.setup { groups = slice_set s.work.setup.groups g config })
     (λ u. stays s (Write (Refused BadIndex)) refl refl refl)
     (λ u. stays s (Write (Refused Locked)) refl refl refl)
-    (λ u v. makes (Write Written) (is_group_written (record { group = g; config = config; off = not-false _ v; after = refl })) refl refl refl refl)
+    (λ u v. makes (Write Written) (is_group_written
+    (record { group = g; config = config; off = not-false _ v; after = refl })) refl refl refl refl)
 
-clear_of-tells : (s : State) (o : Option NotedError) → let r = clear_of s.work.setup o in Tells s (Clear r.0, with_setup s r.1)
+clear_of-tells : (s : State) (o : Option NotedError) → let r = clear_of s.work.setup o in
+    Tells s (Clear r.0, with_setup s r.1)
 clear_of-tells s None = stays s (Clear Nothing) refl refl refl
-clear_of-tells s (Some noted) = makes (Clear (Cleared noted)) (is_noted (record { noted = None; after = refl })) refl refl refl refl
+clear_of-tells s (Some noted) = makes (Clear (Cleared noted))
+    (is_noted (record { noted = None; after = refl })) refl refl refl refl
 
 -- ---- any step
 
@@ -309,7 +343,8 @@ reply-tells s (Submit client queue portal kind d) choice may told = submit-tells
 reply-tells s (Dispatch e) choice may told = dispatch-tells s e choice may
 reply-tells s (Fetch e d) choice may told = fetch_for-tells s e d choice (note_at s.work e) may refl told
 reply-tells s (Start e) choice may told = start_of-tells s e (first_waiting s.work e) refl
-reply-tells s (Finish e t outcome) choice may told = finish_of-tells s e t outcome (find (is_ticket t) (running_on s.work e)) refl
+reply-tells s (Finish e t outcome) choice may told = finish_of-tells s e t outcome
+    (find (is_ticket t) (running_on s.work e)) refl
 reply-tells s (Issue command) choice may told = issue-tells s command
 reply-tells s Poll choice may told = poll_of-tells s s.active
 reply-tells s (WriteQueue q config) choice may told = write_queue-tells s q config
@@ -317,11 +352,13 @@ reply-tells s (WriteGroup g config) choice may told = write_group-tells s g conf
 reply-tells s ClearError choice may told = clear_of-tells s s.work.setup.noted
 
 pub next-tells : (s s' : State) (event : Event) (reply : Reply) → next s event reply ≡ Some s' → Tells s (reply, s')
-next-tells s s' event reply h = next-each (λ r t. Tells s (r, t)) s s' event reply (λ choice may told. reply-tells s event choice may told) h
+next-tells s s' event reply h = next-each (λ r t. Tells s (r, t)) s s' event reply
+    (λ choice may told. reply-tells s event choice may told) h
 
 pub next-change : (s s' : State) (event : Event) (reply : Reply) → next s event reply ≡ Some s' → Change s s'
 next-change s s' event reply h = (next-tells s s' event reply h).change
 
 -- a step that a history does not keep leaves the state as it was
-pub next_keeps : (s s' : State) (event : Event) (reply : Reply) → next s event reply ≡ Some s' → is_stored reply ≡ false → s' ≡ s
+pub next_keeps : (s s' : State) (event : Event) (reply : Reply) → next s event reply ≡ Some s'
+    → is_stored reply ≡ false → s' ≡ s
 next_keeps s s' event reply h = (next-tells s s' event reply h).kept

@@ -28,7 +28,8 @@ pub record HasOtherPhases (setup setup' : Setup) : Type 0 where
   pub groups : setup'.groups ≡ setup.groups
   pub names : setup'.next_name ≡ setup.next_name
 
-pub stopped-keeps : (deed : Deed) (scope : Scope) (phase : Phase) (setup : Setup) → HasOtherPhases setup (stopped deed scope phase setup)
+pub stopped-keeps : (deed : Deed) (scope : Scope) (phase : Phase) (setup : Setup)
+    → HasOtherPhases setup (stopped deed scope phase setup)
 stopped-keeps Disable Device phase setup = record { caps = refl; configs = refl; groups = refl; names = refl }
 stopped-keeps Disable scope phase setup = record { caps = refl; configs = refl; groups = refl; names = refl }
 stopped-keeps _ scope phase setup = record { caps = refl; configs = refl; groups = refl; names = refl }
@@ -37,9 +38,11 @@ stopped-keeps _ scope phase setup = record { caps = refl; configs = refl; groups
 
 -- each configuration is as it was, or its size alone is left
 pub reset-config : (setup : Setup) (queues : List ℕ) (q : ℕ) → q < setup.caps.queues
-    → queue_at (with_sizes_alone queues setup).configs q ≡ cond (names queues q) (size_alone (queue_at setup.configs q)) (queue_at setup.configs q)
+    → queue_at (with_sizes_alone queues setup).configs q ≡ cond (names queues q)
+    (size_alone (queue_at setup.configs q)) (queue_at setup.configs q)
 reset-config setup queues q i =
-    get_or-each (λ k. cond (names queues k) (size_alone (queue_at setup.configs k)) (queue_at setup.configs k)) setup.caps.queues q zero_queue i
+    get_or-each (λ k. cond (names queues k) (size_alone (queue_at setup.configs k))
+    (queue_at setup.configs k)) setup.caps.queues q zero_queue i
 
 pub reset-size : (b : Bool) (c : QueueConfig) → (cond b (size_alone c) c).size ≡ c.size
 reset-size true c = refl
@@ -85,7 +88,8 @@ gone _ = 0
 -- a fact of what a change leaves, of what comes in and of how many are gone, by what it does to what is held
 pub by_count : (P : List (Option ℕ) → ℕ → Work → Type 0) (s s' : State) (c : Change s s')
     → (IsSetUp s.work s'.work → P [] 0 s'.work)
-    → ((c : IsAccepted s s') → P (None ∷ []) 0 (with_intake s (accepted (intake_of s) c.queue c.kind c.desc c.cell).1).work)
+    → ((c : IsAccepted s s') → P (None ∷ []) 0 (with_intake s
+    (accepted (intake_of s) c.queue c.kind c.desc c.cell).1).work)
     → ((c : IsTaken s s') → P [] 0 (taken s.work c.engine c.queue c.front))
     → ((c : IsFetched s s') → P (Some c.note.batch ∷ []) 0 (fetched s.work c.engine c.desc c.cell c.note c.batch.1).1)
     → ((c : IsStarted s s') → P [] 0 (started s.work c.engine))
@@ -122,8 +126,10 @@ by_count P s s' c set accept take fetch start abandon end remove = go c
     go (is_ended c) = at _ c.after (end c)
     go (is_device_enabled c) = is_set _ c.after (kept _ refl refl)
     go (is_queue_enabled c) = is_set _ c.after (kept _ refl refl)
-    go (is_waiting c) = let stop = stopped-keeps c.deed c.scope Stopping s.work.setup in is_set _ c.after (kept _ stop.caps stop.names)
-    go (is_over c) = let stop = stopped-keeps c.deed c.scope Off s.work.setup in is_set _ c.after (kept _ stop.caps stop.names)
+    go (is_waiting c) = let stop = stopped-keeps c.deed c.scope Stopping s.work.setup in
+        is_set _ c.after (kept _ stop.caps stop.names)
+    go (is_over c) = let stop = stopped-keeps c.deed c.scope Off s.work.setup in
+        is_set _ c.after (kept _ stop.caps stop.names)
     go (is_aborted c) = at _ c.after (is_removed c.number c.scope s.work.setup refl refl)
     go (is_device_reset c) = at _ c.after (is_removed c.number Device _ refl refl)
     go (is_queues_reset c) = at _ c.after (is_removed c.number c.scope _ refl refl)
@@ -161,8 +167,10 @@ pub by_setting : (P : Setup → Type 0) (s s' : State) → Change s s'
     → ((c : IsWaiting s s') → P (stopped c.deed c.scope Stopping s.work.setup))
     → ((c : IsOver s s') → P (stopped c.deed c.scope Off s.work.setup))
     → (IsDeviceReset s s' → P (reset Device s.work.setup))
-    → ((c : IsQueuesReset s s') → P (with_sizes_alone (queues_in c.scope) (with_phases (names (queues_in c.scope)) Off s.work.setup)))
-    → ((c : IsQueueWritten s s') → P (record s.work.setup { configs = slice_set s.work.setup.configs c.queue c.config }))
+    → ((c : IsQueuesReset s s') → P (with_sizes_alone (queues_in c.scope)
+    (with_phases (names (queues_in c.scope)) Off s.work.setup)))
+    → ((c : IsQueueWritten s s') → P
+    (record s.work.setup { configs = slice_set s.work.setup.configs c.queue c.config }))
     → ((c : IsGroupWritten s s') → P (record s.work.setup { groups = slice_set s.work.setup.groups c.group c.config }))
     → P s'.work.setup
 by_setting P s s' c stay device queue wait over reset resets write group = go c
@@ -170,7 +178,8 @@ by_setting P s s' c stay device queue wait over reset resets write group = go c
     stays : (t : State) → t ≡ s' → IsUnmoved s.work.setup t.work.setup → P s'.work.setup
     stays t e h = stay (subst (λ (t : State). IsUnmoved s.work.setup t.work.setup) e h)
 
-    unmoved : (name : ℕ) (noted : Option NotedError) → IsUnmoved s.work.setup (record s.work.setup { next_name = name; noted = noted })
+    unmoved : (name : ℕ) (noted : Option NotedError) → IsUnmoved s.work.setup
+        (record s.work.setup { next_name = name; noted = noted })
     unmoved name noted = record { caps = refl; configs = refl; groups = refl; phases = refl; device = refl }
 
     still : IsUnmoved s.work.setup s.work.setup

@@ -37,7 +37,8 @@ length-cond_set : {X : Type 0} (b : Bool) (xs : List X) (i : ℕ) (x : X) → le
 length-cond_set true xs i x = length-set xs i x
 length-cond_set false xs i x = refl
 
-stopped-phases : (deed : Deed) (scope : Scope) (phase : Phase) (setup : Setup) (n : ℕ) → setup.caps.queues ≡ n → length setup.phases ≡ n
+stopped-phases : (deed : Deed) (scope : Scope) (phase : Phase) (setup : Setup) (n : ℕ) → setup.caps.queues ≡ n
+    → length setup.phases ≡ n
     → length (stopped deed scope phase setup).phases ≡ n
 stopped-phases Disable Device phase setup n q h = length-each _ setup.caps.queues ∙ q
 stopped-phases Disable scope phase setup n q h = length-each _ setup.caps.queues ∙ q
@@ -45,7 +46,8 @@ stopped-phases _ scope phase setup n q h = h
 
 -- a configuration for each queue and each group, and a phase for each queue
 abbrev HasTables : Caps → Setup → Type 0
-HasTables caps setup = (length setup.configs ≡ caps.queues) × ((length setup.phases ≡ caps.queues) × (length setup.groups ≡ caps.groups))
+HasTables caps setup = (length setup.configs ≡ caps.queues) ×
+    ((length setup.phases ≡ caps.queues) × (length setup.groups ≡ caps.groups))
 
 pub shape-change : (caps : Caps) (s s' : State) → HasShape caps s.work → Change s s' → HasShape caps s'.work
 shape-change caps s s' h c = record {
@@ -60,11 +62,20 @@ shape-change caps s s' h c = record {
     w : Work
     w = s.work
 
-    held : (s'.work.setup.caps ≡ w.setup.caps) × ((length s'.work.content ≡ length w.content) × (length s'.work.notes ≡ length w.notes))
-    held = by_effect (λ t. (t.setup.caps ≡ w.setup.caps) × ((length t.content ≡ length w.content) × (length t.notes ≡ length w.notes))) s s' c
+    held : (s'.work.setup.caps ≡ w.setup.caps) × ((length s'.work.content ≡ length w.content) ×
+        (length s'.work.notes ≡ length w.notes))
+    held = by_effect (λ t. (t.setup.caps ≡ w.setup.caps) × ((length t.content ≡ length w.content) ×
+        (length t.notes ≡ length w.notes))) s s' c
         (λ e. (e.caps, (ap length e.content, ap length e.notes)))
         (λ c. (refl, (length-set w.content c.queue _, refl)))
-        (λ c. (refl, (length-set (without_front w.content c.queue) (progress_list w.setup c.engine) _ ∙ length-set w.content c.queue _, length-cond_set _ w.notes c.engine _)))
+        (λ c. (
+          refl,
+          (
+            length-set (without_front w.content c.queue) (progress_list w.setup c.engine) _
+                ∙ length-set w.content c.queue _,
+            length-cond_set _ w.notes c.engine _,
+          ),
+        ))
         (λ c. (refl, (length-set w.content (member_list w.setup c.engine) _, length-set w.notes c.engine _)))
         (λ c. (refl, (length-set w.content (member_list w.setup c.engine) _, refl)))
         (λ c. (refl, (length-set w.content (member_list w.setup c.engine) _, length-set w.notes c.engine _)))
@@ -73,8 +84,14 @@ shape-change caps s s' h c = record {
 
     waits : (deed : Deed) (scope : Scope) (phase : Phase) → HasTables caps (stopped deed scope phase w.setup)
     waits deed scope phase =
-        let stop = stopped-keeps deed scope phase w.setup in
-        (ap length stop.configs ∙ h.configs, (stopped-phases deed scope phase w.setup caps.queues (queues-same h) h.phases, ap length stop.groups ∙ h.groups))
+        let stop = stopped-keeps deed scope phase w.setup in (
+          ap length stop.configs ∙ h.configs,
+          (
+            stopped-phases deed scope phase w.setup caps.queues
+                (queues-same h) h.phases,
+            ap length stop.groups ∙ h.groups,
+          ),
+        )
 
     tables : HasTables caps s'.work.setup
     tables = by_setting (HasTables caps) s s' c
@@ -83,8 +100,18 @@ shape-change caps s s' h c = record {
         (λ c. (h.configs, (length-each _ w.setup.caps.queues ∙ queues-same h, h.groups)))
         (λ c. waits c.deed c.scope Stopping)
         (λ c. waits c.deed c.scope Off)
-        (λ c. (length-replicate w.setup.caps.queues _ ∙ queues-same h, (length-replicate w.setup.caps.queues _ ∙ queues-same h, length-replicate w.setup.caps.groups _ ∙ ap (λ (c : Caps). c.groups) h.same_caps)))
-        (λ c. (length-each _ w.setup.caps.queues ∙ queues-same h, (length-each _ w.setup.caps.queues ∙ queues-same h, h.groups)))
+        (λ c. (
+          length-replicate w.setup.caps.queues _ ∙ queues-same h,
+          (
+            length-replicate w.setup.caps.queues _ ∙ queues-same h,
+            length-replicate w.setup.caps.groups _
+                ∙ ap (λ (c : Caps). c.groups) h.same_caps,
+          ),
+        ))
+        (λ c. (
+          length-each _ w.setup.caps.queues ∙ queues-same h,
+          (length-each _ w.setup.caps.queues ∙ queues-same h, h.groups),
+        ))
         (λ c. (length-set w.setup.configs c.queue c.config ∙ h.configs, (h.phases, h.groups)))
         (λ c. (h.configs, (h.phases, length-set w.setup.groups c.group c.config ∙ h.groups)))
 
@@ -108,29 +135,35 @@ on-in_range (p ∷ phases) (suc q) h = let more = on-in_range phases q h in omeg
 pub on-queue : (caps : Caps) (w : Work) (q : ℕ) → HasShape caps w → is_on (phase_at w.setup q) ≡ true → q < caps.queues
 on-queue caps w q h on = let n = on-in_range w.setup.phases q on in omega (arith, n, h.phases)
 
-note-in_range : (notes : List (Option BatchNote)) (e : ℕ) (note : BatchNote) → get_or notes e None ≡ Some note → e < length notes
+note-in_range : (notes : List (Option BatchNote)) (e : ℕ) (note : BatchNote) → get_or notes e None ≡ Some note
+    → e < length notes
 note-in_range [] e note h = absurd cc
 note-in_range (n ∷ notes) zero note h = omega arith
 note-in_range (n ∷ notes) (suc e) note h = let more = note-in_range notes e note h in omega (arith, more)
 
-pub note-engine : (caps : Caps) (w : Work) (e : ℕ) (note : BatchNote) → HasShape caps w → note_at w e ≡ Some note → e < caps.engines
+pub note-engine : (caps : Caps) (w : Work) (e : ℕ) (note : BatchNote) → HasShape caps w → note_at w e ≡ Some note
+    → e < caps.engines
 note-engine caps w e note h n = let i = note-in_range w.notes e note n in omega (arith, i, h.notes)
 
 pub In-cond : (b : Bool) (x : Slot) (l : List Slot) → In x (cond b l []) → (b ≡ true) × In x l
 In-cond true x l i = (refl, i)
 In-cond false x l i = absurd i
 
-pub below-engines : (caps : Caps) (w : Work) (e : ℕ) → HasShape caps w → nat_lt e w.setup.caps.engines ≡ true → e < caps.engines
-below-engines caps w e h t = let i = ltb-true e w.setup.caps.engines t in let same = engines-same h in omega (arith, i, same)
+pub below-engines : (caps : Caps) (w : Work) (e : ℕ) → HasShape caps w → nat_lt e w.setup.caps.engines ≡ true
+    → e < caps.engines
+below-engines caps w e h t = let i = ltb-true e w.setup.caps.engines t in let same = engines-same h in
+    omega (arith, i, same)
 
 -- the list of an engine's members is one of the lists
-pub member_list-in : (caps : Caps) (w : Work) (e : ℕ) → HasShape caps w → e < caps.engines → member_list w.setup e < length w.content
+pub member_list-in : (caps : Caps) (w : Work) (e : ℕ) → HasShape caps w → e < caps.engines
+    → member_list w.setup e < length w.content
 member_list-in caps w e h i =
     let a = engines-same h in
     let b = queues-same h in
     omega (arith, i, a, b, h.lists)
 
-pub progress_list-in : (caps : Caps) (w : Work) (e : ℕ) → HasShape caps w → e < caps.engines → progress_list w.setup e < length w.content
+pub progress_list-in : (caps : Caps) (w : Work) (e : ℕ) → HasShape caps w → e < caps.engines
+    → progress_list w.setup e < length w.content
 progress_list-in caps w e h i =
     let a = engines-same h in
     let b = queues-same h in
@@ -139,27 +172,36 @@ progress_list-in caps w e h i =
 pub queue_list-in : (caps : Caps) (w : Work) (q : ℕ) → HasShape caps w → q < caps.queues → q < length w.content
 queue_list-in caps w q h i = omega (arith, i, h.lists)
 
-pub waiting-engine : (w : Work) (e : ℕ) (slot : Slot) → first_waiting w e ≡ Some slot → nat_lt e w.setup.caps.engines ≡ true
+pub waiting-engine : (w : Work) (e : ℕ) (slot : Slot) → first_waiting w e ≡ Some slot
+    → nat_lt e w.setup.caps.engines ≡ true
 waiting-engine w e slot h = (In-cond _ slot _ (In-find _ slot (members w e) h).0).0
 
 -- ---- the two lists of an engine
 
-pub members-is : (w : Work) (e : ℕ) → nat_lt e w.setup.caps.engines ≡ true → members w e ≡ chain w.content (member_list w.setup e)
+pub members-is : (w : Work) (e : ℕ) → nat_lt e w.setup.caps.engines ≡ true
+    → members w e ≡ chain w.content (member_list w.setup e)
 members-is w e t = ap (λ (b : Bool). cond b (chain w.content (member_list w.setup e)) []) t
 
-pub progress-is : (w : Work) (e : ℕ) → nat_lt e w.setup.caps.engines ≡ true → in_progress w e ≡ chain w.content (progress_list w.setup e)
+pub progress-is : (w : Work) (e : ℕ) → nat_lt e w.setup.caps.engines ≡ true
+    → in_progress w e ≡ chain w.content (progress_list w.setup e)
 progress-is w e t = ap (λ (b : Bool). cond b (chain w.content (progress_list w.setup e)) []) t
 
 -- where one waits
-pub waiting-members : (w : Work) (e : ℕ) (slot : Slot) → first_waiting w e ≡ Some slot → members w e ≡ chain w.content (member_list w.setup e)
+pub waiting-members : (w : Work) (e : ℕ) (slot : Slot) → first_waiting w e ≡ Some slot
+    → members w e ≡ chain w.content (member_list w.setup e)
 waiting-members w e slot h = members-is w e (waiting-engine w e slot h)
 
-engine-there : (caps : Caps) (w : Work) (e : ℕ) → HasShape caps w → e < caps.engines → nat_lt e w.setup.caps.engines ≡ true
+engine-there : (caps : Caps) (w : Work) (e : ℕ) → HasShape caps w → e < caps.engines
+    → nat_lt e w.setup.caps.engines ≡ true
 engine-there caps w e h i = let n = engines-same h in lt-ltb e w.setup.caps.engines (omega (arith, i, n))
 
 -- by their numbers
-pub members-at : (caps : Caps) (w : Work) (e : ℕ) → HasShape caps w → e < caps.engines → members w e ≡ chain w.content (caps.queues + caps.engines + e)
-members-at caps w e h i = members-is w e (engine-there caps w e h i) ∙ ap (λ (c : Caps). chain w.content (c.queues + c.engines + e)) h.same_caps
+pub members-at : (caps : Caps) (w : Work) (e : ℕ) → HasShape caps w → e < caps.engines
+    → members w e ≡ chain w.content (caps.queues + caps.engines + e)
+members-at caps w e h i = members-is w e (engine-there caps w e h i)
+    ∙ ap (λ (c : Caps). chain w.content (c.queues + c.engines + e)) h.same_caps
 
-pub progress-at : (caps : Caps) (w : Work) (e : ℕ) → HasShape caps w → e < caps.engines → in_progress w e ≡ chain w.content (caps.queues + e)
-progress-at caps w e h i = progress-is w e (engine-there caps w e h i) ∙ ap (λ (c : Caps). chain w.content (c.queues + e)) h.same_caps
+pub progress-at : (caps : Caps) (w : Work) (e : ℕ) → HasShape caps w → e < caps.engines
+    → in_progress w e ≡ chain w.content (caps.queues + e)
+progress-at caps w e h i = progress-is w e (engine-there caps w e h i)
+    ∙ ap (λ (c : Caps). chain w.content (c.queues + e)) h.same_caps
