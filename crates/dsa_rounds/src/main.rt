@@ -5,11 +5,13 @@
 ghost use Rattle.std.specs.Prelude.{◌≡◌, ◌≤◌, IfOk};
 
 use anyhow::{Result, bail};
-use dsa_book::{DispatchAnswer, FinishAnswer, Kind, Portal};
+use dsa_book::{DispatchAnswer, FinishAnswer, Portal};
 use dsa_cells::LinkedStore;
 use dsa_desc::Outcome;
 use dsa_device::Device;
-use dsa_regs::{Caps, Command, GroupConfig, QueueConfig, cell_count, check_caps, list_count};
+use dsa_fixtures::single::{CAPS, GROUP, QUEUE};
+use dsa_fixtures::{ENQCMD, MOVE, bytes_of};
+use dsa_regs::{Command, cell_count, check_caps, list_count};
 use dsa_shared::{Blanks, Seats, SharedDevice, Sharing};
 use dsa_store::EntryStore;
 use std::alloc::Global;
@@ -17,54 +19,16 @@ use std::env;
 use std::marker::Brand;
 use std::sync::Wait;
 
-const CAPS: Caps = Caps {
-    queues: 1,
-    groups: 1,
-    engines: 1,
-    total_size: 16,
-    read_buffers: 32,
-    slots: 4,
-    max_batch_shift: 3,
-    max_xfer_shift: 20,
-};
-
-const QUEUE: QueueConfig = QueueConfig {
-    size: 16,
-    threshold: 8,
-    dedicated: false,
-    priority: 1,
-    pasid: 0,
-    max_batch_shift: 3,
-    max_xfer_shift: 20,
-};
-
-const GROUP: GroupConfig = GroupConfig {
-    queues: 1,
-    engines: 1,
-    reserved: 0,
-    allowed: 32,
-};
-
-// A Move of 4096 bytes.
-fn one_move() -> [u8; 64] {
-    let mut bytes = [0u8; 64];
-    bytes[7] = 3;
-    bytes[33] = 0x10;
-    bytes
-}
-
-const KIND: Kind = Kind::Enqcmd { pasid: 5 };
-
 fn unshared<S: EntryStore>(device: Device<S>, rounds: u32) -> u32 {
     let mut device = device;
     let _ = device.write_queue(0, QUEUE);
     let _ = device.write_group(0, GROUP);
     let _ = device.issue(Command::EnableDevice);
     let _ = device.issue(Command::EnableWq(0));
-    let bytes = one_move();
+    let bytes = bytes_of(MOVE);
     let mut done = 0u32;
     for _ in 0..rounds {
-        let _ = device.submit(0, 0, Portal::Limited, KIND, &bytes);
+        let _ = device.submit(0, 0, Portal::Limited, ENQCMD, &bytes);
         if let DispatchAnswer::Taken { ticket, .. } = device.dispatch(0) {
             if let FinishAnswer::Done(_) = device.finish(0, ticket, Outcome::Success) {
                 done = done.saturating_add(1);
@@ -91,10 +55,10 @@ fn shared<S: EntryStore, L: Sharing, R: Wait>(
     let _ = shared.write_group(rt, admin, 0, GROUP);
     let _ = shared.issue(rt, admin, Command::EnableDevice);
     let _ = shared.issue(rt, admin, Command::EnableWq(0));
-    let bytes = one_move();
+    let bytes = bytes_of(MOVE);
     let mut done = 0u32;
     for _ in 0..rounds {
-        let _ = shared.submit(rt, client, 0, Portal::Limited, KIND, &bytes);
+        let _ = shared.submit(rt, client, 0, Portal::Limited, ENQCMD, &bytes);
         if let DispatchAnswer::Taken { ticket, .. } = shared.dispatch(rt, engine) {
             if let FinishAnswer::Done(_) = shared.finish(rt, engine, ticket, Outcome::Success) {
                 done = done.saturating_add(1);

@@ -2,51 +2,17 @@
 #![tactic(auto)]
 
 use anyhow::{Result, bail};
-use dsa_book::{DispatchAnswer, Kind, Portal};
+use dsa_book::{DispatchAnswer, Portal};
 use dsa_cells::LinkedStore;
 use dsa_desc::Outcome;
 use dsa_device::Device;
-use dsa_regs::{Caps, Command, GroupConfig, QueueConfig, cell_count, check_caps, list_count};
+use dsa_fixtures::single::{CAPS, GROUP, QUEUE};
+use dsa_fixtures::{ENQCMD, MOVE, bytes_of};
+use dsa_regs::{Command, cell_count, check_caps, list_count};
 use dsa_shared::{AdminSeat, ClientSeat, EngineSeat, SharedDevice, Sharing};
 use dsa_store::EntryStore;
 use dsa_workers::{Program, run_program};
 use std::sync::Wait;
-
-const CAPS: Caps = Caps {
-    queues: 1,
-    groups: 1,
-    engines: 1,
-    total_size: 16,
-    read_buffers: 32,
-    slots: 4,
-    max_batch_shift: 3,
-    max_xfer_shift: 20,
-};
-
-const QUEUE: QueueConfig = QueueConfig {
-    size: 16,
-    threshold: 16,
-    dedicated: false,
-    priority: 1,
-    pasid: 0,
-    max_batch_shift: 3,
-    max_xfer_shift: 20,
-};
-
-const GROUP: GroupConfig = GroupConfig {
-    queues: 1,
-    engines: 1,
-    reserved: 0,
-    allowed: 32,
-};
-
-// A Move of 4096 bytes.
-fn one_move() -> [u8; 64] {
-    let mut bytes = [0u8; 64];
-    bytes[7] = 3;
-    bytes[33] = 0x10;
-    bytes
-}
 
 // Each client submits one Move; the engine works until all have ended.
 #[derive(Clone, Copy)]
@@ -73,11 +39,10 @@ impl Program for Moves {
         shared: &SharedDevice<S, L>,
         seat: &mut ClientSeat<L>,
     ) {
-        let kind = Kind::Enqcmd { pasid: 5 };
-        let bytes = one_move();
+        let bytes = bytes_of(MOVE);
         for _ in rt.forever() {
-            let answer = shared.submit(rt, seat, 0, Portal::Limited, kind, &bytes);
-            if answer.zf(kind) == Some(false) {
+            let answer = shared.submit(rt, seat, 0, Portal::Limited, ENQCMD, &bytes);
+            if answer.zf(ENQCMD) == Some(false) {
                 return;
             }
         }
