@@ -52,7 +52,7 @@ use Rattle.dsa_book.specs.Machine.{next, is_stored, may_choose, reply_of, with_w
 use Rattle.dsa_book.specs.Choice.{Choice, chosen, in_cell, from_queue, cell_of, may_enter}
 use Rattle.dsa_book.proofs.Nexts.{next-each}
 use Rattle.dsa_laws.specs.Change.{Change, set_up, same, is_noted, is_accepted, is_taken, is_fetched, is_started, is_abandoned, is_ended, is_device_enabled, is_queue_enabled, is_waiting, is_over, is_aborted, is_device_reset, is_queues_reset, is_queue_written, is_group_written}
-use Rattle.std.proofs.lemmas.Bool.{and_parts, not-false}
+use Rattle.std.proofs.lemmas.Bool.{cond_both, and_parts, not-false}
 use Rattle.dsa_regs.specs.declared.Scope.{Scope}
 use Rattle.dsa_regs.specs.declared.Scope.TheVariants.{Device, Queue}
 use Rattle.dsa_regs.specs.declared.Deed.{Deed}
@@ -89,11 +89,6 @@ makes reply c stored a f e = record {
   kept = λ u. not-both
       (is_stored reply) stored u;
 }
-
-test : {X : Type 0} (P : X → Type 0) (a : Bool) (x last : X) → (a ≡ true → P x) → (a ≡ false → P last)
-    → P (cond a x last)
-test P true x last p q = p refl
-test P false x last p q = q refl
 
 -- ---- submit
 
@@ -245,9 +240,10 @@ waits-tells s command may =
     let deed = deed_of command in
     let scope = scope_of command in
     let active : ActiveCommand = record { command = command; mark = s.work.setup.next_name } in
-    test (Issues s) (is_at_end active s.work.content)
+    cond_both (is_at_end active s.work.content)
     (Ended 0, set_up s s.active (stopped deed scope Off s.work.setup))
     (Active, set_up s (Some active) (stopped deed scope Stopping s.work.setup))
+    (Issues s)
     (λ u. makes (Issue (Ended 0)) (is_over
     (record { deed = deed; scope = scope; mark = active.mark; over = u; active = s.active; after = refl })) refl refl refl refl)
     (λ u. makes (Issue Active) (is_waiting
@@ -296,8 +292,9 @@ poll_of-tells s None = stays s (Poll Nothing) refl refl refl
 poll_of-tells s (Some active) =
     let deed = deed_of active.command in
     let scope = scope_of active.command in
-    test (λ (r : PollAnswer × State). Tells s (Poll r.0, r.1)) (is_at_end active s.work.content)
+    cond_both (is_at_end active s.work.content)
     (Finished, set_up s None (stopped deed scope Off s.work.setup)) (Active, s)
+    (λ (r : PollAnswer × State). Tells s (Poll r.0, r.1))
     (λ u. makes (Poll Finished) (is_over
     (record { deed = deed; scope = scope; mark = active.mark; over = u; active = None; after = refl })) refl refl refl refl)
     (λ u. stays s (Poll Active) refl refl refl)
