@@ -1,6 +1,6 @@
 -- What is Stopping is what the active command disables.
-use Rattle.std.proofs.Common.{◌≡◌, ℕ, Bool, true, false, cond, not, List, [], ◌∷◌, Option, Some, None, refl, sym, ap, subst, ◌∙◌}
-use Rattle.std.specs.Prelude.{zero, suc, ◌==◌, find, replicate, get_or, slice_set, is_some}
+use Rattle.std.proofs.Common.{◌≡◌, ℕ, Bool, true, false, not, List, [], ◌∷◌, Option, Some, None, refl, sym, ap, subst, ◌∙◌}
+use Rattle.std.specs.Prelude.{◌==◌, find, replicate, get_or, slice_set, is_some}
 use Rattle.std.proofs.lemmas.Bool.{cond_both}
 use Rattle.dsa_desc.specs.declared.Descriptor.{Descriptor}
 use Rattle.dsa_base.proofs.Lists.{get_or-replicated}
