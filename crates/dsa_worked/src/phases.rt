@@ -64,6 +64,7 @@ pub fn commands_while_busy()
 /// A drain of a queue waits for that queue alone, and stops none.
 pub fn drain_of_one_queue_of_two()
     ensures run { is_run_here drain_of_one_queue_of_two ≡ true }
+    ensures fates { fates_after drain_of_one_queue_of_two ≡ Some (row 0 None (Completed 0x01) ∷ row 1 None (Completed 0x01) ∷ []) }
     ensures phases_meanwhile { phases_after (take 4 drain_of_one_queue_of_two) ≡ Some (On, On ∷ On ∷ []) }
     ensures phases { phases_after drain_of_one_queue_of_two ≡ Some (On, On ∷ On ∷ []) }
     ensures does_not_wait_for_the_other { may_not_follow (take 1 drain_of_one_queue_of_two) (issued (DrainWq (masked 1)) Active) ≡ true }
@@ -87,6 +88,7 @@ pub fn abort_of_one_queue_of_two()
 /// A disable of a queue goes from Active by Stopping to Off, and the other queue goes on.
 pub fn disable_of_one_queue_of_two()
     ensures run { is_run_here disable_of_one_queue_of_two ≡ true }
+    ensures fates { fates_after disable_of_one_queue_of_two ≡ Some (row 1 None (Completed 0x01) ∷ []) }
     ensures stopping { phases_after (take 3 disable_of_one_queue_of_two) ≡ Some (On, On ∷ Stopping ∷ []) }
     ensures still_stopping { phases_after (take 9 disable_of_one_queue_of_two) ≡ Some (On, On ∷ Stopping ∷ []) }
     ensures off { phases_after (take 10 disable_of_one_queue_of_two) ≡ Some (On, On ∷ Off ∷ []) }
@@ -111,6 +113,7 @@ pub fn enable_of_one_queue_of_two()
 /// A disable of the device stops the queues that are On. While it lasts, a queue that is Off may be written, but not its size.
 pub fn disable_with_a_queue_that_is_off()
     ensures run { is_run_here disable_with_a_queue_that_is_off ≡ true }
+    ensures fates { fates_after disable_with_a_queue_that_is_off ≡ Some (row 0 None (Completed 0x01) ∷ []) }
     ensures stopping { phases_after (take 3 disable_with_a_queue_that_is_off) ≡ Some (Stopping, Stopping ∷ Off ∷ []) }
     ensures off { phases_after disable_with_a_queue_that_is_off ≡ Some (Off, Off ∷ Off ∷ []) }
     ensures configs { configs_after disable_with_a_queue_that_is_off ≡ Some (shared_queue ∷ record dedicated_queue { size = 1 } ∷ []) }
