@@ -170,23 +170,6 @@ impl Queues {
         }
     }
 
-    /// The configurations of all queues, by number.
-    #[inline(always)]
-    pub fn configs(&self) -> &[QueueConfig]
-        ensures { result.now ≡ self.now.configs }
-    {
-        self.configs.as_slice()
-    }
-
-    /// Gives the queue this configuration.
-    #[inline(always)]
-    pub fn set_queue(&mut self, queue: u16, config: QueueConfig)
-        requires { has_queue self.old queue ≡ true }
-        ensures { self.new ≡ record self.old { configs = slice_set self.old.configs queue config } }
-    {
-        self.configs[usize::from(queue)] = config;
-    }
-
     /// The configuration of the group; all zero where the device has no such group.
     #[inline(always)]
     pub fn group(&self, group: u16) -> GroupConfig
@@ -198,12 +181,29 @@ impl Queues {
         }
     }
 
+    /// The configurations of all queues, by number.
+    #[inline(always)]
+    pub fn configs(&self) -> &[QueueConfig]
+        ensures { result.now ≡ self.now.configs }
+    {
+        self.configs.as_slice()
+    }
+
     /// The configurations of all groups, by number.
     #[inline(always)]
     pub fn groups(&self) -> &[GroupConfig]
         ensures { result.now ≡ self.now.groups }
     {
         self.groups.as_slice()
+    }
+
+    /// Gives the queue this configuration.
+    #[inline(always)]
+    pub fn set_queue(&mut self, queue: u16, config: QueueConfig)
+        requires { has_queue self.old queue ≡ true }
+        ensures { self.new ≡ record self.old { configs = slice_set self.old.configs queue config } }
+    {
+        self.configs[usize::from(queue)] = config;
     }
 
     /// Gives the group this configuration.
