@@ -83,6 +83,12 @@ length_parts whole a b x m n w p q =
     let rest = length-append b (x ∷ []) in
     omega (arith, all, rest, p, q)
 
+-- there are as many lanes as seats that were lent
+pub lanes_left : {T Z : Type 0} (now loaded : List (Lane T Z)) (seats : List T) (n : ℕ)
+    → length now ≡ length loaded → map (λ l. l.seat) loaded ≡ seats → length seats ≡ n → length now ≡ n
+lanes_left {T} {Z} now loaded seats n same lent count =
+    same ∙ sym (length-map loaded (λ (l : Lane T Z). l.seat)) ∙ ap (λ z. length z) lent ∙ count
+
 -- what the administrator's worker did, by what the report says
 pub stint_same : (script : List Command) (limit : ℕ) (old new : List Step) (stint : Stint) (turns : ℕ) (ended : WorkerEnd) → turns ≡ stint.turns → ended ≡ stint.ended
     → RunsAdmin script limit old new stint → RunsAdmin script limit old new (record { turns = turns; ended = ended })

@@ -1,6 +1,7 @@
 //! A program on a shared device, from making its seats to settling them.
 
 ghost use Rattle.std.specs.Prelude.{◌≡◌, ◌+◌, ◌<◌, ◌≤◌, ◌↔◌, ◌⊎◌, IfOk, IfErr, length};
+ghost use Rattle.std.specs.Fork.{AcceptsEach};
 ghost use Rattle.dsa_store.specs.Content.{held};
 ghost use Rattle.dsa_laws.specs.WellFormed.{IsWellFormed};
 ghost use Rattle.dsa_device.specs.Running.{IsReplay};
@@ -131,41 +132,21 @@ fn run_seats<
     let engines = engines.as_mut_slice();
     thread::join(
         rt,
-        || submit_all(rt, shared, program, clients),
-        || serve_all(rt, shared, program, engines),
+        || in_threads(rt, clients, &|_, seat| program.submit(rt, shared, seat)),
+        || in_threads(rt, engines, &|_, seat| program.serve(rt, shared, seat)),
     );
 }
 
-fn submit_all<
-    S: EntryStore + Send,
-    L: Sharing + Send + Sync,
-    P: Program + Sync,
-    R: Threads + Wait + Sync,
->(rt: &R, shared: &SharedDevice<S, L>, program: &P, seats: &mut [ClientSeat<L>]) {
+// Each seat's part, in a thread of its own.
+fn in_threads<T: Send, F: Fn(usize, &mut T) + Sync, R: Threads + Sync>(
+    rt: &R,
+    seats: &mut [T],
+    part: &F,
+)
+    requires { AcceptsEach F.Fn part.now seats.old }
+{
     let threads = seats.len();
     if threads > 0 {
-        thread::for_each_mut(
-            rt,
-            seats,
-            threads,
-            &|_, seat| program.submit(rt, shared, seat),
-        );
-    }
-}
-
-fn serve_all<
-    S: EntryStore + Send,
-    L: Sharing + Send + Sync,
-    P: Program + Sync,
-    R: Threads + Wait + Sync,
->(rt: &R, shared: &SharedDevice<S, L>, program: &P, seats: &mut [EngineSeat<L>]) {
-    let threads = seats.len();
-    if threads > 0 {
-        thread::for_each_mut(
-            rt,
-            seats,
-            threads,
-            &|_, seat| program.serve(rt, shared, seat),
-        );
+        thread::for_each_mut(rt, seats, threads, part);
     }
 }

@@ -1,8 +1,8 @@
-use Rattle.std.proofs.Common.{◌≡◌, ◌∙◌, ◌+◌, [], ap, sym, subst, refl, length, vec_len, get_or, rules, arith}
+use Rattle.std.proofs.Common.{◌≡◌, ◌∙◌, ◌+◌, [], sym, subst, refl, length, vec_len, get_or, rules, arith}
 use Rattle.std.proofs.lemmas.List.{length-map}
 use Rattle.dsa_workers.specs.Workers.{RunsClient, RunsEngine, RunsAdmin, stint_at}
 use Rattle.dsa_workers.specs.declared.scripts.WorkerEnd.TheVariants.{TurnsOut}
-use Rattle.dsa_workers.proofs.Lifts.{runs_back, in_three, get_last, stint_same, length_parts, turns_of, ends_of}
+use Rattle.dsa_workers.proofs.Lifts.{runs_back, in_three, get_last, lanes_left, stint_same, length_parts, turns_of, ends_of}
 use Rattle.dsa_workers.proofs.threads.run_loaded.Goals as goal
 
 pub returns-clause-clients : goal.returns-clause-clients
@@ -21,9 +21,8 @@ returns-clause-engines g c k d e lt =
     let turns = in_three _ _ _ _ _ _ _ none c.unload.ensures.turns c.unload-2.ensures.turns c.push_reserved.ensures.items in
     let none-2 : length c.args.rooms.report.ended.items ≡ 0 = search rules in
     let ends = in_three _ _ _ _ _ _ _ none-2 c.unload.ensures.ended c.unload-2.ensures.ended c.push_reserved-2.ensures.items in
-    let same : length c.run_all.new.clients.items ≡ length c.load-client_lanes.result.items = search rules in
-    let items : length c.args.clients.now.items ≡ vec_len c.args.clients.now = search rules in
-    let many = same ∙ sym (length-map c.load-client_lanes.result.items (λ l. l.seat)) ∙ ap (λ z. length z) c.load-client_lanes.ensures.seats ∙ items in
+    let many = lanes_left c.run_all.new.clients.items c.load-client_lanes.result.items c.args.clients.now.items
+    (vec_len c.args.clients.now) (search rules) c.load-client_lanes.ensures.seats (search rules) in
     runs_back (λ n s t stint. RunsEngine (get_or c.args.scripts.now.engines.items n e) c.args.run.now.turns s t stint) _ _ _ _ _ _ (turns_of c.run_all.new.clients.items) _ (ends_of c.run_all.new.clients.items) _ (vec_len c.args.clients.now)
     c.load-engine_lanes.ensures.seats c.unload-2.ensures.seats (search rules) turns ends
     (length-map _ _ ∙ many) (length-map _ _ ∙ many)
@@ -35,12 +34,10 @@ returns-clause-admin g c =
     let turns = in_three _ _ _ _ _ _ _ none c.unload.ensures.turns c.unload-2.ensures.turns c.push_reserved.ensures.items in
     let none-2 : length c.args.rooms.report.ended.items ≡ 0 = search rules in
     let ends = in_three _ _ _ _ _ _ _ none-2 c.unload.ensures.ended c.unload-2.ensures.ended c.push_reserved-2.ensures.items in
-    let same : length c.run_all.new.clients.items ≡ length c.load-client_lanes.result.items = search rules in
-    let items : length c.args.clients.now.items ≡ vec_len c.args.clients.now = search rules in
-    let many = same ∙ sym (length-map c.load-client_lanes.result.items (λ l. l.seat)) ∙ ap (λ z. length z) c.load-client_lanes.ensures.seats ∙ items in
-    let same-2 : length c.run_all.new.rest.engines.items ≡ length c.load-engine_lanes.result.items = search rules in
-    let items-2 : length c.args.engines.now.items ≡ vec_len c.args.engines.now = search rules in
-    let many-2 = same-2 ∙ sym (length-map c.load-engine_lanes.result.items (λ l. l.seat)) ∙ ap (λ z. length z) c.load-engine_lanes.ensures.seats ∙ items-2 in
+    let many = lanes_left c.run_all.new.clients.items c.load-client_lanes.result.items c.args.clients.now.items
+    (vec_len c.args.clients.now) (search rules) c.load-client_lanes.ensures.seats (search rules) in
+    let many-2 = lanes_left c.run_all.new.rest.engines.items c.load-engine_lanes.result.items c.args.engines.now.items
+    (vec_len c.args.engines.now) (search rules) c.load-engine_lanes.ensures.seats (search rules) in
     let t = get_last _ _ _ _ (vec_len c.args.clients.now) (vec_len c.args.engines.now) 0 turns (length-map _ _ ∙ many) (length-map _ _ ∙ many-2) in
     let u = get_last _ _ _ _ (vec_len c.args.clients.now) (vec_len c.args.engines.now) TurnsOut ends (length-map _ _ ∙ many) (length-map _ _ ∙ many-2) in
     subst (λ a. RunsAdmin c.args.scripts.now.admin.items c.args.run.now.turns a c.run_all.new.rest.admin.seat (stint_at (record { turns = c.push_reserved.new.self; ended = c.push_reserved-2.new.self }) (vec_len c.args.clients.now + vec_len c.args.engines.now))) c.idle.ensures.0 (stint_same _ _ _ _ _ _ _ t u c.run_all.ensures.admin)
@@ -51,12 +48,10 @@ returns-clause-items g c =
     let turns = in_three _ _ _ _ _ _ _ none c.unload.ensures.turns c.unload-2.ensures.turns c.push_reserved.ensures.items in
     let none-2 : length c.args.rooms.report.ended.items ≡ 0 = search rules in
     let ends = in_three _ _ _ _ _ _ _ none-2 c.unload.ensures.ended c.unload-2.ensures.ended c.push_reserved-2.ensures.items in
-    let same : length c.run_all.new.clients.items ≡ length c.load-client_lanes.result.items = search rules in
-    let items : length c.args.clients.now.items ≡ vec_len c.args.clients.now = search rules in
-    let many = same ∙ sym (length-map c.load-client_lanes.result.items (λ l. l.seat)) ∙ ap (λ z. length z) c.load-client_lanes.ensures.seats ∙ items in
-    let same-2 : length c.run_all.new.rest.engines.items ≡ length c.load-engine_lanes.result.items = search rules in
-    let items-2 : length c.args.engines.now.items ≡ vec_len c.args.engines.now = search rules in
-    let many-2 = same-2 ∙ sym (length-map c.load-engine_lanes.result.items (λ l. l.seat)) ∙ ap (λ z. length z) c.load-engine_lanes.ensures.seats ∙ items-2 in
+    let many = lanes_left c.run_all.new.clients.items c.load-client_lanes.result.items c.args.clients.now.items
+    (vec_len c.args.clients.now) (search rules) c.load-client_lanes.ensures.seats (search rules) in
+    let many-2 = lanes_left c.run_all.new.rest.engines.items c.load-engine_lanes.result.items c.args.engines.now.items
+    (vec_len c.args.engines.now) (search rules) c.load-engine_lanes.ensures.seats (search rules) in
     let last : length c.push_reserved.new.self.items ≡ vec_len c.push_reserved.new.self = search rules in
     let last-2 : length c.push_reserved-2.new.self.items ≡ vec_len c.push_reserved-2.new.self = search rules in
     (sym last ∙ length_parts _ _ _ _ _ _ turns (length-map _ _ ∙ many) (length-map _ _ ∙ many-2), sym last-2 ∙ length_parts _ _ _ _ _ _ ends (length-map _ _ ∙ many) (length-map _ _ ∙ many-2))
