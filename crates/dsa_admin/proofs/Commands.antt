@@ -1,17 +1,21 @@
--- What commands do, deed by deed, and what they leave of the agreement with the lists.
-use Rattle.std.proofs.Common.{◌≡◌, true, false, sym, ap, ◌∙◌}
+-- What commands do, deed by deed, and that they leave queues, engines and store in step.
+use Rattle.std.proofs.Common.{◌≡◌, ℕ, Bool, true, false, not, List, [], ◌∷◌, length, refl, sym, ap, ◌∙◌}
+use Rattle.std.specs.List.{list_any}
 use Rattle.dsa_regs.specs.declared.Phase.{Phase}
 use Rattle.dsa_regs.specs.declared.Command.{Command}
 use Rattle.dsa_regs.specs.declared.Scope.{Scope}
 use Rattle.dsa_regs.specs.declared.Scope.TheVariants.{Device}
 use Rattle.dsa_regs.specs.declared.Deed.{Deed}
 use Rattle.dsa_regs.specs.declared.Deed.TheVariants.{Disable}
-use Rattle.dsa_regs.specs.Command.{scope_of, deed_of}
-use Rattle.dsa_store.specs.Content.{Content}
+use Rattle.dsa_regs.specs.Command.{scope_of, deed_of, queues_in}
+use Rattle.dsa_store.specs.declared.entry.Entry.{Entry}
+use Rattle.dsa_store.specs.Content.{Slot, Content, all_held, held}
+use Rattle.dsa_store.proofs.Sums.{held-counted}
 use Rattle.dsa_book.specs.declared.answer.IssueAnswer.{IssueAnswer}
-use Rattle.dsa_book.specs.State.{Setup, State, is_off}
+use Rattle.dsa_book.specs.State.{Setup, State, is_off, phase_at}
 use Rattle.dsa_book.proofs.Phases.{on-not_off}
-use Rattle.dsa_book.specs.Commands.{carried_out, done_by, may_come, stopped}
+use Rattle.dsa_book.specs.Commands.{carried_out, done_by, holds, is_awaited, may_come, names, stopped, with_phases}
+use Rattle.dsa_queues.proofs.Whole.{whole-phases}
 use Rattle.dsa_engines.specs.Engines.{Gear, IsInStep}
 
 -- a command is carried out as its deed is done
@@ -21,13 +25,42 @@ carried-as s command deed is done of e h = ap (λ d. done_by s command d (scope_
 
 -- ---- phases
 
--- queues that come to a phase change nothing that the engines keep
-pub in_step-stopped : (deed : Deed) (scope : Scope) (phase : Phase) (setup : Setup) (gear : Gear) (content : Content)
-    → (is_off phase ≡ false → may_come setup deed scope ≡ true) → IsInStep setup gear content → IsInStep (stopped deed scope phase setup) gear content
-in_step-stopped Disable Device phase setup gear content come s = record {
+-- phases of queues change nothing else
+pub in_step-phases : {cells : ℕ} (test : ℕ → Bool) (phase : Phase) (setup : Setup) (gear : Gear) (content : Content)
+    → IsInStep setup gear cells content → IsInStep (with_phases test phase setup) gear cells content
+in_step-phases test phase setup gear content s = record {
+  queues = whole-phases test phase setup s.queues;
+  store = s.store;
+  idle = s.idle;
+  checked = s.checked;
   notes = s.notes;
-  homes = λ x. s.homes (on-not_off setup.device (come x));
-  buffers = λ x. s.buffers (on-not_off setup.device (come x));
+  homes = s.homes;
+  buffers = s.buffers;
 }
-in_step-stopped Disable scope phase setup gear content come s = record { notes = s.notes; homes = s.homes; buffers = s.buffers }
-in_step-stopped _ scope phase setup gear content come s = s
+
+-- nothing is held that a disable of the device waits for, so nothing is held
+none-awaited : (content : Content) → holds (λ (entry : Entry). true) content ≡ false → held content ≡ 0
+none-awaited content none = held-counted content ∙ empty (all_held content) none
+  where
+    empty : (xs : List Slot) → list_any (λ (x : Slot). true) xs ≡ false → length xs ≡ 0
+    empty [] h = refl
+    empty (x ∷ xs) h = absurd cc
+
+-- what is stopped stays in step; it comes to Off once nothing is held that is waited for
+pub in_step-stopped : {cells : ℕ} (deed : Deed) (scope : Scope) (mark : ℕ) (phase : Phase) (setup : Setup) (gear : Gear) (content : Content)
+    → (is_off phase ≡ false → may_come setup deed scope ≡ true)
+    → (is_off phase ≡ true → holds (is_awaited deed scope mark) content ≡ false)
+    → IsInStep setup gear cells content → IsInStep (stopped deed scope phase setup) gear cells content
+in_step-stopped Disable Device mark phase setup gear content come none s =
+    let w = whole-phases (λ q. not (is_off (phase_at setup q))) phase setup s.queues in
+    record {
+      queues = record { lawful = w.lawful; configs = w.configs; phases = w.phases; groups = w.groups };
+      store = s.store;
+      idle = λ off. none-awaited content (none off);
+      checked = λ on. s.checked (on-not_off setup.device (come on));
+      notes = s.notes;
+      homes = λ on. s.homes (on-not_off setup.device (come on));
+      buffers = λ on. s.buffers (on-not_off setup.device (come on));
+    }
+in_step-stopped Disable scope mark phase setup gear content come none s = in_step-phases (names (queues_in scope)) phase setup gear content s
+in_step-stopped _ scope mark phase setup gear content come none s = s

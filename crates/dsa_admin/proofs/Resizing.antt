@@ -1,5 +1,5 @@
 -- Queues that lose all but their sizes: what other queues' entries need stays.
-use Rattle.std.proofs.Common.{◌≡◌, ℕ, zero, suc, ◌<◌, ◌≤◌, Bool, true, false, not, cond, List, ◌∷◌, refl, sym, ap, ◌∙◌, inl, inr, arith, []}
+use Rattle.std.proofs.Common.{◌≡◌, ℕ, zero, suc, ◌<◌, ◌≤◌, Bool, true, false, not, cond, List, ◌∷◌, length, refl, sym, ap, ◌∙◌, inl, inr, arith, []}
 use Rattle.std.proofs.lemmas.Grind.{common_steps}
 use Rattle.std.proofs.lemmas.Bool.{cases_lt}
 use Rattle.std.specs.List.{filter}
@@ -9,17 +9,20 @@ use Rattle.dsa_regs.specs.declared.QueueConfig.{QueueConfig}
 use Rattle.dsa_regs.specs.declared.Scope.{Scope}
 use Rattle.dsa_regs.specs.declared.Scope.TheVariants.{Device}
 use Rattle.dsa_regs.specs.declared.Phase.TheVariants.{Off}
-use Rattle.dsa_regs.specs.Config.{zero_queue, queue_at, limits_of}
+use Rattle.dsa_regs.specs.Config.{check_groups, zero_queue, queue_at, limits_of}
 use Rattle.dsa_regs.specs.Command.{queues_in}
 use Rattle.dsa_store.specs.declared.entry.Entry.{Entry}
-use Rattle.dsa_store.specs.Content.{Slot, Content, chain, kept}
+use Rattle.dsa_store.specs.Content.{Slot, Content, chain, held, kept}
+use Rattle.dsa_store.proofs.Lists.{held-nil, held-cons}
 use Rattle.dsa_queues.specs.Queues.{IsWhole}
 use Rattle.dsa_base.proofs.NumberLists.{get_or-each, length-each}
+use Rattle.dsa_queues.proofs.Whole.{whole-reset}
 use Rattle.dsa_book.specs.State.{Setup, held_by, is_member}
 use Rattle.dsa_book.proofs.Scopes.{unnamed}
+use Rattle.dsa_book.proofs.Sizes.{total_size-alone}
 use Rattle.dsa_book.specs.Commands.{is_in_scope, names, with_phases, with_sizes_alone, size_alone, reset}
 use Rattle.dsa_engines.specs.Engines.{Gear, IsInStep}
-use Rattle.dsa_engines.proofs.Keeping.{in_step-kept}
+use Rattle.dsa_engines.proofs.Keeping.{KeepsLoads, homes-kept, buffers-kept}
 use Rattle.dsa_engines.proofs.Used.{load, load-nil, load-cons}
 
 -- the set-up after Reset WQ
@@ -71,20 +74,45 @@ pub reset-named : (scope : Scope) (setup : Setup) → (scope ≡ Device → ⊥)
 reset-named Device setup n = absurd (n refl)
 reset-named _ setup n = refl
 
--- so a reset of named queues
-in_step-named : (scope : Scope) (setup : Setup) (gear : Gear) (content now : Content) → IsWhole setup
-    → now ≡ kept (λ entry. not (is_in_scope scope entry)) content → IsInStep setup gear now
-    → IsInStep (after_reset scope setup) gear now
-in_step-named scope setup gear content now w is s = in_step-kept setup (after_reset scope setup) gear now now s (record {
-  caps = refl;
-  groups = refl;
-  device = λ on. on;
-  loads = λ j low. rw (is, chain-kept (λ entry. not (is_in_scope scope entry)) content j) (load-spared scope setup w (chain content j));
-})
+-- a reset of the device takes all out
+none-kept : (content : Content) → held (kept (λ entry. false) content) ≡ 0
+none-kept [] = held-nil
+none-kept (l ∷ ls) =
+    let rest = none-kept ls in
+    let here = none l in
+    omega (arith, held-cons (filter (λ (s : Slot). false) l) (kept (λ entry. false) ls), here, rest)
+  where
+    none : (l : List Slot) → length (filter (λ (s : Slot). false) l) ≡ 0
+    none [] = refl
+    none (s ∷ l) = none l
 
--- a reset leaves what the engines keep in step with what it left
-pub in_step-reset : (scope : Scope) (setup : Setup) (gear : Gear) (content now : Content) → IsWhole setup
-    → now ≡ kept (λ entry. not (is_in_scope scope entry)) content → IsInStep setup gear now
-    → IsInStep (reset scope setup) gear now
-in_step-reset Device setup gear content now w is s = record { notes = s.notes; homes = λ x. absurd cc; buffers = λ x. absurd cc }
-in_step-reset scope setup gear content now w is s = in_step-named scope setup gear content now w is s
+-- a reset leaves in step what it left
+pub in_step-reset : {cells : ℕ} (scope : Scope) (setup : Setup) (gear : Gear) (content now : Content)
+    → now ≡ kept (λ entry. not (is_in_scope scope entry)) content → IsInStep setup gear cells now
+    → IsInStep (reset scope setup) gear cells now
+in_step-reset Device setup gear content now is s = record {
+  queues = whole-reset Device setup s.queues;
+  store = s.store;
+  idle = λ off. ap held is ∙ none-kept content;
+  checked = λ on. absurd cc;
+  notes = s.notes;
+  homes = λ on. absurd cc;
+  buffers = λ on. absurd cc;
+}
+in_step-reset scope setup gear content now is s =
+    let w = s.queues in
+    let keeps : KeepsLoads setup (after_reset scope setup) now now = record {
+      caps = refl;
+      groups = refl;
+      device = λ on. on;
+      loads = λ j low. rw (is, chain-kept (λ entry. not (is_in_scope scope entry)) content j) (load-spared scope setup w (chain content j));
+    } in
+    record {
+      queues = whole-reset scope setup w;
+      store = s.store;
+      idle = s.idle;
+      checked = λ on. ap (λ (n : ℕ). check_groups setup.caps n setup.groups) (total_size-alone (queues_in scope) setup w.configs) ∙ s.checked on;
+      notes = s.notes;
+      homes = homes-kept setup (after_reset scope setup) gear now now s keeps;
+      buffers = buffers-kept setup (after_reset scope setup) gear now now s keeps;
+    }

@@ -1,7 +1,7 @@
 -- Lists that a command is taken out of, one after the other.
 use Rattle.std.proofs.Common.{◌≡◌, ℕ, ◌+◌, ◌<◌, ◌≤◌, Bool, true, false, not, cond, List, ◌∷◌, ◌++◌, take, drop, length, map, set, Option, Some, None, refl, subst, append_assoc, sym, ap, ◌∙◌, arith, []}
 use Rattle.std.proofs.lemmas.Grind.{common_steps, flat_map-append}
-use Rattle.std.proofs.lemmas.List.{length-set, length-append, length-map, map-append, append-nil, take_more}
+use Rattle.std.proofs.lemmas.List.{length-append, length-map, map-append, append-nil, take_more}
 use Rattle.std.proofs.lemmas.List.Elements.{filter-append, filter_more}
 use Rattle.std.proofs.lemmas.List.Filters.{length-filter_both}
 use Rattle.std.proofs.lemmas.List.Edits.{map_over_more}
@@ -18,10 +18,8 @@ use Rattle.dsa_store.proofs.Turns.{AtTurn, at-turn, thinned}
 use Rattle.dsa_book.specs.declared.fate.Fate.TheVariants.{Aborted}
 use Rattle.dsa_book.specs.declared.fate.FateRow.{FateRow}
 use Rattle.dsa_book.specs.Records.{Records}
-use Rattle.dsa_book.specs.State.{Setup}
 use Rattle.dsa_book.specs.Work.{fate_row}
 use Rattle.dsa_book.specs.Commands.{is_in_scope, count_in_scope}
-use Rattle.dsa_engines.specs.Engines.{IsReady}
 use Rattle.dsa_admin.specs.Admin.{is_meant, is_spared, row_of, rows_of}
 
 -- ---- a cell
@@ -139,11 +137,6 @@ pub withdrawn-leaves : (command : Command) (content : Content) (first : Records)
 withdrawn-leaves command content first i k now after book later cell e row t w scope left row_is rows =
     withdrawn-turn command content first i k now after book later cell e true t w scope left (rows ∙ ap (λ (x : FateRow). record book { fates = book.fates ++ x ∷ [] }) row_is)
 
--- the store's lists are no fewer, and something is held while a list has a place left
-pub length-thinned : (p : Slot → Bool) (content now : Content) (i k : ℕ) → now ≡ thinned p content i k
-    → length now ≡ length content
-length-thinned p content now i k is = ap length is ∙ length-set content i (filter p (take k (chain content i)) ++ drop k (chain content i))
-
 -- what the store gives for a cell of the list is an entry
 pub withdrawn-found : (p : Slot → Bool) (content : Content) (i k : ℕ) (now : Content) (cell : Cell) (got : Option Entry)
     → ((c : Cell) → uses now c ≤ 1) → i < length content → k < length (chain content i)
@@ -196,40 +189,22 @@ room-lists command now after n rows more capacity h is rs room =
     let count : length more ≡ length rows + length (filter (is_meant command) (chain now n)) = ap length rs ∙ length-append rows (rows_of command (chain now n)) ∙ ap (λ (k : ℕ). length rows + k) (length-map (filter (is_meant command) (chain now n)) row) in
     omega (arith, both, less, left, count, room)
 
--- the lists and what is held of a device that took entries out are still those of a device
-pub ready-less : (setup : Setup) (content now : Content) → IsReady setup content → length now ≡ length content
-    → held now ≤ held content → IsReady setup now
-ready-less setup content now r len less = record {
-  caps = r.caps;
-  lists = len ∙ r.lists;
-  groups = r.groups;
-  idle = λ off. omega (arith, r.idle off, less);
-  checked = r.checked;
-}
-
 -- the first n lists were walked, and what the command is about has left them with its rows
-pub record IsSwept (command : Command) (setup : Setup) (content : Content) (first : Records) (n : ℕ) (now : Content) (book : Records) : Type 0 where
+pub record IsSwept (command : Command) (content : Content) (first : Records) (n : ℕ) (now : Content) (book : Records) : Type 0 where
   pub left : now ≡ swept command content n
   pub rows : book ≡ record first { fates = first.fates ++ rows_of command (all_held (take n content)) }
   pub room : length book.fates + held now ≤ book.capacity
-  pub ready : IsReady setup now
-
-held-less : (command : Command) (now : Content) (n : ℕ) → n < length now
-    → held (set now n (filter (is_spared command) (chain now n))) ≤ held now
-held-less command now n h =
-    let both : length (filter (is_meant command) (chain now n)) + length (filter (is_spared command) (chain now n)) ≡ length (chain now n) = length-filter_both (is_meant command) (is_spared command) (λ x. refl) (chain now n) in
-    omega (arith, both, held-set now n (filter (is_spared command) (chain now n)) h)
 
 pub swept-within : (command : Command) (content now : Content) (n : ℕ) → n < length content
     → now ≡ swept command content n → n < length now
 swept-within command content now n h is = rw (swept-length command content now n is) h
 
-pub swept-next : (command : Command) (setup : Setup) (content : Content) (first : Records) (n : ℕ) (now after : Content) (book later : Records)
-    → n < length content → IsSwept command setup content first n now book
+pub swept-next : (command : Command) (content : Content) (first : Records) (n : ℕ) (now after : Content) (book later : Records)
+    → n < length content → IsSwept command content first n now book
     → after ≡ set now n (filter (is_spared command) (chain now n))
     → later ≡ record book { fates = book.fates ++ rows_of command (chain now n) }
-    → IsSwept command setup content first (n + 1) after later
-swept-next command setup content first n now after book later h s left rows =
+    → IsSwept command content first (n + 1) after later
+swept-next command content first n now after book later h s left rows =
     let same : chain now n ≡ chain content n = swept-chain command content now n h s.left in
     let within : n < length now = swept-within command content now n h s.left in
     record {
@@ -239,17 +214,15 @@ swept-next command setup content first n now after book later h s left rows =
           let full : later.capacity ≡ book.capacity = ap (λ (b : Records). b.capacity) rows in
           let more : later.fates ≡ book.fates ++ rows_of command (chain now n) = ap (λ (b : Records). b.fates) rows in
           rw full (room-lists command now after n book.fates later.fates book.capacity within left more s.room);
-      ready = ready-less setup now after s.ready (ap length left ∙ length-set now n (filter (is_spared command) (chain now n))) (rw left (held-less command now n within));
     }
 
 -- at first nothing is taken out
-pub swept-none : (command : Command) (setup : Setup) (content : Content) (first : Records) → IsReady setup content
-    → length first.fates + held content ≤ first.capacity → IsSwept command setup content first 0 content first
-swept-none command setup content first r room = record {
+pub swept-none : (command : Command) (content : Content) (first : Records)
+    → length first.fates + held content ≤ first.capacity → IsSwept command content first 0 content first
+swept-none command content first room = record {
   left = refl;
   rows = ap (λ (l : List FateRow). record first { fates = l }) (sym (append-nil first.fates));
   room = room;
-  ready = r;
 }
 
 -- ---- an abort as a whole

@@ -14,7 +14,6 @@ use Rattle.dsa_book.specs.declared.fate.Fate.TheVariants.{Aborted}
 use Rattle.dsa_book.specs.declared.fate.FateRow.{FateRow}
 use Rattle.dsa_book.specs.State.{Setup, State, has_queue}
 use Rattle.dsa_book.specs.Work.{fate_row}
-use Rattle.dsa_queues.specs.Queues.{IsWhole}
 use Rattle.dsa_engines.specs.Engines.{Gear, noteless, work}
 use Rattle.dsa_book.specs.Commands.{is_in_scope, takes_batch, is_awaited, is_bad_queues, may_come, check_of}
 
@@ -52,7 +51,6 @@ state setup gear content fates active = record { work = work setup gear content 
 
 -- nothing but another active command refuses it
 pub record IsUnrefused (setup : Setup) (deed : Deed) (scope : Scope) : Type 0 where
-  pub whole : IsWhole setup
   pub known : is_bad_queues setup scope ≡ false
   pub ready : may_come setup deed scope ≡ true
   pub checked : check_of setup deed scope ≡ None

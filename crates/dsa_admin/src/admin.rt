@@ -1,6 +1,6 @@
 //! The active command, and what is issued and polled.
 
-ghost use Rattle.std.specs.Prelude.{◌≡◌, ◌+◌, ◌≤◌, IsTrue, List, None, Option, length, true};
+ghost use Rattle.std.specs.Prelude.{◌≡◌, ℕ, ◌+◌, ◌≤◌, IsTrue, List, None, Option, length, true};
 ghost use Rattle.dsa_store.specs.Content.{Content, held};
 ghost use Rattle.dsa_book.specs.declared.fate.FateRow.{FateRow};
 ghost use Rattle.dsa_book.specs.declared.note.ActiveCommand.{ActiveCommand};
@@ -9,7 +9,7 @@ ghost use Rattle.dsa_regs.specs.declared.Deed.TheVariants.{Enable};
 ghost use Rattle.dsa_regs.specs.Command.{scope_of, deed_of};
 ghost use Rattle.dsa_book.specs.State.{State};
 ghost use Rattle.dsa_book.specs.Commands.{issue, poll, refused_or, carried_out, waits, stopped, enabled, may_come};
-ghost use Rattle.dsa_engines.specs.Engines.{Gear, IsInStep, IsReady};
+ghost use Rattle.dsa_engines.specs.Engines.{Gear, IsInStep};
 ghost use Rattle.dsa_admin.specs.Admin.{IsUnrefused, state};
 
 use crate::abort::{abort_alone, reset};
@@ -60,7 +60,8 @@ fn enable(queues: &mut Queues, engines: &mut Engines, scope: &Scope)
     requires notes { length engines.old.notes ≡ queues.old.caps.engines }
     ensures enabled { queues.new ≡ enabled scope.now queues.old }
     ensures notes { engines.new.notes ≡ engines.old.notes }
-    ensures in_step { (content : Content) → IsReady queues.old content → IsInStep queues.old engines.old content → IsInStep queues.new engines.new content }
+    ensures in_step { (cells : ℕ) (content : Content) → IsInStep queues.old engines.old cells content
+        → IsInStep queues.new engines.new cells content }
 {
     match scope {
         Scope::Device => {
@@ -116,7 +117,9 @@ impl Admin {
     ) -> IssueAnswer
         ensures waiting { (gear : Gear) (fates : List FateRow) → waits (state queues.old gear (S.content store.now) fates self.old) command
             ≡ (result, state queues.new gear (S.content store.now) fates self.new) }
-        ensures in_step { (gear : Gear) → may_come queues.old (deed_of command) (scope_of command) ≡ true → IsInStep queues.old gear (S.content store.now) → IsInStep queues.new gear (S.content store.now) }
+        ensures in_step { (gear : Gear) → may_come queues.old (deed_of command) (scope_of command) ≡ true
+            → IsInStep queues.old gear (S.cells store.now) (S.content store.now)
+            → IsInStep queues.new gear (S.cells store.now) (S.content store.now) }
     {
         let active = ActiveCommand {
             command,
@@ -141,14 +144,12 @@ impl Admin {
         command: Command,
     ) -> IssueAnswer
         requires unrefused { IsUnrefused queues.old (deed_of command) (scope_of command) }
-        requires ready { IsReady queues.old (S.content store.old) }
-        requires in_step { IsInStep queues.old engines.old (S.content store.old) }
+        requires in_step { IsInStep queues.old engines.old (S.cells store.old) (S.content store.old) }
         requires room { length book.old.fates + held (S.content store.old) ≤ book.old.capacity }
         ensures carried { carried_out (state queues.old engines.old (S.content store.old) book.old.fates self.old) command
             ≡ (result, state queues.new engines.new (S.content store.new) book.new.fates self.new) }
         ensures book { book.new ≡ record book.old { fates = book.new.fates } }
-        ensures in_step { IsInStep queues.new engines.new (S.content store.new) }
-        ensures cells { S.cells store.new ≡ S.cells store.old }
+        ensures in_step { IsInStep queues.new engines.new (S.cells store.new) (S.content store.new) }
     {
         match command.deed() {
             Deed::Enable => {
@@ -181,14 +182,12 @@ impl Admin {
         book: &mut Book,
         command: Command,
     ) -> IssueAnswer
-        requires ready { IsReady queues.old (S.content store.old) }
-        requires in_step { IsInStep queues.old engines.old (S.content store.old) }
+        requires in_step { IsInStep queues.old engines.old (S.cells store.old) (S.content store.old) }
         requires room { length book.old.fates + held (S.content store.old) ≤ book.old.capacity }
         ensures issued { issue (state queues.old engines.old (S.content store.old) book.old.fates self.old) command
             ≡ (result, state queues.new engines.new (S.content store.new) book.new.fates self.new) }
         ensures book { book.new ≡ record book.old { fates = book.new.fates } }
-        ensures in_step { IsInStep queues.new engines.new (S.content store.new) }
-        ensures cells { S.cells store.new ≡ S.cells store.old }
+        ensures in_step { IsInStep queues.new engines.new (S.cells store.new) (S.content store.new) }
     {
         if let Some(fault) = self.refusal(queues, &command) {
             return IssueAnswer::Refused(fault);
@@ -201,7 +200,8 @@ impl Admin {
     pub fn poll<S: EntryStore>(&mut self, queues: &mut Queues, store: &S) -> PollAnswer
         ensures polled { (gear : Gear) (fates : List FateRow) → poll (state queues.old gear (S.content store.now) fates self.old)
             ≡ (result, state queues.new gear (S.content store.now) fates self.new) }
-        ensures in_step { (gear : Gear) → IsInStep queues.old gear (S.content store.now) → IsInStep queues.new gear (S.content store.now) }
+        ensures in_step { (gear : Gear) → IsInStep queues.old gear (S.cells store.now) (S.content store.now)
+            → IsInStep queues.new gear (S.cells store.now) (S.content store.now) }
     {
         let Some(active) = self.active else {
             return PollAnswer::Nothing;

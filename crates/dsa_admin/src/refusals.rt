@@ -5,7 +5,6 @@ ghost use Rattle.std.specs.List.{list_all};
 ghost use Rattle.dsa_book.specs.State.{has_queue, phase_at};
 ghost use Rattle.dsa_book.specs.Commands.{is_bad_queues, suits, may_come, check_of};
 ghost use Rattle.dsa_regs.specs.Command.{queues_in};
-ghost use Rattle.dsa_queues.specs.Queues.{IsWhole};
 ghost use Rattle.dsa_admin.specs.Admin.{names_bad_queue};
 
 use dsa_queues::Queues;
@@ -22,26 +21,29 @@ fn phase_of(queues: &Queues, queue: u32) -> Phase
     }
 }
 
+// Whether the device has the queue. The numbers of a command may be larger than those of any queue.
 fn has_queue(queues: &Queues, queue: u32) -> bool
     ensures { result ≡ has_queue queues.now queue }
 {
     queue < u32::from(queues.caps().queues)
 }
 
+// Whether the device has each queue that is named.
 fn has_queues(queues: &Queues, scope: &Scope) -> bool
     ensures { result ≡ list_all (has_queue queues.now) (queues_in scope.now) }
 {
     scope.queues().iter().all(|queue| has_queue(queues, *queue))
 }
 
-// Whether no queue is named, or one that the device does not have.
+// Whether no queue is named, or one is that the device does not have.
 fn names_bad_queue(queues: &Queues, scope: &Scope) -> bool
     ensures { result ≡ names_bad_queue queues.now (queues_in scope.now) }
 {
     scope.queues().is_empty() || !has_queues(queues, scope)
 }
 
-/// Whether a scope of queues names none, or one that the device does not have. Other scopes name none by nature.
+/// Whether a scope of queues names no queue, or one that the device does not have. The device as a whole and a PASID
+/// name no queues, and are never wrong.
 pub(crate) fn is_bad_queues(queues: &Queues, scope: &Scope) -> bool
     ensures { result ≡ is_bad_queues queues.now scope.now }
 {
@@ -63,6 +65,7 @@ fn suits(deed: Deed, phase: Phase) -> bool
     }
 }
 
+// Whether the deed may find each queue that is named in its phase.
 fn all_suit(queues: &Queues, deed: Deed, scope: &Scope) -> bool
     ensures { result ≡ list_all (λ q. suits deed (phase_at queues.now q)) (queues_in scope.now) }
 {
@@ -72,7 +75,7 @@ fn all_suit(queues: &Queues, deed: Deed, scope: &Scope) -> bool
         .all(|queue| suits(deed, phase_of(queues, *queue)))
 }
 
-/// Whether the device and the queues stand as the deed needs.
+/// Whether the device and the queues that are named are in the phases that the deed needs.
 pub(crate) fn may_come(queues: &Queues, deed: Deed, scope: &Scope) -> bool
     ensures { result ≡ may_come queues.now deed scope.now }
 {
@@ -82,11 +85,10 @@ pub(crate) fn may_come(queues: &Queues, deed: Deed, scope: &Scope) -> bool
     }
 }
 
-/// What the configuration has against an enable; nothing against any other deed.
+/// The first fault that the configuration has against an enable. It has none against any other deed.
 pub(crate) fn check(queues: &Queues, deed: Deed, scope: &Scope) -> Option<Fault>
     requires { is_bad_queues queues.now scope.now ≡ false }
-    ensures fault { result ≡ check_of queues.now deed scope.now }
-    ensures whole { IsWhole queues.now }
+    ensures { result ≡ check_of queues.now deed scope.now }
 {
     let caps = queues.caps();
     let Deed::Enable = deed else {

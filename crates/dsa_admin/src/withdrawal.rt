@@ -8,7 +8,7 @@ ghost use Rattle.dsa_store.specs.Content.{all_held, chain, held, kept};
 ghost use Rattle.dsa_book.specs.declared.fate.Fate.TheVariants.{Aborted};
 ghost use Rattle.dsa_book.specs.Work.{progress_list};
 ghost use Rattle.dsa_book.specs.Commands.{is_in_scope, kept_note};
-ghost use Rattle.dsa_engines.specs.Engines.{IsInStep, IsReady};
+ghost use Rattle.dsa_engines.specs.Engines.{IsInStep};
 ghost use Rattle.dsa_admin.specs.Admin.{is_spared, notes_left, row_of, rows_of};
 
 use crate::scope::is_in_scope;
@@ -39,14 +39,12 @@ fn withdraw_from<S: EntryStore>(
     list: ListId,
 )
     requires list { list.0 < length (S.content store.old) }
-    requires ready { IsReady queues.now (S.content store.old) }
-    requires in_step { IsInStep queues.now engines.old (S.content store.old) }
+    requires in_step { IsInStep queues.now engines.old (S.cells store.old) (S.content store.old) }
     requires room { length book.old.fates + held (S.content store.old) ≤ book.old.capacity }
     ensures left { S.content store.new ≡ slice_set (S.content store.old) list.0 (filter (is_spared command.now) (chain (S.content store.old) list.0)) }
     ensures rows { book.new ≡ record book.old { fates = book.old.fates ++ rows_of command.now (chain (S.content store.old) list.0) } }
     ensures notes { engines.new.notes ≡ notes_left queues.now (scope_of command.now) (list_use queues.now.caps list.0) (chain (S.content store.old) list.0) engines.old.notes }
-    ensures in_step { IsInStep queues.now engines.new (S.content store.new) }
-    ensures cells { S.cells store.new ≡ S.cells store.old }
+    ensures in_step { IsInStep queues.now engines.new (S.cells store.new) (S.content store.new) }
 {
     let from = queues.list_use(list);
     let scope = command.scope();
@@ -75,14 +73,12 @@ pub(crate) fn withdraw<S: EntryStore>(
     book: &mut Book,
     command: &Command,
 )
-    requires ready { IsReady queues.now (S.content store.old) }
-    requires in_step { IsInStep queues.now engines.old (S.content store.old) }
+    requires in_step { IsInStep queues.now engines.old (S.cells store.old) (S.content store.old) }
     requires room { length book.old.fates + held (S.content store.old) ≤ book.old.capacity }
     ensures left { S.content store.new ≡ kept (λ entry. not (is_in_scope (scope_of command.now) entry)) (S.content store.old) }
     ensures rows { book.new ≡ record book.old { fates = book.old.fates ++ rows_of command.now (all_held (S.content store.old)) } }
     ensures notes { engines.new.notes ≡ map (λ e. kept_note queues.now (scope_of command.now) (chain (S.content store.old) (progress_list queues.now e)) (get_or engines.old.notes e None)) (numbers_below queues.now.caps.engines) }
-    ensures in_step { IsInStep queues.now engines.new (S.content store.new) }
-    ensures cells { S.cells store.new ≡ S.cells store.old }
+    ensures in_step { IsInStep queues.now engines.new (S.cells store.new) (S.content store.new) }
 {
     for list in 0..store.lists() {
         withdraw_from(queues, engines, store, book, command, ListId(list));

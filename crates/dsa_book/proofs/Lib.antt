@@ -6,3 +6,4 @@ pub mod Phases
 pub mod Scopes
 pub mod Nexts
 pub mod Leaving
+pub mod Sizes

@@ -3,7 +3,6 @@ use Rattle.std.specs.Prelude.{ℕ, Bool, true, false}
 use Rattle.dsa_regs.specs.Caps.{cell_count}
 use Rattle.dsa_store.specs.declared.entry.Cell.{Cell}
 use Rattle.dsa_store.specs.Content.{Content, is_free}
-use Rattle.dsa_book.specs.declared.answer.Ticket.{Ticket}
 use Rattle.dsa_book.specs.declared.answer.SubmitAnswer.TheVariants.{Accepted}
 use Rattle.dsa_book.specs.declared.answer.DispatchAnswer.TheVariants.{Taken}
 use Rattle.dsa_book.specs.declared.answer.FetchAnswer.TheVariants.{Fetched}

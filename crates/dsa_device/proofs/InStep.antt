@@ -1,4 +1,4 @@
--- What the engines keep agrees with the lists still, after a step that moves nothing on an engine.
+-- A step of the queues alone moves nothing on an engine, and the entries there need what they needed.
 use Rattle.std.proofs.Common.{◌≡◌, ℕ, ◌++◌, Bool, false, cond, List, [], ◌∷◌, Option, Some, None, refl, sym, ap, ◌∙◌, subst, inl, inr, arith, ⊎_elim}
 use Rattle.std.specs.Prelude.{nat_lt, not, ◌&&◌, ◌==◌}
 use Rattle.std.proofs.lemmas.Bool.{not-false}
@@ -26,9 +26,8 @@ use Rattle.dsa_base.specs.Lists.{In}
 use Rattle.dsa_laws.specs.WellFormed.{NoneOff}
 use Rattle.dsa_base.proofs.Tables.{not-both}
 use Rattle.dsa_laws.proofs.Contents.{chain-set}
-use Rattle.dsa_engines.specs.Engines.{Gear, IsInStep}
 use Rattle.dsa_engines.proofs.Used.{load, load-nil, load-cons, load-append}
-use Rattle.dsa_engines.proofs.Keeping.{KeepsLoads, in_step-kept}
+use Rattle.dsa_engines.proofs.Keeping.{KeepsLoads}
 
 -- ---- what the running entries of a list need
 
@@ -74,30 +73,41 @@ submit-keeps i q portal kind desc cell =
 
 -- ---- writes
 
+-- what changes nothing
+keeps-all : (setup : Setup) (content : Content) → KeepsLoads setup setup content content
+keeps-all setup content = record { caps = refl; groups = refl; device = λ n. n; loads = λ k low. refl }
+
 -- no entry names the queue that is written, for it is Off
-pub write_queue-in_step : (w : Work) (gear : Gear) (q : ℕ) (config : QueueConfig) → NoneOff w → IsInStep w.setup gear w.content → IsInStep (write_queue w.setup q config).1 gear w.content
-write_queue-in_step w gear q config none i =
-    table3 (λ (r : WriteAnswer × Setup). IsInStep r.1 gear w.content) (not (has_queue w.setup q)) (not (is_off (phase_at w.setup q))) (not (is_off w.setup.device) && not (config.size == (queue_at w.setup.configs q).size)) _ _ _ _
-    (λ t. i) (λ t. i) (λ t. i)
-    (λ there off size. in_step-kept w.setup _ gear w.content w.content i (record {
+pub write_queue-keeps : (w : Work) (q : ℕ) (config : QueueConfig) → NoneOff w
+    → KeepsLoads w.setup (write_queue w.setup q config).1 w.content w.content
+write_queue-keeps w q config none =
+    table3 (λ (r : WriteAnswer × Setup). KeepsLoads w.setup r.1 w.content w.content) (not (has_queue w.setup q)) (not (is_off (phase_at w.setup q))) (not (is_off w.setup.device) && not (config.size == (queue_at w.setup.configs q).size)) _ _ _ _
+    (λ t. keeps-all w.setup w.content) (λ t. keeps-all w.setup w.content) (λ t. keeps-all w.setup w.content)
+    (λ there off size. record {
       caps = refl;
       groups = refl;
       device = λ n. n;
       loads = λ k low. load-same w.setup _ (chain w.content k) (λ x m.
           get_or-set_other w.setup.configs q x.1.queue config zero_queue (λ e.
           not-both (is_off (phase_at w.setup q)) (not-false _ off) (subst (λ n. is_off (phase_at w.setup n) ≡ false) e (none k x m))));
-    }))
+    })
 
 -- groups are written while the device is Off alone
-pub write_group-in_step : (setup : Setup) (gear : Gear) (content : Content) (g : ℕ) (config : GroupConfig) → IsInStep setup gear content → IsInStep (write_group setup g config).1 gear content
-write_group-in_step setup gear content g config i =
-    table2 (λ (r : WriteAnswer × Setup). IsInStep r.1 gear content) (not (nat_lt g setup.caps.groups)) (not (is_off setup.device)) _ _ _
-    (λ t. i) (λ t. i)
-    (λ there off. record { notes = i.notes; homes = λ on. not-both _ (not-false _ off) on; buffers = λ on. not-both _ (not-false _ off) on })
+pub write_group-keeps : (setup : Setup) (content : Content) (g : ℕ) (config : GroupConfig)
+    → is_off (write_group setup g config).1.device ≡ false → KeepsLoads setup (write_group setup g config).1 content content
+write_group-keeps setup content g config =
+    table2 (λ (r : WriteAnswer × Setup). is_off r.1.device ≡ false → KeepsLoads setup r.1 content content) (not (nat_lt g setup.caps.groups)) (not (is_off setup.device)) _ _ _
+    (λ t on. keeps-all setup content) (λ t on. keeps-all setup content)
+    (λ there off on. not-both _ (not-false _ off) on)
 
-pub clear-in_step : (setup : Setup) (gear : Gear) (content : Content) → IsInStep setup gear content → IsInStep (clear setup).1 gear content
-clear-in_step setup gear content i = go setup.noted
+pub clear-keeps : (setup : Setup) (content : Content) → KeepsLoads setup (clear setup).1 content content
+clear-keeps setup content = go setup.noted
   where
-    go : (noted : Option NotedError) → IsInStep (clear_of setup noted).1 gear content
-    go None = i
-    go (Some noted) = in_step-kept setup (record setup { noted = None }) gear content content i (record { caps = refl; groups = refl; device = λ n. n; loads = λ k low. load-same setup (record setup { noted = None }) (chain content k) (λ x m. refl) })
+    go : (noted : Option NotedError) → KeepsLoads setup (clear_of setup noted).1 content content
+    go None = keeps-all setup content
+    go (Some noted) = record {
+      caps = refl;
+      groups = refl;
+      device = λ n. n;
+      loads = λ k low. load-same setup (record setup { noted = None }) (chain content k) (λ x m. refl);
+    }

@@ -1,19 +1,18 @@
 -- What the laws of the machine say of a device.
-use Rattle.std.proofs.Common.{◌≡◌, ◌≢◌, ℕ, suc, ◌+◌, ◌^◌, ◌<◌, ◌≤◌, ◌==◌, Bool, true, false, List, [], ◌∷◌, length, Option, Some, None, IsTrue, refl, sym, ap, ◌∙◌, subst, arith, get_or}
+use Rattle.std.proofs.Common.{◌≡◌, ◌≢◌, ℕ, suc, ◌+◌, ◌^◌, ◌<◌, ◌≤◌, ◌==◌, Bool, true, false, List, [], ◌∷◌, length, Option, Some, None, refl, sym, ap, ◌∙◌, subst, arith, get_or}
 use Rattle.std.specs.Prelude.{is_none, is_some, filter, not, cond, ◌&&◌, nat_lt}
 use Rattle.std.proofs.lemmas.Bool.{lt-ltb, eqb-false, not-true, and_parts}
 use Rattle.dsa_base.specs.Rows.{passes, when}
 use Rattle.dsa_regs.specs.declared.Phase.{Phase}
 use Rattle.dsa_regs.specs.declared.Phase.TheVariants.{Off, On, Stopping}
 use Rattle.dsa_regs.specs.declared.Caps.{Caps}
-use Rattle.dsa_regs.specs.Caps.{check_caps, cell_count, list_count}
-use Rattle.dsa_regs.proofs.CapsLemmas.{cell_count-bound}
+use Rattle.dsa_regs.specs.Caps.{cell_count}
 use Rattle.dsa_store.specs.Content.{Slot, Content, chain, held}
 use Rattle.dsa_store.proofs.Lists.{held-nil, held-cons, length-le-held}
 use Rattle.dsa_book.specs.declared.event.Portal.{Portal}
 use Rattle.dsa_book.specs.declared.event.Kind.{Kind}
 use Rattle.dsa_book.specs.declared.note.BatchNote.{BatchNote}
-use Rattle.dsa_book.specs.State.{occupancy, is_off}
+use Rattle.dsa_book.specs.State.{is_off}
 use Rattle.dsa_queues.specs.Queues.{intake, is_accepting}
 use Rattle.dsa_book.specs.Work.{used, all_used, members, member_list, note_at, batch_on, is_all_fetched}
 use Rattle.dsa_laws.specs.WellFormed.{IsWellFormed, none_runs, runs_first}
@@ -21,9 +20,10 @@ use Rattle.dsa_laws.proofs.Histories.{replay-well_formed}
 use Rattle.dsa_laws.proofs.Entries.{none-held}
 use Rattle.dsa_accounts.proofs.FreeCells.{accepting-room, fetching-room}
 use Rattle.dsa_accounts.proofs.Totals.{replay-names-le}
-use Rattle.dsa_engines.specs.Engines.{Gear, IsReady, WaitInOrder, is_fetching, is_running, lists_alone}
+use Rattle.dsa_engines.specs.Engines.{Gear, IsInStep, WaitInOrder, is_fetching, is_running, lists_alone}
 use Rattle.dsa_buffers.specs.Buffers.{Buffers}
 use Rattle.dsa_engines.proofs.Used.{buffers-at_rest}
+use Rattle.dsa_engines.proofs.Keeping.{KeepsLoads, homes-kept, buffers-kept}
 use Rattle.dsa_base.proofs.NumberLists.{get_or-each}
 use Rattle.std.proofs.lemmas.List.{get_or-replicate}
 use Rattle.dsa_device.specs.Running.{Running, IsReplay, IsWhole}
@@ -38,30 +38,38 @@ none-held_all (l ∷ ls) h =
     let rest = none-held_all ls (λ k. h (suc k)) in
     omega (arith, held-cons l ls, first, rest)
 
--- what the steps of the engines and of the administrator ask
-pub ready : (d : Running) → IsReplay d → IsReady d.state.work.setup d.state.work.content
-ready d i =
-    let w = well_formed d i in
-    let same = sym w.shape.same_caps in
-    record {
-      caps = subst (λ (c : Caps). IsTrue (check_caps c)) same i.caps;
-      lists = subst (λ (c : Caps). length d.state.work.content ≡ list_count c) same w.shape.lists;
-      groups = subst (λ (c : Caps). length d.state.work.setup.groups ≡ c.groups) same w.shape.groups;
-      idle = λ off. none-held_all d.state.work.content (none-held d.caps d.state.work w.setup w.entries off);
-      checked = w.setup.device;
-    }
+-- the store has the cells of the device
+pub cells-are : (cells : ℕ) (gear : Gear) (d : Running) → IsWhole cells gear d → cells ≡ cell_count d.caps
+cells-are cells gear d w = w.in_step.store.cells ∙ ap cell_count (well_formed d w.replay).shape.same_caps
 
--- the store has the cells that the set-up asks
-pub store_cells : (cells : ℕ) (d : Running) → IsReplay d → cells ≡ cell_count d.caps → cells ≡ cell_count d.state.work.setup.caps
-store_cells cells d i e = e ∙ ap cell_count (sym (well_formed d i).shape.same_caps)
+-- after a step of the queues alone the laws say all that is in step, but for what the engines keep
+pub in_step-by_laws : (cells more : ℕ) (gear : Gear) (d t : Running) → IsWhole cells gear d → IsReplay t
+    → t.caps ≡ d.caps → gear.notes ≡ t.state.work.notes → more ≡ cells
+    → (is_off t.state.work.setup.device ≡ false → KeepsLoads d.state.work.setup t.state.work.setup d.state.work.content t.state.work.content)
+    → IsInStep t.state.work.setup gear more t.state.work.content
+in_step-by_laws cells more gear d t whole i caps notes count keeps =
+    let w = well_formed t i in
+    let same = w.shape.same_caps in
+    let now = t.state.work in
+    record {
+      queues = record { lawful = rw same i.caps; configs = rw same w.shape.configs; phases = rw same w.shape.phases; groups = rw same w.shape.groups };
+      store = record { lists = rw same w.shape.lists; cells = count ∙ cells-are cells gear d whole ∙ ap cell_count (sym (same ∙ caps)) };
+      idle = λ off. none-held_all now.content (none-held t.caps now w.setup w.entries off);
+      checked = w.setup.device;
+      notes = rw (notes, same) w.shape.notes;
+      homes = λ on. homes-kept d.state.work.setup now.setup gear d.state.work.content now.content whole.in_step (keeps on) on;
+      buffers = λ on. buffers-kept d.state.work.setup now.setup gear d.state.work.content now.content whole.in_step (keeps on) on;
+    }
 
 is_none-None : {X : Type 0} (o : Option X) → is_none o ≡ true → o ≡ None
 is_none-None None h = refl
 is_none-None (Some x) h = absurd cc
 
 -- where a submission is accepted a cell is free
-pub accepting : (d : Running) (queue : ℕ) (portal : Portal) (kind : Kind) → IsReplay d → is_accepting (intake d.state.work.setup d.state.work.content) queue portal kind ≡ true → held d.state.work.content < cell_count d.caps
-accepting d queue portal kind i h = accepting-room d.caps d.state queue portal kind (well_formed d i) (is_none-None _ h)
+pub accepting : (cells : ℕ) (gear : Gear) (d : Running) (queue : ℕ) (portal : Portal) (kind : Kind) → IsWhole cells gear d
+    → is_accepting (intake d.state.work.setup d.state.work.content) queue portal kind ≡ true → held d.state.work.content < cells
+accepting cells gear d queue portal kind w h =
+    rw (cells-are cells gear d w) (accepting-room d.caps d.state queue portal kind (well_formed d w.replay) (is_none-None _ h))
 
 -- names do not run over
 pub names_fit : (d : Running) → IsReplay d → d.state.work.setup.next_name + 1 < 2 ^ 32
@@ -87,13 +95,6 @@ row_fits d i room =
     let within = i.within in
     let n : length d.history ≢ d.capacity = eqb-false _ _ room in
     omega (arith, names, counted, within, n)
-
--- no queue is too long to be counted
-pub occupancy_fits : (cells : ℕ) (d : Running) (queue : ℕ) → IsReplay d → cells ≡ cell_count d.caps → held d.state.work.content ≤ cells → occupancy d.state.work.content queue < 2 ^ 16
-occupancy_fits cells d queue i e room =
-    let most = length-le-held d.state.work.content queue in
-    let bound = cell_count-bound d.caps i.caps in
-    omega (arith, most, bound, e, room)
 
 -- ---- what a start asks
 
@@ -126,12 +127,15 @@ member_rows_fit d engine i = go (nat_lt engine d.state.work.setup.caps.engines)
 -- ---- what a fetch asks
 
 -- where a member may be fetched a cell is free
-pub fetching : (d : Running) (engine : ℕ) → IsReplay d → is_fetching d.state.work engine ≡ true → held d.state.work.content < cell_count d.caps
-fetching d engine i h = go (note_at d.state.work engine) refl h
+pub fetching : (cells : ℕ) (gear : Gear) (d : Running) (engine : ℕ) → IsWhole cells gear d
+    → is_fetching d.state.work engine ≡ true → held d.state.work.content < cells
+fetching cells gear d engine w h = rw (cells-are cells gear d w) (go (note_at d.state.work engine) refl h)
   where
-    go : (note : Option BatchNote) → note_at d.state.work engine ≡ note → passes (λ note. is_some (batch_on d.state.work engine note) && not (is_all_fetched note)) note ≡ true → held d.state.work.content < cell_count d.caps
+    go : (note : Option BatchNote) → note_at d.state.work engine ≡ note
+        → passes (λ note. is_some (batch_on d.state.work engine note) && not (is_all_fetched note)) note ≡ true
+        → held d.state.work.content < cell_count d.caps
     go None is h = absurd cc
-    go (Some note) is h = fetching-room d.caps d.state engine note (well_formed d i) is (not-true (is_all_fetched note) (and_parts (is_some (batch_on d.state.work engine note)) _ h).1)
+    go (Some note) is h = fetching-room d.caps d.state engine note (well_formed d w.replay) is (not-true (is_all_fetched note) (and_parts (is_some (batch_on d.state.work engine note)) _ h).1)
 
 -- ---- read buffers
 
@@ -141,14 +145,14 @@ used-listed d group i h =
     get_or-each (used d.state.work) d.state.work.setup.caps.groups group 0 (omega (arith, h, same))
 
 -- while the device is Off nothing runs
-pub used-off : (d : Running) (group : ℕ) → IsReplay d → group < d.caps.groups → is_off d.state.work.setup.device ≡ true → 0 ≡ used d.state.work group
-used-off d group i h off =
-    let r = ready d i in
-    let long = (well_formed d i).shape.groups in
+pub used-off : (cells : ℕ) (gear : Gear) (d : Running) (group : ℕ) → IsWhole cells gear d → group < d.caps.groups
+    → is_off d.state.work.setup.device ≡ true → 0 ≡ used d.state.work group
+used-off cells gear d group w h off =
+    let long = (well_formed d w.replay).shape.groups in
     let inside : group < length d.state.work.setup.groups = omega (arith, h, long) in
     sym (get_or-replicate (length d.state.work.setup.groups) group 0 0 inside)
-    ∙ ap (λ (b : Buffers). get_or b.used group 0) (buffers-at_rest d.state.work.setup d.state.work.content r.groups (r.idle off))
-    ∙ used-listed d group i h
+    ∙ ap (λ (b : Buffers). get_or b.used group 0) (buffers-at_rest d.state.work.setup d.state.work.content w.in_step.queues.groups (w.in_step.idle off))
+    ∙ used-listed d group w.replay h
 
 -- and else the engines keep the number
 pub used-on : (cells : ℕ) (gear : Gear) (d : Running) (group : ℕ) → IsWhole cells gear d → group < d.caps.groups → is_off d.state.work.setup.device ≡ false → get_or gear.buffers.used group 0 ≡ used d.state.work group

@@ -9,7 +9,6 @@ use Rattle.std.proofs.lemmas.List.Folds.{list_all-append}
 use Rattle.dsa_base.specs.Rows.{when}
 use Rattle.dsa_base.proofs.Tables.{when-some}
 use Rattle.dsa_regs.specs.declared.Caps.{Caps}
-use Rattle.dsa_regs.specs.Caps.{cell_count}
 use Rattle.dsa_store.specs.Content.{Content}
 use Rattle.dsa_book.specs.declared.event.Event.{Event}
 use Rattle.dsa_book.specs.declared.event.Step.{Step}
@@ -18,10 +17,12 @@ use Rattle.dsa_book.specs.declared.event.Event.TheVariants as event
 use Rattle.dsa_book.specs.declared.note.ActiveCommand.{ActiveCommand}
 use Rattle.dsa_book.specs.declared.fate.FateRow.{FateRow}
 use Rattle.dsa_book.specs.Records.{Records}
-use Rattle.dsa_book.specs.State.{Setup, State}
+use Rattle.dsa_book.specs.State.{Setup, State, is_off}
 use Rattle.dsa_book.specs.Machine.{next, is_stored, recorded, full_reply, is_full, is_legal, replay}
 use Rattle.dsa_book.proofs.EqualReplies.{equal-replies}
 use Rattle.dsa_engines.specs.Engines.{Gear, IsInStep, work}
+use Rattle.dsa_engines.proofs.Keeping.{KeepsLoads}
+use Rattle.dsa_device.proofs.Known.{in_step-by_laws}
 use Rattle.dsa_device.specs.Running.{Running, running, stepped, answered, IsReplay, IsWhole}
 use Rattle.dsa_laws.proofs.Changes.{next_keeps}
 use Rattle.dsa_book.proofs.Replay.{replay-snoc}
@@ -101,14 +102,6 @@ answered-replay d t e r i a = answered_by_cases IsReplay d t e r a (λ room full
   replayed = replay-recorded d.caps d.history d.state s e r i.replayed n;
 })
 
--- what a layer's step keeps, the device keeps
-pub answered-whole : (cells cells' : ℕ) (gear gear' : Gear) (d t : Running) (e : Event) (r : Reply) → IsWhole cells gear d → cells' ≡ cells → IsInStep t.state.work.setup gear' t.state.work.content → answered d e r ≡ Some t → IsWhole cells' gear' t
-answered-whole cells cells' gear gear' d t e r w same in_step a = record {
-  replay = answered-replay d t e r w.replay a;
-  same_cells = same ∙ w.same_cells ∙ ap cell_count (sym (grows d t e r a).caps);
-  in_step = in_step;
-}
-
 -- a step of the device, from what its layers did to the parts and what the book then recorded
 pub answered_by_parts : (caps : Caps) (setup setup' : Setup) (gear gear' : Gear) (content content' : Content) (active active' : Option ActiveCommand) (book book' : Records) (fates' : List FateRow) (e : Event) (r : Reply)
     → (length book.history == book.capacity) ≡ false
@@ -123,16 +116,33 @@ pub record IsStep (cells : ℕ) (gear : Gear) (d : Running) (e : Event) (r : Rep
   pub made : answered d e r ≡ Some t
   pub whole : IsWhole cells gear t
 
-pub step_by_parts : (cells cells' : ℕ) (caps : Caps) (setup setup' : Setup) (gear gear' : Gear) (content content' : Content) (active active' : Option ActiveCommand) (book book' : Records) (fates' : List FateRow) (e : Event) (r : Reply)
+pub step_by_parts : (cells more : ℕ) (caps : Caps) (setup setup' : Setup) (gear gear' : Gear) (content content' : Content) (active active' : Option ActiveCommand) (book book' : Records) (fates' : List FateRow) (e : Event) (r : Reply)
     → IsWhole cells gear (running caps setup gear content active book)
     → (length book.history == book.capacity) ≡ false
     → book' ≡ record { history = recorded book.history (record { event = e; reply = r }); fates = fates'; capacity = book.capacity }
     → next (running caps setup gear content active book).state e r ≡ Some (record { work = work setup' gear' content' fates'; active = active' })
-    → cells' ≡ cells → IsInStep setup' gear' content'
-    → IsStep cells' gear' (running caps setup gear content active book) e r (running caps setup' gear' content' active' book')
-step_by_parts cells cells' caps setup setup' gear gear' content content' active active' book book' fates' e r w room after n same in_step =
+    → IsInStep setup' gear' more content'
+    → IsStep more gear' (running caps setup gear content active book) e r (running caps setup' gear' content' active' book')
+step_by_parts cells more caps setup setup' gear gear' content content' active active' book book' fates' e r w room after n in_step =
+    let d = running caps setup gear content active book in
+    let t = running caps setup' gear' content' active' book' in
     let a = answered_by_parts caps setup setup' gear gear' content content' active active' book book' fates' e r room after n in
-    record { made = a; whole = answered-whole cells cells' gear gear' (running caps setup gear content active book) (running caps setup' gear' content' active' book') e r w same in_step a }
+    record { made = a; whole = record { replay = answered-replay d t e r w.replay a; in_step = in_step } }
+
+-- a step of the queues alone leaves the engines as they were, and what the laws say of the state does the rest
+pub step_of_queues : (cells more : ℕ) (caps : Caps) (setup setup' : Setup) (gear : Gear) (content content' : Content) (active : Option ActiveCommand) (book book' : Records) (e : Event) (r : Reply)
+    → IsWhole cells gear (running caps setup gear content active book)
+    → (length book.history == book.capacity) ≡ false
+    → book' ≡ record { history = recorded book.history (record { event = e; reply = r }); fates = book.fates; capacity = book.capacity }
+    → next (running caps setup gear content active book).state e r ≡ Some (record { work = work setup' gear content' book.fates; active = active })
+    → more ≡ cells → (is_off setup'.device ≡ false → KeepsLoads setup setup' content content')
+    → IsStep more gear (running caps setup gear content active book) e r (running caps setup' gear content' active book')
+step_of_queues cells more caps setup setup' gear content content' active book book' e r w room after n same keeps =
+    let d = running caps setup gear content active book in
+    let t = running caps setup' gear content' active book' in
+    let a = answered_by_parts caps setup setup' gear gear content content' active active book book' book.fates e r room after n in
+    let i = answered-replay d t e r w.replay a in
+    record { made = a; whole = record { replay = i; in_step = in_step-by_laws cells more gear d t w i refl refl same keeps } }
 
 -- a step recorded after rows were added
 pub recorded-rows : (before between after : Records) (e : Event) (r : Reply) → between ≡ record before { fates = between.fates }

@@ -2,7 +2,7 @@
 use Rattle.std.specs.Prelude.{◌≡◌, ℕ, ◌^◌, ◌≤◌, ◌==◌, cond, true, IsTrue, List, [], length, Option, Some, option_map}
 use Rattle.dsa_base.specs.Rows.{when}
 use Rattle.dsa_regs.specs.declared.Caps.{Caps}
-use Rattle.dsa_regs.specs.Caps.{check_caps, cell_count}
+use Rattle.dsa_regs.specs.Caps.{check_caps}
 use Rattle.dsa_store.specs.Content.{Content}
 use Rattle.dsa_book.specs.declared.event.Event.{Event}
 use Rattle.dsa_book.specs.declared.event.Step.{Step}
@@ -54,8 +54,7 @@ running caps setup gear content active book = record {
   state = record { work = work setup gear content book.fates; active = active };
 }
 
--- the parts belong together: the store has a cell for each place, and what the engines keep agrees with the lists (profile)
+-- the parts belong together: queues, engines and store are in step (profile)
 pub record IsWhole (cells : ℕ) (gear : Gear) (d : Running) : Type 0 where
   pub replay : IsReplay d
-  pub same_cells : cells ≡ cell_count d.caps
-  pub in_step : IsInStep d.state.work.setup gear d.state.work.content
+  pub in_step : IsInStep d.state.work.setup gear cells d.state.work.content

@@ -1,6 +1,6 @@
 -- What a fetch finds and leaves.
-use Rattle.std.proofs.Common.{◌≡◌, ℕ, ◌+◌, ◌*◌, ◌<◌, Bool, true, false, cond, ◌==◌, ◌++◌, nat_lt, List, [], ◌∷◌, length, set, get_or, Option, Some, None, refl, sym, ◌∙◌, ap, subst, inl, inr, arith}
-use Rattle.std.proofs.lemmas.Bool.{cases_Bool, lt-ltb}
+use Rattle.std.proofs.Common.{◌≡◌, ℕ, ◌+◌, ◌*◌, ◌<◌, Bool, true, false, cond, ◌==◌, ◌++◌, nat_lt, List, [], ◌∷◌, length, set, get_or, Option, Some, None, refl, sym, ap, subst, arith}
+use Rattle.std.proofs.lemmas.Bool.{lt-ltb}
 use Rattle.std.specs.List.{find}
 use Rattle.std.proofs.lemmas.List.{get_or-set_same, get_or-set_other, length-set}
 use Rattle.dsa_desc.specs.declared.Descriptor.{Descriptor}
@@ -8,14 +8,15 @@ use Rattle.dsa_desc.specs.Descriptor.{with_pasid}
 use Rattle.dsa_store.specs.declared.entry.Cell.{Cell}
 use Rattle.dsa_store.specs.declared.entry.Entry.{Entry}
 use Rattle.dsa_store.specs.Content.{Slot, Content, chain, pushed}
-use Rattle.dsa_store.proofs.Lists.{length-le-held}
+use Rattle.dsa_store.proofs.Lists.{length-pushed}
 use Rattle.dsa_book.specs.declared.note.BatchNote.{BatchNote}
 use Rattle.dsa_book.specs.declared.answer.FetchAnswer.TheVariants.{Fetched}
 use Rattle.dsa_book.specs.declared.fate.FateRow.{FateRow}
 use Rattle.dsa_book.specs.State.{Setup, is_off, need_of}
 use Rattle.dsa_book.specs.Work.{progress_list, member_list, fetch, is_all_fetched}
-use Rattle.dsa_engines.specs.Engines.{Gear, work, IsInStep, IsReady, is_fetching}
+use Rattle.dsa_engines.specs.Engines.{Gear, work, IsInStep, is_fetching}
 use Rattle.dsa_engines.proofs.Used.{load-nil, load-cons, load-append, HoldsMore}
+use Rattle.dsa_engines.proofs.Keeping.{awake, in_step-moved, in_step-next_name}
 use Rattle.dsa_engines.proofs.Members.{buffers-same}
 
 pub is-fetching : (setup : Setup) (gear : Gear) (content : Content) (e i : ℕ) (note : BatchNote) (batch : Slot) → e < setup.caps.engines → i ≡ progress_list setup e → get_or gear.notes e None ≡ Some note → find (λ slot. slot.1.name == note.batch) (chain content i) ≡ Some batch → is_all_fetched note ≡ false → is_fetching (work setup gear content []) e ≡ true
@@ -29,12 +30,9 @@ any-found : (p : Slot → Bool) (l : List Slot) (s : Slot) → find p l ≡ Some
 any-found p [] s h = absurd cc
 any-found p (x ∷ l) s h = omega arith
 
-awake-named : (setup : Setup) (content : Content) (i : ℕ) (p : Slot → Bool) (s : Slot) → IsReady setup content → find p (chain content i) ≡ Some s → is_off setup.device ≡ false
-awake-named setup content i p s r h =
-    elim (cases_Bool (is_off setup.device)) [
-      | inl off ↦ absurd (omega (arith, r.idle off, length-le-held content i, any-found p (chain content i) s h))
-      | inr on ↦ on
-    ]
+awake-named : {cells : ℕ} (setup : Setup) (gear : Gear) (content : Content) (i : ℕ) (p : Slot → Bool) (x : Slot)
+    → IsInStep setup gear cells content → find p (chain content i) ≡ Some x → is_off setup.device ≡ false
+awake-named setup gear content i p x s h = awake setup gear content i s (any-found p (chain content i) x h)
 
 -- a member that waits needs nothing yet
 fetched-less : (setup : Setup) (content : Content) (e : ℕ) (cell : Cell) (member : Entry) → length content ≡ setup.caps.queues + 2 * setup.caps.engines → e < setup.caps.engines → member.running ≡ false → HoldsMore setup (pushed content (member_list setup e) cell member) content e (member_list setup e) 0
@@ -48,17 +46,18 @@ fetched-less setup content e cell member len he waiting =
       mine = rw (get_or-set_same content m (l ++ (cell, member) ∷ []) [] (omega (arith, len, he))) (omega (arith, load-append setup l ((cell, member) ∷ []), load-cons setup (cell, member) [], load-nil setup, none));
     }
 
-pub in_step-fetched : (setup more : Setup) (gear after : Gear) (content now : Content) (e i j name : ℕ) (note : BatchNote) (new : Option BatchNote) (batch : Slot) (cell : Cell) (member : Entry) → IsReady setup content → IsInStep setup gear content → e < setup.caps.engines → j ≡ member_list setup e → find (λ slot. slot.1.name == note.batch) (chain content i) ≡ Some batch → member.running ≡ false
+pub in_step-fetched : {cells later : ℕ} (setup more : Setup) (gear after : Gear) (content now : Content) (e i j name : ℕ) (note : BatchNote) (new : Option BatchNote) (batch : Slot) (cell : Cell) (member : Entry)
+    → later ≡ cells → IsInStep setup gear cells content → e < setup.caps.engines → j ≡ member_list setup e
+    → find (λ slot. slot.1.name == note.batch) (chain content i) ≡ Some batch → member.running ≡ false
     → more ≡ record setup { next_name = name } → now ≡ pushed content j cell member → after ≡ record gear { notes = set gear.notes e new }
-    → IsInStep more after now
-in_step-fetched setup more gear after content now e i j name note new batch cell member r s he je found waiting se is ae =
-    let on = awake-named setup content i (λ slot. slot.1.name == note.batch) batch r found in
-    let same = buffers-same setup content (pushed content (member_list setup e) cell member) e r on (fetched-less setup content e cell member r.lists he waiting) in
-    rw (se, ae, is, je) (record {
-      notes = length-set gear.notes e new ∙ s.notes;
-      homes = s.homes;
-      buffers = λ x. s.buffers x ∙ same;
-    })
+    → IsInStep more after later now
+in_step-fetched setup more gear after content now e i j name note new batch cell member kept s he je found waiting se is ae =
+    let on = awake-named setup gear content i (λ slot. slot.1.name == note.batch) batch s found in
+    let m : ℕ = member_list setup e in
+    rw (se, ae, is, je)
+    (in_step-next_name setup _ (pushed content m cell member) name
+    (in_step-moved setup gear _ content (pushed content m cell member) s on kept (length-pushed content m cell member) (length-set gear.notes e new) refl
+    (buffers-same setup gear content (pushed content m cell member) e s on (fetched-less setup content e cell member s.store.lists he waiting))))
 
 pub fetch-done : (setup more : Setup) (gear after : Gear) (content now : Content) (fates : List FateRow) (e i j name : ℕ) (desc own : Descriptor) (cell : Cell) (note : BatchNote) (batch : Slot) → e < setup.caps.engines → i ≡ progress_list setup e → j ≡ member_list setup e → get_or gear.notes e None ≡ Some note → find (λ slot. slot.1.name == note.batch) (chain content i) ≡ Some batch → is_all_fetched note ≡ false
     → name ≡ setup.next_name → own ≡ with_pasid desc batch.1.desc.pasid → more ≡ record setup { next_name = setup.next_name + 1 } → now ≡ pushed content j cell (record { name = name; parent = Some note.batch; desc = own; queue = batch.1.queue; running = false }) → after ≡ record gear { notes = set gear.notes e (Some (record note { fetched = note.fetched + 1 })) }

@@ -14,15 +14,16 @@ use Rattle.dsa_regs.specs.Buffers.{fits}
 use Rattle.dsa_store.specs.declared.entry.Cell.{Cell}
 use Rattle.dsa_store.specs.declared.entry.Entry.{Entry}
 use Rattle.dsa_store.specs.Content.{Slot, Content, chain, uses, moved, replaced, pushed, without_front}
-use Rattle.dsa_store.proofs.Lists.{length-le-held}
+use Rattle.dsa_store.proofs.Lists.{length-le-held, length-pushed}
 use Rattle.dsa_store.proofs.Turns.{replaced-moved}
 use Rattle.dsa_buffers.specs.Buffers.{Buffers}
 use Rattle.dsa_base.proofs.FirstPlaces.{hit-at}
 use Rattle.dsa_book.specs.declared.note.BatchNote.{BatchNote}
 use Rattle.dsa_book.specs.State.{Setup, is_off, need_of, is_batch_of}
 use Rattle.dsa_book.specs.Work.{progress_list, qualifies, group_in, as_running, with_note, opened_note}
-use Rattle.dsa_engines.specs.Engines.{Gear, work, buffers_of, IsInStep, IsReady, IsOpen}
+use Rattle.dsa_engines.specs.Engines.{Gear, work, buffers_of, IsInStep, IsOpen}
 use Rattle.dsa_engines.proofs.Homes.{home-at, one-group}
+use Rattle.dsa_engines.proofs.Keeping.{awake, in_step-moved}
 use Rattle.dsa_engines.proofs.Used.{load, load-nil, load-append, load-cons, HoldsMore, raises-progress, taken-of, empty-list}
 
 -- a front of one list that goes to the end of the other, and runs
@@ -35,15 +36,14 @@ front-any : (l : List Slot) (front : Slot) → slice_get l 0 ≡ Some front → 
 front-any [] front h = cc
 front-any (s ∷ l) front h = omega arith
 
--- while the device is Off nothing is held
-pub awake : (setup : Setup) (content : Content) (i : ℕ) (front : Slot) → IsReady setup content → slice_get (chain content i) 0 ≡ Some front → is_off setup.device ≡ false
-awake setup content i front r h =
-    elim (cases_Bool (is_off setup.device)) [
-      | inl off ↦ absurd (omega (arith, r.idle off, length-le-held content i, front-any (chain content i) front h))
-      | inr on ↦ on
-    ]
+-- while the device is Off nothing stands in front of a list
+pub awake-front : {cells : ℕ} (setup : Setup) (gear : Gear) (content : Content) (i : ℕ) (front : Slot)
+    → IsInStep setup gear cells content → slice_get (chain content i) 0 ≡ Some front → is_off setup.device ≡ false
+awake-front setup gear content i front s h = awake setup gear content i s (front-any (chain content i) front h)
 
-pub home-of : (setup : Setup) (gear : Gear) (content : Content) (e : ℕ) → IsInStep setup gear content → is_off setup.device ≡ false → e < setup.caps.engines → get_or gear.homes e None ≡ group_in setup.groups e
+-- while it is not, what is kept of an engine is its group
+pub home-of : {cells : ℕ} (setup : Setup) (gear : Gear) (content : Content) (e : ℕ) → IsInStep setup gear cells content
+    → is_off setup.device ≡ false → e < setup.caps.engines → get_or gear.homes e None ≡ group_in setup.groups e
 home-of setup gear content e s on h = ap (λ (l : List (Option ℕ)). get_or l e None) (s.homes on) ∙ home-at setup e h
 
 -- ---- a queue that does not qualify
@@ -51,22 +51,25 @@ home-of setup gear content e s on h = ap (λ (l : List (Option ℕ)). get_or l e
 no-front : (setup : Setup) (gear : Gear) (content : Content) (e q : ℕ) → slice_get (chain content q) 0 ≡ None → qualifies (work setup gear content []) e q ≡ false
 no-front setup gear content e q h = rw h (grind (arith, common_steps))
 
-asleep : (setup : Setup) (content : Content) (q : ℕ) → IsReady setup content → is_off setup.device ≡ true → slice_get (chain content q) 0 ≡ None
-asleep setup content q r off = ap (λ (l : List Slot). slice_get l 0) (empty-list (chain content q) (omega (arith, r.idle off, length-le-held content q)))
+asleep : {cells : ℕ} (setup : Setup) (gear : Gear) (content : Content) (q : ℕ) → IsInStep setup gear cells content
+    → is_off setup.device ≡ true → slice_get (chain content q) 0 ≡ None
+asleep setup gear content q s off = ap (λ (l : List Slot). slice_get l 0) (empty-list (chain content q) (omega (arith, s.idle off, length-le-held content q)))
 
 no-group : (setup : Setup) (gear : Gear) (content : Content) (e q : ℕ) → group_in setup.groups e ≡ None → qualifies (work setup gear content []) e q ≡ false
 no-group setup gear content e q h = rw h (grind (arith, common_steps))
 
 -- what is found of an engine that has a slot left
-pub no-home : (setup : Setup) (gear : Gear) (content : Content) (e : ℕ) (home : Option ℕ) → IsReady setup content → IsInStep setup gear content → e < setup.caps.engines → home ≡ get_or gear.homes e None → IfNone home ((q : ℕ) → qualifies (work setup gear content []) e q ≡ false)
-no-home setup gear content e None r s he is = λ q.
+pub no-home : {cells : ℕ} (setup : Setup) (gear : Gear) (content : Content) (e : ℕ) (home : Option ℕ)
+    → IsInStep setup gear cells content → e < setup.caps.engines → home ≡ get_or gear.homes e None → IfNone home ((q : ℕ) → qualifies (work setup gear content []) e q ≡ false)
+no-home setup gear content e None s he is = λ q.
     elim (cases_Bool (is_off setup.device)) [
-      | inl off ↦ no-front setup gear content e q (asleep setup content q r off)
+      | inl off ↦ no-front setup gear content e q (asleep setup gear content q s off)
       | inr on ↦ no-group setup gear content e q (sym (is ∙ home-of setup gear content e s on he))
     ]
-no-home setup gear content e (Some g) r s he is = tt
+no-home setup gear content e (Some g) s he is = tt
 
-pub open-home : (setup : Setup) (gear : Gear) (content : Content) (e : ℕ) (home : Option ℕ) → IsInStep setup gear content → e < setup.caps.engines → length (chain content (progress_list setup e)) < setup.caps.slots → home ≡ get_or gear.homes e None → IfSome home (λ g. is_off setup.device ≡ false → IsOpen setup content e g)
+pub open-home : {cells : ℕ} (setup : Setup) (gear : Gear) (content : Content) (e : ℕ) (home : Option ℕ)
+    → IsInStep setup gear cells content → e < setup.caps.engines → length (chain content (progress_list setup e)) < setup.caps.slots → home ≡ get_or gear.homes e None → IfSome home (λ g. is_off setup.device ≡ false → IsOpen setup content e g)
 open-home setup gear content e None s he slot is = tt
 open-home setup gear content e (Some g) s he slot is = λ on. record { engine = he; home = sym (is ∙ home-of setup gear content e s on he); slot = slot }
 
@@ -88,29 +91,29 @@ qualifies-is setup gear content e q g front b o hq hf =
     let home : group_in setup.groups e ≡ Some g = o.home in
     rw (b, le, lq, home, hf) (rw (le, home, ls) refl)
 
-pub within-groups : (setup : Setup) (gear : Gear) (content : Content) (e g i : ℕ) (front : Slot) → IsReady setup content → IsInStep setup gear content → (is_off setup.device ≡ false → IsOpen setup content e g) → slice_get (chain content i) 0 ≡ Some front → g < length gear.buffers.groups
-within-groups setup gear content e g i front r s group hf =
-    let on = awake setup content i front r hf in
+pub within-groups : {cells : ℕ} (setup : Setup) (gear : Gear) (content : Content) (e g i : ℕ) (front : Slot) → IsInStep setup gear cells content → (is_off setup.device ≡ false → IsOpen setup content e g) → slice_get (chain content i) 0 ≡ Some front → g < length gear.buffers.groups
+within-groups setup gear content e g i front s group hf =
+    let on = awake-front setup gear content i front s hf in
     let at = hit-at (λ (x : GroupConfig). has x.engines e) setup.groups zero_group g (group on).home in
     rw (ap (λ (b : Buffers). length b.groups) (s.buffers on)) at.0
 
 -- the same, by what the code asks
-pub not-served : (setup : Setup) (gear : Gear) (content : Content) (e g q : ℕ) (front : Slot) → IsReady setup content → IsInStep setup gear content → (is_off setup.device ≡ false → IsOpen setup content e g) → q < setup.caps.queues → slice_get (chain content q) 0 ≡ Some front → has (group_at setup.groups g).queues q ≡ false → false ≡ qualifies (work setup gear content []) e q
-not-served setup gear content e g q front r s group hq hf unserved =
-    let on = awake setup content q front r hf in
+pub not-served : {cells : ℕ} (setup : Setup) (gear : Gear) (content : Content) (e g q : ℕ) (front : Slot) → IsInStep setup gear cells content → (is_off setup.device ≡ false → IsOpen setup content e g) → q < setup.caps.queues → slice_get (chain content q) 0 ≡ Some front → has (group_at setup.groups g).queues q ≡ false → false ≡ qualifies (work setup gear content []) e q
+not-served setup gear content e g q front s group hq hf unserved =
+    let on = awake-front setup gear content q front s hf in
     sym (qualifies-is setup gear content e q g front (s.buffers on) (group on) hq hf ∙ rw unserved refl)
 
-pub served : (setup : Setup) (gear : Gear) (content : Content) (e g q : ℕ) (front : Slot) → IsReady setup content → IsInStep setup gear content → (is_off setup.device ≡ false → IsOpen setup content e g) → q < setup.caps.queues → slice_get (chain content q) 0 ≡ Some front → has (group_at setup.groups g).queues q ≡ true
+pub served : {cells : ℕ} (setup : Setup) (gear : Gear) (content : Content) (e g q : ℕ) (front : Slot) → IsInStep setup gear cells content → (is_off setup.device ≡ false → IsOpen setup content e g) → q < setup.caps.queues → slice_get (chain content q) 0 ≡ Some front → has (group_at setup.groups g).queues q ≡ true
     → (fits gear.buffers.total gear.buffers.groups gear.buffers.used g (need_of setup front.1) && (is_none (get_or gear.notes e None) || not (is_batch_of setup front.1))) ≡ qualifies (work setup gear content []) e q
-served setup gear content e g q front r s group hq hf is_served =
-    let on = awake setup content q front r hf in
+served setup gear content e g q front s group hq hf is_served =
+    let on = awake-front setup gear content q front s hf in
     sym (qualifies-is setup gear content e q g front (s.buffers on) (group on) hq hf ∙ rw is_served refl)
 
 -- and what is known of a queue that qualifies
-pub fits-taken : (setup : Setup) (gear : Gear) (content : Content) (e g q n : ℕ) (front : Slot) → IsReady setup content → IsInStep setup gear content → (is_off setup.device ≡ false → IsOpen setup content e g) → q < setup.caps.queues → slice_get (chain content q) 0 ≡ Some front → qualifies (work setup gear content []) e q ≡ true → n ≡ need_of setup front.1
+pub fits-taken : {cells : ℕ} (setup : Setup) (gear : Gear) (content : Content) (e g q n : ℕ) (front : Slot) → IsInStep setup gear cells content → (is_off setup.device ≡ false → IsOpen setup content e g) → q < setup.caps.queues → slice_get (chain content q) 0 ≡ Some front → qualifies (work setup gear content []) e q ≡ true → n ≡ need_of setup front.1
     → fits gear.buffers.total gear.buffers.groups gear.buffers.used g n ≡ true
-fits-taken setup gear content e g q n front r s group hq hf taking is =
-    let on = awake setup content q front r hf in
+fits-taken setup gear content e g q n front s group hq hf taking is =
+    let on = awake-front setup gear content q front s hf in
     let all = and_parts (has (group_at setup.groups g).queues q) _ (sym (qualifies-is setup gear content e q g front (s.buffers on) (group on) hq hf) ∙ taking) in
     let parts = and_parts (fits gear.buffers.total gear.buffers.groups gear.buffers.used g (need_of setup front.1)) _ all.1 in
     rw is parts.0
@@ -135,26 +138,25 @@ taken-more setup content e q cell entry len he hq =
       mine = rw (get_or-set_same mid p new [] in_mid) (load-append setup (chain mid p) ((cell, as_running entry) ∷ []) ∙ rw same (ap (λ (n : ℕ). load setup (chain content p) + n) (load-cons setup (cell, as_running entry) [] ∙ omega (arith, load-nil setup))));
     }
 
-in_step-taken : (setup : Setup) (gear after : Gear) (content : Content) (e q g n : ℕ) (cell : Cell) (entry : Entry) → IsReady setup content → IsInStep setup gear content → is_off setup.device ≡ false → IsOpen setup content e g → q < setup.caps.queues
-    → length after.notes ≡ length gear.notes → after.homes ≡ gear.homes → after.buffers ≡ record gear.buffers { used = set gear.buffers.used g (get_or gear.buffers.used g 0 + n) } → n ≡ need_of setup entry
-    → IsInStep setup after (pushed (without_front content q) (progress_list setup e) cell (as_running entry))
-in_step-taken setup gear after content e q g n cell entry r s on o hq notes homes buffers ne =
-    let more = raises-progress setup content _ e (need_of setup entry) (taken-more setup content e q cell entry r.lists o.engine hq) in
-    record {
-      notes = notes ∙ s.notes;
-      homes = λ x. homes ∙ s.homes x;
-      buffers = λ x. buffers ∙ rw (ne, s.buffers x) (taken-of setup content (pushed (without_front content q) (progress_list setup e) cell (as_running entry)) e (need_of setup entry) g o.engine r.groups (one-group setup content r on) o.home more);
-    }
-
--- the same, by what the calls leave one after another
-pub in_step-after : (setup : Setup) (gear took noted after : Gear) (content now : Content) (e q g n : ℕ) (cell : Cell) (entry : Entry) (p : ℕ) → IsReady setup content → IsInStep setup gear content → (is_off setup.device ≡ false → IsOpen setup content e g) → q < setup.caps.queues → slice_get (chain content q) 0 ≡ Some (cell, entry) → p ≡ progress_list setup e
-    → now ≡ pushed (without_front content q) p cell (as_running entry) → n ≡ need_of setup entry
-    → took ≡ record gear { buffers = record gear.buffers { used = set gear.buffers.used g (get_or gear.buffers.used g 0 + n) } } → noted ≡ record took { notes = cond (is_batch_of setup entry) (with_note took.notes e (Some (opened_note entry))) took.notes } → after ≡ noted
-    → IsInStep setup after now
-in_step-after setup gear took noted after content now e q g n cell entry p r s group hq hf same is ne te de ae =
-    let on : is_off setup.device ≡ false = awake setup content q (cell, entry) r hf in
-    let taken_is : now ≡ pushed (without_front content q) (progress_list setup e) cell (as_running entry) = is ∙ ap (λ (i : ℕ). pushed (without_front content q) i cell (as_running entry)) same in
-    rw (ae, de, te, taken_is) (in_step-taken setup gear (record gear { buffers = record gear.buffers { used = set gear.buffers.used g (get_or gear.buffers.used g 0 + n) }; notes = cond (is_batch_of setup entry) (with_note gear.notes e (Some (opened_note entry))) gear.notes }) content e q g n cell entry r s on (group on) hq (length-opened (is_batch_of setup entry) gear.notes e (Some (opened_note entry))) refl refl ne)
+-- by what the calls leave one after another
+pub in_step-after : {cells more : ℕ} (setup : Setup) (gear took noted after : Gear) (content now : Content) (e q g n : ℕ) (cell : Cell) (entry : Entry) (p : ℕ)
+    → IsInStep setup gear cells content → (is_off setup.device ≡ false → IsOpen setup content e g) → q < setup.caps.queues
+    → slice_get (chain content q) 0 ≡ Some (cell, entry) → p ≡ progress_list setup e
+    → now ≡ pushed (without_front content q) p cell (as_running entry) → more ≡ cells → n ≡ need_of setup entry
+    → took ≡ record gear { buffers = record gear.buffers { used = set gear.buffers.used g (get_or gear.buffers.used g 0 + n) } }
+    → noted ≡ record took { notes = cond (is_batch_of setup entry) (with_note took.notes e (Some (opened_note entry))) took.notes }
+    → after ≡ noted → IsInStep setup after more now
+in_step-after setup gear took noted after content now e q g n cell entry p s group hq hf same is kept ne te de ae =
+    let on : is_off setup.device ≡ false = awake-front setup gear content q (cell, entry) s hf in
+    let o = group on in
+    let taken : Content = pushed (without_front content q) (progress_list setup e) cell (as_running entry) in
+    let taken_is : now ≡ taken = is ∙ ap (λ (i : ℕ). pushed (without_front content q) i cell (as_running entry)) same in
+    let raises = raises-progress setup content taken e (need_of setup entry) (taken-more setup content e q cell entry s.store.lists o.engine hq) in
+    rw (ae, de, te, taken_is, ne)
+    (in_step-moved setup gear _ content taken s on kept
+    (length-pushed (without_front content q) (progress_list setup e) cell (as_running entry) ∙ length-set content q (drop 1 (chain content q)))
+    (length-opened (is_batch_of setup entry) gear.notes e (Some (opened_note entry))) refl
+    (rw (s.buffers on) (taken-of setup content taken e (need_of setup entry) g o.engine s.queues.groups (one-group setup gear content s on) o.home raises)))
 
 -- ---- the queue that is chosen
 

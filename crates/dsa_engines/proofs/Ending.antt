@@ -13,24 +13,24 @@ use Rattle.dsa_book.specs.declared.fate.FateRow.{FateRow}
 use Rattle.dsa_book.specs.declared.fate.Fate.TheVariants.{Completed}
 use Rattle.dsa_book.specs.State.{Setup, need_of, held_by, is_batch_of, is_ticket}
 use Rattle.dsa_book.specs.Work.{with_note, running_on, is_unfinished, last_status, note_after, finish}
-use Rattle.dsa_engines.specs.Engines.{Gear, work, lists_alone, IsInStep, IsReady, given, Holds}
+use Rattle.dsa_engines.specs.Engines.{Gear, work, lists_alone, IsInStep, given, Holds}
 use Rattle.dsa_engines.proofs.Finding.{RunsAt}
-use Rattle.dsa_engines.proofs.Leaving.{holds-left, in_step-left, leaving-on}
+use Rattle.dsa_engines.proofs.Leaving.{holds-left, in_step-left, is-leaving}
 
 -- one that runs holds what it needs
 held-need : (setup : Setup) (entry : Entry) → entry.running ≡ true → held_by setup entry ≡ need_of setup entry
 held-need setup entry running = ap (λ (b : Bool). cond {A = ℕ} b (need_of setup entry) 0) running
 
-pub holds-need : (setup : Setup) (gear : Gear) (content : Content) (e n : ℕ) (home : Option ℕ) (cell : Cell) (entry : Entry) → uses content cell ≤ 1 → IsReady setup content → IsInStep setup gear content → RunsAt setup content e cell entry → home ≡ get_or gear.homes e None → n ≡ need_of setup entry → Holds home n gear.buffers
-holds-need setup gear content e n home cell entry once r s at he ne =
-    rw (he, ne, ← held-need setup entry at.running) (holds-left setup gear content e at.on.list at.on.place cell entry (leaving-on setup gear content e cell entry r s once at.engine at.on) at.engine at.on.mine)
+pub holds-need : {cells : ℕ} (setup : Setup) (gear : Gear) (content : Content) (e n : ℕ) (home : Option ℕ) (cell : Cell) (entry : Entry) → uses content cell ≤ 1 → IsInStep setup gear cells content → RunsAt setup content e cell entry → home ≡ get_or gear.homes e None → n ≡ need_of setup entry → Holds home n gear.buffers
+holds-need setup gear content e n home cell entry once s at he ne =
+    rw (he, ne, ← held-need setup entry at.running) (holds-left setup gear content e at.on.list at.on.place cell entry (is-leaving setup gear content at.on.list at.on.place cell entry s once at.on.stands) at.engine at.on.mine)
 
-pub in_step-ended : (setup : Setup) (gear gave after : Gear) (content now : Content) (e n : ℕ) (home : Option ℕ) (cell : Cell) (entry : Entry) (new : Option BatchNote) → uses content cell ≤ 1 → IsReady setup content → IsInStep setup gear content → RunsAt setup content e cell entry → home ≡ get_or gear.homes e None → n ≡ need_of setup entry
+pub in_step-ended : {cells more : ℕ} (setup : Setup) (gear gave after : Gear) (content now : Content) (e n : ℕ) (home : Option ℕ) (cell : Cell) (entry : Entry) (new : Option BatchNote) → more ≡ cells → uses content cell ≤ 1 → IsInStep setup gear cells content → RunsAt setup content e cell entry → home ≡ get_or gear.homes e None → n ≡ need_of setup entry
     → gave ≡ record gear { buffers = given home n gear.buffers } → after ≡ record gave { notes = with_note gave.notes e new } → now ≡ unlinked content cell
-    → IsInStep setup after now
-in_step-ended setup gear gave after content now e n home cell entry new once r s at he ne ge ae is =
+    → IsInStep setup after more now
+in_step-ended setup gear gave after content now e n home cell entry new same once s at he ne ge ae is =
     rw (ae, ge, is, he, ne, ← held-need setup entry at.running)
-    (in_step-left setup gear content e at.on.list at.on.place cell entry (with_note gear.notes e new) (leaving-on setup gear content e cell entry r s once at.engine at.on) at.engine at.on.mine (length-set gear.notes e new))
+    (in_step-left setup gear content e at.on.list at.on.place cell entry (with_note gear.notes e new) (is-leaving setup gear content at.on.list at.on.place cell entry s once at.on.stands) same at.engine at.on.mine (length-set gear.notes e new))
 
 -- the step, by what the calls answer one after another
 

@@ -13,13 +13,14 @@ use Rattle.dsa_regs.specs.Config.{zero_group, is_in_two, groups_table, total_siz
 use Rattle.dsa_store.specs.Content.{Content}
 use Rattle.dsa_book.specs.State.{Setup, is_off}
 use Rattle.dsa_book.specs.Work.{group_in}
-use Rattle.dsa_engines.specs.Engines.{IsReady, homes_of}
+use Rattle.dsa_engines.specs.Engines.{Gear, IsInStep, homes_of}
 use Rattle.dsa_engines.proofs.Used.{EachInOneGroup}
 
 -- while the device is not Off each of its engines is of one group at most
-pub one-group : (setup : Setup) (content : Content) → IsReady setup content → is_off setup.device ≡ false → EachInOneGroup setup
-one-group setup content r on e g he hg has_e =
-    let off = no-row (groups_table setup.caps (total_size setup.configs) setup.groups) (r.checked on) in
+pub one-group : {cells : ℕ} (setup : Setup) (gear : Gear) (content : Content) → IsInStep setup gear cells content
+    → is_off setup.device ≡ false → EachInOneGroup setup
+one-group setup gear content s on e g he hg has_e =
+    let off = no-row (groups_table setup.caps (total_size setup.configs) setup.groups) (s.checked on) in
     let two : is_in_two (λ x. x.engines) setup.groups setup.caps.engines ≡ false = (or_parts (is_in_two (λ x. x.queues) setup.groups setup.caps.queues) _ off.1.1.0).1 in
     let low : nat_lt 1 (count_by (λ (x : GroupConfig). has x.engines e) setup.groups) ≡ false = numbers_below-miss (λ k. nat_lt 1 (count_by (λ (x : GroupConfig). has x.engines k) setup.groups)) setup.caps.engines e two he in
     only-position (λ (x : GroupConfig). has x.engines e) setup.groups g zero_group (grind (arith, low)) hg has_e

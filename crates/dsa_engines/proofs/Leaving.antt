@@ -1,7 +1,6 @@
 -- What an entry leaves that is taken out of a list.
-use Rattle.std.proofs.Common.{◌≡◌, ℕ, zero, suc, ◌+◌, ◌<◌, ◌≤◌, Bool, true, false, cond, List, ◌∷◌, length, get_or, Option, None, refl, sym, ◌∙◌, ap, subst, inl, inr, arith, []}
+use Rattle.std.proofs.Common.{◌≡◌, ℕ, zero, suc, ◌+◌, ◌<◌, ◌≤◌, Bool, true, false, cond, List, ◌∷◌, length, get_or, Option, None, refl, sym, ap, subst, inl, inr, arith, []}
 use Rattle.std.specs.List.{remove}
-use Rattle.std.proofs.lemmas.Bool.{cases_Bool}
 use Rattle.std.proofs.lemmas.List.{get_or-set_same, get_or-set_other, length-set}
 use Rattle.dsa_regs.specs.declared.layout.ListUse.{ListUse}
 use Rattle.dsa_regs.specs.declared.layout.ListUse.TheVariants.{Queue, Progress, Members}
@@ -10,50 +9,34 @@ use Rattle.dsa_store.specs.declared.entry.Cell.{Cell}
 use Rattle.dsa_store.specs.declared.entry.Entry.{Entry}
 use Rattle.dsa_store.specs.Content.{Slot, Content, chain, uses, unlinked, StandsAt}
 use Rattle.dsa_store.proofs.Finding.{unlinked-at}
-use Rattle.dsa_store.proofs.Lists.{length-le-held}
+use Rattle.dsa_store.proofs.Lists.{length-unlinked}
+use Rattle.dsa_store.proofs.Steps.{chain-within}
 use Rattle.dsa_book.specs.declared.note.BatchNote.{BatchNote}
 use Rattle.dsa_book.specs.State.{Setup, is_off, held_by, is_batch_of}
-use Rattle.dsa_engines.specs.Engines.{Gear, given, Holds, IsInStep, IsReady, MayRelease, noteless, removed}
+use Rattle.dsa_engines.specs.Engines.{Gear, given, Holds, IsInStep, MayRelease, noteless, removed}
 use Rattle.dsa_engines.proofs.Homes.{one-group}
 use Rattle.dsa_engines.proofs.Dispatching.{home-of}
-use Rattle.dsa_engines.proofs.Keeping.{in_step-queue}
-use Rattle.dsa_engines.proofs.Used.{EachInOneGroup, load, HoldsMore, RaisesOne, raises-progress, raises-members, GivesBack, gives-back, load-cons}
-use Rattle.dsa_engines.proofs.Finding.{IsMine, StandsOn}
+use Rattle.dsa_engines.proofs.Keeping.{awake, in_step-moved, in_step-queue}
+use Rattle.dsa_engines.proofs.Used.{load, HoldsMore, RaisesOne, raises-progress, raises-members, GivesBack, gives-back, load-cons}
+use Rattle.dsa_engines.proofs.Finding.{IsMine}
 
--- the entry is the k-th of list i of a device that is not Off, with what its engines keep in step
-pub record IsLeaving (setup : Setup) (gear : Gear) (content : Content) (i k : ℕ) (cell : Cell) (entry : Entry) : Type 0 where
-  pub on : is_off setup.device ≡ false
-  pub groups : length setup.groups ≡ setup.caps.groups
-  pub alone : EachInOneGroup setup
-  pub in_step : IsInStep setup gear content
+-- the entry is the k-th of list i of a store that is in step
+pub record IsLeaving (setup : Setup) (gear : Gear) (cells : ℕ) (content : Content) (i k : ℕ) (cell : Cell) (entry : Entry) : Type 0 where
+  pub in_step : IsInStep setup gear cells content
   pub once : uses content cell ≤ 1
-  pub inside : i < length content
   pub stands : StandsAt content i k cell entry
 
--- while the device is Off nothing stands in a list
-pub awake-at : (setup : Setup) (content : Content) (i k : ℕ) → IsReady setup content → k < length (chain content i)
-    → is_off setup.device ≡ false
-awake-at setup content i k r h =
-    elim (cases_Bool (is_off setup.device)) [
-      | inl off ↦ absurd (omega (arith, r.idle off, length-le-held content i, h))
-      | inr on ↦ on
-    ]
+-- so the device is not Off
+leaving-awake : {cells : ℕ} (setup : Setup) (gear : Gear) (content : Content) (i k : ℕ) (cell : Cell) (entry : Entry)
+    → IsLeaving setup gear cells content i k cell entry → is_off setup.device ≡ false
+leaving-awake setup gear content i k cell entry l =
+    let within = l.stands.within in
+    awake setup gear content i l.in_step (omega (arith, within))
 
--- by a first content of the same device
-pub is-leaving : (setup : Setup) (gear : Gear) (first content : Content) (i j k : ℕ) (cell : Cell) (entry : Entry)
-    → IsReady setup first → j < length (chain first i) → IsInStep setup gear content → uses content cell ≤ 1
-    → i < length content → StandsAt content i k cell entry → IsLeaving setup gear content i k cell entry
-is-leaving setup gear first content i j k cell entry r within s once inside at =
-    let on = awake-at setup first i j r within in
-    record { on = on; groups = r.groups; alone = one-group setup first r on; in_step = s; once = once; inside = inside; stands = at }
-
--- one that stands in a list of an engine
-pub leaving-on : (setup : Setup) (gear : Gear) (content : Content) (e : ℕ) (cell : Cell) (entry : Entry)
-    → IsReady setup content → IsInStep setup gear content → uses content cell ≤ 1 → e < setup.caps.engines
-    → (at : StandsOn setup content e cell entry) → IsLeaving setup gear content at.list at.place cell entry
-leaving-on setup gear content e cell entry r s once he at =
-    is-leaving setup gear content content at.list at.place at.place cell entry r at.stands.within s once
-    (elim at.mine [ inl p ↦ omega (arith, p, r.lists, he) | inr m ↦ omega (arith, m, r.lists, he) ]) at.stands
+pub is-leaving : {cells : ℕ} (setup : Setup) (gear : Gear) (content : Content) (i k : ℕ) (cell : Cell) (entry : Entry)
+    → IsInStep setup gear cells content → uses content cell ≤ 1 → StandsAt content i k cell entry
+    → IsLeaving setup gear cells content i k cell entry
+is-leaving setup gear content i k cell entry s once at = record { in_step = s; once = once; stands = at }
 
 -- a list holds less by what the entry does
 load-remove : (setup : Setup) (l : List Slot) (k : ℕ) (s : Slot) → k < length l → get_or l k s ≡ s
@@ -66,15 +49,15 @@ load-remove setup (x ∷ l) (suc k) s h e =
     omega (arith, load-cons setup x l, load-cons setup x (remove l k), load-remove setup l k s (omega arith) e)
 
 -- before the entry left, its list held what it holds more
-left-less : (setup : Setup) (gear : Gear) (content : Content) (e i k : ℕ) (cell : Cell) (entry : Entry)
-    → IsLeaving setup gear content i k cell entry → e < setup.caps.engines
+left-less : {cells : ℕ} (setup : Setup) (gear : Gear) (content : Content) (e i k : ℕ) (cell : Cell) (entry : Entry)
+    → IsLeaving setup gear cells content i k cell entry → e < setup.caps.engines
     → HoldsMore setup (unlinked content cell) content e i (held_by setup entry)
 left-less setup gear content e i k cell entry l he =
     let is = unlinked-at content i k cell entry l.once l.stands in
     record {
       engine = he;
       others = λ j low ne. rw is (sym (get_or-set_other content i j (remove (chain content i) k) [] ne));
-      mine = rw (is, get_or-set_same content i (remove (chain content i) k) [] l.inside) (load-remove setup (chain content i) k (cell, entry) l.stands.within l.stands.slot);
+      mine = rw (is, get_or-set_same content i (remove (chain content i) k) [] (chain-within content i k l.stands.within)) (load-remove setup (chain content i) k (cell, entry) l.stands.within l.stands.slot);
     }
 
 -- either of its two lists
@@ -84,35 +67,35 @@ raises-list setup before after e i n (inl is) h = raises-progress setup before a
 raises-list setup before after e i n (inr is) h = raises-members setup before after e n (subst (λ (j : ℕ). HoldsMore setup before after e j n) is h)
 
 -- the group of its engine gives back what it held
-gives : (setup : Setup) (gear : Gear) (content : Content) (e i k : ℕ) (cell : Cell) (entry : Entry)
-    → IsLeaving setup gear content i k cell entry → e < setup.caps.engines → IsMine setup e i
+gives : {cells : ℕ} (setup : Setup) (gear : Gear) (content : Content) (e i k : ℕ) (cell : Cell) (entry : Entry)
+    → IsLeaving setup gear cells content i k cell entry → e < setup.caps.engines → IsMine setup e i
     → GivesBack setup content (unlinked content cell) e (held_by setup entry)
 gives setup gear content e i k cell entry l he is =
-    gives-back setup content (unlinked content cell) e (held_by setup entry) he l.groups l.alone (raises-list setup (unlinked content cell) content e i (held_by setup entry) is (left-less setup gear content e i k cell entry l he))
+    gives-back setup content (unlinked content cell) e (held_by setup entry) he l.in_step.queues.groups (one-group setup gear content l.in_step (leaving-awake setup gear content i k cell entry l)) (raises-list setup (unlinked content cell) content e i (held_by setup entry) is (left-less setup gear content e i k cell entry l he))
 
 -- and holds as much before
-pub holds-left : (setup : Setup) (gear : Gear) (content : Content) (e i k : ℕ) (cell : Cell) (entry : Entry)
-    → IsLeaving setup gear content i k cell entry → e < setup.caps.engines → IsMine setup e i
+pub holds-left : {cells : ℕ} (setup : Setup) (gear : Gear) (content : Content) (e i k : ℕ) (cell : Cell) (entry : Entry)
+    → IsLeaving setup gear cells content i k cell entry → e < setup.caps.engines → IsMine setup e i
     → Holds (get_or gear.homes e None) (held_by setup entry) gear.buffers
 holds-left setup gear content e i k cell entry l he is =
-    rw (home-of setup gear content e l.in_step l.on he, l.in_step.buffers l.on) (gives setup gear content e i k cell entry l he is).holds
+    let on = leaving-awake setup gear content i k cell entry l in
+    rw (home-of setup gear content e l.in_step on he, l.in_step.buffers on) (gives setup gear content e i k cell entry l he is).holds
 
--- and then the kept numbers agree again
-pub in_step-left : (setup : Setup) (gear : Gear) (content : Content) (e i k : ℕ) (cell : Cell) (entry : Entry) (notes : List (Option BatchNote))
-    → IsLeaving setup gear content i k cell entry → e < setup.caps.engines → IsMine setup e i
+-- and then all is in step again
+pub in_step-left : {cells more : ℕ} (setup : Setup) (gear : Gear) (content : Content) (e i k : ℕ) (cell : Cell) (entry : Entry) (notes : List (Option BatchNote))
+    → IsLeaving setup gear cells content i k cell entry → more ≡ cells → e < setup.caps.engines → IsMine setup e i
     → length notes ≡ length gear.notes
-    → IsInStep setup (record gear { notes = notes; buffers = given (get_or gear.homes e None) (held_by setup entry) gear.buffers }) (unlinked content cell)
-in_step-left setup gear content e i k cell entry notes l he is len = record {
-  notes = len ∙ l.in_step.notes;
-  homes = l.in_step.homes;
-  buffers = λ x. rw (home-of setup gear content e l.in_step l.on he, l.in_step.buffers l.on) (gives setup gear content e i k cell entry l he is).given;
-}
+    → IsInStep setup (record gear { notes = notes; buffers = given (get_or gear.homes e None) (held_by setup entry) gear.buffers }) more (unlinked content cell)
+in_step-left setup gear content e i k cell entry notes l same he is len =
+    let on = leaving-awake setup gear content i k cell entry l in
+    in_step-moved setup gear _ content (unlinked content cell) l.in_step on same (length-unlinked content cell) len refl
+    (rw (home-of setup gear content e l.in_step on he, l.in_step.buffers on) (gives setup gear content e i k cell entry l he is).given)
 
 -- ---- a removal
 
 -- what the list is for says whose group
-pub may-release : (setup : Setup) (gear : Gear) (content : Content) (from : ListUse) (i k : ℕ) (cell : Cell) (entry : Entry)
-    → IsLeaving setup gear content i k cell entry → HasList setup.caps from → list_number setup.caps from ≡ i
+pub may-release : {cells : ℕ} (setup : Setup) (gear : Gear) (content : Content) (from : ListUse) (i k : ℕ) (cell : Cell) (entry : Entry)
+    → IsLeaving setup gear cells content i k cell entry → HasList setup.caps from → list_number setup.caps from ≡ i
     → MayRelease setup gear (engine_of from) entry
 may-release setup gear content (Queue q) i k cell entry l has at = tt
 may-release setup gear content (Progress e) i k cell entry l has at = holds-left setup gear content e i k cell entry l has (inl (sym at))
@@ -126,15 +109,18 @@ length-noteless (Queue q) true notes = refl
 length-noteless (Progress e) true notes = length-set notes e None
 length-noteless (Members e) true notes = refl
 
--- what the engines keep agrees with the lists again
-pub in_step-removed : (setup : Setup) (gear : Gear) (content : Content) (from : ListUse) (i k : ℕ) (cell : Cell) (entry : Entry)
-    → IsLeaving setup gear content i k cell entry → HasList setup.caps from → list_number setup.caps from ≡ i
-    → IsInStep setup (removed setup from entry gear) (unlinked content cell)
-in_step-removed setup gear content (Queue q) i k cell entry l has at =
+-- after it all is in step again
+pub in_step-removed : {cells more : ℕ} (setup : Setup) (gear : Gear) (content : Content) (from : ListUse) (i k : ℕ) (cell : Cell) (entry : Entry)
+    → IsLeaving setup gear cells content i k cell entry → more ≡ cells → HasList setup.caps from → list_number setup.caps from ≡ i
+    → IsInStep setup (removed setup from entry gear) more (unlinked content cell)
+in_step-removed setup gear content (Queue q) i k cell entry l same has at =
+    let on = leaving-awake setup gear content i k cell entry l in
     let low : i < setup.caps.queues = omega (arith, has, at) in
-    let s : IsInStep setup gear (unlinked content cell) = rw (unlinked-at content i k cell entry l.once l.stands) (in_step-queue setup gear content i (remove (chain content i) k) l.in_step low) in
-    record { notes = length-noteless (Queue q) (is_batch_of setup entry) gear.notes ∙ s.notes; homes = s.homes; buffers = s.buffers }
-in_step-removed setup gear content (Progress e) i k cell entry l has at =
-    in_step-left setup gear content e i k cell entry _ l has (inl (sym at)) (length-noteless (Progress e) (is_batch_of setup entry) gear.notes)
-in_step-removed setup gear content (Members e) i k cell entry l has at =
-    in_step-left setup gear content e i k cell entry _ l has (inr (sym at)) (length-noteless (Members e) (is_batch_of setup entry) gear.notes)
+    let s = in_step-queue setup gear content i (remove (chain content i) k) l.in_step on same low in
+    in_step-moved setup gear _ content (unlinked content cell) l.in_step on same (length-unlinked content cell)
+    (length-noteless (Queue q) (is_batch_of setup entry) gear.notes) refl
+    (rw (unlinked-at content i k cell entry l.once l.stands) (s.buffers on))
+in_step-removed setup gear content (Progress e) i k cell entry l same has at =
+    in_step-left setup gear content e i k cell entry _ l same has (inl (sym at)) (length-noteless (Progress e) (is_batch_of setup entry) gear.notes)
+in_step-removed setup gear content (Members e) i k cell entry l same has at =
+    in_step-left setup gear content e i k cell entry _ l same has (inr (sym at)) (length-noteless (Members e) (is_batch_of setup entry) gear.notes)

@@ -15,16 +15,17 @@ use Rattle.dsa_store.specs.declared.entry.Cell.{Cell}
 use Rattle.dsa_store.specs.declared.entry.Entry.{Entry}
 use Rattle.dsa_store.specs.Content.{Slot, Content, is_cell, chain, count, uses, replaced, emptied}
 use Rattle.dsa_store.proofs.Places.{count-cons, is_cell-itself}
-use Rattle.dsa_store.proofs.Lists.{count-le-uses, length-le-held}
+use Rattle.dsa_store.proofs.Lists.{count-le-uses}
 use Rattle.dsa_store.proofs.Finding.{replaced-at}
 use Rattle.dsa_book.specs.declared.note.BatchNote.{BatchNote}
 use Rattle.dsa_book.specs.declared.answer.StartAnswer.TheVariants.{Started, NoBuffers}
 use Rattle.dsa_book.specs.declared.fate.FateRow.{FateRow}
 use Rattle.dsa_book.specs.State.{Setup, is_off, need_of}
 use Rattle.dsa_book.specs.Work.{member_list, members, with_first_run, run, as_running, has_room, group_in, start}
-use Rattle.dsa_engines.specs.Engines.{Gear, work, lists_alone, buffers_of, Holds, IsInStep, IsReady, WaitInOrder}
+use Rattle.dsa_engines.specs.Engines.{Gear, work, lists_alone, buffers_of, Holds, IsInStep, WaitInOrder}
 use Rattle.dsa_engines.proofs.Homes.{one-group}
 use Rattle.dsa_engines.proofs.Dispatching.{home-of}
+use Rattle.dsa_engines.proofs.Keeping.{awake, in_step-moved}
 use Rattle.dsa_engines.proofs.Used.{load, load-nil, load-cons, HoldsMore, none-load, raises-members, gives-back, given-none, taken-of}
 
 abbrev pub waits : Slot → Bool
@@ -105,13 +106,11 @@ members-are setup content e h =
     rw lt refl
 
 -- while the device is Off no member waits
-pub awake-waiting : (setup : Setup) (content : Content) (i : ℕ) (s : Slot) → IsReady setup content → find waits (chain content i) ≡ Some s → is_off setup.device ≡ false
-awake-waiting setup content i s r h =
-    let w = waits-in (chain content i) s h in
-    elim (cases_Bool (is_off setup.device)) [
-      | inl off ↦ absurd (omega (arith, r.idle off, length-le-held content i, w.within))
-      | inr on ↦ on
-    ]
+pub awake-waiting : {cells : ℕ} (setup : Setup) (gear : Gear) (content : Content) (i : ℕ) (x : Slot)
+    → IsInStep setup gear cells content → find waits (chain content i) ≡ Some x → is_off setup.device ≡ false
+awake-waiting setup gear content i x s h =
+    let within = (waits-in (chain content i) x h).within in
+    awake setup gear content i s (omega (arith, within))
 
 -- the member that runs now, as the store leaves it
 pub started-is : (setup : Setup) (content : Content) (i : ℕ) (cell : Cell) (entry : Entry) → uses content cell ≤ 1 → find waits (chain content i) ≡ Some (cell, entry) → replaced content cell (as_running entry) ≡ set content i (with_first_run (chain content i))
@@ -130,7 +129,7 @@ started-more setup content e s len he h =
 
 -- ---- room for its buffers
 
-pub holds-none : (setup : Setup) (gear : Gear) (content : Content) (e : ℕ) → IsInStep setup gear content → is_off setup.device ≡ false → e < setup.caps.engines → Holds (get_or gear.homes e None) 0 gear.buffers
+pub holds-none : {cells : ℕ} (setup : Setup) (gear : Gear) (content : Content) (e : ℕ) → IsInStep setup gear cells content → is_off setup.device ≡ false → e < setup.caps.engines → Holds (get_or gear.homes e None) 0 gear.buffers
 holds-none setup gear content e s on he =
     rw (home-of setup gear content e s on he, s.buffers on) (go (group_in setup.groups e) refl)
   where
@@ -138,15 +137,16 @@ holds-none setup gear content e s on he =
     go None is = tt
     go (Some g) is = (let at = hit-at (λ (x : GroupConfig). has x.engines e) setup.groups zero_group g is in at.0, omega arith)
 
-pub room-is : (setup : Setup) (gear : Gear) (content : Content) (fates : List FateRow) (e n : ℕ) → IsInStep setup gear content → is_off setup.device ≡ false → e < setup.caps.engines → has_room (work setup gear content fates) e n ≡ passes (λ g. fits gear.buffers.total gear.buffers.groups gear.buffers.used g n) (get_or gear.homes e None)
+pub room-is : {cells : ℕ} (setup : Setup) (gear : Gear) (content : Content) (fates : List FateRow) (e n : ℕ) → IsInStep setup gear cells content → is_off setup.device ≡ false → e < setup.caps.engines → has_room (work setup gear content fates) e n ≡ passes (λ g. fits gear.buffers.total gear.buffers.groups gear.buffers.used g n) (get_or gear.homes e None)
 room-is setup gear content fates e n s on he = rw (home-of setup gear content e s on he, s.buffers on) refl
 
 -- ---- no buffers change
 
-pub buffers-same : (setup : Setup) (before after : Content) (e : ℕ) → IsReady setup before → is_off setup.device ≡ false → HoldsMore setup after before e (member_list setup e) 0 → buffers_of setup before ≡ buffers_of setup after
-buffers-same setup before after e r on h =
-    let back = gives-back setup before after e 0 h.engine r.groups (one-group setup before r on) (raises-members setup after before e 0 h) in
-    sym (given-none (group_in setup.groups e) (buffers_of setup before)) ∙ back.given
+pub buffers-same : {cells : ℕ} (setup : Setup) (gear : Gear) (before after : Content) (e : ℕ) → IsInStep setup gear cells before
+    → is_off setup.device ≡ false → HoldsMore setup after before e (member_list setup e) 0 → gear.buffers ≡ buffers_of setup after
+buffers-same setup gear before after e s on h =
+    let back = gives-back setup before after e 0 h.engine s.queues.groups (one-group setup gear before s on) (raises-members setup after before e 0 h) in
+    s.buffers on ∙ sym (given-none (group_in setup.groups e) (buffers_of setup before)) ∙ back.given
 
 -- ---- an abandon: the first that waits stands in front, so none runs
 
@@ -192,57 +192,58 @@ emptied-less setup content e len he none = record {
 at-front : (fenced : Bool) (front : Bool) → fenced ≡ true → false ≡ (fenced && not front) → front ≡ true
 at-front fenced front f h = grind (arith, common_steps, f, h)
 
-pub in_step-abandoned : (setup : Setup) (gear after : Gear) (content now : Content) (e i : ℕ) (cell : Cell) (entry : Entry) (new : Option BatchNote) (fails : Bool) → ((c : Cell) → uses content c ≤ 1) → IsReady setup content → IsInStep setup gear content → e < setup.caps.engines → i ≡ member_list setup e → find waits (chain content i) ≡ Some (cell, entry) → WaitInOrder (members (lists_alone setup content) e)
-    → false ≡ (is_fenced entry.desc && not (passes (is_cell cell) (slice_get (chain content i) 0))) → true ≡ (is_fenced entry.desc && fails) → after ≡ record gear { notes = set gear.notes e new } → now ≡ emptied content i
-    → IsInStep setup after now
-in_step-abandoned setup gear after content now e i cell entry new fails once r s he ie h order fence failing ae is =
-    let on = awake-waiting setup content i (cell, entry) r h in
+pub in_step-abandoned : {cells more : ℕ} (setup : Setup) (gear after : Gear) (content now : Content) (e i : ℕ) (cell : Cell) (entry : Entry) (new : Option BatchNote) (fails : Bool)
+    → more ≡ cells → ((c : Cell) → uses content c ≤ 1) → IsInStep setup gear cells content → e < setup.caps.engines → i ≡ member_list setup e
+    → find waits (chain content i) ≡ Some (cell, entry) → WaitInOrder (members (lists_alone setup content) e)
+    → false ≡ (is_fenced entry.desc && not (passes (is_cell cell) (slice_get (chain content i) 0))) → true ≡ (is_fenced entry.desc && fails)
+    → after ≡ record gear { notes = set gear.notes e new } → now ≡ emptied content i → IsInStep setup after more now
+in_step-abandoned setup gear after content now e i cell entry new fails kept once s he ie h order fence failing ae is =
+    let on = awake-waiting setup gear content i (cell, entry) s h in
     let fenced = (and_parts (is_fenced entry.desc) fails (sym failing)).0 in
     let front = at-front (is_fenced entry.desc) (passes (is_cell cell) (slice_get (chain content i) 0)) fenced fence in
     let low : count cell (chain content i) ≤ 1 = omega (arith, once cell, count-le-uses content i cell) in
     let ordered : WaitInOrder (chain content i) = rw (ie, ← members-are setup content e he) order in
     let none : load setup (chain content i) ≡ 0 = none-runs setup (chain content i) (cell, entry) low h front ordered in
-    let same = buffers-same setup content (emptied content (member_list setup e)) e r on (emptied-less setup content e r.lists he (subst (λ (j : ℕ). load setup (chain content j) ≡ 0) ie none)) in
-    rw (ae, is, ie) (record {
-      notes = length-set gear.notes e new ∙ s.notes;
-      homes = s.homes;
-      buffers = λ x. s.buffers x ∙ same;
-    })
+    let m : ℕ = member_list setup e in
+    rw (ae, is, ie)
+    (in_step-moved setup gear _ content (emptied content m) s on kept (length-set content m []) (length-set gear.notes e new) refl
+    (buffers-same setup gear content (emptied content m) e s on (emptied-less setup content e s.store.lists he (subst (λ (j : ℕ). load setup (chain content j) ≡ 0) ie none))))
 
-pub in_step-started : (setup : Setup) (gear after : Gear) (content now : Content) (e i g n : ℕ) (cell : Cell) (entry : Entry) → uses content cell ≤ 1 → IsReady setup content → IsInStep setup gear content → e < setup.caps.engines → i ≡ member_list setup e → find waits (chain content i) ≡ Some (cell, entry) → get_or gear.homes e None ≡ Some g → n ≡ need_of setup entry
-    → after ≡ record gear { buffers = record gear.buffers { used = set gear.buffers.used g (get_or gear.buffers.used g 0 + n) } } → now ≡ replaced content cell (as_running entry)
-    → IsInStep setup after now
-in_step-started setup gear after content now e i g n cell entry once r s he ie h home ne ae is =
-    let on = awake-waiting setup content i (cell, entry) r h in
+pub in_step-started : {cells more : ℕ} (setup : Setup) (gear after : Gear) (content now : Content) (e i g n : ℕ) (cell : Cell) (entry : Entry)
+    → more ≡ cells → uses content cell ≤ 1 → IsInStep setup gear cells content → e < setup.caps.engines → i ≡ member_list setup e
+    → find waits (chain content i) ≡ Some (cell, entry) → get_or gear.homes e None ≡ Some g → n ≡ need_of setup entry
+    → after ≡ record gear { buffers = record gear.buffers { used = set gear.buffers.used g (get_or gear.buffers.used g 0 + n) } }
+    → now ≡ replaced content cell (as_running entry) → IsInStep setup after more now
+in_step-started setup gear after content now e i g n cell entry kept once s he ie h home ne ae is =
+    let on = awake-waiting setup gear content i (cell, entry) s h in
     let found : find waits (chain content (member_list setup e)) ≡ Some (cell, entry) = subst (λ (j : ℕ). find waits (chain content j) ≡ Some (cell, entry)) ie h in
     let m : ℕ = member_list setup e in
-    let more = raises-members setup content (set content m (with_first_run (chain content m))) e (need_of setup entry) (started-more setup content e (cell, entry) r.lists he found) in
+    let ran : Content = set content m (with_first_run (chain content m)) in
+    let more = raises-members setup content ran e (need_of setup entry) (started-more setup content e (cell, entry) s.store.lists he found) in
     let group : group_in setup.groups e ≡ Some g = sym (home-of setup gear content e s on he) ∙ home in
-    rw (ae, is ∙ started-is setup content m cell entry once found) (record {
-      notes = s.notes;
-      homes = s.homes;
-      buffers = λ x. rw (ne, s.buffers x) (taken-of setup content (set content m (with_first_run (chain content m))) e (need_of setup entry) g he r.groups (one-group setup content r on) group more);
-    })
+    rw (ae, is ∙ started-is setup content m cell entry once found, ne)
+    (in_step-moved setup gear _ content ran s on kept (length-set content m (with_first_run (chain content m))) refl refl
+    (rw (s.buffers on) (taken-of setup content ran e (need_of setup entry) g he s.queues.groups (one-group setup gear content s on) group more)))
 
-pub start-refused : (setup : Setup) (gear : Gear) (content : Content) (fates : List FateRow) (e i n : ℕ) (cell : Cell) (entry : Entry) → IsReady setup content → IsInStep setup gear content → e < setup.caps.engines → i ≡ member_list setup e → find waits (chain content i) ≡ Some (cell, entry)
+pub start-refused : {cells : ℕ} (setup : Setup) (gear : Gear) (content : Content) (fates : List FateRow) (e i n : ℕ) (cell : Cell) (entry : Entry) → IsInStep setup gear cells content → e < setup.caps.engines → i ≡ member_list setup e → find waits (chain content i) ≡ Some (cell, entry)
     → false ≡ (is_fenced entry.desc && not (passes (is_cell cell) (slice_get (chain content i) 0))) → false ≡ (is_fenced entry.desc && passes (λ (note : BatchNote). note.failed) (get_or gear.notes e None)) → n ≡ need_of setup entry
     → passes (λ g. fits gear.buffers.total gear.buffers.groups gear.buffers.used g n) (get_or gear.homes e None) ≡ false
     → start (work setup gear content fates) e ≡ (NoBuffers, work setup gear content fates)
-start-refused setup gear content fates e i n cell entry r s he ie h fence failing ne no_room =
-    let on = awake-waiting setup content i (cell, entry) r h in
+start-refused setup gear content fates e i n cell entry s he ie h fence failing ne no_room =
+    let on = awake-waiting setup gear content i (cell, entry) s h in
     let found : find waits (chain content (member_list setup e)) ≡ Some (cell, entry) = subst (λ (j : ℕ). find waits (chain content j) ≡ Some (cell, entry)) ie h in
     let fence' : (is_fenced entry.desc && not (passes (is_cell cell) (slice_get (chain content (member_list setup e)) 0))) ≡ false = sym (subst (λ (j : ℕ). false ≡ (is_fenced entry.desc && not (passes (is_cell cell) (slice_get (chain content j) 0)))) ie fence) in
     let lt : nat_lt e setup.caps.engines ≡ true = lt-ltb _ _ he in
     let room : has_room (work setup gear content fates) e (need_of setup entry) ≡ false = room-is setup gear content fates e (need_of setup entry) s on he ∙ rw (← ne) no_room in
     rw (lt, found) (rw (lt, fence', sym failing, room) refl)
 
-pub start-done : (setup : Setup) (gear after : Gear) (content now : Content) (fates : List FateRow) (e i g n : ℕ) (cell : Cell) (entry : Entry) → uses content cell ≤ 1 → IsReady setup content → IsInStep setup gear content → e < setup.caps.engines → i ≡ member_list setup e → find waits (chain content i) ≡ Some (cell, entry)
+pub start-done : {cells : ℕ} (setup : Setup) (gear after : Gear) (content now : Content) (fates : List FateRow) (e i g n : ℕ) (cell : Cell) (entry : Entry) → uses content cell ≤ 1 → IsInStep setup gear cells content → e < setup.caps.engines → i ≡ member_list setup e → find waits (chain content i) ≡ Some (cell, entry)
     → false ≡ (is_fenced entry.desc && not (passes (is_cell cell) (slice_get (chain content i) 0))) → false ≡ (is_fenced entry.desc && passes (λ (note : BatchNote). note.failed) (get_or gear.notes e None)) → n ≡ need_of setup entry
     → get_or gear.homes e None ≡ Some g → fits gear.buffers.total gear.buffers.groups gear.buffers.used g n ≡ true
     → after ≡ record gear { buffers = record gear.buffers { used = set gear.buffers.used g (get_or gear.buffers.used g 0 + n) } } → now ≡ replaced content cell (as_running entry)
     → start (work setup gear content fates) e ≡ (Started (record { cell = cell; name = entry.name }), work setup after now fates)
-start-done setup gear after content now fates e i g n cell entry once r s he ie h fence failing ne home fitting ae is =
-    let on = awake-waiting setup content i (cell, entry) r h in
+start-done setup gear after content now fates e i g n cell entry once s he ie h fence failing ne home fitting ae is =
+    let on = awake-waiting setup gear content i (cell, entry) s h in
     let found : find waits (chain content (member_list setup e)) ≡ Some (cell, entry) = subst (λ (j : ℕ). find waits (chain content j) ≡ Some (cell, entry)) ie h in
     let fence' : (is_fenced entry.desc && not (passes (is_cell cell) (slice_get (chain content (member_list setup e)) 0))) ≡ false = sym (subst (λ (j : ℕ). false ≡ (is_fenced entry.desc && not (passes (is_cell cell) (slice_get (chain content j) 0)))) ie fence) in
     let lt : nat_lt e setup.caps.engines ≡ true = lt-ltb _ _ he in

@@ -1,15 +1,16 @@
 -- What the engines keep beside the lists, and how it agrees with them.
-use Rattle.std.specs.Prelude.{◌≡◌, ℕ, ◌-◌, ◌<◌, ◌≤◌, IsTrue, true, false, Bool, not, ◌&&◌, is_some, cond, List, ◌∷◌, length, map, filter, replicate, get_or, slice_index, slice_set, Option, Some, None, []}
+use Rattle.std.specs.Prelude.{◌≡◌, ℕ, ◌-◌, ◌<◌, ◌≤◌, true, false, Bool, not, ◌&&◌, is_some, cond, List, ◌∷◌, length, map, filter, replicate, get_or, slice_index, slice_set, Option, Some, None, []}
 use Rattle.dsa_base.specs.Rows.{passes}
 use Rattle.dsa_regs.specs.declared.Caps.{Caps}
 use Rattle.dsa_regs.specs.declared.layout.ListUse.{ListUse}
 use Rattle.dsa_regs.specs.declared.layout.ListUse.TheVariants.{Queue, Progress, Members}
-use Rattle.dsa_regs.specs.Caps.{check_caps, list_count, engine_of}
+use Rattle.dsa_regs.specs.Caps.{engine_of}
 use Rattle.dsa_store.specs.declared.entry.Entry.{Entry}
 use Rattle.dsa_regs.specs.Config.{check_device}
 use Rattle.dsa_base.specs.Numbers.{numbers_below}
 use Rattle.dsa_store.specs.Content.{Slot, Content, chain, held}
 use Rattle.dsa_buffers.specs.Buffers.{Buffers}
+use Rattle.dsa_queues.specs.Queues.{IsStoreFor, IsWhole}
 use Rattle.dsa_book.specs.declared.note.BatchNote.{BatchNote}
 use Rattle.dsa_book.specs.declared.fate.FateRow.{FateRow}
 use Rattle.dsa_book.specs.State.{Setup, Work, is_off, held_by, is_batch_of}
@@ -49,19 +50,18 @@ gear_at_first caps = record {
   homes = [];
 }
 
--- what the engines keep agrees with the set-up and with the lists
-pub record IsInStep (setup : Setup) (gear : Gear) (content : Content) : Type 0 where
+-- what queues, engines and store keep in step (profile)
+pub record IsInStep (setup : Setup) (gear : Gear) (cells : ℕ) (content : Content) : Type 0 where
+  -- the queues are whole, and the store is one for their device
+  pub queues : IsWhole setup
+  pub store : IsStoreFor setup.caps cells content
+  -- while the device is Off nothing is held, and else it has passed the check of Enable Device
+  pub idle : is_off setup.device ≡ true → held content ≡ 0
+  pub checked : is_off setup.device ≡ false → check_device setup.caps setup.configs setup.groups ≡ None
+  -- each engine has a note or none; while the device is not Off its group is kept, and so are the read buffers in use
   pub notes : length gear.notes ≡ setup.caps.engines
   pub homes : is_off setup.device ≡ false → gear.homes ≡ homes_of setup
   pub buffers : is_off setup.device ≡ false → gear.buffers ≡ buffers_of setup content
-
--- the set-up and the lists are those of a device: it is within the limits, its lists are as many as it has, nothing is held while it is Off, and else its groups have passed the check
-pub record IsReady (setup : Setup) (content : Content) : Type 0 where
-  pub caps : IsTrue (check_caps setup.caps)
-  pub lists : length content ≡ list_count setup.caps
-  pub groups : length setup.groups ≡ setup.caps.groups
-  pub idle : is_off setup.device ≡ true → held content ≡ 0
-  pub checked : is_off setup.device ≡ false → check_device setup.caps setup.configs setup.groups ≡ None
 
 abbrev pub is_running : Slot → Bool
 is_running slot = slot.1.running

@@ -6,6 +6,7 @@ ghost use Rattle.dsa_regs.specs.Caps.{check_caps};
 ghost use Rattle.dsa_regs.specs.Config.{check_device};
 ghost use Rattle.dsa_store.specs.Content.{Content, held};
 ghost use Rattle.dsa_book.specs.State.{opening_setup};
+ghost use Rattle.dsa_queues.specs.Queues.{IsStoreFor};
 ghost use Rattle.dsa_engines.specs.Engines.{IsInStep, gear_at_first, homes_of, buffers_at_rest, given, Holds};
 
 use arrayvec::ArrayVec;
@@ -47,7 +48,6 @@ fn no_notes(engines: u16) -> ArrayVec<Option<BatchNote>, MAX_ENGINES>
 
 // The group of each engine.
 fn homes(queues: &Queues) -> ArrayVec<Option<u16>, MAX_ENGINES>
-    requires { queues.now.caps.engines ≤ MAX_ENGINES }
     ensures { result.items ≡ homes_of queues.now }
 {
     let mut homes = ArrayVec::new();
@@ -62,7 +62,8 @@ impl Engines {
     pub fn new(caps: &Caps) -> Engines
         requires { IsTrue (check_caps caps.now) }
         ensures value { result ≡ gear_at_first caps.now }
-        ensures in_step { (content : Content) → IsInStep (opening_setup caps.now) result content }
+        ensures in_step { (cells : ℕ) (content : Content) → IsStoreFor caps.now cells content → held content ≡ 0
+            → IsInStep (opening_setup caps.now) result cells content }
     {
         Engines {
             notes: no_notes(caps.engines),
@@ -74,11 +75,11 @@ impl Engines {
 
     /// Makes the read buffers and finds the group of each engine, as Enable Device asks. Nothing may be held then.
     pub fn enable(&mut self, queues: &Queues)
-        requires caps { IsTrue (check_caps queues.now.caps) }
         requires checked { check_device queues.now.caps queues.now.configs queues.now.groups ≡ None }
         requires notes { length self.old.notes ≡ queues.now.caps.engines }
         ensures after { self.new ≡ record self.old { homes = homes_of queues.now; buffers = buffers_at_rest queues.now } }
-        ensures in_step { (content : Content) → held content ≡ 0 → IsInStep queues.now self.new content }
+        ensures in_step { (cells : ℕ) (content : Content) → IsStoreFor queues.now.caps cells content → held content ≡ 0
+            → IsInStep queues.now self.new cells content }
     {
         self.homes = homes(queues);
         self.buffers = ReadBuffers::new(queues.caps().read_buffers, queues.groups());

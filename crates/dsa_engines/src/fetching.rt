@@ -1,13 +1,12 @@
 //! Fetch: an engine hands in the next member of its batch.
 
 ghost use Rattle.std.specs.Prelude.{◌≡◌, ℕ, ◌<◌, ◌+◌, ◌^◌, ◌==◌, true, List, [], length, find};
-ghost use Rattle.dsa_regs.specs.Caps.{cell_count};
 ghost use Rattle.dsa_store.specs.Content.{chain, held};
 ghost use Rattle.dsa_book.specs.declared.fate.FateRow.{FateRow};
 ghost use Rattle.dsa_book.specs.declared.answer.Reply.TheVariants as reply;
 ghost use Rattle.dsa_book.specs.Choice.{chosen, cell_of, may_enter};
 ghost use Rattle.dsa_book.specs.Work.{fetch, is_all_fetched};
-ghost use Rattle.dsa_engines.specs.Engines.{work, IsInStep, IsReady, is_fetching};
+ghost use Rattle.dsa_engines.specs.Engines.{work, IsInStep, is_fetching};
 
 use crate::Engines;
 use dsa_book::{BatchNote, FetchAnswer, Ticket};
@@ -44,17 +43,14 @@ impl Engines {
         engine: u16,
         desc: Descriptor,
     ) -> FetchAnswer
-        requires ready { IsReady queues.old (S.content store.old) }
-        requires in_step { IsInStep queues.old self.old (S.content store.old) }
-        requires cells { S.cells store.old ≡ cell_count queues.old.caps }
+        requires in_step { IsInStep queues.old self.old (S.cells store.old) (S.content store.old) }
         requires room { is_fetching (work queues.old self.old (S.content store.old) []) engine ≡ true → held (S.content store.old) < S.cells store.old }
         requires names { is_fetching (work queues.old self.old (S.content store.old) []) engine ≡ true → queues.old.next_name + 1 < 2 ^ 32 }
         ensures step { (fates : List FateRow)
             → fetch (work queues.old self.old (S.content store.old) fates) engine desc (cell_of (chosen (reply.Fetch result)))
             ≡ (result, work queues.new self.new (S.content store.new) fates) }
         ensures free { may_enter queues.old (S.content store.old) (chosen (reply.Fetch result)) ≡ true }
-        ensures cells { S.cells store.new ≡ S.cells store.old }
-        ensures in_step { IsInStep queues.new self.new (S.content store.new) }
+        ensures in_step { IsInStep queues.new self.new (S.cells store.new) (S.content store.new) }
     {
         let caps = queues.caps();
         if engine >= caps.engines {

@@ -5,7 +5,8 @@ ghost use Rattle.dsa_store.specs.declared.entry.Cell.{Cell};
 ghost use Rattle.dsa_store.specs.Content.{Content};
 ghost use Rattle.dsa_book.specs.State.{is_ticket, is_batch_of};
 ghost use Rattle.dsa_book.specs.Work.{running_on, is_unfinished, last_status, note_after, finish};
-ghost use Rattle.dsa_engines.specs.Engines.{work, lists_alone, IsInStep, IsReady};
+ghost use Rattle.dsa_queues.specs.Queues.{IsStoreFor};
+ghost use Rattle.dsa_engines.specs.Engines.{work, lists_alone, IsInStep};
 
 use crate::Engines;
 use crate::fetching::is_all_fetched;
@@ -35,7 +36,7 @@ fn find_running<S: EntryStore>(
     engine: u16,
     ticket: Ticket,
 ) -> Option<Entry>
-    requires { IsReady queues.now (S.content store.now) }
+    requires { IsStoreFor queues.now.caps (S.cells store.now) (S.content store.now) }
     ensures { find (is_ticket ticket) (running_on (lists_alone queues.now (S.content store.now)) engine) ≡ option_map (λ entry. (ticket.cell, entry)) result }
 {
     let caps = queues.caps();
@@ -55,7 +56,7 @@ fn find_running<S: EntryStore>(
 impl Engines {
     // Whether members are left, or may still be fetched.
     fn is_unfinished<S: EntryStore>(&self, queues: &Queues, store: &S, engine: u16) -> bool
-        requires ready { IsReady queues.now (S.content store.now) }
+        requires store { IsStoreFor queues.now.caps (S.cells store.now) (S.content store.now) }
         requires engine { engine < queues.now.caps.engines }
         ensures { result ≡ is_unfinished (work queues.now self.now (S.content store.now) []) engine }
     {
@@ -76,7 +77,7 @@ impl Engines {
         engine: u16,
         entry: &Entry,
     ) -> bool
-        requires ready { IsReady queues.now (S.content store.now) }
+        requires store { IsStoreFor queues.now.caps (S.cells store.now) (S.content store.now) }
         requires engine { engine < queues.now.caps.engines }
         ensures { result ≡ (is_batch_of queues.now entry.now && is_unfinished (work queues.now self.now (S.content store.now) []) engine) }
     {
@@ -140,14 +141,12 @@ impl Engines {
         ticket: Ticket,
         outcome: Outcome,
     ) -> FinishAnswer
-        requires ready { IsReady queues.now (S.content store.old) }
-        requires in_step { IsInStep queues.now self.old (S.content store.old) }
+        requires in_step { IsInStep queues.now self.old (S.cells store.old) (S.content store.old) }
         requires room { length book.old.fates < book.old.capacity }
         ensures step { finish (work queues.now self.old (S.content store.old) book.old.fates) engine ticket outcome
             ≡ (result, work queues.now self.new (S.content store.new) book.new.fates) }
-        ensures cells { S.cells store.new ≡ S.cells store.old }
         ensures book { book.new ≡ record book.old { fates = book.new.fates } }
-        ensures in_step { IsInStep queues.now self.new (S.content store.new) }
+        ensures in_step { IsInStep queues.now self.new (S.cells store.new) (S.content store.new) }
     {
         let Some(entry) = find_running(queues, store, engine, ticket) else {
             return FinishAnswer::Gone;

@@ -8,7 +8,7 @@ ghost use Rattle.dsa_store.specs.Content.{chain, is_cell};
 ghost use Rattle.dsa_book.specs.declared.note.BatchNote.{BatchNote};
 ghost use Rattle.dsa_book.specs.declared.fate.Fate.TheVariants.{Abandoned};
 ghost use Rattle.dsa_book.specs.Work.{members, start, fate_row, with_note};
-ghost use Rattle.dsa_engines.specs.Engines.{work, lists_alone, IsInStep, IsReady, Holds, WaitInOrder};
+ghost use Rattle.dsa_engines.specs.Engines.{work, lists_alone, IsInStep, Holds, WaitInOrder};
 
 use crate::Engines;
 use dsa_book::{BatchNote, Book, Fate, FateRow, StartAnswer, Ticket};
@@ -108,15 +108,13 @@ impl Engines {
         book: &mut Book,
         engine: u16,
     ) -> StartAnswer
-        requires ready { IsReady queues.now (S.content store.old) }
-        requires in_step { IsInStep queues.now self.old (S.content store.old) }
+        requires in_step { IsInStep queues.now self.old (S.cells store.old) (S.content store.old) }
         requires order { WaitInOrder (members (lists_alone queues.now (S.content store.old)) engine) }
         requires room { length book.old.fates + length (members (lists_alone queues.now (S.content store.old)) engine) ≤ book.old.capacity }
         ensures step { start (work queues.now self.old (S.content store.old) book.old.fates) engine
             ≡ (result, work queues.now self.new (S.content store.new) book.new.fates) }
-        ensures cells { S.cells store.new ≡ S.cells store.old }
         ensures book { book.new ≡ record book.old { fates = book.new.fates } }
-        ensures in_step { IsInStep queues.now self.new (S.content store.new) }
+        ensures in_step { IsInStep queues.now self.new (S.cells store.new) (S.content store.new) }
     {
         let caps = queues.caps();
         if engine >= caps.engines {

@@ -10,7 +10,7 @@ ghost use Rattle.dsa_book.specs.State.{is_off, need_of, is_batch_of};
 ghost use Rattle.dsa_book.specs.declared.answer.Reply.TheVariants as reply;
 ghost use Rattle.dsa_book.specs.Choice.{chosen};
 ghost use Rattle.dsa_book.specs.Work.{qualifies, may_leave, dispatch, as_running, opened_note, with_note};
-ghost use Rattle.dsa_engines.specs.Engines.{work, IsInStep, IsReady, IsOpen};
+ghost use Rattle.dsa_engines.specs.Engines.{work, IsInStep, IsOpen};
 
 use crate::Engines;
 use dsa_book::{BatchNote, DispatchAnswer, Ticket};
@@ -41,8 +41,7 @@ fn run_front<S: EntryStore>(store: &mut S, from: ListId, to: ListId, front: (Cel
 impl Engines {
     // The engine's group, where the engine has a slot left.
     fn open_group<S: EntryStore>(&self, queues: &Queues, store: &S, engine: u16) -> Option<u16>
-        requires ready { IsReady queues.now (S.content store.now) }
-        requires in_step { IsInStep queues.now self.now (S.content store.now) }
+        requires in_step { IsInStep queues.now self.now (S.cells store.now) (S.content store.now) }
         ensures none { IfNone result ((q : ℕ) → qualifies (work queues.now self.now (S.content store.now) []) engine q ≡ false) }
         ensures some { IfSome result (λ group. is_off queues.now.device ≡ false → IsOpen queues.now (S.content store.now) engine group) }
     {
@@ -77,8 +76,7 @@ impl Engines {
         group: u16,
         queue: u16,
     ) -> bool
-        requires ready { IsReady queues.now (S.content store.now) }
-        requires in_step { IsInStep queues.now self.now (S.content store.now) }
+        requires in_step { IsInStep queues.now self.now (S.cells store.now) (S.content store.now) }
         requires group { is_off queues.now.device ≡ false → IsOpen queues.now (S.content store.now) engine group }
         requires queue { queue < queues.now.caps.queues }
         ensures { result ≡ qualifies (work queues.now self.now (S.content store.now) []) engine queue }
@@ -108,8 +106,7 @@ impl Engines {
         engine: u16,
         group: u16,
     ) -> Option<u16>
-        requires ready { IsReady queues.now (S.content store.now) }
-        requires in_step { IsInStep queues.now self.now (S.content store.now) }
+        requires in_step { IsInStep queues.now self.now (S.cells store.now) (S.content store.now) }
         requires group { is_off queues.now.device ≡ false → IsOpen queues.now (S.content store.now) engine group }
         ensures { MatchOption result
             (list_any (qualifies (work queues.now self.now (S.content store.now) []) engine) (numbers_below queues.now.caps.queues) ≡ false)
@@ -158,15 +155,13 @@ impl Engines {
         store: &mut S,
         engine: u16,
     ) -> DispatchAnswer
-        requires ready { IsReady queues.now (S.content store.old) }
-        requires in_step { IsInStep queues.now self.old (S.content store.old) }
+        requires in_step { IsInStep queues.now self.old (S.cells store.old) (S.content store.old) }
         ensures step { (fates : List FateRow)
             → dispatch (work queues.now self.old (S.content store.old) fates) engine (chosen (reply.Dispatch result))
             ≡ (result, work queues.now self.new (S.content store.new) fates) }
         ensures free { may_leave (work queues.now self.old (S.content store.old) []) engine (chosen (reply.Dispatch result))
             ≡ true }
-        ensures cells { S.cells store.new ≡ S.cells store.old }
-        ensures in_step { IsInStep queues.now self.new (S.content store.new) }
+        ensures in_step { IsInStep queues.now self.new (S.cells store.new) (S.content store.new) }
     {
         let Some(group) = self.open_group(queues, store, engine) else {
             return DispatchAnswer::Idle;

@@ -1,7 +1,8 @@
 -- What the queues and a store keep together, and whether a submission is accepted.
 use Rattle.std.specs.Prelude.{◌≡◌, ℕ, Bool, true, length, is_none}
 use Rattle.dsa_base.specs.Rows.{first_row}
-use Rattle.dsa_regs.specs.Caps.{check_caps}
+use Rattle.dsa_regs.specs.declared.Caps.{Caps}
+use Rattle.dsa_regs.specs.Caps.{cell_count, check_caps, list_count}
 use Rattle.dsa_store.specs.Content.{Content}
 use Rattle.dsa_book.specs.declared.event.Portal.{Portal}
 use Rattle.dsa_book.specs.declared.event.Kind.{Kind}
@@ -22,3 +23,8 @@ pub record IsWhole (setup : Setup) : Type 0 where
   pub configs : length setup.configs ≡ setup.caps.queues
   pub phases : length setup.phases ≡ setup.caps.queues
   pub groups : length setup.groups ≡ setup.caps.groups
+
+-- a store of so many cells has the lists and the cells that a device with these capabilities needs (profile)
+pub record IsStoreFor (caps : Caps) (count : ℕ) (content : Content) : Type 0 where
+  pub lists : length content ≡ list_count caps
+  pub cells : count ≡ cell_count caps

@@ -1,16 +1,15 @@
 //! Submission: ENQCMD and MOVDIR64B to either portal of a queue.
 
-ghost use Rattle.std.specs.Prelude.{◌≡◌, ℕ, ◌+◌, ◌<◌, ◌^◌, true, length};
+ghost use Rattle.std.specs.Prelude.{◌≡◌, ◌+◌, ◌<◌, ◌^◌, true};
 ghost use Rattle.dsa_base.specs.Rows.{when};
 ghost use Rattle.dsa_desc.specs.Descriptor.{with_pasid};
 ghost use Rattle.dsa_regs.specs.Config.{queue_at};
-ghost use Rattle.dsa_regs.specs.Caps.{cell_count, list_count};
 ghost use Rattle.dsa_store.specs.Content.{Content, held};
 ghost use Rattle.dsa_book.specs.State.{occupancy, has_queue};
 ghost use Rattle.dsa_book.specs.Submit.{submit, turned_away, limit_of, pasid_by, is_movdir64b};
 ghost use Rattle.dsa_book.specs.declared.answer.Reply.TheVariants as reply;
 ghost use Rattle.dsa_book.specs.Choice.{chosen, nothing, cell_of, may_enter};
-ghost use Rattle.dsa_queues.specs.Queues.{intake, is_accepting};
+ghost use Rattle.dsa_queues.specs.Queues.{IsStoreFor, intake, is_accepting};
 
 use crate::Queues;
 use dsa_book::{Cause, Kind, Portal, SubmitAnswer, Ticket};
@@ -73,14 +72,13 @@ impl Queues {
         kind: Kind,
         desc: Descriptor,
     ) -> SubmitAnswer
-        requires lists { length (S.content store.old) ≡ list_count self.old.caps }
-        requires cells { S.cells store.old ≡ cell_count self.old.caps }
+        requires store { IsStoreFor self.old.caps (S.cells store.old) (S.content store.old) }
         requires room { is_accepting (intake self.old (S.content store.old)) queue portal kind ≡ true → held (S.content store.old) < S.cells store.old }
         requires names { is_accepting (intake self.old (S.content store.old)) queue portal kind ≡ true → self.old.next_name + 1 < 2 ^ 32 }
         ensures answer { submit (intake self.old (S.content store.old)) queue portal kind desc (cell_of (chosen (reply.Submit result)))
             ≡ (result, intake self.new (S.content store.new)) }
         ensures free { may_enter self.old (S.content store.old) (chosen (reply.Submit result)) ≡ true }
-        ensures cells { S.cells store.new ≡ S.cells store.old }
+        ensures store { IsStoreFor self.new.caps (S.cells store.new) (S.content store.new) }
     {
         if self.phase(queue) != Phase::On {
             return self.turned_away(queue, kind, Cause::NotEnabled);
@@ -111,11 +109,10 @@ impl Queues {
 
     /// The number of entries in the queue's own list. `None` exactly when the device has no such queue.
     pub fn occupancy<S: EntryStore>(&self, store: &S, queue: u16) -> Option<u16>
-        requires lists { length (S.content store.now) ≡ list_count self.now.caps }
-        requires short { has_queue self.now queue ≡ true → occupancy (S.content store.now) queue < 2 ^ 16 }
+        requires store { IsStoreFor self.now.caps (S.cells store.now) (S.content store.now) }
         ensures { result ≡ when (has_queue self.now queue) (occupancy (S.content store.now) queue) }
     {
-        if self.has_queue(queue) {
+        if queue < self.caps().queues {
             Some(store.len(ListId(queue)) as u16)
         } else {
             None

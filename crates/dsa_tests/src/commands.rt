@@ -1,10 +1,8 @@
 //! Commands over a store of vectors, on two queues: queue 0 is shared, of size 4, and queue 1 dedicated, of size 2 and PASID 7.
 
-ghost use Rattle.std.specs.Prelude.{◌≡◌, ◌+◌, ◌≤◌, None, length, true, false};
-ghost use Rattle.dsa_regs.specs.Config.{check_device};
+ghost use Rattle.std.specs.Prelude.{◌≡◌, ◌+◌, ◌≤◌, length, true};
 ghost use Rattle.dsa_store.specs.Content.{held};
-ghost use Rattle.dsa_book.specs.State.{is_off};
-ghost use Rattle.dsa_engines.specs.Engines.{IsInStep, IsReady};
+ghost use Rattle.dsa_engines.specs.Engines.{IsInStep};
 
 use crate::setup::written;
 use dsa_admin::Admin;
@@ -13,7 +11,7 @@ use dsa_desc::Descriptor;
 use dsa_engines::Engines;
 use dsa_fixtures::{CELLS, FIRST_GROUP, FIRST_QUEUE, LISTS, MOVE, SECOND_GROUP};
 use dsa_queues::Queues;
-use dsa_regs::{Command, Fault, GroupConfig, Phase, QueueMask, check_device, list_count};
+use dsa_regs::{Command, Fault, GroupConfig, Phase, QueueMask, cell_count, list_count};
 use dsa_store::{Entry, EntryStore, ListId, PlainStore};
 use std::process::Abort;
 use std::test::Fail;
@@ -32,32 +30,6 @@ const NONE: QueueMask = QueueMask { group: 0, mask: 0 };
 
 // Queue 1, and queue 2 that the device does not have.
 const PAST: QueueMask = QueueMask { group: 0, mask: 6 };
-
-// Nothing is held while the device is Off.
-fn is_idle<S: EntryStore>(queues: &Queues, store: &S) -> bool
-    ensures { result ≡ true → is_off queues.now.device ≡ true → held (S.content store.now) ≡ 0 }
-{
-    queues.device() != Phase::Off || store.free() == store.cells()
-}
-
-// While the device is not Off nothing stands against enabling it.
-fn is_checked(queues: &Queues) -> bool
-    ensures { result ≡ true → is_off queues.now.device ≡ false → check_device queues.now.caps queues.now.configs queues.now.groups ≡ None }
-{
-    queues.device() == Phase::Off
-        || check_device(&queues.caps(), queues.configs(), queues.groups()).is_none()
-}
-
-// The set-up and the lists are those of a device.
-fn is_ready<S: EntryStore>(queues: &Queues, store: &S) -> bool
-    ensures { result ≡ true → IsReady queues.now (S.content store.now) }
-{
-    let caps = queues.caps();
-    if store.lists() != list_count(&caps) || !is_idle(queues, store) {
-        return false;
-    }
-    is_checked(queues)
-}
 
 // The book has room for a row of each entry that is held.
 fn has_room<S: EntryStore>(store: &S, book: &Book) -> bool
@@ -78,6 +50,18 @@ struct Parts<S: EntryStore> {
     book: Book,
 }
 
+// The engines of a device that is Off, over an empty store.
+fn engines_of<S: EntryStore>(rt: &impl Abort, queues: &Queues, store: &S) -> Engines
+    ensures { IsInStep queues.now result (S.cells store.now) (S.content store.now) }
+{
+    let caps = queues.caps();
+    assert!(rt; queues.device() == Phase::Off);
+    assert!(rt; store.lists() == list_count(&caps));
+    assert!(rt; store.cells() == cell_count(&caps));
+    assert!(rt; store.free() == store.cells());
+    Engines::new(&caps)
+}
+
 // The parts of a device that is Off, with these groups written.
 fn parts_of<S: EntryStore>(
     rt: &impl Abort,
@@ -85,23 +69,22 @@ fn parts_of<S: EntryStore>(
     store: S,
     book: Book,
 ) -> Parts<S>
-    ensures { IsInStep result.queues result.engines (S.content result.store) }
+    ensures { IsInStep result.queues result.engines (S.cells result.store) (S.content result.store) }
 {
     let queues = written(rt, groups);
-    assert_eq!(rt; queues.device(), Phase::Off);
     Parts {
         admin: Admin::new(),
-        engines: Engines::new(&queues.caps()),
+        engines: engines_of(rt, &queues, &store),
         queues,
         store,
         book,
     }
 }
 
-// The command is issued, once it is seen that the parts are those of a device and that the book has room.
+// The command is issued, once it is seen that the book has room.
 fn issue<S: EntryStore>(rt: &impl Abort, parts: &mut Parts<S>, command: Command) -> IssueAnswer
-    requires { IsInStep parts.old.queues parts.old.engines (S.content parts.old.store) }
-    ensures { IsInStep parts.new.queues parts.new.engines (S.content parts.new.store) }
+    requires { IsInStep parts.old.queues parts.old.engines (S.cells parts.old.store) (S.content parts.old.store) }
+    ensures { IsInStep parts.new.queues parts.new.engines (S.cells parts.new.store) (S.content parts.new.store) }
 {
     let Parts {
         admin,
@@ -110,15 +93,14 @@ fn issue<S: EntryStore>(rt: &impl Abort, parts: &mut Parts<S>, command: Command)
         store,
         book,
     } = parts;
-    assert!(rt; is_ready(queues, store));
     assert!(rt; has_room(store, book));
     admin.issue(queues, engines, store, book, command)
 }
 
 // The commands are issued in turn, each with its answer.
 fn issue_each<S: EntryStore>(rt: &impl Abort, parts: &mut Parts<S>, rows: &[(Command, IssueAnswer)])
-    requires { IsInStep parts.old.queues parts.old.engines (S.content parts.old.store) }
-    ensures { IsInStep parts.new.queues parts.new.engines (S.content parts.new.store) }
+    requires { IsInStep parts.old.queues parts.old.engines (S.cells parts.old.store) (S.content parts.old.store) }
+    ensures { IsInStep parts.new.queues parts.new.engines (S.cells parts.new.store) (S.content parts.new.store) }
 {
     for (command, answer) in rows {
         assert_eq!(rt; issue(rt, parts, *command), *answer, "{}", command.name());
@@ -127,10 +109,10 @@ fn issue_each<S: EntryStore>(rt: &impl Abort, parts: &mut Parts<S>, rows: &[(Com
 
 // A move that was submitted stands last in the queue.
 fn push<S: EntryStore>(rt: &impl Abort, parts: &mut Parts<S>, queue: u16, pasid: u32)
-    requires { IsInStep parts.old.queues parts.old.engines (S.content parts.old.store) }
-    ensures { IsInStep parts.new.queues parts.new.engines (S.content parts.new.store) }
+    requires { IsInStep parts.old.queues parts.old.engines (S.cells parts.old.store) (S.content parts.old.store) }
+    ensures { IsInStep parts.new.queues parts.new.engines (S.cells parts.new.store) (S.content parts.new.store) }
 {
-    assert!(rt; is_ready(&parts.queues, &parts.store));
+    assert!(rt; parts.queues.device() == Phase::On);
     assert!(rt; parts.queues.has_queue(queue));
     assert!(rt; parts.queues.next_name() < 1000);
     let entry = Entry {
@@ -246,8 +228,8 @@ fn aborts_take_out_their_scope(rt: HostRuntime) -> Result<(), Fail> {
 
 // The answer to a poll.
 fn poll<S: EntryStore>(parts: &mut Parts<S>) -> PollAnswer
-    requires { IsInStep parts.old.queues parts.old.engines (S.content parts.old.store) }
-    ensures { IsInStep parts.new.queues parts.new.engines (S.content parts.new.store) }
+    requires { IsInStep parts.old.queues parts.old.engines (S.cells parts.old.store) (S.content parts.old.store) }
+    ensures { IsInStep parts.new.queues parts.new.engines (S.cells parts.new.store) (S.content parts.new.store) }
 {
     parts.admin.poll(&mut parts.queues, &parts.store)
 }

@@ -1,8 +1,6 @@
 //! Engines over a store of vectors.
 
-ghost use Rattle.std.specs.Prelude.{◌≡◌, None};
-ghost use Rattle.dsa_regs.specs.Config.{check_device};
-ghost use Rattle.dsa_engines.specs.Engines.{IsInStep, IsReady};
+ghost use Rattle.dsa_engines.specs.Engines.{IsInStep};
 
 use crate::setup::enabled;
 use dsa_book::{
@@ -12,7 +10,7 @@ use dsa_desc::{Descriptor, Outcome};
 use dsa_engines::Engines;
 use dsa_fixtures::{CELLS, LARGE_MOVE, LISTS, MOVE, batch_of};
 use dsa_queues::Queues;
-use dsa_regs::{GroupConfig, Phase, cell_count, check_caps, check_device, list_count};
+use dsa_regs::{GroupConfig, Phase, cell_count, check_device, list_count};
 use dsa_store::{Cell, Entry, EntryStore, ListId, PlainStore};
 use std::process::Abort;
 use std::test::Fail;
@@ -44,16 +42,18 @@ fn entry(name: u32, queue: u16, desc: Descriptor) -> Entry {
     }
 }
 
-// What each call asks of the queues and the store, tested.
-fn ready<S: EntryStore>(rt: &impl Abort, queues: &Queues, store: &S)
-    ensures ready { IsReady queues.now (S.content store.now) }
-    ensures checked { check_device queues.now.caps queues.now.configs queues.now.groups ≡ None }
+// The engines of an enabled device, over an empty store.
+fn enabled_engines<S: EntryStore>(rt: &impl Abort, queues: &Queues, store: &S) -> Engines
+    ensures { IsInStep queues.now result (S.cells store.now) (S.content store.now) }
 {
     let caps = queues.caps();
-    assert!(rt; check_caps(&caps));
     assert!(rt; store.lists() == list_count(&caps));
-    assert!(rt; queues.device() == Phase::On);
+    assert!(rt; store.cells() == cell_count(&caps));
+    assert!(rt; store.free() == store.cells());
     assert!(rt; check_device(&caps, queues.configs(), queues.groups()).is_none());
+    let mut engines = Engines::new(&caps);
+    engines.enable(queues);
+    engines
 }
 
 // The entry in a queue, which leaves the engines in step.
@@ -64,12 +64,12 @@ fn put<S: EntryStore>(
     store: &mut S,
     entry: Entry,
 ) -> Cell
-    requires { IsInStep queues.now engines.now (S.content store.old) }
-    ensures { IsInStep queues.now engines.now (S.content store.new) }
+    requires { IsInStep queues.now engines.now (S.cells store.old) (S.content store.old) }
+    ensures { IsInStep queues.now engines.now (S.cells store.new) (S.content store.new) }
 {
     let caps = queues.caps();
     assert!(rt; entry.queue < caps.queues);
-    assert!(rt; entry.queue < store.lists());
+    assert!(rt; queues.device() == Phase::On);
     let Some(cell) = store.push_back(ListId(entry.queue), entry) else {
         panic!(rt; "no cell is free");
     };
@@ -79,25 +79,18 @@ fn put<S: EntryStore>(
 // The first of two entries needs all buffers of the group: the second waits for its end.
 fn one_runs_at_a_time<S: EntryStore>(rt: &impl Abort, store: &mut S, book: &mut Book) {
     let queues = enabled(rt, GROUPS);
-    let mut engines = Engines::new(&queues.caps());
-    ready(rt, &queues, store);
-    assert!(rt; store.free() == store.cells());
-    engines.enable(&queues);
+    let mut engines = enabled_engines(rt, &queues, store);
     assert_eq!(rt; engines.dispatch(&queues, store, 0), DispatchAnswer::Idle);
     let cell = put(rt, &queues, &engines, store, entry(10, 1, LARGE_MOVE));
     let second = put(rt, &queues, &engines, store, entry(11, 0, MOVE));
-    ready(rt, &queues, store);
     let ticket = Ticket { cell, name: 10 };
     let taken = DispatchAnswer::Taken { ticket, queue: 1 };
     assert_eq!(rt; engines.dispatch(&queues, store, 0), taken);
-    ready(rt, &queues, store);
     assert_eq!(rt; engines.dispatch(&queues, store, 0), DispatchAnswer::Idle);
-    ready(rt, &queues, store);
     assert!(rt; book.fates().len() < book.capacity());
     let other = Ticket { cell, name: 11 };
     let gone = engines.finish(&queues, store, book, 0, other, Outcome::Success);
     assert_eq!(rt; gone, FinishAnswer::Gone);
-    ready(rt, &queues, store);
     assert!(rt; book.fates().len() < book.capacity());
     let done = engines.finish(&queues, store, book, 0, ticket, Outcome::PageFault);
     assert_eq!(rt; done, FinishAnswer::Done(0x03));
@@ -107,7 +100,6 @@ fn one_runs_at_a_time<S: EntryStore>(rt: &impl Abort, store: &mut S, book: &mut 
         fate: Fate::Completed(0x03),
     };
     assert_eq!(rt; book.fate(10), Some(row));
-    ready(rt, &queues, store);
     let ticket = Ticket {
         cell: second,
         name: 11,
@@ -124,11 +116,10 @@ fn start_one<S: EntryStore>(
     store: &mut S,
     book: &mut Book,
 ) -> StartAnswer
-    requires { IsInStep queues.now engines.old (S.content store.old) }
-    ensures { IsInStep queues.now engines.new (S.content store.new) }
+    requires { IsInStep queues.now engines.old (S.cells store.old) (S.content store.old) }
+    ensures { IsInStep queues.now engines.new (S.cells store.new) (S.content store.new) }
 {
     let caps = queues.caps();
-    ready(rt, queues, store);
     assert!(rt; caps.queues == 2 && caps.engines == 2);
     let members = store.len(ListId(4));
     assert!(rt; members <= 1);
@@ -145,10 +136,9 @@ fn end<S: EntryStore>(
     book: &mut Book,
     ticket: Ticket,
 ) -> FinishAnswer
-    requires { IsInStep queues.now engines.old (S.content store.old) }
-    ensures { IsInStep queues.now engines.new (S.content store.new) }
+    requires { IsInStep queues.now engines.old (S.cells store.old) (S.content store.old) }
+    ensures { IsInStep queues.now engines.new (S.cells store.new) (S.content store.new) }
 {
-    ready(rt, queues, store);
     assert!(rt; book.fates().len() < book.capacity());
     engines.finish(queues, store, book, 0, ticket, Outcome::PageFault)
 }
@@ -160,11 +150,9 @@ fn fetch_move<S: EntryStore>(
     engines: &mut Engines,
     store: &mut S,
 ) -> FetchAnswer
-    requires { IsInStep queues.old engines.old (S.content store.old) }
-    ensures { IsInStep queues.new engines.new (S.content store.new) }
+    requires { IsInStep queues.old engines.old (S.cells store.old) (S.content store.old) }
+    ensures { IsInStep queues.new engines.new (S.cells store.new) (S.content store.new) }
 {
-    ready(rt, queues, store);
-    assert!(rt; store.cells() == cell_count(&queues.caps()));
     assert!(rt; store.free() > 0);
     assert!(rt; queues.next_name() < 100);
     engines.fetch(queues, store, 0, MOVE)
@@ -173,16 +161,12 @@ fn fetch_move<S: EntryStore>(
 // A batch of two: it ends after its members, and as failed where one of them failed.
 fn batch_ends_last<S: EntryStore>(rt: &impl Abort, store: &mut S, book: &mut Book) {
     let mut queues = enabled(rt, GROUPS);
-    let mut engines = Engines::new(&queues.caps());
-    ready(rt, &queues, store);
-    assert!(rt; store.free() == store.cells());
-    engines.enable(&queues);
+    let mut engines = enabled_engines(rt, &queues, store);
     assert_eq!(rt;
         fetch_move(rt, &mut queues, &mut engines, store),
         FetchAnswer::NoBatch
     );
     let cell = put(rt, &queues, &engines, store, entry(20, 0, batch_of(2)));
-    ready(rt, &queues, store);
     let ticket = Ticket { cell, name: 20 };
     let taken = DispatchAnswer::Taken { ticket, queue: 0 };
     assert_eq!(rt; engines.dispatch(&queues, store, 0), taken);

@@ -9,4 +9,4 @@ use Rattle.dsa_admin.proofs.abort.reset.Goals as goal
 pub returns-clause-in_step : goal.returns-clause-in_step
 returns-clause-in_step g c =
     let left : g.S.EntryStore.content c.abort-aborted.new.store ≡ kept (λ entry. not (is_in_scope (scope_of c.args.command.now) entry)) (g.S.EntryStore.content c.args.store.now) = sym (ap (λ (w : Work). w.content) c.abort-aborted.ensures.work) in
-    rw (c.reset_scope.ensures, c.scope.ensures) (in_step-reset (scope_of c.args.command.now) c.args.queues.now _ (g.S.EntryStore.content c.args.store.now) _ c.requires.whole left c.abort-aborted.ensures.in_step)
+    rw (c.reset_scope.ensures, c.scope.ensures) (in_step-reset (scope_of c.args.command.now) c.args.queues.now _ (g.S.EntryStore.content c.args.store.now) _ left c.abort-aborted.ensures.in_step)

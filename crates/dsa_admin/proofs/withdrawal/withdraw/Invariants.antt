@@ -7,8 +7,7 @@ use Rattle.dsa_admin.proofs.withdrawal.withdraw.Given as goal
 
 abbrev pub invariant-loop-list : goal.invariant-loop-list
 invariant-loop-list g l = record {
-  swept : IsSwept l.command l.queues (g.S.EntryStore.content l.initial.store) l.initial.book l.list (g.S.EntryStore.content l.store) l.book;
+  swept : IsSwept l.command (g.S.EntryStore.content l.initial.store) l.initial.book l.list (g.S.EntryStore.content l.store) l.book;
   notes : l.engines.notes ≡ swept_notes l.queues (scope_of l.command) (g.S.EntryStore.content l.initial.store) l.initial.engines.notes l.list;
-  in_step : IsInStep l.queues l.engines (g.S.EntryStore.content l.store);
-  cells : g.S.EntryStore.cells l.store ≡ g.S.EntryStore.cells l.initial.store;
+  in_step : IsInStep l.queues l.engines (g.S.EntryStore.cells l.store) (g.S.EntryStore.content l.store);
 }

@@ -11,6 +11,5 @@ invariant-loop-place g l = record {
   here : l.at ≡ first_cell (drop l._place (chain (g.S.EntryStore.content l.initial.store) l.fn.list.0));
   withdrawn : IsWithdrawn l.command (g.S.EntryStore.content l.initial.store) l.initial.book l.fn.list.0 l._place (g.S.EntryStore.content l.store) l.book;
   notes : l.engines.notes ≡ notes_left l.queues (scope_of l.command) l.from (take l._place (chain (g.S.EntryStore.content l.initial.store) l.fn.list.0)) l.initial.engines.notes;
-  in_step : IsInStep l.queues l.engines (g.S.EntryStore.content l.store);
-  cells : g.S.EntryStore.cells l.store ≡ g.S.EntryStore.cells l.initial.store;
+  in_step : IsInStep l.queues l.engines (g.S.EntryStore.cells l.store) (g.S.EntryStore.content l.store);
 }

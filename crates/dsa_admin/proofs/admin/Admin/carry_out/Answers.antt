@@ -7,3 +7,6 @@ returns-in-Abort-clause-carried g c = carried-as _ c.args.command _ Abort _ c.de
 
 pub returns-in-Reset-clause-carried : goal.returns-in-Reset-clause-carried
 returns-in-Reset-clause-carried g c = carried-as _ c.args.command _ Reset _ c.deed.ensures c.in-Reset.is (c.reset.ensures.reset c.args.self.now)
+
+pub returns-in-Enable-clause-in_step : goal.returns-in-Enable-clause-in_step
+returns-in-Enable-clause-in_step g c = c.enable.ensures.in_step (g.S.EntryStore.cells c.args.store.now) (g.S.EntryStore.content c.args.store.now) c.requires.in_step

@@ -3,11 +3,11 @@ use Rattle.dsa_book.specs.declared.answer.ClearAnswer.{ClearAnswer}
 use Rattle.dsa_book.specs.declared.event.Event.TheVariants as event
 use Rattle.dsa_book.specs.declared.answer.Reply.TheVariants as reply
 use Rattle.dsa_book.specs.State.{Setup}
-use Rattle.dsa_engines.specs.Engines.{IsInStep}
+use Rattle.dsa_engines.proofs.Keeping.{KeepsLoads}
 use Rattle.dsa_device.specs.Running.{running}
 use Rattle.dsa_device.proofs.Layers.{next-clear}
-use Rattle.dsa_device.proofs.InStep.{clear-in_step}
-use Rattle.dsa_device.proofs.Steps.{IsStep, step_by_parts}
+use Rattle.dsa_device.proofs.InStep.{clear-keeps}
+use Rattle.dsa_device.proofs.Steps.{IsStep, step_of_queues}
 use Rattle.dsa_device.proofs.device.Device.clear_error.Given.{Over}
 use Rattle.dsa_device.proofs.device.Device.clear_error.Goals as goal
 
@@ -16,12 +16,12 @@ step g c =
     let i = c.self.inside in
     let content = g.S.EntryStore.content i.store in
     let d = running i.caps i.queues i.engines content i.admin i.book in
-    step_by_parts _ _ i.caps i.queues c.clear_error-answer.new.self i.engines i.engines content content i.admin i.admin i.book c.record.new.self i.book.fates
+    step_of_queues _ _ i.caps i.queues c.clear_error-answer.new.self i.engines content content i.admin i.book c.record.new.self
     event.ClearError (reply.Clear c.clear_error-answer.result)
     c.self.invariant (sym c.is_full.ensures.full ∙ c.if-is_full.false) c.record.ensures
     (next-clear d.state c.clear_error-answer.result c.clear_error-answer.new.self c.clear_error-answer.ensures)
     refl
-    (subst (λ (r : ClearAnswer × Setup). IsInStep r.1 i.engines content) c.clear_error-answer.ensures (clear-in_step i.queues i.engines content c.self.invariant.in_step))
+    (λ on. subst (λ (r : ClearAnswer × Setup). KeepsLoads i.queues r.1 content content) c.clear_error-answer.ensures (clear-keeps i.queues content))
 
 pub invariant_of-self : goal.invariant_of-self
 invariant_of-self g c = (step g c).whole

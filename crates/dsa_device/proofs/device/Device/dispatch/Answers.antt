@@ -3,17 +3,13 @@ use Rattle.dsa_book.specs.declared.event.Event.TheVariants as event
 use Rattle.dsa_book.specs.declared.answer.Reply.TheVariants as reply
 use Rattle.dsa_engines.specs.Engines.{work}
 use Rattle.dsa_device.specs.Running.{running}
-use Rattle.dsa_device.proofs.Known.{ready}
 use Rattle.dsa_device.proofs.Layers.{next-dispatch}
 use Rattle.dsa_device.proofs.Steps.{IsStep, step_by_parts}
 use Rattle.dsa_device.proofs.device.Device.dispatch.Given.{Over}
 use Rattle.dsa_device.proofs.device.Device.dispatch.Goals as goal
 
-pub dispatch-answer-requires-clause-ready : goal.dispatch-answer-requires-clause-ready
-dispatch-answer-requires-clause-ready g c = ready _ c.self.invariant.replay
-
-pub dispatch-answer-requires-clause-in_step : goal.dispatch-answer-requires-clause-in_step
-dispatch-answer-requires-clause-in_step g c = c.self.invariant.in_step
+pub dispatch-answer-requires : goal.dispatch-answer-requires
+dispatch-answer-requires g c = record { in_step = c.self.invariant.in_step }
 
 step : (g : Over) (c : goal.After-record g) → IsStep (g.S.EntryStore.cells c.dispatch-answer.new.store) c.dispatch-answer.new.self (running c.self.inside.caps c.self.inside.queues c.self.inside.engines (g.S.EntryStore.content c.self.inside.store) c.self.inside.admin c.self.inside.book) (event.Dispatch c.args.engine) (reply.Dispatch c.dispatch-answer.result) (running c.self.inside.caps c.self.inside.queues c.dispatch-answer.new.self (g.S.EntryStore.content c.dispatch-answer.new.store) c.self.inside.admin c.record.new.self)
 step g c =
@@ -25,7 +21,7 @@ step g c =
     (event.Dispatch c.args.engine) (reply.Dispatch c.dispatch-answer.result)
     c.self.invariant (sym c.is_full.ensures.full ∙ c.if-is_full.false) c.record.ensures
     (next-dispatch d.state c.args.engine c.dispatch-answer.result (work i.queues c.dispatch-answer.new.self content' i.book.fates) (c.dispatch-answer.ensures.step i.book.fates) c.dispatch-answer.ensures.free)
-    c.dispatch-answer.ensures.cells c.dispatch-answer.ensures.in_step
+    c.dispatch-answer.ensures.in_step
 
 pub invariant_of-self : goal.invariant_of-self
 invariant_of-self g c = (step g c).whole

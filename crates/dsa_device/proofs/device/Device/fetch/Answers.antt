@@ -1,29 +1,19 @@
-use Rattle.std.proofs.Common.{◌∙◌, sym, arith}
+use Rattle.std.proofs.Common.{◌∙◌, sym}
 use Rattle.dsa_book.specs.declared.event.Event.TheVariants as event
 use Rattle.dsa_book.specs.declared.answer.Reply.TheVariants as reply
 use Rattle.dsa_engines.specs.Engines.{work}
 use Rattle.dsa_device.specs.Running.{running}
-use Rattle.dsa_device.proofs.Known.{ready, store_cells, fetching, names_fit}
+use Rattle.dsa_device.proofs.Known.{fetching, names_fit}
 use Rattle.dsa_device.proofs.Layers.{next-fetch}
 use Rattle.dsa_device.proofs.Steps.{IsStep, step_by_parts}
 use Rattle.dsa_device.proofs.device.Device.fetch.Given.{Over}
 use Rattle.dsa_device.proofs.device.Device.fetch.Goals as goal
 
-pub fetch-answer-requires-clause-ready : goal.fetch-answer-requires-clause-ready
-fetch-answer-requires-clause-ready g c = ready _ c.self.invariant.replay
-
 pub fetch-answer-requires-clause-in_step : goal.fetch-answer-requires-clause-in_step
 fetch-answer-requires-clause-in_step g c = c.self.invariant.in_step
 
-pub fetch-answer-requires-clause-cells : goal.fetch-answer-requires-clause-cells
-fetch-answer-requires-clause-cells g c = store_cells _ _ c.self.invariant.replay c.self.invariant.same_cells
-
 pub fetch-answer-requires-clause-room : goal.fetch-answer-requires-clause-room
-fetch-answer-requires-clause-room g c = λ h.
-    let w = c.self.invariant in
-    let room = fetching _ c.args.engine w.replay h in
-    let cells = w.same_cells in
-    omega (arith, room, cells)
+fetch-answer-requires-clause-room g c = fetching _ _ _ c.args.engine c.self.invariant
 
 pub fetch-answer-requires-clause-names : goal.fetch-answer-requires-clause-names
 fetch-answer-requires-clause-names g c = λ h. names_fit _ c.self.invariant.replay
@@ -38,7 +28,7 @@ step g c =
     (event.Fetch c.args.engine c.args.desc) (reply.Fetch c.fetch-answer.result)
     c.self.invariant (sym c.is_full.ensures.full ∙ c.if-is_full.false) c.record.ensures
     (next-fetch d.state c.args.engine c.args.desc c.fetch-answer.result (work c.fetch-answer.new.queues c.fetch-answer.new.self content' i.book.fates) (c.fetch-answer.ensures.step i.book.fates) c.fetch-answer.ensures.free)
-    c.fetch-answer.ensures.cells c.fetch-answer.ensures.in_step
+    c.fetch-answer.ensures.in_step
 
 pub invariant_of-self : goal.invariant_of-self
 invariant_of-self g c = (step g c).whole

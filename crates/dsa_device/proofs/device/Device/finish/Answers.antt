@@ -3,14 +3,11 @@ use Rattle.dsa_book.specs.declared.event.Event.TheVariants as event
 use Rattle.dsa_book.specs.declared.answer.Reply.TheVariants as reply
 use Rattle.dsa_engines.specs.Engines.{work}
 use Rattle.dsa_device.specs.Running.{running}
-use Rattle.dsa_device.proofs.Known.{ready, row_fits}
+use Rattle.dsa_device.proofs.Known.{row_fits}
 use Rattle.dsa_device.proofs.Layers.{next-finish}
 use Rattle.dsa_device.proofs.Steps.{IsStep, step_by_parts, recorded-rows}
 use Rattle.dsa_device.proofs.device.Device.finish.Given.{Over}
 use Rattle.dsa_device.proofs.device.Device.finish.Goals as goal
-
-pub finish-answer-requires-clause-ready : goal.finish-answer-requires-clause-ready
-finish-answer-requires-clause-ready g c = ready _ c.self.invariant.replay
 
 pub finish-answer-requires-clause-in_step : goal.finish-answer-requires-clause-in_step
 finish-answer-requires-clause-in_step g c = c.self.invariant.in_step
@@ -30,7 +27,7 @@ step g c =
     c.self.invariant (sym c.is_full.ensures.full ∙ c.if-is_full.false)
     (recorded-rows i.book c.finish-answer.new.book c.record.new.self (event.Finish c.args.engine c.args.ticket c.args.outcome) (reply.Finish c.finish-answer.result) c.finish-answer.ensures.book c.record.ensures)
     (next-finish d.state c.args.engine c.args.ticket c.args.outcome c.finish-answer.result (work i.queues c.finish-answer.new.self content' rows) c.finish-answer.ensures.step)
-    c.finish-answer.ensures.cells c.finish-answer.ensures.in_step
+    c.finish-answer.ensures.in_step
 
 pub invariant_of-self : goal.invariant_of-self
 invariant_of-self g c = (step g c).whole

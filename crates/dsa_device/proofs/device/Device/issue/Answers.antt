@@ -3,14 +3,11 @@ use Rattle.dsa_book.specs.declared.event.Event.TheVariants as event
 use Rattle.dsa_book.specs.declared.answer.Reply.TheVariants as reply
 use Rattle.dsa_admin.specs.Admin.{state}
 use Rattle.dsa_device.specs.Running.{running}
-use Rattle.dsa_device.proofs.Known.{ready, rows_fit}
+use Rattle.dsa_device.proofs.Known.{rows_fit}
 use Rattle.dsa_device.proofs.Layers.{next-issue}
 use Rattle.dsa_device.proofs.Steps.{IsStep, step_by_parts, recorded-rows}
 use Rattle.dsa_device.proofs.device.Device.issue.Given.{Over}
 use Rattle.dsa_device.proofs.device.Device.issue.Goals as goal
-
-pub issue-answer-requires-clause-ready : goal.issue-answer-requires-clause-ready
-issue-answer-requires-clause-ready g c = ready _ c.self.invariant.replay
 
 pub issue-answer-requires-clause-in_step : goal.issue-answer-requires-clause-in_step
 issue-answer-requires-clause-in_step g c = c.self.invariant.in_step
@@ -30,7 +27,7 @@ step g c =
     c.self.invariant (sym c.is_full.ensures.full ∙ c.if-is_full.false)
     (recorded-rows i.book c.issue-answer.new.book c.record.new.self (event.Issue c.args.command) (reply.Issue c.issue-answer.result) c.issue-answer.ensures.book c.record.ensures)
     (next-issue d.state c.args.command c.issue-answer.result (state c.issue-answer.new.queues c.issue-answer.new.engines content' rows c.issue-answer.new.self) c.issue-answer.ensures.issued)
-    c.issue-answer.ensures.cells c.issue-answer.ensures.in_step
+    c.issue-answer.ensures.in_step
 
 pub invariant_of-self : goal.invariant_of-self
 invariant_of-self g c = (step g c).whole

@@ -1,4 +1,4 @@
-use Rattle.std.proofs.Common.{◌∙◌, refl, sym}
+use Rattle.std.proofs.Common.{◌∙◌, sym}
 use Rattle.dsa_book.specs.declared.event.Event.TheVariants as event
 use Rattle.dsa_book.specs.declared.answer.Reply.TheVariants as reply
 use Rattle.dsa_admin.specs.Admin.{state}
@@ -18,7 +18,6 @@ step g c =
     event.Poll (reply.Poll c.poll-answer.result)
     c.self.invariant (sym c.is_full.ensures.full ∙ c.if-is_full.false) c.record.ensures
     (next-poll d.state c.poll-answer.result (state c.poll-answer.new.queues i.engines content i.book.fates c.poll-answer.new.self) polled)
-    refl
     (c.poll-answer.ensures.in_step i.engines c.self.invariant.in_step)
 
 pub invariant_of-self : goal.invariant_of-self

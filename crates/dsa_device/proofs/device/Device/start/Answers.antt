@@ -3,14 +3,11 @@ use Rattle.dsa_book.specs.declared.event.Event.TheVariants as event
 use Rattle.dsa_book.specs.declared.answer.Reply.TheVariants as reply
 use Rattle.dsa_engines.specs.Engines.{work}
 use Rattle.dsa_device.specs.Running.{running}
-use Rattle.dsa_device.proofs.Known.{ready, members_wait, member_rows_fit}
+use Rattle.dsa_device.proofs.Known.{members_wait, member_rows_fit}
 use Rattle.dsa_device.proofs.Layers.{next-start}
 use Rattle.dsa_device.proofs.Steps.{IsStep, step_by_parts, recorded-rows}
 use Rattle.dsa_device.proofs.device.Device.start.Given.{Over}
 use Rattle.dsa_device.proofs.device.Device.start.Goals as goal
-
-pub start-answer-requires-clause-ready : goal.start-answer-requires-clause-ready
-start-answer-requires-clause-ready g c = ready _ c.self.invariant.replay
 
 pub start-answer-requires-clause-in_step : goal.start-answer-requires-clause-in_step
 start-answer-requires-clause-in_step g c = c.self.invariant.in_step
@@ -33,7 +30,7 @@ step g c =
     c.self.invariant (sym c.is_full.ensures.full ∙ c.if-is_full.false)
     (recorded-rows i.book c.start-answer.new.book c.record.new.self (event.Start c.args.engine) (reply.Start c.start-answer.result) c.start-answer.ensures.book c.record.ensures)
     (next-start d.state c.args.engine c.start-answer.result (work i.queues c.start-answer.new.self content' rows) c.start-answer.ensures.step)
-    c.start-answer.ensures.cells c.start-answer.ensures.in_step
+    c.start-answer.ensures.in_step
 
 pub invariant_of-self : goal.invariant_of-self
 invariant_of-self g c = (step g c).whole

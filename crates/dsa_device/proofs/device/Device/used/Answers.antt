@@ -18,7 +18,7 @@ returns-in-Off g c =
     let d = running i.caps i.queues i.engines (g.S.EntryStore.content i.store) i.admin i.book in
     rw (← c.self.view_is)
     (read-used d c.args.group 0 c.if-group-self.false
-    (used-off d c.args.group c.self.invariant.replay c.if-group-self.false (subst (λ (p : Phase). is_off p ≡ true) (sym c.in-Off.is ∙ c.device.ensures) refl)))
+    (used-off _ _ d c.args.group c.self.invariant c.if-group-self.false (subst (λ (p : Phase). is_off p ≡ true) (sym c.in-Off.is ∙ c.device.ensures) refl)))
 
 pub returns-in_default : goal.returns-in_default
 returns-in_default g c =

@@ -6,9 +6,9 @@ use Rattle.dsa_book.specs.State.{Setup}
 use Rattle.dsa_device.specs.Running.{running}
 use Rattle.dsa_device.proofs.Known.{well_formed}
 use Rattle.dsa_device.proofs.Layers.{next-write_queue}
-use Rattle.dsa_engines.specs.Engines.{IsInStep}
-use Rattle.dsa_device.proofs.InStep.{write_queue-in_step}
-use Rattle.dsa_device.proofs.Steps.{IsStep, step_by_parts}
+use Rattle.dsa_engines.proofs.Keeping.{KeepsLoads}
+use Rattle.dsa_device.proofs.InStep.{write_queue-keeps}
+use Rattle.dsa_device.proofs.Steps.{IsStep, step_of_queues}
 use Rattle.dsa_device.proofs.device.Device.write_queue.Given.{Over}
 use Rattle.dsa_device.proofs.device.Device.write_queue.Goals as goal
 
@@ -17,12 +17,12 @@ step g c =
     let i = c.self.inside in
     let content = g.S.EntryStore.content i.store in
     let d = running i.caps i.queues i.engines content i.admin i.book in
-    step_by_parts _ _ i.caps i.queues c.write_queue-answer.new.self i.engines i.engines content content i.admin i.admin i.book c.record.new.self i.book.fates
+    step_of_queues _ _ i.caps i.queues c.write_queue-answer.new.self i.engines content content i.admin i.book c.record.new.self
     (event.WriteQueue c.args.queue c.args.config) (reply.Write c.write_queue-answer.result)
     c.self.invariant (sym c.is_full.ensures.full ∙ c.if-is_full.false) c.record.ensures
     (next-write_queue d.state c.args.queue c.args.config c.write_queue-answer.result c.write_queue-answer.new.self c.write_queue-answer.ensures)
     refl
-    (subst (λ (r : WriteAnswer × Setup). IsInStep r.1 i.engines content) c.write_queue-answer.ensures (write_queue-in_step d.state.work i.engines c.args.queue c.args.config (well_formed d c.self.invariant.replay).entries.none_off c.self.invariant.in_step))
+    (λ on. subst (λ (r : WriteAnswer × Setup). KeepsLoads i.queues r.1 content content) c.write_queue-answer.ensures (write_queue-keeps d.state.work c.args.queue c.args.config (well_formed d c.self.invariant.replay).entries.none_off))
 
 pub invariant_of-self : goal.invariant_of-self
 invariant_of-self g c = (step g c).whole

@@ -4,7 +4,11 @@ use Rattle.dsa_engines.proofs.Used.{buffers-at_rest, made-at_rest}
 use Rattle.dsa_engines.proofs.engines.Engines.enable.Goals as goal
 
 pub returns-clause-in_step : goal.returns-clause-in_step
-returns-clause-in_step c content none = record {
+returns-clause-in_step c cells content store none = record {
+  queues = c.caps.ensures.whole;
+  store = store;
+  idle = λ off. none;
+  checked = λ on. c.requires.checked;
   notes = ap (λ (x : Gear). length x.notes) c.self.view_is ∙ c.requires.notes;
   homes = λ on. c.homes-self-inside.ensures;
   buffers = λ on.

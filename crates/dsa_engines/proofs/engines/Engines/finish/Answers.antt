@@ -10,7 +10,7 @@ give_back-requires g c =
     let content : Content = g.S.EntryStore.content c.args.store.now in
     let once = (g.met.S.EntryStore.sound c.args.store.now).once c.args.ticket.cell in
     let at : RunsAt c.args.queues.now content c.args.engine c.args.ticket.cell c.in-Some.entry = running-place c.args.queues.now content c.args.engine c.args.ticket c.in-Some.entry once c.in-Some.ensures in
-    holds-need c.args.queues.now c.args.self.now content c.args.engine c.need.result c.home.result c.args.ticket.cell c.in-Some.entry once c.requires.ready c.requires.in_step at c.home.ensures c.need.ensures
+    holds-need c.args.queues.now c.args.self.now content c.args.engine c.need.result c.home.result c.args.ticket.cell c.in-Some.entry once c.requires.in_step at c.home.ensures c.need.ensures
 
 pub returns-clause-step : goal.returns-clause-step
 returns-clause-step g c =
@@ -23,4 +23,4 @@ returns-clause-in_step g c =
     let content : Content = g.S.EntryStore.content c.args.store.now in
     let once = (g.met.S.EntryStore.sound c.args.store.now).once c.args.ticket.cell in
     let at : RunsAt c.args.queues.now content c.args.engine c.args.ticket.cell c.in-Some.entry = running-place c.args.queues.now content c.args.engine c.args.ticket c.in-Some.entry once c.in-Some.ensures in
-    in_step-ended c.args.queues.now c.args.self.now c.give_back.new.self c.set_note.new.self content (g.S.EntryStore.content c.unlink.new.self) c.args.engine c.need.result c.home.result c.args.ticket.cell c.in-Some.entry c.note_after-note.result once c.requires.ready c.requires.in_step at c.home.ensures c.need.ensures c.give_back.ensures c.set_note.ensures c.unlink.ensures.after
+    in_step-ended c.args.queues.now c.args.self.now c.give_back.new.self c.set_note.new.self content (g.S.EntryStore.content c.unlink.new.self) c.args.engine c.need.result c.home.result c.args.ticket.cell c.in-Some.entry c.note_after-note.result c.unlink.ensures.cells once c.requires.in_step at c.home.ensures c.need.ensures c.give_back.ensures c.set_note.ensures c.unlink.ensures.after

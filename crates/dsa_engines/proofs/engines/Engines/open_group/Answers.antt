@@ -6,7 +6,7 @@ use Rattle.dsa_engines.proofs.engines.Engines.open_group.Goals as goal
 
 pub returns-clause-none : goal.returns-clause-none
 returns-clause-none g c =
-    no-home c.args.queues.now c.args.self.now (g.S.EntryStore.content c.args.store.now) c.args.engine c.home.result c.requires.ready c.requires.in_step (omega (arith, c.if-engine-caps.false, ap (λ (x : Caps). x.engines) c.caps-caps.ensures.value)) c.home.ensures
+    no-home c.args.queues.now c.args.self.now (g.S.EntryStore.content c.args.store.now) c.args.engine c.home.result c.requires.in_step (omega (arith, c.if-engine-caps.false, ap (λ (x : Caps). x.engines) c.caps-caps.ensures.value)) c.home.ensures
 
 pub returns-clause-some : goal.returns-clause-some
 returns-clause-some g c =
