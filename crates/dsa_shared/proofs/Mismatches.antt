@@ -12,7 +12,7 @@ use Rattle.dsa_book.specs.declared.event.Actor.TheVariants.{Admin}
 use Rattle.dsa_book.specs.Totals.{steps_of}
 use Rattle.dsa_shared.specs.Compare.{DiffersFirstAt}
 use Rattle.dsa_shared.specs.Seat.{SeatLog, client_of, engine_of, number_of, receipts_of}
-use Rattle.dsa_shared.specs.Settle.{HasEach, AllMatch, FirstMismatch, IsComplete, Match, IsFirstMismatch}
+use Rattle.dsa_shared.specs.Settle.{HasEach, AllMatch, FirstMismatch, IsComplete, IsFirstMismatch}
 use Rattle.dsa_shared.proofs.Compares.{never_same}
 use Rattle.dsa_shared.proofs.Sums.{total, once, total_is}
 
@@ -111,14 +111,3 @@ mismatch_once h clients engines admin c e i j all (inr (inl a)) (inr (inr b)) = 
 mismatch_once h clients engines admin c e i j all (inr (inr a)) (inl b) = absurd (none_matching number_of client_of receipts_of h clients j a.0 b)
 mismatch_once h clients engines admin c e i j all (inr (inr a)) (inr (inl b)) = absurd (none_matching number_of engine_of receipts_of h engines j a.1 b.1)
 mismatch_once h clients engines admin c e i j all (inr (inr a)) (inr (inr b)) = admin_once h admin i j a.2 b.2
-
-admin_matches : (h : List Step) (admin : Option (List Step)) (i : ℕ) → admin ≡ Some (steps_of h Admin)
-    → IsSomeAnd admin (λ r. DiffersFirstAt r (steps_of h Admin) i) → ⊥
-admin_matches h (Some r) i same a = never_same _ _ i a (same_Some r (steps_of h Admin) same)
-admin_matches h None i same a = absurd a
-
-pub none_mismatched : (h : List Step) (clients engines : List SeatLog) (admin : Option (List Step)) (i : ℕ)
-    → Match h clients engines admin → IsFirstMismatch h clients engines admin i → ⊥
-none_mismatched h clients engines admin i match (inl a) = none_matching number_of client_of receipts_of h clients i match.client_receipts a
-none_mismatched h clients engines admin i match (inr (inl a)) = none_matching number_of engine_of receipts_of h engines i match.engine_receipts a.1
-none_mismatched h clients engines admin i match (inr (inr a)) = admin_matches h admin i match.admin_receipts a.2

@@ -1,17 +1,14 @@
 -- Sums over all slots of a store, as its calls change them. How often a cell is used, and how many are held, are such sums.
-use Rattle.std.proofs.Common.{◌≡◌, ℕ, ◌+◌, ◌<◌, ◌≤◌, ◌≢◌, Bool, true, not, cond, List, [], ◌∷◌, ◌++◌, take, drop, length, map, set, get_or, refl, sym, ap, ◌∙◌, arith}
-use Rattle.std.proofs.lemmas.Grind.{common_steps}
-use Rattle.std.specs.List.{filter, count_by, sum_by, remove}
-use Rattle.std.proofs.lemmas.List.{length-set}
+use Rattle.std.proofs.Common.{◌≡◌, ℕ, ◌+◌, ◌<◌, Bool, true, not, cond, List, [], ◌∷◌, ◌++◌, drop, length, map, set, refl, sym, ap, ◌∙◌, arith}
+use Rattle.std.specs.List.{filter, count_by, sum_by}
 use Rattle.std.proofs.lemmas.List.Concat.{length-flat_map}
 use Rattle.std.proofs.lemmas.List.Elements.{filter-append}
-use Rattle.std.proofs.lemmas.List.Sums.{sum_by-cons, sum_by-append, sum_by_push, sum_by-set, sum_by-remove, sum_by-take-drop}
+use Rattle.std.proofs.lemmas.List.Sums.{sum_by-cons, sum_by-append, sum_by_push, sum_by-set}
 use Rattle.std.proofs.lemmas.List.Filters.{sum_by-filter_both}
 use Rattle.dsa_store.specs.declared.entry.Cell.{Cell}
 use Rattle.dsa_store.specs.declared.entry.Entry.{Entry}
-use Rattle.dsa_store.specs.Content.{Slot, Content, is_cell, chain, count, uses, held, pushed, without_front, moved, unlinked, replaced, emptied, StandsAt, all_held, is_free, kept}
+use Rattle.dsa_store.specs.Content.{Slot, Content, is_cell, chain, count, uses, held, pushed, without_front, unlinked, all_held, is_free, kept}
 use Rattle.dsa_store.proofs.Places.{list_any-absent, list_any-present}
-use Rattle.dsa_store.proofs.Finding.{unlinked-at, replaced-at}
 
 -- a sum over all slots goes list by list
 pub sum-lists : (f : Slot → ℕ) (content : Content) → sum_by f (all_held content) ≡ sum_by (sum_by f) content
@@ -34,32 +31,6 @@ sum-without_front f content list s rest h is =
     let old : sum_by f (chain content list) ≡ sum_by f (s ∷ rest) = ap (sum_by f) is in
     let new : sum_by f (drop 1 (chain content list)) ≡ sum_by f rest = ap (λ (l : List Slot). sum_by f (drop 1 l)) is in
     omega (arith, sum-set f content list (drop 1 (chain content list)) h, sum_by-cons f s rest, old, new)
-
-pub sum-moved : (f : Slot → ℕ) (content : Content) (from to : ℕ) → from < length content → to < length content → from ≢ to → sum_by f (all_held (moved content from to)) ≡ sum_by f (all_held content)
-sum-moved f content from to hf ht ne =
-    let mid : Content = without_front content from in
-    let tm : to < length mid = rw (length-set content from (drop 1 (chain content from))) ht in
-    let same : chain mid to ≡ chain content to = grind (arith, common_steps) in
-    let there : sum_by f (chain mid to) ≡ sum_by f (chain content to) = ap (sum_by f) same in
-    let first = sum-set f content from (drop 1 (chain content from)) hf in
-    let then = sum-set f mid to (chain content to ++ take 1 (chain content from)) tm in
-    omega (arith, first, then, there, sum_by-append f (chain content to) (take 1 (chain content from)), sum_by-take-drop f (chain content from) 1)
-
-pub sum-emptied : (f : Slot → ℕ) (content : Content) (list : ℕ) → list < length content → sum_by f (all_held (emptied content list)) + sum_by f (chain content list) ≡ sum_by f (all_held content)
-sum-emptied f content list h = omega (arith, sum-set f content list [] h)
-
-pub sum-unlinked : (f : Slot → ℕ) (content : Content) (i k : ℕ) (cell : Cell) (e : Entry) → i < length content → uses content cell ≤ 1 → StandsAt content i k cell e → sum_by f (all_held (unlinked content cell)) + f (cell, e) ≡ sum_by f (all_held content)
-sum-unlinked f content i k cell e h once at =
-    let is : sum_by f (all_held (unlinked content cell)) ≡ sum_by f (all_held (set content i (remove (chain content i) k))) = ap (λ (c : Content). sum_by f (all_held c)) (unlinked-at content i k cell e once at) in
-    let here : f (get_or (chain content i) k (cell, e)) ≡ f (cell, e) = ap f at.slot in
-    omega (arith, is, here, sum-set f content i (remove (chain content i) k) h, sum_by-remove f (chain content i) k (cell, e) at.within)
-
-pub sum-replaced : (f : Slot → ℕ) (content : Content) (i k : ℕ) (cell : Cell) (e new : Entry) → i < length content → uses content cell ≤ 1 → StandsAt content i k cell e → sum_by f (all_held (replaced content cell new)) + f (cell, e) ≡ sum_by f (all_held content) + f (cell, new)
-sum-replaced f content i k cell e new h once at =
-    let l : List Slot = set (chain content i) k (cell, new) in
-    let is : sum_by f (all_held (replaced content cell new)) ≡ sum_by f (all_held (set content i l)) = ap (λ (c : Content). sum_by f (all_held c)) (replaced-at content i k cell e new once at) in
-    let here : f (get_or (chain content i) k (cell, e)) ≡ f (cell, e) = ap f at.slot in
-    omega (arith, is, here, sum-set f content i l h, sum_by-set f (chain content i) k (cell, new) (cell, e) at.within)
 
 -- ---- a test that each slot passes or not
 
