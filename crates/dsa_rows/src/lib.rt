@@ -4,11 +4,9 @@
 #[cfg(test)]
 mod alike;
 #[cfg(test)]
-mod linked;
+mod both;
 #[cfg(test)]
 mod memory;
-#[cfg(test)]
-mod plain;
 #[cfg(test)]
 mod stores;
 #[cfg(test)]
