@@ -11,7 +11,7 @@ use Rattle.dsa_book.specs.declared.fate.Fate.TheVariants.{Completed, Aborted, Ab
 use Rattle.dsa_book.specs.declared.fate.FateRow.{FateRow}
 use Rattle.dsa_book.specs.State.{Work, State, opening}
 use Rattle.dsa_book.specs.Work.{fate_row, member_list, members, last_status}
-use Rattle.dsa_book.specs.Commands.{is_in_scope, aborted}
+use Rattle.dsa_book.specs.Commands.{is_in_scope, after_abort}
 use Rattle.dsa_book.specs.Machine.{replay}
 use Rattle.dsa_laws.specs.Change.{Change}
 use Rattle.dsa_laws.proofs.Effects.{by_effect}
@@ -37,7 +37,7 @@ abandoned-rows [] each = refl
 abandoned-rows (x ∷ xs) each = and_from _ _ (or_left (is_some x.1.parent) false (each x (inl refl))) (abandoned-rows xs (λ y i. each y (inr i)))
 
 -- a command's scope ends
-aborted-lawful : (number : ℕ) (scope : Scope) (w : Work) → only_members_abandoned w.fates ≡ true → only_members_abandoned (aborted number scope w).fates ≡ true
+aborted-lawful : (number : ℕ) (scope : Scope) (w : Work) → only_members_abandoned w.fates ≡ true → only_members_abandoned (after_abort number scope w).fates ≡ true
 aborted-lawful number scope w old =
     let gone = filter (λ slot. is_in_scope scope slot.1) (all_held w.content) in
     let fate = Aborted number in

@@ -3,12 +3,12 @@ use Rattle.std.proofs.Common.{◌≡◌, ℕ, ◌+◌, ◌<◌, Bool, cond, List
 use Rattle.std.specs.Prelude.{sum_by, count_by, is_some, is_none}
 use Rattle.std.proofs.lemmas.List.Sums.{sum_by-cons, count_by-le-length}
 use Rattle.dsa_regs.specs.declared.Caps.{Caps}
-use Rattle.dsa_store.specs.Content.{Slot, Content, all_held, pushed}
+use Rattle.dsa_store.specs.Content.{Slot, Content, all_held, after_push}
 use Rattle.dsa_store.proofs.Sums.{sum-pushed}
 use Rattle.dsa_book.specs.declared.fate.FateRow.{FateRow}
 use Rattle.dsa_book.specs.State.{Work, State}
-use Rattle.dsa_book.specs.Work.{member_list, fetched}
-use Rattle.dsa_book.specs.Submit.{accepted}
+use Rattle.dsa_book.specs.Work.{member_list, after_fetch}
+use Rattle.dsa_book.specs.Submit.{after_accept}
 use Rattle.dsa_book.specs.Machine.{with_intake, intake_of}
 use Rattle.dsa_laws.specs.Change.{Change}
 use Rattle.dsa_laws.proofs.Effects.{by_count, came}
@@ -37,7 +37,7 @@ account-flow p caps w w' flow =
 
 -- what comes is counted where its parent passes
 entered : (p : Option ℕ → Bool) (w w' : Work) (k : ℕ) (x : Slot) → k < length w.content
-    → w'.content ≡ pushed w.content k x.0 x.1 → w'.fates ≡ w.fates
+    → w'.content ≡ after_push w.content k x.0 x.1 → w'.fates ≡ w.fates
     → entries_with p w' ≡ entries_with p w + count_by p (x.1.parent ∷ [])
 entered p w w' k x inside content fates =
     let sum = sum-pushed (weight p) w.content k x.0 x.1 inside in
@@ -70,13 +70,13 @@ change-entries p caps s s' h once c =
     by_count (λ xs n w. Kept w → entries_with p w ≡ entries_with p s.work + count_by p xs) s s' c
     (λ e same. same e.names)
     (λ c same.
-    let after = (with_intake s (accepted (intake_of s) c.queue c.kind c.desc c.cell).1).work in
+    let after = (with_intake s (after_accept (intake_of s) c.queue c.kind c.desc c.cell).1).work in
     entered p s.work after c.queue _ (queue_list-in caps s.work c.queue h
     (on-queue caps s.work c.queue h c.on)) refl refl)
     (λ c same. same refl)
     (λ c same.
     let inside = member_list-in caps s.work c.engine h (note-engine caps s.work c.engine c.note h c.is_note) in
-    entered p s.work (fetched s.work c.engine c.desc c.cell c.note c.batch.1).1
+    entered p s.work (after_fetch s.work c.engine c.desc c.cell c.note c.batch.1).1
     (member_list s.work.setup c.engine) _ inside refl refl)
     (λ c same. same refl)
     (λ c same. same refl)

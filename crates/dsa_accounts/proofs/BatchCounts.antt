@@ -16,7 +16,7 @@ use Rattle.dsa_book.specs.declared.fate.FateRow.{FateRow}
 use Rattle.dsa_book.specs.declared.note.BatchNote.{BatchNote}
 use Rattle.dsa_book.specs.State.{Work, State, opening}
 use Rattle.dsa_book.specs.declared.event.Step.{Step}
-use Rattle.dsa_book.specs.Work.{abandoned, ended, fate_row, fetched, in_progress, last_status, member_list, members, note_at, opened_note, progress_list, running_on, taken}
+use Rattle.dsa_book.specs.Work.{after_abandon, after_end, fate_row, after_fetch, in_progress, last_status, member_list, members, note_at, opened_note, progress_list, running_on, after_take}
 use Rattle.dsa_book.specs.Commands.{is_in_scope, kept_note}
 use Rattle.dsa_book.specs.Machine.{replay}
 use Rattle.dsa_base.specs.Lists.{In}
@@ -121,28 +121,28 @@ adds-up w note h = record {
 alike : (w w' : Work) (n m : BatchNote) → m.batch ≡ n.batch → m.fetched ≡ n.fetched → m.closed ≡ n.closed
     → members_of w' n.batch ≡ members_of w n.batch → members_abandoned w' n.batch ≡ members_abandoned w n.batch
     → members_aborted w' n.batch ≡ members_aborted w n.batch → Counts w n → Counts w' m
-alike w w' n m batch fetched closed all abandoned aborted h = record {
-  fetched = ap (members_of w') batch ∙ all ∙ h.fetched ∙ sym fetched;
-  unclosed = λ o. ap (members_abandoned w') batch ∙ abandoned ∙ h.unclosed (sym closed ∙ o);
+alike w w' n m batch after_fetch closed all after_abandon aborted h = record {
+  fetched = ap (members_of w') batch ∙ all ∙ h.fetched ∙ sym after_fetch;
+  unclosed = λ o. ap (members_abandoned w') batch ∙ after_abandon ∙ h.unclosed (sym closed ∙ o);
   closed = λ o. subst (λ k. 1 ≤ members_abandoned w' k) (sym batch)
-      (subst (λ k. 1 ≤ k) (sym abandoned) (h.closed (sym closed ∙ o)));
+      (subst (λ k. 1 ≤ k) (sym after_abandon) (h.closed (sym closed ∙ o)));
   none_aborted = ap (members_aborted w') batch ∙ aborted ∙ h.none_aborted;
 }
 
 -- where the rows are the same
 unended : (w w' : Work) (n : BatchNote) → w'.fates ≡ w.fates → members_of w' n.batch ≡ members_of w n.batch
     → Counts w n → Counts w' n
-unended w w' n fates all h = alike w w' n n refl refl refl all (ended was_abandoned) (ended was_aborted) h
+unended w w' n fates all h = alike w w' n n refl refl refl all (after_end was_abandoned) (after_end was_aborted) h
   where
-    ended : (such : Fate → Bool) → members_ended such w' n.batch ≡ members_ended such w n.batch
-    ended such = ap (λ (rows : List FateRow). count_by (λ row. such row.fate && is_of n.batch row.parent) rows) fates
+    after_end : (such : Fate → Bool) → members_ended such w' n.batch ≡ members_ended such w n.batch
+    after_end such = ap (λ (rows : List FateRow). count_by (λ row. such row.fate && is_of n.batch row.parent) rows) fates
 
 -- where the batch has no members
 fresh : (w : Work) (n : BatchNote) → members_of w n.batch ≡ 0 → n.fetched ≡ 0 → n.closed ≡ false → Counts w n
-fresh w n none fetched unclosed =
+fresh w n none after_fetch unclosed =
     let three = fates-counted n.batch w.fates in
     record {
-      fetched = none ∙ sym fetched;
+      fetched = none ∙ sym after_fetch;
       unclosed = λ o. omega (arith, three, none);
       closed = λ o. absurd (both n.closed o unclosed);
       none_aborted = omega (arith, three, none);
@@ -248,7 +248,7 @@ notes-change caps s s' w counts c = by_count (λ xs k w'. Adds s.work xs w' → 
     (counts.notes j n (ap (λ (ns : List (Option BatchNote)). get_or ns j None) (sym e.notes) ∙ h)))
     (λ c same j n h. unended s.work _ n refl (none (same n.batch)) (counts.notes j n h))
     (λ c same j n h.
-    let after = taken s.work c.engine c.queue c.front in
+    let after = after_take s.work c.engine c.queue c.front in
     let tests = (and_parts _ _ c.qualifies).0 in
     let front = In-front c.front _ c.is_front in
     let below = ltb-true c.queue s.work.setup.caps.queues (and_parts _ _ tests).1 in
@@ -260,7 +260,7 @@ notes-change caps s s' w counts c = by_count (λ xs k w'. Adds s.work xs w' → 
     (opened _ s.work.notes c.engine j (opened_note c.front.1) n
     (engine-noted caps s c.engine w (and_parts _ _ tests).0) h))
     (λ c same j n h.
-    let after = (fetched s.work c.engine c.desc c.cell c.note c.batch.1).1 in
+    let after = (after_fetch s.work c.engine c.desc c.cell c.note c.batch.1).1 in
     let more : BatchNote = record c.note { fetched = c.note.fetched + 1 } in
     let inside = note-engine caps s.work c.engine c.note w.shape c.is_note in
     let size = w.shape.notes in
@@ -283,7 +283,7 @@ notes-change caps s s' w counts c = by_count (λ xs k w'. Adds s.work xs w' → 
     (note-cases s.work.notes c.engine j (Some more) n (omega (arith, inside, size)) h))
     (λ c same j n h. unended s.work _ n refl (none (same n.batch)) (counts.notes j n h))
     (λ c same j n h.
-    let after = abandoned s.work c.engine in
+    let after = after_abandon s.work c.engine in
     let close : BatchNote → BatchNote = λ note. record note { closed = true } in
     let inside = engine-noted caps s c.engine w (waiting-engine s.work c.engine c.slot c.is_first) in
     let slot = (In-find _ c.slot (members s.work c.engine) c.is_first).0 in
@@ -309,7 +309,7 @@ notes-change caps s s' w counts c = by_count (λ xs k w'. Adds s.work xs w' → 
     (counts.notes j n old.1))
     (note-cases s.work.notes c.engine j _ n inside h))
     (λ c same j n h.
-    let after = ended s.work c.engine c.slot c.outcome in
+    let after = after_end s.work c.engine c.slot c.outcome in
     let k = c.engine in
     let i = (In-filter _ c.slot (in_progress s.work k ++ members s.work k)
     (In-find _ c.slot (running_on s.work k) c.is_found).0).0 in

@@ -23,7 +23,7 @@ use Rattle.dsa_book.specs.declared.fate.Fate.TheVariants.{Completed}
 use Rattle.dsa_book.specs.declared.fate.FateRow.{FateRow}
 use Rattle.dsa_book.specs.declared.note.BatchNote.{BatchNote}
 use Rattle.dsa_book.specs.State.{Work, State, opening, is_batch_of, is_ticket}
-use Rattle.dsa_book.specs.Work.{ended, fate_row, finish_of, in_progress, is_all_fetched, is_unfinished, last_status, members, note_at, progress_list, running_on}
+use Rattle.dsa_book.specs.Work.{after_end, fate_row, finish_of, in_progress, is_all_fetched, is_unfinished, last_status, members, note_at, progress_list, running_on}
 use Rattle.dsa_book.specs.Machine.{next, replay, replay_from}
 use Rattle.dsa_book.proofs.Nexts.{next-each}
 use Rattle.dsa_book.proofs.Replay.{replay_from-append, replay_none}
@@ -46,7 +46,7 @@ use Rattle.dsa_accounts.proofs.NotedBatches.{In-progress, is_of-parent, noted, n
 -- a batch that ends had nothing left to do
 done-is : (s : State) (e : ℕ) (outcome : Outcome) (o : Option Slot) (batch : Slot) (status : ℕ) → o ≡ Some batch
     → let r = finish_of s.work e outcome o in r.0 ≡ Done status
-    → ((is_batch_of s.work.setup batch.1 && is_unfinished s.work e) ≡ false) × (r.1 ≡ ended s.work e batch outcome)
+    → ((is_batch_of s.work.setup batch.1 && is_unfinished s.work e) ≡ false) × (r.1 ≡ after_end s.work e batch outcome)
 done-is s e outcome None batch status is = λ told. absurd (nothing is)
   where
     nothing : {A : Type 0} {a : A} → ◌≡◌ {A = Option A} None (Some a) → ⊥
@@ -54,21 +54,21 @@ done-is s e outcome None batch status is = λ told. absurd (nothing is)
 done-is s e outcome (Some slot) batch status is =
     let same : slot ≡ batch = cc in
     subst (λ (x : Slot). let r = finish_of s.work e outcome (Some slot) in r.0 ≡ Done status
-    → ((is_batch_of s.work.setup x.1 && is_unfinished s.work e) ≡ false) × (r.1 ≡ ended s.work e x outcome)) same
+    → ((is_batch_of s.work.setup x.1 && is_unfinished s.work e) ≡ false) × (r.1 ≡ after_end s.work e x outcome)) same
     (table1 (λ (r : FinishAnswer × Work). r.0 ≡ Done status
-    → ((is_batch_of s.work.setup slot.1 && is_unfinished s.work e) ≡ false) × (r.1 ≡ ended s.work e slot outcome))
+    → ((is_batch_of s.work.setup slot.1 && is_unfinished s.work e) ≡ false) × (r.1 ≡ after_end s.work e slot outcome))
     (is_batch_of s.work.setup slot.1 && is_unfinished s.work e) (NotReady, s.work)
-    (Done (last_status s.work e slot outcome), ended s.work e slot outcome)
+    (Done (last_status s.work e slot outcome), after_end s.work e slot outcome)
     (λ u told. absurd cc) (λ u told. (u, refl)))
 
 next-done : (s t : State) (e : ℕ) (ticket : Ticket) (outcome : Outcome) (status : ℕ) (batch : Slot)
     → next s (Finish e ticket outcome) (Finish (Done status)) ≡ Some t
     → find (is_ticket ticket) (running_on s.work e) ≡ Some batch
-    → ((is_batch_of s.work.setup batch.1 && is_unfinished s.work e) ≡ false) × (t.work ≡ ended s.work e batch outcome)
+    → ((is_batch_of s.work.setup batch.1 && is_unfinished s.work e) ≡ false) × (t.work ≡ after_end s.work e batch outcome)
 next-done s t e ticket outcome status batch h found =
     next-each (λ r u. r ≡ Finish (Done status)
     → ((is_batch_of s.work.setup batch.1 && is_unfinished s.work e) ≡ false) ×
-    (u.work ≡ ended s.work e batch outcome))
+    (u.work ≡ after_end s.work e batch outcome))
     s t (Finish e ticket outcome) (Finish (Done status))
     (λ choice may told is. done-is s e outcome (find (is_ticket ticket)
     (running_on s.work e)) batch status found cc) h refl
@@ -174,7 +174,7 @@ record IsOver (w : Work) (batch count : ℕ) : Type 0 where
 -- the batch itself ends
 after-end : (caps : Caps) (s : State) (e : ℕ) (batch : Slot) (outcome : Outcome) (count : ℕ) → IsWellFormed caps s
     → In batch (in_progress s.work e)
-    → HasEnded s.work batch.1.name count → IsOver (ended s.work e batch outcome) batch.1.name count
+    → HasEnded s.work batch.1.name count → IsOver (after_end s.work e batch outcome) batch.1.name count
 after-end caps s e batch outcome count w i h =
     let name = batch.1.name in
     let fate = Completed (last_status s.work e batch outcome) in
@@ -196,8 +196,8 @@ after-end caps s e batch outcome count w i h =
     let none = h.none_held in
     record {
       has_fate = omega (arith, rows, row, one);
-      ended = carried s.work (ended s.work e batch outcome) name count
-          (λ such. rows-apart such s.work (ended s.work e batch outcome) fate (batch ∷ []) name
+      ended = carried s.work (after_end s.work e batch outcome) name count
+          (λ such. rows-apart such s.work (after_end s.work e batch outcome) fate (batch ∷ []) name
           (λ x j. alone x j (ap (is_of name) parent)) refl)
           (omega (arith, left, less, none)) h;
     }

@@ -8,7 +8,7 @@ use Rattle.dsa_regs.specs.declared.QueueConfig.{QueueConfig}
 use Rattle.dsa_regs.specs.Caps.{cell_count, list_count}
 use Rattle.dsa_base.specs.Numbers.{numbers_below}
 use Rattle.dsa_regs.specs.Config.{queue_at, zero_queue, groups_table, total_size}
-use Rattle.dsa_store.specs.Content.{Slot, Content, chain, held}
+use Rattle.dsa_store.specs.Content.{Slot, Content, chain, held_count}
 use Rattle.dsa_book.specs.declared.event.Portal.{Portal}
 use Rattle.dsa_book.specs.declared.event.Kind.{Kind}
 use Rattle.dsa_book.specs.declared.note.BatchNote.{BatchNote}
@@ -32,8 +32,8 @@ use Rattle.dsa_laws.specs.Engines.{IsLawfulEngine}
 abbrev size : Content → ℕ → ℕ
 size content k = length (chain content k)
 
-held-places : (content : Content) → held content ≡ sum_by (size content) (numbers_below (length content))
-unfolding held
+held-places : (content : Content) → held_count content ≡ sum_by (size content) (numbers_below (length content))
+unfolding held_count
 held-places content = sym (sum-places (λ (l : List Slot). length l) content [])
 
 -- what an engine holds: in progress, and members
@@ -41,7 +41,7 @@ abbrev on_engine : Caps → Content → ℕ → ℕ
 on_engine caps content e = size content (caps.queues + e) + size content (caps.queues + caps.engines + e)
 
 held-parts : (caps : Caps) (content : Content) → length content ≡ list_count caps
-    → held content ≡ sum_by (size content) (numbers_below caps.queues) + sum_by (on_engine caps content) (numbers_below caps.engines)
+    → held_count content ≡ sum_by (size content) (numbers_below caps.queues) + sum_by (on_engine caps content) (numbers_below caps.engines)
 held-parts caps content long =
     let q = caps.queues in
     let n = caps.engines in
@@ -93,7 +93,7 @@ engine-fits caps w shape limits e i =
 
 -- a queue below its size
 pub queue-room : (caps : Caps) (w : Work) (q : ℕ) → HasShape caps w → HasLawfulSetup w.setup → IsWithinLimits caps w
-    → q < caps.queues → is_off (phase_at w.setup q) ≡ false → size w.content q < (queue_at w.setup.configs q).size → held w.content < cell_count caps
+    → q < caps.queues → is_off (phase_at w.setup q) ≡ false → size w.content q < (queue_at w.setup.configs q).size → held_count w.content < cell_count caps
 queue-room caps w q shape setup limits i off room =
     let parts = held-parts caps w.content shape.lists in
     let queues = sum-numbers-lt (size w.content) (λ k. (queue_at w.setup.configs k).size) caps.queues q limits.queues i room in
@@ -104,7 +104,7 @@ queue-room caps w q shape setup limits i off room =
 
 -- an engine with fewer members than a batch may have
 pub member-room : (caps : Caps) (w : Work) (e : ℕ) → HasShape caps w → HasLawfulSetup w.setup → HasLawfulEntries caps w → IsWithinLimits caps w
-    → e < caps.engines → length (members w e) < 2 ^ caps.max_batch_shift → held w.content < cell_count caps
+    → e < caps.engines → length (members w e) < 2 ^ caps.max_batch_shift → held_count w.content < cell_count caps
 member-room caps w e shape setup entries limits i room =
     let parts = held-parts caps w.content shape.lists in
     let queues = queues-fit caps w shape setup entries limits in
@@ -118,7 +118,7 @@ member-room caps w e shape setup entries limits i room =
 -- ---- where a submission is not turned away, or a member may be fetched
 
 pub accepting-room : (caps : Caps) (s : State) (q : ℕ) (portal : Portal) (kind : Kind) → IsWellFormed caps s
-    → first_row (submit_table (intake_of s) q portal kind) ≡ None → held s.work.content < cell_count caps
+    → first_row (submit_table (intake_of s) q portal kind) ≡ None → held_count s.work.content < cell_count caps
 accepting-room caps s q portal kind w h =
     let rows = no-row (submit_table (intake_of s) q portal kind) h in
     let on : is_on (phase_at s.work.setup q) ≡ true = not-false _ rows.0 in
@@ -129,7 +129,7 @@ accepting-room caps s q portal kind w h =
     queue-room caps s.work q w.shape w.setup w.limits (on-queue caps s.work q w.shape on) off (omega (arith, below, limit))
 
 pub fetching-room : (caps : Caps) (s : State) (e : ℕ) (note : BatchNote) → IsWellFormed caps s
-    → note_at s.work e ≡ Some note → is_all_fetched note ≡ false → held s.work.content < cell_count caps
+    → note_at s.work e ≡ Some note → is_all_fetched note ≡ false → held_count s.work.content < cell_count caps
 fetching-room caps s e note w h more =
     let below = leb-false note.count note.fetched (or_parts note.closed _ more).1 in
     let fits : NoteFits caps (Some note) = subst (NoteFits caps) h (w.notes e) in

@@ -3,7 +3,7 @@ use Rattle.std.proofs.Common.{◌≡◌, ℕ, ◌+◌, ◌≤◌, cond, List, []
 use Rattle.std.specs.Prelude.{⊤, filter}
 use Rattle.std.proofs.lemmas.List.Sums.{sum_by-cons}
 use Rattle.dsa_regs.specs.declared.Caps.{Caps}
-use Rattle.dsa_store.specs.Content.{all_held, held}
+use Rattle.dsa_store.specs.Content.{all_held, held_count}
 use Rattle.dsa_book.specs.declared.answer.SubmitAnswer.TheVariants.{Accepted}
 use Rattle.dsa_book.specs.declared.answer.FetchAnswer.TheVariants.{Fetched}
 use Rattle.dsa_book.specs.declared.answer.StartAnswer.TheVariants.{Abandoned}
@@ -119,7 +119,7 @@ replay-rows caps h s e =
 
 -- names are held or have a row
 pub replay-held : (caps : Caps) (h : List Step) (s : State) → replay caps h ≡ Some s
-    → total_accepted h + total_fetched h ≡ total_done h + total_lost h + held s.work.content
+    → total_accepted h + total_fetched h ≡ total_done h + total_lost h + held_count s.work.content
 replay-held caps h s e =
     let names = replay-names caps h s e in
     let rows = replay-rows caps h s e in

@@ -6,7 +6,7 @@ use Rattle.std.proofs.lemmas.Bool.Decides.{nat_tests}
 use Rattle.std.proofs.lemmas.List.Sums.{sum_by-cons, sum_by_push}
 use Rattle.dsa_base.specs.Numbers.{numbers_below}
 use Rattle.dsa_store.specs.declared.entry.Cell.{Cell}
-use Rattle.dsa_store.specs.Content.{Slot, Content, is_cell, uses, held, all_held, is_free}
+use Rattle.dsa_store.specs.Content.{Slot, Content, is_cell, use_count, held_count, all_held, is_free}
 use Rattle.dsa_store.proofs.Sums.{uses-counted, held-counted, unused-is_free}
 use Rattle.dsa_base.proofs.NumberSums.{sum-equal}
 use Rattle.dsa_base.proofs.NumberSums.{sum-plus, sum-same}
@@ -38,22 +38,22 @@ counted-once (x ∷ xs) n =
     at-most-one false = omega arith
 
 -- a cell that none uses, or each is used
-unused-or-all : (content : Content) (n : ℕ) → ((cell : Cell) × (cell.0 < n) × (uses content cell ≡ 0)) ⊎ (n ≤ sum_by (λ k. uses content (cell_at k)) (numbers_below n))
+unused-or-all : (content : Content) (n : ℕ) → ((cell : Cell) × (cell.0 < n) × (use_count content cell ≡ 0)) ⊎ (n ≤ sum_by (λ k. use_count content (cell_at k)) (numbers_below n))
 unused-or-all content zero = inr (omega arith)
 unused-or-all content (suc n) = ⊎_elim
     (λ found. inl (found.0, omega (arith, found.1), found.2))
     (λ all. ⊎_elim
-    (λ (e : uses content (cell_at n) ≡ 0). inl (cell_at n, omega arith, e))
-    (λ e. inr (let last = sum_by_push (λ k. uses content (cell_at k)) (numbers_below n) n in omega (arith, last, all, e)))
-    (cases_eq (uses content (cell_at n)) 0))
+    (λ (e : use_count content (cell_at n) ≡ 0). inl (cell_at n, omega arith, e))
+    (λ e. inr (let last = sum_by_push (λ k. use_count content (cell_at k)) (numbers_below n) n in omega (arith, last, all, e)))
+    (cases_eq (use_count content (cell_at n)) 0))
     (unused-or-all content n)
 
-pub free-cell : (cells : ℕ) (content : Content) → held content < cells → (cell : Cell) × (is_free cells content cell ≡ true)
+pub free-cell : (cells : ℕ) (content : Content) → held_count content < cells → (cell : Cell) × (is_free cells content cell ≡ true)
 free-cell cells content room = ⊎_elim
     (λ found. (found.0, unused-is_free cells content found.0 found.1 found.2))
     (λ all.
-    let each = sum-equal (λ k. uses content (cell_at k)) (λ k. count_by (is_cell (cell_at k)) (all_held content)) (numbers_below cells) (λ k. uses-counted content (cell_at k)) in
+    let each = sum-equal (λ k. use_count content (cell_at k)) (λ k. count_by (is_cell (cell_at k)) (all_held content)) (numbers_below cells) (λ k. uses-counted content (cell_at k)) in
     let most = counted-once (all_held content) cells in
-    let held = held-counted content in
-    absurd (omega (arith, room, all, each, most, held)))
+    let held_count = held-counted content in
+    absurd (omega (arith, room, all, each, most, held_count)))
     (unused-or-all content cells)

@@ -5,7 +5,7 @@ ghost use Rattle.dsa_desc.specs.declared.Outcome.{Outcome};
 ghost use Rattle.dsa_base.specs.Rows.{first_row};
 ghost use Rattle.dsa_regs.specs.declared.Caps.{Caps};
 ghost use Rattle.dsa_regs.specs.Caps.{cell_count};
-ghost use Rattle.dsa_store.specs.Content.{held, Slot};
+ghost use Rattle.dsa_store.specs.Content.{held_count, Slot};
 ghost use Rattle.dsa_book.specs.declared.answer.FinishAnswer.TheVariants.{Done};
 ghost use Rattle.dsa_book.specs.declared.answer.Reply.TheVariants as reply;
 ghost use Rattle.dsa_book.specs.declared.answer.Ticket.{Ticket};
@@ -35,7 +35,7 @@ pub fn fates_are_counted()
 
 /// What came is done, lost or still held, and no more names were given than there are steps.
 pub fn entries_are_accounted_for()
-    ensures held { (caps : Caps) (history : List Step) (s : State) → replay caps history ≡ Some s → total_accepted history + total_fetched history ≡ total_done history + total_lost history + held s.work.content }
+    ensures held { (caps : Caps) (history : List Step) (s : State) → replay caps history ≡ Some s → total_accepted history + total_fetched history ≡ total_done history + total_lost history + held_count s.work.content }
     ensures names { (caps : Caps) (history : List Step) (s : State) → replay caps history ≡ Some s → s.work.setup.next_name ≤ length history }
 {}
 
@@ -56,13 +56,13 @@ pub fn members_alone_are_abandoned()
 
 /// Where a submission is not turned away there is a cell for it: fewer are held than the store has cells, and one of these is free.
 pub fn accepting_queues_find_a_free_cell()
-    ensures room { (caps : Caps) (history : List Step) (s : State) (queue : ℕ) (portal : Portal) (kind : Kind) → replay caps history ≡ Some s → first_row (submit_table (intake_of s) queue portal kind) ≡ None → held s.work.content < cell_count caps }
+    ensures room { (caps : Caps) (history : List Step) (s : State) (queue : ℕ) (portal : Portal) (kind : Kind) → replay caps history ≡ Some s → first_row (submit_table (intake_of s) queue portal kind) ≡ None → held_count s.work.content < cell_count caps }
     ensures cell { (caps : Caps) (history : List Step) (s : State) (queue : ℕ) (portal : Portal) (kind : Kind) → replay caps history ≡ Some s → first_row (submit_table (intake_of s) queue portal kind) ≡ None → HasFreeCell caps s.work }
 {}
 
 /// Where members of an engine's batch are still to be fetched there is a cell for the next one.
 pub fn open_batches_find_a_free_cell()
-    ensures room { (caps : Caps) (history : List Step) (s : State) (engine : ℕ) (note : BatchNote) → replay caps history ≡ Some s → note_at s.work engine ≡ Some note → is_all_fetched note ≡ false → held s.work.content < cell_count caps }
+    ensures room { (caps : Caps) (history : List Step) (s : State) (engine : ℕ) (note : BatchNote) → replay caps history ≡ Some s → note_at s.work engine ≡ Some note → is_all_fetched note ≡ false → held_count s.work.content < cell_count caps }
     ensures cell { (caps : Caps) (history : List Step) (s : State) (engine : ℕ) (note : BatchNote) → replay caps history ≡ Some s → note_at s.work engine ≡ Some note → is_all_fetched note ≡ false → HasFreeCell caps s.work }
 {}
 

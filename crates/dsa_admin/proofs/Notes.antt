@@ -16,14 +16,14 @@ use Rattle.dsa_book.specs.State.{Setup, is_batch_of}
 use Rattle.dsa_book.specs.Work.{progress_list}
 use Rattle.dsa_book.specs.Commands.{is_in_scope, takes_batch, kept_note}
 use Rattle.dsa_base.proofs.Renewing.{renewed, renewed-set, renewed-next, renewed-all}
-use Rattle.dsa_engines.specs.Engines.{Gear, noteless, removed}
+use Rattle.dsa_engines.specs.Engines.{Gear, notes_without, gear_after_removal}
 use Rattle.dsa_admin.specs.Admin.{notes_left}
 
 -- ---- the places of one list
 
 -- a note that is gone goes no second time
 noteless-twice : (from : ListUse) (notes : List (Option BatchNote))
-    → noteless from (noteless from notes) ≡ noteless from notes
+    → notes_without from (notes_without from notes) ≡ notes_without from notes
 noteless-twice (Queue q) notes = refl
 noteless-twice (Progress e) notes = set-set notes e None None
 noteless-twice (Members e) notes = refl
@@ -48,7 +48,7 @@ pub notes-stay : (setup : Setup) (scope : Scope) (from : ListUse) (content : Con
     → now ≡ notes_left setup scope from (take k (chain content i)) first
     → now ≡ notes_left setup scope from (take (k + 1) (chain content i)) first
 notes-stay setup scope from content i k cell e first now at within is =
-    is ∙ ap (λ (b : Bool). cond b (noteless from first) first) (sym (takes-turn setup scope content i k cell e at ∙ ap (λ (b : Bool). takes_batch setup scope (take k (chain content i)) || (is_batch_of setup e && b)) within ∙ none (takes_batch setup scope (take k (chain content i))) (is_batch_of setup e)))
+    is ∙ ap (λ (b : Bool). cond b (notes_without from first) first) (sym (takes-turn setup scope content i k cell e at ∙ ap (λ (b : Bool). takes_batch setup scope (take k (chain content i)) || (is_batch_of setup e && b)) within ∙ none (takes_batch setup scope (take k (chain content i))) (is_batch_of setup e)))
   where
     none : (t b : Bool) → (t || (b && false)) ≡ t
     none true b = refl
@@ -58,16 +58,16 @@ notes-stay setup scope from content i k cell e first now at within is =
 -- what it is about takes it along, where it is a well-formed Batch
 pub notes-leave : (setup : Setup) (scope : Scope) (from : ListUse) (content : Content) (i k : ℕ) (cell : Cell) (e : Entry) (first : List (Option BatchNote)) (gear after : Gear)
     → StandsAt content i k cell e → is_in_scope scope e ≡ true
-    → gear.notes ≡ notes_left setup scope from (take k (chain content i)) first → after ≡ removed setup from e gear
+    → gear.notes ≡ notes_left setup scope from (take k (chain content i)) first → after ≡ gear_after_removal setup from e gear
     → after.notes ≡ notes_left setup scope from (take (k + 1) (chain content i)) first
 notes-leave setup scope from content i k cell e first gear after at within is step =
     ap (λ (x : Gear). x.notes) step
-    ∙ ap (λ (notes : List (Option BatchNote)). cond (is_batch_of setup e) (noteless from notes) notes) is
+    ∙ ap (λ (notes : List (Option BatchNote)). cond (is_batch_of setup e) (notes_without from notes) notes) is
     ∙ gone (takes_batch setup scope (take k (chain content i))) (is_batch_of setup e)
-    ∙ ap (λ (b : Bool). cond b (noteless from first) first) (sym (takes-turn setup scope content i k cell e at ∙ ap (λ (b : Bool). takes_batch setup scope (take k (chain content i)) || (is_batch_of setup e && b)) within))
+    ∙ ap (λ (b : Bool). cond b (notes_without from first) first) (sym (takes-turn setup scope content i k cell e at ∙ ap (λ (b : Bool). takes_batch setup scope (take k (chain content i)) || (is_batch_of setup e && b)) within))
   where
     gone : (t b : Bool)
-        → cond b (noteless from (cond t (noteless from first) first)) (cond t (noteless from first) first) ≡ cond (t || (b && true)) (noteless from first) first
+        → cond b (notes_without from (cond t (notes_without from first) first)) (cond t (notes_without from first) first) ≡ cond (t || (b && true)) (notes_without from first) first
     gone true true = noteless-twice from first
     gone true false = refl
     gone false true = refl

@@ -12,7 +12,7 @@ use Rattle.dsa_regs.specs.declared.Phase.TheVariants.{Off}
 use Rattle.dsa_regs.specs.Config.{check_groups, zero_queue, queue_at, limits_of}
 use Rattle.dsa_regs.specs.Command.{queues_in}
 use Rattle.dsa_store.specs.declared.entry.Entry.{Entry}
-use Rattle.dsa_store.specs.Content.{Slot, Content, chain, held, kept}
+use Rattle.dsa_store.specs.Content.{Slot, Content, chain, held_count, only_where}
 use Rattle.dsa_store.proofs.Lists.{held-nil, held-cons}
 use Rattle.dsa_queues.specs.Queues.{IsWhole}
 use Rattle.dsa_base.proofs.NumberLists.{get_or-each, length-each}
@@ -20,22 +20,22 @@ use Rattle.dsa_queues.proofs.Whole.{whole-reset}
 use Rattle.dsa_book.specs.State.{Setup, held_by, is_member}
 use Rattle.dsa_book.proofs.Scopes.{unnamed}
 use Rattle.dsa_book.proofs.Sizes.{total_size-alone}
-use Rattle.dsa_book.specs.Commands.{is_in_scope, names, with_phases, with_sizes_alone, size_alone, reset}
+use Rattle.dsa_book.specs.Commands.{is_in_scope, is_among, with_phases, with_sizes_alone, size_alone, reset}
 use Rattle.dsa_engines.specs.Engines.{Gear, IsInStep}
 use Rattle.dsa_engines.proofs.Keeping.{KeepsLoads, homes-kept, buffers-kept}
 use Rattle.dsa_engines.proofs.Used.{load, load-nil, load-cons}
 
 -- the set-up after Reset WQ
 abbrev after_reset : Scope → Setup → Setup
-after_reset scope setup = with_sizes_alone (queues_in scope) (with_phases (names (queues_in scope)) Off setup)
+after_reset scope setup = with_sizes_alone (queues_in scope) (with_phases (is_among (queues_in scope)) Off setup)
 
 -- a queue that is not named keeps its configuration
-config-same : (scope : Scope) (setup : Setup) (q : ℕ) → IsWhole setup → names (queues_in scope) q ≡ false
+config-same : (scope : Scope) (setup : Setup) (q : ℕ) → IsWhole setup → is_among (queues_in scope) q ≡ false
     → queue_at (after_reset scope setup).configs q ≡ queue_at setup.configs q
 config-same scope setup q w out = on (cases_lt q setup.caps.queues)
   where
     f : ℕ → QueueConfig
-    f k = cond (names (queues_in scope) k) (size_alone (queue_at setup.configs k)) (queue_at setup.configs k)
+    f k = cond (is_among (queues_in scope) k) (size_alone (queue_at setup.configs k)) (queue_at setup.configs k)
 
     on : (q < setup.caps.queues) ⊎ (setup.caps.queues ≤ q)
         → queue_at (after_reset scope setup).configs q ≡ queue_at setup.configs q
@@ -64,7 +64,7 @@ load-spared scope setup w (s ∷ l) = on (is_in_scope scope s.1) refl (load-spar
 
 -- a list of what is kept
 chain-kept : (test : Entry → Bool) (content : Content) (i : ℕ)
-    → chain (kept test content) i ≡ filter (λ (s : Slot). test s.1) (chain content i)
+    → chain (only_where test content) i ≡ filter (λ (s : Slot). test s.1) (chain content i)
 chain-kept test [] i = refl
 chain-kept test (l ∷ ls) zero = refl
 chain-kept test (l ∷ ls) (suc i) = chain-kept test ls i
@@ -75,12 +75,12 @@ reset-named Device setup n = absurd (n refl)
 reset-named _ setup n = refl
 
 -- a reset of the device takes all out
-none-kept : (content : Content) → held (kept (λ entry. false) content) ≡ 0
+none-kept : (content : Content) → held_count (only_where (λ entry. false) content) ≡ 0
 none-kept [] = held-nil
 none-kept (l ∷ ls) =
     let rest = none-kept ls in
     let here = none l in
-    omega (arith, held-cons (filter (λ (s : Slot). false) l) (kept (λ entry. false) ls), here, rest)
+    omega (arith, held-cons (filter (λ (s : Slot). false) l) (only_where (λ entry. false) ls), here, rest)
   where
     none : (l : List Slot) → length (filter (λ (s : Slot). false) l) ≡ 0
     none [] = refl
@@ -88,12 +88,12 @@ none-kept (l ∷ ls) =
 
 -- a reset leaves in step what it left
 pub in_step-reset : {cells : ℕ} (scope : Scope) (setup : Setup) (gear : Gear) (content now : Content)
-    → now ≡ kept (λ entry. not (is_in_scope scope entry)) content → IsInStep setup gear cells now
+    → now ≡ only_where (λ entry. not (is_in_scope scope entry)) content → IsInStep setup gear cells now
     → IsInStep (reset scope setup) gear cells now
 in_step-reset Device setup gear content now is s = record {
   queues = whole-reset Device setup s.queues;
   store = s.store;
-  idle = λ off. ap held is ∙ none-kept content;
+  idle = λ off. ap held_count is ∙ none-kept content;
   checked = λ on. absurd cc;
   notes = s.notes;
   homes = λ on. absurd cc;

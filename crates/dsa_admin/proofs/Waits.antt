@@ -5,25 +5,25 @@ use Rattle.std.proofs.lemmas.List.Folds.{list_any-append, list_any_at}
 use Rattle.std.specs.List.{list_any}
 use Rattle.dsa_store.specs.declared.entry.Entry.{Entry}
 use Rattle.dsa_store.specs.Content.{Slot, Content, chain, all_held}
-use Rattle.dsa_book.specs.Commands.{holds}
+use Rattle.dsa_book.specs.Commands.{holds_any}
 
 -- the list has one
 abbrev pub any_in : (Entry → Bool) → List Slot → Bool
 any_in test l = list_any (λ s. test s.1) l
 
 -- the store holds one exactly where some list has one
-holds-lists : (test : Entry → Bool) (content : Content) → holds test content ≡ list_any (any_in test) content
+holds-lists : (test : Entry → Bool) (content : Content) → holds_any test content ≡ list_any (any_in test) content
 holds-lists test [] = refl
 holds-lists test (l ∷ ls) =
     list_any-append (λ (s : Slot). test s.1) l (all_held ls) ∙ ap (λ (b : Bool). any_in test l || b) (holds-lists test ls)
 
 -- a list that has one is enough
 pub holds-hit : (test : Entry → Bool) (content : Content) (i : ℕ) → i < length content
-    → any_in test (chain content i) ≡ true → holds test content ≡ true
+    → any_in test (chain content i) ≡ true → holds_any test content ≡ true
 holds-hit test content i h hit = holds-lists test content ∙ list_any_at (any_in test) content i [] h hit
 
 -- where none of the lists has one, the store holds none
 pub holds-none : (test : Entry → Bool) (content : Content) (n : ℕ) → length content ≤ n
-    → list_any (any_in test) (take n content) ≡ false → holds test content ≡ false
+    → list_any (any_in test) (take n content) ≡ false → holds_any test content ≡ false
 holds-none test content n h none =
     holds-lists test content ∙ ap (list_any (any_in test)) (sym (take_all n content h)) ∙ none

@@ -10,7 +10,7 @@ use Rattle.dsa_regs.specs.declared.Command.{Command}
 use Rattle.dsa_regs.specs.Command.{number_of, scope_of}
 use Rattle.dsa_store.specs.declared.entry.Cell.{Cell}
 use Rattle.dsa_store.specs.declared.entry.Entry.{Entry}
-use Rattle.dsa_store.specs.Content.{Slot, Content, chain, uses, held, first_cell, entry_of, next_of, unlinked, kept, all_held, StandsAt}
+use Rattle.dsa_store.specs.Content.{Slot, Content, chain, use_count, held_count, first_cell, entry_of, next_of, after_unlink, only_where, all_held, StandsAt}
 use Rattle.dsa_store.proofs.Finding.{entry_of-none}
 use Rattle.dsa_store.proofs.Lists.{held-set, held-unlinked}
 use Rattle.dsa_store.proofs.Sums.{held-counted, all_held-kept}
@@ -26,9 +26,9 @@ use Rattle.dsa_admin.specs.Admin.{is_meant, is_spared, row_of, rows_of}
 
 -- a cell that has an entry is one of those held
 pub used-entry : (content : Content) (cell : Cell) (e : Entry) → entry_of content cell ≡ Some e
-    → (1 ≤ uses content cell) × (held (unlinked content cell) + 1 ≤ held content)
+    → (1 ≤ use_count content cell) × (held_count (after_unlink content cell) + 1 ≤ held_count content)
 used-entry content cell e h =
-    let some : 1 ≤ uses content cell = grind (arith, h, entry_of-none content cell) in
+    let some : 1 ≤ use_count content cell = grind (arith, h, entry_of-none content cell) in
     (some, omega (arith, some, held-unlinked content cell))
 
 map-cond : (row : Slot → FateRow) (b : Bool) (s : Slot) → map row (cond b (s ∷ []) []) ≡ cond b (row s ∷ []) []
@@ -52,12 +52,12 @@ pub record LooksAt (p : Slot → Bool) (content : Content) (i k : ℕ) (now : Co
   pub now_stands : StandsAt now i (length (filter p (take k (chain content i)))) cell e
   pub found : entry_of now cell ≡ Some e
   pub next : next_of now cell ≡ first_cell (drop (k + 1) (chain content i))
-  pub out : p (cell, e) ≡ false → unlinked now cell ≡ thinned p content i (k + 1)
+  pub out : p (cell, e) ≡ false → after_unlink now cell ≡ thinned p content i (k + 1)
   pub stay : p (cell, e) ≡ true → now ≡ thinned p content i (k + 1)
 
 -- the walk stands at that cell
 pub looks-at : (p : Slot → Bool) (content : Content) (i k : ℕ) (now : Content) (cell : Cell) (got : Option Entry) (e : Entry)
-    → ((c : Cell) → uses now c ≤ 1) → i < length content → k < length (chain content i)
+    → ((c : Cell) → use_count now c ≤ 1) → i < length content → k < length (chain content i)
     → first_cell (drop k (chain content i)) ≡ Some cell → now ≡ thinned p content i k → got ≡ entry_of now cell
     → got ≡ Some e → LooksAt p content i k now cell e
 looks-at p content i k now cell got e once hi h front left read is =
@@ -69,22 +69,22 @@ looks-at p content i k now cell got e once hi h front left read is =
 -- it leaves, or stays, as the scope says
 left-by : (command : Command) (content : Content) (i k : ℕ) (now : Content) (cell : Cell) (e : Entry)
     → LooksAt (is_spared command) content i k now cell e → (b : Bool) → is_in_scope (scope_of command) e ≡ b
-    → cond b (unlinked now cell) now ≡ thinned (is_spared command) content i (k + 1)
+    → cond b (after_unlink now cell) now ≡ thinned (is_spared command) content i (k + 1)
 left-by command content i k now cell e t true h = t.out (ap not h)
 left-by command content i k now cell e t false h = t.stay (ap not h)
 
 -- room for the rows of what is held is left
 room-turn : (now after : Content) (cell : Cell) (e : Entry) (rows more : List FateRow) (row : FateRow) (capacity : ℕ) (b : Bool)
-    → entry_of now cell ≡ Some e → after ≡ cond b (unlinked now cell) now → more ≡ rows ++ cond b (row ∷ []) []
-    → length rows + held now ≤ capacity → length more + held after ≤ capacity
+    → entry_of now cell ≡ Some e → after ≡ cond b (after_unlink now cell) now → more ≡ rows ++ cond b (row ∷ []) []
+    → length rows + held_count now ≤ capacity → length more + held_count after ≤ capacity
 room-turn now after cell e rows more row capacity true h is rs room =
-    let used : (1 ≤ uses now cell) × (held (unlinked now cell) + 1 ≤ held now) = used-entry now cell e h in
+    let used : (1 ≤ use_count now cell) × (held_count (after_unlink now cell) + 1 ≤ held_count now) = used-entry now cell e h in
     let count : length more ≡ length rows + 1 = grind (arith, common_steps, rs) in
-    let left : held after ≡ held (unlinked now cell) = ap held is in
+    let left : held_count after ≡ held_count (after_unlink now cell) = ap held_count is in
     omega (arith, used.1, count, left, room)
 room-turn now after cell e rows more row capacity false h is rs room =
     let count : length more ≡ length rows = grind (arith, common_steps, rs) in
-    let left : held after ≡ held now = ap held is in
+    let left : held_count after ≡ held_count now = ap held_count is in
     omega (arith, count, left, room)
 
 book-turn : (first now after : Records) (xs more all : List FateRow) → now ≡ record first { fates = first.fates ++ xs }
@@ -98,17 +98,17 @@ book-turn first now after xs more all is step every =
 pub record IsWithdrawn (command : Command) (content : Content) (first : Records) (i k : ℕ) (now : Content) (book : Records) : Type 0 where
   pub left : now ≡ thinned (is_spared command) content i k
   pub rows : book ≡ record first { fates = first.fates ++ rows_of command (take k (chain content i)) }
-  pub room : length book.fates + held now ≤ book.capacity
+  pub room : length book.fates + held_count now ≤ book.capacity
 
 pub withdrawn-room : (content : Content) (book : Records) (cell : Cell) (got : Option Entry) (e : Entry)
-    → length book.fates + held content ≤ book.capacity → got ≡ entry_of content cell → got ≡ Some e
+    → length book.fates + held_count content ≤ book.capacity → got ≡ entry_of content cell → got ≡ Some e
     → length book.fates < book.capacity
 withdrawn-room content book cell got e room read is = omega (arith, room, (used-entry content cell e (sym read ∙ is)).1)
 
 -- one more place
 withdrawn-turn : (command : Command) (content : Content) (first : Records) (i k : ℕ) (now after : Content) (book later : Records) (cell : Cell) (e : Entry) (b : Bool)
     → LooksAt (is_spared command) content i k now cell e → IsWithdrawn command content first i k now book
-    → is_in_scope (scope_of command) e ≡ b → after ≡ cond b (unlinked now cell) now
+    → is_in_scope (scope_of command) e ≡ b → after ≡ cond b (after_unlink now cell) now
     → later ≡ record book { fates = book.fates ++ cond b (fate_row (Aborted (number_of command)) (cell, e) ∷ []) [] }
     → IsWithdrawn command content first i (k + 1) after later
 withdrawn-turn command content first i k now after book later cell e b t w scope left rows =
@@ -132,14 +132,14 @@ withdrawn-stays command content first i k now book cell e t w scope =
 -- a cell that the command is about leaves, with its row
 pub withdrawn-leaves : (command : Command) (content : Content) (first : Records) (i k : ℕ) (now after : Content) (book later : Records) (cell : Cell) (e : Entry) (row : FateRow)
     → LooksAt (is_spared command) content i k now cell e → IsWithdrawn command content first i k now book
-    → is_in_scope (scope_of command) e ≡ true → after ≡ unlinked now cell → row ≡ row_of command e
+    → is_in_scope (scope_of command) e ≡ true → after ≡ after_unlink now cell → row ≡ row_of command e
     → later ≡ record book { fates = book.fates ++ row ∷ [] } → IsWithdrawn command content first i (k + 1) after later
 withdrawn-leaves command content first i k now after book later cell e row t w scope left row_is rows =
     withdrawn-turn command content first i k now after book later cell e true t w scope left (rows ∙ ap (λ (x : FateRow). record book { fates = book.fates ++ x ∷ [] }) row_is)
 
 -- what the store gives for a cell of the list is an entry
 pub withdrawn-found : (p : Slot → Bool) (content : Content) (i k : ℕ) (now : Content) (cell : Cell) (got : Option Entry)
-    → ((c : Cell) → uses now c ≤ 1) → i < length content → k < length (chain content i)
+    → ((c : Cell) → use_count now c ≤ 1) → i < length content → k < length (chain content i)
     → first_cell (drop k (chain content i)) ≡ Some cell → now ≡ thinned p content i k → got ≡ entry_of now cell
     → got ≡ None → ⊥
 withdrawn-found p content i k now cell got once hi h front left read none =
@@ -179,13 +179,13 @@ rows-lists command content n h =
 
 room-lists : (command : Command) (now after : Content) (n : ℕ) (rows more : List FateRow) (capacity : ℕ)
     → n < length now → after ≡ set now n (filter (is_spared command) (chain now n))
-    → more ≡ rows ++ rows_of command (chain now n) → length rows + held now ≤ capacity
-    → length more + held after ≤ capacity
+    → more ≡ rows ++ rows_of command (chain now n) → length rows + held_count now ≤ capacity
+    → length more + held_count after ≤ capacity
 room-lists command now after n rows more capacity h is rs room =
     let row : Slot → FateRow = fate_row (Aborted (number_of command)) in
     let both : length (filter (is_meant command) (chain now n)) + length (filter (is_spared command) (chain now n)) ≡ length (chain now n) = length-filter_both (is_meant command) (is_spared command) (λ x. refl) (chain now n) in
-    let less : held (set now n (filter (is_spared command) (chain now n))) + length (chain now n) ≡ held now + length (filter (is_spared command) (chain now n)) = held-set now n (filter (is_spared command) (chain now n)) h in
-    let left : held after ≡ held (set now n (filter (is_spared command) (chain now n))) = ap held is in
+    let less : held_count (set now n (filter (is_spared command) (chain now n))) + length (chain now n) ≡ held_count now + length (filter (is_spared command) (chain now n)) = held-set now n (filter (is_spared command) (chain now n)) h in
+    let left : held_count after ≡ held_count (set now n (filter (is_spared command) (chain now n))) = ap held_count is in
     let count : length more ≡ length rows + length (filter (is_meant command) (chain now n)) = ap length rs ∙ length-append rows (rows_of command (chain now n)) ∙ ap (λ (k : ℕ). length rows + k) (length-map (filter (is_meant command) (chain now n)) row) in
     omega (arith, both, less, left, count, room)
 
@@ -193,7 +193,7 @@ room-lists command now after n rows more capacity h is rs room =
 pub record IsSwept (command : Command) (content : Content) (first : Records) (n : ℕ) (now : Content) (book : Records) : Type 0 where
   pub left : now ≡ swept command content n
   pub rows : book ≡ record first { fates = first.fates ++ rows_of command (all_held (take n content)) }
-  pub room : length book.fates + held now ≤ book.capacity
+  pub room : length book.fates + held_count now ≤ book.capacity
 
 pub swept-within : (command : Command) (content now : Content) (n : ℕ) → n < length content
     → now ≡ swept command content n → n < length now
@@ -218,7 +218,7 @@ swept-next command content first n now after book later h s left rows =
 
 -- at first nothing is taken out
 pub swept-none : (command : Command) (content : Content) (first : Records)
-    → length first.fates + held content ≤ first.capacity → IsSwept command content first 0 content first
+    → length first.fates + held_count content ≤ first.capacity → IsSwept command content first 0 content first
 swept-none command content first room = record {
   left = refl;
   rows = ap (λ (l : List FateRow). record first { fates = l }) (sym (append-nil first.fates));
@@ -229,16 +229,16 @@ swept-none command content first room = record {
 
 -- what is taken out and what stays are all that was held
 pub held-kept : (command : Command) (content : Content)
-    → held (kept (λ entry. not (is_in_scope (scope_of command) entry)) content) + count_in_scope (scope_of command) content ≡ held content
+    → held_count (only_where (λ entry. not (is_in_scope (scope_of command) entry)) content) + count_in_scope (scope_of command) content ≡ held_count content
 held-kept command content =
     let both : length (filter (is_meant command) (all_held content)) + length (filter (is_spared command) (all_held content)) ≡ length (all_held content) = length-filter_both (is_meant command) (is_spared command) (λ x. refl) (all_held content) in
-    let left : held (kept (λ entry. not (is_in_scope (scope_of command) entry)) content) ≡ length (filter (is_spared command) (all_held content)) = held-counted (kept (λ entry. not (is_in_scope (scope_of command) entry)) content) ∙ ap length (all_held-kept (λ entry. not (is_in_scope (scope_of command) entry)) content) in
+    let left : held_count (only_where (λ entry. not (is_in_scope (scope_of command) entry)) content) ≡ length (filter (is_spared command) (all_held content)) = held-counted (only_where (λ entry. not (is_in_scope (scope_of command) entry)) content) ∙ ap length (all_held-kept (λ entry. not (is_in_scope (scope_of command) entry)) content) in
     omega (arith, both, left, held-counted content)
 
 -- so many more cells are free
-pub freed : (command : Command) (content now : Content) (free later cells : ℕ) → free + held content ≡ cells
-    → later + held now ≡ cells → now ≡ kept (λ entry. not (is_in_scope (scope_of command) entry)) content
+pub freed : (command : Command) (content now : Content) (free later cells : ℕ) → free + held_count content ≡ cells
+    → later + held_count now ≡ cells → now ≡ only_where (λ entry. not (is_in_scope (scope_of command) entry)) content
     → later ≡ free + count_in_scope (scope_of command) content
 freed command content now free later cells before after is =
-    let left : held now ≡ held (kept (λ entry. not (is_in_scope (scope_of command) entry)) content) = ap held is in
+    let left : held_count now ≡ held_count (only_where (λ entry. not (is_in_scope (scope_of command) entry)) content) = ap held_count is in
     omega (arith, before, after, left, held-kept command content)

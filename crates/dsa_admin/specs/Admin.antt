@@ -14,7 +14,7 @@ use Rattle.dsa_book.specs.declared.fate.Fate.TheVariants.{Aborted}
 use Rattle.dsa_book.specs.declared.fate.FateRow.{FateRow}
 use Rattle.dsa_book.specs.State.{Setup, State, has_queue}
 use Rattle.dsa_book.specs.Work.{fate_row}
-use Rattle.dsa_engines.specs.Engines.{Gear, noteless, work}
+use Rattle.dsa_engines.specs.Engines.{Gear, notes_without, work}
 use Rattle.dsa_book.specs.Commands.{is_in_scope, takes_batch, is_awaited, is_bad_queues, may_come, check_of}
 
 -- the entries that keep an active command from its end (Intel DSA: a drain waits for what was submitted before it; the rest is the profile's)
@@ -39,7 +39,7 @@ rows_of command xs = map (fate_row (Aborted (number_of command))) (filter (is_me
 
 -- the notes after the command took its entries out of a list: that of an engine goes with a well-formed Batch in progress there (profile)
 abbrev pub notes_left : Setup → Scope → ListUse → List Slot → List (Option BatchNote) → List (Option BatchNote)
-notes_left setup scope from xs notes = cond (takes_batch setup scope xs) (noteless from notes) notes
+notes_left setup scope from xs notes = cond (takes_batch setup scope xs) (notes_without from notes) notes
 
 -- no queue is named, or one that the device does not have (profile)
 abbrev pub names_bad_queue : Setup → List ℕ → Bool

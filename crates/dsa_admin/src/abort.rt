@@ -1,8 +1,8 @@
 //! Aborts: what ends, what stays, and how many entries those were.
 
 ghost use Rattle.std.specs.Prelude.{◌≡◌, ◌+◌, ◌≤◌, Option, length};
-ghost use Rattle.dsa_store.specs.Content.{held};
-ghost use Rattle.dsa_book.specs.Commands.{aborted, aborts, count_in_scope, reset};
+ghost use Rattle.dsa_store.specs.Content.{held_count};
+ghost use Rattle.dsa_book.specs.Commands.{after_abort, abort_of, count_in_scope, reset};
 ghost use Rattle.dsa_engines.specs.Engines.{IsInStep, work};
 ghost use Rattle.dsa_regs.specs.Command.{number_of, scope_of};
 ghost use Rattle.dsa_book.specs.declared.note.ActiveCommand.{ActiveCommand};
@@ -25,8 +25,8 @@ pub(crate) fn abort<S: EntryStore>(
     command: &Command,
 ) -> u32
     requires in_step { IsInStep queues.now engines.old (S.cells store.old) (S.content store.old) }
-    requires room { length book.old.fates + held (S.content store.old) ≤ book.old.capacity }
-    ensures work { aborted (number_of command.now) (scope_of command.now) (work queues.now engines.old (S.content store.old) book.old.fates) ≡ work queues.now engines.new (S.content store.new) book.new.fates }
+    requires room { length book.old.fates + held_count (S.content store.old) ≤ book.old.capacity }
+    ensures work { after_abort (number_of command.now) (scope_of command.now) (work queues.now engines.old (S.content store.old) book.old.fates) ≡ work queues.now engines.new (S.content store.new) book.new.fates }
     ensures count { result ≡ count_in_scope (scope_of command.now) (S.content store.old) }
     ensures book { book.new ≡ record book.old { fates = book.new.fates } }
     ensures in_step { IsInStep queues.now engines.new (S.cells store.new) (S.content store.new) }
@@ -45,8 +45,8 @@ pub(crate) fn abort_alone<S: EntryStore>(
     command: &Command,
 ) -> IssueAnswer
     requires in_step { IsInStep queues.now engines.old (S.cells store.old) (S.content store.old) }
-    requires room { length book.old.fates + held (S.content store.old) ≤ book.old.capacity }
-    ensures aborted { (active : Option ActiveCommand) → aborts (state queues.now engines.old (S.content store.old) book.old.fates active) (number_of command.now) (scope_of command.now) (λ setup. setup)
+    requires room { length book.old.fates + held_count (S.content store.old) ≤ book.old.capacity }
+    ensures aborted { (active : Option ActiveCommand) → abort_of (state queues.now engines.old (S.content store.old) book.old.fates active) (number_of command.now) (scope_of command.now) (λ setup. setup)
         ≡ (result, state queues.now engines.new (S.content store.new) book.new.fates active) }
     ensures book { book.new ≡ record book.old { fates = book.new.fates } }
     ensures in_step { IsInStep queues.now engines.new (S.cells store.new) (S.content store.new) }
@@ -78,8 +78,8 @@ pub(crate) fn reset<S: EntryStore>(
     command: &Command,
 ) -> IssueAnswer
     requires in_step { IsInStep queues.old engines.old (S.cells store.old) (S.content store.old) }
-    requires room { length book.old.fates + held (S.content store.old) ≤ book.old.capacity }
-    ensures reset { (active : Option ActiveCommand) → aborts (state queues.old engines.old (S.content store.old) book.old.fates active) (number_of command.now) (scope_of command.now) (reset (scope_of command.now))
+    requires room { length book.old.fates + held_count (S.content store.old) ≤ book.old.capacity }
+    ensures reset { (active : Option ActiveCommand) → abort_of (state queues.old engines.old (S.content store.old) book.old.fates active) (number_of command.now) (scope_of command.now) (reset (scope_of command.now))
         ≡ (result, state queues.new engines.new (S.content store.new) book.new.fates active) }
     ensures book { book.new ≡ record book.old { fates = book.new.fates } }
     ensures in_step { IsInStep queues.new engines.new (S.cells store.new) (S.content store.new) }

@@ -1,14 +1,14 @@
 //! The active command, and what is issued and polled.
 
 ghost use Rattle.std.specs.Prelude.{◌≡◌, ℕ, ◌+◌, ◌≤◌, IsTrue, List, None, Option, length, true};
-ghost use Rattle.dsa_store.specs.Content.{Content, held};
+ghost use Rattle.dsa_store.specs.Content.{Content, held_count};
 ghost use Rattle.dsa_book.specs.declared.fate.FateRow.{FateRow};
 ghost use Rattle.dsa_book.specs.declared.note.ActiveCommand.{ActiveCommand};
 ghost use Rattle.dsa_regs.specs.Caps.{check_caps};
 ghost use Rattle.dsa_regs.specs.declared.Deed.TheVariants.{Enable};
 ghost use Rattle.dsa_regs.specs.Command.{scope_of, deed_of};
 ghost use Rattle.dsa_book.specs.State.{State};
-ghost use Rattle.dsa_book.specs.Commands.{issue, poll, refused_or, carried_out, waits, stopped, enabled, may_come};
+ghost use Rattle.dsa_book.specs.Commands.{issue, poll, refusal_or, command_done_of, wait_of, after_stop, after_enable, may_come};
 ghost use Rattle.dsa_engines.specs.Engines.{Gear, IsInStep};
 ghost use Rattle.dsa_admin.specs.Admin.{IsUnrefused, state};
 
@@ -39,7 +39,7 @@ impl Model for Admin {
 
 // A disable brings the device with its queues, or the named queues, to this phase; other commands stop nothing.
 fn stop(queues: &mut Queues, command: &Command, phase: Phase)
-    ensures { queues.new ≡ stopped (deed_of command.now) (scope_of command.now) phase queues.old }
+    ensures { queues.new ≡ after_stop (deed_of command.now) (scope_of command.now) phase queues.old }
 {
     let Deed::Disable = command.deed() else {
         return;
@@ -58,7 +58,7 @@ fn enable(queues: &mut Queues, engines: &mut Engines, scope: &Scope)
     requires unrefused { IsUnrefused queues.old Enable scope.now }
     requires caps { IsTrue (check_caps queues.old.caps) }
     requires notes { length engines.old.notes ≡ queues.old.caps.engines }
-    ensures enabled { queues.new ≡ enabled scope.now queues.old }
+    ensures enabled { queues.new ≡ after_enable scope.now queues.old }
     ensures notes { engines.new.notes ≡ engines.old.notes }
     ensures in_step { (cells : ℕ) (content : Content) → IsInStep queues.old engines.old cells content
         → IsInStep queues.new engines.new cells content }
@@ -91,7 +91,7 @@ impl Admin {
 
     // The first refusal that stands.
     fn refusal(&self, queues: &Queues, command: &Command) -> Option<Fault>
-        ensures refused { (s : State) → s.active ≡ self.now → s.work.setup ≡ queues.now → issue s command.now ≡ refused_or s result (carried_out s command.now) }
+        ensures refused { (s : State) → s.active ≡ self.now → s.work.setup ≡ queues.now → issue s command.now ≡ refusal_or s result (command_done_of s command.now) }
         ensures unrefused { result ≡ None → IsUnrefused queues.now (deed_of command.now) (scope_of command.now) }
     {
         if self.active.is_some() {
@@ -115,7 +115,7 @@ impl Admin {
         store: &S,
         command: Command,
     ) -> IssueAnswer
-        ensures waiting { (gear : Gear) (fates : List FateRow) → waits (state queues.old gear (S.content store.now) fates self.old) command
+        ensures waiting { (gear : Gear) (fates : List FateRow) → wait_of (state queues.old gear (S.content store.now) fates self.old) command
             ≡ (result, state queues.new gear (S.content store.now) fates self.new) }
         ensures in_step { (gear : Gear) → may_come queues.old (deed_of command) (scope_of command) ≡ true
             → IsInStep queues.old gear (S.cells store.now) (S.content store.now)
@@ -145,8 +145,8 @@ impl Admin {
     ) -> IssueAnswer
         requires unrefused { IsUnrefused queues.old (deed_of command) (scope_of command) }
         requires in_step { IsInStep queues.old engines.old (S.cells store.old) (S.content store.old) }
-        requires room { length book.old.fates + held (S.content store.old) ≤ book.old.capacity }
-        ensures carried { carried_out (state queues.old engines.old (S.content store.old) book.old.fates self.old) command
+        requires room { length book.old.fates + held_count (S.content store.old) ≤ book.old.capacity }
+        ensures carried { command_done_of (state queues.old engines.old (S.content store.old) book.old.fates self.old) command
             ≡ (result, state queues.new engines.new (S.content store.new) book.new.fates self.new) }
         ensures book { book.new ≡ record book.old { fates = book.new.fates } }
         ensures in_step { IsInStep queues.new engines.new (S.cells store.new) (S.content store.new) }
@@ -183,7 +183,7 @@ impl Admin {
         command: Command,
     ) -> IssueAnswer
         requires in_step { IsInStep queues.old engines.old (S.cells store.old) (S.content store.old) }
-        requires room { length book.old.fates + held (S.content store.old) ≤ book.old.capacity }
+        requires room { length book.old.fates + held_count (S.content store.old) ≤ book.old.capacity }
         ensures issued { issue (state queues.old engines.old (S.content store.old) book.old.fates self.old) command
             ≡ (result, state queues.new engines.new (S.content store.new) book.new.fates self.new) }
         ensures book { book.new ≡ record book.old { fates = book.new.fates } }

@@ -4,7 +4,7 @@ ghost use Rattle.std.specs.Prelude.{◌≡◌, ◌+◌, ◌<◌, ◌≤◌, ◌+
 ghost use Rattle.dsa_regs.specs.Caps.{list_use};
 ghost use Rattle.dsa_regs.specs.Command.{scope_of};
 ghost use Rattle.dsa_base.specs.Numbers.{numbers_below};
-ghost use Rattle.dsa_store.specs.Content.{all_held, chain, held, kept};
+ghost use Rattle.dsa_store.specs.Content.{all_held, chain, held_count, only_where};
 ghost use Rattle.dsa_book.specs.declared.fate.Fate.TheVariants.{Aborted};
 ghost use Rattle.dsa_book.specs.Work.{progress_list};
 ghost use Rattle.dsa_book.specs.Commands.{is_in_scope, kept_note};
@@ -40,7 +40,7 @@ fn withdraw_from<S: EntryStore>(
 )
     requires list { list.0 < length (S.content store.old) }
     requires in_step { IsInStep queues.now engines.old (S.cells store.old) (S.content store.old) }
-    requires room { length book.old.fates + held (S.content store.old) ≤ book.old.capacity }
+    requires room { length book.old.fates + held_count (S.content store.old) ≤ book.old.capacity }
     ensures left { S.content store.new ≡ slice_set (S.content store.old) list.0 (filter (is_spared command.now) (chain (S.content store.old) list.0)) }
     ensures rows { book.new ≡ record book.old { fates = book.old.fates ++ rows_of command.now (chain (S.content store.old) list.0) } }
     ensures notes { engines.new.notes ≡ notes_left queues.now (scope_of command.now) (list_use queues.now.caps list.0) (chain (S.content store.old) list.0) engines.old.notes }
@@ -74,8 +74,8 @@ pub(crate) fn withdraw<S: EntryStore>(
     command: &Command,
 )
     requires in_step { IsInStep queues.now engines.old (S.cells store.old) (S.content store.old) }
-    requires room { length book.old.fates + held (S.content store.old) ≤ book.old.capacity }
-    ensures left { S.content store.new ≡ kept (λ entry. not (is_in_scope (scope_of command.now) entry)) (S.content store.old) }
+    requires room { length book.old.fates + held_count (S.content store.old) ≤ book.old.capacity }
+    ensures left { S.content store.new ≡ only_where (λ entry. not (is_in_scope (scope_of command.now) entry)) (S.content store.old) }
     ensures rows { book.new ≡ record book.old { fates = book.old.fates ++ rows_of command.now (all_held (S.content store.old)) } }
     ensures notes { engines.new.notes ≡ map (λ e. kept_note queues.now (scope_of command.now) (chain (S.content store.old) (progress_list queues.now e)) (get_or engines.old.notes e None)) (numbers_below queues.now.caps.engines) }
     ensures in_step { IsInStep queues.now engines.new (S.cells store.new) (S.content store.new) }

@@ -23,9 +23,9 @@ use Rattle.dsa_book.specs.declared.event.Event.{Event}
 use Rattle.dsa_book.specs.declared.event.Event.TheVariants.{Submit, Dispatch, Fetch}
 use Rattle.dsa_book.specs.declared.note.BatchNote.{BatchNote}
 use Rattle.dsa_book.specs.State.{Intake, Work, State, ticket_of}
-use Rattle.dsa_book.specs.Submit.{submit, submit_table, accepted}
-use Rattle.dsa_book.specs.Work.{qualifies, may_take, front_of, may_leave, dispatch, dispatch_of, fetch_for, fetch_of, fetched, note_at, batch_on, is_all_fetched}
-use Rattle.dsa_book.specs.Choice.{Choice, nothing, from_queue, chosen, cell_of}
+use Rattle.dsa_book.specs.Submit.{submit, submit_table, after_accept}
+use Rattle.dsa_book.specs.Work.{qualifies, may_take, front_of, may_leave, dispatch, dispatch_of, fetch_for, fetch_of, after_fetch, note_at, batch_on, is_all_fetched}
+use Rattle.dsa_book.specs.Choice.{Choice, nothing, from_queue, choice_of, cell_of}
 use Rattle.dsa_book.specs.Machine.{intake_of, may_choose, reply_of, next}
 use Rattle.dsa_book.proofs.Nexts.{next-is}
 use Rattle.dsa_answers.specs.Choices.{AreAlike}
@@ -48,7 +48,7 @@ both P ((false, r) ∷ rows) x y self last = both P rows x y self last
 submits : (i : Intake) (q : ℕ) (portal : Portal) (kind : Kind) (d : Descriptor) (c e : Cell)
     → AreAlike (Submit (submit i q portal kind d c).0) (Submit (submit i q portal kind d e).0)
 submits i q portal kind d c e =
-    both (λ (a b : SubmitAnswer × Intake). AreAlike (Submit a.0) (Submit b.0)) (submit_table i q portal kind) (accepted i q kind d c) (accepted i q kind d e)
+    both (λ (a b : SubmitAnswer × Intake). AreAlike (Submit a.0) (Submit b.0)) (submit_table i q portal kind) (after_accept i q kind d c) (after_accept i q kind d e)
     (λ r. alike-self (Submit r.0)) refl
 
 -- ---- dispatch
@@ -91,7 +91,7 @@ of-batch : (w : Work) (e : ℕ) (d : Descriptor) (c c' : Cell) (note : BatchNote
     → AreAlike (Fetch (fetch_of w e d c note o).0) (Fetch (fetch_of w e d c' note o).0)
 of-batch w e d c c' note None = refl
 of-batch w e d c c' note (Some batch) =
-    both (λ (a b : FetchAnswer × Work). AreAlike (Fetch a.0) (Fetch b.0)) ((is_all_fetched note, (AllFetched, w)) ∷ []) (fetched w e d c note batch.1) (fetched w e d c' note batch.1)
+    both (λ (a b : FetchAnswer × Work). AreAlike (Fetch a.0) (Fetch b.0)) ((is_all_fetched note, (AllFetched, w)) ∷ []) (after_fetch w e d c note batch.1) (after_fetch w e d c' note batch.1)
     (λ r. alike-self (Fetch r.0)) refl
 
 of-note : (w : Work) (e : ℕ) (d : Descriptor) (c c' : Cell) (o : Option BatchNote)
@@ -114,11 +114,11 @@ replies-alike s s' s'' event a b h k =
     let p = next-is s s' event a h in
     let q = next-is s s'' event b k in
     subst (λ (r : Reply × State). AreAlike r.0 b) p.1
-    (subst (λ (r : Reply × State). AreAlike (reply_of s event (chosen a)).0 r.0) q.1 (choices-alike s event (chosen a) (chosen b) p.0 q.0))
+    (subst (λ (r : Reply × State). AreAlike (reply_of s event (choice_of a)).0 r.0) q.1 (choices-alike s event (choice_of a) (choice_of b) p.0 q.0))
 
 -- where the same is chosen, the reply and the state after it are the same
 pub choice-decides : (s s' s'' : State) (event : Event) (a b : Reply) → next s event a ≡ Some s'
-    → next s event b ≡ Some s'' → chosen a ≡ chosen b → (a ≡ b) × (s' ≡ s'')
+    → next s event b ≡ Some s'' → choice_of a ≡ choice_of b → (a ≡ b) × (s' ≡ s'')
 choice-decides s s' s'' event a b h k same =
     let e = sym (next-is s s' event a h).1 ∙ ap (reply_of s event) same ∙ (next-is s s'' event b k).1 in
     (ap (λ (r : Reply × State). r.0) e, ap (λ (r : Reply × State). r.1) e)

@@ -17,7 +17,7 @@ use Rattle.dsa_book.specs.declared.answer.Reply.TheVariants as reply
 use Rattle.dsa_book.specs.State.{Intake, State, occupancy, phase_at, is_on}
 use Rattle.dsa_book.specs.Submit.{limit_of, is_movdir64b, submit}
 use Rattle.dsa_book.specs.Machine.{intake_of, next}
-use Rattle.dsa_book.specs.Choice.{chosen, cell_of}
+use Rattle.dsa_book.specs.Choice.{choice_of, cell_of}
 use Rattle.dsa_book.proofs.Nexts.{next-is}
 
 pub retry-at-limit : (s s' : State) (client queue pasid : ℕ) (portal : Portal) (desc : Descriptor) (a : SubmitAnswer)
@@ -27,7 +27,7 @@ pub retry-at-limit : (s s' : State) (client queue pasid : ℕ) (portal : Portal)
 retry-at-limit s s' client queue pasid portal desc a on shared h =
     let kind = Enqcmd pasid in
     let config = queue_at s.work.setup.configs queue in
-    let r = submit (intake_of s) queue portal kind desc (cell_of (chosen (reply.Submit a))) in
+    let r = submit (intake_of s) queue portal kind desc (cell_of (choice_of (reply.Submit a))) in
     let p = ap (λ (r : Reply × State). r.0) (next-is s s' (event.Submit client queue portal kind desc) (reply.Submit a) h).1 in
     let is : r.0 ≡ a = cc in
     let P : SubmitAnswer × Intake → Type 0 = λ r. (r.0 ≡ Retry AtLimit) ↔ (limit_of config portal ≤ occupancy s.work.content queue) in

@@ -41,9 +41,9 @@ use Rattle.dsa_book.specs.declared.event.Event.{Event}
 use Rattle.dsa_book.specs.declared.event.Event.TheVariants.{Submit, Dispatch, Fetch, Start, Finish, Issue, Poll, WriteQueue, WriteGroup, ClearError}
 use Rattle.dsa_book.specs.declared.answer.Reply.{Reply}
 use Rattle.dsa_book.specs.State.{Setup, Intake, Work, State, opening, is_ticket, is_off, phase_at}
-use Rattle.dsa_book.specs.Submit.{submit, submit_table, turned_away, accepted}
-use Rattle.dsa_book.specs.Work.{dispatch, fetch_for, fetch_of, fetched, note_at, batch_on, start, first_waiting, finish, running_on}
-use Rattle.dsa_book.specs.Commands.{issue, check_of, refused_or, carried_out, done_by, waits, poll_of, stopped, names, with_phases, write_queue, write_queue_table, write_group, write_group_table, clear_of}
+use Rattle.dsa_book.specs.Submit.{submit, submit_table, after_refusal, after_accept}
+use Rattle.dsa_book.specs.Work.{dispatch, fetch_for, fetch_of, after_fetch, note_at, batch_on, start, first_waiting, finish, running_on}
+use Rattle.dsa_book.specs.Commands.{issue, check_of, refusal_or, command_done_of, deed_done_of, wait_of, poll_of, after_stop, is_among, with_phases, write_queue, write_queue_table, write_group, write_group_table, clear_of}
 use Rattle.dsa_book.specs.Machine.{next, reply_of, replay, replay_from, intake_of}
 use Rattle.dsa_book.specs.Choice.{Choice, cell_of}
 use Rattle.dsa_book.proofs.Nexts.{next-each}
@@ -95,13 +95,13 @@ kept s setup i p = record {
   queues = λ q h. i.queues q (sym (ap (λ (phases : List Phase). is_stopping (get_or phases q Off)) p.1) ∙ h);
 }
 
-turned_away-phases : (s : State) (q : ℕ) (kind : Kind) (cause : Cause) → HasSame s (turned_away (intake_of s) q kind cause).1.setup
+turned_away-phases : (s : State) (q : ℕ) (kind : Kind) (cause : Cause) → HasSame s (after_refusal (intake_of s) q kind cause).1.setup
 turned_away-phases s q (Enqcmd pasid) cause = (refl, refl)
 turned_away-phases s q Movdir64b cause = (refl, refl)
 
 submit-phases : (s : State) (q : ℕ) (portal : Portal) (kind : Kind) (d : Descriptor) (cell : Cell) → HasSame s (submit (intake_of s) q portal kind d cell).1.setup
 submit-phases s q portal kind d cell =
-    first_row_or-each (λ (r : SubmitAnswer × Intake). HasSame s r.1.setup) (submit_table (intake_of s) q portal kind) (accepted (intake_of s) q kind d cell)
+    first_row_or-each (λ (r : SubmitAnswer × Intake). HasSame s r.1.setup) (submit_table (intake_of s) q portal kind) (after_accept (intake_of s) q kind d cell)
     (turned_away-phases s q kind NotEnabled, (turned_away-phases s q kind WrongKind, (turned_away-phases s q kind AtLimit, tt))) (refl, refl)
 
 -- an engine's step but for a fetch leaves the set-up
@@ -110,7 +110,7 @@ of-same s w e = (ap (λ (setup : Setup). setup.device) e, ap (λ (setup : Setup)
 
 fetch_of-phases : (s : State) (e : ℕ) (d : Descriptor) (c : Cell) (note : BatchNote) (o : Option Slot) → HasSame s (fetch_of s.work e d c note o).1.setup
 fetch_of-phases s e d c note None = (refl, refl)
-fetch_of-phases s e d c note (Some batch) = one_row (λ (r : FetchAnswer × Work). HasSame s r.1.setup) _ (AllFetched, s.work) (fetched s.work e d c note batch.1) (refl, refl) (refl, refl)
+fetch_of-phases s e d c note (Some batch) = one_row (λ (r : FetchAnswer × Work). HasSame s r.1.setup) _ (AllFetched, s.work) (after_fetch s.work e d c note batch.1) (refl, refl) (refl, refl)
 
 fetch-phases : (s : State) (e : ℕ) (d : Descriptor) (c : Cell) (o : Option BatchNote) → HasSame s (fetch_for s.work e d c o).1.setup
 fetch-phases s e d c None = (refl, refl)
@@ -133,12 +133,12 @@ clear-phases s (Some noted) = (refl, refl)
 -- ---- commands
 
 -- what a command stops is what it is said to stop
-stopped-stops : (setup : Setup) (deed : Deed) (scope : Scope) → IsAtRest setup → StopsBy (stopped deed scope Stopping setup) (stops_device deed scope) (stops_queue deed scope)
+stopped-stops : (setup : Setup) (deed : Deed) (scope : Scope) → IsAtRest setup → StopsBy (after_stop deed scope Stopping setup) (stops_device deed scope) (stops_queue deed scope)
 stopped-stops setup Disable Device i = record { device = λ h. refl; queues = λ q h. refl }
 stopped-stops setup Disable scope i = record {
   device = λ h. let e = i.device in absurd cc;
   queues = λ q.
-      by_phase (λ p. is_stopping p ≡ true → names (queues_in scope) q ≡ true) (names (queues_in scope)) Stopping setup q
+      by_phase (λ p. is_stopping p ≡ true → is_among (queues_in scope) q ≡ true) (is_among (queues_in scope)) Stopping setup q
       (λ t h. t) (λ t h. let e = i.queues q in absurd cc) (λ h. absurd cc);
 }
 stopped-stops setup _ scope i = resting setup i.device i.queues
@@ -148,7 +148,7 @@ set-rests : (setup : Setup) (test : ℕ → Bool) (p : Phase) (q : ℕ) → is_s
 set-rests setup test p q h k = by_phase (λ p. is_stopping p ≡ false) test p setup q (λ t. h) k refl
 
 -- with what it stopped Off, nothing is Stopping
-over-rests : (setup : Setup) (deed : Deed) (scope : Scope) → StopsBy setup (stops_device deed scope) (stops_queue deed scope) → IsAtRest (stopped deed scope Off setup)
+over-rests : (setup : Setup) (deed : Deed) (scope : Scope) → StopsBy setup (stops_device deed scope) (stops_queue deed scope) → IsAtRest (after_stop deed scope Off setup)
 over-rests setup Disable Device i = record {
   device = refl;
   queues = λ q. set-rests setup (λ q. not (is_off (phase_at setup q))) Off q refl (λ t. off (phase_at setup q) t);
@@ -160,14 +160,14 @@ over-rests setup Disable Device i = record {
     off Stopping h = absurd cc
 over-rests setup Disable scope i = record {
   device = none (is_stopping setup.device) i.device;
-  queues = λ q. set-rests setup (names (queues_in scope)) Off q refl (λ t. none (is_stopping (phase_at setup q)) (λ h. sym t ∙ i.queues q h));
+  queues = λ q. set-rests setup (is_among (queues_in scope)) Off q refl (λ t. none (is_stopping (phase_at setup q)) (λ h. sym t ∙ i.queues q h));
 }
 over-rests setup _ scope i = record { device = none _ i.device; queues = λ q. none _ (i.queues q) }
 
 of-rest : (setup : Setup) (active : Option ActiveCommand) → IsAtRest setup → Stops setup active
 of-rest setup active i = resting setup i.device i.queues
 
-waits-stops : (s : State) (command : Command) → IsAtRest s.work.setup → let t = (waits s command).1 in Stops t.work.setup t.active
+waits-stops : (s : State) (command : Command) → IsAtRest s.work.setup → let t = (wait_of s command).1 in Stops t.work.setup t.active
 waits-stops s command i = cond_both _ _ _ (λ (r : IssueAnswer × State). Stops r.1.work.setup r.1.active)
     (λ x. of-rest _ s.active (over-rests s.work.setup (deed_of command) (scope_of command) (resting s.work.setup i.device i.queues)))
     (λ x. stopped-stops s.work.setup (deed_of command) (scope_of command) i)
@@ -176,24 +176,24 @@ waits-stops s command i = cond_both _ _ _ (λ (r : IssueAnswer × State). Stops 
 reset-rests : (phases : ℕ) (q : ℕ) → is_stopping (get_or (replicate phases Off) q Off) ≡ false
 reset-rests phases q = ap is_stopping (get_or-replicated Off phases q)
 
-done-stops : (s : State) (command : Command) (deed : Deed) (scope : Scope) → IsAtRest s.work.setup → let t = (done_by s command deed scope).1 in Stops t.work.setup t.active
+done-stops : (s : State) (command : Command) (deed : Deed) (scope : Scope) → IsAtRest s.work.setup → let t = (deed_done_of s command deed scope).1 in Stops t.work.setup t.active
 done-stops s command Enable Device i = resting _ refl i.queues
 done-stops s command Enable (Queue queue) i = resting _ i.device (λ q. set-rests s.work.setup (λ k. k == queue) On q refl (λ t. i.queues q))
 done-stops s command Enable scope i = of-rest _ s.active i
 done-stops s command Abort scope i = of-rest _ s.active i
 done-stops s command Reset Device i = resting _ refl (reset-rests s.work.setup.caps.queues)
-done-stops s command Reset scope i = resting _ i.device (λ q. set-rests s.work.setup (names (queues_in scope)) Off q refl (λ t. i.queues q))
+done-stops s command Reset scope i = resting _ i.device (λ q. set-rests s.work.setup (is_among (queues_in scope)) Off q refl (λ t. i.queues q))
 done-stops s command _ scope i = waits-stops s command i
 
-refused_or-stops : (s : State) (o : Option Fault) (r : IssueAnswer × State) → Stops s.work.setup s.active → Stops r.1.work.setup r.1.active → let t = (refused_or s o r).1 in Stops t.work.setup t.active
+refused_or-stops : (s : State) (o : Option Fault) (r : IssueAnswer × State) → Stops s.work.setup s.active → Stops r.1.work.setup r.1.active → let t = (refusal_or s o r).1 in Stops t.work.setup t.active
 refused_or-stops s None r i k = k
 refused_or-stops s (Some fault) r i k = i
 
 issue-stops : (s : State) (command : Command) → Stops s.work.setup s.active → let t = (issue s command).1 in Stops t.work.setup t.active
 issue-stops s command i =
-    table3 (λ (r : IssueAnswer × State). Stops r.1.work.setup r.1.active) _ _ _ (Refused Busy, s) (Refused BadQueue, s) (Refused WrongState, s) (refused_or s (check_of s.work.setup (deed_of command) (scope_of command)) (carried_out s command))
+    table3 (λ (r : IssueAnswer × State). Stops r.1.work.setup r.1.active) _ _ _ (Refused Busy, s) (Refused BadQueue, s) (Refused WrongState, s) (refusal_or s (check_of s.work.setup (deed_of command) (scope_of command)) (command_done_of s command))
     (λ x. i) (λ x. i) (λ x. i)
-    (λ x y z. refused_or-stops s (check_of s.work.setup (deed_of command) (scope_of command)) (carried_out s command) i (done-stops s command (deed_of command) (scope_of command) (at-rest s.work.setup s.active (no-command s.active x) i)))
+    (λ x y z. refused_or-stops s (check_of s.work.setup (deed_of command) (scope_of command)) (command_done_of s command) i (done-stops s command (deed_of command) (scope_of command) (at-rest s.work.setup s.active (no-command s.active x) i)))
   where
     no-command : (o : Option ActiveCommand) → is_some o ≡ false → o ≡ None
     no-command None h = refl

@@ -9,7 +9,7 @@ use Rattle.dsa_regs.specs.declared.Deed.TheVariants.{Disable}
 use Rattle.dsa_regs.specs.Command.{scope_of, deed_of, queues_in}
 use Rattle.dsa_book.specs.declared.note.ActiveCommand.{ActiveCommand}
 use Rattle.dsa_book.specs.State.{Setup, State, phase_at}
-use Rattle.dsa_book.specs.Commands.{names}
+use Rattle.dsa_book.specs.Commands.{is_among}
 
 -- whether the device or a queue waits for the end of a disable
 abbrev pub is_stopping : Phase → Bool
@@ -24,7 +24,7 @@ stops_device _ _ = false
 -- whether it disables the queue (profile)
 abbrev pub stops_queue : Deed → Scope → ℕ → Bool
 stops_queue Disable Device q = true
-stops_queue Disable scope q = names (queues_in scope) q
+stops_queue Disable scope q = is_among (queues_in scope) q
 stops_queue _ _ q = false
 
 -- whether the active command passes, where there is one

@@ -20,7 +20,7 @@ ghost use Rattle.dsa_book.specs.declared.answer.SubmitAnswer.{SubmitAnswer};
 ghost use Rattle.dsa_book.specs.declared.answer.Reply.{Reply};
 ghost use Rattle.dsa_book.specs.declared.answer.Reply.TheVariants as reply;
 ghost use Rattle.dsa_book.specs.Same.{same_reply};
-ghost use Rattle.dsa_book.specs.Choice.{chosen};
+ghost use Rattle.dsa_book.specs.Choice.{choice_of};
 ghost use Rattle.dsa_book.specs.State.{State, is_on, occupancy, phase_at};
 ghost use Rattle.dsa_book.specs.Machine.{next, replay};
 ghost use Rattle.dsa_book.specs.Submit.{limit_of};
@@ -50,7 +50,7 @@ pub fn replies_differ_in_free_choices()
     ensures alike { (s s' s'' : State) (event : Event) (first second : Reply) → next s event first ≡ Some s'
         → next s event second ≡ Some s'' → AreAlike first second }
     ensures decided { (s s' s'' : State) (event : Event) (first second : Reply) → next s event first ≡ Some s'
-        → next s event second ≡ Some s'' → chosen first ≡ chosen second → (first ≡ second) × (s' ≡ s'') }
+        → next s event second ≡ Some s'' → choice_of first ≡ choice_of second → (first ≡ second) × (s' ≡ s'') }
 {}
 
 /// What is Stopping is what the active command disables, so without an active command nothing is.

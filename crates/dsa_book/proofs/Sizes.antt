@@ -6,7 +6,7 @@ use Rattle.dsa_base.proofs.NumberSums.{sum-places, sum-map, sum-equal}
 use Rattle.dsa_regs.specs.declared.QueueConfig.{QueueConfig}
 use Rattle.dsa_regs.specs.Config.{queue_at, total_size, zero_queue}
 use Rattle.dsa_book.specs.State.{Setup}
-use Rattle.dsa_book.specs.Commands.{names, size_alone, with_sizes_alone}
+use Rattle.dsa_book.specs.Commands.{is_among, size_alone, with_sizes_alone}
 
 size-alone : (b : Bool) (c : QueueConfig) → (cond b (size_alone c) c).size ≡ c.size
 size-alone true c = refl
@@ -16,9 +16,9 @@ size-alone false c = refl
 pub total_size-alone : (queues : List ℕ) (setup : Setup) → length setup.configs ≡ setup.caps.queues
     → total_size (with_sizes_alone queues setup).configs ≡ total_size setup.configs
 total_size-alone queues setup long =
-    let config : ℕ → QueueConfig = λ q. cond (names queues q) (size_alone (queue_at setup.configs q)) (queue_at setup.configs q) in
+    let config : ℕ → QueueConfig = λ q. cond (is_among queues q) (size_alone (queue_at setup.configs q)) (queue_at setup.configs q) in
     let all = numbers_below setup.caps.queues in
     sum-map (λ (c : QueueConfig). c.size) config all
-    ∙ sum-equal (λ q. (config q).size) (λ q. (queue_at setup.configs q).size) all (λ q. size-alone (names queues q) (queue_at setup.configs q))
+    ∙ sum-equal (λ q. (config q).size) (λ q. (queue_at setup.configs q).size) all (λ q. size-alone (is_among queues q) (queue_at setup.configs q))
     ∙ ap (λ n. sum_by (λ q. (queue_at setup.configs q).size) (numbers_below n)) (sym long)
     ∙ sum-places (λ (c : QueueConfig). c.size) setup.configs zero_queue

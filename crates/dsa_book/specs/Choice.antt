@@ -17,11 +17,11 @@ pub data Choice : Type 0 where
   from_queue : ℕ → Choice
 
 -- what was chosen, by the reply
-abbrev pub chosen : Reply → Choice
-chosen (Submit (Accepted ticket)) = in_cell ticket.cell
-chosen (Dispatch (Taken ticket queue)) = from_queue queue
-chosen (Fetch (Fetched ticket)) = in_cell ticket.cell
-chosen _ = nothing
+abbrev pub choice_of : Reply → Choice
+choice_of (Submit (Accepted ticket)) = in_cell ticket.cell
+choice_of (Dispatch (Taken ticket queue)) = from_queue queue
+choice_of (Fetch (Fetched ticket)) = in_cell ticket.cell
+choice_of _ = nothing
 
 -- whether nothing is chosen
 abbrev pub is_nothing : Choice → Bool

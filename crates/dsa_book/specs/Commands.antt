@@ -17,7 +17,7 @@ use Rattle.dsa_base.specs.Numbers.{numbers_below}
 use Rattle.dsa_regs.specs.Config.{zero_queue, queue_at, check_device, check_queue}
 use Rattle.dsa_regs.specs.Command.{number_of, scope_of, deed_of, queues_in}
 use Rattle.dsa_store.specs.declared.entry.Entry.{Entry}
-use Rattle.dsa_store.specs.Content.{Slot, Content, chain, all_held, kept}
+use Rattle.dsa_store.specs.Content.{Slot, Content, chain, all_held, only_where}
 use Rattle.dsa_book.specs.declared.answer.NotedError.{NotedError}
 use Rattle.dsa_book.specs.declared.note.BatchNote.{BatchNote}
 use Rattle.dsa_book.specs.declared.note.ActiveCommand.{ActiveCommand}
@@ -36,20 +36,20 @@ use Rattle.dsa_book.specs.Work.{progress_list, note_at, fate_row}
 -- ---- scopes
 
 -- whether the queue is among these
-abbrev pub names : List ℕ → ℕ → Bool
-names queues q = list_any (λ k. k == q) queues
+abbrev pub is_among : List ℕ → ℕ → Bool
+is_among queues q = list_any (λ k. k == q) queues
 
 -- the entries of a scope: all, those of the queues that it names, or those of one PASID (profile)
 abbrev pub is_in_scope : Scope → Entry → Bool
 is_in_scope Device entry = true
 is_in_scope (Pasid pasid) entry = entry.desc.pasid == pasid
-is_in_scope scope entry = names (queues_in scope) entry.queue
+is_in_scope scope entry = is_among (queues_in scope) entry.queue
 
 -- ---- ends
 
 -- whether an entry that passes is held
-abbrev pub holds : (Entry → Bool) → Content → Bool
-holds test content = list_any (λ slot. test slot.1) (all_held content)
+abbrev pub holds_any : (Entry → Bool) → Content → Bool
+holds_any test content = list_any (λ slot. test slot.1) (all_held content)
 
 -- the entries that keep a command from its end: of a drain's scope what was submitted before it (Intel DSA: drain commands), and all of a disable's (profile)
 abbrev pub is_awaited : Deed → Scope → ℕ → Entry → Bool
@@ -58,7 +58,7 @@ is_awaited _ scope mark entry = is_in_scope scope entry && not (is_member entry)
 
 -- a command is at its end when nothing is held that it waits for (profile)
 abbrev pub is_at_end : ActiveCommand → Content → Bool
-is_at_end active content = not (holds (is_awaited (deed_of active.command) (scope_of active.command) active.mark) content)
+is_at_end active content = not (holds_any (is_awaited (deed_of active.command) (scope_of active.command) active.mark) content)
 
 -- ---- phases and configurations
 
@@ -72,16 +72,16 @@ abbrev pub with_device : Phase → Setup → Setup
 with_device phase setup = record setup { device = phase }
 
 -- a disable brings the device with its queues, or the queues that it names, to this phase; other deeds stop nothing (profile)
-abbrev pub stopped : Deed → Scope → Phase → Setup → Setup
-stopped Disable Device phase setup = with_device phase (with_phases (λ q. not (is_off (phase_at setup q))) phase setup)
-stopped Disable scope phase setup = with_phases (names (queues_in scope)) phase setup
-stopped _ scope phase setup = setup
+abbrev pub after_stop : Deed → Scope → Phase → Setup → Setup
+after_stop Disable Device phase setup = with_device phase (with_phases (λ q. not (is_off (phase_at setup q))) phase setup)
+after_stop Disable scope phase setup = with_phases (is_among (queues_in scope)) phase setup
+after_stop _ scope phase setup = setup
 
 -- Enable Device has the device On, and Enable WQ its queue (profile)
-abbrev pub enabled : Scope → Setup → Setup
-enabled Device setup = with_device On setup
-enabled (Queue queue) setup = with_phases (λ q. q == queue) On setup
-enabled _ setup = setup
+abbrev pub after_enable : Scope → Setup → Setup
+after_enable Device setup = with_device On setup
+after_enable (Queue queue) setup = with_phases (λ q. q == queue) On setup
+after_enable _ setup = setup
 
 -- all zero but the size (profile)
 abbrev pub size_alone : QueueConfig → QueueConfig
@@ -90,12 +90,12 @@ size_alone config = record zero_queue { size = config.size }
 -- with these queues all zero but for their sizes
 abbrev pub with_sizes_alone : List ℕ → Setup → Setup
 with_sizes_alone queues setup =
-    record setup { configs = map (λ q. cond (names queues q) (size_alone (queue_at setup.configs q)) (queue_at setup.configs q)) (numbers_below setup.caps.queues) }
+    record setup { configs = map (λ q. cond (is_among queues q) (size_alone (queue_at setup.configs q)) (queue_at setup.configs q)) (numbers_below setup.caps.queues) }
 
 -- Reset Device has all zero and Off again, and the names that were given are not given again; Reset WQ has its queues Off, with their sizes alone (profile)
 abbrev pub reset : Scope → Setup → Setup
 reset Device setup = record (opening_setup setup.caps) { next_name = setup.next_name }
-reset scope setup = with_sizes_alone (queues_in scope) (with_phases (names (queues_in scope)) Off setup)
+reset scope setup = with_sizes_alone (queues_in scope) (with_phases (is_among (queues_in scope)) Off setup)
 
 -- ---- abort
 
@@ -108,10 +108,10 @@ abbrev pub kept_note : Setup → Scope → List Slot → Option BatchNote → Op
 kept_note setup scope xs note = cond (takes_batch setup scope xs) None note
 
 -- what the scope holds ends by the command of this number, list by list and each front first; the rest keeps its order (profile)
-abbrev pub aborted : ℕ → Scope → Work → Work
-aborted number scope w =
+abbrev pub after_abort : ℕ → Scope → Work → Work
+after_abort number scope w =
     record w {
-      content = kept (λ entry. not (is_in_scope scope entry)) w.content;
+      content = only_where (λ entry. not (is_in_scope scope entry)) w.content;
       notes = map (λ e. kept_note w.setup scope (chain w.content (progress_list w.setup e)) (note_at w e)) (numbers_below w.setup.caps.engines);
       fates = w.fates ++ map (fate_row (Aborted number)) (filter (λ slot. is_in_scope scope slot.1) (all_held w.content));
     }
@@ -150,39 +150,39 @@ abbrev pub with_setup : Work → Setup → Work
 with_setup w setup = record w { setup = setup }
 
 -- the command is over, and so many entries were aborted
-abbrev pub ended_at_once : State → ℕ → Work → IssueAnswer × State
-ended_at_once s n w = (Ended n, record s { work = w })
+abbrev pub end_at_once : State → ℕ → Work → IssueAnswer × State
+end_at_once s n w = (Ended n, record s { work = w })
 
 -- what the scope holds ends, and the set-up changes so (profile)
-abbrev pub aborts : State → ℕ → Scope → (Setup → Setup) → IssueAnswer × State
-aborts s number scope change =
-    let w = aborted number scope s.work in
-    ended_at_once s (count_in_scope scope s.work.content) (with_setup w (change w.setup))
+abbrev pub abort_of : State → ℕ → Scope → (Setup → Setup) → IssueAnswer × State
+abort_of s number scope change =
+    let w = after_abort number scope s.work in
+    end_at_once s (count_in_scope scope s.work.content) (with_setup w (change w.setup))
 
 -- the command ends at once where nothing is to be waited for, else it is active from here on (profile)
-abbrev pub waits : State → Command → IssueAnswer × State
-waits s command =
+abbrev pub wait_of : State → Command → IssueAnswer × State
+wait_of s command =
     let active : ActiveCommand = record { command = command; mark = s.work.setup.next_name } in
-    let stop = stopped (deed_of command) (scope_of command) in
+    let stop = after_stop (deed_of command) (scope_of command) in
     cond (is_at_end active s.work.content)
-    (ended_at_once s 0 (with_setup s.work (stop Off s.work.setup)))
+    (end_at_once s 0 (with_setup s.work (stop Off s.work.setup)))
     (Active, record { work = with_setup s.work (stop Stopping s.work.setup); active = Some active })
 
 -- what each deed does with a scope; the command is what it is active by, and what it aborts by (profile)
-abbrev pub done_by : State → Command → Deed → Scope → IssueAnswer × State
-done_by s command Enable scope = ended_at_once s 0 (with_setup s.work (enabled scope s.work.setup))
-done_by s command Abort scope = aborts s (number_of command) scope (λ setup. setup)
-done_by s command Reset scope = aborts s (number_of command) scope (reset scope)
-done_by s command _ scope = waits s command
+abbrev pub deed_done_of : State → Command → Deed → Scope → IssueAnswer × State
+deed_done_of s command Enable scope = end_at_once s 0 (with_setup s.work (after_enable scope s.work.setup))
+deed_done_of s command Abort scope = abort_of s (number_of command) scope (λ setup. setup)
+deed_done_of s command Reset scope = abort_of s (number_of command) scope (reset scope)
+deed_done_of s command _ scope = wait_of s command
 
 -- what a command does (profile)
-abbrev pub carried_out : State → Command → IssueAnswer × State
-carried_out s command = done_by s command (deed_of command) (scope_of command)
+abbrev pub command_done_of : State → Command → IssueAnswer × State
+command_done_of s command = deed_done_of s command (deed_of command) (scope_of command)
 
 -- a fault of the check refuses the command, and nothing changes (profile)
-abbrev pub refused_or : State → Option Fault → IssueAnswer × State → IssueAnswer × State
-refused_or s None done = done
-refused_or s (Some fault) done = (Refused fault, s)
+abbrev pub refusal_or : State → Option Fault → IssueAnswer × State → IssueAnswer × State
+refusal_or s None done = done
+refusal_or s (Some fault) done = (Refused fault, s)
 
 -- what refuses a command before its check, in this order (profile)
 abbrev pub issue_table : State → Command → List (Bool × (IssueAnswer × State))
@@ -193,7 +193,7 @@ issue_table s command =
 
 -- the answer to a command and what it leaves: the first refusal that stands, or its effect (profile)
 abbrev pub issue : State → Command → IssueAnswer × State
-issue s command = first_row_or (issue_table s command) (refused_or s (check_of s.work.setup (deed_of command) (scope_of command)) (carried_out s command))
+issue s command = first_row_or (issue_table s command) (refusal_or s (check_of s.work.setup (deed_of command) (scope_of command)) (command_done_of s command))
 
 -- ---- poll
 
@@ -202,7 +202,7 @@ abbrev pub poll_of : State → Option ActiveCommand → PollAnswer × State
 poll_of s None = (Nothing, s)
 poll_of s (Some active) =
     cond (is_at_end active s.work.content)
-    (Finished, record { work = with_setup s.work (stopped (deed_of active.command) (scope_of active.command) Off s.work.setup); active = None })
+    (Finished, record { work = with_setup s.work (after_stop (deed_of active.command) (scope_of active.command) Off s.work.setup); active = None })
     (Active, s)
 
 -- the answer to one who asks after the active command, and what it leaves (profile)

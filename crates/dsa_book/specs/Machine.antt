@@ -18,7 +18,7 @@ use Rattle.dsa_book.specs.declared.event.Event.{Event}
 use Rattle.dsa_book.specs.declared.event.Event.TheVariants.{Submit, Dispatch, Fetch, Start, Finish, Issue, Poll, WriteQueue, WriteGroup, ClearError}
 use Rattle.dsa_book.specs.declared.event.Step.{Step}
 use Rattle.dsa_book.specs.Same.{same_reply}
-use Rattle.dsa_book.specs.Choice.{Choice, chosen, is_nothing, cell_of, may_enter}
+use Rattle.dsa_book.specs.Choice.{Choice, choice_of, is_nothing, cell_of, may_enter}
 use Rattle.dsa_book.specs.State.{Setup, Intake, Work, State, opening}
 use Rattle.dsa_book.specs.Submit.{submit}
 use Rattle.dsa_book.specs.Work.{may_leave, dispatch, fetch, start, finish}
@@ -52,27 +52,27 @@ may_choose s (Fetch engine desc) choice = may_enter s.work.setup s.work.content 
 may_choose s event choice = is_nothing choice
 
 -- a layer's answer as a reply, and what it leaves put back in the state
-abbrev pub replied : {A X : Type 0} → (A → Reply) → (X → State) → A × X → Reply × State
-replied reply put r = (reply r.0, put r.1)
+abbrev pub reply_with : {A X : Type 0} → (A → Reply) → (X → State) → A × X → Reply × State
+reply_with reply put r = (reply r.0, put r.1)
 
 -- the reply to an event, given what is free, and the state after it (profile)
 abbrev pub reply_of : State → Event → Choice → Reply × State
 reply_of s (Submit client queue portal kind desc) choice =
-    replied Submit (with_intake s) (submit (intake_of s) queue portal kind desc (cell_of choice))
-reply_of s (Dispatch engine) choice = replied Dispatch (with_work s) (dispatch s.work engine choice)
-reply_of s (Fetch engine desc) choice = replied Fetch (with_work s) (fetch s.work engine desc (cell_of choice))
-reply_of s (Start engine) choice = replied Start (with_work s) (start s.work engine)
-reply_of s (Finish engine ticket outcome) choice = replied Finish (with_work s) (finish s.work engine ticket outcome)
-reply_of s (Issue command) choice = replied Issue (λ after. after) (issue s command)
-reply_of s Poll choice = replied Poll (λ after. after) (poll s)
-reply_of s (WriteQueue queue config) choice = replied Write (with_setup s) (write_queue s.work.setup queue config)
-reply_of s (WriteGroup group config) choice = replied Write (with_setup s) (write_group s.work.setup group config)
-reply_of s ClearError choice = replied Clear (with_setup s) (clear s.work.setup)
+    reply_with Submit (with_intake s) (submit (intake_of s) queue portal kind desc (cell_of choice))
+reply_of s (Dispatch engine) choice = reply_with Dispatch (with_work s) (dispatch s.work engine choice)
+reply_of s (Fetch engine desc) choice = reply_with Fetch (with_work s) (fetch s.work engine desc (cell_of choice))
+reply_of s (Start engine) choice = reply_with Start (with_work s) (start s.work engine)
+reply_of s (Finish engine ticket outcome) choice = reply_with Finish (with_work s) (finish s.work engine ticket outcome)
+reply_of s (Issue command) choice = reply_with Issue (λ after. after) (issue s command)
+reply_of s Poll choice = reply_with Poll (λ after. after) (poll s)
+reply_of s (WriteQueue queue config) choice = reply_with Write (with_setup s) (write_queue s.work.setup queue config)
+reply_of s (WriteGroup group config) choice = reply_with Write (with_setup s) (write_group s.work.setup group config)
+reply_of s ClearError choice = reply_with Clear (with_setup s) (clear s.work.setup)
 
 -- the state after the event with this reply, where it is the machine's for a choice that may be made (profile)
 abbrev pub next : State → Event → Reply → Option State
 next s event reply =
-    let choice = chosen reply in
+    let choice = choice_of reply in
     let r = reply_of s event choice in
     when (may_choose s event choice && same_reply reply r.0) r.1
 
@@ -94,8 +94,8 @@ is_stored (Clear (Cleared noted)) = true
 is_stored _ = false
 
 -- the history after a step
-abbrev pub recorded : List Step → Step → List Step
-recorded history step = cond (is_stored step.reply) (history ++ step ∷ []) history
+abbrev pub history_after : List Step → Step → List Step
+history_after history step = cond (is_stored step.reply) (history ++ step ∷ []) history
 
 -- ---- lists of steps
 

@@ -7,7 +7,7 @@ use Rattle.dsa_base.specs.Rows.{first_row_or}
 use Rattle.dsa_regs.specs.declared.QueueConfig.{QueueConfig}
 use Rattle.dsa_regs.specs.Config.{queue_at}
 use Rattle.dsa_store.specs.declared.entry.Cell.{Cell}
-use Rattle.dsa_store.specs.Content.{pushed}
+use Rattle.dsa_store.specs.Content.{after_push}
 use Rattle.dsa_book.specs.declared.event.Portal.{Portal}
 use Rattle.dsa_book.specs.declared.event.Portal.TheVariants.{Limited, Unlimited}
 use Rattle.dsa_book.specs.declared.event.Kind.{Kind}
@@ -35,23 +35,23 @@ pasid_by (Enqcmd pasid) config = pasid
 pasid_by Movdir64b config = config.pasid
 
 -- the first error is kept, and a later one sets its overflow mark (profile)
-abbrev pub noted_more : Option NotedError → ℕ → Cause → NotedError
-noted_more None q cause = record { queue = q; cause = cause; overflow = false }
-noted_more (Some noted) q cause = record noted { overflow = true }
+abbrev pub next_noted : Option NotedError → ℕ → Cause → NotedError
+next_noted None q cause = record { queue = q; cause = cause; overflow = false }
+next_noted (Some noted) q cause = record noted { overflow = true }
 
 -- ENQCMD is told to come again, and MOVDIR64B nothing (Intel SDM: ENQCMD, MOVDIR64B); what is dropped leaves a noted error (profile)
-abbrev pub turned_away : Intake → ℕ → Kind → Cause → SubmitAnswer × Intake
-turned_away i q (Enqcmd pasid) cause = (Retry cause, i)
-turned_away i q Movdir64b cause =
-    (Dropped cause, record i { setup = record i.setup { noted = Some (noted_more i.setup.noted q cause) } })
+abbrev pub after_refusal : Intake → ℕ → Kind → Cause → SubmitAnswer × Intake
+after_refusal i q (Enqcmd pasid) cause = (Retry cause, i)
+after_refusal i q Movdir64b cause =
+    (Dropped cause, record i { setup = record i.setup { noted = Some (next_noted i.setup.noted q cause) } })
 
 -- an entry at the end of its queue, in the given cell and with the next name (profile)
-abbrev pub accepted : Intake → ℕ → Kind → Descriptor → Cell → SubmitAnswer × Intake
-accepted i q kind desc cell = (
+abbrev pub after_accept : Intake → ℕ → Kind → Descriptor → Cell → SubmitAnswer × Intake
+after_accept i q kind desc cell = (
   Accepted (record { cell = cell; name = i.setup.next_name }),
   record {
     setup = record i.setup { next_name = i.setup.next_name + 1 };
-    content = pushed i.content q cell (
+    content = after_push i.content q cell (
         record {
           name = i.setup.next_name;
           parent = None;
@@ -67,13 +67,13 @@ accepted i q kind desc cell = (
 abbrev pub submit_table : Intake → ℕ → Portal → Kind → List (Bool × (SubmitAnswer × Intake))
 submit_table i q portal kind =
     let config = queue_at i.setup.configs q in
-    (not (is_on (phase_at i.setup q)), turned_away i q kind NotEnabled) ∷
-    (not (beq (is_movdir64b kind) config.dedicated), turned_away i q kind WrongKind) ∷
-    (nat_le (limit_of config portal) (occupancy i.content q), turned_away i q kind AtLimit) ∷ []
+    (not (is_on (phase_at i.setup q)), after_refusal i q kind NotEnabled) ∷
+    (not (beq (is_movdir64b kind) config.dedicated), after_refusal i q kind WrongKind) ∷
+    (nat_le (limit_of config portal) (occupancy i.content q), after_refusal i q kind AtLimit) ∷ []
 
 -- the answer to a submission and what it leaves, where an accepted entry is given this cell (profile)
 abbrev pub submit : Intake → ℕ → Portal → Kind → Descriptor → Cell → SubmitAnswer × Intake
-submit i q portal kind desc cell = first_row_or (submit_table i q portal kind) (accepted i q kind desc cell)
+submit i q portal kind desc cell = first_row_or (submit_table i q portal kind) (after_accept i q kind desc cell)
 
 -- ---- the zero flag
 

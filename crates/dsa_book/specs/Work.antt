@@ -13,7 +13,7 @@ use Rattle.dsa_regs.specs.Caps.{list_number}
 use Rattle.dsa_regs.specs.declared.layout.ListUse.TheVariants.{Progress, Members}
 use Rattle.dsa_store.specs.declared.entry.Cell.{Cell}
 use Rattle.dsa_store.specs.declared.entry.Entry.{Entry}
-use Rattle.dsa_store.specs.Content.{Slot, chain, is_cell, pushed, without_front, emptied, unlinked}
+use Rattle.dsa_store.specs.Content.{Slot, chain, is_cell, after_push, without_front, after_give_back, after_unlink}
 use Rattle.dsa_book.specs.declared.answer.Ticket.{Ticket}
 use Rattle.dsa_book.specs.declared.note.BatchNote.{BatchNote}
 use Rattle.dsa_book.specs.declared.fate.Fate.{Fate}
@@ -116,13 +116,13 @@ abbrev pub as_running : Entry → Entry
 as_running entry = record entry { running = true }
 
 -- the same cell, whose entry runs
-abbrev pub run : Slot → Slot
-run slot = (slot.0, as_running slot.1)
+abbrev pub with_running_entry : Slot → Slot
+with_running_entry slot = (slot.0, as_running slot.1)
 
 -- the front of the queue goes to the end of those in progress, and runs; a well-formed Batch opens a note (profile)
-abbrev pub taken : Work → ℕ → ℕ → Slot → Work
-taken w e q front = record w {
-  content = pushed (without_front w.content q) (progress_list w.setup e) front.0 (as_running front.1);
+abbrev pub after_take : Work → ℕ → ℕ → Slot → Work
+after_take w e q front = record w {
+  content = after_push (without_front w.content q) (progress_list w.setup e) front.0 (as_running front.1);
   notes = cond (is_batch_of w.setup front.1) (with_note w.notes e (Some (opened_note front.1))) w.notes;
 }
 
@@ -135,7 +135,7 @@ may_leave w e (in_cell cell) = false
 -- the front is taken, where there is one (profile)
 abbrev pub dispatch_of : Work → ℕ → ℕ → Option Slot → DispatchAnswer × Work
 dispatch_of w e q None = (Idle, w)
-dispatch_of w e q (Some front) = (Taken (ticket_of front) q, taken w e q front)
+dispatch_of w e q (Some front) = (Taken (ticket_of front) q, after_take w e q front)
 
 -- the answer to a dispatch and what it leaves: the chosen queue's front is taken, and Idle comes without one (profile)
 abbrev pub dispatch : Work → ℕ → Choice → DispatchAnswer × Work
@@ -153,12 +153,12 @@ abbrev pub batch_on : Work → ℕ → BatchNote → Option Slot
 batch_on w e note = find (λ slot. slot.1.name == note.batch) (in_progress w e)
 
 -- the member stands last among the members, with the next name, the given cell, and the batch's PASID and queue (profile)
-abbrev pub fetched : Work → ℕ → Descriptor → Cell → BatchNote → Entry → FetchAnswer × Work
-fetched w e desc cell note batch = (
+abbrev pub after_fetch : Work → ℕ → Descriptor → Cell → BatchNote → Entry → FetchAnswer × Work
+after_fetch w e desc cell note batch = (
   Fetched (record { cell = cell; name = w.setup.next_name }),
   record w {
     setup = record w.setup { next_name = w.setup.next_name + 1 };
-    content = pushed w.content (member_list w.setup e) cell (
+    content = after_push w.content (member_list w.setup e) cell (
         record {
           name = w.setup.next_name;
           parent = Some note.batch;
@@ -175,7 +175,7 @@ fetched w e desc cell note batch = (
 abbrev pub fetch_of : Work → ℕ → Descriptor → Cell → BatchNote → Option Slot → FetchAnswer × Work
 fetch_of w e desc cell note None = (NoBatch, w)
 fetch_of w e desc cell note (Some batch) =
-    first_row_or ((is_all_fetched note, (AllFetched, w)) ∷ []) (fetched w e desc cell note batch.1)
+    first_row_or ((is_all_fetched note, (AllFetched, w)) ∷ []) (after_fetch w e desc cell note batch.1)
 
 -- nothing is fetched without a batch (profile)
 abbrev pub fetch_for : Work → ℕ → Descriptor → Cell → Option BatchNote → FetchAnswer × Work
@@ -205,9 +205,9 @@ abbrev pub fate_row : Fate → Slot → FateRow
 fate_row fate slot = record { name = slot.1.name; parent = slot.1.parent; fate = fate }
 
 -- all members end, and the batch is closed (Intel DSA: fence, where a descriptor before it failed)
-abbrev pub abandoned : Work → ℕ → Work
-abandoned w e = record w {
-  content = emptied w.content (member_list w.setup e);
+abbrev pub after_abandon : Work → ℕ → Work
+after_abandon w e = record w {
+  content = after_give_back w.content (member_list w.setup e);
   notes = with_note w.notes e (option_map (λ (note : BatchNote). record note { closed = true }) (note_at w e));
   fates = w.fates ++ map (fate_row Abandoned) (members w e);
 }
@@ -215,23 +215,23 @@ abandoned w e = record w {
 -- the first that does not run runs
 abbrev pub with_first_run : List Slot → List Slot
 with_first_run [] = []
-with_first_run (slot ∷ rest) = cond slot.1.running (slot ∷ with_first_run rest) (run slot ∷ rest)
+with_first_run (slot ∷ rest) = cond slot.1.running (slot ∷ with_first_run rest) (with_running_entry slot ∷ rest)
 
 -- the first member that did not run runs (profile)
-abbrev pub started : Work → ℕ → Work
-started w e = record w { content = slice_set w.content (member_list w.setup e) (with_first_run (members w e)) }
+abbrev pub after_start : Work → ℕ → Work
+after_start w e = record w { content = slice_set w.content (member_list w.setup e) (with_first_run (members w e)) }
 
 -- what keeps a member from starting: a fence waits for all members before it, a failure before it abandons the rest (Intel DSA: fence), or there is want of buffers (profile)
 abbrev pub start_table : Work → ℕ → Slot → List (Bool × (StartAnswer × Work))
 start_table w e slot =
     (is_fenced slot.1.desc && not (is_front w e slot), (FenceWait, w)) ∷
-    (is_fenced slot.1.desc && has_failed w e, (Abandoned (length (members w e)), abandoned w e)) ∷
+    (is_fenced slot.1.desc && has_failed w e, (Abandoned (length (members w e)), after_abandon w e)) ∷
     (not (has_room w e (need_of w.setup slot.1)), (NoBuffers, w)) ∷ []
 
 -- Nothing without a member that waits, else what keeps it from starting, else it starts (profile)
 abbrev pub start_of : Work → ℕ → Option Slot → StartAnswer × Work
 start_of w e None = (Nothing, w)
-start_of w e (Some slot) = first_row_or (start_table w e slot) (Started (ticket_of slot), started w e)
+start_of w e (Some slot) = first_row_or (start_table w e slot) (Started (ticket_of slot), after_start w e)
 
 -- the answer to a start and what it leaves (profile)
 abbrev pub start : Work → ℕ → StartAnswer × Work
@@ -257,9 +257,9 @@ note_after w e slot outcome =
     (note_at w e))
 
 -- the entry leaves, and its fate is written down (profile)
-abbrev pub ended : Work → ℕ → Slot → Outcome → Work
-ended w e slot outcome = record w {
-  content = unlinked w.content slot.0;
+abbrev pub after_end : Work → ℕ → Slot → Outcome → Work
+after_end w e slot outcome = record w {
+  content = after_unlink w.content slot.0;
   notes = with_note w.notes e (note_after w e slot outcome);
   fates = w.fates ++ fate_row (Completed (last_status w e slot outcome)) slot ∷ [];
 }
@@ -269,7 +269,7 @@ abbrev pub finish_of : Work → ℕ → Outcome → Option Slot → FinishAnswer
 finish_of w e outcome None = (Gone, w)
 finish_of w e outcome (Some slot) =
     first_row_or ((is_batch_of w.setup slot.1 && is_unfinished w e, (NotReady, w)) ∷ [])
-    (Done (last_status w e slot outcome), ended w e slot outcome)
+    (Done (last_status w e slot outcome), after_end w e slot outcome)
 
 -- the answer to an end and what it leaves: it is of the running entry of the engine that has the ticket's cell and name (profile)
 abbrev pub finish : Work → ℕ → Ticket → Outcome → FinishAnswer × Work

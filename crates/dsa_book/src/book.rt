@@ -1,7 +1,7 @@
 //! The history of a device, and the fates of what ended.
 
 ghost use Rattle.std.specs.Prelude.{◌≡◌, ◌==◌, ◌<◌, ◌≤◌, ◌++◌, ◌∷◌, [], length, IfOk, find};
-ghost use Rattle.dsa_book.specs.Machine.{recorded};
+ghost use Rattle.dsa_book.specs.Machine.{history_after};
 
 use crate::answer::Reply;
 use crate::event::{Event, Step};
@@ -97,7 +97,7 @@ impl Book {
     /// Adds the step where its reply is one that the history keeps, and else changes nothing.
     pub fn record(&mut self, event: Event, reply: Reply)
         requires { length self.old.history < self.old.capacity }
-        ensures { self.new ≡ record self.old { history = recorded self.old.history (record { event = event; reply = reply }) } }
+        ensures { self.new ≡ record self.old { history = history_after self.old.history (record { event = event; reply = reply }) } }
     {
         if reply.is_stored() {
             self.add_step(Step { event, reply });

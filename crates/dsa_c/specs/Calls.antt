@@ -17,7 +17,7 @@ use Rattle.dsa_book.specs.declared.event.Portal.{Portal}
 use Rattle.dsa_book.specs.declared.event.Portal.TheVariants.{Limited, Unlimited}
 use Rattle.dsa_device.specs.declared.faults.MakeFault.{MakeFault}
 use Rattle.dsa_device.specs.declared.faults.MakeFault.TheVariants.{BadCaps, BadCapacity, BadStore, OutOfMemory}
-use Rattle.dsa_device.specs.Running.{Running, answered}
+use Rattle.dsa_device.specs.Running.{Running, after_answer}
 use Rattle.dsa_c.specs.declared.answer.Answer.{Answer}
 use Rattle.dsa_c.specs.declared.words.DeviceLimits.{DeviceLimits}
 use Rattle.dsa_c.specs.declared.steps.DeviceQueue.{DeviceQueue}
@@ -29,7 +29,7 @@ use Rattle.dsa_c.specs.Place.{HeldMachine}
 abbrev pub IsStep : HeldMachine → Event → Answer → HeldMachine → Type 0
 IsStep None event answer after = (answer ≡ no_device) × (after ≡ None)
 IsStep (Some machine) event answer after =
-    IsSomeAnd after (λ then. (reply : Reply) × ((answer ≡ answer_of reply) × (answered machine.device event reply ≡ Some then.device)))
+    IsSomeAnd after (λ then. (reply : Reply) × ((answer ≡ answer_of reply) × (after_answer machine.device event reply ≡ Some then.device)))
 
 -- a call that may come with a wrong number: then it is answered as one, and changes nothing
 abbrev pub IsCall : HeldMachine → Option Event → Answer → HeldMachine → Type 0

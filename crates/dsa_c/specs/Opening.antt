@@ -2,7 +2,7 @@
 use Rattle.std.specs.Prelude.{◌≡◌, ℕ, None, Some}
 use Rattle.dsa_base.specs.Rows.{first_row}
 use Rattle.dsa_regs.specs.declared.Caps.{Caps}
-use Rattle.dsa_device.specs.Running.{opened}
+use Rattle.dsa_device.specs.Running.{running_at_first}
 use Rattle.dsa_machine.specs.Opening.{opening_table, opening_fault}
 use Rattle.dsa_c.specs.declared.opening.DeviceCaps.{DeviceCaps}
 use Rattle.dsa_c.specs.Calls.{opening_number}
@@ -24,7 +24,7 @@ caps_of caps = record {
 -- that stands, or for want of memory where none does
 abbrev pub IsOpened : Caps → ℕ → ℕ → HeldMachine → Type 0
 IsOpened caps capacity number None = number ≡ opening_number (opening_fault caps capacity)
-IsOpened caps capacity number (Some machine) = (number ≡ 0) × ((first_row (opening_table caps capacity) ≡ None) × (machine.device ≡ opened caps capacity))
+IsOpened caps capacity number (Some machine) = (number ≡ 0) × ((first_row (opening_table caps capacity) ≡ None) × (machine.device ≡ running_at_first caps capacity))
 
 -- a device that is open stays as it is, and 5 says so
 abbrev pub IsOpening : HeldMachine → Caps → ℕ → ℕ → HeldMachine → Type 0

@@ -3,7 +3,7 @@
 ghost use Rattle.std.specs.Prelude.{◌≡◌, ◌==◌, ℕ, nat_lt, find, length, slice_get, option_map};
 ghost use Rattle.dsa_base.specs.Rows.{when};
 ghost use Rattle.dsa_regs.specs.Command.{number_of};
-ghost use Rattle.dsa_store.specs.Content.{held};
+ghost use Rattle.dsa_store.specs.Content.{held_count};
 ghost use Rattle.dsa_book.specs.State.{occupancy};
 ghost use Rattle.dsa_book.specs.Work.{used};
 ghost use Rattle.dsa_c.specs.Calls.{asked, asked_for, or_none, noted_of, reply_at};
@@ -73,7 +73,7 @@ pub extern "C" fn dsa_used(alloc: Global, handle: &mut Handle, group: u16) -> u6
 /// The number of entries that the device holds.
 #[unsafe(no_mangle)]
 pub extern "C" fn dsa_held(alloc: Global, handle: &mut Handle) -> u64
-    ensures value { result ≡ or_none (asked handle.old.place.machine (λ d. held d.state.work.content)) }
+    ensures value { result ≡ or_none (asked handle.old.place.machine (λ d. held_count d.state.work.content)) }
     ensures same { handle.new.place.machine ≡ handle.old.place.machine }
 {
     let Some(machine) = handle.take(alloc) else {

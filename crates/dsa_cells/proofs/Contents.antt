@@ -12,8 +12,8 @@ use Rattle.std.proofs.Math.ListN.{get_or-map}
 use Rattle.std.specs.List.{remove}
 use Rattle.dsa_store.specs.declared.entry.Cell.{Cell}
 use Rattle.dsa_store.specs.declared.entry.Entry.{Entry}
-use Rattle.dsa_store.specs.Content.{Slot, Content, is_cell, chain, uses, held, first_cell}
-use Rattle.dsa_store.specs.Content.{pushed, moved as move, unlinked, replaced, emptied, StandsAt}
+use Rattle.dsa_store.specs.Content.{Slot, Content, is_cell, chain, use_count, held_count, first_cell}
+use Rattle.dsa_store.specs.Content.{after_push, after_move as move, after_unlink, after_set, after_give_back, StandsAt}
 use Rattle.dsa_store.proofs.Finding.{uses-stands, entry_of-at, list_of-at, next_of-at, unlinked-at, unlinked-none}
 use Rattle.dsa_store.proofs.Finding.{replaced-none, entry_of-none, list_of-none, next_of-none}
 use Rattle.dsa_cells.specs.declared.links.Node.{Node}
@@ -79,7 +79,7 @@ slots-set es c e (x ∷ xs) lt =
     ∙ ap (λ (l : List Slot). cond (x == c) (record { 0 = x }, e) (slot es x) ∷ l) (slots-set es c e xs lt)
 
 lists-set : (es : List Entry) (c : ℕ) (e : Entry) (lists : List (List ℕ)) → c < length es
-    → map (map (slot (set es c e))) lists ≡ replaced (map (map (slot es)) lists) (record { 0 = c }) e
+    → map (map (slot (set es c e))) lists ≡ after_set (map (map (slot es)) lists) (record { 0 = c }) e
 lists-set es c e [] lt = refl
 lists-set es c e (xs ∷ lists) lt =
     ap (λ (l : List Slot). l ∷ map (map (slot (set es c e))) lists) (slots-set es c e xs lt)
@@ -128,7 +128,7 @@ contents-set_free es lists l ys le =
 
 -- a cell comes behind a list that is seen
 contents-appended : (es : List Entry) (lists : List (List ℕ)) (l c : ℕ) → l < length lists - 1
-    → contents es (appended lists l (c ∷ [])) ≡ pushed (contents es lists) l (record { 0 = c }) (get_or es c no_entry)
+    → contents es (appended lists l (c ∷ [])) ≡ after_push (contents es lists) l (record { 0 = c }) (get_or es c no_entry)
 contents-appended es lists l c lt =
     contents-set es lists l (list_at lists l ++ c ∷ []) lt
     ∙ ap (set (contents es lists) l) (map-append (slot es) (list_at lists l) (c ∷ [])
@@ -208,7 +208,7 @@ used s r cell node i lt same listed =
 -- no list in use names a cell that names none
 unused_uses : (s : List Node) (r : List Header) (cell : Cell) → IsWhole s r →
     (cell.0 < length s → length r - 1 ≤ (node_at s cell.0).owner)
-    → uses (content_at s r) cell ≡ 0
+    → use_count (content_at s r) cell ≡ 0
 unused_uses s r cell i h =
     let lists = lists_of s r in
     let c = cell.0 in
@@ -284,7 +284,7 @@ front-is s r l lt =
 
 -- the cells that are held and those that are free are all
 pub held-is : (s : List Node) (r : List Header) → IsWhole s r →
-    held (content_at s r) + length (list_at (lists_of s r) (length (content_at s r))) ≡ length s
+    held_count (content_at s r) + length (list_at (lists_of s r) (length (content_at s r))) ≡ length s
 held-is s r i =
     let lists = lists_of s r in
     let size = length-contents (entries_of s) lists in
@@ -300,7 +300,7 @@ held-is s r i =
 
 -- an entry is written into a cell
 pub content-written : (s : List Node) (r : List Header) (c : ℕ) (e : Entry) → c < length s
-    → contents (set (entries_of s) c e) (lists_of s r) ≡ replaced (content_at s r) (record { 0 = c }) e
+    → contents (set (entries_of s) c e) (lists_of s r) ≡ after_set (content_at s r) (record { 0 = c }) e
 content-written s r c e lt = lists-set (entries_of s) c e (in_use (lists_of s r))
     (omega (arith, lt, length-map s (λ (t : Node). t.entry)))
 
@@ -308,7 +308,7 @@ content-written s r c e lt = lists-set (entries_of s) c e (in_use (lists_of s r)
 pub content-pushed : (s : List Node) (r : List Header) (c to : ℕ) (e : Entry) → c < length s →
     IsUnused s r (record { 0 = c }) → to < length (content_at s r)
     → contents (set (entries_of s) c e) (moved (lists_of s r) c (length (content_at s r)) to) ≡
-    pushed (content_at s r) to (record { 0 = c }) e
+    after_push (content_at s r) to (record { 0 = c }) e
 content-pushed s r c to e lt un to_in =
     let lists = lists_of s r in
     let es = entries_of s in
@@ -317,9 +317,9 @@ content-pushed s r c to e lt un to_in =
     let xs = lacking c (list_at lists f) in
     let size2 = length-set lists f xs in
     contents-appended (set es c e) (set lists f xs) to c (omega (arith, to_in, size, size2))
-    ∙ ap (λ (x : Content). pushed x to (record { 0 = c }) (get_or (set es c e) c no_entry))
+    ∙ ap (λ (x : Content). after_push x to (record { 0 = c }) (get_or (set es c e) c no_entry))
     (contents-set_free (set es c e) lists f xs (omega (arith, size)) ∙ content-written s r c e lt ∙ un.replaced e)
-    ∙ ap (pushed (content_at s r) to (record { 0 = c })) (get_or-set_same es c e no_entry
+    ∙ ap (after_push (content_at s r) to (record { 0 = c })) (get_or-set_same es c e no_entry
     (omega (arith, lt, length-map s (λ (t : Node). t.entry))))
 
 -- the front of a list comes behind another
@@ -342,7 +342,7 @@ content-moved s r c from to i f from_in to_in ne =
     ∙ ap (λ (ys : List ℕ). set C from (map (slot es) ys)) less in
     let front = chain-contents es lists from (omega (arith, from_in, size)) ∙ ap (map (slot es)) f.is in
     contents-appended es (set lists from xs) to c (omega (arith, to_in, size, size2))
-    ∙ ap (λ (x : Content). pushed x to (record { 0 = c }) (get_or es c no_entry)) left
+    ∙ ap (λ (x : Content). after_push x to (record { 0 = c }) (get_or es c no_entry)) left
     ∙ ap (λ (l : List Slot). set (set C from (map (slot es) f.behind)) to (l ++ slot es c ∷ []))
     (get_or-set_other C from to (map (slot es) f.behind) [] (λ e. ne (sym e)))
     ∙ sym (ap (λ (l : List Slot). set (set C from (drop 1 l)) to (chain C to ++ take 1 l)) front)
@@ -351,7 +351,7 @@ content-moved s r c from to i f from_in to_in ne =
 pub content-unlinked : (s : List Node) (r : List Header) (cell : Cell) (node : Node) → IsWhole s r
     → IsUsed s r cell node
     → contents (entries_of s) (moved (lists_of s r) cell.0 (node_at s cell.0).owner (length (content_at s r)))
-    ≡ unlinked (content_at s r) cell
+    ≡ after_unlink (content_at s r) cell
 content-unlinked s r cell node i u =
     let lists = lists_of s r in
     let es = entries_of s in
@@ -373,7 +373,7 @@ content-unlinked s r cell node i u =
 
 -- a list comes to the free list
 pub content-emptied : (s : List Node) (r : List Header) (l : ℕ) → l < length (content_at s r)
-    → contents (entries_of s) (given_back (lists_of s r) l (length (content_at s r))) ≡ emptied (content_at s r) l
+    → contents (entries_of s) (given_back (lists_of s r) l (length (content_at s r))) ≡ after_give_back (content_at s r) l
 content-emptied s r l lt =
     let lists = lists_of s r in
     let es = entries_of s in
@@ -407,7 +407,7 @@ in_use_is s r = omega (arith, length-contents (entries_of s) (lists_of s r), len
 -- the free list is empty where all cells are held
 pub full-when : (s : List Node) (r : List Header) (n : ℕ) → IsWhole s r → n ≡ length (content_at s r) →
     first_or (list_at (lists_of s r) n) None ≡ None
-    → held (content_at s r) ≡ length s
+    → held_count (content_at s r) ≡ length s
 full-when s r n i e h = omega (
   arith,
   held-is s r i,
@@ -421,13 +421,13 @@ full-when s r n i e h = omega (
 
 -- and only there
 pub not-full : (s : List Node) (r : List Header) (n c : ℕ) → IsWhole s r → n ≡ length (content_at s r) →
-    Front s r n c → held (content_at s r) ≡ length s → ⊥
+    Front s r n c → held_count (content_at s r) ≡ length s → ⊥
 not-full s r n c i e f full =
     omega (arith, full, held-is s r i, ap (λ (k : ℕ). length (list_at (lists_of s r) k)) e, ap length f.is)
 
 -- its count
 pub free-is : (s : List Node) (r : List Header) (k : ℕ) → IsWhole s r → k ≡ length r →
-    (header_at r (k - 1)).count + held (content_at s r) ≡ length s
+    (header_at r (k - 1)).count + held_count (content_at s r) ≡ length s
 free-is s r k i e =
     let n = length (content_at s r) in
     let same : k - 1 ≡ n = omega (arith, e, length-contents (entries_of s) (lists_of s r), length-lists s r) in

@@ -2,7 +2,7 @@
 use Rattle.std.specs.Prelude.{◌≡◌, ℕ, ◌-◌, ◌<◌, List, Option, None, Some, length, map, slice_index_or}
 use Rattle.dsa_store.specs.declared.entry.Cell.{Cell}
 use Rattle.dsa_store.specs.declared.entry.Entry.{Entry}
-use Rattle.dsa_store.specs.Content.{Slot, Content, uses, entry_of, list_of, next_of, unlinked, replaced}
+use Rattle.dsa_store.specs.Content.{Slot, Content, use_count, entry_of, list_of, next_of, after_unlink, after_set}
 use Rattle.dsa_cells.specs.declared.links.Node.{Node}
 use Rattle.dsa_cells.specs.declared.links.Header.{Header}
 use Rattle.dsa_cells.specs.Array.{no_entry, node_at, entries_of}
@@ -27,19 +27,19 @@ cell_of (Some cell) = Some (record { 0 = cell })
 
 -- no list in use names the cell, and so much callers may know of it
 pub record IsUnused (nodes : List Node) (headers : List Header) (cell : Cell) : Type 0 where
-  pub none : uses (content_at nodes headers) cell ≡ 0
+  pub none : use_count (content_at nodes headers) cell ≡ 0
   pub list : list_of (content_at nodes headers) cell ≡ None
   pub entry : entry_of (content_at nodes headers) cell ≡ None
   pub next : next_of (content_at nodes headers) cell ≡ None
-  pub unlinked : unlinked (content_at nodes headers) cell ≡ content_at nodes headers
-  pub replaced : (entry : Entry) → replaced (content_at nodes headers) cell entry ≡ content_at nodes headers
+  pub unlinked : after_unlink (content_at nodes headers) cell ≡ content_at nodes headers
+  pub replaced : (entry : Entry) → after_set (content_at nodes headers) cell entry ≡ content_at nodes headers
 
 -- that is the node of the cell, and says what callers may know of it
 pub record IsUsed (nodes : List Node) (headers : List Header) (cell : Cell) (node : Node) : Type 0 where
   pub inside : cell.0 < length nodes
   pub same : node ≡ node_at nodes cell.0
   pub listed : node.owner < length headers - 1
-  pub used : 0 < uses (content_at nodes headers) cell
+  pub used : 0 < use_count (content_at nodes headers) cell
   pub list : list_of (content_at nodes headers) cell ≡ Some node.owner
   pub entry : entry_of (content_at nodes headers) cell ≡ Some node.entry
   pub next : next_of (content_at nodes headers) cell ≡ cell_of node.next

@@ -5,7 +5,7 @@ use Rattle.std.proofs.lemmas.List.Sums.{sum_by-cons, sum_by-take-le}
 use Rattle.std.proofs.Math.ListN.{length-map}
 use Rattle.dsa_store.specs.declared.entry.Cell.{Cell}
 use Rattle.dsa_store.specs.declared.entry.Entry.{Entry}
-use Rattle.dsa_store.specs.Content.{IsSound, uses, held, count}
+use Rattle.dsa_store.specs.Content.{IsSound, use_count, held_count, place_count}
 use Rattle.dsa_store.proofs.Places.{count-nil, count-cons}
 use Rattle.dsa_store.proofs.Lists.{uses-nil, uses-cons, held-nil, held-cons}
 use Rattle.dsa_cells.specs.declared.links.Node.{Node}
@@ -17,14 +17,14 @@ use Rattle.dsa_cells.specs.Content.{slot, content_at}
 use Rattle.dsa_cells.specs.Owners.{is_partition}
 
 -- a list of slots names a cell as often as the list of their cells
-pub count-slots : (es : List Entry) (cell : Cell) (xs : List ℕ) → count cell (map (slot es) xs) ≡ times cell.0 xs
+pub count-slots : (es : List Entry) (cell : Cell) (xs : List ℕ) → place_count cell (map (slot es) xs) ≡ times cell.0 xs
 count-slots es cell [] = count-nil cell
 count-slots es cell (x ∷ xs) =
     grind (arith, nat_tests, count-cons cell (slot es x) (map (slot es) xs), count-slots es cell xs)
 
 -- and so do lists of them
 pub uses-slots : (es : List Entry) (cell : Cell) (lists : List (List ℕ))
-    → uses (map (map (slot es)) lists) cell ≡ sum_by (times cell.0) lists
+    → use_count (map (map (slot es)) lists) cell ≡ sum_by (times cell.0) lists
 uses-slots es cell [] = uses-nil cell
 uses-slots es cell (xs ∷ lists) = omega (
   arith,
@@ -35,7 +35,7 @@ uses-slots es cell (xs ∷ lists) = omega (
 )
 
 -- lists of slots hold as many cells
-pub held-slots : (es : List Entry) (lists : List (List ℕ)) → held (map (map (slot es)) lists) ≡ sum_by length lists
+pub held-slots : (es : List Entry) (lists : List (List ℕ)) → held_count (map (map (slot es)) lists) ≡ sum_by length lists
 held-slots es [] = held-nil
 held-slots es (xs ∷ lists) = omega (
   arith,

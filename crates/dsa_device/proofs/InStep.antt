@@ -10,7 +10,7 @@ use Rattle.dsa_regs.specs.declared.QueueConfig.{QueueConfig}
 use Rattle.dsa_regs.specs.declared.GroupConfig.{GroupConfig}
 use Rattle.dsa_regs.specs.Config.{zero_queue, queue_at, limits_of}
 use Rattle.dsa_store.specs.declared.entry.Cell.{Cell}
-use Rattle.dsa_store.specs.Content.{Slot, Content, chain, pushed}
+use Rattle.dsa_store.specs.Content.{Slot, Content, chain, after_push}
 use Rattle.dsa_book.specs.declared.answer.Cause.{Cause}
 use Rattle.dsa_book.specs.declared.answer.Cause.TheVariants.{AtLimit, NotEnabled, WrongKind}
 use Rattle.dsa_book.specs.declared.answer.NotedError.{NotedError}
@@ -20,7 +20,7 @@ use Rattle.dsa_book.specs.declared.event.Portal.{Portal}
 use Rattle.dsa_book.specs.declared.event.Kind.{Kind}
 use Rattle.dsa_book.specs.declared.event.Kind.TheVariants.{Enqcmd, Movdir64b}
 use Rattle.dsa_book.specs.State.{Setup, Intake, Work, is_off, is_member, phase_at, has_queue}
-use Rattle.dsa_book.specs.Submit.{submit, submit_table, turned_away, accepted}
+use Rattle.dsa_book.specs.Submit.{submit, submit_table, after_refusal, after_accept}
 use Rattle.dsa_book.specs.Commands.{write_queue, write_group, clear, clear_of}
 use Rattle.dsa_base.specs.Lists.{In}
 use Rattle.dsa_laws.specs.WellFormed.{NoneOff}
@@ -45,7 +45,7 @@ load-waiting setup xs x waits =
     let last = ap (λ (b : Bool). cond b (need x.1.desc (limits_of (queue_at setup.configs x.1.queue)) (is_member x.1)) 0) waits in
     omega (arith, load-append setup xs (x ∷ []), load-cons setup x [], load-nil setup, last)
 
-load-pushed : (setup : Setup) (c : Content) (p : ℕ) (x : Slot) → x.1.running ≡ false → (k : ℕ) → load setup (chain (pushed c p x.0 x.1) k) ≡ load setup (chain c k)
+load-pushed : (setup : Setup) (c : Content) (p : ℕ) (x : Slot) → x.1.running ≡ false → (k : ℕ) → load setup (chain (after_push c p x.0 x.1) k) ≡ load setup (chain c k)
 load-pushed setup c p x waits k = ⊎_elim
     (λ q. ap (load setup) q.1 ∙ load-waiting setup (chain c p) x waits ∙ ap (λ (j : ℕ). load setup (chain c j)) (sym q.0))
     (λ e. ap (load setup) e)
@@ -53,21 +53,21 @@ load-pushed setup c p x waits k = ⊎_elim
 
 -- ---- submissions
 
-turned_away-keeps : (i : Intake) (q : ℕ) (kind : Kind) (cause : Cause) → KeepsLoads i.setup (turned_away i q kind cause).1.setup i.content (turned_away i q kind cause).1.content
+turned_away-keeps : (i : Intake) (q : ℕ) (kind : Kind) (cause : Cause) → KeepsLoads i.setup (after_refusal i q kind cause).1.setup i.content (after_refusal i q kind cause).1.content
 turned_away-keeps i q (Enqcmd pasid) cause = record { caps = refl; groups = refl; device = λ n. n; loads = λ k low. refl }
-turned_away-keeps i q Movdir64b cause = record { caps = refl; groups = refl; device = λ n. n; loads = λ k low. load-same i.setup (turned_away i q Movdir64b cause).1.setup (chain i.content k) (λ x m. refl) }
+turned_away-keeps i q Movdir64b cause = record { caps = refl; groups = refl; device = λ n. n; loads = λ k low. load-same i.setup (after_refusal i q Movdir64b cause).1.setup (chain i.content k) (λ x m. refl) }
 
-accepted-keeps : (i : Intake) (q : ℕ) (kind : Kind) (desc : Descriptor) (cell : Cell) → KeepsLoads i.setup (accepted i q kind desc cell).1.setup i.content (accepted i q kind desc cell).1.content
+accepted-keeps : (i : Intake) (q : ℕ) (kind : Kind) (desc : Descriptor) (cell : Cell) → KeepsLoads i.setup (after_accept i q kind desc cell).1.setup i.content (after_accept i q kind desc cell).1.content
 accepted-keeps i q kind desc cell = record {
   caps = refl;
   groups = refl;
   device = λ n. n;
-  loads = λ k low. load-same i.setup (accepted i q kind desc cell).1.setup (chain (accepted i q kind desc cell).1.content k) (λ x m. refl) ∙ load-pushed i.setup i.content q (cell, _) refl k;
+  loads = λ k low. load-same i.setup (after_accept i q kind desc cell).1.setup (chain (after_accept i q kind desc cell).1.content k) (λ x m. refl) ∙ load-pushed i.setup i.content q (cell, _) refl k;
 }
 
 pub submit-keeps : (i : Intake) (q : ℕ) (portal : Portal) (kind : Kind) (desc : Descriptor) (cell : Cell) → KeepsLoads i.setup (submit i q portal kind desc cell).1.setup i.content (submit i q portal kind desc cell).1.content
 submit-keeps i q portal kind desc cell =
-    first_row_or-each (λ (r : SubmitAnswer × Intake). KeepsLoads i.setup r.1.setup i.content r.1.content) (submit_table i q portal kind) (accepted i q kind desc cell)
+    first_row_or-each (λ (r : SubmitAnswer × Intake). KeepsLoads i.setup r.1.setup i.content r.1.content) (submit_table i q portal kind) (after_accept i q kind desc cell)
     (turned_away-keeps i q kind NotEnabled, (turned_away-keeps i q kind WrongKind, (turned_away-keeps i q kind AtLimit, tt)))
     (accepted-keeps i q kind desc cell)
 

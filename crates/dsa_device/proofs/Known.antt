@@ -7,7 +7,7 @@ use Rattle.dsa_regs.specs.declared.Phase.{Phase}
 use Rattle.dsa_regs.specs.declared.Phase.TheVariants.{Off, On, Stopping}
 use Rattle.dsa_regs.specs.declared.Caps.{Caps}
 use Rattle.dsa_regs.specs.Caps.{cell_count}
-use Rattle.dsa_store.specs.Content.{Slot, Content, chain, held}
+use Rattle.dsa_store.specs.Content.{Slot, Content, chain, held_count}
 use Rattle.dsa_store.proofs.Lists.{held-nil, held-cons, length-le-held}
 use Rattle.dsa_book.specs.declared.event.Portal.{Portal}
 use Rattle.dsa_book.specs.declared.event.Kind.{Kind}
@@ -31,7 +31,7 @@ use Rattle.dsa_device.specs.Running.{Running, IsReplay, IsWhole}
 pub well_formed : (d : Running) → IsReplay d → IsWellFormed d.caps d.state
 well_formed d i = replay-well_formed d.caps d.history d.state i.replayed
 
-none-held_all : (c : Content) → ((k : ℕ) → chain c k ≡ []) → held c ≡ 0
+none-held_all : (c : Content) → ((k : ℕ) → chain c k ≡ []) → held_count c ≡ 0
 none-held_all [] h = held-nil
 none-held_all (l ∷ ls) h =
     let first = ap (λ (xs : List Slot). length xs) (h 0) in
@@ -67,7 +67,7 @@ is_none-None (Some x) h = absurd cc
 
 -- where a submission is accepted a cell is free
 pub accepting : (cells : ℕ) (gear : Gear) (d : Running) (queue : ℕ) (portal : Portal) (kind : Kind) → IsWhole cells gear d
-    → is_accepting (intake d.state.work.setup d.state.work.content) queue portal kind ≡ true → held d.state.work.content < cells
+    → is_accepting (intake d.state.work.setup d.state.work.content) queue portal kind ≡ true → held_count d.state.work.content < cells
 accepting cells gear d queue portal kind w h =
     rw (cells-are cells gear d w) (accepting-room d.caps d.state queue portal kind (well_formed d w.replay) (is_none-None _ h))
 
@@ -80,7 +80,7 @@ names_fit d i =
     omega (arith, names, within, bounded)
 
 -- there is a row for each entry
-pub rows_fit : (d : Running) → IsReplay d → length d.state.work.fates + held d.state.work.content ≤ d.capacity
+pub rows_fit : (d : Running) → IsReplay d → length d.state.work.fates + held_count d.state.work.content ≤ d.capacity
 rows_fit d i =
     let names = replay-names-le d.caps d.history d.state i.replayed in
     let counted = (well_formed d i).names.counted in
@@ -128,12 +128,12 @@ member_rows_fit d engine i = go (nat_lt engine d.state.work.setup.caps.engines)
 
 -- where a member may be fetched a cell is free
 pub fetching : (cells : ℕ) (gear : Gear) (d : Running) (engine : ℕ) → IsWhole cells gear d
-    → is_fetching d.state.work engine ≡ true → held d.state.work.content < cells
+    → is_fetching d.state.work engine ≡ true → held_count d.state.work.content < cells
 fetching cells gear d engine w h = rw (cells-are cells gear d w) (go (note_at d.state.work engine) refl h)
   where
     go : (note : Option BatchNote) → note_at d.state.work engine ≡ note
         → passes (λ note. is_some (batch_on d.state.work engine note) && not (is_all_fetched note)) note ≡ true
-        → held d.state.work.content < cell_count d.caps
+        → held_count d.state.work.content < cell_count d.caps
     go None is h = absurd cc
     go (Some note) is h = fetching-room d.caps d.state engine note (well_formed d w.replay) is (not-true (is_all_fetched note) (and_parts (is_some (batch_on d.state.work engine note)) _ h).1)
 

@@ -9,7 +9,7 @@ use Rattle.dsa_book.specs.declared.answer.Reply.{Reply}
 use Rattle.dsa_book.specs.declared.event.Event.{Event}
 use Rattle.dsa_book.specs.declared.event.Step.{Step}
 use Rattle.dsa_book.specs.Machine.{is_stored, replay, stored_steps, may_follow, is_run_after}
-use Rattle.dsa_device.specs.Running.{Running, answered, IsReplay}
+use Rattle.dsa_device.specs.Running.{Running, after_answer, IsReplay}
 use Rattle.dsa_device.specs.Runs.{IsRunOf}
 use Rattle.dsa_device.proofs.Steps.{answered_by_cases, answered-replay, grows}
 
@@ -26,7 +26,7 @@ record IsCall (d : Running) (x : Step) (t : Running) : Type 0 where
   caps : t.caps ≡ d.caps
   capacity : t.capacity ≡ d.capacity
 
-call-of : (d t : Running) (x : Step) → IsReplay d → answered d x.event x.reply ≡ Some t → IsCall d x t
+call-of : (d t : Running) (x : Step) → IsReplay d → after_answer d x.event x.reply ≡ Some t → IsCall d x t
 call-of d t x i a =
     let g = grows d t x.event x.reply a in
     record {
@@ -44,7 +44,7 @@ call-of d t x i a =
 -- the device after a list of calls
 abbrev pub answered_all : Running → List Step → Option Running
 answered_all d [] = Some d
-answered_all d (x ∷ xs) = option_and_then (λ t. answered_all t xs) (answered d x.event x.reply)
+answered_all d (x ∷ xs) = option_and_then (λ t. answered_all t xs) (after_answer d x.event x.reply)
 
 record IsRunTo (d : Running) (xs : List Step) (t : Running) : Type 0 where
   allowed : is_run_after d.caps d.capacity d.history xs ≡ true
@@ -74,7 +74,7 @@ IsRunTo-more d m t x xs one rest = record {
 run-of : (d t : Running) (xs : List Step) → IsReplay d → answered_all d xs ≡ Some t → IsRunTo d xs t
 run-of d t [] i e = subst (IsRunTo d []) (same_Some d t e) record { allowed = refl; history = sym (append-nil d.history); replay = i; caps = refl; capacity = refl }
 run-of d t (x ∷ xs) i e =
-    option_and_then_some (λ m. answered_all m xs) (answered d x.event x.reply) t e
+    option_and_then_some (λ m. answered_all m xs) (after_answer d x.event x.reply) t e
     (λ m q r. IsRunTo-more d m t x xs (call-of d m x i q) (run-of m t xs (answered-replay d m x.event x.reply i q) r))
 
 -- ---- the loop over events
@@ -86,13 +86,13 @@ pub record LeadsTo (before : Running) (events : List Event) (old new : List Step
   pub events_are : map (λ x. x.event) steps ≡ events
   pub replies_are : answered_all before steps ≡ Some after
 
-pub answered_all-push : (d a t : Running) (xs : List Step) (x : Step) → answered_all d xs ≡ Some a → answered a x.event x.reply ≡ Some t → answered_all d (xs ++ x ∷ []) ≡ Some t
+pub answered_all-push : (d a t : Running) (xs : List Step) (x : Step) → answered_all d xs ≡ Some a → after_answer a x.event x.reply ≡ Some t → answered_all d (xs ++ x ∷ []) ≡ Some t
 answered_all-push d a t [] x h n = rw (same_Some d a h, n) refl
 answered_all-push d a t (y ∷ ys) x h n =
-    option_and_then_some (λ m. answered_all m ys) (answered d y.event y.reply) a h
+    option_and_then_some (λ m. answered_all m ys) (after_answer d y.event y.reply) a h
     (λ m q r. ap (λ (o : Option Running). option_and_then (λ m. answered_all m (ys ++ x ∷ [])) o) q ∙ answered_all-push m a t ys x r n)
 
-LeadsTo-more : (d a t : Running) (events : List Event) (old new newer : List Step) (x : Step) → LeadsTo d events old new a → newer ≡ new ++ x ∷ [] → answered a x.event x.reply ≡ Some t → LeadsTo d (events ++ x.event ∷ []) old newer t
+LeadsTo-more : (d a t : Running) (events : List Event) (old new newer : List Step) (x : Step) → LeadsTo d events old new a → newer ≡ new ++ x ∷ [] → after_answer a x.event x.reply ≡ Some t → LeadsTo d (events ++ x.event ∷ []) old newer t
 LeadsTo-more d a t events old new newer x r e n = record {
   steps = r.steps ++ x ∷ [];
   added = e ∙ ap (λ (l : List Step). l ++ x ∷ []) r.added ∙ append_assoc old r.steps (x ∷ []);
@@ -101,7 +101,7 @@ LeadsTo-more d a t events old new newer x r e n = record {
 }
 
 -- one turn
-pub LeadsTo-turn : (d a t : Running) (events : List Event) (i : ℕ) (other : Event) (r : Reply) (old new newer : List Step) → i < length events → LeadsTo d (take i events) old new a → answered a (get_or events i other) r ≡ Some t → newer ≡ new ++ record { event = get_or events i other; reply = r } ∷ [] → LeadsTo d (take (i + 1) events) old newer t
+pub LeadsTo-turn : (d a t : Running) (events : List Event) (i : ℕ) (other : Event) (r : Reply) (old new newer : List Step) → i < length events → LeadsTo d (take i events) old new a → after_answer a (get_or events i other) r ≡ Some t → newer ≡ new ++ record { event = get_or events i other; reply = r } ∷ [] → LeadsTo d (take (i + 1) events) old newer t
 LeadsTo-turn d a t events i other r old new newer lt w n one =
     subst (λ (es : List Event). LeadsTo d es old newer t) (sym (take_more events i other lt)) (LeadsTo-more d a t (take i events) old new newer (record { event = get_or events i other; reply = r }) w one n)
 

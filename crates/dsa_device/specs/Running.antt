@@ -10,7 +10,7 @@ use Rattle.dsa_book.specs.declared.answer.Reply.{Reply}
 use Rattle.dsa_book.specs.declared.note.ActiveCommand.{ActiveCommand}
 use Rattle.dsa_book.specs.Records.{Records}
 use Rattle.dsa_book.specs.State.{Setup, State, opening}
-use Rattle.dsa_book.specs.Machine.{next, recorded, is_full, is_legal, replay}
+use Rattle.dsa_book.specs.Machine.{next, history_after, is_full, is_legal, replay}
 use Rattle.dsa_engines.specs.Engines.{Gear, IsInStep, work}
 
 -- what a device has, for how many steps its history has room, the steps that it stored, and its state (profile)
@@ -21,19 +21,19 @@ pub record Running : Type 0 where
   pub state : State
 
 -- a device before its first step (profile)
-abbrev pub opened : Caps → ℕ → Running
-opened caps capacity = record { caps = caps; capacity = capacity; history = []; state = opening caps }
+abbrev pub running_at_first : Caps → ℕ → Running
+running_at_first caps capacity = record { caps = caps; capacity = capacity; history = []; state = opening caps }
 
 -- after a step that leads to this state: the history has it where its reply is one that is kept (profile)
-abbrev pub stepped : Running → Event → Reply → State → Running
-stepped d event reply s = record d { history = recorded d.history (record { event = event; reply = reply }); state = s }
+abbrev pub running_after : Running → Event → Reply → State → Running
+running_after d event reply s = record d { history = history_after d.history (record { event = event; reply = reply }); state = s }
 
 -- after this reply to an event, where it may come: Full exactly where the history has no room, and then nothing changes, else what the machine allows (profile)
-abbrev pub answered : Running → Event → Reply → Option Running
-answered d event reply =
+abbrev pub after_answer : Running → Event → Reply → Option Running
+after_answer d event reply =
     cond (length d.history == d.capacity)
     (when (is_full event reply) d)
-    (option_map (stepped d event reply) (next d.state event reply))
+    (option_map (running_after d event reply) (next d.state event reply))
 
 -- the history is a legal one within its capacity, and the state is its replay (profile)
 pub record IsReplay (d : Running) : Type 0 where
@@ -46,8 +46,8 @@ pub record IsReplay (d : Running) : Type 0 where
 -- ---- the parts that a device is made of
 
 -- a device by its parts (profile)
-abbrev pub running : Caps → Setup → Gear → Content → Option ActiveCommand → Records → Running
-running caps setup gear content active book = record {
+abbrev pub running_of : Caps → Setup → Gear → Content → Option ActiveCommand → Records → Running
+running_of caps setup gear content active book = record {
   caps = caps;
   capacity = book.capacity;
   history = book.history;

@@ -6,7 +6,7 @@ ghost use Rattle.dsa_regs.specs.Caps.{check_caps};
 ghost use Rattle.dsa_book.specs.declared.event.Event.TheVariants as event;
 ghost use Rattle.dsa_book.specs.declared.answer.Reply.TheVariants as reply;
 ghost use Rattle.dsa_device.specs.Made.{is_store_of, make_fault, fault_or_memory};
-ghost use Rattle.dsa_device.specs.Running.{opened, answered};
+ghost use Rattle.dsa_device.specs.Running.{running_at_first, after_answer};
 
 mod reads;
 mod runs;
@@ -44,7 +44,7 @@ pub struct Device<S: EntryStore> {
 }
 
 impl<S: EntryStore> Model for Device<S> {
-    ghost use Rattle.dsa_device.specs.Running.{Running, running, IsWhole};
+    ghost use Rattle.dsa_device.specs.Running.{Running, running_of, IsWhole};
 
     ghost Value = { Running };
 
@@ -91,7 +91,7 @@ impl<S: EntryStore> Device<S> {
         caps: Caps,
         capacity: u64,
     ) -> Result<Device<S>, (MakeFault, S)>
-        ensures opened { IfOk result (λ device. device ≡ opened caps capacity) }
+        ensures opened { IfOk result (λ device. device ≡ running_at_first caps capacity) }
         ensures no_fault { IfOk result (λ device. make_fault caps capacity (S.cells store) (S.content store) ≡ None) }
         ensures fault { IfErr result (λ e. e.0 ≡ fault_or_memory caps capacity (S.cells store) (S.content store)) }
         ensures store { IfErr result (λ e. e.1 ≡ store) }
@@ -122,7 +122,7 @@ impl<S: EntryStore> Device<S> {
         kind: Kind,
         desc: Descriptor,
     ) -> SubmitAnswer
-        ensures { answered self.old (event.Submit client queue portal kind desc) (reply.Submit result) ≡ Some self.new }
+        ensures { after_answer self.old (event.Submit client queue portal kind desc) (reply.Submit result) ≡ Some self.new }
     {
         if self.book.is_full() {
             return SubmitAnswer::Full;
@@ -151,7 +151,7 @@ impl<S: EntryStore> Device<S> {
         kind: Kind,
         bytes: &[u8; 64],
     ) -> SubmitAnswer
-        ensures { answered self.old (event.Submit client queue portal kind (read bytes.now)) (reply.Submit result) ≡ Some self.new }
+        ensures { after_answer self.old (event.Submit client queue portal kind (read bytes.now)) (reply.Submit result) ≡ Some self.new }
     {
         self.submit_parsed(client, queue, portal, kind, Descriptor::parse(bytes))
     }
@@ -159,7 +159,7 @@ impl<S: EntryStore> Device<S> {
     /// An engine asks for an entry, and takes the front of a queue of its group.
     #[inline(always)]
     pub fn dispatch(&mut self, engine: u16) -> DispatchAnswer
-        ensures { answered self.old (event.Dispatch engine) (reply.Dispatch result) ≡ Some self.new }
+        ensures { after_answer self.old (event.Dispatch engine) (reply.Dispatch result) ≡ Some self.new }
     {
         if self.book.is_full() {
             return DispatchAnswer::Full;
@@ -173,7 +173,7 @@ impl<S: EntryStore> Device<S> {
     /// An engine hands in the next member of its batch.
     #[inline(always)]
     pub fn fetch(&mut self, engine: u16, desc: Descriptor) -> FetchAnswer
-        ensures { answered self.old (event.Fetch engine desc) (reply.Fetch result) ≡ Some self.new }
+        ensures { after_answer self.old (event.Fetch engine desc) (reply.Fetch result) ≡ Some self.new }
     {
         if self.book.is_full() {
             return FetchAnswer::Full;
@@ -189,7 +189,7 @@ impl<S: EntryStore> Device<S> {
     /// An engine starts the first of its members that does not run.
     #[inline(always)]
     pub fn start(&mut self, engine: u16) -> StartAnswer
-        ensures { answered self.old (event.Start engine) (reply.Start result) ≡ Some self.new }
+        ensures { after_answer self.old (event.Start engine) (reply.Start result) ≡ Some self.new }
     {
         if self.book.is_full() {
             return StartAnswer::Full;
@@ -205,7 +205,7 @@ impl<S: EntryStore> Device<S> {
     /// An engine ends the running entry of that ticket, and says how its work went.
     #[inline(always)]
     pub fn finish(&mut self, engine: u16, ticket: Ticket, outcome: Outcome) -> FinishAnswer
-        ensures { answered self.old (event.Finish engine ticket outcome) (reply.Finish result) ≡ Some self.new }
+        ensures { after_answer self.old (event.Finish engine ticket outcome) (reply.Finish result) ≡ Some self.new }
     {
         if self.book.is_full() {
             return FinishAnswer::Full;
@@ -230,7 +230,7 @@ impl<S: EntryStore> Device<S> {
     /// The administrator issues a command.
     #[inline(always)]
     pub fn issue(&mut self, command: Command) -> IssueAnswer
-        ensures { answered self.old (event.Issue command) (reply.Issue result) ≡ Some self.new }
+        ensures { after_answer self.old (event.Issue command) (reply.Issue result) ≡ Some self.new }
     {
         if self.book.is_full() {
             return IssueAnswer::Full;
@@ -250,7 +250,7 @@ impl<S: EntryStore> Device<S> {
     /// The administrator asks whether the active command is over.
     #[inline(always)]
     pub fn poll(&mut self) -> PollAnswer
-        ensures { answered self.old event.Poll (reply.Poll result) ≡ Some self.new }
+        ensures { after_answer self.old event.Poll (reply.Poll result) ≡ Some self.new }
     {
         if self.book.is_full() {
             return PollAnswer::Full;
@@ -263,7 +263,7 @@ impl<S: EntryStore> Device<S> {
     /// The administrator writes the configuration of a queue.
     #[inline(always)]
     pub fn write_queue(&mut self, queue: u16, config: QueueConfig) -> WriteAnswer
-        ensures { answered self.old (event.WriteQueue queue config) (reply.Write result) ≡ Some self.new }
+        ensures { after_answer self.old (event.WriteQueue queue config) (reply.Write result) ≡ Some self.new }
     {
         if self.book.is_full() {
             return WriteAnswer::Full;
@@ -277,7 +277,7 @@ impl<S: EntryStore> Device<S> {
     /// The administrator writes the configuration of a group.
     #[inline(always)]
     pub fn write_group(&mut self, group: u16, config: GroupConfig) -> WriteAnswer
-        ensures { answered self.old (event.WriteGroup group config) (reply.Write result) ≡ Some self.new }
+        ensures { after_answer self.old (event.WriteGroup group config) (reply.Write result) ≡ Some self.new }
     {
         if self.book.is_full() {
             return WriteAnswer::Full;
@@ -291,7 +291,7 @@ impl<S: EntryStore> Device<S> {
     /// The administrator clears the noted error, and is told it.
     #[inline(always)]
     pub fn clear_error(&mut self) -> ClearAnswer
-        ensures { answered self.old event.ClearError (reply.Clear result) ≡ Some self.new }
+        ensures { after_answer self.old event.ClearError (reply.Clear result) ≡ Some self.new }
     {
         if self.book.is_full() {
             return ClearAnswer::Full;

@@ -7,7 +7,7 @@ use Rattle.dsa_desc.specs.declared.Descriptor.{Descriptor}
 use Rattle.dsa_desc.specs.Descriptor.{with_pasid}
 use Rattle.dsa_store.specs.declared.entry.Cell.{Cell}
 use Rattle.dsa_store.specs.declared.entry.Entry.{Entry}
-use Rattle.dsa_store.specs.Content.{Slot, Content, chain, pushed}
+use Rattle.dsa_store.specs.Content.{Slot, Content, chain, after_push}
 use Rattle.dsa_store.proofs.Lists.{length-pushed}
 use Rattle.dsa_book.specs.declared.note.BatchNote.{BatchNote}
 use Rattle.dsa_book.specs.declared.answer.FetchAnswer.TheVariants.{Fetched}
@@ -35,7 +35,7 @@ awake-named : {cells : ℕ} (setup : Setup) (gear : Gear) (content : Content) (i
 awake-named setup gear content i p x s h = awake setup gear content i s (any-found p (chain content i) x h)
 
 -- a member that waits needs nothing yet
-fetched-less : (setup : Setup) (content : Content) (e : ℕ) (cell : Cell) (member : Entry) → length content ≡ setup.caps.queues + 2 * setup.caps.engines → e < setup.caps.engines → member.running ≡ false → HoldsMore setup (pushed content (member_list setup e) cell member) content e (member_list setup e) 0
+fetched-less : (setup : Setup) (content : Content) (e : ℕ) (cell : Cell) (member : Entry) → length content ≡ setup.caps.queues + 2 * setup.caps.engines → e < setup.caps.engines → member.running ≡ false → HoldsMore setup (after_push content (member_list setup e) cell member) content e (member_list setup e) 0
 fetched-less setup content e cell member len he waiting =
     let m : ℕ = member_list setup e in
     let l : List Slot = chain content m in
@@ -49,18 +49,18 @@ fetched-less setup content e cell member len he waiting =
 pub in_step-fetched : {cells later : ℕ} (setup more : Setup) (gear after : Gear) (content now : Content) (e i j name : ℕ) (note : BatchNote) (new : Option BatchNote) (batch : Slot) (cell : Cell) (member : Entry)
     → later ≡ cells → IsInStep setup gear cells content → e < setup.caps.engines → j ≡ member_list setup e
     → find (λ slot. slot.1.name == note.batch) (chain content i) ≡ Some batch → member.running ≡ false
-    → more ≡ record setup { next_name = name } → now ≡ pushed content j cell member → after ≡ record gear { notes = set gear.notes e new }
+    → more ≡ record setup { next_name = name } → now ≡ after_push content j cell member → after ≡ record gear { notes = set gear.notes e new }
     → IsInStep more after later now
 in_step-fetched setup more gear after content now e i j name note new batch cell member kept s he je found waiting se is ae =
     let on = awake-named setup gear content i (λ slot. slot.1.name == note.batch) batch s found in
     let m : ℕ = member_list setup e in
     rw (se, ae, is, je)
-    (in_step-next_name setup _ (pushed content m cell member) name
-    (in_step-moved setup gear _ content (pushed content m cell member) s on kept (length-pushed content m cell member) (length-set gear.notes e new) refl
-    (buffers-same setup gear content (pushed content m cell member) e s on (fetched-less setup content e cell member s.store.lists he waiting))))
+    (in_step-next_name setup _ (after_push content m cell member) name
+    (in_step-moved setup gear _ content (after_push content m cell member) s on kept (length-pushed content m cell member) (length-set gear.notes e new) refl
+    (buffers-same setup gear content (after_push content m cell member) e s on (fetched-less setup content e cell member s.store.lists he waiting))))
 
 pub fetch-done : (setup more : Setup) (gear after : Gear) (content now : Content) (fates : List FateRow) (e i j name : ℕ) (desc own : Descriptor) (cell : Cell) (note : BatchNote) (batch : Slot) → e < setup.caps.engines → i ≡ progress_list setup e → j ≡ member_list setup e → get_or gear.notes e None ≡ Some note → find (λ slot. slot.1.name == note.batch) (chain content i) ≡ Some batch → is_all_fetched note ≡ false
-    → name ≡ setup.next_name → own ≡ with_pasid desc batch.1.desc.pasid → more ≡ record setup { next_name = setup.next_name + 1 } → now ≡ pushed content j cell (record { name = name; parent = Some note.batch; desc = own; queue = batch.1.queue; running = false }) → after ≡ record gear { notes = set gear.notes e (Some (record note { fetched = note.fetched + 1 })) }
+    → name ≡ setup.next_name → own ≡ with_pasid desc batch.1.desc.pasid → more ≡ record setup { next_name = setup.next_name + 1 } → now ≡ after_push content j cell (record { name = name; parent = Some note.batch; desc = own; queue = batch.1.queue; running = false }) → after ≡ record gear { notes = set gear.notes e (Some (record note { fetched = note.fetched + 1 })) }
     → fetch (work setup gear content fates) e desc cell ≡ (Fetched (record { cell = cell; name = name }), work more after now fates)
 fetch-done setup more gear after content now fates e i j name desc own cell note batch he ie je noted found left ne oe se is ae =
     let lt : nat_lt e setup.caps.engines ≡ true = lt-ltb _ _ he in

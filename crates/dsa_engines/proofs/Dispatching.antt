@@ -13,7 +13,7 @@ use Rattle.dsa_regs.specs.Config.{group_at, zero_group}
 use Rattle.dsa_regs.specs.Buffers.{fits}
 use Rattle.dsa_store.specs.declared.entry.Cell.{Cell}
 use Rattle.dsa_store.specs.declared.entry.Entry.{Entry}
-use Rattle.dsa_store.specs.Content.{Slot, Content, chain, uses, moved, replaced, pushed, without_front}
+use Rattle.dsa_store.specs.Content.{Slot, Content, chain, use_count, after_move, after_set, after_push, without_front}
 use Rattle.dsa_store.proofs.Lists.{length-le-held, length-pushed}
 use Rattle.dsa_store.proofs.Turns.{replaced-moved}
 use Rattle.dsa_buffers.specs.Buffers.{Buffers}
@@ -27,7 +27,7 @@ use Rattle.dsa_engines.proofs.Keeping.{awake, in_step-moved}
 use Rattle.dsa_engines.proofs.Used.{load, load-nil, load-append, load-cons, HoldsMore, raises-progress, taken-of, empty-list}
 
 -- a front of one list that goes to the end of the other, and runs
-pub run-front : (content now : Content) (from to : ℕ) (front : Slot) → ((c : Cell) → uses content c ≤ 1) → from < length content → to < length content → from ≢ to → slice_get (chain content from) 0 ≡ Some front → now ≡ replaced (moved content from to) front.0 (as_running front.1) → now ≡ pushed (without_front content from) to front.0 (as_running front.1)
+pub run-front : (content now : Content) (from to : ℕ) (front : Slot) → ((c : Cell) → use_count content c ≤ 1) → from < length content → to < length content → from ≢ to → slice_get (chain content from) 0 ≡ Some front → now ≡ after_set (after_move content from to) front.0 (as_running front.1) → now ≡ after_push (without_front content from) to front.0 (as_running front.1)
 run-front content now from to front once hf ht ne at is =
     let same : chain (without_front content from) to ≡ chain content to = get_or-set_other content from to (drop 1 (chain content from)) [] (λ e. ne (sym e)) in
     is ∙ replaced-moved content from to front.0 front.1 (as_running front.1) once hf ht ne at ∙ rw same refl
@@ -125,7 +125,7 @@ length-opened true notes e new = length-set notes e new
 length-opened false notes e new = refl
 
 taken-more : (setup : Setup) (content : Content) (e q : ℕ) (cell : Cell) (entry : Entry) → length content ≡ setup.caps.queues + 2 * setup.caps.engines → e < setup.caps.engines → q < setup.caps.queues
-    → HoldsMore setup content (pushed (without_front content q) (progress_list setup e) cell (as_running entry)) e (progress_list setup e) (need_of setup entry)
+    → HoldsMore setup content (after_push (without_front content q) (progress_list setup e) cell (as_running entry)) e (progress_list setup e) (need_of setup entry)
 taken-more setup content e q cell entry len he hq =
     let p : ℕ = progress_list setup e in
     let mid : Content = without_front content q in
@@ -142,15 +142,15 @@ taken-more setup content e q cell entry len he hq =
 pub in_step-after : {cells more : ℕ} (setup : Setup) (gear took noted after : Gear) (content now : Content) (e q g n : ℕ) (cell : Cell) (entry : Entry) (p : ℕ)
     → IsInStep setup gear cells content → (is_off setup.device ≡ false → IsOpen setup content e g) → q < setup.caps.queues
     → slice_get (chain content q) 0 ≡ Some (cell, entry) → p ≡ progress_list setup e
-    → now ≡ pushed (without_front content q) p cell (as_running entry) → more ≡ cells → n ≡ need_of setup entry
+    → now ≡ after_push (without_front content q) p cell (as_running entry) → more ≡ cells → n ≡ need_of setup entry
     → took ≡ record gear { buffers = record gear.buffers { used = set gear.buffers.used g (get_or gear.buffers.used g 0 + n) } }
     → noted ≡ record took { notes = cond (is_batch_of setup entry) (with_note took.notes e (Some (opened_note entry))) took.notes }
     → after ≡ noted → IsInStep setup after more now
 in_step-after setup gear took noted after content now e q g n cell entry p s group hq hf same is kept ne te de ae =
     let on : is_off setup.device ≡ false = awake-front setup gear content q (cell, entry) s hf in
     let o = group on in
-    let taken : Content = pushed (without_front content q) (progress_list setup e) cell (as_running entry) in
-    let taken_is : now ≡ taken = is ∙ ap (λ (i : ℕ). pushed (without_front content q) i cell (as_running entry)) same in
+    let taken : Content = after_push (without_front content q) (progress_list setup e) cell (as_running entry) in
+    let taken_is : now ≡ taken = is ∙ ap (λ (i : ℕ). after_push (without_front content q) i cell (as_running entry)) same in
     let raises = raises-progress setup content taken e (need_of setup entry) (taken-more setup content e q cell entry s.store.lists o.engine hq) in
     rw (ae, de, te, taken_is, ne)
     (in_step-moved setup gear _ content taken s on kept

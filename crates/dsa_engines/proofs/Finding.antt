@@ -7,7 +7,7 @@ use Rattle.std.proofs.lemmas.List.Elements.{filter-append}
 use Rattle.dsa_base.specs.Rows.{when}
 use Rattle.dsa_store.specs.declared.entry.Cell.{Cell}
 use Rattle.dsa_store.specs.declared.entry.Entry.{Entry}
-use Rattle.dsa_store.specs.Content.{Slot, Content, is_cell, chain, count, uses, list_of, entry_of, StandsAt}
+use Rattle.dsa_store.specs.Content.{Slot, Content, is_cell, chain, place_count, use_count, list_of, entry_of, StandsAt}
 use Rattle.dsa_store.proofs.Places.{count-nil, count-cons, count-at, is_cell-itself}
 use Rattle.dsa_store.proofs.Lists.{uses-cons, count-le-uses}
 use Rattle.dsa_store.proofs.Finding.{Stands, placed, count-stands, list_of-at, entry_of-at, entry_of-none}
@@ -19,21 +19,21 @@ use Rattle.dsa_engines.specs.Engines.{lists_alone, is_running}
 -- ---- where a cell stands
 
 -- two lists together name a cell no more often than all do
-count-apart : (content : Content) (i j : ℕ) (cell : Cell) → i ≢ j → count cell (chain content i) + count cell (chain content j) ≤ uses content cell
+count-apart : (content : Content) (i j : ℕ) (cell : Cell) → i ≢ j → place_count cell (chain content i) + place_count cell (chain content j) ≤ use_count content cell
 count-apart [] i j cell ne = omega (arith, count-nil cell)
 count-apart (l ∷ ls) zero zero cell ne = absurd (ne refl)
 count-apart (l ∷ ls) zero (suc j) cell ne = omega (arith, uses-cons l ls cell, count-le-uses ls j cell)
 count-apart (l ∷ ls) (suc i) zero cell ne = omega (arith, uses-cons l ls cell, count-le-uses ls i cell)
 count-apart (l ∷ ls) (suc i) (suc j) cell ne = omega (arith, uses-cons l ls cell, count-apart ls i j cell (λ e. ne (ap suc e)))
 
-count-elsewhere : (content : Content) (i j k : ℕ) (cell : Cell) (e : Entry) → uses content cell ≤ 1 → StandsAt content i k cell e → j ≢ i → count cell (chain content j) ≡ 0
+count-elsewhere : (content : Content) (i j k : ℕ) (cell : Cell) (e : Entry) → use_count content cell ≤ 1 → StandsAt content i k cell e → j ≢ i → place_count cell (chain content j) ≡ 0
 count-elsewhere content i j k cell e once at ne =
     let one = count-stands at in
     omega (arith, once, one, count-apart content j i cell ne)
 
 -- ---- one list
 
-find-absent : (t : Ticket) (l : List Slot) → count t.cell l ≡ 0 → find (is_ticket t) (filter is_running l) ≡ None
+find-absent : (t : Ticket) (l : List Slot) → place_count t.cell l ≡ 0 → find (is_ticket t) (filter is_running l) ≡ None
 find-absent t [] h = refl
 find-absent t (s ∷ l) h =
     let differs : is_cell t.cell s ≡ false = grind (arith, count-cons t.cell s l, h) in
@@ -44,7 +44,7 @@ find-absent t (s ∷ l) h =
     on true differs rest = rw differs rest
     on false differs rest = rest
 
-find-there : (t : Ticket) (l : List Slot) (k : ℕ) (e : Entry) → k < length l → get_or l k (t.cell, e) ≡ (t.cell, e) → count t.cell l ≤ 1 → find (is_ticket t) (filter is_running l) ≡ when (e.running && e.name == t.name) (t.cell, e)
+find-there : (t : Ticket) (l : List Slot) (k : ℕ) (e : Entry) → k < length l → get_or l k (t.cell, e) ≡ (t.cell, e) → place_count t.cell l ≤ 1 → find (is_ticket t) (filter is_running l) ≡ when (e.running && e.name == t.name) (t.cell, e)
 find-there t [] k e h is one = absurd (omega (arith, h))
 find-there t (s ∷ l) zero e h is one =
     let same : is_cell t.cell s ≡ true = rw is (is_cell-itself t.cell e) in
@@ -60,7 +60,7 @@ find-there t (s ∷ l) zero e h is one =
     on true rest = rw (is_cell-itself t.cell e) (named (e.name == t.name) rest)
     on false rest = rest
 find-there t (s ∷ l) (suc k) e h is one =
-    let low : 1 ≤ count t.cell l = count-at t.cell l k (t.cell, e) (omega (arith, h)) (rw is (is_cell-itself t.cell e)) in
+    let low : 1 ≤ place_count t.cell l = count-at t.cell l k (t.cell, e) (omega (arith, h)) (rw is (is_cell-itself t.cell e)) in
     let differs : is_cell t.cell s ≡ false = grind (arith, count-cons t.cell s l, low, one) in
     on s.1.running differs (find-there t l k e (omega (arith, h)) is (omega (arith, count-cons t.cell s l, one)))
   where
@@ -92,7 +92,7 @@ running-past setup content e t h =
     let lt : nat_lt e setup.caps.engines ≡ false = grind arith in
     rw lt refl
 
-running-absent : (setup : Setup) (content : Content) (e : ℕ) (t : Ticket) → e < setup.caps.engines → count t.cell (chain content (progress_list setup e)) ≡ 0 → count t.cell (chain content (member_list setup e)) ≡ 0 → find (is_ticket t) (running_on (lists_alone setup content) e) ≡ None
+running-absent : (setup : Setup) (content : Content) (e : ℕ) (t : Ticket) → e < setup.caps.engines → place_count t.cell (chain content (progress_list setup e)) ≡ 0 → place_count t.cell (chain content (member_list setup e)) ≡ 0 → find (is_ticket t) (running_on (lists_alone setup content) e) ≡ None
 running-absent setup content e t h p m =
     ap (find (is_ticket t)) (running-lists setup content e h) ∙ find-append (is_ticket t) (filter is_running (chain content (progress_list setup e))) (filter is_running (chain content (member_list setup e))) (find-absent t (chain content (progress_list setup e)) p) ∙ find-absent t (chain content (member_list setup e)) m
 
@@ -111,7 +111,7 @@ either a x y h =
 pub neither : (a x y : ℕ) → (a == x || a == y) ≡ false → (a ≢ x) × (a ≢ y)
 neither a x y h = (λ p. absurd (grind (arith, h, p)), λ q. absurd (grind (arith, h, q)))
 
-running-there : (setup : Setup) (content : Content) (e i k : ℕ) (t : Ticket) (entry : Entry) → uses content t.cell ≤ 1 → e < setup.caps.engines → StandsAt content i k t.cell entry → IsMine setup e i → find (is_ticket t) (running_on (lists_alone setup content) e) ≡ when (entry.running && entry.name == t.name) (t.cell, entry)
+running-there : (setup : Setup) (content : Content) (e i k : ℕ) (t : Ticket) (entry : Entry) → use_count content t.cell ≤ 1 → e < setup.caps.engines → StandsAt content i k t.cell entry → IsMine setup e i → find (is_ticket t) (running_on (lists_alone setup content) e) ≡ when (entry.running && entry.name == t.name) (t.cell, entry)
 running-there setup content e i k t entry once h at mine =
     ap (find (is_ticket t)) (running-lists setup content e h) ∙ elim mine [
       | inl p ↦
@@ -128,20 +128,20 @@ running-there setup content e i k t entry once h at mine =
 
 -- ---- by what the store answers
 
-pub lost : (setup : Setup) (content : Content) (e : ℕ) (t : Ticket) → uses content t.cell ≤ 1 → e < setup.caps.engines → (list_of content t.cell ≡ None) ⊎ (entry_of content t.cell ≡ None) → find (is_ticket t) (running_on (lists_alone setup content) e) ≡ None
+pub lost : (setup : Setup) (content : Content) (e : ℕ) (t : Ticket) → use_count content t.cell ≤ 1 → e < setup.caps.engines → (list_of content t.cell ≡ None) ⊎ (entry_of content t.cell ≡ None) → find (is_ticket t) (running_on (lists_alone setup content) e) ≡ None
 lost setup content e t once h none = on (placed content t.cell)
   where
-    on : (uses content t.cell ≡ 0) ⊎ Stands content t.cell → find (is_ticket t) (running_on (lists_alone setup content) e) ≡ None
+    on : (use_count content t.cell ≡ 0) ⊎ Stands content t.cell → find (is_ticket t) (running_on (lists_alone setup content) e) ≡ None
     on (inl z) = running-absent setup content e t h (omega (arith, z, count-le-uses content (progress_list setup e) t.cell)) (omega (arith, z, count-le-uses content (member_list setup e) t.cell))
     on (inr s) = elim none [
       | inl l ↦ let both : ◌≡◌ {A = Option ℕ} None (Some s.list) = sym l ∙ list_of-at content s.list s.place t.cell s.entry once s.at in absurd (cc)
       | inr g ↦ let both : ◌≡◌ {A = Option Entry} None (Some s.entry) = sym g ∙ entry_of-at content s.list s.place t.cell s.entry once s.at in absurd (cc)
     ]
 
-pub elsewhere : (setup : Setup) (content : Content) (e i : ℕ) (t : Ticket) → uses content t.cell ≤ 1 → e < setup.caps.engines → list_of content t.cell ≡ Some i → i ≢ progress_list setup e → i ≢ member_list setup e → find (is_ticket t) (running_on (lists_alone setup content) e) ≡ None
+pub elsewhere : (setup : Setup) (content : Content) (e i : ℕ) (t : Ticket) → use_count content t.cell ≤ 1 → e < setup.caps.engines → list_of content t.cell ≡ Some i → i ≢ progress_list setup e → i ≢ member_list setup e → find (is_ticket t) (running_on (lists_alone setup content) e) ≡ None
 elsewhere setup content e i t once h is np nm = on (placed content t.cell)
   where
-    on : (uses content t.cell ≡ 0) ⊎ Stands content t.cell → find (is_ticket t) (running_on (lists_alone setup content) e) ≡ None
+    on : (use_count content t.cell ≡ 0) ⊎ Stands content t.cell → find (is_ticket t) (running_on (lists_alone setup content) e) ≡ None
     on (inl z) = running-absent setup content e t h (omega (arith, z, count-le-uses content (progress_list setup e) t.cell)) (omega (arith, z, count-le-uses content (member_list setup e) t.cell))
     on (inr s) =
         let both : ◌≡◌ {A = Option ℕ} (Some s.list) (Some i) = sym (list_of-at content s.list s.place t.cell s.entry once s.at) ∙ is in
@@ -150,10 +150,10 @@ elsewhere setup content e i t once h is np nm = on (placed content t.cell)
         (count-elsewhere content s.list (progress_list setup e) s.place t.cell s.entry once s.at (λ q. np (sym same ∙ sym q)))
         (count-elsewhere content s.list (member_list setup e) s.place t.cell s.entry once s.at (λ q. nm (sym same ∙ sym q)))
 
-pub here : (setup : Setup) (content : Content) (e i : ℕ) (t : Ticket) (entry : Entry) → uses content t.cell ≤ 1 → e < setup.caps.engines → list_of content t.cell ≡ Some i → IsMine setup e i → entry_of content t.cell ≡ Some entry → find (is_ticket t) (running_on (lists_alone setup content) e) ≡ when (entry.running && entry.name == t.name) (t.cell, entry)
+pub here : (setup : Setup) (content : Content) (e i : ℕ) (t : Ticket) (entry : Entry) → use_count content t.cell ≤ 1 → e < setup.caps.engines → list_of content t.cell ≡ Some i → IsMine setup e i → entry_of content t.cell ≡ Some entry → find (is_ticket t) (running_on (lists_alone setup content) e) ≡ when (entry.running && entry.name == t.name) (t.cell, entry)
 here setup content e i t entry once h is mine got = on (placed content t.cell)
   where
-    on : (uses content t.cell ≡ 0) ⊎ Stands content t.cell → find (is_ticket t) (running_on (lists_alone setup content) e) ≡ when (entry.running && entry.name == t.name) (t.cell, entry)
+    on : (use_count content t.cell ≡ 0) ⊎ Stands content t.cell → find (is_ticket t) (running_on (lists_alone setup content) e) ≡ when (entry.running && entry.name == t.name) (t.cell, entry)
     on (inl z) = let both : ◌≡◌ {A = Option Entry} None (Some entry) = sym (entry_of-none content t.cell z) ∙ got in absurd (cc)
     on (inr s) =
         let lists : ◌≡◌ {A = Option ℕ} (Some s.list) (Some i) = sym (list_of-at content s.list s.place t.cell s.entry once s.at) ∙ is in
@@ -164,14 +164,14 @@ here setup content e i t entry once h is mine got = on (placed content t.cell)
 
 -- by what the code knows of the capabilities
 
-pub outside : (setup : Setup) (content : Content) (e i p m : ℕ) (t : Ticket) → uses content t.cell ≤ 1 → e < setup.caps.engines
+pub outside : (setup : Setup) (content : Content) (e i p m : ℕ) (t : Ticket) → use_count content t.cell ≤ 1 → e < setup.caps.engines
     → p ≡ progress_list setup e → m ≡ member_list setup e → Some i ≡ list_of content t.cell → false ≡ (i == p || i == m)
     → find (is_ticket t) (running_on (lists_alone setup content) e) ≡ None
 outside setup content e i p m t once h pe me is test =
     let n = neither i p m (sym test) in
     elsewhere setup content e i t once h (sym is) (λ q. n.0 (q ∙ sym pe)) (λ q. n.1 (q ∙ sym me))
 
-pub inside : (setup : Setup) (content : Content) (e i p m : ℕ) (t : Ticket) (entry : Entry) (b : Bool) → uses content t.cell ≤ 1 → e < setup.caps.engines
+pub inside : (setup : Setup) (content : Content) (e i p m : ℕ) (t : Ticket) (entry : Entry) (b : Bool) → use_count content t.cell ≤ 1 → e < setup.caps.engines
     → p ≡ progress_list setup e → m ≡ member_list setup e → Some i ≡ list_of content t.cell → true ≡ (i == p || i == m)
     → Some entry ≡ entry_of content t.cell → b ≡ (entry.running && entry.name == t.name)
     → find (is_ticket t) (running_on (lists_alone setup content) e) ≡ when b (t.cell, entry)
@@ -198,7 +198,7 @@ when-some : (b : Bool) (s x : Slot) → when b s ≡ Some x → (b ≡ true) × 
 when-some true s x h = (refl, cc)
 when-some false s x h = absurd cc
 
-pub running-place : (setup : Setup) (content : Content) (e : ℕ) (t : Ticket) (entry : Entry) → uses content t.cell ≤ 1 → find (is_ticket t) (running_on (lists_alone setup content) e) ≡ Some (t.cell, entry) → RunsAt setup content e t.cell entry
+pub running-place : (setup : Setup) (content : Content) (e : ℕ) (t : Ticket) (entry : Entry) → use_count content t.cell ≤ 1 → find (is_ticket t) (running_on (lists_alone setup content) e) ≡ Some (t.cell, entry) → RunsAt setup content e t.cell entry
 running-place setup content e t entry once is = on (cases_lt e setup.caps.engines) (placed content t.cell)
   where
     there : (s : Stands content t.cell) → e < setup.caps.engines → IsMine setup e s.list → RunsAt setup content e t.cell entry
@@ -211,7 +211,7 @@ running-place setup content e t entry once is = on (cases_lt e setup.caps.engine
     none : find (is_ticket t) (running_on (lists_alone setup content) e) ≡ None → ⊥
     none n = let both : ◌≡◌ {A = Option Slot} None (Some (t.cell, entry)) = sym n ∙ is in cc
 
-    on : (e < setup.caps.engines) ⊎ (setup.caps.engines ≤ e) → (uses content t.cell ≡ 0) ⊎ Stands content t.cell → RunsAt setup content e t.cell entry
+    on : (e < setup.caps.engines) ⊎ (setup.caps.engines ≤ e) → (use_count content t.cell ≡ 0) ⊎ Stands content t.cell → RunsAt setup content e t.cell entry
     on (inr past) s = absurd (none (running-past setup content e t past))
     on (inl h) (inl z) = absurd (none (running-absent setup content e t h (omega (arith, z, count-le-uses content (progress_list setup e) t.cell)) (omega (arith, z, count-le-uses content (member_list setup e) t.cell))))
     on (inl h) (inr s) = elim (cases_eq s.list (progress_list setup e)) [

@@ -5,7 +5,7 @@ use Rattle.std.proofs.lemmas.List.{get_or-set_other, length-set}
 use Rattle.dsa_base.proofs.Tables.{not-both}
 use Rattle.dsa_store.specs.declared.entry.Cell.{Cell}
 use Rattle.dsa_store.specs.declared.entry.Entry.{Entry}
-use Rattle.dsa_store.specs.Content.{Slot, Content, chain, pushed}
+use Rattle.dsa_store.specs.Content.{Slot, Content, chain, after_push}
 use Rattle.dsa_store.proofs.Lists.{length-le-held}
 use Rattle.dsa_book.specs.State.{Setup, is_off}
 use Rattle.dsa_engines.specs.Engines.{Gear, IsInStep, buffers_of, homes_of}
@@ -86,6 +86,6 @@ in_step-queue setup gear content q l s on same hq =
 -- an entry that goes to a queue
 pub in_step-pushed : {cells more : ℕ} (setup : Setup) (gear : Gear) (content : Content) (q : ℕ) (cell : Cell) (entry : Entry)
     → IsInStep setup gear cells content → is_off setup.device ≡ false → more ≡ cells → q < setup.caps.queues
-    → IsInStep setup gear more (pushed content q cell entry)
+    → IsInStep setup gear more (after_push content q cell entry)
 in_step-pushed setup gear content q cell entry s on same hq =
     in_step-queue setup gear content q (chain content q ++ (cell, entry) ∷ []) s on same hq

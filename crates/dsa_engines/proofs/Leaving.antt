@@ -7,13 +7,13 @@ use Rattle.dsa_regs.specs.declared.layout.ListUse.TheVariants.{Queue, Progress, 
 use Rattle.dsa_regs.specs.Caps.{HasList, engine_of, list_number}
 use Rattle.dsa_store.specs.declared.entry.Cell.{Cell}
 use Rattle.dsa_store.specs.declared.entry.Entry.{Entry}
-use Rattle.dsa_store.specs.Content.{Slot, Content, chain, uses, unlinked, StandsAt}
+use Rattle.dsa_store.specs.Content.{Slot, Content, chain, use_count, after_unlink, StandsAt}
 use Rattle.dsa_store.proofs.Finding.{unlinked-at}
 use Rattle.dsa_store.proofs.Lists.{length-unlinked}
 use Rattle.dsa_store.proofs.Steps.{chain-within}
 use Rattle.dsa_book.specs.declared.note.BatchNote.{BatchNote}
 use Rattle.dsa_book.specs.State.{Setup, is_off, held_by, is_batch_of}
-use Rattle.dsa_engines.specs.Engines.{Gear, given, Holds, IsInStep, MayRelease, noteless, removed}
+use Rattle.dsa_engines.specs.Engines.{Gear, buffers_after_return, Holds, IsInStep, MayRelease, notes_without, gear_after_removal}
 use Rattle.dsa_engines.proofs.Homes.{one-group}
 use Rattle.dsa_engines.proofs.Dispatching.{home-of}
 use Rattle.dsa_engines.proofs.Keeping.{awake, in_step-moved, in_step-queue}
@@ -23,7 +23,7 @@ use Rattle.dsa_engines.proofs.Finding.{IsMine}
 -- the entry is the k-th of list i of a store that is in step
 pub record IsLeaving (setup : Setup) (gear : Gear) (cells : ℕ) (content : Content) (i k : ℕ) (cell : Cell) (entry : Entry) : Type 0 where
   pub in_step : IsInStep setup gear cells content
-  pub once : uses content cell ≤ 1
+  pub once : use_count content cell ≤ 1
   pub stands : StandsAt content i k cell entry
 
 -- so the device is not Off
@@ -34,7 +34,7 @@ leaving-awake setup gear content i k cell entry l =
     awake setup gear content i l.in_step (omega (arith, within))
 
 pub is-leaving : {cells : ℕ} (setup : Setup) (gear : Gear) (content : Content) (i k : ℕ) (cell : Cell) (entry : Entry)
-    → IsInStep setup gear cells content → uses content cell ≤ 1 → StandsAt content i k cell entry
+    → IsInStep setup gear cells content → use_count content cell ≤ 1 → StandsAt content i k cell entry
     → IsLeaving setup gear cells content i k cell entry
 is-leaving setup gear content i k cell entry s once at = record { in_step = s; once = once; stands = at }
 
@@ -51,7 +51,7 @@ load-remove setup (x ∷ l) (suc k) s h e =
 -- before the entry left, its list held what it holds more
 left-less : {cells : ℕ} (setup : Setup) (gear : Gear) (content : Content) (e i k : ℕ) (cell : Cell) (entry : Entry)
     → IsLeaving setup gear cells content i k cell entry → e < setup.caps.engines
-    → HoldsMore setup (unlinked content cell) content e i (held_by setup entry)
+    → HoldsMore setup (after_unlink content cell) content e i (held_by setup entry)
 left-less setup gear content e i k cell entry l he =
     let is = unlinked-at content i k cell entry l.once l.stands in
     record {
@@ -69,9 +69,9 @@ raises-list setup before after e i n (inr is) h = raises-members setup before af
 -- the group of its engine gives back what it held
 gives : {cells : ℕ} (setup : Setup) (gear : Gear) (content : Content) (e i k : ℕ) (cell : Cell) (entry : Entry)
     → IsLeaving setup gear cells content i k cell entry → e < setup.caps.engines → IsMine setup e i
-    → GivesBack setup content (unlinked content cell) e (held_by setup entry)
+    → GivesBack setup content (after_unlink content cell) e (held_by setup entry)
 gives setup gear content e i k cell entry l he is =
-    gives-back setup content (unlinked content cell) e (held_by setup entry) he l.in_step.queues.groups (one-group setup gear content l.in_step (leaving-awake setup gear content i k cell entry l)) (raises-list setup (unlinked content cell) content e i (held_by setup entry) is (left-less setup gear content e i k cell entry l he))
+    gives-back setup content (after_unlink content cell) e (held_by setup entry) he l.in_step.queues.groups (one-group setup gear content l.in_step (leaving-awake setup gear content i k cell entry l)) (raises-list setup (after_unlink content cell) content e i (held_by setup entry) is (left-less setup gear content e i k cell entry l he))
 
 -- and holds as much before
 pub holds-left : {cells : ℕ} (setup : Setup) (gear : Gear) (content : Content) (e i k : ℕ) (cell : Cell) (entry : Entry)
@@ -85,10 +85,10 @@ holds-left setup gear content e i k cell entry l he is =
 pub in_step-left : {cells more : ℕ} (setup : Setup) (gear : Gear) (content : Content) (e i k : ℕ) (cell : Cell) (entry : Entry) (notes : List (Option BatchNote))
     → IsLeaving setup gear cells content i k cell entry → more ≡ cells → e < setup.caps.engines → IsMine setup e i
     → length notes ≡ length gear.notes
-    → IsInStep setup (record gear { notes = notes; buffers = given (get_or gear.homes e None) (held_by setup entry) gear.buffers }) more (unlinked content cell)
+    → IsInStep setup (record gear { notes = notes; buffers = buffers_after_return (get_or gear.homes e None) (held_by setup entry) gear.buffers }) more (after_unlink content cell)
 in_step-left setup gear content e i k cell entry notes l same he is len =
     let on = leaving-awake setup gear content i k cell entry l in
-    in_step-moved setup gear _ content (unlinked content cell) l.in_step on same (length-unlinked content cell) len refl
+    in_step-moved setup gear _ content (after_unlink content cell) l.in_step on same (length-unlinked content cell) len refl
     (rw (home-of setup gear content e l.in_step on he, l.in_step.buffers on) (gives setup gear content e i k cell entry l he is).given)
 
 -- ---- a removal
@@ -103,7 +103,7 @@ may-release setup gear content (Members e) i k cell entry l has at = holds-left 
 
 -- the list of notes keeps its length
 length-noteless : (from : ListUse) (b : Bool) (notes : List (Option BatchNote))
-    → length (cond b (noteless from notes) notes) ≡ length notes
+    → length (cond b (notes_without from notes) notes) ≡ length notes
 length-noteless from false notes = refl
 length-noteless (Queue q) true notes = refl
 length-noteless (Progress e) true notes = length-set notes e None
@@ -112,12 +112,12 @@ length-noteless (Members e) true notes = refl
 -- after it all is in step again
 pub in_step-removed : {cells more : ℕ} (setup : Setup) (gear : Gear) (content : Content) (from : ListUse) (i k : ℕ) (cell : Cell) (entry : Entry)
     → IsLeaving setup gear cells content i k cell entry → more ≡ cells → HasList setup.caps from → list_number setup.caps from ≡ i
-    → IsInStep setup (removed setup from entry gear) more (unlinked content cell)
+    → IsInStep setup (gear_after_removal setup from entry gear) more (after_unlink content cell)
 in_step-removed setup gear content (Queue q) i k cell entry l same has at =
     let on = leaving-awake setup gear content i k cell entry l in
     let low : i < setup.caps.queues = omega (arith, has, at) in
     let s = in_step-queue setup gear content i (remove (chain content i) k) l.in_step on same low in
-    in_step-moved setup gear _ content (unlinked content cell) l.in_step on same (length-unlinked content cell)
+    in_step-moved setup gear _ content (after_unlink content cell) l.in_step on same (length-unlinked content cell)
     (length-noteless (Queue q) (is_batch_of setup entry) gear.notes) refl
     (rw (unlinked-at content i k cell entry l.once l.stands) (s.buffers on))
 in_step-removed setup gear content (Progress e) i k cell entry l same has at =

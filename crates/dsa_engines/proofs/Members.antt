@@ -13,7 +13,7 @@ use Rattle.dsa_regs.specs.Config.{zero_group}
 use Rattle.dsa_base.proofs.FirstPlaces.{hit-at}
 use Rattle.dsa_store.specs.declared.entry.Cell.{Cell}
 use Rattle.dsa_store.specs.declared.entry.Entry.{Entry}
-use Rattle.dsa_store.specs.Content.{Slot, Content, is_cell, chain, count, uses, replaced, emptied}
+use Rattle.dsa_store.specs.Content.{Slot, Content, is_cell, chain, place_count, use_count, after_set, after_give_back}
 use Rattle.dsa_store.proofs.Places.{count-cons, is_cell-itself}
 use Rattle.dsa_store.proofs.Lists.{count-le-uses}
 use Rattle.dsa_store.proofs.Finding.{replaced-at}
@@ -21,7 +21,7 @@ use Rattle.dsa_book.specs.declared.note.BatchNote.{BatchNote}
 use Rattle.dsa_book.specs.declared.answer.StartAnswer.TheVariants.{Started, NoBuffers}
 use Rattle.dsa_book.specs.declared.fate.FateRow.{FateRow}
 use Rattle.dsa_book.specs.State.{Setup, is_off, need_of}
-use Rattle.dsa_book.specs.Work.{member_list, members, with_first_run, run, as_running, has_room, group_in, start}
+use Rattle.dsa_book.specs.Work.{member_list, members, with_first_run, with_running_entry, as_running, has_room, group_in, start}
 use Rattle.dsa_engines.specs.Engines.{Gear, work, lists_alone, buffers_of, Holds, IsInStep, WaitInOrder}
 use Rattle.dsa_engines.proofs.Homes.{one-group}
 use Rattle.dsa_engines.proofs.Dispatching.{home-of}
@@ -39,10 +39,10 @@ pub record WaitsIn (l : List Slot) (s : Slot) : Type 0 where
   pub within : place < length l
   pub slot : get_or l place s ≡ s
   pub waiting : s.1.running ≡ false
-  pub started : with_first_run l ≡ set l place (run s)
+  pub started : with_first_run l ≡ set l place (with_running_entry s)
 
-first-run : (x : Slot) (l : List Slot) (b : Bool) → x.1.running ≡ b → with_first_run (x ∷ l) ≡ cond b (x ∷ with_first_run l) (run x ∷ l)
-first-run x l b is = ap (λ (c : Bool). let m : List Slot = cond c (x ∷ with_first_run l) (run x ∷ l) in m) is
+first-run : (x : Slot) (l : List Slot) (b : Bool) → x.1.running ≡ b → with_first_run (x ∷ l) ≡ cond b (x ∷ with_first_run l) (with_running_entry x ∷ l)
+first-run x l b is = ap (λ (c : Bool). let m : List Slot = cond c (x ∷ with_first_run l) (with_running_entry x ∷ l) in m) is
 
 find-first : (x : Slot) (l : List Slot) (s : Slot) (b : Bool) → x.1.running ≡ b → find waits (x ∷ l) ≡ Some s → cond (not b) (Some x) (find waits l) ≡ Some s
 find-first x l s b is h = sym (ap (λ (c : Bool). let o : Option Slot = cond (not c) (Some x) (find waits l) in o) is) ∙ h
@@ -56,7 +56,7 @@ first-waits x l s f is = record {
   within = omega arith;
   slot = is;
   waiting = sym (ap (λ (y : Slot). y.1.running) is) ∙ f;
-  started = first-run x l false f ∙ ap (λ (y : Slot). let m : List Slot = run y ∷ l in m) is;
+  started = first-run x l false f ∙ ap (λ (y : Slot). let m : List Slot = with_running_entry y ∷ l in m) is;
 }
 
 later-waits : (x : Slot) (l : List Slot) (s : Slot) → x.1.running ≡ true → WaitsIn l s → WaitsIn (x ∷ l) s
@@ -92,9 +92,9 @@ load-started setup (x ∷ l) s h =
           let both : ◌≡◌ {A = Option Slot} (Some x) (Some s) = find-first x l s false f h in
           let same : x ≡ s = cc in
           let needs : need_of setup x.1 ≡ need_of setup s.1 = ap (λ (y : Slot). need_of setup y.1) same in
-          let after : load setup (with_first_run (x ∷ l)) ≡ load setup (run x ∷ l) = ap (load setup) (first-run x l false f) in
+          let after : load setup (with_first_run (x ∷ l)) ≡ load setup (with_running_entry x ∷ l) = ap (load setup) (first-run x l false f) in
           let none : ◌≡◌ {A = ℕ} (cond x.1.running (need_of setup x.1) 0) 0 = weight setup x false f in
-          let now : load setup (run x ∷ l) ≡ need_of setup x.1 + load setup l = load-cons setup (run x) l in
+          let now : load setup (with_running_entry x ∷ l) ≡ need_of setup x.1 + load setup l = load-cons setup (with_running_entry x) l in
           omega (arith, after, needs, none, now, load-cons setup x l)
     ]
 
@@ -113,7 +113,7 @@ awake-waiting setup gear content i x s h =
     awake setup gear content i s (omega (arith, within))
 
 -- the member that runs now, as the store leaves it
-pub started-is : (setup : Setup) (content : Content) (i : ℕ) (cell : Cell) (entry : Entry) → uses content cell ≤ 1 → find waits (chain content i) ≡ Some (cell, entry) → replaced content cell (as_running entry) ≡ set content i (with_first_run (chain content i))
+pub started-is : (setup : Setup) (content : Content) (i : ℕ) (cell : Cell) (entry : Entry) → use_count content cell ≤ 1 → find waits (chain content i) ≡ Some (cell, entry) → after_set content cell (as_running entry) ≡ set content i (with_first_run (chain content i))
 started-is setup content i cell entry once h =
     let w = waits-in (chain content i) (cell, entry) h in
     replaced-at content i w.place cell entry (as_running entry) once (record { within = w.within; slot = w.slot }) ∙ ap (λ (l : List Slot). set content i l) (sym w.started)
@@ -150,7 +150,7 @@ buffers-same setup gear before after e s on h =
 
 -- ---- an abandon: the first that waits stands in front, so none runs
 
-found-counted : (l : List Slot) (s : Slot) → find waits l ≡ Some s → 1 ≤ count s.0 l
+found-counted : (l : List Slot) (s : Slot) → find waits l ≡ Some s → 1 ≤ place_count s.0 l
 found-counted [] s h = absurd cc
 found-counted (x ∷ l) s h =
     elim (cases_Bool x.1.running) [
@@ -164,7 +164,7 @@ found-counted (x ∷ l) s h =
     ]
 
 -- the front of the list is the one that was found, so it waits
-front-waits : (x : Slot) (l : List Slot) (s : Slot) → count s.0 (x ∷ l) ≤ 1 → find waits (x ∷ l) ≡ Some s → is_cell s.0 x ≡ true → x.1.running ≡ false
+front-waits : (x : Slot) (l : List Slot) (s : Slot) → place_count s.0 (x ∷ l) ≤ 1 → find waits (x ∷ l) ≡ Some s → is_cell s.0 x ≡ true → x.1.running ≡ false
 front-waits x l s once h here =
     elim (cases_Bool x.1.running) [
       | inl t ↦
@@ -173,14 +173,14 @@ front-waits x l s once h here =
       | inr f ↦ f
     ]
 
-pub none-runs : (setup : Setup) (l : List Slot) (s : Slot) → count s.0 l ≤ 1 → find waits l ≡ Some s → passes (is_cell s.0) (slice_get l 0) ≡ true → WaitInOrder l → load setup l ≡ 0
+pub none-runs : (setup : Setup) (l : List Slot) (s : Slot) → place_count s.0 l ≤ 1 → find waits l ≡ Some s → passes (is_cell s.0) (slice_get l 0) ≡ true → WaitInOrder l → load setup l ≡ 0
 none-runs setup [] s once h front order = load-nil setup
 none-runs setup (x ∷ l) s once h front order =
     let f = front-waits x l s once h front in
     let none : ◌≡◌ {A = ℕ} (cond x.1.running (need_of setup x.1) 0) 0 = weight setup x false f in
     omega (arith, load-cons setup x l, none, none-load setup l (order f))
 
-emptied-less : (setup : Setup) (content : Content) (e : ℕ) → length content ≡ setup.caps.queues + 2 * setup.caps.engines → e < setup.caps.engines → load setup (chain content (member_list setup e)) ≡ 0 → HoldsMore setup (emptied content (member_list setup e)) content e (member_list setup e) 0
+emptied-less : (setup : Setup) (content : Content) (e : ℕ) → length content ≡ setup.caps.queues + 2 * setup.caps.engines → e < setup.caps.engines → load setup (chain content (member_list setup e)) ≡ 0 → HoldsMore setup (after_give_back content (member_list setup e)) content e (member_list setup e) 0
 emptied-less setup content e len he none = record {
   engine = he;
   others = λ j low ne. sym (get_or-set_other content (member_list setup e) j [] [] ne);
@@ -193,27 +193,27 @@ at-front : (fenced : Bool) (front : Bool) → fenced ≡ true → false ≡ (fen
 at-front fenced front f h = grind (arith, common_steps, f, h)
 
 pub in_step-abandoned : {cells more : ℕ} (setup : Setup) (gear after : Gear) (content now : Content) (e i : ℕ) (cell : Cell) (entry : Entry) (new : Option BatchNote) (fails : Bool)
-    → more ≡ cells → ((c : Cell) → uses content c ≤ 1) → IsInStep setup gear cells content → e < setup.caps.engines → i ≡ member_list setup e
+    → more ≡ cells → ((c : Cell) → use_count content c ≤ 1) → IsInStep setup gear cells content → e < setup.caps.engines → i ≡ member_list setup e
     → find waits (chain content i) ≡ Some (cell, entry) → WaitInOrder (members (lists_alone setup content) e)
     → false ≡ (is_fenced entry.desc && not (passes (is_cell cell) (slice_get (chain content i) 0))) → true ≡ (is_fenced entry.desc && fails)
-    → after ≡ record gear { notes = set gear.notes e new } → now ≡ emptied content i → IsInStep setup after more now
+    → after ≡ record gear { notes = set gear.notes e new } → now ≡ after_give_back content i → IsInStep setup after more now
 in_step-abandoned setup gear after content now e i cell entry new fails kept once s he ie h order fence failing ae is =
     let on = awake-waiting setup gear content i (cell, entry) s h in
     let fenced = (and_parts (is_fenced entry.desc) fails (sym failing)).0 in
     let front = at-front (is_fenced entry.desc) (passes (is_cell cell) (slice_get (chain content i) 0)) fenced fence in
-    let low : count cell (chain content i) ≤ 1 = omega (arith, once cell, count-le-uses content i cell) in
+    let low : place_count cell (chain content i) ≤ 1 = omega (arith, once cell, count-le-uses content i cell) in
     let ordered : WaitInOrder (chain content i) = rw (ie, ← members-are setup content e he) order in
     let none : load setup (chain content i) ≡ 0 = none-runs setup (chain content i) (cell, entry) low h front ordered in
     let m : ℕ = member_list setup e in
     rw (ae, is, ie)
-    (in_step-moved setup gear _ content (emptied content m) s on kept (length-set content m []) (length-set gear.notes e new) refl
-    (buffers-same setup gear content (emptied content m) e s on (emptied-less setup content e s.store.lists he (subst (λ (j : ℕ). load setup (chain content j) ≡ 0) ie none))))
+    (in_step-moved setup gear _ content (after_give_back content m) s on kept (length-set content m []) (length-set gear.notes e new) refl
+    (buffers-same setup gear content (after_give_back content m) e s on (emptied-less setup content e s.store.lists he (subst (λ (j : ℕ). load setup (chain content j) ≡ 0) ie none))))
 
 pub in_step-started : {cells more : ℕ} (setup : Setup) (gear after : Gear) (content now : Content) (e i g n : ℕ) (cell : Cell) (entry : Entry)
-    → more ≡ cells → uses content cell ≤ 1 → IsInStep setup gear cells content → e < setup.caps.engines → i ≡ member_list setup e
+    → more ≡ cells → use_count content cell ≤ 1 → IsInStep setup gear cells content → e < setup.caps.engines → i ≡ member_list setup e
     → find waits (chain content i) ≡ Some (cell, entry) → get_or gear.homes e None ≡ Some g → n ≡ need_of setup entry
     → after ≡ record gear { buffers = record gear.buffers { used = set gear.buffers.used g (get_or gear.buffers.used g 0 + n) } }
-    → now ≡ replaced content cell (as_running entry) → IsInStep setup after more now
+    → now ≡ after_set content cell (as_running entry) → IsInStep setup after more now
 in_step-started setup gear after content now e i g n cell entry kept once s he ie h home ne ae is =
     let on = awake-waiting setup gear content i (cell, entry) s h in
     let found : find waits (chain content (member_list setup e)) ≡ Some (cell, entry) = subst (λ (j : ℕ). find waits (chain content j) ≡ Some (cell, entry)) ie h in
@@ -237,10 +237,10 @@ start-refused setup gear content fates e i n cell entry s he ie h fence failing 
     let room : has_room (work setup gear content fates) e (need_of setup entry) ≡ false = room-is setup gear content fates e (need_of setup entry) s on he ∙ rw (← ne) no_room in
     rw (lt, found) (rw (lt, fence', sym failing, room) refl)
 
-pub start-done : {cells : ℕ} (setup : Setup) (gear after : Gear) (content now : Content) (fates : List FateRow) (e i g n : ℕ) (cell : Cell) (entry : Entry) → uses content cell ≤ 1 → IsInStep setup gear cells content → e < setup.caps.engines → i ≡ member_list setup e → find waits (chain content i) ≡ Some (cell, entry)
+pub start-done : {cells : ℕ} (setup : Setup) (gear after : Gear) (content now : Content) (fates : List FateRow) (e i g n : ℕ) (cell : Cell) (entry : Entry) → use_count content cell ≤ 1 → IsInStep setup gear cells content → e < setup.caps.engines → i ≡ member_list setup e → find waits (chain content i) ≡ Some (cell, entry)
     → false ≡ (is_fenced entry.desc && not (passes (is_cell cell) (slice_get (chain content i) 0))) → false ≡ (is_fenced entry.desc && passes (λ (note : BatchNote). note.failed) (get_or gear.notes e None)) → n ≡ need_of setup entry
     → get_or gear.homes e None ≡ Some g → fits gear.buffers.total gear.buffers.groups gear.buffers.used g n ≡ true
-    → after ≡ record gear { buffers = record gear.buffers { used = set gear.buffers.used g (get_or gear.buffers.used g 0 + n) } } → now ≡ replaced content cell (as_running entry)
+    → after ≡ record gear { buffers = record gear.buffers { used = set gear.buffers.used g (get_or gear.buffers.used g 0 + n) } } → now ≡ after_set content cell (as_running entry)
     → start (work setup gear content fates) e ≡ (Started (record { cell = cell; name = entry.name }), work setup after now fates)
 start-done setup gear after content now fates e i g n cell entry once s he ie h fence failing ne home fitting ae is =
     let on = awake-waiting setup gear content i (cell, entry) s h in

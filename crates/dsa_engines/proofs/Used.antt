@@ -13,13 +13,13 @@ use Rattle.dsa_base.proofs.NumberSums.{sum-equal, sum-raised, zero-sum}
 use Rattle.dsa_regs.specs.declared.Caps.{Caps}
 use Rattle.dsa_regs.specs.declared.GroupConfig.{GroupConfig}
 use Rattle.dsa_regs.specs.Config.{zero_group, group_at}
-use Rattle.dsa_store.specs.Content.{Slot, Content, chain, held}
+use Rattle.dsa_store.specs.Content.{Slot, Content, chain, held_count}
 use Rattle.dsa_store.proofs.Lists.{length-le-held}
 use Rattle.dsa_book.specs.State.{Setup, need_of, held_by}
 use Rattle.dsa_book.specs.Work.{used_on, used, all_used, group_in, progress_list, member_list}
 use Rattle.dsa_buffers.specs.Buffers.{Buffers}
 use Rattle.dsa_base.proofs.FirstPlaces.{hit-at}
-use Rattle.dsa_engines.specs.Engines.{lists_alone, buffers_of, buffers_at_rest, given, Holds}
+use Rattle.dsa_engines.specs.Engines.{lists_alone, buffers_of, buffers_at_rest, buffers_after_return, Holds}
 
 -- each engine is of one group at most
 abbrev pub EachInOneGroup : Setup → Type 0
@@ -45,12 +45,12 @@ unfolding load
 load-cons setup s l = sum_by-cons (λ slot. held_by setup slot.1) s l
 
 -- where none runs nothing is held
-pub none-load : (setup : Setup) (l : List Slot) → filter (λ held. held.1.running) l ≡ [] → load setup l ≡ 0
+pub none-load : (setup : Setup) (l : List Slot) → filter (λ held_count. held_count.1.running) l ≡ [] → load setup l ≡ 0
 none-load setup [] h = load-nil setup
 none-load setup (s ∷ l) h = load-cons setup s l ∙ on s.1.running h (none-load setup l)
   where
-    on : (b : Bool) → cond b (s ∷ filter (λ held. held.1.running) l) (filter (λ held. held.1.running) l) ≡ []
-        → (filter (λ held. held.1.running) l ≡ [] → load setup l ≡ 0) → cond b (need_of setup s.1) 0 + load setup l ≡ 0
+    on : (b : Bool) → cond b (s ∷ filter (λ held_count. held_count.1.running) l) (filter (λ held_count. held_count.1.running) l) ≡ []
+        → (filter (λ held_count. held_count.1.running) l ≡ [] → load setup l ≡ 0) → cond b (need_of setup s.1) 0 + load setup l ≡ 0
     on true e rest = absurd cc
     on false e rest = omega (arith, rest e)
 
@@ -152,7 +152,7 @@ length-used setup c = length-each (used (lists_alone setup c)) setup.caps.groups
 -- as an engine holds n less, its group, if it has one, gives n back
 pub record GivesBack (setup : Setup) (before after : Content) (e n : ℕ) : Type 0 where
   pub holds : Holds (group_in setup.groups e) n (buffers_of setup before)
-  pub given : given (group_in setup.groups e) n (buffers_of setup before) ≡ buffers_of setup after
+  pub given : buffers_after_return (group_in setup.groups e) n (buffers_of setup before) ≡ buffers_of setup after
 
 pub gives-back : (setup : Setup) (before after : Content) (e n : ℕ) → e < setup.caps.engines → length setup.groups ≡ setup.caps.groups → EachInOneGroup setup → RaisesOne setup after before e n → GivesBack setup before after e n
 gives-back setup before after e n he hg alone r = on (group_in setup.groups e) refl
@@ -175,7 +175,7 @@ taken-of setup before after e n g he hg alone is r =
     ap (λ (u : List ℕ). let b : Buffers = record { total = setup.caps.read_buffers; groups = setup.groups; used = u } in b) (sym (used-raised setup before after e n g he hg at.0 alone is at.1 r))
 
 -- with none given back nothing changes
-pub given-none : (home : Option ℕ) (b : Buffers) → given home 0 b ≡ b
+pub given-none : (home : Option ℕ) (b : Buffers) → buffers_after_return home 0 b ≡ b
 given-none None b = refl
 given-none (Some g) b =
     let same : get_or b.used g 0 - 0 ≡ get_or b.used g 0 = omega arith in
@@ -187,7 +187,7 @@ pub empty-list : (l : List Slot) → length l ≤ 0 → l ≡ []
 empty-list [] h = refl
 empty-list (s ∷ l) h = absurd (omega (arith, h))
 
-rest-on : (setup : Setup) (c : Content) (e : ℕ) → held c ≡ 0 → used_on (lists_alone setup c) e ≡ 0
+rest-on : (setup : Setup) (c : Content) (e : ℕ) → held_count c ≡ 0 → used_on (lists_alone setup c) e ≡ 0
 rest-on setup c e h = on (cases_lt e setup.caps.engines)
   where
     empty : (i : ℕ) → load setup (chain c i) ≡ 0
@@ -200,7 +200,7 @@ rest-on setup c e h = on (cases_lt e setup.caps.engines)
         omega (arith, used_on-loads setup c e lt, a, b)
     on (inr past) = used_on-past setup c e past
 
-pub buffers-at_rest : (setup : Setup) (c : Content) → length setup.groups ≡ setup.caps.groups → held c ≡ 0 → buffers_at_rest setup ≡ buffers_of setup c
+pub buffers-at_rest : (setup : Setup) (c : Content) → length setup.groups ≡ setup.caps.groups → held_count c ≡ 0 → buffers_at_rest setup ≡ buffers_of setup c
 buffers-at_rest setup c len h =
     let zeros : all_used (lists_alone setup c) ≡ replicate (length setup.groups) 0 =
     zero-table (used (lists_alone setup c)) setup.caps.groups (λ k. zero-sum (used_on (lists_alone setup c))

@@ -8,7 +8,7 @@ use Rattle.dsa_regs.specs.Caps.{engine_of}
 use Rattle.dsa_store.specs.declared.entry.Entry.{Entry}
 use Rattle.dsa_regs.specs.Config.{check_device}
 use Rattle.dsa_base.specs.Numbers.{numbers_below}
-use Rattle.dsa_store.specs.Content.{Slot, Content, chain, held}
+use Rattle.dsa_store.specs.Content.{Slot, Content, chain, held_count}
 use Rattle.dsa_buffers.specs.Buffers.{Buffers}
 use Rattle.dsa_queues.specs.Queues.{IsStoreFor, IsWhole}
 use Rattle.dsa_book.specs.declared.note.BatchNote.{BatchNote}
@@ -56,7 +56,7 @@ pub record IsInStep (setup : Setup) (gear : Gear) (cells : ℕ) (content : Conte
   pub queues : IsWhole setup
   pub store : IsStoreFor setup.caps cells content
   -- while the device is Off nothing is held, and else it has passed the check of Enable Device
-  pub idle : is_off setup.device ≡ true → held content ≡ 0
+  pub idle : is_off setup.device ≡ true → held_count content ≡ 0
   pub checked : is_off setup.device ≡ false → check_device setup.caps setup.configs setup.groups ≡ None
   -- each engine has a note or none; while the device is not Off its group is kept, and so are the read buffers in use
   pub notes : length gear.notes ≡ setup.caps.engines
@@ -67,9 +67,9 @@ abbrev pub is_running : Slot → Bool
 is_running slot = slot.1.running
 
 -- with n of the group given back; without a group nothing changes
-abbrev pub given : Option ℕ → ℕ → Buffers → Buffers
-given None n b = b
-given (Some g) n b = record b { used = slice_set b.used g (slice_index b.used g - n) }
+abbrev pub buffers_after_return : Option ℕ → ℕ → Buffers → Buffers
+buffers_after_return None n b = b
+buffers_after_return (Some g) n b = record b { used = slice_set b.used g (slice_index b.used g - n) }
 
 -- the group is there, and has as many in use
 abbrev pub Holds : Option ℕ → ℕ → Buffers → Type 0
@@ -77,9 +77,9 @@ Holds None n b = Unit {0}
 Holds (Some g) n b = (g < length b.groups) × (n ≤ slice_index b.used g)
 
 -- the read buffers without those of the entry, which stood in a list of that engine; in a queue it held none
-abbrev pub released : Setup → Gear → Option ℕ → Entry → Buffers
-released setup gear None entry = gear.buffers
-released setup gear (Some e) entry = given (get_or gear.homes e None) (held_by setup entry) gear.buffers
+abbrev pub buffers_after_removal : Setup → Gear → Option ℕ → Entry → Buffers
+buffers_after_removal setup gear None entry = gear.buffers
+buffers_after_removal setup gear (Some e) entry = buffers_after_return (get_or gear.homes e None) (held_by setup entry) gear.buffers
 
 -- the group of that engine holds them
 abbrev pub MayRelease : Setup → Gear → Option ℕ → Entry → Type 0
@@ -87,16 +87,16 @@ MayRelease setup gear None entry = Unit {0}
 MayRelease setup gear (Some e) entry = Holds (get_or gear.homes e None) (held_by setup entry) gear.buffers
 
 -- the notes without the one of an engine whose list in progress this is
-abbrev pub noteless : ListUse → List (Option BatchNote) → List (Option BatchNote)
-noteless (Queue q) notes = notes
-noteless (Progress e) notes = with_note notes e None
-noteless (Members e) notes = notes
+abbrev pub notes_without : ListUse → List (Option BatchNote) → List (Option BatchNote)
+notes_without (Queue q) notes = notes
+notes_without (Progress e) notes = with_note notes e None
+notes_without (Members e) notes = notes
 
 -- what the engines keep once an entry has left such a list: it gives back what it held, and a well-formed Batch in progress takes the engine's note along (profile)
-abbrev pub removed : Setup → ListUse → Entry → Gear → Gear
-removed setup from entry gear = record gear {
-  notes = cond (is_batch_of setup entry) (noteless from gear.notes) gear.notes;
-  buffers = released setup gear (engine_of from) entry;
+abbrev pub gear_after_removal : Setup → ListUse → Entry → Gear → Gear
+gear_after_removal setup from entry gear = record gear {
+  notes = cond (is_batch_of setup entry) (notes_without from gear.notes) gear.notes;
+  buffers = buffers_after_removal setup gear (engine_of from) entry;
 }
 
 -- the device has the engine, the engine is of the group, and has a slot left

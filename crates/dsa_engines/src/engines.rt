@@ -4,10 +4,10 @@ ghost use Rattle.std.specs.Prelude.{◌≡◌, ℕ, ◌<◌, ◌≤◌, ◌+◌,
 ghost use Rattle.dsa_regs.specs.Buffers.{fits};
 ghost use Rattle.dsa_regs.specs.Caps.{check_caps};
 ghost use Rattle.dsa_regs.specs.Config.{check_device};
-ghost use Rattle.dsa_store.specs.Content.{Content, held};
+ghost use Rattle.dsa_store.specs.Content.{Content, held_count};
 ghost use Rattle.dsa_book.specs.State.{opening_setup};
 ghost use Rattle.dsa_queues.specs.Queues.{IsStoreFor};
-ghost use Rattle.dsa_engines.specs.Engines.{IsInStep, gear_at_first, homes_of, buffers_at_rest, given, Holds};
+ghost use Rattle.dsa_engines.specs.Engines.{IsInStep, gear_at_first, homes_of, buffers_at_rest, buffers_after_return, Holds};
 
 use arrayvec::ArrayVec;
 use dsa_book::BatchNote;
@@ -62,7 +62,7 @@ impl Engines {
     pub fn new(caps: &Caps) -> Engines
         requires { IsTrue (check_caps caps.now) }
         ensures value { result ≡ gear_at_first caps.now }
-        ensures in_step { (cells : ℕ) (content : Content) → IsStoreFor caps.now cells content → held content ≡ 0
+        ensures in_step { (cells : ℕ) (content : Content) → IsStoreFor caps.now cells content → held_count content ≡ 0
             → IsInStep (opening_setup caps.now) result cells content }
     {
         Engines {
@@ -78,7 +78,7 @@ impl Engines {
         requires checked { check_device queues.now.caps queues.now.configs queues.now.groups ≡ None }
         requires notes { length self.old.notes ≡ queues.now.caps.engines }
         ensures after { self.new ≡ record self.old { homes = homes_of queues.now; buffers = buffers_at_rest queues.now } }
-        ensures in_step { (cells : ℕ) (content : Content) → IsStoreFor queues.now.caps cells content → held content ≡ 0
+        ensures in_step { (cells : ℕ) (content : Content) → IsStoreFor queues.now.caps cells content → held_count content ≡ 0
             → IsInStep queues.now self.new cells content }
     {
         self.homes = homes(queues);
@@ -138,7 +138,7 @@ impl Engines {
     #[inline(always)]
     pub(crate) fn give_back(&mut self, home: Option<u16>, n: u8)
         requires { Holds home n self.old.buffers }
-        ensures { self.new ≡ record self.old { buffers = given home n self.old.buffers } }
+        ensures { self.new ≡ record self.old { buffers = buffers_after_return home n self.old.buffers } }
     {
         if let Some(group) = home {
             self.buffers.give(group, u16::from(n));

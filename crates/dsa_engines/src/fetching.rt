@@ -1,10 +1,10 @@
 //! Fetch: an engine hands in the next member of its batch.
 
 ghost use Rattle.std.specs.Prelude.{◌≡◌, ℕ, ◌<◌, ◌+◌, ◌^◌, ◌==◌, true, List, [], length, find};
-ghost use Rattle.dsa_store.specs.Content.{chain, held};
+ghost use Rattle.dsa_store.specs.Content.{chain, held_count};
 ghost use Rattle.dsa_book.specs.declared.fate.FateRow.{FateRow};
 ghost use Rattle.dsa_book.specs.declared.answer.Reply.TheVariants as reply;
-ghost use Rattle.dsa_book.specs.Choice.{chosen, cell_of, may_enter};
+ghost use Rattle.dsa_book.specs.Choice.{choice_of, cell_of, may_enter};
 ghost use Rattle.dsa_book.specs.Work.{fetch, is_all_fetched};
 ghost use Rattle.dsa_engines.specs.Engines.{work, IsInStep, is_fetching};
 
@@ -44,12 +44,12 @@ impl Engines {
         desc: Descriptor,
     ) -> FetchAnswer
         requires in_step { IsInStep queues.old self.old (S.cells store.old) (S.content store.old) }
-        requires room { is_fetching (work queues.old self.old (S.content store.old) []) engine ≡ true → held (S.content store.old) < S.cells store.old }
+        requires room { is_fetching (work queues.old self.old (S.content store.old) []) engine ≡ true → held_count (S.content store.old) < S.cells store.old }
         requires names { is_fetching (work queues.old self.old (S.content store.old) []) engine ≡ true → queues.old.next_name + 1 < 2 ^ 32 }
         ensures step { (fates : List FateRow)
-            → fetch (work queues.old self.old (S.content store.old) fates) engine desc (cell_of (chosen (reply.Fetch result)))
+            → fetch (work queues.old self.old (S.content store.old) fates) engine desc (cell_of (choice_of (reply.Fetch result)))
             ≡ (result, work queues.new self.new (S.content store.new) fates) }
-        ensures free { may_enter queues.old (S.content store.old) (chosen (reply.Fetch result)) ≡ true }
+        ensures free { may_enter queues.old (S.content store.old) (choice_of (reply.Fetch result)) ≡ true }
         ensures in_step { IsInStep queues.new self.new (S.cells store.new) (S.content store.new) }
     {
         let caps = queues.caps();

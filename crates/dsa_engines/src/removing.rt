@@ -3,7 +3,7 @@
 ghost use Rattle.std.specs.Prelude.{◌≡◌, cond, length};
 ghost use Rattle.dsa_regs.specs.Caps.{HasList, engine_of};
 ghost use Rattle.dsa_book.specs.State.{is_batch_of};
-ghost use Rattle.dsa_engines.specs.Engines.{MayRelease, noteless, released, removed};
+ghost use Rattle.dsa_engines.specs.Engines.{MayRelease, notes_without, buffers_after_removal, gear_after_removal};
 
 use crate::Engines;
 use dsa_queues::Queues;
@@ -15,7 +15,7 @@ impl Engines {
     fn drop_note(&mut self, queues: &Queues, from: ListUse, entry: &Entry)
         requires notes { length self.old.notes ≡ queues.now.caps.engines }
         requires list { HasList queues.now.caps from }
-        ensures { self.new ≡ record self.old { notes = cond (is_batch_of queues.now entry.now) (noteless from self.old.notes) self.old.notes } }
+        ensures { self.new ≡ record self.old { notes = cond (is_batch_of queues.now entry.now) (notes_without from self.old.notes) self.old.notes } }
     {
         if !queues.is_batch(entry) {
             return;
@@ -30,7 +30,7 @@ impl Engines {
     // What runs gives its read buffers back.
     fn release(&mut self, queues: &Queues, engine: Option<u16>, entry: &Entry)
         requires { MayRelease queues.now self.old engine entry.now }
-        ensures { self.new ≡ record self.old { buffers = released queues.now self.old engine entry.now } }
+        ensures { self.new ≡ record self.old { buffers = buffers_after_removal queues.now self.old engine entry.now } }
     {
         if let Some(engine) = engine {
             self.give_back(self.home(engine), queues.held_by(entry));
@@ -44,7 +44,7 @@ impl Engines {
         requires notes { length self.old.notes ≡ queues.now.caps.engines }
         requires list { HasList queues.now.caps from }
         requires held { MayRelease queues.now self.old (engine_of from) entry.now }
-        ensures { self.new ≡ removed queues.now from entry.now self.old }
+        ensures { self.new ≡ gear_after_removal queues.now from entry.now self.old }
     {
         self.release(queues, from.engine(), entry);
         self.drop_note(queues, from, entry);

@@ -4,11 +4,11 @@ ghost use Rattle.std.specs.Prelude.{◌≡◌, ℕ, List, ◌<◌, ◌≢◌, �
 ghost use Rattle.std.specs.List.{list_any};
 ghost use Rattle.dsa_base.specs.Numbers.{numbers_below};
 ghost use Rattle.dsa_regs.specs.Buffers.{fits};
-ghost use Rattle.dsa_store.specs.Content.{chain, pushed, without_front};
+ghost use Rattle.dsa_store.specs.Content.{chain, after_push, without_front};
 ghost use Rattle.dsa_book.specs.declared.fate.FateRow.{FateRow};
 ghost use Rattle.dsa_book.specs.State.{is_off, need_of, is_batch_of};
 ghost use Rattle.dsa_book.specs.declared.answer.Reply.TheVariants as reply;
-ghost use Rattle.dsa_book.specs.Choice.{chosen};
+ghost use Rattle.dsa_book.specs.Choice.{choice_of};
 ghost use Rattle.dsa_book.specs.Work.{qualifies, may_leave, dispatch, as_running, opened_note, with_note};
 ghost use Rattle.dsa_engines.specs.Engines.{work, IsInStep, IsOpen};
 
@@ -24,7 +24,7 @@ fn run_front<S: EntryStore>(store: &mut S, from: ListId, to: ListId, front: (Cel
     requires to { to.0 < length (S.content store.old) }
     requires apart { from.0 ≢ to.0 }
     requires front { slice_get (chain (S.content store.old) from.0) 0 ≡ Some front }
-    ensures after { S.content store.new ≡ pushed (without_front (S.content store.old) from.0) to.0 front.0 (as_running front.1) }
+    ensures after { S.content store.new ≡ after_push (without_front (S.content store.old) from.0) to.0 front.0 (as_running front.1) }
     ensures cells { S.cells store.new ≡ S.cells store.old }
 {
     let _ = store.move_front(from, to);
@@ -157,9 +157,9 @@ impl Engines {
     ) -> DispatchAnswer
         requires in_step { IsInStep queues.now self.old (S.cells store.old) (S.content store.old) }
         ensures step { (fates : List FateRow)
-            → dispatch (work queues.now self.old (S.content store.old) fates) engine (chosen (reply.Dispatch result))
+            → dispatch (work queues.now self.old (S.content store.old) fates) engine (choice_of (reply.Dispatch result))
             ≡ (result, work queues.now self.new (S.content store.new) fates) }
-        ensures free { may_leave (work queues.now self.old (S.content store.old) []) engine (chosen (reply.Dispatch result))
+        ensures free { may_leave (work queues.now self.old (S.content store.old) []) engine (choice_of (reply.Dispatch result))
             ≡ true }
         ensures in_step { IsInStep queues.now self.new (S.cells store.new) (S.content store.new) }
     {

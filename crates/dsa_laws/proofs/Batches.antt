@@ -11,8 +11,8 @@ use Rattle.dsa_store.specs.Content.{Slot, Content, chain, all_held}
 use Rattle.dsa_store.proofs.Sums.{sum-split}
 use Rattle.dsa_book.specs.declared.note.BatchNote.{BatchNote}
 use Rattle.dsa_book.specs.State.{Setup, is_batch_of}
-use Rattle.dsa_book.specs.Work.{run, opened_note, with_first_run}
-use Rattle.dsa_book.specs.Commands.{is_in_scope, names, takes_batch, kept_note}
+use Rattle.dsa_book.specs.Work.{with_running_entry, opened_note, with_first_run}
+use Rattle.dsa_book.specs.Commands.{is_in_scope, is_among, takes_batch, kept_note}
 use Rattle.dsa_laws.specs.Engines.{holds_batch, IsNoteOf, IsAlike, IsLawfulEngine}
 use Rattle.dsa_base.proofs.Tables.{not-both}
 use Rattle.dsa_laws.proofs.Contents.{sum-list-le}
@@ -34,7 +34,7 @@ length-first_run : (xs : List Slot) → length (with_first_run xs) ≡ length xs
 length-first_run [] = refl
 length-first_run (x ∷ xs) = go x.1.running (length-first_run xs)
   where
-    go : (b : Bool) → length (with_first_run xs) ≡ length xs → length (cond b (x ∷ with_first_run xs) (run x ∷ xs)) ≡ length (x ∷ xs)
+    go : (b : Bool) → length (with_first_run xs) ≡ length xs → length (cond b (x ∷ with_first_run xs) (with_running_entry x ∷ xs)) ≡ length (x ∷ xs)
     go true e = omega (arith, e)
     go false e = refl
 
@@ -83,31 +83,31 @@ marked setup ps ms f (Some n) a b c h = record {
 
 -- a front comes: a batch where there was none, or no batch
 pub with_front : (setup : Setup) (ps ms : List Slot) (o : Option BatchNote) (x : Slot) (b : Bool) → holds_batch setup x ≡ b → (is_none o || not b) ≡ true
-    → IsLawfulEngine setup ps ms o → IsLawfulEngine setup (ps ++ run x ∷ []) ms (cond b (Some (opened_note x.1)) o)
+    → IsLawfulEngine setup ps ms o → IsLawfulEngine setup (ps ++ with_running_entry x ∷ []) ms (cond b (Some (opened_note x.1)) o)
 with_front setup ps ms None x true is may h =
-    let count = count-push (holds_batch setup) ps (run x) true is in
+    let count = count-push (holds_batch setup) ps (with_running_entry x) true is in
     let old = h.no_batch in
     let none : (y : Slot) → In y ms → ⊥ = λ y i. subst (λ (l : List Slot). In y l) h.no_members i in
     record {
       one_batch = omega (arith, count, old);
       noted = λ y i t. ⊎_elim
           (λ j. let some = In-counted (holds_batch setup) y ps j t in absurd (omega (arith, some, old)))
-          (λ (e : run x ≡ y). subst (λ z. IsNoteOf (opened_note x.1) z) e (record { name = refl; count = refl }))
-          (In-push y ps (run x) i);
+          (λ (e : with_running_entry x ≡ y). subst (λ z. IsNoteOf (opened_note x.1) z) e (record { name = refl; count = refl }))
+          (In-push y ps (with_running_entry x) i);
       parents = λ y i. absurd (none y i);
       alike = λ y z i j t. absurd (none y i);
       most = let size = ap (λ (xs : List Slot). length xs) h.no_members in omega (arith, size);
     }
 with_front setup ps ms (Some n) x true is may h = absurd cc
 with_front setup ps ms None x false is may h = record {
-  no_batch = let count = count-push (holds_batch setup) ps (run x) false is in let old = h.no_batch in omega (arith, count, old);
+  no_batch = let count = count-push (holds_batch setup) ps (with_running_entry x) false is in let old = h.no_batch in omega (arith, count, old);
   no_members = h.no_members;
 }
 with_front setup ps ms (Some n) x false is may h = record {
-  one_batch = let count = count-push (holds_batch setup) ps (run x) false is in let old = h.one_batch in omega (arith, count, old);
-  noted = λ y i t. h.noted y (In-old (holds_batch setup) y ps (run x) is i t) t;
+  one_batch = let count = count-push (holds_batch setup) ps (with_running_entry x) false is in let old = h.one_batch in omega (arith, count, old);
+  noted = λ y i t. h.noted y (In-old (holds_batch setup) y ps (with_running_entry x) is i t) t;
   parents = h.parents;
-  alike = λ m y i j t. h.alike m y i (In-old (holds_batch setup) y ps (run x) is j t) t;
+  alike = λ m y i j t. h.alike m y i (In-old (holds_batch setup) y ps (with_running_entry x) is j t) t;
   most = h.most;
 }
 
@@ -169,7 +169,7 @@ is_left scope x = not (is_in_scope scope x.1)
 pub scope-alike : (scope : Scope) (m b : Slot) → IsAlike m b → is_in_scope scope m.1 ≡ is_in_scope scope b.1
 scope-alike Device m b h = refl
 scope-alike (Pasid pasid) m b h = ap (λ p. p == pasid) h.pasid
-scope-alike scope m b h = ap (names (queues_in scope)) h.queue
+scope-alike scope m b h = ap (is_among (queues_in scope)) h.queue
 
 -- a batch in the scope is the only one in progress, and no member is left
 goes-along : (scope : Scope) (setup : Setup) (ps ms : List Slot) (o : Option BatchNote) (x : Slot) → In x ps → holds_batch setup x ≡ true → is_taken_out scope x ≡ true → IsLawfulEngine setup ps ms o

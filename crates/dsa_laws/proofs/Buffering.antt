@@ -13,11 +13,11 @@ use Rattle.dsa_regs.specs.declared.Scope.TheVariants.{Device}
 use Rattle.dsa_regs.specs.declared.Deed.{Deed}
 use Rattle.dsa_regs.specs.declared.Deed.TheVariants.{Disable}
 use Rattle.dsa_regs.specs.Config.{group_at, queue_at, is_in_two, total_size, total_reserved, groups_table, check_device}
-use Rattle.dsa_regs.specs.Buffers.{covered, fits}
-use Rattle.dsa_store.specs.Content.{Slot, Content, is_cell, chain, pushed, without_front}
+use Rattle.dsa_regs.specs.Buffers.{covered_count, fits}
+use Rattle.dsa_store.specs.Content.{Slot, Content, is_cell, chain, after_push, without_front}
 use Rattle.dsa_book.specs.State.{Setup, Work, State, opening, is_off}
-use Rattle.dsa_book.specs.Work.{progress_list, member_list, members, first_waiting, used_on, has_room, as_running, run, with_first_run}
-use Rattle.dsa_book.specs.Commands.{stopped, may_come, is_in_scope}
+use Rattle.dsa_book.specs.Work.{progress_list, member_list, members, first_waiting, used_on, has_room, as_running, with_running_entry, with_first_run}
+use Rattle.dsa_book.specs.Commands.{after_stop, may_come, is_in_scope}
 use Rattle.dsa_laws.specs.Change.{Change}
 use Rattle.dsa_laws.proofs.Effects.{by_effect, by_setting, stopped-keeps}
 use Rattle.dsa_laws.specs.WellFormed.{HasShape, HasLawfulSetup, HasLawfulEntries, IsWellFormed}
@@ -38,13 +38,13 @@ use Rattle.dsa_laws.proofs.Limits.{taken-test}
 within-of : (caps : Caps) (w : Work) → w.setup.caps ≡ caps → HasBuffers caps w → is_off w.setup.device ≡ false → AreWithin caps w.setup.groups (used_on w)
 within-of caps w is h on = record {
   allowed = λ g i. subst (λ (k : Caps). needed (used_on w) k.engines w.setup.groups g ≤ (group_at w.setup.groups g).allowed) is (h.allowed on g i);
-  total = subst (λ (k : Caps). covered w.setup.groups (all_needed (used_on w) k w.setup.groups) ≤ caps.read_buffers) is (h.covered on);
+  total = subst (λ (k : Caps). covered_count w.setup.groups (all_needed (used_on w) k w.setup.groups) ≤ caps.read_buffers) is (h.covered on);
 }
 
 of-within : (caps : Caps) (w : Work) → w.setup.caps ≡ caps → (is_off w.setup.device ≡ false → AreWithin caps w.setup.groups (used_on w)) → HasBuffers caps w
 of-within caps w is h = record {
   allowed = λ on g i. subst (λ (k : Caps). needed (used_on w) k.engines w.setup.groups g ≤ (group_at w.setup.groups g).allowed) (sym is) ((h on).allowed g i);
-  covered = λ on. subst (λ (k : Caps). covered w.setup.groups (all_needed (used_on w) k w.setup.groups) ≤ caps.read_buffers) (sym is) ((h on).total);
+  covered = λ on. subst (λ (k : Caps). covered_count w.setup.groups (all_needed (used_on w) k w.setup.groups) ≤ caps.read_buffers) (sym is) ((h on).total);
 }
 
 -- an Off device is under no bound
@@ -110,11 +110,11 @@ set-within f c p l n h k = ⊎_elim
     at : k ≡ p → chain (set c p l) k ≡ l → chain (set c p l) p ≡ l
     at q e = subst (λ j. chain (set c p l) j ≡ l) q e
 
-pushed-within : (f : Slot → ℕ) (c : Content) (p : ℕ) (x : Slot) (k : ℕ) → sum_by f (chain (pushed c p x.0 x.1) k) ≤ sum_by f (chain c k) + f x
+pushed-within : (f : Slot → ℕ) (c : Content) (p : ℕ) (x : Slot) (k : ℕ) → sum_by f (chain (after_push c p x.0 x.1) k) ≤ sum_by f (chain c k) + f x
 pushed-within f c p x k = set-within f c p (chain c p ++ x ∷ []) (f x) (let e = sum_by_push f (chain c p) x in omega (arith, e)) k
 
 -- one that needs nothing yet
-pushed-light : (f : Slot → ℕ) (c : Content) (p : ℕ) (x : Slot) → f x ≡ 0 → (k : ℕ) → sum_by f (chain (pushed c p x.0 x.1) k) ≤ sum_by f (chain c k)
+pushed-light : (f : Slot → ℕ) (c : Content) (p : ℕ) (x : Slot) → f x ≡ 0 → (k : ℕ) → sum_by f (chain (after_push c p x.0 x.1) k) ≤ sum_by f (chain c k)
 pushed-light f c p x z k = let h = pushed-within f c p x k in omega (arith, h, z)
 
 rest-within : (f : Slot → ℕ) (xs : List Slot) → sum_by f (drop 1 xs) ≤ sum_by f xs
@@ -137,12 +137,12 @@ filtered-within f p c k =
     omega (arith, e, h)
 
 -- the first that does not run runs
-first_run-within : (f : Slot → ℕ) (xs : List Slot) (slot : Slot) → find (λ x. not x.1.running) xs ≡ Some slot → sum_by f (with_first_run xs) ≤ sum_by f xs + f (run slot)
+first_run-within : (f : Slot → ℕ) (xs : List Slot) (slot : Slot) → find (λ x. not x.1.running) xs ≡ Some slot → sum_by f (with_first_run xs) ≤ sum_by f xs + f (with_running_entry slot)
 first_run-within f [] slot h = absurd cc
 first_run-within f (x ∷ xs) slot h = go x.1.running (first_run-within f xs slot) h
   where
-    go : (b : Bool) → (find (λ y. not y.1.running) xs ≡ Some slot → sum_by f (with_first_run xs) ≤ sum_by f xs + f (run slot)) → cond (not b) (Some x) (find (λ y. not y.1.running) xs) ≡ Some slot
-        → sum_by f (cond b (x ∷ with_first_run xs) (run x ∷ xs)) ≤ sum_by f (x ∷ xs) + f (run slot)
+    go : (b : Bool) → (find (λ y. not y.1.running) xs ≡ Some slot → sum_by f (with_first_run xs) ≤ sum_by f xs + f (with_running_entry slot)) → cond (not b) (Some x) (find (λ y. not y.1.running) xs) ≡ Some slot
+        → sum_by f (cond b (x ∷ with_first_run xs) (with_running_entry x ∷ xs)) ≤ sum_by f (x ∷ xs) + f (with_running_entry slot)
     go true more h =
         let rest = more h in
         let a = sum_by-cons f x (with_first_run xs) in
@@ -150,41 +150,41 @@ first_run-within f (x ∷ xs) slot h = go x.1.running (first_run-within f xs slo
         omega (arith, rest, a, b)
     go false more h =
         let is : x ≡ slot = cc in
-        let e = ap (λ (y : Slot). f (run y)) is in
-        let a = sum_by-cons f (run x) xs in
+        let e = ap (λ (y : Slot). f (with_running_entry y)) is in
+        let a = sum_by-cons f (with_running_entry x) xs in
         let b = sum_by-cons f x xs in
         omega (arith, e, a, b)
 
 -- ---- the two changes by which an entry begins to run
 
 taken-more : (caps : Caps) (w : Work) (e q : ℕ) (front : Slot) (f : Slot → ℕ) → HasShape caps w → e < caps.engines
-    → HasMore caps f w.content (pushed (without_front w.content q) (progress_list w.setup e) front.0 (as_running front.1)) e (progress_list w.setup e) (f (run front))
+    → HasMore caps f w.content (after_push (without_front w.content q) (progress_list w.setup e) front.0 (as_running front.1)) e (progress_list w.setup e) (f (with_running_entry front))
 taken-more caps w e q front f shape engine = record {
   engine = engine;
   place = inl (ap (λ (k : Caps). k.queues + e) shape.same_caps);
   others = λ k ne.
       let r = front-within f w.content q k in
-      let is = ap (λ (xs : List Slot). sum_by f xs) (chain-other (without_front w.content q) (progress_list w.setup e) (chain (without_front w.content q) (progress_list w.setup e) ++ run front ∷ []) k ne) in
+      let is = ap (λ (xs : List Slot). sum_by f xs) (chain-other (without_front w.content q) (progress_list w.setup e) (chain (without_front w.content q) (progress_list w.setup e) ++ with_running_entry front ∷ []) k ne) in
       omega (arith, r, is);
   mine =
       let r = front-within f w.content q (progress_list w.setup e) in
-      let h = pushed-within f (without_front w.content q) (progress_list w.setup e) (run front) (progress_list w.setup e) in
+      let h = pushed-within f (without_front w.content q) (progress_list w.setup e) (with_running_entry front) (progress_list w.setup e) in
       omega (arith, r, h);
 }
 
 started-more : (caps : Caps) (w : Work) (e : ℕ) (slot : Slot) (f : Slot → ℕ) → HasShape caps w → first_waiting w e ≡ Some slot
-    → HasMore caps f w.content (set w.content (member_list w.setup e) (with_first_run (members w e))) e (member_list w.setup e) (f (run slot))
+    → HasMore caps f w.content (set w.content (member_list w.setup e) (with_first_run (members w e))) e (member_list w.setup e) (f (with_running_entry slot))
 started-more caps w e slot f shape first =
     let has = waiting-engine w e slot first in
     let is = ap (λ (b : Bool). sum_by f (cond b (chain w.content (member_list w.setup e)) [])) has in
-    let run = first_run-within f (members w e) slot first in
+    let with_running_entry = first_run-within f (members w e) slot first in
     record {
       engine = below-engines caps w e shape has;
       place = inr (ap (λ (k : Caps). k.queues + k.engines + e) shape.same_caps);
       others = λ k ne.
           let same = ap (λ (xs : List Slot). sum_by f xs) (chain-other w.content (member_list w.setup e) (with_first_run (members w e)) k ne) in
           omega (arith, same);
-      mine = set-within f w.content (member_list w.setup e) (with_first_run (members w e)) _ (omega (arith, is, run)) (member_list w.setup e);
+      mine = set-within f w.content (member_list w.setup e) (with_first_run (members w e)) _ (omega (arith, is, with_running_entry)) (member_list w.setup e);
     }
 
 -- ---- the device is enabled: nothing is held
@@ -210,12 +210,12 @@ enabled-buffers caps w w' shape setup entries off check same_caps groups content
     used_on-sum caps w' e is ∙ sum_on-none caps (weight w'.setup) w'.content e (λ k.
     ap (λ (c : Content). sum_by (weight w'.setup) (chain c k)) content ∙ ap (λ (xs : List Slot). sum_by (weight w'.setup) xs) (none-held caps w setup entries off k))))
 
-waiting-on : (setup : Setup) (deed : Deed) (scope : Scope) → may_come setup deed scope ≡ true → is_off (stopped deed scope Stopping setup).device ≡ false → is_off setup.device ≡ false
+waiting-on : (setup : Setup) (deed : Deed) (scope : Scope) → may_come setup deed scope ≡ true → is_off (after_stop deed scope Stopping setup).device ≡ false → is_off setup.device ≡ false
 waiting-on setup Disable Device may n = on-not_off setup.device may
 waiting-on setup Disable scope may n = n
 waiting-on setup _ scope may n = n
 
-over-on : (setup : Setup) (deed : Deed) (scope : Scope) → is_off (stopped deed scope Off setup).device ≡ false → is_off setup.device ≡ false
+over-on : (setup : Setup) (deed : Deed) (scope : Scope) → is_off (after_stop deed scope Off setup).device ≡ false → is_off setup.device ≡ false
 over-on setup Disable Device n = absurd cc
 over-on setup Disable scope n = n
 over-on setup _ scope n = n

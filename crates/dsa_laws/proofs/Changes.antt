@@ -44,12 +44,12 @@ use Rattle.dsa_book.specs.declared.event.Event.TheVariants.{Submit, Dispatch, Fe
 use Rattle.dsa_book.specs.declared.answer.Reply.{Reply}
 use Rattle.dsa_book.specs.declared.answer.Reply.TheVariants.{Submit, Dispatch, Fetch, Start, Finish, Issue, Poll, Write, Clear}
 use Rattle.dsa_book.specs.State.{Setup, Intake, Work, State, is_ticket, ticket_of, is_batch_of}
-use Rattle.dsa_book.specs.Submit.{submit, turned_away, accepted, noted_more}
-use Rattle.dsa_book.specs.Work.{qualifies, front_of, may_leave, dispatch, dispatch_of, fetch_of, fetch_for, fetched, note_at, batch_on, is_all_fetched, start_of, started, abandoned, members, first_waiting, is_unfinished, last_status, ended, finish_of, running_on}
-use Rattle.dsa_book.specs.Commands.{issue, check_of, refused_or, carried_out, done_by, waits, poll_of, stopped, write_queue, write_group, clear_of, is_at_end, is_bad_queues, may_come, count_in_scope}
+use Rattle.dsa_book.specs.Submit.{submit, after_refusal, after_accept, next_noted}
+use Rattle.dsa_book.specs.Work.{qualifies, front_of, may_leave, dispatch, dispatch_of, fetch_of, fetch_for, after_fetch, note_at, batch_on, is_all_fetched, start_of, after_start, after_abandon, members, first_waiting, is_unfinished, last_status, after_end, finish_of, running_on}
+use Rattle.dsa_book.specs.Commands.{issue, check_of, refusal_or, command_done_of, deed_done_of, wait_of, poll_of, after_stop, write_queue, write_group, clear_of, is_at_end, is_bad_queues, may_come, count_in_scope}
 use Rattle.dsa_book.specs.Totals.{is_accepted as accepts, is_fetched as fetches, ended_by}
 use Rattle.dsa_book.specs.Machine.{next, is_stored, may_choose, reply_of, with_work, with_intake, with_setup, intake_of}
-use Rattle.dsa_book.specs.Choice.{Choice, chosen, in_cell, from_queue, cell_of, may_enter}
+use Rattle.dsa_book.specs.Choice.{Choice, choice_of, in_cell, from_queue, cell_of, may_enter}
 use Rattle.dsa_book.proofs.Nexts.{next-each}
 use Rattle.dsa_laws.specs.Change.{Change, set_up, same, is_noted, is_accepted, is_taken, is_fetched, is_started, is_abandoned, is_ended, is_device_enabled, is_queue_enabled, is_waiting, is_over, is_aborted, is_device_reset, is_queues_reset, is_queue_written, is_group_written}
 use Rattle.std.proofs.lemmas.Bool.{cond_both, and_parts, not-false}
@@ -97,11 +97,11 @@ abbrev Submits : State → SubmitAnswer × Intake → Type 0
 Submits s r = Tells s (Submit r.0, with_intake s r.1)
 
 turned_away-tells : (s : State) (q : ℕ) (kind : Kind) (cause : Cause)
-    → Submits s (turned_away (intake_of s) q kind cause)
+    → Submits s (after_refusal (intake_of s) q kind cause)
 turned_away-tells s q (Enqcmd pasid) cause = stays s (Submit (Retry cause)) refl refl refl
 turned_away-tells s q Movdir64b cause =
     makes (Submit (Dropped cause)) (is_noted
-    (record { noted = Some (noted_more s.work.setup.noted q cause); after = refl })) refl refl refl refl
+    (record { noted = Some (next_noted s.work.setup.noted q cause); after = refl })) refl refl refl refl
 
 -- the cell that a reply tells of is free
 free_of : (s : State) (choice : Choice) (cell : Cell) → may_enter s.work.setup s.work.content choice ≡ true
@@ -110,18 +110,18 @@ free_of s choice cell may told = subst (λ c. may_enter s.work.setup s.work.cont
 
 submit-tells : (s : State) (q : ℕ) (portal : Portal) (kind : Kind) (d : Descriptor) (choice : Choice)
     → may_enter s.work.setup s.work.content choice ≡ true
-    → let r = submit (intake_of s) q portal kind d (cell_of choice) in chosen (Submit r.0) ≡ choice → Submits s r
+    → let r = submit (intake_of s) q portal kind d (cell_of choice) in choice_of (Submit r.0) ≡ choice → Submits s r
 submit-tells s q portal kind d choice may =
     let i = intake_of s in
     let cell = cell_of choice in
-    table3 (λ (r : SubmitAnswer × Intake). chosen (Submit r.0) ≡ choice → Submits s r) _ _ _
-    (turned_away i q kind NotEnabled) (turned_away i q kind WrongKind) (turned_away i q kind AtLimit)
-    (accepted i q kind d cell)
+    table3 (λ (r : SubmitAnswer × Intake). choice_of (Submit r.0) ≡ choice → Submits s r) _ _ _
+    (after_refusal i q kind NotEnabled) (after_refusal i q kind WrongKind) (after_refusal i q kind AtLimit)
+    (after_accept i q kind d cell)
     (λ x told. turned_away-tells s q kind NotEnabled)
     (λ x told. turned_away-tells s q kind WrongKind)
     (λ x told. turned_away-tells s q kind AtLimit)
     (λ x y z told.
-    makes (Submit (accepted i q kind d cell).0) (is_accepted (record {
+    makes (Submit (after_accept i q kind d cell).0) (is_accepted (record {
       queue = q;
       portal = portal;
       kind = kind;
@@ -152,14 +152,14 @@ dispatch-tells s e _ may = stays s (Dispatch Idle) refl refl refl
 
 -- what a fetch of a cell that may be chosen tells
 abbrev Fetches : State → Choice → FetchAnswer × Work → Type 0
-Fetches s choice r = chosen (Fetch r.0) ≡ choice → Tells s (Fetch r.0, with_work s r.1)
+Fetches s choice r = choice_of (Fetch r.0) ≡ choice → Tells s (Fetch r.0, with_work s r.1)
 
 fetch_of-tells : (s : State) (e : ℕ) (d : Descriptor) (choice : Choice) (note : BatchNote) (o : Option Slot)
     → may_enter s.work.setup s.work.content choice ≡ true → note_at s.work e ≡ Some note → batch_on s.work e note ≡ o
     → Fetches s choice (fetch_of s.work e d (cell_of choice) note o)
 fetch_of-tells s e d choice note None may n m = λ told. stays s (Fetch NoBatch) refl refl refl
 fetch_of-tells s e d choice note (Some batch) may n m =
-    let r = fetched s.work e d (cell_of choice) note batch.1 in
+    let r = after_fetch s.work e d (cell_of choice) note batch.1 in
     table1 (Fetches s choice) (is_all_fetched note) (AllFetched, s.work) r
     (λ u told. stays s (Fetch AllFetched) refl refl refl)
     (λ u told.
@@ -190,8 +190,8 @@ start_of-tells s e None n = stays s (Start Nothing) refl refl refl
 start_of-tells s e (Some slot) n =
     let k = length (members s.work e) in
     table3 (λ (r : StartAnswer × Work). Tells s (Start r.0, with_work s r.1)) _ _ _
-    (FenceWait, s.work) (Abandoned k, abandoned s.work e) (NoBuffers, s.work)
-    (Started (ticket_of slot), started s.work e)
+    (FenceWait, s.work) (Abandoned k, after_abandon s.work e) (NoBuffers, s.work)
+    (Started (ticket_of slot), after_start s.work e)
     (λ u. stays s (Start FenceWait) refl refl refl)
     (λ u. makes (Start (Abandoned k)) (is_abandoned
     (record { engine = e; slot = slot; is_first = n; failed = u; after = refl })) refl refl refl refl)
@@ -216,7 +216,7 @@ finish_of-tells s e t outcome (Some slot) n =
     let status = last_status s.work e slot outcome in
     table1 (λ (r : FinishAnswer × Work). Tells s (Finish r.0, with_work s r.1))
     (is_batch_of s.work.setup slot.1 && is_unfinished s.work e)
-    (NotReady, s.work) (Done status, ended s.work e slot outcome)
+    (NotReady, s.work) (Done status, after_end s.work e slot outcome)
     (λ u. stays s (Finish NotReady) refl refl refl)
     (λ u. makes (Finish (Done status)) (is_ended (record {
       engine = e;
@@ -235,14 +235,14 @@ abbrev Issues : State → IssueAnswer × State → Type 0
 Issues s r = Tells s (Issue r.0, r.1)
 
 waits-tells : (s : State) (command : Command) → may_come s.work.setup (deed_of command) (scope_of command) ≡ true
-    → Issues s (waits s command)
+    → Issues s (wait_of s command)
 waits-tells s command may =
     let deed = deed_of command in
     let scope = scope_of command in
     let active : ActiveCommand = record { command = command; mark = s.work.setup.next_name } in
     cond_both (is_at_end active s.work.content)
-    (Ended 0, set_up s s.active (stopped deed scope Off s.work.setup))
-    (Active, set_up s (Some active) (stopped deed scope Stopping s.work.setup))
+    (Ended 0, set_up s s.active (after_stop deed scope Off s.work.setup))
+    (Active, set_up s (Some active) (after_stop deed scope Stopping s.work.setup))
     (Issues s)
     (λ u. makes (Issue (Ended 0)) (is_over
     (record { deed = deed; scope = scope; mark = active.mark; over = u; active = s.active; after = refl })) refl refl refl refl)
@@ -250,7 +250,7 @@ waits-tells s command may =
     (record { deed = deed; scope = scope; may = may; active = Some active; after = refl })) refl refl refl refl)
 
 done-tells : (s : State) (command : Command) (deed : Deed) (scope : Scope) → may_come s.work.setup deed scope ≡ true
-    → check_of s.work.setup deed scope ≡ None → Issues s (waits s command) → Issues s (done_by s command deed scope)
+    → check_of s.work.setup deed scope ≡ None → Issues s (wait_of s command) → Issues s (deed_done_of s command deed scope)
 done-tells s command Enable Device may check w = makes (Issue (Ended 0))
     (is_device_enabled (record { off = may; check = check; after = refl })) refl refl refl refl
 done-tells s command Enable (Queue queue) may check w =
@@ -270,7 +270,7 @@ done-tells s command _ scope may check w = w
 
 refused_or-tells : (s : State) (command : Command) (o : Option Fault)
     → may_come s.work.setup (deed_of command) (scope_of command) ≡ true
-    → check_of s.work.setup (deed_of command) (scope_of command) ≡ o → Issues s (refused_or s o (carried_out s command))
+    → check_of s.work.setup (deed_of command) (scope_of command) ≡ o → Issues s (refusal_or s o (command_done_of s command))
 refused_or-tells s command None may check = done-tells s command (deed_of command) (scope_of command) may check
     (waits-tells s command may)
 refused_or-tells s command (Some fault) may check = stays s (Issue (Refused fault)) refl refl refl
@@ -281,7 +281,7 @@ issue-tells s command =
     let scope = scope_of command in
     table3 (Issues s) (is_some s.active) (is_bad_queues s.work.setup scope)
     (not (may_come s.work.setup deed scope)) _ _ _
-    (refused_or s (check_of s.work.setup deed scope) (carried_out s command))
+    (refusal_or s (check_of s.work.setup deed scope) (command_done_of s command))
     (λ u. stays s (Issue (Refused Busy)) refl refl refl)
     (λ u. stays s (Issue (Refused BadQueue)) refl refl refl)
     (λ u. stays s (Issue (Refused WrongState)) refl refl refl)
@@ -293,7 +293,7 @@ poll_of-tells s (Some active) =
     let deed = deed_of active.command in
     let scope = scope_of active.command in
     cond_both (is_at_end active s.work.content)
-    (Finished, set_up s None (stopped deed scope Off s.work.setup)) (Active, s)
+    (Finished, set_up s None (after_stop deed scope Off s.work.setup)) (Active, s)
     (λ (r : PollAnswer × State). Tells s (Poll r.0, r.1))
     (λ u. makes (Poll Finished) (is_over
     (record { deed = deed; scope = scope; mark = active.mark; over = u; active = None; after = refl })) refl refl refl refl)
@@ -335,7 +335,7 @@ clear_of-tells s (Some noted) = makes (Clear (Cleared noted))
 
 -- the machine's reply tells so, where what it tells of may be chosen
 reply-tells : (s : State) (event : Event) (choice : Choice) → may_choose s event choice ≡ true
-    → let r = reply_of s event choice in chosen r.0 ≡ choice → Tells s r
+    → let r = reply_of s event choice in choice_of r.0 ≡ choice → Tells s r
 reply-tells s (Submit client queue portal kind d) choice may told = submit-tells s queue portal kind d choice may told
 reply-tells s (Dispatch e) choice may told = dispatch-tells s e choice may
 reply-tells s (Fetch e d) choice may told = fetch_for-tells s e d choice (note_at s.work e) may refl told

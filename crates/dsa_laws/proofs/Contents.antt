@@ -4,7 +4,7 @@ use Rattle.std.specs.Prelude.{sum_by, count_by}
 use Rattle.std.proofs.lemmas.List.Sums.{sum_by-cons, sum_by-append}
 use Rattle.dsa_base.proofs.Lists.{In-only, In-left, In-right, In-append, In-filter, get_or-replicated}
 use Rattle.dsa_base.proofs.Counts.{filter-one}
-use Rattle.dsa_store.specs.Content.{Slot, Content, chain, all_held, pushed, without_front}
+use Rattle.dsa_store.specs.Content.{Slot, Content, chain, all_held, after_push, without_front}
 use Rattle.dsa_store.proofs.Sums.{sum-split}
 use Rattle.dsa_base.specs.Lists.{In}
 use Rattle.dsa_laws.specs.Lists.{EachAt}
@@ -75,7 +75,7 @@ each-set P (m ∷ ms) (suc k) l a b = λ j. later (each-set (λ i. P (suc i)) ms
     later more zero = a zero
     later more (suc j) = more j
 
-pub each-pushed : (P : ℕ → Slot → Type 0) (c : Content) (k : ℕ) (y : Slot) → EachAt P c → P k y → EachAt P (pushed c k y.0 y.1)
+pub each-pushed : (P : ℕ → Slot → Type 0) (c : Content) (k : ℕ) (y : Slot) → EachAt P c → P k y → EachAt P (after_push c k y.0 y.1)
 each-pushed P c k y a p = each-set P c k (chain c k ++ y ∷ []) a (λ x i. ⊎_elim (λ j. a k x j) (λ j. subst (P k) (In-only x y j) p) (In-append x (chain c k) (y ∷ []) i))
 
 In-rest : (x : Slot) (xs : List Slot) → In x (drop 1 xs) → In x xs

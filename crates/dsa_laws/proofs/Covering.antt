@@ -11,7 +11,7 @@ use Rattle.dsa_regs.specs.declared.Caps.{Caps}
 use Rattle.dsa_regs.specs.declared.GroupConfig.{GroupConfig}
 use Rattle.dsa_base.specs.Numbers.{has, numbers_below}
 use Rattle.dsa_regs.specs.Config.{zero_group, group_at, is_in_two, total_reserved}
-use Rattle.dsa_regs.specs.Buffers.{covered, fits}
+use Rattle.dsa_regs.specs.Buffers.{covered_count, fits}
 use Rattle.dsa_base.proofs.NumberLemmas.{numbers_below-miss}
 use Rattle.dsa_base.proofs.NumberLists.{get_or-each, get_or-past, length-each}
 use Rattle.dsa_base.proofs.NumberSums.{sum-numbers-le}
@@ -20,7 +20,7 @@ use Rattle.dsa_base.proofs.Tables.{not-both}
 -- ---- what is in use or reserved
 
 -- with no more in use anywhere no more is covered
-pub covered-less : (groups : List GroupConfig) (us vs : List ℕ) → length us ≤ length vs → ((j : ℕ) → get_or us j 0 ≤ get_or vs j 0) → covered groups us ≤ covered groups vs
+pub covered-less : (groups : List GroupConfig) (us vs : List ℕ) → length us ≤ length vs → ((j : ℕ) → get_or us j 0 ≤ get_or vs j 0) → covered_count groups us ≤ covered_count groups vs
 covered-less [] us vs l h = omega arith
 covered-less (g ∷ groups) [] vs l h = omega arith
 covered-less (g ∷ groups) (n ∷ us) [] l h = absurd (omega (arith, l))
@@ -30,7 +30,7 @@ covered-less (g ∷ groups) (n ∷ us) (m ∷ vs) l h =
     omega (arith, more, one)
 
 -- with none in use it is what is reserved
-pub covered-none : (groups : List GroupConfig) (us : List ℕ) → ((j : ℕ) → get_or us j 0 ≡ 0) → covered groups us ≤ total_reserved groups
+pub covered-none : (groups : List GroupConfig) (us : List ℕ) → ((j : ℕ) → get_or us j 0 ≡ 0) → covered_count groups us ≤ total_reserved groups
 covered-none [] us h = omega arith
 covered-none (g ∷ groups) [] h = omega arith
 covered-none (g ∷ groups) (n ∷ us) h =
@@ -77,7 +77,7 @@ all_needed f caps groups = map (needed f caps.engines groups) (numbers_below cap
 
 pub record AreWithin (caps : Caps) (groups : List GroupConfig) (f : ℕ → ℕ) : Type 0 where
   pub allowed : (g : ℕ) → g < caps.groups → needed f caps.engines groups g ≤ (group_at groups g).allowed
-  pub total : covered groups (all_needed f caps groups) ≤ caps.read_buffers
+  pub total : covered_count groups (all_needed f caps groups) ≤ caps.read_buffers
 
 pub cond-le : (b : Bool) (x y : ℕ) → (b ≡ true → x ≤ y) → cond b x 0 ≤ cond b y 0
 cond-le true x y h = h refl
@@ -150,9 +150,9 @@ within-group caps groups f f' g n w i room others mine =
     let us : List ℕ = all_needed f caps groups in
     let now : get_or us g 0 ≡ needed f caps.engines groups g = get_or-each (needed f caps.engines groups) caps.groups g 0 i in
     let own = nat_le (get_or us g 0 + n) (group_at groups g).allowed in
-    let total = nat_le (covered groups (set us g (get_or us g 0 + n))) caps.read_buffers in
+    let total = nat_le (covered_count groups (set us g (get_or us g 0 + n))) caps.read_buffers in
     let first : get_or us g 0 + n ≤ (group_at groups g).allowed = leb-true (get_or us g 0 + n) (group_at groups g).allowed (and_parts own total room).0 in
-    let second : covered groups (set us g (get_or us g 0 + n)) ≤ caps.read_buffers = leb-true (covered groups (set us g (get_or us g 0 + n))) caps.read_buffers (and_parts own total room).1 in
+    let second : covered_count groups (set us g (get_or us g 0 + n)) ≤ caps.read_buffers = leb-true (covered_count groups (set us g (get_or us g 0 + n))) caps.read_buffers (and_parts own total room).1 in
     let size : length us ≡ caps.groups = length-each (needed f caps.engines groups) caps.groups in
     record {
       allowed = λ j k. ⊎_elim

@@ -12,10 +12,10 @@ use Rattle.dsa_regs.specs.declared.Scope.{Scope}
 use Rattle.dsa_regs.specs.declared.Scope.TheVariants.{Device}
 use Rattle.dsa_regs.specs.Command.{queues_in}
 use Rattle.dsa_book.specs.State.{Setup, Work, State}
-use Rattle.dsa_book.specs.Submit.{accepted}
+use Rattle.dsa_book.specs.Submit.{after_accept}
 use Rattle.dsa_book.specs.declared.answer.NotedError.{NotedError}
-use Rattle.dsa_book.specs.Work.{members, taken, fetched, started, abandoned, ended}
-use Rattle.dsa_book.specs.Commands.{stopped, with_device, with_phases, with_sizes_alone, size_alone, names, aborted, count_in_scope, reset}
+use Rattle.dsa_book.specs.Work.{members, after_take, after_fetch, after_start, after_abandon, after_end}
+use Rattle.dsa_book.specs.Commands.{after_stop, with_device, with_phases, with_sizes_alone, size_alone, is_among, after_abort, count_in_scope, reset}
 use Rattle.dsa_book.specs.Machine.{intake_of, with_intake}
 use Rattle.dsa_laws.specs.Change.{Change, IsAccepted, IsTaken, IsFetched, IsStarted, IsAbandoned, IsEnded, IsDeviceEnabled, IsQueueEnabled, IsWaiting, IsOver, IsDeviceReset, IsQueuesReset, IsQueueWritten, IsGroupWritten, same, is_noted, is_accepted, is_taken, is_fetched, is_started, is_abandoned, is_ended, is_device_enabled, is_queue_enabled, is_waiting, is_over, is_aborted, is_device_reset, is_queues_reset, is_queue_written, is_group_written}
 
@@ -29,7 +29,7 @@ pub record HasOtherPhases (setup setup' : Setup) : Type 0 where
   pub names : setup'.next_name ≡ setup.next_name
 
 pub stopped-keeps : (deed : Deed) (scope : Scope) (phase : Phase) (setup : Setup)
-    → HasOtherPhases setup (stopped deed scope phase setup)
+    → HasOtherPhases setup (after_stop deed scope phase setup)
 stopped-keeps Disable Device phase setup = record { caps = refl; configs = refl; groups = refl; names = refl }
 stopped-keeps Disable scope phase setup = record { caps = refl; configs = refl; groups = refl; names = refl }
 stopped-keeps _ scope phase setup = record { caps = refl; configs = refl; groups = refl; names = refl }
@@ -38,10 +38,10 @@ stopped-keeps _ scope phase setup = record { caps = refl; configs = refl; groups
 
 -- each configuration is as it was, or its size alone is left
 pub reset-config : (setup : Setup) (queues : List ℕ) (q : ℕ) → q < setup.caps.queues
-    → queue_at (with_sizes_alone queues setup).configs q ≡ cond (names queues q)
+    → queue_at (with_sizes_alone queues setup).configs q ≡ cond (is_among queues q)
     (size_alone (queue_at setup.configs q)) (queue_at setup.configs q)
 reset-config setup queues q i =
-    get_or-each (λ k. cond (names queues k) (size_alone (queue_at setup.configs k))
+    get_or-each (λ k. cond (is_among queues k) (size_alone (queue_at setup.configs k))
     (queue_at setup.configs k)) setup.caps.queues q zero_queue i
 
 pub reset-size : (b : Bool) (c : QueueConfig) → (cond b (size_alone c) c).size ≡ c.size
@@ -68,7 +68,7 @@ pub record IsRemoved (w : Work) : Type 0 where
 
 -- what is left then
 abbrev pub removed : (w : Work) → IsRemoved w → Work
-removed w c = record (aborted c.number c.scope w) { setup = c.setup }
+removed w c = record (after_abort c.number c.scope w) { setup = c.setup }
 
 -- the parents of the entries that come in by a change: an accepted one has none, a member has its batch
 abbrev pub came : {s s' : State} → Change s s' → List (Option ℕ)
@@ -89,12 +89,12 @@ gone _ = 0
 pub by_count : (P : List (Option ℕ) → ℕ → Work → Type 0) (s s' : State) (c : Change s s')
     → (IsSetUp s.work s'.work → P [] 0 s'.work)
     → ((c : IsAccepted s s') → P (None ∷ []) 0 (with_intake s
-    (accepted (intake_of s) c.queue c.kind c.desc c.cell).1).work)
-    → ((c : IsTaken s s') → P [] 0 (taken s.work c.engine c.queue c.front))
-    → ((c : IsFetched s s') → P (Some c.note.batch ∷ []) 0 (fetched s.work c.engine c.desc c.cell c.note c.batch.1).1)
-    → ((c : IsStarted s s') → P [] 0 (started s.work c.engine))
-    → ((c : IsAbandoned s s') → P [] (length (members s.work c.engine)) (abandoned s.work c.engine))
-    → ((c : IsEnded s s') → P [] 1 (ended s.work c.engine c.slot c.outcome))
+    (after_accept (intake_of s) c.queue c.kind c.desc c.cell).1).work)
+    → ((c : IsTaken s s') → P [] 0 (after_take s.work c.engine c.queue c.front))
+    → ((c : IsFetched s s') → P (Some c.note.batch ∷ []) 0 (after_fetch s.work c.engine c.desc c.cell c.note c.batch.1).1)
+    → ((c : IsStarted s s') → P [] 0 (after_start s.work c.engine))
+    → ((c : IsAbandoned s s') → P [] (length (members s.work c.engine)) (after_abandon s.work c.engine))
+    → ((c : IsEnded s s') → P [] 1 (after_end s.work c.engine c.slot c.outcome))
     → ((c : IsRemoved s.work) → P [] (count_in_scope c.scope s.work.content) (removed s.work c))
     → P (came c) (gone c) s'.work
 by_count P s s' c set accept take fetch start abandon end remove = go c
@@ -104,16 +104,16 @@ by_count P s s' c set accept take fetch start abandon end remove = go c
 
     kept : (setup : Setup) → setup.caps ≡ s.work.setup.caps → setup.next_name ≡ s.work.setup.next_name
         → IsSetUp s.work (record s.work { setup = setup })
-    kept setup caps names = record { content = refl; notes = refl; fates = refl; caps = caps; names = names }
+    kept setup caps is_among = record { content = refl; notes = refl; fates = refl; caps = caps; names = is_among }
 
     at : {xs : List (Option ℕ)} {n : ℕ} (t : State) → t ≡ s' → P xs n t.work → P xs n s'.work
     at {xs} {n} t e p = subst (λ (t : State). P xs n t.work) e p
 
     is_removed : (number : ℕ) (scope : Scope) (setup : Setup) → setup.caps ≡ s.work.setup.caps
         → setup.next_name ≡ s.work.setup.next_name
-        → P [] (count_in_scope scope s.work.content) (record (aborted number scope s.work) { setup = setup })
-    is_removed number scope setup caps names =
-        remove (record { number = number; scope = scope; setup = setup; caps = caps; names = names })
+        → P [] (count_in_scope scope s.work.content) (record (after_abort number scope s.work) { setup = setup })
+    is_removed number scope setup caps is_among =
+        remove (record { number = number; scope = scope; setup = setup; caps = caps; names = is_among })
 
     go : (c : Change s s') → P (came c) (gone c) s'.work
     go (same e) = is_set s e (kept s.work.setup refl refl)
@@ -139,12 +139,12 @@ by_count P s s' c set accept take fetch start abandon end remove = go c
 -- the same of a fact of what it leaves alone
 pub by_effect : (P : Work → Type 0) (s s' : State) → Change s s'
     → (IsSetUp s.work s'.work → P s'.work)
-    → ((c : IsAccepted s s') → P (with_intake s (accepted (intake_of s) c.queue c.kind c.desc c.cell).1).work)
-    → ((c : IsTaken s s') → P (taken s.work c.engine c.queue c.front))
-    → ((c : IsFetched s s') → P (fetched s.work c.engine c.desc c.cell c.note c.batch.1).1)
-    → ((c : IsStarted s s') → P (started s.work c.engine))
-    → ((c : IsAbandoned s s') → P (abandoned s.work c.engine))
-    → ((c : IsEnded s s') → P (ended s.work c.engine c.slot c.outcome))
+    → ((c : IsAccepted s s') → P (with_intake s (after_accept (intake_of s) c.queue c.kind c.desc c.cell).1).work)
+    → ((c : IsTaken s s') → P (after_take s.work c.engine c.queue c.front))
+    → ((c : IsFetched s s') → P (after_fetch s.work c.engine c.desc c.cell c.note c.batch.1).1)
+    → ((c : IsStarted s s') → P (after_start s.work c.engine))
+    → ((c : IsAbandoned s s') → P (after_abandon s.work c.engine))
+    → ((c : IsEnded s s') → P (after_end s.work c.engine c.slot c.outcome))
     → ((c : IsRemoved s.work) → P (removed s.work c))
     → P s'.work
 by_effect P = by_count (λ xs n. P)
@@ -164,11 +164,11 @@ pub by_setting : (P : Setup → Type 0) (s s' : State) → Change s s'
     → (IsUnmoved s.work.setup s'.work.setup → P s'.work.setup)
     → (IsDeviceEnabled s s' → P (with_device On s.work.setup))
     → ((c : IsQueueEnabled s s') → P (with_phases (λ each. each == c.queue) On s.work.setup))
-    → ((c : IsWaiting s s') → P (stopped c.deed c.scope Stopping s.work.setup))
-    → ((c : IsOver s s') → P (stopped c.deed c.scope Off s.work.setup))
+    → ((c : IsWaiting s s') → P (after_stop c.deed c.scope Stopping s.work.setup))
+    → ((c : IsOver s s') → P (after_stop c.deed c.scope Off s.work.setup))
     → (IsDeviceReset s s' → P (reset Device s.work.setup))
     → ((c : IsQueuesReset s s') → P (with_sizes_alone (queues_in c.scope)
-    (with_phases (names (queues_in c.scope)) Off s.work.setup)))
+    (with_phases (is_among (queues_in c.scope)) Off s.work.setup)))
     → ((c : IsQueueWritten s s') → P
     (record s.work.setup { configs = slice_set s.work.setup.configs c.queue c.config }))
     → ((c : IsGroupWritten s s') → P (record s.work.setup { groups = slice_set s.work.setup.groups c.group c.config }))

@@ -14,13 +14,13 @@ use Rattle.dsa_regs.specs.declared.QueueConfig.{QueueConfig}
 use Rattle.dsa_regs.specs.declared.Scope.{Scope}
 use Rattle.dsa_regs.specs.Caps.{list_count}
 use Rattle.dsa_regs.specs.Config.{queue_at, limits_of}
-use Rattle.dsa_store.specs.Content.{Slot, Content, is_cell, chain, count, uses, without_front, unlinked}
+use Rattle.dsa_store.specs.Content.{Slot, Content, is_cell, chain, place_count, use_count, without_front, after_unlink}
 use Rattle.dsa_store.proofs.Places.{filter-absent}
 use Rattle.dsa_store.proofs.Sums.{uses-counted}
 use Rattle.dsa_book.specs.declared.note.BatchNote.{BatchNote}
 use Rattle.dsa_book.specs.State.{Setup, Work, State, opening, opening_setup, is_member, is_batch_of, status_of}
-use Rattle.dsa_book.specs.Work.{progress_list, member_list, in_progress, members, note_at, running_on, run, is_unfinished, note_after, with_first_run, opened_note, taken, ended}
-use Rattle.dsa_book.specs.Commands.{aborted, kept_note, names}
+use Rattle.dsa_book.specs.Work.{progress_list, member_list, in_progress, members, note_at, running_on, with_running_entry, is_unfinished, note_after, with_first_run, opened_note, after_take, after_end}
+use Rattle.dsa_book.specs.Commands.{after_abort, kept_note, is_among}
 use Rattle.dsa_laws.specs.Change.{Change}
 use Rattle.dsa_laws.proofs.Effects.{by_effect}
 use Rattle.dsa_laws.specs.WellFormed.{HasShape, NamesOnce, IsWellFormed}
@@ -147,9 +147,9 @@ members_set w k e l ns o i j inside here other new old =
 -- ---- an entry ends
 
 -- the lists in which it does not stand stay
-list-unlinked : (content : Content) (x : Slot) (i j : ℕ) → uses content x.0 ≤ 1 → In x (chain content j) → i ≢ j
-    → chain (unlinked content x.0) i ≡ chain content i
-unfolding count
+list-unlinked : (content : Content) (x : Slot) (i j : ℕ) → use_count content x.0 ≤ 1 → In x (chain content j) → i ≢ j
+    → chain (after_unlink content x.0) i ≡ chain content i
+unfolding place_count
 list-unlinked content x i j once at apart =
     let two = sum-two (λ s. cond (is_cell x.0 s) 1 0) content i j apart in
     let here = In-counted (is_cell x.0) x (chain content j) at (eq-eqb x.0.0 x.0.0 refl) in
@@ -158,8 +158,8 @@ list-unlinked content x i j once at apart =
     (omega (arith, two, here, all, once))
 
 -- its own list loses it alone
-sum-list_unlinked : (f : Slot → ℕ) (content : Content) (x : Slot) (j : ℕ) → uses content x.0 ≤ 1
-    → In x (chain content j) → sum_by f (chain (unlinked content x.0) j) + f x ≡ sum_by f (chain content j)
+sum-list_unlinked : (f : Slot → ℕ) (content : Content) (x : Slot) (j : ℕ) → use_count content x.0 ≤ 1
+    → In x (chain content j) → sum_by f (chain (after_unlink content x.0) j) + f x ≡ sum_by f (chain content j)
 sum-list_unlinked f content x j once at =
     let all = uses-counted content x.0 in
     let less = sum-list-le (λ s. cond (is_cell x.0 s) 1 0) content j in
@@ -173,13 +173,13 @@ is_failure w x outcome = is_member x.1 && not (is_successful (status_of w.setup 
 -- at the engine on which it ran: the batch, where no members are left, or another entry
 own_ended : (w : Work) (k : ℕ) (x : Slot) (outcome : Outcome) → k < length w.notes
     → (holds_batch w.setup x ≡ true → (count_by (holds_batch w.setup)
-    (chain (unlinked w.content x.0) (progress_list w.setup k)) + 1 ≡ count_by (holds_batch w.setup)
-    (own_progress w k)) × (chain (unlinked w.content x.0) (member_list w.setup k) ≡ []))
-    → (holds_batch w.setup x ≡ false → count_by (holds_batch w.setup) (chain (unlinked w.content x.0)
+    (chain (after_unlink w.content x.0) (progress_list w.setup k)) + 1 ≡ count_by (holds_batch w.setup)
+    (own_progress w k)) × (chain (after_unlink w.content x.0) (member_list w.setup k) ≡ []))
+    → (holds_batch w.setup x ≡ false → count_by (holds_batch w.setup) (chain (after_unlink w.content x.0)
     (progress_list w.setup k)) ≡ count_by (holds_batch w.setup) (own_progress w k))
-    → LawAt w.setup w k → LawAt w.setup (ended w k x outcome) k
+    → LawAt w.setup w k → LawAt w.setup (after_end w k x outcome) k
 own_ended w k x outcome i gone left h =
-    let c = unlinked w.content x.0 in
+    let c = after_unlink w.content x.0 in
     let p : Slot → Bool = λ s. not (is_cell x.0 s) in
     subst (IsLawfulEngine w.setup (chain c (progress_list w.setup k)) (chain c (member_list w.setup k)))
     (sym (note-same w.notes k (note_after w k x outcome) i))
@@ -191,8 +191,8 @@ own_ended w k x outcome i gone left h =
 
 -- an entry in progress
 progress_ended : (w : Work) (k : ℕ) (x : Slot) (outcome : Outcome) → k < length w.notes → k < w.setup.caps.engines
-    → uses w.content x.0 ≤ 1 → In x (own_progress w k)
-    → (holds_batch w.setup x ≡ true → own_members w k ≡ []) → LawAt w.setup w k → LawAt w.setup (ended w k x outcome) k
+    → use_count w.content x.0 ≤ 1 → In x (own_progress w k)
+    → (holds_batch w.setup x ≡ true → own_members w k ≡ []) → LawAt w.setup w k → LawAt w.setup (after_end w k x outcome) k
 progress_ended w k x outcome i below once at empty h =
     let sum = sum-list_unlinked (λ s. cond (holds_batch w.setup s) 1 0) w.content x (progress_list w.setup k) once at in
     let members_stay = list-unlinked w.content x (member_list w.setup k) (progress_list w.setup k) once at
@@ -205,8 +205,8 @@ progress_ended w k x outcome i below once at empty h =
 
 -- a member
 member_ended : (w : Work) (k : ℕ) (x : Slot) (outcome : Outcome) → k < length w.notes → k < w.setup.caps.engines
-    → uses w.content x.0 ≤ 1 → In x (own_members w k)
-    → (holds_batch w.setup x ≡ true → own_members w k ≡ []) → LawAt w.setup w k → LawAt w.setup (ended w k x outcome) k
+    → use_count w.content x.0 ≤ 1 → In x (own_members w k)
+    → (holds_batch w.setup x ≡ true → own_members w k ≡ []) → LawAt w.setup w k → LawAt w.setup (after_end w k x outcome) k
 member_ended w k x outcome i below once at empty h =
     let stay = list-unlinked w.content x (progress_list w.setup k) (member_list w.setup k) once at
     (λ (y : progress_list w.setup k ≡ member_list w.setup k). omega (arith, y, below)) in
@@ -215,11 +215,11 @@ member_ended w k x outcome i below once at empty h =
     (λ f. ap (λ xs. count_by (holds_batch w.setup) xs) stay) h
 
 -- at another engine
-other_ended : (w : Work) (k e j : ℕ) (x : Slot) (outcome : Outcome) → e ≢ k → uses w.content x.0 ≤ 1
+other_ended : (w : Work) (k e j : ℕ) (x : Slot) (outcome : Outcome) → e ≢ k → use_count w.content x.0 ≤ 1
     → In x (chain w.content j) → progress_list w.setup e ≢ j → member_list w.setup e ≢ j → LawAt w.setup w e
-    → LawAt w.setup (ended w k x outcome) e
+    → LawAt w.setup (after_end w k x outcome) e
 other_ended w k e j x outcome n once at p m h =
-    stays w.setup w.content (unlinked w.content x.0) w.notes (ended w k x outcome).notes e
+    stays w.setup w.content (after_unlink w.content x.0) w.notes (after_end w k x outcome).notes e
     (list-unlinked w.content x (progress_list w.setup e) j once at p)
     (list-unlinked w.content x (member_list w.setup e) j once at m)
     (note-other w.notes k e (note_after w k x outcome) n) h
@@ -233,14 +233,14 @@ no-members-left false w k j t ready = absurd cc
 
 -- an entry that runs on engine k ends
 entry_ended : (w : Work) (k e : ℕ) (x : Slot) (outcome : Outcome) → k < length w.notes → e < w.setup.caps.engines
-    → nat_lt k w.setup.caps.engines ≡ true → uses w.content x.0 ≤ 1
+    → nat_lt k w.setup.caps.engines ≡ true → use_count w.content x.0 ≤ 1
     → In x (own_progress w k) ⊎ In x (own_members w k) → (is_batch_of w.setup x.1 && is_unfinished w k) ≡ false
-    → LawAt w.setup w k → LawAt w.setup w e → LawAt w.setup (ended w k x outcome) e
+    → LawAt w.setup w k → LawAt w.setup w e → LawAt w.setup (after_end w k x outcome) e
 entry_ended w k e x outcome i inside j once at ready own old =
     let below = ltb-true k w.setup.caps.engines j in
     let empty : holds_batch w.setup x ≡ true → own_members w k ≡ [] = λ t. no-members-left
     (holds_batch w.setup x) w k j t ready in
-    by_engine w.setup (ended w k x outcome).content (ended w k x outcome).notes k e
+    by_engine w.setup (after_end w k x outcome).content (after_end w k x outcome).notes k e
     (⊎_elim (λ p. progress_ended w k x outcome i below once p empty own)
     (λ m. member_ended w k x outcome i below once m empty own) at)
     (λ n. ⊎_elim
@@ -268,27 +268,27 @@ cond-other false ns k e o n = refl
 front_taken : (w : Work) (k e q : ℕ) (x : Slot) → e < w.setup.caps.engines → k < w.setup.caps.engines
     → q < w.setup.caps.queues → progress_list w.setup k < length w.content → k < length w.notes
     → (is_none (note_at w k) || not (holds_batch w.setup x)) ≡ true → LawAt w.setup w k → LawAt w.setup w e
-    → LawAt w.setup (taken w k q x) e
+    → LawAt w.setup (after_take w k q x) e
 front_taken w k e q x i j inside list note may own old =
     let c1 = without_front w.content q in
-    let c = (taken w k q x).content in
-    let l = chain c1 (progress_list w.setup k) ++ run x ∷ [] in
+    let c = (after_take w k q x).content in
+    let l = chain c1 (progress_list w.setup k) ++ with_running_entry x ∷ [] in
     let b = holds_batch w.setup x in
     let size = length-set w.content q (drop 1 (chain w.content q)) in
     let from-queue : (m : ℕ) → q < m → chain c1 m ≡ chain w.content m = λ m d. chain-other w.content q (drop 1
     (chain w.content q)) m (λ (y : m ≡ q). omega (arith, y, d)) in
     let to : (m : ℕ) → m ≢ progress_list w.setup k → chain c m ≡ chain c1 m = λ m n. chain-other c1
     (progress_list w.setup k) l m n in
-    by_engine w.setup c (taken w k q x).notes k e
-    (carry w.setup (own_progress w k ++ run x ∷ []) (chain c (progress_list w.setup k)) (own_members w k)
-    (chain c (member_list w.setup k)) (cond b (Some (opened_note x.1)) (note_at w k)) (note_at (taken w k q x) k)
-    (chain-same c1 (progress_list w.setup k) l (omega (arith, size, list)) ∙ ap (λ xs. xs ++ run x ∷ [])
+    by_engine w.setup c (after_take w k q x).notes k e
+    (carry w.setup (own_progress w k ++ with_running_entry x ∷ []) (chain c (progress_list w.setup k)) (own_members w k)
+    (chain c (member_list w.setup k)) (cond b (Some (opened_note x.1)) (note_at w k)) (note_at (after_take w k q x) k)
+    (chain-same c1 (progress_list w.setup k) l (omega (arith, size, list)) ∙ ap (λ xs. xs ++ with_running_entry x ∷ [])
     (from-queue (progress_list w.setup k) (omega (arith, inside))))
     (to (member_list w.setup k) (λ (y : member_list w.setup k ≡ progress_list w.setup k). omega (arith, y, j))
     ∙ from-queue (member_list w.setup k) (omega (arith, inside)))
     (cond-same b w.notes k (Some (opened_note x.1)) note)
     (with_front w.setup (own_progress w k) (own_members w k) (note_at w k) x b refl may own))
-    (λ n. stays w.setup w.content c w.notes (taken w k q x).notes e
+    (λ n. stays w.setup w.content c w.notes (after_take w k q x).notes e
     (to (progress_list w.setup e) (λ (y : progress_list w.setup e ≡ progress_list w.setup k). n (omega (arith, y)))
     ∙ from-queue (progress_list w.setup e) (omega (arith, inside)))
     (to (member_list w.setup e) (λ (y : member_list w.setup e ≡ progress_list w.setup k). omega (arith, y, j))
@@ -297,14 +297,14 @@ front_taken w k e q x i j inside list note may own old =
 
 -- an abort
 scope_aborted : (w : Work) (number : ℕ) (scope : Scope) (e : ℕ) → e < w.setup.caps.engines → LawAt w.setup w e
-    → LawAt w.setup (aborted number scope w) e
+    → LawAt w.setup (after_abort number scope w) e
 scope_aborted w number scope e i h =
-    let c = (aborted number scope w).content in
+    let c = (after_abort number scope w).content in
     let p = is_left scope in
     let ps = own_progress w e in
     let ms = own_members w e in
     carry w.setup (filter p ps) (chain c (progress_list w.setup e)) (filter p ms) (chain c (member_list w.setup e))
-    (kept_note w.setup scope ps (note_at w e)) (note_at (aborted number scope w) e)
+    (kept_note w.setup scope ps (note_at w e)) (note_at (after_abort number scope w) e)
     (chain-filtered p w.content (progress_list w.setup e))
     (chain-filtered p w.content (member_list w.setup e))
     (get_or-each (λ k. kept_note w.setup scope (own_progress w k) (note_at w k)) w.setup.caps.engines e None i)
@@ -315,9 +315,9 @@ alike-batch : (w : Work) (k : ℕ) (n : BatchNote) (x batch : Slot) → NamesOnc
     → In batch (own_progress w k) → batch.1.name ≡ n.batch
     → IsLawfulEngine w.setup (own_progress w k) (own_members w k) (Some n) → (b : Slot) → In b (own_progress w k)
     → holds_batch w.setup b ≡ true → IsAlike x b
-alike-batch w k n x batch names like i is h b j t =
+alike-batch w k n x batch is_among like i is h b j t =
     let named : Slot → Bool = λ slot. slot.1.name == n.batch in
-    let once = names-counted w names n.batch in
+    let once = names-counted w is_among n.batch in
     let most : cond (nat_lt n.batch w.setup.next_name) 1 0 ≤ 1 = grind (arith, nat_tests) in
     let less = sum-list-le (λ s. cond (named s) 1 0) w.content (progress_list w.setup k) in
     let one : count_by named (own_progress w k) ≤ 1 = omega (arith, once, most, less) in

@@ -18,9 +18,9 @@ use Rattle.dsa_regs.specs.declared.Deed.TheVariants.{Disable}
 use Rattle.dsa_regs.specs.Command.{queues_in}
 use Rattle.dsa_store.specs.Content.{Slot, Content, chain, all_held, without_front}
 use Rattle.dsa_book.specs.State.{Work, State, opening, is_off, phase_at}
-use Rattle.dsa_book.specs.Work.{progress_list, member_list, in_progress, members, run, with_first_run}
+use Rattle.dsa_book.specs.Work.{progress_list, member_list, in_progress, members, with_running_entry, with_first_run}
 use Rattle.dsa_book.proofs.Scopes.{unnamed}
-use Rattle.dsa_book.specs.Commands.{stopped, with_phases, names, is_in_scope, holds, is_awaited}
+use Rattle.dsa_book.specs.Commands.{after_stop, with_phases, is_among, is_in_scope, holds_any, is_awaited}
 use Rattle.dsa_laws.specs.Change.{Change, IsAccepted, IsTaken, IsFetched, IsStarted}
 use Rattle.dsa_laws.proofs.Effects.{by_effect, by_setting, stopped-keeps, reset-config}
 use Rattle.dsa_laws.specs.WellFormed.{HasShape, IsPlaced, NoneOff, PasidsFit, HasLawfulEntries, HasLawfulSetup}
@@ -30,8 +30,8 @@ use Rattle.std.proofs.Common.{get_or, ◌∙◌}
 use Rattle.std.proofs.lemmas.List.{get_or-set_other}
 use Rattle.dsa_regs.specs.declared.QueueConfig.{QueueConfig}
 use Rattle.dsa_regs.specs.Config.{queue_at, zero_queue}
-use Rattle.dsa_book.specs.Submit.{accepted}
-use Rattle.dsa_book.specs.Work.{taken, fetched, started}
+use Rattle.dsa_book.specs.Submit.{after_accept}
+use Rattle.dsa_book.specs.Work.{after_take, after_fetch, after_start}
 use Rattle.dsa_book.specs.Commands.{size_alone}
 use Rattle.dsa_book.specs.Machine.{intake_of, with_intake}
 use Rattle.dsa_base.proofs.Tables.{not-both}
@@ -43,11 +43,11 @@ pub queue-below : (caps : Caps) (w : Work) (q : ℕ) → HasShape caps w → nat
 queue-below caps w q h t = let i = ltb-true q w.setup.caps.queues t in let e = queues-same h in omega (arith, i, e)
 
 -- what holds of each of a list, and is not changed when an entry begins to run, holds when the first begins to run
-pub first_run-each : (P : Slot → Type 0) → ((x : Slot) → P x → P (run x)) → (xs : List Slot) → ((x : Slot) → In x xs → P x) → (x : Slot) → In x (with_first_run xs) → P x
+pub first_run-each : (P : Slot → Type 0) → ((x : Slot) → P x → P (with_running_entry x)) → (xs : List Slot) → ((x : Slot) → In x xs → P x) → (x : Slot) → In x (with_first_run xs) → P x
 first_run-each P r [] a x i = absurd i
 first_run-each P r (y ∷ ys) a x i = go (first_run-each P r ys (λ z j. a z (inr j)) x) y.1.running i
   where
-    go : (In x (with_first_run ys) → P x) → (b : Bool) → In x (cond b (y ∷ with_first_run ys) (run y ∷ ys)) → P x
+    go : (In x (with_first_run ys) → P x) → (b : Bool) → In x (cond b (y ∷ with_first_run ys) (with_running_entry y ∷ ys)) → P x
     go more true (inl e) = a x (inl e)
     go more true (inr j) = more j
     go more false (inl e) = subst P e (r y (a y (inl refl)))
@@ -59,10 +59,10 @@ pasid-again p = omega arith
 
 -- entries leave or stay: what holds of each by its list is to be seen of those that come, and of those that begin to run
 pub each-effect : (P : ℕ → Slot → Type 0) (s s' : State) → EachAt P s.work.content → Change s s'
-    → ((c : IsAccepted s s') → EachAt P (with_intake s (accepted (intake_of s) c.queue c.kind c.desc c.cell).1).work.content)
-    → ((c : IsTaken s s') → EachAt P (taken s.work c.engine c.queue c.front).content)
-    → ((c : IsFetched s s') → EachAt P (fetched s.work c.engine c.desc c.cell c.note c.batch.1).1.content)
-    → ((c : IsStarted s s') → EachAt P (started s.work c.engine).content)
+    → ((c : IsAccepted s s') → EachAt P (with_intake s (after_accept (intake_of s) c.queue c.kind c.desc c.cell).1).work.content)
+    → ((c : IsTaken s s') → EachAt P (after_take s.work c.engine c.queue c.front).content)
+    → ((c : IsFetched s s') → EachAt P (after_fetch s.work c.engine c.desc c.cell c.note c.batch.1).1.content)
+    → ((c : IsStarted s s') → EachAt P (after_start s.work c.engine).content)
     → EachAt P s'.work.content
 each-effect P s s' a c accept take fetch start = by_effect (λ w. EachAt P w.content) s s' c
     (λ e. subst (EachAt P) (sym e.content) a)
@@ -72,13 +72,13 @@ each-effect P s s' a c accept take fetch start = by_effect (λ w. EachAt P w.con
     (λ c. each-filtered P _ s.work.content a)
 
 -- what is the same wherever an entry stands and whether it runs or not: it is enough to see it of what comes
-each-content : (P : Slot → Type 0) → ((x : Slot) → P x → P (run x)) → (s s' : State) → Change s s' → EachAt (λ k. P) s.work.content
+each-content : (P : Slot → Type 0) → ((x : Slot) → P x → P (with_running_entry x)) → (s s' : State) → Change s s' → EachAt (λ k. P) s.work.content
     → ((c : IsAccepted s s') (x : Slot) → x.1.queue ≡ c.queue → pasid_of x.1.desc.pasid ≡ x.1.desc.pasid → P x)
     → ((c : IsFetched s s') (x : Slot) → x.1.queue ≡ c.batch.1.queue → pasid_of x.1.desc.pasid ≡ x.1.desc.pasid → P x)
     → EachAt (λ k. P) s'.work.content
 each-content P r s s' c a n m = each-effect (λ k. P) s s' a c
     (λ c. each-pushed (λ k. P) s.work.content c.queue _ a (n c _ refl (pasid-again _)))
-    (λ c. each-pushed (λ k. P) (without_front s.work.content c.queue) _ (run c.front) (each-without_front (λ k. P) s.work.content c.queue a) (r c.front (a c.queue c.front (In-front c.front _ c.is_front))))
+    (λ c. each-pushed (λ k. P) (without_front s.work.content c.queue) _ (with_running_entry c.front) (each-without_front (λ k. P) s.work.content c.queue a) (r c.front (a c.queue c.front (In-front c.front _ c.is_front))))
     (λ c. each-pushed (λ k. P) s.work.content _ _ a (m c _ refl (pasid-again _)))
     (λ c. each-set (λ k. P) s.work.content _ (with_first_run (members s.work c.engine)) a (first_run-each P r (members s.work c.engine) (λ x i. a _ x (In-cond _ x _ i).1)))
 
@@ -103,7 +103,7 @@ placed-change caps s s' h a c = each-effect (IsPlaced caps) s s' a c
     let inside = queue-below caps s.work c.queue h (and_parts _ _ (and_parts _ _ c.qualifies).0).1 in
     let engine = below-engines caps s.work c.engine h (and_parts _ _ (and_parts _ _ c.qualifies).0).0 in
     let front = a c.queue c.front (In-front c.front _ c.is_front) in
-    each-pushed (IsPlaced caps) (without_front s.work.content c.queue) (progress_list s.work.setup c.engine) (run c.front) (each-without_front (IsPlaced caps) s.work.content c.queue a)
+    each-pushed (IsPlaced caps) (without_front s.work.content c.queue) (progress_list s.work.setup c.engine) (with_running_entry c.front) (each-without_front (IsPlaced caps) s.work.content c.queue a)
     (record { member = λ i. absurd (omega (arith, q, i, engine)); queue = λ i. absurd (omega (arith, q, i)); submitted = λ i. front.submitted (omega (arith, inside)); waiting = λ i. absurd (omega (arith, q, i)); running = λ i j. refl }))
     (λ c. each-pushed (IsPlaced caps) s.work.content (member_list s.work.setup c.engine) _ a (placed-member caps _ _ (member_list-past caps s.work c.engine h) refl))
     (λ c. each-set (IsPlaced caps) s.work.content (member_list s.work.setup c.engine) (with_first_run (members s.work c.engine)) a (λ x i. placed-member caps _ x (member_list-past caps s.work c.engine h)
@@ -136,18 +136,18 @@ kept-phase caps w test p q h out n =
     tested true t (inr g) = g
     tested false t o = n
 
-over-off : (caps : Caps) (w : Work) (deed : Deed) (scope : Scope) (mark : ℕ) → HasShape caps w → not (holds (is_awaited deed scope mark) w.content) ≡ true
-    → (k : ℕ) (x : Slot) → In x (chain w.content k) → is_off (phase_at w.setup x.1.queue) ≡ false → is_off (phase_at (stopped deed scope Off w.setup) x.1.queue) ≡ false
+over-off : (caps : Caps) (w : Work) (deed : Deed) (scope : Scope) (mark : ℕ) → HasShape caps w → not (holds_any (is_awaited deed scope mark) w.content) ≡ true
+    → (k : ℕ) (x : Slot) → In x (chain w.content k) → is_off (phase_at w.setup x.1.queue) ≡ false → is_off (phase_at (after_stop deed scope Off w.setup) x.1.queue) ≡ false
 over-off caps w Disable Device mark h e k x i p = absurd (not-both true refl (none-slot (λ slot. true) w.content k x (not-true _ e) i))
 over-off caps w Disable scope mark h e k x i p =
     let out = none-slot (λ slot. is_in_scope scope slot.1) w.content k x (not-true _ e) i in
-    kept-phase caps w (names (queues_in scope)) Off x.1.queue h (inl (unnamed scope x.1 out)) p
+    kept-phase caps w (is_among (queues_in scope)) Off x.1.queue h (inl (unnamed scope x.1 out)) p
 over-off caps w _ scope mark h e k x i p = p
 
 waiting-off : (caps : Caps) (w : Work) (deed : Deed) (scope : Scope) → HasShape caps w → (q : ℕ)
-    → is_off (phase_at w.setup q) ≡ false → is_off (phase_at (stopped deed scope Stopping w.setup) q) ≡ false
+    → is_off (phase_at w.setup q) ≡ false → is_off (phase_at (after_stop deed scope Stopping w.setup) q) ≡ false
 waiting-off caps w Disable Device h q n = kept-phase caps w (λ k. not (is_off (phase_at w.setup k))) Stopping q h (inr refl) n
-waiting-off caps w Disable scope h q n = kept-phase caps w (names (queues_in scope)) Stopping q h (inr refl) n
+waiting-off caps w Disable scope h q n = kept-phase caps w (is_among (queues_in scope)) Stopping q h (inr refl) n
 waiting-off caps w _ scope h q n = n
 
 -- the same of what entries there are after the change, by the phases before it
@@ -171,7 +171,7 @@ phases-kept caps s s' h c k x i p = by_setting (λ setup. is_off (phase_at setup
     (λ c. over-off caps s.work c.deed c.scope c.mark h c.over k x (In-after s' _ c.after k x i) p)
     (λ c. not-both false (In-filtered (λ slot. not true) s.work.content k x (In-after s' _ c.after k x i)).1 refl)
     (λ c.
-    kept-phase caps s.work (names (queues_in c.scope)) Off x.1.queue h (inl (unnamed c.scope x.1 (not-true _ (In-filtered (λ slot. not (is_in_scope c.scope slot.1)) s.work.content k x (In-after s' _ c.after k x i)).1))) p)
+    kept-phase caps s.work (is_among (queues_in c.scope)) Off x.1.queue h (inl (unnamed c.scope x.1 (not-true _ (In-filtered (λ slot. not (is_in_scope c.scope slot.1)) s.work.content k x (In-after s' _ c.after k x i)).1))) p)
     (λ c. p)
     (λ c. p)
 

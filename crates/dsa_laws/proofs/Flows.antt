@@ -11,15 +11,15 @@ use Rattle.dsa_regs.specs.declared.Caps.{Caps}
 use Rattle.dsa_regs.specs.Caps.{cell_count}
 use Rattle.dsa_regs.specs.declared.Scope.{Scope}
 use Rattle.dsa_store.specs.declared.entry.Cell.{Cell}
-use Rattle.dsa_store.specs.Content.{Slot, Content, chain, uses, all_held, is_cell, is_free, pushed, without_front}
+use Rattle.dsa_store.specs.Content.{Slot, Content, chain, use_count, all_held, is_cell, is_free, after_push, without_front}
 use Rattle.dsa_store.proofs.Sums.{sum-set, sum-pushed, sum-without_front, sum-split, uses-counted, held-counted, is_free-unused, all_held-filtered}
 use Rattle.dsa_book.specs.declared.answer.Ticket.{Ticket}
 use Rattle.dsa_book.specs.declared.fate.FateRow.{FateRow}
 use Rattle.dsa_book.specs.declared.fate.Fate.{Fate}
 use Rattle.dsa_book.specs.declared.fate.Fate.TheVariants.{Abandoned}
 use Rattle.dsa_book.specs.State.{Work, State, is_ticket}
-use Rattle.dsa_book.specs.Work.{progress_list, member_list, in_progress, members, running_on, as_running, run, with_first_run, fate_row}
-use Rattle.dsa_book.specs.Commands.{is_in_scope, aborted}
+use Rattle.dsa_book.specs.Work.{progress_list, member_list, in_progress, members, running_on, as_running, with_running_entry, with_first_run, fate_row}
+use Rattle.dsa_book.specs.Commands.{is_in_scope, after_abort}
 use Rattle.dsa_laws.specs.Change.{Change}
 use Rattle.dsa_laws.proofs.Effects.{by_effect}
 use Rattle.dsa_laws.specs.WellFormed.{HasShape, CellsOnce, NamesOnce, held_named, fates_named}
@@ -34,7 +34,7 @@ use Rattle.dsa_base.proofs.NumberSums.{sum-map}
 
 -- each cell stands once, or not at all where it is none of the store's
 abbrev pub UsesOnce : Caps → Work → Type 0
-UsesOnce caps w = (cell : Cell) → uses w.content cell ≤ cond (nat_lt cell.0 (cell_count caps)) 1 0
+UsesOnce caps w = (cell : Cell) → use_count w.content cell ≤ cond (nat_lt cell.0 (cell_count caps)) 1 0
 
 -- each name stands once, or not at all where it was not given
 abbrev pub NamesCounted : Work → Type 0
@@ -56,12 +56,12 @@ names-counted w h name = let a = h.given name in let b = h.not_given name in gri
 pub record IsFlow (caps : Caps) (w w' : Work) : Type 0 where
   pub came : List Slot
   pub gone : List Slot
-  pub sums : (f : Slot → ℕ) → ((slot : Slot) → f (run slot) ≡ f slot) → sum_by f (all_held w'.content) + sum_by f gone ≡ sum_by f (all_held w.content) + sum_by f came
+  pub sums : (f : Slot → ℕ) → ((slot : Slot) → f (with_running_entry slot) ≡ f slot) → sum_by f (all_held w'.content) + sum_by f gone ≡ sum_by f (all_held w.content) + sum_by f came
   pub fate : Fate
   pub fates : w'.fates ≡ w.fates ++ map (fate_row fate) gone
   pub next : w'.setup.next_name ≡ w.setup.next_name + length came
   pub names : (name : ℕ) → count_by (λ slot. slot.1.name == name) came + cond (nat_lt name w.setup.next_name) 1 0 ≡ cond (nat_lt name w'.setup.next_name) 1 0
-  pub cells : (cell : Cell) → uses w.content cell + count_by (is_cell cell) came ≤ cond (nat_lt cell.0 (cell_count caps)) 1 0
+  pub cells : (cell : Cell) → use_count w.content cell + count_by (is_cell cell) came ≤ cond (nat_lt cell.0 (cell_count caps)) 1 0
 
 abbrev next_of : Work → ℕ
 next_of w = w.setup.next_name
@@ -78,20 +78,20 @@ rows-counted g fates fate xs =
     let b = sum-map (λ (row : FateRow). cond (g row) 1 0) (fate_row fate) xs in
     omega (arith, a, b)
 
-sum-first_run : (f : Slot → ℕ) → ((slot : Slot) → f (run slot) ≡ f slot) → (xs : List Slot) → sum_by f (with_first_run xs) ≡ sum_by f xs
+sum-first_run : (f : Slot → ℕ) → ((slot : Slot) → f (with_running_entry slot) ≡ f slot) → (xs : List Slot) → sum_by f (with_first_run xs) ≡ sum_by f xs
 sum-first_run f alike [] = refl
 sum-first_run f alike (x ∷ xs) = go (sum-first_run f alike xs) x.1.running
   where
-    go : sum_by f (with_first_run xs) ≡ sum_by f xs → (b : Bool) → sum_by f (cond b (x ∷ with_first_run xs) (run x ∷ xs)) ≡ sum_by f (x ∷ xs)
+    go : sum_by f (with_first_run xs) ≡ sum_by f xs → (b : Bool) → sum_by f (cond b (x ∷ with_first_run xs) (with_running_entry x ∷ xs)) ≡ sum_by f (x ∷ xs)
     go more true = omega (arith, more, sum_by-cons f x (with_first_run xs), sum_by-cons f x xs)
-    go more false = omega (arith, alike x, sum_by-cons f (run x) xs, sum_by-cons f x xs)
+    go more false = omega (arith, alike x, sum_by-cons f (with_running_entry x) xs, sum_by-cons f x xs)
 
 -- one more name
 name-given : (n next : ℕ) → cond (eqb next n) 1 0 + cond (nat_lt n next) 1 0 ≡ cond (nat_lt n (next + 1)) 1 0
 name-given n next = grind (arith, nat_tests)
 
-uses-with_free : (cells : ℕ) (content : Content) (x : Slot) → is_free cells content x.0 ≡ true → ((cell : Cell) → uses content cell ≤ cond (nat_lt cell.0 cells) 1 0) → (cell : Cell)
-    → uses content cell + count_by (is_cell cell) (x ∷ []) ≤ cond (nat_lt cell.0 cells) 1 0
+uses-with_free : (cells : ℕ) (content : Content) (x : Slot) → is_free cells content x.0 ≡ true → ((cell : Cell) → use_count content cell ≤ cond (nat_lt cell.0 cells) 1 0) → (cell : Cell)
+    → use_count content cell + count_by (is_cell cell) (x ∷ []) ≤ cond (nat_lt cell.0 cells) 1 0
 uses-with_free cells content x free once cell =
     let fresh = is_free-unused cells content x.0 free in
     let old = once cell in
@@ -99,7 +99,7 @@ uses-with_free cells content x free once cell =
     (λ (t : is_cell cell x ≡ true).
     let e = eqb-true x.0.0 cell.0 t in
     let same : x.0 ≡ cell = ap (λ (n : ℕ). let at : Cell = record { 0 = n } in at) e in
-    let unused : uses content cell ≡ 0 = subst (λ k. uses content k ≡ 0) same fresh.1 in
+    let unused : use_count content cell ≡ 0 = subst (λ k. use_count content k ≡ 0) same fresh.1 in
     let below = fresh.0 in
     let room : ◌≡◌ {A = ℕ} (cond (nat_lt cell.0 cells) 1 0) 1 = grind (arith, nat_tests, e, below) in
     let one = count-cons (is_cell cell) x [] true t in
@@ -110,7 +110,7 @@ uses-with_free cells content x free once cell =
 -- ---- flows
 
 -- nothing comes and nothing goes
-still : (caps : Caps) (w w' : Work) → UsesOnce caps w → ((f : Slot → ℕ) → ((slot : Slot) → f (run slot) ≡ f slot) → sum_by f (all_held w'.content) ≡ sum_by f (all_held w.content))
+still : (caps : Caps) (w w' : Work) → UsesOnce caps w → ((f : Slot → ℕ) → ((slot : Slot) → f (with_running_entry slot) ≡ f slot) → sum_by f (all_held w'.content) ≡ sum_by f (all_held w.content))
     → w'.fates ≡ w.fates → next_of w' ≡ next_of w → IsFlow caps w w'
 still caps w w' once sums fates next = record {
   came = [];
@@ -163,11 +163,11 @@ free-caps : (caps : Caps) (w : Work) (cell : Cell) → HasShape caps w → is_fr
 free-caps caps w cell h f = subst (λ (c : Caps). is_free (cell_count c) w.content cell ≡ true) h.same_caps f
 
 -- the sum where a front moves and runs
-sum-taken : (f : Slot → ℕ) → ((slot : Slot) → f (run slot) ≡ f slot) → (content : Content) (q to : ℕ) (front : Slot) → q < length content → to < length content → slice_get (chain content q) 0 ≡ Some front
-    → sum_by f (all_held (pushed (without_front content q) to front.0 (as_running front.1))) ≡ sum_by f (all_held content)
+sum-taken : (f : Slot → ℕ) → ((slot : Slot) → f (with_running_entry slot) ≡ f slot) → (content : Content) (q to : ℕ) (front : Slot) → q < length content → to < length content → slice_get (chain content q) 0 ≡ Some front
+    → sum_by f (all_held (after_push (without_front content q) to front.0 (as_running front.1))) ≡ sum_by f (all_held content)
 sum-taken f alike content q to front qin toin h = go (chain content q) refl h
   where
-    go : (l : List Slot) → chain content q ≡ l → slice_get l 0 ≡ Some front → sum_by f (all_held (pushed (without_front content q) to front.0 (as_running front.1))) ≡ sum_by f (all_held content)
+    go : (l : List Slot) → chain content q ≡ l → slice_get l 0 ≡ Some front → sum_by f (all_held (after_push (without_front content q) to front.0 (as_running front.1))) ≡ sum_by f (all_held content)
     go [] e h = absurd cc
     go (x ∷ rest) e h =
         let is : x ≡ front = cc in
@@ -179,7 +179,7 @@ sum-taken f alike content q to front qin toin h = go (chain content q) refl h
         omega (arith, less, more, ran, weight)
 
 -- an aborted scope
-aborted-flow : (caps : Caps) (number : ℕ) (scope : Scope) (w w' : Work) → UsesOnce caps w → w'.content ≡ (aborted number scope w).content → w'.fates ≡ (aborted number scope w).fates → next_of w' ≡ next_of w → IsFlow caps w w'
+aborted-flow : (caps : Caps) (number : ℕ) (scope : Scope) (w w' : Work) → UsesOnce caps w → w'.content ≡ (after_abort number scope w).content → w'.fates ≡ (after_abort number scope w).fates → next_of w' ≡ next_of w → IsFlow caps w w'
 aborted-flow caps number scope w w' once content fates next =
     let test : Slot → Bool = λ slot. is_in_scope scope slot.1 in
     left caps w w' _ (filter test (all_held w.content)) once
@@ -200,25 +200,25 @@ running-slot w e ticket slot h =
 
 pub flow-change : (caps : Caps) (s s' : State) → HasShape caps s.work → CellsOnce caps s.work → Change s s' → IsFlow caps s.work s'.work
 flow-change caps s s' h once c =
-    let uses = uses-once caps s.work once in
+    let use_count = uses-once caps s.work once in
     by_effect (IsFlow caps s.work) s s' c
-    (λ e. unmoved caps s.work s'.work uses e.content e.fates e.names)
+    (λ e. unmoved caps s.work s'.work use_count e.content e.fates e.names)
     (λ c.
     let inside = queue_list-in caps s.work c.queue h (on-queue caps s.work c.queue h c.on) in
-    (entered caps s.work _ _ uses (λ f. sum-pushed f s.work.content c.queue _ _ inside) refl refl refl (free-caps caps s.work c.cell h c.free)))
+    (entered caps s.work _ _ use_count (λ f. sum-pushed f s.work.content c.queue _ _ inside) refl refl refl (free-caps caps s.work c.cell h c.free)))
     (λ c.
     let tests = (and_parts _ _ c.qualifies).0 in
     let engine = progress_list-in caps s.work c.engine h (below-engines caps s.work c.engine h (and_parts _ _ tests).0) in
     let queue = queue_list-in caps s.work c.queue h (let i = ltb-true c.queue s.work.setup.caps.queues (and_parts _ _ tests).1 in let e = queues-same h in omega (arith, i, e)) in
-    (still caps s.work _ uses (λ f alike. sum-taken f alike s.work.content c.queue (progress_list s.work.setup c.engine) c.front queue engine c.is_front) refl refl))
+    (still caps s.work _ use_count (λ f alike. sum-taken f alike s.work.content c.queue (progress_list s.work.setup c.engine) c.front queue engine c.is_front) refl refl))
     (λ c.
     let inside = member_list-in caps s.work c.engine h (note-engine caps s.work c.engine c.note h c.is_note) in
-    (entered caps s.work _ _ uses (λ f. sum-pushed f s.work.content (member_list s.work.setup c.engine) _ _ inside) refl refl refl (free-caps caps s.work c.cell h c.free)))
+    (entered caps s.work _ _ use_count (λ f. sum-pushed f s.work.content (member_list s.work.setup c.engine) _ _ inside) refl refl refl (free-caps caps s.work c.cell h c.free)))
     (λ c.
     let e = waiting-engine s.work c.engine c.slot c.is_first in
     let inside = member_list-in caps s.work c.engine h (below-engines caps s.work c.engine h e) in
     let is = waiting-members s.work c.engine c.slot c.is_first in
-    (still caps s.work _ uses (λ f alike.
+    (still caps s.work _ use_count (λ f alike.
     let all = sum-set f s.work.content (member_list s.work.setup c.engine) (with_first_run (members s.work c.engine)) inside in
     let ran = sum-first_run f alike (members s.work c.engine) in
     let old = ap (λ (xs : List Slot). sum_by f xs) is in
@@ -227,19 +227,19 @@ flow-change caps s s' h once c =
     let e = waiting-engine s.work c.engine c.slot c.is_first in
     let inside = member_list-in caps s.work c.engine h (below-engines caps s.work c.engine h e) in
     let is = waiting-members s.work c.engine c.slot c.is_first in
-    (left caps s.work _ Abandoned (members s.work c.engine) uses (λ f.
+    (left caps s.work _ Abandoned (members s.work c.engine) use_count (λ f.
     let all = sum-set f s.work.content (member_list s.work.setup c.engine) [] inside in
     let old = ap (λ (xs : List Slot). sum_by f xs) is in
     omega (arith, all, old)) refl refl))
     (λ c.
     let inside = running-slot s.work c.engine c.ticket c.slot c.is_found in
     let one : count_by (is_cell c.slot.0) (all_held s.work.content) ≤ 1 = let a = once.once c.slot.0 in let u = uses-counted s.work.content c.slot.0 in omega (arith, a, u) in
-    (left caps s.work _ _ (c.slot ∷ []) uses (λ f.
+    (left caps s.work _ _ (c.slot ∷ []) use_count (λ f.
     let all = sum-without f (is_cell c.slot.0) c.slot (all_held s.work.content) one inside (eq-eqb c.slot.0.0 c.slot.0.0 refl) in
     let is = ap (λ (xs : List Slot). sum_by f xs) (all_held-filtered (λ slot. not (is_cell c.slot.0 slot)) s.work.content) in
     let single = sum_by-cons f c.slot [] in
     omega (arith, all, is, single)) refl refl))
-    (λ c. aborted-flow caps c.number c.scope s.work _ uses refl refl c.names)
+    (λ c. aborted-flow caps c.number c.scope s.work _ use_count refl refl c.names)
 
 -- ---- what follows
 

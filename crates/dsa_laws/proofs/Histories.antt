@@ -3,7 +3,7 @@ use Rattle.std.proofs.Common.{◌≡◌, ◌==◌, List, [], ◌∷◌, length, 
 use Rattle.std.specs.Prelude.{count_by}
 use Rattle.dsa_regs.specs.declared.Caps.{Caps}
 use Rattle.dsa_regs.specs.Caps.{list_count}
-use Rattle.dsa_store.specs.Content.{Slot, is_cell, uses}
+use Rattle.dsa_store.specs.Content.{Slot, is_cell, use_count}
 use Rattle.dsa_store.proofs.Sums.{uses-counted, held-counted}
 use Rattle.dsa_book.specs.declared.event.Step.{Step}
 use Rattle.dsa_book.specs.State.{State, opening}
@@ -67,7 +67,7 @@ well_formed-opening caps =
       order = of-lists_in_order caps (opening caps).work (shape-opening caps) (order-opening caps);
     }
   where
-    unused : (cell : Cell) → uses (opening caps).work.content cell ≡ 0
+    unused : (cell : Cell) → use_count (opening caps).work.content cell ≡ 0
     unused cell = uses-counted (replicate (list_count caps) []) cell ∙ ap (λ (xs : List Slot). count_by (is_cell cell) xs) (all_held-empty (list_count caps))
 
 -- what every change keeps, every history keeps

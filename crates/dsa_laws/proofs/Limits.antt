@@ -18,8 +18,8 @@ use Rattle.dsa_book.specs.declared.event.Portal.{Portal}
 use Rattle.dsa_book.specs.declared.event.Portal.TheVariants.{Limited, Unlimited}
 use Rattle.dsa_book.specs.State.{Work, State, opening, is_off, phase_at}
 use Rattle.dsa_book.specs.Submit.{limit_of}
-use Rattle.dsa_book.specs.Work.{run, progress_list, member_list, in_progress, may_take, front_of, qualifies, members, note_at}
-use Rattle.dsa_book.specs.Commands.{names}
+use Rattle.dsa_book.specs.Work.{with_running_entry, progress_list, member_list, in_progress, may_take, front_of, qualifies, members, note_at}
+use Rattle.dsa_book.specs.Commands.{is_among}
 use Rattle.dsa_laws.specs.Change.{Change}
 use Rattle.dsa_laws.proofs.Effects.{by_effect, by_setting, stopped-keeps, reset-config, reset-size}
 use Rattle.dsa_laws.proofs.Entries.{In-after}
@@ -152,7 +152,7 @@ lists-effect caps s s' shape setup h c = by_effect (λ w. ListsFit caps s.work.s
     let is : length (in_progress s.work e) ≡ length (chain s.work.content (progress_list s.work.setup e)) = ap (λ (t : Bool). length (cond t (chain s.work.content (progress_list s.work.setup e)) [])) engine in
     let front = without_front s.work.content c.queue in
     let there = size-without_front s.work.content c.queue (progress_list s.work.setup e) in
-    let more = length-append (chain front (progress_list s.work.setup e)) (run c.front ∷ []) in
+    let more = length-append (chain front (progress_list s.work.setup e)) (with_running_entry c.front ∷ []) in
     set-limits caps s.work.setup.configs front (progress_list s.work.setup e) _
     (shorter caps s.work.setup.configs s.work.content front h (size-without_front s.work.content c.queue))
     (λ i. absurd (omega (arith, i, a))) (λ i j. omega (arith, is, room, b, there, more)))
@@ -187,7 +187,7 @@ lists_fit-change caps s s' shape setup entries fit c = by_setting (λ setup. Lis
     let size = queues-same shape in
     resized (λ q i.
     ap (λ (c : QueueConfig). c.size) (reset-config s.work.setup qs q (omega (arith, i, size)))
-    ∙ reset-size (names qs q) (queue_at s.work.setup.configs q)))
+    ∙ reset-size (is_among qs q) (queue_at s.work.setup.configs q)))
     (λ c. record {
       queues = λ q i. ⊎_elim
           (λ (e : q ≡ c.queue).

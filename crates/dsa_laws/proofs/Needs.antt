@@ -9,7 +9,7 @@ use Rattle.dsa_regs.specs.Config.{queue_at, limits_of}
 use Rattle.dsa_desc.specs.Descriptor.{need}
 use Rattle.dsa_store.specs.Content.{Slot, Content, chain}
 use Rattle.dsa_book.specs.State.{Setup, Work, is_member, need_of, held_by}
-use Rattle.dsa_book.specs.Work.{in_progress, members, progress_list, member_list, used_on, run}
+use Rattle.dsa_book.specs.Work.{in_progress, members, progress_list, member_list, used_on, with_running_entry}
 use Rattle.dsa_laws.proofs.Covering.{cond-le}
 use Rattle.dsa_base.specs.Lists.{In}
 
@@ -24,7 +24,7 @@ unfolding weight
 weight-waiting setup slot h = ap (λ (b : Bool). cond b (need_of setup slot.1) 0) h
 
 -- it needs as much as it will once it runs
-pub weight-run : (setup : Setup) (slot : Slot) → weight setup (run slot) ≡ need_of setup slot.1
+pub weight-run : (setup : Setup) (slot : Slot) → weight setup (with_running_entry slot) ≡ need_of setup slot.1
 unfolding weight
 weight-run setup slot = refl
 

@@ -15,7 +15,7 @@ use Rattle.dsa_store.specs.Content.{Slot, chain}
 use Rattle.dsa_book.specs.declared.note.BatchNote.{BatchNote}
 use Rattle.dsa_book.specs.State.{Work, State, opening, is_off, is_member, phase_at, limits_at, is_batch_of, status_of}
 use Rattle.dsa_book.specs.Work.{note_at, opened_note, note_after, progress_list}
-use Rattle.dsa_book.specs.Commands.{kept_note, aborted}
+use Rattle.dsa_book.specs.Commands.{kept_note, after_abort}
 use Rattle.dsa_laws.specs.Change.{Change}
 use Rattle.dsa_laws.proofs.Effects.{by_effect}
 use Rattle.dsa_laws.specs.WellFormed.{HasShape, HasLawfulSetup, HasLawfulEntries, NoteFits, NotesFit}
@@ -71,7 +71,7 @@ fits-cond : (caps : Caps) (b : Bool) (x y : Option BatchNote) → (b ≡ true �
 fits-cond caps true x y p q = p refl
 fits-cond caps false x y p q = q
 
-aborted-fits : (caps : Caps) (number : ℕ) (scope : Scope) (w : Work) → NotesFit caps w → (j : ℕ) → NoteFits caps (get_or (aborted number scope w).notes j None)
+aborted-fits : (caps : Caps) (number : ℕ) (scope : Scope) (w : Work) → NotesFit caps w → (j : ℕ) → NoteFits caps (get_or (after_abort number scope w).notes j None)
 aborted-fits caps number scope w h j = ⊎_elim
     (λ t. subst (NoteFits caps) (sym (get_or-each f w.setup.caps.engines j None (ltb-true j w.setup.caps.engines t))) (fits-cond caps _ None (note_at w j) (λ t. tt) (h j)))
     (λ e. subst (NoteFits caps) (sym (get_or-past f w.setup.caps.engines j None (ltb-false j w.setup.caps.engines e))) tt)

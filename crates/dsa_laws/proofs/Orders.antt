@@ -5,7 +5,7 @@ use Rattle.dsa_regs.specs.declared.Caps.{Caps}
 use Rattle.dsa_regs.specs.Caps.{list_count}
 use Rattle.dsa_store.specs.Content.{Slot, Content, chain, without_front}
 use Rattle.dsa_book.specs.State.{Work, State, opening}
-use Rattle.dsa_book.specs.Work.{progress_list, member_list, members, run, with_first_run}
+use Rattle.dsa_book.specs.Work.{progress_list, member_list, members, with_running_entry, with_first_run}
 use Rattle.dsa_laws.specs.Change.{Change}
 use Rattle.dsa_laws.proofs.Effects.{by_effect}
 use Rattle.dsa_laws.specs.WellFormed.{HasShape, MembersInOrder, runs_first, none_runs}
@@ -60,7 +60,7 @@ pub first-first_run : (xs : List Slot) → runs_first xs ≡ true → runs_first
 first-first_run [] h = refl
 first-first_run (x ∷ xs) h = go x.1.running refl (first-first_run xs) h
   where
-    go : (r : Bool) → x.1.running ≡ r → (runs_first xs ≡ true → runs_first (with_first_run xs) ≡ true) → cond r (runs_first xs) (none_runs xs) ≡ true → runs_first (cond r (x ∷ with_first_run xs) (run x ∷ xs)) ≡ true
+    go : (r : Bool) → x.1.running ≡ r → (runs_first xs ≡ true → runs_first (with_first_run xs) ≡ true) → cond r (runs_first xs) (none_runs xs) ≡ true → runs_first (cond r (x ∷ with_first_run xs) (with_running_entry x ∷ xs)) ≡ true
     go true e more h = ap (λ (k : Bool). cond k (runs_first (with_first_run xs)) (none_runs (with_first_run xs))) e ∙ more h
     go false e more h = none-first xs h
 

@@ -16,7 +16,7 @@ use Rattle.dsa_store.specs.Content.{Slot, chain, without_front}
 use Rattle.dsa_book.specs.declared.note.BatchNote.{BatchNote}
 use Rattle.dsa_book.specs.State.{Setup, Work, State, opening, is_on, phase_at}
 use Rattle.dsa_book.specs.Work.{progress_list, member_list, in_progress, members, note_at, first_waiting}
-use Rattle.dsa_book.specs.Commands.{stopped}
+use Rattle.dsa_book.specs.Commands.{after_stop}
 use Rattle.dsa_laws.specs.Change.{Change}
 use Rattle.dsa_laws.proofs.Effects.{by_effect, by_setting, stopped-keeps}
 use Rattle.dsa_laws.specs.WellFormed.{HasShape}
@@ -39,7 +39,7 @@ length-cond_set false xs i x = refl
 
 stopped-phases : (deed : Deed) (scope : Scope) (phase : Phase) (setup : Setup) (n : ℕ) → setup.caps.queues ≡ n
     → length setup.phases ≡ n
-    → length (stopped deed scope phase setup).phases ≡ n
+    → length (after_stop deed scope phase setup).phases ≡ n
 stopped-phases Disable Device phase setup n q h = length-each _ setup.caps.queues ∙ q
 stopped-phases Disable scope phase setup n q h = length-each _ setup.caps.queues ∙ q
 stopped-phases _ scope phase setup n q h = h
@@ -82,7 +82,7 @@ shape-change caps s s' h c = record {
         (λ c. (refl, (length-map w.content _, length-set w.notes c.engine _)))
         (λ c. (c.caps, (length-map w.content _, length-each _ w.setup.caps.engines ∙ engines-same h ∙ sym h.notes)))
 
-    waits : (deed : Deed) (scope : Scope) (phase : Phase) → HasTables caps (stopped deed scope phase w.setup)
+    waits : (deed : Deed) (scope : Scope) (phase : Phase) → HasTables caps (after_stop deed scope phase w.setup)
     waits deed scope phase =
         let stop = stopped-keeps deed scope phase w.setup in (
           ap length stop.configs ∙ h.configs,

@@ -2,7 +2,7 @@
 use Rattle.std.specs.Prelude.{◌≡◌, ℕ, ◌<◌, ◌≤◌, false}
 use Rattle.dsa_regs.specs.declared.Caps.{Caps}
 use Rattle.dsa_regs.specs.Config.{group_at}
-use Rattle.dsa_regs.specs.Buffers.{covered}
+use Rattle.dsa_regs.specs.Buffers.{covered_count}
 use Rattle.dsa_book.specs.State.{Work, is_off}
 use Rattle.dsa_book.specs.Work.{used, all_used}
 
@@ -11,4 +11,4 @@ pub record HasBuffers (caps : Caps) (w : Work) : Type 0 where
   -- what runs on a group's engines needs no more than the group is allowed
   pub allowed : is_off w.setup.device ≡ false → (group : ℕ) → group < caps.groups → used w group ≤ (group_at w.setup.groups group).allowed
   -- the device has as many as all groups use or have reserved, whichever is more in each
-  pub covered : is_off w.setup.device ≡ false → covered w.setup.groups (all_used w) ≤ caps.read_buffers
+  pub covered : is_off w.setup.device ≡ false → covered_count w.setup.groups (all_used w) ≤ caps.read_buffers

@@ -20,9 +20,9 @@ use Rattle.dsa_book.specs.declared.answer.NotedError.{NotedError}
 use Rattle.dsa_book.specs.declared.note.BatchNote.{BatchNote}
 use Rattle.dsa_book.specs.declared.note.ActiveCommand.{ActiveCommand}
 use Rattle.dsa_book.specs.State.{Setup, State, is_on, is_off, phase_at, has_queue, occupancy, need_of, is_batch_of, is_ticket}
-use Rattle.dsa_book.specs.Submit.{limit_of, accepted, is_movdir64b}
-use Rattle.dsa_book.specs.Work.{front_of, qualifies, taken, note_at, batch_on, is_all_fetched, fetched, first_waiting, has_room, started, abandoned, running_on, is_unfinished, ended, is_front, has_failed}
-use Rattle.dsa_book.specs.Commands.{holds, is_awaited, with_device, with_phases, stopped, may_come, aborted, reset, names, with_sizes_alone}
+use Rattle.dsa_book.specs.Submit.{limit_of, after_accept, is_movdir64b}
+use Rattle.dsa_book.specs.Work.{front_of, qualifies, after_take, note_at, batch_on, is_all_fetched, after_fetch, first_waiting, has_room, after_start, after_abandon, running_on, is_unfinished, after_end, is_front, has_failed}
+use Rattle.dsa_book.specs.Commands.{holds_any, is_awaited, with_device, with_phases, after_stop, may_come, after_abort, reset, is_among, with_sizes_alone}
 use Rattle.dsa_book.specs.Machine.{with_work, with_intake, with_setup, intake_of}
 use Rattle.dsa_desc.specs.Descriptor.{is_fenced}
 use Rattle.std.specs.Bool.{beq}
@@ -40,7 +40,7 @@ pub record IsAccepted (s s' : State) : Type 0 where
   pub of_kind : beq (is_movdir64b kind) (queue_at s.work.setup.configs queue).dedicated ≡ true
   pub below : nat_le (limit_of (queue_at s.work.setup.configs queue) portal) (occupancy s.work.content queue) ≡ false
   pub free : is_free (cell_count s.work.setup.caps) s.work.content cell ≡ true
-  pub after : with_intake s (accepted (intake_of s) queue kind desc cell).1 ≡ s'
+  pub after : with_intake s (after_accept (intake_of s) queue kind desc cell).1 ≡ s'
 
 -- an engine takes the front of a queue for which it qualifies (Intel DSA: any engine of a group takes from any work queue of the group; when it qualifies is the profile's)
 pub record IsTaken (s s' : State) : Type 0 where
@@ -49,7 +49,7 @@ pub record IsTaken (s s' : State) : Type 0 where
   pub front : Slot
   pub is_front : front_of s.work queue ≡ Some front
   pub qualifies : qualifies s.work engine queue ≡ true
-  pub after : with_work s (taken s.work engine queue front) ≡ s'
+  pub after : with_work s (after_take s.work engine queue front) ≡ s'
 
 -- an engine fetches the next member of its batch, with a free cell (profile)
 pub record IsFetched (s s' : State) : Type 0 where
@@ -62,7 +62,7 @@ pub record IsFetched (s s' : State) : Type 0 where
   pub is_batch : batch_on s.work engine note ≡ Some batch
   pub more : is_all_fetched note ≡ false
   pub free : is_free (cell_count s.work.setup.caps) s.work.content cell ≡ true
-  pub after : with_work s (fetched s.work engine desc cell note batch.1).1 ≡ s'
+  pub after : with_work s (after_fetch s.work engine desc cell note batch.1).1 ≡ s'
 
 -- the first member that waits begins to run: its read buffers fit, and with a fence it stands before all others and none has failed (Intel DSA: fence; the read buffers are the profile's)
 pub record IsStarted (s s' : State) : Type 0 where
@@ -72,7 +72,7 @@ pub record IsStarted (s s' : State) : Type 0 where
   pub first_of_all : (is_fenced slot.1.desc && not (is_front s.work engine slot)) ≡ false
   pub unfailed : (is_fenced slot.1.desc && has_failed s.work engine) ≡ false
   pub room : has_room s.work engine (need_of s.work.setup slot.1) ≡ true
-  pub after : with_work s (started s.work engine) ≡ s'
+  pub after : with_work s (after_start s.work engine) ≡ s'
 
 -- the members behind a fence are abandoned, since one before it failed (Intel DSA: fence)
 pub record IsAbandoned (s s' : State) : Type 0 where
@@ -80,7 +80,7 @@ pub record IsAbandoned (s s' : State) : Type 0 where
   pub slot : Slot
   pub is_first : first_waiting s.work engine ≡ Some slot
   pub failed : (is_fenced slot.1.desc && has_failed s.work engine) ≡ true
-  pub after : with_work s (abandoned s.work engine) ≡ s'
+  pub after : with_work s (after_abandon s.work engine) ≡ s'
 
 -- an entry that runs ends, a batch after its members (profile)
 pub record IsEnded (s s' : State) : Type 0 where
@@ -90,7 +90,7 @@ pub record IsEnded (s s' : State) : Type 0 where
   pub slot : Slot
   pub is_found : find (is_ticket ticket) (running_on s.work engine) ≡ Some slot
   pub ready : (is_batch_of s.work.setup slot.1 && is_unfinished s.work engine) ≡ false
-  pub after : with_work s (ended s.work engine slot outcome) ≡ s'
+  pub after : with_work s (after_end s.work engine slot outcome) ≡ s'
 
 -- ---- commands and configuration
 
@@ -117,33 +117,33 @@ pub record IsWaiting (s s' : State) : Type 0 where
   pub scope : Scope
   pub may : may_come s.work.setup deed scope ≡ true
   pub active : Option ActiveCommand
-  pub after : set_up s active (stopped deed scope Stopping s.work.setup) ≡ s'
+  pub after : set_up s active (after_stop deed scope Stopping s.work.setup) ≡ s'
 
 -- a disable or a drain is over: what it disables is Off (profile)
 pub record IsOver (s s' : State) : Type 0 where
   pub deed : Deed
   pub scope : Scope
   pub mark : ℕ
-  pub over : not (holds (is_awaited deed scope mark) s.work.content) ≡ true
+  pub over : not (holds_any (is_awaited deed scope mark) s.work.content) ≡ true
   pub active : Option ActiveCommand
-  pub after : set_up s active (stopped deed scope Off s.work.setup) ≡ s'
+  pub after : set_up s active (after_stop deed scope Off s.work.setup) ≡ s'
 
 -- the entries in the scope of a command are aborted (profile)
 pub record IsAborted (s s' : State) : Type 0 where
   pub number : ℕ
   pub scope : Scope
-  pub after : with_work s (aborted number scope s.work) ≡ s'
+  pub after : with_work s (after_abort number scope s.work) ≡ s'
 
 -- all entries are aborted and the set-up is as at first, but for the names that were given (profile)
 pub record IsDeviceReset (s s' : State) : Type 0 where
   pub number : ℕ
-  pub after : with_work s (record (aborted number Device s.work) { setup = reset Device s.work.setup }) ≡ s'
+  pub after : with_work s (record (after_abort number Device s.work) { setup = reset Device s.work.setup }) ≡ s'
 
 -- the entries of the queues are aborted, and the queues are Off with their sizes alone (profile)
 pub record IsQueuesReset (s s' : State) : Type 0 where
   pub number : ℕ
   pub scope : Scope
-  pub after : with_work s (record (aborted number scope s.work) { setup = with_sizes_alone (queues_in scope) (with_phases (names (queues_in scope)) Off s.work.setup) }) ≡ s'
+  pub after : with_work s (record (after_abort number scope s.work) { setup = with_sizes_alone (queues_in scope) (with_phases (is_among (queues_in scope)) Off s.work.setup) }) ≡ s'
 
 -- a queue that is Off is configured, its size only while the device is Off (profile)
 pub record IsQueueWritten (s s' : State) : Type 0 where

@@ -5,7 +5,7 @@ use Rattle.dsa_regs.specs.declared.Caps.{Caps}
 use Rattle.dsa_regs.specs.Caps.{cell_count, first_members, list_count}
 use Rattle.dsa_regs.specs.Config.{queue_at, check_device, check_queue}
 use Rattle.dsa_store.specs.declared.entry.Cell.{Cell}
-use Rattle.dsa_store.specs.Content.{Slot, uses, held, all_held}
+use Rattle.dsa_store.specs.Content.{Slot, use_count, held_count, all_held}
 use Rattle.dsa_book.specs.declared.note.BatchNote.{BatchNote}
 use Rattle.dsa_book.specs.State.{Setup, Work, State, phase_at, is_on, is_off, occupancy}
 use Rattle.dsa_book.specs.Work.{in_progress, members, note_at}
@@ -26,8 +26,8 @@ pub record HasShape (caps : Caps) (w : Work) : Type 0 where
 
 -- no cell stands twice in the lists, and only cells of the store stand there (profile)
 pub record CellsOnce (caps : Caps) (w : Work) : Type 0 where
-  pub once : (cell : Cell) → uses w.content cell ≤ 1
-  pub inside : (cell : Cell) → cell_count caps ≤ cell.0 → uses w.content cell ≡ 0
+  pub once : (cell : Cell) → use_count w.content cell ≤ 1
+  pub inside : (cell : Cell) → cell_count caps ≤ cell.0 → use_count w.content cell ≡ 0
 
 -- how many held entries have the name (profile)
 abbrev pub held_named : Work → ℕ → ℕ
@@ -41,7 +41,7 @@ fates_named w name = count_by (λ row. row.name == name) w.fates
 pub record NamesOnce (w : Work) : Type 0 where
   pub given : (name : ℕ) → name < w.setup.next_name → held_named w name + fates_named w name ≡ 1
   pub not_given : (name : ℕ) → w.setup.next_name ≤ name → held_named w name + fates_named w name ≡ 0
-  pub counted : held w.content + length w.fates ≡ w.setup.next_name
+  pub counted : held_count w.content + length w.fates ≡ w.setup.next_name
 
 -- ---- the device and its queues
 

@@ -5,12 +5,12 @@ use Rattle.std.proofs.lemmas.List.{length-replicate}
 use Rattle.std.proofs.lemmas.List.Folds.{sum_by-replicate}
 use Rattle.dsa_regs.specs.declared.Caps.{Caps}
 use Rattle.dsa_regs.specs.Caps.{check_caps, cell_count, list_count}
-use Rattle.dsa_store.specs.Content.{Slot, Content, held}
+use Rattle.dsa_store.specs.Content.{Slot, Content, held_count}
 use Rattle.dsa_device.specs.Made.{is_store_of, fault_or_memory}
 use Rattle.dsa_machine.specs.Opening.{opening_fault}
 
-nothing_held : (lists : ℕ) → held (replicate lists []) ≡ 0
-unfolding held
+nothing_held : (lists : ℕ) → held_count (replicate lists []) ≡ 0
+unfolding held_count
 nothing_held lists = let sum = sum_by-replicate {X = List Slot} length lists [] in omega (arith, sum)
 
 new_store : (caps : Caps) (cells : ℕ) (content : Content) → content ≡ replicate (list_count caps) [] → cells ≡ cell_count caps → is_store_of caps cells content ≡ true

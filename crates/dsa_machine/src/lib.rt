@@ -3,7 +3,7 @@
 
 ghost use Rattle.std.specs.Prelude.{◌≡◌, None, IfOk, IfErr};
 ghost use Rattle.dsa_base.specs.Rows.{first_row};
-ghost use Rattle.dsa_device.specs.Running.{opened};
+ghost use Rattle.dsa_device.specs.Running.{running_at_first};
 ghost use Rattle.dsa_machine.specs.Opening.{opening_table, opening_fault};
 
 use dsa_cells::LinkedStore;
@@ -24,7 +24,7 @@ impl Machine {
     /// A device that is `Off`, with nothing configured and nothing held. The fault is the first that stands; want of memory
     /// comes where none does.
     pub fn new(alloc: Global, caps: Caps, capacity: u64) -> Result<Machine, MakeFault>
-        ensures opened { IfOk result (λ machine. machine.device ≡ opened caps capacity) }
+        ensures opened { IfOk result (λ machine. machine.device ≡ running_at_first caps capacity) }
         ensures no_fault { IfOk result (λ machine. first_row (opening_table caps capacity) ≡ None) }
         ensures fault { IfErr result (λ fault. fault ≡ opening_fault caps capacity) }
     {

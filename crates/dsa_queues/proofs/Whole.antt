@@ -9,7 +9,7 @@ use Rattle.dsa_regs.specs.declared.Scope.TheVariants.{Device}
 use Rattle.dsa_regs.specs.Command.{queues_in}
 use Rattle.dsa_regs.specs.Config.{queue_at, zero_group, zero_queue}
 use Rattle.dsa_book.specs.State.{Setup, phase_at}
-use Rattle.dsa_book.specs.Commands.{names, reset, size_alone, with_phases}
+use Rattle.dsa_book.specs.Commands.{is_among, reset, size_alone, with_phases}
 use Rattle.dsa_queues.specs.Queues.{IsWhole}
 
 -- phases that some queues come to
@@ -33,7 +33,7 @@ whole-reset scope setup w =
     let queues = queues_in scope in
     record {
       lawful = w.lawful;
-      configs = length-each (λ q. cond (names queues q) (size_alone (queue_at setup.configs q)) (queue_at setup.configs q)) setup.caps.queues;
-      phases = (whole-phases (names queues) Off setup w).phases;
+      configs = length-each (λ q. cond (is_among queues q) (size_alone (queue_at setup.configs q)) (queue_at setup.configs q)) setup.caps.queues;
+      phases = (whole-phases (is_among queues) Off setup w).phases;
       groups = w.groups;
     }

@@ -3,7 +3,7 @@
 ghost use Rattle.std.specs.Prelude.{◌≡◌, not};
 ghost use Rattle.dsa_regs.specs.Command.{queues_in};
 ghost use Rattle.dsa_book.specs.State.{phase_at, is_off};
-ghost use Rattle.dsa_book.specs.Commands.{names, with_phases, with_sizes_alone};
+ghost use Rattle.dsa_book.specs.Commands.{is_among, with_phases, with_sizes_alone};
 
 use crate::Queues;
 use dsa_regs::{Phase, QueueConfig, Scope};
@@ -11,7 +11,7 @@ use dsa_regs::{Phase, QueueConfig, Scope};
 impl Queues {
     /// Gives the named queues this phase. A number that no queue has names nothing.
     pub fn set_phases(&mut self, named: &Scope, phase: Phase)
-        ensures { self.new ≡ with_phases (names (queues_in named.now)) phase self.old }
+        ensures { self.new ≡ with_phases (is_among (queues_in named.now)) phase self.old }
     {
         for queue in 0..self.caps().queues {
             if named.contains(queue) {

@@ -6,7 +6,7 @@ ghost use Rattle.dsa_regs.specs.declared.Scope.TheVariants.{Device};
 ghost use Rattle.dsa_base.specs.Numbers.{has};
 ghost use Rattle.dsa_regs.specs.Config.{queue_at, group_at};
 ghost use Rattle.dsa_book.specs.State.{Setup, opening_setup, phase_at, is_off, has_queue, limits_at, need_of, held_by, status_of, is_batch_of};
-ghost use Rattle.dsa_book.specs.Submit.{noted_more};
+ghost use Rattle.dsa_book.specs.Submit.{next_noted};
 ghost use Rattle.dsa_book.specs.Commands.{clear, reset, with_device, with_phases};
 ghost use Rattle.dsa_queues.specs.Queues.{IsWhole};
 
@@ -43,7 +43,7 @@ impl Model for Queues {
 
 // The noted error after one more descriptor was dropped.
 fn noted_more(noted: Option<NotedError>, queue: u16, cause: Cause) -> NotedError
-    ensures { result ≡ noted_more noted queue cause }
+    ensures { result ≡ next_noted noted queue cause }
 {
     match noted {
         Some(first) => NotedError {
@@ -245,7 +245,7 @@ impl Queues {
 
     /// Notes that a descriptor was dropped: queue and cause where no error is noted, else the overflow mark alone.
     pub fn note_error(&mut self, queue: u16, cause: Cause)
-        ensures { self.new ≡ record self.old { noted = Some (noted_more self.old.noted queue cause) } }
+        ensures { self.new ≡ record self.old { noted = Some (next_noted self.old.noted queue cause) } }
     {
         self.noted = Some(noted_more(self.noted, queue, cause));
     }

@@ -4,11 +4,11 @@ ghost use Rattle.std.specs.Prelude.{◌≡◌, ◌+◌, ◌<◌, ◌^◌, true};
 ghost use Rattle.dsa_base.specs.Rows.{when};
 ghost use Rattle.dsa_desc.specs.Descriptor.{with_pasid};
 ghost use Rattle.dsa_regs.specs.Config.{queue_at};
-ghost use Rattle.dsa_store.specs.Content.{Content, held};
+ghost use Rattle.dsa_store.specs.Content.{Content, held_count};
 ghost use Rattle.dsa_book.specs.State.{occupancy, has_queue};
-ghost use Rattle.dsa_book.specs.Submit.{submit, turned_away, limit_of, pasid_by, is_movdir64b};
+ghost use Rattle.dsa_book.specs.Submit.{submit, after_refusal, limit_of, pasid_by, is_movdir64b};
 ghost use Rattle.dsa_book.specs.declared.answer.Reply.TheVariants as reply;
-ghost use Rattle.dsa_book.specs.Choice.{chosen, nothing, cell_of, may_enter};
+ghost use Rattle.dsa_book.specs.Choice.{choice_of, nothing, cell_of, may_enter};
 ghost use Rattle.dsa_queues.specs.Queues.{IsStoreFor, intake, is_accepting};
 
 use crate::Queues;
@@ -46,8 +46,8 @@ fn pasid_by(kind: Kind, config: &QueueConfig) -> u32
 impl Queues {
     // ENQCMD is told to come again, MOVDIR64B leaves a noted error.
     fn turned_away(&mut self, queue: u16, kind: Kind, cause: Cause) -> SubmitAnswer
-        ensures answer { (content : Content) → turned_away (intake self.old content) queue kind cause ≡ (result, intake self.new content) }
-        ensures no_cell { chosen (reply.Submit result) ≡ nothing }
+        ensures answer { (content : Content) → after_refusal (intake self.old content) queue kind cause ≡ (result, intake self.new content) }
+        ensures no_cell { choice_of (reply.Submit result) ≡ nothing }
     {
         match kind {
             Kind::Enqcmd { .. } => SubmitAnswer::Retry(cause),
@@ -73,11 +73,11 @@ impl Queues {
         desc: Descriptor,
     ) -> SubmitAnswer
         requires store { IsStoreFor self.old.caps (S.cells store.old) (S.content store.old) }
-        requires room { is_accepting (intake self.old (S.content store.old)) queue portal kind ≡ true → held (S.content store.old) < S.cells store.old }
+        requires room { is_accepting (intake self.old (S.content store.old)) queue portal kind ≡ true → held_count (S.content store.old) < S.cells store.old }
         requires names { is_accepting (intake self.old (S.content store.old)) queue portal kind ≡ true → self.old.next_name + 1 < 2 ^ 32 }
-        ensures answer { submit (intake self.old (S.content store.old)) queue portal kind desc (cell_of (chosen (reply.Submit result)))
+        ensures answer { submit (intake self.old (S.content store.old)) queue portal kind desc (cell_of (choice_of (reply.Submit result)))
             ≡ (result, intake self.new (S.content store.new)) }
-        ensures free { may_enter self.old (S.content store.old) (chosen (reply.Submit result)) ≡ true }
+        ensures free { may_enter self.old (S.content store.old) (choice_of (reply.Submit result)) ≡ true }
         ensures store { IsStoreFor self.new.caps (S.cells store.new) (S.content store.new) }
     {
         if self.phase(queue) != Phase::On {

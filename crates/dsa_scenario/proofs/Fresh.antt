@@ -5,12 +5,12 @@ use Rattle.std.proofs.lemmas.List.{length-replicate}
 use Rattle.std.proofs.lemmas.List.Folds.{sum_by-replicate}
 use Rattle.dsa_regs.specs.declared.Caps.{Caps}
 use Rattle.dsa_regs.specs.Caps.{check_caps, cell_count, list_count}
-use Rattle.dsa_store.specs.Content.{Slot, Content, held}
+use Rattle.dsa_store.specs.Content.{Slot, Content, held_count}
 use Rattle.dsa_device.specs.Made.{is_store_of, make_fault}
 
 -- empty lists hold nothing
-held-replicate : (n : ℕ) → held (replicate n []) ≡ 0
-unfolding held
+held-replicate : (n : ℕ) → held_count (replicate n []) ≡ 0
+unfolding held_count
 held-replicate n = let e = sum_by-replicate {X = List Slot} length n [] in omega (arith, e)
 
 -- empty lists and cells in their numbers

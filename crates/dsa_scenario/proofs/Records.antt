@@ -6,7 +6,7 @@ use Rattle.dsa_regs.specs.declared.Fault.{Fault}
 use Rattle.dsa_book.specs.declared.answer.Reply.{Reply}
 use Rattle.dsa_book.specs.declared.event.Event.{Event}
 use Rattle.dsa_book.specs.declared.event.Step.{Step}
-use Rattle.dsa_device.specs.Running.{Running, answered, IsReplay}
+use Rattle.dsa_device.specs.Running.{Running, after_answer, IsReplay}
 use Rattle.dsa_device.specs.Runs.{IsRunOf}
 use Rattle.dsa_device.proofs.Runs.{answered_all, answered_all-push, IsRunOf-leads}
 use Rattle.dsa_scenario.specs.declared.actions.Action.{Action}
@@ -47,7 +47,7 @@ more first now new actions i d records grown entry inside h asked leads is =
 pub Runs-stepped : (first now new : Running) (actions : List Action) (i : ℕ) (d : Action) (records grown : List Record)
     (entry : Record) (e : Event) (r : Reply) → i < length actions → Runs first now (take i actions) records
     → Ok e ≡ event_of records (get_or actions i d) → entry ≡ Stepped (record { event = e; reply = r })
-    → answered now e r ≡ Some new → grown ≡ records ++ entry ∷ []
+    → after_answer now e r ≡ Some new → grown ≡ records ++ entry ∷ []
     → Runs first new (take (i + 1) actions) grown
 Runs-stepped first now new actions i d records grown entry e r inside h asked made says is =
     more first now new actions i d records grown entry inside h (ap answered_by made ∙ asked)

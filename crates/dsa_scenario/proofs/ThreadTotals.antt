@@ -5,7 +5,7 @@ use Rattle.std.specs.Option.{option_map_or}
 use Rattle.std.proofs.lemmas.List.Sums.{sum_by-le}
 use Rattle.std.proofs.lemmas.List.{length-append}
 use Rattle.dsa_regs.specs.declared.Caps.{Caps}
-use Rattle.dsa_store.specs.Content.{held}
+use Rattle.dsa_store.specs.Content.{held_count}
 use Rattle.dsa_book.specs.declared.event.Event.{Event}
 use Rattle.dsa_book.specs.declared.event.Step.{Step}
 use Rattle.dsa_book.specs.declared.event.Actor.TheVariants.{Client, Engine, Admin}
@@ -143,7 +143,7 @@ have_worked load scripts old new old-engines new-engines admin new-admin setup s
 pub totals_of-worked : (load : Workload) (t : Totals) (d : Running) (clients engines : List SeatLog)
     (admin : Option (List Step)) → HaveWorked load clients engines admin → d.caps ≡ caps_for load.engines → IsReplay d
     → Match d.history clients engines admin
-    → t ≡ totals_of d.history (held d.state.work.content) → AreSums t clients engines admin → Balance t d.state.work
+    → t ≡ totals_of d.history (held_count d.state.work.content) → AreSums t clients engines admin → Balance t d.state.work
     → AreTotalsOf load t
 totals_of-worked load t d clients engines admin w caps whole match counted sums balance =
     let receipts : receipts_in admin ≡ steps_of d.history Admin = ap (λ a. receipts_in a) match.admin_receipts in

@@ -8,7 +8,7 @@ use Rattle.dsa_regs.specs.declared.Caps.{Caps}
 use Rattle.dsa_regs.specs.declared.QueueConfig.{QueueConfig}
 use Rattle.dsa_regs.specs.declared.GroupConfig.{GroupConfig}
 use Rattle.dsa_regs.specs.declared.Command.TheVariants.{EnableDevice, EnableWq}
-use Rattle.dsa_store.specs.Content.{held}
+use Rattle.dsa_store.specs.Content.{held_count}
 use Rattle.dsa_book.specs.declared.answer.Reply.{Reply}
 use Rattle.dsa_book.specs.declared.event.Actor.TheVariants.{Client, Admin}
 use Rattle.dsa_book.specs.declared.event.Event.{Event}
@@ -144,7 +144,7 @@ totals_text t =
     ++ total_line (codes "retried") t.retried
     ++ total_line (codes "done") t.done
     ++ total_line (codes "lost") t.lost
-    ++ total_line (codes "held") t.held
+    ++ total_line (codes "held_count") t.held
     ++ line_of (codes "balanced")
 
 -- the totals are those of a history of the device that is set up and to which each client submits
@@ -157,6 +157,6 @@ pub record AreTotalsOf (load : Workload) (totals : Totals) : Type 0 where
   pub within : length history ≤ capacity_for load
   pub setup : Follows (setup_events load.engines) [] (steps_of history Admin)
   pub submitted : (c : ℕ) → c < load.clients → All (λ step. step.event ≡ submission_of c) (steps_of history (Client c))
-  pub counted : totals ≡ totals_of history (held last.work.content)
+  pub counted : totals ≡ totals_of history (held_count last.work.content)
   pub balanced : totals.accepted + totals.fetched ≡ totals.done + totals.lost + totals.held
   pub accepted : totals.accepted ≤ load.clients * load.each

@@ -4,7 +4,7 @@ ghost use Rattle.std.specs.Prelude.{◌≡◌, ◌≢◌, ◌≤◌, ◌<◌, �
 ghost use Rattle.std.specs.Io.KnownBytes.{Appends, Keeps};
 ghost use Rattle.dsa_shared.specs.declared.settle.Totals.{Totals};
 ghost use Rattle.dsa_shared.specs.Seat.{AllFresh};
-ghost use Rattle.dsa_device.specs.Running.{opened};
+ghost use Rattle.dsa_device.specs.Running.{running_at_first};
 ghost use Rattle.dsa_scenario.specs.Threads.{IsInRange, AreTotalsOf, AreScriptsOf, HaveWorked, IsClientScript, Submits, Follows, caps_for, capacity_for, setup_events, engine_script, totals_text};
 
 use crate::options::Workload;
@@ -202,7 +202,7 @@ fn run_shared<S: EntryStore + Send, L: Sharing + Send + Sync, R: Threads + Wait 
     load: &Workload,
 ) -> Result<Totals, ThreadsFault>
     requires load { IsInRange load.now }
-    requires device { device ≡ opened (caps_for load.now.engines) (capacity_for load.now) }
+    requires device { device ≡ running_at_first (caps_for load.now.engines) (capacity_for load.now) }
     requires blanks { (blanks ≡ L.name) × (L.parts ≡ 129) }
     requires sharing { (L.caps ≡ device.caps) × (L.capacity ≡ device.capacity) × (L.clients ≡ load.now.clients) }
     ensures ok { IfOk result (AreTotalsOf load.now) }

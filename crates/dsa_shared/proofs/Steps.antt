@@ -4,12 +4,12 @@ use Rattle.std.proofs.lemmas.List.{length_push, drop_at, drop_all, append-nil}
 use Rattle.dsa_book.specs.declared.answer.Reply.{Reply}
 use Rattle.dsa_book.specs.declared.event.Event.{Event}
 use Rattle.dsa_book.specs.declared.event.Step.{Step}
-use Rattle.dsa_book.specs.Machine.{is_stored, recorded}
-use Rattle.dsa_device.specs.Running.{Running, answered}
+use Rattle.dsa_book.specs.Machine.{is_stored, history_after}
+use Rattle.dsa_device.specs.Running.{Running, after_answer}
 use Rattle.dsa_device.proofs.Steps.{grows}
 use Rattle.dsa_shared.specs.Seat.{SeatLog, with_step, noted}
 
-grown : (h t : List Step) (x : Step) → t ≡ recorded h x → (length h ≤ length t) × (length t ≤ length h + 1)
+grown : (h t : List Step) (x : Step) → t ≡ history_after h x → (length h ≤ length t) × (length t ≤ length h + 1)
 grown h t x s = let e = ap (λ (xs : List Step). length xs) s in go (is_stored x.reply) e
   where
     go : (b : Bool) → length t ≡ length (cond b (h ++ x ∷ []) h) → (length h ≤ length t) × (length t ≤ length h + 1)
@@ -17,7 +17,7 @@ grown h t x s = let e = ap (λ (xs : List Step). length xs) s in go (is_stored x
     go false e = (omega (arith, e), omega (arith, e))
 
 -- the history has grown by a step at most
-pub within : (h : List Step) (d t : Running) (e : Event) (r : Reply) → h ≡ d.history → answered d e r ≡ Some t
+pub within : (h : List Step) (d t : Running) (e : Event) (r : Reply) → h ≡ d.history → after_answer d e r ≡ Some t
     → (length h ≤ length t.history) × (length t.history ≤ length h + 1)
 within h d t e r same a =
     let P : List Step → Type 0 = λ xs. (length xs ≤ length t.history) × (length t.history ≤ length xs + 1) in
@@ -25,7 +25,7 @@ within h d t e r same a =
 
 -- what the history has gained follows on the receipts
 pub gained : (receipts : List Step) (h : List Step) (d t : Running) (e : Event) (r : Reply) → h ≡ d.history
-    → answered d e r ≡ Some t
+    → after_answer d e r ≡ Some t
     → receipts ++ drop (length h) t.history ≡ with_step receipts e r
 gained receipts h d t e r same a =
     (λ i. receipts ++ drop (length (same i)) ((grows d t e r a).history i)) ∙ go (is_stored r)

@@ -6,7 +6,7 @@ use Rattle.dsa_book.specs.declared.event.Step.{Step}
 use Rattle.dsa_book.specs.declared.event.Actor.{Actor}
 use Rattle.dsa_book.specs.declared.event.Actor.TheVariants.{Client, Engine}
 use Rattle.dsa_book.specs.declared.answer.Reply.{Reply}
-use Rattle.dsa_book.specs.Machine.{recorded}
+use Rattle.dsa_book.specs.Machine.{history_after}
 
 -- the steps that a seat has receipts of, and its parts of the ledger
 pub record Noted : Type 0 where
@@ -28,7 +28,7 @@ AllFresh n seats = (length seats ≡ n) × ((k : ℕ) (d : SeatLog) → k < n �
 
 -- the receipts after a step
 abbrev pub with_step : List Step → Event → Reply → List Step
-with_step receipts event reply = recorded receipts (record { event = event; reply = reply })
+with_step receipts event reply = history_after receipts (record { event = event; reply = reply })
 
 -- a seat after a step
 abbrev pub noted : SeatLog → Event → Reply → SeatLog

@@ -7,7 +7,7 @@ ghost use Rattle.std.specs.Prelude.{◌≡◌, ℕ, Some};
 ghost use Rattle.dsa_desc.specs.Descriptor.{read};
 ghost use Rattle.dsa_book.specs.declared.event.Event.TheVariants as event;
 ghost use Rattle.dsa_book.specs.declared.answer.Reply.TheVariants as reply;
-ghost use Rattle.dsa_device.specs.Running.{answered};
+ghost use Rattle.dsa_device.specs.Running.{after_answer};
 ghost use Rattle.dsa_shared.specs.Seat.{noted, with_step};
 
 mod checks;
@@ -58,7 +58,7 @@ pub fn submit<S: EntryStore, L: Sharing, A: Allocator>(
     kind: Kind,
     bytes: &[u8; 64],
 ) -> SubmitAnswer
-    ensures step { answered locked.old (event.Submit seat.old.number queue portal kind (read bytes.now))
+    ensures step { after_answer locked.old (event.Submit seat.old.number queue portal kind (read bytes.now))
         (reply.Submit result) ≡ Some locked.new }
     ensures receipts { seat.new ≡ noted seat.old (event.Submit seat.old.number queue portal kind (read bytes.now))
         (reply.Submit result) }
@@ -77,7 +77,7 @@ pub fn dispatch<S: EntryStore, L: Sharing, A: Allocator>(
     locked: &mut Locked<S, L>,
     seat: &mut EngineSeat<L, A>,
 ) -> DispatchAnswer
-    ensures step { answered locked.old (event.Dispatch seat.old.number) (reply.Dispatch result)
+    ensures step { after_answer locked.old (event.Dispatch seat.old.number) (reply.Dispatch result)
         ≡ Some locked.new }
     ensures receipts { seat.new ≡ noted seat.old (event.Dispatch seat.old.number)
         (reply.Dispatch result) }
@@ -97,7 +97,7 @@ pub fn fetch<S: EntryStore, L: Sharing, A: Allocator>(
     seat: &mut EngineSeat<L, A>,
     desc: Descriptor,
 ) -> FetchAnswer
-    ensures step { answered locked.old (event.Fetch seat.old.number desc) (reply.Fetch result)
+    ensures step { after_answer locked.old (event.Fetch seat.old.number desc) (reply.Fetch result)
         ≡ Some locked.new }
     ensures receipts { seat.new ≡ noted seat.old (event.Fetch seat.old.number desc)
         (reply.Fetch result) }
@@ -116,7 +116,7 @@ pub fn start<S: EntryStore, L: Sharing, A: Allocator>(
     locked: &mut Locked<S, L>,
     seat: &mut EngineSeat<L, A>,
 ) -> StartAnswer
-    ensures step { answered locked.old (event.Start seat.old.number) (reply.Start result)
+    ensures step { after_answer locked.old (event.Start seat.old.number) (reply.Start result)
         ≡ Some locked.new }
     ensures receipts { seat.new ≡ noted seat.old (event.Start seat.old.number) (reply.Start result) }
 {
@@ -136,7 +136,7 @@ pub fn finish<S: EntryStore, L: Sharing, A: Allocator>(
     ticket: Ticket,
     outcome: Outcome,
 ) -> FinishAnswer
-    ensures step { answered locked.old (event.Finish seat.old.number ticket outcome)
+    ensures step { after_answer locked.old (event.Finish seat.old.number ticket outcome)
         (reply.Finish result) ≡ Some locked.new }
     ensures receipts { seat.new ≡ noted seat.old (event.Finish seat.old.number ticket outcome)
         (reply.Finish result) }
@@ -156,7 +156,7 @@ pub fn issue<S: EntryStore, L: Sharing, A: Allocator>(
     seat: &mut AdminSeat<L, A>,
     command: Command,
 ) -> IssueAnswer
-    ensures step { answered locked.old (event.Issue command) (reply.Issue result) ≡ Some locked.new }
+    ensures step { after_answer locked.old (event.Issue command) (reply.Issue result) ≡ Some locked.new }
     ensures receipts { seat.new ≡ with_step seat.old (event.Issue command) (reply.Issue result) }
 {
     let Locked { device, book } = locked;
@@ -173,7 +173,7 @@ pub fn poll<S: EntryStore, L: Sharing, A: Allocator>(
     locked: &mut Locked<S, L>,
     seat: &mut AdminSeat<L, A>,
 ) -> PollAnswer
-    ensures step { answered locked.old event.Poll (reply.Poll result) ≡ Some locked.new }
+    ensures step { after_answer locked.old event.Poll (reply.Poll result) ≡ Some locked.new }
     ensures receipts { seat.new ≡ with_step seat.old event.Poll (reply.Poll result) }
 {
     let Locked { device, book } = locked;
@@ -192,7 +192,7 @@ pub fn write_queue<S: EntryStore, L: Sharing, A: Allocator>(
     queue: u16,
     config: QueueConfig,
 ) -> WriteAnswer
-    ensures step { answered locked.old (event.WriteQueue queue config) (reply.Write result)
+    ensures step { after_answer locked.old (event.WriteQueue queue config) (reply.Write result)
         ≡ Some locked.new }
     ensures receipts { seat.new ≡ with_step seat.old (event.WriteQueue queue config)
         (reply.Write result) }
@@ -213,7 +213,7 @@ pub fn write_group<S: EntryStore, L: Sharing, A: Allocator>(
     group: u16,
     config: GroupConfig,
 ) -> WriteAnswer
-    ensures step { answered locked.old (event.WriteGroup group config) (reply.Write result)
+    ensures step { after_answer locked.old (event.WriteGroup group config) (reply.Write result)
         ≡ Some locked.new }
     ensures receipts { seat.new ≡ with_step seat.old (event.WriteGroup group config)
         (reply.Write result) }
@@ -232,7 +232,7 @@ pub fn clear_error<S: EntryStore, L: Sharing, A: Allocator>(
     locked: &mut Locked<S, L>,
     seat: &mut AdminSeat<L, A>,
 ) -> ClearAnswer
-    ensures step { answered locked.old event.ClearError (reply.Clear result) ≡ Some locked.new }
+    ensures step { after_answer locked.old event.ClearError (reply.Clear result) ≡ Some locked.new }
     ensures receipts { seat.new ≡ with_step seat.old event.ClearError (reply.Clear result) }
 {
     let Locked { device, book } = locked;

@@ -1,7 +1,7 @@
 //! Settling: the seats are taken back, and the receipts of each are compared with the history.
 
 ghost use Rattle.std.specs.Prelude.{◌≡◌, ◌≢◌, ◌+◌, ◌↔◌, ◌≤◌, ◌^◌, true, IsSome, IfOk, OnOk, IfErr, length, sum_by};
-ghost use Rattle.dsa_store.specs.Content.{held};
+ghost use Rattle.dsa_store.specs.Content.{held_count};
 ghost use Rattle.dsa_laws.specs.WellFormed.{IsWellFormed};
 ghost use Rattle.dsa_accounts.specs.Accounts.{submitted_entries, member_entries, only_members_abandoned};
 ghost use Rattle.dsa_device.specs.Running.{IsReplay};
@@ -83,7 +83,7 @@ impl<S: EntryStore, L: Sharing> SharedDevice<S, L> {
         ensures complete { OnOk result (IsComplete seats.clients.items seats.engines.items
             seats.admin L.clients L.caps.engines) }
         ensures matched { IfOk result (λ s. Match s.device.history seats.clients.items seats.engines.items seats.admin) }
-        ensures totals { IfOk result (λ s. s.totals ≡ totals_of s.device.history (held s.device.state.work.content)) }
+        ensures totals { IfOk result (λ s. s.totals ≡ totals_of s.device.history (held_count s.device.state.work.content)) }
         ensures sums { IfOk result (λ s. AreSums s.totals seats.clients.items seats.engines.items
             seats.admin) }
         ensures balance { IfOk result (λ s. Balance s.totals s.device.state.work) }
@@ -129,7 +129,7 @@ fn finish<S: EntryStore, L: Sharing, A: Allocator>(
     ensures well_formed { IsWellFormed locked.caps locked.state }
     ensures caps { locked.caps ≡ L.caps }
     ensures capacity { locked.capacity ≡ L.capacity }
-    ensures totals { result.totals ≡ totals_of locked.history (held locked.state.work.content) }
+    ensures totals { result.totals ≡ totals_of locked.history (held_count locked.state.work.content) }
     ensures sums { AreSums result.totals seats.clients.items seats.engines.items seats.admin }
     ensures balance { Balance result.totals locked.state.work }
 {
@@ -142,7 +142,7 @@ fn finish<S: EntryStore, L: Sharing, A: Allocator>(
 
 fn count(history: &[Step], held: u32) -> Totals
     requires { length history.now ≤ 2 ^ 20 }
-    ensures { result ≡ totals_of history.now held }
+    ensures { result ≡ totals_of history.now held_count }
 {
     Totals {
         accepted: accepted_in(history),

@@ -7,7 +7,7 @@ use Rattle.std.proofs.lemmas.List.Sums.{sum_by-cons, sum_by-append, sum_by_push,
 use Rattle.std.proofs.lemmas.List.Filters.{sum_by-filter_both}
 use Rattle.dsa_store.specs.declared.entry.Cell.{Cell}
 use Rattle.dsa_store.specs.declared.entry.Entry.{Entry}
-use Rattle.dsa_store.specs.Content.{Slot, Content, is_cell, chain, count, uses, held, pushed, without_front, unlinked, all_held, is_free, kept}
+use Rattle.dsa_store.specs.Content.{Slot, Content, is_cell, chain, place_count, use_count, held_count, after_push, without_front, after_unlink, all_held, is_free, only_where}
 use Rattle.dsa_store.proofs.Places.{list_any-absent, list_any-present}
 
 -- a sum over all slots goes list by list
@@ -22,7 +22,7 @@ sum-set f content i l h =
 
 -- ---- the words of the calls
 
-pub sum-pushed : (f : Slot → ℕ) (content : Content) (list : ℕ) (cell : Cell) (e : Entry) → list < length content → sum_by f (all_held (pushed content list cell e)) ≡ sum_by f (all_held content) + f (cell, e)
+pub sum-pushed : (f : Slot → ℕ) (content : Content) (list : ℕ) (cell : Cell) (e : Entry) → list < length content → sum_by f (all_held (after_push content list cell e)) ≡ sum_by f (all_held content) + f (cell, e)
 sum-pushed f content list cell e h =
     omega (arith, sum-set f content list (chain content list ++ (cell, e) ∷ []) h, sum_by_push f (chain content list) (cell, e))
 
@@ -43,30 +43,30 @@ pub all_held-filtered : (test : Slot → Bool) (content : Content) → all_held 
 all_held-filtered test [] = refl
 all_held-filtered test (l ∷ ls) = ap (λ (m : List Slot). filter test l ++ m) (all_held-filtered test ls) ∙ sym (filter-append test l (all_held ls))
 
-pub all_held-kept : (test : Entry → Bool) (content : Content) → all_held (kept test content) ≡ filter (λ s. test s.1) (all_held content)
+pub all_held-kept : (test : Entry → Bool) (content : Content) → all_held (only_where test content) ≡ filter (λ s. test s.1) (all_held content)
 all_held-kept test content = all_held-filtered (λ s. test s.1) content
 
-pub all_held-unlinked : (content : Content) (cell : Cell) → all_held (unlinked content cell) ≡ filter (λ s. not (is_cell cell s)) (all_held content)
+pub all_held-unlinked : (content : Content) (cell : Cell) → all_held (after_unlink content cell) ≡ filter (λ s. not (is_cell cell s)) (all_held content)
 all_held-unlinked content cell = all_held-filtered (λ s. not (is_cell cell s)) content
 
 -- ---- counts are sums
 
-pub uses-counted : (content : Content) (cell : Cell) → uses content cell ≡ count_by (is_cell cell) (all_held content)
-unfolding uses count
+pub uses-counted : (content : Content) (cell : Cell) → use_count content cell ≡ count_by (is_cell cell) (all_held content)
+unfolding use_count place_count
 uses-counted content cell = sym (sum-lists (λ s. cond (is_cell cell s) 1 0) content)
 
-pub held-counted : (content : Content) → held content ≡ length (all_held content)
-unfolding held
+pub held-counted : (content : Content) → held_count content ≡ length (all_held content)
+unfolding held_count
 held-counted content = sym (length-flat_map (λ (l : List Slot). l) content)
 
-count-all_held : (content : Content) (cell : Cell) → count cell (all_held content) ≡ uses content cell
-unfolding count
+count-all_held : (content : Content) (cell : Cell) → place_count cell (all_held content) ≡ use_count content cell
+unfolding place_count
 count-all_held content cell = sym (uses-counted content cell)
 
-pub is_free-unused : (cells : ℕ) (content : Content) (cell : Cell) → is_free cells content cell ≡ true → (cell.0 < cells) × (uses content cell ≡ 0)
+pub is_free-unused : (cells : ℕ) (content : Content) (cell : Cell) → is_free cells content cell ≡ true → (cell.0 < cells) × (use_count content cell ≡ 0)
 is_free-unused cells content cell h =
     (grind (arith, h), grind (arith, h, count-all_held content cell, list_any-present cell (all_held content)))
 
-pub unused-is_free : (cells : ℕ) (content : Content) (cell : Cell) → cell.0 < cells → uses content cell ≡ 0 → is_free cells content cell ≡ true
+pub unused-is_free : (cells : ℕ) (content : Content) (cell : Cell) → cell.0 < cells → use_count content cell ≡ 0 → is_free cells content cell ≡ true
 unused-is_free cells content cell below none =
     grind (arith, below, none, count-all_held content cell, list_any-absent cell (all_held content))

@@ -6,41 +6,41 @@ use Rattle.std.proofs.lemmas.Iterator.Consumers.{YieldsList-from_first}
 use Rattle.std.proofs.lemmas.List.{append-nil}
 use Rattle.dsa_store.specs.declared.entry.Cell.{Cell}
 use Rattle.dsa_store.specs.declared.entry.Entry.{Entry}
-use Rattle.dsa_store.specs.Content.{Slot, Content, is_cell, chain, count, uses, first_cell, entry_of, next_of, StandsAt}
+use Rattle.dsa_store.specs.Content.{Slot, Content, is_cell, chain, place_count, use_count, first_cell, entry_of, next_of, StandsAt}
 use Rattle.dsa_store.specs.Walk.{from_cell, slots_from}
 use Rattle.dsa_store.proofs.Places.{count-cons, count-at}
 use Rattle.dsa_store.proofs.Lists.{uses-cons}
 use Rattle.dsa_store.proofs.Finding.{absent-before, absent-after, tail-stands, is_cell-slot, placed, entry_of-at, entry_of-none, next_of-at}
 
 -- a list without the cell has nothing from it on
-from_cell-absent : (cell : Cell) (l : List Slot) → count cell l ≡ 0 → from_cell cell l ≡ []
+from_cell-absent : (cell : Cell) (l : List Slot) → place_count cell l ≡ 0 → from_cell cell l ≡ []
 from_cell-absent cell [] h = refl
 from_cell-absent cell (s ∷ l) h = grind (arith, count-cons cell s l, from_cell-absent cell l)
 
 -- a list with the cell at place k has from it on what stands from there
 from_cell-at : (cell : Cell) (l : List Slot) (k : ℕ) (d : Slot) → k < length l → is_cell cell (get_or l k d) ≡ true
-    → count cell l ≤ 1 → from_cell cell l ≡ drop k l
+    → place_count cell l ≤ 1 → from_cell cell l ≡ drop k l
 from_cell-at cell [] k d h e o = absurd (omega arith)
 from_cell-at cell (s ∷ l) zero d h e o = grind (arith, e)
 from_cell-at cell (s ∷ l) (suc k) d h e o =
     grind (arith, count-cons cell s l, count-at cell l k d, from_cell-at cell l k d)
 
 -- from a cell that no list names on there is nothing
-slots_from-none : (content : Content) (cell : Cell) → uses content cell ≡ 0 → slots_from content (Some cell) ≡ []
+slots_from-none : (content : Content) (cell : Cell) → use_count content cell ≡ 0 → slots_from content (Some cell) ≡ []
 slots_from-none [] cell h = refl
 slots_from-none (l ∷ ls) cell h =
     grind (arith, uses-cons l ls cell, from_cell-absent cell l, slots_from-none ls cell)
 
 -- from the cell at place k of list i on there is what stands from there
-pub slots_from-at : (content : Content) (i k : ℕ) (cell : Cell) (e : Entry) → uses content cell ≤ 1
+pub slots_from-at : (content : Content) (i k : ℕ) (cell : Cell) (e : Entry) → use_count content cell ≤ 1
     → StandsAt content i k cell e → slots_from content (Some cell) ≡ drop k (chain content i)
 slots_from-at [] i k cell e o h = absurd (omega (arith, h.within))
 slots_from-at (l ∷ ls) zero k cell e o h =
-    let a : (count cell l ≡ 1) × (uses ls cell ≡ 0) = absent-after l ls k cell e o h in
+    let a : (place_count cell l ≡ 1) × (use_count ls cell ≡ 0) = absent-after l ls k cell e o h in
     let here = from_cell-at cell l k (cell, e) h.within (is_cell-slot cell e _ h.slot) (omega arith) in
     rw (here, slots_from-none ls cell a.1) (append-nil (drop k l))
 slots_from-at (l ∷ ls) (suc i) k cell e o h =
-    let a : (count cell l ≡ 0) × (uses ls cell ≤ 1) = absent-before l ls i k cell e o h in
+    let a : (place_count cell l ≡ 0) × (use_count ls cell ≤ 1) = absent-before l ls i k cell e o h in
     rw (from_cell-absent cell l a.0) (slots_from-at ls i k cell e a.1 (tail-stands h))
 
 -- what is left of a list has its first cell at that place
@@ -54,7 +54,7 @@ drop-front (x ∷ l) (suc k) s m h =
     (omega (arith, r.0), r.1)
 
 -- what is left of a list is what stands from its first cell on
-pub slots_from-rest : (content : Content) (i k : ℕ) → ((c : Cell) → uses content c ≤ 1)
+pub slots_from-rest : (content : Content) (i k : ℕ) → ((c : Cell) → use_count content c ≤ 1)
     → slots_from content (first_cell (drop k (chain content i))) ≡ drop k (chain content i)
 slots_from-rest content i k once = go (drop k (chain content i)) refl
   where
@@ -65,12 +65,12 @@ slots_from-rest content i k once = go (drop k (chain content i)) refl
         slots_from-at content i k s.0 s.1 (once s.0) (record { within = p.0; slot = p.1 }) ∙ h
 
 -- and so is the whole list, from its front on
-pub slots_from-front : (content : Content) (i : ℕ) (at : Option Cell) → ((c : Cell) → uses content c ≤ 1)
+pub slots_from-front : (content : Content) (i : ℕ) (at : Option Cell) → ((c : Cell) → use_count content c ≤ 1)
     → at ≡ first_cell (chain content i) → slots_from content at ≡ chain content i
 slots_from-front content i at once h = ap (slots_from content) h ∙ slots_from-rest content i 0 once
 
 -- where a cell has no entry the walk has ended
-pub slots_from-end : (content : Content) (cell : Cell) → ((c : Cell) → uses content c ≤ 1)
+pub slots_from-end : (content : Content) (cell : Cell) → ((c : Cell) → use_count content c ≤ 1)
     → entry_of content cell ≡ None → slots_from content (Some cell) ≡ []
 slots_from-end content cell once h =
     elim (placed content cell) [
@@ -82,7 +82,7 @@ slots_from-end content cell once h =
     ]
 
 -- where a cell has an entry the walk goes on behind it
-pub slots_from-turn : (content : Content) (cell : Cell) (e : Entry) → ((c : Cell) → uses content c ≤ 1)
+pub slots_from-turn : (content : Content) (cell : Cell) (e : Entry) → ((c : Cell) → use_count content c ≤ 1)
     → entry_of content cell ≡ Some e
     → slots_from content (Some cell) ≡ (cell, e) ∷ slots_from content (next_of content cell)
 slots_from-turn content cell e once h =

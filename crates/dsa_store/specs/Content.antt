@@ -22,16 +22,16 @@ abbrev pub chain : Content → ℕ → List Slot
 chain content list = slice_index_or content list []
 
 -- how many places of a list name the cell
-unfoldable pub count : Cell → List Slot → ℕ
-count cell l = count_by (is_cell cell) l
+unfoldable pub place_count : Cell → List Slot → ℕ
+place_count cell l = count_by (is_cell cell) l
 
 -- how many places of all lists name the cell
-unfoldable pub uses : Content → Cell → ℕ
-uses content cell = sum_by (count cell) content
+unfoldable pub use_count : Content → Cell → ℕ
+use_count content cell = sum_by (place_count cell) content
 
 -- how many cells are in use
-unfoldable pub held : Content → ℕ
-held content = sum_by length content
+unfoldable pub held_count : Content → ℕ
+held_count content = sum_by length content
 
 -- the entry that the cell holds, if a list names it
 abbrev pub entry_of : Content → Cell → Option Entry
@@ -48,44 +48,44 @@ first_cell [] = None
 first_cell (s ∷ l) = Some s.0
 
 -- the cell that follows in a list
-abbrev pub after : Cell → List Slot → Option Cell
-after cell [] = None
-after cell (s ∷ l) = cond (is_cell cell s) (first_cell l) (after cell l)
+abbrev pub cell_after : Cell → List Slot → Option Cell
+cell_after cell [] = None
+cell_after cell (s ∷ l) = cond (is_cell cell s) (first_cell l) (cell_after cell l)
 
 -- the cell that follows in the list that names the cell
 abbrev pub next_of : Content → Cell → Option Cell
 next_of [] cell = None
-next_of (l ∷ ls) cell = cond (list_any (is_cell cell) l) (after cell l) (next_of ls cell)
+next_of (l ∷ ls) cell = cond (list_any (is_cell cell) l) (cell_after cell l) (next_of ls cell)
 
 -- with the entry in that cell at the end of the list
-abbrev pub pushed : Content → ℕ → Cell → Entry → Content
-pushed content list cell entry = slice_set content list (chain content list ++ (cell, entry) ∷ [])
+abbrev pub after_push : Content → ℕ → Cell → Entry → Content
+after_push content list cell entry = slice_set content list (chain content list ++ (cell, entry) ∷ [])
 
 -- without the front of the list
 abbrev pub without_front : Content → ℕ → Content
 without_front content list = slice_set content list (drop 1 (chain content list))
 
 -- with the front of one list at the end of the other
-abbrev pub moved : Content → ℕ → ℕ → Content
-moved content from to = slice_set (without_front content from) to (chain content to ++ take 1 (chain content from))
+abbrev pub after_move : Content → ℕ → ℕ → Content
+after_move content from to = slice_set (without_front content from) to (chain content to ++ take 1 (chain content from))
 
 -- without the cell
-abbrev pub unlinked : Content → Cell → Content
-unlinked content cell = map (filter (λ s. not (is_cell cell s))) content
+abbrev pub after_unlink : Content → Cell → Content
+after_unlink content cell = map (filter (λ s. not (is_cell cell s))) content
 
 -- with another entry in the cell, at its place
-abbrev pub replaced : Content → Cell → Entry → Content
-replaced content cell entry = map (map (λ s. cond (is_cell cell s) (s.0, entry) s)) content
+abbrev pub after_set : Content → Cell → Entry → Content
+after_set content cell entry = map (map (λ s. cond (is_cell cell s) (s.0, entry) s)) content
 
 -- with that list empty
-abbrev pub emptied : Content → ℕ → Content
-emptied content list = slice_set content list []
+abbrev pub after_give_back : Content → ℕ → Content
+after_give_back content list = slice_set content list []
 
 -- what holds of each store of that many cells: no cell stands twice, each that stands is one of the store's
 pub record IsSound (cells : ℕ) (content : Content) : Type 0 where
-  pub once : (cell : Cell) → uses content cell ≤ 1
-  pub below : (cell : Cell) → cells ≤ cell.0 → uses content cell ≡ 0
-  pub room : held content ≤ cells
+  pub once : (cell : Cell) → use_count content cell ≤ 1
+  pub below : (cell : Cell) → cells ≤ cell.0 → use_count content cell ≡ 0
+  pub room : held_count content ≤ cells
 
 -- the cell, with that entry, is the k-th of list i
 pub record StandsAt (content : Content) (i k : ℕ) (cell : Cell) (entry : Entry) : Type 0 where
@@ -103,5 +103,5 @@ abbrev pub is_free : ℕ → Content → Cell → Bool
 is_free cells content cell = nat_lt cell.0 cells && not (list_any (is_cell cell) (all_held content))
 
 -- the slots whose entry passes, in order
-abbrev pub kept : (Entry → Bool) → Content → Content
-kept test content = map (filter (λ s. test s.1)) content
+abbrev pub only_where : (Entry → Bool) → Content → Content
+only_where test content = map (filter (λ s. test s.1)) content

@@ -1,7 +1,7 @@
 //! Commands over a store of vectors, on two queues: queue 0 is shared, of size 4, and queue 1 dedicated, of size 2 and PASID 7.
 
 ghost use Rattle.std.specs.Prelude.{◌≡◌, ◌+◌, ◌≤◌, length, true};
-ghost use Rattle.dsa_store.specs.Content.{held};
+ghost use Rattle.dsa_store.specs.Content.{held_count};
 ghost use Rattle.dsa_engines.specs.Engines.{IsInStep};
 
 use crate::setup::written;
@@ -33,7 +33,7 @@ const PAST: QueueMask = QueueMask { group: 0, mask: 6 };
 
 // The book has room for a row of each entry that is held.
 fn has_room<S: EntryStore>(store: &S, book: &Book) -> bool
-    ensures { result ≡ true → length book.now.fates + held (S.content store.now) ≤ book.now.capacity }
+    ensures { result ≡ true → length book.now.fates + held_count (S.content store.now) ≤ book.now.capacity }
 {
     let rows = book.fates().len();
     let held = (store.cells() - store.free()) as usize;

@@ -1,6 +1,6 @@
 -- What is seen of the states that worked histories lead to, and entries and rows of which the words of the laws are true or false.
 use Rattle.std.specs.Prelude.{ℕ, true, false, List, [], ◌∷◌, count_by, Option, Some, None, option_map}
-use Rattle.dsa_regs.specs.Buffers.{covered}
+use Rattle.dsa_regs.specs.Buffers.{covered_count}
 use Rattle.dsa_store.specs.Content.{Slot}
 use Rattle.dsa_book.specs.declared.event.Step.{Step}
 use Rattle.dsa_book.specs.declared.fate.Fate.TheVariants.{Completed, Aborted, Abandoned}
@@ -20,7 +20,7 @@ batches_on engine w = count_by (holds_batch w.setup) (in_progress w engine)
 
 -- how many read buffers the groups use or have reserved
 abbrev pub covered_by : Work → ℕ
-covered_by w = covered w.setup.groups (all_used w)
+covered_by w = covered_count w.setup.groups (all_used w)
 
 -- a member of batch 0 that runs
 abbrev pub running_member : Slot

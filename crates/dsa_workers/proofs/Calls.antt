@@ -14,7 +14,7 @@ use Rattle.dsa_book.specs.declared.answer.IssueAnswer.TheVariants.{Ended, Active
 use Rattle.dsa_book.specs.declared.answer.PollAnswer.TheVariants.{Finished, Active, Nothing, Full}
 use Rattle.dsa_book.specs.declared.answer.Reply.{Reply}
 use Rattle.dsa_book.specs.declared.answer.Reply.TheVariants.{Submit, Dispatch, Fetch, Start, Finish, Issue, Poll, Write, Clear}
-use Rattle.dsa_book.specs.Machine.{is_stored, recorded, stored_steps}
+use Rattle.dsa_book.specs.Machine.{is_stored, history_after, stored_steps}
 use Rattle.dsa_book.specs.Totals.{total_accepted, is_accepted}
 use Rattle.dsa_workers.specs.Calls.{InOrder, is_answer, is_full, goes_on, passed, found_full, waits, submission, NextSubmission, NextCommand}
 use Rattle.dsa_workers.specs.Workers.{Grows, RunsScript, RunsClient, RunsAdmin}
@@ -59,7 +59,7 @@ moved_by b n at after is moved = omega (arith, count_of b n is, moved)
 one_stored : (call : Step) (b : Bool) → is_stored call.reply ≡ b → stored_steps (call ∷ []) ≡ cond b (call ∷ []) []
 one_stored call b is = ap (λ (z : Bool). cond z (call ∷ []) []) is
 
-pub recorded_more : (old calls : List Step) (call : Step) → recorded (old ++ stored_steps calls) call ≡ old ++ stored_steps (calls ++ call ∷ [])
+pub recorded_more : (old calls : List Step) (call : Step) → history_after (old ++ stored_steps calls) call ≡ old ++ stored_steps (calls ++ call ∷ [])
 recorded_more old calls call =
     let split = filter-append (λ (c : Step). is_stored c.reply) calls (call ∷ []) in
     elim (cases_Bool (is_stored call.reply)) [
@@ -121,9 +121,9 @@ record Called (next : List Step → Step → Type 0) (old new : List Step) (call
   pub turns : length calls ≡ turn
 
 called : (next : List Step → Step → Type 0) (steps : ℕ) (old mid new : List Step) (turn at : ℕ) (call : Step)
-    → (so : SoFar next steps old mid turn at) → next so.calls call → new ≡ recorded mid call → Called next old new (so.calls ++ call ∷ []) (turn + 1)
+    → (so : SoFar next steps old mid turn at) → next so.calls call → new ≡ history_after mid call → Called next old new (so.calls ++ call ∷ []) (turn + 1)
 called next steps old mid new turn at call so follows is = record {
-  receipts = is ∙ ap (λ (z : List Step). recorded z call) so.receipts ∙ recorded_more old so.calls call;
+  receipts = is ∙ ap (λ (z : List Step). history_after z call) so.receipts ∙ recorded_more old so.calls call;
   in_order = in_order_more next so.calls call so.in_order follows;
   stops = in_order_more (λ before c. found_full before ≡ 0) so.calls call so.stops so.room;
   turns = omega (arith, length-append so.calls (call ∷ []), so.turns);
@@ -175,7 +175,7 @@ as_it_is next steps old new turn at so = record { receipts = so.receipts; in_ord
 
 -- a call that left room
 pub so_far_more : (next : List Step → Step → Type 0) (steps : ℕ) (old mid new : List Step) (turn at after : ℕ) (call : Step)
-    → (so : SoFar next steps old mid turn at) → next so.calls call → new ≡ recorded mid call → is_full call.reply ≡ false → at < steps
+    → (so : SoFar next steps old mid turn at) → next so.calls call → new ≡ history_after mid call → is_full call.reply ≡ false → at < steps
     → after ≡ at + cond (goes_on call.reply) 1 0 → SoFar next steps old new (turn + 1) after
 so_far_more next steps old mid new turn at after call so follows is room below next_at =
     let c = called next steps old mid new turn at call so follows is in
@@ -198,7 +198,7 @@ so_far_more next steps old mid new turn at after call so follows is room below n
 
 -- a call that found the history full
 pub ends_full : (next : List Step → Step → Type 0) (steps limit : ℕ) (old mid new : List Step) (turn at : ℕ) (call : Step)
-    → (so : SoFar next steps old mid turn at) → next so.calls call → new ≡ recorded mid call → is_full call.reply ≡ true → at < steps → turn < limit
+    → (so : SoFar next steps old mid turn at) → next so.calls call → new ≡ history_after mid call → is_full call.reply ≡ true → at < steps → turn < limit
     → RunsScript next steps limit old new (record { turns = turn + 1; ended = HistoryFull })
 ends_full next steps limit old mid new turn at call so follows is full below within =
     let one : cond {A = ℕ} (is_full call.reply) 1 0 ≡ 1 = count_of (is_full call.reply) true full in
@@ -289,7 +289,7 @@ admin_next script at asks e calls w through below d =
 
 pub asks_more : (script : List Command) (old mid new : List Step) (turn at after : ℕ) (asks : Bool) (e : Command) (reply : Reply)
     → AsksSoFar script old mid turn at asks → is_answer (cond {A = Event} asks Poll (Issue (get_or script at e))) reply ≡ true
-    → new ≡ recorded mid (record { event = cond {A = Event} asks Poll (Issue (get_or script at e)); reply = reply })
+    → new ≡ history_after mid (record { event = cond {A = Event} asks Poll (Issue (get_or script at e)); reply = reply })
     → is_full reply ≡ false → at < length script → after ≡ at + cond {A = ℕ} (goes_on reply) 1 0 → AsksSoFar script old new (turn + 1) after (not (goes_on reply))
 unfolding so_far_more
 asks_more script old mid new turn at after asks e reply was answer is room below moved =
@@ -302,7 +302,7 @@ asks_more script old mid new turn at after asks e reply was answer is room below
 
 pub asks_full : (script : List Command) (limit : ℕ) (old mid new : List Step) (turn at : ℕ) (asks : Bool) (e : Command) (reply : Reply)
     → AsksSoFar script old mid turn at asks → is_answer (cond {A = Event} asks Poll (Issue (get_or script at e))) reply ≡ true
-    → new ≡ recorded mid (record { event = cond {A = Event} asks Poll (Issue (get_or script at e)); reply = reply })
+    → new ≡ history_after mid (record { event = cond {A = Event} asks Poll (Issue (get_or script at e)); reply = reply })
     → is_full reply ≡ true → at < length script → turn < limit → RunsAdmin script limit old new (record { turns = turn + 1; ended = HistoryFull })
 asks_full script limit old mid new turn at asks e reply was answer is full below within =
     ends_full (NextCommand script) (length script) limit old mid new turn at (record { event = cond {A = Event} asks Poll (Issue (get_or script at e)); reply = reply }) was.so_far

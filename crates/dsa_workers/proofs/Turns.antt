@@ -9,7 +9,7 @@ use Rattle.dsa_book.specs.declared.answer.Reply.{Reply}
 use Rattle.dsa_book.specs.declared.answer.Ticket.{Ticket}
 use Rattle.dsa_book.specs.declared.event.Event.{Event}
 use Rattle.dsa_book.specs.declared.event.Step.{Step}
-use Rattle.dsa_book.specs.Machine.{recorded, stored_steps}
+use Rattle.dsa_book.specs.Machine.{history_after, stored_steps}
 use Rattle.dsa_shared.specs.Seat.{SeatLog}
 use Rattle.dsa_workers.specs.declared.scripts.EngineScript.{EngineScript}
 use Rattle.dsa_workers.specs.declared.scripts.WorkerEnd.TheVariants.{TurnsOut, HistoryFull}
@@ -57,7 +57,7 @@ receipts_more : (old : List Step) (mid : SeatLog) (turns : List (Option Step)) (
 receipts_more old mid turns None is =
     is ∙ ap (λ (z : List Step). old ++ stored_steps z) (sym (append-nil (calls_of turns)) ∙ sym (calls_more turns None))
 receipts_more old mid turns (Some call) is =
-    ap (λ (z : List Step). recorded z call) is ∙ recorded_more old (calls_of turns) call ∙ ap (λ (z : List Step). old ++ stored_steps z) (sym (calls_more turns (Some call)))
+    ap (λ (z : List Step). history_after z call) is ∙ recorded_more old (calls_of turns) call ∙ ap (λ (z : List Step). old ++ stored_steps z) (sym (calls_more turns (Some call)))
 
 same_number : (mid : SeatLog) (turn : Option Step) → (after_turn mid turn).number ≡ mid.number
 same_number mid None = refl

@@ -2,7 +2,7 @@
 
 ghost use Rattle.std.specs.Prelude.{◌≡◌, ◌+◌, ◌<◌, ◌≤◌, ◌↔◌, ◌⊎◌, IfOk, IfErr, length};
 ghost use Rattle.std.specs.Fork.{AcceptsEach};
-ghost use Rattle.dsa_store.specs.Content.{held};
+ghost use Rattle.dsa_store.specs.Content.{held_count};
 ghost use Rattle.dsa_laws.specs.WellFormed.{IsWellFormed};
 ghost use Rattle.dsa_device.specs.Running.{IsReplay};
 ghost use Rattle.dsa_shared.specs.Totals.{totals_of, Balance};
@@ -64,7 +64,7 @@ pub fn run_program<S: EntryStore + Send, P: Program + Sync, R: Threads + Wait + 
     clients: u16,
     program: &P,
 ) -> Result<Settled<S>, ProgramFault<S>>
-    ensures totals { IfOk result (λ s. s.totals ≡ totals_of s.device.history (held s.device.state.work.content)) }
+    ensures totals { IfOk result (λ s. s.totals ≡ totals_of s.device.history (held_count s.device.state.work.content)) }
     ensures balance { IfOk result (λ s. Balance s.totals s.device.state.work) }
     ensures caps { IfOk result (λ s. s.device.caps ≡ device.caps) }
     ensures replay { IfOk result (λ s. IsReplay s.device) }
@@ -92,7 +92,7 @@ fn run_as<
     requires blanks { (blanks ≡ L.name) × (L.parts ≡ 129) }
     requires device { (L.caps ≡ device.caps) × (L.capacity ≡ device.capacity) }
     requires clients { L.clients ≡ clients }
-    ensures totals { IfOk result (λ s. s.totals ≡ totals_of s.device.history (held s.device.state.work.content)) }
+    ensures totals { IfOk result (λ s. s.totals ≡ totals_of s.device.history (held_count s.device.state.work.content)) }
     ensures balance { IfOk result (λ s. Balance s.totals s.device.state.work) }
     ensures caps { IfOk result (λ s. s.device.caps ≡ device.caps) }
     ensures replay { IfOk result (λ s. IsReplay s.device) }

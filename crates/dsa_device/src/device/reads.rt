@@ -4,7 +4,7 @@ ghost use Rattle.std.specs.Prelude.{◌≡◌, ◌≤◌, ◌==◌, nat_lt, find
 ghost use Rattle.dsa_regs.specs.Caps.{cell_count};
 ghost use Rattle.std.specs.Option.{option_map};
 ghost use Rattle.dsa_base.specs.Rows.{when};
-ghost use Rattle.dsa_store.specs.Content.{held};
+ghost use Rattle.dsa_store.specs.Content.{held_count};
 ghost use Rattle.dsa_book.specs.State.{occupancy};
 ghost use Rattle.dsa_book.specs.Work.{used};
 ghost use Rattle.dsa_laws.specs.WellFormed.{IsWellFormed};
@@ -68,7 +68,7 @@ impl<S: EntryStore> Device<S> {
 
     /// The number of entries that the device holds, in all queues and engines.
     pub fn held(&self) -> u32
-        ensures value { result ≡ held self.now.state.work.content }
+        ensures value { result ≡ held_count self.now.state.work.content }
         ensures bound { result ≤ cell_count self.now.caps }
     {
         self.store.cells() - self.store.free()

@@ -1,7 +1,7 @@
 //! A step of any event, and lists of events.
 
 ghost use Rattle.std.specs.Prelude.{◌≡◌, Some, OnOk, OnErr};
-ghost use Rattle.dsa_device.specs.Running.{answered};
+ghost use Rattle.dsa_device.specs.Running.{after_answer};
 ghost use Rattle.dsa_device.specs.Runs.{IsRunOf};
 
 use super::Device;
@@ -12,7 +12,7 @@ use std::alloc::AllocError;
 impl<S: EntryStore> Device<S> {
     /// The step of any event. A submission has its descriptor as it was parsed.
     pub fn step(&mut self, event: Event) -> Reply
-        ensures { answered self.old event result ≡ Some self.new }
+        ensures { after_answer self.old event result ≡ Some self.new }
     {
         match event {
             Event::Submit {

@@ -1,6 +1,6 @@
 use Rattle.std.proofs.Common.{◌≡◌, ℕ, List, refl, lit≤, arith, subst}
 use Rattle.std.specs.Prelude.{All, slice_index_or}
-use Rattle.dsa_store.specs.Content.{held}
+use Rattle.dsa_store.specs.Content.{held_count}
 use Rattle.dsa_book.specs.declared.answer.IssueAnswer.TheVariants.{Ended}
 use Rattle.dsa_book.specs.declared.answer.Reply.TheVariants.{Issue, Write}
 use Rattle.dsa_book.specs.declared.answer.WriteAnswer.TheVariants.{Written}
@@ -27,7 +27,7 @@ only client none =
     (λ k d inside. first k d (omega (arith, inside)))
 
 pub returns : goal.returns
-unfolding held
+unfolding held_count
 returns c = record {
   history = history;
   last = _;

@@ -1,5 +1,5 @@
 use Rattle.std.proofs.Common.{◌≡◌, length, ap, sym, ◌∙◌, subst, cond, arith}
-use Rattle.dsa_store.specs.Content.{held}
+use Rattle.dsa_store.specs.Content.{held_count}
 use Rattle.dsa_book.specs.Totals.{is_accepted, is_retried, is_fetched, is_done, lost_by}
 use Rattle.dsa_accounts.proofs.Totals.{replay-held}
 use Rattle.dsa_accounts.proofs.Accounted.{replay-accepted, replay-fetched}
@@ -20,8 +20,8 @@ close-requires-clause-all g c =
 here : (g : Over) (c : After-close g) → c.history.result.now ≡ c.args.locked.history
 here g c = c.history.ensures ∙ ap (λ l. l.history) c.locked.view_is
 
-totals : (g : Over) (c : After-close g) → c.count-totals.result ≡ totals_of c.args.locked.history (held c.args.locked.state.work.content)
-totals g c = c.count-totals.ensures ∙ (λ i. totals_of (here g c i) ((c.held.ensures.value ∙ ap (λ l. held l.state.work.content) c.locked.view_is) i))
+totals : (g : Over) (c : After-close g) → c.count-totals.result ≡ totals_of c.args.locked.history (held_count c.args.locked.state.work.content)
+totals g c = c.count-totals.ensures ∙ (λ i. totals_of (here g c i) ((c.held.ensures.value ∙ ap (λ l. held_count l.state.work.content) c.locked.view_is) i))
 
 all : (g : Over) (c : After-close g) → over_seats length c.args.seats.clients.items c.args.seats.engines.items c.args.seats.admin ≡ length c.args.locked.history
 all g c = sym c.close.ensures ∙ ap (λ t. t.steps) (totals g c)
@@ -48,7 +48,7 @@ pub returns-clause-balance : goal.returns-clause-balance
 returns-clause-balance g c =
     let d = c.locked.inside.device in
     let replayed = c.state_is_replay.ensures.replay.replayed in
-    let is : c.count-totals.result ≡ totals_of d.history (held d.state.work.content) = c.count-totals.ensures
+    let is : c.count-totals.result ≡ totals_of d.history (held_count d.state.work.content) = c.count-totals.ensures
     ∙ (λ i. totals_of (c.history.ensures i) (c.held.ensures.value i)) in
     let P : Running → Type 0 = λ r. Balance c.count-totals.result r.state.work in
     subst P c.locked.view_is (record {
@@ -58,8 +58,8 @@ returns-clause-balance g c =
           let fetched = ap (λ t. t.fetched) is in
           let done = ap (λ t. t.done) is in
           let lost = ap (λ t. t.lost) is in
-          let held = ap (λ t. t.held) is in
-          omega (arith, balance, accepted, fetched, done, lost, held);
+          let held_count = ap (λ t. t.held) is in
+          omega (arith, balance, accepted, fetched, done, lost, held_count);
       accepted = ap (λ t. t.accepted) is ∙ replay-accepted d.caps d.history d.state replayed;
       fetched = ap (λ t. t.fetched) is ∙ replay-fetched d.caps d.history d.state replayed;
       members_alone = replay-lawful d.caps d.history d.state replayed;

@@ -3,7 +3,7 @@ use Rattle.dsa_book.specs.declared.answer.WriteAnswer.{WriteAnswer}
 use Rattle.dsa_book.specs.declared.event.Event.TheVariants as event
 use Rattle.dsa_book.specs.declared.answer.Reply.TheVariants as reply
 use Rattle.dsa_book.specs.State.{Setup}
-use Rattle.dsa_device.specs.Running.{running}
+use Rattle.dsa_device.specs.Running.{running_of}
 use Rattle.dsa_device.proofs.Known.{well_formed}
 use Rattle.dsa_device.proofs.Layers.{next-write_queue}
 use Rattle.dsa_engines.proofs.Keeping.{KeepsLoads}
@@ -12,11 +12,11 @@ use Rattle.dsa_device.proofs.Steps.{IsStep, step_of_queues}
 use Rattle.dsa_device.proofs.device.Device.write_queue.Given.{Over}
 use Rattle.dsa_device.proofs.device.Device.write_queue.Goals as goal
 
-step : (g : Over) (c : goal.After-record g) → IsStep (g.S.EntryStore.cells c.self.inside.store) c.self.inside.engines (running c.self.inside.caps c.self.inside.queues c.self.inside.engines (g.S.EntryStore.content c.self.inside.store) c.self.inside.admin c.self.inside.book) (event.WriteQueue c.args.queue c.args.config) (reply.Write c.write_queue-answer.result) (running c.self.inside.caps c.write_queue-answer.new.self c.self.inside.engines (g.S.EntryStore.content c.self.inside.store) c.self.inside.admin c.record.new.self)
+step : (g : Over) (c : goal.After-record g) → IsStep (g.S.EntryStore.cells c.self.inside.store) c.self.inside.engines (running_of c.self.inside.caps c.self.inside.queues c.self.inside.engines (g.S.EntryStore.content c.self.inside.store) c.self.inside.admin c.self.inside.book) (event.WriteQueue c.args.queue c.args.config) (reply.Write c.write_queue-answer.result) (running_of c.self.inside.caps c.write_queue-answer.new.self c.self.inside.engines (g.S.EntryStore.content c.self.inside.store) c.self.inside.admin c.record.new.self)
 step g c =
     let i = c.self.inside in
     let content = g.S.EntryStore.content i.store in
-    let d = running i.caps i.queues i.engines content i.admin i.book in
+    let d = running_of i.caps i.queues i.engines content i.admin i.book in
     step_of_queues _ _ i.caps i.queues c.write_queue-answer.new.self i.engines content content i.admin i.book c.record.new.self
     (event.WriteQueue c.args.queue c.args.config) (reply.Write c.write_queue-answer.result)
     c.self.invariant (sym c.is_full.ensures.full ∙ c.if-is_full.false) c.record.ensures

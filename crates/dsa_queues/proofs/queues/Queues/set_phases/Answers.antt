@@ -3,14 +3,14 @@ use Rattle.std.proofs.lemmas.Grind.{common_steps}
 use Rattle.dsa_regs.specs.declared.Phase.{Phase}
 use Rattle.dsa_regs.specs.Command.{queues_in}
 use Rattle.dsa_book.specs.State.{phase_at}
-use Rattle.dsa_book.specs.Commands.{names}
+use Rattle.dsa_book.specs.Commands.{is_among}
 use Rattle.dsa_queues.proofs.Tables.{phases-set, phases-same}
 use Rattle.dsa_queues.proofs.queues.Queues.set_phases.Goals as goal
 use Rattle.dsa_queues.proofs.queues.Queues.set_phases.Goals.{then-contains, else-contains}
 
 pub loop-queue-preserved : goal.loop-queue-preserved
 loop-queue-preserved c =
-    let f : ℕ → Phase = λ q. cond (names (queues_in c.args.named.now) q) c.args.phase (phase_at c.args.self.now q) in
+    let f : ℕ → Phase = λ q. cond (is_among (queues_in c.args.named.now) q) c.args.phase (phase_at c.args.self.now q) in
     elim c.if-contains.branch [
       | then-contains w ↦
           phases-set c.args.self.now c.loop-queue.self c.if-contains.self f c.loop-queue.queue c.args.phase c.loop-queue.invariant
