@@ -1,25 +1,17 @@
 -- A history accepts and fetches as many entries as have a fate row or are held.
-use Rattle.std.proofs.Common.{◌≡◌, ◌+◌, cond, List, Some, sym, ap, ◌∙◌, arith}
-use Rattle.std.specs.Prelude.{count_by, is_none}
-use Rattle.dsa_regs.specs.declared.Caps.{Caps}
-use Rattle.dsa_regs.specs.Caps.{list_count}
-use Rattle.dsa_store.specs.Content.{Slot, all_held}
-use Rattle.dsa_store.proofs.Sums.{held-counted}
-use Rattle.dsa_book.specs.declared.answer.Reply.{Reply}
-use Rattle.dsa_book.specs.declared.fate.FateRow.{FateRow}
-use Rattle.dsa_book.specs.declared.event.Event.{Event}
-use Rattle.dsa_book.specs.declared.event.Step.{Step}
-use Rattle.dsa_book.specs.State.{State, opening}
-use Rattle.dsa_book.specs.Machine.{next, replay}
+use Rattle.std.{proofs.Common.{◌≡◌, ◌+◌, cond, List, Some, sym, ap, ◌∙◌, arith}, specs.Prelude.{count_by, is_none}}
+use Rattle.dsa_regs.specs.{declared.Caps.{Caps}, Caps.{list_count}}
+use Rattle.dsa_store.{specs.Content.{Slot, all_held}, proofs.Sums.{held-counted}}
+use Rattle.dsa_book.specs.declared.{answer.Reply.{Reply}, fate.FateRow.{FateRow}, event.{Event.{Event}, Step.{Step}}}
+use Rattle.dsa_book.specs.{State.{State, opening}, Machine.{next, replay}}
 use Rattle.dsa_book.specs.Totals.{is_accepted, total_accepted, total_fetched}
+use Rattle.dsa_book.proofs.Replay.{replay-adds}
 use Rattle.dsa_laws.specs.WellFormed.{IsWellFormed}
-use Rattle.dsa_accounts.specs.Accounts.{is_submitted_slot, submitted_entries, member_entries}
 use Rattle.dsa_laws.proofs.Changes.{next-change, next-tells}
-use Rattle.dsa_accounts.proofs.Totals.{replay-names}
-use Rattle.dsa_accounts.proofs.Accounts.{change-entries, parts}
 use Rattle.dsa_laws.proofs.Histories.{well_formed-change, well_formed-opening, replay-well_formed}
 use Rattle.dsa_laws.proofs.Contents.{all_held-empty}
-use Rattle.dsa_book.proofs.Replay.{replay-adds}
+use Rattle.dsa_accounts.specs.Accounts.{is_submitted_slot, submitted_entries, member_entries}
+use Rattle.dsa_accounts.proofs.{Totals.{replay-names}, Accounts.{change-entries, parts}}
 
 -- each step adds a submission where it accepts one
 next-account : (caps : Caps) (s s' : State) (event : Event) (reply : Reply) → IsWellFormed caps s

@@ -1,39 +1,32 @@
 -- Each member that was fetched of a noted batch is done, abandoned or still held.
-use Rattle.std.proofs.Common.{◌≡◌, ◌≢◌, ◌⊎◌, inl, inr, ⊎_elim, ℕ, ◌+◌, ◌<◌, ◌≤◌, ◌&&◌, ◌==◌, Bool, true, false, cond, List, [], ◌∷◌, ◌++◌, length, map, filter, set, get_or, Option, Some, None, option_map, refl, sym, ap, ◌∙◌, subst, arith, eqb-true, eq-eqb}
-use Rattle.std.specs.Prelude.{count_by, nat_lt}
-use Rattle.std.proofs.lemmas.Bool.{cases_lt, ltb-true, and_parts, false_from_ne_true}
-use Rattle.std.proofs.lemmas.List.Sums.{sum_by-cons}
+use Rattle.std.proofs.Common.{◌≡◌, ◌≢◌, ◌⊎◌, inl, inr, ⊎_elim, ℕ, ◌+◌, ◌<◌, ◌≤◌, ◌&&◌, ◌==◌, Bool, true, false, cond}
+use Rattle.std.proofs.Common.{List, [], ◌∷◌, ◌++◌, length, map, filter, set, get_or, Option, Some, None, option_map}
+use Rattle.std.proofs.Common.{refl, sym, ap, ◌∙◌, subst, arith, eqb-true, eq-eqb}
+use Rattle.std.proofs.lemmas.{Bool.{cases_lt, ltb-true, and_parts, false_from_ne_true}, List.Sums.{sum_by-cons}}
 use Rattle.std.proofs.lemmas.Option.{same_Some}
+use Rattle.std.specs.Prelude.{count_by, nat_lt}
 use Rattle.dsa_base.proofs.Lists.{In-front, In-append, In-filter, In-find, get_or-replicated, set-cases}
-use Rattle.dsa_base.proofs.Counts.{In-counted, count-none}
-use Rattle.dsa_base.proofs.NumberLists.{get_or-each, get_or-past}
-use Rattle.dsa_regs.specs.declared.Caps.{Caps}
-use Rattle.dsa_regs.specs.Caps.{list_count}
-use Rattle.dsa_store.specs.Content.{Slot, chain, all_held, without_front}
-use Rattle.dsa_book.specs.declared.fate.Fate.{Fate}
-use Rattle.dsa_book.specs.declared.fate.Fate.TheVariants.{Completed, Aborted, Abandoned}
-use Rattle.dsa_book.specs.declared.fate.FateRow.{FateRow}
-use Rattle.dsa_book.specs.declared.note.BatchNote.{BatchNote}
-use Rattle.dsa_book.specs.State.{Work, State, opening}
-use Rattle.dsa_book.specs.declared.event.Step.{Step}
-use Rattle.dsa_book.specs.Work.{after_abandon, after_end, fate_row, after_fetch, in_progress, last_status, member_list, members, note_at, opened_note, progress_list, running_on, after_take}
-use Rattle.dsa_book.specs.Commands.{is_in_scope, kept_note}
-use Rattle.dsa_book.specs.Machine.{replay}
+use Rattle.dsa_base.proofs.{Counts.{In-counted, count-none}, NumberLists.{get_or-each, get_or-past}}
 use Rattle.dsa_base.specs.Lists.{In}
-use Rattle.dsa_laws.specs.Lists.{EachAt}
-use Rattle.dsa_laws.specs.Change.{Change}
-use Rattle.dsa_laws.specs.Engines.{IsLawfulEngine}
-use Rattle.dsa_laws.specs.WellFormed.{IsWellFormed}
+use Rattle.dsa_regs.specs.{declared.Caps.{Caps}, Caps.{list_count}}
+use Rattle.dsa_store.specs.Content.{Slot, chain, all_held, without_front}
+use Rattle.dsa_book.specs.declared.fate.{Fate.{Fate, TheVariants.{Completed, Aborted, Abandoned}}, FateRow.{FateRow}}
+use Rattle.dsa_book.specs.declared.{note.BatchNote.{BatchNote}, event.Step.{Step}}
+use Rattle.dsa_book.specs.State.{Work, State, opening}
+use Rattle.dsa_book.specs.Work.{after_abandon, after_end, fate_row, after_fetch, in_progress, last_status}
+use Rattle.dsa_book.specs.Work.{member_list, members, note_at, opened_note, progress_list, running_on, after_take}
+use Rattle.dsa_book.specs.{Commands.{is_in_scope, kept_note}, Machine.{replay}}
+use Rattle.dsa_laws.specs.{Lists.{EachAt}, Change.{Change}, Engines.{IsLawfulEngine}, WellFormed.{IsWellFormed}}
 use Rattle.dsa_laws.proofs.Contents.{In-chain, each-set, each-pushed, each-without_front, all_held-empty, chain-empty}
-use Rattle.dsa_laws.proofs.Effects.{by_count, removed}
-use Rattle.dsa_laws.proofs.Entries.{each-effect}
-use Rattle.dsa_laws.proofs.Flows.{flow-change, rows-counted}
+use Rattle.dsa_laws.proofs.{Effects.{by_count, removed}, Entries.{each-effect}, Flows.{flow-change, rows-counted}}
 use Rattle.dsa_laws.proofs.Histories.{replay_keeps, well_formed-change, well_formed-opening}
 use Rattle.dsa_laws.proofs.Shapes.{In-cond, note-engine, below-engines, waiting-engine}
 use Rattle.dsa_accounts.specs.Accounts.{was_abandoned}
-use Rattle.dsa_accounts.specs.BatchCounts.{is_of, was_completed, was_aborted, members_ended, members_abandoned, members_aborted, AddsUp}
+use Rattle.dsa_accounts.specs.BatchCounts.{is_of, was_completed, was_aborted, members_ended, members_abandoned}
+use Rattle.dsa_accounts.specs.BatchCounts.{members_aborted, AddsUp}
 use Rattle.dsa_accounts.proofs.Accounts.{entries_with, change-entries}
-use Rattle.dsa_accounts.proofs.NotedBatches.{In-progress, is_of-parent, parent-is_of, noted, noted-batch, noted-place, noted-once, noted-left}
+use Rattle.dsa_accounts.proofs.NotedBatches.{In-progress, is_of-parent, parent-is_of, noted, noted-batch, noted-place}
+use Rattle.dsa_accounts.proofs.NotedBatches.{noted-once, noted-left}
 
 -- ---- rows
 
@@ -135,7 +128,8 @@ unended : (w w' : Work) (n : BatchNote) → w'.fates ≡ w.fates → members_of 
 unended w w' n fates all h = alike w w' n n refl refl refl all (after_end was_abandoned) (after_end was_aborted) h
   where
     after_end : (such : Fate → Bool) → members_ended such w' n.batch ≡ members_ended such w n.batch
-    after_end such = ap (λ (rows : List FateRow). count_by (λ row. such row.fate && is_of n.batch row.parent) rows) fates
+    after_end such = ap (λ (rows : List FateRow). count_by
+        (λ row. such row.fate && is_of n.batch row.parent) rows) fates
 
 -- where the batch has no members
 fresh : (w : Work) (n : BatchNote) → members_of w n.batch ≡ 0 → n.fetched ≡ 0 → n.closed ≡ false → Counts w n
@@ -272,7 +266,13 @@ notes-change caps s s' w counts c = by_count (λ xs k w'. Adds s.work xs w' → 
     let own : ◌≡◌ {A = ℕ} (cond (is_of c.note.batch (Some c.note.batch)) 1 0) 1 = ap (λ
     (b : Bool). cond {A = ℕ} b 1 0) (eq-eqb c.note.batch c.note.batch refl) in
     let before = old.fetched in
-    record { fetched = omega (arith, all, own, before); unclosed = old.unclosed; closed = old.closed; none_aborted = old.none_aborted }))
+    record {
+      fetched = omega (arith, all, own, before);
+      unclosed = old.unclosed;
+      closed = old.closed;
+      none_aborted =
+          old.none_aborted;
+    }))
     (λ old.
     let other = false_from_ne_true (c.note.batch == n.batch)
     (λ t. old.0 (noted-once caps s j c.engine n c.note w old.1 c.is_note

@@ -1,38 +1,30 @@
 -- When a batch has ended, its members are done or abandoned, and so they stay.
-use Rattle.std.proofs.Common.{◌≡◌, ℕ, zero, suc, ◌≤◌, ◌&&◌, ◌||◌, ◌==◌, not, Bool, true, false, cond, List, [], ◌∷◌, ◌++◌, length, Option, Some, None, refl, sym, ap, ◌∙◌, subst, inl, inr, arith, ⊎_elim, eq-eqb}
-use Rattle.std.specs.Prelude.{count_by, nat_lt, nat_le, find}
+use Rattle.std.proofs.Common.{◌≡◌, ℕ, zero, suc, ◌≤◌, ◌&&◌, ◌||◌, ◌==◌, not, Bool, true, false, cond, List, [], ◌∷◌}
+use Rattle.std.proofs.Common.{◌++◌, length, Option, Some, None, refl, sym, ap, ◌∙◌, subst, inl, inr, arith, ⊎_elim}
+use Rattle.std.proofs.Common.{eq-eqb}
 use Rattle.std.proofs.lemmas.Bool.{or_parts, leb-true, ltb-true, ltb-false, not-false, false_from_ne_true}
 use Rattle.std.proofs.lemmas.Bool.Decides.{nat_tests}
 use Rattle.std.proofs.lemmas.List.Sums.{sum_by-cons}
-use Rattle.dsa_base.proofs.Lists.{length-none, In-append, In-filter, In-find}
-use Rattle.dsa_base.proofs.Counts.{In-counted, counted-In}
-use Rattle.dsa_base.specs.Rows.{passes}
+use Rattle.std.specs.Prelude.{count_by, nat_lt, nat_le, find}
+use Rattle.dsa_base.proofs.{Lists.{length-none, In-append, In-filter, In-find}, Counts.{In-counted, counted-In}}
 use Rattle.dsa_base.proofs.Tables.{table1}
+use Rattle.dsa_base.specs.{Rows.{passes}, Lists.{In}}
 use Rattle.dsa_desc.specs.declared.Outcome.{Outcome}
 use Rattle.dsa_regs.specs.declared.Caps.{Caps}
-use Rattle.dsa_store.specs.Content.{Slot, all_held, is_cell}
-use Rattle.dsa_store.proofs.Sums.{all_held-unlinked}
-use Rattle.dsa_book.specs.declared.answer.FinishAnswer.{FinishAnswer}
-use Rattle.dsa_book.specs.declared.answer.FinishAnswer.TheVariants.{Done, NotReady}
-use Rattle.dsa_book.specs.declared.answer.Reply.TheVariants.{Finish}
-use Rattle.dsa_book.specs.declared.answer.Ticket.{Ticket}
-use Rattle.dsa_book.specs.declared.event.Event.TheVariants.{Finish}
-use Rattle.dsa_book.specs.declared.event.Step.{Step}
-use Rattle.dsa_book.specs.declared.fate.Fate.{Fate}
-use Rattle.dsa_book.specs.declared.fate.Fate.TheVariants.{Completed}
-use Rattle.dsa_book.specs.declared.fate.FateRow.{FateRow}
+use Rattle.dsa_store.{specs.Content.{Slot, all_held, is_cell}, proofs.Sums.{all_held-unlinked}}
+use Rattle.dsa_book.specs.declared.answer.FinishAnswer.{FinishAnswer, TheVariants.{Done, NotReady}}
+use Rattle.dsa_book.specs.declared.answer.{Reply.TheVariants.{Finish}, Ticket.{Ticket}}
+use Rattle.dsa_book.specs.declared.event.{Event.TheVariants.{Finish}, Step.{Step}}
+use Rattle.dsa_book.specs.declared.fate.{Fate.{Fate, TheVariants.{Completed}}, FateRow.{FateRow}}
 use Rattle.dsa_book.specs.declared.note.BatchNote.{BatchNote}
 use Rattle.dsa_book.specs.State.{Work, State, opening, is_batch_of, is_ticket}
-use Rattle.dsa_book.specs.Work.{after_end, fate_row, finish_of, in_progress, is_all_fetched, is_unfinished, last_status, members, note_at, progress_list, running_on}
+use Rattle.dsa_book.specs.Work.{after_end, fate_row, finish_of, in_progress, is_all_fetched, is_unfinished}
+use Rattle.dsa_book.specs.Work.{last_status, members, note_at, progress_list, running_on}
 use Rattle.dsa_book.specs.Machine.{next, replay, replay_from}
-use Rattle.dsa_book.proofs.Nexts.{next-each}
-use Rattle.dsa_book.proofs.Replay.{replay_from-append, replay_none}
-use Rattle.dsa_laws.specs.Change.{Change}
-use Rattle.dsa_laws.specs.Engines.{holds_batch, IsLawfulEngine}
-use Rattle.dsa_base.specs.Lists.{In}
+use Rattle.dsa_book.proofs.{Nexts.{next-each}, Replay.{replay_from-append, replay_none}}
+use Rattle.dsa_laws.specs.{Change.{Change}, Engines.{holds_batch, IsLawfulEngine}}
 use Rattle.dsa_laws.specs.WellFormed.{IsWellFormed, NoteFits, fates_named}
-use Rattle.dsa_laws.proofs.Changes.{next-change}
-use Rattle.dsa_laws.proofs.Contents.{In-chain, sum-filter-le}
+use Rattle.dsa_laws.proofs.{Changes.{next-change}, Contents.{In-chain, sum-filter-le}}
 use Rattle.dsa_laws.proofs.Flows.{flow-change, names-counted, rows-counted}
 use Rattle.dsa_laws.proofs.Histories.{replay_keeps, replay-well_formed, well_formed-change}
 use Rattle.dsa_laws.proofs.Shapes.{queues-same, engines-same, In-cond}
@@ -64,7 +56,8 @@ done-is s e outcome (Some slot) batch status is =
 next-done : (s t : State) (e : ℕ) (ticket : Ticket) (outcome : Outcome) (status : ℕ) (batch : Slot)
     → next s (Finish e ticket outcome) (Finish (Done status)) ≡ Some t
     → find (is_ticket ticket) (running_on s.work e) ≡ Some batch
-    → ((is_batch_of s.work.setup batch.1 && is_unfinished s.work e) ≡ false) × (t.work ≡ after_end s.work e batch outcome)
+    → ((is_batch_of s.work.setup batch.1 && is_unfinished s.work e) ≡ false)
+    × (t.work ≡ after_end s.work e batch outcome)
 next-done s t e ticket outcome status batch h found =
     next-each (λ r u. r ≡ Finish (Done status)
     → ((is_batch_of s.work.setup batch.1 && is_unfinished s.work e) ≡ false) ×
@@ -268,5 +261,8 @@ replay-ended caps before after s s' e ticket outcome status batch r found is h =
         let start : IsOver t.work batch.1.name batch.1.desc.size = subst
         (λ w. IsOver w batch.1.name batch.1.desc.size) (sym done.1) over in
         (replay_keeps (λ u. IsWellFormed caps u × IsOver u.work batch.1.name batch.1.desc.size)
-        (λ u u' p c. (well_formed-change caps u u' p.0 c, over-change caps u u' batch.1.name batch.1.desc.size p.0 p.1 c))
+        (λ u u' p c. (
+          well_formed-change caps u u' p.0 c,
+          over-change caps u u' batch.1.name batch.1.desc.size p.0 p.1 c,
+        ))
         after t s' (well_formed-change caps s t w (next-change s t step.event step.reply n), start) k).1.ended

@@ -1,30 +1,24 @@
 -- Where a queue accepts or a batch is open, a cell is free.
-use Rattle.std.proofs.Common.{◌≡◌, ℕ, ◌+◌, ◌^◌, ◌<◌, ◌≤◌, true, false, List, [], length, Some, None, sym, ap, subst, arith, ⊎_elim}
-use Rattle.std.specs.Prelude.{sum_by}
+use Rattle.std.proofs.Common.{◌≡◌, ℕ, ◌+◌, ◌^◌, ◌<◌, ◌≤◌, true, false, List, [], length, Some, None, sym, ap, subst}
+use Rattle.std.proofs.Common.{arith, ⊎_elim}
 use Rattle.std.proofs.lemmas.Bool.{cases_Bool, ltb-false, leb-false, or_parts, not-false}
-use Rattle.dsa_base.specs.Rows.{first_row}
-use Rattle.dsa_regs.specs.declared.Caps.{Caps}
-use Rattle.dsa_regs.specs.declared.QueueConfig.{QueueConfig}
-use Rattle.dsa_regs.specs.Caps.{cell_count, list_count}
-use Rattle.dsa_base.specs.Numbers.{numbers_below}
+use Rattle.std.specs.Prelude.{sum_by}
+use Rattle.dsa_base.specs.{Rows.{first_row}, Numbers.{numbers_below}}
+use Rattle.dsa_base.proofs.NumberSums.{sum-places, sum-equal, sum-split_numbers, sum-plus, sum-same, sum-numbers-le}
+use Rattle.dsa_base.proofs.NumberSums.{sum-numbers-lt}
+use Rattle.dsa_base.proofs.Tables.{no-row}
+use Rattle.dsa_regs.specs.{declared.{Caps.{Caps}, QueueConfig.{QueueConfig}}, Caps.{cell_count, list_count}}
 use Rattle.dsa_regs.specs.Config.{queue_at, zero_queue, groups_table, total_size}
 use Rattle.dsa_store.specs.Content.{Slot, Content, chain, held_count}
-use Rattle.dsa_book.specs.declared.event.Portal.{Portal}
-use Rattle.dsa_book.specs.declared.event.Kind.{Kind}
-use Rattle.dsa_book.specs.declared.note.BatchNote.{BatchNote}
-use Rattle.dsa_book.specs.State.{Work, State, is_on, is_off, phase_at}
-use Rattle.dsa_book.specs.Submit.{limit_of, submit_table}
-use Rattle.dsa_book.specs.Work.{members, note_at, is_all_fetched, in_progress}
-use Rattle.dsa_book.specs.Machine.{intake_of}
-use Rattle.dsa_laws.specs.WellFormed.{HasShape, HasLawfulSetup, HasLawfulEntries, IsWithinLimits, NoteFits, IsWellFormed}
-use Rattle.dsa_laws.proofs.Shapes.{on-queue, note-engine, members-at}
-use Rattle.dsa_base.proofs.NumberSums.{sum-places, sum-equal}
-use Rattle.dsa_base.proofs.NumberSums.{sum-split_numbers, sum-plus, sum-same, sum-numbers-le, sum-numbers-lt}
+use Rattle.dsa_book.specs.declared.{event.{Portal.{Portal}, Kind.{Kind}}, note.BatchNote.{BatchNote}}
+use Rattle.dsa_book.specs.{State.{Work, State, is_on, is_off, phase_at}, Submit.{limit_of, submit_table}}
+use Rattle.dsa_book.specs.{Work.{members, note_at, is_all_fetched, in_progress}, Machine.{intake_of}}
 use Rattle.dsa_book.proofs.Phases.{on-not_off}
-use Rattle.dsa_base.proofs.Tables.{no-row}
-use Rattle.dsa_laws.proofs.Limits.{limit-le, lists-fit}
-use Rattle.dsa_laws.proofs.Entries.{none-held}
+use Rattle.dsa_laws.specs.WellFormed.{HasShape, HasLawfulSetup, HasLawfulEntries, IsWithinLimits, NoteFits}
+use Rattle.dsa_laws.specs.WellFormed.{IsWellFormed}
 use Rattle.dsa_laws.specs.Engines.{IsLawfulEngine}
+use Rattle.dsa_laws.proofs.{Shapes.{on-queue, note-engine, members-at}, Limits.{limit-le, lists-fit}}
+use Rattle.dsa_laws.proofs.Entries.{none-held}
 
 -- ---- how many are held, list by list
 
@@ -41,7 +35,8 @@ abbrev on_engine : Caps → Content → ℕ → ℕ
 on_engine caps content e = size content (caps.queues + e) + size content (caps.queues + caps.engines + e)
 
 held-parts : (caps : Caps) (content : Content) → length content ≡ list_count caps
-    → held_count content ≡ sum_by (size content) (numbers_below caps.queues) + sum_by (on_engine caps content) (numbers_below caps.engines)
+    → held_count content ≡ sum_by (size content) (numbers_below caps.queues)
+    + sum_by (on_engine caps content) (numbers_below caps.engines)
 held-parts caps content long =
     let q = caps.queues in
     let n = caps.engines in
@@ -50,8 +45,10 @@ held-parts caps content long =
     let is = ap (λ k. sum_by (size content) (numbers_below k)) twice in
     let first = sum-split_numbers (size content) q (n + n) in
     let second = sum-split_numbers (λ k. size content (q + k)) n n in
-    let moved : sum_by (λ k. size content (q + (n + k))) (numbers_below n) ≡ sum_by (λ k. size content (q + n + k)) (numbers_below n)
-    = sum-equal (λ k. size content (q + (n + k))) (λ k. size content (q + n + k)) (numbers_below n) (λ k. ap (size content) (omega arith)) in
+    let moved : sum_by (λ k. size content (q + (n + k))) (numbers_below n)
+    ≡ sum_by (λ k. size content (q + n + k)) (numbers_below n)
+    = sum-equal (λ k. size content (q + (n + k))) (λ k. size content (q + n + k)) (numbers_below n)
+    (λ k. ap (size content) (omega arith)) in
     let both = sum-plus (λ k. size content (q + k)) (λ k. size content (q + n + k)) n in
     omega (arith, all, is, first, second, moved, both)
 
@@ -68,11 +65,13 @@ sizes-fit caps w shape setup off =
     let long = ap (λ k. sum_by (λ q. (queue_at w.setup.configs q).size) (numbers_below k)) shape.configs in
     omega (arith, most, same, places, long)
 
-queues-fit : (caps : Caps) (w : Work) → HasShape caps w → HasLawfulSetup w.setup → HasLawfulEntries caps w → IsWithinLimits caps w
+queues-fit : (caps : Caps) (w : Work) → HasShape caps w → HasLawfulSetup w.setup → HasLawfulEntries caps w
+    → IsWithinLimits caps w
     → sum_by (size w.content) (numbers_below caps.queues) ≤ caps.total_size
 queues-fit caps w shape setup entries limits = ⊎_elim
     (λ off.
-    let none = sum-numbers-le (size w.content) (λ k. 0) caps.queues (λ k i. let e = ap (λ (xs : List Slot). length xs) (none-held caps w setup entries off k) in omega (arith, e)) in
+    let none = sum-numbers-le (size w.content) (λ k. 0) caps.queues (λ k i. let e =
+    ap (λ (xs : List Slot). length xs) (none-held caps w setup entries off k) in omega (arith, e)) in
     let zeros = sum-same 0 caps.queues in
     omega (arith, none, zeros))
     (λ not_off.
@@ -82,7 +81,8 @@ queues-fit caps w shape setup entries limits = ⊎_elim
     (cases_Bool (is_off w.setup.device))
 
 -- what an engine holds is within its slots and a batch
-engine-fits : (caps : Caps) (w : Work) → HasShape caps w → IsWithinLimits caps w → (e : ℕ) → e < caps.engines → on_engine caps w.content e ≤ caps.slots + 2 ^ caps.max_batch_shift
+engine-fits : (caps : Caps) (w : Work) → HasShape caps w → IsWithinLimits caps w → (e : ℕ) → e < caps.engines
+    → on_engine caps w.content e ≤ caps.slots + 2 ^ caps.max_batch_shift
 engine-fits caps w shape limits e i =
     let progress = (lists-fit caps w shape limits).slots e i in
     let most = limits.members e i in
@@ -93,25 +93,31 @@ engine-fits caps w shape limits e i =
 
 -- a queue below its size
 pub queue-room : (caps : Caps) (w : Work) (q : ℕ) → HasShape caps w → HasLawfulSetup w.setup → IsWithinLimits caps w
-    → q < caps.queues → is_off (phase_at w.setup q) ≡ false → size w.content q < (queue_at w.setup.configs q).size → held_count w.content < cell_count caps
+    → q < caps.queues → is_off (phase_at w.setup q) ≡ false → size w.content q < (queue_at w.setup.configs q).size
+    → held_count w.content < cell_count caps
 queue-room caps w q shape setup limits i off room =
     let parts = held-parts caps w.content shape.lists in
-    let queues = sum-numbers-lt (size w.content) (λ k. (queue_at w.setup.configs k).size) caps.queues q limits.queues i room in
+    let queues = sum-numbers-lt (size w.content)
+    (λ k. (queue_at w.setup.configs k).size) caps.queues q limits.queues i room in
     let sizes = sizes-fit caps w shape setup (setup.phases q off) in
-    let engines = sum-numbers-le (on_engine caps w.content) (λ k. caps.slots + 2 ^ caps.max_batch_shift) caps.engines (engine-fits caps w shape limits) in
+    let engines = sum-numbers-le (on_engine caps w.content)
+    (λ k. caps.slots + 2 ^ caps.max_batch_shift) caps.engines (engine-fits caps w shape limits) in
     let product = sum-same (caps.slots + 2 ^ caps.max_batch_shift) caps.engines in
     omega (arith, parts, queues, sizes, engines, product)
 
 -- an engine with fewer members than a batch may have
-pub member-room : (caps : Caps) (w : Work) (e : ℕ) → HasShape caps w → HasLawfulSetup w.setup → HasLawfulEntries caps w → IsWithinLimits caps w
+pub member-room : (caps : Caps) (w : Work) (e : ℕ) → HasShape caps w → HasLawfulSetup w.setup
+    → HasLawfulEntries caps w → IsWithinLimits caps w
     → e < caps.engines → length (members w e) < 2 ^ caps.max_batch_shift → held_count w.content < cell_count caps
 member-room caps w e shape setup entries limits i room =
     let parts = held-parts caps w.content shape.lists in
     let queues = queues-fit caps w shape setup entries limits in
     let same = ap (λ (xs : List Slot). length xs) (members-at caps w e shape i) in
     let progress = (lists-fit caps w shape limits).slots e i in
-    let less : on_engine caps w.content e < caps.slots + 2 ^ caps.max_batch_shift = omega (arith, same, progress, room) in
-    let engines = sum-numbers-lt (on_engine caps w.content) (λ k. caps.slots + 2 ^ caps.max_batch_shift) caps.engines e (engine-fits caps w shape limits) i less in
+    let less : on_engine caps w.content e < caps.slots + 2 ^ caps.max_batch_shift =
+    omega (arith, same, progress, room) in
+    let engines = sum-numbers-lt (on_engine caps w.content)
+    (λ k. caps.slots + 2 ^ caps.max_batch_shift) caps.engines e (engine-fits caps w shape limits) i less in
     let product = sum-same (caps.slots + 2 ^ caps.max_batch_shift) caps.engines in
     omega (arith, parts, queues, engines, product)
 
@@ -126,7 +132,8 @@ accepting-room caps s q portal kind w h =
     let below = leb-false (limit_of config portal) (size s.work.content q) rows.1.1.0 in
     let off = on-not_off _ on in
     let limit = limit-le s.work.setup.caps s.work.setup.groups q config portal (w.setup.queue q off) in
-    queue-room caps s.work q w.shape w.setup w.limits (on-queue caps s.work q w.shape on) off (omega (arith, below, limit))
+    queue-room caps s.work q w.shape w.setup w.limits (on-queue caps s.work q w.shape on) off
+    (omega (arith, below, limit))
 
 pub fetching-room : (caps : Caps) (s : State) (e : ℕ) (note : BatchNote) → IsWellFormed caps s
     → note_at s.work e ≡ Some note → is_all_fetched note ≡ false → held_count s.work.content < cell_count caps
@@ -134,6 +141,8 @@ fetching-room caps s e note w h more =
     let below = leb-false note.count note.fetched (or_parts note.closed _ more).1 in
     let fits : NoteFits caps (Some note) = subst (NoteFits caps) h (w.notes e) in
     let count = fits.count in
-    let law : IsLawfulEngine s.work.setup (in_progress s.work e) (members s.work e) (Some note) = subst (IsLawfulEngine s.work.setup (in_progress s.work e) (members s.work e)) h (w.engines e) in
+    let law : IsLawfulEngine s.work.setup (in_progress s.work e) (members s.work e) (Some note) =
+    subst (IsLawfulEngine s.work.setup (in_progress s.work e) (members s.work e)) h (w.engines e) in
     let some = law.most in
-    member-room caps s.work e w.shape w.setup w.entries w.limits (note-engine caps s.work e note w.shape h) (omega (arith, below, count, some))
+    member-room caps s.work e w.shape w.setup w.entries w.limits (note-engine caps s.work e note w.shape h)
+    (omega (arith, below, count, some))

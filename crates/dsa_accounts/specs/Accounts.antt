@@ -2,10 +2,7 @@
 use Rattle.std.specs.Prelude.{ℕ, ◌+◌, Bool, true, false, not, ◌||◌, List, count_by, is_some, is_none}
 use Rattle.std.specs.List.{list_all}
 use Rattle.dsa_store.specs.Content.{Slot, all_held}
-use Rattle.dsa_book.specs.declared.fate.Fate.{Fate}
-use Rattle.dsa_book.specs.declared.fate.Fate.TheVariants.{Abandoned}
-use Rattle.dsa_book.specs.declared.fate.FateRow.{FateRow}
-use Rattle.dsa_book.specs.State.{Work}
+use Rattle.dsa_book.specs.{declared.fate.{Fate.{Fate, TheVariants.{Abandoned}}, FateRow.{FateRow}}, State.{Work}}
 
 -- the fate of an entry that a program submitted (profile)
 abbrev pub is_submitted_row : FateRow → Bool

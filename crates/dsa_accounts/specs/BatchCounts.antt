@@ -2,9 +2,7 @@
 use Rattle.std.specs.Prelude.{◌≡◌, ℕ, ◌+◌, ◌≤◌, Bool, true, false, ◌&&◌, ◌==◌, Option, count_by}
 use Rattle.dsa_base.specs.Rows.{passes}
 use Rattle.dsa_store.specs.Content.{all_held}
-use Rattle.dsa_book.specs.declared.fate.Fate.{Fate}
-use Rattle.dsa_book.specs.declared.fate.Fate.TheVariants.{Completed, Aborted}
-use Rattle.dsa_book.specs.declared.note.BatchNote.{BatchNote}
+use Rattle.dsa_book.specs.declared.{fate.Fate.{Fate, TheVariants.{Completed, Aborted}}, note.BatchNote.{BatchNote}}
 use Rattle.dsa_book.specs.State.{Work}
 use Rattle.dsa_accounts.specs.Accounts.{was_abandoned}
 
@@ -42,14 +40,18 @@ members_aborted = members_ended was_aborted
 abbrev pub members_held : Work → ℕ → ℕ
 members_held w batch = count_by (λ slot. is_of batch slot.1.parent) (all_held w.content)
 
--- of the batch that an engine works on: each member that was fetched is done, abandoned or held, and members are abandoned exactly where the batch is closed; none is aborted without its batch (Intel DSA: a failure before a fence abandons the rest; all else is the profile's)
+-- of the batch that an engine works on: each member that was fetched is done, abandoned or held,
+-- and members are abandoned exactly where the batch is closed; none is aborted without its batch
+-- (Intel DSA: a failure before a fence abandons the rest; all else is the profile's)
 pub record AddsUp (w : Work) (note : BatchNote) : Type 0 where
   pub fetched : members_done w note.batch + members_abandoned w note.batch + members_held w note.batch ≡ note.fetched
   pub unclosed : note.closed ≡ false → members_abandoned w note.batch ≡ 0
   pub closed : note.closed ≡ true → 1 ≤ members_abandoned w note.batch
   pub none_aborted : members_aborted w note.batch ≡ 0
 
--- of a batch of so many that has ended: all of them are done, or some are abandoned, and these with the done ones are no more; none is held or aborted (Intel DSA: a failure before a fence abandons the rest; all else is the profile's)
+-- of a batch of so many that has ended: all of them are done, or some are abandoned, and these with
+-- the done ones are no more; none is held or aborted (Intel DSA: a failure before a fence abandons
+-- the rest; all else is the profile's)
 pub record HasEnded (w : Work) (batch count : ℕ) : Type 0 where
   pub all : members_abandoned w batch ≡ 0 → members_done w batch ≡ count
   pub most : members_done w batch + members_abandoned w batch ≤ count

@@ -1,9 +1,7 @@
 -- Room in the store for one entry more.
 use Rattle.std.specs.Prelude.{◌≡◌, true}
-use Rattle.dsa_regs.specs.declared.Caps.{Caps}
-use Rattle.dsa_regs.specs.Caps.{cell_count}
-use Rattle.dsa_store.specs.declared.entry.Cell.{Cell}
-use Rattle.dsa_store.specs.Content.{is_free}
+use Rattle.dsa_regs.specs.{declared.Caps.{Caps}, Caps.{cell_count}}
+use Rattle.dsa_store.specs.{declared.entry.Cell.{Cell}, Content.{is_free}}
 use Rattle.dsa_book.specs.State.{Work}
 
 -- one of the store's cells stands in no list (profile)

@@ -1,25 +1,21 @@
 -- What commands do, deed by deed, and that they leave queues, engines and store in step.
 use Rattle.std.proofs.Common.{◌≡◌, ℕ, Bool, true, false, not, List, [], ◌∷◌, length, refl, sym, ap, ◌∙◌}
 use Rattle.std.specs.List.{list_any}
-use Rattle.dsa_regs.specs.declared.Phase.{Phase}
-use Rattle.dsa_regs.specs.declared.Command.{Command}
-use Rattle.dsa_regs.specs.declared.Scope.{Scope}
-use Rattle.dsa_regs.specs.declared.Scope.TheVariants.{Device}
-use Rattle.dsa_regs.specs.declared.Deed.{Deed}
-use Rattle.dsa_regs.specs.declared.Deed.TheVariants.{Disable}
+use Rattle.dsa_regs.specs.declared.{Phase.{Phase}, Command.{Command}, Scope.{Scope, TheVariants.{Device}}}
+use Rattle.dsa_regs.specs.declared.Deed.{Deed, TheVariants.{Disable}}
 use Rattle.dsa_regs.specs.Command.{scope_of, deed_of, queues_in}
-use Rattle.dsa_store.specs.declared.entry.Entry.{Entry}
-use Rattle.dsa_store.specs.Content.{Slot, Content, all_held, held_count}
+use Rattle.dsa_store.specs.{declared.entry.Entry.{Entry}, Content.{Slot, Content, all_held, held_count}}
 use Rattle.dsa_store.proofs.Sums.{held-counted}
-use Rattle.dsa_book.specs.declared.answer.IssueAnswer.{IssueAnswer}
-use Rattle.dsa_book.specs.State.{Setup, State, is_off, phase_at}
+use Rattle.dsa_book.specs.{declared.answer.IssueAnswer.{IssueAnswer}, State.{Setup, State, is_off, phase_at}}
+use Rattle.dsa_book.specs.Commands.{command_done_of, deed_done_of, holds_any, is_awaited, may_come, is_among}
+use Rattle.dsa_book.specs.Commands.{after_stop, with_phases}
 use Rattle.dsa_book.proofs.Phases.{on-not_off}
-use Rattle.dsa_book.specs.Commands.{command_done_of, deed_done_of, holds_any, is_awaited, may_come, is_among, after_stop, with_phases}
 use Rattle.dsa_queues.proofs.Whole.{whole-phases}
 use Rattle.dsa_engines.specs.Engines.{Gear, IsInStep}
 
 -- a command is carried out as its deed is done
-pub carried-as : (s : State) (command : Command) (deed is : Deed) (done : IssueAnswer × State) → deed ≡ deed_of command → deed ≡ is
+pub carried-as : (s : State) (command : Command) (deed is : Deed) (done : IssueAnswer × State)
+    → deed ≡ deed_of command → deed ≡ is
     → deed_done_of s command is (scope_of command) ≡ done → command_done_of s command ≡ done
 carried-as s command deed is done of e h = ap (λ d. deed_done_of s command d (scope_of command)) (sym of ∙ e) ∙ h
 
@@ -47,7 +43,8 @@ none-awaited content none = held-counted content ∙ empty (all_held content) no
     empty (x ∷ xs) h = absurd cc
 
 -- what is stopped stays in step; it comes to Off once nothing is held that is waited for
-pub in_step-stopped : {cells : ℕ} (deed : Deed) (scope : Scope) (mark : ℕ) (phase : Phase) (setup : Setup) (gear : Gear) (content : Content)
+pub in_step-stopped : {cells : ℕ} (deed : Deed) (scope : Scope) (mark : ℕ) (phase : Phase) (setup : Setup)
+    (gear : Gear) (content : Content)
     → (is_off phase ≡ false → may_come setup deed scope ≡ true)
     → (is_off phase ≡ true → holds_any (is_awaited deed scope mark) content ≡ false)
     → IsInStep setup gear cells content → IsInStep (after_stop deed scope phase setup) gear cells content
@@ -62,5 +59,6 @@ in_step-stopped Disable Device mark phase setup gear content come none s =
       homes = λ on. s.homes (on-not_off setup.device (come on));
       buffers = λ on. s.buffers (on-not_off setup.device (come on));
     }
-in_step-stopped Disable scope mark phase setup gear content come none s = in_step-phases (is_among (queues_in scope)) phase setup gear content s
+in_step-stopped Disable scope mark phase setup gear content come none s =
+    in_step-phases (is_among (queues_in scope)) phase setup gear content s
 in_step-stopped _ scope mark phase setup gear content come none s = s

@@ -1,29 +1,22 @@
 -- Queues that lose all but their sizes: what other queues' entries need stays.
-use Rattle.std.proofs.Common.{◌≡◌, ℕ, zero, suc, ◌<◌, ◌≤◌, Bool, true, false, not, cond, List, ◌∷◌, length, refl, sym, ap, ◌∙◌, inl, inr, arith, []}
-use Rattle.std.proofs.lemmas.Grind.{common_steps}
-use Rattle.std.proofs.lemmas.Bool.{cases_lt}
+use Rattle.std.proofs.Common.{◌≡◌, ℕ, zero, suc, ◌<◌, ◌≤◌, Bool, true, false, not, cond, List, ◌∷◌, length, refl, sym}
+use Rattle.std.proofs.Common.{ap, ◌∙◌, inl, inr, arith, []}
+use Rattle.std.proofs.lemmas.{Grind.{common_steps}, Bool.{cases_lt}}
 use Rattle.std.specs.List.{filter}
-use mathlib.Core.Logic.{◌⊎◌}
 use Rattle.dsa_desc.specs.Descriptor.{need}
-use Rattle.dsa_regs.specs.declared.QueueConfig.{QueueConfig}
-use Rattle.dsa_regs.specs.declared.Scope.{Scope}
-use Rattle.dsa_regs.specs.declared.Scope.TheVariants.{Device}
+use Rattle.dsa_regs.specs.declared.{QueueConfig.{QueueConfig}, Scope.{Scope, TheVariants.{Device}}}
 use Rattle.dsa_regs.specs.declared.Phase.TheVariants.{Off}
-use Rattle.dsa_regs.specs.Config.{check_groups, zero_queue, queue_at, limits_of}
-use Rattle.dsa_regs.specs.Command.{queues_in}
-use Rattle.dsa_store.specs.declared.entry.Entry.{Entry}
-use Rattle.dsa_store.specs.Content.{Slot, Content, chain, held_count, only_where}
+use Rattle.dsa_regs.specs.{Config.{check_groups, zero_queue, queue_at, limits_of}, Command.{queues_in}}
+use Rattle.dsa_store.specs.{declared.entry.Entry.{Entry}, Content.{Slot, Content, chain, held_count, only_where}}
 use Rattle.dsa_store.proofs.Lists.{held-nil, held-cons}
-use Rattle.dsa_queues.specs.Queues.{IsWhole}
+use Rattle.dsa_queues.{specs.Queues.{IsWhole}, proofs.Whole.{whole-reset}}
 use Rattle.dsa_base.proofs.NumberLists.{get_or-each, length-each}
-use Rattle.dsa_queues.proofs.Whole.{whole-reset}
 use Rattle.dsa_book.specs.State.{Setup, held_by, is_member}
-use Rattle.dsa_book.proofs.Scopes.{unnamed}
-use Rattle.dsa_book.proofs.Sizes.{total_size-alone}
 use Rattle.dsa_book.specs.Commands.{is_in_scope, is_among, with_phases, with_sizes_alone, size_alone, reset}
+use Rattle.dsa_book.proofs.{Scopes.{unnamed}, Sizes.{total_size-alone}}
 use Rattle.dsa_engines.specs.Engines.{Gear, IsInStep}
-use Rattle.dsa_engines.proofs.Keeping.{KeepsLoads, homes-kept, buffers-kept}
-use Rattle.dsa_engines.proofs.Used.{load, load-nil, load-cons}
+use Rattle.dsa_engines.proofs.{Keeping.{KeepsLoads, homes-kept, buffers-kept}, Used.{load, load-nil, load-cons}}
+use mathlib.Core.Logic.{◌⊎◌}
 
 -- the set-up after Reset WQ
 abbrev after_reset : Scope → Setup → Setup
@@ -46,21 +39,29 @@ config-same scope setup q w out = on (cases_lt q setup.caps.queues)
 held-same : (scope : Scope) (setup : Setup) (e : Entry) → IsWhole setup → is_in_scope scope e ≡ false
     → held_by (after_reset scope setup) e ≡ held_by setup e
 held-same scope setup e w out =
-    ap (λ (config : QueueConfig). cond {A = ℕ} e.running (need e.desc (limits_of config) (is_member e)) 0) (config-same scope setup e.queue w (unnamed scope e out))
+    ap (λ (config : QueueConfig). cond {A = ℕ} e.running (need e.desc (limits_of config) (is_member e)) 0)
+    (config-same scope setup e.queue w (unnamed scope e out))
 
 -- so does what is left of a list
 load-spared : (scope : Scope) (setup : Setup) → IsWhole setup → (l : List Slot)
-    → load (after_reset scope setup) (filter (λ (s : Slot). not (is_in_scope scope s.1)) l) ≡ load setup (filter (λ (s : Slot). not (is_in_scope scope s.1)) l)
+    → load (after_reset scope setup) (filter (λ (s : Slot). not (is_in_scope scope s.1)) l)
+    ≡ load setup (filter (λ (s : Slot). not (is_in_scope scope s.1)) l)
 load-spared scope setup w [] = load-nil (after_reset scope setup) ∙ sym (load-nil setup)
 load-spared scope setup w (s ∷ l) = on (is_in_scope scope s.1) refl (load-spared scope setup w l)
   where
     on : (b : Bool) → is_in_scope scope s.1 ≡ b
-        → load (after_reset scope setup) (filter (λ (x : Slot). not (is_in_scope scope x.1)) l) ≡ load setup (filter (λ (x : Slot). not (is_in_scope scope x.1)) l)
-        → load (after_reset scope setup) (cond (not b) (s ∷ filter (λ (x : Slot). not (is_in_scope scope x.1)) l) (filter (λ (x : Slot). not (is_in_scope scope x.1)) l)) ≡ load setup (cond (not b) (s ∷ filter (λ (x : Slot). not (is_in_scope scope x.1)) l) (filter (λ (x : Slot). not (is_in_scope scope x.1)) l))
+        → load (after_reset scope setup) (filter (λ (x : Slot). not (is_in_scope scope x.1)) l)
+        ≡ load setup (filter (λ (x : Slot). not (is_in_scope scope x.1)) l)
+        → load (after_reset scope setup)
+        (cond (not b) (s ∷ filter (λ (x : Slot). not (is_in_scope scope x.1)) l)
+        (filter (λ (x : Slot). not (is_in_scope scope x.1)) l))
+        ≡ load setup (cond (not b) (s ∷ filter (λ (x : Slot). not (is_in_scope scope x.1)) l)
+        (filter (λ (x : Slot). not (is_in_scope scope x.1)) l))
     on true is h = h
     on false is h =
         let rest : List Slot = filter (λ (x : Slot). not (is_in_scope scope x.1)) l in
-        load-cons (after_reset scope setup) s rest ∙ rw (held-same scope setup s.1 w is, h) (sym (load-cons setup s rest))
+        load-cons (after_reset scope setup) s rest
+        ∙ rw (held-same scope setup s.1 w is, h) (sym (load-cons setup s rest))
 
 -- a list of what is kept
 chain-kept : (test : Entry → Bool) (content : Content) (i : ℕ)
@@ -105,13 +106,15 @@ in_step-reset scope setup gear content now is s =
       caps = refl;
       groups = refl;
       device = λ on. on;
-      loads = λ j low. rw (is, chain-kept (λ entry. not (is_in_scope scope entry)) content j) (load-spared scope setup w (chain content j));
+      loads = λ j low. rw (is, chain-kept (λ entry. not (is_in_scope scope entry)) content j)
+          (load-spared scope setup w (chain content j));
     } in
     record {
       queues = whole-reset scope setup w;
       store = s.store;
       idle = s.idle;
-      checked = λ on. ap (λ (n : ℕ). check_groups setup.caps n setup.groups) (total_size-alone (queues_in scope) setup w.configs) ∙ s.checked on;
+      checked = λ on. ap (λ (n : ℕ). check_groups setup.caps n setup.groups)
+          (total_size-alone (queues_in scope) setup w.configs) ∙ s.checked on;
       notes = s.notes;
       homes = homes-kept setup (after_reset scope setup) gear now now s keeps;
       buffers = buffers-kept setup (after_reset scope setup) gear now now s keeps;

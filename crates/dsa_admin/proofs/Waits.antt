@@ -1,10 +1,9 @@
 -- Whether a store holds an entry that passes, list by list.
-use Rattle.std.proofs.Common.{◌≡◌, ℕ, ◌<◌, ◌≤◌, Bool, true, false, ◌||◌, List, [], ◌∷◌, take, length, refl, sym, ap, ◌∙◌}
-use Rattle.std.proofs.lemmas.List.{take_all}
-use Rattle.std.proofs.lemmas.List.Folds.{list_any-append, list_any_at}
+use Rattle.std.proofs.Common.{◌≡◌, ℕ, ◌<◌, ◌≤◌, Bool, true, false, ◌||◌, List, [], ◌∷◌, take, length, refl, sym, ap}
+use Rattle.std.proofs.Common.{◌∙◌}
+use Rattle.std.proofs.lemmas.List.{take_all, Folds.{list_any-append, list_any_at}}
 use Rattle.std.specs.List.{list_any}
-use Rattle.dsa_store.specs.declared.entry.Entry.{Entry}
-use Rattle.dsa_store.specs.Content.{Slot, Content, chain, all_held}
+use Rattle.dsa_store.specs.{declared.entry.Entry.{Entry}, Content.{Slot, Content, chain, all_held}}
 use Rattle.dsa_book.specs.Commands.{holds_any}
 
 -- the list has one
@@ -15,7 +14,8 @@ any_in test l = list_any (λ s. test s.1) l
 holds-lists : (test : Entry → Bool) (content : Content) → holds_any test content ≡ list_any (any_in test) content
 holds-lists test [] = refl
 holds-lists test (l ∷ ls) =
-    list_any-append (λ (s : Slot). test s.1) l (all_held ls) ∙ ap (λ (b : Bool). any_in test l || b) (holds-lists test ls)
+    list_any-append (λ (s : Slot). test s.1) l (all_held ls)
+    ∙ ap (λ (b : Bool). any_in test l || b) (holds-lists test ls)
 
 -- a list that has one is enough
 pub holds-hit : (test : Entry → Bool) (content : Content) (i : ℕ) → i < length content

@@ -1,23 +1,16 @@
 -- Retry for want of room comes exactly at the limit.
-use Rattle.std.proofs.Common.{◌≡◌, ℕ, ◌≤◌, false, Some, refl, ap, subst, arith}
-use Rattle.std.specs.Prelude.{IsTrue, not, nat_le, ◌↔◌}
-use Rattle.std.specs.Bool.{beq}
-use Rattle.std.proofs.lemmas.Bool.{leb-true, leb-false}
+use Rattle.dsa_book.specs.declared.event.Event.TheVariants as event
+use Rattle.dsa_book.specs.declared.answer.Reply.TheVariants as reply
+use Rattle.std.proofs.{Common.{◌≡◌, ℕ, ◌≤◌, false, Some, refl, ap, subst, arith}, lemmas.Bool.{leb-true, leb-false}}
+use Rattle.std.specs.{Prelude.{IsTrue, not, nat_le, ◌↔◌}, Bool.{beq}}
 use Rattle.dsa_desc.specs.declared.Descriptor.{Descriptor}
 use Rattle.dsa_base.proofs.Tables.{table3}
 use Rattle.dsa_regs.specs.Config.{queue_at}
-use Rattle.dsa_book.specs.declared.event.Portal.{Portal}
-use Rattle.dsa_book.specs.declared.event.Kind.TheVariants.{Enqcmd}
-use Rattle.dsa_book.specs.declared.event.Event.TheVariants as event
+use Rattle.dsa_book.specs.declared.event.{Portal.{Portal}, Kind.TheVariants.{Enqcmd}}
 use Rattle.dsa_book.specs.declared.answer.Cause.TheVariants.{AtLimit}
-use Rattle.dsa_book.specs.declared.answer.SubmitAnswer.{SubmitAnswer}
-use Rattle.dsa_book.specs.declared.answer.SubmitAnswer.TheVariants.{Retry}
-use Rattle.dsa_book.specs.declared.answer.Reply.{Reply}
-use Rattle.dsa_book.specs.declared.answer.Reply.TheVariants as reply
-use Rattle.dsa_book.specs.State.{Intake, State, occupancy, phase_at, is_on}
-use Rattle.dsa_book.specs.Submit.{limit_of, is_movdir64b, submit}
-use Rattle.dsa_book.specs.Machine.{intake_of, next}
-use Rattle.dsa_book.specs.Choice.{choice_of, cell_of}
+use Rattle.dsa_book.specs.declared.answer.{SubmitAnswer.{SubmitAnswer, TheVariants.{Retry}}, Reply.{Reply}}
+use Rattle.dsa_book.specs.{State.{Intake, State, occupancy, phase_at, is_on}, Submit.{limit_of, is_movdir64b, submit}}
+use Rattle.dsa_book.specs.{Machine.{intake_of, next}, Choice.{choice_of, cell_of}}
 use Rattle.dsa_book.proofs.Nexts.{next-is}
 
 pub retry-at-limit : (s s' : State) (client queue pasid : ℕ) (portal : Portal) (desc : Descriptor) (a : SubmitAnswer)
@@ -28,9 +21,11 @@ retry-at-limit s s' client queue pasid portal desc a on shared h =
     let kind = Enqcmd pasid in
     let config = queue_at s.work.setup.configs queue in
     let r = submit (intake_of s) queue portal kind desc (cell_of (choice_of (reply.Submit a))) in
-    let p = ap (λ (r : Reply × State). r.0) (next-is s s' (event.Submit client queue portal kind desc) (reply.Submit a) h).1 in
+    let p = ap (λ (r : Reply × State). r.0)
+    (next-is s s' (event.Submit client queue portal kind desc) (reply.Submit a) h).1 in
     let is : r.0 ≡ a = cc in
-    let P : SubmitAnswer × Intake → Type 0 = λ r. (r.0 ≡ Retry AtLimit) ↔ (limit_of config portal ≤ occupancy s.work.content queue) in
+    let P : SubmitAnswer × Intake → Type 0 =
+    λ r. (r.0 ≡ Retry AtLimit) ↔ (limit_of config portal ≤ occupancy s.work.content queue) in
     subst (λ (a : SubmitAnswer). (a ≡ Retry AtLimit) ↔ (limit_of config portal ≤ occupancy s.work.content queue)) is
     (table3 P (not (is_on (phase_at s.work.setup queue))) (not (beq (is_movdir64b kind) config.dedicated))
     (nat_le (limit_of config portal) (occupancy s.work.content queue)) _ _ _ _

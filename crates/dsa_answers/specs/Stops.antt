@@ -1,14 +1,9 @@
 -- What is Stopping, and by which command.
 use Rattle.std.specs.Prelude.{◌≡◌, ℕ, Bool, true, false, Option, Some, None}
-use Rattle.dsa_regs.specs.declared.Phase.{Phase}
-use Rattle.dsa_regs.specs.declared.Phase.TheVariants.{Stopping}
-use Rattle.dsa_regs.specs.declared.Scope.{Scope}
-use Rattle.dsa_regs.specs.declared.Scope.TheVariants.{Device}
-use Rattle.dsa_regs.specs.declared.Deed.{Deed}
-use Rattle.dsa_regs.specs.declared.Deed.TheVariants.{Disable}
+use Rattle.dsa_regs.specs.declared.{Phase.{Phase, TheVariants.{Stopping}}, Scope.{Scope, TheVariants.{Device}}}
+use Rattle.dsa_regs.specs.declared.Deed.{Deed, TheVariants.{Disable}}
 use Rattle.dsa_regs.specs.Command.{scope_of, deed_of, queues_in}
-use Rattle.dsa_book.specs.declared.note.ActiveCommand.{ActiveCommand}
-use Rattle.dsa_book.specs.State.{Setup, State, phase_at}
+use Rattle.dsa_book.specs.{declared.note.ActiveCommand.{ActiveCommand}, State.{Setup, State, phase_at}}
 use Rattle.dsa_book.specs.Commands.{is_among}
 
 -- whether the device or a queue waits for the end of a disable
@@ -35,7 +30,8 @@ is_active_command test (Some active) = test (deed_of active.command) (scope_of a
 -- what is Stopping is what the active command disables (profile)
 pub record StopsByCommand (s : State) : Type 0 where
   pub device : is_stopping s.work.setup.device ≡ true → is_active_command stops_device s.active ≡ true
-  pub queues : (q : ℕ) → is_stopping (phase_at s.work.setup q) ≡ true → is_active_command (λ deed scope. stops_queue deed scope q) s.active ≡ true
+  pub queues : (q : ℕ) → is_stopping (phase_at s.work.setup q) ≡ true
+      → is_active_command (λ deed scope. stops_queue deed scope q) s.active ≡ true
 
 -- neither the device nor a queue is Stopping (profile)
 pub record IsAtRest (setup : Setup) : Type 0 where

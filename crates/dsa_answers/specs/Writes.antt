@@ -1,7 +1,6 @@
 -- What a write leaves.
 use Rattle.std.specs.Prelude.{List}
-use Rattle.dsa_regs.specs.declared.QueueConfig.{QueueConfig}
-use Rattle.dsa_regs.specs.declared.GroupConfig.{GroupConfig}
+use Rattle.dsa_regs.specs.declared.{QueueConfig.{QueueConfig}, GroupConfig.{GroupConfig}}
 use Rattle.dsa_book.specs.State.{State}
 
 -- the state with these configurations of its queues, and all else as it was

@@ -1,8 +1,8 @@
 -- A test that few elements of a list pass.
-use Rattle.std.proofs.Common.{◌≡◌, ℕ, zero, suc, ◌+◌, ◌<◌, ◌≤◌, Bool, true, false, cond, ◌||◌, List, [], ◌∷◌, ◌++◌, take, length, filter, get_or, Some, refl, sym, ap, ◌∙◌, subst, inl, inr, ⊎_elim, arith}
-use Rattle.std.specs.Prelude.{count_by}
-use Rattle.std.specs.List.{list_any, position}
+use Rattle.std.proofs.Common.{◌≡◌, ℕ, zero, suc, ◌+◌, ◌<◌, ◌≤◌, Bool, true, false, cond, ◌||◌, List, [], ◌∷◌, ◌++◌}
+use Rattle.std.proofs.Common.{take, length, filter, get_or, Some, refl, sym, ap, ◌∙◌, subst, inl, inr, ⊎_elim, arith}
 use Rattle.std.proofs.lemmas.List.Sums.{sum_by-cons, sum_by_push, get_or-le-sum_by, length-filter, count_by-le-length}
+use Rattle.std.specs.{Prelude.{count_by}, List.{list_any, position}}
 use Rattle.dsa_base.specs.Lists.{In}
 use Rattle.dsa_base.proofs.FirstPlaces.{position-hit}
 use Rattle.dsa_base.proofs.Lists.{none-In, length-none, In-length, In-only, In-alone, In-push, In-filter, In-passing}

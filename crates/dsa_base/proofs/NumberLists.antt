@@ -1,5 +1,6 @@
 -- A list made of a function of the numbers below a bound.
-use Rattle.std.proofs.Common.{◌≡◌, ◌≢◌, ℕ, zero, suc, ◌+◌, ◌<◌, ◌≤◌, List, [], ◌∷◌, ◌++◌, length, map, replicate, set, get_or, refl, sym, ap, ◌∙◌, subst, arith, ⊎_elim, length-append}
+use Rattle.std.proofs.Common.{◌≡◌, ◌≢◌, ℕ, zero, suc, ◌+◌, ◌<◌, ◌≤◌, List, [], ◌∷◌, ◌++◌, length, map, replicate, set}
+use Rattle.std.proofs.Common.{get_or, refl, sym, ap, ◌∙◌, subst, arith, ⊎_elim, length-append}
 use Rattle.std.proofs.lemmas.Grind.{common_steps}
 use Rattle.std.proofs.lemmas.List.{ext_get_or, get_or-map, length-map, length-replicate, length-set, map-append}
 use Rattle.std.proofs.lemmas.Bool.{cases_eq}
@@ -8,7 +9,8 @@ use Rattle.dsa_base.specs.Numbers.{numbers_below}
 
 pub length-numbers : (n : ℕ) → length (numbers_below n) ≡ n
 length-numbers zero = refl
-length-numbers (suc n) = let more = length-append (numbers_below n) (n ∷ []) in let rest = length-numbers n in omega (arith, more, rest)
+length-numbers (suc n) = let more = length-append (numbers_below n) (n ∷ []) in let rest = length-numbers n in
+    omega (arith, more, rest)
 
 pub length-each : {X : Type 0} (f : ℕ → X) (n : ℕ) → length (map f (numbers_below n)) ≡ n
 length-each f n = length-map (numbers_below n) f ∙ length-numbers n
@@ -27,7 +29,8 @@ get_or-numbers zero q d h = absurd (omega arith)
 get_or-numbers (suc n) q d h = ⊎_elim
     (λ (e : q ≡ n).
     let size = length-numbers n in
-    subst (λ k. get_or (numbers_below n ++ n ∷ []) k d ≡ q) (size ∙ sym e) (let last = push-last (numbers_below n) n d in last ∙ sym e) ∙ refl)
+    subst (λ k. get_or (numbers_below n ++ n ∷ []) k d ≡ q) (size ∙ sym e) (let last =
+    push-last (numbers_below n) n d in last ∙ sym e) ∙ refl)
     (λ (e : q ≢ n).
     let below : q < n = omega (arith, h, e) in
     let size = length-numbers n in
@@ -40,7 +43,8 @@ get_or-each f n q d h =
     get_or-map f (numbers_below n) q 0 d (omega (arith, size, h)) ∙ ap f (get_or-numbers n q 0 h)
 
 pub get_or-past : {X : Type 0} (f : ℕ → X) (n q : ℕ) (d : X) → n ≤ q → get_or (map f (numbers_below n)) q d ≡ d
-get_or-past f n q d h = let size = length-each f n in get_or-eq_default (map f (numbers_below n)) d (omega (arith, size, h))
+get_or-past f n q d h = let size = length-each f n in
+    get_or-eq_default (map f (numbers_below n)) d (omega (arith, size, h))
 
 -- where f' is f below the bound the tables are the same
 pub same-table : {X : Type 0} (f f' : ℕ → X) (n : ℕ) → ((k : ℕ) → k < n → f' k ≡ f k)
@@ -48,7 +52,8 @@ pub same-table : {X : Type 0} (f f' : ℕ → X) (n : ℕ) → ((k : ℕ) → k 
 same-table f f' zero h = refl
 same-table f f' (suc n) h =
     map-append f' (numbers_below n) (n ∷ [])
-    ∙ rw (same-table f f' n (λ k lt. h k (omega (arith, lt))), h n (omega arith)) (sym (map-append f (numbers_below n) (n ∷ [])))
+    ∙ rw (same-table f f' n (λ k lt. h k (omega (arith, lt))), h n (omega arith))
+    (sym (map-append f (numbers_below n) (n ∷ [])))
 
 -- a table of f with one number raised is the table of f'
 pub raised-table : (f f' : ℕ → ℕ) (n k more : ℕ) → k < n → ((j : ℕ) → j < n → j ≢ k → f' j ≡ f j) → f' k ≡ f k + more
@@ -58,7 +63,19 @@ raised-table f f' n k more h same raised =
     let new : length (map f' (numbers_below n)) ≡ n = length-each f' n in
     let len : length old ≡ n = length-each f n in
     ext_get_or 0 _ _ (omega (arith, new, len, length-set old k (get_or old k 0 + more)))
-    (λ i l. grind (arith, common_steps, new, len, h, l, raised, same i, get_or-each f n i 0, get_or-each f' n i 0, get_or-each f n k 0))
+    (λ i l. grind (
+      arith,
+      common_steps,
+      new,
+      len,
+      h,
+      l,
+      raised,
+      same i,
+      get_or-each f n i 0,
+      get_or-each f' n i 0,
+      get_or-each f n k 0,
+    ))
 
 -- a table of zeros
 pub zero-table : (f : ℕ → ℕ) (n : ℕ) → ((k : ℕ) → f k ≡ 0) → map f (numbers_below n) ≡ replicate n 0

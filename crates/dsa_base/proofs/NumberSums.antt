@@ -1,15 +1,15 @@
 -- Sums over the numbers below a bound.
-use Rattle.std.proofs.Common.{◌≡◌, ◌≢◌, ℕ, zero, suc, ◌+◌, ◌*◌, ◌<◌, ◌≤◌, Bool, cond, ◌&&◌, nat_lt, eqb, ◌∙◌, List, [], ◌∷◌, length, map, get_or, refl, ap, subst, arith, ⊎_elim}
-use Rattle.std.specs.Prelude.{sum_by, filter}
-use Rattle.std.proofs.lemmas.Bool.{cases_eq}
-use Rattle.std.proofs.lemmas.Grind.{common_steps}
-use Rattle.std.proofs.lemmas.List.Elements.{filter-append}
-use Rattle.std.proofs.lemmas.List.Sums.{sum_by-append, sum_by-cons, sum_by_push}
+use Rattle.std.proofs.Common.{◌≡◌, ◌≢◌, ℕ, zero, suc, ◌+◌, ◌*◌, ◌<◌, ◌≤◌, Bool, cond, ◌&&◌, nat_lt, eqb, ◌∙◌, List}
+use Rattle.std.proofs.Common.{[], ◌∷◌, length, map, get_or, refl, ap, subst, arith, ⊎_elim}
+use Rattle.std.proofs.lemmas.{Bool.{cases_eq}, Grind.{common_steps}}
+use Rattle.std.proofs.lemmas.List.{Elements.{filter-append}, Sums.{sum_by-append, sum_by-cons, sum_by_push}}
 use Rattle.std.proofs.Math.Nat.{suc-mul}
+use Rattle.std.specs.Prelude.{sum_by, filter}
 use Rattle.dsa_base.specs.Numbers.{numbers_below}
 
 -- the numbers below a + b are those below a, and those from a on
-pub sum-split_numbers : (F : ℕ → ℕ) (a b : ℕ) → sum_by F (numbers_below (a + b)) ≡ sum_by F (numbers_below a) + sum_by (λ k. F (a + k)) (numbers_below b)
+pub sum-split_numbers : (F : ℕ → ℕ) (a b : ℕ)
+    → sum_by F (numbers_below (a + b)) ≡ sum_by F (numbers_below a) + sum_by (λ k. F (a + k)) (numbers_below b)
 sum-split_numbers F a zero =
     let same : a + 0 ≡ a = omega arith in
     let is = ap (λ n. sum_by F (numbers_below n)) same in
@@ -22,7 +22,8 @@ sum-split_numbers F a (suc b) =
     let rest = sum-split_numbers F a b in
     omega (arith, is, all, last, rest)
 
-pub sum-plus : (F G : ℕ → ℕ) (n : ℕ) → sum_by (λ k. F k + G k) (numbers_below n) ≡ sum_by F (numbers_below n) + sum_by G (numbers_below n)
+pub sum-plus : (F G : ℕ → ℕ) (n : ℕ) → sum_by (λ k. F k + G k) (numbers_below n)
+    ≡ sum_by F (numbers_below n) + sum_by G (numbers_below n)
 sum-plus F G zero = refl
 sum-plus F G (suc n) =
     let both = sum_by_push (λ k. F k + G k) (numbers_below n) n in
@@ -40,7 +41,8 @@ sum-same c (suc n) =
     omega (arith, last, rest, product)
 
 -- below the bound, the one is at most the other
-pub sum-numbers-le : (F G : ℕ → ℕ) (n : ℕ) → ((k : ℕ) → k < n → F k ≤ G k) → sum_by F (numbers_below n) ≤ sum_by G (numbers_below n)
+pub sum-numbers-le : (F G : ℕ → ℕ) (n : ℕ) → ((k : ℕ) → k < n → F k ≤ G k)
+    → sum_by F (numbers_below n) ≤ sum_by G (numbers_below n)
 sum-numbers-le F G zero h = omega arith
 sum-numbers-le F G (suc n) h =
     let left = sum_by_push F (numbers_below n) n in
@@ -50,7 +52,8 @@ sum-numbers-le F G (suc n) h =
     omega (arith, left, right, last, rest)
 
 -- and less at one number
-pub sum-numbers-lt : (F G : ℕ → ℕ) (n j : ℕ) → ((k : ℕ) → k < n → F k ≤ G k) → j < n → F j < G j → sum_by F (numbers_below n) < sum_by G (numbers_below n)
+pub sum-numbers-lt : (F G : ℕ → ℕ) (n j : ℕ) → ((k : ℕ) → k < n → F k ≤ G k) → j < n → F j < G j
+    → sum_by F (numbers_below n) < sum_by G (numbers_below n)
 sum-numbers-lt F G zero j h i s = absurd (omega (arith, i))
 sum-numbers-lt F G (suc n) j h i s =
     let left = sum_by_push F (numbers_below n) n in
@@ -76,7 +79,8 @@ sum-first F (suc n) =
     omega (arith, more, a, b)
 
 -- a sum over a list, by its places
-pub sum-places : {X : Type 0} (g : X → ℕ) (xs : List X) (d : X) → sum_by (λ q. g (get_or xs q d)) (numbers_below (length xs)) ≡ sum_by g xs
+pub sum-places : {X : Type 0} (g : X → ℕ) (xs : List X) (d : X)
+    → sum_by (λ q. g (get_or xs q d)) (numbers_below (length xs)) ≡ sum_by g xs
 sum-places g [] d = refl
 sum-places g (x ∷ xs) d =
     let first = sum-first (λ q. g (get_or (x ∷ xs) q d)) (length xs) in
@@ -86,11 +90,13 @@ sum-places g (x ∷ xs) d =
 
 pub sum-map : {X Y : Type 0} (g : Y → ℕ) (f : X → Y) (xs : List X) → sum_by g (map f xs) ≡ sum_by (λ x. g (f x)) xs
 sum-map g f [] = refl
-sum-map g f (x ∷ xs) = let more = sum-map g f xs in let a = sum_by-cons g (f x) (map f xs) in let b = sum_by-cons (λ y. g (f y)) x xs in omega (arith, more, a, b)
+sum-map g f (x ∷ xs) = let more = sum-map g f xs in let a = sum_by-cons g (f x) (map f xs) in
+    let b = sum_by-cons (λ y. g (f y)) x xs in omega (arith, more, a, b)
 
 pub sum-equal : {X : Type 0} (f g : X → ℕ) (xs : List X) → ((x : X) → f x ≡ g x) → sum_by f xs ≡ sum_by g xs
 sum-equal f g [] h = refl
-sum-equal f g (x ∷ xs) h = let more = sum-equal f g xs h in let one = h x in let a = sum_by-cons f x xs in let b = sum_by-cons g x xs in omega (arith, more, one, a, b)
+sum-equal f g (x ∷ xs) h = let more = sum-equal f g xs h in let one = h x in let a = sum_by-cons f x xs in
+    let b = sum_by-cons g x xs in omega (arith, more, one, a, b)
 
 -- where each is nothing the sum is
 pub zero-sum : {X : Type 0} (f : X → ℕ) (xs : List X) → ((x : X) → f x ≡ 0) → sum_by f xs ≡ 0
@@ -104,9 +110,13 @@ pub sum-raised : (p : ℕ → Bool) (f f' : ℕ → ℕ) (e n : ℕ) → ((k : �
     → sum_by f' (filter p (numbers_below N)) ≡ sum_by f (filter p (numbers_below N)) + cond (nat_lt e N && p e) n 0
 sum-raised p f f' e n same more zero = grind arith
 sum-raised p f f' e n same more (suc N) =
-    let new = ap (sum_by f') (filter-append p (numbers_below N) (N ∷ [])) ∙ sum_by-append f' (filter p (numbers_below N)) (filter p (N ∷ [])) in
-    let old = ap (sum_by f) (filter-append p (numbers_below N) (N ∷ [])) ∙ sum_by-append f (filter p (numbers_below N)) (filter p (N ∷ [])) in
-    let last : sum_by f' (filter p (N ∷ [])) ≡ sum_by f (filter p (N ∷ [])) + cond (eqb N e && p e) n 0 = grind (arith, common_steps, same N, more) in
+    let new = ap (sum_by f') (filter-append p (numbers_below N) (N ∷ []))
+    ∙ sum_by-append f' (filter p (numbers_below N)) (filter p (N ∷ [])) in
+    let old = ap (sum_by f) (filter-append p (numbers_below N) (N ∷ []))
+    ∙ sum_by-append f (filter p (numbers_below N)) (filter p (N ∷ [])) in
+    let last : sum_by f' (filter p (N ∷ [])) ≡ sum_by f (filter p (N ∷ [])) + cond (eqb N e && p e) n 0 =
+    grind (arith, common_steps, same N, more) in
     let before = sum-raised p f f' e n same more N in
-    let split : cond (nat_lt e (suc N) && p e) n 0 ≡ cond (nat_lt e N && p e) n 0 + cond (eqb N e && p e) n 0 = grind (arith, common_steps) in
+    let split : cond (nat_lt e (suc N) && p e) n 0 ≡ cond (nat_lt e N && p e) n 0 + cond (eqb N e && p e) n 0 =
+    grind (arith, common_steps) in
     omega (arith, new, old, last, before, split)

@@ -1,41 +1,33 @@
 -- What steps are made of: parts that compare as equal are the same.
-use Rattle.std.proofs.Common.{◌≡◌, ℕ, ◌==◌, ◌&&◌, Bool, true, false, refl, ap, ◌∙◌}
-use Rattle.std.specs.Bool.{beq}
-use Rattle.std.proofs.lemmas.Bool.{and_parts, eqb-true}
-use Rattle.std.proofs.Math.Bool.{and_assoc}
-use Rattle.dsa_desc.specs.declared.Descriptor.{Descriptor}
 use Rattle.dsa_desc.specs.contracts.DescriptorPartialEq.TheImpl as descriptor_eq
-use Rattle.dsa_desc.specs.declared.Outcome.{Outcome}
 use Rattle.dsa_desc.specs.declared.Outcome.TheVariants as outcome
 use Rattle.dsa_desc.specs.contracts.OutcomePartialEq.TheImpl as outcome_eq
-use Rattle.dsa_regs.specs.declared.QueueConfig.{QueueConfig}
 use Rattle.dsa_regs.specs.contracts.QueueConfigPartialEq.TheImpl as queue_config_eq
-use Rattle.dsa_regs.specs.declared.GroupConfig.{GroupConfig}
 use Rattle.dsa_regs.specs.contracts.GroupConfigPartialEq.TheImpl as group_config_eq
-use Rattle.dsa_regs.specs.declared.QueueMask.{QueueMask}
 use Rattle.dsa_regs.specs.contracts.QueueMaskPartialEq.TheImpl as queue_mask_eq
-use Rattle.dsa_regs.specs.declared.Command.{Command}
 use Rattle.dsa_regs.specs.declared.Command.TheVariants as command
 use Rattle.dsa_regs.specs.contracts.CommandPartialEq.TheImpl as command_eq
-use Rattle.dsa_regs.specs.declared.Fault.{Fault}
 use Rattle.dsa_regs.specs.declared.Fault.TheVariants as fault
 use Rattle.dsa_regs.specs.contracts.FaultPartialEq.TheImpl as fault_eq
-use Rattle.dsa_regs.specs.Fault.{same_fault}
-use Rattle.dsa_store.specs.declared.entry.Cell.{Cell}
 use Rattle.dsa_store.specs.contracts.entry.CellPartialEq.TheImpl as cell_eq
-use Rattle.dsa_book.specs.declared.answer.Ticket.{Ticket}
 use Rattle.dsa_book.specs.contracts.answer.TicketPartialEq.TheImpl as ticket_eq
-use Rattle.dsa_book.specs.declared.event.Portal.{Portal}
 use Rattle.dsa_book.specs.declared.event.Portal.TheVariants as portal
 use Rattle.dsa_book.specs.contracts.event.PortalPartialEq.TheImpl as portal_eq
-use Rattle.dsa_book.specs.declared.event.Kind.{Kind}
 use Rattle.dsa_book.specs.declared.event.Kind.TheVariants as kind
 use Rattle.dsa_book.specs.contracts.event.KindPartialEq.TheImpl as kind_eq
-use Rattle.dsa_book.specs.declared.answer.Cause.{Cause}
 use Rattle.dsa_book.specs.declared.answer.Cause.TheVariants as cause
 use Rattle.dsa_book.specs.contracts.answer.CausePartialEq.TheImpl as cause_eq
-use Rattle.dsa_book.specs.declared.answer.NotedError.{NotedError}
 use Rattle.dsa_book.specs.contracts.answer.NotedErrorPartialEq.TheImpl as noted_error_eq
+use Rattle.std.proofs.Common.{◌≡◌, ℕ, ◌==◌, ◌&&◌, Bool, true, false, refl, ap, ◌∙◌}
+use Rattle.std.proofs.{lemmas.Bool.{and_parts, eqb-true}, Math.Bool.{and_assoc}}
+use Rattle.std.specs.Bool.{beq}
+use Rattle.dsa_desc.specs.declared.{Descriptor.{Descriptor}, Outcome.{Outcome}}
+use Rattle.dsa_regs.specs.declared.{QueueConfig.{QueueConfig}, GroupConfig.{GroupConfig}, QueueMask.{QueueMask}}
+use Rattle.dsa_regs.specs.declared.{Command.{Command}, Fault.{Fault}}
+use Rattle.dsa_regs.specs.Fault.{same_fault}
+use Rattle.dsa_store.specs.declared.entry.Cell.{Cell}
+use Rattle.dsa_book.specs.declared.answer.{Ticket.{Ticket}, Cause.{Cause}, NotedError.{NotedError}}
+use Rattle.dsa_book.specs.declared.event.{Portal.{Portal}, Kind.{Kind}}
 use Rattle.dsa_book.specs.Same.{same_ticket, same_cause, same_noted}
 
 -- what cannot be
@@ -75,7 +67,16 @@ same-queue_config a b h =
     let s = field same-number a.priority b.priority _ r.1 in
     let t = field same-number a.pasid b.pasid _ s.1 in
     let u = field same-number a.max_batch_shift b.max_batch_shift _ t.1 in
-    λ i. record { size = p.0 i; threshold = q.0 i; dedicated = r.0 i; priority = s.0 i; pasid = t.0 i; max_batch_shift = u.0 i; max_xfer_shift = same-number a.max_xfer_shift b.max_xfer_shift u.1 i }
+    λ i. record {
+      size = p.0 i;
+      threshold = q.0 i;
+      dedicated = r.0 i;
+      priority = s.0 i;
+      pasid =
+          t.0 i;
+      max_batch_shift = u.0 i;
+      max_xfer_shift = same-number a.max_xfer_shift b.max_xfer_shift u.1 i;
+    }
 
 pub same-group_config : (a b : GroupConfig) → group_config_eq.eq-value.it a b ≡ true → a ≡ b
 same-group_config a b h =
@@ -163,7 +164,8 @@ causes _ _ = (refl, λ h. never h)
 
 pub noted_errors : (a b : NotedError) → Tested same_noted noted_error_eq.eq-value.it a b
 noted_errors a b = (
-  and_assoc (a.queue == b.queue) (same_cause a.cause b.cause) (beq a.overflow b.overflow) ∙ rw (causes a.cause b.cause).0 refl,
+  and_assoc (a.queue == b.queue) (same_cause a.cause b.cause) (beq a.overflow b.overflow)
+      ∙ rw (causes a.cause b.cause).0 refl,
   λ h.
       let p = and_parts (a.queue == b.queue && same_cause a.cause b.cause) (beq a.overflow b.overflow) h in
       let q = and_parts (a.queue == b.queue) (same_cause a.cause b.cause) p.0 in

@@ -3,13 +3,11 @@ use Rattle.std.proofs.Common.{◌≡◌, ℕ, [], ◌∷◌, ◌&&◌, Option, S
 use Rattle.dsa_desc.specs.declared.Outcome.{Outcome}
 use Rattle.dsa_base.proofs.Tables.{first_row_or-each}
 use Rattle.dsa_store.specs.Content.{Slot}
-use Rattle.dsa_book.specs.declared.answer.StartAnswer.{StartAnswer}
-use Rattle.dsa_book.specs.declared.answer.StartAnswer.TheVariants.{Started}
-use Rattle.dsa_book.specs.declared.answer.FinishAnswer.{FinishAnswer}
-use Rattle.dsa_book.specs.declared.answer.FinishAnswer.TheVariants.{Done, NotReady}
-use Rattle.dsa_book.specs.State.{Work, is_batch_of, ticket_of}
-use Rattle.dsa_book.specs.Choice.{Choice, from_queue}
-use Rattle.dsa_book.specs.Work.{front_of, dispatch, dispatch_of, start_of, start_table, after_start, finish_of, is_unfinished, last_status, after_end}
+use Rattle.dsa_book.specs.declared.answer.StartAnswer.{StartAnswer, TheVariants.{Started}}
+use Rattle.dsa_book.specs.declared.answer.FinishAnswer.{FinishAnswer, TheVariants.{Done, NotReady}}
+use Rattle.dsa_book.specs.{State.{Work, is_batch_of, ticket_of}, Choice.{Choice, from_queue}}
+use Rattle.dsa_book.specs.Work.{front_of, dispatch, dispatch_of, start_of, start_table, after_start, finish_of}
+use Rattle.dsa_book.specs.Work.{is_unfinished, last_status, after_end}
 
 dispatch_of-setup : (w : Work) (e q : ℕ) (o : Option Slot) → (dispatch_of w e q o).1.setup ≡ w.setup
 dispatch_of-setup w e q None = refl
@@ -23,11 +21,13 @@ pub start_of-setup : (w : Work) (e : ℕ) (o : Option Slot) → (start_of w e o)
 start_of-setup w e None = refl
 start_of-setup w e (Some slot) =
     let P : StartAnswer × Work → Type 0 = λ r. r.1.setup ≡ w.setup in
-    first_row_or-each P (start_table w e slot) (Started (ticket_of slot), after_start w e) (refl, (refl, (refl, tt))) refl
+    first_row_or-each P (start_table w e slot) (Started (ticket_of slot), after_start w e)
+    (refl, (refl, (refl, tt))) refl
 
 pub finish_of-setup : (w : Work) (e : ℕ) (outcome : Outcome) (o : Option Slot)
     → (finish_of w e outcome o).1.setup ≡ w.setup
 finish_of-setup w e outcome None = refl
 finish_of-setup w e outcome (Some slot) =
     let P : FinishAnswer × Work → Type 0 = λ r. r.1.setup ≡ w.setup in
-    first_row_or-each P ((is_batch_of w.setup slot.1 && is_unfinished w e, (NotReady, w)) ∷ []) (Done (last_status w e slot outcome), after_end w e slot outcome) (refl, tt) refl
+    first_row_or-each P ((is_batch_of w.setup slot.1 && is_unfinished w e, (NotReady, w)) ∷ [])
+    (Done (last_status w e slot outcome), after_end w e slot outcome) (refl, tt) refl

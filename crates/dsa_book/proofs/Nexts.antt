@@ -1,13 +1,8 @@
 -- What a reply that may come says: it is the machine's reply to the event, given what was free to choose.
-use Rattle.std.proofs.Common.{◌≡◌, ◌&&◌, true, Some, refl, sym, ap, subst}
-use Rattle.std.proofs.lemmas.Bool.{and_parts}
+use Rattle.std.proofs.{Common.{◌≡◌, ◌&&◌, true, Some, refl, sym, ap, subst}, lemmas.Bool.{and_parts}}
 use Rattle.dsa_base.proofs.Tables.{when-some}
-use Rattle.dsa_book.specs.declared.answer.Reply.{Reply}
-use Rattle.dsa_book.specs.declared.event.Event.{Event}
-use Rattle.dsa_book.specs.Same.{same_reply}
-use Rattle.dsa_book.specs.Choice.{Choice, choice_of}
-use Rattle.dsa_book.specs.State.{State}
-use Rattle.dsa_book.specs.Machine.{may_choose, reply_of, next}
+use Rattle.dsa_book.specs.{declared.{answer.Reply.{Reply}, event.Event.{Event}}, Same.{same_reply}}
+use Rattle.dsa_book.specs.{Choice.{Choice, choice_of}, State.{State}, Machine.{may_choose, reply_of, next}}
 use Rattle.dsa_book.proofs.EqualReplies.{equal-replies, same_reply-self}
 
 -- a reply that may come is the machine's, and what it tells of the choice may be chosen

@@ -1,8 +1,6 @@
 -- What the scopes of commands share.
 use Rattle.std.proofs.Common.{◌≡◌, false, refl}
-use Rattle.dsa_regs.specs.declared.Scope.{Scope}
-use Rattle.dsa_regs.specs.declared.Scope.TheVariants.{Device, Pasid}
-use Rattle.dsa_regs.specs.Command.{queues_in}
+use Rattle.dsa_regs.specs.{declared.Scope.{Scope, TheVariants.{Device, Pasid}}, Command.{queues_in}}
 use Rattle.dsa_store.specs.declared.entry.Entry.{Entry}
 use Rattle.dsa_book.specs.Commands.{is_in_scope, is_among}
 

@@ -1,13 +1,10 @@
 -- What is free in a step: the cell of an entry that comes in, and the queue that one is taken from.
 use Rattle.std.specs.Prelude.{ℕ, Bool, true, false}
 use Rattle.dsa_regs.specs.Caps.{cell_count}
-use Rattle.dsa_store.specs.declared.entry.Cell.{Cell}
-use Rattle.dsa_store.specs.Content.{Content, is_free}
-use Rattle.dsa_book.specs.declared.answer.SubmitAnswer.TheVariants.{Accepted}
-use Rattle.dsa_book.specs.declared.answer.DispatchAnswer.TheVariants.{Taken}
+use Rattle.dsa_store.specs.{declared.entry.Cell.{Cell}, Content.{Content, is_free}}
+use Rattle.dsa_book.specs.declared.answer.{SubmitAnswer.TheVariants.{Accepted}, DispatchAnswer.TheVariants.{Taken}}
 use Rattle.dsa_book.specs.declared.answer.FetchAnswer.TheVariants.{Fetched}
-use Rattle.dsa_book.specs.declared.answer.Reply.{Reply}
-use Rattle.dsa_book.specs.declared.answer.Reply.TheVariants.{Submit, Dispatch, Fetch}
+use Rattle.dsa_book.specs.declared.answer.Reply.{Reply, TheVariants.{Submit, Dispatch, Fetch}}
 use Rattle.dsa_book.specs.State.{Setup}
 
 -- nothing is chosen, or the cell of an entry that comes in, or the queue that one is taken from (profile)

@@ -1,36 +1,25 @@
 -- Commands, configuration and the noted error: the administrator's steps.
-use Rattle.std.specs.Prelude.{ℕ, Bool, true, false, not, cond, ◌&&◌, ◌||◌, ◌==◌, nat_lt, nat_le, List, ◌∷◌, ◌++◌, length, map, filter, slice_set, Option, Some, None, is_some, []}
+use Rattle.std.specs.Prelude.{ℕ, Bool, true, false, not, cond, ◌&&◌, ◌||◌, ◌==◌, nat_lt, nat_le, List, ◌∷◌, ◌++◌}
+use Rattle.std.specs.Prelude.{length, map, filter, slice_set, Option, Some, None, is_some, []}
 use Rattle.std.specs.List.{list_any, list_all}
-use Rattle.dsa_base.specs.Rows.{first_row_or}
-use Rattle.dsa_regs.specs.declared.Phase.{Phase}
-use Rattle.dsa_regs.specs.declared.Phase.TheVariants.{Off, On, Stopping}
-use Rattle.dsa_regs.specs.declared.QueueConfig.{QueueConfig}
-use Rattle.dsa_regs.specs.declared.GroupConfig.{GroupConfig}
-use Rattle.dsa_regs.specs.declared.Command.{Command}
-use Rattle.dsa_regs.specs.declared.Scope.{Scope}
-use Rattle.dsa_regs.specs.declared.Scope.TheVariants.{Device, Queue, Pasid}
-use Rattle.dsa_regs.specs.declared.Deed.{Deed}
-use Rattle.dsa_regs.specs.declared.Deed.TheVariants.{Enable, Disable, Abort, Reset}
-use Rattle.dsa_regs.specs.declared.Fault.{Fault}
-use Rattle.dsa_regs.specs.declared.Fault.TheVariants.{BadQueue, Locked, WrongState, Busy, BadIndex}
-use Rattle.dsa_base.specs.Numbers.{numbers_below}
+use Rattle.dsa_base.specs.{Rows.{first_row_or}, Numbers.{numbers_below}}
+use Rattle.dsa_regs.specs.declared.{Phase.{Phase, TheVariants.{Off, On, Stopping}}, QueueConfig.{QueueConfig}}
+use Rattle.dsa_regs.specs.declared.{GroupConfig.{GroupConfig}, Command.{Command}}
+use Rattle.dsa_regs.specs.declared.Scope.{Scope, TheVariants.{Device, Queue, Pasid}}
+use Rattle.dsa_regs.specs.declared.Deed.{Deed, TheVariants.{Enable, Disable, Abort, Reset}}
+use Rattle.dsa_regs.specs.declared.Fault.{Fault, TheVariants.{BadQueue, Locked, WrongState, Busy, BadIndex}}
 use Rattle.dsa_regs.specs.Config.{zero_queue, queue_at, check_device, check_queue}
 use Rattle.dsa_regs.specs.Command.{number_of, scope_of, deed_of, queues_in}
-use Rattle.dsa_store.specs.declared.entry.Entry.{Entry}
-use Rattle.dsa_store.specs.Content.{Slot, Content, chain, all_held, only_where}
+use Rattle.dsa_store.specs.{declared.entry.Entry.{Entry}, Content.{Slot, Content, chain, all_held, only_where}}
 use Rattle.dsa_book.specs.declared.answer.NotedError.{NotedError}
-use Rattle.dsa_book.specs.declared.note.BatchNote.{BatchNote}
-use Rattle.dsa_book.specs.declared.note.ActiveCommand.{ActiveCommand}
+use Rattle.dsa_book.specs.declared.answer.IssueAnswer.{IssueAnswer, TheVariants.{Ended, Active, Refused}}
+use Rattle.dsa_book.specs.declared.answer.PollAnswer.{PollAnswer, TheVariants.{Finished, Active, Nothing}}
+use Rattle.dsa_book.specs.declared.answer.WriteAnswer.{WriteAnswer, TheVariants.{Written, Refused}}
+use Rattle.dsa_book.specs.declared.answer.ClearAnswer.{ClearAnswer, TheVariants.{Cleared, Nothing}}
+use Rattle.dsa_book.specs.declared.note.{BatchNote.{BatchNote}, ActiveCommand.{ActiveCommand}}
 use Rattle.dsa_book.specs.declared.fate.Fate.TheVariants.{Aborted}
-use Rattle.dsa_book.specs.declared.answer.IssueAnswer.{IssueAnswer}
-use Rattle.dsa_book.specs.declared.answer.IssueAnswer.TheVariants.{Ended, Active, Refused}
-use Rattle.dsa_book.specs.declared.answer.PollAnswer.{PollAnswer}
-use Rattle.dsa_book.specs.declared.answer.PollAnswer.TheVariants.{Finished, Active, Nothing}
-use Rattle.dsa_book.specs.declared.answer.WriteAnswer.{WriteAnswer}
-use Rattle.dsa_book.specs.declared.answer.WriteAnswer.TheVariants.{Written, Refused}
-use Rattle.dsa_book.specs.declared.answer.ClearAnswer.{ClearAnswer}
-use Rattle.dsa_book.specs.declared.answer.ClearAnswer.TheVariants.{Cleared, Nothing}
-use Rattle.dsa_book.specs.State.{Setup, Work, State, is_on, is_off, is_member, is_batch_of, phase_at, has_queue, opening_setup}
+use Rattle.dsa_book.specs.State.{Setup, Work, State, is_on, is_off, is_member, is_batch_of, phase_at, has_queue}
+use Rattle.dsa_book.specs.State.{opening_setup}
 use Rattle.dsa_book.specs.Work.{progress_list, note_at, fate_row}
 
 -- ---- scopes
@@ -51,14 +40,16 @@ is_in_scope scope entry = is_among (queues_in scope) entry.queue
 abbrev pub holds_any : (Entry → Bool) → Content → Bool
 holds_any test content = list_any (λ slot. test slot.1) (all_held content)
 
--- the entries that keep a command from its end: of a drain's scope what was submitted before it (Intel DSA: drain commands), and all of a disable's (profile)
+-- the entries that keep a command from its end: of a drain's scope what was submitted before it
+-- (Intel DSA: drain commands), and all of a disable's (profile)
 abbrev pub is_awaited : Deed → Scope → ℕ → Entry → Bool
 is_awaited Disable scope mark entry = is_in_scope scope entry
 is_awaited _ scope mark entry = is_in_scope scope entry && not (is_member entry) && nat_lt entry.name mark
 
 -- a command is at its end when nothing is held that it waits for (profile)
 abbrev pub is_at_end : ActiveCommand → Content → Bool
-is_at_end active content = not (holds_any (is_awaited (deed_of active.command) (scope_of active.command) active.mark) content)
+is_at_end active content = not (holds_any
+    (is_awaited (deed_of active.command) (scope_of active.command) active.mark) content)
 
 -- ---- phases and configurations
 
@@ -71,9 +62,11 @@ with_phases test phase setup =
 abbrev pub with_device : Phase → Setup → Setup
 with_device phase setup = record setup { device = phase }
 
--- a disable brings the device with its queues, or the queues that it names, to this phase; other deeds stop nothing (profile)
+-- a disable brings the device with its queues, or the queues that it names, to this phase; other
+-- deeds stop nothing (profile)
 abbrev pub after_stop : Deed → Scope → Phase → Setup → Setup
-after_stop Disable Device phase setup = with_device phase (with_phases (λ q. not (is_off (phase_at setup q))) phase setup)
+after_stop Disable Device phase setup =
+    with_device phase (with_phases (λ q. not (is_off (phase_at setup q))) phase setup)
 after_stop Disable scope phase setup = with_phases (is_among (queues_in scope)) phase setup
 after_stop _ scope phase setup = setup
 
@@ -90,9 +83,13 @@ size_alone config = record zero_queue { size = config.size }
 -- with these queues all zero but for their sizes
 abbrev pub with_sizes_alone : List ℕ → Setup → Setup
 with_sizes_alone queues setup =
-    record setup { configs = map (λ q. cond (is_among queues q) (size_alone (queue_at setup.configs q)) (queue_at setup.configs q)) (numbers_below setup.caps.queues) }
+    record setup {
+      configs = map (λ q. cond (is_among queues q) (size_alone (queue_at setup.configs q))
+          (queue_at setup.configs q)) (numbers_below setup.caps.queues);
+    }
 
--- Reset Device has all zero and Off again, and the names that were given are not given again; Reset WQ has its queues Off, with their sizes alone (profile)
+-- Reset Device has all zero and Off again, and the names that were given are not given again; Reset
+-- WQ has its queues Off, with their sizes alone (profile)
 abbrev pub reset : Scope → Setup → Setup
 reset Device setup = record (opening_setup setup.caps) { next_name = setup.next_name }
 reset scope setup = with_sizes_alone (queues_in scope) (with_phases (is_among (queues_in scope)) Off setup)
@@ -107,13 +104,16 @@ takes_batch setup scope xs = list_any (λ slot. is_batch_of setup slot.1 && is_i
 abbrev pub kept_note : Setup → Scope → List Slot → Option BatchNote → Option BatchNote
 kept_note setup scope xs note = cond (takes_batch setup scope xs) None note
 
--- what the scope holds ends by the command of this number, list by list and each front first; the rest keeps its order (profile)
+-- what the scope holds ends by the command of this number, list by list and each front first; the
+-- rest keeps its order (profile)
 abbrev pub after_abort : ℕ → Scope → Work → Work
 after_abort number scope w =
     record w {
       content = only_where (λ entry. not (is_in_scope scope entry)) w.content;
-      notes = map (λ e. kept_note w.setup scope (chain w.content (progress_list w.setup e)) (note_at w e)) (numbers_below w.setup.caps.engines);
-      fates = w.fates ++ map (fate_row (Aborted number)) (filter (λ slot. is_in_scope scope slot.1) (all_held w.content));
+      notes = map (λ e. kept_note w.setup scope (chain w.content (progress_list w.setup e)) (note_at w e))
+          (numbers_below w.setup.caps.engines);
+      fates = w.fates ++ map (fate_row (Aborted number))
+          (filter (λ slot. is_in_scope scope slot.1) (all_held w.content));
     }
 
 -- how many entries the scope holds
@@ -193,7 +193,8 @@ issue_table s command =
 
 -- the answer to a command and what it leaves: the first refusal that stands, or its effect (profile)
 abbrev pub issue : State → Command → IssueAnswer × State
-issue s command = first_row_or (issue_table s command) (refusal_or s (check_of s.work.setup (deed_of command) (scope_of command)) (command_done_of s command))
+issue s command = first_row_or (issue_table s command)
+    (refusal_or s (check_of s.work.setup (deed_of command) (scope_of command)) (command_done_of s command))
 
 -- ---- poll
 
@@ -201,8 +202,14 @@ issue s command = first_row_or (issue_table s command) (refusal_or s (check_of s
 abbrev pub poll_of : State → Option ActiveCommand → PollAnswer × State
 poll_of s None = (Nothing, s)
 poll_of s (Some active) =
-    cond (is_at_end active s.work.content)
-    (Finished, record { work = with_setup s.work (after_stop (deed_of active.command) (scope_of active.command) Off s.work.setup); active = None })
+    cond (is_at_end active s.work.content) (
+      Finished,
+      record {
+        work = with_setup s.work
+            (after_stop (deed_of active.command) (scope_of active.command) Off s.work.setup);
+        active = None;
+      },
+    )
     (Active, s)
 
 -- the answer to one who asks after the active command, and what it leaves (profile)
@@ -211,17 +218,20 @@ poll s = poll_of s s.active
 
 -- ---- writes and clear, which see the queues' layer alone
 
--- what refuses a queue's configuration, in this order: it is locked while the queue is not Off, its size while the device is not (profile)
+-- what refuses a queue's configuration, in this order: it is locked while the queue is not Off, its
+-- size while the device is not (profile)
 abbrev pub write_queue_table : Setup → ℕ → QueueConfig → List (Bool × (WriteAnswer × Setup))
 write_queue_table setup q config =
     (not (has_queue setup q), (Refused BadIndex, setup)) ∷
     (not (is_off (phase_at setup q)), (Refused Locked, setup)) ∷
     (not (is_off setup.device) && not (config.size == (queue_at setup.configs q).size), (Refused Locked, setup)) ∷ []
 
--- the answer to a write of a queue's configuration and what it leaves; its values are checked when it is enabled (profile)
+-- the answer to a write of a queue's configuration and what it leaves; its values are checked when
+-- it is enabled (profile)
 abbrev pub write_queue : Setup → ℕ → QueueConfig → WriteAnswer × Setup
 write_queue setup q config =
-    first_row_or (write_queue_table setup q config) (Written, record setup { configs = slice_set setup.configs q config })
+    first_row_or (write_queue_table setup q config)
+    (Written, record setup { configs = slice_set setup.configs q config })
 
 -- what refuses a group's configuration, in this order: it is locked while the device is not Off (profile)
 abbrev pub write_group_table : Setup → ℕ → List (Bool × (WriteAnswer × Setup))

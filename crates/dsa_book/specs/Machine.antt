@@ -1,5 +1,6 @@
 -- The machine: what may follow a state, replays, legal histories and runs.
-use Rattle.std.specs.Prelude.{ℕ, Bool, true, false, cond, ◌&&◌, ◌==◌, List, [], ◌∷◌, ◌++◌, length, filter, Option, Some, None, is_some, option_and_then}
+use Rattle.std.specs.Prelude.{ℕ, Bool, true, false, cond, ◌&&◌, ◌==◌, List, [], ◌∷◌, ◌++◌, length, filter, Option}
+use Rattle.std.specs.Prelude.{Some, None, is_some, option_and_then}
 use Rattle.std.specs.List.{list_all}
 use Rattle.dsa_base.specs.Rows.{when}
 use Rattle.dsa_regs.specs.declared.Caps.{Caps}
@@ -13,14 +14,14 @@ use Rattle.dsa_book.specs.declared.answer.PollAnswer.TheVariants.{Finished, Full
 use Rattle.dsa_book.specs.declared.answer.WriteAnswer.TheVariants.{Written, Full}
 use Rattle.dsa_book.specs.declared.answer.ClearAnswer.TheVariants.{Cleared, Full}
 use Rattle.dsa_book.specs.declared.answer.Reply.{Reply}
-use Rattle.dsa_book.specs.declared.answer.Reply.TheVariants.{Submit, Dispatch, Fetch, Start, Finish, Issue, Poll, Write, Clear}
+use Rattle.dsa_book.specs.declared.answer.Reply.TheVariants.{Submit, Dispatch, Fetch, Start, Finish, Issue, Poll}
+use Rattle.dsa_book.specs.declared.answer.Reply.TheVariants.{Write, Clear}
 use Rattle.dsa_book.specs.declared.event.Event.{Event}
-use Rattle.dsa_book.specs.declared.event.Event.TheVariants.{Submit, Dispatch, Fetch, Start, Finish, Issue, Poll, WriteQueue, WriteGroup, ClearError}
+use Rattle.dsa_book.specs.declared.event.Event.TheVariants.{Submit, Dispatch, Fetch, Start, Finish, Issue, Poll}
+use Rattle.dsa_book.specs.declared.event.Event.TheVariants.{WriteQueue, WriteGroup, ClearError}
 use Rattle.dsa_book.specs.declared.event.Step.{Step}
-use Rattle.dsa_book.specs.Same.{same_reply}
-use Rattle.dsa_book.specs.Choice.{Choice, choice_of, is_nothing, cell_of, may_enter}
-use Rattle.dsa_book.specs.State.{Setup, Intake, Work, State, opening}
-use Rattle.dsa_book.specs.Submit.{submit}
+use Rattle.dsa_book.specs.{Same.{same_reply}, Choice.{Choice, choice_of, is_nothing, cell_of, may_enter}}
+use Rattle.dsa_book.specs.{State.{Setup, Intake, Work, State, opening}, Submit.{submit}}
 use Rattle.dsa_book.specs.Work.{may_leave, dispatch, fetch, start, finish}
 use Rattle.dsa_book.specs.Commands.{issue, poll, write_queue, write_group, clear}
 
@@ -44,7 +45,8 @@ intake_of s = record { setup = s.work.setup; content = s.work.content }
 
 -- ---- one step
 
--- what may be chosen at the event: a cell where an entry may come in, a queue where one is taken, else nothing (profile)
+-- what may be chosen at the event: a cell where an entry may come in, a queue where one is taken,
+-- else nothing (profile)
 abbrev pub may_choose : State → Event → Choice → Bool
 may_choose s (Submit client queue portal kind desc) choice = may_enter s.work.setup s.work.content choice
 may_choose s (Dispatch engine) choice = may_leave s.work engine choice

@@ -1,21 +1,14 @@
 -- The state of the written machine, by what each layer of the device keeps (profile).
-use Rattle.std.specs.Prelude.{ℕ, Bool, true, false, cond, ◌&&◌, ◌==◌, nat_lt, List, length, replicate, get_or, Option, None, is_some, []}
-use Rattle.dsa_desc.specs.declared.Outcome.{Outcome}
-use Rattle.dsa_desc.specs.declared.QueueLimits.{QueueLimits}
+use Rattle.std.specs.Prelude.{ℕ, Bool, true, false, cond, ◌&&◌, ◌==◌, nat_lt, List, length, replicate, get_or, Option}
+use Rattle.std.specs.Prelude.{None, is_some, []}
+use Rattle.dsa_desc.specs.declared.{Outcome.{Outcome}, QueueLimits.{QueueLimits}}
 use Rattle.dsa_desc.specs.Descriptor.{need, status, is_lawful_batch}
-use Rattle.dsa_regs.specs.declared.Caps.{Caps}
-use Rattle.dsa_regs.specs.declared.Phase.{Phase}
-use Rattle.dsa_regs.specs.declared.Phase.TheVariants.{Off, On}
-use Rattle.dsa_regs.specs.declared.QueueConfig.{QueueConfig}
+use Rattle.dsa_regs.specs.declared.{Caps.{Caps}, Phase.{Phase, TheVariants.{Off, On}}, QueueConfig.{QueueConfig}}
 use Rattle.dsa_regs.specs.declared.GroupConfig.{GroupConfig}
-use Rattle.dsa_regs.specs.Caps.{list_count}
-use Rattle.dsa_regs.specs.Config.{zero_queue, zero_group, queue_at, limits_of}
-use Rattle.dsa_store.specs.declared.entry.Entry.{Entry}
-use Rattle.dsa_store.specs.Content.{Slot, Content, chain, is_cell}
-use Rattle.dsa_book.specs.declared.answer.Ticket.{Ticket}
-use Rattle.dsa_book.specs.declared.answer.NotedError.{NotedError}
-use Rattle.dsa_book.specs.declared.note.BatchNote.{BatchNote}
-use Rattle.dsa_book.specs.declared.note.ActiveCommand.{ActiveCommand}
+use Rattle.dsa_regs.specs.{Caps.{list_count}, Config.{zero_queue, zero_group, queue_at, limits_of}}
+use Rattle.dsa_store.specs.{declared.entry.Entry.{Entry}, Content.{Slot, Content, chain, is_cell}}
+use Rattle.dsa_book.specs.declared.answer.{Ticket.{Ticket}, NotedError.{NotedError}}
+use Rattle.dsa_book.specs.declared.note.{BatchNote.{BatchNote}, ActiveCommand.{ActiveCommand}}
 use Rattle.dsa_book.specs.declared.fate.FateRow.{FateRow}
 
 -- what is configured: capabilities, phases and configurations, the next name and the noted error (profile)
@@ -33,7 +26,8 @@ pub record Intake : Type 0 where
   pub setup : Setup
   pub content : Content
 
--- what an engine's step sees and changes: a note for each engine that works on a batch, and the fates of what ended (profile)
+-- what an engine's step sees and changes: a note for each engine that works on a batch, and the
+-- fates of what ended (profile)
 pub record Work : Type 0 where
   pub setup : Setup
   pub content : Content
@@ -91,7 +85,8 @@ has_queue setup q = nat_lt q setup.caps.queues
 
 -- ---- entries, with the limits of their queue
 
--- a member is a descriptor inside a batch, and the name of the batch is its parent; any other entry was submitted (profile)
+-- a member is a descriptor inside a batch, and the name of the batch is its parent; any other entry
+-- was submitted (profile)
 abbrev pub is_member : Entry → Bool
 is_member entry = is_some entry.parent
 

@@ -1,22 +1,15 @@
 -- A submission: the first cause that stands, or an entry at the end of its queue.
 use Rattle.std.specs.Prelude.{ℕ, ◌+◌, Bool, true, false, not, cond, nat_le, List, [], ◌∷◌, Option, Some, None}
 use Rattle.std.specs.Bool.{beq}
-use Rattle.dsa_desc.specs.declared.Descriptor.{Descriptor}
-use Rattle.dsa_desc.specs.Descriptor.{with_pasid}
+use Rattle.dsa_desc.specs.{declared.Descriptor.{Descriptor}, Descriptor.{with_pasid}}
 use Rattle.dsa_base.specs.Rows.{first_row_or}
-use Rattle.dsa_regs.specs.declared.QueueConfig.{QueueConfig}
-use Rattle.dsa_regs.specs.Config.{queue_at}
-use Rattle.dsa_store.specs.declared.entry.Cell.{Cell}
-use Rattle.dsa_store.specs.Content.{after_push}
-use Rattle.dsa_book.specs.declared.event.Portal.{Portal}
-use Rattle.dsa_book.specs.declared.event.Portal.TheVariants.{Limited, Unlimited}
-use Rattle.dsa_book.specs.declared.event.Kind.{Kind}
-use Rattle.dsa_book.specs.declared.event.Kind.TheVariants.{Enqcmd, Movdir64b}
-use Rattle.dsa_book.specs.declared.answer.Cause.{Cause}
-use Rattle.dsa_book.specs.declared.answer.Cause.TheVariants.{AtLimit, NotEnabled, WrongKind}
+use Rattle.dsa_regs.specs.{declared.QueueConfig.{QueueConfig}, Config.{queue_at}}
+use Rattle.dsa_store.specs.{declared.entry.Cell.{Cell}, Content.{after_push}}
+use Rattle.dsa_book.specs.declared.event.Portal.{Portal, TheVariants.{Limited, Unlimited}}
+use Rattle.dsa_book.specs.declared.event.Kind.{Kind, TheVariants.{Enqcmd, Movdir64b}}
+use Rattle.dsa_book.specs.declared.answer.Cause.{Cause, TheVariants.{AtLimit, NotEnabled, WrongKind}}
 use Rattle.dsa_book.specs.declared.answer.NotedError.{NotedError}
-use Rattle.dsa_book.specs.declared.answer.SubmitAnswer.{SubmitAnswer}
-use Rattle.dsa_book.specs.declared.answer.SubmitAnswer.TheVariants.{Accepted, Retry, Dropped}
+use Rattle.dsa_book.specs.declared.answer.SubmitAnswer.{SubmitAnswer, TheVariants.{Accepted, Retry, Dropped}}
 use Rattle.dsa_book.specs.State.{Intake, occupancy, phase_at, is_on}
 
 -- the threshold bounds the limited portal of a shared queue, and in all other cases the size does (profile)
@@ -29,7 +22,8 @@ abbrev pub is_movdir64b : Kind → Bool
 is_movdir64b (Enqcmd pasid) = false
 is_movdir64b Movdir64b = true
 
--- the PASID of ENQCMD comes from the program's IA32_PASID (Intel SDM: ENQCMD), that of MOVDIR64B from the queue (Intel DSA: dedicated work queues)
+-- the PASID of ENQCMD comes from the program's IA32_PASID (Intel SDM: ENQCMD), that of MOVDIR64B
+-- from the queue (Intel DSA: dedicated work queues)
 abbrev pub pasid_by : Kind → QueueConfig → ℕ
 pasid_by (Enqcmd pasid) config = pasid
 pasid_by Movdir64b config = config.pasid
@@ -39,7 +33,8 @@ abbrev pub next_noted : Option NotedError → ℕ → Cause → NotedError
 next_noted None q cause = record { queue = q; cause = cause; overflow = false }
 next_noted (Some noted) q cause = record noted { overflow = true }
 
--- ENQCMD is told to come again, and MOVDIR64B nothing (Intel SDM: ENQCMD, MOVDIR64B); what is dropped leaves a noted error (profile)
+-- ENQCMD is told to come again, and MOVDIR64B nothing (Intel SDM: ENQCMD, MOVDIR64B); what is
+-- dropped leaves a noted error (profile)
 abbrev pub after_refusal : Intake → ℕ → Kind → Cause → SubmitAnswer × Intake
 after_refusal i q (Enqcmd pasid) cause = (Retry cause, i)
 after_refusal i q Movdir64b cause =
@@ -77,7 +72,8 @@ submit i q portal kind desc cell = first_row_or (submit_table i q portal kind) (
 
 -- ---- the zero flag
 
--- what the program sees: clear for accepted by ENQCMD, set for retry, and of MOVDIR64B nothing (Intel SDM: ENQCMD, MOVDIR64B); of a full history nothing (profile)
+-- what the program sees: clear for accepted by ENQCMD, set for retry, and of MOVDIR64B nothing
+-- (Intel SDM: ENQCMD, MOVDIR64B); of a full history nothing (profile)
 abbrev pub zf : SubmitAnswer → Kind → Option Bool
 zf (Accepted ticket) (Enqcmd pasid) = Some false
 zf (Retry cause) kind = Some true

@@ -1,34 +1,26 @@
 -- The steps of an engine: dispatch, fetch, start, finish.
-use Rattle.std.specs.Prelude.{ℕ, ◌+◌, Bool, true, false, not, cond, ◌&&◌, ◌||◌, ◌==◌, nat_lt, nat_le, List, [], ◌∷◌, ◌++◌, length, map, filter, find, position, sum_by, get_or, slice_get, slice_set, Option, Some, None, is_none, option_map}
+use Rattle.std.specs.Prelude.{ℕ, ◌+◌, Bool, true, false, not, cond, ◌&&◌, ◌||◌, ◌==◌, nat_lt, nat_le, List, [], ◌∷◌}
+use Rattle.std.specs.Prelude.{◌++◌, length, map, filter, find, position, sum_by, get_or, slice_get, slice_set, Option}
+use Rattle.std.specs.Prelude.{Some, None, is_none, option_map}
 use Rattle.std.specs.List.{list_any}
-use Rattle.dsa_desc.specs.declared.Descriptor.{Descriptor}
-use Rattle.dsa_desc.specs.declared.Outcome.{Outcome}
+use Rattle.dsa_desc.specs.declared.{Descriptor.{Descriptor}, Outcome.{Outcome}}
 use Rattle.dsa_desc.specs.Descriptor.{with_pasid, is_fenced, is_successful}
-use Rattle.dsa_base.specs.Rows.{first_row_or, passes}
-use Rattle.dsa_base.specs.Numbers.{has, numbers_below}
-use Rattle.dsa_regs.specs.declared.GroupConfig.{GroupConfig}
-use Rattle.dsa_regs.specs.Config.{group_at}
-use Rattle.dsa_regs.specs.Buffers.{fits}
-use Rattle.dsa_regs.specs.Caps.{list_number}
-use Rattle.dsa_regs.specs.declared.layout.ListUse.TheVariants.{Progress, Members}
-use Rattle.dsa_store.specs.declared.entry.Cell.{Cell}
-use Rattle.dsa_store.specs.declared.entry.Entry.{Entry}
+use Rattle.dsa_base.specs.{Rows.{first_row_or, passes}, Numbers.{has, numbers_below}}
+use Rattle.dsa_regs.specs.declared.{GroupConfig.{GroupConfig}, layout.ListUse.TheVariants.{Progress, Members}}
+use Rattle.dsa_regs.specs.{Config.{group_at}, Buffers.{fits}, Caps.{list_number}}
+use Rattle.dsa_store.specs.declared.entry.{Cell.{Cell}, Entry.{Entry}}
 use Rattle.dsa_store.specs.Content.{Slot, chain, is_cell, after_push, without_front, after_give_back, after_unlink}
 use Rattle.dsa_book.specs.declared.answer.Ticket.{Ticket}
-use Rattle.dsa_book.specs.declared.note.BatchNote.{BatchNote}
-use Rattle.dsa_book.specs.declared.fate.Fate.{Fate}
-use Rattle.dsa_book.specs.declared.fate.Fate.TheVariants.{Completed, Abandoned}
-use Rattle.dsa_book.specs.declared.fate.FateRow.{FateRow}
-use Rattle.dsa_book.specs.declared.answer.DispatchAnswer.{DispatchAnswer}
-use Rattle.dsa_book.specs.declared.answer.DispatchAnswer.TheVariants.{Taken, Idle}
-use Rattle.dsa_book.specs.declared.answer.FetchAnswer.{FetchAnswer}
-use Rattle.dsa_book.specs.declared.answer.FetchAnswer.TheVariants.{Fetched, NoBatch, AllFetched}
+use Rattle.dsa_book.specs.declared.answer.DispatchAnswer.{DispatchAnswer, TheVariants.{Taken, Idle}}
+use Rattle.dsa_book.specs.declared.answer.FetchAnswer.{FetchAnswer, TheVariants.{Fetched, NoBatch, AllFetched}}
 use Rattle.dsa_book.specs.declared.answer.StartAnswer.{StartAnswer}
 use Rattle.dsa_book.specs.declared.answer.StartAnswer.TheVariants.{Started, FenceWait, NoBuffers, Abandoned, Nothing}
-use Rattle.dsa_book.specs.declared.answer.FinishAnswer.{FinishAnswer}
-use Rattle.dsa_book.specs.declared.answer.FinishAnswer.TheVariants.{Done, NotReady, Gone}
+use Rattle.dsa_book.specs.declared.answer.FinishAnswer.{FinishAnswer, TheVariants.{Done, NotReady, Gone}}
+use Rattle.dsa_book.specs.declared.note.BatchNote.{BatchNote}
+use Rattle.dsa_book.specs.declared.fate.{Fate.{Fate, TheVariants.{Completed, Abandoned}}, FateRow.{FateRow}}
 use Rattle.dsa_book.specs.Choice.{Choice, nothing, in_cell, from_queue}
-use Rattle.dsa_book.specs.State.{Setup, Work, has_queue, is_member, need_of, held_by, status_of, is_batch_of, ticket_of, is_ticket}
+use Rattle.dsa_book.specs.State.{Setup, Work, has_queue, is_member, need_of, held_by, status_of, is_batch_of}
+use Rattle.dsa_book.specs.State.{ticket_of, is_ticket}
 
 -- ---- what an engine has. An engine that the device does not have has nothing
 
@@ -105,7 +97,8 @@ front_of w q = slice_get (chain w.content q) 0
 
 -- the queue is one of the engine's, and the engine may take its front (profile)
 abbrev pub qualifies : Work → ℕ → ℕ → Bool
-qualifies w e q = (nat_lt e w.setup.caps.engines && has_queue w.setup q) && (serves w e q && passes (may_take w e) (front_of w q))
+qualifies w e q = (nat_lt e w.setup.caps.engines && has_queue w.setup q)
+    && (serves w e q && passes (may_take w e) (front_of w q))
 
 -- the note of a batch that was taken: nothing is fetched of it (profile)
 abbrev pub opened_note : Entry → BatchNote
@@ -126,7 +119,8 @@ after_take w e q front = record w {
   notes = cond (is_batch_of w.setup front.1) (with_note w.notes e (Some (opened_note front.1))) w.notes;
 }
 
--- any qualifying queue may be chosen, and nothing where none qualifies (Intel DSA: any engine of a group takes from any work queue of the group; which of them qualify is the profile's)
+-- any qualifying queue may be chosen, and nothing where none qualifies (Intel DSA: any engine of a
+-- group takes from any work queue of the group; which of them qualify is the profile's)
 abbrev pub may_leave : Work → ℕ → Choice → Bool
 may_leave w e nothing = not (list_any (qualifies w e) (numbers_below w.setup.caps.queues))
 may_leave w e (from_queue q) = qualifies w e q
@@ -152,7 +146,8 @@ is_all_fetched note = note.closed || nat_le note.count note.fetched
 abbrev pub batch_on : Work → ℕ → BatchNote → Option Slot
 batch_on w e note = find (λ slot. slot.1.name == note.batch) (in_progress w e)
 
--- the member stands last among the members, with the next name, the given cell, and the batch's PASID and queue (profile)
+-- the member stands last among the members, with the next name, the given cell, and the batch's
+-- PASID and queue (profile)
 abbrev pub after_fetch : Work → ℕ → Descriptor → Cell → BatchNote → Entry → FetchAnswer × Work
 after_fetch w e desc cell note batch = (
   Fetched (record { cell = cell; name = w.setup.next_name }),
@@ -221,7 +216,8 @@ with_first_run (slot ∷ rest) = cond slot.1.running (slot ∷ with_first_run re
 abbrev pub after_start : Work → ℕ → Work
 after_start w e = record w { content = slice_set w.content (member_list w.setup e) (with_first_run (members w e)) }
 
--- what keeps a member from starting: a fence waits for all members before it, a failure before it abandons the rest (Intel DSA: fence), or there is want of buffers (profile)
+-- what keeps a member from starting: a fence waits for all members before it, a failure before it
+-- abandons the rest (Intel DSA: fence), or there is want of buffers (profile)
 abbrev pub start_table : Work → ℕ → Slot → List (Bool × (StartAnswer × Work))
 start_table w e slot =
     (is_fenced slot.1.desc && not (is_front w e slot), (FenceWait, w)) ∷
@@ -243,7 +239,8 @@ start w e = start_of w e (first_waiting w e)
 abbrev pub is_unfinished : Work → ℕ → Bool
 is_unfinished w e = nat_lt 0 (length (members w e)) || passes (λ note. not (is_all_fetched note)) (note_at w e)
 
--- a batch with a member that was not successful ends with 0x05 (profile; the number is equal to that of the Linux header)
+-- a batch with a member that was not successful ends with 0x05 (profile; the number is equal to
+-- that of the Linux header)
 abbrev pub last_status : Work → ℕ → Slot → Outcome → ℕ
 last_status w e slot outcome =
     cond (is_batch_of w.setup slot.1 && has_failed w e) 0x05 (status_of w.setup slot.1 outcome)
@@ -271,6 +268,7 @@ finish_of w e outcome (Some slot) =
     first_row_or ((is_batch_of w.setup slot.1 && is_unfinished w e, (NotReady, w)) ∷ [])
     (Done (last_status w e slot outcome), after_end w e slot outcome)
 
--- the answer to an end and what it leaves: it is of the running entry of the engine that has the ticket's cell and name (profile)
+-- the answer to an end and what it leaves: it is of the running entry of the engine that has the
+-- ticket's cell and name (profile)
 abbrev pub finish : Work → ℕ → Ticket → Outcome → FinishAnswer × Work
 finish w e ticket outcome = finish_of w e outcome (find (is_ticket ticket) (running_on w e))

@@ -1,16 +1,23 @@
 -- A box of a machine, as the library's proofs about boxes see one.
-use mir.Syntax.{impl, tnil, dnil}
-use mathlib.Core.List.{[]}
-use Rattle.std_alloc.proofs.BoxSteps.Form.{Bx}
 use Rattle.std_heap.specs.contracts.Global as Global
 use Rattle.std_heap.specs.contracts.GlobalAllocator.TheImpl as heap
 use Rattle.std_heap.proofs.Global.TheLaws as global_laws
 use Rattle.dsa_machine.specs.contracts.Machine as Machine
 use Rattle.dsa_machine.proofs.Machine.TheLaws as machine_laws
+use mir.Syntax.{impl, tnil, dnil}
+use mathlib.Core.List.{[]}
+use Rattle.std_alloc.proofs.BoxSteps.Form.{Bx}
 
 abbrev pub machines : Bx
 machines = record {
   row = Machine.the_row;
   laws = machine_laws.the_row_laws;
-  al = record { row = Global.the_row; laws = global_laws.the_row_laws; g = heap.ghosts; d = heap.dict; drops = impl [] tnil dnil };
+  al = record {
+    row = Global.the_row;
+    laws = global_laws.the_row_laws;
+    g = heap.ghosts;
+    d = heap.dict;
+    drops =
+        impl [] tnil dnil;
+  };
 }

@@ -1,28 +1,25 @@
 -- Answers as numbers, for C.
 use Rattle.std.specs.Prelude.{ℕ, Bool, true, false, Option, None, Some}
-use Rattle.dsa_regs.specs.declared.Fault.{Fault}
-use Rattle.dsa_regs.specs.Fault.{fault_number}
+use Rattle.dsa_regs.specs.{declared.Fault.{Fault}, Fault.{fault_number}}
 use Rattle.dsa_book.specs.declared.answer.Ticket.{Ticket}
-use Rattle.dsa_book.specs.declared.answer.Cause.{Cause}
-use Rattle.dsa_book.specs.declared.answer.Cause.TheVariants.{AtLimit, NotEnabled, WrongKind}
+use Rattle.dsa_book.specs.declared.answer.Cause.{Cause, TheVariants.{AtLimit, NotEnabled, WrongKind}}
 use Rattle.dsa_book.specs.declared.answer.NotedError.{NotedError}
 use Rattle.dsa_book.specs.declared.answer.SubmitAnswer.TheVariants.{Accepted, Retry, Dropped, Full}
 use Rattle.dsa_book.specs.declared.answer.DispatchAnswer.TheVariants.{Taken, Idle, Full}
 use Rattle.dsa_book.specs.declared.answer.FetchAnswer.TheVariants.{Fetched, NoBatch, AllFetched, Full}
-use Rattle.dsa_book.specs.declared.answer.StartAnswer.TheVariants.{Started, FenceWait, NoBuffers, Abandoned, Nothing, Full}
+use Rattle.dsa_book.specs.declared.answer.StartAnswer.TheVariants.{Started, FenceWait, NoBuffers, Abandoned, Nothing}
+use Rattle.dsa_book.specs.declared.answer.StartAnswer.TheVariants.{Full}
 use Rattle.dsa_book.specs.declared.answer.FinishAnswer.TheVariants.{Done, NotReady, Gone, Full}
 use Rattle.dsa_book.specs.declared.answer.IssueAnswer.TheVariants.{Ended, Active, Refused, Full}
 use Rattle.dsa_book.specs.declared.answer.PollAnswer.TheVariants.{Finished, Active, Nothing, Full}
 use Rattle.dsa_book.specs.declared.answer.WriteAnswer.TheVariants.{Written, Refused, Full}
 use Rattle.dsa_book.specs.declared.answer.ClearAnswer.TheVariants.{Cleared, Nothing, Full}
 use Rattle.dsa_book.specs.declared.answer.Reply.{Reply}
-use Rattle.dsa_book.specs.declared.answer.Reply.TheVariants.{Submit, Dispatch, Fetch, Start, Finish, Issue, Poll, Write, Clear}
+use Rattle.dsa_book.specs.declared.answer.Reply.TheVariants.{Submit, Dispatch, Fetch, Start, Finish, Issue, Poll}
+use Rattle.dsa_book.specs.declared.answer.Reply.TheVariants.{Write, Clear}
 use Rattle.dsa_book.specs.declared.event.Step.{Step}
-use Rattle.dsa_book.specs.declared.fate.Fate.{Fate}
-use Rattle.dsa_book.specs.declared.fate.Fate.TheVariants.{Completed, Aborted, Abandoned}
-use Rattle.dsa_book.specs.declared.fate.FateRow.{FateRow}
-use Rattle.dsa_c.specs.declared.answer.Answer.{Answer}
-use Rattle.dsa_c.specs.declared.answer.Ending.{Ending}
+use Rattle.dsa_book.specs.declared.fate.{Fate.{Fate, TheVariants.{Completed, Aborted, Abandoned}}, FateRow.{FateRow}}
+use Rattle.dsa_c.specs.declared.answer.{Answer.{Answer}, Ending.{Ending}}
 
 -- an answer of this kind, with one more number
 abbrev pub plain : ℕ → ℕ → Answer
@@ -42,7 +39,13 @@ bit_number true = 1
 bit_number false = 0
 
 abbrev pub of_noted : NotedError → Answer
-of_noted noted = record { kind = 22; name = noted.queue; cell = bit_number noted.overflow; more = cause_number noted.cause }
+of_noted noted = record {
+  kind = 22;
+  name = noted.queue;
+  cell = bit_number noted.overflow;
+  more =
+      cause_number noted.cause;
+}
 
 -- the handle has no device
 abbrev pub no_device : Answer
@@ -98,7 +101,8 @@ abbrev pub noted_answer : Option NotedError → Answer
 noted_answer None = plain 13 0
 noted_answer (Some noted) = of_noted noted
 
--- how an entry ended: the kind is 1 with a status, 2 with the number of a command, 3 behind a fence, and 0 where it has not ended
+-- how an entry ended: the kind is 1 with a status, 2 with the number of a command, 3 behind a
+-- fence, and 0 where it has not ended
 abbrev pub fate_kind : Fate → ℕ
 fate_kind (Completed status) = 1
 fate_kind (Aborted command) = 2
@@ -116,7 +120,13 @@ parent_number (Some name) = name
 
 abbrev pub ending_of : Option FateRow → Ending
 ending_of None = record { kind = 0; name = 0; parent = 0; number = 0 }
-ending_of (Some row) = record { kind = fate_kind row.fate; name = row.name; parent = parent_number row.parent; number = fate_number row.fate }
+ending_of (Some row) = record {
+  kind = fate_kind row.fate;
+  name = row.name;
+  parent =
+      parent_number row.parent;
+  number = fate_number row.fate;
+}
 
 -- the answer of a stored step, or that there is none
 abbrev pub step_answer : Option Step → Answer

@@ -1,27 +1,20 @@
 -- What the calls do to the device behind a handle.
-use Rattle.std.specs.Prelude.{◌≡◌, ℕ, ◌^◌, ◌-◌, Bool, true, false, ◌==◌, cond, List, slice_get, Option, None, Some, IsSomeAnd, option_map, Result, Ok, Err}
-use Rattle.dsa_desc.specs.declared.Outcome.{Outcome}
-use Rattle.dsa_desc.specs.declared.Outcome.TheVariants.{Success, PageFault}
-use Rattle.dsa_desc.specs.declared.Descriptor.{Descriptor}
+use Rattle.dsa_book.specs.declared.event.Event.TheVariants as event
+use Rattle.std.specs.Prelude.{◌≡◌, ℕ, ◌^◌, ◌-◌, Bool, true, false, ◌==◌, cond, List, slice_get, Option, None, Some}
+use Rattle.std.specs.Prelude.{IsSomeAnd, option_map, Result, Ok, Err}
+use Rattle.dsa_desc.specs.declared.{Outcome.{Outcome, TheVariants.{Success, PageFault}}, Descriptor.{Descriptor}}
 use Rattle.dsa_desc.specs.declared.QueueLimits.{QueueLimits}
 use Rattle.dsa_desc.specs.Descriptor.{read, status}
-use Rattle.dsa_regs.specs.declared.QueueConfig.{QueueConfig}
-use Rattle.dsa_regs.specs.declared.GroupConfig.{GroupConfig}
-use Rattle.dsa_regs.specs.declared.Command.{Command}
+use Rattle.dsa_regs.specs.declared.{QueueConfig.{QueueConfig}, GroupConfig.{GroupConfig}, Command.{Command}}
 use Rattle.dsa_regs.specs.declared.Fault.{Fault}
 use Rattle.dsa_book.specs.declared.answer.Reply.{Reply}
-use Rattle.dsa_book.specs.declared.event.Event.{Event}
-use Rattle.dsa_book.specs.declared.event.Event.TheVariants as event
-use Rattle.dsa_book.specs.declared.event.Kind.{Kind}
-use Rattle.dsa_book.specs.declared.event.Portal.{Portal}
-use Rattle.dsa_book.specs.declared.event.Portal.TheVariants.{Limited, Unlimited}
+use Rattle.dsa_book.specs.declared.event.{Event.{Event}, Kind.{Kind}}
+use Rattle.dsa_book.specs.declared.event.Portal.{Portal, TheVariants.{Limited, Unlimited}}
 use Rattle.dsa_device.specs.declared.faults.MakeFault.{MakeFault}
 use Rattle.dsa_device.specs.declared.faults.MakeFault.TheVariants.{BadCaps, BadCapacity, BadStore, OutOfMemory}
 use Rattle.dsa_device.specs.Running.{Running, after_answer}
-use Rattle.dsa_c.specs.declared.answer.Answer.{Answer}
-use Rattle.dsa_c.specs.declared.words.DeviceLimits.{DeviceLimits}
-use Rattle.dsa_c.specs.declared.steps.DeviceQueue.{DeviceQueue}
-use Rattle.dsa_c.specs.declared.steps.DeviceGroup.{DeviceGroup}
+use Rattle.dsa_c.specs.declared.{answer.Answer.{Answer}, words.DeviceLimits.{DeviceLimits}}
+use Rattle.dsa_c.specs.declared.steps.{DeviceQueue.{DeviceQueue}, DeviceGroup.{DeviceGroup}}
 use Rattle.dsa_c.specs.Answers.{answer_of, no_device, bad_argument, refused, noted_answer, step_answer}
 use Rattle.dsa_c.specs.Place.{HeldMachine}
 
@@ -29,7 +22,8 @@ use Rattle.dsa_c.specs.Place.{HeldMachine}
 abbrev pub IsStep : HeldMachine → Event → Answer → HeldMachine → Type 0
 IsStep None event answer after = (answer ≡ no_device) × (after ≡ None)
 IsStep (Some machine) event answer after =
-    IsSomeAnd after (λ then. (reply : Reply) × ((answer ≡ answer_of reply) × (after_answer machine.device event reply ≡ Some then.device)))
+    IsSomeAnd after (λ then. (reply : Reply)
+    × ((answer ≡ answer_of reply) × (after_answer machine.device event reply ≡ Some then.device)))
 
 -- a call that may come with a wrong number: then it is answered as one, and changes nothing
 abbrev pub IsCall : HeldMachine → Option Event → Answer → HeldMachine → Type 0
@@ -53,7 +47,13 @@ abbrev pub bit_of : ℕ → Option Bool
 bit_of number = cond (number == 0) (Some false) (cond (number == 1) (Some true) None)
 
 abbrev pub group_of : DeviceGroup → GroupConfig
-group_of group = record { queues = group.queues; engines = group.engines; reserved = group.reserved; allowed = group.allowed }
+group_of group = record {
+  queues = group.queues;
+  engines = group.engines;
+  reserved = group.reserved;
+  allowed =
+      group.allowed;
+}
 
 abbrev pub queue_of : DeviceQueue → Bool → QueueConfig
 queue_of queue dedicated = record {
@@ -69,14 +69,17 @@ queue_of queue dedicated = record {
 -- ---- events of calls with numbers that may be wrong
 
 abbrev pub submission : ℕ → ℕ → ℕ → Kind → List ℕ → Option Event
-submission client queue portal kind bytes = option_map (λ portal. event.Submit client queue portal kind (read bytes)) (portal_of portal)
+submission client queue portal kind bytes =
+    option_map (λ portal. event.Submit client queue portal kind (read bytes)) (portal_of portal)
 
 abbrev pub finishing : ℕ → ℕ → ℕ → ℕ → Option Event
 finishing engine cell name outcome =
-    option_map (λ outcome. event.Finish engine (record { cell = record { 0 = cell }; name = name }) outcome) (outcome_of outcome)
+    option_map (λ outcome. event.Finish engine (record { cell = record { 0 = cell }; name = name }) outcome)
+    (outcome_of outcome)
 
 abbrev pub queue_write : ℕ → DeviceQueue → Option Event
-queue_write queue config = option_map (λ dedicated. event.WriteQueue queue (queue_of config dedicated)) (bit_of config.dedicated)
+queue_write queue config = option_map (λ dedicated. event.WriteQueue queue (queue_of config dedicated))
+    (bit_of config.dedicated)
 
 -- ---- opening
 

@@ -4,9 +4,7 @@ use Rattle.dsa_base.specs.Rows.{first_row}
 use Rattle.dsa_regs.specs.declared.Caps.{Caps}
 use Rattle.dsa_device.specs.Running.{running_at_first}
 use Rattle.dsa_machine.specs.Opening.{opening_table, opening_fault}
-use Rattle.dsa_c.specs.declared.opening.DeviceCaps.{DeviceCaps}
-use Rattle.dsa_c.specs.Calls.{opening_number}
-use Rattle.dsa_c.specs.Place.{HeldMachine}
+use Rattle.dsa_c.specs.{declared.opening.DeviceCaps.{DeviceCaps}, Calls.{opening_number}, Place.{HeldMachine}}
 
 abbrev pub caps_of : DeviceCaps → Caps
 caps_of caps = record {
@@ -20,11 +18,14 @@ caps_of caps = record {
   max_xfer_shift = caps.max_xfer_shift;
 }
 
--- after an opening that ended with this number, where there was no device: an opened one exactly with 0, and else none, for the first fault
+-- after an opening that ended with this number, where there was no device: an opened one exactly
+-- with 0, and else none, for the first fault
 -- that stands, or for want of memory where none does
 abbrev pub IsOpened : Caps → ℕ → ℕ → HeldMachine → Type 0
 IsOpened caps capacity number None = number ≡ opening_number (opening_fault caps capacity)
-IsOpened caps capacity number (Some machine) = (number ≡ 0) × ((first_row (opening_table caps capacity) ≡ None) × (machine.device ≡ running_at_first caps capacity))
+IsOpened caps capacity number (Some machine) =
+    (number ≡ 0) × ((first_row (opening_table caps capacity) ≡ None)
+    × (machine.device ≡ running_at_first caps capacity))
 
 -- a device that is open stays as it is, and 5 says so
 abbrev pub IsOpening : HeldMachine → Caps → ℕ → ℕ → HeldMachine → Type 0

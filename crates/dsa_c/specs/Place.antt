@@ -2,10 +2,7 @@
 use base.Fml.{Fml, ftrue}
 use base.Stored.{Coded}
 use denote.RawPtr.{Ptr}
-use Rattle.std.specs.Prelude.{Option, None, Some}
-use Rattle.std.specs.Coded.{coded_option}
-use Rattle.std.specs.Box.Ownership.{box_owns}
-use Rattle.std.specs.Global.{Global}
+use Rattle.std.specs.{Prelude.{Option, None, Some}, Coded.{coded_option}, Box.Ownership.{box_owns}, Global.{Global}}
 use Rattle.std_heap.specs.contracts.GlobalAllocator.TheImpl.{ghosts}
 use Rattle.dsa_machine.specs.contracts.Machine.{the_row}
 

@@ -1,12 +1,9 @@
 -- One list of linked cells: what a write does to it.
 use Rattle.std.proofs.Common.{◌≡◌, ℕ, suc, ◌+◌, ◌<◌, ◌≤◌, inl, inr, List, [], ◌∷◌, ◌++◌, length, map, Option, None}
 use Rattle.std.proofs.Common.{Some, get_or, refl, sym, ap, ◌∙◌, subst, arith, length-set}
-use Rattle.std.proofs.lemmas.Bool.Decides.{eqb_tells, nat_tests}
-use Rattle.std.proofs.lemmas.List.{get_or-set_same, get_or-set_other}
-use Rattle.std.proofs.Math.Seq.{map-set_same}
-use Rattle.std.proofs.Math.ListN.{get_or-map}
-use Rattle.dsa_cells.specs.declared.links.Node.{Node}
-use Rattle.dsa_cells.specs.Array.{node_at, no_node}
+use Rattle.std.proofs.lemmas.{Bool.Decides.{eqb_tells, nat_tests}, List.{get_or-set_same, get_or-set_other}}
+use Rattle.std.proofs.Math.{Seq.{map-set_same}, ListN.{get_or-map}}
+use Rattle.dsa_cells.specs.{declared.links.Node.{Node}, Array.{node_at, no_node}}
 use Rattle.dsa_cells.specs.Partition.{first_or, last_or, Linked, walk, times}
 use Rattle.dsa_cells.specs.Writes.{InRange, AreInside, changed, joined}
 

@@ -1,30 +1,24 @@
 -- What callers see of a store: the lists of cells with their entries, and what each write makes of them.
 use Rattle.std.proofs.Common.{◌≡◌, ℕ, suc, ◌+◌, ◌-◌, ◌<◌, ◌≤◌, ◌≢◌, inl, inr, Bool, true, false, List, [], ◌∷◌, ◌++◌}
-use Rattle.std.proofs.Common.{length, map, take, drop, None, Some, get_or, set, cond, ◌==◌, sum_by, refl, sym}
-use Rattle.std.proofs.Common.{ap, ◌∙◌, subst, arith, take_all, length-append, length-set}
-use Rattle.std.proofs.lemmas.Bool.Decides.{leb_tells}
-use Rattle.std.proofs.lemmas.Grind.{common_steps}
+use Rattle.std.proofs.Common.{length, map, take, drop, None, Some, get_or, set, cond, ◌==◌, sum_by, refl, sym, ap}
+use Rattle.std.proofs.Common.{◌∙◌, subst, arith, take_all, length-append, length-set}
+use Rattle.std.proofs.lemmas.{Bool.Decides.{leb_tells}, Grind.{common_steps}}
 use Rattle.std.proofs.lemmas.List.{length-map, map-set, map-append, get_or-take, get_or-set_same, get_or-set_other}
-use Rattle.std.proofs.lemmas.List.{length-take-le, take-set-le}
-use Rattle.std.proofs.lemmas.List.Sums.{sum_by_more, sum_by-take-le}
-use Rattle.std.proofs.Math.Seq.{take-set-lt}
-use Rattle.std.proofs.Math.ListN.{get_or-map}
+use Rattle.std.proofs.lemmas.List.{length-take-le, take-set-le, Sums.{sum_by_more, sum_by-take-le}}
+use Rattle.std.proofs.Math.{Seq.{take-set-lt}, ListN.{get_or-map}}
 use Rattle.std.specs.List.{remove}
-use Rattle.dsa_store.specs.declared.entry.Cell.{Cell}
-use Rattle.dsa_store.specs.declared.entry.Entry.{Entry}
-use Rattle.dsa_store.specs.Content.{Slot, Content, is_cell, chain, use_count, held_count, first_cell}
-use Rattle.dsa_store.specs.Content.{after_push, after_move as move, after_unlink, after_set, after_give_back, StandsAt}
+use Rattle.dsa_store.specs.declared.entry.{Cell.{Cell}, Entry.{Entry}}
+use Rattle.dsa_store.specs.Content.{Slot, Content, is_cell, chain, use_count, held_count, first_cell, after_push}
+use Rattle.dsa_store.specs.Content.{after_move as move, after_unlink, after_set, after_give_back, StandsAt}
 use Rattle.dsa_store.proofs.Finding.{uses-stands, entry_of-at, list_of-at, next_of-at, unlinked-at, unlinked-none}
 use Rattle.dsa_store.proofs.Finding.{replaced-none, entry_of-none, list_of-none, next_of-none}
-use Rattle.dsa_cells.specs.declared.links.Node.{Node}
-use Rattle.dsa_cells.specs.declared.links.Header.{Header}
+use Rattle.dsa_cells.specs.declared.links.{Node.{Node}, Header.{Header}}
 use Rattle.dsa_cells.specs.Array.{no_entry, node_at, no_node, header_at, entries_of, owners_of}
 use Rattle.dsa_cells.specs.Partition.{first_or, Linked, times, in_use, cells_of, list_at, lists_of}
 use Rattle.dsa_cells.specs.Writes.{lacking, appended, moved, given_back, changed}
 use Rattle.dsa_cells.specs.Invariant.{place, IsStore, IsWhole}
 use Rattle.dsa_cells.specs.Content.{slot, contents, content_at, cell_of, IsUnused, IsUsed}
-use Rattle.dsa_cells.specs.Owners.{is_partition, owner_is}
-use Rattle.dsa_cells.specs.Naming.{uses-slots, held-slots, IsSound-from_whole}
+use Rattle.dsa_cells.specs.{Owners.{is_partition, owner_is}, Naming.{uses-slots, held-slots, IsSound-from_whole}}
 use Rattle.dsa_cells.proofs.Chain.{times-append, times-head, Linked-right, Linked-agree, split_at, map-changed}
 use Rattle.dsa_cells.proofs.Chain.{length-changed, changed-links}
 use Rattle.dsa_cells.proofs.Joining.{list_at-in, AreHeaders-agree, stands_in, names_in, lists_is, store_found}
@@ -128,7 +122,8 @@ contents-set_free es lists l ys le =
 
 -- a cell comes behind a list that is seen
 contents-appended : (es : List Entry) (lists : List (List ℕ)) (l c : ℕ) → l < length lists - 1
-    → contents es (appended lists l (c ∷ [])) ≡ after_push (contents es lists) l (record { 0 = c }) (get_or es c no_entry)
+    → contents es (appended lists l (c ∷ []))
+    ≡ after_push (contents es lists) l (record { 0 = c }) (get_or es c no_entry)
 contents-appended es lists l c lt =
     contents-set es lists l (list_at lists l ++ c ∷ []) lt
     ∙ ap (set (contents es lists) l) (map-append (slot es) (list_at lists l) (c ∷ [])
@@ -373,7 +368,8 @@ content-unlinked s r cell node i u =
 
 -- a list comes to the free list
 pub content-emptied : (s : List Node) (r : List Header) (l : ℕ) → l < length (content_at s r)
-    → contents (entries_of s) (given_back (lists_of s r) l (length (content_at s r))) ≡ after_give_back (content_at s r) l
+    → contents (entries_of s) (given_back (lists_of s r) l (length (content_at s r)))
+    ≡ after_give_back (content_at s r) l
 content-emptied s r l lt =
     let lists = lists_of s r in
     let es = entries_of s in

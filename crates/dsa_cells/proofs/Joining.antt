@@ -2,22 +2,17 @@
 use Rattle.std.proofs.Common.{◌≡◌, ℕ, suc, ◌+◌, ◌<◌, ◌≤◌, ◌≢◌, inl, inr, List, [], ◌∷◌, ◌++◌, length, map, Option}
 use Rattle.std.proofs.Common.{None, Some, set, cond, ◌==◌, refl, sym, ap, ◌∙◌, subst, subst₂, arith, length-append}
 use Rattle.std.proofs.Common.{length-set, ext_get_or}
-use Rattle.std.proofs.lemmas.Bool.Decides.{eqb_tells, leb_tells, nat_tests}
-use Rattle.std.proofs.lemmas.Grind.{common_steps}
+use Rattle.std.proofs.lemmas.{Bool.Decides.{eqb_tells, leb_tells, nat_tests}, Grind.{common_steps}}
 use Rattle.std.proofs.lemmas.List.{get_or_past, get_or-set_same, get_or-set_other}
 use Rattle.std.proofs.Math.ListN.{get_or-map, length-map}
 use Rattle.std.specs.Option.{option_or}
-use Rattle.dsa_cells.specs.declared.links.Node.{Node}
-use Rattle.dsa_cells.specs.declared.links.Header.{Header}
-use Rattle.dsa_cells.specs.Array.{node_at, header_at, no_header}
+use Rattle.dsa_cells.specs.{declared.links.{Node.{Node}, Header.{Header}}, Array.{node_at, header_at, no_header}}
 use Rattle.dsa_cells.specs.Partition.{first_or, last_or, Linked, walk, cells_of, times, IsHeader, AreHeaders, list_at}
 use Rattle.dsa_cells.specs.Partition.{lists_of}
 use Rattle.dsa_cells.specs.Writes.{AreInside, changed, joined, detached, or_else, without, header_joined}
-use Rattle.dsa_cells.specs.Invariant.{IsStore}
-use Rattle.dsa_cells.specs.Owners.{owner_is, length-owners}
-use Rattle.dsa_cells.proofs.Chain.{first_or-append, last_or-append, times-append, times-tail, Once}
-use Rattle.dsa_cells.proofs.Chain.{Linked-left, Linked-right, Linked-join, Linked-join_other}
-use Rattle.dsa_cells.proofs.Chain.{walk_is, map-changed, length-changed}
+use Rattle.dsa_cells.specs.{Invariant.{IsStore}, Owners.{owner_is, length-owners}}
+use Rattle.dsa_cells.proofs.Chain.{first_or-append, last_or-append, times-append, times-tail, Once, Linked-left}
+use Rattle.dsa_cells.proofs.Chain.{Linked-right, Linked-join, Linked-join_other, walk_is, map-changed, length-changed}
 
 -- ---- a write of links
 

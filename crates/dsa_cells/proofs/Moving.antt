@@ -1,20 +1,15 @@
 -- A cell goes from its list to the end of another.
-use Rattle.std.proofs.Common.{◌≡◌, ℕ, suc, ◌+◌, ◌<◌, ◌≤◌, ◌≢◌, List, [], ◌∷◌, ◌++◌, length, Option, None, Some}
-use Rattle.std.proofs.Common.{set, cond, ◌==◌, sum_by, refl, sym, ap, ◌∙◌, subst, arith, length-append}
-use Rattle.std.proofs.Common.{length-set}
-use Rattle.std.proofs.lemmas.Bool.Decides.{nat_tests}
-use Rattle.std.proofs.lemmas.Grind.{common_steps}
-use Rattle.std.proofs.lemmas.List.{map-set}
-use Rattle.std.proofs.lemmas.List.Sums.{sum_by-set, get_or-le-sum_by}
+use Rattle.std.proofs.Common.{◌≡◌, ℕ, suc, ◌+◌, ◌<◌, ◌≤◌, ◌≢◌, List, [], ◌∷◌, ◌++◌, length, Option, None, Some, set}
+use Rattle.std.proofs.Common.{cond, ◌==◌, sum_by, refl, sym, ap, ◌∙◌, subst, arith, length-append, length-set}
+use Rattle.std.proofs.lemmas.{Bool.Decides.{nat_tests}, Grind.{common_steps}}
+use Rattle.std.proofs.lemmas.List.{map-set, Sums.{sum_by-set, get_or-le-sum_by}}
 use Rattle.std.specs.Option.{option_or}
-use Rattle.dsa_cells.specs.declared.links.Node.{Node}
-use Rattle.dsa_cells.specs.declared.links.Header.{Header}
+use Rattle.dsa_cells.specs.declared.links.{Node.{Node}, Header.{Header}}
 use Rattle.dsa_cells.specs.Array.{node_at, header_at, owners_of, entries_of}
 use Rattle.dsa_cells.specs.Partition.{first_or, last_or, Linked, times, IsHeader, AreHeaders, list_at}
-use Rattle.dsa_cells.specs.Writes.{InRange, AreInside, joined, header_joined, detached, without, lacking}
-use Rattle.dsa_cells.specs.Writes.{alone, with_last, or_else, moved}
-use Rattle.dsa_cells.specs.Invariant.{place, IsStore}
-use Rattle.dsa_cells.specs.Owners.{owner_is, length-owners}
+use Rattle.dsa_cells.specs.Writes.{InRange, AreInside, joined, header_joined, detached, without, lacking, alone}
+use Rattle.dsa_cells.specs.Writes.{with_last, or_else, moved}
+use Rattle.dsa_cells.specs.{Invariant.{place, IsStore}, Owners.{owner_is, length-owners}}
 use Rattle.dsa_cells.proofs.Chain.{times-append, times-head, times-tail, Names-more, Names-first, Names-last}
 use Rattle.dsa_cells.proofs.Chain.{InRange-of, Linked-right, Linked-other, split_at, changed-here, map-changed}
 use Rattle.dsa_cells.proofs.Chain.{length-changed}

@@ -3,19 +3,13 @@ use Rattle.std.proofs.Common.{◌≡◌, ℕ, zero, suc, ◌+◌, ◌-◌, ◌^�
 use Rattle.std.proofs.Common.{map, take, replicate, Option, None, Some, get_or, cond, ltb, leb, ◌&&◌, ◌==◌, refl, sym}
 use Rattle.std.proofs.Common.{ap, ◌∙◌, subst, subst₂, arith, length-append}
 use Rattle.std.proofs.lemmas.Bool.Decides.{nat_tests}
-use Rattle.std.proofs.lemmas.List.{length-replicate}
-use Rattle.std.proofs.lemmas.List.Sums.{sum_by-append}
-use Rattle.std.proofs.lemmas.List.Folds.{sum_by-replicate}
+use Rattle.std.proofs.lemmas.List.{length-replicate, Sums.{sum_by-append}, Folds.{sum_by-replicate}}
 use Rattle.std.proofs.Math.Seq.{take-append_seam}
 use Rattle.dsa_store.specs.Content.{Slot, Content}
-use Rattle.dsa_cells.specs.declared.links.Node.{Node}
-use Rattle.dsa_cells.specs.declared.links.Header.{Header}
-use Rattle.dsa_cells.specs.Array.{owners_of, entries_of, no_header}
+use Rattle.dsa_cells.specs.{declared.links.{Node.{Node}, Header.{Header}}, Array.{owners_of, entries_of, no_header}}
 use Rattle.dsa_cells.specs.Partition.{first_or, last_or, Linked, times, IsHeader, lists_of}
-use Rattle.dsa_cells.specs.Invariant.{place, IsStore, IsWhole}
-use Rattle.dsa_cells.specs.Content.{slot, contents, content_at}
-use Rattle.dsa_cells.specs.Fresh.{AreFresh, fresh_header}
-use Rattle.dsa_cells.specs.Owners.{length-owners, owner_is}
+use Rattle.dsa_cells.specs.{Invariant.{place, IsStore, IsWhole}, Content.{slot, contents, content_at}}
+use Rattle.dsa_cells.specs.{Fresh.{AreFresh, fresh_header}, Owners.{length-owners, owner_is}}
 use Rattle.dsa_cells.proofs.Joining.{lists_is, store_found}
 
 -- m numbers from a on

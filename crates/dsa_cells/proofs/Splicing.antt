@@ -1,18 +1,14 @@
 -- All cells of a list go behind those of another, by the ends of the two.
-use Rattle.std.proofs.Common.{◌≡◌, ℕ, zero, suc, ◌+◌, ◌-◌, ◌<◌, ◌≤◌, ◌≢◌, List, [], ◌∷◌, ◌++◌, length, Option}
-use Rattle.std.proofs.Common.{None, Some, get_or, set, cond, ◌==◌, ltb, sum_by, refl, sym, ap, ◌∙◌, subst, subst₂}
-use Rattle.std.proofs.Common.{arith, length-append, length-set}
-use Rattle.std.proofs.lemmas.Bool.Decides.{nat_tests}
-use Rattle.std.proofs.lemmas.Grind.{common_steps}
-use Rattle.std.proofs.lemmas.List.{map-set, get_or-set_other}
-use Rattle.std.proofs.lemmas.List.Sums.{sum_by-set, get_or-le-sum_by}
-use Rattle.dsa_cells.specs.declared.links.Node.{Node}
-use Rattle.dsa_cells.specs.declared.links.Header.{Header}
+use Rattle.std.proofs.Common.{◌≡◌, ℕ, zero, suc, ◌+◌, ◌-◌, ◌<◌, ◌≤◌, ◌≢◌, List, [], ◌∷◌, ◌++◌, length, Option, None}
+use Rattle.std.proofs.Common.{Some, get_or, set, cond, ◌==◌, ltb, sum_by, refl, sym, ap, ◌∙◌, subst, subst₂, arith}
+use Rattle.std.proofs.Common.{length-append, length-set}
+use Rattle.std.proofs.lemmas.{Bool.Decides.{nat_tests}, Grind.{common_steps}}
+use Rattle.std.proofs.lemmas.List.{map-set, get_or-set_other, Sums.{sum_by-set, get_or-le-sum_by}}
+use Rattle.dsa_cells.specs.declared.links.{Node.{Node}, Header.{Header}}
 use Rattle.dsa_cells.specs.Array.{node_at, header_at, no_header, owners_of, entries_of}
 use Rattle.dsa_cells.specs.Partition.{first_or, last_or, walk, times, IsHeader, AreHeaders, list_at}
 use Rattle.dsa_cells.specs.Writes.{InRange, AreInside, changed, joined, header_joined, marked, given_back}
-use Rattle.dsa_cells.specs.Invariant.{place, IsStore}
-use Rattle.dsa_cells.specs.Owners.{length-owners}
+use Rattle.dsa_cells.specs.{Invariant.{place, IsStore}, Owners.{length-owners}}
 use Rattle.dsa_cells.proofs.Chain.{times-append, times-head, times-tail, Names-first, Names-last, InRange-of}
 use Rattle.dsa_cells.proofs.Chain.{SameLinks, Linked-agree, map-changed, length-changed, changed-links}
 use Rattle.dsa_cells.proofs.Joining.{map-joined, length-joined, list_at-set, AreHeaders-set, AreHeaders-agree}

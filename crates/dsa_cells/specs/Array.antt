@@ -1,8 +1,7 @@
 -- What stands at each place of the array, and of the headers.
 use Rattle.std.specs.Prelude.{ℕ, false, List, None, slice_index_or, map}
 use Rattle.dsa_store.specs.declared.entry.Entry.{Entry}
-use Rattle.dsa_cells.specs.declared.links.Node.{Node}
-use Rattle.dsa_cells.specs.declared.links.Header.{Header}
+use Rattle.dsa_cells.specs.declared.links.{Node.{Node}, Header.{Header}}
 
 -- what a cell holds before its first use
 abbrev pub no_entry : Entry

@@ -1,11 +1,8 @@
 -- What the lists of a store hold.
 use Rattle.std.specs.Prelude.{◌≡◌, ℕ, ◌-◌, ◌<◌, List, Option, None, Some, length, map, slice_index_or}
-use Rattle.dsa_store.specs.declared.entry.Cell.{Cell}
-use Rattle.dsa_store.specs.declared.entry.Entry.{Entry}
+use Rattle.dsa_store.specs.declared.entry.{Cell.{Cell}, Entry.{Entry}}
 use Rattle.dsa_store.specs.Content.{Slot, Content, use_count, entry_of, list_of, next_of, after_unlink, after_set}
-use Rattle.dsa_cells.specs.declared.links.Node.{Node}
-use Rattle.dsa_cells.specs.declared.links.Header.{Header}
-use Rattle.dsa_cells.specs.Array.{no_entry, node_at, entries_of}
+use Rattle.dsa_cells.specs.{declared.links.{Node.{Node}, Header.{Header}}, Array.{no_entry, node_at, entries_of}}
 use Rattle.dsa_cells.specs.Partition.{lists_of, in_use}
 
 -- a cell with what it holds

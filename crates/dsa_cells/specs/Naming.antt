@@ -1,19 +1,12 @@
 -- What callers see of a store is sound.
 use Rattle.std.proofs.Common.{◌≡◌, ℕ, ◌-◌, List, [], ◌∷◌, length, map, sum_by, arith}
-use Rattle.std.proofs.lemmas.Bool.Decides.{nat_tests}
-use Rattle.std.proofs.lemmas.List.Sums.{sum_by-cons, sum_by-take-le}
+use Rattle.std.proofs.lemmas.{Bool.Decides.{nat_tests}, List.Sums.{sum_by-cons, sum_by-take-le}}
 use Rattle.std.proofs.Math.ListN.{length-map}
-use Rattle.dsa_store.specs.declared.entry.Cell.{Cell}
-use Rattle.dsa_store.specs.declared.entry.Entry.{Entry}
+use Rattle.dsa_store.specs.declared.entry.{Cell.{Cell}, Entry.{Entry}}
 use Rattle.dsa_store.specs.Content.{IsSound, use_count, held_count, place_count}
-use Rattle.dsa_store.proofs.Places.{count-nil, count-cons}
-use Rattle.dsa_store.proofs.Lists.{uses-nil, uses-cons, held-nil, held-cons}
-use Rattle.dsa_cells.specs.declared.links.Node.{Node}
-use Rattle.dsa_cells.specs.declared.links.Header.{Header}
-use Rattle.dsa_cells.specs.Array.{entries_of}
-use Rattle.dsa_cells.specs.Partition.{times, lists_of, in_use}
-use Rattle.dsa_cells.specs.Invariant.{IsWhole}
-use Rattle.dsa_cells.specs.Content.{slot, content_at}
+use Rattle.dsa_store.proofs.{Places.{count-nil, count-cons}, Lists.{uses-nil, uses-cons, held-nil, held-cons}}
+use Rattle.dsa_cells.specs.{declared.links.{Node.{Node}, Header.{Header}}, Array.{entries_of}}
+use Rattle.dsa_cells.specs.{Partition.{times, lists_of, in_use}, Invariant.{IsWhole}, Content.{slot, content_at}}
 use Rattle.dsa_cells.specs.Owners.{is_partition}
 
 -- a list of slots names a cell as often as the list of their cells
@@ -35,7 +28,8 @@ uses-slots es cell (xs ∷ lists) = omega (
 )
 
 -- lists of slots hold as many cells
-pub held-slots : (es : List Entry) (lists : List (List ℕ)) → held_count (map (map (slot es)) lists) ≡ sum_by length lists
+pub held-slots : (es : List Entry) (lists : List (List ℕ))
+    → held_count (map (map (slot es)) lists) ≡ sum_by length lists
 held-slots es [] = held-nil
 held-slots es (xs ∷ lists) = omega (
   arith,

@@ -1,13 +1,9 @@
 -- Each cell of the array stands once, in the list whose number it bears.
 use Rattle.std.proofs.Common.{◌≡◌, ℕ, zero, suc, ◌≢◌, List, [], ◌∷◌, length, get_or, sum_by, refl, ◌∙◌, arith}
-use Rattle.std.proofs.lemmas.Bool.Decides.{nat_tests}
-use Rattle.std.proofs.lemmas.List.Sums.{sum_by-cons}
+use Rattle.std.proofs.lemmas.{Bool.Decides.{nat_tests}, List.Sums.{sum_by-cons}}
 use Rattle.std.proofs.Math.ListN.{get_or-map, length-map}
-use Rattle.dsa_cells.specs.declared.links.Node.{Node}
-use Rattle.dsa_cells.specs.declared.links.Header.{Header}
-use Rattle.dsa_cells.specs.Array.{node_at, no_node, owners_of}
-use Rattle.dsa_cells.specs.Partition.{times, list_at, IsPartition}
-use Rattle.dsa_cells.specs.Invariant.{IsStore}
+use Rattle.dsa_cells.specs.{declared.links.{Node.{Node}, Header.{Header}}, Array.{node_at, no_node, owners_of}}
+use Rattle.dsa_cells.specs.{Partition.{times, list_at, IsPartition}, Invariant.{IsStore}}
 
 -- the number of its list is read of a cell
 pub owner_is : (s : List Node) (x : ℕ) → get_or (owners_of s) x 0 ≡ (node_at s x).owner

@@ -1,9 +1,7 @@
 -- Which lists an array of linked cells stands for, and that they share its cells out (profile).
 use Rattle.std.specs.Prelude.{◌≡◌, ℕ, zero, suc, ◌-◌, ◌<◌, ◌≤◌, List, [], ◌∷◌, length, map, take, Option, None, Some}
 use Rattle.std.specs.Prelude.{slice_index_or, cond, ◌==◌, sum_by}
-use Rattle.dsa_cells.specs.declared.links.Node.{Node}
-use Rattle.dsa_cells.specs.declared.links.Header.{Header}
-use Rattle.dsa_cells.specs.Array.{node_at, header_at}
+use Rattle.dsa_cells.specs.{declared.links.{Node.{Node}, Header.{Header}}, Array.{node_at, header_at}}
 
 -- ---- the lists that the array stands for
 

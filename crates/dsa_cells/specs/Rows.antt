@@ -1,8 +1,6 @@
 -- A worked array.
 use Rattle.std.specs.Prelude.{ℕ, List, [], ◌∷◌, Option, None, Some}
-use Rattle.dsa_cells.specs.declared.links.Node.{Node}
-use Rattle.dsa_cells.specs.declared.links.Header.{Header}
-use Rattle.dsa_cells.specs.Array.{no_entry, no_header}
+use Rattle.dsa_cells.specs.{declared.links.{Node.{Node}, Header.{Header}}, Array.{no_entry, no_header}}
 
 -- a cell of that list between these two
 abbrev pub node : Option ℕ → Option ℕ → ℕ → Node

@@ -1,11 +1,8 @@
 -- What a store of linked cells shows of its array.
 use Rattle.std.specs.Prelude.{ℕ, List, map}
 use Rattle.dsa_store.specs.Content.{Slot, Content}
-use Rattle.dsa_cells.specs.declared.links.Node.{Node}
-use Rattle.dsa_cells.specs.declared.links.Header.{Header}
-use Rattle.dsa_cells.specs.declared.store.LinkedStore.{LinkedStore}
-use Rattle.dsa_cells.specs.Array.{node_at}
-use Rattle.dsa_cells.specs.Partition.{lists_of, in_use}
+use Rattle.dsa_cells.specs.declared.{links.{Node.{Node}, Header.{Header}}, store.LinkedStore.{LinkedStore}}
+use Rattle.dsa_cells.specs.{Array.{node_at}, Partition.{lists_of, in_use}}
 
 -- the array of the store
 abbrev pub array_of : {A : Type 0} → LinkedStore A → List Node

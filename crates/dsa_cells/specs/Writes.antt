@@ -2,9 +2,7 @@
 use Rattle.std.specs.Prelude.{ℕ, ◌+◌, ◌-◌, ◌<◌, List, [], ◌∷◌, ◌++◌, length, Option, None, Some, slice_set, ◌==◌}
 use Rattle.std.specs.Prelude.{filter, not}
 use Rattle.std.specs.Option.{option_or}
-use Rattle.dsa_cells.specs.declared.links.Node.{Node}
-use Rattle.dsa_cells.specs.declared.links.Header.{Header}
-use Rattle.dsa_cells.specs.Array.{node_at}
+use Rattle.dsa_cells.specs.{declared.links.{Node.{Node}, Header.{Header}}, Array.{node_at}}
 use Rattle.dsa_cells.specs.Partition.{list_at, times}
 
 -- the cell, if there is one, is a cell of the array

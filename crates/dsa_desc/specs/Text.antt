@@ -1,9 +1,8 @@
 -- The line that a descriptor prints as.
 use Rattle.std.specs.Prelude.{ℕ, ◌-◌, ◌^◌, false, ◌==◌, if◌then◌else◌, List, [], ◌∷◌, ◌++◌, Option, unwrap_or, codes}
 use Rattle.std.specs.Fmt.{decimal, digits, format_spec, padded_integral}
-use Rattle.dsa_desc.specs.declared.Descriptor.{Descriptor}
+use Rattle.dsa_desc.specs.{declared.Descriptor.{Descriptor}, Descriptor.{is_batch}}
 use Rattle.dsa_base.specs.Rows.{first_row}
-use Rattle.dsa_desc.specs.Descriptor.{is_batch}
 
 -- the name of an operation code (Intel DSA specification, operation codes)
 abbrev pub operation_name : ℕ → Option (List ℕ)

@@ -1,8 +1,6 @@
 -- Descriptors that the worked rows speak of, in queues with batch shift 3 and transfer shift 20.
 use Rattle.std.specs.Prelude.{ℕ, zero, suc, Bool, List, [], ◌∷◌, ◌++◌, replicate}
-use Rattle.dsa_desc.specs.declared.Descriptor.{Descriptor}
-use Rattle.dsa_desc.specs.declared.QueueLimits.{QueueLimits}
-use Rattle.dsa_desc.specs.declared.Outcome.{Outcome}
+use Rattle.dsa_desc.specs.declared.{Descriptor.{Descriptor}, QueueLimits.{QueueLimits}, Outcome.{Outcome}}
 use Rattle.dsa_desc.specs.Descriptor.{check, need, status}
 
 -- ---- 64 bytes

@@ -1,74 +1,87 @@
 -- A step of the queues alone moves nothing on an engine, and the entries there need what they needed.
-use Rattle.std.proofs.Common.{◌≡◌, ℕ, ◌++◌, Bool, false, cond, List, [], ◌∷◌, Option, Some, None, refl, sym, ap, ◌∙◌, subst, inl, inr, arith, ⊎_elim}
+use Rattle.std.proofs.Common.{◌≡◌, ℕ, ◌++◌, Bool, false, cond, List, [], ◌∷◌, Option, Some, None, refl, sym, ap, ◌∙◌}
+use Rattle.std.proofs.Common.{subst, inl, inr, arith, ⊎_elim}
+use Rattle.std.proofs.lemmas.{Bool.{not-false}, List.{get_or-set_other}}
 use Rattle.std.specs.Prelude.{nat_lt, not, ◌&&◌, ◌==◌}
-use Rattle.std.proofs.lemmas.Bool.{not-false}
-use Rattle.std.proofs.lemmas.List.{get_or-set_other}
-use Rattle.dsa_desc.specs.declared.Descriptor.{Descriptor}
-use Rattle.dsa_desc.specs.Descriptor.{need}
-use Rattle.dsa_base.proofs.Tables.{first_row_or-each, table2, table3}
-use Rattle.dsa_regs.specs.declared.QueueConfig.{QueueConfig}
-use Rattle.dsa_regs.specs.declared.GroupConfig.{GroupConfig}
+use Rattle.dsa_desc.specs.{declared.Descriptor.{Descriptor}, Descriptor.{need}}
+use Rattle.dsa_base.{proofs.Tables.{first_row_or-each, table2, table3, not-both}, specs.Lists.{In}}
+use Rattle.dsa_regs.specs.declared.{QueueConfig.{QueueConfig}, GroupConfig.{GroupConfig}}
 use Rattle.dsa_regs.specs.Config.{zero_queue, queue_at, limits_of}
-use Rattle.dsa_store.specs.declared.entry.Cell.{Cell}
-use Rattle.dsa_store.specs.Content.{Slot, Content, chain, after_push}
-use Rattle.dsa_book.specs.declared.answer.Cause.{Cause}
-use Rattle.dsa_book.specs.declared.answer.Cause.TheVariants.{AtLimit, NotEnabled, WrongKind}
-use Rattle.dsa_book.specs.declared.answer.NotedError.{NotedError}
-use Rattle.dsa_book.specs.declared.answer.SubmitAnswer.{SubmitAnswer}
+use Rattle.dsa_store.specs.{declared.entry.Cell.{Cell}, Content.{Slot, Content, chain, after_push}}
+use Rattle.dsa_book.specs.declared.answer.Cause.{Cause, TheVariants.{AtLimit, NotEnabled, WrongKind}}
+use Rattle.dsa_book.specs.declared.answer.{NotedError.{NotedError}, SubmitAnswer.{SubmitAnswer}}
 use Rattle.dsa_book.specs.declared.answer.WriteAnswer.{WriteAnswer}
-use Rattle.dsa_book.specs.declared.event.Portal.{Portal}
-use Rattle.dsa_book.specs.declared.event.Kind.{Kind}
-use Rattle.dsa_book.specs.declared.event.Kind.TheVariants.{Enqcmd, Movdir64b}
+use Rattle.dsa_book.specs.declared.event.{Portal.{Portal}, Kind.{Kind, TheVariants.{Enqcmd, Movdir64b}}}
 use Rattle.dsa_book.specs.State.{Setup, Intake, Work, is_off, is_member, phase_at, has_queue}
 use Rattle.dsa_book.specs.Submit.{submit, submit_table, after_refusal, after_accept}
 use Rattle.dsa_book.specs.Commands.{write_queue, write_group, clear, clear_of}
-use Rattle.dsa_base.specs.Lists.{In}
-use Rattle.dsa_laws.specs.WellFormed.{NoneOff}
-use Rattle.dsa_base.proofs.Tables.{not-both}
-use Rattle.dsa_laws.proofs.Contents.{chain-set}
-use Rattle.dsa_engines.proofs.Used.{load, load-nil, load-cons, load-append}
-use Rattle.dsa_engines.proofs.Keeping.{KeepsLoads}
+use Rattle.dsa_laws.{specs.WellFormed.{NoneOff}, proofs.Contents.{chain-set}}
+use Rattle.dsa_engines.proofs.{Used.{load, load-nil, load-cons, load-append}, Keeping.{KeepsLoads}}
 
 -- ---- what the running entries of a list need
 
 -- the limits of their queues decide
-load-same : (setup more : Setup) (xs : List Slot) → ((x : Slot) → In x xs → queue_at more.configs x.1.queue ≡ queue_at setup.configs x.1.queue) → load more xs ≡ load setup xs
+load-same : (setup more : Setup) (xs : List Slot)
+    → ((x : Slot) → In x xs → queue_at more.configs x.1.queue ≡ queue_at setup.configs x.1.queue)
+    → load more xs ≡ load setup xs
 load-same setup more [] h = load-nil more ∙ sym (load-nil setup)
 load-same setup more (x ∷ xs) h =
-    let here = ap (λ (config : QueueConfig). cond x.1.running (need x.1.desc (limits_of config) (is_member x.1)) 0) (h x (inl refl)) in
+    let here = ap (λ (config : QueueConfig). cond x.1.running (need x.1.desc (limits_of config) (is_member x.1)) 0)
+    (h x (inl refl)) in
     let rest = load-same setup more xs (λ y i. h y (inr i)) in
     omega (arith, load-cons more x xs, load-cons setup x xs, here, rest)
 
 -- one that does not run yet needs nothing
-load-waiting : (setup : Setup) (xs : List Slot) (x : Slot) → x.1.running ≡ false → load setup (xs ++ x ∷ []) ≡ load setup xs
+load-waiting : (setup : Setup) (xs : List Slot) (x : Slot) → x.1.running ≡ false
+    → load setup (xs ++ x ∷ []) ≡ load setup xs
 load-waiting setup xs x waits =
-    let last = ap (λ (b : Bool). cond b (need x.1.desc (limits_of (queue_at setup.configs x.1.queue)) (is_member x.1)) 0) waits in
+    let last = ap (λ (b : Bool). cond b
+    (need x.1.desc (limits_of (queue_at setup.configs x.1.queue)) (is_member x.1)) 0) waits in
     omega (arith, load-append setup xs (x ∷ []), load-cons setup x [], load-nil setup, last)
 
-load-pushed : (setup : Setup) (c : Content) (p : ℕ) (x : Slot) → x.1.running ≡ false → (k : ℕ) → load setup (chain (after_push c p x.0 x.1) k) ≡ load setup (chain c k)
+load-pushed : (setup : Setup) (c : Content) (p : ℕ) (x : Slot) → x.1.running ≡ false → (k : ℕ)
+    → load setup (chain (after_push c p x.0 x.1) k) ≡ load setup (chain c k)
 load-pushed setup c p x waits k = ⊎_elim
-    (λ q. ap (load setup) q.1 ∙ load-waiting setup (chain c p) x waits ∙ ap (λ (j : ℕ). load setup (chain c j)) (sym q.0))
+    (λ q. ap (load setup) q.1 ∙ load-waiting setup (chain c p) x waits
+    ∙ ap (λ (j : ℕ). load setup (chain c j)) (sym q.0))
     (λ e. ap (load setup) e)
     (chain-set c p (chain c p ++ x ∷ []) k)
 
 -- ---- submissions
 
-turned_away-keeps : (i : Intake) (q : ℕ) (kind : Kind) (cause : Cause) → KeepsLoads i.setup (after_refusal i q kind cause).1.setup i.content (after_refusal i q kind cause).1.content
-turned_away-keeps i q (Enqcmd pasid) cause = record { caps = refl; groups = refl; device = λ n. n; loads = λ k low. refl }
-turned_away-keeps i q Movdir64b cause = record { caps = refl; groups = refl; device = λ n. n; loads = λ k low. load-same i.setup (after_refusal i q Movdir64b cause).1.setup (chain i.content k) (λ x m. refl) }
+turned_away-keeps : (i : Intake) (q : ℕ) (kind : Kind) (cause : Cause)
+    → KeepsLoads i.setup (after_refusal i q kind cause).1.setup i.content (after_refusal i q kind cause).1.content
+turned_away-keeps i q (Enqcmd pasid) cause =
+    record { caps = refl; groups = refl; device = λ n. n; loads = λ k low. refl }
+turned_away-keeps i q Movdir64b cause =
+    record {
+      caps = refl;
+      groups = refl;
+      device = λ n. n;
+      loads =
+          λ k low. load-same i.setup (after_refusal i q Movdir64b cause).1.setup (chain i.content k) (λ x m. refl);
+    }
 
-accepted-keeps : (i : Intake) (q : ℕ) (kind : Kind) (desc : Descriptor) (cell : Cell) → KeepsLoads i.setup (after_accept i q kind desc cell).1.setup i.content (after_accept i q kind desc cell).1.content
+accepted-keeps : (i : Intake) (q : ℕ) (kind : Kind) (desc : Descriptor) (cell : Cell)
+    → KeepsLoads i.setup (after_accept i q kind desc cell).1.setup i.content (after_accept i q kind desc cell).1.content
 accepted-keeps i q kind desc cell = record {
   caps = refl;
   groups = refl;
   device = λ n. n;
-  loads = λ k low. load-same i.setup (after_accept i q kind desc cell).1.setup (chain (after_accept i q kind desc cell).1.content k) (λ x m. refl) ∙ load-pushed i.setup i.content q (cell, _) refl k;
+  loads = λ k low. load-same i.setup (after_accept i q kind desc cell).1.setup
+      (chain (after_accept i q kind desc cell).1.content k) (λ x m. refl)
+      ∙ load-pushed i.setup i.content q (cell, _) refl k;
 }
 
-pub submit-keeps : (i : Intake) (q : ℕ) (portal : Portal) (kind : Kind) (desc : Descriptor) (cell : Cell) → KeepsLoads i.setup (submit i q portal kind desc cell).1.setup i.content (submit i q portal kind desc cell).1.content
+pub submit-keeps : (i : Intake) (q : ℕ) (portal : Portal) (kind : Kind) (desc : Descriptor) (cell : Cell)
+    → KeepsLoads i.setup (submit i q portal kind desc cell).1.setup i.content
+    (submit i q portal kind desc cell).1.content
 submit-keeps i q portal kind desc cell =
-    first_row_or-each (λ (r : SubmitAnswer × Intake). KeepsLoads i.setup r.1.setup i.content r.1.content) (submit_table i q portal kind) (after_accept i q kind desc cell)
-    (turned_away-keeps i q kind NotEnabled, (turned_away-keeps i q kind WrongKind, (turned_away-keeps i q kind AtLimit, tt)))
+    first_row_or-each (λ (r : SubmitAnswer × Intake). KeepsLoads i.setup r.1.setup i.content r.1.content)
+    (submit_table i q portal kind) (after_accept i q kind desc cell) (
+      turned_away-keeps i q kind NotEnabled,
+      (turned_away-keeps i q kind WrongKind, (turned_away-keeps i q kind AtLimit, tt)),
+    )
     (accepted-keeps i q kind desc cell)
 
 -- ---- writes
@@ -81,7 +94,9 @@ keeps-all setup content = record { caps = refl; groups = refl; device = λ n. n;
 pub write_queue-keeps : (w : Work) (q : ℕ) (config : QueueConfig) → NoneOff w
     → KeepsLoads w.setup (write_queue w.setup q config).1 w.content w.content
 write_queue-keeps w q config none =
-    table3 (λ (r : WriteAnswer × Setup). KeepsLoads w.setup r.1 w.content w.content) (not (has_queue w.setup q)) (not (is_off (phase_at w.setup q))) (not (is_off w.setup.device) && not (config.size == (queue_at w.setup.configs q).size)) _ _ _ _
+    table3 (λ (r : WriteAnswer × Setup). KeepsLoads w.setup r.1 w.content w.content) (not (has_queue w.setup q))
+    (not (is_off (phase_at w.setup q))) (not (is_off w.setup.device)
+    && not (config.size == (queue_at w.setup.configs q).size)) _ _ _ _
     (λ t. keeps-all w.setup w.content) (λ t. keeps-all w.setup w.content) (λ t. keeps-all w.setup w.content)
     (λ there off size. record {
       caps = refl;
@@ -89,14 +104,17 @@ write_queue-keeps w q config none =
       device = λ n. n;
       loads = λ k low. load-same w.setup _ (chain w.content k) (λ x m.
           get_or-set_other w.setup.configs q x.1.queue config zero_queue (λ e.
-          not-both (is_off (phase_at w.setup q)) (not-false _ off) (subst (λ n. is_off (phase_at w.setup n) ≡ false) e (none k x m))));
+          not-both (is_off (phase_at w.setup q)) (not-false _ off)
+          (subst (λ n. is_off (phase_at w.setup n) ≡ false) e (none k x m))));
     })
 
 -- groups are written while the device is Off alone
 pub write_group-keeps : (setup : Setup) (content : Content) (g : ℕ) (config : GroupConfig)
-    → is_off (write_group setup g config).1.device ≡ false → KeepsLoads setup (write_group setup g config).1 content content
+    → is_off (write_group setup g config).1.device ≡ false
+    → KeepsLoads setup (write_group setup g config).1 content content
 write_group-keeps setup content g config =
-    table2 (λ (r : WriteAnswer × Setup). is_off r.1.device ≡ false → KeepsLoads setup r.1 content content) (not (nat_lt g setup.caps.groups)) (not (is_off setup.device)) _ _ _
+    table2 (λ (r : WriteAnswer × Setup). is_off r.1.device ≡ false
+    → KeepsLoads setup r.1 content content) (not (nat_lt g setup.caps.groups)) (not (is_off setup.device)) _ _ _
     (λ t on. keeps-all setup content) (λ t on. keeps-all setup content)
     (λ there off on. not-both _ (not-false _ off) on)
 

@@ -1,15 +1,15 @@
 -- What keeps a device from being made.
 use Rattle.std.specs.Prelude.{ℕ, ◌^◌, Bool, not, ◌&&◌, ◌==◌, nat_lt, List, [], ◌∷◌, length, Option}
 use Rattle.dsa_base.specs.Rows.{first_row, first_row_or}
-use Rattle.dsa_regs.specs.declared.Caps.{Caps}
-use Rattle.dsa_regs.specs.Caps.{check_caps, cell_count, list_count}
+use Rattle.dsa_regs.specs.{declared.Caps.{Caps}, Caps.{check_caps, cell_count, list_count}}
 use Rattle.dsa_store.specs.Content.{Content, held_count}
 use Rattle.dsa_device.specs.declared.faults.MakeFault.{MakeFault}
 use Rattle.dsa_device.specs.declared.faults.MakeFault.TheVariants.{BadCaps, BadCapacity, BadStore, OutOfMemory}
 
 -- the store is empty, and has the lists and the cells of such a device (profile)
 abbrev pub is_store_of : Caps → ℕ → Content → Bool
-is_store_of caps cells content = held_count content == 0 && length content == list_count caps && cells == cell_count caps
+is_store_of caps cells content = held_count content == 0 && length content == list_count caps
+    && cells == cell_count caps
 
 -- what keeps a device from being made over a store with so many cells, in this order (profile)
 abbrev pub make_table : Caps → ℕ → ℕ → Content → List (Bool × MakeFault)
@@ -22,6 +22,7 @@ make_table caps capacity cells content =
 abbrev pub make_fault : Caps → ℕ → ℕ → Content → Option MakeFault
 make_fault caps capacity cells content = first_row (make_table caps capacity cells content)
 
--- the fault of a device that was not made: the first cause that stands, and where none does it is want of memory (profile)
+-- the fault of a device that was not made: the first cause that stands, and where none does it is
+-- want of memory (profile)
 abbrev pub fault_or_memory : Caps → ℕ → ℕ → Content → MakeFault
 fault_or_memory caps capacity cells content = first_row_or (make_table caps capacity cells content) OutOfMemory

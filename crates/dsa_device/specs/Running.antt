@@ -1,15 +1,11 @@
 -- A device as its callers see it, and what each call makes of it.
 use Rattle.std.specs.Prelude.{◌≡◌, ℕ, ◌^◌, ◌≤◌, ◌==◌, cond, true, IsTrue, List, [], length, Option, Some, option_map}
 use Rattle.dsa_base.specs.Rows.{when}
-use Rattle.dsa_regs.specs.declared.Caps.{Caps}
-use Rattle.dsa_regs.specs.Caps.{check_caps}
+use Rattle.dsa_regs.specs.{declared.Caps.{Caps}, Caps.{check_caps}}
 use Rattle.dsa_store.specs.Content.{Content}
-use Rattle.dsa_book.specs.declared.event.Event.{Event}
-use Rattle.dsa_book.specs.declared.event.Step.{Step}
-use Rattle.dsa_book.specs.declared.answer.Reply.{Reply}
+use Rattle.dsa_book.specs.declared.{event.{Event.{Event}, Step.{Step}}, answer.Reply.{Reply}}
 use Rattle.dsa_book.specs.declared.note.ActiveCommand.{ActiveCommand}
-use Rattle.dsa_book.specs.Records.{Records}
-use Rattle.dsa_book.specs.State.{Setup, State, opening}
+use Rattle.dsa_book.specs.{Records.{Records}, State.{Setup, State, opening}}
 use Rattle.dsa_book.specs.Machine.{next, history_after, is_full, is_legal, replay}
 use Rattle.dsa_engines.specs.Engines.{Gear, IsInStep, work}
 
@@ -26,9 +22,14 @@ running_at_first caps capacity = record { caps = caps; capacity = capacity; hist
 
 -- after a step that leads to this state: the history has it where its reply is one that is kept (profile)
 abbrev pub running_after : Running → Event → Reply → State → Running
-running_after d event reply s = record d { history = history_after d.history (record { event = event; reply = reply }); state = s }
+running_after d event reply s = record d {
+  history =
+      history_after d.history (record { event = event; reply = reply });
+  state = s;
+}
 
--- after this reply to an event, where it may come: Full exactly where the history has no room, and then nothing changes, else what the machine allows (profile)
+-- after this reply to an event, where it may come: Full exactly where the history has no room, and
+-- then nothing changes, else what the machine allows (profile)
 abbrev pub after_answer : Running → Event → Reply → Option Running
 after_answer d event reply =
     cond (length d.history == d.capacity)

@@ -1,11 +1,10 @@
 -- A list of events, one after the other.
 use Rattle.std.specs.Prelude.{◌≡◌, ◌++◌, true, List, map, Some}
-use Rattle.dsa_book.specs.declared.event.Event.{Event}
-use Rattle.dsa_book.specs.declared.event.Step.{Step}
-use Rattle.dsa_book.specs.Machine.{is_run_after, stored_steps, replay}
+use Rattle.dsa_book.specs.{declared.event.{Event.{Event}, Step.{Step}}, Machine.{is_run_after, stored_steps, replay}}
 use Rattle.dsa_device.specs.Running.{Running}
 
--- one step was added for each event, in order: they are a run of the device's capacity after its history, which has grown by those that are kept, and the state is its replay (profile)
+-- one step was added for each event, in order: they are a run of the device's capacity after its
+-- history, which has grown by those that are kept, and the state is its replay (profile)
 pub record IsRunOf (before : Running) (events : List Event) (old new : List Step) (after : Running) : Type 0 where
   pub steps : List Step
   pub added : new ≡ old ++ steps

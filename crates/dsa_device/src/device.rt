@@ -48,9 +48,9 @@ impl<S: EntryStore> Model for Device<S> {
 
     ghost Value = { Running };
 
-    ghost view = { λ d. running d.caps d.queues d.engines (S.content d.store) d.admin d.book };
+    ghost view = { λ d. running_of d.caps d.queues d.engines (S.content d.store) d.admin d.book };
 
-    ghost invariant = { λ d. IsWhole (S.cells d.store) d.engines (running d.caps d.queues d.engines (S.content d.store) d.admin d.book) };
+    ghost invariant = { λ d. IsWhole (S.cells d.store) d.engines (running_of d.caps d.queues d.engines (S.content d.store) d.admin d.book) };
 }
 
 // Whether the store is empty, with the lists and cells of such a device.

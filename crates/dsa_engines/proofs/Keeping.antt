@@ -1,15 +1,12 @@
 -- What leaves queues, engines and store in step.
-use Rattle.std.proofs.Common.{◌≡◌, ℕ, ◌<◌, ◌≤◌, false, List, [], ◌∷◌, ◌++◌, length, set, refl, ◌∙◌, ap, arith, inl, inr}
-use Rattle.std.proofs.lemmas.Bool.{cases_Bool}
-use Rattle.std.proofs.lemmas.List.{get_or-set_other, length-set}
+use Rattle.std.proofs.Common.{◌≡◌, ℕ, ◌<◌, ◌≤◌, false, List, [], ◌∷◌, ◌++◌, length, set, refl, ◌∙◌, ap, arith, inl}
+use Rattle.std.proofs.Common.{inr}
+use Rattle.std.proofs.lemmas.{Bool.{cases_Bool}, List.{get_or-set_other, length-set}}
 use Rattle.dsa_base.proofs.Tables.{not-both}
-use Rattle.dsa_store.specs.declared.entry.Cell.{Cell}
-use Rattle.dsa_store.specs.declared.entry.Entry.{Entry}
-use Rattle.dsa_store.specs.Content.{Slot, Content, chain, after_push}
+use Rattle.dsa_store.specs.{declared.entry.{Cell.{Cell}, Entry.{Entry}}, Content.{Slot, Content, chain, after_push}}
 use Rattle.dsa_store.proofs.Lists.{length-le-held}
 use Rattle.dsa_book.specs.State.{Setup, is_off}
-use Rattle.dsa_engines.specs.Engines.{Gear, IsInStep, buffers_of, homes_of}
-use Rattle.dsa_engines.proofs.Used.{load, used-kept}
+use Rattle.dsa_engines.{specs.Engines.{Gear, IsInStep, buffers_of, homes_of}, proofs.Used.{load, used-kept}}
 
 -- while the device is Off nothing stands in a list
 pub awake : {cells : ℕ} (setup : Setup) (gear : Gear) (content : Content) (i : ℕ)
@@ -60,12 +57,14 @@ pub record KeepsLoads (setup more : Setup) (content now : Content) : Type 0 wher
   pub loads : (j : ℕ) → setup.caps.queues ≤ j → load more (chain now j) ≡ load setup (chain content j)
 
 -- the groups of the engines stay
-pub homes-kept : {cells : ℕ} (setup more : Setup) (gear : Gear) (content now : Content) → IsInStep setup gear cells content
+pub homes-kept : {cells : ℕ} (setup more : Setup) (gear : Gear) (content now : Content)
+    → IsInStep setup gear cells content
     → KeepsLoads setup more content now → is_off more.device ≡ false → gear.homes ≡ homes_of more
 homes-kept setup more gear content now s k on = s.homes (k.device on) ∙ rw (k.caps, k.groups) refl
 
 -- and so do the buffers in use
-pub buffers-kept : {cells : ℕ} (setup more : Setup) (gear : Gear) (content now : Content) → IsInStep setup gear cells content
+pub buffers-kept : {cells : ℕ} (setup more : Setup) (gear : Gear) (content now : Content)
+    → IsInStep setup gear cells content
     → KeepsLoads setup more content now → is_off more.device ≡ false → gear.buffers ≡ buffers_of more now
 buffers-kept setup more gear content now s k on =
     s.buffers (k.device on) ∙ used-kept setup more content now k.caps k.groups k.loads
@@ -84,7 +83,8 @@ in_step-queue setup gear content q l s on same hq =
     }) on)
 
 -- an entry that goes to a queue
-pub in_step-pushed : {cells more : ℕ} (setup : Setup) (gear : Gear) (content : Content) (q : ℕ) (cell : Cell) (entry : Entry)
+pub in_step-pushed : {cells more : ℕ} (setup : Setup) (gear : Gear) (content : Content) (q : ℕ) (cell : Cell)
+    (entry : Entry)
     → IsInStep setup gear cells content → is_off setup.device ≡ false → more ≡ cells → q < setup.caps.queues
     → IsInStep setup gear more (after_push content q cell entry)
 in_step-pushed setup gear content q cell entry s on same hq =

@@ -1,18 +1,13 @@
 -- What the engines keep beside the lists, and how it agrees with them.
-use Rattle.std.specs.Prelude.{◌≡◌, ℕ, ◌-◌, ◌<◌, ◌≤◌, true, false, Bool, not, ◌&&◌, is_some, cond, List, ◌∷◌, length, map, filter, replicate, get_or, slice_index, slice_set, Option, Some, None, []}
-use Rattle.dsa_base.specs.Rows.{passes}
-use Rattle.dsa_regs.specs.declared.Caps.{Caps}
-use Rattle.dsa_regs.specs.declared.layout.ListUse.{ListUse}
-use Rattle.dsa_regs.specs.declared.layout.ListUse.TheVariants.{Queue, Progress, Members}
-use Rattle.dsa_regs.specs.Caps.{engine_of}
-use Rattle.dsa_store.specs.declared.entry.Entry.{Entry}
-use Rattle.dsa_regs.specs.Config.{check_device}
-use Rattle.dsa_base.specs.Numbers.{numbers_below}
-use Rattle.dsa_store.specs.Content.{Slot, Content, chain, held_count}
+use Rattle.std.specs.Prelude.{◌≡◌, ℕ, ◌-◌, ◌<◌, ◌≤◌, true, false, Bool, not, ◌&&◌, is_some, cond, List, ◌∷◌, length}
+use Rattle.std.specs.Prelude.{map, filter, replicate, get_or, slice_index, slice_set, Option, Some, None, []}
+use Rattle.dsa_base.specs.{Rows.{passes}, Numbers.{numbers_below}}
+use Rattle.dsa_regs.specs.declared.{Caps.{Caps}, layout.ListUse.{ListUse, TheVariants.{Queue, Progress, Members}}}
+use Rattle.dsa_regs.specs.{Caps.{engine_of}, Config.{check_device}}
+use Rattle.dsa_store.specs.{declared.entry.Entry.{Entry}, Content.{Slot, Content, chain, held_count}}
 use Rattle.dsa_buffers.specs.Buffers.{Buffers}
 use Rattle.dsa_queues.specs.Queues.{IsStoreFor, IsWhole}
-use Rattle.dsa_book.specs.declared.note.BatchNote.{BatchNote}
-use Rattle.dsa_book.specs.declared.fate.FateRow.{FateRow}
+use Rattle.dsa_book.specs.declared.{note.BatchNote.{BatchNote}, fate.FateRow.{FateRow}}
 use Rattle.dsa_book.specs.State.{Setup, Work, is_off, held_by, is_batch_of}
 use Rattle.dsa_book.specs.Work.{all_used, group_in, progress_list, batch_on, is_all_fetched, note_at, with_note}
 
@@ -32,11 +27,21 @@ lists_alone setup content = record { setup = setup; content = content; notes = [
 
 -- the read buffers that the running entries of the lists hold (profile)
 abbrev pub buffers_of : Setup → Content → Buffers
-buffers_of setup content = record { total = setup.caps.read_buffers; groups = setup.groups; used = all_used (lists_alone setup content) }
+buffers_of setup content = record {
+  total = setup.caps.read_buffers;
+  groups = setup.groups;
+  used =
+      all_used (lists_alone setup content);
+}
 
 -- the read buffers of a device on which nothing runs (profile)
 abbrev pub buffers_at_rest : Setup → Buffers
-buffers_at_rest setup = record { total = setup.caps.read_buffers; groups = setup.groups; used = replicate (length setup.groups) 0 }
+buffers_at_rest setup = record {
+  total = setup.caps.read_buffers;
+  groups = setup.groups;
+  used =
+      replicate (length setup.groups) 0;
+}
 
 -- the group of each engine (profile)
 abbrev pub homes_of : Setup → List (Option ℕ)
@@ -79,7 +84,8 @@ Holds (Some g) n b = (g < length b.groups) × (n ≤ slice_index b.used g)
 -- the read buffers without those of the entry, which stood in a list of that engine; in a queue it held none
 abbrev pub buffers_after_removal : Setup → Gear → Option ℕ → Entry → Buffers
 buffers_after_removal setup gear None entry = gear.buffers
-buffers_after_removal setup gear (Some e) entry = buffers_after_return (get_or gear.homes e None) (held_by setup entry) gear.buffers
+buffers_after_removal setup gear (Some e) entry =
+    buffers_after_return (get_or gear.homes e None) (held_by setup entry) gear.buffers
 
 -- the group of that engine holds them
 abbrev pub MayRelease : Setup → Gear → Option ℕ → Entry → Type 0
@@ -92,7 +98,8 @@ notes_without (Queue q) notes = notes
 notes_without (Progress e) notes = with_note notes e None
 notes_without (Members e) notes = notes
 
--- what the engines keep once an entry has left such a list: it gives back what it held, and a well-formed Batch in progress takes the engine's note along (profile)
+-- what the engines keep once an entry has left such a list: it gives back what it held, and a
+-- well-formed Batch in progress takes the engine's note along (profile)
 abbrev pub gear_after_removal : Setup → ListUse → Entry → Gear → Gear
 gear_after_removal setup from entry gear = record gear {
   notes = cond (is_batch_of setup entry) (notes_without from gear.notes) gear.notes;

@@ -1,48 +1,57 @@
 -- The batch of an engine, as its lists and its note change.
-use Rattle.std.proofs.Common.{◌≡◌, ◌≢◌, ℕ, zero, suc, ◌+◌, ◌≤◌, ◌&&◌, ◌||◌, ◌==◌, not, Bool, true, false, cond, List, ◌∷◌, ◌++◌, length, filter, Option, Some, None, option_map, is_none, refl, sym, ap, ◌∙◌, subst, arith, ⊎_elim, length-append, []}
+use Rattle.std.proofs.Common.{◌≡◌, ◌≢◌, ℕ, zero, suc, ◌+◌, ◌≤◌, ◌&&◌, ◌||◌, ◌==◌, not, Bool, true, false, cond, List}
+use Rattle.std.proofs.Common.{◌∷◌, ◌++◌, length, filter, Option, Some, None, option_map, is_none, refl, sym, ap, ◌∙◌}
+use Rattle.std.proofs.Common.{subst, arith, ⊎_elim, length-append, []}
+use Rattle.std.proofs.lemmas.{List.Sums.{sum_by-append}, Bool.{and_parts, false_from_ne_true}}
 use Rattle.std.specs.Prelude.{count_by, sum_by}
-use Rattle.std.proofs.lemmas.List.Sums.{sum_by-append}
 use Rattle.dsa_base.proofs.Lists.{length-none, In-push, In-filter, In-passing, any-In, In-any}
-use Rattle.dsa_base.proofs.Counts.{count-push, length-filter-le, filter-none, In-counted, count-none, count-alike, In-old}
-use Rattle.dsa_regs.specs.declared.Scope.{Scope}
-use Rattle.dsa_regs.specs.declared.Scope.TheVariants.{Device, Pasid}
-use Rattle.dsa_regs.specs.Command.{queues_in}
-use Rattle.dsa_store.specs.Content.{Slot, Content, chain, all_held}
-use Rattle.dsa_store.proofs.Sums.{sum-split}
-use Rattle.dsa_book.specs.declared.note.BatchNote.{BatchNote}
-use Rattle.dsa_book.specs.State.{Setup, is_batch_of}
+use Rattle.dsa_base.proofs.Counts.{count-push, length-filter-le, filter-none, In-counted, count-none, count-alike}
+use Rattle.dsa_base.proofs.Counts.{In-old}
+use Rattle.dsa_base.proofs.Tables.{not-both}
+use Rattle.dsa_base.specs.Lists.{In}
+use Rattle.dsa_regs.specs.{declared.Scope.{Scope, TheVariants.{Device, Pasid}}, Command.{queues_in}}
+use Rattle.dsa_store.{specs.Content.{Slot, Content, chain, all_held}, proofs.Sums.{sum-split}}
+use Rattle.dsa_book.specs.{declared.note.BatchNote.{BatchNote}, State.{Setup, is_batch_of}}
 use Rattle.dsa_book.specs.Work.{with_running_entry, opened_note, with_first_run}
 use Rattle.dsa_book.specs.Commands.{is_in_scope, is_among, takes_batch, kept_note}
 use Rattle.dsa_laws.specs.Engines.{holds_batch, IsNoteOf, IsAlike, IsLawfulEngine}
-use Rattle.dsa_base.proofs.Tables.{not-both}
-use Rattle.dsa_laws.proofs.Contents.{sum-list-le}
-use Rattle.std.proofs.lemmas.Bool.{and_parts, false_from_ne_true}
-use Rattle.dsa_laws.proofs.Entries.{first_run-each}
-use Rattle.dsa_base.specs.Lists.{In}
+use Rattle.dsa_laws.proofs.{Contents.{sum-list-le}, Entries.{first_run-each}}
 
 -- ---- lists
 
 -- two lists together hold no more than all do
-pub sum-two : (f : Slot → ℕ) (c : Content) (i j : ℕ) → i ≢ j → sum_by f (chain c i) + sum_by f (chain c j) ≤ sum_by f (all_held c)
+pub sum-two : (f : Slot → ℕ) (c : Content) (i j : ℕ) → i ≢ j
+    → sum_by f (chain c i) + sum_by f (chain c j) ≤ sum_by f (all_held c)
 sum-two f [] i j n = omega arith
 sum-two f (l ∷ ls) zero zero n = absurd (n refl)
-sum-two f (l ∷ ls) zero (suc j) n = let a = sum_by-append f l (all_held ls) in let b = sum-list-le f ls j in omega (arith, a, b)
-sum-two f (l ∷ ls) (suc i) zero n = let a = sum_by-append f l (all_held ls) in let b = sum-list-le f ls i in omega (arith, a, b)
-sum-two f (l ∷ ls) (suc i) (suc j) n = let a = sum_by-append f l (all_held ls) in let b = sum-two f ls i j (λ e. n (ap (λ k. suc k) e)) in omega (arith, a, b)
+sum-two f (l ∷ ls) zero (suc j) n = let a = sum_by-append f l (all_held ls) in let b = sum-list-le f ls j in
+    omega (arith, a, b)
+sum-two f (l ∷ ls) (suc i) zero n = let a = sum_by-append f l (all_held ls) in let b = sum-list-le f ls i in
+    omega (arith, a, b)
+sum-two f (l ∷ ls) (suc i) (suc j) n = let a = sum_by-append f l (all_held ls) in
+    let b = sum-two f ls i j (λ e. n (ap (λ k. suc k) e)) in omega (arith, a, b)
 
 length-first_run : (xs : List Slot) → length (with_first_run xs) ≡ length xs
 length-first_run [] = refl
 length-first_run (x ∷ xs) = go x.1.running (length-first_run xs)
   where
-    go : (b : Bool) → length (with_first_run xs) ≡ length xs → length (cond b (x ∷ with_first_run xs) (with_running_entry x ∷ xs)) ≡ length (x ∷ xs)
+    go : (b : Bool) → length (with_first_run xs) ≡ length xs
+        → length (cond b (x ∷ with_first_run xs) (with_running_entry x ∷ xs)) ≡ length (x ∷ xs)
     go true e = omega (arith, e)
     go false e = refl
 
 -- ---- by another setup, with fewer entries, with other marks
 
 -- the same lists by a setup with the same batches
-pub by_setup : (setup setup' : Setup) (ps ms : List Slot) (o : Option BatchNote) → ((x : Slot) → In x ps → holds_batch setup' x ≡ holds_batch setup x) → IsLawfulEngine setup ps ms o → IsLawfulEngine setup' ps ms o
-by_setup setup setup' ps ms None same h = record { no_batch = count-alike (holds_batch setup') (holds_batch setup) ps same ∙ h.no_batch; no_members = h.no_members }
+pub by_setup : (setup setup' : Setup) (ps ms : List Slot) (o : Option BatchNote)
+    → ((x : Slot) → In x ps → holds_batch setup' x ≡ holds_batch setup x) → IsLawfulEngine setup ps ms o
+    → IsLawfulEngine setup' ps ms o
+by_setup setup setup' ps ms None same h =
+    record {
+      no_batch = count-alike (holds_batch setup') (holds_batch setup) ps same ∙ h.no_batch;
+      no_members =
+          h.no_members;
+    }
 by_setup setup setup' ps ms (Some note) same h = record {
   one_batch = count-alike (holds_batch setup') (holds_batch setup) ps same ∙ h.one_batch;
   noted = λ b i t. h.noted b i (sym (same b i) ∙ t);
@@ -52,8 +61,10 @@ by_setup setup setup' ps ms (Some note) same h = record {
 }
 
 -- some go, and no batch is among them
-pub fewer : (setup : Setup) (ps ps' ms ms' : List Slot) (o : Option BatchNote) → count_by (holds_batch setup) ps' ≡ count_by (holds_batch setup) ps → ((x : Slot) → In x ps' → In x ps)
-    → ((x : Slot) → In x ms' → In x ms) → length ms' ≤ length ms → IsLawfulEngine setup ps ms o → IsLawfulEngine setup ps' ms' o
+pub fewer : (setup : Setup) (ps ps' ms ms' : List Slot) (o : Option BatchNote)
+    → count_by (holds_batch setup) ps' ≡ count_by (holds_batch setup) ps → ((x : Slot) → In x ps' → In x ps)
+    → ((x : Slot) → In x ms' → In x ms) → length ms' ≤ length ms → IsLawfulEngine setup ps ms o
+    → IsLawfulEngine setup ps' ms' o
 fewer setup ps ps' ms ms' None same p m l h = record {
   no_batch = same ∙ h.no_batch;
   no_members = let none = ap (λ (xs : List Slot). length xs) h.no_members in length-none ms' (omega (arith, none, l));
@@ -68,7 +79,8 @@ fewer setup ps ps' ms ms' (Some note) same p m l h = record {
 
 -- a note with other marks
 pub marked : (setup : Setup) (ps ms : List Slot) (f : BatchNote → BatchNote) (o : Option BatchNote)
-    → ((n : BatchNote) → (f n).batch ≡ n.batch) → ((n : BatchNote) → (f n).count ≡ n.count) → ((n : BatchNote) → (f n).fetched ≡ n.fetched)
+    → ((n : BatchNote) → (f n).batch ≡ n.batch) → ((n : BatchNote) → (f n).count ≡ n.count)
+    → ((n : BatchNote) → (f n).fetched ≡ n.fetched)
     → IsLawfulEngine setup ps ms o → IsLawfulEngine setup ps ms (option_map f o)
 marked setup ps ms f None a b c h = h
 marked setup ps ms f (Some n) a b c h = record {
@@ -82,8 +94,10 @@ marked setup ps ms f (Some n) a b c h = record {
 -- ---- each kind of step of an engine
 
 -- a front comes: a batch where there was none, or no batch
-pub with_front : (setup : Setup) (ps ms : List Slot) (o : Option BatchNote) (x : Slot) (b : Bool) → holds_batch setup x ≡ b → (is_none o || not b) ≡ true
-    → IsLawfulEngine setup ps ms o → IsLawfulEngine setup (ps ++ with_running_entry x ∷ []) ms (cond b (Some (opened_note x.1)) o)
+pub with_front : (setup : Setup) (ps ms : List Slot) (o : Option BatchNote) (x : Slot) (b : Bool)
+    → holds_batch setup x ≡ b → (is_none o || not b) ≡ true
+    → IsLawfulEngine setup ps ms o → IsLawfulEngine setup (ps ++ with_running_entry x ∷ []) ms
+    (cond b (Some (opened_note x.1)) o)
 with_front setup ps ms None x true is may h =
     let count = count-push (holds_batch setup) ps (with_running_entry x) true is in
     let old = h.no_batch in
@@ -92,7 +106,8 @@ with_front setup ps ms None x true is may h =
       one_batch = omega (arith, count, old);
       noted = λ y i t. ⊎_elim
           (λ j. let some = In-counted (holds_batch setup) y ps j t in absurd (omega (arith, some, old)))
-          (λ (e : with_running_entry x ≡ y). subst (λ z. IsNoteOf (opened_note x.1) z) e (record { name = refl; count = refl }))
+          (λ (e : with_running_entry x ≡ y). subst
+          (λ z. IsNoteOf (opened_note x.1) z) e (record { name = refl; count = refl }))
           (In-push y ps (with_running_entry x) i);
       parents = λ y i. absurd (none y i);
       alike = λ y z i j t. absurd (none y i);
@@ -100,11 +115,13 @@ with_front setup ps ms None x true is may h =
     }
 with_front setup ps ms (Some n) x true is may h = absurd cc
 with_front setup ps ms None x false is may h = record {
-  no_batch = let count = count-push (holds_batch setup) ps (with_running_entry x) false is in let old = h.no_batch in omega (arith, count, old);
+  no_batch = let count = count-push (holds_batch setup) ps (with_running_entry x) false is in let old = h.no_batch in
+      omega (arith, count, old);
   no_members = h.no_members;
 }
 with_front setup ps ms (Some n) x false is may h = record {
-  one_batch = let count = count-push (holds_batch setup) ps (with_running_entry x) false is in let old = h.one_batch in omega (arith, count, old);
+  one_batch = let count = count-push (holds_batch setup) ps (with_running_entry x) false is in
+      let old = h.one_batch in omega (arith, count, old);
   noted = λ y i t. h.noted y (In-old (holds_batch setup) y ps (with_running_entry x) is i t) t;
   parents = h.parents;
   alike = λ m y i j t. h.alike m y i (In-old (holds_batch setup) y ps (with_running_entry x) is j t) t;
@@ -112,18 +129,23 @@ with_front setup ps ms (Some n) x false is may h = record {
 }
 
 -- a member comes, like the batch
-pub with_member : (setup : Setup) (ps ms : List Slot) (n : BatchNote) (x : Slot) → x.1.parent ≡ Some n.batch → ((b : Slot) → In b ps → holds_batch setup b ≡ true → IsAlike x b)
-    → IsLawfulEngine setup ps ms (Some n) → IsLawfulEngine setup ps (ms ++ x ∷ []) (Some (record n { fetched = n.fetched + 1 }))
+pub with_member : (setup : Setup) (ps ms : List Slot) (n : BatchNote) (x : Slot) → x.1.parent ≡ Some n.batch
+    → ((b : Slot) → In b ps → holds_batch setup b ≡ true → IsAlike x b)
+    → IsLawfulEngine setup ps ms (Some n)
+    → IsLawfulEngine setup ps (ms ++ x ∷ []) (Some (record n { fetched = n.fetched + 1 }))
 with_member setup ps ms n x parent like h = record {
   one_batch = h.one_batch;
   noted = λ b i t. let is = h.noted b i t in record { name = is.name; count = is.count };
-  parents = λ m i. ⊎_elim (λ j. h.parents m j) (λ (e : x ≡ m). subst (λ (z : Slot). z.1.parent ≡ Some n.batch) e parent) (In-push m ms x i);
-  alike = λ m b i j t. ⊎_elim (λ k. h.alike m b k j t) (λ (e : x ≡ m). subst (λ z. IsAlike z b) e (like b j t)) (In-push m ms x i);
+  parents = λ m i. ⊎_elim (λ j. h.parents m j)
+      (λ (e : x ≡ m). subst (λ (z : Slot). z.1.parent ≡ Some n.batch) e parent) (In-push m ms x i);
+  alike = λ m b i j t. ⊎_elim (λ k. h.alike m b k j t)
+      (λ (e : x ≡ m). subst (λ z. IsAlike z b) e (like b j t)) (In-push m ms x i);
   most = let old = h.most in let more = length-append ms (x ∷ []) in omega (arith, old, more);
 }
 
 -- the first member that waits runs
-pub with_run : (setup : Setup) (ps ms : List Slot) (o : Option BatchNote) → IsLawfulEngine setup ps ms o → IsLawfulEngine setup ps (with_first_run ms) o
+pub with_run : (setup : Setup) (ps ms : List Slot) (o : Option BatchNote) → IsLawfulEngine setup ps ms o
+    → IsLawfulEngine setup ps (with_first_run ms) o
 with_run setup ps ms None h = record {
   no_batch = h.no_batch;
   no_members = ap with_first_run h.no_members;
@@ -132,28 +154,39 @@ with_run setup ps ms (Some n) h = record {
   one_batch = h.one_batch;
   noted = h.noted;
   parents = first_run-each (λ (m : Slot). m.1.parent ≡ Some n.batch) (λ x p. p) ms h.parents;
-  alike = λ m b i j t. first_run-each (λ m. IsAlike m b) (λ x p. record { queue = p.queue; pasid = p.pasid }) ms (λ x k. h.alike x b k j t) m i;
+  alike = λ m b i j t. first_run-each (λ m. IsAlike m b) (λ x p. record { queue = p.queue; pasid = p.pasid }) ms
+      (λ x k. h.alike x b k j t) m i;
   most = let old = h.most in let same = length-first_run ms in omega (arith, old, same);
 }
 
 -- the batch is gone, and there are no members
-pub batch_gone : (setup : Setup) (ps ps' ms ms' : List Slot) (o : Option BatchNote) → count_by (holds_batch setup) ps' + 1 ≡ count_by (holds_batch setup) ps → ms' ≡ [] → IsLawfulEngine setup ps ms o → IsLawfulEngine setup ps' ms' None
+pub batch_gone : (setup : Setup) (ps ps' ms ms' : List Slot) (o : Option BatchNote)
+    → count_by (holds_batch setup) ps' + 1 ≡ count_by (holds_batch setup) ps → ms' ≡ []
+    → IsLawfulEngine setup ps ms o → IsLawfulEngine setup ps' ms' None
 batch_gone setup ps ps' ms ms' None less none h = let old = h.no_batch in absurd (omega (arith, less, old))
-batch_gone setup ps ps' ms ms' (Some n) less none h = record { no_batch = let old = h.one_batch in omega (arith, less, old); no_members = none }
+batch_gone setup ps ps' ms ms' (Some n) less none h =
+    record { no_batch = let old = h.one_batch in omega (arith, less, old); no_members = none }
 
 -- a batch ends, which has no members left, or another entry
-pub with_end : (setup : Setup) (ps ps' ms ms' : List Slot) (o : Option BatchNote) (b m : Bool) → (b ≡ true → (count_by (holds_batch setup) ps' + 1 ≡ count_by (holds_batch setup) ps) × (ms' ≡ []))
-    → (b ≡ false → count_by (holds_batch setup) ps' ≡ count_by (holds_batch setup) ps) → ((x : Slot) → In x ps' → In x ps) → ((x : Slot) → In x ms' → In x ms) → length ms' ≤ length ms
-    → IsLawfulEngine setup ps ms o → IsLawfulEngine setup ps' ms' (cond b None (cond m (option_map (λ (note : BatchNote). record note { failed = true }) o) o))
-with_end setup ps ps' ms ms' o true m gone stays p q l h = let r = gone refl in batch_gone setup ps ps' ms ms' o r.0 r.1 h
+pub with_end : (setup : Setup) (ps ps' ms ms' : List Slot) (o : Option BatchNote) (b m : Bool)
+    → (b ≡ true → (count_by (holds_batch setup) ps' + 1 ≡ count_by (holds_batch setup) ps) × (ms' ≡ []))
+    → (b ≡ false → count_by (holds_batch setup) ps' ≡ count_by (holds_batch setup) ps)
+    → ((x : Slot) → In x ps' → In x ps) → ((x : Slot) → In x ms' → In x ms) → length ms' ≤ length ms
+    → IsLawfulEngine setup ps ms o → IsLawfulEngine setup ps' ms'
+    (cond b None (cond m (option_map (λ (note : BatchNote). record note { failed = true }) o) o))
+with_end setup ps ps' ms ms' o true m gone stays p q l h = let r = gone refl in
+    batch_gone setup ps ps' ms ms' o r.0 r.1 h
 with_end setup ps ps' ms ms' o false true gone stays p q l h =
-    marked setup ps' ms' (λ (note : BatchNote). record note { failed = true }) o (λ n. refl) (λ n. refl) (λ n. refl) (fewer setup ps ps' ms ms' o (stays refl) p q l h)
+    marked setup ps' ms' (λ (note : BatchNote). record note { failed = true }) o (λ n. refl) (λ n. refl)
+    (λ n. refl) (fewer setup ps ps' ms ms' o (stays refl) p q l h)
 with_end setup ps ps' ms ms' o false false gone stays p q l h = fewer setup ps ps' ms ms' o (stays refl) p q l h
 
 -- the members are abandoned, and the batch is closed
-pub with_none : (setup : Setup) (ps ms : List Slot) (o : Option BatchNote) → IsLawfulEngine setup ps ms o → IsLawfulEngine setup ps [] (option_map (λ (note : BatchNote). record note { closed = true }) o)
+pub with_none : (setup : Setup) (ps ms : List Slot) (o : Option BatchNote) → IsLawfulEngine setup ps ms o
+    → IsLawfulEngine setup ps [] (option_map (λ (note : BatchNote). record note { closed = true }) o)
 with_none setup ps ms o h =
-    marked setup ps [] (λ (note : BatchNote). record note { closed = true }) o (λ n. refl) (λ n. refl) (λ n. refl) (fewer setup ps ps ms [] o refl (λ x i. i) (λ x i. absurd i) (omega arith) h)
+    marked setup ps [] (λ (note : BatchNote). record note { closed = true }) o (λ n. refl) (λ n. refl)
+    (λ n. refl) (fewer setup ps ps ms [] o refl (λ x i. i) (λ x i. absurd i) (omega arith) h)
 
 -- ---- an abort
 
@@ -172,25 +205,30 @@ scope-alike (Pasid pasid) m b h = ap (λ p. p == pasid) h.pasid
 scope-alike scope m b h = ap (is_among (queues_in scope)) h.queue
 
 -- a batch in the scope is the only one in progress, and no member is left
-goes-along : (scope : Scope) (setup : Setup) (ps ms : List Slot) (o : Option BatchNote) (x : Slot) → In x ps → holds_batch setup x ≡ true → is_taken_out scope x ≡ true → IsLawfulEngine setup ps ms o
+goes-along : (scope : Scope) (setup : Setup) (ps ms : List Slot) (o : Option BatchNote) (x : Slot) → In x ps
+    → holds_batch setup x ≡ true → is_taken_out scope x ≡ true → IsLawfulEngine setup ps ms o
     → (count_by (holds_batch setup) ps ≡ 1) × ((m : Slot) → In m ms → is_left scope m ≡ false)
 goes-along scope setup ps ms None x i t s h =
     let some = In-counted (holds_batch setup) x ps i t in
     let none = h.no_batch in
     absurd (omega (arith, some, none))
-goes-along scope setup ps ms (Some n) x i t s h = (h.one_batch, λ m j. ap not (scope-alike scope m x (h.alike m x j i t) ∙ s))
+goes-along scope setup ps ms (Some n) x i t s h =
+    (h.one_batch, λ m j. ap not (scope-alike scope m x (h.alike m x j i t) ∙ s))
 
 -- a batch goes with all its members, or stays
-pub with_abort : (scope : Scope) (setup : Setup) (ps ms : List Slot) (o : Option BatchNote) → IsLawfulEngine setup ps ms o
+pub with_abort : (scope : Scope) (setup : Setup) (ps ms : List Slot) (o : Option BatchNote)
+    → IsLawfulEngine setup ps ms o
     → IsLawfulEngine setup (filter (is_left scope) ps) (filter (is_left scope) ms) (kept_note setup scope ps o)
 with_abort scope setup ps ms o h = go (takes_batch setup scope ps) refl
   where
-    go : (b : Bool) → takes_batch setup scope ps ≡ b → IsLawfulEngine setup (filter (is_left scope) ps) (filter (is_left scope) ms) (cond b None o)
+    go : (b : Bool) → takes_batch setup scope ps ≡ b
+        → IsLawfulEngine setup (filter (is_left scope) ps) (filter (is_left scope) ms) (cond b None o)
     go true t =
         let batch = any-In (λ slot. is_batch_of setup slot.1 && is_in_scope scope slot.1) ps t in
         let both = and_parts _ _ batch.1.1 in
         let along = goes-along scope setup ps ms o batch.0 batch.1.0 both.0 both.1 h in
-        let some = In-counted (holds_batch setup) batch.0 (filter (is_taken_out scope) ps) (In-passing (is_taken_out scope) batch.0 ps batch.1.0 both.1) both.0 in
+        let some = In-counted (holds_batch setup) batch.0 (filter (is_taken_out scope) ps)
+        (In-passing (is_taken_out scope) batch.0 ps batch.1.0 both.1) both.0 in
         let all = sum-split (λ x. cond (holds_batch setup x) 1 0) (is_taken_out scope) ps in
         let one = along.0 in
         record {
@@ -201,7 +239,9 @@ with_abort scope setup ps ms o h = go (takes_batch setup scope ps) refl
         let none = count-none (holds_batch setup) (filter (is_taken_out scope) ps) (λ x j.
         let i = In-filter (is_taken_out scope) x ps j in
         false_from_ne_true (holds_batch setup x) (λ t.
-        not-both _ (In-any (λ slot. is_batch_of setup slot.1 && is_in_scope scope slot.1) x ps i.0 (ap (λ (b : Bool). b && is_in_scope scope x.1) t ∙ i.1)) f)) in
+        not-both _ (In-any (λ slot. is_batch_of setup slot.1 && is_in_scope scope slot.1) x ps i.0
+        (ap (λ (b : Bool). b && is_in_scope scope x.1) t ∙ i.1)) f)) in
         let all = sum-split (λ x. cond (holds_batch setup x) 1 0) (is_taken_out scope) ps in
         fewer setup ps (filter (is_left scope) ps) ms (filter (is_left scope) ms) o (omega (arith, all, none))
-        (λ x i. (In-filter (is_left scope) x ps i).0) (λ x i. (In-filter (is_left scope) x ms i).0) (length-filter-le (is_left scope) ms) h
+        (λ x i. (In-filter (is_left scope) x ps i).0)
+        (λ x i. (In-filter (is_left scope) x ms i).0) (length-filter-le (is_left scope) ms) h

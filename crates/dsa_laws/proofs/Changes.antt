@@ -1,63 +1,54 @@
 -- Every step that may come is one of the changes, and its reply tells how many entries that adds.
-use Rattle.std.proofs.Common.{◌≡◌, ℕ, Bool, true, false, cond, not, ◌&&◌, length, slice_set, Option, Some, None, refl, sym, subst}
+use Rattle.std.proofs.Common.{◌≡◌, ℕ, Bool, true, false, cond, not, ◌&&◌, length, slice_set, Option, Some, None, refl}
+use Rattle.std.proofs.Common.{sym, subst}
+use Rattle.std.proofs.lemmas.Bool.{cond_both, and_parts, not-false}
 use Rattle.std.specs.Prelude.{find, is_some, is_none, count_by}
-use Rattle.dsa_desc.specs.declared.Descriptor.{Descriptor}
-use Rattle.dsa_desc.specs.declared.Outcome.{Outcome}
+use Rattle.dsa_desc.specs.declared.{Descriptor.{Descriptor}, Outcome.{Outcome}}
 use Rattle.dsa_laws.proofs.Effects.{came, gone}
+use Rattle.dsa_laws.specs.Change.{Change, set_up, same, is_noted, is_accepted, is_taken, is_fetched, is_started}
+use Rattle.dsa_laws.specs.Change.{is_abandoned, is_ended, is_device_enabled, is_queue_enabled, is_waiting, is_over}
+use Rattle.dsa_laws.specs.Change.{is_aborted, is_device_reset, is_queues_reset, is_queue_written, is_group_written}
 use Rattle.dsa_base.proofs.Tables.{not-both, table1, table2, table3}
-use Rattle.dsa_regs.specs.declared.Phase.TheVariants.{Off, Stopping}
-use Rattle.dsa_regs.specs.declared.Command.{Command}
-use Rattle.dsa_regs.specs.declared.Fault.{Fault}
-use Rattle.dsa_regs.specs.declared.QueueConfig.{QueueConfig}
-use Rattle.dsa_regs.specs.declared.GroupConfig.{GroupConfig}
-use Rattle.dsa_regs.specs.Caps.{cell_count}
-use Rattle.dsa_store.specs.declared.entry.Cell.{Cell}
-use Rattle.dsa_store.specs.Content.{Slot, is_free}
-use Rattle.dsa_book.specs.declared.answer.Ticket.{Ticket}
-use Rattle.dsa_book.specs.declared.note.BatchNote.{BatchNote}
-use Rattle.dsa_book.specs.declared.answer.NotedError.{NotedError}
-use Rattle.dsa_book.specs.declared.note.ActiveCommand.{ActiveCommand}
-use Rattle.dsa_book.specs.declared.event.Portal.{Portal}
-use Rattle.dsa_book.specs.declared.event.Kind.{Kind}
-use Rattle.dsa_book.specs.declared.event.Kind.TheVariants.{Enqcmd, Movdir64b}
-use Rattle.dsa_book.specs.declared.answer.Cause.{Cause}
-use Rattle.dsa_book.specs.declared.answer.Cause.TheVariants.{AtLimit, NotEnabled, WrongKind}
-use Rattle.dsa_book.specs.declared.answer.SubmitAnswer.{SubmitAnswer}
-use Rattle.dsa_book.specs.declared.answer.SubmitAnswer.TheVariants.{Retry, Dropped}
-use Rattle.dsa_book.specs.declared.answer.FetchAnswer.{FetchAnswer}
-use Rattle.dsa_book.specs.declared.answer.FetchAnswer.TheVariants.{NoBatch, AllFetched}
+use Rattle.dsa_regs.specs.declared.{Phase.TheVariants.{Off, Stopping}, Command.{Command}}
+use Rattle.dsa_regs.specs.declared.Fault.{Fault, TheVariants.{BadQueue, Locked, WrongState, Busy, BadIndex}}
+use Rattle.dsa_regs.specs.declared.{QueueConfig.{QueueConfig}, GroupConfig.{GroupConfig}}
+use Rattle.dsa_regs.specs.declared.Scope.{Scope, TheVariants.{Device, Queue}}
+use Rattle.dsa_regs.specs.declared.Deed.{Deed, TheVariants.{Enable, Abort, Reset}}
+use Rattle.dsa_regs.specs.{Caps.{cell_count}, Command.{number_of, scope_of, deed_of}}
+use Rattle.dsa_store.specs.{declared.entry.Cell.{Cell}, Content.{Slot, is_free}}
+use Rattle.dsa_book.specs.declared.answer.{Ticket.{Ticket}, NotedError.{NotedError}}
+use Rattle.dsa_book.specs.declared.answer.Cause.{Cause, TheVariants.{AtLimit, NotEnabled, WrongKind}}
+use Rattle.dsa_book.specs.declared.answer.SubmitAnswer.{SubmitAnswer, TheVariants.{Retry, Dropped}}
+use Rattle.dsa_book.specs.declared.answer.FetchAnswer.{FetchAnswer, TheVariants.{NoBatch, AllFetched}}
 use Rattle.dsa_book.specs.declared.answer.StartAnswer.{StartAnswer}
 use Rattle.dsa_book.specs.declared.answer.StartAnswer.TheVariants.{Started, FenceWait, NoBuffers, Abandoned, Nothing}
 use Rattle.dsa_book.specs.declared.answer.DispatchAnswer.TheVariants.{Taken, Idle}
-use Rattle.dsa_book.specs.declared.answer.FinishAnswer.{FinishAnswer}
-use Rattle.dsa_book.specs.declared.answer.FinishAnswer.TheVariants.{Done, NotReady, Gone}
-use Rattle.dsa_book.specs.declared.answer.IssueAnswer.{IssueAnswer}
-use Rattle.dsa_book.specs.declared.answer.IssueAnswer.TheVariants.{Ended, Active, Refused}
-use Rattle.dsa_book.specs.declared.answer.PollAnswer.{PollAnswer}
-use Rattle.dsa_book.specs.declared.answer.PollAnswer.TheVariants.{Finished, Active, Nothing}
-use Rattle.dsa_book.specs.declared.answer.WriteAnswer.{WriteAnswer}
-use Rattle.dsa_book.specs.declared.answer.WriteAnswer.TheVariants.{Written, Refused}
+use Rattle.dsa_book.specs.declared.answer.FinishAnswer.{FinishAnswer, TheVariants.{Done, NotReady, Gone}}
+use Rattle.dsa_book.specs.declared.answer.IssueAnswer.{IssueAnswer, TheVariants.{Ended, Active, Refused}}
+use Rattle.dsa_book.specs.declared.answer.PollAnswer.{PollAnswer, TheVariants.{Finished, Active, Nothing}}
+use Rattle.dsa_book.specs.declared.answer.WriteAnswer.{WriteAnswer, TheVariants.{Written, Refused}}
 use Rattle.dsa_book.specs.declared.answer.ClearAnswer.TheVariants.{Cleared, Nothing}
-use Rattle.dsa_regs.specs.declared.Fault.TheVariants.{BadQueue, Locked, WrongState, Busy, BadIndex}
-use Rattle.dsa_book.specs.declared.event.Event.{Event}
-use Rattle.dsa_book.specs.declared.event.Event.TheVariants.{Submit, Dispatch, Fetch, Start, Finish, Issue, Poll, WriteQueue, WriteGroup, ClearError}
 use Rattle.dsa_book.specs.declared.answer.Reply.{Reply}
-use Rattle.dsa_book.specs.declared.answer.Reply.TheVariants.{Submit, Dispatch, Fetch, Start, Finish, Issue, Poll, Write, Clear}
+use Rattle.dsa_book.specs.declared.answer.Reply.TheVariants.{Submit, Dispatch, Fetch, Start, Finish, Issue, Poll}
+use Rattle.dsa_book.specs.declared.answer.Reply.TheVariants.{Write, Clear}
+use Rattle.dsa_book.specs.declared.note.{BatchNote.{BatchNote}, ActiveCommand.{ActiveCommand}}
+use Rattle.dsa_book.specs.declared.event.{Portal.{Portal}, Kind.{Kind, TheVariants.{Enqcmd, Movdir64b}}}
+use Rattle.dsa_book.specs.declared.event.Event.{Event}
+use Rattle.dsa_book.specs.declared.event.Event.TheVariants.{Submit, Dispatch, Fetch, Start, Finish, Issue, Poll}
+use Rattle.dsa_book.specs.declared.event.Event.TheVariants.{WriteQueue, WriteGroup, ClearError}
 use Rattle.dsa_book.specs.State.{Setup, Intake, Work, State, is_ticket, ticket_of, is_batch_of}
 use Rattle.dsa_book.specs.Submit.{submit, after_refusal, after_accept, next_noted}
-use Rattle.dsa_book.specs.Work.{qualifies, front_of, may_leave, dispatch, dispatch_of, fetch_of, fetch_for, after_fetch, note_at, batch_on, is_all_fetched, start_of, after_start, after_abandon, members, first_waiting, is_unfinished, last_status, after_end, finish_of, running_on}
-use Rattle.dsa_book.specs.Commands.{issue, check_of, refusal_or, command_done_of, deed_done_of, wait_of, poll_of, after_stop, write_queue, write_group, clear_of, is_at_end, is_bad_queues, may_come, count_in_scope}
+use Rattle.dsa_book.specs.Work.{qualifies, front_of, may_leave, dispatch, dispatch_of, fetch_of, fetch_for}
+use Rattle.dsa_book.specs.Work.{after_fetch, note_at, batch_on, is_all_fetched, start_of, after_start, after_abandon}
+use Rattle.dsa_book.specs.Work.{members, first_waiting, is_unfinished, last_status, after_end, finish_of, running_on}
+use Rattle.dsa_book.specs.Commands.{issue, check_of, refusal_or, command_done_of, deed_done_of, wait_of, poll_of}
+use Rattle.dsa_book.specs.Commands.{after_stop, write_queue, write_group, clear_of, is_at_end, is_bad_queues}
+use Rattle.dsa_book.specs.Commands.{may_come, count_in_scope}
 use Rattle.dsa_book.specs.Totals.{is_accepted as accepts, is_fetched as fetches, ended_by}
-use Rattle.dsa_book.specs.Machine.{next, is_stored, may_choose, reply_of, with_work, with_intake, with_setup, intake_of}
+use Rattle.dsa_book.specs.Machine.{next, is_stored, may_choose, reply_of, with_work, with_intake, with_setup}
+use Rattle.dsa_book.specs.Machine.{intake_of}
 use Rattle.dsa_book.specs.Choice.{Choice, choice_of, in_cell, from_queue, cell_of, may_enter}
 use Rattle.dsa_book.proofs.Nexts.{next-each}
-use Rattle.dsa_laws.specs.Change.{Change, set_up, same, is_noted, is_accepted, is_taken, is_fetched, is_started, is_abandoned, is_ended, is_device_enabled, is_queue_enabled, is_waiting, is_over, is_aborted, is_device_reset, is_queues_reset, is_queue_written, is_group_written}
-use Rattle.std.proofs.lemmas.Bool.{cond_both, and_parts, not-false}
-use Rattle.dsa_regs.specs.declared.Scope.{Scope}
-use Rattle.dsa_regs.specs.declared.Scope.TheVariants.{Device, Queue}
-use Rattle.dsa_regs.specs.declared.Deed.{Deed}
-use Rattle.dsa_regs.specs.declared.Deed.TheVariants.{Enable, Abort, Reset}
-use Rattle.dsa_regs.specs.Command.{number_of, scope_of, deed_of}
 
 -- ---- what a reply tells of the change that its step makes
 
@@ -245,12 +236,14 @@ waits-tells s command may =
     (Active, set_up s (Some active) (after_stop deed scope Stopping s.work.setup))
     (Issues s)
     (λ u. makes (Issue (Ended 0)) (is_over
-    (record { deed = deed; scope = scope; mark = active.mark; over = u; active = s.active; after = refl })) refl refl refl refl)
+    (record { deed = deed; scope = scope; mark = active.mark; over = u; active = s.active; after = refl })) refl refl
+    refl refl)
     (λ u. makes (Issue Active) (is_waiting
     (record { deed = deed; scope = scope; may = may; active = Some active; after = refl })) refl refl refl refl)
 
 done-tells : (s : State) (command : Command) (deed : Deed) (scope : Scope) → may_come s.work.setup deed scope ≡ true
-    → check_of s.work.setup deed scope ≡ None → Issues s (wait_of s command) → Issues s (deed_done_of s command deed scope)
+    → check_of s.work.setup deed scope ≡ None → Issues s (wait_of s command)
+    → Issues s (deed_done_of s command deed scope)
 done-tells s command Enable Device may check w = makes (Issue (Ended 0))
     (is_device_enabled (record { off = may; check = check; after = refl })) refl refl refl refl
 done-tells s command Enable (Queue queue) may check w =
@@ -270,7 +263,8 @@ done-tells s command _ scope may check w = w
 
 refused_or-tells : (s : State) (command : Command) (o : Option Fault)
     → may_come s.work.setup (deed_of command) (scope_of command) ≡ true
-    → check_of s.work.setup (deed_of command) (scope_of command) ≡ o → Issues s (refusal_or s o (command_done_of s command))
+    → check_of s.work.setup (deed_of command) (scope_of command) ≡ o
+    → Issues s (refusal_or s o (command_done_of s command))
 refused_or-tells s command None may check = done-tells s command (deed_of command) (scope_of command) may check
     (waits-tells s command may)
 refused_or-tells s command (Some fault) may check = stays s (Issue (Refused fault)) refl refl refl
@@ -296,7 +290,8 @@ poll_of-tells s (Some active) =
     (Finished, set_up s None (after_stop deed scope Off s.work.setup)) (Active, s)
     (λ (r : PollAnswer × State). Tells s (Poll r.0, r.1))
     (λ u. makes (Poll Finished) (is_over
-    (record { deed = deed; scope = scope; mark = active.mark; over = u; active = None; after = refl })) refl refl refl refl)
+    (record { deed = deed; scope = scope; mark = active.mark; over = u; active = None; after = refl })) refl refl
+    refl refl)
     (λ u. stays s (Poll Active) refl refl refl)
 
 -- ---- writes and clear
@@ -314,7 +309,8 @@ write_queue-tells s q config =
     (λ u. stays s (Write (Refused Locked)) refl refl refl)
     (λ u. stays s (Write (Refused Locked)) refl refl refl)
     (λ u v t. makes (Write Written) (is_queue_written
-    (record { queue = q; config = config; has = not-false _ u; off = not-false _ v; size = t; after = refl })) refl refl refl refl)
+    (record { queue = q; config = config; has = not-false _ u; off = not-false _ v; size = t; after = refl })) refl
+    refl refl refl)
 
 write_group-tells : (s : State) (g : ℕ) (config : GroupConfig) → Writes s (write_group s.work.setup g config)
 write_group-tells s g config =

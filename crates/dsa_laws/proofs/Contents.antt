@@ -1,14 +1,14 @@
 -- Members, sums and facts of lists of lists, as each effect changes them.
-use Rattle.std.proofs.Common.{drop, ◌≡◌, ℕ, zero, suc, ◌+◌, ◌<◌, ◌≤◌, Bool, true, not, List, [], ◌∷◌, ◌++◌, length, map, filter, set, refl, ap, subst, ◌⊎◌, inl, inr, arith, ⊎_elim, replicate, ◌≢◌}
+use Rattle.std.proofs.Common.{drop, ◌≡◌, ℕ, zero, suc, ◌+◌, ◌<◌, ◌≤◌, Bool, true, not, List, [], ◌∷◌, ◌++◌, length}
+use Rattle.std.proofs.Common.{map, filter, set, refl, ap, subst, ◌⊎◌, inl, inr, arith, ⊎_elim, replicate, ◌≢◌}
+use Rattle.std.proofs.lemmas.List.{Sums.{sum_by-cons, sum_by-append}, get_or-set_same, get_or-set_other}
 use Rattle.std.specs.Prelude.{sum_by, count_by}
-use Rattle.std.proofs.lemmas.List.Sums.{sum_by-cons, sum_by-append}
 use Rattle.dsa_base.proofs.Lists.{In-only, In-left, In-right, In-append, In-filter, get_or-replicated}
 use Rattle.dsa_base.proofs.Counts.{filter-one}
+use Rattle.dsa_base.specs.Lists.{In}
 use Rattle.dsa_store.specs.Content.{Slot, Content, chain, all_held, after_push, without_front}
 use Rattle.dsa_store.proofs.Sums.{sum-split}
-use Rattle.dsa_base.specs.Lists.{In}
 use Rattle.dsa_laws.specs.Lists.{EachAt}
-use Rattle.std.proofs.lemmas.List.{get_or-set_same, get_or-set_other}
 
 -- ---- members
 
@@ -28,7 +28,8 @@ pub sum-filter-le : {X : Type 0} (f : X → ℕ) (p : X → Bool) (xs : List X) 
 sum-filter-le f p xs = omega (arith, sum-split f p xs)
 
 -- without the cell of one that is held, all but it are left
-pub sum-without : (f : Slot → ℕ) (p : Slot → Bool) (x : Slot) (xs : List Slot) → count_by p xs ≤ 1 → In x xs → p x ≡ true → sum_by f (filter (λ y. not (p y)) xs) + f x ≡ sum_by f xs
+pub sum-without : (f : Slot → ℕ) (p : Slot → Bool) (x : Slot) (xs : List Slot) → count_by p xs ≤ 1 → In x xs
+    → p x ≡ true → sum_by f (filter (λ y. not (p y)) xs) + f x ≡ sum_by f xs
 sum-without f p x xs h i t =
     let parts = sum-split f p xs in
     let one = ap (λ (ys : List Slot). sum_by f ys) (filter-one p x xs h i t) in
@@ -44,12 +45,14 @@ pub chain-same : (c : Content) (k : ℕ) (l : List Slot) → k < length c → ch
 chain-same c k l i = get_or-set_same c k l [] i
 
 -- each list after one is set: it is that one, or as it was
-pub chain-set : (c : Content) (k : ℕ) (l : List Slot) (j : ℕ) → ((j ≡ k) × (chain (set c k l) j ≡ l)) ⊎ (chain (set c k l) j ≡ chain c j)
+pub chain-set : (c : Content) (k : ℕ) (l : List Slot) (j : ℕ)
+    → ((j ≡ k) × (chain (set c k l) j ≡ l)) ⊎ (chain (set c k l) j ≡ chain c j)
 chain-set [] k l j = inr refl
 chain-set (m ∷ ms) zero l zero = inl (refl, refl)
 chain-set (m ∷ ms) zero l (suc j) = inr refl
 chain-set (m ∷ ms) (suc k) l zero = inr refl
-chain-set (m ∷ ms) (suc k) l (suc j) = ⊎_elim (λ h. let e = h.0 in inl (omega (arith, e), h.1)) (λ h. inr h) (chain-set ms k l j)
+chain-set (m ∷ ms) (suc k) l (suc j) = ⊎_elim (λ h. let e = h.0 in
+    inl (omega (arith, e), h.1)) (λ h. inr h) (chain-set ms k l j)
 
 -- where all lists are empty each is
 pub chain-empty : (n k : ℕ) → chain (replicate n []) k ≡ []
@@ -62,7 +65,8 @@ all_held-empty (suc n) = all_held-empty n
 
 -- ---- facts of each list by its number
 
-pub each-set : (P : ℕ → Slot → Type 0) (c : Content) (k : ℕ) (l : List Slot) → EachAt P c → ((x : Slot) → In x l → P k x) → EachAt P (set c k l)
+pub each-set : (P : ℕ → Slot → Type 0) (c : Content) (k : ℕ) (l : List Slot) → EachAt P c
+    → ((x : Slot) → In x l → P k x) → EachAt P (set c k l)
 each-set P [] k l a b = a
 each-set P (m ∷ ms) zero l a b = λ j. first j
   where
@@ -75,8 +79,10 @@ each-set P (m ∷ ms) (suc k) l a b = λ j. later (each-set (λ i. P (suc i)) ms
     later more zero = a zero
     later more (suc j) = more j
 
-pub each-pushed : (P : ℕ → Slot → Type 0) (c : Content) (k : ℕ) (y : Slot) → EachAt P c → P k y → EachAt P (after_push c k y.0 y.1)
-each-pushed P c k y a p = each-set P c k (chain c k ++ y ∷ []) a (λ x i. ⊎_elim (λ j. a k x j) (λ j. subst (P k) (In-only x y j) p) (In-append x (chain c k) (y ∷ []) i))
+pub each-pushed : (P : ℕ → Slot → Type 0) (c : Content) (k : ℕ) (y : Slot) → EachAt P c → P k y
+    → EachAt P (after_push c k y.0 y.1)
+each-pushed P c k y a p = each-set P c k (chain c k ++ y ∷ []) a
+    (λ x i. ⊎_elim (λ j. a k x j) (λ j. subst (P k) (In-only x y j) p) (In-append x (chain c k) (y ∷ []) i))
 
 In-rest : (x : Slot) (xs : List Slot) → In x (drop 1 xs) → In x xs
 In-rest x [] i = i
@@ -90,7 +96,8 @@ chain-filtered p [] k = refl
 chain-filtered p (l ∷ ls) zero = refl
 chain-filtered p (l ∷ ls) (suc k) = chain-filtered p ls k
 
-pub In-filtered : (p : Slot → Bool) (c : Content) (k : ℕ) (x : Slot) → In x (chain (map (filter p) c) k) → In x (chain c k) × (p x ≡ true)
+pub In-filtered : (p : Slot → Bool) (c : Content) (k : ℕ) (x : Slot) → In x (chain (map (filter p) c) k)
+    → In x (chain c k) × (p x ≡ true)
 In-filtered p c k x i = In-filter p x (chain c k) (subst (λ l. In x l) (chain-filtered p c k) i)
 
 pub each-filtered : (P : ℕ → Slot → Type 0) (p : Slot → Bool) (c : Content) → EachAt P c → EachAt P (map (filter p) c)

@@ -1,23 +1,23 @@
 -- What changes do, in eight kinds by what is held and in nine by the set-up: each law says what these mean for it.
-use Rattle.std.proofs.Common.{◌≡◌, ◌==◌, ◌<◌, Bool, true, false, cond, ℕ, ◌+◌, Option, Some, None, List, [], ◌∷◌, length, refl, subst}
+use Rattle.std.proofs.Common.{◌≡◌, ◌==◌, ◌<◌, Bool, true, false, cond, ℕ, ◌+◌, Option, Some, None, List, [], ◌∷◌}
+use Rattle.std.proofs.Common.{length, refl, subst}
 use Rattle.std.specs.Prelude.{slice_set}
-use Rattle.dsa_regs.specs.declared.Phase.{Phase}
-use Rattle.dsa_regs.specs.declared.Phase.TheVariants.{Off, On, Stopping}
-use Rattle.dsa_regs.specs.declared.Deed.{Deed}
-use Rattle.dsa_regs.specs.declared.Deed.TheVariants.{Disable}
+use Rattle.dsa_regs.specs.declared.Phase.{Phase, TheVariants.{Off, On, Stopping}}
+use Rattle.dsa_regs.specs.declared.{Deed.{Deed, TheVariants.{Disable}}, QueueConfig.{QueueConfig}}
+use Rattle.dsa_regs.specs.declared.Scope.{Scope, TheVariants.{Device}}
+use Rattle.dsa_regs.specs.{Config.{queue_at, zero_queue}, Command.{queues_in}}
 use Rattle.dsa_base.proofs.NumberLists.{get_or-each}
-use Rattle.dsa_regs.specs.Config.{queue_at, zero_queue}
-use Rattle.dsa_regs.specs.declared.QueueConfig.{QueueConfig}
-use Rattle.dsa_regs.specs.declared.Scope.{Scope}
-use Rattle.dsa_regs.specs.declared.Scope.TheVariants.{Device}
-use Rattle.dsa_regs.specs.Command.{queues_in}
-use Rattle.dsa_book.specs.State.{Setup, Work, State}
-use Rattle.dsa_book.specs.Submit.{after_accept}
-use Rattle.dsa_book.specs.declared.answer.NotedError.{NotedError}
+use Rattle.dsa_book.specs.{State.{Setup, Work, State}, Submit.{after_accept}, declared.answer.NotedError.{NotedError}}
 use Rattle.dsa_book.specs.Work.{members, after_take, after_fetch, after_start, after_abandon, after_end}
-use Rattle.dsa_book.specs.Commands.{after_stop, with_device, with_phases, with_sizes_alone, size_alone, is_among, after_abort, count_in_scope, reset}
+use Rattle.dsa_book.specs.Commands.{after_stop, with_device, with_phases, with_sizes_alone, size_alone, is_among}
+use Rattle.dsa_book.specs.Commands.{after_abort, count_in_scope, reset}
 use Rattle.dsa_book.specs.Machine.{intake_of, with_intake}
-use Rattle.dsa_laws.specs.Change.{Change, IsAccepted, IsTaken, IsFetched, IsStarted, IsAbandoned, IsEnded, IsDeviceEnabled, IsQueueEnabled, IsWaiting, IsOver, IsDeviceReset, IsQueuesReset, IsQueueWritten, IsGroupWritten, same, is_noted, is_accepted, is_taken, is_fetched, is_started, is_abandoned, is_ended, is_device_enabled, is_queue_enabled, is_waiting, is_over, is_aborted, is_device_reset, is_queues_reset, is_queue_written, is_group_written}
+use Rattle.dsa_laws.specs.Change.{Change, IsAccepted, IsTaken, IsFetched, IsStarted, IsAbandoned, IsEnded}
+use Rattle.dsa_laws.specs.Change.{IsDeviceEnabled, IsQueueEnabled, IsWaiting, IsOver, IsDeviceReset, IsQueuesReset}
+use Rattle.dsa_laws.specs.Change.{IsQueueWritten, IsGroupWritten, same, is_noted, is_accepted, is_taken, is_fetched}
+use Rattle.dsa_laws.specs.Change.{is_started, is_abandoned, is_ended, is_device_enabled, is_queue_enabled, is_waiting}
+use Rattle.dsa_laws.specs.Change.{is_over, is_aborted, is_device_reset, is_queues_reset, is_queue_written}
+use Rattle.dsa_laws.specs.Change.{is_group_written}
 
 -- ---- what a disable sets
 
@@ -91,7 +91,8 @@ pub by_count : (P : List (Option ℕ) → ℕ → Work → Type 0) (s s' : State
     → ((c : IsAccepted s s') → P (None ∷ []) 0 (with_intake s
     (after_accept (intake_of s) c.queue c.kind c.desc c.cell).1).work)
     → ((c : IsTaken s s') → P [] 0 (after_take s.work c.engine c.queue c.front))
-    → ((c : IsFetched s s') → P (Some c.note.batch ∷ []) 0 (after_fetch s.work c.engine c.desc c.cell c.note c.batch.1).1)
+    → ((c : IsFetched s s') → P (Some c.note.batch ∷ []) 0
+    (after_fetch s.work c.engine c.desc c.cell c.note c.batch.1).1)
     → ((c : IsStarted s s') → P [] 0 (after_start s.work c.engine))
     → ((c : IsAbandoned s s') → P [] (length (members s.work c.engine)) (after_abandon s.work c.engine))
     → ((c : IsEnded s s') → P [] 1 (after_end s.work c.engine c.slot c.outcome))

@@ -1,39 +1,38 @@
 -- Each engine has a note exactly where it works on a batch, whatever step is made.
-use Rattle.std.proofs.Common.{drop, ◌≡◌, ◌≢◌, ℕ, ◌+◌, ◌<◌, ◌≤◌, ◌&&◌, ◌||◌, ◌==◌, not, Bool, true, false, cond, List, ◌∷◌, ◌++◌, length, filter, set, get_or, Option, Some, None, option_map, is_none, refl, sym, ap, ◌∙◌, subst, ◌⊎◌, inl, inr, arith, ⊎_elim, eq-eqb, eqb-true, []}
-use Rattle.std.specs.Prelude.{nat_lt, count_by, sum_by}
-use Rattle.std.proofs.lemmas.Bool.Decides.{nat_tests}
-use Rattle.std.proofs.lemmas.Bool.{cases_Bool, cases_eq, ltb-true, ltb-false, and_parts, or_parts}
+use Rattle.std.proofs.Common.{drop, ◌≡◌, ◌≢◌, ℕ, ◌+◌, ◌<◌, ◌≤◌, ◌&&◌, ◌||◌, ◌==◌, not, Bool, true, false, cond, List}
+use Rattle.std.proofs.Common.{◌∷◌, ◌++◌, length, filter, set, get_or, Option, Some, None, option_map, is_none, refl}
+use Rattle.std.proofs.Common.{sym, ap, ◌∙◌, subst, ◌⊎◌, inl, inr, arith, ⊎_elim, eq-eqb, eqb-true, []}
+use Rattle.std.proofs.lemmas.Bool.{Decides.{nat_tests}, cases_Bool, cases_eq, ltb-true, ltb-false, and_parts}
+use Rattle.std.proofs.lemmas.Bool.{or_parts}
 use Rattle.std.proofs.lemmas.List.{length-set, get_or-set_same, get_or-set_other, get_or-replicate}
 use Rattle.std.proofs.Math.ListN.{get_or-eq_default}
-use Rattle.dsa_base.proofs.Lists.{length-none, In-append, In-filter, In-find}
-use Rattle.dsa_base.proofs.Counts.{In-same, In-counted}
-use Rattle.dsa_desc.specs.declared.Outcome.{Outcome}
-use Rattle.dsa_desc.specs.Descriptor.{with_pasid, is_successful, is_lawful_batch}
-use Rattle.dsa_regs.specs.declared.Caps.{Caps}
-use Rattle.dsa_regs.specs.declared.QueueConfig.{QueueConfig}
-use Rattle.dsa_regs.specs.declared.Scope.{Scope}
-use Rattle.dsa_regs.specs.Caps.{list_count}
+use Rattle.std.specs.Prelude.{nat_lt, count_by, sum_by}
+use Rattle.dsa_base.proofs.{Lists.{length-none, In-append, In-filter, In-find}, Counts.{In-same, In-counted}}
+use Rattle.dsa_base.proofs.NumberLists.{get_or-each}
+use Rattle.dsa_base.specs.Lists.{In}
+use Rattle.dsa_desc.specs.{declared.Outcome.{Outcome}, Descriptor.{with_pasid, is_successful, is_lawful_batch}}
+use Rattle.dsa_regs.specs.{declared.{Caps.{Caps}, QueueConfig.{QueueConfig}, Scope.{Scope}}, Caps.{list_count}}
 use Rattle.dsa_regs.specs.Config.{queue_at, limits_of}
-use Rattle.dsa_store.specs.Content.{Slot, Content, is_cell, chain, place_count, use_count, without_front, after_unlink}
-use Rattle.dsa_store.proofs.Places.{filter-absent}
-use Rattle.dsa_store.proofs.Sums.{uses-counted}
+use Rattle.dsa_store.specs.Content.{Slot, Content, is_cell, chain, place_count, use_count, without_front}
+use Rattle.dsa_store.specs.Content.{after_unlink}
+use Rattle.dsa_store.proofs.{Places.{filter-absent}, Sums.{uses-counted}}
 use Rattle.dsa_book.specs.declared.note.BatchNote.{BatchNote}
 use Rattle.dsa_book.specs.State.{Setup, Work, State, opening, opening_setup, is_member, is_batch_of, status_of}
-use Rattle.dsa_book.specs.Work.{progress_list, member_list, in_progress, members, note_at, running_on, with_running_entry, is_unfinished, note_after, with_first_run, opened_note, after_take, after_end}
+use Rattle.dsa_book.specs.Work.{progress_list, member_list, in_progress, members, note_at, running_on}
+use Rattle.dsa_book.specs.Work.{with_running_entry, is_unfinished, note_after, with_first_run, opened_note}
+use Rattle.dsa_book.specs.Work.{after_take, after_end}
 use Rattle.dsa_book.specs.Commands.{after_abort, kept_note, is_among}
-use Rattle.dsa_laws.specs.Change.{Change}
-use Rattle.dsa_laws.proofs.Effects.{by_effect}
-use Rattle.dsa_laws.specs.WellFormed.{HasShape, NamesOnce, IsWellFormed}
-use Rattle.dsa_laws.specs.Engines.{holds_batch, IsAlike, IsLawfulEngine, HasLawfulEngines}
-use Rattle.dsa_laws.proofs.Contents.{In-filtered, chain-filtered, sum-list-le, sum-without, chain-other, chain-same}
-use Rattle.dsa_laws.proofs.Shapes.{engines-same, shape-change, shape-opening, In-cond, below-engines, member_list-in, progress_list-in, waiting-engine, waiting-members}
 use Rattle.dsa_book.proofs.Phases.{on-not_off}
-use Rattle.dsa_base.proofs.NumberLists.{get_or-each}
+use Rattle.dsa_laws.specs.{Change.{Change}, WellFormed.{HasShape, NamesOnce, IsWellFormed}}
+use Rattle.dsa_laws.specs.Engines.{holds_batch, IsAlike, IsLawfulEngine, HasLawfulEngines}
+use Rattle.dsa_laws.proofs.Effects.{by_effect}
+use Rattle.dsa_laws.proofs.Contents.{In-filtered, chain-filtered, sum-list-le, sum-without, chain-other, chain-same}
+use Rattle.dsa_laws.proofs.Shapes.{engines-same, shape-change, shape-opening, In-cond, below-engines, member_list-in}
+use Rattle.dsa_laws.proofs.Shapes.{progress_list-in, waiting-engine, waiting-members}
 use Rattle.dsa_laws.proofs.Entries.{in-use-below, configs-kept}
-use Rattle.dsa_laws.proofs.Batches.{by_setup, with_front, with_member, with_run, with_none, with_end, is_left, with_abort, sum-two}
-use Rattle.dsa_base.specs.Lists.{In}
-use Rattle.dsa_laws.proofs.Flows.{names-counted}
-use Rattle.dsa_laws.proofs.Limits.{size-filtered, taken-test}
+use Rattle.dsa_laws.proofs.Batches.{by_setup, with_front, with_member, with_run, with_none, with_end, is_left}
+use Rattle.dsa_laws.proofs.Batches.{with_abort, sum-two}
+use Rattle.dsa_laws.proofs.{Flows.{names-counted}, Limits.{size-filtered, taken-test}}
 
 -- ---- an engine's lists by their numbers
 
@@ -192,7 +191,8 @@ own_ended w k x outcome i gone left h =
 -- an entry in progress
 progress_ended : (w : Work) (k : ℕ) (x : Slot) (outcome : Outcome) → k < length w.notes → k < w.setup.caps.engines
     → use_count w.content x.0 ≤ 1 → In x (own_progress w k)
-    → (holds_batch w.setup x ≡ true → own_members w k ≡ []) → LawAt w.setup w k → LawAt w.setup (after_end w k x outcome) k
+    → (holds_batch w.setup x ≡ true → own_members w k ≡ []) → LawAt w.setup w k
+    → LawAt w.setup (after_end w k x outcome) k
 progress_ended w k x outcome i below once at empty h =
     let sum = sum-list_unlinked (λ s. cond (holds_batch w.setup s) 1 0) w.content x (progress_list w.setup k) once at in
     let members_stay = list-unlinked w.content x (member_list w.setup k) (progress_list w.setup k) once at
@@ -206,7 +206,8 @@ progress_ended w k x outcome i below once at empty h =
 -- a member
 member_ended : (w : Work) (k : ℕ) (x : Slot) (outcome : Outcome) → k < length w.notes → k < w.setup.caps.engines
     → use_count w.content x.0 ≤ 1 → In x (own_members w k)
-    → (holds_batch w.setup x ≡ true → own_members w k ≡ []) → LawAt w.setup w k → LawAt w.setup (after_end w k x outcome) k
+    → (holds_batch w.setup x ≡ true → own_members w k ≡ []) → LawAt w.setup w k
+    → LawAt w.setup (after_end w k x outcome) k
 member_ended w k x outcome i below once at empty h =
     let stay = list-unlinked w.content x (progress_list w.setup k) (member_list w.setup k) once at
     (λ (y : progress_list w.setup k ≡ member_list w.setup k). omega (arith, y, below)) in

@@ -1,27 +1,20 @@
 -- Every state that a history leads to is well formed.
-use Rattle.std.proofs.Common.{◌≡◌, ◌==◌, List, [], ◌∷◌, length, replicate, Option, Some, None, refl, ap, subst, arith, ◌+◌, ◌∙◌}
+use Rattle.std.proofs.Common.{◌≡◌, ◌==◌, List, [], ◌∷◌, length, replicate, Option, Some, None, refl, ap, subst, arith}
+use Rattle.std.proofs.Common.{◌+◌, ◌∙◌}
 use Rattle.std.specs.Prelude.{count_by}
-use Rattle.dsa_regs.specs.declared.Caps.{Caps}
-use Rattle.dsa_regs.specs.Caps.{list_count}
-use Rattle.dsa_store.specs.Content.{Slot, is_cell, use_count}
+use Rattle.dsa_regs.specs.{declared.Caps.{Caps}, Caps.{list_count}}
+use Rattle.dsa_store.specs.{Content.{Slot, is_cell, use_count}, declared.entry.Cell.{Cell}}
 use Rattle.dsa_store.proofs.Sums.{uses-counted, held-counted}
-use Rattle.dsa_book.specs.declared.event.Step.{Step}
-use Rattle.dsa_book.specs.State.{State, opening}
-use Rattle.dsa_book.specs.Machine.{next, replay_from, replay}
-use Rattle.dsa_laws.specs.Change.{Change}
-use Rattle.dsa_laws.specs.WellFormed.{IsWellFormed}
-use Rattle.dsa_laws.proofs.Changes.{next-change}
-use Rattle.dsa_laws.proofs.Shapes.{shape-change, shape-opening}
-use Rattle.dsa_laws.proofs.Flows.{flow-change, cells-flow, names-flow}
-use Rattle.dsa_laws.proofs.Setups.{setup-change, setup-opening}
+use Rattle.dsa_book.specs.{declared.event.Step.{Step}, State.{State, opening}, Machine.{next, replay_from, replay}}
+use Rattle.dsa_book.proofs.Replay.{replay_none}
+use Rattle.dsa_laws.specs.{Change.{Change}, WellFormed.{IsWellFormed}}
+use Rattle.dsa_laws.proofs.{Changes.{next-change}, Shapes.{shape-change, shape-opening}}
+use Rattle.dsa_laws.proofs.{Flows.{flow-change, cells-flow, names-flow}, Setups.{setup-change, setup-opening}}
 use Rattle.dsa_laws.proofs.Entries.{entries-change, entries-opening}
 use Rattle.dsa_laws.proofs.Limits.{lists-fit, of-lists_fit, lists_fit-change, lists_fit-opening}
 use Rattle.dsa_laws.proofs.Notes.{notes-change, notes-opening}
 use Rattle.dsa_laws.proofs.Orders.{lists-in_order, of-lists_in_order, order-change, order-opening}
-use Rattle.dsa_laws.proofs.Engines.{engines-change, engines-opening}
-use Rattle.dsa_laws.proofs.Buffering.{buffers-change, buffers-opening}
-use Rattle.dsa_store.specs.declared.entry.Cell.{Cell}
-use Rattle.dsa_book.proofs.Replay.{replay_none}
+use Rattle.dsa_laws.proofs.{Engines.{engines-change, engines-opening}, Buffering.{buffers-change, buffers-opening}}
 use Rattle.dsa_laws.proofs.Contents.{all_held-empty}
 
 pub well_formed-change : (caps : Caps) (s s' : State) → IsWellFormed caps s → Change s s' → IsWellFormed caps s'
@@ -41,7 +34,8 @@ well_formed-change caps s s' w c =
       buffers = buffers-change caps s s' w c;
       engines = engines;
       notes = notes;
-      order = of-lists_in_order caps s'.work shape (order-change caps s s' w.shape (lists-in_order caps s.work w.shape w.order) c);
+      order = of-lists_in_order caps s'.work shape
+          (order-change caps s s' w.shape (lists-in_order caps s.work w.shape w.order) c);
     }
 
 pub well_formed-opening : (caps : Caps) → IsWellFormed caps (opening caps)
@@ -60,7 +54,8 @@ well_formed-opening caps =
       };
       setup = setup-opening caps;
       entries = entries-opening caps;
-      limits = of-lists_fit caps (opening caps).work (shape-opening caps) (lists_fit-opening caps) (notes-opening caps) (engines-opening caps);
+      limits = of-lists_fit caps (opening caps).work (shape-opening caps) (lists_fit-opening caps)
+          (notes-opening caps) (engines-opening caps);
       buffers = buffers-opening caps;
       engines = engines-opening caps;
       notes = notes-opening caps;
@@ -68,16 +63,20 @@ well_formed-opening caps =
     }
   where
     unused : (cell : Cell) → use_count (opening caps).work.content cell ≡ 0
-    unused cell = uses-counted (replicate (list_count caps) []) cell ∙ ap (λ (xs : List Slot). count_by (is_cell cell) xs) (all_held-empty (list_count caps))
+    unused cell = uses-counted (replicate (list_count caps) []) cell
+        ∙ ap (λ (xs : List Slot). count_by (is_cell cell) xs) (all_held-empty (list_count caps))
 
 -- what every change keeps, every history keeps
-pub replay_keeps : (P : State → Type 0) → ((s s' : State) → P s → Change s s' → P s') → (h : List Step) (s s' : State) → P s → replay_from (Some s) h ≡ Some s' → P s'
+pub replay_keeps : (P : State → Type 0) → ((s s' : State) → P s → Change s s' → P s')
+    → (h : List Step) (s s' : State) → P s → replay_from (Some s) h ≡ Some s' → P s'
 replay_keeps P keeps [] s s' p e = let is : s ≡ s' = cc in subst P is p
 replay_keeps P keeps (x ∷ h) s s' p e = go (λ t q r. replay_keeps P keeps h t s' q r) (next s x.event x.reply) refl e
   where
-    go : ((t : State) → P t → replay_from (Some t) h ≡ Some s' → P s') → (o : Option State) → next s x.event x.reply ≡ o → replay_from o h ≡ Some s' → P s'
+    go : ((t : State) → P t → replay_from (Some t) h ≡ Some s' → P s') → (o : Option State)
+        → next s x.event x.reply ≡ o → replay_from o h ≡ Some s' → P s'
     go more None n e = absurd (replay_none h s' e)
     go more (Some t) n e = more t (keeps s t p (next-change s t x.event x.reply n)) e
 
 pub replay-well_formed : (caps : Caps) (h : List Step) (s : State) → replay caps h ≡ Some s → IsWellFormed caps s
-replay-well_formed caps h s e = replay_keeps (IsWellFormed caps) (well_formed-change caps) h (opening caps) s (well_formed-opening caps) e
+replay-well_formed caps h s e = replay_keeps (IsWellFormed caps) (well_formed-change caps) h (opening caps) s
+    (well_formed-opening caps) e

@@ -1,11 +1,9 @@
 -- What each engine needs, as one list of entries changes.
-use Rattle.std.proofs.Common.{◌≡◌, ◌≢◌, ℕ, ◌+◌, ◌<◌, ◌≤◌, Bool, true, false, cond, List, ◌∷◌, refl, ap, ◌∙◌, subst, ◌⊎◌, inl, inr, arith, ⊎_elim, []}
+use Rattle.std.proofs.Common.{◌≡◌, ◌≢◌, ℕ, ◌+◌, ◌<◌, ◌≤◌, Bool, true, false, cond, List, ◌∷◌, refl, ap, ◌∙◌, subst}
+use Rattle.std.proofs.Common.{◌⊎◌, inl, inr, arith, ⊎_elim, []}
+use Rattle.std.proofs.lemmas.{List.Sums.{sum_by-cons, sum_by-append}, Bool.{ltb-true}}
 use Rattle.std.specs.Prelude.{sum_by, nat_lt}
-use Rattle.std.proofs.lemmas.List.Sums.{sum_by-cons, sum_by-append}
-use Rattle.std.proofs.lemmas.Bool.{ltb-true}
-use Rattle.dsa_regs.specs.declared.Caps.{Caps}
-use Rattle.dsa_regs.specs.declared.QueueConfig.{QueueConfig}
-use Rattle.dsa_regs.specs.Config.{queue_at, limits_of}
+use Rattle.dsa_regs.specs.{declared.{Caps.{Caps}, QueueConfig.{QueueConfig}}, Config.{queue_at, limits_of}}
 use Rattle.dsa_desc.specs.Descriptor.{need}
 use Rattle.dsa_store.specs.Content.{Slot, Content, chain}
 use Rattle.dsa_book.specs.State.{Setup, Work, is_member, need_of, held_by}
@@ -29,9 +27,12 @@ unfolding weight
 weight-run setup slot = refl
 
 -- the limits of its queue decide
-pub weight-same : (setup setup' : Setup) (slot : Slot) → queue_at setup'.configs slot.1.queue ≡ queue_at setup.configs slot.1.queue → weight setup' slot ≡ weight setup slot
+pub weight-same : (setup setup' : Setup) (slot : Slot)
+    → queue_at setup'.configs slot.1.queue ≡ queue_at setup.configs slot.1.queue
+    → weight setup' slot ≡ weight setup slot
 unfolding weight
-weight-same setup setup' slot h = ap (λ (c : QueueConfig). cond slot.1.running (need slot.1.desc (limits_of c) (is_member slot.1)) 0) h
+weight-same setup setup' slot h = ap (λ (c : QueueConfig). cond slot.1.running
+    (need slot.1.desc (limits_of c) (is_member slot.1)) 0) h
 
 -- ---- one list
 
@@ -48,21 +49,26 @@ sum-within f f' (x ∷ xs) h =
 
 -- the sum over its entries in progress and its members
 abbrev pub sum_on : Caps → (Slot → ℕ) → Content → ℕ → ℕ
-sum_on caps f c e = cond (nat_lt e caps.engines) (sum_by f (chain c (caps.queues + e)) + sum_by f (chain c (caps.queues + caps.engines + e))) 0
+sum_on caps f c e = cond (nat_lt e caps.engines)
+    (sum_by f (chain c (caps.queues + e)) + sum_by f (chain c (caps.queues + caps.engines + e))) 0
 
-both-lists : (b : Bool) (f : Slot → ℕ) (xs ys : List Slot) → sum_by f (cond b xs []) + sum_by f (cond b ys []) ≡ cond b (sum_by f xs + sum_by f ys) 0
+both-lists : (b : Bool) (f : Slot → ℕ) (xs ys : List Slot)
+    → sum_by f (cond b xs []) + sum_by f (cond b ys []) ≡ cond b (sum_by f xs + sum_by f ys) 0
 both-lists true f xs ys = refl
 both-lists false f xs ys = omega arith
 
-pub used_on-sum : (caps : Caps) (w : Work) (e : ℕ) → w.setup.caps ≡ caps → used_on w e ≡ sum_on caps (weight w.setup) w.content e
+pub used_on-sum : (caps : Caps) (w : Work) (e : ℕ) → w.setup.caps ≡ caps
+    → used_on w e ≡ sum_on caps (weight w.setup) w.content e
 unfolding weight
 used_on-sum caps w e same =
     sum_by-append (weight w.setup) (in_progress w e) (members w e)
-    ∙ both-lists (nat_lt e w.setup.caps.engines) (weight w.setup) (chain w.content (progress_list w.setup e)) (chain w.content (member_list w.setup e))
+    ∙ both-lists (nat_lt e w.setup.caps.engines) (weight w.setup) (chain w.content (progress_list w.setup e))
+    (chain w.content (member_list w.setup e))
     ∙ ap (λ (k : Caps). sum_on k (weight w.setup) w.content e) same
 
 -- where no list has more, no engine needs more
-pub sum_on-less : (caps : Caps) (f f' : Slot → ℕ) (c c' : Content) (e : ℕ) → ((k : ℕ) → sum_by f' (chain c' k) ≤ sum_by f (chain c k)) → sum_on caps f' c' e ≤ sum_on caps f c e
+pub sum_on-less : (caps : Caps) (f f' : Slot → ℕ) (c c' : Content) (e : ℕ)
+    → ((k : ℕ) → sum_by f' (chain c' k) ≤ sum_by f (chain c k)) → sum_on caps f' c' e ≤ sum_on caps f c e
 sum_on-less caps f f' c c' e h =
     let a = h (caps.queues + e) in
     let b = h (caps.queues + caps.engines + e) in
@@ -75,32 +81,44 @@ pub record HasMore (caps : Caps) (f : Slot → ℕ) (c c' : Content) (e p n : �
   pub others : (k : ℕ) → k ≢ p → sum_by f (chain c' k) ≤ sum_by f (chain c k)
   pub mine : sum_by f (chain c' p) ≤ sum_by f (chain c p) + n
 
-pub sum_on-others : (caps : Caps) (f : Slot → ℕ) (c c' : Content) (e p n : ℕ) → HasMore caps f c c' e p n → (j : ℕ) → j ≢ e → sum_on caps f c' j ≤ sum_on caps f c j
+pub sum_on-others : (caps : Caps) (f : Slot → ℕ) (c c' : Content) (e p n : ℕ) → HasMore caps f c c' e p n → (j : ℕ)
+    → j ≢ e → sum_on caps f c' j ≤ sum_on caps f c j
 sum_on-others caps f c c' e p n h j ne = cond-le (nat_lt j caps.engines) _ _ (λ t.
     let i = ltb-true j caps.engines t in
     let engine = h.engine in
-    let a = h.others (caps.queues + j) (λ q. ⊎_elim (λ (r : p ≡ caps.queues + e). ne (omega (arith, q, r))) (λ (r : p ≡ caps.queues + caps.engines + e). absurd (omega (arith, q, r, i))) h.place) in
-    let b = h.others (caps.queues + caps.engines + j) (λ q. ⊎_elim (λ (r : p ≡ caps.queues + e). absurd (omega (arith, q, r, engine))) (λ (r : p ≡ caps.queues + caps.engines + e). ne (omega (arith, q, r))) h.place) in
+    let a = h.others (caps.queues + j) (λ q. ⊎_elim (λ (r : p ≡ caps.queues + e). ne (omega (arith, q, r)))
+    (λ (r : p ≡ caps.queues + caps.engines + e). absurd (omega (arith, q, r, i))) h.place) in
+    let b = h.others (caps.queues + caps.engines + j)
+    (λ q. ⊎_elim (λ (r : p ≡ caps.queues + e). absurd (omega (arith, q, r, engine)))
+    (λ (r : p ≡ caps.queues + caps.engines + e). ne (omega (arith, q, r))) h.place) in
     omega (arith, a, b))
 
-pub sum_on-mine : (caps : Caps) (f : Slot → ℕ) (c c' : Content) (e p n : ℕ) → HasMore caps f c c' e p n → sum_on caps f c' e ≤ sum_on caps f c e + n
+pub sum_on-mine : (caps : Caps) (f : Slot → ℕ) (c c' : Content) (e p n : ℕ) → HasMore caps f c c' e p n
+    → sum_on caps f c' e ≤ sum_on caps f c e + n
 sum_on-mine caps f c c' e p n h = tested (nat_lt e caps.engines)
   where
     engine : e < caps.engines
     engine = h.engine
 
-    total : sum_by f (chain c' (caps.queues + e)) + sum_by f (chain c' (caps.queues + caps.engines + e)) ≤ sum_by f (chain c (caps.queues + e)) + sum_by f (chain c (caps.queues + caps.engines + e)) + n
+    total : sum_by f (chain c' (caps.queues + e))
+        + sum_by f (chain c' (caps.queues + caps.engines + e)) ≤ sum_by f (chain c (caps.queues + e))
+        + sum_by f (chain c (caps.queues + caps.engines + e)) + n
     total = ⊎_elim
         (λ (r : p ≡ caps.queues + e).
-        let a : sum_by f (chain c' (caps.queues + e)) ≤ sum_by f (chain c (caps.queues + e)) + n = subst (λ k. sum_by f (chain c' k) ≤ sum_by f (chain c k) + n) r h.mine in
+        let a : sum_by f (chain c' (caps.queues + e)) ≤ sum_by f (chain c (caps.queues + e)) + n =
+        subst (λ k. sum_by f (chain c' k) ≤ sum_by f (chain c k) + n) r h.mine in
         let b = h.others (caps.queues + caps.engines + e) (λ q. absurd (omega (arith, q, r, engine))) in
         omega (arith, a, b))
         (λ (r : p ≡ caps.queues + caps.engines + e).
-        let a : sum_by f (chain c' (caps.queues + caps.engines + e)) ≤ sum_by f (chain c (caps.queues + caps.engines + e)) + n = subst (λ k. sum_by f (chain c' k) ≤ sum_by f (chain c k) + n) r h.mine in
+        let a : sum_by f (chain c' (caps.queues + caps.engines + e)) ≤ sum_by f
+        (chain c (caps.queues + caps.engines + e)) + n =
+        subst (λ k. sum_by f (chain c' k) ≤ sum_by f (chain c k) + n) r h.mine in
         let b = h.others (caps.queues + e) (λ q. absurd (omega (arith, q, r, engine))) in
         omega (arith, a, b))
         h.place
 
-    tested : (b : Bool) → cond b (sum_by f (chain c' (caps.queues + e)) + sum_by f (chain c' (caps.queues + caps.engines + e))) 0 ≤ cond b (sum_by f (chain c (caps.queues + e)) + sum_by f (chain c (caps.queues + caps.engines + e))) 0 + n
+    tested : (b : Bool) → cond b (sum_by f (chain c' (caps.queues + e))
+        + sum_by f (chain c' (caps.queues + caps.engines + e))) 0 ≤ cond b
+        (sum_by f (chain c (caps.queues + e)) + sum_by f (chain c (caps.queues + caps.engines + e))) 0 + n
     tested true = total
     tested false = omega arith

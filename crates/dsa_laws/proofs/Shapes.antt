@@ -1,27 +1,18 @@
 -- The lengths of all lists stay.
-use Rattle.std.proofs.Common.{◌≡◌, ℕ, zero, suc, ◌<◌, Bool, true, false, cond, List, [], ◌∷◌, length, set, get_or, Option, Some, None, refl, sym, ap, ◌∙◌, arith, ◌+◌}
+use Rattle.std.proofs.Common.{◌≡◌, ℕ, zero, suc, ◌<◌, Bool, true, false, cond, List, [], ◌∷◌, length, set, get_or}
+use Rattle.std.proofs.Common.{Option, Some, None, refl, sym, ap, ◌∙◌, arith, ◌+◌}
+use Rattle.std.proofs.lemmas.{List.{length-set, length-map, length-replicate}, Bool.{ltb-true, lt-ltb}}
 use Rattle.std.specs.Prelude.{nat_lt}
-use Rattle.std.proofs.lemmas.List.{length-set, length-map, length-replicate}
-use Rattle.std.proofs.lemmas.Bool.{ltb-true, lt-ltb}
-use Rattle.dsa_base.proofs.Lists.{In-find}
-use Rattle.dsa_regs.specs.declared.Caps.{Caps}
-use Rattle.dsa_regs.specs.declared.Phase.{Phase}
-use Rattle.dsa_regs.specs.declared.Phase.TheVariants.{Off, Stopping}
-use Rattle.dsa_regs.specs.declared.Scope.{Scope}
-use Rattle.dsa_regs.specs.declared.Scope.TheVariants.{Device}
-use Rattle.dsa_regs.specs.declared.Deed.{Deed}
-use Rattle.dsa_regs.specs.declared.Deed.TheVariants.{Disable}
+use Rattle.dsa_base.{proofs.{Lists.{In-find}, NumberLists.{length-each}}, specs.Lists.{In}}
+use Rattle.dsa_regs.specs.declared.{Caps.{Caps}, Phase.{Phase, TheVariants.{Off, Stopping}}}
+use Rattle.dsa_regs.specs.declared.{Scope.{Scope, TheVariants.{Device}}, Deed.{Deed, TheVariants.{Disable}}}
 use Rattle.dsa_regs.specs.Caps.{list_count}
 use Rattle.dsa_store.specs.Content.{Slot, chain, without_front}
-use Rattle.dsa_book.specs.declared.note.BatchNote.{BatchNote}
-use Rattle.dsa_book.specs.State.{Setup, Work, State, opening, is_on, phase_at}
+use Rattle.dsa_book.specs.{declared.note.BatchNote.{BatchNote}, State.{Setup, Work, State, opening, is_on, phase_at}}
 use Rattle.dsa_book.specs.Work.{progress_list, member_list, in_progress, members, note_at, first_waiting}
 use Rattle.dsa_book.specs.Commands.{after_stop}
-use Rattle.dsa_laws.specs.Change.{Change}
+use Rattle.dsa_laws.specs.{Change.{Change}, WellFormed.{HasShape}}
 use Rattle.dsa_laws.proofs.Effects.{by_effect, by_setting, stopped-keeps}
-use Rattle.dsa_laws.specs.WellFormed.{HasShape}
-use Rattle.dsa_base.specs.Lists.{In}
-use Rattle.dsa_base.proofs.NumberLists.{length-each}
 
 -- ---- capabilities stay
 

@@ -1,31 +1,23 @@
 -- What a step that may come does: one case for each kind of effect, with the facts that the step tested.
 use Rattle.std.specs.Prelude.{◌≡◌, ℕ, true, false, not, ◌&&◌, ◌==◌, nat_le, find, slice_set, Option, Some, None}
-use Rattle.dsa_desc.specs.declared.Descriptor.{Descriptor}
-use Rattle.dsa_desc.specs.declared.Outcome.{Outcome}
-use Rattle.dsa_regs.specs.declared.Phase.TheVariants.{Off, On, Stopping}
-use Rattle.dsa_regs.specs.declared.QueueConfig.{QueueConfig}
-use Rattle.dsa_regs.specs.declared.GroupConfig.{GroupConfig}
-use Rattle.dsa_regs.specs.declared.Scope.{Scope}
-use Rattle.dsa_regs.specs.declared.Scope.TheVariants.{Device}
-use Rattle.dsa_regs.specs.declared.Deed.{Deed}
-use Rattle.dsa_regs.specs.Caps.{cell_count}
-use Rattle.dsa_regs.specs.Config.{queue_at, check_device, check_queue}
-use Rattle.dsa_regs.specs.Command.{queues_in}
-use Rattle.dsa_store.specs.declared.entry.Cell.{Cell}
-use Rattle.dsa_store.specs.Content.{Slot, is_free}
-use Rattle.dsa_book.specs.declared.answer.Ticket.{Ticket}
-use Rattle.dsa_book.specs.declared.event.Portal.{Portal}
-use Rattle.dsa_book.specs.declared.event.Kind.{Kind}
-use Rattle.dsa_book.specs.declared.answer.NotedError.{NotedError}
-use Rattle.dsa_book.specs.declared.note.BatchNote.{BatchNote}
-use Rattle.dsa_book.specs.declared.note.ActiveCommand.{ActiveCommand}
-use Rattle.dsa_book.specs.State.{Setup, State, is_on, is_off, phase_at, has_queue, occupancy, need_of, is_batch_of, is_ticket}
-use Rattle.dsa_book.specs.Submit.{limit_of, after_accept, is_movdir64b}
-use Rattle.dsa_book.specs.Work.{front_of, qualifies, after_take, note_at, batch_on, is_all_fetched, after_fetch, first_waiting, has_room, after_start, after_abandon, running_on, is_unfinished, after_end, is_front, has_failed}
-use Rattle.dsa_book.specs.Commands.{holds_any, is_awaited, with_device, with_phases, after_stop, may_come, after_abort, reset, is_among, with_sizes_alone}
-use Rattle.dsa_book.specs.Machine.{with_work, with_intake, with_setup, intake_of}
-use Rattle.dsa_desc.specs.Descriptor.{is_fenced}
 use Rattle.std.specs.Bool.{beq}
+use Rattle.dsa_desc.specs.{declared.{Descriptor.{Descriptor}, Outcome.{Outcome}}, Descriptor.{is_fenced}}
+use Rattle.dsa_regs.specs.declared.{Phase.TheVariants.{Off, On, Stopping}, QueueConfig.{QueueConfig}}
+use Rattle.dsa_regs.specs.declared.{GroupConfig.{GroupConfig}, Scope.{Scope, TheVariants.{Device}}, Deed.{Deed}}
+use Rattle.dsa_regs.specs.{Caps.{cell_count}, Config.{queue_at, check_device, check_queue}, Command.{queues_in}}
+use Rattle.dsa_store.specs.{declared.entry.Cell.{Cell}, Content.{Slot, is_free}}
+use Rattle.dsa_book.specs.declared.answer.{Ticket.{Ticket}, NotedError.{NotedError}}
+use Rattle.dsa_book.specs.declared.event.{Portal.{Portal}, Kind.{Kind}}
+use Rattle.dsa_book.specs.declared.note.{BatchNote.{BatchNote}, ActiveCommand.{ActiveCommand}}
+use Rattle.dsa_book.specs.State.{Setup, State, is_on, is_off, phase_at, has_queue, occupancy, need_of, is_batch_of}
+use Rattle.dsa_book.specs.State.{is_ticket}
+use Rattle.dsa_book.specs.Submit.{limit_of, after_accept, is_movdir64b}
+use Rattle.dsa_book.specs.Work.{front_of, qualifies, after_take, note_at, batch_on, is_all_fetched, after_fetch}
+use Rattle.dsa_book.specs.Work.{first_waiting, has_room, after_start, after_abandon, running_on, is_unfinished}
+use Rattle.dsa_book.specs.Work.{after_end, is_front, has_failed}
+use Rattle.dsa_book.specs.Commands.{holds_any, is_awaited, with_device, with_phases, after_stop, may_come}
+use Rattle.dsa_book.specs.Commands.{after_abort, reset, is_among, with_sizes_alone}
+use Rattle.dsa_book.specs.Machine.{with_work, with_intake, with_setup, intake_of}
 
 -- ---- entries
 
@@ -42,7 +34,8 @@ pub record IsAccepted (s s' : State) : Type 0 where
   pub free : is_free (cell_count s.work.setup.caps) s.work.content cell ≡ true
   pub after : with_intake s (after_accept (intake_of s) queue kind desc cell).1 ≡ s'
 
--- an engine takes the front of a queue for which it qualifies (Intel DSA: any engine of a group takes from any work queue of the group; when it qualifies is the profile's)
+-- an engine takes the front of a queue for which it qualifies (Intel DSA: any engine of a group
+-- takes from any work queue of the group; when it qualifies is the profile's)
 pub record IsTaken (s s' : State) : Type 0 where
   pub engine : ℕ
   pub queue : ℕ
@@ -64,7 +57,8 @@ pub record IsFetched (s s' : State) : Type 0 where
   pub free : is_free (cell_count s.work.setup.caps) s.work.content cell ≡ true
   pub after : with_work s (after_fetch s.work engine desc cell note batch.1).1 ≡ s'
 
--- the first member that waits begins to run: its read buffers fit, and with a fence it stands before all others and none has failed (Intel DSA: fence; the read buffers are the profile's)
+-- the first member that waits begins to run: its read buffers fit, and with a fence it stands
+-- before all others and none has failed (Intel DSA: fence; the read buffers are the profile's)
 pub record IsStarted (s s' : State) : Type 0 where
   pub engine : ℕ
   pub slot : Slot
@@ -143,7 +137,10 @@ pub record IsDeviceReset (s s' : State) : Type 0 where
 pub record IsQueuesReset (s s' : State) : Type 0 where
   pub number : ℕ
   pub scope : Scope
-  pub after : with_work s (record (after_abort number scope s.work) { setup = with_sizes_alone (queues_in scope) (with_phases (is_among (queues_in scope)) Off s.work.setup) }) ≡ s'
+  pub after : with_work s (record (after_abort number scope s.work) {
+    setup =
+        with_sizes_alone (queues_in scope) (with_phases (is_among (queues_in scope)) Off s.work.setup);
+  }) ≡ s'
 
 -- a queue that is Off is configured, its size only while the device is Off (profile)
 pub record IsQueueWritten (s s' : State) : Type 0 where
@@ -151,7 +148,8 @@ pub record IsQueueWritten (s s' : State) : Type 0 where
   pub config : QueueConfig
   pub has : has_queue s.work.setup queue ≡ true
   pub off : is_off (phase_at s.work.setup queue) ≡ true
-  pub size : (not (is_off s.work.setup.device) && not (config.size == (queue_at s.work.setup.configs queue).size)) ≡ false
+  pub size : (not (is_off s.work.setup.device) && not (config.size == (queue_at s.work.setup.configs queue).size))
+      ≡ false
   pub after : with_setup s (record s.work.setup { configs = slice_set s.work.setup.configs queue config }) ≡ s'
 
 -- a group is configured while the device is Off (profile)

@@ -1,8 +1,7 @@
 -- What the note of an engine says of the batch that it works on, and of the batch's members.
 use Rattle.std.specs.Prelude.{◌≡◌, ℕ, ◌≤◌, Bool, true, List, [], length, count_by, Option, Some, None}
 use Rattle.dsa_store.specs.Content.{Slot}
-use Rattle.dsa_book.specs.declared.note.BatchNote.{BatchNote}
-use Rattle.dsa_book.specs.State.{Setup, Work, is_batch_of}
+use Rattle.dsa_book.specs.{declared.note.BatchNote.{BatchNote}, State.{Setup, Work, is_batch_of}}
 use Rattle.dsa_book.specs.Work.{in_progress, members, note_at}
 use Rattle.dsa_base.specs.Lists.{In}
 
@@ -25,12 +24,14 @@ pub record IsWithoutBatch (setup : Setup) (progress members : List Slot) : Type 
   pub no_batch : count_by (holds_batch setup) progress ≡ 0
   pub no_members : members ≡ []
 
--- an engine that works on a batch: one is in progress, which the note is of, and the members are that batch's, no more than were fetched (profile)
+-- an engine that works on a batch: one is in progress, which the note is of, and the members are
+-- that batch's, no more than were fetched (profile)
 pub record IsOnBatch (setup : Setup) (progress members : List Slot) (note : BatchNote) : Type 0 where
   pub one_batch : count_by (holds_batch setup) progress ≡ 1
   pub noted : (batch : Slot) → In batch progress → holds_batch setup batch ≡ true → IsNoteOf note batch
   pub parents : (member : Slot) → In member members → member.1.parent ≡ Some note.batch
-  pub alike : (member batch : Slot) → In member members → In batch progress → holds_batch setup batch ≡ true → IsAlike member batch
+  pub alike : (member batch : Slot) → In member members → In batch progress → holds_batch setup batch ≡ true
+      → IsAlike member batch
   pub most : length members ≤ note.fetched
 
 -- an engine has a note exactly where it works on a batch (profile)

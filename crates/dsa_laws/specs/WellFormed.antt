@@ -1,21 +1,19 @@
 -- What holds in every state that a history leads to, from the lists themselves to the batches that engines work on.
-use Rattle.std.specs.Prelude.{◌≡◌, ℕ, ◌+◌, ◌^◌, ◌<◌, ◌≤◌, ◌==◌, ◌&&◌, Bool, true, false, cond, not, List, [], ◌∷◌, length, count_by, Option, Some, None, is_some, ⊤}
+use Rattle.std.specs.Prelude.{◌≡◌, ℕ, ◌+◌, ◌^◌, ◌<◌, ◌≤◌, ◌==◌, ◌&&◌, Bool, true, false, cond, not, List, [], ◌∷◌}
+use Rattle.std.specs.Prelude.{length, count_by, Option, Some, None, is_some, ⊤}
 use Rattle.dsa_desc.specs.Descriptor.{pasid_of}
-use Rattle.dsa_regs.specs.declared.Caps.{Caps}
-use Rattle.dsa_regs.specs.Caps.{cell_count, first_members, list_count}
+use Rattle.dsa_regs.specs.{declared.Caps.{Caps}, Caps.{cell_count, first_members, list_count}}
 use Rattle.dsa_regs.specs.Config.{queue_at, check_device, check_queue}
-use Rattle.dsa_store.specs.declared.entry.Cell.{Cell}
-use Rattle.dsa_store.specs.Content.{Slot, use_count, held_count, all_held}
+use Rattle.dsa_store.specs.{declared.entry.Cell.{Cell}, Content.{Slot, use_count, held_count, all_held}}
 use Rattle.dsa_book.specs.declared.note.BatchNote.{BatchNote}
 use Rattle.dsa_book.specs.State.{Setup, Work, State, phase_at, is_on, is_off, occupancy}
 use Rattle.dsa_book.specs.Work.{in_progress, members, note_at}
-use Rattle.dsa_laws.specs.Lists.{EachAt}
-use Rattle.dsa_laws.specs.Buffering.{HasBuffers}
-use Rattle.dsa_laws.specs.Engines.{HasLawfulEngines}
+use Rattle.dsa_laws.specs.{Lists.{EachAt}, Buffering.{HasBuffers}, Engines.{HasLawfulEngines}}
 
 -- ---- the lists, their cells and their names
 
--- what is configured is as the capabilities say; each queue has a list and each engine has two, and a note or none (profile)
+-- what is configured is as the capabilities say; each queue has a list and each engine has two, and
+-- a note or none (profile)
 pub record HasShape (caps : Caps) (w : Work) : Type 0 where
   pub same_caps : w.setup.caps ≡ caps
   pub lists : length w.content ≡ list_count caps
@@ -37,7 +35,8 @@ held_named w name = count_by (λ slot. slot.1.name == name) (all_held w.content)
 abbrev pub fates_named : Work → ℕ → ℕ
 fates_named w name = count_by (λ row. row.name == name) w.fates
 
--- a name that was given is one held entry's or one fate row's, and any other is none's; there are so many as were given (profile)
+-- a name that was given is one held entry's or one fate row's, and any other is none's; there are
+-- so many as were given (profile)
 pub record NamesOnce (w : Work) : Type 0 where
   pub given : (name : ℕ) → name < w.setup.next_name → held_named w name + fates_named w name ≡ 1
   pub not_given : (name : ℕ) → w.setup.next_name ≤ name → held_named w name + fates_named w name ≡ 0
@@ -50,7 +49,8 @@ pub record HasLawfulSetup (setup : Setup) : Type 0 where
   pub phases : (queue : ℕ) → is_off (phase_at setup queue) ≡ false → is_off setup.device ≡ false
   pub on : (queue : ℕ) → is_on (phase_at setup queue) ≡ true → is_on setup.device ≡ true
   pub device : is_off setup.device ≡ false → check_device setup.caps setup.configs setup.groups ≡ None
-  pub queue : (queue : ℕ) → is_off (phase_at setup queue) ≡ false → check_queue setup.caps setup.groups queue (queue_at setup.configs queue) ≡ None
+  pub queue : (queue : ℕ) → is_off (phase_at setup queue) ≡ false
+      → check_queue setup.caps setup.groups queue (queue_at setup.configs queue) ≡ None
 
 -- ---- the entries
 
@@ -81,7 +81,8 @@ pub record HasLawfulEntries (caps : Caps) (w : Work) : Type 0 where
 
 -- ---- the limits
 
--- no queue holds more than its size, and no engine more in progress than it has slots, or more members than a batch may have (profile)
+-- no queue holds more than its size, and no engine more in progress than it has slots, or more
+-- members than a batch may have (profile)
 pub record IsWithinLimits (caps : Caps) (w : Work) : Type 0 where
   pub queues : (queue : ℕ) → queue < caps.queues → occupancy w.content queue ≤ (queue_at w.setup.configs queue).size
   pub slots : (engine : ℕ) → engine < caps.engines → length (in_progress w engine) ≤ caps.slots

@@ -1,10 +1,9 @@
--- What keeps a device over linked cells from being made. Its store is made for it, so that no fault of a store is among the causes.
+-- What keeps a device over linked cells from being made. Its store is made for it, so that no fault
+-- of a store is among the causes.
 use Rattle.std.specs.Prelude.{ℕ, ◌^◌, Bool, not, nat_lt, List, [], ◌∷◌}
 use Rattle.dsa_base.specs.Rows.{first_row_or}
-use Rattle.dsa_regs.specs.declared.Caps.{Caps}
-use Rattle.dsa_regs.specs.Caps.{check_caps}
-use Rattle.dsa_device.specs.declared.faults.MakeFault.{MakeFault}
-use Rattle.dsa_device.specs.declared.faults.MakeFault.TheVariants.{BadCaps, BadCapacity, OutOfMemory}
+use Rattle.dsa_regs.specs.{declared.Caps.{Caps}, Caps.{check_caps}}
+use Rattle.dsa_device.specs.declared.faults.MakeFault.{MakeFault, TheVariants.{BadCaps, BadCapacity, OutOfMemory}}
 
 -- the causes, in this order (profile)
 abbrev pub opening_table : Caps → ℕ → List (Bool × MakeFault)

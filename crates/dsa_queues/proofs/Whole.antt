@@ -1,19 +1,14 @@
 -- What leaves a set-up whole.
-use Rattle.std.proofs.Common.{ℕ, Bool, cond}
-use Rattle.std.proofs.lemmas.List.{length-replicate}
+use Rattle.std.proofs.{Common.{ℕ, Bool, cond}, lemmas.List.{length-replicate}}
 use Rattle.dsa_base.proofs.NumberLists.{length-each}
-use Rattle.dsa_regs.specs.declared.Phase.{Phase}
-use Rattle.dsa_regs.specs.declared.Phase.TheVariants.{Off}
-use Rattle.dsa_regs.specs.declared.Scope.{Scope}
-use Rattle.dsa_regs.specs.declared.Scope.TheVariants.{Device}
-use Rattle.dsa_regs.specs.Command.{queues_in}
-use Rattle.dsa_regs.specs.Config.{queue_at, zero_group, zero_queue}
-use Rattle.dsa_book.specs.State.{Setup, phase_at}
-use Rattle.dsa_book.specs.Commands.{is_among, reset, size_alone, with_phases}
+use Rattle.dsa_regs.specs.declared.{Phase.{Phase, TheVariants.{Off}}, Scope.{Scope, TheVariants.{Device}}}
+use Rattle.dsa_regs.specs.{Command.{queues_in}, Config.{queue_at, zero_group, zero_queue}}
+use Rattle.dsa_book.specs.{State.{Setup, phase_at}, Commands.{is_among, reset, size_alone, with_phases}}
 use Rattle.dsa_queues.specs.Queues.{IsWhole}
 
 -- phases that some queues come to
-pub whole-phases : (test : ℕ → Bool) (phase : Phase) (setup : Setup) → IsWhole setup → IsWhole (with_phases test phase setup)
+pub whole-phases : (test : ℕ → Bool) (phase : Phase) (setup : Setup) → IsWhole setup
+    → IsWhole (with_phases test phase setup)
 whole-phases test phase setup w = record {
   lawful = w.lawful;
   configs = w.configs;
@@ -33,7 +28,8 @@ whole-reset scope setup w =
     let queues = queues_in scope in
     record {
       lawful = w.lawful;
-      configs = length-each (λ q. cond (is_among queues q) (size_alone (queue_at setup.configs q)) (queue_at setup.configs q)) setup.caps.queues;
+      configs = length-each (λ q. cond (is_among queues q) (size_alone (queue_at setup.configs q))
+          (queue_at setup.configs q)) setup.caps.queues;
       phases = (whole-phases (is_among queues) Off setup w).phases;
       groups = w.groups;
     }

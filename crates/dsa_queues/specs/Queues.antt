@@ -1,12 +1,9 @@
 -- What the queues and a store keep together, and whether a submission is accepted.
 use Rattle.std.specs.Prelude.{◌≡◌, ℕ, Bool, true, length, is_none}
 use Rattle.dsa_base.specs.Rows.{first_row}
-use Rattle.dsa_regs.specs.declared.Caps.{Caps}
-use Rattle.dsa_regs.specs.Caps.{cell_count, check_caps, list_count}
+use Rattle.dsa_regs.specs.{declared.Caps.{Caps}, Caps.{cell_count, check_caps, list_count}}
 use Rattle.dsa_store.specs.Content.{Content}
-use Rattle.dsa_book.specs.declared.event.Portal.{Portal}
-use Rattle.dsa_book.specs.declared.event.Kind.{Kind}
-use Rattle.dsa_book.specs.State.{Setup, Intake}
+use Rattle.dsa_book.specs.{declared.event.{Portal.{Portal}, Kind.{Kind}}, State.{Setup, Intake}}
 use Rattle.dsa_book.specs.Submit.{submit_table}
 
 -- the queues, and what a store holds (profile)
@@ -17,7 +14,8 @@ intake setup content = record { setup = setup; content = content }
 abbrev pub is_accepting : Intake → ℕ → Portal → Kind → Bool
 is_accepting i queue portal kind = is_none (first_row (submit_table i queue portal kind))
 
--- what holds of the queues at all times: lawful capabilities, a configuration and a phase for each queue, a configuration for each group (profile)
+-- what holds of the queues at all times: lawful capabilities, a configuration and a phase for each
+-- queue, a configuration for each group (profile)
 pub record IsWhole (setup : Setup) : Type 0 where
   pub lawful : check_caps setup.caps ≡ true
   pub configs : length setup.configs ≡ setup.caps.queues

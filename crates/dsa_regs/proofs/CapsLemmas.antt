@@ -1,11 +1,8 @@
 -- Devices within the limits.
-use Rattle.std.proofs.Common.{◌≡◌, ℕ, ◌+◌, ◌-◌, ◌^◌, ◌<◌, ◌≤◌, Bool, true, false, cond, nat_lt, IsTrue, refl, pow_mono, arith}
-use Rattle.std.proofs.lemmas.Nat.{mul-le}
-use Rattle.std.proofs.lemmas.Bool.{ltb-true, ltb-false}
-use Rattle.std.proofs.lemmas.Bool.Decides.{nat_tests}
-use Rattle.dsa_regs.specs.declared.Caps.{Caps}
-use Rattle.dsa_regs.specs.declared.layout.ListUse.{ListUse}
-use Rattle.dsa_regs.specs.declared.layout.ListUse.TheVariants.{Queue, Progress, Members}
+use Rattle.std.proofs.Common.{◌≡◌, ℕ, ◌+◌, ◌-◌, ◌^◌, ◌<◌, ◌≤◌, Bool, true, false, cond, nat_lt, IsTrue, refl}
+use Rattle.std.proofs.Common.{pow_mono, arith}
+use Rattle.std.proofs.lemmas.{Nat.{mul-le}, Bool.{ltb-true, ltb-false, Decides.{nat_tests}}}
+use Rattle.dsa_regs.specs.declared.{Caps.{Caps}, layout.ListUse.{ListUse, TheVariants.{Queue, Progress, Members}}}
 use Rattle.dsa_regs.specs.Caps.{check_caps, cell_count, list_count, list_number, list_use, HasList}
 
 -- the engines of the largest device
@@ -34,9 +31,14 @@ pub read-back : (caps : Caps) (n : ℕ) → n < list_count caps → IsUse caps (
 read-back caps n h = on (nat_lt n caps.queues) refl (nat_lt (n - caps.queues) caps.engines) refl
   where
     on : (a : Bool) → nat_lt n caps.queues ≡ a → (b : Bool) → nat_lt (n - caps.queues) caps.engines ≡ b
-        → IsUse caps (cond a (Queue n) (cond b (Progress (n - caps.queues)) (Members (n - caps.queues - caps.engines)))) n
+        → IsUse caps (cond a (Queue n) (cond b (Progress (n - caps.queues))
+        (Members (n - caps.queues - caps.engines)))) n
     on true p b q = record { has = ltb-true n caps.queues p; number = refl }
-    on false p true q = record { has = ltb-true (n - caps.queues) caps.engines q; number = omega (arith, ltb-false n caps.queues p) }
+    on false p true q = record {
+      has = ltb-true (n - caps.queues) caps.engines q;
+      number =
+          omega (arith, ltb-false n caps.queues p);
+    }
     on false p false q =
         let past = ltb-false n caps.queues p in
         let behind = ltb-false (n - caps.queues) caps.engines q in

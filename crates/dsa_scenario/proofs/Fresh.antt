@@ -1,10 +1,7 @@
 -- A new store is the store of a device.
 use Rattle.std.proofs.Common.{◌≡◌, ◌≤◌, ◌^◌, ℕ, true, List, [], length, replicate, None, refl, ap, ◌∙◌, arith, eq-eqb}
-use Rattle.std.proofs.lemmas.Bool.{le-ltb}
-use Rattle.std.proofs.lemmas.List.{length-replicate}
-use Rattle.std.proofs.lemmas.List.Folds.{sum_by-replicate}
-use Rattle.dsa_regs.specs.declared.Caps.{Caps}
-use Rattle.dsa_regs.specs.Caps.{check_caps, cell_count, list_count}
+use Rattle.std.proofs.lemmas.{Bool.{le-ltb}, List.{length-replicate, Folds.{sum_by-replicate}}}
+use Rattle.dsa_regs.specs.{declared.Caps.{Caps}, Caps.{check_caps, cell_count, list_count}}
 use Rattle.dsa_store.specs.Content.{Slot, Content, held_count}
 use Rattle.dsa_device.specs.Made.{is_store_of, make_fault}
 

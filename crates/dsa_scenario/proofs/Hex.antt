@@ -1,11 +1,10 @@
 -- What a text of hex digits leaves in 64 bytes.
-use Rattle.std.proofs.Common.{◌≡◌, ◌≤◌, ◌/◌, ◌%◌, ◌++◌, ◌||◌, ℕ, true, false, List, Result, Ok, Err, MatchResult, Some, length, drop, replicate, refl, arith, nat_lt}
+use Rattle.std.proofs.Common.{◌≡◌, ◌≤◌, ◌/◌, ◌%◌, ◌++◌, ◌||◌, ℕ, true, false, List, Result, Ok, Err, MatchResult}
+use Rattle.std.proofs.Common.{Some, length, drop, replicate, refl, arith, nat_lt}
+use Rattle.std.proofs.lemmas.{Bool.{le-ltb}, List.{drop-replicate}}
 use Rattle.std.specs.Prelude.{◌==◌}
-use Rattle.std.proofs.lemmas.Bool.{le-ltb}
-use Rattle.std.proofs.lemmas.List.{drop-replicate}
-use Rattle.hex.specs.Hex.{decode_pairs}
+use Rattle.hex.specs.{Hex.{decode_pairs}, declared.error.FromHexError.{FromHexError}}
 use Rattle.hex.proofs.HexLemmas.{decode_pairs-ok}
-use Rattle.hex.specs.declared.error.FromHexError.{FromHexError}
 use Rattle.dsa_scenario.specs.Fields.{hex_bytes_of}
 
 -- the bytes of the digits, with zeros behind them, are what the text says

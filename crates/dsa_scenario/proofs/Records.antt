@@ -1,17 +1,12 @@
 -- One more record.
-use Rattle.std.proofs.Common.{◌≡◌, ℕ, List, [], ◌∷◌, ◌++◌, Some, Ok, Err, refl, ap, ◌∙◌, ◌<◌, ◌+◌, take, length, map, get_or, append_assoc, append-nil, subst}
-use Rattle.std.proofs.lemmas.List.{take_more}
-use Rattle.std.proofs.lemmas.List.Elements.{filter_map-append}
+use Rattle.std.proofs.Common.{◌≡◌, ℕ, List, [], ◌∷◌, ◌++◌, Some, Ok, Err, refl, ap, ◌∙◌, ◌<◌, ◌+◌, take, length, map}
+use Rattle.std.proofs.Common.{get_or, append_assoc, append-nil, subst}
+use Rattle.std.proofs.lemmas.List.{take_more, Elements.{filter_map-append}}
 use Rattle.dsa_regs.specs.declared.Fault.{Fault}
-use Rattle.dsa_book.specs.declared.answer.Reply.{Reply}
-use Rattle.dsa_book.specs.declared.event.Event.{Event}
-use Rattle.dsa_book.specs.declared.event.Step.{Step}
-use Rattle.dsa_device.specs.Running.{Running, after_answer, IsReplay}
-use Rattle.dsa_device.specs.Runs.{IsRunOf}
+use Rattle.dsa_book.specs.declared.{answer.Reply.{Reply}, event.{Event.{Event}, Step.{Step}}}
+use Rattle.dsa_device.specs.{Running.{Running, after_answer, IsReplay}, Runs.{IsRunOf}}
 use Rattle.dsa_device.proofs.Runs.{answered_all, answered_all-push, IsRunOf-leads}
-use Rattle.dsa_scenario.specs.declared.actions.Action.{Action}
-use Rattle.dsa_scenario.specs.declared.run.Record.{Record}
-use Rattle.dsa_scenario.specs.declared.run.Record.TheVariants.{Stepped, Refused}
+use Rattle.dsa_scenario.specs.declared.{actions.Action.{Action}, run.Record.{Record, TheVariants.{Stepped, Refused}}}
 use Rattle.dsa_scenario.specs.Run.{event_of, answered_by, AreOf, step_of, steps_of}
 
 -- one action more, with its record

@@ -1,13 +1,10 @@
 -- One more step object.
-use Rattle.std.proofs.Common.{◌≡◌, ◌<◌, ◌+◌, ℕ, List, [], ◌∷◌, ◌++◌, Some, None, map, length, take, get_or, refl, sym, ap, ◌∙◌}
-use Rattle.std.proofs.lemmas.List.{take_more, length-map, map-append}
+use Rattle.std.proofs.Common.{◌≡◌, ◌<◌, ◌+◌, ℕ, List, [], ◌∷◌, ◌++◌, Some, None, map, length, take, get_or, refl, sym}
+use Rattle.std.proofs.Common.{ap, ◌∙◌}
+use Rattle.std.proofs.lemmas.{List.{take_more, length-map, map-append}, Option.{slice_get-map, slice_get_read}}
 use Rattle.std.proofs.Math.ListN.{get_or-map}
-use Rattle.std.proofs.lemmas.Option.{slice_get-map, slice_get_read}
-use Rattle.serde_json.specs.View.{view}
-use Rattle.serde_json.specs.declared.value.Value.{Value}
-use Rattle.dsa_scenario.specs.declared.actions.Action.{Action}
-use Rattle.dsa_scenario.specs.Actions.{action_of}
-use Rattle.dsa_scenario.specs.Document.{IsBadAt}
+use Rattle.serde_json.specs.{View.{view}, declared.value.Value.{Value}}
+use Rattle.dsa_scenario.specs.{declared.actions.Action.{Action}, Actions.{action_of}, Document.{IsBadAt}}
 
 -- an item of a list, as JSON
 item_view : (vs : List Value) (i : ℕ) (v : Value) → v ≡ get_or vs i v → get_or (map view vs) i (view v) ≡ view v

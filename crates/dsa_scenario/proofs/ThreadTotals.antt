@@ -1,30 +1,23 @@
 -- What the seats have together after a run in threads.
-use Rattle.std.proofs.Common.{◌≡◌, ◌≤◌, ◌<◌, ℕ, ◌+◌, ◌*◌, List, [], ◌∷◌, ◌++◌, Bool, true, false, cond, Option, Some, length, get_or, refl, sym, ap, ap₂, ◌∙◌, append-nil, subst, arith}
-use Rattle.std.specs.Prelude.{All}
-use Rattle.std.specs.Option.{option_map_or}
-use Rattle.std.proofs.lemmas.List.Sums.{sum_by-le}
-use Rattle.std.proofs.lemmas.List.{length-append}
+use Rattle.std.proofs.Common.{◌≡◌, ◌≤◌, ◌<◌, ℕ, ◌+◌, ◌*◌, List, [], ◌∷◌, ◌++◌, Bool, true, false, cond, Option, Some}
+use Rattle.std.proofs.Common.{length, get_or, refl, sym, ap, ap₂, ◌∙◌, append-nil, subst, arith}
+use Rattle.std.proofs.lemmas.List.{Sums.{sum_by-le}, length-append}
+use Rattle.std.specs.{Prelude.{All}, Option.{option_map_or}}
 use Rattle.dsa_regs.specs.declared.Caps.{Caps}
 use Rattle.dsa_store.specs.Content.{held_count}
-use Rattle.dsa_book.specs.declared.event.Event.{Event}
-use Rattle.dsa_book.specs.declared.event.Step.{Step}
-use Rattle.dsa_book.specs.declared.event.Actor.TheVariants.{Client, Engine, Admin}
-use Rattle.dsa_book.specs.State.{State}
-use Rattle.dsa_book.specs.Machine.{is_legal, is_stored, replay, stored_steps}
+use Rattle.dsa_book.specs.declared.event.{Event.{Event}, Step.{Step}, Actor.TheVariants.{Client, Engine, Admin}}
+use Rattle.dsa_book.specs.{State.{State}, Machine.{is_legal, is_stored, replay, stored_steps}}
 use Rattle.dsa_book.specs.Totals.{steps_of, total_accepted}
 use Rattle.dsa_device.specs.Running.{Running, IsReplay}
-use Rattle.dsa_shared.specs.declared.settle.Totals.{Totals}
-use Rattle.dsa_shared.specs.Seat.{SeatLog, AllFresh, fresh, with_step}
-use Rattle.dsa_shared.specs.Settle.{Match}
-use Rattle.dsa_shared.specs.Totals.{AreSums, Balance, totals_of}
-use Rattle.dsa_workers.specs.declared.scripts.Scripts.{Scripts}
-use Rattle.dsa_workers.specs.declared.scripts.Stint.{Stint}
+use Rattle.dsa_shared.specs.{declared.settle.Totals.{Totals}, Seat.{SeatLog, AllFresh, fresh, with_step}}
+use Rattle.dsa_shared.specs.{Settle.{Match}, Totals.{AreSums, Balance, totals_of}}
+use Rattle.dsa_workers.specs.declared.scripts.{Scripts.{Scripts}, Stint.{Stint}}
 use Rattle.dsa_workers.specs.Workers.{RunsClient, RunsEngine, RunsAdmin, receipts_in}
-use Rattle.dsa_scenario.specs.declared.options.Workload.{Workload}
-use Rattle.dsa_scenario.specs.Threads.{AreScriptsOf, Follows, engine_script, setup_events, HaveWorked, AreTotalsOf, submission_of, caps_for, capacity_for}
 use Rattle.dsa_workers.specs.Calls.{InOrder, NextSubmission, NextCommand}
-use Rattle.dsa_scenario.proofs.Accepted.{none_accepted}
-use Rattle.dsa_scenario.proofs.Submissions.{all_submitted, no_calls}
+use Rattle.dsa_scenario.specs.declared.options.Workload.{Workload}
+use Rattle.dsa_scenario.specs.Threads.{AreScriptsOf, Follows, engine_script, setup_events, HaveWorked, AreTotalsOf}
+use Rattle.dsa_scenario.specs.Threads.{submission_of, caps_for, capacity_for}
+use Rattle.dsa_scenario.proofs.{Accepted.{none_accepted}, Submissions.{all_submitted, no_calls}}
 
 -- ---- what was accepted
 
@@ -143,7 +136,8 @@ have_worked load scripts old new old-engines new-engines admin new-admin setup s
 pub totals_of-worked : (load : Workload) (t : Totals) (d : Running) (clients engines : List SeatLog)
     (admin : Option (List Step)) → HaveWorked load clients engines admin → d.caps ≡ caps_for load.engines → IsReplay d
     → Match d.history clients engines admin
-    → t ≡ totals_of d.history (held_count d.state.work.content) → AreSums t clients engines admin → Balance t d.state.work
+    → t ≡ totals_of d.history (held_count d.state.work.content) → AreSums t clients engines admin
+    → Balance t d.state.work
     → AreTotalsOf load t
 totals_of-worked load t d clients engines admin w caps whole match counted sums balance =
     let receipts : receipts_in admin ≡ steps_of d.history Admin = ap (λ a. receipts_in a) match.admin_receipts in

@@ -1,13 +1,10 @@
 -- A table by name keeps to the records, one more at a time.
-use Rattle.std.proofs.Common.{◌≡◌, ℕ, List, [], ◌∷◌, ◌++◌, Bool, true, false, cond, Option, Some, None, refl, sym, ap, ◌∙◌, find, filter_map, nat_eq}
-use Rattle.std.specs.Prelude.{◌==◌, is_some}
-use Rattle.std.specs.Option.{option_or}
-use Rattle.std.proofs.lemmas.Bool.{eqb-true, false≢true}
-use Rattle.std.proofs.lemmas.List.Folds.{find-append}
-use Rattle.std.proofs.lemmas.List.Elements.{filter_map-append}
+use Rattle.std.proofs.Common.{◌≡◌, ℕ, List, [], ◌∷◌, ◌++◌, Bool, true, false, cond, Option, Some, None, refl, sym, ap}
+use Rattle.std.proofs.Common.{◌∙◌, find, filter_map, nat_eq}
+use Rattle.std.proofs.lemmas.{Bool.{eqb-true, false≢true}, List.{Folds.{find-append}, Elements.{filter_map-append}}}
+use Rattle.std.specs.{Prelude.{◌==◌, is_some}, Option.{option_or}}
 use Rattle.dsa_book.specs.declared.answer.Ticket.{Ticket}
-use Rattle.dsa_scenario.specs.declared.run.Record.{Record}
-use Rattle.dsa_scenario.specs.Run.{given_by, found, IsTable}
+use Rattle.dsa_scenario.specs.{declared.run.Record.{Record}, Run.{given_by, found, IsTable}}
 
 -- with nothing in its place, what there is stays
 or_none : {A : Type 0} (o : Option A) → o ≡ option_or o None

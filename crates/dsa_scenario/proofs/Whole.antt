@@ -1,12 +1,9 @@
 -- The parts of a document, together.
 use Rattle.std.proofs.Common.{◌≡◌, ◌⊎◌, inl, inr, ℕ, List, [], ◌∷◌, Some, map, refl, sym, ap}
-use Rattle.serde_json.specs.Data.{Data}
-use Rattle.serde_json.specs.View.{view, items_of, items_view}
-use Rattle.serde_json.specs.declared.value.Value.{Value}
+use Rattle.serde_json.specs.{Data.{Data}, View.{view, items_of, items_view}, declared.value.Value.{Value}}
 use Rattle.dsa_regs.specs.declared.Caps.{Caps}
 use Rattle.dsa_scenario.specs.declared.actions.Action.{Action}
-use Rattle.dsa_scenario.specs.declared.faults.ScenarioFault.{ScenarioFault}
-use Rattle.dsa_scenario.specs.declared.faults.ScenarioFault.TheVariants.{BadStep, OutOfMemory}
+use Rattle.dsa_scenario.specs.declared.faults.ScenarioFault.{ScenarioFault, TheVariants.{BadStep, OutOfMemory}}
 use Rattle.dsa_scenario.specs.Actions.{action_of}
 use Rattle.dsa_scenario.specs.Document.{list_of, head_of, IsJson, HasHead, IsDocument, IsFirstBad, IsFaultOf}
 

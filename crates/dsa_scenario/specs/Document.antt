@@ -1,15 +1,13 @@
 -- A document: its caps, its capacity and its steps, and which faults it has.
-use Rattle.std.specs.Prelude.{◌≡◌, ◌<◌, ℕ, ◌^◌, true, false, List, [], ◌∷◌, map, take, slice_get, codes, Option, Some, None, option_map, option_and_then, IsUtf8}
-use Rattle.serde_json.specs.Data.{Data, Items, no_items, item}
-use Rattle.serde_json.specs.Find.{get, as_array}
-use Rattle.serde_json.specs.Read.{read}
-use Rattle.dsa_regs.specs.declared.Caps.{Caps}
-use Rattle.dsa_regs.specs.Caps.{check_caps}
+use Rattle.std.specs.Prelude.{◌≡◌, ◌<◌, ℕ, ◌^◌, true, false, List, [], ◌∷◌, map, take, slice_get, codes, Option, Some}
+use Rattle.std.specs.Prelude.{None, option_map, option_and_then, IsUtf8}
+use Rattle.serde_json.specs.{Data.{Data, Items, no_items, item}, Find.{get, as_array}, Read.{read}}
+use Rattle.dsa_regs.specs.{declared.Caps.{Caps}, Caps.{check_caps}}
 use Rattle.dsa_scenario.specs.declared.actions.Action.{Action}
 use Rattle.dsa_scenario.specs.declared.faults.ScenarioFault.{ScenarioFault}
-use Rattle.dsa_scenario.specs.declared.faults.ScenarioFault.TheVariants.{NotJson, BadDocument, BadStep, BadCaps, BadCapacity}
-use Rattle.dsa_scenario.specs.Fields.{◌>>=◌, whole_of}
-use Rattle.dsa_scenario.specs.Actions.{caps_of, action_of}
+use Rattle.dsa_scenario.specs.declared.faults.ScenarioFault.TheVariants.{NotJson, BadDocument, BadStep, BadCaps}
+use Rattle.dsa_scenario.specs.declared.faults.ScenarioFault.TheVariants.{BadCapacity}
+use Rattle.dsa_scenario.specs.{Fields.{◌>>=◌, whole_of}, Actions.{caps_of, action_of}}
 
 -- the caps, the capacity and the step objects of a document (profile)
 abbrev pub head_of : Data → Option (Caps × ℕ × Items)

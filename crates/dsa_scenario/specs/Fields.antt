@@ -1,7 +1,7 @@
 -- Fields of a JSON object.
-use Rattle.std.specs.Prelude.{ℕ, ◌-◌, ◌%◌, ◌==◌, ◌||◌, nat_lt, Bool, if◌then◌else◌, List, ◌++◌, length, replicate, Option, Some, None, option_and_then, Result, Ok, Err}
-use Rattle.serde_json.specs.Data.{Data}
-use Rattle.serde_json.specs.Find.{get, as_number, as_u64, as_bool, as_str}
+use Rattle.std.specs.Prelude.{ℕ, ◌-◌, ◌%◌, ◌==◌, ◌||◌, nat_lt, Bool, if◌then◌else◌, List, ◌++◌, length, replicate}
+use Rattle.std.specs.Prelude.{Option, Some, None, option_and_then, Result, Ok, Err}
+use Rattle.serde_json.specs.{Data.{Data}, Find.{get, as_number, as_u64, as_bool, as_str}}
 use Rattle.hex.specs.Hex.{decode_pairs}
 
 -- the second step, where the first gave a value

@@ -1,36 +1,26 @@
 -- The lines that a run prints.
-use Rattle.std.specs.Prelude.{ℕ, ◌/◌, ◌%◌, Bool, true, false, List, [], ◌∷◌, ◌++◌, Option, Some, None, codes, decimal, flat_map}
-use Rattle.std.specs.Fmt.{digit_glyph}
-use Rattle.dsa_regs.specs.declared.Fault.{Fault}
-use Rattle.dsa_regs.specs.Fault.{fault_number, fault_name}
-use Rattle.dsa_book.specs.declared.answer.Cause.{Cause}
-use Rattle.dsa_book.specs.declared.answer.Cause.TheVariants.{AtLimit, NotEnabled, WrongKind}
-use Rattle.dsa_book.specs.declared.answer.NotedError.{NotedError}
-use Rattle.dsa_book.specs.declared.answer.SubmitAnswer.{SubmitAnswer}
 use Rattle.dsa_book.specs.declared.answer.SubmitAnswer.TheVariants as submit
-use Rattle.dsa_book.specs.declared.answer.DispatchAnswer.{DispatchAnswer}
 use Rattle.dsa_book.specs.declared.answer.DispatchAnswer.TheVariants as dispatch
-use Rattle.dsa_book.specs.declared.answer.FetchAnswer.{FetchAnswer}
 use Rattle.dsa_book.specs.declared.answer.FetchAnswer.TheVariants as fetch
-use Rattle.dsa_book.specs.declared.answer.StartAnswer.{StartAnswer}
 use Rattle.dsa_book.specs.declared.answer.StartAnswer.TheVariants as start
-use Rattle.dsa_book.specs.declared.answer.FinishAnswer.{FinishAnswer}
 use Rattle.dsa_book.specs.declared.answer.FinishAnswer.TheVariants as finish
-use Rattle.dsa_book.specs.declared.answer.IssueAnswer.{IssueAnswer}
 use Rattle.dsa_book.specs.declared.answer.IssueAnswer.TheVariants as issue
-use Rattle.dsa_book.specs.declared.answer.PollAnswer.{PollAnswer}
 use Rattle.dsa_book.specs.declared.answer.PollAnswer.TheVariants as poll
-use Rattle.dsa_book.specs.declared.answer.WriteAnswer.{WriteAnswer}
 use Rattle.dsa_book.specs.declared.answer.WriteAnswer.TheVariants as write
-use Rattle.dsa_book.specs.declared.answer.ClearAnswer.{ClearAnswer}
 use Rattle.dsa_book.specs.declared.answer.ClearAnswer.TheVariants as clear
-use Rattle.dsa_book.specs.declared.answer.Reply.{Reply}
 use Rattle.dsa_book.specs.declared.answer.Reply.TheVariants as reply
-use Rattle.dsa_book.specs.declared.fate.Fate.{Fate}
-use Rattle.dsa_book.specs.declared.fate.Fate.TheVariants.{Completed, Aborted, Abandoned}
-use Rattle.dsa_book.specs.declared.fate.FateRow.{FateRow}
-use Rattle.dsa_scenario.specs.declared.run.Record.{Record}
-use Rattle.dsa_scenario.specs.declared.run.Record.TheVariants.{Stepped, Refused}
+use Rattle.std.specs.Prelude.{ℕ, ◌/◌, ◌%◌, Bool, true, false, List, [], ◌∷◌, ◌++◌, Option, Some, None, codes, decimal}
+use Rattle.std.specs.Prelude.{flat_map}
+use Rattle.std.specs.Fmt.{digit_glyph}
+use Rattle.dsa_regs.specs.{declared.Fault.{Fault}, Fault.{fault_number, fault_name}}
+use Rattle.dsa_book.specs.declared.answer.Cause.{Cause, TheVariants.{AtLimit, NotEnabled, WrongKind}}
+use Rattle.dsa_book.specs.declared.answer.{NotedError.{NotedError}, SubmitAnswer.{SubmitAnswer}}
+use Rattle.dsa_book.specs.declared.answer.{DispatchAnswer.{DispatchAnswer}, FetchAnswer.{FetchAnswer}}
+use Rattle.dsa_book.specs.declared.answer.{StartAnswer.{StartAnswer}, FinishAnswer.{FinishAnswer}}
+use Rattle.dsa_book.specs.declared.answer.{IssueAnswer.{IssueAnswer}, PollAnswer.{PollAnswer}}
+use Rattle.dsa_book.specs.declared.answer.{WriteAnswer.{WriteAnswer}, ClearAnswer.{ClearAnswer}, Reply.{Reply}}
+use Rattle.dsa_book.specs.declared.fate.{Fate.{Fate, TheVariants.{Completed, Aborted, Abandoned}}, FateRow.{FateRow}}
+use Rattle.dsa_scenario.specs.declared.run.Record.{Record, TheVariants.{Stepped, Refused}}
 
 -- two lower case hexadecimal digits
 abbrev pub two_digits : ℕ → List ℕ

@@ -1,21 +1,15 @@
 -- What a document's actions come to on a device.
-use Rattle.std.specs.Prelude.{◌≡◌, ℕ, ◌==◌, true, List, [], ◌∷◌, ◌++◌, Option, Some, None, Result, Ok, Err, find, filter_map, unwrap_or, ⊤}
-use Rattle.dsa_regs.specs.declared.Caps.{Caps}
-use Rattle.dsa_regs.specs.declared.Fault.{Fault}
-use Rattle.dsa_book.specs.declared.answer.Ticket.{Ticket}
-use Rattle.dsa_book.specs.declared.answer.SubmitAnswer.TheVariants.{Accepted}
-use Rattle.dsa_book.specs.declared.answer.FetchAnswer.TheVariants.{Fetched}
-use Rattle.dsa_book.specs.declared.answer.Reply.{Reply}
 use Rattle.dsa_book.specs.declared.answer.Reply.TheVariants as reply
-use Rattle.dsa_book.specs.declared.event.Event.{Event}
 use Rattle.dsa_book.specs.declared.event.Event.TheVariants as event
-use Rattle.dsa_book.specs.declared.event.Step.{Step}
-use Rattle.dsa_book.specs.State.{State}
-use Rattle.dsa_book.specs.Machine.{is_run, replay, stored_steps}
-use Rattle.dsa_scenario.specs.declared.actions.Action.{Action}
-use Rattle.dsa_scenario.specs.declared.actions.Action.TheVariants.{Ask, Finish, Refuse}
-use Rattle.dsa_scenario.specs.declared.run.Record.{Record}
-use Rattle.dsa_scenario.specs.declared.run.Record.TheVariants.{Stepped, Refused}
+use Rattle.std.specs.Prelude.{◌≡◌, ℕ, ◌==◌, true, List, [], ◌∷◌, ◌++◌, Option, Some, None, Result, Ok, Err, find}
+use Rattle.std.specs.Prelude.{filter_map, unwrap_or, ⊤}
+use Rattle.dsa_regs.specs.declared.{Caps.{Caps}, Fault.{Fault}}
+use Rattle.dsa_book.specs.declared.answer.{Ticket.{Ticket}, SubmitAnswer.TheVariants.{Accepted}}
+use Rattle.dsa_book.specs.declared.answer.{FetchAnswer.TheVariants.{Fetched}, Reply.{Reply}}
+use Rattle.dsa_book.specs.declared.event.{Event.{Event}, Step.{Step}}
+use Rattle.dsa_book.specs.{State.{State}, Machine.{is_run, replay, stored_steps}}
+use Rattle.dsa_scenario.specs.declared.actions.Action.{Action, TheVariants.{Ask, Finish, Refuse}}
+use Rattle.dsa_scenario.specs.declared.run.Record.{Record, TheVariants.{Stepped, Refused}}
 use Rattle.dsa_scenario.specs.Lines.{lines_of}
 
 -- ---- tickets

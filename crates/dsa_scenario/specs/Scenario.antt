@@ -1,10 +1,7 @@
 -- What is written of a document.
 use Rattle.std.specs.Prelude.{◌≡◌, ◌≤◌, ℕ, ◌^◌, true, List}
-use Rattle.dsa_regs.specs.declared.Caps.{Caps}
-use Rattle.dsa_regs.specs.Caps.{check_caps}
-use Rattle.dsa_scenario.specs.declared.actions.Action.{Action}
-use Rattle.dsa_scenario.specs.Document.{IsDocument}
-use Rattle.dsa_scenario.specs.Run.{AreLinesOf}
+use Rattle.dsa_regs.specs.{declared.Caps.{Caps}, Caps.{check_caps}}
+use Rattle.dsa_scenario.specs.{declared.actions.Action.{Action}, Document.{IsDocument}, Run.{AreLinesOf}}
 
 -- the bytes are a document without a fault, and the lines are those of a run of it (profile)
 pub record IsRenderingOf (bytes lines : List ℕ) : Type 0 where

@@ -1,34 +1,21 @@
 -- The threads mode: what it sets up, what its workers are to do, and what it prints.
-use Rattle.std.specs.Prelude.{◌≡◌, ◌≤◌, ◌<◌, ℕ, ◌+◌, ◌-◌, ◌*◌, ◌^◌, true, false, List, [], ◌∷◌, ◌++◌, All, length, replicate, vec_len, slice_index_or, codes, decimal, Option, Some, ⊤}
+use Rattle.std.specs.Prelude.{◌≡◌, ◌≤◌, ◌<◌, ℕ, ◌+◌, ◌-◌, ◌*◌, ◌^◌, true, false, List, [], ◌∷◌, ◌++◌, All, length}
+use Rattle.std.specs.Prelude.{replicate, vec_len, slice_index_or, codes, decimal, Option, Some, ⊤}
 use Rattle.std.specs.Global.{Vec}
-use Rattle.dsa_desc.specs.declared.Descriptor.{Descriptor}
-use Rattle.dsa_desc.specs.declared.Outcome.TheVariants.{Success}
-use Rattle.dsa_desc.specs.Descriptor.{read}
-use Rattle.dsa_regs.specs.declared.Caps.{Caps}
-use Rattle.dsa_regs.specs.declared.QueueConfig.{QueueConfig}
-use Rattle.dsa_regs.specs.declared.GroupConfig.{GroupConfig}
+use Rattle.dsa_desc.specs.{declared.{Descriptor.{Descriptor}, Outcome.TheVariants.{Success}}, Descriptor.{read}}
+use Rattle.dsa_regs.specs.declared.{Caps.{Caps}, QueueConfig.{QueueConfig}, GroupConfig.{GroupConfig}}
 use Rattle.dsa_regs.specs.declared.Command.TheVariants.{EnableDevice, EnableWq}
 use Rattle.dsa_store.specs.Content.{held_count}
 use Rattle.dsa_book.specs.declared.answer.Reply.{Reply}
 use Rattle.dsa_book.specs.declared.event.Actor.TheVariants.{Client, Admin}
-use Rattle.dsa_book.specs.declared.event.Event.{Event}
-use Rattle.dsa_book.specs.declared.event.Event.TheVariants.{Submit, Issue, WriteQueue, WriteGroup}
-use Rattle.dsa_book.specs.declared.event.Kind.TheVariants.{Enqcmd}
-use Rattle.dsa_book.specs.declared.event.Portal.TheVariants.{Limited}
-use Rattle.dsa_book.specs.declared.event.Step.{Step}
-use Rattle.dsa_book.specs.State.{State}
-use Rattle.dsa_book.specs.Machine.{is_legal, replay}
-use Rattle.dsa_book.specs.Totals.{steps_of, total_accepted}
-use Rattle.dsa_shared.specs.declared.settle.Totals.{Totals}
-use Rattle.dsa_shared.specs.Seat.{SeatLog, with_step}
-use Rattle.dsa_shared.specs.Totals.{totals_of}
-use Rattle.dsa_workers.specs.declared.scripts.ClientStep.{ClientStep}
-use Rattle.dsa_workers.specs.declared.scripts.EngineScript.{EngineScript}
+use Rattle.dsa_book.specs.declared.event.Event.{Event, TheVariants.{Submit, Issue, WriteQueue, WriteGroup}}
+use Rattle.dsa_book.specs.declared.event.{Kind.TheVariants.{Enqcmd}, Portal.TheVariants.{Limited}, Step.{Step}}
+use Rattle.dsa_book.specs.{State.{State}, Machine.{is_legal, replay}, Totals.{steps_of, total_accepted}}
+use Rattle.dsa_shared.specs.{declared.settle.Totals.{Totals}, Seat.{SeatLog, with_step}, Totals.{totals_of}}
+use Rattle.dsa_workers.specs.declared.scripts.{ClientStep.{ClientStep}, EngineScript.{EngineScript}}
 use Rattle.dsa_workers.specs.declared.scripts.Scripts.{Scripts}
 use Rattle.dsa_workers.specs.Workers.{receipts_in}
-use Rattle.dsa_scenario.specs.declared.options.Workload.{Workload}
-use Rattle.dsa_scenario.specs.declared.options.Asked.{Asked}
-use Rattle.dsa_scenario.specs.declared.options.Asked.TheVariants.{Scenario, Threads}
+use Rattle.dsa_scenario.specs.declared.options.{Workload.{Workload}, Asked.{Asked, TheVariants.{Scenario, Threads}}}
 use Rattle.dsa_scenario.specs.Lines.{line_of}
 
 -- ---- what is asked
@@ -144,7 +131,7 @@ totals_text t =
     ++ total_line (codes "retried") t.retried
     ++ total_line (codes "done") t.done
     ++ total_line (codes "lost") t.lost
-    ++ total_line (codes "held_count") t.held
+    ++ total_line (codes "held") t.held
     ++ line_of (codes "balanced")
 
 -- the totals are those of a history of the device that is set up and to which each client submits

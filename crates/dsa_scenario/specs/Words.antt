@@ -2,15 +2,10 @@
 use Rattle.std.specs.Prelude.{◌≡◌, ◌≢◌, ◌≤◌, ℕ, pos, true, List, [], ◌∷◌, codes, Some, option_map}
 use Rattle.std.specs.Str.Parse.{IsNumeral, digits_value, without_leading_plus}
 use Rattle.clap.specs.declared.builder.value_parser.ValueParser.TheVariants.{Signed}
-use Rattle.clap.specs.Walk.{Row, Rule, Text, one_of}
-use Rattle.clap.specs.Faults.{fault_of}
-use Rattle.clap.specs.Kinds.{Kinds, IsAmong}
-use Rattle.clap.specs.declared.error.kind.ErrorKind.{ErrorKind}
-use Rattle.clap.specs.declared.error.kind.ErrorKind.TheVariants.{DisplayHelp, DisplayVersion}
+use Rattle.clap.specs.declared.error.kind.ErrorKind.{ErrorKind, TheVariants.{DisplayHelp, DisplayVersion}}
+use Rattle.clap.specs.{Walk.{Row, Rule, Text, one_of}, Faults.{fault_of}, Kinds.{Kinds, IsAmong}}
 use Rattle.clap.specs.Simple.{App, new_app, new_rule, on_top, subcommand_of, with_rule, with_subcommand}
-use Rattle.dsa_scenario.specs.declared.options.Workload.{Workload}
-use Rattle.dsa_scenario.specs.declared.options.Asked.{Asked}
-use Rattle.dsa_scenario.specs.declared.options.Asked.TheVariants.{Scenario, Threads}
+use Rattle.dsa_scenario.specs.declared.options.{Workload.{Workload}, Asked.{Asked, TheVariants.{Scenario, Threads}}}
 
 -- the option `--name`, whose value is a number from 1 to `most`, and `default` where it is not given
 abbrev pub number_rule : Text → ℕ → Text → Rule

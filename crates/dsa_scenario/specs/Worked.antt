@@ -1,40 +1,28 @@
 -- JSON values, step objects, records and words that the worked rows speak of.
-use Rattle.std.specs.Prelude.{ℕ, ◌-◌, ◌^◌, ◌++◌, ◌&&◌, negsuc, Bool, true, false, not, List, [], ◌∷◌, filter, map, replicate, codes, bytes_eq, Option, None, is_some, is_none, option_map, option_and_then, ⊤}
-use Rattle.std.specs.List.{list_all}
-use Rattle.std.specs.Fmt.{digits}
-use Rattle.serde_json.specs.Data.{unsigned, negative, Data, null, boolean, number, string, array, object, no_items, item, Members, no_members, member}
-use Rattle.serde_json.specs.Read.{read}
-use Rattle.clap.specs.Walk.{Text, one_of}
-use Rattle.clap.specs.Simple.{subcommand_of}
-use Rattle.dsa_desc.specs.declared.Descriptor.{Descriptor}
-use Rattle.dsa_desc.specs.declared.Outcome.TheVariants.{Success}
-use Rattle.dsa_regs.specs.declared.Caps.{Caps}
-use Rattle.dsa_regs.specs.declared.Command.TheVariants.{EnableDevice, EnableWq}
-use Rattle.dsa_regs.specs.declared.Fault.TheVariants.{BadCommand}
-use Rattle.dsa_book.specs.declared.answer.Ticket.{Ticket}
-use Rattle.dsa_book.specs.declared.answer.Reply.{Reply}
 use Rattle.dsa_book.specs.declared.answer.Reply.TheVariants as reply
-use Rattle.dsa_book.specs.declared.answer.SubmitAnswer.TheVariants.{Accepted}
-use Rattle.dsa_book.specs.declared.answer.DispatchAnswer.TheVariants.{Taken}
-use Rattle.dsa_book.specs.declared.answer.FetchAnswer.TheVariants.{Fetched}
-use Rattle.dsa_book.specs.declared.answer.FinishAnswer.TheVariants.{Done}
-use Rattle.dsa_book.specs.declared.answer.IssueAnswer.TheVariants.{Ended}
-use Rattle.dsa_book.specs.declared.answer.PollAnswer.TheVariants.{Full}
-use Rattle.dsa_book.specs.declared.answer.WriteAnswer.TheVariants.{Written}
-use Rattle.dsa_book.specs.declared.event.Event.{Event}
 use Rattle.dsa_book.specs.declared.event.Event.TheVariants as event
-use Rattle.dsa_book.specs.declared.event.Kind.TheVariants.{Movdir64b}
-use Rattle.dsa_book.specs.declared.event.Portal.TheVariants.{Limited}
-use Rattle.dsa_book.specs.declared.fate.Fate.{Fate}
-use Rattle.dsa_book.specs.declared.fate.FateRow.{FateRow}
-use Rattle.dsa_scenario.specs.declared.actions.Action.{Action}
-use Rattle.dsa_scenario.specs.declared.actions.Action.TheVariants.{Ask, Finish, Refuse}
+use Rattle.std.specs.Prelude.{ℕ, ◌-◌, ◌^◌, ◌++◌, ◌&&◌, negsuc, Bool, true, false, not, List, [], ◌∷◌, filter, map}
+use Rattle.std.specs.Prelude.{replicate, codes, bytes_eq, Option, None, is_some, is_none, option_map, option_and_then}
+use Rattle.std.specs.Prelude.{⊤}
+use Rattle.std.specs.{List.{list_all}, Fmt.{digits}}
+use Rattle.serde_json.specs.Data.{unsigned, negative, Data, null, boolean, number, string, array, object, no_items}
+use Rattle.serde_json.specs.Data.{item, Members, no_members, member}
+use Rattle.serde_json.specs.Read.{read}
+use Rattle.clap.specs.{Walk.{Text, one_of}, Simple.{subcommand_of}}
+use Rattle.dsa_desc.specs.declared.{Descriptor.{Descriptor}, Outcome.TheVariants.{Success}}
+use Rattle.dsa_regs.specs.declared.{Caps.{Caps}, Command.TheVariants.{EnableDevice, EnableWq}}
+use Rattle.dsa_regs.specs.declared.Fault.TheVariants.{BadCommand}
+use Rattle.dsa_book.specs.declared.answer.{Ticket.{Ticket}, Reply.{Reply}, SubmitAnswer.TheVariants.{Accepted}}
+use Rattle.dsa_book.specs.declared.answer.{DispatchAnswer.TheVariants.{Taken}, FetchAnswer.TheVariants.{Fetched}}
+use Rattle.dsa_book.specs.declared.answer.{FinishAnswer.TheVariants.{Done}, IssueAnswer.TheVariants.{Ended}}
+use Rattle.dsa_book.specs.declared.answer.{PollAnswer.TheVariants.{Full}, WriteAnswer.TheVariants.{Written}}
+use Rattle.dsa_book.specs.declared.event.{Event.{Event}, Kind.TheVariants.{Movdir64b}, Portal.TheVariants.{Limited}}
+use Rattle.dsa_book.specs.declared.fate.{Fate.{Fate}, FateRow.{FateRow}}
+use Rattle.dsa_scenario.specs.declared.actions.Action.{Action, TheVariants.{Ask, Finish, Refuse}}
 use Rattle.dsa_scenario.specs.declared.options.Workload.{Workload}
-use Rattle.dsa_scenario.specs.Fields.{whole_of}
-use Rattle.dsa_scenario.specs.Threads.{group_config, queue_config, setup_events, submission_of}
+use Rattle.dsa_scenario.specs.declared.run.Record.{Record, TheVariants.{Stepped, Refused}}
+use Rattle.dsa_scenario.specs.{Fields.{whole_of}, Threads.{group_config, queue_config, setup_events, submission_of}}
 use Rattle.dsa_scenario.specs.Words.{program_app}
-use Rattle.dsa_scenario.specs.declared.run.Record.{Record}
-use Rattle.dsa_scenario.specs.declared.run.Record.TheVariants.{Stepped, Refused}
 
 -- ---- JSON
 

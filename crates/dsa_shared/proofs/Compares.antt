@@ -1,9 +1,10 @@
 -- Where a list and a filtered list first differ.
-use Rattle.std.proofs.Common.{◌≡◌, ◌≢◌, ℕ, zero, suc, ◌+◌, ◌<◌, ◌≤◌, List, [], ◌∷◌, ◌++◌, Bool, true, false, cond, length, take, drop, get_or, Some, None, refl, sym, ap, ◌∙◌, arith}
-use Rattle.std.specs.Prelude.{filter, slice_get, IsTrue}
+use Rattle.std.proofs.Common.{◌≡◌, ◌≢◌, ℕ, zero, suc, ◌+◌, ◌<◌, ◌≤◌, List, [], ◌∷◌, ◌++◌, Bool, true, false, cond}
+use Rattle.std.proofs.Common.{length, take, drop, get_or, Some, None, refl, sym, ap, ◌∙◌, arith}
 use Rattle.std.proofs.lemmas.List.{take-append-drop, take_at, take_all, drop_more, length-take-le}
 use Rattle.std.proofs.lemmas.List.Elements.{filter-append}
 use Rattle.std.proofs.lemmas.Option.{slice_get_past, slice_get-get_or}
+use Rattle.std.specs.Prelude.{filter, slice_get, IsTrue}
 use Rattle.dsa_book.specs.declared.event.Step.{Step}
 use Rattle.dsa_shared.specs.Compare.{DiffersFirstAt}
 
@@ -52,7 +53,8 @@ pub past_other : (r : List Step) (at : ℕ) (x : Step) → length r ≤ at → s
 past_other r at x past e = let none = slice_get_past r at past in cc
 
 pub other_within : (r : List Step) (at : ℕ) (d x : Step) → at < length r → get_or r at d ≢ x → slice_get r at ≢ Some x
-other_within r at d x lt other e = let here = slice_get-get_or r at d lt in let same : get_or r at d ≡ x = cc in other same
+other_within r at d x lt other e = let here = slice_get-get_or r at d lt in let same : get_or r at d ≡ x = cc in
+    other same
 
 pub fails : {A : Type 0} (b : Bool) → b ≡ false → (A → IsTrue b) → A → ⊥
 fails true e goes a = cc

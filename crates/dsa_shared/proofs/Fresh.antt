@@ -1,7 +1,6 @@
 -- Seats without receipts, made one after the other.
 use Rattle.std.proofs.Common.{◌≡◌, ℕ, ◌+◌, ◌<◌, List, [], ◌∷◌, ◌++◌, length, get_or, inl, inr, ◌∙◌, subst, arith}
-use Rattle.std.proofs.lemmas.Bool.{cases_lt}
-use Rattle.std.proofs.lemmas.List.{get_or_append_left, get_or_push}
+use Rattle.std.proofs.lemmas.{Bool.{cases_lt}, List.{get_or_append_left, get_or_push}}
 use Rattle.dsa_shared.specs.Seat.{SeatLog, fresh}
 
 -- and so with the seat of the next number

@@ -1,20 +1,13 @@
 -- The first mismatch of complete seats has one position, and there is none where all match.
-use Rattle.std.proofs.Common.{◌≡◌, ℕ, zero, suc, ◌<◌, ◌≤◌, List, [], ◌∷◌, Bool, true, length, take, get_or, eqb, inl, inr, Option, Some, None, refl, sym, ap, ◌∙◌, subst, arith}
-use Rattle.std.specs.Prelude.{slice_get, Contains}
-use Rattle.std.specs.Option.{IsSomeAnd}
-use Rattle.std.proofs.lemmas.List.Elements.{All-contains}
-use Rattle.std.proofs.lemmas.Option.{slice_get-get_or, same_Some}
-use Rattle.std.proofs.lemmas.Bool.{cases_lt}
-use Rattle.std.proofs.lemmas.Bool.Decides.{nat_tests}
-use Rattle.dsa_book.specs.declared.event.Step.{Step}
-use Rattle.dsa_book.specs.declared.event.Actor.{Actor}
-use Rattle.dsa_book.specs.declared.event.Actor.TheVariants.{Admin}
-use Rattle.dsa_book.specs.Totals.{steps_of}
-use Rattle.dsa_shared.specs.Compare.{DiffersFirstAt}
-use Rattle.dsa_shared.specs.Seat.{SeatLog, client_of, engine_of, number_of, receipts_of}
+use Rattle.std.proofs.Common.{◌≡◌, ℕ, zero, suc, ◌<◌, ◌≤◌, List, [], ◌∷◌, Bool, true, length, take, get_or, eqb, inl}
+use Rattle.std.proofs.Common.{inr, Option, Some, None, refl, sym, ap, ◌∙◌, subst, arith}
+use Rattle.std.proofs.lemmas.{List.Elements.{All-contains}, Option.{slice_get-get_or, same_Some}}
+use Rattle.std.proofs.lemmas.Bool.{cases_lt, Decides.{nat_tests}}
+use Rattle.std.specs.{Prelude.{slice_get, Contains}, Option.{IsSomeAnd}}
+use Rattle.dsa_book.specs.{declared.event.{Step.{Step}, Actor.{Actor, TheVariants.{Admin}}}, Totals.{steps_of}}
+use Rattle.dsa_shared.specs.{Compare.{DiffersFirstAt}, Seat.{SeatLog, client_of, engine_of, number_of, receipts_of}}
 use Rattle.dsa_shared.specs.Settle.{HasEach, AllMatch, FirstMismatch, IsComplete, IsFirstMismatch}
-use Rattle.dsa_shared.proofs.Compares.{never_same}
-use Rattle.dsa_shared.proofs.Sums.{total, once, total_is}
+use Rattle.dsa_shared.proofs.{Compares.{never_same}, Sums.{total, once, total_is}}
 
 get_take : (xs : List Step) (i j : ℕ) → i < j → slice_get (take j xs) i ≡ slice_get xs i
 get_take [] i zero lt = absurd (omega arith)
@@ -66,22 +59,27 @@ one_seat : {T : Type 0} (number : T → ℕ) (n : ℕ) (seats : List T) → HasE
     → Contains seats s → Contains seats t → number s ≡ number t → s ≡ t
 one_seat {T} number n seats each s t (k, lt, is) (j, lt', is') same =
     let below : number s < n = All-contains (λ u. number u < n) seats s each.0 (k, lt, is) in
-    let one : total (λ u. once (eqb (number s) (number u))) seats ≡ 1 = sym (total_is (λ u. once (eqb (number s) (number u))) seats) ∙ each.1 (number s) below in
+    let one : total (λ u. once (eqb (number s) (number u))) seats ≡ 1 =
+    sym (total_is (λ u. once (eqb (number s) (number u))) seats) ∙ each.1 (number s) below in
     let own : number (get_or seats k s) ≡ number s = ap number is in
     let other : number (get_or seats j t) ≡ number s = ap number is' ∙ sym same in
-    let place = one_place (λ u. eqb (number s) (number u)) seats k j s t one lt (grind (arith, nat_tests)) lt' (grind (arith, nat_tests)) in
+    let place = one_place (λ u. eqb (number s) (number u)) seats k j s t one lt (grind (arith, nat_tests)) lt'
+    (grind (arith, nat_tests)) in
     let first : slice_get seats k ≡ Some s = slice_get-get_or seats k s lt ∙ ap Some is in
     let second : slice_get seats j ≡ Some t = slice_get-get_or seats j t lt' ∙ ap Some is' in
     same_Some s t (sym first ∙ ap (slice_get seats) place ∙ second)
 
-first_once : {T : Type 0} (number : T → ℕ) (actor : T → Actor) (receipts : T → List Step) (h : List Step) (n : ℕ) (seats : List T) (i j : ℕ)
+first_once : {T : Type 0} (number : T → ℕ) (actor : T → Actor) (receipts : T
+    → List Step) (h : List Step) (n : ℕ) (seats : List T) (i j : ℕ)
     → HasEach number n seats → FirstMismatch number actor receipts h seats i
     → FirstMismatch number actor receipts h seats j → i ≡ j
 first_once {T} number actor receipts h n seats i j each (s, held, differs, before) (t, held', differs', before') =
     elim (cases_lt (number s) (number t)) [
-      | inl lt ↦ absurd (never_same _ _ i differs (All-contains (λ u. number u < number t → receipts u ≡ steps_of h (actor u)) seats s before' held lt))
+      | inl lt ↦ absurd (never_same _ _ i differs
+          (All-contains (λ u. number u < number t → receipts u ≡ steps_of h (actor u)) seats s before' held lt))
       | inr le ↦ elim (cases_lt (number t) (number s)) [
-        | inl lt ↦ absurd (never_same _ _ j differs' (All-contains (λ u. number u < number s → receipts u ≡ steps_of h (actor u)) seats t before held' lt))
+        | inl lt ↦ absurd (never_same _ _ j differs'
+            (All-contains (λ u. number u < number s → receipts u ≡ steps_of h (actor u)) seats t before held' lt))
         | inr ge ↦
             let e : s ≡ t = one_seat number n seats each s t held held' (omega (arith, le, ge)) in
             let P : T → Type 0 = λ u. DiffersFirstAt (receipts u) (steps_of h (actor u)) j in
@@ -89,7 +87,8 @@ first_once {T} number actor receipts h n seats i j each (s, held, differs, befor
       ]
     ]
 
-none_matching : {T : Type 0} (number : T → ℕ) (actor : T → Actor) (receipts : T → List Step) (h : List Step) (seats : List T) (i : ℕ)
+none_matching : {T : Type 0} (number : T → ℕ) (actor : T → Actor) (receipts : T
+    → List Step) (h : List Step) (seats : List T) (i : ℕ)
     → AllMatch actor receipts h seats → FirstMismatch number actor receipts h seats i → ⊥
 none_matching number actor receipts h seats i match (s, held, differs, before) =
     never_same _ _ i differs (All-contains (λ u. receipts u ≡ steps_of h (actor u)) seats s match held)
@@ -100,14 +99,23 @@ admin_once : (h : List Step) (admin : Option (List Step)) (i j : ℕ)
 admin_once h (Some r) i j a b = differs_once r (steps_of h Admin) i j a b
 admin_once h None i j a b = absurd a
 
-pub mismatch_once : (h : List Step) (clients engines : List SeatLog) (admin : Option (List Step)) (c e i j : ℕ) → IsComplete clients engines admin c e
+pub mismatch_once : (h : List Step) (clients engines : List SeatLog) (admin : Option (List Step)) (c e i j : ℕ)
+    → IsComplete clients engines admin c e
     → IsFirstMismatch h clients engines admin i → IsFirstMismatch h clients engines admin j → i ≡ j
-mismatch_once h clients engines admin c e i j all (inl a) (inl b) = first_once number_of client_of receipts_of h c clients i j all.each_client a b
-mismatch_once h clients engines admin c e i j all (inl a) (inr (inl b)) = absurd (none_matching number_of client_of receipts_of h clients i b.0 a)
-mismatch_once h clients engines admin c e i j all (inl a) (inr (inr b)) = absurd (none_matching number_of client_of receipts_of h clients i b.0 a)
-mismatch_once h clients engines admin c e i j all (inr (inl a)) (inl b) = absurd (none_matching number_of client_of receipts_of h clients j a.0 b)
-mismatch_once h clients engines admin c e i j all (inr (inl a)) (inr (inl b)) = first_once number_of engine_of receipts_of h e engines i j all.each_engine a.1 b.1
-mismatch_once h clients engines admin c e i j all (inr (inl a)) (inr (inr b)) = absurd (none_matching number_of engine_of receipts_of h engines i b.1 a.1)
-mismatch_once h clients engines admin c e i j all (inr (inr a)) (inl b) = absurd (none_matching number_of client_of receipts_of h clients j a.0 b)
-mismatch_once h clients engines admin c e i j all (inr (inr a)) (inr (inl b)) = absurd (none_matching number_of engine_of receipts_of h engines j a.1 b.1)
+mismatch_once h clients engines admin c e i j all (inl a) (inl b) =
+    first_once number_of client_of receipts_of h c clients i j all.each_client a b
+mismatch_once h clients engines admin c e i j all (inl a) (inr (inl b)) =
+    absurd (none_matching number_of client_of receipts_of h clients i b.0 a)
+mismatch_once h clients engines admin c e i j all (inl a) (inr (inr b)) =
+    absurd (none_matching number_of client_of receipts_of h clients i b.0 a)
+mismatch_once h clients engines admin c e i j all (inr (inl a)) (inl b) =
+    absurd (none_matching number_of client_of receipts_of h clients j a.0 b)
+mismatch_once h clients engines admin c e i j all (inr (inl a)) (inr (inl b)) =
+    first_once number_of engine_of receipts_of h e engines i j all.each_engine a.1 b.1
+mismatch_once h clients engines admin c e i j all (inr (inl a)) (inr (inr b)) =
+    absurd (none_matching number_of engine_of receipts_of h engines i b.1 a.1)
+mismatch_once h clients engines admin c e i j all (inr (inr a)) (inl b) =
+    absurd (none_matching number_of client_of receipts_of h clients j a.0 b)
+mismatch_once h clients engines admin c e i j all (inr (inr a)) (inr (inl b)) =
+    absurd (none_matching number_of engine_of receipts_of h engines j a.1 b.1)
 mismatch_once h clients engines admin c e i j all (inr (inr a)) (inr (inr b)) = admin_once h admin i j a.2 b.2

@@ -1,12 +1,10 @@
 -- What a step of the device adds to its history, and so to the receipts.
-use Rattle.std.proofs.Common.{◌≡◌, ℕ, ◌+◌, ◌≤◌, Bool, true, false, cond, List, [], ◌∷◌, ◌++◌, length, drop, Some, refl, sym, ap, ◌∙◌, subst, arith}
+use Rattle.std.proofs.Common.{◌≡◌, ℕ, ◌+◌, ◌≤◌, Bool, true, false, cond, List, [], ◌∷◌, ◌++◌, length, drop, Some}
+use Rattle.std.proofs.Common.{refl, sym, ap, ◌∙◌, subst, arith}
 use Rattle.std.proofs.lemmas.List.{length_push, drop_at, drop_all, append-nil}
-use Rattle.dsa_book.specs.declared.answer.Reply.{Reply}
-use Rattle.dsa_book.specs.declared.event.Event.{Event}
-use Rattle.dsa_book.specs.declared.event.Step.{Step}
+use Rattle.dsa_book.specs.declared.{answer.Reply.{Reply}, event.{Event.{Event}, Step.{Step}}}
 use Rattle.dsa_book.specs.Machine.{is_stored, history_after}
-use Rattle.dsa_device.specs.Running.{Running, after_answer}
-use Rattle.dsa_device.proofs.Steps.{grows}
+use Rattle.dsa_device.{specs.Running.{Running, after_answer}, proofs.Steps.{grows}}
 use Rattle.dsa_shared.specs.Seat.{SeatLog, with_step, noted}
 
 grown : (h t : List Step) (x : Step) → t ≡ history_after h x → (length h ≤ length t) × (length t ≤ length h + 1)
@@ -30,7 +28,9 @@ pub gained : (receipts : List Step) (h : List Step) (d t : Running) (e : Event) 
 gained receipts h d t e r same a =
     (λ i. receipts ++ drop (length (same i)) ((grows d t e r a).history i)) ∙ go (is_stored r)
   where
-    go : (b : Bool) → receipts ++ drop (length d.history) (cond b (d.history ++ record { event = e; reply = r } ∷ []) d.history) ≡ cond b (receipts ++ record { event = e; reply = r } ∷ []) receipts
+    go : (b : Bool) → receipts ++ drop (length d.history)
+        (cond b (d.history ++ record { event = e; reply = r } ∷ []) d.history)
+        ≡ cond b (receipts ++ record { event = e; reply = r } ∷ []) receipts
     go true = ap (λ z. receipts ++ z) (drop_at d.history (record { event = e; reply = r } ∷ []) (length d.history) refl)
     go false = ap (λ z. receipts ++ z) (drop_all (length d.history) d.history (omega arith)) ∙ append-nil receipts
 

@@ -1,14 +1,10 @@
 -- The receipts of all seats together are the history.
-use Rattle.std.proofs.Common.{◌≡◌, ℕ, zero, suc, ◌+◌, ◌*◌, ◌<◌, ◌≤◌, List, [], ◌∷◌, Bool, true, false, cond, length, eqb, ltb, inl, inr, Option, refl, sym, ap, ◌∙◌, subst, arith}
-use Rattle.std.specs.Prelude.{filter, sum_by, All}
-use Rattle.std.specs.Option.{option_map_or}
-use Rattle.std.proofs.lemmas.List.Sums.{sum_by-cons}
-use Rattle.std.proofs.lemmas.List.Elements.{All-head, All-tail}
-use Rattle.std.proofs.lemmas.Bool.Decides.{nat_tests}
-use Rattle.std.proofs.lemmas.Bool.{cases_lt}
-use Rattle.dsa_book.specs.declared.event.Step.{Step}
-use Rattle.dsa_book.specs.declared.event.Actor.{Actor}
-use Rattle.dsa_book.specs.declared.event.Actor.TheVariants.{Client, Engine, Admin}
+use Rattle.std.proofs.Common.{◌≡◌, ℕ, zero, suc, ◌+◌, ◌*◌, ◌<◌, ◌≤◌, List, [], ◌∷◌, Bool, true, false, cond, length}
+use Rattle.std.proofs.Common.{eqb, ltb, inl, inr, Option, refl, sym, ap, ◌∙◌, subst, arith}
+use Rattle.std.proofs.lemmas.List.{Sums.{sum_by-cons}, Elements.{All-head, All-tail}}
+use Rattle.std.proofs.lemmas.Bool.{Decides.{nat_tests}, cases_lt}
+use Rattle.std.specs.{Prelude.{filter, sum_by, All}, Option.{option_map_or}}
+use Rattle.dsa_book.specs.declared.event.{Step.{Step}, Actor.{Actor, TheVariants.{Client, Engine, Admin}}}
 use Rattle.dsa_book.specs.Totals.{steps_of, actor_of, same_actor}
 use Rattle.dsa_shared.specs.Seat.{SeatLog, client_of, engine_of, number_of, receipts_of}
 use Rattle.dsa_shared.specs.Settle.{HasEach, AllMatch, IsComplete, Match, over_seats}
@@ -51,16 +47,21 @@ one_of f p (x ∷ h) = go (p x) (one_of f p h) where
   go false e = omega (arith, e)
 
 -- over some seats, each step counts as often as a seat has its actor
-many_of : {T : Type 0} (actor : T → Actor) (receipts : T → List Step) (f : Step → ℕ) (h : List Step) (seats : List T) → AllMatch actor receipts h seats
-    → total (λ s. total f (receipts s)) seats ≡ total (λ x. f x * total (λ s. once (same_actor (actor_of x.event) (actor s))) seats) h
+many_of : {T : Type 0} (actor : T → Actor) (receipts : T → List Step) (f : Step → ℕ) (h : List Step) (seats : List T)
+    → AllMatch actor receipts h seats
+    → total (λ s. total f (receipts s)) seats
+    ≡ total (λ x. f x * total (λ s. once (same_actor (actor_of x.event) (actor s))) seats) h
 many_of actor receipts f h [] match = sym (total_zero _ (λ x. omega arith) h)
 many_of actor receipts f h (s ∷ seats) match =
     let here = All-head (λ t. receipts t ≡ steps_of h (actor t)) s seats match in
     let rest = many_of actor receipts f h seats (All-tail (λ t. receipts t ≡ steps_of h (actor t)) s seats match) in
     let one = ap (total f) here ∙ one_of f (λ x. same_actor (actor_of x.event) (actor s)) h in
-    let add = total_add (λ x. f x * once (same_actor (actor_of x.event) (actor s))) (λ x. f x * total (λ t. once (same_actor (actor_of x.event) (actor t))) seats) h in
-    let both = total_same (λ x. f x * (once (same_actor (actor_of x.event) (actor s)) + total (λ t. once (same_actor (actor_of x.event) (actor t))) seats))
-    (λ x. f x * once (same_actor (actor_of x.event) (actor s)) + f x * total (λ t. once (same_actor (actor_of x.event) (actor t))) seats) (λ x. omega arith) h in
+    let add = total_add (λ x. f x * once (same_actor (actor_of x.event) (actor s)))
+    (λ x. f x * total (λ t. once (same_actor (actor_of x.event) (actor t))) seats) h in
+    let both = total_same (λ x. f x * (once (same_actor (actor_of x.event) (actor s)) + total
+    (λ t. once (same_actor (actor_of x.event) (actor t))) seats))
+    (λ x. f x * once (same_actor (actor_of x.event) (actor s)) + f x * total
+    (λ t. once (same_actor (actor_of x.event) (actor t))) seats) (λ x. omega arith) h in
     omega (arith, one, rest, add, both)
 
 -- where no step counts twice, and all count as many as there are, each counts once
@@ -98,13 +99,17 @@ at_most_one number n k seats each =
 -- how many seats an actor has
 abbrev holders : List SeatLog → List SeatLog → Actor → ℕ
 holders clients engines a =
-    total (λ s. once (same_actor a (client_of s))) clients + total (λ s. once (same_actor a (engine_of s))) engines + once (same_actor a Admin)
+    total (λ s. once (same_actor a (client_of s))) clients + total (λ s. once (same_actor a (engine_of s))) engines
+    + once (same_actor a Admin)
 
 holders_le : (clients engines : List SeatLog) (c e : ℕ) → HasEach number_of c clients
     → HasEach number_of e engines → (a : Actor) → holders clients engines a ≤ 1
-holders_le clients engines c e each other (Client k) = omega (arith, at_most_one number_of c k clients each, total_zero (λ s. 0) (λ s. refl) engines)
-holders_le clients engines c e each other (Engine k) = omega (arith, at_most_one number_of e k engines other, total_zero (λ s. 0) (λ s. refl) clients)
-holders_le clients engines c e each other Admin = omega (arith, total_zero (λ s. 0) (λ s. refl) clients, total_zero (λ s. 0) (λ s. refl) engines)
+holders_le clients engines c e each other (Client k) =
+    omega (arith, at_most_one number_of c k clients each, total_zero (λ s. 0) (λ s. refl) engines)
+holders_le clients engines c e each other (Engine k) =
+    omega (arith, at_most_one number_of e k engines other, total_zero (λ s. 0) (λ s. refl) clients)
+holders_le clients engines c e each other Admin =
+    omega (arith, total_zero (λ s. 0) (λ s. refl) clients, total_zero (λ s. 0) (λ s. refl) engines)
 
 -- the seats' sums, by recursion
 seats_total : (f : Step → ℕ) (clients engines : List SeatLog) (admin : Option (List Step)) (h : List Step)
@@ -124,12 +129,14 @@ seats_total f clients engines admin h match =
     let admin_is = ap (λ a. option_map_or (sum_by f) a 0) match.admin_receipts ∙ total_is f (steps_of h Admin) in
     let add = total_add (λ x. f x * m x) (λ x. f x * n x) h in
     let all = total_add (λ x. f x * m x + f x * n x) (λ x. f x * o x) h in
-    let spread = total_same (λ x. f x * (m x + n x + o x)) (λ x. f x * m x + f x * n x + f x * o x) (λ x. omega arith) h in
+    let spread = total_same (λ x. f x * (m x + n x + o x)) (λ x. f x * m x + f x * n x + f x * o x)
+    (λ x. omega arith) h in
     omega (arith, one, two, three, clients_is, engines_is, admin_is, add, all, spread)
 
 over_length : (clients engines : List SeatLog) (admin : Option (List Step))
     → over_seats length clients engines admin ≡ over_seats (sum_by (λ (x : Step). 1)) clients engines admin
-over_length clients engines admin = ap (λ (f : List Step → ℕ). over_seats f clients engines admin) (λ i xs. (sym (total_one xs) ∙ sym (total_is (λ x. 1) xs)) i)
+over_length clients engines admin = ap (λ (f : List Step → ℕ). over_seats f clients engines admin)
+    (λ i xs. (sym (total_one xs) ∙ sym (total_is (λ x. 1) xs)) i)
 
 -- the sums over the seats are those of the history
 pub seats_sum : (f : Step → ℕ) (clients engines : List SeatLog) (admin : Option (List Step)) (c e : ℕ) (h : List Step)
@@ -138,7 +145,8 @@ pub seats_sum : (f : Step → ℕ) (clients engines : List SeatLog) (admin : Opt
     → over_seats (sum_by f) clients engines admin ≡ sum_by f h
 seats_sum f clients engines admin c e h complete match all =
     let m = λ (x : Step). holders clients engines (actor_of x.event) in
-    let le = λ (x : Step). holders_le clients engines c e complete.each_client complete.each_engine (actor_of x.event) in
+    let le = λ (x : Step). holders_le clients engines c e complete.each_client complete.each_engine
+    (actor_of x.event) in
     let ones : total m h ≡ length h =
     total_same m (λ x. 1 * m x) (λ x. omega arith) h
     ∙ sym (seats_total (λ x. 1) clients engines admin h match) ∙ sym (over_length clients engines admin) ∙ all in
@@ -163,7 +171,8 @@ below zero number seats each = total_zero _ (λ s. grind (arith, nat_tests)) sea
 below (suc n) number seats each =
     let rest = below n number seats (λ k lt. each k (omega arith)) in
     let here = each n (omega arith) in
-    let split = total_same (λ s. once (ltb (number s) (suc n))) (λ s. once (ltb (number s) n) + once (eqb n (number s))) (λ s. splits (number s) n) seats in
+    let split = total_same (λ s. once (ltb (number s) (suc n)))
+    (λ s. once (ltb (number s) n) + once (eqb n (number s))) (λ s. splits (number s) n) seats in
     omega (arith, split, total_add (λ s. once (ltb (number s) n)) (λ s. once (eqb n (number s))) seats, rest, here)
 
 -- there are as many seats as numbers

@@ -1,10 +1,7 @@
 -- What callers see of a seat.
 use Rattle.std.specs.Prelude.{◌≡◌, ℕ, ◌<◌, List, [], length, slice_index_or}
 use Rattle.dsa_regs.specs.declared.Caps.{Caps}
-use Rattle.dsa_book.specs.declared.event.Event.{Event}
-use Rattle.dsa_book.specs.declared.event.Step.{Step}
-use Rattle.dsa_book.specs.declared.event.Actor.{Actor}
-use Rattle.dsa_book.specs.declared.event.Actor.TheVariants.{Client, Engine}
+use Rattle.dsa_book.specs.declared.event.{Event.{Event}, Step.{Step}, Actor.{Actor, TheVariants.{Client, Engine}}}
 use Rattle.dsa_book.specs.declared.answer.Reply.{Reply}
 use Rattle.dsa_book.specs.Machine.{history_after}
 

@@ -1,12 +1,9 @@
 -- What settling finds.
-use Rattle.std.specs.Prelude.{◌≡◌, ℕ, ◌+◌, ◌<◌, ◌==◌, List, All, count_by, sum_by, Option, Some, IsSome, Contains, ◌⊎◌}
+use Rattle.std.specs.Prelude.{◌≡◌, ℕ, ◌+◌, ◌<◌, ◌==◌, List, All, count_by, sum_by, Option, Some, IsSome, Contains}
+use Rattle.std.specs.Prelude.{◌⊎◌}
 use Rattle.std.specs.Option.{option_map_or, IsSomeAnd}
-use Rattle.dsa_book.specs.declared.event.Step.{Step}
-use Rattle.dsa_book.specs.declared.event.Actor.{Actor}
-use Rattle.dsa_book.specs.declared.event.Actor.TheVariants.{Admin}
-use Rattle.dsa_book.specs.Totals.{steps_of}
-use Rattle.dsa_shared.specs.Compare.{DiffersFirstAt}
-use Rattle.dsa_shared.specs.Seat.{SeatLog, client_of, engine_of, number_of, receipts_of}
+use Rattle.dsa_book.specs.{declared.event.{Step.{Step}, Actor.{Actor, TheVariants.{Admin}}}, Totals.{steps_of}}
+use Rattle.dsa_shared.specs.{Compare.{DiffersFirstAt}, Seat.{SeatLog, client_of, engine_of, number_of, receipts_of}}
 
 -- one seat for each number below n, and no other
 abbrev pub HasEach : {T : Type 0} → (T → ℕ) → ℕ → List T → Type 0
@@ -23,7 +20,8 @@ FirstMismatch {T} number actor receipts h seats i =
     × All (λ t. number t < number s → receipts t ≡ steps_of h (actor t)) seats
 
 -- one seat for each client, for each engine and for the administrator
-pub record IsComplete (clients engines : List SeatLog) (admin : Option (List Step)) (client_count engine_count : ℕ) : Type 0 where
+pub record IsComplete (clients engines : List SeatLog) (admin : Option (List Step))
+    (client_count engine_count : ℕ) : Type 0 where
   pub each_client : HasEach number_of client_count clients
   pub each_engine : HasEach number_of engine_count engines
   pub has_admin : IsSome admin

@@ -142,7 +142,7 @@ fn finish<S: EntryStore, L: Sharing, A: Allocator>(
 
 fn count(history: &[Step], held: u32) -> Totals
     requires { length history.now ≤ 2 ^ 20 }
-    ensures { result ≡ totals_of history.now held_count }
+    ensures { result ≡ totals_of history.now held }
 {
     Totals {
         accepted: accepted_in(history),

@@ -1,13 +1,14 @@
--- Sums over all slots of a store, as its calls change them. How often a cell is used, and how many are held, are such sums.
-use Rattle.std.proofs.Common.{◌≡◌, ℕ, ◌+◌, ◌<◌, Bool, true, not, cond, List, [], ◌∷◌, ◌++◌, drop, length, map, set, refl, sym, ap, ◌∙◌, arith}
-use Rattle.std.specs.List.{filter, count_by, sum_by}
-use Rattle.std.proofs.lemmas.List.Concat.{length-flat_map}
-use Rattle.std.proofs.lemmas.List.Elements.{filter-append}
+-- Sums over all slots of a store, as its calls change them. How often a cell is used, and how many
+-- are held, are such sums.
+use Rattle.std.proofs.Common.{◌≡◌, ℕ, ◌+◌, ◌<◌, Bool, true, not, cond, List, [], ◌∷◌, ◌++◌, drop, length, map, set}
+use Rattle.std.proofs.Common.{refl, sym, ap, ◌∙◌, arith}
+use Rattle.std.proofs.lemmas.List.{Concat.{length-flat_map}, Elements.{filter-append}}
 use Rattle.std.proofs.lemmas.List.Sums.{sum_by-cons, sum_by-append, sum_by_push, sum_by-set}
 use Rattle.std.proofs.lemmas.List.Filters.{sum_by-filter_both}
-use Rattle.dsa_store.specs.declared.entry.Cell.{Cell}
-use Rattle.dsa_store.specs.declared.entry.Entry.{Entry}
-use Rattle.dsa_store.specs.Content.{Slot, Content, is_cell, chain, place_count, use_count, held_count, after_push, without_front, after_unlink, all_held, is_free, only_where}
+use Rattle.std.specs.List.{filter, count_by, sum_by}
+use Rattle.dsa_store.specs.declared.entry.{Cell.{Cell}, Entry.{Entry}}
+use Rattle.dsa_store.specs.Content.{Slot, Content, is_cell, chain, place_count, use_count, held_count, after_push}
+use Rattle.dsa_store.specs.Content.{without_front, after_unlink, all_held, is_free, only_where}
 use Rattle.dsa_store.proofs.Places.{list_any-absent, list_any-present}
 
 -- a sum over all slots goes list by list
@@ -16,17 +17,26 @@ sum-lists f [] = refl
 sum-lists f (l ∷ ls) = omega (arith, sum_by-append f l (all_held ls), sum_by-cons (sum_by f) l ls, sum-lists f ls)
 
 -- another list in place of one
-pub sum-set : (f : Slot → ℕ) (content : Content) (i : ℕ) (l : List Slot) → i < length content → sum_by f (all_held (set content i l)) + sum_by f (chain content i) ≡ sum_by f (all_held content) + sum_by f l
+pub sum-set : (f : Slot → ℕ) (content : Content) (i : ℕ) (l : List Slot) → i < length content
+    → sum_by f (all_held (set content i l)) + sum_by f (chain content i) ≡ sum_by f (all_held content) + sum_by f l
 sum-set f content i l h =
     omega (arith, sum-lists f content, sum-lists f (set content i l), sum_by-set (sum_by f) content i l [] h)
 
 -- ---- the words of the calls
 
-pub sum-pushed : (f : Slot → ℕ) (content : Content) (list : ℕ) (cell : Cell) (e : Entry) → list < length content → sum_by f (all_held (after_push content list cell e)) ≡ sum_by f (all_held content) + f (cell, e)
+pub sum-pushed : (f : Slot → ℕ) (content : Content) (list : ℕ) (cell : Cell) (e : Entry) → list < length content
+    → sum_by f (all_held (after_push content list cell e)) ≡ sum_by f (all_held content) + f (cell, e)
 sum-pushed f content list cell e h =
-    omega (arith, sum-set f content list (chain content list ++ (cell, e) ∷ []) h, sum_by_push f (chain content list) (cell, e))
+    omega (
+      arith,
+      sum-set f content list (chain content list ++ (cell, e) ∷ []) h,
+      sum_by_push f (chain content list)
+          (cell, e),
+    )
 
-pub sum-without_front : (f : Slot → ℕ) (content : Content) (list : ℕ) (s : Slot) (rest : List Slot) → list < length content → chain content list ≡ s ∷ rest → sum_by f (all_held (without_front content list)) + f s ≡ sum_by f (all_held content)
+pub sum-without_front : (f : Slot → ℕ) (content : Content) (list : ℕ) (s : Slot) (rest : List Slot)
+    → list < length content → chain content list ≡ s ∷ rest
+    → sum_by f (all_held (without_front content list)) + f s ≡ sum_by f (all_held content)
 sum-without_front f content list s rest h is =
     let old : sum_by f (chain content list) ≡ sum_by f (s ∷ rest) = ap (sum_by f) is in
     let new : sum_by f (drop 1 (chain content list)) ≡ sum_by f rest = ap (λ (l : List Slot). sum_by f (drop 1 l)) is in
@@ -35,23 +45,29 @@ sum-without_front f content list s rest h is =
 -- ---- a test that each slot passes or not
 
 -- what passes and what does not are all
-pub sum-split : {X : Type 0} (f : X → ℕ) (test : X → Bool) (l : List X) → sum_by f (filter test l) + sum_by f (filter (λ x. not (test x)) l) ≡ sum_by f l
+pub sum-split : {X : Type 0} (f : X → ℕ) (test : X → Bool) (l : List X)
+    → sum_by f (filter test l) + sum_by f (filter (λ x. not (test x)) l) ≡ sum_by f l
 sum-split f test l = sum_by-filter_both test (λ x. not (test x)) (λ x. refl) f l
 
 -- what passes of all, list by list
-pub all_held-filtered : (test : Slot → Bool) (content : Content) → all_held (map (filter test) content) ≡ filter test (all_held content)
+pub all_held-filtered : (test : Slot → Bool) (content : Content)
+    → all_held (map (filter test) content) ≡ filter test (all_held content)
 all_held-filtered test [] = refl
-all_held-filtered test (l ∷ ls) = ap (λ (m : List Slot). filter test l ++ m) (all_held-filtered test ls) ∙ sym (filter-append test l (all_held ls))
+all_held-filtered test (l ∷ ls) = ap (λ (m : List Slot). filter test l ++ m) (all_held-filtered test ls)
+    ∙ sym (filter-append test l (all_held ls))
 
-pub all_held-kept : (test : Entry → Bool) (content : Content) → all_held (only_where test content) ≡ filter (λ s. test s.1) (all_held content)
+pub all_held-kept : (test : Entry → Bool) (content : Content)
+    → all_held (only_where test content) ≡ filter (λ s. test s.1) (all_held content)
 all_held-kept test content = all_held-filtered (λ s. test s.1) content
 
-pub all_held-unlinked : (content : Content) (cell : Cell) → all_held (after_unlink content cell) ≡ filter (λ s. not (is_cell cell s)) (all_held content)
+pub all_held-unlinked : (content : Content) (cell : Cell)
+    → all_held (after_unlink content cell) ≡ filter (λ s. not (is_cell cell s)) (all_held content)
 all_held-unlinked content cell = all_held-filtered (λ s. not (is_cell cell s)) content
 
 -- ---- counts are sums
 
-pub uses-counted : (content : Content) (cell : Cell) → use_count content cell ≡ count_by (is_cell cell) (all_held content)
+pub uses-counted : (content : Content) (cell : Cell)
+    → use_count content cell ≡ count_by (is_cell cell) (all_held content)
 unfolding use_count place_count
 uses-counted content cell = sym (sum-lists (λ s. cond (is_cell cell s) 1 0) content)
 
@@ -63,10 +79,12 @@ count-all_held : (content : Content) (cell : Cell) → place_count cell (all_hel
 unfolding place_count
 count-all_held content cell = sym (uses-counted content cell)
 
-pub is_free-unused : (cells : ℕ) (content : Content) (cell : Cell) → is_free cells content cell ≡ true → (cell.0 < cells) × (use_count content cell ≡ 0)
+pub is_free-unused : (cells : ℕ) (content : Content) (cell : Cell) → is_free cells content cell ≡ true
+    → (cell.0 < cells) × (use_count content cell ≡ 0)
 is_free-unused cells content cell h =
     (grind (arith, h), grind (arith, h, count-all_held content cell, list_any-present cell (all_held content)))
 
-pub unused-is_free : (cells : ℕ) (content : Content) (cell : Cell) → cell.0 < cells → use_count content cell ≡ 0 → is_free cells content cell ≡ true
+pub unused-is_free : (cells : ℕ) (content : Content) (cell : Cell) → cell.0 < cells → use_count content cell ≡ 0
+    → is_free cells content cell ≡ true
 unused-is_free cells content cell below none =
     grind (arith, below, none, count-all_held content cell, list_any-absent cell (all_held content))

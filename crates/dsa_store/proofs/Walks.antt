@@ -1,16 +1,15 @@
 -- A walk along a list, by its front and what follows each cell.
-use Rattle.std.proofs.Common.{◌≡◌, ℕ, zero, suc, ◌<◌, ◌≤◌, true, List, [], ◌∷◌, drop, length, get_or, Option, Some, None, inl, inr, refl, sym, ap, ◌∙◌, arith, drop-cons}
+use Rattle.std.proofs.Common.{◌≡◌, ℕ, zero, suc, ◌<◌, ◌≤◌, true, List, [], ◌∷◌, drop, length, get_or, Option, Some}
+use Rattle.std.proofs.Common.{None, inl, inr, refl, sym, ap, ◌∙◌, arith, drop-cons}
+use Rattle.std.proofs.lemmas.{Iterator.{YieldsList, Consumers.{YieldsList-from_first}}, List.{append-nil}}
 use Rattle.std.specs.Iterator.{YieldsFirst}
-use Rattle.std.proofs.lemmas.Iterator.{YieldsList}
-use Rattle.std.proofs.lemmas.Iterator.Consumers.{YieldsList-from_first}
-use Rattle.std.proofs.lemmas.List.{append-nil}
-use Rattle.dsa_store.specs.declared.entry.Cell.{Cell}
-use Rattle.dsa_store.specs.declared.entry.Entry.{Entry}
-use Rattle.dsa_store.specs.Content.{Slot, Content, is_cell, chain, place_count, use_count, first_cell, entry_of, next_of, StandsAt}
+use Rattle.dsa_store.specs.declared.entry.{Cell.{Cell}, Entry.{Entry}}
+use Rattle.dsa_store.specs.Content.{Slot, Content, is_cell, chain, place_count, use_count, first_cell, entry_of}
+use Rattle.dsa_store.specs.Content.{next_of, StandsAt}
 use Rattle.dsa_store.specs.Walk.{from_cell, slots_from}
-use Rattle.dsa_store.proofs.Places.{count-cons, count-at}
-use Rattle.dsa_store.proofs.Lists.{uses-cons}
-use Rattle.dsa_store.proofs.Finding.{absent-before, absent-after, tail-stands, is_cell-slot, placed, entry_of-at, entry_of-none, next_of-at}
+use Rattle.dsa_store.proofs.{Places.{count-cons, count-at}, Lists.{uses-cons}}
+use Rattle.dsa_store.proofs.Finding.{absent-before, absent-after, tail-stands, is_cell-slot, placed, entry_of-at}
+use Rattle.dsa_store.proofs.Finding.{entry_of-none, next_of-at}
 
 -- a list without the cell has nothing from it on
 from_cell-absent : (cell : Cell) (l : List Slot) → place_count cell l ≡ 0 → from_cell cell l ≡ []

@@ -1,9 +1,8 @@
 -- What a store holds, and what each call leaves (profile).
-use Rattle.std.specs.Prelude.{◌≡◌, ℕ, ◌<◌, ◌≤◌, Bool, not, cond, ◌&&◌, ◌==◌, nat_lt, List, [], ◌∷◌, ◌++◌, map, take, drop, length, slice_set, slice_index_or, Option, Some, None}
-use Rattle.std.specs.List.{filter, find, list_any, flat_map, count_by, sum_by, position}
-use Rattle.std.specs.Option.{option_map}
-use Rattle.dsa_store.specs.declared.entry.Cell.{Cell}
-use Rattle.dsa_store.specs.declared.entry.Entry.{Entry}
+use Rattle.std.specs.Prelude.{◌≡◌, ℕ, ◌<◌, ◌≤◌, Bool, not, cond, ◌&&◌, ◌==◌, nat_lt, List, [], ◌∷◌, ◌++◌, map, take}
+use Rattle.std.specs.Prelude.{drop, length, slice_set, slice_index_or, Option, Some, None}
+use Rattle.std.specs.{List.{filter, find, list_any, flat_map, count_by, sum_by, position}, Option.{option_map}}
+use Rattle.dsa_store.specs.declared.entry.{Cell.{Cell}, Entry.{Entry}}
 
 -- a cell in use, with its entry
 abbrev pub Slot : Type 0
@@ -36,7 +35,8 @@ held_count content = sum_by length content
 -- the entry that the cell holds, if a list names it
 abbrev pub entry_of : Content → Cell → Option Entry
 entry_of [] cell = None
-entry_of (l ∷ ls) cell = cond (list_any (is_cell cell) l) (option_map (λ s. s.1) (find (is_cell cell) l)) (entry_of ls cell)
+entry_of (l ∷ ls) cell = cond (list_any (is_cell cell) l) (option_map (λ s. s.1) (find (is_cell cell) l))
+    (entry_of ls cell)
 
 -- the number of the list that names the cell, if one does
 abbrev pub list_of : Content → Cell → Option ℕ

@@ -1,8 +1,6 @@
 -- What a walk along a list has left.
-use Rattle.std.specs.Prelude.{List, [], ◌∷◌, cond, Option, Some, None}
-use Rattle.std.specs.List.{flat_map}
-use Rattle.dsa_store.specs.declared.entry.Cell.{Cell}
-use Rattle.dsa_store.specs.Content.{Slot, Content, is_cell}
+use Rattle.std.specs.{Prelude.{List, [], ◌∷◌, cond, Option, Some, None}, List.{flat_map}}
+use Rattle.dsa_store.specs.{declared.entry.Cell.{Cell}, Content.{Slot, Content, is_cell}}
 
 -- the slots of a list from that cell on
 abbrev pub from_cell : Cell → List Slot → List Slot

@@ -1,27 +1,29 @@
--- Worked histories of answers: a choice of queues, slots and buffers of an engine, what is stored, and what is of another kind.
+-- Worked histories of answers: a choice of queues, slots and buffers of an engine, what is stored,
+-- and what is of another kind.
 use Rattle.std.specs.Prelude.{ℕ, true, List, [], ◌∷◌, ◌++◌}
 use Rattle.dsa_regs.specs.declared.Fault.TheVariants.{Busy, BadIndex, Locked}
 use Rattle.dsa_regs.specs.declared.Command.TheVariants.{EnableDevice, DrainAll, EnableWq}
-use Rattle.dsa_book.specs.declared.event.Step.{Step}
-use Rattle.dsa_book.specs.declared.event.Portal.TheVariants.{Limited}
-use Rattle.dsa_book.specs.declared.event.Kind.TheVariants.{Enqcmd}
+use Rattle.dsa_regs.specs.{Worked.{shared_queue, dedicated_queue, first_group}, Config.{zero_group}}
+use Rattle.dsa_book.specs.declared.event.{Step.{Step}, Portal.TheVariants.{Limited}, Kind.TheVariants.{Enqcmd}}
 use Rattle.dsa_book.specs.declared.answer.Cause.TheVariants.{AtLimit}
 use Rattle.dsa_book.specs.declared.answer.SubmitAnswer.TheVariants.{Accepted, Retry, Dropped, Full}
 use Rattle.dsa_book.specs.declared.answer.DispatchAnswer.TheVariants.{Taken, Idle, Full}
 use Rattle.dsa_book.specs.declared.answer.FetchAnswer.TheVariants.{Fetched, NoBatch, AllFetched, Full}
-use Rattle.dsa_book.specs.declared.answer.StartAnswer.TheVariants.{Started, FenceWait, NoBuffers, Abandoned, Nothing, Full}
+use Rattle.dsa_book.specs.declared.answer.StartAnswer.TheVariants.{Started, FenceWait, NoBuffers, Abandoned, Nothing}
+use Rattle.dsa_book.specs.declared.answer.StartAnswer.TheVariants.{Full}
 use Rattle.dsa_book.specs.declared.answer.FinishAnswer.TheVariants.{Done, NotReady, Gone, Full}
 use Rattle.dsa_book.specs.declared.answer.IssueAnswer.TheVariants.{Ended, Active, Refused, Full}
 use Rattle.dsa_book.specs.declared.answer.PollAnswer.TheVariants.{Finished, Active, Nothing, Full}
 use Rattle.dsa_book.specs.declared.answer.WriteAnswer.TheVariants.{Written, Refused, Full}
 use Rattle.dsa_book.specs.declared.answer.ClearAnswer.TheVariants.{Cleared, Nothing, Full}
-use Rattle.dsa_regs.specs.Worked.{shared_queue, dedicated_queue, first_group}
-use Rattle.dsa_regs.specs.Config.{zero_group}
-use Rattle.dsa_worked.specs.Setup.{no_op, move, batch, fenced, ticket, written, enqcmd, movdir, dispatched, fetched, started, finished, issued, polled, cleared, queue_written, group_written, configured, enabled}
+use Rattle.dsa_worked.specs.Setup.{no_op, move, batch, fenced, ticket, written, enqcmd, movdir, dispatched, fetched}
+use Rattle.dsa_worked.specs.Setup.{started, finished, issued, polled, cleared, queue_written, group_written}
+use Rattle.dsa_worked.specs.Setup.{configured, enabled}
 
 -- ---- a choice of queues
 
--- on a device of three queues and three engines: two queues with the first engine, one with the second, and none with the third
+-- on a device of three queues and three engines: two queues with the first engine, one with the
+-- second, and none with the third
 abbrev pub two_queues_of_a_group : List Step
 two_queues_of_a_group =
     queue_written 0 shared_queue Written ∷
@@ -68,7 +70,8 @@ slots_are_full =
 
 -- both queues and both engines in one group
 abbrev pub one_group : List Step
-one_group = configured shared_queue dedicated_queue (record first_group { queues = 3; engines = 3 }) zero_group ++ enabled
+one_group = configured shared_queue dedicated_queue (record first_group { queues = 3; engines = 3 }) zero_group
+    ++ enabled
 
 -- there: the buffers that a group may use are those of both engines together
 abbrev pub buffers_of_two_engines : List Step

@@ -1,20 +1,17 @@
 -- Worked histories of batches, fences and read buffers, each after the set-up.
 use Rattle.std.specs.Prelude.{ℕ, List, [], ◌∷◌}
-use Rattle.dsa_regs.specs.declared.Caps.{Caps}
-use Rattle.dsa_regs.specs.declared.GroupConfig.{GroupConfig}
+use Rattle.dsa_regs.specs.declared.{Caps.{Caps}, GroupConfig.{GroupConfig}}
 use Rattle.dsa_regs.specs.declared.Command.TheVariants.{EnableDevice, EnableWq}
-use Rattle.dsa_book.specs.declared.event.Step.{Step}
-use Rattle.dsa_book.specs.declared.event.Portal.TheVariants.{Unlimited}
-use Rattle.dsa_book.specs.declared.event.Kind.TheVariants.{Enqcmd}
+use Rattle.dsa_regs.specs.Worked.{shared_queue}
+use Rattle.dsa_book.specs.declared.event.{Step.{Step}, Portal.TheVariants.{Unlimited}, Kind.TheVariants.{Enqcmd}}
 use Rattle.dsa_book.specs.declared.answer.SubmitAnswer.TheVariants.{Accepted}
 use Rattle.dsa_book.specs.declared.answer.DispatchAnswer.TheVariants.{Taken, Idle}
 use Rattle.dsa_book.specs.declared.answer.FetchAnswer.TheVariants.{Fetched, NoBatch, AllFetched}
 use Rattle.dsa_book.specs.declared.answer.StartAnswer.TheVariants.{Started, FenceWait, NoBuffers, Abandoned, Nothing}
-use Rattle.dsa_book.specs.declared.answer.FinishAnswer.TheVariants.{Done, NotReady}
-use Rattle.dsa_book.specs.declared.answer.IssueAnswer.TheVariants.{Ended}
+use Rattle.dsa_book.specs.declared.answer.{FinishAnswer.TheVariants.{Done, NotReady}, IssueAnswer.TheVariants.{Ended}}
 use Rattle.dsa_book.specs.declared.answer.WriteAnswer.TheVariants.{Written}
-use Rattle.dsa_regs.specs.Worked.{shared_queue}
-use Rattle.dsa_worked.specs.Setup.{no_op, move, batch, fenced, ticket, written, enqcmd, movdir, dispatched, fetched, started, finished, faulted, issued, queue_written, group_written}
+use Rattle.dsa_worked.specs.Setup.{no_op, move, batch, fenced, ticket, written, enqcmd, movdir, dispatched, fetched}
+use Rattle.dsa_worked.specs.Setup.{started, finished, faulted, issued, queue_written, group_written}
 
 -- members start while buffers are to be had, and a group does not go past what it is allowed
 abbrev pub buffers_of_a_batch : List Step
@@ -123,7 +120,17 @@ buffers_of_two_groups =
 
 -- a device with three queues, three groups and three engines
 abbrev pub three_groups : Caps
-three_groups = record { queues = 3; groups = 3; engines = 3; total_size = 12; read_buffers = 16; slots = 2; max_batch_shift = 3; max_xfer_shift = 20 }
+three_groups = record {
+  queues = 3;
+  groups = 3;
+  engines = 3;
+  total_size = 12;
+  read_buffers = 16;
+  slots =
+      2;
+  max_batch_shift = 3;
+  max_xfer_shift = 20;
+}
 
 -- the first of the groups: queue 0 and engine 0
 abbrev one_of_three : GroupConfig

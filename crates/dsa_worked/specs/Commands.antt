@@ -1,25 +1,25 @@
 -- Worked histories of commands and configurations, each after the set-up where it does not say otherwise.
 use Rattle.std.specs.Prelude.{List, [], ◌∷◌, ◌++◌}
-use Rattle.dsa_regs.specs.declared.QueueConfig.{QueueConfig}
-use Rattle.dsa_regs.specs.declared.GroupConfig.{GroupConfig}
+use Rattle.dsa_regs.specs.declared.{QueueConfig.{QueueConfig}, GroupConfig.{GroupConfig}}
 use Rattle.dsa_regs.specs.declared.Fault.{Fault}
-use Rattle.dsa_regs.specs.declared.Fault.TheVariants.{Busy, PriorityZero, PriorityTooLarge, ThresholdZero, ThresholdAboveSize, Locked, WrongState, BadQueue, BadIndex}
-use Rattle.dsa_regs.specs.declared.Command.TheVariants.{EnableDevice, DisableDevice, DrainAll, AbortAll, ResetDevice, EnableWq, DisableWq, DrainWq, AbortWq, ResetWq, DrainPasid, AbortPasid}
-use Rattle.dsa_book.specs.declared.event.Step.{Step}
-use Rattle.dsa_book.specs.declared.event.Portal.TheVariants.{Limited}
-use Rattle.dsa_book.specs.declared.event.Kind.TheVariants.{Enqcmd}
-use Rattle.dsa_book.specs.declared.answer.Cause.TheVariants.{NotEnabled}
-use Rattle.dsa_book.specs.declared.answer.SubmitAnswer.TheVariants.{Accepted, Retry}
+use Rattle.dsa_regs.specs.declared.Fault.TheVariants.{Busy, PriorityZero, PriorityTooLarge, ThresholdZero}
+use Rattle.dsa_regs.specs.declared.Fault.TheVariants.{ThresholdAboveSize, Locked, WrongState, BadQueue, BadIndex}
+use Rattle.dsa_regs.specs.declared.Command.TheVariants.{EnableDevice, DisableDevice, DrainAll, AbortAll, ResetDevice}
+use Rattle.dsa_regs.specs.declared.Command.TheVariants.{EnableWq, DisableWq, DrainWq, AbortWq, ResetWq, DrainPasid}
+use Rattle.dsa_regs.specs.declared.Command.TheVariants.{AbortPasid}
+use Rattle.dsa_regs.specs.Worked.{shared_queue, first_group}
+use Rattle.dsa_book.specs.declared.event.{Step.{Step}, Portal.TheVariants.{Limited}, Kind.TheVariants.{Enqcmd}}
+use Rattle.dsa_book.specs.declared.answer.{Cause.TheVariants.{NotEnabled}, SubmitAnswer.TheVariants.{Accepted, Retry}}
 use Rattle.dsa_book.specs.declared.answer.DispatchAnswer.TheVariants.{Taken}
 use Rattle.dsa_book.specs.declared.answer.FetchAnswer.TheVariants.{Fetched, NoBatch}
-use Rattle.dsa_book.specs.declared.answer.StartAnswer.TheVariants.{Started}
-use Rattle.dsa_book.specs.declared.answer.FinishAnswer.TheVariants.{Done, Gone}
+use Rattle.dsa_book.specs.declared.answer.{StartAnswer.TheVariants.{Started}, FinishAnswer.TheVariants.{Done, Gone}}
 use Rattle.dsa_book.specs.declared.answer.IssueAnswer.TheVariants.{Ended, Active, Refused}
 use Rattle.dsa_book.specs.declared.answer.PollAnswer.TheVariants.{Finished, Active, Nothing}
 use Rattle.dsa_book.specs.declared.answer.WriteAnswer.TheVariants.{Written, Refused}
 use Rattle.dsa_book.specs.declared.answer.ClearAnswer.TheVariants.{Nothing}
-use Rattle.dsa_regs.specs.Worked.{shared_queue, first_group}
-use Rattle.dsa_worked.specs.Setup.{no_op, batch, ticket, written, enqcmd, enqcmd_unlimited, movdir, dispatched, fetched, started, finished, issued, polled, cleared, queue_written, group_written, configured, setup}
+use Rattle.dsa_worked.specs.Setup.{no_op, batch, ticket, written, enqcmd, enqcmd_unlimited, movdir, dispatched}
+use Rattle.dsa_worked.specs.Setup.{fetched, started, finished, issued, polled, cleared, queue_written, group_written}
+use Rattle.dsa_worked.specs.Setup.{configured, setup}
 
 -- a drain of queue 0 waits for what was submitted before it, and for nothing else
 abbrev pub drain_of_a_queue : List Step
@@ -174,4 +174,5 @@ queues_that_are_not_there =
 
 -- not after the set-up: configurations with which Enable Device is refused
 abbrev pub refused_device : QueueConfig → GroupConfig → GroupConfig → Fault → List Step
-refused_device second_queue first second fault = configured shared_queue second_queue first second ++ issued EnableDevice (Refused fault) ∷ []
+refused_device second_queue first second fault =
+    configured shared_queue second_queue first second ++ issued EnableDevice (Refused fault) ∷ []

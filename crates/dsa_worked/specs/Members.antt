@@ -1,15 +1,16 @@
--- Worked histories of batches beside other work: what a batch waits for, what marks it as failed, fences, and the limits of its queue.
+-- Worked histories of batches beside other work: what a batch waits for, what marks it as failed,
+-- fences, and the limits of its queue.
 use Rattle.std.specs.Prelude.{List, [], ◌∷◌, ◌++◌}
 use Rattle.dsa_regs.specs.declared.Command.TheVariants.{AbortAll, AbortWq}
+use Rattle.dsa_regs.specs.Worked.{shared_queue, dedicated_queue, first_group, second_group}
 use Rattle.dsa_book.specs.declared.event.Step.{Step}
 use Rattle.dsa_book.specs.declared.answer.SubmitAnswer.TheVariants.{Accepted}
 use Rattle.dsa_book.specs.declared.answer.DispatchAnswer.TheVariants.{Taken, Idle}
 use Rattle.dsa_book.specs.declared.answer.FetchAnswer.TheVariants.{Fetched, NoBatch, AllFetched}
 use Rattle.dsa_book.specs.declared.answer.StartAnswer.TheVariants.{Started, FenceWait, NoBuffers, Abandoned, Nothing}
-use Rattle.dsa_book.specs.declared.answer.FinishAnswer.TheVariants.{Done, NotReady}
-use Rattle.dsa_book.specs.declared.answer.IssueAnswer.TheVariants.{Ended}
-use Rattle.dsa_regs.specs.Worked.{shared_queue, dedicated_queue, first_group, second_group}
-use Rattle.dsa_worked.specs.Setup.{no_op, drain, move, batch, fenced, ticket, masked, enqcmd, movdir, dispatched, fetched, started, finished, faulted, issued, configured, enabled}
+use Rattle.dsa_book.specs.declared.answer.{FinishAnswer.TheVariants.{Done, NotReady}, IssueAnswer.TheVariants.{Ended}}
+use Rattle.dsa_worked.specs.Setup.{no_op, drain, move, batch, fenced, ticket, masked, enqcmd, movdir, dispatched}
+use Rattle.dsa_worked.specs.Setup.{fetched, started, finished, faulted, issued, configured, enabled}
 
 -- ---- the end of a batch
 
@@ -78,7 +79,8 @@ failures_beside_a_batch =
 
 -- ---- fences
 
--- a batch of five: the first member fails, and the fence of the second abandons it with the two behind it; the fifth is not fetched
+-- a batch of five: the first member fails, and the fence of the second abandons it with the two
+-- behind it; the fifth is not fetched
 abbrev pub three_are_abandoned : List Step
 three_are_abandoned =
     enqcmd (batch 5) (Accepted (ticket 0 0)) ∷
@@ -175,7 +177,11 @@ failure_before_buffers =
 -- the set-up with a first queue whose batches have at most 2 descriptors and whose transfers have at most 4096 bytes
 abbrev pub small_limits : List Step
 small_limits =
-    configured (record shared_queue { max_batch_shift = 1; max_xfer_shift = 12 }) dedicated_queue first_group second_group ++ enabled
+    configured (record shared_queue {
+      max_batch_shift = 1;
+      max_xfer_shift =
+          12;
+    }) dedicated_queue first_group second_group ++ enabled
 
 -- with these limits: transfers and batches of both queues, and a member, whose limits are those of its queue
 abbrev pub limits_of_a_queue : List Step

@@ -1,18 +1,20 @@
 -- Worked histories of phases: which commands may come where, what they do to one queue of two, resets, and writes.
 use Rattle.std.specs.Prelude.{List, [], ◌∷◌}
 use Rattle.dsa_regs.specs.declared.Fault.TheVariants.{Busy, SizeZero, Locked, NoGroup, WrongState, BadQueue, BadIndex}
-use Rattle.dsa_regs.specs.declared.Command.TheVariants.{EnableDevice, DisableDevice, DrainAll, AbortAll, ResetDevice, EnableWq, DisableWq, DrainWq, AbortWq, ResetWq, DrainPasid, AbortPasid}
+use Rattle.dsa_regs.specs.declared.Command.TheVariants.{EnableDevice, DisableDevice, DrainAll, AbortAll, ResetDevice}
+use Rattle.dsa_regs.specs.declared.Command.TheVariants.{EnableWq, DisableWq, DrainWq, AbortWq, ResetWq, DrainPasid}
+use Rattle.dsa_regs.specs.declared.Command.TheVariants.{AbortPasid}
+use Rattle.dsa_regs.specs.Worked.{shared_queue, dedicated_queue, first_group}
 use Rattle.dsa_book.specs.declared.event.Step.{Step}
 use Rattle.dsa_book.specs.declared.answer.Cause.TheVariants.{AtLimit, NotEnabled}
 use Rattle.dsa_book.specs.declared.answer.SubmitAnswer.TheVariants.{Accepted, Dropped}
-use Rattle.dsa_book.specs.declared.answer.DispatchAnswer.TheVariants.{Taken}
-use Rattle.dsa_book.specs.declared.answer.FinishAnswer.TheVariants.{Done}
+use Rattle.dsa_book.specs.declared.answer.{DispatchAnswer.TheVariants.{Taken}, FinishAnswer.TheVariants.{Done}}
 use Rattle.dsa_book.specs.declared.answer.IssueAnswer.TheVariants.{Ended, Active, Refused}
 use Rattle.dsa_book.specs.declared.answer.PollAnswer.TheVariants.{Finished, Active}
 use Rattle.dsa_book.specs.declared.answer.WriteAnswer.TheVariants.{Written, Refused}
 use Rattle.dsa_book.specs.declared.answer.ClearAnswer.TheVariants.{Nothing}
-use Rattle.dsa_regs.specs.Worked.{shared_queue, dedicated_queue, first_group}
-use Rattle.dsa_worked.specs.Setup.{no_op, ticket, masked, enqcmd, movdir, dispatched, finished, issued, polled, cleared, queue_written, group_written}
+use Rattle.dsa_worked.specs.Setup.{no_op, ticket, masked, enqcmd, movdir, dispatched, finished, issued, polled}
+use Rattle.dsa_worked.specs.Setup.{cleared, queue_written, group_written}
 
 -- ---- which commands may come
 
@@ -125,7 +127,8 @@ enable_of_one_queue_of_two =
     issued (DisableWq (masked 3)) (Ended 0) ∷
     issued (EnableWq 1) (Ended 0) ∷ []
 
--- a disable of the device stops the queue that is On, and leaves the one that is Off; what may be written meanwhile and after it
+-- a disable of the device stops the queue that is On, and leaves the one that is Off; what may be
+-- written meanwhile and after it
 abbrev pub disable_with_a_queue_that_is_off : List Step
 disable_with_a_queue_that_is_off =
     enqcmd no_op (Accepted (ticket 0 0)) ∷

@@ -1,41 +1,29 @@
 -- Worked histories: a set-up of two queues, two groups and two engines, and short names for steps.
 use Rattle.std.specs.Prelude.{Bool, ℕ, not, List, [], ◌∷◌, ◌++◌, length, Option, option_map}
-use Rattle.dsa_desc.specs.declared.Descriptor.{Descriptor}
-use Rattle.dsa_desc.specs.declared.Outcome.TheVariants.{Success, PageFault}
-use Rattle.dsa_regs.specs.declared.Phase.{Phase}
-use Rattle.dsa_regs.specs.declared.QueueMask.{QueueMask}
-use Rattle.dsa_regs.specs.declared.QueueConfig.{QueueConfig}
+use Rattle.dsa_desc.specs.declared.{Descriptor.{Descriptor}, Outcome.TheVariants.{Success, PageFault}}
+use Rattle.dsa_regs.specs.declared.{Phase.{Phase}, QueueMask.{QueueMask}, QueueConfig.{QueueConfig}}
 use Rattle.dsa_regs.specs.declared.GroupConfig.{GroupConfig}
-use Rattle.dsa_regs.specs.declared.Command.{Command}
-use Rattle.dsa_regs.specs.declared.Command.TheVariants.{EnableDevice, EnableWq}
+use Rattle.dsa_regs.specs.declared.Command.{Command, TheVariants.{EnableDevice, EnableWq}}
+use Rattle.dsa_regs.specs.Worked.{caps, shared_queue, dedicated_queue, first_group, second_group}
 use Rattle.dsa_store.specs.Content.{Slot, Content, all_held}
-use Rattle.dsa_book.specs.declared.answer.Ticket.{Ticket}
-use Rattle.dsa_book.specs.declared.answer.SubmitAnswer.{SubmitAnswer}
-use Rattle.dsa_book.specs.declared.answer.DispatchAnswer.{DispatchAnswer}
-use Rattle.dsa_book.specs.declared.answer.FetchAnswer.{FetchAnswer}
-use Rattle.dsa_book.specs.declared.answer.StartAnswer.{StartAnswer}
-use Rattle.dsa_book.specs.declared.answer.FinishAnswer.{FinishAnswer}
-use Rattle.dsa_book.specs.declared.answer.IssueAnswer.{IssueAnswer}
-use Rattle.dsa_book.specs.declared.answer.IssueAnswer.TheVariants.{Ended}
-use Rattle.dsa_book.specs.declared.answer.PollAnswer.{PollAnswer}
-use Rattle.dsa_book.specs.declared.answer.WriteAnswer.{WriteAnswer}
-use Rattle.dsa_book.specs.declared.answer.WriteAnswer.TheVariants.{Written}
+use Rattle.dsa_book.specs.declared.answer.{Ticket.{Ticket}, SubmitAnswer.{SubmitAnswer}}
+use Rattle.dsa_book.specs.declared.answer.{DispatchAnswer.{DispatchAnswer}, FetchAnswer.{FetchAnswer}}
+use Rattle.dsa_book.specs.declared.answer.{StartAnswer.{StartAnswer}, FinishAnswer.{FinishAnswer}}
+use Rattle.dsa_book.specs.declared.answer.{IssueAnswer.{IssueAnswer, TheVariants.{Ended}}, PollAnswer.{PollAnswer}}
+use Rattle.dsa_book.specs.declared.answer.WriteAnswer.{WriteAnswer, TheVariants.{Written}}
 use Rattle.dsa_book.specs.declared.answer.ClearAnswer.{ClearAnswer}
 use Rattle.dsa_book.specs.declared.answer.Reply.{Reply}
-use Rattle.dsa_book.specs.declared.answer.Reply.TheVariants.{Submit, Dispatch, Fetch, Start, Finish, Issue, Poll, Write, Clear}
-use Rattle.dsa_book.specs.declared.event.Portal.{Portal}
-use Rattle.dsa_book.specs.declared.event.Portal.TheVariants.{Limited, Unlimited}
-use Rattle.dsa_book.specs.declared.event.Kind.{Kind}
-use Rattle.dsa_book.specs.declared.event.Kind.TheVariants.{Enqcmd, Movdir64b}
+use Rattle.dsa_book.specs.declared.answer.Reply.TheVariants.{Submit, Dispatch, Fetch, Start, Finish, Issue, Poll}
+use Rattle.dsa_book.specs.declared.answer.Reply.TheVariants.{Write, Clear}
+use Rattle.dsa_book.specs.declared.event.Portal.{Portal, TheVariants.{Limited, Unlimited}}
+use Rattle.dsa_book.specs.declared.event.Kind.{Kind, TheVariants.{Enqcmd, Movdir64b}}
 use Rattle.dsa_book.specs.declared.event.Event.{Event}
-use Rattle.dsa_book.specs.declared.event.Event.TheVariants.{Submit, Dispatch, Fetch, Start, Finish, Issue, Poll, WriteQueue, WriteGroup, ClearError}
+use Rattle.dsa_book.specs.declared.event.Event.TheVariants.{Submit, Dispatch, Fetch, Start, Finish, Issue, Poll}
+use Rattle.dsa_book.specs.declared.event.Event.TheVariants.{WriteQueue, WriteGroup, ClearError}
 use Rattle.dsa_book.specs.declared.event.Step.{Step}
-use Rattle.dsa_book.specs.declared.fate.Fate.{Fate}
-use Rattle.dsa_book.specs.declared.fate.FateRow.{FateRow}
-use Rattle.dsa_book.specs.State.{State}
-use Rattle.dsa_book.specs.Machine.{replay, is_run, may_follow, stored_steps}
+use Rattle.dsa_book.specs.declared.fate.{Fate.{Fate}, FateRow.{FateRow}}
+use Rattle.dsa_book.specs.{State.{State}, Machine.{replay, is_run, may_follow, stored_steps}}
 use Rattle.dsa_book.specs.Totals.{total_accepted, total_fetched, total_retried, total_done, total_lost}
-use Rattle.dsa_regs.specs.Worked.{caps, shared_queue, dedicated_queue, first_group, second_group}
 
 -- ---- descriptors, with no flags and a PASID that the submission gives where it is ENQCMD
 

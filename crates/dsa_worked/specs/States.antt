@@ -1,12 +1,11 @@
--- What is seen of the states that worked histories lead to, and entries and rows of which the words of the laws are true or false.
+-- What is seen of the states that worked histories lead to, and entries and rows of which the words
+-- of the laws are true or false.
 use Rattle.std.specs.Prelude.{ℕ, true, false, List, [], ◌∷◌, count_by, Option, Some, None, option_map}
 use Rattle.dsa_regs.specs.Buffers.{covered_count}
 use Rattle.dsa_store.specs.Content.{Slot}
 use Rattle.dsa_book.specs.declared.event.Step.{Step}
-use Rattle.dsa_book.specs.declared.fate.Fate.TheVariants.{Completed, Aborted, Abandoned}
-use Rattle.dsa_book.specs.declared.fate.FateRow.{FateRow}
-use Rattle.dsa_book.specs.State.{Work}
-use Rattle.dsa_book.specs.Work.{in_progress, all_used}
+use Rattle.dsa_book.specs.declared.fate.{Fate.TheVariants.{Completed, Aborted, Abandoned}, FateRow.{FateRow}}
+use Rattle.dsa_book.specs.{State.{Work}, Work.{in_progress, all_used}}
 use Rattle.dsa_laws.specs.Engines.{holds_batch}
 use Rattle.dsa_worked.specs.Setup.{no_op, row, slot, state_after}
 

@@ -1,37 +1,39 @@
 -- Calls that come one after the other, and what they add to the receipts.
-use Rattle.std.proofs.Common.{inl, inr, ◌≡◌, ◌↔◌, ℕ, ◌+◌, ◌<◌, ◌≤◌, List, [], ◌∷◌, ◌++◌, Bool, true, false, not, cond, length, take, get_or, refl, sym, ap, subst, ◌∙◌, append_assoc, append-nil, arith}
+use Rattle.std.proofs.Common.{inl, inr, ◌≡◌, ◌↔◌, ℕ, ◌+◌, ◌<◌, ◌≤◌, List, [], ◌∷◌, ◌++◌, Bool, true, false, not, cond}
+use Rattle.std.proofs.Common.{length, take, get_or, refl, sym, ap, subst, ◌∙◌, append_assoc, append-nil, arith}
 use Rattle.std.proofs.lemmas.Bool.{cases_lt, cases_Bool}
-use Rattle.std.proofs.lemmas.List.{get_or_at, get_or_default, get_or_append_left, take_at, take-append-le, length-append}
-use Rattle.std.proofs.lemmas.List.Elements.{filter-append}
-use Rattle.std.proofs.lemmas.List.Sums.{sum_by-append, sum_by_push, sum_by-le-sum_by, fold-append, length-filter, count_by-le-length}
+use Rattle.std.proofs.lemmas.List.{get_or_at, get_or_default, get_or_append_left, take_at, take-append-le}
+use Rattle.std.proofs.lemmas.List.{length-append, Elements.{filter-append}}
+use Rattle.std.proofs.lemmas.List.Sums.{sum_by-append, sum_by_push, sum_by-le-sum_by, fold-append, length-filter}
+use Rattle.std.proofs.lemmas.List.Sums.{count_by-le-length}
 use Rattle.std.proofs.lemmas.List.Filters.{sum_by-filter_both}
 use Rattle.dsa_regs.specs.declared.Command.{Command}
-use Rattle.dsa_book.specs.declared.event.Event.{Event}
-use Rattle.dsa_book.specs.declared.event.Event.TheVariants.{Poll, Issue}
-use Rattle.dsa_book.specs.declared.event.Step.{Step}
+use Rattle.dsa_book.specs.declared.event.{Event.{Event, TheVariants.{Poll, Issue}}, Step.{Step}}
 use Rattle.dsa_book.specs.declared.answer.SubmitAnswer.TheVariants.{Accepted, Retry, Dropped, Full}
 use Rattle.dsa_book.specs.declared.answer.IssueAnswer.TheVariants.{Ended, Active, Refused, Full}
 use Rattle.dsa_book.specs.declared.answer.PollAnswer.TheVariants.{Finished, Active, Nothing, Full}
 use Rattle.dsa_book.specs.declared.answer.Reply.{Reply}
-use Rattle.dsa_book.specs.declared.answer.Reply.TheVariants.{Submit, Dispatch, Fetch, Start, Finish, Issue, Poll, Write, Clear}
-use Rattle.dsa_book.specs.Machine.{is_stored, history_after, stored_steps}
-use Rattle.dsa_book.specs.Totals.{total_accepted, is_accepted}
-use Rattle.dsa_workers.specs.Calls.{InOrder, is_answer, is_full, goes_on, passed, found_full, waits, submission, NextSubmission, NextCommand}
+use Rattle.dsa_book.specs.declared.answer.Reply.TheVariants.{Submit, Dispatch, Fetch, Start, Finish, Issue, Poll}
+use Rattle.dsa_book.specs.declared.answer.Reply.TheVariants.{Write, Clear}
+use Rattle.dsa_book.specs.{Machine.{is_stored, history_after, stored_steps}, Totals.{total_accepted, is_accepted}}
+use Rattle.dsa_workers.specs.Calls.{InOrder, is_answer, is_full, goes_on, passed, found_full, waits, submission}
+use Rattle.dsa_workers.specs.Calls.{NextSubmission, NextCommand}
 use Rattle.dsa_workers.specs.Workers.{Grows, RunsScript, RunsClient, RunsAdmin}
-use Rattle.dsa_shared.specs.Seat.{SeatLog}
-use Rattle.dsa_workers.specs.declared.scripts.ClientStep.{ClientStep}
-use Rattle.dsa_workers.specs.declared.scripts.Stint.{Stint}
+use Rattle.dsa_workers.specs.declared.scripts.{ClientStep.{ClientStep}, Stint.{Stint}}
 use Rattle.dsa_workers.specs.declared.scripts.WorkerEnd.TheVariants.{ScriptDone, TurnsOut, HistoryFull}
+use Rattle.dsa_shared.specs.Seat.{SeatLog}
 
 -- ---- one more, in order
 
 pub in_order_none : {T : Type 0} (next : List T → T → Type 0) → InOrder next []
 in_order_none next k d lt = absurd (omega arith)
 
-pub in_order_more : {T : Type 0} (next : List T → T → Type 0) (xs : List T) (x : T) → InOrder next xs → next xs x → InOrder next (xs ++ x ∷ [])
+pub in_order_more : {T : Type 0} (next : List T → T → Type 0) (xs : List T) (x : T) → InOrder next xs → next xs x
+    → InOrder next (xs ++ x ∷ [])
 in_order_more {T} next xs x old last k d lt = elim (cases_lt k (length xs)) [
   | inl below ↦
-      subst (λ (before : List T). next before (get_or (xs ++ x ∷ []) k d)) (sym (take-append-le k xs (x ∷ []) (omega arith)))
+      subst (λ (before : List T). next before (get_or (xs ++ x ∷ []) k d))
+      (sym (take-append-le k xs (x ∷ []) (omega arith)))
       (subst (λ (y : T). next (take k xs) y) (sym (get_or_append_left xs (x ∷ []) d k below)) (old k d below))
   | inr past ↦
       let here : length xs ≡ k = let all = length-append xs (x ∷ []) in omega arith in
@@ -41,10 +43,12 @@ in_order_more {T} next xs x old last k d lt = elim (cases_lt k (length xs)) [
 
 -- ---- what one more call changes
 
-pub passed_more : (calls : List Step) (call : Step) → passed (calls ++ call ∷ []) ≡ passed calls + cond (goes_on call.reply) 1 0
+pub passed_more : (calls : List Step) (call : Step)
+    → passed (calls ++ call ∷ []) ≡ passed calls + cond (goes_on call.reply) 1 0
 passed_more calls call = sum_by_push (λ (c : Step). cond (goes_on c.reply) 1 0) calls call
 
-pub found_more : (calls : List Step) (call : Step) → found_full (calls ++ call ∷ []) ≡ found_full calls + cond (is_full call.reply) 1 0
+pub found_more : (calls : List Step) (call : Step)
+    → found_full (calls ++ call ∷ []) ≡ found_full calls + cond (is_full call.reply) 1 0
 found_more calls call = sum_by_push (λ (c : Step). cond (is_full c.reply) 1 0) calls call
 
 pub waits_more : (calls : List Step) (call : Step) → waits (calls ++ call ∷ []) ≡ not (goes_on call.reply)
@@ -59,7 +63,8 @@ moved_by b n at after is moved = omega (arith, count_of b n is, moved)
 one_stored : (call : Step) (b : Bool) → is_stored call.reply ≡ b → stored_steps (call ∷ []) ≡ cond b (call ∷ []) []
 one_stored call b is = ap (λ (z : Bool). cond z (call ∷ []) []) is
 
-pub recorded_more : (old calls : List Step) (call : Step) → history_after (old ++ stored_steps calls) call ≡ old ++ stored_steps (calls ++ call ∷ [])
+pub recorded_more : (old calls : List Step) (call : Step)
+    → history_after (old ++ stored_steps calls) call ≡ old ++ stored_steps (calls ++ call ∷ [])
 recorded_more old calls call =
     let split = filter-append (λ (c : Step). is_stored c.reply) calls (call ∷ []) in
     elim (cases_Bool (is_stored call.reply)) [
@@ -83,7 +88,8 @@ grows_by old new calls is =
     let n = length-filter (λ (c : Step). is_stored c.reply) calls in
     let m = count_by-le-length (λ (c : Step). is_stored c.reply) calls in
     omega arith in
-    let all : length new ≡ length old + length (stored_steps calls) = ap length is ∙ length-append old (stored_steps calls) in
+    let all : length new ≡ length old + length (stored_steps calls) = ap length is
+    ∙ length-append old (stored_steps calls) in
     record {
       prefix = ap (take (length old)) is ∙ take_at old (stored_steps calls) (length old) refl;
       bound = omega arith;
@@ -121,7 +127,8 @@ record Called (next : List Step → Step → Type 0) (old new : List Step) (call
   pub turns : length calls ≡ turn
 
 called : (next : List Step → Step → Type 0) (steps : ℕ) (old mid new : List Step) (turn at : ℕ) (call : Step)
-    → (so : SoFar next steps old mid turn at) → next so.calls call → new ≡ history_after mid call → Called next old new (so.calls ++ call ∷ []) (turn + 1)
+    → (so : SoFar next steps old mid turn at) → next so.calls call → new ≡ history_after mid call
+    → Called next old new (so.calls ++ call ∷ []) (turn + 1)
 called next steps old mid new turn at call so follows is = record {
   receipts = is ∙ ap (λ (z : List Step). history_after z call) so.receipts ∙ recorded_more old so.calls call;
   in_order = in_order_more next so.calls call so.in_order follows;
@@ -153,7 +160,8 @@ full_stays (Clear answer) full = refl
 -- what follows of a worker's calls, however it ended
 ended_so : (next : List Step → Step → Type 0) (steps limit : ℕ) (old new calls : List Step) (stint : Stint)
     → Called next old new calls stint.turns → stint.turns ≤ limit → passed calls ≤ steps
-    → ((stint.ended ≡ ScriptDone) ↔ (passed calls ≡ steps)) → (stint.ended ≡ TurnsOut → stint.turns ≡ limit) → ((stint.ended ≡ HistoryFull) ↔ (0 < found_full calls))
+    → ((stint.ended ≡ ScriptDone) ↔ (passed calls ≡ steps)) → (stint.ended ≡ TurnsOut → stint.turns ≡ limit)
+    → ((stint.ended ≡ HistoryFull) ↔ (0 < found_full calls))
     → RunsScript next steps limit old new stint
 ended_so next steps limit old new calls stint c within short done out full = record {
   calls = calls;
@@ -167,15 +175,20 @@ ended_so next steps limit old new calls stint c within short done out full = rec
   out_of_turns = out;
   full = full;
   grows = subst (λ n. Grows old new n) c.turns (grows_by old new calls c.receipts);
-  enough = λ e. let all = done.0 e in let few = count_by-le-length (λ (call : Step). goes_on call.reply) calls in omega (arith, all, few, c.turns);
+  enough = λ e. let all = done.0 e in let few = count_by-le-length (λ (call : Step). goes_on call.reply) calls in
+      omega (arith, all, few, c.turns);
 }
 
-as_it_is : (next : List Step → Step → Type 0) (steps : ℕ) (old new : List Step) (turn at : ℕ) (so : SoFar next steps old new turn at) → Called next old new so.calls turn
-as_it_is next steps old new turn at so = record { receipts = so.receipts; in_order = so.in_order; stops = so.stops; turns = so.turns }
+as_it_is : (next : List Step → Step → Type 0) (steps : ℕ) (old new : List Step) (turn at : ℕ)
+    (so : SoFar next steps old new turn at) → Called next old new so.calls turn
+as_it_is next steps old new turn at so =
+    record { receipts = so.receipts; in_order = so.in_order; stops = so.stops; turns = so.turns }
 
 -- a call that left room
-pub so_far_more : (next : List Step → Step → Type 0) (steps : ℕ) (old mid new : List Step) (turn at after : ℕ) (call : Step)
-    → (so : SoFar next steps old mid turn at) → next so.calls call → new ≡ history_after mid call → is_full call.reply ≡ false → at < steps
+pub so_far_more : (next : List Step → Step
+    → Type 0) (steps : ℕ) (old mid new : List Step) (turn at after : ℕ) (call : Step)
+    → (so : SoFar next steps old mid turn at) → next so.calls call → new ≡ history_after mid call
+    → is_full call.reply ≡ false → at < steps
     → after ≡ at + cond (goes_on call.reply) 1 0 → SoFar next steps old new (turn + 1) after
 so_far_more next steps old mid new turn at after call so follows is room below next_at =
     let c = called next steps old mid new turn at call so follows is in
@@ -197,12 +210,15 @@ so_far_more next steps old mid new turn at after call so follows is room below n
     at_most_one false = omega arith
 
 -- a call that found the history full
-pub ends_full : (next : List Step → Step → Type 0) (steps limit : ℕ) (old mid new : List Step) (turn at : ℕ) (call : Step)
-    → (so : SoFar next steps old mid turn at) → next so.calls call → new ≡ history_after mid call → is_full call.reply ≡ true → at < steps → turn < limit
+pub ends_full : (next : List Step → Step
+    → Type 0) (steps limit : ℕ) (old mid new : List Step) (turn at : ℕ) (call : Step)
+    → (so : SoFar next steps old mid turn at) → next so.calls call → new ≡ history_after mid call
+    → is_full call.reply ≡ true → at < steps → turn < limit
     → RunsScript next steps limit old new (record { turns = turn + 1; ended = HistoryFull })
 ends_full next steps limit old mid new turn at call so follows is full below within =
     let one : cond {A = ℕ} (is_full call.reply) 1 0 ≡ 1 = count_of (is_full call.reply) true full in
-    let none : cond {A = ℕ} (goes_on call.reply) 1 0 ≡ 0 = count_of (goes_on call.reply) false (full_stays call.reply full) in
+    let none : cond {A = ℕ} (goes_on call.reply) 1 0 ≡ 0 =
+    count_of (goes_on call.reply) false (full_stays call.reply full) in
     let found = found_more so.calls call in
     let through = passed_more so.calls call in
     ended_so next steps limit old new (so.calls ++ call ∷ []) (record { turns = turn + 1; ended = HistoryFull })
@@ -211,20 +227,24 @@ ends_full next steps limit old mid new turn at call so follows is full below wit
     ((λ e. omega (arith, found, so.room)), (λ e. refl))
 
 -- the end of the script
-pub ends_done : (next : List Step → Step → Type 0) (steps limit : ℕ) (old new : List Step) (turn turns at : ℕ) → SoFar next steps old new turn at → turn ≡ turns → steps ≤ at → turns ≤ limit
+pub ends_done : (next : List Step → Step → Type 0) (steps limit : ℕ) (old new : List Step) (turn turns at : ℕ)
+    → SoFar next steps old new turn at → turn ≡ turns → steps ≤ at → turns ≤ limit
     → RunsScript next steps limit old new (record { turns = turns; ended = ScriptDone })
 ends_done next steps limit old new turn turns at so had through within =
     ended_so next steps limit old new so.calls (record { turns = turns; ended = ScriptDone })
-    (subst (λ n. Called next old new so.calls n) had (as_it_is next steps old new turn at so)) within (omega (arith, so.passed, so.short))
+    (subst (λ n. Called next old new so.calls n) had (as_it_is next steps old new turn at so)) within
+    (omega (arith, so.passed, so.short))
     ((λ e. omega (arith, so.passed, so.short)), (λ e. refl)) (λ e. absurd cc)
     ((λ e. absurd cc), (λ e. absurd (omega (arith, so.room, e))))
 
 -- no turn is left
-pub ends_out : (next : List Step → Step → Type 0) (steps limit : ℕ) (old new : List Step) (turn at : ℕ) → SoFar next steps old new turn at → turn ≡ limit → at < steps
+pub ends_out : (next : List Step → Step → Type 0) (steps limit : ℕ) (old new : List Step) (turn at : ℕ)
+    → SoFar next steps old new turn at → turn ≡ limit → at < steps
     → RunsScript next steps limit old new (record { turns = limit; ended = TurnsOut })
 ends_out next steps limit old new turn at so had below =
     ended_so next steps limit old new so.calls (record { turns = limit; ended = TurnsOut })
-    (subst (λ n. Called next old new so.calls n) had (as_it_is next steps old new turn at so)) (omega arith) (omega (arith, so.passed, so.short))
+    (subst (λ n. Called next old new so.calls n) had (as_it_is next steps old new turn at so)) (omega arith)
+    (omega (arith, so.passed, so.short))
     ((λ e. absurd cc), (λ e. absurd (omega (arith, so.passed, e)))) (λ e. refl)
     ((λ e. absurd cc), (λ e. absurd (omega (arith, so.room, e))))
 
@@ -245,25 +265,29 @@ accepted_goes (Write answer) = omega arith
 accepted_goes (Clear answer) = omega arith
 
 -- no more is accepted than the worker is through with
-pub accepts_by : (old new calls : List Step) → new ≡ old ++ stored_steps calls → total_accepted new ≤ total_accepted old + passed calls
+pub accepts_by : (old new calls : List Step) → new ≡ old ++ stored_steps calls
+    → total_accepted new ≤ total_accepted old + passed calls
 accepts_by old new calls is =
     let f = λ (c : Step). cond (is_accepted c.reply) 1 0 in
     let all = ap total_accepted is in
     let parts = sum_by-append f old (stored_steps calls) in
-    let both = sum_by-filter_both (λ (c : Step). is_stored c.reply) (λ (c : Step). not (is_stored c.reply)) (λ x. refl) f calls in
+    let both = sum_by-filter_both (λ (c : Step). is_stored c.reply) (λ (c : Step). not (is_stored c.reply))
+    (λ x. refl) f calls in
     let few = sum_by-le-sum_by f (λ (c : Step). cond (goes_on c.reply) 1 0) calls (λ x. accepted_goes x.reply) in
     omega (arith, all, parts, both, few)
 
 -- ---- clients
 
-pub client_next : (client mine : ℕ) (script : List ClientStep) (at : ℕ) (e : ClientStep) (calls : List Step) → mine ≡ client → passed calls ≡ at → at < length script
+pub client_next : (client mine : ℕ) (script : List ClientStep) (at : ℕ) (e : ClientStep) (calls : List Step)
+    → mine ≡ client → passed calls ≡ at → at < length script
     → (d : ClientStep) → submission mine (get_or script at e) ≡ submission client (get_or script (passed calls) d)
 client_next client mine script at e calls same through below d =
     ap (λ n. submission n (get_or script at e)) same
     ∙ ap (submission client) (get_or_default script at e d below ∙ ap (λ n. get_or script n d) (sym through))
 
 pub client_runs : (script : List ClientStep) (limit : ℕ) (old new : SeatLog) (stint : Stint) → new.number ≡ old.number
-    → RunsScript (NextSubmission old.number script) (length script) limit old.receipts new.receipts stint → RunsClient script limit old new stint
+    → RunsScript (NextSubmission old.number script) (length script) limit old.receipts new.receipts stint
+    → RunsClient script limit old new stint
 client_runs script limit old new stint number runs = record {
   number = number;
   runs = runs;
@@ -281,16 +305,26 @@ pub asks_none : (script : List Command) (old : List Step) → AsksSoFar script o
 unfolding so_far_none
 asks_none script old = record { so_far = so_far_none (NextCommand script) (length script) old; waits = refl }
 
-admin_next : (script : List Command) (at : ℕ) (asks : Bool) (e : Command) (calls : List Step) → waits calls ≡ asks → passed calls ≡ at → at < length script
-    → (d : Command) → cond {A = Event} asks Poll (Issue (get_or script at e)) ≡ cond {A = Event} (waits calls) Poll (Issue (get_or script (passed calls) d))
+admin_next : (script : List Command) (at : ℕ) (asks : Bool) (e : Command) (calls : List Step) → waits calls ≡ asks
+    → passed calls ≡ at → at < length script
+    → (d : Command) → cond {A = Event} asks Poll (Issue (get_or script at e))
+    ≡ cond {A = Event} (waits calls) Poll (Issue (get_or script (passed calls) d))
 admin_next script at asks e calls w through below d =
     ap (λ (b : Bool). cond {A = Event} b Poll (Issue (get_or script at e))) (sym w)
-    ∙ ap (λ (c : Command). cond {A = Event} (waits calls) Poll (Issue c)) (get_or_default script at e d below ∙ ap (λ n. get_or script n d) (sym through))
+    ∙ ap (λ (c : Command). cond {A = Event} (waits calls) Poll (Issue c)) (get_or_default script at e d below
+    ∙ ap (λ n. get_or script n d) (sym through))
 
-pub asks_more : (script : List Command) (old mid new : List Step) (turn at after : ℕ) (asks : Bool) (e : Command) (reply : Reply)
-    → AsksSoFar script old mid turn at asks → is_answer (cond {A = Event} asks Poll (Issue (get_or script at e))) reply ≡ true
-    → new ≡ history_after mid (record { event = cond {A = Event} asks Poll (Issue (get_or script at e)); reply = reply })
-    → is_full reply ≡ false → at < length script → after ≡ at + cond {A = ℕ} (goes_on reply) 1 0 → AsksSoFar script old new (turn + 1) after (not (goes_on reply))
+pub asks_more : (script : List Command) (old mid new : List Step) (turn at after : ℕ) (asks : Bool) (e : Command)
+    (reply : Reply)
+    → AsksSoFar script old mid turn at asks
+    → is_answer (cond {A = Event} asks Poll (Issue (get_or script at e))) reply ≡ true
+    → new ≡ history_after mid (record {
+      event = cond {A = Event} asks Poll (Issue (get_or script at e));
+      reply =
+          reply;
+    })
+    → is_full reply ≡ false → at < length script → after ≡ at + cond {A = ℕ} (goes_on reply) 1 0
+    → AsksSoFar script old new (turn + 1) after (not (goes_on reply))
 unfolding so_far_more
 asks_more script old mid new turn at after asks e reply was answer is room below moved =
     let call : Step = record { event = cond {A = Event} asks Poll (Issue (get_or script at e)); reply = reply } in
@@ -300,10 +334,18 @@ asks_more script old mid new turn at after asks e reply was answer is room below
       waits = waits_more was.so_far.calls call;
     }
 
-pub asks_full : (script : List Command) (limit : ℕ) (old mid new : List Step) (turn at : ℕ) (asks : Bool) (e : Command) (reply : Reply)
-    → AsksSoFar script old mid turn at asks → is_answer (cond {A = Event} asks Poll (Issue (get_or script at e))) reply ≡ true
-    → new ≡ history_after mid (record { event = cond {A = Event} asks Poll (Issue (get_or script at e)); reply = reply })
-    → is_full reply ≡ true → at < length script → turn < limit → RunsAdmin script limit old new (record { turns = turn + 1; ended = HistoryFull })
+pub asks_full : (script : List Command) (limit : ℕ) (old mid new : List Step) (turn at : ℕ) (asks : Bool)
+    (e : Command) (reply : Reply)
+    → AsksSoFar script old mid turn at asks
+    → is_answer (cond {A = Event} asks Poll (Issue (get_or script at e))) reply ≡ true
+    → new ≡ history_after mid (record {
+      event = cond {A = Event} asks Poll (Issue (get_or script at e));
+      reply =
+          reply;
+    })
+    → is_full reply ≡ true → at < length script → turn < limit
+    → RunsAdmin script limit old new (record { turns = turn + 1; ended = HistoryFull })
 asks_full script limit old mid new turn at asks e reply was answer is full below within =
-    ends_full (NextCommand script) (length script) limit old mid new turn at (record { event = cond {A = Event} asks Poll (Issue (get_or script at e)); reply = reply }) was.so_far
+    ends_full (NextCommand script) (length script) limit old mid new turn at
+    (record { event = cond {A = Event} asks Poll (Issue (get_or script at e)); reply = reply }) was.so_far
     (answer, admin_next script at asks e was.so_far.calls was.waits was.so_far.passed below) is full below within

@@ -1,19 +1,15 @@
 -- The turns of an engine's worker, some of which have no call.
-use Rattle.std.proofs.Common.{◌≡◌, ℕ, ◌+◌, ◌<◌, ◌≤◌, List, [], ◌∷◌, ◌++◌, true, false, cond, length, refl, sym, ap, subst, ◌∙◌, append-nil, arith}
-use Rattle.std.specs.Prelude.{Option, Some, None, IfSome, is_some, fold}
-use Rattle.std.specs.Option.{option_map, option_map_or}
-use Rattle.std.proofs.lemmas.List.{length-append}
-use Rattle.std.proofs.lemmas.List.Elements.{filter_map-append}
-use Rattle.std.proofs.lemmas.List.Sums.{fold-append}
-use Rattle.dsa_book.specs.declared.answer.Reply.{Reply}
-use Rattle.dsa_book.specs.declared.answer.Ticket.{Ticket}
-use Rattle.dsa_book.specs.declared.event.Event.{Event}
-use Rattle.dsa_book.specs.declared.event.Step.{Step}
+use Rattle.std.proofs.Common.{◌≡◌, ℕ, ◌+◌, ◌<◌, ◌≤◌, List, [], ◌∷◌, ◌++◌, true, false, cond, length, refl, sym, ap}
+use Rattle.std.proofs.Common.{subst, ◌∙◌, append-nil, arith}
+use Rattle.std.proofs.lemmas.List.{length-append, Elements.{filter_map-append}, Sums.{fold-append}}
+use Rattle.std.specs.{Prelude.{Option, Some, None, IfSome, is_some, fold}, Option.{option_map, option_map_or}}
+use Rattle.dsa_book.specs.declared.{answer.{Reply.{Reply}, Ticket.{Ticket}}, event.{Event.{Event}, Step.{Step}}}
 use Rattle.dsa_book.specs.Machine.{history_after, stored_steps}
 use Rattle.dsa_shared.specs.Seat.{SeatLog}
 use Rattle.dsa_workers.specs.declared.scripts.EngineScript.{EngineScript}
 use Rattle.dsa_workers.specs.declared.scripts.WorkerEnd.TheVariants.{TurnsOut, HistoryFull}
-use Rattle.dsa_workers.specs.Calls.{InOrder, IsAnswered, is_full, found_full, tickets_after, calls_of, tickets_of, engine_event, call_of, after_turn, NextTurn}
+use Rattle.dsa_workers.specs.Calls.{InOrder, IsAnswered, is_full, found_full, tickets_after, calls_of, tickets_of}
+use Rattle.dsa_workers.specs.Calls.{engine_event, call_of, after_turn, NextTurn}
 use Rattle.dsa_workers.specs.Workers.{Grows, RunsEngine}
 use Rattle.dsa_workers.proofs.Calls.{in_order_none, in_order_more, recorded_more, found_more, count_of, grows_by}
 
@@ -32,7 +28,8 @@ pub record TurnsSoFar (script : EngineScript) (old new : SeatLog) (turn : ℕ) (
   pub left : tickets_of turns ≡ tickets
   pub room : found_full (calls_of turns) ≡ 0
 
-pub turns_none : (script : EngineScript) (old : SeatLog) (tickets : List Ticket) → tickets ≡ [] → TurnsSoFar script old old 0 tickets
+pub turns_none : (script : EngineScript) (old : SeatLog) (tickets : List Ticket) → tickets ≡ []
+    → TurnsSoFar script old old 0 tickets
 turns_none script old tickets none = record {
   turns = [];
   did = record {
@@ -48,52 +45,66 @@ turns_none script old tickets none = record {
 
 -- ---- one more turn
 
-calls_more : (turns : List (Option Step)) (turn : Option Step) → calls_of (turns ++ turn ∷ []) ≡ calls_of turns ++ calls_of (turn ∷ [])
+calls_more : (turns : List (Option Step)) (turn : Option Step)
+    → calls_of (turns ++ turn ∷ []) ≡ calls_of turns ++ calls_of (turn ∷ [])
 calls_more turns turn = filter_map-append (λ (t : Option Step). t) turns (turn ∷ [])
 
 -- the receipts after one more turn
-receipts_more : (old : List Step) (mid : SeatLog) (turns : List (Option Step)) (turn : Option Step) → mid.receipts ≡ old ++ stored_steps (calls_of turns)
+receipts_more : (old : List Step) (mid : SeatLog) (turns : List (Option Step)) (turn : Option Step)
+    → mid.receipts ≡ old ++ stored_steps (calls_of turns)
     → (after_turn mid turn).receipts ≡ old ++ stored_steps (calls_of (turns ++ turn ∷ []))
 receipts_more old mid turns None is =
     is ∙ ap (λ (z : List Step). old ++ stored_steps z) (sym (append-nil (calls_of turns)) ∙ sym (calls_more turns None))
 receipts_more old mid turns (Some call) is =
-    ap (λ (z : List Step). history_after z call) is ∙ recorded_more old (calls_of turns) call ∙ ap (λ (z : List Step). old ++ stored_steps z) (sym (calls_more turns (Some call)))
+    ap (λ (z : List Step). history_after z call) is ∙ recorded_more old (calls_of turns) call
+    ∙ ap (λ (z : List Step). old ++ stored_steps z) (sym (calls_more turns (Some call)))
 
 same_number : (mid : SeatLog) (turn : Option Step) → (after_turn mid turn).number ≡ mid.number
 same_number mid None = refl
 same_number mid (Some call) = refl
 
-event_back : (event : Option Event) (reply : Option Reply) → is_some reply ≡ is_some event → option_map (λ (c : Step). c.event) (call_of event reply) ≡ event
+event_back : (event : Option Event) (reply : Option Reply) → is_some reply ≡ is_some event
+    → option_map (λ (c : Step). c.event) (call_of event reply) ≡ event
 event_back None None is = refl
 event_back None (Some reply) is = absurd cc
 event_back (Some event) None is = absurd cc
 event_back (Some event) (Some reply) is = refl
 
-turn_more : (script : EngineScript) (old mid new : SeatLog) (turn : ℕ) (tickets : List Ticket) (reply : Option Reply) → (so : TurnsSoFar script old mid turn tickets)
-    → is_some reply ≡ is_some (engine_event mid.number script turn tickets) → IfSome (call_of (engine_event mid.number script turn tickets) reply) IsAnswered → new ≡ after_turn mid (call_of (engine_event mid.number script turn tickets) reply)
+turn_more : (script : EngineScript) (old mid new : SeatLog) (turn : ℕ) (tickets : List Ticket) (reply : Option Reply)
+    → (so : TurnsSoFar script old mid turn tickets)
+    → is_some reply ≡ is_some (engine_event mid.number script turn tickets)
+    → IfSome (call_of (engine_event mid.number script turn tickets) reply) IsAnswered
+    → new ≡ after_turn mid (call_of (engine_event mid.number script turn tickets) reply)
     → Turns script old new (so.turns ++ call_of (engine_event mid.number script turn tickets) reply ∷ [])
 turn_more script old mid new turn tickets reply so called answer is =
     let event = engine_event mid.number script turn tickets in
     let one = call_of event reply in
     let here : event ≡ engine_event old.number script (length so.turns) (tickets_of so.turns) =
-    ap (λ n. engine_event n script turn tickets) so.did.number ∙ ap (λ n. engine_event old.number script n tickets) (sym so.count)
+    ap (λ n. engine_event n script turn tickets) so.did.number
+    ∙ ap (λ n. engine_event old.number script n tickets) (sym so.count)
     ∙ ap (λ (ts : List Ticket). engine_event old.number script (length so.turns) ts) (sym so.left) in
     record {
       number = ap (λ (s : SeatLog). s.number) is ∙ same_number mid one ∙ so.did.number;
       receipts = ap (λ (s : SeatLog). s.receipts) is ∙ receipts_more old.receipts mid so.turns one so.did.receipts;
-      in_order = in_order_more (NextTurn old.number script) so.turns one so.did.in_order (answer, event_back event reply called ∙ here);
+      in_order = in_order_more (NextTurn old.number script) so.turns one so.did.in_order
+          (answer, event_back event reply called ∙ here);
       stops = in_order_more (λ before t. found_full (calls_of before) ≡ 0) so.turns one so.did.stops so.room;
     }
 
 -- ---- what a reply leaves
 
-tickets_more : (turns : List (Option Step)) (turn : Option Step) → tickets_of (turns ++ turn ∷ []) ≡ option_map_or (λ c. tickets_after (tickets_of turns) c.reply) turn (tickets_of turns)
-tickets_more turns None = ap (fold (λ (ts : List Ticket) (c : Step). tickets_after ts c.reply) []) (calls_more turns None ∙ append-nil (calls_of turns))
+tickets_more : (turns : List (Option Step)) (turn : Option Step)
+    → tickets_of (turns ++ turn ∷ []) ≡ option_map_or
+    (λ c. tickets_after (tickets_of turns) c.reply) turn (tickets_of turns)
+tickets_more turns None = ap (fold (λ (ts : List Ticket) (c : Step). tickets_after ts c.reply) [])
+    (calls_more turns None ∙ append-nil (calls_of turns))
 tickets_more turns (Some call) =
     ap (fold (λ (ts : List Ticket) (c : Step). tickets_after ts c.reply) []) (calls_more turns (Some call))
     ∙ fold-append (λ (ts : List Ticket) (c : Step). tickets_after ts c.reply) [] (calls_of turns) (call ∷ [])
 
-full_more : (turns : List (Option Step)) (call : Step) → found_full (calls_of (turns ++ Some call ∷ [])) ≡ found_full (calls_of turns) + cond {A = ℕ} (is_full call.reply) 1 0
+full_more : (turns : List (Option Step)) (call : Step)
+    → found_full (calls_of (turns ++ Some call ∷ []))
+    ≡ found_full (calls_of turns) + cond {A = ℕ} (is_full call.reply) 1 0
 full_more turns call = ap found_full (calls_more turns (Some call)) ∙ found_more (calls_of turns) call
 
 calls-le : (turns : List (Option Step)) → length (calls_of turns) ≤ length turns
@@ -101,17 +112,22 @@ calls-le [] = omega arith
 calls-le (None ∷ turns) = omega (arith, calls-le turns)
 calls-le (Some call ∷ turns) = omega (arith, calls-le turns)
 
-turns_grow : (old new : List Step) (turns : List (Option Step)) (n : ℕ) → new ≡ old ++ stored_steps (calls_of turns) → length turns ≡ n → Grows old new n
+turns_grow : (old new : List Step) (turns : List (Option Step)) (n : ℕ) → new ≡ old ++ stored_steps (calls_of turns)
+    → length turns ≡ n → Grows old new n
 turns_grow old new turns n is count =
     let g = grows_by old new (calls_of turns) is in
     record { prefix = g.prefix; bound = omega (arith, g.bound, calls-le turns, count) }
 
 -- a turn without a call
-pub turns_quiet : (script : EngineScript) (old mid new : SeatLog) (turn : ℕ) (tickets : List Ticket) → TurnsSoFar script old mid turn tickets
-    → false ≡ is_some (engine_event mid.number script turn tickets) → IfSome (call_of (engine_event mid.number script turn tickets) None) IsAnswered
+pub turns_quiet : (script : EngineScript) (old mid new : SeatLog) (turn : ℕ) (tickets : List Ticket)
+    → TurnsSoFar script old mid turn tickets
+    → false ≡ is_some (engine_event mid.number script turn tickets)
+    → IfSome (call_of (engine_event mid.number script turn tickets) None) IsAnswered
     → new ≡ after_turn mid (call_of (engine_event mid.number script turn tickets) None)
     → TurnsSoFar script old new (turn + 1) tickets
-turns_quiet script old mid new turn tickets so called answer is = go (engine_event mid.number script turn tickets) (turn_more script old mid new turn tickets None so called answer is)
+turns_quiet script old mid new turn tickets so called answer is =
+    go (engine_event mid.number script turn tickets)
+    (turn_more script old mid new turn tickets None so called answer is)
   where
     quiet : Turns script old new (so.turns ++ None ∷ []) → TurnsSoFar script old new (turn + 1) tickets
     quiet did = record {
@@ -122,41 +138,53 @@ turns_quiet script old mid new turn tickets so called answer is = go (engine_eve
       room = ap found_full (calls_more so.turns None ∙ append-nil (calls_of so.turns)) ∙ so.room;
     }
 
-    go : (event : Option Event) → Turns script old new (so.turns ++ call_of event None ∷ []) → TurnsSoFar script old new (turn + 1) tickets
+    go : (event : Option Event) → Turns script old new (so.turns ++ call_of event None ∷ [])
+        → TurnsSoFar script old new (turn + 1) tickets
     go None did = quiet did
     go (Some event) did = quiet did
 
 -- the call of a turn that has one
-called_by : (event : Option Event) (reply : Reply) → is_some (Some reply) ≡ is_some event → (call : Step) × (call_of event (Some reply) ≡ Some call) × (call.reply ≡ reply)
+called_by : (event : Option Event) (reply : Reply) → is_some (Some reply) ≡ is_some event
+    → (call : Step) × (call_of event (Some reply) ≡ Some call) × (call.reply ≡ reply)
 called_by None reply is = absurd cc
 called_by (Some event) reply is = (record { event = event; reply = reply }, refl, refl)
 
 -- a turn with a call that left room
-pub turns_more : (script : EngineScript) (old mid new : SeatLog) (turn : ℕ) (tickets : List Ticket) (reply : Reply) → TurnsSoFar script old mid turn tickets
-    → is_some (Some reply) ≡ is_some (engine_event mid.number script turn tickets) → IfSome (call_of (engine_event mid.number script turn tickets) (Some reply)) IsAnswered
+pub turns_more : (script : EngineScript) (old mid new : SeatLog) (turn : ℕ) (tickets : List Ticket) (reply : Reply)
+    → TurnsSoFar script old mid turn tickets
+    → is_some (Some reply) ≡ is_some (engine_event mid.number script turn tickets)
+    → IfSome (call_of (engine_event mid.number script turn tickets) (Some reply)) IsAnswered
     → new ≡ after_turn mid (call_of (engine_event mid.number script turn tickets) (Some reply))
     → is_full reply ≡ false → TurnsSoFar script old new (turn + 1) (tickets_after tickets reply)
 turns_more script old mid new turn tickets reply so called answer is room =
     let (call, was, said) = called_by (engine_event mid.number script turn tickets) reply called in
-    let none : cond {A = ℕ} (is_full call.reply) 1 0 ≡ 0 = count_of (is_full call.reply) false (ap is_full said ∙ room) in
+    let none : cond {A = ℕ} (is_full call.reply) 1 0 ≡ 0 =
+    count_of (is_full call.reply) false (ap is_full said ∙ room) in
     record {
       turns = so.turns ++ Some call ∷ [];
-      did = subst (λ (t : Option Step). Turns script old new (so.turns ++ t ∷ [])) was (turn_more script old mid new turn tickets (Some reply) so called answer is);
+      did = subst (λ (t : Option Step). Turns script old new (so.turns ++ t ∷ [])) was
+          (turn_more script old mid new turn tickets (Some reply) so called answer is);
       count = omega (arith, length-append so.turns (Some call ∷ []), so.count);
-      left = tickets_more so.turns (Some call) ∙ ap (λ (ts : List Ticket). tickets_after ts call.reply) so.left ∙ ap (tickets_after tickets) said;
+      left = tickets_more so.turns (Some call) ∙ ap (λ (ts : List Ticket). tickets_after ts call.reply) so.left
+          ∙ ap (tickets_after tickets) said;
       room = omega (arith, full_more so.turns call, so.room, none);
     }
 
 -- a turn with a call that found the history full
-pub turns_full : (script : EngineScript) (limit : ℕ) (old mid new : SeatLog) (turn : ℕ) (tickets : List Ticket) (reply : Reply) → TurnsSoFar script old mid turn tickets
-    → is_some (Some reply) ≡ is_some (engine_event mid.number script turn tickets) → IfSome (call_of (engine_event mid.number script turn tickets) (Some reply)) IsAnswered
+pub turns_full : (script : EngineScript) (limit : ℕ) (old mid new : SeatLog) (turn : ℕ) (tickets : List Ticket)
+    (reply : Reply) → TurnsSoFar script old mid turn tickets
+    → is_some (Some reply) ≡ is_some (engine_event mid.number script turn tickets)
+    → IfSome (call_of (engine_event mid.number script turn tickets) (Some reply)) IsAnswered
     → new ≡ after_turn mid (call_of (engine_event mid.number script turn tickets) (Some reply))
-    → is_full reply ≡ true → turn < limit → RunsEngine script limit old new (record { turns = turn + 1; ended = HistoryFull })
+    → is_full reply ≡ true → turn < limit
+    → RunsEngine script limit old new (record { turns = turn + 1; ended = HistoryFull })
 turns_full script limit old mid new turn tickets reply so called answer is full within =
     let (call, was, said) = called_by (engine_event mid.number script turn tickets) reply called in
     let one : cond {A = ℕ} (is_full call.reply) 1 0 ≡ 1 = count_of (is_full call.reply) true (ap is_full said ∙ full) in
-    let did = subst (λ (t : Option Step). Turns script old new (so.turns ++ t ∷ [])) was (turn_more script old mid new turn tickets (Some reply) so called answer is) in
-    let count : length (so.turns ++ Some call ∷ []) ≡ turn + 1 = omega (arith, length-append so.turns (Some call ∷ []), so.count) in
+    let did = subst (λ (t : Option Step). Turns script old new (so.turns ++ t ∷ [])) was
+    (turn_more script old mid new turn tickets (Some reply) so called answer is) in
+    let count : length (so.turns ++ Some call ∷ []) ≡ turn + 1 =
+    omega (arith, length-append so.turns (Some call ∷ []), so.count) in
     record {
       turns = so.turns ++ Some call ∷ [];
       number = did.number;
@@ -172,7 +200,8 @@ turns_full script limit old mid new turn tickets reply so called answer is full 
     }
 
 -- no turn is left
-pub turns_out : (script : EngineScript) (limit : ℕ) (old new : SeatLog) (turn : ℕ) (tickets : List Ticket) → TurnsSoFar script old new turn tickets → turn ≡ limit
+pub turns_out : (script : EngineScript) (limit : ℕ) (old new : SeatLog) (turn : ℕ) (tickets : List Ticket)
+    → TurnsSoFar script old new turn tickets → turn ≡ limit
     → RunsEngine script limit old new (record { turns = limit; ended = TurnsOut })
 turns_out script limit old new turn tickets so had = record {
   turns = so.turns;

@@ -1,25 +1,24 @@
 -- What the next call of each worker is, after those that it has made.
-use Rattle.std.specs.Prelude.{◌≡◌, ℕ, ◌<◌, Bool, true, false, not, cond, ◌≤◌, ◌%◌, ◌==◌, ◌++◌, List, [], ◌∷◌, length, take, drop, fold, filter_map, count_by, Option, Some, None, IfSome, slice_get, slice_index_or}
+use Rattle.std.specs.Prelude.{◌≡◌, ℕ, ◌<◌, Bool, true, false, not, cond, ◌≤◌, ◌%◌, ◌==◌, ◌++◌, List, [], ◌∷◌, length}
+use Rattle.std.specs.Prelude.{take, drop, fold, filter_map, count_by, Option, Some, None, IfSome, slice_get}
+use Rattle.std.specs.Prelude.{slice_index_or}
 use Rattle.std.specs.Option.{option_map, option_map_or}
 use Rattle.dsa_desc.specs.Descriptor.{read}
 use Rattle.dsa_regs.specs.declared.Command.{Command}
 use Rattle.dsa_book.specs.declared.answer.Cause.TheVariants.{NotEnabled, WrongKind}
 use Rattle.dsa_book.specs.declared.answer.SubmitAnswer.TheVariants.{Accepted, Retry, Dropped, Full}
-use Rattle.dsa_book.specs.declared.answer.DispatchAnswer.TheVariants.{Taken, Full}
-use Rattle.dsa_book.specs.declared.answer.FetchAnswer.TheVariants.{Full}
+use Rattle.dsa_book.specs.declared.answer.{DispatchAnswer.TheVariants.{Taken, Full}, FetchAnswer.TheVariants.{Full}}
 use Rattle.dsa_book.specs.declared.answer.StartAnswer.TheVariants.{Started, Full}
 use Rattle.dsa_book.specs.declared.answer.FinishAnswer.TheVariants.{Done, NotReady, Gone, Full}
 use Rattle.dsa_book.specs.declared.answer.IssueAnswer.TheVariants.{Ended, Refused, Full}
-use Rattle.dsa_book.specs.declared.answer.PollAnswer.TheVariants.{Finished, Full}
-use Rattle.dsa_book.specs.declared.answer.Ticket.{Ticket}
+use Rattle.dsa_book.specs.declared.answer.{PollAnswer.TheVariants.{Finished, Full}, Ticket.{Ticket}}
 use Rattle.dsa_book.specs.declared.answer.Reply.{Reply}
 use Rattle.dsa_book.specs.declared.answer.Reply.TheVariants.{Submit, Dispatch, Fetch, Start, Finish, Issue, Poll}
 use Rattle.dsa_book.specs.declared.event.Event.{Event}
 use Rattle.dsa_book.specs.declared.event.Event.TheVariants.{Submit, Dispatch, Fetch, Start, Finish, Issue, Poll}
 use Rattle.dsa_book.specs.declared.event.Step.{Step}
 use Rattle.dsa_shared.specs.Seat.{SeatLog, noted}
-use Rattle.dsa_workers.specs.declared.scripts.ClientStep.{ClientStep}
-use Rattle.dsa_workers.specs.declared.scripts.EngineScript.{EngineScript}
+use Rattle.dsa_workers.specs.declared.scripts.{ClientStep.{ClientStep}, EngineScript.{EngineScript}}
 
 -- each of these is what may come after those before it
 abbrev pub InOrder : {T : Type 0} → (List T → T → Type 0) → List T → Type 0
@@ -80,12 +79,14 @@ submission client step = Submit client step.queue step.portal step.kind (read st
 
 -- a client submits the first step of its script that it is not through with
 abbrev pub NextSubmission : ℕ → List ClientStep → List Step → Step → Type 0
-NextSubmission client script calls call = IsAnswered call × ((d : ClientStep) → call.event ≡ submission client (slice_index_or script (passed calls) d))
+NextSubmission client script calls call =
+    IsAnswered call × ((d : ClientStep) → call.event ≡ submission client (slice_index_or script (passed calls) d))
 
 -- the administrator asks after a command that waits, and else issues the first one that it is not
 -- through with
 abbrev pub NextCommand : List Command → List Step → Step → Type 0
-NextCommand script calls call = IsAnswered call × ((d : Command) → call.event ≡ cond (waits calls) Poll (Issue (slice_index_or script (passed calls) d)))
+NextCommand script calls call = IsAnswered call
+    × ((d : Command) → call.event ≡ cond (waits calls) Poll (Issue (slice_index_or script (passed calls) d)))
 
 -- the tickets of an engine's worker, oldest first, and the room for more
 pub record Pending : Type 0 where
@@ -134,4 +135,5 @@ after_turn seat turn = option_map_or (λ call. noted seat call.event call.reply)
 
 -- the turn of an engine's worker after those before it
 abbrev pub NextTurn : ℕ → EngineScript → List (Option Step) → Option Step → Type 0
-NextTurn engine script turns turn = IfSome turn IsAnswered × (option_map (λ call. call.event) turn ≡ engine_event engine script (length turns) (tickets_of turns))
+NextTurn engine script turns turn = IfSome turn IsAnswered
+    × (option_map (λ call. call.event) turn ≡ engine_event engine script (length turns) (tickets_of turns))

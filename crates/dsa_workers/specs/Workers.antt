@@ -1,14 +1,11 @@
 -- What workers do to the seats that they are lent.
-use Rattle.std.specs.Prelude.{◌≡◌, ◌≢◌, ◌↔◌, ℕ, ◌+◌, ◌<◌, ◌≤◌, ◌++◌, List, [], length, take, Option, IsSome, slice_index_or}
+use Rattle.std.specs.Prelude.{◌≡◌, ◌≢◌, ◌↔◌, ℕ, ◌+◌, ◌<◌, ◌≤◌, ◌++◌, List, [], length, take, Option, IsSome}
+use Rattle.std.specs.Prelude.{slice_index_or}
 use Rattle.std.specs.Option.{option_map_or}
 use Rattle.dsa_regs.specs.declared.Command.{Command}
-use Rattle.dsa_book.specs.declared.event.Step.{Step}
-use Rattle.dsa_book.specs.Machine.{stored_steps}
-use Rattle.dsa_book.specs.Totals.{total_accepted}
+use Rattle.dsa_book.specs.{declared.event.Step.{Step}, Machine.{stored_steps}, Totals.{total_accepted}}
 use Rattle.dsa_shared.specs.Seat.{SeatLog}
-use Rattle.dsa_workers.specs.declared.scripts.ClientStep.{ClientStep}
-use Rattle.dsa_workers.specs.declared.scripts.EngineScript.{EngineScript}
-use Rattle.dsa_workers.specs.declared.scripts.Stint.{Stint}
+use Rattle.dsa_workers.specs.declared.scripts.{ClientStep.{ClientStep}, EngineScript.{EngineScript}, Stint.{Stint}}
 use Rattle.dsa_workers.specs.declared.scripts.WorkerEnd.TheVariants.{ScriptDone, TurnsOut, HistoryFull}
 use Rattle.dsa_workers.specs.declared.scripts.RunReport.{RunReport}
 use Rattle.dsa_workers.specs.Calls.{InOrder, passed, found_full, NextSubmission, NextCommand, NextTurn, calls_of}
@@ -20,7 +17,8 @@ pub record Grows (old new : List Step) (most : ℕ) : Type 0 where
 
 -- what a worker with a script of so many steps does in at most `limit` turns:
 -- one call a turn, of which the history kept some
-pub record RunsScript (next : List Step → Step → Type 0) (steps limit : ℕ) (old new : List Step) (stint : Stint) : Type 0 where
+pub record RunsScript (next : List Step → Step
+    → Type 0) (steps limit : ℕ) (old new : List Step) (stint : Stint) : Type 0 where
   pub calls : List Step
   pub receipts : new ≡ old ++ stored_steps calls
   pub in_order : InOrder next calls
@@ -66,7 +64,11 @@ pub record IsFitting (clients engines client_scripts engine_scripts : ℕ) (admi
 
 -- what the report says of a worker
 abbrev pub stint_at : {A : Type 0} → RunReport A → ℕ → Stint
-stint_at report worker = record { turns = slice_index_or report.turns.items worker 0; ended = slice_index_or report.ended.items worker TurnsOut }
+stint_at report worker = record {
+  turns = slice_index_or report.turns.items worker 0;
+  ended =
+      slice_index_or report.ended.items worker TurnsOut;
+}
 
 -- the receipts of the administrator's seat
 abbrev pub receipts_in : Option (List Step) → List Step

@@ -1,6 +1,8 @@
 -- What both methods do with a `&Refusing<B>`: they take it apart on the way in, and have nothing left on the way out.
 -- Assumes `Logic`.
-use Rattle.std.proofs.Common.{ℕ, ◌+◌, [], ◌∷◌, Bor}
+use Rattle.dsa_shared_tests.specs.contracts.refusing.Meter as meter
+use Rattle.dsa_shared_tests.specs.contracts.refusing.Refusing as refusing
+use Rattle.std.proofs.{Common.{ℕ, ◌+◌, [], ◌∷◌, Bor}, alloc.Calls.{Al, α, seen}}
 use Prim.Native.Nat.{zero, suc}
 use seplogic.Ra.Ura.{Ura}
 use base.Logic.{SProp, ent, emp, sep, id⊢}
@@ -17,9 +19,6 @@ use denote.Memory.{hidden_shr}
 use denote.Builtin.{RefOf}
 use denote.Signature.{Slot, plain}
 use denote.Steps.{nothing}
-use Rattle.std.proofs.alloc.Calls.{Al, α, seen}
-use Rattle.dsa_shared_tests.specs.contracts.refusing.Meter as meter
-use Rattle.dsa_shared_tests.specs.contracts.refusing.Refusing as refusing
 
 -- what is left of so many parameters
 abbrev pub spent : ℕ → Fml

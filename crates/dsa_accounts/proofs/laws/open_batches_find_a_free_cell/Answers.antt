@@ -1,8 +1,7 @@
+use Rattle.dsa_accounts.proofs.laws.open_batches_find_a_free_cell.Goals as goal
 use Rattle.dsa_laws.proofs.Histories.{replay-well_formed}
 use Rattle.dsa_regs.specs.Caps.{cell_count}
-use Rattle.dsa_accounts.proofs.UnusedCells.{free-cell}
-use Rattle.dsa_accounts.proofs.FreeCells.{fetching-room}
-use Rattle.dsa_accounts.proofs.laws.open_batches_find_a_free_cell.Goals as goal
+use Rattle.dsa_accounts.proofs.{UnusedCells.{free-cell}, FreeCells.{fetching-room}}
 
 pub returns-clause-room : goal.returns-clause-room
 returns-clause-room c = λ caps h s e note r. fetching-room caps s e note (replay-well_formed caps h s r)

@@ -1,9 +1,7 @@
-use Rattle.std.proofs.Common.{rules}
-use Rattle.std.proofs.lemmas.Iterator.Search.{any_from_yields_List}
-use Rattle.dsa_store.specs.Content.{Slot}
-use Rattle.dsa_store.proofs.Walks.{walked}
-use Rattle.dsa_admin.specs.Admin.{is_waited_for}
 use Rattle.dsa_admin.proofs.ends.is_awaited_in.Goals as goal
+use Rattle.std.proofs.{Common.{rules}, lemmas.Iterator.Search.{any_from_yields_List}}
+use Rattle.dsa_store.{specs.Content.{Slot}, proofs.Walks.{walked}}
+use Rattle.dsa_admin.specs.Admin.{is_waited_for}
 use borrow.Author.Tests.{tests}
 
 pub returns : goal.returns

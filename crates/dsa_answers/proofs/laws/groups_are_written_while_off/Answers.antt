@@ -1,5 +1,5 @@
-use Rattle.dsa_answers.proofs.Writes.{group-written, group-nothing_else, group-no_other}
 use Rattle.dsa_answers.proofs.laws.groups_are_written_while_off.Goals as goal
+use Rattle.dsa_answers.proofs.Writes.{group-written, group-nothing_else, group-no_other}
 
 pub returns-clause-written : goal.returns-clause-written
 returns-clause-written c = group-written

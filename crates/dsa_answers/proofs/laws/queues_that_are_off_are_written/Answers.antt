@@ -1,5 +1,5 @@
-use Rattle.dsa_answers.proofs.Writes.{queue-written, queue-nothing_else, queue-no_other}
 use Rattle.dsa_answers.proofs.laws.queues_that_are_off_are_written.Goals as goal
+use Rattle.dsa_answers.proofs.Writes.{queue-written, queue-nothing_else, queue-no_other}
 
 pub returns-clause-written : goal.returns-clause-written
 returns-clause-written c = queue-written

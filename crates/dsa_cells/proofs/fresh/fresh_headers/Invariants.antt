@@ -1,7 +1,6 @@
-use Rattle.std.proofs.Common.{◌≡◌, ◌+◌, ◌≤◌, replicate}
-use Rattle.std.specs.Vec.{vec_capacity}
-use Rattle.dsa_cells.specs.Array.{no_header}
 use Rattle.dsa_cells.proofs.fresh.fresh_headers.Given as goal
+use Rattle.std.{proofs.Common.{◌≡◌, ◌+◌, ◌≤◌, replicate}, specs.Vec.{vec_capacity}}
+use Rattle.dsa_cells.specs.Array.{no_header}
 
 abbrev pub invariant-loop : goal.invariant-loop
 invariant-loop g l = record {

@@ -1,7 +1,6 @@
-use Rattle.std.proofs.Common.{◌≤◌}
-use Rattle.std.specs.Vec.{vec_capacity}
-use Rattle.dsa_cells.specs.Fresh.{AreFresh}
 use Rattle.dsa_cells.proofs.fresh.fresh_nodes.Given as goal
+use Rattle.std.{proofs.Common.{◌≤◌}, specs.Vec.{vec_capacity}}
+use Rattle.dsa_cells.specs.Fresh.{AreFresh}
 
 abbrev pub invariant-loop-cell : goal.invariant-loop-cell
 invariant-loop-cell g l = record {

@@ -1,6 +1,5 @@
-use Rattle.dsa_cells.proofs.Splicing.{mark-some, mark-none}
 use Rattle.dsa_cells.proofs.links.mark.Goals as goal
-use Rattle.dsa_cells.proofs.links.mark.Goals.{in-Some, in_default}
+use Rattle.dsa_cells.proofs.{Splicing.{mark-some, mark-none}, links.mark.Goals.{in-Some, in_default}}
 
 pub bounds-nodes-cell-in-Some : goal.bounds-nodes-cell-in-Some
 bounds-nodes-cell-in-Some c = (mark-some _ _ _ _ _ _ _ c.loop-step-test.true c.in-Some.is c.loop-step.invariant).0

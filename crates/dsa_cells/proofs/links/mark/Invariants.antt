@@ -1,8 +1,6 @@
-use Rattle.std.proofs.Common.{◌-◌}
-use Rattle.dsa_cells.specs.Partition.{walk}
-use Rattle.dsa_cells.specs.Writes.{marked}
-use Rattle.dsa_cells.proofs.Splicing.{Marking}
 use Rattle.dsa_cells.proofs.links.mark.Given as goal
+use Rattle.std.proofs.Common.{◌-◌}
+use Rattle.dsa_cells.{specs.{Partition.{walk}, Writes.{marked}}, proofs.Splicing.{Marking}}
 
 abbrev pub invariant-loop-step : goal.invariant-loop-step
 invariant-loop-step l =

@@ -1,11 +1,8 @@
-use Rattle.std.proofs.Common.{◌≡◌, List, ℕ, ◌∙◌, refl, subst, sym, arith}
-use Rattle.std.proofs.Math.ListN.{get_or-map}
-use Rattle.dsa_cells.specs.Array.{header_at, no_header}
-use Rattle.dsa_cells.specs.Partition.{lists_of, list_at, cells_of}
-use Rattle.dsa_cells.specs.Writes.{AreInside, marked}
-use Rattle.dsa_cells.proofs.Joining.{map-joined, lists_is, store_found}
-use Rattle.dsa_cells.proofs.Splicing.{splice, entries-marked}
 use Rattle.dsa_cells.proofs.links.splice.Goals as goal
+use Rattle.std.proofs.{Common.{◌≡◌, List, ℕ, ◌∙◌, refl, subst, sym, arith}, Math.ListN.{get_or-map}}
+use Rattle.dsa_cells.specs.{Array.{header_at, no_header}, Partition.{lists_of, list_at, cells_of}}
+use Rattle.dsa_cells.specs.Writes.{AreInside, marked}
+use Rattle.dsa_cells.proofs.{Joining.{map-joined, lists_is, store_found}, Splicing.{splice, entries-marked}}
 
 pub mark-requires : goal.mark-requires
 mark-requires c =

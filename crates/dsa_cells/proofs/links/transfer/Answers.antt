@@ -1,7 +1,6 @@
-use Rattle.std.proofs.Common.{arith}
-use Rattle.dsa_cells.proofs.Joining.{lists_is, store_found}
-use Rattle.dsa_cells.proofs.Moving.{transfer, entries-moved}
 use Rattle.dsa_cells.proofs.links.transfer.Goals as goal
+use Rattle.std.proofs.Common.{arith}
+use Rattle.dsa_cells.proofs.{Joining.{lists_is, store_found}, Moving.{transfer, entries-moved}}
 
 pub bounds-headers-from : goal.bounds-headers-from
 bounds-headers-from c = (transfer _ _ _ c.args.cell c.args.to c.requires.store c.requires.cell_in c.requires.to_in

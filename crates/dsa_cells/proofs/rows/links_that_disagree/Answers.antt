@@ -1,5 +1,5 @@
-use Rattle.std.proofs.Common.{◌≡◌, ℕ, None, Some, Option, arith}
 use Rattle.dsa_cells.proofs.rows.links_that_disagree.Goals as goal
+use Rattle.std.proofs.Common.{◌≡◌, ℕ, None, Some, Option, arith}
 
 pub returns-clause-previous : goal.returns-clause-previous
 returns-clause-previous c h = let e : ◌≡◌ {A = Option ℕ} None (Some 2) = h.links.2.0 in absurd (cc)

@@ -1,6 +1,5 @@
-use Rattle.std.proofs.Common.{◌≤◌, ◌^◌, pow_mono, arith}
-use Rattle.std.proofs.lemmas.Grind.{common_steps}
 use Rattle.dsa_desc.proofs.checks.is_within_power.Goals as goal
+use Rattle.std.proofs.{Common.{◌≤◌, ◌^◌, pow_mono, arith}, lemmas.Grind.{common_steps}}
 
 -- every number of 32 bits is within a power past the 32nd
 pub returns-then-shift-ge32 : goal.returns-then-shift-ge32

@@ -1,9 +1,7 @@
-use Rattle.std.proofs.Common.{rules, ◌==◌, ◌∙◌, sym}
-use Rattle.std.proofs.lemmas.Iterator.Adapters.{option_map_id}
-use Rattle.std.proofs.lemmas.Iterator.Search.{find_from_yields_List}
-use Rattle.dsa_store.specs.Content.{Slot}
-use Rattle.dsa_store.proofs.Walks.{walked}
 use Rattle.dsa_engines.proofs.fetching.find_named.Goals as goal
+use Rattle.std.proofs.Common.{rules, ◌==◌, ◌∙◌, sym}
+use Rattle.std.proofs.lemmas.Iterator.{Adapters.{option_map_id}, Search.{find_from_yields_List}}
+use Rattle.dsa_store.{specs.Content.{Slot}, proofs.Walks.{walked}}
 use borrow.Author.Tests.{tests}
 
 pub returns : goal.returns

@@ -1,27 +1,35 @@
+use Rattle.dsa_engines.proofs.finishing.find_running.Goals as goal
 use Rattle.std.proofs.Common.{◌≡◌, Bool, true, false, ◌∙◌, refl, sym, ap, inl, inr, arith}
-use Rattle.std.specs.Prelude.{option_map}
-use Rattle.std.specs.Bool.{then_some}
+use Rattle.std.specs.{Prelude.{option_map}, Bool.{then_some}}
 use Rattle.dsa_base.specs.Rows.{when}
 use Rattle.dsa_regs.specs.declared.Caps.{Caps}
-use Rattle.dsa_store.specs.declared.entry.Cell.{Cell}
-use Rattle.dsa_store.specs.declared.entry.Entry.{Entry}
-use Rattle.dsa_store.specs.Content.{Slot}
+use Rattle.dsa_store.specs.{declared.entry.{Cell.{Cell}, Entry.{Entry}}, Content.{Slot}}
 use Rattle.dsa_engines.proofs.Finding.{lost, outside, inside}
-use Rattle.dsa_engines.proofs.finishing.find_running.Goals as goal
 
 pub returns-in_err-list : goal.returns-in_err-list
 returns-in_err-list g c =
-    lost c.args.queues.now (g.S.EntryStore.content c.args.store.now) c.args.engine c.args.ticket ((g.met.S.EntryStore.sound c.args.store.now).once c.args.ticket.cell) (omega (arith, c.if-engine-caps.false, ap (λ (x : Caps). x.engines) c.caps-caps.ensures.value)) (inl (sym c.in_err-list.ensures))
+    lost c.args.queues.now (g.S.EntryStore.content c.args.store.now) c.args.engine c.args.ticket
+    ((g.met.S.EntryStore.sound c.args.store.now).once c.args.ticket.cell)
+    (omega (arith, c.if-engine-caps.false, ap (λ (x : Caps). x.engines) c.caps-caps.ensures.value))
+    (inl (sym c.in_err-list.ensures))
     ∙ sym (ap (option_map (λ (entry : Entry). let s : Slot = (c.args.ticket.cell, entry) in s)) c.from_residual.ensures)
 
 pub returns-then-not-is_either : goal.returns-then-not-is_either
 returns-then-not-is_either g c =
-    outside c.args.queues.now (g.S.EntryStore.content c.args.store.now) c.args.engine c.in_ok-list.list.0 c.list-progress.result.0 c.list-members.result.0 c.args.ticket ((g.met.S.EntryStore.sound c.args.store.now).once c.args.ticket.cell) (omega (arith, c.if-engine-caps.false, ap (λ (x : Caps). x.engines) c.caps-caps.ensures.value)) c.list-progress.ensures c.list-members.ensures c.in_ok-list.ensures c.if-not-is_either.ensures
+    outside c.args.queues.now (g.S.EntryStore.content c.args.store.now) c.args.engine c.in_ok-list.list.0
+    c.list-progress.result.0 c.list-members.result.0 c.args.ticket
+    ((g.met.S.EntryStore.sound c.args.store.now).once c.args.ticket.cell)
+    (omega (arith, c.if-engine-caps.false, ap (λ (x : Caps). x.engines) c.caps-caps.ensures.value))
+    c.list-progress.ensures c.list-members.ensures c.in_ok-list.ensures c.if-not-is_either.ensures
 
 pub returns-in_err-entry : goal.returns-in_err-entry
 returns-in_err-entry g c =
-    lost c.args.queues.now (g.S.EntryStore.content c.args.store.now) c.args.engine c.args.ticket ((g.met.S.EntryStore.sound c.args.store.now).once c.args.ticket.cell) (omega (arith, c.if-engine-caps.false, ap (λ (x : Caps). x.engines) c.caps-caps.ensures.value)) (inr (sym c.in_err-entry.ensures))
-    ∙ sym (ap (option_map (λ (entry : Entry). let s : Slot = (c.args.ticket.cell, entry) in s)) c.from_residual-in_err-entry.ensures)
+    lost c.args.queues.now (g.S.EntryStore.content c.args.store.now) c.args.engine c.args.ticket
+    ((g.met.S.EntryStore.sound c.args.store.now).once c.args.ticket.cell)
+    (omega (arith, c.if-engine-caps.false, ap (λ (x : Caps). x.engines) c.caps-caps.ensures.value))
+    (inr (sym c.in_err-entry.ensures))
+    ∙ sym (ap (option_map (λ (entry : Entry). let s : Slot = (c.args.ticket.cell, entry) in
+    s)) c.from_residual-in_err-entry.ensures)
 
 -- the entry, where it is meant
 meant_slot : (cell : Cell) (entry : Entry) (b : Bool)

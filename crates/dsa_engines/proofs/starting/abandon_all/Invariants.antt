@@ -1,8 +1,7 @@
+use Rattle.dsa_engines.proofs.starting.abandon_all.Given as goal
 use Rattle.std.proofs.Common.{◌≡◌, ◌++◌, map}
 use Rattle.dsa_store.specs.Content.{chain}
-use Rattle.dsa_book.specs.declared.fate.Fate.TheVariants.{Abandoned}
-use Rattle.dsa_book.specs.Work.{fate_row}
-use Rattle.dsa_engines.proofs.starting.abandon_all.Given as goal
+use Rattle.dsa_book.specs.{declared.fate.Fate.TheVariants.{Abandoned}, Work.{fate_row}}
 
 abbrev pub invariant-loop-entry : goal.invariant-loop-entry
 invariant-loop-entry g l = record {

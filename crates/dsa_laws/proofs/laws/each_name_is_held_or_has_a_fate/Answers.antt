@@ -1,5 +1,5 @@
-use Rattle.dsa_laws.proofs.Histories.{replay-well_formed}
 use Rattle.dsa_laws.proofs.laws.each_name_is_held_or_has_a_fate.Goals as goal
+use Rattle.dsa_laws.proofs.Histories.{replay-well_formed}
 
 pub returns-clause-given : goal.returns-clause-given
 returns-clause-given c = λ caps h s name e. (replay-well_formed caps h s e).names.given name

@@ -1,5 +1,5 @@
-use Rattle.dsa_laws.proofs.Histories.{replay-well_formed}
 use Rattle.dsa_laws.proofs.laws.limits_are_kept.Goals as goal
+use Rattle.dsa_laws.proofs.Histories.{replay-well_formed}
 
 pub returns : goal.returns
 returns c = λ caps h s e. (replay-well_formed caps h s e).limits

@@ -1,7 +1,6 @@
-use Rattle.std.proofs.Common.{refl, arith}
-use Rattle.std.proofs.lemmas.Grind.{common_steps}
-use Rattle.dsa_regs.proofs.MaskLemmas.{queues_of-names}
 use Rattle.dsa_regs.proofs.QueueMask.contains.Goals as goal
+use Rattle.std.proofs.{Common.{refl, arith}, lemmas.Grind.{common_steps}}
+use Rattle.dsa_regs.proofs.MaskLemmas.{queues_of-names}
 
 pub returns-then-queue-from : goal.returns-then-queue-from
 returns-then-queue-from c =

@@ -1,6 +1,6 @@
+use Rattle.dsa_regs.proofs.QueueMask.queues.Goals as goal
 use Rattle.std.proofs.Common.{◌≡◌, ◌+◌, ◌*◌, map, filter, ap, ◌∙◌, arith}
 use Rattle.dsa_base.specs.Numbers.{has, numbers_below}
-use Rattle.dsa_regs.proofs.QueueMask.queues.Goals as goal
 
 -- the loop has gone over all sixteen
 pub returns : goal.returns

@@ -1,6 +1,6 @@
+use Rattle.dsa_regs.proofs.QueueMask.queues.Given as goal
 use Rattle.std.proofs.Common.{◌≡◌, ◌≤◌, ◌+◌, ◌*◌, map, filter, length}
 use Rattle.dsa_base.specs.Numbers.{has, numbers_below}
-use Rattle.dsa_regs.proofs.QueueMask.queues.Given as goal
 
 abbrev pub invariant-loop-bit : goal.invariant-loop-bit
 invariant-loop-bit l = record {

@@ -1,8 +1,6 @@
-use Rattle.std.proofs.Common.{◌≤◌, ◌^◌, pow_mono, arith}
-use Rattle.std.proofs.lemmas.Grind.{common_steps}
-use Rattle.std.proofs.lemmas.Nat.{pow_pos}
-use Rattle.dsa_base.proofs.NumberLemmas.{div-none}
 use Rattle.dsa_regs.proofs.checks.is_past.Goals as goal
+use Rattle.std.proofs.{Common.{◌≤◌, ◌^◌, pow_mono, arith}, lemmas.{Grind.{common_steps}, Nat.{pow_pos}}}
+use Rattle.dsa_base.proofs.NumberLemmas.{div-none}
 
 pub returns-then-count-lt64 : goal.returns-then-count-lt64
 returns-then-count-lt64 c = div-none c.args.set (2 ^ c.args.count) (pow_pos c.args.count)

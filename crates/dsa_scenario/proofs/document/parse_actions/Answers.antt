@@ -1,6 +1,6 @@
+use Rattle.dsa_scenario.proofs.document.parse_actions.Goals as goal
 use Rattle.std.proofs.Common.{inr}
 use Rattle.dsa_scenario.proofs.StepObjects.{parsed_more, bad_here}
-use Rattle.dsa_scenario.proofs.document.parse_actions.Goals as goal
 
 pub returns-in-None-clause-bad : goal.returns-in-None-clause-bad
 returns-in-None-clause-bad c = inr (bad_here c.args.steps.now c.loop-i.i c.index-steps-i.result c.loop-i.actions.items

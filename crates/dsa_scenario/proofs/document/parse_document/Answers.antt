@@ -1,6 +1,6 @@
+use Rattle.dsa_scenario.proofs.document.parse_document.Goals as goal
 use Rattle.std.proofs.lemmas.Result.{err_from_is_err_and}
 use Rattle.dsa_scenario.proofs.Whole.{is_document, first_bad}
-use Rattle.dsa_scenario.proofs.document.parse_document.Goals as goal
 
 pub returns-in_err-actions-clause-err : goal.returns-in_err-actions-clause-err
 returns-in_err-actions-clause-err c =

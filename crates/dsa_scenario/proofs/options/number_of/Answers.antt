@@ -1,9 +1,9 @@
-use Rattle.std.proofs.Common.{◌≡◌, ◌∙◌, arith, ap, unwrap_or}
-use Rattle.std.specs.Str.Parse.{ParsesUnsigned, ExplainsUnsignedError, HasUnsignedDigitsIfOk, digits_value, without_leading_plus}
-use Rattle.clap.proofs.WalkLemmas.{one_text-rows}
-use Rattle.clap.specs.Matches.{found_of}
-use Rattle.dsa_scenario.proofs.OptionNumbers.{reads_number}
 use Rattle.dsa_scenario.proofs.options.number_of.Goals as goal
+use Rattle.std.proofs.Common.{◌≡◌, ◌∙◌, arith, ap, unwrap_or}
+use Rattle.std.specs.Str.Parse.{ParsesUnsigned, ExplainsUnsignedError, HasUnsignedDigitsIfOk, digits_value}
+use Rattle.std.specs.Str.Parse.{without_leading_plus}
+use Rattle.clap.{proofs.WalkLemmas.{one_text-rows}, specs.Matches.{found_of}}
+use Rattle.dsa_scenario.proofs.OptionNumbers.{reads_number}
 
 pub returns-clause-number : goal.returns-clause-number
 returns-clause-number c text has numeral least most =

@@ -1,12 +1,9 @@
+use Rattle.dsa_scenario.proofs.options.read_words.Goals as goal
 use Rattle.std.proofs.Common.{◌≡◌, ◌∙◌, true, codes, map, string_bytes, sym, ap, refl}
-use Rattle.clap.specs.Matches.{found_of}
-use Rattle.clap.specs.Walk.{rows_of}
-use Rattle.clap.specs.Simple.{App, is_simple, subcommand_of, subcommand_rows_of}
+use Rattle.clap.specs.{Matches.{found_of}, Walk.{rows_of}, Simple.{App, is_simple, subcommand_of, subcommand_rows_of}}
 use Rattle.clap.specs.Faults.{fault_of, is_simple_and_free}
 use Rattle.clap.proofs.OnLiterals.{clap_on_literals}
-use Rattle.dsa_scenario.specs.Words.{program_app}
-use Rattle.dsa_scenario.proofs.OptionNumbers.{name-rows, some_pair}
-use Rattle.dsa_scenario.proofs.options.read_words.Goals as goal
+use Rattle.dsa_scenario.{specs.Words.{program_app}, proofs.OptionNumbers.{name-rows, some_pair}}
 
 simple : is_simple program_app ≡ true
 unfolding clap_on_literals

@@ -1,9 +1,7 @@
-use Rattle.std.proofs.Common.{◌∙◌, ◌||◌, ap, ap₂}
-use Rattle.std.proofs.lemmas.Result.{IfOk-weaker}
-use Rattle.clap.specs.declared.builder.command.Command.{Command}
-use Rattle.clap.specs.declared.builder.command.Command.TheOpen.{Command-F}
-use Rattle.clap.specs.Simple.{app_of_fields, with_rule}
 use Rattle.dsa_scenario.proofs.options.threads_command.Goals as goal
+use Rattle.std.proofs.{Common.{◌∙◌, ◌||◌, ap, ap₂}, lemmas.Result.{IfOk-weaker}}
+use Rattle.clap.specs.declared.builder.command.Command.{Command, TheOpen.{Command-F}}
+use Rattle.clap.specs.Simple.{app_of_fields, with_rule}
 
 pub returns-clause-app : goal.returns-clause-app
 returns-clause-app c =

@@ -1,6 +1,5 @@
-use Rattle.std.proofs.Common.{◌≡◌, ◌-◌, ◌+◌, ◌≤◌, vec_len}
-use Rattle.std.specs.Io.KnownBytes.{Consumes}
 use Rattle.dsa_scenario.proofs.reading.read_document.Given as goal
+use Rattle.std.{proofs.Common.{◌≡◌, ◌-◌, ◌+◌, ◌≤◌, vec_len}, specs.Io.KnownBytes.{Consumes}}
 
 abbrev pub invariant-reads : goal.invariant-reads
 invariant-reads g l = record {

@@ -1,7 +1,6 @@
-use Rattle.std.proofs.Common.{refl}
-use Rattle.std.specs.Fmt.{digits}
-use Rattle.dsa_scenario.specs.Worked.{records_of_a_run}
 use Rattle.dsa_scenario.proofs.rows.a_run.Goals as goal
+use Rattle.std.{proofs.Common.{refl}, specs.Fmt.{digits}}
+use Rattle.dsa_scenario.specs.Worked.{records_of_a_run}
 
 pub returns : goal.returns
 unfolding digits

@@ -1,9 +1,8 @@
+use Rattle.dsa_scenario.proofs.rows.asked.Goals as goal
 use Rattle.std.proofs.Common.{ℕ, [], Option, unwrap_or, inl, inr, refl, ap}
 use Rattle.std.specs.Str.Parse.{digits_value, without_leading_plus}
-use Rattle.clap.specs.Walk.{Text}
-use Rattle.clap.specs.declared.error.kind.ErrorKind.TheVariants.{UnknownArgument}
+use Rattle.clap.specs.{Walk.{Text}, declared.error.kind.ErrorKind.TheVariants.{UnknownArgument}}
 use Rattle.clap.proofs.OnLiterals.{clap_on_literals}
-use Rattle.dsa_scenario.proofs.rows.asked.Goals as goal
 
 -- the number that a text says
 abbrev number_in : Option Text → ℕ

@@ -1,15 +1,12 @@
+use Rattle.dsa_scenario.proofs.rows.document_faults.Goals as goal
 use Rattle.std.proofs.Common.{◌≡◌, ℕ, true, List, [], ◌∷◌, Some, codes, refl, lit<}
-use Rattle.std.specs.Prelude.{encode_utf8_all}
-use Rattle.std.specs.Str.{all_scalars}
-use Rattle.serde_json.specs.Data.{Data, Items}
-use Rattle.serde_json.specs.Read.{read}
-use Rattle.serde_json.proofs.OnLiterals.{serde_json_on_literals}
+use Rattle.std.specs.{Prelude.{encode_utf8_all}, Str.{all_scalars}}
+use Rattle.serde_json.{specs.{Data.{Data, Items}, Read.{read}}, proofs.OnLiterals.{serde_json_on_literals}}
 use Rattle.dsa_regs.specs.declared.Caps.{Caps}
 use Rattle.dsa_book.specs.declared.event.Event.TheVariants.{Poll}
 use Rattle.dsa_scenario.specs.declared.actions.Action.TheVariants.{Ask}
 use Rattle.dsa_scenario.specs.Document.{IsJson, HasHead, head_of, list_of}
 use Rattle.dsa_scenario.specs.Worked.{smallest_caps_text, no_caps_text, document_text}
-use Rattle.dsa_scenario.proofs.rows.document_faults.Goals as goal
 
 -- a text of ASCII is JSON by what it reads as
 is_json : (text : List ℕ) (d : Data) → all_scalars text ≡ true → encode_utf8_all text ≡ text → read text ≡ Some d

@@ -1,7 +1,7 @@
+use Rattle.dsa_scenario.proofs.rows.documents_that_run.Goals as goal
 use Rattle.std.proofs.Common.{[], codes, refl, lit≤}
 use Rattle.serde_json.proofs.OnLiterals.{serde_json_on_literals}
 use Rattle.dsa_scenario.specs.Worked.{smallest_caps, smallest_caps_text, document_text}
-use Rattle.dsa_scenario.proofs.rows.documents_that_run.Goals as goal
 
 pub returns : goal.returns
 unfolding serde_json_on_literals

@@ -1,15 +1,11 @@
+use Rattle.dsa_scenario.proofs.rows.faults_that_are_not_told.Goals as goal
 use Rattle.std.proofs.Common.{◌≡◌, ◌∙◌, ℕ, true, false, List, [], ◌∷◌, Some, None, map, take, codes, refl, ap, arith}
 use Rattle.std.specs.Option.{option_map_or}
-use Rattle.serde_json.specs.Data.{Data, Items}
-use Rattle.serde_json.specs.Read.{read}
-use Rattle.serde_json.proofs.OnLiterals.{serde_json_on_literals}
-use Rattle.dsa_regs.specs.declared.Caps.{Caps}
-use Rattle.dsa_regs.specs.Caps.{check_caps}
-use Rattle.dsa_scenario.specs.declared.actions.Action.{Action}
-use Rattle.dsa_scenario.specs.Actions.{action_of}
+use Rattle.serde_json.{specs.{Data.{Data, Items}, Read.{read}}, proofs.OnLiterals.{serde_json_on_literals}}
+use Rattle.dsa_regs.specs.{declared.Caps.{Caps}, Caps.{check_caps}}
+use Rattle.dsa_scenario.specs.{declared.actions.Action.{Action}, Actions.{action_of}}
 use Rattle.dsa_scenario.specs.Document.{HasHead, head_of, list_of}
 use Rattle.dsa_scenario.specs.Worked.{smallest_caps_text, no_caps_text, document_text}
-use Rattle.dsa_scenario.proofs.rows.faults_that_are_not_told.Goals as goal
 
 -- what is read of a document
 abbrev Head : Type 0

@@ -1,5 +1,5 @@
-use Rattle.std.proofs.Common.{arith, lit≤}
 use Rattle.dsa_scenario.proofs.rows.loads.Goals as goal
+use Rattle.std.proofs.Common.{arith, lit≤}
 
 pub returns-clause-least : goal.returns-clause-least
 returns-clause-least c = record {

@@ -1,17 +1,11 @@
-use Rattle.std.proofs.Common.{◌≡◌, ℕ, List, refl, lit≤, arith, subst}
-use Rattle.std.specs.Prelude.{All, slice_index_or}
-use Rattle.dsa_store.specs.Content.{held_count}
-use Rattle.dsa_book.specs.declared.answer.IssueAnswer.TheVariants.{Ended}
-use Rattle.dsa_book.specs.declared.answer.Reply.TheVariants.{Issue, Write}
-use Rattle.dsa_book.specs.declared.answer.WriteAnswer.TheVariants.{Written}
-use Rattle.dsa_book.specs.declared.event.Step.{Step}
-use Rattle.dsa_book.specs.declared.event.Actor.TheVariants.{Client}
-use Rattle.dsa_book.specs.Machine.{stored_steps}
-use Rattle.dsa_book.specs.Totals.{steps_of}
-use Rattle.dsa_scenario.specs.Run.{steps_of as device_steps}
-use Rattle.dsa_scenario.specs.Threads.{submission_of}
-use Rattle.dsa_scenario.specs.Worked.{records_of_a_run}
 use Rattle.dsa_scenario.proofs.rows.totals_of_a_run.Goals as goal
+use Rattle.std.{proofs.Common.{◌≡◌, ℕ, List, refl, lit≤, arith, subst}, specs.Prelude.{All, slice_index_or}}
+use Rattle.dsa_store.specs.Content.{held_count}
+use Rattle.dsa_book.specs.declared.answer.{IssueAnswer.TheVariants.{Ended}, Reply.TheVariants.{Issue, Write}}
+use Rattle.dsa_book.specs.declared.answer.WriteAnswer.TheVariants.{Written}
+use Rattle.dsa_book.specs.declared.event.{Step.{Step}, Actor.TheVariants.{Client}}
+use Rattle.dsa_book.specs.{Machine.{stored_steps}, Totals.{steps_of}}
+use Rattle.dsa_scenario.specs.{Run.{steps_of as device_steps}, Threads.{submission_of}, Worked.{records_of_a_run}}
 
 -- the history of the run
 abbrev history : List Step

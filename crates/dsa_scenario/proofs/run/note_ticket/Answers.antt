@@ -1,7 +1,6 @@
-use Rattle.std.proofs.Common.{sym, nat_eq, ◌∙◌}
-use Rattle.std.specs.HashMap.{get}
-use Rattle.dsa_scenario.proofs.Tickets.{IsTable-nothing, IsTable-again, IsTable-new}
 use Rattle.dsa_scenario.proofs.run.note_ticket.Goals as goal
+use Rattle.std.{proofs.Common.{sym, nat_eq, ◌∙◌}, specs.HashMap.{get}}
+use Rattle.dsa_scenario.proofs.Tickets.{IsTable-nothing, IsTable-again, IsTable-new}
 
 pub returns-in_ok-insert : goal.returns-in_ok-insert
 returns-in_ok-insert c = λ before is.

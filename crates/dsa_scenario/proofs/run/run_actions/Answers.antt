@@ -1,9 +1,7 @@
-use Rattle.std.proofs.Common.{◌∙◌, Some, sym, ap, subst, nat_eq, List}
-use Rattle.std.specs.HashMap.{get}
-use Rattle.dsa_scenario.specs.declared.run.Record.{Record}
-use Rattle.dsa_scenario.specs.Run.{IsTable}
-use Rattle.dsa_scenario.proofs.Records.{Runs-stepped, Runs-refused, run_of-records}
 use Rattle.dsa_scenario.proofs.run.run_actions.Goals as goal
+use Rattle.std.{proofs.Common.{◌∙◌, Some, sym, ap, subst, nat_eq, List}, specs.HashMap.{get}}
+use Rattle.dsa_scenario.specs.{declared.run.Record.{Record}, Run.{IsTable}}
+use Rattle.dsa_scenario.proofs.Records.{Runs-stepped, Runs-refused, run_of-records}
 use Rattle.dsa_scenario.proofs.run.run_actions.Goals.{in-Ok, in-Err}
 
 pub loop-action-preserved : goal.loop-action-preserved

@@ -1,8 +1,6 @@
-use Rattle.std.proofs.Common.{take, nat_eq}
-use Rattle.std.specs.HashMap.{get}
-use Rattle.dsa_scenario.specs.Run.{IsTable}
-use Rattle.dsa_scenario.proofs.Records.{Runs}
 use Rattle.dsa_scenario.proofs.run.run_actions.Given as goal
+use Rattle.std.{proofs.Common.{take, nat_eq}, specs.HashMap.{get}}
+use Rattle.dsa_scenario.{specs.Run.{IsTable}, proofs.Records.{Runs}}
 
 abbrev pub invariant-loop-action : goal.invariant-loop-action
 invariant-loop-action g l = Runs l.initial.device l.device (take l.action-index l.actions) l.records.items

@@ -1,10 +1,8 @@
+use Rattle.dsa_scenario.proofs.threads.client_script.Goals as goal
 use Rattle.std.proofs.Common.{◌∙◌, List, ap, length, sym, subst, All}
-use Rattle.std.proofs.lemmas.List.{length-replicate}
-use Rattle.std.proofs.lemmas.List.Elements.{All-replicate}
-use Rattle.std.proofs.lemmas.Result.{IfOk-weaker}
+use Rattle.std.proofs.lemmas.{List.{length-replicate, Elements.{All-replicate}}, Result.{IfOk-weaker}}
 use Rattle.dsa_workers.specs.declared.scripts.ClientStep.{ClientStep}
 use Rattle.dsa_scenario.specs.Threads.{IsClientScript, Submits}
-use Rattle.dsa_scenario.proofs.threads.client_script.Goals as goal
 
 pub returns : goal.returns
 returns c =

@@ -1,7 +1,6 @@
-use Rattle.std.proofs.Common.{◌≡◌, [], refl, rules, subst}
-use Rattle.dsa_scenario.specs.Threads.{Follows, setup_events}
-use Rattle.dsa_scenario.proofs.ThreadTotals.{have_worked}
 use Rattle.dsa_scenario.proofs.threads.run_seats.Goals as goal
+use Rattle.std.proofs.Common.{◌≡◌, [], refl, rules, subst}
+use Rattle.dsa_scenario.{specs.Threads.{Follows, setup_events}, proofs.ThreadTotals.{have_worked}}
 
 pub returns-in-Ok-clause-ok : goal.returns-in-Ok-clause-ok
 returns-in-Ok-clause-ok g c =

@@ -1,8 +1,8 @@
+use Rattle.dsa_scenario.proofs.threads.run_shared.Goals as goal
 use Rattle.std.proofs.Common.{◌∙◌, ap, subst}
 use Rattle.dsa_device.specs.Running.{Running}
 use Rattle.dsa_shared.specs.Seat.{AllFresh}
 use Rattle.dsa_scenario.proofs.ThreadTotals.{totals_of-worked}
-use Rattle.dsa_scenario.proofs.threads.run_shared.Goals as goal
 
 pub run_seats-requires-clause-engines : goal.run_seats-requires-clause-engines
 run_seats-requires-clause-engines g c κs within =

@@ -1,9 +1,7 @@
-use Rattle.std.proofs.Common.{◌≡◌, ◌+◌, ◌<◌, ℕ, List, length, get_or, rules, sym, subst}
-use Rattle.std.specs.Global.{Vec}
-use Rattle.dsa_workers.specs.declared.scripts.ClientStep.{ClientStep}
-use Rattle.dsa_scenario.specs.Threads.{IsClientScript}
-use Rattle.dsa_scenario.proofs.Pushes.{each-pushed}
 use Rattle.dsa_scenario.proofs.threads.scripts_for.Goals as goal
+use Rattle.std.{proofs.Common.{◌≡◌, ◌+◌, ◌<◌, ℕ, List, length, get_or, rules, sym, subst}, specs.Global.{Vec}}
+use Rattle.dsa_workers.specs.declared.scripts.ClientStep.{ClientStep}
+use Rattle.dsa_scenario.{specs.Threads.{IsClientScript}, proofs.Pushes.{each-pushed}}
 
 pub loop-client-preserved : goal.loop-client-preserved
 loop-client-preserved c =

@@ -1,6 +1,6 @@
+use Rattle.dsa_scenario.proofs.threads.scripts_for.Given as goal
 use Rattle.std.proofs.Common.{◌≡◌, ℕ, ◌+◌, ◌<◌, get_or, vec_len}
 use Rattle.dsa_scenario.specs.Threads.{IsClientScript}
-use Rattle.dsa_scenario.proofs.threads.scripts_for.Given as goal
 
 abbrev pub invariant-loop-client : goal.invariant-loop-client
 invariant-loop-client l = record {

@@ -1,6 +1,6 @@
+use Rattle.dsa_scenario.proofs.words.run_input.Goals as goal
 use Rattle.std.proofs.Common.{Err, ap}
 use Rattle.dsa_scenario.proofs.WriteFaults.{other_or_write}
-use Rattle.dsa_scenario.proofs.words.run_input.Goals as goal
 
 pub returns-in-Err-clause-failed : goal.returns-in-Err-clause-failed
 returns-in-Err-clause-failed g c one =

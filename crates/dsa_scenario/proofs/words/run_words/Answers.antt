@@ -1,6 +1,6 @@
+use Rattle.dsa_scenario.proofs.words.run_words.Goals as goal
 use Rattle.std.proofs.Common.{inl, inr}
 use Rattle.clap.specs.Values.{kind_of}
-use Rattle.dsa_scenario.proofs.words.run_words.Goals as goal
 
 pub returns-in-Err-clause-mistake : goal.returns-in-Err-clause-mistake
 returns-in-Err-clause-mistake g c two =

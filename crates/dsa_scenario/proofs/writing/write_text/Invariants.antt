@@ -1,6 +1,5 @@
-use Rattle.std.proofs.Common.{◌-◌, ◌≤◌, length, take}
-use Rattle.std.specs.Io.KnownBytes.{Appends}
 use Rattle.dsa_scenario.proofs.writing.write_text.Given as goal
+use Rattle.std.{proofs.Common.{◌-◌, ◌≤◌, length, take}, specs.Io.KnownBytes.{Appends}}
 
 abbrev pub invariant-writes : goal.invariant-writes
 invariant-writes g l = (l.written ≤ length l.text) × Appends (g.W.Write.contents l.initial.writer)

@@ -1,13 +1,14 @@
-use Rattle.std.proofs.Common.{ap, ◌∙◌}
 use Rattle.dsa_book.specs.declared.event.Event.TheVariants as event
 use Rattle.dsa_book.specs.declared.answer.Reply.TheVariants as reply
+use Rattle.dsa_shared.proofs.locked.finish.Goals as goal
+use Rattle.std.proofs.Common.{ap, ◌∙◌}
 use Rattle.dsa_device.proofs.Steps.{grows}
 use Rattle.dsa_shared.proofs.Steps.{within, gained, seat_after}
-use Rattle.dsa_shared.proofs.locked.finish.Goals as goal
 
 pub note-requires-clause-capacity : goal.note-requires-clause-capacity
 note-requires-clause-capacity g c =
-    (grows c.locked.inside.device c.finish-answer.new.self (event.Finish c.seat.inside.number c.args.ticket c.args.outcome) (reply.Finish c.finish-answer.result)
+    (grows c.locked.inside.device c.finish-answer.new.self
+    (event.Finish c.seat.inside.number c.args.ticket c.args.outcome) (reply.Finish c.finish-answer.result)
     c.finish-answer.ensures).capacity ∙ c.locked.invariant.1
 
 pub note-requires-clause-grown : goal.note-requires-clause-grown
@@ -18,7 +19,8 @@ note-requires-clause-grown g c =
 
 pub invariant_of-locked : goal.invariant_of-locked
 invariant_of-locked g c =
-    let s = grows c.locked.inside.device c.finish-answer.new.self (event.Finish c.seat.inside.number c.args.ticket c.args.outcome)
+    let s = grows c.locked.inside.device c.finish-answer.new.self
+    (event.Finish c.seat.inside.number c.args.ticket c.args.outcome)
     (reply.Finish c.finish-answer.result) c.finish-answer.ensures in
     (c.note.ensures.total, s.capacity ∙ c.locked.invariant.1, s.caps ∙ c.locked.invariant.2)
 
@@ -28,5 +30,10 @@ returns-clause-receipts g c =
     ∙ gained c.seat.inside.receipts.steps c.history-before.result.now c.locked.inside.device c.finish-answer.new.self
     (event.Finish c.seat.inside.number c.args.ticket c.args.outcome) (reply.Finish c.finish-answer.result)
     c.history-before.ensures c.finish-answer.ensures in
-    seat_after (record { number = c.seat.inside.number; receipts = c.seat.inside.receipts.steps }) c.args.seat.now c.note.new.self.steps
-    (λ number. event.Finish number c.args.ticket c.args.outcome) (reply.Finish c.finish-answer.result) c.seat.view_is receipts
+    seat_after (record {
+      number = c.seat.inside.number;
+      receipts =
+          c.seat.inside.receipts.steps;
+    }) c.args.seat.now c.note.new.self.steps
+    (λ number. event.Finish number c.args.ticket c.args.outcome)
+    (reply.Finish c.finish-answer.result) c.seat.view_is receipts

@@ -1,14 +1,14 @@
-use Rattle.std.proofs.Common.{ap, ◌∙◌}
 use Rattle.dsa_book.specs.declared.event.Event.TheVariants as event
 use Rattle.dsa_book.specs.declared.answer.Reply.TheVariants as reply
-use Rattle.dsa_shared.specs.Seat.{with_step}
-use Rattle.dsa_device.proofs.Steps.{grows}
-use Rattle.dsa_shared.proofs.Steps.{within, gained}
 use Rattle.dsa_shared.proofs.locked.issue.Goals as goal
+use Rattle.std.proofs.Common.{ap, ◌∙◌}
+use Rattle.dsa_shared.{specs.Seat.{with_step}, proofs.Steps.{within, gained}}
+use Rattle.dsa_device.proofs.Steps.{grows}
 
 pub note-requires-clause-capacity : goal.note-requires-clause-capacity
 note-requires-clause-capacity g c =
-    (grows c.locked.inside.device c.issue-answer.new.self (event.Issue c.args.command) (reply.Issue c.issue-answer.result)
+    (grows c.locked.inside.device c.issue-answer.new.self (event.Issue c.args.command)
+    (reply.Issue c.issue-answer.result)
     c.issue-answer.ensures).capacity ∙ c.locked.invariant.1
 
 pub note-requires-clause-grown : goal.note-requires-clause-grown
@@ -29,4 +29,5 @@ returns-clause-receipts g c =
     ∙ gained c.seat.inside.receipts.steps c.history-before.result.now c.locked.inside.device c.issue-answer.new.self
     (event.Issue c.args.command) (reply.Issue c.issue-answer.result)
     c.history-before.ensures c.issue-answer.ensures in
-    receipts ∙ ap (λ steps. with_step steps (event.Issue c.args.command) (reply.Issue c.issue-answer.result)) c.seat.view_is
+    receipts ∙ ap (λ steps. with_step steps (event.Issue c.args.command)
+    (reply.Issue c.issue-answer.result)) c.seat.view_is

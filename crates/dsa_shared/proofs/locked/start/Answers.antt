@@ -1,13 +1,14 @@
-use Rattle.std.proofs.Common.{ap, ◌∙◌}
 use Rattle.dsa_book.specs.declared.event.Event.TheVariants as event
 use Rattle.dsa_book.specs.declared.answer.Reply.TheVariants as reply
+use Rattle.dsa_shared.proofs.locked.start.Goals as goal
+use Rattle.std.proofs.Common.{ap, ◌∙◌}
 use Rattle.dsa_device.proofs.Steps.{grows}
 use Rattle.dsa_shared.proofs.Steps.{within, gained, seat_after}
-use Rattle.dsa_shared.proofs.locked.start.Goals as goal
 
 pub note-requires-clause-capacity : goal.note-requires-clause-capacity
 note-requires-clause-capacity g c =
-    (grows c.locked.inside.device c.start-answer.new.self (event.Start c.seat.inside.number) (reply.Start c.start-answer.result)
+    (grows c.locked.inside.device c.start-answer.new.self (event.Start c.seat.inside.number)
+    (reply.Start c.start-answer.result)
     c.start-answer.ensures).capacity ∙ c.locked.invariant.1
 
 pub note-requires-clause-grown : goal.note-requires-clause-grown
@@ -28,5 +29,9 @@ returns-clause-receipts g c =
     ∙ gained c.seat.inside.receipts.steps c.history-before.result.now c.locked.inside.device c.start-answer.new.self
     (event.Start c.seat.inside.number) (reply.Start c.start-answer.result)
     c.history-before.ensures c.start-answer.ensures in
-    seat_after (record { number = c.seat.inside.number; receipts = c.seat.inside.receipts.steps }) c.args.seat.now c.note.new.self.steps
+    seat_after (record {
+      number = c.seat.inside.number;
+      receipts =
+          c.seat.inside.receipts.steps;
+    }) c.args.seat.now c.note.new.self.steps
     (λ number. event.Start number) (reply.Start c.start-answer.result) c.seat.view_is receipts

@@ -1,14 +1,14 @@
-use Rattle.std.proofs.Common.{ap, ◌∙◌}
 use Rattle.dsa_book.specs.declared.event.Event.TheVariants as event
 use Rattle.dsa_book.specs.declared.answer.Reply.TheVariants as reply
-use Rattle.dsa_shared.specs.Seat.{with_step}
-use Rattle.dsa_device.proofs.Steps.{grows}
-use Rattle.dsa_shared.proofs.Steps.{within, gained}
 use Rattle.dsa_shared.proofs.locked.write_queue.Goals as goal
+use Rattle.std.proofs.Common.{ap, ◌∙◌}
+use Rattle.dsa_shared.{specs.Seat.{with_step}, proofs.Steps.{within, gained}}
+use Rattle.dsa_device.proofs.Steps.{grows}
 
 pub note-requires-clause-capacity : goal.note-requires-clause-capacity
 note-requires-clause-capacity g c =
-    (grows c.locked.inside.device c.write_queue-answer.new.self (event.WriteQueue c.args.queue c.args.config) (reply.Write c.write_queue-answer.result)
+    (grows c.locked.inside.device c.write_queue-answer.new.self (event.WriteQueue c.args.queue c.args.config)
+    (reply.Write c.write_queue-answer.result)
     c.write_queue-answer.ensures).capacity ∙ c.locked.invariant.1
 
 pub note-requires-clause-grown : goal.note-requires-clause-grown
@@ -26,7 +26,9 @@ invariant_of-locked g c =
 pub returns-clause-receipts : goal.returns-clause-receipts
 returns-clause-receipts g c =
     let receipts = ap (λ r. r.steps) c.note.ensures.noted
-    ∙ gained c.seat.inside.receipts.steps c.history-before.result.now c.locked.inside.device c.write_queue-answer.new.self
+    ∙ gained c.seat.inside.receipts.steps c.history-before.result.now c.locked.inside.device
+    c.write_queue-answer.new.self
     (event.WriteQueue c.args.queue c.args.config) (reply.Write c.write_queue-answer.result)
     c.history-before.ensures c.write_queue-answer.ensures in
-    receipts ∙ ap (λ steps. with_step steps (event.WriteQueue c.args.queue c.args.config) (reply.Write c.write_queue-answer.result)) c.seat.view_is
+    receipts ∙ ap (λ steps. with_step steps (event.WriteQueue c.args.queue c.args.config)
+    (reply.Write c.write_queue-answer.result)) c.seat.view_is

@@ -1,7 +1,7 @@
+use Rattle.dsa_shared.proofs.make.client_seats.Given as goal
 use Rattle.std.proofs.Common.{◌≡◌, ℕ, ◌+◌, ◌<◌, ◌≤◌, get_or, vec_len, vec_capacity, vec_items}
 use Rattle.std.specs.Vec.Iter.{into_iter_len}
 use Rattle.dsa_shared.specs.Seat.{SeatLog, fresh}
-use Rattle.dsa_shared.proofs.make.client_seats.Given as goal
 
 abbrev pub invariant-loop-room : goal.invariant-loop-room
 invariant-loop-room g l = record {

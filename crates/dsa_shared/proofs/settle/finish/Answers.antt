@@ -1,16 +1,12 @@
+use Rattle.dsa_shared.proofs.settle.finish.Goals as goal
 use Rattle.std.proofs.Common.{◌≡◌, length, ap, sym, ◌∙◌, subst, cond, arith}
 use Rattle.dsa_store.specs.Content.{held_count}
 use Rattle.dsa_book.specs.Totals.{is_accepted, is_retried, is_fetched, is_done, lost_by}
-use Rattle.dsa_accounts.proofs.Totals.{replay-held}
-use Rattle.dsa_accounts.proofs.Accounted.{replay-accepted, replay-fetched}
+use Rattle.dsa_accounts.proofs.{Totals.{replay-held}, Accounted.{replay-accepted, replay-fetched}}
 use Rattle.dsa_accounts.proofs.Abandons.{replay-lawful}
-use Rattle.dsa_shared.specs.Settle.{over_seats}
+use Rattle.dsa_shared.specs.{Settle.{over_seats}, Totals.{totals_of, Balance}}
+use Rattle.dsa_shared.proofs.{Sums.{seats_sum, seats_len}, settle.finish.{Given.{Over}, Goals.{After-close}}}
 use Rattle.dsa_device.specs.Running.{Running}
-use Rattle.dsa_shared.specs.Totals.{totals_of, Balance}
-use Rattle.dsa_shared.proofs.Sums.{seats_sum, seats_len}
-use Rattle.dsa_shared.proofs.settle.finish.Given.{Over}
-use Rattle.dsa_shared.proofs.settle.finish.Goals as goal
-use Rattle.dsa_shared.proofs.settle.finish.Goals.{After-close}
 
 pub close-requires-clause-all : goal.close-requires-clause-all
 close-requires-clause-all g c =
@@ -20,10 +16,13 @@ close-requires-clause-all g c =
 here : (g : Over) (c : After-close g) → c.history.result.now ≡ c.args.locked.history
 here g c = c.history.ensures ∙ ap (λ l. l.history) c.locked.view_is
 
-totals : (g : Over) (c : After-close g) → c.count-totals.result ≡ totals_of c.args.locked.history (held_count c.args.locked.state.work.content)
-totals g c = c.count-totals.ensures ∙ (λ i. totals_of (here g c i) ((c.held.ensures.value ∙ ap (λ l. held_count l.state.work.content) c.locked.view_is) i))
+totals : (g : Over) (c : After-close g)
+    → c.count-totals.result ≡ totals_of c.args.locked.history (held_count c.args.locked.state.work.content)
+totals g c = c.count-totals.ensures ∙ (λ i.
+    totals_of (here g c i) ((c.held.ensures.value ∙ ap (λ l. held_count l.state.work.content) c.locked.view_is) i))
 
-all : (g : Over) (c : After-close g) → over_seats length c.args.seats.clients.items c.args.seats.engines.items c.args.seats.admin ≡ length c.args.locked.history
+all : (g : Over) (c : After-close g) → over_seats length c.args.seats.clients.items c.args.seats.engines.items
+    c.args.seats.admin ≡ length c.args.locked.history
 all g c = sym c.close.ensures ∙ ap (λ t. t.steps) (totals g c)
 
 pub returns-clause-totals : goal.returns-clause-totals
@@ -36,9 +35,12 @@ returns-clause-sums g c =
     let whole = all g c in
     let is = totals g c in
     record {
-      accepted = ap (λ t. t.accepted) is ∙ sym (seats_sum (λ x. cond (is_accepted x.reply) 1 0) _ _ _ _ _ _ complete matched whole);
-      fetched = ap (λ t. t.fetched) is ∙ sym (seats_sum (λ x. cond (is_fetched x.reply) 1 0) _ _ _ _ _ _ complete matched whole);
-      retried = ap (λ t. t.retried) is ∙ sym (seats_sum (λ x. cond (is_retried x.reply) 1 0) _ _ _ _ _ _ complete matched whole);
+      accepted = ap (λ t. t.accepted) is
+          ∙ sym (seats_sum (λ x. cond (is_accepted x.reply) 1 0) _ _ _ _ _ _ complete matched whole);
+      fetched = ap (λ t. t.fetched) is ∙ sym
+          (seats_sum (λ x. cond (is_fetched x.reply) 1 0) _ _ _ _ _ _ complete matched whole);
+      retried = ap (λ t. t.retried) is ∙ sym
+          (seats_sum (λ x. cond (is_retried x.reply) 1 0) _ _ _ _ _ _ complete matched whole);
       done = ap (λ t. t.done) is ∙ sym (seats_sum (λ x. cond (is_done x.reply) 1 0) _ _ _ _ _ _ complete matched whole);
       lost = ap (λ t. t.lost) is ∙ sym (seats_sum (λ x. lost_by x.reply) _ _ _ _ _ _ complete matched whole);
       steps = c.close.ensures;

@@ -1,5 +1,5 @@
-use Rattle.std.proofs.Crossing.{frees as heap}
 use Rattle.dsa_shared_tests.proofs.memory.run_without_memory.Goals as goal
+use Rattle.std.proofs.Crossing.{frees as heap}
 
 -- A block goes back as one of the heap does, from any thread.
 pub run_threads-ran-requires-frees-A-Allocator : goal.run_threads-ran-requires-frees-A-Allocator

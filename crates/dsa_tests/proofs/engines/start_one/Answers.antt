@@ -1,10 +1,9 @@
+use Rattle.dsa_tests.proofs.engines.start_one.Goals as goal
 use Rattle.std.proofs.Common.{◌≡◌, ◌∙◌, ◌≤◌, List, [], ◌∷◌, length, refl, sym, ap, subst, arith}
 use Rattle.dsa_regs.specs.declared.Caps.{Caps}
 use Rattle.dsa_store.specs.Content.{Slot, Content, chain}
 use Rattle.dsa_book.specs.Work.{members, member_list}
-use Rattle.dsa_engines.specs.Engines.{lists_alone, WaitInOrder}
-use Rattle.dsa_engines.proofs.Members.{members-are}
-use Rattle.dsa_tests.proofs.engines.start_one.Goals as goal
+use Rattle.dsa_engines.{specs.Engines.{lists_alone, WaitInOrder}, proofs.Members.{members-are}}
 
 one-waits : (l : List Slot) → length l ≤ 1 → WaitInOrder l
 one-waits [] h = tt
@@ -17,7 +16,8 @@ start-requires-clause-order g c =
     let q = ap (λ (x : Caps). x.queues) c.caps-caps.ensures.value in
     let e = ap (λ (x : Caps). x.engines) c.caps-caps.ensures.value in
     let is : member_list c.args.queues.now 0 ≡ 4 = omega (arith, q, e) in
-    subst WaitInOrder (sym (members-are c.args.queues.now content 0 (omega (arith, q, e)) ∙ ap (chain content) is)) (one-waits (chain content 4) (omega (arith, c.len-members.ensures)))
+    subst WaitInOrder (sym (members-are c.args.queues.now content 0 (omega (arith, q, e)) ∙ ap (chain content) is))
+    (one-waits (chain content 4) (omega (arith, c.len-members.ensures)))
 
 pub start-requires-clause-room : goal.start-requires-clause-room
 start-requires-clause-room g c =
@@ -25,5 +25,6 @@ start-requires-clause-room g c =
     let q = ap (λ (x : Caps). x.queues) c.caps-caps.ensures.value in
     let e = ap (λ (x : Caps). x.engines) c.caps-caps.ensures.value in
     let is : member_list c.args.queues.now 0 ≡ 4 = omega (arith, q, e) in
-    let same : members (lists_alone c.args.queues.now content) 0 ≡ chain content 4 = members-are c.args.queues.now content 0 (omega (arith, q, e)) ∙ ap (chain content) is in
+    let same : members (lists_alone c.args.queues.now content) 0 ≡ chain content 4 =
+    members-are c.args.queues.now content 0 (omega (arith, q, e)) ∙ ap (chain content) is in
     omega (arith, ap length same, ap length c.fates.ensures, c.len-members.ensures)

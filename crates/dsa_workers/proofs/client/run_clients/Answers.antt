@@ -1,9 +1,11 @@
+use Rattle.dsa_workers.proofs.client.run_clients.Goals as goal
 use Rattle.std.proofs.Common.{subst, get_or}
 use Rattle.dsa_workers.specs.Workers.{RunsClient}
-use Rattle.dsa_workers.proofs.client.run_clients.Goals as goal
 
 pub returns : goal.returns
 returns g c k d e lt =
     let did = (c.for_each_mut.ensures k d lt).1 in
-    subst (λ new. RunsClient (get_or c.args.scripts.now k e).items c.args.run.now.turns (get_or c.args.lanes.now k d).seat new.seat new.stint) did.left
-    (subst (λ old. RunsClient (get_or c.args.scripts.now k e).items c.args.run.now.turns old.seat did.after_call.now.seat did.after_call.now.stint) did.argument_is (did.call e))
+    subst (λ new. RunsClient (get_or c.args.scripts.now k e).items c.args.run.now.turns
+    (get_or c.args.lanes.now k d).seat new.seat new.stint) did.left
+    (subst (λ old. RunsClient (get_or c.args.scripts.now k e).items c.args.run.now.turns old.seat
+    did.after_call.now.seat did.after_call.now.stint) did.argument_is (did.call e))

@@ -1,10 +1,10 @@
-use Rattle.std.proofs.Common.{◌≡◌, length}
-use Rattle.dsa_workers.specs.Calls.{NextSubmission}
-use Rattle.dsa_workers.proofs.Calls.{SoFar}
 use Rattle.dsa_workers.proofs.client.submit_all.Given as goal
+use Rattle.std.proofs.Common.{◌≡◌, length}
+use Rattle.dsa_workers.{specs.Calls.{NextSubmission}, proofs.Calls.{SoFar}}
 
 abbrev pub invariant-loop-turn : goal.invariant-loop-turn
 invariant-loop-turn g l = record {
   number : l.seat.number ≡ l.fn.seat.number;
-  so_far : SoFar (NextSubmission l.fn.seat.number l.script) (length l.script) l.fn.seat.receipts l.seat.receipts l.turn l.at;
+  so_far : SoFar (NextSubmission l.fn.seat.number l.script)
+      (length l.script) l.fn.seat.receipts l.seat.receipts l.turn l.at;
 }

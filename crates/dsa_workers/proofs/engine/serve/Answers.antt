@@ -1,6 +1,6 @@
+use Rattle.dsa_workers.proofs.engine.serve.Goals as goal
 use Rattle.std.proofs.Common.{ap, ◌∙◌, ◌+◌, sym, subst, arith}
 use Rattle.dsa_workers.proofs.Turns.{TurnsSoFar, turns_none, turns_quiet, turns_more, turns_full, turns_out}
-use Rattle.dsa_workers.proofs.engine.serve.Goals as goal
 use Rattle.dsa_workers.proofs.engine.serve.Goals.{in-Some+else-is_full, in_default}
 
 pub loop-turn-init : goal.loop-turn-init
@@ -11,18 +11,23 @@ loop-turn-init g c = record {
 
 pub returns-then-is_full : goal.returns-then-is_full
 returns-then-is_full g c =
-    turns_full c.args.script.now c.args.run.now.turns _ _ _ c.loop-turn.turn c.loop-turn.tickets.tickets c.in-Some.reply c.loop-turn.invariant.so_far
-    c.in-Some.ensures.called c.in-Some.ensures.answer c.in-Some.ensures.seat (sym c.is_full.ensures ∙ c.if-is_full.true) (omega arith)
+    turns_full c.args.script.now c.args.run.now.turns _ _ _ c.loop-turn.turn c.loop-turn.tickets.tickets
+    c.in-Some.reply c.loop-turn.invariant.so_far
+    c.in-Some.ensures.called c.in-Some.ensures.answer c.in-Some.ensures.seat (sym c.is_full.ensures
+    ∙ c.if-is_full.true) (omega arith)
 
 pub loop-turn-preserved : goal.loop-turn-preserved
 loop-turn-preserved g c =
     let was = c.loop-turn.invariant in
     elim c.match-turn_once.branch [
       | in-Some+else-is_full w ↦
-          let more = turns_more c.args.script.now _ _ _ c.loop-turn.turn c.loop-turn.tickets.tickets w.in-Some.reply was.so_far
-          w.in-Some.ensures.called w.in-Some.ensures.answer w.in-Some.ensures.seat (sym w.is_full.ensures ∙ w.if-is_full.false) in
+          let more = turns_more c.args.script.now _ _ _ c.loop-turn.turn c.loop-turn.tickets.tickets w.in-Some.reply
+          was.so_far
+          w.in-Some.ensures.called w.in-Some.ensures.answer w.in-Some.ensures.seat (sym w.is_full.ensures
+          ∙ w.if-is_full.false) in
           record {
-            so_far = subst (λ ts. TurnsSoFar c.args.script.now c.args.seat.now c.turn_once.new.seat (c.loop-turn.turn + 1) ts)
+            so_far = subst (λ ts. TurnsSoFar c.args.script.now c.args.seat.now c.turn_once.new.seat
+                (c.loop-turn.turn + 1) ts)
                 (sym (ap (λ t. t.tickets) w.tickets-is ∙ w.note.ensures.tickets)) more;
             room = omega (arith, ap (λ t. t.room) w.tickets-is, w.note.ensures.room, was.room);
           }
@@ -30,7 +35,8 @@ loop-turn-preserved g c =
           let quiet = turns_quiet c.args.script.now _ _ _ c.loop-turn.turn c.loop-turn.tickets.tickets was.so_far
           w.in_default.ensures.called w.in_default.ensures.answer w.in_default.ensures.seat in
           record {
-            so_far = subst (λ ts. TurnsSoFar c.args.script.now c.args.seat.now c.turn_once.new.seat (c.loop-turn.turn + 1) ts)
+            so_far = subst (λ ts. TurnsSoFar c.args.script.now c.args.seat.now c.turn_once.new.seat
+                (c.loop-turn.turn + 1) ts)
                 (sym (ap (λ t. t.tickets) w.tickets-is)) quiet;
             room = omega (arith, ap (λ t. t.room) w.tickets-is, was.room);
           }

@@ -1,6 +1,6 @@
+use Rattle.dsa_workers.proofs.engine.serve.Given as goal
 use Rattle.std.proofs.Common.{◌+◌, ◌≤◌}
 use Rattle.dsa_workers.proofs.Turns.{TurnsSoFar}
-use Rattle.dsa_workers.proofs.engine.serve.Given as goal
 
 abbrev pub invariant-loop-turn : goal.invariant-loop-turn
 invariant-loop-turn g l = record {

@@ -1,6 +1,6 @@
+use Rattle.dsa_workers.proofs.lanes.unload.Given as goal
 use Rattle.std.proofs.Common.{◌≡◌, ◌+◌, ◌≤◌, ◌++◌, map, vec_len, vec_capacity, vec_items}
 use Rattle.std.specs.Vec.Iter.{into_iter_len}
-use Rattle.dsa_workers.proofs.lanes.unload.Given as goal
 
 abbrev pub invariant-loop-lane : goal.invariant-loop-lane
 invariant-loop-lane g l = record {

@@ -1,13 +1,17 @@
+use Rattle.dsa_workers.proofs.run.run_all.Goals as goal
 use Rattle.std.proofs.Common.{◌<◌, subst, ap, get_or, length, arith}
 use Rattle.dsa_workers.specs.Workers.{RunsClient}
-use Rattle.dsa_workers.proofs.run.run_all.Goals as goal
 
 pub returns-clause-clients : goal.returns-clause-clients
 returns-clause-clients g c k d e lt =
     let did = c.join_pair.ensures.first in
     let turns = c.args.run.now.turns in
     let below : k < length did.argument.now.items = omega (arith, ap (λ v. length v.items) did.argument_is, lt) in
-    subst (λ new. RunsClient (get_or c.args.scripts.now.clients.items k e).items turns (get_or c.args.clients.now.items k d).seat (get_or new.items k d).seat (get_or new.items k d).stint) did.left
-    (subst (λ old. RunsClient (get_or c.args.scripts.now.clients.items k e).items turns (get_or old.items k d).seat (get_or did.after_call.now.items k d).seat (get_or did.after_call.now.items k d).stint) did.argument_is
-    (subst (λ scripts. RunsClient (get_or scripts k e).items turns (get_or did.argument.now.items k d).seat (get_or did.after_call.now.items k d).seat (get_or did.after_call.now.items k d).stint) c.as_slice-client_scripts.ensures.value
+    subst (λ new. RunsClient (get_or c.args.scripts.now.clients.items k e).items turns
+    (get_or c.args.clients.now.items k d).seat (get_or new.items k d).seat (get_or new.items k d).stint) did.left
+    (subst (λ old. RunsClient (get_or c.args.scripts.now.clients.items k e).items turns (get_or old.items k d).seat
+    (get_or did.after_call.now.items k d).seat (get_or did.after_call.now.items k d).stint) did.argument_is
+    (subst (λ scripts. RunsClient (get_or scripts k e).items turns (get_or did.argument.now.items k d).seat
+    (get_or did.after_call.now.items k d).seat
+    (get_or did.after_call.now.items k d).stint) c.as_slice-client_scripts.ensures.value
     (did.call.0 k d e below)))

@@ -1,12 +1,15 @@
+use Rattle.dsa_admin.proofs.admin.Admin.carry_out.Goals as goal
 use Rattle.dsa_regs.specs.declared.Deed.TheVariants.{Abort, Reset}
 use Rattle.dsa_admin.proofs.Commands.{carried-as}
-use Rattle.dsa_admin.proofs.admin.Admin.carry_out.Goals as goal
 
 pub returns-in-Abort-clause-carried : goal.returns-in-Abort-clause-carried
-returns-in-Abort-clause-carried g c = carried-as _ c.args.command _ Abort _ c.deed.ensures c.in-Abort.is (c.abort_alone.ensures.aborted c.args.self.now)
+returns-in-Abort-clause-carried g c = carried-as _ c.args.command _ Abort _ c.deed.ensures c.in-Abort.is
+    (c.abort_alone.ensures.aborted c.args.self.now)
 
 pub returns-in-Reset-clause-carried : goal.returns-in-Reset-clause-carried
-returns-in-Reset-clause-carried g c = carried-as _ c.args.command _ Reset _ c.deed.ensures c.in-Reset.is (c.reset.ensures.reset c.args.self.now)
+returns-in-Reset-clause-carried g c = carried-as _ c.args.command _ Reset _ c.deed.ensures c.in-Reset.is
+    (c.reset.ensures.reset c.args.self.now)
 
 pub returns-in-Enable-clause-in_step : goal.returns-in-Enable-clause-in_step
-returns-in-Enable-clause-in_step g c = c.enable.ensures.in_step (g.S.EntryStore.cells c.args.store.now) (g.S.EntryStore.content c.args.store.now) c.requires.in_step
+returns-in-Enable-clause-in_step g c = c.enable.ensures.in_step (g.S.EntryStore.cells c.args.store.now)
+    (g.S.EntryStore.content c.args.store.now) c.requires.in_step

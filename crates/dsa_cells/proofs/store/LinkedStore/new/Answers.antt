@@ -1,6 +1,6 @@
+use Rattle.dsa_cells.proofs.store.LinkedStore.new.Goals as goal
 use Rattle.std.proofs.Common.{arith}
 use Rattle.dsa_cells.proofs.Opening.{sound-fresh, content-fresh}
-use Rattle.dsa_cells.proofs.store.LinkedStore.new.Goals as goal
 
 pub invariant_of-result : goal.invariant_of-result
 invariant_of-result g c = record {

@@ -1,9 +1,6 @@
-use Rattle.std.proofs.Common.{◌≡◌, ◌<◌, length, ap, arith}
-use Rattle.std.proofs.lemmas.List.{get_or_read}
-use Rattle.dsa_cells.specs.declared.links.Node.{Node}
-use Rattle.dsa_cells.specs.Array.{node_at, no_node}
-use Rattle.dsa_cells.proofs.Contents.{used, unused}
 use Rattle.dsa_cells.proofs.store.LinkedStore.used_node.Goals as goal
+use Rattle.std.proofs.{Common.{◌≡◌, ◌<◌, length, ap, arith}, lemmas.List.{get_or_read}}
+use Rattle.dsa_cells.{specs.{declared.links.Node.{Node}, Array.{node_at, no_node}}, proofs.Contents.{used, unused}}
 
 pub returns-then-at-len : goal.returns-then-at-len
 returns-then-at-len g c = unused _ _ c.args.cell c.args.self.now.whole

@@ -1,7 +1,6 @@
-use Rattle.std.proofs.lemmas.List.{get_or_read}
-use Rattle.dsa_cells.specs.Array.{no_node}
-use Rattle.dsa_cells.proofs.Contents.{written}
 use Rattle.dsa_cells.proofs.store.LinkedStore.write.Goals as goal
+use Rattle.std.proofs.lemmas.List.{get_or_read}
+use Rattle.dsa_cells.{specs.Array.{no_node}, proofs.Contents.{written}}
 
 pub invariant_of-self : goal.invariant_of-self
 invariant_of-self g c =

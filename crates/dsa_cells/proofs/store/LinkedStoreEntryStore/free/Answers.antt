@@ -1,9 +1,6 @@
-use Rattle.std.proofs.Common.{◌≡◌, ◌-◌, length, ap, arith}
-use Rattle.std.proofs.lemmas.List.{get_or_read}
-use Rattle.dsa_cells.specs.declared.links.Header.{Header}
-use Rattle.dsa_cells.specs.Array.{header_at, no_header}
-use Rattle.dsa_cells.proofs.Contents.{free-is}
 use Rattle.dsa_cells.proofs.store.LinkedStoreEntryStore.free.Goals as goal
+use Rattle.std.proofs.{Common.{◌≡◌, ◌-◌, length, ap, arith}, lemmas.List.{get_or_read}}
+use Rattle.dsa_cells.{specs.{declared.links.Header.{Header}, Array.{header_at, no_header}}, proofs.Contents.{free-is}}
 
 pub returns : goal.returns
 returns g c =

@@ -1,8 +1,7 @@
-use Rattle.std.proofs.Common.{ap, ◌∙◌}
-use Rattle.dsa_cells.specs.Partition.{lists_of}
-use Rattle.dsa_cells.specs.Writes.{given_back}
-use Rattle.dsa_cells.proofs.Contents.{contents-is, content-emptied}
 use Rattle.dsa_cells.proofs.store.LinkedStoreEntryStore.give_back.Goals as goal
+use Rattle.std.proofs.Common.{ap, ◌∙◌}
+use Rattle.dsa_cells.specs.{Partition.{lists_of}, Writes.{given_back}}
+use Rattle.dsa_cells.proofs.Contents.{contents-is, content-emptied}
 
 pub returns-clause-after : goal.returns-clause-after
 returns-clause-after g c =

@@ -1,9 +1,7 @@
-use Rattle.std.proofs.Common.{◌≡◌, ap, ◌∙◌}
-use Rattle.std.proofs.lemmas.List.{get_or_read}
-use Rattle.dsa_cells.specs.declared.links.Header.{Header}
-use Rattle.dsa_cells.specs.Array.{header_at, no_header}
-use Rattle.dsa_cells.proofs.Contents.{in_headers, len-is}
 use Rattle.dsa_cells.proofs.store.LinkedStoreEntryStore.len.Goals as goal
+use Rattle.std.proofs.{Common.{◌≡◌, ap, ◌∙◌}, lemmas.List.{get_or_read}}
+use Rattle.dsa_cells.specs.{declared.links.Header.{Header}, Array.{header_at, no_header}}
+use Rattle.dsa_cells.proofs.Contents.{in_headers, len-is}
 
 pub returns : goal.returns
 returns g c =

@@ -1,8 +1,7 @@
-use Rattle.std.proofs.Common.{◌≡◌, refl, Some, None, ap, sym, ◌∙◌}
-use Rattle.dsa_cells.specs.Partition.{first_or, list_at, lists_of}
-use Rattle.dsa_cells.specs.Content.{cell_of}
-use Rattle.dsa_cells.proofs.Contents.{front, front-is, contents-is, moved-is, content-moved}
 use Rattle.dsa_cells.proofs.store.LinkedStoreEntryStore.move_front.Goals as goal
+use Rattle.std.proofs.Common.{◌≡◌, refl, Some, None, ap, sym, ◌∙◌}
+use Rattle.dsa_cells.specs.{Partition.{first_or, list_at, lists_of}, Content.{cell_of}}
+use Rattle.dsa_cells.proofs.Contents.{front, front-is, contents-is, moved-is, content-moved}
 
 pub transfer-requires-clause-cell_in : goal.transfer-requires-clause-cell_in
 transfer-requires-clause-cell_in g c =

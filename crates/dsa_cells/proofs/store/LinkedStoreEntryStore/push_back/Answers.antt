@@ -1,7 +1,7 @@
+use Rattle.dsa_cells.proofs.store.LinkedStoreEntryStore.push_back.Goals as goal
 use Rattle.std.proofs.Common.{rules, refl, sym, ◌∙◌, arith}
 use Rattle.dsa_cells.proofs.Contents.{unused, front, contents-is, content-pushed, moved-is, in_use_is, full-when}
 use Rattle.dsa_cells.proofs.Contents.{not-full}
-use Rattle.dsa_cells.proofs.store.LinkedStoreEntryStore.push_back.Goals as goal
 
 pub returns-in_err-cell-clause-full : goal.returns-in_err-cell-clause-full
 returns-in_err-cell-clause-full g c =

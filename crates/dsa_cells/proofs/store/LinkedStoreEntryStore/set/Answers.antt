@@ -1,6 +1,6 @@
+use Rattle.dsa_cells.proofs.store.LinkedStoreEntryStore.set.Goals as goal
 use Rattle.std.proofs.Common.{sym, ◌∙◌}
 use Rattle.dsa_cells.proofs.Contents.{contents-is, content-written}
-use Rattle.dsa_cells.proofs.store.LinkedStoreEntryStore.set.Goals as goal
 
 pub returns-in-Some-clause-after : goal.returns-in-Some-clause-after
 returns-in-Some-clause-after g c =

@@ -1,6 +1,6 @@
+use Rattle.dsa_cells.proofs.store.LinkedStoreEntryStore.unlink.Goals as goal
 use Rattle.std.proofs.Common.{refl, ◌∙◌}
 use Rattle.dsa_cells.proofs.Contents.{contents-is, moved-is, content-unlinked}
-use Rattle.dsa_cells.proofs.store.LinkedStoreEntryStore.unlink.Goals as goal
 
 pub returns-clause-after : goal.returns-clause-after
 returns-clause-after g c =

@@ -1,7 +1,6 @@
-use Rattle.std.proofs.Common.{◌+◌, ◌-◌, ◌≤◌, length, take, vec_len}
-use Rattle.std.specs.Prelude.{vec_capacity}
-use Rattle.dsa_device.proofs.Runs.{LeadsTo}
 use Rattle.dsa_device.proofs.device.Device.run.Given as goal
+use Rattle.std.{proofs.Common.{◌+◌, ◌-◌, ◌≤◌, length, take, vec_len}, specs.Prelude.{vec_capacity}}
+use Rattle.dsa_device.proofs.Runs.{LeadsTo}
 
 abbrev pub invariant-loop-event : goal.invariant-loop-event
 invariant-loop-event g l = record {

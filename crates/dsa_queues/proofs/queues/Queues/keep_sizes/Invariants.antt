@@ -1,10 +1,13 @@
+use Rattle.dsa_queues.proofs.queues.Queues.keep_sizes.Given as goal
 use Rattle.std.proofs.Common.{◌≡◌, cond}
-use Rattle.dsa_regs.specs.Config.{queue_at}
-use Rattle.dsa_regs.specs.Command.{queues_in}
+use Rattle.dsa_regs.specs.{Config.{queue_at}, Command.{queues_in}}
 use Rattle.dsa_book.specs.Commands.{is_among, size_alone}
 use Rattle.dsa_base.proofs.Renewing.{renewed}
-use Rattle.dsa_queues.proofs.queues.Queues.keep_sizes.Given as goal
 
 abbrev pub invariant-loop-queue : goal.invariant-loop-queue
 invariant-loop-queue l =
-    l.self ≡ record l.fn.self { configs = renewed (λ q. cond (is_among (queues_in l.named) q) (size_alone (queue_at l.fn.self.configs q)) (queue_at l.fn.self.configs q)) l.queue l.fn.self.configs }
+    l.self ≡ record l.fn.self {
+      configs =
+          renewed (λ q. cond (is_among (queues_in l.named) q) (size_alone (queue_at l.fn.self.configs q))
+          (queue_at l.fn.self.configs q)) l.queue l.fn.self.configs;
+    }

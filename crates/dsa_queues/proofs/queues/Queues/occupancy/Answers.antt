@@ -1,7 +1,7 @@
+use Rattle.dsa_queues.proofs.queues.Queues.occupancy.Goals as goal
 use Rattle.std.proofs.Common.{arith}
 use Rattle.dsa_regs.proofs.CapsLemmas.{cell_count-bound}
 use Rattle.dsa_store.proofs.Lists.{length-le-held}
-use Rattle.dsa_queues.proofs.queues.Queues.occupancy.Goals as goal
 
 -- no queue is longer than the device has cells
 pub overflow_cast-result : goal.overflow_cast-result

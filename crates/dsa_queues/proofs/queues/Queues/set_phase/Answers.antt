@@ -1,8 +1,7 @@
-use Rattle.std.proofs.Common.{arith}
-use Rattle.std.proofs.lemmas.Grind.{common_steps}
+use Rattle.dsa_queues.proofs.queues.Queues.set_phase.Goals as goal
+use Rattle.std.proofs.{Common.{arith}, lemmas.Grind.{common_steps}}
 use Rattle.dsa_regs.specs.declared.Phase.TheVariants.{Off}
 use Rattle.dsa_base.proofs.Renewing.{renewed-one}
-use Rattle.dsa_queues.proofs.queues.Queues.set_phase.Goals as goal
 
 pub returns-clause-alone : goal.returns-clause-alone
 returns-clause-alone c =

@@ -1,10 +1,12 @@
+use Rattle.dsa_queues.proofs.queues.Queues.set_phases.Given as goal
 use Rattle.std.proofs.Common.{◌≡◌, cond}
 use Rattle.dsa_regs.specs.Command.{queues_in}
-use Rattle.dsa_book.specs.State.{phase_at}
-use Rattle.dsa_book.specs.Commands.{is_among}
+use Rattle.dsa_book.specs.{State.{phase_at}, Commands.{is_among}}
 use Rattle.dsa_base.proofs.Renewing.{renewed}
-use Rattle.dsa_queues.proofs.queues.Queues.set_phases.Given as goal
 
 abbrev pub invariant-loop-queue : goal.invariant-loop-queue
 invariant-loop-queue l =
-    l.self ≡ record l.fn.self { phases = renewed (λ q. cond (is_among (queues_in l.named) q) l.phase (phase_at l.fn.self q)) l.queue l.fn.self.phases }
+    l.self ≡ record l.fn.self {
+      phases =
+          renewed (λ q. cond (is_among (queues_in l.named) q) l.phase (phase_at l.fn.self q)) l.queue l.fn.self.phases;
+    }

@@ -1,9 +1,9 @@
-use Rattle.std.proofs.Common.{◌∙◌, ap}
-use Rattle.std.proofs.lemmas.Option.{same_Some}
-use Rattle.dsa_shared.proofs.Sums.{complete_by}
 use Rattle.dsa_shared.proofs.device.SharedDevice.settle.Goals as goal
+use Rattle.std.proofs.{Common.{◌∙◌, ap}, lemmas.Option.{same_Some}}
+use Rattle.dsa_shared.proofs.Sums.{complete_by}
 
 pub returns-in-Some-clause-mismatch : goal.returns-in-Some-clause-mismatch
 returns-in-Some-clause-mismatch g c other =
     let engines = ap (λ k. k.engines) (c.caps-engines.ensures ∙ c.locked.invariant.2) in
-    complete_by _ _ _ _ _ _ _ c.args.self.clients_are engines (c.in-Some.ensures.complete (λ e. other (same_Some _ _ e)))
+    complete_by _ _ _ _ _ _ _ c.args.self.clients_are engines
+    (c.in-Some.ensures.complete (λ e. other (same_Some _ _ e)))

@@ -1,5 +1,5 @@
-use Rattle.std.proofs.Common.{below_more, sym, refl, ◌∙◌, arith}
 use Rattle.dsa_shared.proofs.locked.checks.has_one_of_each.Goals as goal
+use Rattle.std.proofs.Common.{below_more, sym, refl, ◌∙◌, arith}
 
 pub loop-number-preserved : goal.loop-number-preserved
 loop-number-preserved g c = below_more _ _ c.loop-number.invariant (sym c.holders.ensures ∙ c.if-holders-ne1.false)

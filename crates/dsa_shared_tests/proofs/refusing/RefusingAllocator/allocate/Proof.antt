@@ -1,6 +1,16 @@
 -- The meter is asked first. Then the request is refused, or answered as the inner allocator answers. Assumes `Logic`.
+use Rattle.dsa_shared_tests.specs.contracts.refusing.Meter as meter
+use Rattle.dsa_shared_tests.specs.contracts.refusing.Meter.refuses as r
+use Rattle.dsa_shared_tests.specs.contracts.refusing.RefusingAllocator.allocate as f
+use Rattle.dsa_shared_tests.proofs.refusing.RefusingAllocator.allocate.Code as code
 use Rattle.std.proofs.Common.{◌≡◌, false, true, [], ◌∷◌, Ok, Err, refl, ap, w64, Bor}
 use Rattle.std.proofs.raw_atomic.Walks.{proved, leaves}
+use Rattle.std.proofs.alloc.Calls.{Al, seen, Answer, answer_val, Answer-typed, Answer-Ok, Answer-err, Takes, at_takes}
+use Rattle.std.proofs.alloc.Calls.{Answered, Takes-goes, Takes-gives, answers}
+use Rattle.std.proofs.alloc.Shapes.{after}
+use Rattle.dsa_shared_tests.proofs.refusing.Behind.{borrowed, inner_at, meter_at, taken_apart, handed_back}
+use Rattle.dsa_shared_tests.proofs.refusing.Meter.refuses.Met.{met as refuses_met}
+use Rattle.dsa_shared_tests.proofs.refusing.RefusingAllocator.allocate.Statement.{statement}
 use mathlib.Core.Bool.{Bool}
 use base.Fml.{ftrue, fsep, flft}
 use base.Logic.{SProp, ent, sep, via, id⊢}
@@ -12,7 +22,8 @@ use contract.BorrowLft.{◌⊑◌, ⊑_trans}
 use contract.Monad.{fact}
 use contract.Running.{tables}
 use types.Logic.{sem}
-use types.Kit.{‵, raw, ◌⊛◌, some, later, at_ret, prop, Sq, ◌$◌, ◌∵◌, !, qed, move, keep, drop, use0, use1, use2, split, split3, join, pick, fsplit, fjoin, feq_i, feq_l, suffices, await, done}
+use types.Kit.{‵, raw, ◌⊛◌, some, later, at_ret, prop, Sq, ◌$◌, ◌∵◌, !, qed, move, keep, drop, use0, use1, use2}
+use types.Kit.{split, split3, join, pick, fsplit, fjoin, feq_i, feq_l, suffices, await, done}
 use types.Run.{stop, fld, addr, no_more, and_then, returns, returns_within, enter, lit, first, branches, skips, exec}
 use types.ByLocal.{alloc_all, pass_all, free_all, look_at, get, through, sets, lands_as, env}
 use types.Part.{agg}
@@ -26,21 +37,8 @@ use denote.RawPtr.{block_ptr}
 use denote.Ref.{shr_vals}
 use denote.Signature.{plain, types_at}
 use denote.Steps.{heard, nothing, only}
-use denote.Triple.Call.{calls_at}
-use denote.Triple.Clauses.{at_exit}
-use denote.Triple.Entry.{alive}
-use denote.Triple.Spec.{triple_of}
-use denote.Triple.Table.{framed}
+use denote.Triple.{Call.{calls_at}, Clauses.{at_exit}, Entry.{alive}, Spec.{triple_of}, Table.{framed}}
 use denote.Triple.Walked.{Stays, stay_dropped, walk_of, Goes-dropped}
-use Rattle.std.proofs.alloc.Calls.{Al, seen, Answer, answer_val, Answer-typed, Answer-Ok, Answer-err, Takes, at_takes, Answered, Takes-goes, Takes-gives, answers}
-use Rattle.std.proofs.alloc.Shapes.{after}
-use Rattle.dsa_shared_tests.proofs.refusing.Behind.{borrowed, inner_at, meter_at, taken_apart, handed_back}
-use Rattle.dsa_shared_tests.proofs.refusing.Meter.refuses.Met.{met as refuses_met}
-use Rattle.dsa_shared_tests.specs.contracts.refusing.Meter as meter
-use Rattle.dsa_shared_tests.specs.contracts.refusing.Meter.refuses as r
-use Rattle.dsa_shared_tests.specs.contracts.refusing.RefusingAllocator.allocate as f
-use Rattle.dsa_shared_tests.proofs.refusing.RefusingAllocator.allocate.Statement.{statement}
-use Rattle.dsa_shared_tests.proofs.refusing.RefusingAllocator.allocate.Code as code
 
 module _ (B : Al) where
   abbrev over : Args

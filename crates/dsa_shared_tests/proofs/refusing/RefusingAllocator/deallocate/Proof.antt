@@ -1,6 +1,11 @@
 -- The block goes back to the inner allocator, which answers nothing. No block lies at null. Assumes `Logic`.
-use Rattle.std.proofs.Common.{◌≡◌, [], ◌∷◌, refl, w64}
-use Rattle.std.proofs.raw_atomic.Walks.{proved, leaves}
+use Rattle.dsa_shared_tests.specs.contracts.refusing.Meter as meter
+use Rattle.dsa_shared_tests.specs.contracts.refusing.RefusingAllocator.deallocate as f
+use Rattle.dsa_shared_tests.proofs.refusing.RefusingAllocator.deallocate.Code as code
+use Rattle.std.proofs.{Common.{◌≡◌, [], ◌∷◌, refl, w64}, raw_atomic.Walks.{proved, leaves}}
+use Rattle.std.proofs.alloc.Calls.{Al, seen, token, Gives, at_gives, Gives-goes, Gives-Gives}
+use Rattle.dsa_shared_tests.proofs.refusing.Behind.{borrowed, inner_at, meter_at, taken_apart, handed_back}
+use Rattle.dsa_shared_tests.proofs.refusing.RefusingAllocator.deallocate.Statement.{statement}
 use base.Logic.{SProp, sep, via, fst∗, never}
 use base.Fml.{Fml, ftrue, fsep, flft}
 use mir.Syntax.{Args, Fn, a_type, dnil, dcons}
@@ -12,7 +17,8 @@ use contract.BorrowLft.{◌⊑◌, ⊑_trans}
 use contract.Monad.{fact}
 use contract.Running.{tables}
 use types.Logic.{sem}
-use types.Kit.{‵, raw, ◌⊛◌, later, given, prop, ◌$◌, ◌∵◌, !, qed, move, drop, keep, use1, use2, split, split3, join, learn, fsplit, feq_i, regoal, suffices, group, await, done}
+use types.Kit.{‵, raw, ◌⊛◌, later, given, prop, ◌$◌, ◌∵◌, !, qed, move, drop, keep, use1, use2, split, split3, join}
+use types.Kit.{learn, fsplit, feq_i, regoal, suffices, group, await, done}
 use types.Run.{stop, fld, addr, no_more, and_then, of_opd, returns, enter, unit_lit}
 use types.ByLocal.{alloc_all, pass_all, free_all, look_at, get, through, sets, lands_as}
 use denote.Builtin.{usize, unit, RawPtr}
@@ -25,16 +31,8 @@ use denote.RattleType.{owns}
 use denote.Ref.{shr_vals}
 use denote.Signature.{plain, types_at}
 use denote.Steps.{heard, nothing}
-use denote.Triple.Call.{calls_at}
-use denote.Triple.Entry.{alive}
-use denote.Triple.Table.{framed}
+use denote.Triple.{Call.{calls_at}, Entry.{alive}, Table.{framed}}
 use denote.Triple.Walked.{Stays, stay_dropped, walk_of, Goes-dropped}
-use Rattle.std.proofs.alloc.Calls.{Al, seen, token, Gives, at_gives, Gives-goes, Gives-Gives}
-use Rattle.dsa_shared_tests.proofs.refusing.Behind.{borrowed, inner_at, meter_at, taken_apart, handed_back}
-use Rattle.dsa_shared_tests.specs.contracts.refusing.Meter as meter
-use Rattle.dsa_shared_tests.specs.contracts.refusing.RefusingAllocator.deallocate as f
-use Rattle.dsa_shared_tests.proofs.refusing.RefusingAllocator.deallocate.Statement.{statement}
-use Rattle.dsa_shared_tests.proofs.refusing.RefusingAllocator.deallocate.Code as code
 
 module _ (B : Al) where
   abbrev over : Args

@@ -1,8 +1,7 @@
-use Rattle.std.proofs.Common.{◌≡◌, ◌+◌, ◌≤◌, ◌++◌, [], map, vec_len, vec_capacity, vec_items}
-use Rattle.std.specs.Prelude.{All}
-use Rattle.std.specs.Vec.Iter.{drain_len, drain_items, drain_kept, drain_capacity}
-use Rattle.dsa_workers.specs.Calls.{HasRoom}
 use Rattle.dsa_workers.proofs.lanes.Spare.load.Given as goal
+use Rattle.std.proofs.Common.{◌≡◌, ◌+◌, ◌≤◌, ◌++◌, [], map, vec_len, vec_capacity, vec_items}
+use Rattle.std.specs.{Prelude.{All}, Vec.Iter.{drain_len, drain_items, drain_kept, drain_capacity}}
+use Rattle.dsa_workers.specs.Calls.{HasRoom}
 
 abbrev pub invariant-loop-seat : goal.invariant-loop-seat
 invariant-loop-seat g l = record {

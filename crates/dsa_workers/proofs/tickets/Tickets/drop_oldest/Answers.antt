@@ -1,6 +1,5 @@
-use Rattle.std.proofs.Common.{◌∙◌, ap, sym, drop}
-use Rattle.std.proofs.lemmas.List.{drop-drop}
 use Rattle.dsa_workers.proofs.tickets.Tickets.drop_oldest.Goals as goal
+use Rattle.std.proofs.{Common.{◌∙◌, ap, sym, drop}, lemmas.List.{drop-drop}}
 
 pub returns-then-self-len-clause-tickets : goal.returns-then-self-len-clause-tickets
 returns-then-self-len-clause-tickets g c =
