@@ -118,7 +118,9 @@ pub const ENABLED: [Event; 4] = [
 ];
 
 /// A Batch of so many members.
-pub fn batch_of(count: u32) -> Descriptor {
+pub fn batch_of(count: u32) -> Descriptor
+    ensures { result ≡ record { pasid = 0; flags = 0; op = 1; size = count } }
+{
     Descriptor {
         op: 1,
         size: count,
