@@ -1,98 +1,51 @@
 -- Worked histories of batches, fences and read buffers, each after the set-up.
 use Rattle.std.specs.Prelude.{ℕ, List, [], ◌∷◌}
 use Rattle.dsa_regs.specs.declared.{Caps.{Caps}, GroupConfig.{GroupConfig}}
-use Rattle.dsa_regs.specs.declared.Command.TheVariants.{EnableDevice, EnableWq}
-use Rattle.dsa_regs.specs.Worked.{shared_queue}
 use Rattle.dsa_book.specs.declared.event.{Step.{Step}, Portal.TheVariants.{Unlimited}, Kind.TheVariants.{Enqcmd}}
 use Rattle.dsa_book.specs.declared.answer.SubmitAnswer.TheVariants.{Accepted}
-use Rattle.dsa_book.specs.declared.answer.DispatchAnswer.TheVariants.{Taken, Idle}
-use Rattle.dsa_book.specs.declared.answer.FetchAnswer.TheVariants.{Fetched, NoBatch, AllFetched}
-use Rattle.dsa_book.specs.declared.answer.StartAnswer.TheVariants.{Started, FenceWait, NoBuffers, Abandoned, Nothing}
-use Rattle.dsa_book.specs.declared.answer.{FinishAnswer.TheVariants.{Done, NotReady}, IssueAnswer.TheVariants.{Ended}}
+use Rattle.dsa_book.specs.declared.answer.DispatchAnswer.TheVariants.{Idle}
+use Rattle.dsa_book.specs.declared.answer.FetchAnswer.TheVariants.{NoBatch, AllFetched}
+use Rattle.dsa_book.specs.declared.answer.StartAnswer.TheVariants.{FenceWait, NoBuffers, Abandoned, Nothing}
+use Rattle.dsa_book.specs.declared.answer.{FinishAnswer.TheVariants.{Done, NotReady}}
 use Rattle.dsa_book.specs.declared.answer.WriteAnswer.TheVariants.{Written}
-use Rattle.dsa_worked.specs.Setup.{no_op, move, batch, fenced, ticket, written, enqcmd, movdir, dispatched, fetched}
-use Rattle.dsa_worked.specs.Setup.{started, finished, faulted, issued, queue_written, group_written}
+use Rattle.dsa_worked.specs.Setup.{no_op, move, batch, fenced, ticket, written, dispatched, fetched}
+use Rattle.dsa_worked.specs.Setup.{started, finished, faulted, group_written}
+use Rattle.dsa_worked.specs.Setup.{to_shared, to_dedicated, taken, member, begun, ended, three_queues}
 
 -- members start while buffers are to be had, and a group does not go past what it is allowed
 abbrev pub buffers_of_a_batch : List Step
 buffers_of_a_batch =
-    enqcmd (move 16384) (Accepted (ticket 0 0)) ∷
-    enqcmd (move 16384) (Accepted (ticket 1 1)) ∷
-    dispatched 0 (Taken (ticket 0 0) 0) ∷
-    dispatched 0 (Taken (ticket 1 1) 0) ∷
-    movdir (batch 3) (Accepted (ticket 2 2)) ∷
-    dispatched 1 (Taken (ticket 2 2) 1) ∷
-    fetched 1 (move 16384) (Fetched (ticket 3 3)) ∷
-    fetched 1 (move 16384) (Fetched (ticket 4 4)) ∷
-    fetched 1 (move 16384) (Fetched (ticket 5 5)) ∷
-    started 1 (Started (ticket 3 3)) ∷
-    started 1 (Started (ticket 4 4)) ∷
-    started 1 NoBuffers ∷
-    finished 0 (ticket 0 0) (Done 0x01) ∷
-    started 1 (Started (ticket 5 5)) ∷
-    enqcmd (move 16384) (Accepted (ticket 0 6)) ∷
+    to_shared (move 16384) 0 0 ∷ to_shared (move 16384) 1 1 ∷ taken 0 0 0 ∷ taken 0 1 1 ∷ to_dedicated (batch 3) 2 2 ∷
+    taken 1 2 2 ∷ member 1 (move 16384) 3 3 ∷ member 1 (move 16384) 4 4 ∷ member 1 (move 16384) 5 5 ∷ begun 1 3 3 ∷
+    begun 1 4 4 ∷ started 1 NoBuffers ∷ ended 0 0 0 0x01 ∷ begun 1 5 5 ∷ to_shared (move 16384) 0 6 ∷
     dispatched 0 Idle ∷ []
 
 -- a member with a fence starts when all members before it have ended
 abbrev pub fence_waits : List Step
 fence_waits =
-    enqcmd (batch 3) (Accepted (ticket 0 0)) ∷
-    dispatched 0 (Taken (ticket 0 0) 0) ∷
-    fetched 0 no_op (Fetched (ticket 1 1)) ∷
-    fetched 0 no_op (Fetched (ticket 2 2)) ∷
-    fetched 0 (fenced no_op) (Fetched (ticket 3 3)) ∷
-    fetched 0 no_op AllFetched ∷
-    started 0 (Started (ticket 1 1)) ∷
-    started 0 (Started (ticket 2 2)) ∷
-    started 0 FenceWait ∷
-    finished 0 (ticket 2 2) (Done 0x01) ∷
-    started 0 FenceWait ∷
-    finished 0 (ticket 1 1) (Done 0x01) ∷
-    started 0 (Started (ticket 3 3)) ∷
-    finished 0 (ticket 0 0) NotReady ∷
-    finished 0 (ticket 3 3) (Done 0x01) ∷
-    finished 0 (ticket 0 0) (Done 0x01) ∷ []
+    to_shared (batch 3) 0 0 ∷ taken 0 0 0 ∷ member 0 no_op 1 1 ∷ member 0 no_op 2 2 ∷ member 0 (fenced no_op) 3 3 ∷
+    fetched 0 no_op AllFetched ∷ begun 0 1 1 ∷ begun 0 2 2 ∷ started 0 FenceWait ∷ ended 0 2 2 0x01 ∷
+    started 0 FenceWait ∷ ended 0 1 1 0x01 ∷ begun 0 3 3 ∷ finished 0 (ticket 0 0) NotReady ∷ ended 0 3 3 0x01 ∷
+    ended 0 0 0 0x01 ∷ []
 
 -- a member that fails before a fence abandons the rest of the batch, which fails too
 abbrev pub failure_abandons : List Step
 failure_abandons =
-    enqcmd (batch 3) (Accepted (ticket 0 0)) ∷
-    dispatched 0 (Taken (ticket 0 0) 0) ∷
-    fetched 0 (move 4096) (Fetched (ticket 1 1)) ∷
-    fetched 0 (fenced (move 4096)) (Fetched (ticket 2 2)) ∷
-    started 0 (Started (ticket 1 1)) ∷
-    faulted 0 (ticket 1 1) (Done 0x03) ∷
-    started 0 (Abandoned 1) ∷
-    fetched 0 no_op AllFetched ∷
-    started 0 Nothing ∷
-    finished 0 (ticket 0 0) (Done 0x05) ∷ []
+    to_shared (batch 3) 0 0 ∷ taken 0 0 0 ∷ member 0 (move 4096) 1 1 ∷ member 0 (fenced (move 4096)) 2 2 ∷ begun 0 1 1 ∷
+    faulted 0 (ticket 1 1) (Done 0x03) ∷ started 0 (Abandoned 1) ∷ fetched 0 no_op AllFetched ∷ started 0 Nothing ∷
+    ended 0 0 0 0x05 ∷ []
 
 -- batches of 1 and of 9 descriptors, where 2 to 8 are lawful, and one of 8
 abbrev pub batch_counts : List Step
 batch_counts =
-    enqcmd (batch 1) (Accepted (ticket 0 0)) ∷
-    dispatched 0 (Taken (ticket 0 0) 0) ∷
-    fetched 0 no_op NoBatch ∷
-    finished 0 (ticket 0 0) (Done 0x14) ∷
-    enqcmd (batch 9) (Accepted (ticket 0 1)) ∷
-    dispatched 0 (Taken (ticket 0 1) 0) ∷
-    finished 0 (ticket 0 1) (Done 0x14) ∷
-    enqcmd (batch 8) (Accepted (ticket 0 2)) ∷
-    dispatched 0 (Taken (ticket 0 2) 0) ∷
-    fetched 0 no_op (Fetched (ticket 1 3)) ∷ []
+    to_shared (batch 1) 0 0 ∷ taken 0 0 0 ∷ fetched 0 no_op NoBatch ∷ ended 0 0 0 0x14 ∷ to_shared (batch 9) 0 1 ∷
+    taken 0 0 1 ∷ ended 0 0 1 0x14 ∷ to_shared (batch 8) 0 2 ∷ taken 0 0 2 ∷ member 0 no_op 1 3 ∷ []
 
 -- a batch in a batch fails, and with it the batch
 abbrev pub batch_in_a_batch : List Step
 batch_in_a_batch =
-    enqcmd (batch 2) (Accepted (ticket 0 0)) ∷
-    dispatched 0 (Taken (ticket 0 0) 0) ∷
-    fetched 0 (batch 2) (Fetched (ticket 1 1)) ∷
-    started 0 (Started (ticket 1 1)) ∷
-    finished 0 (ticket 1 1) (Done 0x10) ∷
-    fetched 0 no_op (Fetched (ticket 2 2)) ∷
-    started 0 (Started (ticket 2 2)) ∷
-    finished 0 (ticket 2 2) (Done 0x01) ∷
-    finished 0 (ticket 0 0) (Done 0x05) ∷ []
+    to_shared (batch 2) 0 0 ∷ taken 0 0 0 ∷ member 0 (batch 2) 1 1 ∷ begun 0 1 1 ∷ ended 0 1 1 0x10 ∷
+    member 0 no_op 2 2 ∷ begun 0 2 2 ∷ ended 0 2 2 0x01 ∷ ended 0 0 0 0x05 ∷ []
 
 -- where engines have four slots: 8 and 12 buffers are more than 16
 abbrev pub more_slots : Caps → Caps
@@ -101,19 +54,9 @@ more_slots caps = record caps { slots = 4 }
 -- two entries run on each of the two engines where their buffers fit, and a fifth waits for those of another
 abbrev pub buffers_of_two_groups : List Step
 buffers_of_two_groups =
-    enqcmd (move 16384) (Accepted (ticket 0 0)) ∷
-    enqcmd (move 16384) (Accepted (ticket 1 1)) ∷
-    dispatched 0 (Taken (ticket 0 0) 0) ∷
-    dispatched 0 (Taken (ticket 1 1) 0) ∷
-    movdir (move 16384) (Accepted (ticket 2 2)) ∷
-    movdir (move 16384) (Accepted (ticket 3 3)) ∷
-    dispatched 1 (Taken (ticket 2 2) 1) ∷
-    dispatched 1 (Taken (ticket 3 3) 1) ∷
-    movdir (move 16384) (Accepted (ticket 4 4)) ∷
-    dispatched 1 Idle ∷
-    finished 0 (ticket 0 0) (Done 0x01) ∷
-    dispatched 1 (Taken (ticket 4 4) 1) ∷
-    enqcmd (move 16384) (Accepted (ticket 0 5)) ∷
+    to_shared (move 16384) 0 0 ∷ to_shared (move 16384) 1 1 ∷ taken 0 0 0 ∷ taken 0 1 1 ∷
+    to_dedicated (move 16384) 2 2 ∷ to_dedicated (move 16384) 3 3 ∷ taken 1 2 2 ∷ taken 1 3 3 ∷
+    to_dedicated (move 16384) 4 4 ∷ dispatched 1 Idle ∷ ended 0 0 0 0x01 ∷ taken 1 4 4 ∷ to_shared (move 16384) 0 5 ∷
     dispatched 0 Idle ∷ []
 
 -- ---- three groups, each with a queue and an engine, 4 of 16 buffers reserved and 8 allowed
@@ -138,17 +81,10 @@ one_of_three = record { queues = 1; engines = 1; reserved = 4; allowed = 8 }
 
 -- each queue and each group is written, and all of it enabled
 abbrev pub three_groups_setup : List Step
-three_groups_setup =
-    queue_written 0 shared_queue Written ∷
-    queue_written 1 shared_queue Written ∷
-    queue_written 2 shared_queue Written ∷
+three_groups_setup = three_queues (
     group_written 0 one_of_three Written ∷
     group_written 1 (record one_of_three { queues = 2; engines = 2 }) Written ∷
-    group_written 2 (record one_of_three { queues = 4; engines = 4 }) Written ∷
-    issued EnableDevice (Ended 0) ∷
-    issued (EnableWq 0) (Ended 0) ∷
-    issued (EnableWq 1) (Ended 0) ∷
-    issued (EnableWq 2) (Ended 0) ∷ []
+    group_written 2 (record one_of_three { queues = 4; engines = 4 }) Written ∷ [])
 
 -- a move that takes four buffers comes to a queue, with this name and the cell of that number
 abbrev to : ℕ → ℕ → Step
@@ -157,9 +93,5 @@ to queue name = written queue Unlimited (Enqcmd 5) (move 16384) (Accepted (ticke
 -- 8 and 4 buffers are in use and 4 are free, but these are reserved for the third group
 abbrev pub buffers_reserved_for_another : List Step
 buffers_reserved_for_another =
-    to 0 0 ∷ to 0 1 ∷ to 1 2 ∷ to 1 3 ∷ to 2 4 ∷
-    dispatched 0 (Taken (ticket 0 0) 0) ∷
-    dispatched 0 (Taken (ticket 1 1) 0) ∷
-    dispatched 1 (Taken (ticket 2 2) 1) ∷
-    dispatched 1 Idle ∷
-    dispatched 2 (Taken (ticket 4 4) 2) ∷ []
+    to 0 0 ∷ to 0 1 ∷ to 1 2 ∷ to 1 3 ∷ to 2 4 ∷ taken 0 0 0 ∷ taken 0 1 1 ∷ taken 1 2 2 ∷ dispatched 1 Idle ∷
+    taken 2 4 4 ∷ []

@@ -4,78 +4,39 @@ use Rattle.std.specs.Prelude.{List, [], ◌∷◌, ◌++◌}
 use Rattle.dsa_regs.specs.declared.Command.TheVariants.{AbortAll, AbortWq}
 use Rattle.dsa_regs.specs.Worked.{shared_queue, dedicated_queue, first_group, second_group}
 use Rattle.dsa_book.specs.declared.event.Step.{Step}
-use Rattle.dsa_book.specs.declared.answer.SubmitAnswer.TheVariants.{Accepted}
-use Rattle.dsa_book.specs.declared.answer.DispatchAnswer.TheVariants.{Taken, Idle}
+use Rattle.dsa_book.specs.declared.answer.DispatchAnswer.TheVariants.{Idle}
 use Rattle.dsa_book.specs.declared.answer.FetchAnswer.TheVariants.{Fetched, NoBatch, AllFetched}
-use Rattle.dsa_book.specs.declared.answer.StartAnswer.TheVariants.{Started, FenceWait, NoBuffers, Abandoned, Nothing}
+use Rattle.dsa_book.specs.declared.answer.StartAnswer.TheVariants.{FenceWait, NoBuffers, Abandoned, Nothing}
 use Rattle.dsa_book.specs.declared.answer.{FinishAnswer.TheVariants.{Done, NotReady}, IssueAnswer.TheVariants.{Ended}}
-use Rattle.dsa_worked.specs.Setup.{no_op, drain, move, batch, fenced, ticket, masked, enqcmd, movdir, dispatched}
+use Rattle.dsa_worked.specs.Setup.{no_op, drain, move, batch, fenced, ticket, masked, dispatched}
 use Rattle.dsa_worked.specs.Setup.{fetched, started, finished, faulted, issued, configured, enabled}
+use Rattle.dsa_worked.specs.Setup.{to_shared, to_dedicated, taken, member, begun, ended}
 
 -- ---- the end of a batch
 
 -- a batch of two: members still to be fetched, a member that waits, and one that runs each keep it from ending
 abbrev pub batch_is_not_ready : List Step
 batch_is_not_ready =
-    enqcmd (batch 2) (Accepted (ticket 0 0)) ∷
-    dispatched 0 (Taken (ticket 0 0) 0) ∷
-    finished 0 (ticket 0 0) NotReady ∷
-    fetched 0 no_op (Fetched (ticket 1 1)) ∷
-    started 0 (Started (ticket 1 1)) ∷
-    finished 0 (ticket 1 1) (Done 0x01) ∷
-    finished 0 (ticket 0 0) NotReady ∷
-    fetched 0 no_op (Fetched (ticket 1 2)) ∷
-    finished 0 (ticket 0 0) NotReady ∷
-    started 0 (Started (ticket 1 2)) ∷
-    finished 0 (ticket 0 0) NotReady ∷
-    finished 0 (ticket 1 2) (Done 0x01) ∷
-    faulted 0 (ticket 0 0) (Done 0x01) ∷
-    fetched 0 no_op NoBatch ∷
-    started 0 Nothing ∷ []
+    to_shared (batch 2) 0 0 ∷ taken 0 0 0 ∷ finished 0 (ticket 0 0) NotReady ∷ member 0 no_op 1 1 ∷ begun 0 1 1 ∷
+    ended 0 1 1 0x01 ∷ finished 0 (ticket 0 0) NotReady ∷ member 0 no_op 1 2 ∷ finished 0 (ticket 0 0) NotReady ∷
+    begun 0 1 2 ∷ finished 0 (ticket 0 0) NotReady ∷ ended 0 1 2 0x01 ∷ faulted 0 (ticket 0 0) (Done 0x01) ∷
+    fetched 0 no_op NoBatch ∷ started 0 Nothing ∷ []
 
 -- while a batch is open, one that is not well formed is taken and ends, and one that is well formed waits
 abbrev pub batches_beside_a_batch : List Step
 batches_beside_a_batch =
-    enqcmd (batch 2) (Accepted (ticket 0 0)) ∷
-    dispatched 0 (Taken (ticket 0 0) 0) ∷
-    enqcmd (batch 1) (Accepted (ticket 1 1)) ∷
-    dispatched 0 (Taken (ticket 1 1) 0) ∷
-    fetched 0 no_op (Fetched (ticket 2 2)) ∷
-    finished 0 (ticket 1 1) (Done 0x14) ∷
-    enqcmd (batch 2) (Accepted (ticket 1 3)) ∷
-    dispatched 0 Idle ∷
-    fetched 0 (fenced no_op) (Fetched (ticket 3 4)) ∷
-    started 0 (Started (ticket 2 2)) ∷
-    finished 0 (ticket 2 2) (Done 0x01) ∷
-    started 0 (Started (ticket 3 4)) ∷
-    finished 0 (ticket 3 4) (Done 0x01) ∷
-    finished 0 (ticket 0 0) (Done 0x01) ∷
-    dispatched 0 (Taken (ticket 1 3) 0) ∷ []
+    to_shared (batch 2) 0 0 ∷ taken 0 0 0 ∷ to_shared (batch 1) 1 1 ∷ taken 0 1 1 ∷ member 0 no_op 2 2 ∷
+    ended 0 1 1 0x14 ∷ to_shared (batch 2) 1 3 ∷ dispatched 0 Idle ∷ member 0 (fenced no_op) 3 4 ∷ begun 0 2 2 ∷
+    ended 0 2 2 0x01 ∷ begun 0 3 4 ∷ ended 0 3 4 0x01 ∷ ended 0 0 0 0x01 ∷ taken 0 1 3 ∷ []
 
 -- a submitted Move fails beside a batch, and a member of another engine's batch
 abbrev pub failures_beside_a_batch : List Step
 failures_beside_a_batch =
-    enqcmd (batch 2) (Accepted (ticket 0 0)) ∷
-    dispatched 0 (Taken (ticket 0 0) 0) ∷
-    enqcmd (move 4096) (Accepted (ticket 1 1)) ∷
-    dispatched 0 (Taken (ticket 1 1) 0) ∷
-    movdir (batch 2) (Accepted (ticket 2 2)) ∷
-    dispatched 1 (Taken (ticket 2 2) 1) ∷
-    faulted 0 (ticket 1 1) (Done 0x03) ∷
-    fetched 1 (move 4096) (Fetched (ticket 3 3)) ∷
-    started 1 (Started (ticket 3 3)) ∷
-    faulted 1 (ticket 3 3) (Done 0x03) ∷
-    fetched 0 (fenced no_op) (Fetched (ticket 4 4)) ∷
-    started 0 (Started (ticket 4 4)) ∷
-    finished 0 (ticket 4 4) (Done 0x01) ∷
-    fetched 0 no_op (Fetched (ticket 4 5)) ∷
-    started 0 (Started (ticket 4 5)) ∷
-    finished 0 (ticket 4 5) (Done 0x01) ∷
-    finished 0 (ticket 0 0) (Done 0x01) ∷
-    fetched 1 no_op (Fetched (ticket 0 6)) ∷
-    started 1 (Started (ticket 0 6)) ∷
-    finished 1 (ticket 0 6) (Done 0x01) ∷
-    finished 1 (ticket 2 2) (Done 0x05) ∷ []
+    to_shared (batch 2) 0 0 ∷ taken 0 0 0 ∷ to_shared (move 4096) 1 1 ∷ taken 0 1 1 ∷ to_dedicated (batch 2) 2 2 ∷
+    taken 1 2 2 ∷ faulted 0 (ticket 1 1) (Done 0x03) ∷ member 1 (move 4096) 3 3 ∷ begun 1 3 3 ∷
+    faulted 1 (ticket 3 3) (Done 0x03) ∷ member 0 (fenced no_op) 4 4 ∷ begun 0 4 4 ∷ ended 0 4 4 0x01 ∷
+    member 0 no_op 4 5 ∷ begun 0 4 5 ∷ ended 0 4 5 0x01 ∷ ended 0 0 0 0x01 ∷ member 1 no_op 0 6 ∷ begun 1 0 6 ∷
+    ended 1 0 6 0x01 ∷ ended 1 2 2 0x05 ∷ []
 
 -- ---- fences
 
@@ -83,61 +44,28 @@ failures_beside_a_batch =
 -- behind it; the fifth is not fetched
 abbrev pub three_are_abandoned : List Step
 three_are_abandoned =
-    enqcmd (batch 5) (Accepted (ticket 0 0)) ∷
-    dispatched 0 (Taken (ticket 0 0) 0) ∷
-    fetched 0 (move 4096) (Fetched (ticket 1 1)) ∷
-    fetched 0 (fenced no_op) (Fetched (ticket 2 2)) ∷
-    fetched 0 (fenced no_op) (Fetched (ticket 3 3)) ∷
-    fetched 0 no_op (Fetched (ticket 4 4)) ∷
-    started 0 (Started (ticket 1 1)) ∷
-    faulted 0 (ticket 1 1) (Done 0x03) ∷
-    started 0 (Abandoned 3) ∷
-    fetched 0 no_op AllFetched ∷
-    started 0 Nothing ∷
-    finished 0 (ticket 0 0) (Done 0x05) ∷ []
+    to_shared (batch 5) 0 0 ∷ taken 0 0 0 ∷ member 0 (move 4096) 1 1 ∷ member 0 (fenced no_op) 2 2 ∷
+    member 0 (fenced no_op) 3 3 ∷ member 0 no_op 4 4 ∷ begun 0 1 1 ∷ faulted 0 (ticket 1 1) (Done 0x03) ∷
+    started 0 (Abandoned 3) ∷ fetched 0 no_op AllFetched ∷ started 0 Nothing ∷ ended 0 0 0 0x05 ∷ []
 
 -- one member has failed and another runs: the fence waits for it, and then abandons
 abbrev pub fence_waits_behind_a_failure : List Step
 fence_waits_behind_a_failure =
-    enqcmd (batch 3) (Accepted (ticket 0 0)) ∷
-    dispatched 0 (Taken (ticket 0 0) 0) ∷
-    fetched 0 (move 4096) (Fetched (ticket 1 1)) ∷
-    fetched 0 no_op (Fetched (ticket 2 2)) ∷
-    fetched 0 (fenced no_op) (Fetched (ticket 3 3)) ∷
-    started 0 (Started (ticket 1 1)) ∷
-    started 0 (Started (ticket 2 2)) ∷
-    faulted 0 (ticket 1 1) (Done 0x03) ∷
-    started 0 FenceWait ∷
-    finished 0 (ticket 2 2) (Done 0x01) ∷
-    started 0 (Abandoned 1) ∷
-    finished 0 (ticket 0 0) (Done 0x05) ∷ []
+    to_shared (batch 3) 0 0 ∷ taken 0 0 0 ∷ member 0 (move 4096) 1 1 ∷ member 0 no_op 2 2 ∷
+    member 0 (fenced no_op) 3 3 ∷ begun 0 1 1 ∷ begun 0 2 2 ∷ faulted 0 (ticket 1 1) (Done 0x03) ∷ started 0 FenceWait ∷
+    ended 0 2 2 0x01 ∷ started 0 (Abandoned 1) ∷ ended 0 0 0 0x05 ∷ []
 
 -- a member with no fence starts behind a failure, and fails no more than its batch
 abbrev pub no_fence_behind_a_failure : List Step
 no_fence_behind_a_failure =
-    enqcmd (batch 2) (Accepted (ticket 0 0)) ∷
-    dispatched 0 (Taken (ticket 0 0) 0) ∷
-    fetched 0 (move 4096) (Fetched (ticket 1 1)) ∷
-    started 0 (Started (ticket 1 1)) ∷
-    faulted 0 (ticket 1 1) (Done 0x03) ∷
-    fetched 0 no_op (Fetched (ticket 1 2)) ∷
-    started 0 (Started (ticket 1 2)) ∷
-    finished 0 (ticket 1 2) (Done 0x01) ∷
-    finished 0 (ticket 0 0) (Done 0x05) ∷ []
+    to_shared (batch 2) 0 0 ∷ taken 0 0 0 ∷ member 0 (move 4096) 1 1 ∷ begun 0 1 1 ∷
+    faulted 0 (ticket 1 1) (Done 0x03) ∷ member 0 no_op 1 2 ∷ begun 0 1 2 ∷ ended 0 1 2 0x01 ∷ ended 0 0 0 0x05 ∷ []
 
 -- a fence counts on an operation that is not supported: it waits, and then starts and fails
 abbrev pub fence_on_an_unsupported_operation : List Step
 fence_on_an_unsupported_operation =
-    enqcmd (batch 2) (Accepted (ticket 0 0)) ∷
-    dispatched 0 (Taken (ticket 0 0) 0) ∷
-    fetched 0 no_op (Fetched (ticket 1 1)) ∷
-    fetched 0 (fenced drain) (Fetched (ticket 2 2)) ∷
-    started 0 (Started (ticket 1 1)) ∷
-    started 0 FenceWait ∷
-    finished 0 (ticket 1 1) (Done 0x01) ∷
-    started 0 (Started (ticket 2 2)) ∷
-    finished 0 (ticket 2 2) (Done 0x10) ∷
-    finished 0 (ticket 0 0) (Done 0x05) ∷ []
+    to_shared (batch 2) 0 0 ∷ taken 0 0 0 ∷ member 0 no_op 1 1 ∷ member 0 (fenced drain) 2 2 ∷ begun 0 1 1 ∷
+    started 0 FenceWait ∷ ended 0 1 1 0x01 ∷ begun 0 2 2 ∷ ended 0 2 2 0x10 ∷ ended 0 0 0 0x05 ∷ []
 
 -- the set-up with four read buffers for the first group, where a Move of four pages needs them all
 abbrev pub few_buffers : List Step
@@ -146,31 +74,20 @@ few_buffers = configured shared_queue dedicated_queue (record first_group { allo
 -- a Move has all buffers, and a batch has a first member and a fenced Move
 abbrev behind_a_move : Step → List Step
 behind_a_move first_member =
-    enqcmd (move 16384) (Accepted (ticket 0 0)) ∷
-    dispatched 0 (Taken (ticket 0 0) 0) ∷
-    enqcmd (batch 2) (Accepted (ticket 1 1)) ∷
-    dispatched 0 (Taken (ticket 1 1) 0) ∷
-    first_member ∷
-    fetched 0 (fenced (move 16384)) (Fetched (ticket 3 3)) ∷
-    started 0 (Started (ticket 2 2)) ∷ []
+    to_shared (move 16384) 0 0 ∷ taken 0 0 0 ∷ to_shared (batch 2) 1 1 ∷ taken 0 1 1 ∷ first_member ∷
+    member 0 (fenced (move 16384)) 3 3 ∷ begun 0 2 2 ∷ []
 
 -- with few buffers: the fenced Move waits for its fence first, and then for buffers
 abbrev pub fence_before_buffers : List Step
 fence_before_buffers =
     behind_a_move (fetched 0 no_op (Fetched (ticket 2 2)))
-    ++ started 0 FenceWait ∷
-    finished 0 (ticket 2 2) (Done 0x01) ∷
-    started 0 NoBuffers ∷
-    finished 0 (ticket 0 0) (Done 0x01) ∷
-    started 0 (Started (ticket 3 3)) ∷ []
+    ++ started 0 FenceWait ∷ ended 0 2 2 0x01 ∷ started 0 NoBuffers ∷ ended 0 0 0 0x01 ∷ begun 0 3 3 ∷ []
 
 -- with few buffers: the first member fails, and the fenced Move is abandoned with no buffers to be had
 abbrev pub failure_before_buffers : List Step
 failure_before_buffers =
     behind_a_move (fetched 0 drain (Fetched (ticket 2 2)))
-    ++ finished 0 (ticket 2 2) (Done 0x10) ∷
-    started 0 (Abandoned 1) ∷
-    finished 0 (ticket 1 1) (Done 0x05) ∷ []
+    ++ finished 0 (ticket 2 2) (Done 0x10) ∷ started 0 (Abandoned 1) ∷ ended 0 1 1 0x05 ∷ []
 
 -- ---- limits of a queue
 
@@ -186,52 +103,28 @@ small_limits =
 -- with these limits: transfers and batches of both queues, and a member, whose limits are those of its queue
 abbrev pub limits_of_a_queue : List Step
 limits_of_a_queue =
-    enqcmd (move 4097) (Accepted (ticket 0 0)) ∷
-    dispatched 0 (Taken (ticket 0 0) 0) ∷
-    faulted 0 (ticket 0 0) (Done 0x13) ∷
-    enqcmd (move 4096) (Accepted (ticket 0 1)) ∷
-    dispatched 0 (Taken (ticket 0 1) 0) ∷
-    finished 0 (ticket 0 1) (Done 0x01) ∷
-    enqcmd (batch 3) (Accepted (ticket 0 2)) ∷
-    dispatched 0 (Taken (ticket 0 2) 0) ∷
-    finished 0 (ticket 0 2) (Done 0x14) ∷
-    movdir (move 4097) (Accepted (ticket 0 3)) ∷
-    dispatched 1 (Taken (ticket 0 3) 1) ∷
-    finished 1 (ticket 0 3) (Done 0x01) ∷
-    enqcmd (batch 2) (Accepted (ticket 0 4)) ∷
-    dispatched 0 (Taken (ticket 0 4) 0) ∷
-    fetched 0 (move 4097) (Fetched (ticket 1 5)) ∷
-    started 0 (Started (ticket 1 5)) ∷
-    finished 0 (ticket 1 5) (Done 0x13) ∷ []
+    to_shared (move 4097) 0 0 ∷ taken 0 0 0 ∷ faulted 0 (ticket 0 0) (Done 0x13) ∷ to_shared (move 4096) 0 1 ∷
+    taken 0 0 1 ∷ ended 0 0 1 0x01 ∷ to_shared (batch 3) 0 2 ∷ taken 0 0 2 ∷ ended 0 0 2 0x14 ∷
+    to_dedicated (move 4097) 0 3 ∷ taken 1 0 3 ∷ ended 1 0 3 0x01 ∷ to_shared (batch 2) 0 4 ∷ taken 0 0 4 ∷
+    member 0 (move 4097) 1 5 ∷ begun 0 1 5 ∷ ended 0 1 5 0x13 ∷ []
 
 -- ---- aborts across queues and engines
 
 -- both queues hold an entry, and both engines a batch with a member
 abbrev entries_everywhere : List Step
 entries_everywhere =
-    enqcmd (batch 2) (Accepted (ticket 0 0)) ∷
-    dispatched 0 (Taken (ticket 0 0) 0) ∷
-    fetched 0 no_op (Fetched (ticket 1 1)) ∷
-    movdir (batch 2) (Accepted (ticket 2 2)) ∷
-    dispatched 1 (Taken (ticket 2 2) 1) ∷
-    fetched 1 no_op (Fetched (ticket 3 3)) ∷
-    movdir no_op (Accepted (ticket 4 4)) ∷
-    enqcmd no_op (Accepted (ticket 5 5)) ∷ []
+    to_shared (batch 2) 0 0 ∷ taken 0 0 0 ∷ member 0 no_op 1 1 ∷ to_dedicated (batch 2) 2 2 ∷ taken 1 2 2 ∷
+    member 1 no_op 3 3 ∷ to_dedicated no_op 4 4 ∷ to_shared no_op 5 5 ∷ []
 
 -- all of it is aborted, and both notes go
 abbrev pub abort_of_all_lists : List Step
 abort_of_all_lists =
     entries_everywhere
-    ++ issued AbortAll (Ended 6) ∷
-    fetched 0 no_op NoBatch ∷
-    fetched 1 no_op NoBatch ∷
-    started 0 Nothing ∷
-    enqcmd no_op (Accepted (ticket 0 6)) ∷ []
+    ++ issued AbortAll (Ended 6) ∷ fetched 0 no_op NoBatch ∷ fetched 1 no_op NoBatch ∷ started 0 Nothing ∷
+    to_shared no_op 0 6 ∷ []
 
 -- what came through queue 1 is aborted, and the batch of the other engine goes on
 abbrev pub abort_beside_a_batch : List Step
 abort_beside_a_batch =
     entries_everywhere
-    ++ issued (AbortWq (masked 2)) (Ended 3) ∷
-    fetched 1 no_op NoBatch ∷
-    fetched 0 no_op (Fetched (ticket 2 6)) ∷ []
+    ++ issued (AbortWq (masked 2)) (Ended 3) ∷ fetched 1 no_op NoBatch ∷ member 0 no_op 2 6 ∷ []

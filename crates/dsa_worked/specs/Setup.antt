@@ -1,15 +1,17 @@
 -- Worked histories: a set-up of two queues, two groups and two engines, and short names for steps.
-use Rattle.std.specs.Prelude.{Bool, ℕ, not, List, [], ◌∷◌, ◌++◌, length, Option, option_map}
+use Rattle.std.specs.Prelude.{Bool, ℕ, not, List, [], ◌∷◌, ◌++◌, length, map, Option, option_map}
 use Rattle.dsa_desc.specs.declared.{Descriptor.{Descriptor}, Outcome.TheVariants.{Success, PageFault}}
 use Rattle.dsa_regs.specs.declared.{Phase.{Phase}, QueueMask.{QueueMask}, QueueConfig.{QueueConfig}}
-use Rattle.dsa_regs.specs.declared.GroupConfig.{GroupConfig}
+use Rattle.dsa_regs.specs.declared.{GroupConfig.{GroupConfig}, Fault.{Fault}}
 use Rattle.dsa_regs.specs.declared.Command.{Command, TheVariants.{EnableDevice, EnableWq}}
 use Rattle.dsa_regs.specs.Worked.{caps, shared_queue, dedicated_queue, first_group, second_group}
 use Rattle.dsa_store.specs.Content.{Slot, Content, all_held}
-use Rattle.dsa_book.specs.declared.answer.{Ticket.{Ticket}, SubmitAnswer.{SubmitAnswer}}
-use Rattle.dsa_book.specs.declared.answer.{DispatchAnswer.{DispatchAnswer}, FetchAnswer.{FetchAnswer}}
-use Rattle.dsa_book.specs.declared.answer.{StartAnswer.{StartAnswer}, FinishAnswer.{FinishAnswer}}
-use Rattle.dsa_book.specs.declared.answer.{IssueAnswer.{IssueAnswer, TheVariants.{Ended}}, PollAnswer.{PollAnswer}}
+use Rattle.dsa_book.specs.declared.answer.{Ticket.{Ticket}, SubmitAnswer.{SubmitAnswer, TheVariants.{Accepted}}}
+use Rattle.dsa_book.specs.declared.answer.DispatchAnswer.{DispatchAnswer, TheVariants.{Taken}}
+use Rattle.dsa_book.specs.declared.answer.FetchAnswer.{FetchAnswer, TheVariants.{Fetched}}
+use Rattle.dsa_book.specs.declared.answer.StartAnswer.{StartAnswer, TheVariants.{Started}}
+use Rattle.dsa_book.specs.declared.answer.FinishAnswer.{FinishAnswer, TheVariants.{Done}}
+use Rattle.dsa_book.specs.declared.answer.{IssueAnswer.{IssueAnswer, TheVariants.{Ended, Refused}}, PollAnswer.{PollAnswer}}
 use Rattle.dsa_book.specs.declared.answer.WriteAnswer.{WriteAnswer, TheVariants.{Written}}
 use Rattle.dsa_book.specs.declared.answer.ClearAnswer.{ClearAnswer}
 use Rattle.dsa_book.specs.declared.answer.Reply.{Reply}
@@ -113,6 +115,44 @@ queue_written queue config answer = step (WriteQueue queue config) (Write answer
 abbrev pub group_written : ℕ → GroupConfig → WriteAnswer → Step
 group_written group config answer = step (WriteGroup group config) (Write answer)
 
+-- ---- the same, where what is asked for is done, or a command is refused
+
+-- ENQCMD to queue 0 is accepted, with this cell and name
+abbrev pub to_shared : Descriptor → ℕ → ℕ → Step
+to_shared descriptor cell name = enqcmd descriptor (Accepted (ticket cell name))
+
+-- MOVDIR64B to queue 1 is accepted, with this cell and name
+abbrev pub to_dedicated : Descriptor → ℕ → ℕ → Step
+to_dedicated descriptor cell name = movdir descriptor (Accepted (ticket cell name))
+
+-- an engine takes the entry with this cell and name from the queue of its own number
+abbrev pub taken : ℕ → ℕ → ℕ → Step
+taken engine cell name = dispatched engine (Taken (ticket cell name) engine)
+
+-- an engine has read a member, which has this cell and name
+abbrev pub member : ℕ → Descriptor → ℕ → ℕ → Step
+member engine descriptor cell name = fetched engine descriptor (Fetched (ticket cell name))
+
+-- an engine starts the member with this cell and name
+abbrev pub begun : ℕ → ℕ → ℕ → Step
+begun engine cell name = started engine (Started (ticket cell name))
+
+-- an engine ends the entry with this cell and name, with this status
+abbrev pub ended : ℕ → ℕ → ℕ → ℕ → Step
+ended engine cell name status = finished engine (ticket cell name) (Done status)
+
+-- a command is over at once, with nothing aborted
+abbrev pub obeyed : Command → Step
+obeyed command = issued command (Ended 0)
+
+-- a command is refused
+abbrev pub refused : Fault → Command → Step
+refused fault command = issued command (Refused fault)
+
+-- one after the other is refused
+abbrev pub all_refused : Fault → List Command → List Step
+all_refused fault commands = map (refused fault) commands
+
 -- ---- the set-up
 
 -- both queues and both groups are written, in this order
@@ -123,11 +163,17 @@ configured first_queue second_queue first_group second_group =
 
 -- the device and both queues are enabled
 abbrev pub enabled : List Step
-enabled = issued EnableDevice (Ended 0) ∷ issued (EnableWq 0) (Ended 0) ∷ issued (EnableWq 1) (Ended 0) ∷ []
+enabled = obeyed EnableDevice ∷ obeyed (EnableWq 0) ∷ obeyed (EnableWq 1) ∷ []
 
 -- a shared and a dedicated queue, each with an engine of its own, and all of it enabled
 abbrev pub setup : List Step
 setup = configured shared_queue dedicated_queue first_group second_group ++ enabled
+
+-- three shared queues and these groups are written, and all of it enabled
+abbrev pub three_queues : List Step → List Step
+three_queues groups =
+    queue_written 0 shared_queue Written ∷ queue_written 1 shared_queue Written ∷
+    queue_written 2 shared_queue Written ∷ groups ++ enabled ++ obeyed (EnableWq 2) ∷ []
 
 -- the queues of this mask, of the first sixteen
 abbrev pub masked : ℕ → QueueMask

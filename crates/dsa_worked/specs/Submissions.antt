@@ -7,123 +7,80 @@ use Rattle.dsa_book.specs.declared.event.{Kind.TheVariants.{Enqcmd, Movdir64b}, 
 use Rattle.dsa_book.specs.declared.answer.Reply.TheVariants.{Submit}
 use Rattle.dsa_book.specs.declared.answer.Cause.TheVariants.{AtLimit, NotEnabled, WrongKind}
 use Rattle.dsa_book.specs.declared.answer.SubmitAnswer.TheVariants.{Accepted, Retry, Dropped, Full}
-use Rattle.dsa_book.specs.declared.answer.DispatchAnswer.TheVariants.{Taken, Full}
-use Rattle.dsa_book.specs.declared.answer.FinishAnswer.TheVariants.{Done, Gone, Full}
-use Rattle.dsa_book.specs.declared.answer.{IssueAnswer.TheVariants.{Ended, Full}, PollAnswer.TheVariants.{Full}}
+use Rattle.dsa_book.specs.declared.answer.DispatchAnswer.TheVariants.{Full}
+use Rattle.dsa_book.specs.declared.answer.FinishAnswer.TheVariants.{Gone, Full}
+use Rattle.dsa_book.specs.declared.answer.{IssueAnswer.TheVariants.{Full}, PollAnswer.TheVariants.{Full}}
 use Rattle.dsa_book.specs.declared.answer.{WriteAnswer.TheVariants.{Full}, ClearAnswer.TheVariants.{Cleared, Nothing}}
 use Rattle.dsa_worked.specs.Setup.{no_op, drain, move, fenced, ticket, step, written, enqcmd, enqcmd_unlimited}
 use Rattle.dsa_worked.specs.Setup.{movdir, dispatched, finished, issued, polled, cleared, queue_written}
 use Rattle.dsa_worked.specs.Setup.{group_written}
+use Rattle.dsa_worked.specs.Setup.{to_shared, to_dedicated, taken, ended, obeyed, masked}
 
 -- a Move from its submission to its status
 abbrev pub one_move : List Step
 one_move =
-    enqcmd (move 4096) (Accepted (ticket 0 0)) ∷
-    dispatched 0 (Taken (ticket 0 0) 0) ∷
-    finished 0 (ticket 0 0) (Done 0x01) ∷ []
+    to_shared (move 4096) 0 0 ∷ taken 0 0 0 ∷ ended 0 0 0 0x01 ∷ []
 
 -- the threshold bounds the limited portal, the size the unlimited one, and a taken entry makes room
 abbrev pub two_portals : List Step
 two_portals =
-    enqcmd no_op (Accepted (ticket 0 0)) ∷
-    enqcmd no_op (Accepted (ticket 1 1)) ∷
-    enqcmd no_op (Retry AtLimit) ∷
-    enqcmd_unlimited 5 no_op (Accepted (ticket 2 2)) ∷
-    enqcmd_unlimited 5 no_op (Accepted (ticket 3 3)) ∷
-    enqcmd_unlimited 5 no_op (Retry AtLimit) ∷
-    dispatched 0 (Taken (ticket 0 0) 0) ∷
-    enqcmd no_op (Retry AtLimit) ∷
+    to_shared no_op 0 0 ∷ to_shared no_op 1 1 ∷ enqcmd no_op (Retry AtLimit) ∷
+    enqcmd_unlimited 5 no_op (Accepted (ticket 2 2)) ∷ enqcmd_unlimited 5 no_op (Accepted (ticket 3 3)) ∷
+    enqcmd_unlimited 5 no_op (Retry AtLimit) ∷ taken 0 0 0 ∷ enqcmd no_op (Retry AtLimit) ∷
     enqcmd_unlimited 5 no_op (Accepted (ticket 4 4)) ∷ []
 
 -- a dedicated queue that is full drops descriptors, and the noted error overflows
 abbrev pub dedicated_queue_overflows : List Step
 dedicated_queue_overflows =
-    movdir no_op (Accepted (ticket 0 0)) ∷
-    movdir no_op (Accepted (ticket 1 1)) ∷
-    movdir no_op (Dropped AtLimit) ∷
-    movdir no_op (Dropped AtLimit) ∷
-    cleared (Cleared (record { queue = 1; cause = AtLimit; overflow = true })) ∷
-    cleared Nothing ∷
-    movdir no_op (Dropped AtLimit) ∷
-    cleared (Cleared (record { queue = 1; cause = AtLimit; overflow = false })) ∷ []
+    to_dedicated no_op 0 0 ∷ to_dedicated no_op 1 1 ∷ movdir no_op (Dropped AtLimit) ∷ movdir no_op (Dropped AtLimit) ∷
+    cleared (Cleared (record { queue = 1; cause = AtLimit; overflow = true })) ∷ cleared Nothing ∷
+    movdir no_op (Dropped AtLimit) ∷ cleared (Cleared (record { queue = 1; cause = AtLimit; overflow = false })) ∷ []
 
 -- each cause for which a submission is turned away, but for the limit
 abbrev pub causes_of_retry : List Step
 causes_of_retry =
-    written 1 Limited (Enqcmd 5) no_op (Retry WrongKind) ∷
-    written 0 Limited Movdir64b no_op (Dropped WrongKind) ∷
-    issued (DisableWq (record { group = 0; mask = 1 })) (Ended 0) ∷
-    enqcmd no_op (Retry NotEnabled) ∷
+    written 1 Limited (Enqcmd 5) no_op (Retry WrongKind) ∷ written 0 Limited Movdir64b no_op (Dropped WrongKind) ∷
+    obeyed (DisableWq (masked 1)) ∷ enqcmd no_op (Retry NotEnabled) ∷
     written 9 Limited (Enqcmd 5) no_op (Retry NotEnabled) ∷ []
 
 -- the noted error is of the first descriptor that was dropped
 abbrev pub first_drop_is_noted : List Step
 first_drop_is_noted =
-    written 1 Limited (Enqcmd 5) no_op (Retry WrongKind) ∷
-    written 0 Limited Movdir64b no_op (Dropped WrongKind) ∷
-    written 9 Limited (Enqcmd 5) no_op (Retry NotEnabled) ∷
-    written 9 Limited Movdir64b no_op (Dropped NotEnabled) ∷
+    written 1 Limited (Enqcmd 5) no_op (Retry WrongKind) ∷ written 0 Limited Movdir64b no_op (Dropped WrongKind) ∷
+    written 9 Limited (Enqcmd 5) no_op (Retry NotEnabled) ∷ written 9 Limited Movdir64b no_op (Dropped NotEnabled) ∷
     cleared (Cleared (record { queue = 0; cause = WrongKind; overflow = true })) ∷ []
 
 -- sizes of 0 and above the limit, which is 2 ^ 20 bytes here
 abbrev pub transfer_sizes : List Step
 transfer_sizes =
-    enqcmd (move 0) (Accepted (ticket 0 0)) ∷
-    dispatched 0 (Taken (ticket 0 0) 0) ∷
-    finished 0 (ticket 0 0) (Done 0x13) ∷
-    enqcmd (move 1048576) (Accepted (ticket 0 1)) ∷
-    dispatched 0 (Taken (ticket 0 1) 0) ∷
-    finished 0 (ticket 0 1) (Done 0x01) ∷
-    enqcmd (move 1048577) (Accepted (ticket 0 2)) ∷
-    dispatched 0 (Taken (ticket 0 2) 0) ∷
-    finished 0 (ticket 0 2) (Done 0x13) ∷ []
+    to_shared (move 0) 0 0 ∷ taken 0 0 0 ∷ ended 0 0 0 0x13 ∷ to_shared (move 1048576) 0 1 ∷ taken 0 0 1 ∷
+    ended 0 0 1 0x01 ∷ to_shared (move 1048577) 0 2 ∷ taken 0 0 2 ∷ ended 0 0 2 0x13 ∷ []
 
 -- an operation that is not supported, a fence outside a batch, and flags that are ignored
 abbrev pub operations_and_flags : List Step
 operations_and_flags =
-    enqcmd drain (Accepted (ticket 0 0)) ∷
-    dispatched 0 (Taken (ticket 0 0) 0) ∷
-    finished 0 (ticket 0 0) (Done 0x10) ∷
-    enqcmd (fenced no_op) (Accepted (ticket 0 1)) ∷
-    dispatched 0 (Taken (ticket 0 1) 0) ∷
-    finished 0 (ticket 0 1) (Done 0x11) ∷
-    enqcmd (record (move 4096) { flags = 0x0c }) (Accepted (ticket 0 2)) ∷
-    dispatched 0 (Taken (ticket 0 2) 0) ∷
-    finished 0 (ticket 0 2) (Done 0x01) ∷ []
+    to_shared drain 0 0 ∷ taken 0 0 0 ∷ ended 0 0 0 0x10 ∷ to_shared (fenced no_op) 0 1 ∷ taken 0 0 1 ∷
+    ended 0 0 1 0x11 ∷ to_shared (record (move 4096) { flags = 0x0c }) 0 2 ∷ taken 0 0 2 ∷ ended 0 0 2 0x01 ∷ []
 
 -- a history of 10 steps, of which the set-up took 7
 abbrev pub history_is_full : List Step
 history_is_full =
-    enqcmd_unlimited 5 no_op (Accepted (ticket 0 0)) ∷
-    enqcmd_unlimited 5 no_op (Accepted (ticket 1 1)) ∷
-    enqcmd_unlimited 5 no_op (Accepted (ticket 2 2)) ∷
-    enqcmd_unlimited 5 no_op Full ∷
-    dispatched 0 Full ∷
+    enqcmd_unlimited 5 no_op (Accepted (ticket 0 0)) ∷ enqcmd_unlimited 5 no_op (Accepted (ticket 1 1)) ∷
+    enqcmd_unlimited 5 no_op (Accepted (ticket 2 2)) ∷ enqcmd_unlimited 5 no_op Full ∷ dispatched 0 Full ∷
     polled Full ∷ []
 
 -- a device with no room for any step: the set-up and a Move
 abbrev pub no_room_at_all : List Step
 no_room_at_all =
-    queue_written 0 shared_queue Full ∷
-    queue_written 1 dedicated_queue Full ∷
-    group_written 0 first_group Full ∷
-    group_written 1 second_group Full ∷
-    issued EnableDevice Full ∷
-    issued (EnableWq 0) Full ∷
-    issued (EnableWq 1) Full ∷
-    enqcmd (move 4096) Full ∷
-    dispatched 0 Full ∷
-    finished 0 (ticket 0 0) Full ∷ []
+    queue_written 0 shared_queue Full ∷ queue_written 1 dedicated_queue Full ∷ group_written 0 first_group Full ∷
+    group_written 1 second_group Full ∷ issued EnableDevice Full ∷ issued (EnableWq 0) Full ∷ issued (EnableWq 1) Full ∷
+    enqcmd (move 4096) Full ∷ dispatched 0 Full ∷ finished 0 (ticket 0 0) Full ∷ []
 
 -- tickets that name no running entry of the engine: one that waits, one of another engine, other cells and names
 abbrev pub forged_tickets : List Step
 forged_tickets =
-    enqcmd no_op (Accepted (ticket 0 0)) ∷
-    finished 0 (ticket 0 0) Gone ∷
-    dispatched 0 (Taken (ticket 0 0) 0) ∷
-    finished 1 (ticket 0 0) Gone ∷
-    finished 0 (ticket 65535 0) Gone ∷
-    finished 0 (ticket 0 4294967295) Gone ∷ []
+    to_shared no_op 0 0 ∷ finished 0 (ticket 0 0) Gone ∷ taken 0 0 0 ∷ finished 1 (ticket 0 0) Gone ∷
+    finished 0 (ticket 65535 0) Gone ∷ finished 0 (ticket 0 4294967295) Gone ∷ []
 
 -- two clients' submissions, of which the first's are the first and the third
 abbrev pub of_two_clients : List Step
