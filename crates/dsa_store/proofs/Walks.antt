@@ -1,13 +1,13 @@
 -- A walk along a list, by its front and what follows each cell.
-use Rattle.std.proofs.Common.{◌≡◌, ℕ, zero, suc, ◌<◌, ◌≤◌, true, List, [], ◌∷◌, drop, length, get_or, Option, Some}
+use Rattle.std.proofs.Common.{◌≡◌, ℕ, zero, suc, ◌<◌, ◌≤◌, List, [], ◌∷◌, drop, length, get_or, Option, Some}
 use Rattle.std.proofs.Common.{None, inl, inr, refl, sym, ap, ◌∙◌, arith, drop-cons}
 use Rattle.std.proofs.lemmas.{Iterator.{YieldsList, Consumers.{YieldsList-from_first}}, List.{append-nil}}
 use Rattle.std.specs.Iterator.{YieldsFirst}
 use Rattle.dsa_store.specs.declared.entry.{Cell.{Cell}, Entry.{Entry}}
-use Rattle.dsa_store.specs.Content.{Slot, Content, is_cell, chain, place_count, use_count, first_cell, entry_of}
+use Rattle.dsa_store.specs.Content.{Slot, Content, chain, place_count, use_count, first_cell, entry_of}
 use Rattle.dsa_store.specs.Content.{next_of, StandsAt}
 use Rattle.dsa_store.specs.Walk.{from_cell, slots_from}
-use Rattle.dsa_store.proofs.{Places.{count-cons, count-at}, Lists.{uses-cons}}
+use Rattle.dsa_store.proofs.{Places.{count-cons, looked-at}, Lists.{uses-cons}}
 use Rattle.dsa_store.proofs.Finding.{absent-before, absent-after, tail-stands, is_cell-slot, placed, entry_of-at}
 use Rattle.dsa_store.proofs.Finding.{entry_of-none, next_of-at}
 
@@ -15,14 +15,6 @@ use Rattle.dsa_store.proofs.Finding.{entry_of-none, next_of-at}
 from_cell-absent : (cell : Cell) (l : List Slot) → place_count cell l ≡ 0 → from_cell cell l ≡ []
 from_cell-absent cell [] h = refl
 from_cell-absent cell (s ∷ l) h = grind (arith, count-cons cell s l, from_cell-absent cell l)
-
--- a list with the cell at place k has from it on what stands from there
-from_cell-at : (cell : Cell) (l : List Slot) (k : ℕ) (d : Slot) → k < length l → is_cell cell (get_or l k d) ≡ true
-    → place_count cell l ≤ 1 → from_cell cell l ≡ drop k l
-from_cell-at cell [] k d h e o = absurd (omega arith)
-from_cell-at cell (s ∷ l) zero d h e o = grind (arith, e)
-from_cell-at cell (s ∷ l) (suc k) d h e o =
-    grind (arith, count-cons cell s l, count-at cell l k d, from_cell-at cell l k d)
 
 -- from a cell that no list names on there is nothing
 slots_from-none : (content : Content) (cell : Cell) → use_count content cell ≡ 0 → slots_from content (Some cell) ≡ []
@@ -35,12 +27,13 @@ pub slots_from-at : (content : Content) (i k : ℕ) (cell : Cell) (e : Entry) �
     → StandsAt content i k cell e → slots_from content (Some cell) ≡ drop k (chain content i)
 slots_from-at [] i k cell e o h = absurd (omega (arith, h.within))
 slots_from-at (l ∷ ls) zero k cell e o h =
-    let a : (place_count cell l ≡ 1) × (use_count ls cell ≡ 0) = absent-after l ls k cell e o h in
-    let here = from_cell-at cell l k (cell, e) h.within (is_cell-slot cell e _ h.slot) (omega arith) in
-    rw (here, slots_from-none ls cell a.1) (append-nil (drop k l))
+    let a = absent-after o h in
+    let s : Slot = (cell, e) in
+    let here = looked-at (λ s l. s ∷ l) (from_cell cell) cell (λ s l. refl) l k s h.within
+    (is_cell-slot cell e _ h.slot) (omega arith) in
+    rw (here ∙ sym (drop-cons l k s h.within), slots_from-none ls cell a.1) (append-nil (drop k l))
 slots_from-at (l ∷ ls) (suc i) k cell e o h =
-    let a : (place_count cell l ≡ 0) × (use_count ls cell ≤ 1) = absent-before l ls i k cell e o h in
-    rw (from_cell-absent cell l a.0) (slots_from-at ls i k cell e a.1 (tail-stands h))
+    let a = absent-before o h in rw (from_cell-absent cell l a.0) (slots_from-at ls i k cell e a.1 (tail-stands h))
 
 -- what is left of a list has its first cell at that place
 drop-front : (l : List Slot) (k : ℕ) (s : Slot) (m : List Slot) → drop k l ≡ s ∷ m
