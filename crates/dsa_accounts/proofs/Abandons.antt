@@ -1,17 +1,15 @@
 -- Only members are abandoned.
-use Rattle.std.proofs.Common.{◌≡◌, ℕ, ◌||◌, not, Bool, true, false, List, [], ◌∷◌, ◌++◌, map, Some, refl, ap, ◌∙◌}
-use Rattle.std.proofs.Common.{inl, inr, arith}
-use Rattle.std.proofs.lemmas.{List.Folds.{list_all-append}, Bool.{and_from, or_left, or_right}}
+use Rattle.std.proofs.Common.{◌≡◌, ℕ, ◌||◌, not, Bool, true, false, List, [], ◌∷◌, ◌++◌, map, Some, refl, ap, ◌∙◌, inl}
+use Rattle.std.proofs.{lemmas.{List.Folds.{list_all-append}, Bool.{and_from, or_left, or_right}}, Common.{inr, arith}}
 use Rattle.std.specs.Prelude.{filter, is_some}
 use Rattle.dsa_regs.specs.declared.{Caps.{Caps}, Scope.{Scope}}
 use Rattle.dsa_store.specs.Content.{Slot, all_held}
-use Rattle.dsa_book.specs.declared.event.Step.{Step}
 use Rattle.dsa_book.specs.declared.fate.{Fate.{Fate, TheVariants.{Completed, Aborted, Abandoned}}, FateRow.{FateRow}}
-use Rattle.dsa_book.specs.{State.{Work, State, opening}, Work.{fate_row, member_list, members, last_status}}
-use Rattle.dsa_book.specs.{Commands.{is_in_scope, after_abort}, Machine.{replay}}
+use Rattle.dsa_book.specs.{State.{Work, State, opening}, declared.event.Step.{Step}, Machine.{replay}}
+use Rattle.dsa_book.specs.{Work.{fate_row, member_list, members, last_status}, Commands.{is_in_scope, after_abort}}
+use Rattle.dsa_laws.proofs.Shapes.{queues-same, engines-same, In-cond}
+use Rattle.dsa_laws.proofs.{Histories.{well_formed-change, well_formed-opening, replay_keeps}, Effects.{by_effect}}
 use Rattle.dsa_laws.specs.{Change.{Change}, WellFormed.{HasShape, HasLawfulEntries, IsWellFormed}}
-use Rattle.dsa_laws.proofs.{Effects.{by_effect}, Shapes.{queues-same, engines-same, In-cond}}
-use Rattle.dsa_laws.proofs.Histories.{well_formed-change, well_formed-opening, replay_keeps}
 use Rattle.dsa_accounts.specs.Accounts.{was_abandoned, only_members_abandoned}
 use Rattle.dsa_base.specs.Lists.{In}
 

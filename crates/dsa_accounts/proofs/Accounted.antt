@@ -3,15 +3,13 @@ use Rattle.std.{proofs.Common.{◌≡◌, ◌+◌, cond, List, Some, sym, ap, �
 use Rattle.dsa_regs.specs.{declared.Caps.{Caps}, Caps.{list_count}}
 use Rattle.dsa_store.{specs.Content.{Slot, all_held}, proofs.Sums.{held-counted}}
 use Rattle.dsa_book.specs.declared.{answer.Reply.{Reply}, fate.FateRow.{FateRow}, event.{Event.{Event}, Step.{Step}}}
-use Rattle.dsa_book.specs.{State.{State, opening}, Machine.{next, replay}}
-use Rattle.dsa_book.specs.Totals.{is_accepted, total_accepted, total_fetched}
-use Rattle.dsa_book.proofs.Replay.{replay-adds}
-use Rattle.dsa_laws.specs.WellFormed.{IsWellFormed}
-use Rattle.dsa_laws.proofs.Changes.{next-change, next-tells}
+use Rattle.dsa_book.specs.{Totals.{is_accepted, total_accepted, total_fetched}, State.{State, opening}}
+use Rattle.dsa_book.{specs.Machine.{next, replay}, proofs.Replay.{replay-adds}}
 use Rattle.dsa_laws.proofs.Histories.{well_formed-change, well_formed-opening, replay-well_formed}
-use Rattle.dsa_laws.proofs.Contents.{all_held-empty}
-use Rattle.dsa_accounts.specs.Accounts.{is_submitted_slot, submitted_entries, member_entries}
+use Rattle.dsa_laws.proofs.{Changes.{next-change, next-tells}, Contents.{all_held-empty}}
+use Rattle.dsa_laws.specs.WellFormed.{IsWellFormed}
 use Rattle.dsa_accounts.proofs.{Totals.{replay-names}, Accounts.{change-entries, parts}}
+use Rattle.dsa_accounts.specs.Accounts.{is_submitted_slot, submitted_entries, member_entries}
 
 -- each step adds a submission where it accepts one
 next-account : (caps : Caps) (s s' : State) (event : Event) (reply : Reply) → IsWellFormed caps s

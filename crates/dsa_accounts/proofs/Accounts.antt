@@ -1,15 +1,14 @@
 -- Each accepted and each fetched entry has a fate row or is held, and only members are abandoned.
 use Rattle.std.proofs.Common.{◌≡◌, ℕ, ◌+◌, ◌<◌, Bool, cond, List, [], ◌∷◌, length, Option, Some, None, refl, ap, ◌∙◌}
-use Rattle.std.proofs.Common.{arith}
-use Rattle.std.proofs.lemmas.List.Sums.{sum_by-cons, count_by-le-length}
+use Rattle.std.proofs.{lemmas.List.Sums.{sum_by-cons, count_by-le-length}, Common.{arith}}
 use Rattle.std.specs.Prelude.{sum_by, count_by, is_some, is_none}
 use Rattle.dsa_regs.specs.declared.Caps.{Caps}
 use Rattle.dsa_store.{specs.Content.{Slot, Content, all_held, after_push}, proofs.Sums.{sum-pushed}}
-use Rattle.dsa_book.specs.{declared.fate.FateRow.{FateRow}, State.{Work, State}, Work.{member_list, after_fetch}}
-use Rattle.dsa_book.specs.{Submit.{after_accept}, Machine.{with_intake, intake_of}}
-use Rattle.dsa_laws.specs.{Change.{Change}, WellFormed.{HasShape, CellsOnce}}
-use Rattle.dsa_laws.proofs.{Effects.{by_count, came}, Shapes.{on-queue, note-engine, member_list-in, queue_list-in}}
+use Rattle.dsa_book.specs.{Machine.{with_intake, intake_of}, declared.fate.FateRow.{FateRow}, Submit.{after_accept}}
+use Rattle.dsa_book.specs.{Work.{member_list, after_fetch}, State.{Work, State}}
 use Rattle.dsa_laws.proofs.Flows.{flow-change, rows-counted, IsFlow}
+use Rattle.dsa_laws.proofs.{Shapes.{on-queue, note-engine, member_list-in, queue_list-in}, Effects.{by_count, came}}
+use Rattle.dsa_laws.specs.{Change.{Change}, WellFormed.{HasShape, CellsOnce}}
 
 -- ---- words
 

@@ -1,32 +1,27 @@
 -- Each member that was fetched of a noted batch is done, abandoned or still held.
-use Rattle.std.proofs.Common.{◌≡◌, ◌≢◌, ◌⊎◌, inl, inr, ⊎_elim, ℕ, zero, suc, ◌+◌, ◌<◌, ◌≤◌, ◌&&◌, ◌==◌, Bool, true, false, cond}
-use Rattle.std.proofs.Common.{List, [], ◌∷◌, ◌++◌, map, filter, set, get_or, Option, Some, None, option_map}
-use Rattle.std.proofs.Common.{refl, sym, ap, ◌∙◌, subst, arith, eqb-true, eq-eqb}
-use Rattle.std.proofs.lemmas.{Bool.{cases_lt, ltb-true, and_parts, false_from_ne_true}}
-use Rattle.std.proofs.lemmas.{List.Sums.{sum_by-cons}, Option.{same_Some, none-some}}
+use Rattle.std.proofs.Common.{false, cond, List, ◌∷◌, ◌++◌, map, filter, set, get_or, Option, Some, None, option_map}
+use Rattle.std.proofs.Common.{◌≡◌, ◌≢◌, ◌⊎◌, inl, inr, ⊎_elim, ℕ, zero, suc, ◌+◌, ◌<◌, ◌≤◌, ◌&&◌, ◌==◌, Bool, true, []}
+use Rattle.std.proofs.lemmas.{Bool.{cases_lt, ltb-true, and_parts, false_from_ne_true}, Option.{same_Some, none-some}}
+use Rattle.std.proofs.{Common.{refl, sym, ap, ◌∙◌, subst, arith, eqb-true, eq-eqb}, lemmas.List.Sums.{sum_by-cons}}
 use Rattle.std.specs.Prelude.{count_by}
-use Rattle.dsa_base.proofs.Lists.{In-front, In-find, get_or-replicated}
-use Rattle.dsa_base.proofs.{Counts.{In-counted, count-none, count-cons}, NumberLists.{get_or-each, get_or-past}}
-use Rattle.dsa_base.specs.Lists.{In}
+use Rattle.dsa_base.proofs.{Lists.{In-front, In-find, get_or-replicated}, Counts.{In-counted, count-none, count-cons}}
+use Rattle.dsa_base.{proofs.NumberLists.{get_or-each, get_or-past}, specs.Lists.{In}}
 use Rattle.dsa_regs.specs.{declared.Caps.{Caps}, Caps.{list_count}}
 use Rattle.dsa_store.specs.Content.{Slot, chain, all_held, without_front}
+use Rattle.dsa_book.specs.Machine.{replay}
+use Rattle.dsa_book.specs.Work.{after_abandon, after_end, fate_row, after_fetch, last_status, member_list, members}
 use Rattle.dsa_book.specs.declared.fate.{Fate.{Fate, TheVariants.{Completed, Aborted, Abandoned}}, FateRow.{FateRow}}
-use Rattle.dsa_book.specs.declared.{note.BatchNote.{BatchNote}, event.Step.{Step}}
-use Rattle.dsa_book.specs.State.{Work, State, opening}
-use Rattle.dsa_book.specs.Work.{after_abandon, after_end, fate_row, after_fetch, last_status}
-use Rattle.dsa_book.specs.Work.{member_list, members, note_at, opened_note, progress_list, after_take}
-use Rattle.dsa_book.specs.{Commands.{is_in_scope, kept_note}, Machine.{replay}}
-use Rattle.dsa_laws.specs.{Lists.{EachAt}, Change.{Change}, WellFormed.{IsWellFormed}}
+use Rattle.dsa_book.specs.{Work.{note_at, opened_note, progress_list, after_take}, State.{Work, State, opening}}
+use Rattle.dsa_book.specs.{declared.{note.BatchNote.{BatchNote}, event.Step.{Step}}, Commands.{is_in_scope, kept_note}}
 use Rattle.dsa_laws.proofs.Contents.{each-set, each-pushed, each-without_front, all_held-empty, chain-empty}
-use Rattle.dsa_laws.proofs.{Effects.{by_count}, Entries.{each-effect}, Flows.{flow-change, rows-counted}}
-use Rattle.dsa_laws.proofs.Histories.{replay_keeps, well_formed-change, well_formed-opening}
-use Rattle.dsa_laws.proofs.Shapes.{queues-same}
-use Rattle.dsa_accounts.specs.Accounts.{was_abandoned}
-use Rattle.dsa_accounts.specs.BatchCounts.{is_of, was_completed, was_aborted, members_ended, members_abandoned}
-use Rattle.dsa_accounts.specs.BatchCounts.{members_aborted, AddsUp}
+use Rattle.dsa_laws.proofs.{Flows.{flow-change, rows-counted}, Shapes.{queues-same}, Effects.{by_count}}
+use Rattle.dsa_laws.proofs.{Histories.{replay_keeps, well_formed-change, well_formed-opening}, Entries.{each-effect}}
+use Rattle.dsa_laws.specs.{Lists.{EachAt}, Change.{Change}, WellFormed.{IsWellFormed}}
 use Rattle.dsa_accounts.proofs.Accounts.{entries_with, change-entries}
 use Rattle.dsa_accounts.proofs.NotedBatches.{is_of-parent, parent-is_of, noted, noted-place, noted-once, noted-left}
 use Rattle.dsa_accounts.proofs.NotedBatches.{member-engine, unnoted, IsUnnoted}
+use Rattle.dsa_accounts.specs.BatchCounts.{is_of, was_completed, was_aborted, members_ended, members_abandoned, AddsUp}
+use Rattle.dsa_accounts.specs.{BatchCounts.{members_aborted}, Accounts.{was_abandoned}}
 
 -- ---- rows
 

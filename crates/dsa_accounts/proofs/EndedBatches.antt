@@ -1,33 +1,28 @@
 -- When a batch has ended, its members are done or abandoned, and so they stay.
-use Rattle.std.proofs.Common.{◌≡◌, ℕ, ◌≤◌, ◌&&◌, ◌==◌, not, Bool, true, false, List, [], ◌∷◌, ◌++◌, length}
-use Rattle.std.proofs.Common.{Option, Some, None, refl, sym, ap, ◌∙◌, subst, arith, ⊎_elim, eq-eqb}
+use Rattle.std.proofs.Common.{Some, None, refl, ap, ◌∙◌, subst, arith, ⊎_elim, eq-eqb}
+use Rattle.std.proofs.Common.{◌≡◌, ℕ, ◌≤◌, ◌&&◌, ◌==◌, not, Bool, true, false, List, [], ◌∷◌, ◌++◌, length, Option, sym}
 use Rattle.std.proofs.lemmas.Bool.{or_parts, or_cases, and_right, leb-true, ltb-false, not-false, false_from_ne_true}
 use Rattle.std.specs.Prelude.{count_by, nat_lt, find}
-use Rattle.dsa_base.proofs.Lists.{length-none, In-append, In-filter, In-find}
-use Rattle.dsa_base.proofs.{Counts.{In-counted, count-none, count-cons}, Tables.{table1}}
-use Rattle.dsa_base.specs.{Rows.{passes}, Lists.{In}}
+use Rattle.dsa_base.proofs.{Lists.{length-none, In-append, In-filter, In-find}, Tables.{table1}}
+use Rattle.dsa_base.{proofs.Counts.{In-counted, count-none, count-cons}, specs.{Rows.{passes}, Lists.{In}}}
 use Rattle.dsa_desc.specs.declared.Outcome.{Outcome}
 use Rattle.dsa_regs.specs.declared.Caps.{Caps}
 use Rattle.dsa_store.specs.Content.{Slot, all_held}
-use Rattle.dsa_book.specs.declared.answer.FinishAnswer.{FinishAnswer, TheVariants.{Done, NotReady}}
-use Rattle.dsa_book.specs.declared.answer.{Reply.{Reply, TheVariants.{Finish}}, Ticket.{Ticket}}
-use Rattle.dsa_book.specs.declared.event.{Event.TheVariants.{Finish}, Step.{Step}}
-use Rattle.dsa_book.specs.declared.fate.{Fate.{Fate, TheVariants.{Completed}}, FateRow.{FateRow}}
-use Rattle.dsa_book.specs.declared.note.BatchNote.{BatchNote}
-use Rattle.dsa_book.specs.State.{Work, State, opening, is_batch_of, is_ticket}
-use Rattle.dsa_book.specs.Work.{after_end, finish_of, in_progress, is_all_fetched, is_unfinished}
-use Rattle.dsa_book.specs.Work.{last_status, members, note_at, running_on}
-use Rattle.dsa_book.specs.Machine.{next, replay, replay_from, with_work}
 use Rattle.dsa_book.proofs.{Nexts.{next-each}, Replay.{replay_from-append, replay_none}}
-use Rattle.dsa_laws.specs.{Change.{Change, IsEnded, is_ended}, Engines.{holds_batch}}
-use Rattle.dsa_laws.specs.WellFormed.{IsWellFormed, NoteFits, fates_named}
-use Rattle.dsa_laws.proofs.Flows.{flow-change, rows-counted, IsFlow}
+use Rattle.dsa_book.specs.Machine.{next, replay, replay_from, with_work}
+use Rattle.dsa_book.specs.Work.{after_end, finish_of, in_progress, is_all_fetched, is_unfinished, last_status, members}
+use Rattle.dsa_book.specs.declared.answer.Reply.{Reply, TheVariants.{Finish}}
+use Rattle.dsa_book.specs.declared.answer.{FinishAnswer.{FinishAnswer, TheVariants.{Done, NotReady}}, Ticket.{Ticket}}
+use Rattle.dsa_book.specs.declared.fate.{Fate.{Fate, TheVariants.{Completed}}, FateRow.{FateRow}}
+use Rattle.dsa_book.specs.declared.{event.{Event.TheVariants.{Finish}, Step.{Step}}, note.BatchNote.{BatchNote}}
+use Rattle.dsa_book.specs.{State.{Work, State, opening, is_batch_of, is_ticket}, Work.{note_at, running_on}}
 use Rattle.dsa_laws.proofs.Histories.{replay_keeps, replay-well_formed, well_formed-change}
-use Rattle.dsa_accounts.specs.BatchCounts.{is_of, was_completed, was_aborted, members_ended, members_held, HasEnded}
-use Rattle.dsa_accounts.specs.Accounts.{was_abandoned}
-use Rattle.dsa_accounts.proofs.Accounts.{change-entries}
-use Rattle.dsa_accounts.proofs.BatchCounts.{CountsMembers, adds-up, members_of, members-change, replay-counts, rows-apart}
+use Rattle.dsa_laws.specs.{WellFormed.{IsWellFormed, NoteFits, fates_named}, Change.{Change, IsEnded, is_ended}}
+use Rattle.dsa_laws.{proofs.Flows.{flow-change, rows-counted, IsFlow}, specs.Engines.{holds_batch}}
+use Rattle.dsa_accounts.proofs.BatchCounts.{CountsMembers, adds-up, members_of, members-change, replay-counts}
 use Rattle.dsa_accounts.proofs.NotedBatches.{is_of-parent, named-once, noted, noted-member, unnoted}
+use Rattle.dsa_accounts.specs.BatchCounts.{is_of, was_completed, was_aborted, members_ended, members_held, HasEnded}
+use Rattle.dsa_accounts.{proofs.{Accounts.{change-entries}, BatchCounts.{rows-apart}}, specs.Accounts.{was_abandoned}}
 
 -- ---- the step that ends a batch
 
@@ -213,7 +208,8 @@ replay-ended caps before after s s' e ticket outcome status batch r found is h =
           ready = done.0;
           after = done.1;
         } in
-        let old = before-end caps s e batch w (replay-counts caps before s r) (ending s e ticket batch found is done.0) in
+        let old = before-end caps s e batch w (replay-counts caps before s r)
+        (ending s e ticket batch found is done.0) in
         (replay_keeps IsOverIn
         (λ u u' p c. (
           well_formed-change caps u u' p.0 c,

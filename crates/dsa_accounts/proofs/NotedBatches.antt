@@ -1,20 +1,18 @@
 -- The batch of a note: it is in progress on one engine, and its members are held there.
-use Rattle.std.proofs.Common.{◌≡◌, ℕ, zero, suc, ◌+◌, ◌-◌, ◌<◌, ◌≤◌, ◌&&◌, ◌==◌, Bool, true, false, cond, [], ◌∷◌}
-use Rattle.std.proofs.Common.{length, filter, Option, Some, None, refl, sym, ap, ◌∙◌, subst, arith, ⊎_elim, eq-eqb}
-use Rattle.std.proofs.Common.{eqb-true}
+use Rattle.std.proofs.Common.{length, filter, Option, None, refl, sym, ap, ◌∙◌, subst, arith, ⊎_elim, eq-eqb, eqb-true}
+use Rattle.std.proofs.Common.{◌≡◌, ℕ, zero, suc, ◌+◌, ◌-◌, ◌<◌, ◌≤◌, ◌&&◌, ◌==◌, Bool, true, false, cond, [], ◌∷◌, Some}
 use Rattle.std.proofs.lemmas.Bool.{cases_eq, cases_lt, and_from, false_from_ne_true, Decides.{nat_tests}}
-use Rattle.std.proofs.lemmas.Option.{same_Some, none-some}
-use Rattle.std.proofs.Math.ListN.{get_or-eq_default}
+use Rattle.std.proofs.{lemmas.Option.{same_Some, none-some}, Math.ListN.{get_or-eq_default}}
 use Rattle.std.specs.{Prelude.{nat_lt}, List.{list_any}}
 use Rattle.dsa_base.proofs.{Lists.{In-append, In-filter, In-any}, Counts.{In-counted, counted-In}, Tables.{not-both}}
 use Rattle.dsa_base.specs.Lists.{In}
 use Rattle.dsa_regs.specs.{declared.{Caps.{Caps}, Scope.{Scope}}, Caps.{first_members}}
 use Rattle.dsa_store.specs.Content.{Slot, Content, chain, all_held}
-use Rattle.dsa_book.specs.{declared.note.BatchNote.{BatchNote}, State.{Work, State, is_batch_of}}
-use Rattle.dsa_book.specs.{Work.{in_progress, members, note_at, progress_list}, Commands.{is_in_scope, takes_batch}}
-use Rattle.dsa_laws.specs.{Engines.{holds_batch, IsLawfulEngine}, WellFormed.{IsWellFormed, held_named, fates_named}}
-use Rattle.dsa_laws.proofs.{Shapes.{In-cond, members-at}, Batches.{sum-two, scope-alike}, Flows.{names-counted}}
+use Rattle.dsa_book.specs.{Commands.{is_in_scope, takes_batch}, State.{Work, State, is_batch_of}}
+use Rattle.dsa_book.specs.{Work.{in_progress, members, note_at, progress_list}, declared.note.BatchNote.{BatchNote}}
 use Rattle.dsa_laws.proofs.Contents.{In-chain}
+use Rattle.dsa_laws.proofs.{Batches.{sum-two, scope-alike}, Shapes.{In-cond, members-at}, Flows.{names-counted}}
+use Rattle.dsa_laws.specs.{Engines.{holds_batch, IsLawfulEngine}, WellFormed.{IsWellFormed, held_named, fates_named}}
 use Rattle.dsa_accounts.specs.BatchCounts.{is_of}
 
 -- ---- lists

@@ -1,25 +1,21 @@
 -- What the totals of a history say of its names, of its fate rows and of what is held.
 use Rattle.dsa_book.specs.declared.fate.Fate.TheVariants as fate
 use Rattle.std.proofs.Common.{◌≡◌, ℕ, ◌+◌, ◌≤◌, cond, List, [], ◌∷◌, length, Some, Option, sum_by, refl, sym, ap, ◌∙◌}
-use Rattle.std.proofs.Common.{arith, add-zero, zero-add}
-use Rattle.std.proofs.lemmas.List.Sums.{sum_by-cons}
+use Rattle.std.proofs.{Common.{arith, add-zero, zero-add}, lemmas.List.Sums.{sum_by-cons}}
 use Rattle.std.specs.Prelude.{⊤, filter}
 use Rattle.dsa_regs.specs.declared.Caps.{Caps}
 use Rattle.dsa_store.specs.Content.{all_held, held_count}
-use Rattle.dsa_book.specs.declared.answer.{SubmitAnswer.TheVariants.{Accepted}, FetchAnswer.TheVariants.{Fetched}}
-use Rattle.dsa_book.specs.declared.answer.{StartAnswer.TheVariants.{Abandoned}, FinishAnswer.TheVariants.{Done}}
-use Rattle.dsa_book.specs.declared.answer.IssueAnswer.TheVariants.{Ended}
-use Rattle.dsa_book.specs.declared.answer.Reply.{Reply, TheVariants.{Submit, Fetch, Start, Finish, Issue}}
-use Rattle.dsa_book.specs.declared.event.{Event.{Event}, Step.{Step}}
-use Rattle.dsa_book.specs.{State.{State, opening}, Work.{last_status, members}, Commands.{is_in_scope}}
-use Rattle.dsa_book.specs.Machine.{next, replay}
-use Rattle.dsa_book.specs.Totals.{named_by, ended_by, is_accepted, is_fetched, is_done, lost_by, total_accepted}
-use Rattle.dsa_book.specs.Totals.{total_fetched, total_done, total_lost}
 use Rattle.dsa_book.proofs.Replay.{replay-adds}
+use Rattle.dsa_book.specs.Totals.{named_by, ended_by, is_accepted, is_fetched, is_done, lost_by, total_accepted}
+use Rattle.dsa_book.specs.declared.answer.Reply.{Reply, TheVariants.{Submit, Fetch, Start, Finish, Issue}}
+use Rattle.dsa_book.specs.declared.answer.{FetchAnswer.TheVariants.{Fetched}, FinishAnswer.TheVariants.{Done}}
+use Rattle.dsa_book.specs.declared.answer.{SubmitAnswer.TheVariants.{Accepted}, StartAnswer.TheVariants.{Abandoned}}
+use Rattle.dsa_book.specs.declared.{answer.IssueAnswer.TheVariants.{Ended}, event.{Event.{Event}, Step.{Step}}}
+use Rattle.dsa_book.specs.{State.{State, opening}, Commands.{is_in_scope}, Machine.{next, replay}}
+use Rattle.dsa_book.specs.{Totals.{total_fetched, total_done, total_lost}, Work.{last_status, members}}
 use Rattle.dsa_accounts.proofs.Accounts.{parts}
-use Rattle.dsa_laws.specs.Change.{Change}
-use Rattle.dsa_laws.proofs.{Changes.{next-tells}, Effects.{by_count, came, gone}, Flows.{length-rows}}
-use Rattle.dsa_laws.proofs.Histories.{replay-well_formed}
+use Rattle.dsa_laws.proofs.{Effects.{by_count, came, gone}, Histories.{replay-well_formed}, Changes.{next-tells}}
+use Rattle.dsa_laws.{proofs.Flows.{length-rows}, specs.Change.{Change}}
 
 -- the name that comes next
 abbrev pub name_of : State → ℕ

@@ -1,12 +1,10 @@
 -- Where fewer are held than the store has cells, one of its cells is free.
 use Rattle.std.proofs.Common.{◌≡◌, ℕ, zero, suc, ◌+◌, ◌<◌, ◌≤◌, Bool, true, false, cond, List, [], ◌∷◌, length, arith}
-use Rattle.std.proofs.Common.{◌⊎◌, inl, inr, ⊎_elim}
 use Rattle.std.proofs.lemmas.{Bool.{cases_eq, Decides.{nat_tests}}, List.Sums.{sum_by-cons, sum_by_push}}
-use Rattle.std.specs.Prelude.{sum_by, count_by, nat_lt}
+use Rattle.std.{specs.Prelude.{sum_by, count_by, nat_lt}, proofs.Common.{◌⊎◌, inl, inr, ⊎_elim}}
 use Rattle.dsa_base.{specs.Numbers.{numbers_below}, proofs.NumberSums.{sum-equal, sum-plus, sum-same}}
-use Rattle.dsa_store.specs.declared.entry.Cell.{Cell}
 use Rattle.dsa_store.specs.Content.{Slot, Content, is_cell, use_count, held_count, all_held, is_free}
-use Rattle.dsa_store.proofs.Sums.{uses-counted, held-counted, unused-is_free}
+use Rattle.dsa_store.{proofs.Sums.{uses-counted, held-counted, unused-is_free}, specs.declared.entry.Cell.{Cell}}
 
 abbrev cell_at : ℕ → Cell
 cell_at k = record { 0 = k }

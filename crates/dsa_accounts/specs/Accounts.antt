@@ -1,6 +1,5 @@
 -- Entries that programs submitted and members of batches: how many are held or have a fate.
-use Rattle.std.specs.Prelude.{ℕ, ◌+◌, Bool, true, false, not, ◌||◌, List, count_by, is_some, is_none}
-use Rattle.std.specs.List.{list_all}
+use Rattle.std.specs.{Prelude.{ℕ, ◌+◌, Bool, true, false, not, ◌||◌, List, count_by, is_some, is_none}, List.{list_all}}
 use Rattle.dsa_store.specs.Content.{Slot, all_held}
 use Rattle.dsa_book.specs.{declared.fate.{Fate.{Fate, TheVariants.{Abandoned}}, FateRow.{FateRow}}, State.{Work}}
 

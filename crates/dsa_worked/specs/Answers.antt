@@ -1,25 +1,23 @@
 -- Worked histories of answers: a choice of queues, slots and buffers of an engine, what is stored,
 -- and what is of another kind.
 use Rattle.std.specs.Prelude.{ℕ, true, List, [], ◌∷◌, ◌++◌}
-use Rattle.dsa_regs.specs.declared.Fault.TheVariants.{Busy, BadIndex, Locked}
+use Rattle.dsa_regs.specs.Worked.{shared_queue, dedicated_queue, first_group}
 use Rattle.dsa_regs.specs.declared.Command.TheVariants.{EnableDevice, DrainAll}
-use Rattle.dsa_regs.specs.{Worked.{shared_queue, dedicated_queue, first_group}, Config.{zero_group}}
-use Rattle.dsa_book.specs.declared.event.{Step.{Step}, Portal.TheVariants.{Limited}, Kind.TheVariants.{Enqcmd}}
-use Rattle.dsa_book.specs.declared.answer.Cause.TheVariants.{AtLimit}
-use Rattle.dsa_book.specs.declared.answer.SubmitAnswer.TheVariants.{Accepted, Retry, Dropped, Full}
+use Rattle.dsa_regs.specs.{declared.Fault.TheVariants.{Busy, BadIndex, Locked}, Config.{zero_group}}
+use Rattle.dsa_book.specs.declared.answer.ClearAnswer.TheVariants.{Cleared, Nothing, Full}
 use Rattle.dsa_book.specs.declared.answer.DispatchAnswer.TheVariants.{Taken, Idle, Full}
 use Rattle.dsa_book.specs.declared.answer.FetchAnswer.TheVariants.{NoBatch, AllFetched, Full}
-use Rattle.dsa_book.specs.declared.answer.StartAnswer.TheVariants.{FenceWait, NoBuffers, Abandoned, Nothing}
-use Rattle.dsa_book.specs.declared.answer.StartAnswer.TheVariants.{Full}
-use Rattle.dsa_book.specs.declared.answer.FinishAnswer.TheVariants.{NotReady, Gone, Full}
 use Rattle.dsa_book.specs.declared.answer.IssueAnswer.TheVariants.{Active, Refused, Full}
 use Rattle.dsa_book.specs.declared.answer.PollAnswer.TheVariants.{Finished, Active, Nothing, Full}
+use Rattle.dsa_book.specs.declared.answer.StartAnswer.TheVariants.{FenceWait, NoBuffers, Abandoned, Nothing, Full}
+use Rattle.dsa_book.specs.declared.answer.SubmitAnswer.TheVariants.{Accepted, Retry, Dropped, Full}
 use Rattle.dsa_book.specs.declared.answer.WriteAnswer.TheVariants.{Written, Refused, Full}
-use Rattle.dsa_book.specs.declared.answer.ClearAnswer.TheVariants.{Cleared, Nothing, Full}
+use Rattle.dsa_book.specs.declared.answer.{FinishAnswer.TheVariants.{NotReady, Gone, Full}, Cause.TheVariants.{AtLimit}}
+use Rattle.dsa_book.specs.declared.event.{Step.{Step}, Portal.TheVariants.{Limited}, Kind.TheVariants.{Enqcmd}}
+use Rattle.dsa_worked.specs.Setup.{enabled, to_shared, to_dedicated, taken, member, begun, ended, obeyed, refused}
 use Rattle.dsa_worked.specs.Setup.{no_op, move, batch, fenced, ticket, written, enqcmd, movdir, dispatched, fetched}
-use Rattle.dsa_worked.specs.Setup.{started, finished, issued, polled, cleared, queue_written, group_written}
-use Rattle.dsa_worked.specs.Setup.{configured, enabled}
-use Rattle.dsa_worked.specs.Setup.{to_shared, to_dedicated, taken, member, begun, ended, obeyed, refused, three_queues}
+use Rattle.dsa_worked.specs.Setup.{started, finished, issued, polled, cleared, queue_written, group_written, configured}
+use Rattle.dsa_worked.specs.Setup.{three_queues}
 
 -- ---- a choice of queues
 

@@ -1,16 +1,14 @@
 -- Worked histories of batches, fences and read buffers, each after the set-up.
 use Rattle.std.specs.Prelude.{ℕ, List, [], ◌∷◌}
 use Rattle.dsa_regs.specs.declared.{Caps.{Caps}, GroupConfig.{GroupConfig}}
-use Rattle.dsa_book.specs.declared.event.{Step.{Step}, Portal.TheVariants.{Unlimited}, Kind.TheVariants.{Enqcmd}}
-use Rattle.dsa_book.specs.declared.answer.SubmitAnswer.TheVariants.{Accepted}
-use Rattle.dsa_book.specs.declared.answer.DispatchAnswer.TheVariants.{Idle}
 use Rattle.dsa_book.specs.declared.answer.FetchAnswer.TheVariants.{NoBatch, AllFetched}
 use Rattle.dsa_book.specs.declared.answer.StartAnswer.TheVariants.{FenceWait, NoBuffers, Abandoned, Nothing}
-use Rattle.dsa_book.specs.declared.answer.{FinishAnswer.TheVariants.{Done, NotReady}}
-use Rattle.dsa_book.specs.declared.answer.WriteAnswer.TheVariants.{Written}
-use Rattle.dsa_worked.specs.Setup.{no_op, move, batch, fenced, ticket, written, dispatched, fetched}
-use Rattle.dsa_worked.specs.Setup.{started, finished, faulted, group_written}
-use Rattle.dsa_worked.specs.Setup.{to_shared, to_dedicated, taken, member, begun, ended, three_queues}
+use Rattle.dsa_book.specs.declared.answer.{FinishAnswer.TheVariants.{Done, NotReady}, DispatchAnswer.TheVariants.{Idle}}
+use Rattle.dsa_book.specs.declared.answer.{SubmitAnswer.TheVariants.{Accepted}, WriteAnswer.TheVariants.{Written}}
+use Rattle.dsa_book.specs.declared.event.{Step.{Step}, Portal.TheVariants.{Unlimited}, Kind.TheVariants.{Enqcmd}}
+use Rattle.dsa_worked.specs.Setup.{faulted, group_written, to_shared, to_dedicated, taken, member, begun, ended}
+use Rattle.dsa_worked.specs.Setup.{no_op, move, batch, fenced, ticket, written, dispatched, fetched, started, finished}
+use Rattle.dsa_worked.specs.Setup.{three_queues}
 
 -- members start while buffers are to be had, and a group does not go past what it is allowed
 abbrev pub buffers_of_a_batch : List Step

@@ -1,25 +1,20 @@
 -- Worked histories of commands and configurations, each after the set-up where it does not say otherwise.
 use Rattle.std.specs.Prelude.{List, [], ◌∷◌, ◌++◌}
-use Rattle.dsa_regs.specs.declared.{QueueConfig.{QueueConfig}, GroupConfig.{GroupConfig}}
-use Rattle.dsa_regs.specs.declared.Fault.{Fault}
-use Rattle.dsa_regs.specs.declared.Fault.TheVariants.{Busy, PriorityZero, PriorityTooLarge, ThresholdZero}
-use Rattle.dsa_regs.specs.declared.Fault.TheVariants.{ThresholdAboveSize, Locked, WrongState, BadQueue, BadIndex}
 use Rattle.dsa_regs.specs.declared.Command.TheVariants.{EnableDevice, DisableDevice, DrainAll, AbortAll, ResetDevice}
 use Rattle.dsa_regs.specs.declared.Command.TheVariants.{EnableWq, DisableWq, DrainWq, AbortWq, ResetWq, DrainPasid}
-use Rattle.dsa_regs.specs.declared.Command.TheVariants.{AbortPasid}
-use Rattle.dsa_regs.specs.Worked.{shared_queue, first_group}
-use Rattle.dsa_book.specs.declared.event.{Step.{Step}, Portal.TheVariants.{Limited}, Kind.TheVariants.{Enqcmd}}
-use Rattle.dsa_book.specs.declared.answer.{Cause.TheVariants.{NotEnabled}, SubmitAnswer.TheVariants.{Accepted, Retry}}
-use Rattle.dsa_book.specs.declared.answer.FetchAnswer.TheVariants.{NoBatch}
-use Rattle.dsa_book.specs.declared.answer.{FinishAnswer.TheVariants.{Gone}}
+use Rattle.dsa_regs.specs.declared.Fault.TheVariants.{Busy, PriorityZero, PriorityTooLarge, ThresholdZero, Locked}
+use Rattle.dsa_regs.specs.declared.Fault.TheVariants.{ThresholdAboveSize, WrongState, BadQueue, BadIndex}
+use Rattle.dsa_regs.specs.declared.{Command.TheVariants.{AbortPasid}, QueueConfig.{QueueConfig}, Fault.{Fault}}
+use Rattle.dsa_regs.specs.{declared.GroupConfig.{GroupConfig}, Worked.{shared_queue, first_group}}
 use Rattle.dsa_book.specs.declared.answer.IssueAnswer.TheVariants.{Ended, Active, Refused}
 use Rattle.dsa_book.specs.declared.answer.PollAnswer.TheVariants.{Finished, Active, Nothing}
-use Rattle.dsa_book.specs.declared.answer.WriteAnswer.TheVariants.{Written, Refused}
-use Rattle.dsa_book.specs.declared.answer.ClearAnswer.TheVariants.{Nothing}
-use Rattle.dsa_worked.specs.Setup.{no_op, batch, ticket, written, enqcmd, enqcmd_unlimited}
-use Rattle.dsa_worked.specs.Setup.{fetched, finished, issued, polled, cleared, queue_written, group_written}
-use Rattle.dsa_worked.specs.Setup.{configured, setup}
-use Rattle.dsa_worked.specs.Setup.{to_shared, to_dedicated, taken, member, begun, ended, obeyed, refused, masked}
+use Rattle.dsa_book.specs.declared.answer.{FetchAnswer.TheVariants.{NoBatch}, ClearAnswer.TheVariants.{Nothing}}
+use Rattle.dsa_book.specs.declared.answer.{SubmitAnswer.TheVariants.{Accepted, Retry}, FinishAnswer.TheVariants.{Gone}}
+use Rattle.dsa_book.specs.declared.answer.{WriteAnswer.TheVariants.{Written, Refused}, Cause.TheVariants.{NotEnabled}}
+use Rattle.dsa_book.specs.declared.event.{Step.{Step}, Portal.TheVariants.{Limited}, Kind.TheVariants.{Enqcmd}}
+use Rattle.dsa_worked.specs.Setup.{no_op, batch, ticket, written, enqcmd, enqcmd_unlimited, fetched, finished, issued}
+use Rattle.dsa_worked.specs.Setup.{polled, cleared, queue_written, group_written, configured, setup, to_shared, taken}
+use Rattle.dsa_worked.specs.Setup.{to_dedicated, member, begun, ended, obeyed, refused, masked}
 
 -- a drain of queue 0 waits for what was submitted before it, and for nothing else
 abbrev pub drain_of_a_queue : List Step

@@ -1,16 +1,15 @@
 -- Worked histories of batches beside other work: what a batch waits for, what marks it as failed,
 -- fences, and the limits of its queue.
 use Rattle.std.specs.Prelude.{List, [], ◌∷◌, ◌++◌}
-use Rattle.dsa_regs.specs.declared.Command.TheVariants.{AbortAll, AbortWq}
 use Rattle.dsa_regs.specs.Worked.{shared_queue, dedicated_queue, first_group, second_group}
-use Rattle.dsa_book.specs.declared.event.Step.{Step}
-use Rattle.dsa_book.specs.declared.answer.DispatchAnswer.TheVariants.{Idle}
+use Rattle.dsa_regs.specs.declared.Command.TheVariants.{AbortAll, AbortWq}
 use Rattle.dsa_book.specs.declared.answer.FetchAnswer.TheVariants.{Fetched, NoBatch, AllFetched}
 use Rattle.dsa_book.specs.declared.answer.StartAnswer.TheVariants.{FenceWait, NoBuffers, Abandoned, Nothing}
-use Rattle.dsa_book.specs.declared.answer.{FinishAnswer.TheVariants.{Done, NotReady}, IssueAnswer.TheVariants.{Ended}}
-use Rattle.dsa_worked.specs.Setup.{no_op, drain, move, batch, fenced, ticket, masked, dispatched}
-use Rattle.dsa_worked.specs.Setup.{fetched, started, finished, faulted, issued, configured, enabled}
-use Rattle.dsa_worked.specs.Setup.{to_shared, to_dedicated, taken, member, begun, ended}
+use Rattle.dsa_book.specs.declared.answer.{FinishAnswer.TheVariants.{Done, NotReady}, DispatchAnswer.TheVariants.{Idle}}
+use Rattle.dsa_book.specs.declared.{answer.IssueAnswer.TheVariants.{Ended}, event.Step.{Step}}
+use Rattle.dsa_worked.specs.Setup.{finished, faulted, issued, configured, enabled, to_shared, to_dedicated, taken}
+use Rattle.dsa_worked.specs.Setup.{member, begun, ended}
+use Rattle.dsa_worked.specs.Setup.{no_op, drain, move, batch, fenced, ticket, masked, dispatched, fetched, started}
 
 -- ---- the end of a batch
 

@@ -1,20 +1,16 @@
 -- Worked histories of phases: which commands may come where, what they do to one queue of two, resets, and writes.
 use Rattle.std.specs.Prelude.{List, [], ◌∷◌, ◌++◌}
-use Rattle.dsa_regs.specs.declared.Fault.TheVariants.{Busy, SizeZero, Locked, NoGroup, WrongState, BadQueue, BadIndex}
+use Rattle.dsa_regs.specs.Worked.{shared_queue, dedicated_queue, first_group}
+use Rattle.dsa_regs.specs.declared.Command.TheVariants.{AbortPasid}
 use Rattle.dsa_regs.specs.declared.Command.TheVariants.{EnableDevice, DisableDevice, DrainAll, AbortAll, ResetDevice}
 use Rattle.dsa_regs.specs.declared.Command.TheVariants.{EnableWq, DisableWq, DrainWq, AbortWq, ResetWq, DrainPasid}
-use Rattle.dsa_regs.specs.declared.Command.TheVariants.{AbortPasid}
-use Rattle.dsa_regs.specs.Worked.{shared_queue, dedicated_queue, first_group}
-use Rattle.dsa_book.specs.declared.event.Step.{Step}
-use Rattle.dsa_book.specs.declared.answer.Cause.TheVariants.{AtLimit, NotEnabled}
-use Rattle.dsa_book.specs.declared.answer.SubmitAnswer.TheVariants.{Dropped}
+use Rattle.dsa_regs.specs.declared.Fault.TheVariants.{Busy, SizeZero, Locked, NoGroup, WrongState, BadQueue, BadIndex}
 use Rattle.dsa_book.specs.declared.answer.IssueAnswer.TheVariants.{Ended, Active, Refused}
-use Rattle.dsa_book.specs.declared.answer.PollAnswer.TheVariants.{Finished, Active}
-use Rattle.dsa_book.specs.declared.answer.WriteAnswer.TheVariants.{Written, Refused}
-use Rattle.dsa_book.specs.declared.answer.ClearAnswer.TheVariants.{Nothing}
-use Rattle.dsa_worked.specs.Setup.{no_op, masked, movdir, issued, polled}
-use Rattle.dsa_worked.specs.Setup.{cleared, queue_written, group_written}
-use Rattle.dsa_worked.specs.Setup.{to_shared, to_dedicated, taken, ended, obeyed, refused, all_refused}
+use Rattle.dsa_book.specs.declared.answer.{Cause.TheVariants.{AtLimit, NotEnabled}, SubmitAnswer.TheVariants.{Dropped}}
+use Rattle.dsa_book.specs.declared.answer.{PollAnswer.TheVariants.{Finished, Active}, ClearAnswer.TheVariants.{Nothing}}
+use Rattle.dsa_book.specs.declared.{answer.WriteAnswer.TheVariants.{Written, Refused}, event.Step.{Step}}
+use Rattle.dsa_worked.specs.Setup.{no_op, masked, movdir, issued, polled, cleared, queue_written, group_written, taken}
+use Rattle.dsa_worked.specs.Setup.{to_shared, to_dedicated, ended, obeyed, refused, all_refused}
 
 -- ---- which commands may come
 

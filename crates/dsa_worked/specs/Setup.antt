@@ -1,31 +1,25 @@
 -- Worked histories: a set-up of two queues, two groups and two engines, and short names for steps.
 use Rattle.std.specs.Prelude.{Bool, ℕ, not, List, [], ◌∷◌, ◌++◌, length, map, Option, option_map}
 use Rattle.dsa_desc.specs.declared.{Descriptor.{Descriptor}, Outcome.TheVariants.{Success, PageFault}}
-use Rattle.dsa_regs.specs.declared.{Phase.{Phase}, QueueMask.{QueueMask}, QueueConfig.{QueueConfig}}
-use Rattle.dsa_regs.specs.declared.{GroupConfig.{GroupConfig}, Fault.{Fault}}
-use Rattle.dsa_regs.specs.declared.Command.{Command, TheVariants.{EnableDevice, EnableWq}}
 use Rattle.dsa_regs.specs.Worked.{caps, shared_queue, dedicated_queue, first_group, second_group}
+use Rattle.dsa_regs.specs.declared.{Command.{Command, TheVariants.{EnableDevice, EnableWq}}, QueueConfig.{QueueConfig}}
+use Rattle.dsa_regs.specs.declared.{GroupConfig.{GroupConfig}, QueueMask.{QueueMask}, Phase.{Phase}, Fault.{Fault}}
 use Rattle.dsa_store.specs.Content.{Slot, Content, all_held}
-use Rattle.dsa_book.specs.declared.answer.{Ticket.{Ticket}, SubmitAnswer.{SubmitAnswer, TheVariants.{Accepted}}}
+use Rattle.dsa_book.specs.Machine.{replay, is_run, may_follow, stored_steps}
 use Rattle.dsa_book.specs.declared.answer.DispatchAnswer.{DispatchAnswer, TheVariants.{Taken}}
-use Rattle.dsa_book.specs.declared.answer.FetchAnswer.{FetchAnswer, TheVariants.{Fetched}}
-use Rattle.dsa_book.specs.declared.answer.StartAnswer.{StartAnswer, TheVariants.{Started}}
 use Rattle.dsa_book.specs.declared.answer.FinishAnswer.{FinishAnswer, TheVariants.{Done}}
-use Rattle.dsa_book.specs.declared.answer.{IssueAnswer.{IssueAnswer, TheVariants.{Ended, Refused}}, PollAnswer.{PollAnswer}}
+use Rattle.dsa_book.specs.declared.answer.Reply.TheVariants.{Submit, Dispatch, Fetch, Start, Finish, Issue, Poll, Write}
+use Rattle.dsa_book.specs.declared.answer.StartAnswer.{StartAnswer, TheVariants.{Started}}
 use Rattle.dsa_book.specs.declared.answer.WriteAnswer.{WriteAnswer, TheVariants.{Written}}
-use Rattle.dsa_book.specs.declared.answer.ClearAnswer.{ClearAnswer}
-use Rattle.dsa_book.specs.declared.answer.Reply.{Reply}
-use Rattle.dsa_book.specs.declared.answer.Reply.TheVariants.{Submit, Dispatch, Fetch, Start, Finish, Issue, Poll}
-use Rattle.dsa_book.specs.declared.answer.Reply.TheVariants.{Write, Clear}
-use Rattle.dsa_book.specs.declared.event.Portal.{Portal, TheVariants.{Limited, Unlimited}}
-use Rattle.dsa_book.specs.declared.event.Kind.{Kind, TheVariants.{Enqcmd, Movdir64b}}
-use Rattle.dsa_book.specs.declared.event.Event.{Event}
+use Rattle.dsa_book.specs.declared.answer.{FetchAnswer.{FetchAnswer, TheVariants.{Fetched}}, ClearAnswer.{ClearAnswer}}
+use Rattle.dsa_book.specs.declared.answer.{IssueAnswer.{IssueAnswer, TheVariants.{Ended, Refused}}, Ticket.{Ticket}}
+use Rattle.dsa_book.specs.declared.answer.{SubmitAnswer.{SubmitAnswer, TheVariants.{Accepted}}, PollAnswer.{PollAnswer}}
 use Rattle.dsa_book.specs.declared.event.Event.TheVariants.{Submit, Dispatch, Fetch, Start, Finish, Issue, Poll}
 use Rattle.dsa_book.specs.declared.event.Event.TheVariants.{WriteQueue, WriteGroup, ClearError}
-use Rattle.dsa_book.specs.declared.event.Step.{Step}
-use Rattle.dsa_book.specs.declared.fate.{Fate.{Fate}, FateRow.{FateRow}}
-use Rattle.dsa_book.specs.{State.{State}, Machine.{replay, is_run, may_follow, stored_steps}}
-use Rattle.dsa_book.specs.Totals.{total_accepted, total_fetched, total_retried, total_done, total_lost}
+use Rattle.dsa_book.specs.declared.event.Kind.{Kind, TheVariants.{Enqcmd, Movdir64b}}
+use Rattle.dsa_book.specs.declared.event.{Portal.{Portal, TheVariants.{Limited, Unlimited}}, Event.{Event}, Step.{Step}}
+use Rattle.dsa_book.specs.declared.{answer.Reply.{TheVariants.{Clear}, Reply}, fate.{Fate.{Fate}, FateRow.{FateRow}}}
+use Rattle.dsa_book.specs.{Totals.{total_accepted, total_fetched, total_retried, total_done, total_lost}, State.{State}}
 
 -- ---- descriptors, with no flags and a PASID that the submission gives where it is ENQCMD
 

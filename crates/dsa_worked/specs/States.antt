@@ -3,9 +3,8 @@
 use Rattle.std.specs.Prelude.{ℕ, true, false, List, [], ◌∷◌, count_by, Option, Some, None, option_map}
 use Rattle.dsa_regs.specs.Buffers.{covered_count}
 use Rattle.dsa_store.specs.Content.{Slot}
-use Rattle.dsa_book.specs.declared.event.Step.{Step}
 use Rattle.dsa_book.specs.declared.fate.{Fate.TheVariants.{Completed, Aborted, Abandoned}, FateRow.{FateRow}}
-use Rattle.dsa_book.specs.{State.{Work}, Work.{in_progress, all_used}}
+use Rattle.dsa_book.specs.{Work.{in_progress, all_used}, declared.event.Step.{Step}, State.{Work}}
 use Rattle.dsa_laws.specs.Engines.{holds_batch}
 use Rattle.dsa_worked.specs.Setup.{no_op, row, slot, state_after}
 

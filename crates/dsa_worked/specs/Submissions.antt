@@ -1,20 +1,17 @@
 -- Worked histories of submissions, each after the set-up.
 use Rattle.std.specs.Prelude.{true, false, List, [], ◌∷◌}
-use Rattle.dsa_regs.specs.declared.Command.TheVariants.{EnableDevice, DisableWq, EnableWq}
 use Rattle.dsa_regs.specs.Worked.{shared_queue, dedicated_queue, first_group, second_group}
-use Rattle.dsa_book.specs.declared.event.{Step.{Step}, Portal.TheVariants.{Limited, Unlimited}}
-use Rattle.dsa_book.specs.declared.event.{Kind.TheVariants.{Enqcmd, Movdir64b}, Event.TheVariants.{Submit}}
-use Rattle.dsa_book.specs.declared.answer.Reply.TheVariants.{Submit}
+use Rattle.dsa_regs.specs.declared.Command.TheVariants.{EnableDevice, DisableWq, EnableWq}
 use Rattle.dsa_book.specs.declared.answer.Cause.TheVariants.{AtLimit, NotEnabled, WrongKind}
 use Rattle.dsa_book.specs.declared.answer.SubmitAnswer.TheVariants.{Accepted, Retry, Dropped, Full}
-use Rattle.dsa_book.specs.declared.answer.DispatchAnswer.TheVariants.{Full}
-use Rattle.dsa_book.specs.declared.answer.FinishAnswer.TheVariants.{Gone, Full}
-use Rattle.dsa_book.specs.declared.answer.{IssueAnswer.TheVariants.{Full}, PollAnswer.TheVariants.{Full}}
-use Rattle.dsa_book.specs.declared.answer.{WriteAnswer.TheVariants.{Full}, ClearAnswer.TheVariants.{Cleared, Nothing}}
-use Rattle.dsa_worked.specs.Setup.{no_op, drain, move, fenced, ticket, step, written, enqcmd, enqcmd_unlimited}
-use Rattle.dsa_worked.specs.Setup.{movdir, dispatched, finished, issued, polled, cleared, queue_written}
-use Rattle.dsa_worked.specs.Setup.{group_written}
-use Rattle.dsa_worked.specs.Setup.{to_shared, to_dedicated, taken, ended, obeyed, masked}
+use Rattle.dsa_book.specs.declared.answer.{ClearAnswer.TheVariants.{Cleared, Nothing}, IssueAnswer.TheVariants.{Full}}
+use Rattle.dsa_book.specs.declared.answer.{FinishAnswer.TheVariants.{Gone, Full}, DispatchAnswer.TheVariants.{Full}}
+use Rattle.dsa_book.specs.declared.answer.{WriteAnswer.TheVariants.{Full}, PollAnswer.TheVariants.{Full}}
+use Rattle.dsa_book.specs.declared.event.{Portal.TheVariants.{Limited, Unlimited}, Kind.TheVariants.{Enqcmd, Movdir64b}}
+use Rattle.dsa_book.specs.declared.{event.{Event.TheVariants.{Submit}, Step.{Step}}, answer.Reply.TheVariants.{Submit}}
+use Rattle.dsa_worked.specs.Setup.{dispatched, finished, issued, polled, cleared, queue_written, group_written, taken}
+use Rattle.dsa_worked.specs.Setup.{no_op, drain, move, fenced, ticket, step, written, enqcmd, enqcmd_unlimited, movdir}
+use Rattle.dsa_worked.specs.Setup.{to_shared, to_dedicated, ended, obeyed, masked}
 
 -- a Move from its submission to its status
 abbrev pub one_move : List Step
