@@ -1,51 +1,18 @@
 -- What leaves queues, engines and store in step.
-use Rattle.std.proofs.Common.{◌≡◌, ℕ, ◌<◌, ◌≤◌, false, List, [], ◌∷◌, ◌++◌, length, set, refl, ◌∙◌, ap, arith, inl}
-use Rattle.std.proofs.Common.{inr}
+use Rattle.std.proofs.Common.{◌≡◌, ℕ, ◌<◌, ◌≤◌, false, List, [], ◌∷◌, length, map, set, Option, Some, None, refl}
+use Rattle.std.proofs.Common.{sym, ap, ◌∙◌, arith, inl, inr}
 use Rattle.std.proofs.lemmas.{Bool.{cases_Bool}, List.{get_or-set_other, length-set}}
+use Rattle.std.proofs.Math.Path.{fun_ext}
 use Rattle.dsa_base.proofs.Tables.{not-both}
-use Rattle.dsa_store.specs.{declared.entry.{Cell.{Cell}, Entry.{Entry}}, Content.{Slot, Content, chain, after_push}}
+use Rattle.std.specs.List.{filter, sum_by}
+use Rattle.dsa_base.specs.Numbers.{has, numbers_below}
+use Rattle.dsa_regs.specs.{declared.{Caps.{Caps}, GroupConfig.{GroupConfig}}, Config.{group_at}}
+use Rattle.dsa_buffers.specs.Buffers.{Buffers}
+use Rattle.dsa_store.specs.{Content.{Slot, Content, chain}}
 use Rattle.dsa_store.proofs.Lists.{length-le-held}
-use Rattle.dsa_book.specs.State.{Setup, is_off}
-use Rattle.dsa_engines.{specs.Engines.{Gear, IsInStep, buffers_of, homes_of}, proofs.Used.{load, used-kept}}
-
--- while the device is Off nothing stands in a list
-pub awake : {cells : ℕ} (setup : Setup) (gear : Gear) (content : Content) (i : ℕ)
-    → IsInStep setup gear cells content → 0 < length (chain content i) → is_off setup.device ≡ false
-awake setup gear content i s some =
-    elim (cases_Bool (is_off setup.device)) [
-      | inl off ↦ absurd (omega (arith, s.idle off, length-le-held content i, some))
-      | inr on ↦ on
-    ]
-
--- a step on a device that is not Off: lists, cells and notes stay as many, and the buffers in use are told anew
-pub in_step-moved : {cells more : ℕ} (setup : Setup) (gear after : Gear) (content now : Content)
-    → IsInStep setup gear cells content → is_off setup.device ≡ false → more ≡ cells → length now ≡ length content
-    → length after.notes ≡ length gear.notes → after.homes ≡ gear.homes → after.buffers ≡ buffers_of setup now
-    → IsInStep setup after more now
-in_step-moved setup gear after content now s on same lists notes homes buffers = record {
-  queues = s.queues;
-  store = record { lists = lists ∙ s.store.lists; cells = same ∙ s.store.cells };
-  idle = λ off. not-both (is_off setup.device) off on;
-  checked = s.checked;
-  notes = notes ∙ s.notes;
-  homes = λ x. homes ∙ s.homes x;
-  buffers = λ x. buffers;
-}
-
--- a name that is given changes nothing of it
-pub in_step-next_name : {cells : ℕ} (setup : Setup) (gear : Gear) (content : Content) (name : ℕ)
-    → IsInStep setup gear cells content → IsInStep (record setup { next_name = name }) gear cells content
-in_step-next_name setup gear content name s =
-    let w = s.queues in
-    record {
-      queues = record { lawful = w.lawful; configs = w.configs; phases = w.phases; groups = w.groups };
-      store = s.store;
-      idle = s.idle;
-      checked = s.checked;
-      notes = s.notes;
-      homes = s.homes;
-      buffers = s.buffers;
-    }
+use Rattle.dsa_book.specs.{State.{Setup, is_off}, Work.{used_on}}
+use Rattle.dsa_engines.specs.Engines.{Gear, IsInStep, lists_alone, buffers_of, homes_of}
+use Rattle.dsa_engines.proofs.Used.{load, used_on-same}
 
 -- ---- a change that touches no list of an engine
 
@@ -56,36 +23,72 @@ pub record KeepsLoads (setup more : Setup) (content now : Content) : Type 0 wher
   pub device : is_off more.device ≡ false → is_off setup.device ≡ false
   pub loads : (j : ℕ) → setup.caps.queues ≤ j → load more (chain now j) ≡ load setup (chain content j)
 
--- the groups of the engines stay
-pub homes-kept : {cells : ℕ} (setup more : Setup) (gear : Gear) (content now : Content)
-    → IsInStep setup gear cells content
-    → KeepsLoads setup more content now → is_off more.device ≡ false → gear.homes ≡ homes_of more
-homes-kept setup more gear content now s k on = s.homes (k.device on) ∙ rw (k.caps, k.groups) refl
+-- the read buffers in use, by what each engine holds
+abbrev buffers_by : Caps → List GroupConfig → (ℕ → ℕ) → Buffers
+buffers_by caps groups holds = record {
+  total = caps.read_buffers;
+  groups = groups;
+  used =
+      map (λ g. sum_by holds (filter (has (group_at groups g).engines) (numbers_below caps.engines)))
+      (numbers_below caps.groups);
+}
 
--- and so do the buffers in use
-pub buffers-kept : {cells : ℕ} (setup more : Setup) (gear : Gear) (content now : Content)
-    → IsInStep setup gear cells content
-    → KeepsLoads setup more content now → is_off more.device ≡ false → gear.buffers ≡ buffers_of more now
-buffers-kept setup more gear content now s k on =
-    s.buffers (k.device on) ∙ used-kept setup more content now k.caps k.groups k.loads
+module _ {cells : ℕ} (setup more : Setup) (gear : Gear) (content now : Content)
+    (s : IsInStep setup gear cells content) (k : KeepsLoads setup more content now)
+    (on : is_off more.device ≡ false) where
+  -- the groups of the engines stay
+  pub homes-kept : gear.homes ≡ homes_of more
+  homes-kept = s.homes (k.device on) ∙ rw (k.caps, k.groups) refl
 
--- a queue's list, whatever it comes to
-pub in_step-queue : {cells more : ℕ} (setup : Setup) (gear : Gear) (content : Content) (q : ℕ) (l : List Slot)
-    → IsInStep setup gear cells content → is_off setup.device ≡ false → more ≡ cells → q < setup.caps.queues
-    → IsInStep setup gear more (set content q l)
-in_step-queue setup gear content q l s on same hq =
-    in_step-moved setup gear gear content (set content q l) s on same (length-set content q l) refl refl
-    (buffers-kept setup setup gear content (set content q l) s (record {
-      caps = refl;
-      groups = refl;
-      device = λ on. on;
-      loads = λ j low. ap (load setup) (get_or-set_other content q j l [] (λ e. absurd (omega (arith, e, hq, low))));
-    }) on)
+  engine-kept : (e : ℕ) → used_on (lists_alone more now) e ≡ used_on (lists_alone setup content) e
+  engine-kept e = used_on-same setup more content now e k.caps (λ j lt is. k.loads j (omega arith))
 
--- an entry that goes to a queue
-pub in_step-pushed : {cells more : ℕ} (setup : Setup) (gear : Gear) (content : Content) (q : ℕ) (cell : Cell)
-    (entry : Entry)
-    → IsInStep setup gear cells content → is_off setup.device ≡ false → more ≡ cells → q < setup.caps.queues
-    → IsInStep setup gear more (after_push content q cell entry)
-in_step-pushed setup gear content q cell entry s on same hq =
-    in_step-queue setup gear content q (chain content q ++ (cell, entry) ∷ []) s on same hq
+  -- and so do the buffers in use
+  pub buffers-kept : gear.buffers ≡ buffers_of more now
+  buffers-kept = s.buffers (k.device on) ∙ ap (buffers_by setup.caps setup.groups) (sym (fun_ext engine-kept))
+      ∙ rw (k.caps, k.groups) refl
+
+-- ---- a device with entries
+
+module _ {cells : ℕ} {setup : Setup} {gear : Gear} {content : Content} (s : IsInStep setup gear cells content) where
+  -- while the device is Off nothing stands in a list
+  pub awake : (i : ℕ) → 0 < length (chain content i) → is_off setup.device ≡ false
+  awake i some =
+      elim (cases_Bool (is_off setup.device)) [
+        | inl off ↦ absurd (omega (arith, s.idle off, length-le-held content i, some))
+        | inr on ↦ on
+      ]
+
+  -- so that nothing is found in one
+  pub awake-found : {X : Type 0} {x : X} (search_in : List Slot → Option X) (i : ℕ) → search_in [] ≡ None
+      → search_in (chain content i) ≡ Some x → is_off setup.device ≡ false
+  awake-found {X} {x} search_in i none found = awake i (some (chain content i) found)
+    where
+      some : (l : List Slot) → search_in l ≡ Some x → 0 < length l
+      some [] h = absurd cc
+      some (slot ∷ l) h = omega arith
+
+  module _ (on : is_off setup.device ≡ false) {more : ℕ} (same : more ≡ cells) where
+    -- lists, cells and notes stay as many, and the buffers in use are told anew
+    pub in_step-moved : {after : Gear} {now : Content} → length now ≡ length content
+        → length after.notes ≡ length gear.notes → after.homes ≡ gear.homes → after.buffers ≡ buffers_of setup now
+        → IsInStep setup after more now
+    in_step-moved lists notes homes buffers = record {
+      queues = s.queues;
+      store = record { lists = lists ∙ s.store.lists; cells = same ∙ s.store.cells };
+      idle = λ off. not-both (is_off setup.device) off on;
+      checked = s.checked;
+      notes = notes ∙ s.notes;
+      homes = λ x. homes ∙ s.homes x;
+      buffers = λ x. buffers;
+    }
+
+    -- a queue's list, whatever it comes to
+    pub in_step-queue : (q : ℕ) (l : List Slot) → q < setup.caps.queues → IsInStep setup gear more (set content q l)
+    in_step-queue q l hq = in_step-moved (length-set content q l) refl refl
+        (buffers-kept setup setup gear content (set content q l) s (record {
+          caps = refl;
+          groups = refl;
+          device = λ on. on;
+          loads = λ j low. ap (load setup) (get_or-set_other content q j l [] (omega arith));
+        }) on)

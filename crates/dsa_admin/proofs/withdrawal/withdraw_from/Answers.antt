@@ -3,7 +3,7 @@ use Rattle.std.proofs.Common.{arith, ◌<◌, ◌∙◌, sym, ap, length}
 use Rattle.dsa_regs.specs.{declared.Scope.{Scope}, Command.{scope_of}}
 use Rattle.dsa_book.specs.Commands.{is_in_scope}
 use Rattle.dsa_store.{specs.Content.{chain}, proofs.Turns.{some-drop}}
-use Rattle.dsa_engines.proofs.Leaving.{is-leaving, may-release, in_step-removed}
+use Rattle.dsa_engines.proofs.Leaving.{may-release, in_step-removed}
 use Rattle.dsa_admin.specs.Admin.{is_spared}
 use Rattle.dsa_admin.proofs.Notes.{notes-stay, notes-leave}
 use Rattle.dsa_admin.proofs.Withdrawals.{looks-at, withdrawn-room, withdrawn-stays, withdrawn-leaves, withdrawn-found}
@@ -56,13 +56,10 @@ removed-requires g c =
     (g.S.EntryStore.content c.args.store.now) c.args.list.0 c.loop-place._place
     (g.S.EntryStore.content c.loop-place.store) c.in-Some.cell _ c.in-Some-get.entry once c.requires.list h
     (sym c.loop-place.invariant.here ∙ c.in-Some.is) left c.get.ensures c.in-Some-get.is in
-    let leaving = is-leaving c.args.queues.now c.loop-place.engines
-    (g.S.EntryStore.content c.loop-place.store) c.args.list.0 _ c.in-Some.cell c.in-Some-get.entry
-    c.loop-place.invariant.in_step (once c.in-Some.cell) t.now_stands in
     record {
       notes = c.loop-place.invariant.in_step.notes;
       list = c.list_use-from.ensures.list;
-      held = may-release c.args.queues.now c.loop-place.engines _ c.list_use-from.result _ _ _ _ leaving
+      held = may-release c.loop-place.invariant.in_step (once c.in-Some.cell) t.now_stands c.list_use-from.result
           c.list_use-from.ensures.list c.list_use-from.ensures.number;
     }
 
@@ -76,12 +73,9 @@ loop-place-preserved g c =
     (g.S.EntryStore.content c.args.store.now) c.args.list.0 c.loop-place._place
     (g.S.EntryStore.content c.loop-place.store) c.in-Some.cell _ c.in-Some-get.entry once c.requires.list h
     (sym c.loop-place.invariant.here ∙ c.in-Some.is) left c.get.ensures c.in-Some-get.is in
-    let leaving = is-leaving c.args.queues.now c.loop-place.engines
-    (g.S.EntryStore.content c.loop-place.store) c.args.list.0 _ c.in-Some.cell c.in-Some-get.entry
-    c.loop-place.invariant.in_step (once c.in-Some.cell) t.now_stands in
     let scope = ap (λ (s : Scope). is_in_scope s c.in-Some-get.entry) (sym c.scope-scope.ensures)
     ∙ sym c.is_in_scope.ensures ∙ c.if-not-is_in_scope.false in
-    let s = in_step-removed c.args.queues.now c.loop-place.engines _ c.list_use-from.result _ _ _ _ leaving
+    let s = in_step-removed c.loop-place.invariant.in_step (once c.in-Some.cell) t.now_stands c.list_use-from.result
     c.unlink.ensures.cells c.list_use-from.ensures.list c.list_use-from.ensures.number in
     record {
       here = c.next-at.ensures ∙ t.next;

@@ -1,19 +1,16 @@
 use Rattle.dsa_engines.proofs.engines.homes.Goals as goal
-use Rattle.std.proofs.Common.{◌∙◌, ap, arith, Option, ℕ, ◌++◌, ◌∷◌, []}
+use Rattle.std.proofs.Common.{◌∙◌, length, ap, arith, Option, ℕ, ◌++◌, ◌∷◌, []}
+use Rattle.dsa_base.proofs.NumberLists.{length-each}
 use Rattle.dsa_regs.{specs.declared.Caps.{Caps}, proofs.CapsLemmas.{engines-bound}}
 use Rattle.dsa_book.specs.Work.{group_in}
-use Rattle.dsa_engines.proofs.Homes.{homes-more, homes-length}
+use Rattle.dsa_engines.proofs.Homes.{homes-more}
 
 pub push-requires : goal.push-requires
 push-requires c =
     let bound = engines-bound c.args.queues.now.caps c.caps-engine-end.ensures.whole.lawful in
-    omega (
-      arith,
-      bound,
-      ap (λ (x : Caps). x.engines) c.caps-engine-end.ensures.value,
-      homes-length
-          (group_in c.args.queues.now.groups) c.loop-engine.engine c.loop-engine.homes.items c.loop-engine.invariant,
-    )
+    let filled = ap length c.loop-engine.invariant
+    ∙ length-each (group_in c.args.queues.now.groups) c.loop-engine.engine in
+    omega (arith, bound, ap (λ (x : Caps). x.engines) c.caps-engine-end.ensures.value, filled)
 
 pub loop-engine-preserved : goal.loop-engine-preserved
 loop-engine-preserved c =

@@ -13,25 +13,16 @@ returns-in_default-clause-free g c =
 
 pub take-requires-clause-group : goal.take-requires-clause-group
 take-requires-clause-group g c =
-    within-groups c.args.queues.now c.args.self.now
-    (g.S.EntryStore.content c.args.store.now) c.args.engine c.in-Some.group c.in-Some-choose.queue
-    (c.in-Some-front_slot.cell, c.in-Some-front_slot.entry) c.requires.in_step c.in-Some.ensures.some
+    within-groups c.requires.in_step c.in-Some.ensures.some c.in-Some-choose.ensures.0
     (sym c.front_slot.ensures ∙ c.in-Some-front_slot.is)
 
 pub take-requires-clause-fits : goal.take-requires-clause-fits
 take-requires-clause-fits g c =
-    fits-taken c.args.queues.now c.args.self.now
-    (g.S.EntryStore.content c.args.store.now) c.args.engine c.in-Some.group c.in-Some-choose.queue c.need.result
-    (c.in-Some-front_slot.cell, c.in-Some-front_slot.entry) c.requires.in_step c.in-Some.ensures.some
-    c.in-Some-choose.ensures.0 (sym c.front_slot.ensures
-    ∙ c.in-Some-front_slot.is) c.in-Some-choose.ensures.1 c.need.ensures
+    fits-taken c.requires.in_step c.in-Some.ensures.some c.in-Some-choose.ensures.0
+    (sym c.front_slot.ensures ∙ c.in-Some-front_slot.is) c.need.ensures c.in-Some-choose.ensures.1
 
 pub returns-clause-in_step : goal.returns-clause-in_step
 returns-clause-in_step g c =
-    in_step-after c.args.queues.now c.args.self.now c.take.new.self c.open_note.new.self c.set_turn.new.self
-    (g.S.EntryStore.content c.args.store.now)
-    (g.S.EntryStore.content c.run_front.new.store) c.args.engine c.in-Some-choose.queue c.in-Some.group
-    c.need.result c.in-Some-front_slot.cell c.in-Some-front_slot.entry c.list-progress.result.0
-    c.requires.in_step c.in-Some.ensures.some c.in-Some-choose.ensures.0 (sym c.front_slot.ensures
-    ∙ c.in-Some-front_slot.is) c.list-progress.ensures c.run_front.ensures.after c.run_front.ensures.cells
-    c.need.ensures c.take.ensures c.open_note.ensures c.set_turn.ensures
+    in_step-after c.requires.in_step c.in-Some.ensures.some c.in-Some-choose.ensures.0
+    (sym c.front_slot.ensures ∙ c.in-Some-front_slot.is) c.list-progress.ensures c.run_front.ensures.after
+    c.run_front.ensures.cells c.need.ensures c.take.ensures c.open_note.ensures c.set_turn.ensures

@@ -1,6 +1,6 @@
 use Rattle.dsa_engines.proofs.engines.Engines.enable.Goals as goal
 use Rattle.std.proofs.Common.{◌≡◌, ◌∙◌, length, ap, arith}
-use Rattle.dsa_engines.{specs.Engines.{Gear}, proofs.Used.{buffers-at_rest, made-at_rest}}
+use Rattle.dsa_engines.{specs.Engines.{Gear}, proofs.Used.{buffers-at_rest}}
 
 pub returns-clause-in_step : goal.returns-clause-in_step
 returns-clause-in_step c cells content store none = record {
@@ -12,6 +12,6 @@ returns-clause-in_step c cells content store none = record {
   homes = λ on. c.homes-self-inside.ensures;
   buffers = λ on.
       let len : length c.args.queues.now.groups ≡ c.args.queues.now.caps.groups = omega arith in
-      made-at_rest c.args.queues.now c.caps.result c.groups.result.now c.new-self-inside.result c.caps.ensures.value
-      c.groups.ensures c.new-self-inside.ensures ∙ buffers-at_rest c.args.queues.now content len none;
+      rw (c.new-self-inside.ensures, c.caps.ensures.value, c.groups.ensures)
+      (buffers-at_rest c.args.queues.now content len none);
 }
