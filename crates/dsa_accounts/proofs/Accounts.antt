@@ -7,7 +7,7 @@ use Rattle.dsa_store.{specs.Content.{Slot, Content, all_held, after_push}, proof
 use Rattle.dsa_book.specs.{Machine.{with_intake, intake_of}, declared.fate.FateRow.{FateRow}, Submit.{after_accept}}
 use Rattle.dsa_book.specs.{Work.{member_list, after_fetch}, State.{Work, State}}
 use Rattle.dsa_laws.proofs.Flows.{flow-change, rows-counted, IsFlow}
-use Rattle.dsa_laws.proofs.{Shapes.{on-queue, note-engine, member_list-in, queue_list-in}, Effects.{by_count, came}}
+use Rattle.dsa_laws.proofs.{Shapes.{on-queue, noted-engine, queue_list-in}, Effects.{by_count, came}}
 use Rattle.dsa_laws.specs.{Change.{Change}, WellFormed.{HasShape, CellsOnce}}
 
 -- ---- words
@@ -65,11 +65,11 @@ change-entries p caps s s' h once c =
     (λ e same. same e.names)
     (λ c same.
     let after = (with_intake s (after_accept (intake_of s) c.queue c.kind c.desc c.cell).1).work in
-    entered p s.work after c.queue _ (queue_list-in caps s.work c.queue h
-    (on-queue caps s.work c.queue h c.on)) refl refl)
+    entered p s.work after c.queue _ (queue_list-in h c.queue
+    (on-queue h c.queue c.on)) refl refl)
     (λ c same. same refl)
     (λ c same.
-    let inside = member_list-in caps s.work c.engine h (note-engine caps s.work c.engine c.note h c.is_note) in
+    let inside = (noted-engine h c.engine c.note c.is_note).members_inside in
     entered p s.work (after_fetch s.work c.engine c.desc c.cell c.note c.batch.1).1
     (member_list s.work.setup c.engine) _ inside refl refl)
     (λ c same. same refl)

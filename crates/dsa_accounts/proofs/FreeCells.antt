@@ -1,6 +1,6 @@
 -- Where a queue accepts or a batch is open, a cell is free.
 use Rattle.std.proofs.Common.{◌≡◌, ℕ, ◌+◌, ◌^◌, ◌<◌, ◌≤◌, true, false, List, [], length, Some, None, sym, ap, subst}
-use Rattle.std.proofs.{lemmas.Bool.{cases_Bool, ltb-false, leb-false, or_parts, not-false}, Common.{arith, ⊎_elim}}
+use Rattle.std.proofs.{lemmas.Bool.{cases_Bool, ltb-false, leb-false, or_parts, not-false}, Common.{refl, arith, ⊎_elim}}
 use Rattle.std.specs.Prelude.{sum_by}
 use Rattle.dsa_base.proofs.NumberSums.{sum-places, sum-equal, sum-split_numbers, sum-plus, sum-same, sum-numbers-le}
 use Rattle.dsa_base.proofs.{NumberSums.{sum-numbers-lt}, Tables.{no-row}}
@@ -12,7 +12,7 @@ use Rattle.dsa_book.proofs.Phases.{on-not_off}
 use Rattle.dsa_book.specs.declared.{event.{Portal.{Portal}, Kind.{Kind}}, note.BatchNote.{BatchNote}}
 use Rattle.dsa_book.specs.{State.{Work, State, is_on, is_off, phase_at}, Machine.{intake_of}}
 use Rattle.dsa_book.specs.{Work.{members, note_at, is_all_fetched, in_progress}, Submit.{limit_of, submit_table}}
-use Rattle.dsa_laws.proofs.{Shapes.{on-queue, note-engine, members-at}, Limits.{limit-le, lists-fit}}
+use Rattle.dsa_laws.proofs.{Shapes.{on-queue, noted-engine, members-at}, Limits.{limit-le, lists-fit}}
 use Rattle.dsa_laws.specs.WellFormed.{HasShape, HasLawfulSetup, HasLawfulEntries, IsWithinLimits, NoteFits}
 use Rattle.dsa_laws.{specs.{WellFormed.{IsWellFormed}, Engines.{IsLawfulEngine}}, proofs.Entries.{none-held}}
 
@@ -80,9 +80,9 @@ queues-fit caps w shape setup entries limits = ⊎_elim
 engine-fits : (caps : Caps) (w : Work) → HasShape caps w → IsWithinLimits caps w → (e : ℕ) → e < caps.engines
     → on_engine caps w.content e ≤ caps.slots + 2 ^ caps.max_batch_shift
 engine-fits caps w shape limits e i =
-    let progress = (lists-fit caps w shape limits).slots e i in
+    let progress = (lists-fit caps w shape limits (caps.queues + e)).progress e refl i in
     let most = limits.members e i in
-    let same = ap (λ (xs : List Slot). length xs) (members-at caps w e shape i) in
+    let same = ap (λ (xs : List Slot). length xs) (members-at shape e i) in
     omega (arith, progress, most, same)
 
 -- ---- a cell is free
@@ -108,8 +108,8 @@ pub member-room : (caps : Caps) (w : Work) (e : ℕ) → HasShape caps w → Has
 member-room caps w e shape setup entries limits i room =
     let parts = held-parts caps w.content shape.lists in
     let queues = queues-fit caps w shape setup entries limits in
-    let same = ap (λ (xs : List Slot). length xs) (members-at caps w e shape i) in
-    let progress = (lists-fit caps w shape limits).slots e i in
+    let same = ap (λ (xs : List Slot). length xs) (members-at shape e i) in
+    let progress = (lists-fit caps w shape limits (caps.queues + e)).progress e refl i in
     let less : on_engine caps w.content e < caps.slots + 2 ^ caps.max_batch_shift =
     omega (arith, same, progress, room) in
     let engines = sum-numbers-lt (on_engine caps w.content)
@@ -128,7 +128,7 @@ accepting-room caps s q portal kind w h =
     let below = leb-false (limit_of config portal) (size s.work.content q) rows.1.1.0 in
     let off = on-not_off _ on in
     let limit = limit-le s.work.setup.caps s.work.setup.groups q config portal (w.setup.queue q off) in
-    queue-room caps s.work q w.shape w.setup w.limits (on-queue caps s.work q w.shape on) off
+    queue-room caps s.work q w.shape w.setup w.limits (on-queue w.shape q on) off
     (omega (arith, below, limit))
 
 pub fetching-room : (caps : Caps) (s : State) (e : ℕ) (note : BatchNote) → IsWellFormed caps s
@@ -140,5 +140,5 @@ fetching-room caps s e note w h more =
     let law : IsLawfulEngine s.work.setup (in_progress s.work e) (members s.work e) (Some note) =
     subst (IsLawfulEngine s.work.setup (in_progress s.work e) (members s.work e)) h (w.engines e) in
     let some = law.most in
-    member-room caps s.work e w.shape w.setup w.entries w.limits (note-engine caps s.work e note w.shape h)
+    member-room caps s.work e w.shape w.setup w.entries w.limits (noted-engine w.shape e note h).inside
     (omega (arith, below, count, some))

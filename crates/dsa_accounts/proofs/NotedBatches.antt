@@ -131,7 +131,7 @@ module _ {caps : Caps} {s : State} (w : IsWellFormed caps s) where
       let j = k - first_members caps in
       let there : caps.queues + caps.engines + j ≡ k = omega (arith, past) in
       let lists = w.shape.lists in
-      let home = subst (In y) (sym (members-at caps s.work j w.shape (omega (arith, there, inside, lists))))
+      let home = subst (In y) (sym (members-at w.shape j (omega (arith, there, inside, lists))))
       (subst (λ m. In y (chain s.work.content m)) (sym there) at.1) in
       subst (λ k. In y (members s.work k)) (member-engine j e n y is home parent) home)
       (λ out. absurd (subst (In y) (get_or-eq_default s.work.content [] out) at.1))

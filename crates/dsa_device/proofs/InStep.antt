@@ -15,7 +15,7 @@ use Rattle.dsa_book.specs.declared.event.{Portal.{Portal}, Kind.{Kind, TheVarian
 use Rattle.dsa_book.specs.State.{Setup, Intake, Work, is_off, is_member, phase_at, has_queue}
 use Rattle.dsa_book.specs.Submit.{submit, submit_table, after_refusal, after_accept}
 use Rattle.dsa_book.specs.Commands.{write_queue, write_group, clear, clear_of}
-use Rattle.dsa_laws.{specs.WellFormed.{NoneOff}, proofs.Contents.{chain-set}}
+use Rattle.dsa_laws.{specs.WellFormed.{NoneOff}, proofs.Contents.{each-place}}
 use Rattle.dsa_engines.proofs.{Used.{load, load-nil, load-cons, load-append}, Keeping.{KeepsLoads}}
 
 -- ---- what the running entries of a list need
@@ -41,11 +41,8 @@ load-waiting setup xs x waits =
 
 load-pushed : (setup : Setup) (c : Content) (p : ℕ) (x : Slot) → x.1.running ≡ false → (k : ℕ)
     → load setup (chain (after_push c p x.0 x.1) k) ≡ load setup (chain c k)
-load-pushed setup c p x waits k = ⊎_elim
-    (λ q. ap (load setup) q.1 ∙ load-waiting setup (chain c p) x waits
-    ∙ ap (λ (j : ℕ). load setup (chain c j)) (sym q.0))
-    (λ e. ap (load setup) e)
-    (chain-set c p (chain c p ++ x ∷ []) k)
+load-pushed setup c p x waits = each-place (λ k l. load setup l ≡ load setup (chain c k)) [] c p
+    (chain c p ++ x ∷ []) (λ k. refl) (load-waiting setup (chain c p) x waits)
 
 -- ---- submissions
 

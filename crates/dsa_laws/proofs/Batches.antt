@@ -24,12 +24,14 @@ pub sum-two : (f : Slot → ℕ) (c : Content) (i j : ℕ) → i ≢ j
     → sum_by f (chain c i) + sum_by f (chain c j) ≤ sum_by f (all_held c)
 sum-two f [] i j n = omega arith
 sum-two f (l ∷ ls) zero zero n = absurd (n refl)
-sum-two f (l ∷ ls) zero (suc j) n = let a = sum_by-append f l (all_held ls) in let b = sum-list-le f ls j in
-    omega (arith, a, b)
-sum-two f (l ∷ ls) (suc i) zero n = let a = sum_by-append f l (all_held ls) in let b = sum-list-le f ls i in
-    omega (arith, a, b)
-sum-two f (l ∷ ls) (suc i) (suc j) n = let a = sum_by-append f l (all_held ls) in
-    let b = sum-two f ls i j (λ e. n (ap (λ k. suc k) e)) in omega (arith, a, b)
+sum-two f (l ∷ ls) zero (suc j) n = omega (arith, sum_by-append f l (all_held ls), sum-list-le f ls j)
+sum-two f (l ∷ ls) (suc i) zero n = omega (arith, sum_by-append f l (all_held ls), sum-list-le f ls i)
+sum-two f (l ∷ ls) (suc i) (suc j) n = omega (
+  arith,
+  sum_by-append f l (all_held ls),
+  sum-two f ls i j
+      (λ e. n (ap (λ k. suc k) e)),
+)
 
 length-first_run : (xs : List Slot) → length (with_first_run xs) ≡ length xs
 length-first_run [] = refl
@@ -37,7 +39,7 @@ length-first_run (x ∷ xs) = go x.1.running (length-first_run xs)
   where
     go : (b : Bool) → length (with_first_run xs) ≡ length xs
         → length (cond b (x ∷ with_first_run xs) (with_running_entry x ∷ xs)) ≡ length (x ∷ xs)
-    go true e = omega (arith, e)
+    go true e = omega arith
     go false e = refl
 
 -- ---- by another setup, with fewer entries, with other marks
@@ -67,14 +69,14 @@ pub fewer : (setup : Setup) (ps ps' ms ms' : List Slot) (o : Option BatchNote)
     → IsLawfulEngine setup ps' ms' o
 fewer setup ps ps' ms ms' None same p m l h = record {
   no_batch = same ∙ h.no_batch;
-  no_members = let none = ap (λ (xs : List Slot). length xs) h.no_members in length-none ms' (omega (arith, none, l));
+  no_members = length-none ms' (omega (arith, ap (λ (xs : List Slot). length xs) h.no_members));
 }
 fewer setup ps ps' ms ms' (Some note) same p m l h = record {
   one_batch = same ∙ h.one_batch;
   noted = λ b i t. h.noted b (p b i) t;
   parents = λ x i. h.parents x (m x i);
   alike = λ x b i j t. h.alike x b (m x i) (p b j) t;
-  most = let old = h.most in omega (arith, old, l);
+  most = omega (arith, h.most);
 }
 
 -- a note with other marks
@@ -88,7 +90,7 @@ marked setup ps ms f (Some n) a b c h = record {
   noted = λ x i t. let is = h.noted x i t in record { name = a n ∙ is.name; count = b n ∙ is.count };
   parents = λ x i. h.parents x i ∙ ap (λ k. Some k) (sym (a n));
   alike = h.alike;
-  most = let old = h.most in let same = c n in omega (arith, old, same);
+  most = omega (arith, h.most, c n);
 }
 
 -- ---- each kind of step of an engine
@@ -103,25 +105,23 @@ with_front setup ps ms None x true is may h =
     let old = h.no_batch in
     let none : (y : Slot) → In y ms → ⊥ = λ y i. subst (λ (l : List Slot). In y l) h.no_members i in
     record {
-      one_batch = omega (arith, count, old);
+      one_batch = omega arith;
       noted = λ y i t. ⊎_elim
-          (λ j. let some = In-counted (holds_batch setup) y ps j t in absurd (omega (arith, some, old)))
+          (λ j. absurd (omega (arith, In-counted (holds_batch setup) y ps j t)))
           (λ (e : with_running_entry x ≡ y). subst
           (λ z. IsNoteOf (opened_note x.1) z) e (record { name = refl; count = refl }))
           (In-push y ps (with_running_entry x) i);
       parents = λ y i. absurd (none y i);
       alike = λ y z i j t. absurd (none y i);
-      most = let size = ap (λ (xs : List Slot). length xs) h.no_members in omega (arith, size);
+      most = omega (arith, ap (λ (xs : List Slot). length xs) h.no_members);
     }
 with_front setup ps ms (Some n) x true is may h = absurd cc
 with_front setup ps ms None x false is may h = record {
-  no_batch = let count = count-push (holds_batch setup) ps (with_running_entry x) false is in let old = h.no_batch in
-      omega (arith, count, old);
+  no_batch = omega (arith, count-push (holds_batch setup) ps (with_running_entry x) false is, h.no_batch);
   no_members = h.no_members;
 }
 with_front setup ps ms (Some n) x false is may h = record {
-  one_batch = let count = count-push (holds_batch setup) ps (with_running_entry x) false is in
-      let old = h.one_batch in omega (arith, count, old);
+  one_batch = omega (arith, count-push (holds_batch setup) ps (with_running_entry x) false is, h.one_batch);
   noted = λ y i t. h.noted y (In-old (holds_batch setup) y ps (with_running_entry x) is i t) t;
   parents = h.parents;
   alike = λ m y i j t. h.alike m y i (In-old (holds_batch setup) y ps (with_running_entry x) is j t) t;
@@ -140,7 +140,7 @@ with_member setup ps ms n x parent like h = record {
       (λ (e : x ≡ m). subst (λ (z : Slot). z.1.parent ≡ Some n.batch) e parent) (In-push m ms x i);
   alike = λ m b i j t. ⊎_elim (λ k. h.alike m b k j t)
       (λ (e : x ≡ m). subst (λ z. IsAlike z b) e (like b j t)) (In-push m ms x i);
-  most = let old = h.most in let more = length-append ms (x ∷ []) in omega (arith, old, more);
+  most = omega (arith, h.most, length-append ms (x ∷ []));
 }
 
 -- the first member that waits runs
@@ -156,30 +156,35 @@ with_run setup ps ms (Some n) h = record {
   parents = first_run-each (λ (m : Slot). m.1.parent ≡ Some n.batch) (λ x p. p) ms h.parents;
   alike = λ m b i j t. first_run-each (λ m. IsAlike m b) (λ x p. record { queue = p.queue; pasid = p.pasid }) ms
       (λ x k. h.alike x b k j t) m i;
-  most = let old = h.most in let same = length-first_run ms in omega (arith, old, same);
+  most = omega (arith, h.most, length-first_run ms);
 }
 
 -- the batch is gone, and there are no members
 pub batch_gone : (setup : Setup) (ps ps' ms ms' : List Slot) (o : Option BatchNote)
     → count_by (holds_batch setup) ps' + 1 ≡ count_by (holds_batch setup) ps → ms' ≡ []
     → IsLawfulEngine setup ps ms o → IsLawfulEngine setup ps' ms' None
-batch_gone setup ps ps' ms ms' None less none h = let old = h.no_batch in absurd (omega (arith, less, old))
+batch_gone setup ps ps' ms ms' None less none h = absurd (omega (arith, h.no_batch))
 batch_gone setup ps ps' ms ms' (Some n) less none h =
-    record { no_batch = let old = h.one_batch in omega (arith, less, old); no_members = none }
+    record { no_batch = omega (arith, h.one_batch); no_members = none }
+
+-- those that pass are left, and no batch is gone
+filtered : (setup : Setup) (p : Slot → Bool) (ps ms : List Slot) (o : Option BatchNote)
+    → count_by (holds_batch setup) (filter p ps) ≡ count_by (holds_batch setup) ps → IsLawfulEngine setup ps ms o
+    → IsLawfulEngine setup (filter p ps) (filter p ms) o
+filtered setup p ps ms o same = fewer setup ps (filter p ps) ms (filter p ms) o same
+    (λ x i. (In-filter p x ps i).0) (λ x i. (In-filter p x ms i).0) (length-filter-le p ms)
 
 -- a batch ends, which has no members left, or another entry
-pub with_end : (setup : Setup) (ps ps' ms ms' : List Slot) (o : Option BatchNote) (b m : Bool)
-    → (b ≡ true → (count_by (holds_batch setup) ps' + 1 ≡ count_by (holds_batch setup) ps) × (ms' ≡ []))
-    → (b ≡ false → count_by (holds_batch setup) ps' ≡ count_by (holds_batch setup) ps)
-    → ((x : Slot) → In x ps' → In x ps) → ((x : Slot) → In x ms' → In x ms) → length ms' ≤ length ms
-    → IsLawfulEngine setup ps ms o → IsLawfulEngine setup ps' ms'
+pub with_end : (setup : Setup) (p : Slot → Bool) (ps ms : List Slot) (o : Option BatchNote) (b m : Bool)
+    → count_by (holds_batch setup) (filter p ps) + cond b 1 0 ≡ count_by (holds_batch setup) ps
+    → (b ≡ true → ms ≡ []) → IsLawfulEngine setup ps ms o → IsLawfulEngine setup (filter p ps) (filter p ms)
     (cond b None (cond m (option_map (λ (note : BatchNote). record note { failed = true }) o) o))
-with_end setup ps ps' ms ms' o true m gone stays p q l h = let r = gone refl in
-    batch_gone setup ps ps' ms ms' o r.0 r.1 h
-with_end setup ps ps' ms ms' o false true gone stays p q l h =
-    marked setup ps' ms' (λ (note : BatchNote). record note { failed = true }) o (λ n. refl) (λ n. refl)
-    (λ n. refl) (fewer setup ps ps' ms ms' o (stays refl) p q l h)
-with_end setup ps ps' ms ms' o false false gone stays p q l h = fewer setup ps ps' ms ms' o (stays refl) p q l h
+with_end setup p ps ms o true m less none h =
+    batch_gone setup ps (filter p ps) ms (filter p ms) o less (ap (filter p) (none refl)) h
+with_end setup p ps ms o false true less none h =
+    marked setup (filter p ps) (filter p ms) (λ (note : BatchNote). record note { failed = true }) o (λ n. refl)
+    (λ n. refl) (λ n. refl) (filtered setup p ps ms o (omega arith) h)
+with_end setup p ps ms o false false less none h = filtered setup p ps ms o (omega arith) h
 
 -- the members are abandoned, and the batch is closed
 pub with_none : (setup : Setup) (ps ms : List Slot) (o : Option BatchNote) → IsLawfulEngine setup ps ms o
@@ -209,9 +214,7 @@ goes-along : (scope : Scope) (setup : Setup) (ps ms : List Slot) (o : Option Bat
     → holds_batch setup x ≡ true → is_taken_out scope x ≡ true → IsLawfulEngine setup ps ms o
     → (count_by (holds_batch setup) ps ≡ 1) × ((m : Slot) → In m ms → is_left scope m ≡ false)
 goes-along scope setup ps ms None x i t s h =
-    let some = In-counted (holds_batch setup) x ps i t in
-    let none = h.no_batch in
-    absurd (omega (arith, some, none))
+    absurd (omega (arith, In-counted (holds_batch setup) x ps i t, h.no_batch))
 goes-along scope setup ps ms (Some n) x i t s h =
     (h.one_batch, λ m j. ap not (scope-alike scope m x (h.alike m x j i t) ∙ s))
 
@@ -227,12 +230,15 @@ with_abort scope setup ps ms o h = go (takes_batch setup scope ps) refl
         let batch = any-In (λ slot. is_batch_of setup slot.1 && is_in_scope scope slot.1) ps t in
         let both = and_parts _ _ batch.1.1 in
         let along = goes-along scope setup ps ms o batch.0 batch.1.0 both.0 both.1 h in
-        let some = In-counted (holds_batch setup) batch.0 (filter (is_taken_out scope) ps)
-        (In-passing (is_taken_out scope) batch.0 ps batch.1.0 both.1) both.0 in
-        let all = sum-split (λ x. cond (holds_batch setup x) 1 0) (is_taken_out scope) ps in
-        let one = along.0 in
         record {
-          no_batch = omega (arith, all, some, one);
+          no_batch = omega (
+            arith,
+            sum-split (λ x. cond (holds_batch setup x) 1 0) (is_taken_out scope) ps,
+            In-counted
+                (holds_batch setup) batch.0 (filter (is_taken_out scope) ps)
+                (In-passing (is_taken_out scope) batch.0 ps batch.1.0 both.1) both.0,
+            along.0,
+          );
           no_members = filter-none (is_left scope) ms (count-none (is_left scope) ms along.1);
         }
     go false f =
@@ -241,7 +247,5 @@ with_abort scope setup ps ms o h = go (takes_batch setup scope ps) refl
         false_from_ne_true (holds_batch setup x) (λ t.
         not-both _ (In-any (λ slot. is_batch_of setup slot.1 && is_in_scope scope slot.1) x ps i.0
         (ap (λ (b : Bool). b && is_in_scope scope x.1) t ∙ i.1)) f)) in
-        let all = sum-split (λ x. cond (holds_batch setup x) 1 0) (is_taken_out scope) ps in
-        fewer setup ps (filter (is_left scope) ps) ms (filter (is_left scope) ms) o (omega (arith, all, none))
-        (λ x i. (In-filter (is_left scope) x ps i).0)
-        (λ x i. (In-filter (is_left scope) x ms i).0) (length-filter-le (is_left scope) ms) h
+        filtered setup (is_left scope) ps ms o
+        (omega (arith, sum-split (λ x. cond (holds_batch setup x) 1 0) (is_taken_out scope) ps)) h

@@ -1,7 +1,7 @@
 -- The bounds on read buffers stay.
 use Rattle.std.proofs.Common.{drop, ◌≡◌, ℕ, ◌+◌, ◌<◌, ◌≤◌, ◌++◌, Bool, true, false, not, cond, List, [], ◌∷◌, map}
-use Rattle.std.proofs.Common.{set, Some, None, refl, sym, ap, ◌∙◌, subst, inl, inr, arith, ⊎_elim}
-use Rattle.std.proofs.lemmas.{List.Sums.{sum_by-cons, sum_by_push}, Bool.{ltb-false, and_parts, or_parts}}
+use Rattle.std.proofs.Common.{set, Some, None, refl, sym, ap, ◌∙◌, subst, inl, inr, arith}
+use Rattle.std.proofs.lemmas.{List.Sums.{sum_by-cons, sum_by_push}, Bool.{ltb-false, or_parts}}
 use Rattle.std.specs.Prelude.{sum_by, filter, find, position, nat_lt}
 use Rattle.dsa_base.{specs.{Rows.{passes}, Numbers.{has}, Lists.{In}}, proofs.Tables.{not-both, no-row}}
 use Rattle.dsa_regs.specs.declared.{Caps.{Caps}, GroupConfig.{GroupConfig}, Phase.TheVariants.{Off, Stopping}}
@@ -18,12 +18,12 @@ use Rattle.dsa_book.proofs.Phases.{on-not_off}
 use Rattle.dsa_laws.specs.{Change.{Change}, WellFormed.{HasShape, HasLawfulSetup, HasLawfulEntries, IsWellFormed}}
 use Rattle.dsa_laws.specs.Buffering.{HasBuffers}
 use Rattle.dsa_laws.proofs.Effects.{by_effect, by_setting, stopped-keeps}
-use Rattle.dsa_laws.proofs.Contents.{chain-set, chain-filtered, sum-filter-le, chain-other}
+use Rattle.dsa_laws.proofs.Contents.{each-place, chain-filtered, sum-filter-le, chain-other}
 use Rattle.dsa_laws.proofs.Covering.{AreWithin, needed, all_needed, within-less, within-more, within-none}
 use Rattle.dsa_laws.proofs.Entries.{none-held, configs-kept}
 use Rattle.dsa_laws.proofs.Needs.{weight, weight-waiting, weight-run, weight-same, sum-within, sum_on, used_on-sum}
 use Rattle.dsa_laws.proofs.Needs.{sum_on-less, HasMore, sum_on-others, sum_on-mine}
-use Rattle.dsa_laws.proofs.{Shapes.{below-engines, waiting-engine}, Limits.{taken-test}}
+use Rattle.dsa_laws.proofs.Shapes.{waiting-engine, a_taker}
 
 -- ---- the bounds, by what each engine needs
 
@@ -53,7 +53,7 @@ while-off caps w off = record {
 }
 
 between : (a b c d : ℕ) → a ≡ b → c ≡ d → d ≤ b → c ≤ a
-between a b c d p q h = omega (arith, p, q, h)
+between a b c d p q h = omega arith
 
 -- where no list needs more, and the queues of its entries have the limits that they had
 no-more : (caps : Caps) (w w' : Work) → w.setup.caps ≡ caps → w'.setup.caps ≡ caps → w'.setup.groups ≡ w.setup.groups
@@ -72,13 +72,15 @@ no-more caps w w' is is' groups off configs lists h = of-within caps w' is' (λ 
   where
     each : (k : ℕ) → sum_by (weight w'.setup) (chain w'.content k) ≤ sum_by (weight w.setup) (chain w.content k)
     each k =
-        let a = sum-within (weight w.setup) (weight w'.setup) (chain w'.content k) (λ x i. let e =
-        weight-same w.setup w'.setup x (configs k x i) in omega (arith, e)) in
-        let b = lists k in
-        omega (arith, a, b)
+        omega (
+          arith,
+          sum-within (weight w.setup) (weight w'.setup) (chain w'.content k)
+              (λ x i. omega (arith, weight-same w.setup w'.setup x (configs k x i))),
+          lists k,
+        )
 
 between-more : (a b c d n : ℕ) → a ≡ b → c ≡ d → d ≤ b + n → c ≤ a + n
-between-more a b c d n p q h = omega (arith, p, q, h)
+between-more a b c d n p q h = omega arith
 
 -- where one list of an engine needs more, and that much fits
 one-more : (caps : Caps) (w w' : Work) (e p n : ℕ) → HasShape caps w → HasLawfulSetup w.setup → w'.setup ≡ w.setup
@@ -114,44 +116,32 @@ one-more caps w w' e p n shape setup is more room h = of-within caps w' is' (λ 
 -- as it was, or as set
 set-within : (f : Slot → ℕ) (c : Content) (p : ℕ) (l : List Slot) (n : ℕ) → sum_by f l ≤ sum_by f (chain c p) + n
     → (k : ℕ) → sum_by f (chain (set c p l) k) ≤ sum_by f (chain c k) + n
-set-within f c p l n h k = ⊎_elim
-    (λ q. subst (λ j. sum_by f (chain (set c p l) j) ≤ sum_by f (chain c j) + n) (sym q.0) (let e =
-    ap (λ (xs : List Slot). sum_by f xs) (at q.0 q.1) in omega (arith, e, h)))
-    (λ q. let e = ap (λ (xs : List Slot). sum_by f xs) q in omega (arith, e))
-    (chain-set c p l k)
-  where
-    at : k ≡ p → chain (set c p l) k ≡ l → chain (set c p l) p ≡ l
-    at q e = subst (λ j. chain (set c p l) j ≡ l) q e
+set-within f c p l n h = each-place (λ k l. sum_by f l ≤ sum_by f (chain c k) + n) [] c p l (λ k. omega arith) h
 
 pushed-within : (f : Slot → ℕ) (c : Content) (p : ℕ) (x : Slot) (k : ℕ)
     → sum_by f (chain (after_push c p x.0 x.1) k) ≤ sum_by f (chain c k) + f x
-pushed-within f c p x k = set-within f c p (chain c p ++ x ∷ []) (f x) (let e = sum_by_push f (chain c p) x in
-    omega (arith, e)) k
+pushed-within f c p x k = set-within f c p (chain c p ++ x ∷ []) (f x) (omega (arith, sum_by_push f (chain c p) x)) k
 
 -- one that needs nothing yet
 pushed-light : (f : Slot → ℕ) (c : Content) (p : ℕ) (x : Slot) → f x ≡ 0 → (k : ℕ)
     → sum_by f (chain (after_push c p x.0 x.1) k) ≤ sum_by f (chain c k)
-pushed-light f c p x z k = let h = pushed-within f c p x k in omega (arith, h, z)
+pushed-light f c p x z k = omega (arith, pushed-within f c p x k)
 
 rest-within : (f : Slot → ℕ) (xs : List Slot) → sum_by f (drop 1 xs) ≤ sum_by f xs
 rest-within f [] = omega arith
-rest-within f (x ∷ xs) = let c = sum_by-cons f x xs in omega (arith, c)
+rest-within f (x ∷ xs) = omega (arith, sum_by-cons f x xs)
 
 front-within : (f : Slot → ℕ) (c : Content) (q k : ℕ) → sum_by f (chain (without_front c q) k) ≤ sum_by f (chain c k)
 front-within f c q k =
-    let r = rest-within f (chain c q) in
-    let h = set-within f c q (drop 1 (chain c q)) 0 (omega (arith, r)) k in
-    omega (arith, h)
+    omega (arith, set-within f c q (drop 1 (chain c q)) 0 (omega (arith, rest-within f (chain c q))) k)
 
 emptied-within : (f : Slot → ℕ) (c : Content) (p k : ℕ) → sum_by f (chain (set c p []) k) ≤ sum_by f (chain c k)
-emptied-within f c p k = let h = set-within f c p [] 0 (omega arith) k in omega (arith, h)
+emptied-within f c p k = omega (arith, set-within f c p [] 0 (omega arith) k)
 
 filtered-within : (f : Slot → ℕ) (p : Slot → Bool) (c : Content) (k : ℕ)
     → sum_by f (chain (map (filter p) c) k) ≤ sum_by f (chain c k)
 filtered-within f p c k =
-    let e = ap (λ (xs : List Slot). sum_by f xs) (chain-filtered p c k) in
-    let h = sum-filter-le f p (chain c k) in
-    omega (arith, e, h)
+    omega (arith, ap (λ (xs : List Slot). sum_by f xs) (chain-filtered p c k), sum-filter-le f p (chain c k))
 
 -- the first that does not run runs
 first_run-within : (f : Slot → ℕ) (xs : List Slot) (slot : Slot) → find (λ x. not x.1.running) xs ≡ Some slot
@@ -165,16 +155,15 @@ first_run-within f (x ∷ xs) slot h = go x.1.running (first_run-within f xs slo
         → sum_by f (cond b (x ∷ with_first_run xs) (with_running_entry x ∷ xs)) ≤ sum_by f (x ∷ xs)
         + f (with_running_entry slot)
     go true more h =
-        let rest = more h in
-        let a = sum_by-cons f x (with_first_run xs) in
-        let b = sum_by-cons f x xs in
-        omega (arith, rest, a, b)
+        omega (arith, more h, sum_by-cons f x (with_first_run xs), sum_by-cons f x xs)
     go false more h =
         let is : x ≡ slot = cc in
-        let e = ap (λ (y : Slot). f (with_running_entry y)) is in
-        let a = sum_by-cons f (with_running_entry x) xs in
-        let b = sum_by-cons f x xs in
-        omega (arith, e, a, b)
+        omega (
+          arith,
+          ap (λ (y : Slot). f (with_running_entry y)) is,
+          sum_by-cons f (with_running_entry x) xs,
+          sum_by-cons f x xs,
+        )
 
 -- ---- the two changes by which an entry begins to run
 
@@ -185,16 +174,20 @@ taken-more caps w e q front f shape engine = record {
   engine = engine;
   place = inl (ap (λ (k : Caps). k.queues + e) shape.same_caps);
   others = λ k ne.
-      let r = front-within f w.content q k in
-      let is = ap (λ (xs : List Slot). sum_by f xs)
-      (chain-other (without_front w.content q) (progress_list w.setup e)
-      (chain (without_front w.content q) (progress_list w.setup e) ++ with_running_entry front ∷ []) k ne) in
-      omega (arith, r, is);
+      omega (
+        arith,
+        front-within f w.content q k,
+        ap (λ (xs : List Slot). sum_by f xs)
+            (chain-other (without_front w.content q) (progress_list w.setup e)
+            (chain (without_front w.content q) (progress_list w.setup e) ++ with_running_entry front ∷ []) k ne),
+      );
   mine =
-      let r = front-within f w.content q (progress_list w.setup e) in
-      let h = pushed-within f (without_front w.content q) (progress_list w.setup e) (with_running_entry front)
-      (progress_list w.setup e) in
-      omega (arith, r, h);
+      omega (
+        arith,
+        front-within f w.content q (progress_list w.setup e),
+        pushed-within f (without_front w.content q)
+            (progress_list w.setup e) (with_running_entry front) (progress_list w.setup e),
+      );
 }
 
 started-more : (caps : Caps) (w : Work) (e : ℕ) (slot : Slot) (f : Slot → ℕ) → HasShape caps w
@@ -202,18 +195,19 @@ started-more : (caps : Caps) (w : Work) (e : ℕ) (slot : Slot) (f : Slot → �
     → HasMore caps f w.content (set w.content (member_list w.setup e) (with_first_run (members w e))) e
     (member_list w.setup e) (f (with_running_entry slot))
 started-more caps w e slot f shape first =
-    let has = waiting-engine w e slot first in
-    let is = ap (λ (b : Bool). sum_by f (cond b (chain w.content (member_list w.setup e)) [])) has in
-    let with_running_entry = first_run-within f (members w e) slot first in
+    let has = waiting-engine shape e slot first in
     record {
-      engine = below-engines caps w e shape has;
+      engine = has.inside;
       place = inr (ap (λ (k : Caps). k.queues + k.engines + e) shape.same_caps);
       others = λ k ne.
-          let same = ap (λ (xs : List Slot). sum_by f xs)
-          (chain-other w.content (member_list w.setup e) (with_first_run (members w e)) k ne) in
-          omega (arith, same);
+          omega (
+            arith,
+            ap (λ (xs : List Slot). sum_by f xs)
+                (chain-other w.content (member_list w.setup e) (with_first_run (members w e)) k ne),
+          );
       mine = set-within f w.content (member_list w.setup e) (with_first_run (members w e)) _
-          (omega (arith, is, with_running_entry)) (member_list w.setup e);
+          (omega (arith, ap (sum_by f) has.members, first_run-within f (members w e) slot first))
+          (member_list w.setup e);
     }
 
 -- ---- the device is enabled: nothing is held
@@ -221,9 +215,8 @@ started-more caps w e slot f shape first =
 sum_on-none : (caps : Caps) (f : Slot → ℕ) (c : Content) (e : ℕ) → ((k : ℕ) → sum_by f (chain c k) ≡ 0)
     → sum_on caps f c e ≡ 0
 sum_on-none caps f c e h =
-    let a = h (caps.queues + e) in
     let b = h (caps.queues + caps.engines + e) in
-    tested (nat_lt e caps.engines) _ (omega (arith, a, b))
+    tested (nat_lt e caps.engines) _ (omega (arith, h (caps.queues + e)))
   where
     tested : (b : Bool) (n : ℕ) → n ≡ 0 → cond b n 0 ≡ 0
     tested true n z = z
@@ -234,11 +227,15 @@ enabled-buffers : (caps : Caps) (w w' : Work) → HasShape caps w → HasLawfulS
     → w'.setup.caps ≡ w.setup.caps → w'.setup.groups ≡ w.setup.groups → w'.content ≡ w.content → HasBuffers caps w'
 enabled-buffers caps w w' shape setup entries off check same_caps groups content =
     let is = same_caps ∙ shape.same_caps in
-    let reserved = ltb-false w.setup.caps.read_buffers (total_reserved w.setup.groups)
-    (no-row (groups_table w.setup.caps (total_size w.setup.configs) w.setup.groups) check).1.1.1.0 in
-    let total = ap (λ (k : Caps). k.read_buffers) shape.same_caps in
-    let now = ap (λ (gs : List GroupConfig). total_reserved gs) groups in
-    of-within caps w' is (λ on. within-none caps w'.setup.groups (used_on w') (omega (arith, reserved, total, now))
+    of-within caps w' is (λ on. within-none caps w'.setup.groups (used_on w')
+    (omega (
+      arith,
+      ltb-false w.setup.caps.read_buffers (total_reserved w.setup.groups)
+          (no-row (groups_table w.setup.caps (total_size w.setup.configs) w.setup.groups) check).1.1.1.0,
+      ap
+          (λ (k : Caps). k.read_buffers) shape.same_caps,
+      ap (λ (gs : List GroupConfig). total_reserved gs) groups,
+    ))
     (λ e.
     used_on-sum caps w' e is ∙ sum_on-none caps (weight w'.setup) w'.content e (λ k.
     ap (λ (c : Content). sum_by (weight w'.setup) (chain c k)) content
@@ -274,16 +271,15 @@ buffers-effect caps s s' shape setup h c =
     → sum_by (weight s.work.setup) (chain w'.content k) ≤ sum_by (weight s.work.setup)
     (chain s.work.content k)). lighter caps s.work w' shape is lists h in
     by_effect (λ w. HasBuffers caps (record w { setup = s.work.setup })) s s' c
-    (λ e. light _ refl (λ k. let same = ap (λ (c : Content). sum_by (weight s.work.setup) (chain c k)) e.content in
-    omega (arith, same)))
+    (λ e. light _ refl (λ k. omega (arith, ap (λ (c : Content). sum_by (weight s.work.setup) (chain c k)) e.content)))
     (λ c. light _ refl (pushed-light (weight s.work.setup) s.work.content c.queue _
     (weight-waiting s.work.setup _ refl)))
     (λ c.
-    let engine = below-engines caps s.work c.engine shape (and_parts _ _ (and_parts _ _ c.qualifies).0).0 in
+    let k = a_taker shape c.engine c.queue c.front c.qualifies c.is_front in
     one-more caps s.work _ c.engine _ _ shape setup refl
-    (taken-more caps s.work c.engine c.queue c.front (weight s.work.setup) shape engine)
+    (taken-more caps s.work c.engine c.queue c.front (weight s.work.setup) shape k.engine.inside)
     (subst (λ n. has_room s.work c.engine n ≡ true) (sym (weight-run s.work.setup c.front))
-    (and_parts _ _ (and_parts _ _ (taken-test s.work c.engine c.queue c.front c.qualifies c.is_front)).0).1) h)
+    k.room) h)
     (λ c. light _ refl (pushed-light (weight s.work.setup) s.work.content (member_list s.work.setup c.engine) _
     (weight-waiting s.work.setup _ refl)))
     (λ c. one-more caps s.work _ c.engine _ _ shape setup refl
@@ -308,7 +304,7 @@ buffers-change caps s s' w c = by_setting After s s' c
     (λ c. settle _ refl refl (λ n. n))
     (λ c. settle _ refl refl (λ n. n))
     (λ c configs. while-off caps _ c.off)
-    (configs-kept caps s s' w.shape w.entries.none_off c)
+    (configs-kept caps s s' w.shape w.entries c)
   where
     After : Setup → Type 0
     After = λ setup. ((k : ℕ) (x : Slot) → In x (chain s'.work.content k)

@@ -1,6 +1,6 @@
 -- Members, sums and facts of lists of lists, as each effect changes them.
 use Rattle.std.proofs.Common.{drop, ◌≡◌, ℕ, zero, suc, ◌+◌, ◌<◌, ◌≤◌, Bool, true, not, List, [], ◌∷◌, ◌++◌, length}
-use Rattle.std.proofs.Common.{map, filter, set, refl, ap, subst, ◌⊎◌, inl, inr, arith, ⊎_elim, replicate, ◌≢◌}
+use Rattle.std.proofs.Common.{map, filter, set, get_or, refl, ap, subst, inr, arith, ⊎_elim, replicate, ◌≢◌}
 use Rattle.std.proofs.lemmas.List.{Sums.{sum_by-cons, sum_by-append}, get_or-set_same, get_or-set_other}
 use Rattle.std.specs.Prelude.{sum_by, count_by}
 use Rattle.dsa_base.proofs.Lists.{In-only, In-left, In-right, In-append, In-filter, get_or-replicated}
@@ -31,10 +31,7 @@ sum-filter-le f p xs = omega (arith, sum-split f p xs)
 pub sum-without : (f : Slot → ℕ) (p : Slot → Bool) (x : Slot) (xs : List Slot) → count_by p xs ≤ 1 → In x xs
     → p x ≡ true → sum_by f (filter (λ y. not (p y)) xs) + f x ≡ sum_by f xs
 sum-without f p x xs h i t =
-    let parts = sum-split f p xs in
-    let one = ap (λ (ys : List Slot). sum_by f ys) (filter-one p x xs h i t) in
-    let single = sum_by-cons f x [] in
-    omega (arith, parts, one, single)
+    omega (arith, sum-split f p xs, ap (λ (ys : List Slot). sum_by f ys) (filter-one p x xs h i t), sum_by-cons f x [])
 
 -- ---- one list by its number
 
@@ -44,15 +41,14 @@ chain-other c k l j n = get_or-set_other c k j l [] n
 pub chain-same : (c : Content) (k : ℕ) (l : List Slot) → k < length c → chain (set c k l) k ≡ l
 chain-same c k l i = get_or-set_same c k l [] i
 
--- each list after one is set: it is that one, or as it was
-pub chain-set : (c : Content) (k : ℕ) (l : List Slot) (j : ℕ)
-    → ((j ≡ k) × (chain (set c k l) j ≡ l)) ⊎ (chain (set c k l) j ≡ chain c j)
-chain-set [] k l j = inr refl
-chain-set (m ∷ ms) zero l zero = inl (refl, refl)
-chain-set (m ∷ ms) zero l (suc j) = inr refl
-chain-set (m ∷ ms) (suc k) l zero = inr refl
-chain-set (m ∷ ms) (suc k) l (suc j) = ⊎_elim (λ h. let e = h.0 in
-    inl (omega (arith, e), h.1)) (λ h. inr h) (chain-set ms k l j)
+-- what holds of each of a list by its place, after one is set
+pub each-place : {X : Type 0} (P : ℕ → X → Type 0) (d : X) (xs : List X) (k : ℕ) (x : X)
+    → ((j : ℕ) → P j (get_or xs j d)) → P k x → (j : ℕ) → P j (get_or (set xs k x) j d)
+each-place P d [] k x a b j = a j
+each-place P d (y ∷ ys) zero x a b zero = b
+each-place P d (y ∷ ys) zero x a b (suc j) = a (suc j)
+each-place P d (y ∷ ys) (suc k) x a b zero = a zero
+each-place P d (y ∷ ys) (suc k) x a b (suc j) = each-place (λ i. P (suc i)) d ys k x (λ i. a (suc i)) b j
 
 -- where all lists are empty each is
 pub chain-empty : (n k : ℕ) → chain (replicate n []) k ≡ []
@@ -67,17 +63,7 @@ all_held-empty (suc n) = all_held-empty n
 
 pub each-set : (P : ℕ → Slot → Type 0) (c : Content) (k : ℕ) (l : List Slot) → EachAt P c
     → ((x : Slot) → In x l → P k x) → EachAt P (set c k l)
-each-set P [] k l a b = a
-each-set P (m ∷ ms) zero l a b = λ j. first j
-  where
-    first : (j : ℕ) (x : Slot) → In x (chain (l ∷ ms) j) → P j x
-    first zero = b
-    first (suc j) = a (suc j)
-each-set P (m ∷ ms) (suc k) l a b = λ j. later (each-set (λ i. P (suc i)) ms k l (λ i. a (suc i)) b) j
-  where
-    later : EachAt (λ i. P (suc i)) (set ms k l) → (j : ℕ) (x : Slot) → In x (chain (m ∷ set ms k l) j) → P j x
-    later more zero = a zero
-    later more (suc j) = more j
+each-set P c k l = each-place (λ j l. (x : Slot) → In x l → P j x) [] c k l
 
 pub each-pushed : (P : ℕ → Slot → Type 0) (c : Content) (k : ℕ) (y : Slot) → EachAt P c → P k y
     → EachAt P (after_push c k y.0 y.1)

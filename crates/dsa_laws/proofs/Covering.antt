@@ -19,11 +19,10 @@ pub covered-less : (groups : List GroupConfig) (us vs : List ℕ) → length us 
     → ((j : ℕ) → get_or us j 0 ≤ get_or vs j 0) → covered_count groups us ≤ covered_count groups vs
 covered-less [] us vs l h = omega arith
 covered-less (g ∷ groups) [] vs l h = omega arith
-covered-less (g ∷ groups) (n ∷ us) [] l h = absurd (omega (arith, l))
+covered-less (g ∷ groups) (n ∷ us) [] l h = absurd (omega arith)
 covered-less (g ∷ groups) (n ∷ us) (m ∷ vs) l h =
-    let more = covered-less groups us vs (omega (arith, l)) (λ j. h (suc j)) in
     let one : n ≤ m = h zero in
-    omega (arith, more, one)
+    omega (arith, covered-less groups us vs (omega arith) (λ j. h (suc j)))
 
 -- with none in use it is what is reserved
 pub covered-none : (groups : List GroupConfig) (us : List ℕ) → ((j : ℕ) → get_or us j 0 ≡ 0)
@@ -31,10 +30,8 @@ pub covered-none : (groups : List GroupConfig) (us : List ℕ) → ((j : ℕ) �
 covered-none [] us h = omega arith
 covered-none (g ∷ groups) [] h = omega arith
 covered-none (g ∷ groups) (n ∷ us) h =
-    let more = covered-none groups us (λ j. h (suc j)) in
     let one : n ≡ 0 = h zero in
-    let c = sum_by-cons (λ (x : GroupConfig). x.reserved) g groups in
-    omega (arith, more, one, c)
+    omega (arith, covered-none groups us (λ j. h (suc j)), sum_by-cons (λ (x : GroupConfig). x.reserved) g groups)
 
 -- ---- sums over the numbers below a bound, where one number may give more
 
@@ -45,8 +42,8 @@ sum-filtered {X} f p (x ∷ xs) = go (p x) (sum-filtered f p xs) ∙ sym (sum_by
   where
     go : (b : Bool) → sum_by f (filter p xs) ≡ sum_by (λ k. cond (p k) (f k) 0) xs
         → sum_by f (cond b (x ∷ filter p xs) (filter p xs)) ≡ cond b (f x) 0 + sum_by (λ k. cond (p k) (f k) 0) xs
-    go true more = let c = sum_by-cons f x (filter p xs) in omega (arith, more, c)
-    go false more = omega (arith, more)
+    go true more = omega (arith, sum_by-cons f x (filter p xs))
+    go false more = omega arith
 
 pub sum-once : (f f' : ℕ → ℕ) (e n N : ℕ) → ((k : ℕ) → k ≢ e → f' k ≤ f k) → f' e ≤ f e + n
     → sum_by f' (numbers_below N) ≤ sum_by f (numbers_below N) + n
@@ -56,14 +53,9 @@ sum-once f f' e n (suc N) h m =
     let b = sum_by_push f' (numbers_below N) N in
     ⊎_elim
     (λ (q : N ≡ e).
-    let rest = sum-numbers-le f' f N (λ k i. h k (λ (r : k ≡ e). absurd (omega (arith, q, i, r)))) in
-    let x = ap f q in
-    let y = ap f' q in
-    omega (arith, rest, x, y, m, a, b))
+    omega (arith, sum-numbers-le f' f N (λ k i. h k (λ (r : k ≡ e). absurd (omega arith))), ap f q, ap f' q))
     (λ (q : N ≢ e).
-    let rest = sum-once f f' e n N h m in
-    let last = h N q in
-    omega (arith, rest, last, a, b))
+    omega (arith, sum-once f f' e n N h m, h N q))
     (cases_eq N e)
 
 -- ---- both bounds, by what each engine needs
@@ -91,28 +83,33 @@ cond-more false x y n h = omega arith
 sum-other : (p : ℕ → Bool) (f f' : ℕ → ℕ) (e N : ℕ) → p e ≡ false → ((k : ℕ) → k ≢ e → f' k ≤ f k)
     → sum_by f' (filter p (numbers_below N)) ≤ sum_by f (filter p (numbers_below N))
 sum-other p f f' e N off h =
-    let a = sum-filtered f p (numbers_below N) in
-    let b = sum-filtered f' p (numbers_below N) in
-    let c = sum_by-le-sum_by (λ k. cond (p k) (f' k) 0) (λ k. cond (p k) (f k) 0) (numbers_below N)
-    (λ k. cond-le (p k) (f' k) (f k) (λ t.
-    h k (λ (q : k ≡ e). not-both (p k) t (ap p q ∙ off)))) in
-    omega (arith, a, b, c)
+    omega (
+      arith,
+      sum-filtered f p (numbers_below N),
+      sum-filtered f' p (numbers_below N),
+      sum_by-le-sum_by
+          (λ k. cond (p k) (f' k) 0) (λ k. cond (p k) (f k) 0) (numbers_below N)
+          (λ k. cond-le (p k) (f' k) (f k) (λ t. h k (λ (q : k ≡ e). not-both (p k) t (ap p q ∙ off)))),
+    )
 
 sum-mine : (p : ℕ → Bool) (f f' : ℕ → ℕ) (e n N : ℕ) → ((k : ℕ) → k ≢ e → f' k ≤ f k) → f' e ≤ f e + n
     → sum_by f' (filter p (numbers_below N)) ≤ sum_by f (filter p (numbers_below N)) + n
 sum-mine p f f' e n N h m =
-    let a = sum-filtered f p (numbers_below N) in
-    let b = sum-filtered f' p (numbers_below N) in
-    let c = sum-once (λ k. cond (p k) (f k) 0) (λ k. cond (p k) (f' k) 0) e n N
-    (λ k q. cond-le (p k) (f' k) (f k) (λ t. h k q)) (cond-more (p e) (f' e) (f e) n m) in
-    omega (arith, a, b, c)
+    omega (
+      arith,
+      sum-filtered f p (numbers_below N),
+      sum-filtered f' p (numbers_below N),
+      sum-once
+          (λ k. cond (p k) (f k) 0) (λ k. cond (p k) (f' k) 0) e n N (λ k q. cond-le (p k) (f' k) (f k) (λ t. h k q))
+          (cond-more (p e) (f' e) (f e) n m),
+    )
 
 -- a table of the numbers below a bound, within a list of that length
 table-below : (u : ℕ → ℕ) (N : ℕ) (vs : List ℕ) → ((g : ℕ) → g < N → u g ≤ get_or vs g 0) → (j : ℕ)
     → get_or (map u (numbers_below N)) j 0 ≤ get_or vs j 0
 table-below u N vs h j = ⊎_elim
-    (λ (i : j < N). let e = get_or-each u N j 0 i in let le = h j i in omega (arith, e, le))
-    (λ (i : N ≤ j). let e = get_or-past u N j 0 i in omega (arith, e))
+    (λ (i : j < N). omega (arith, get_or-each u N j 0 i, h j i))
+    (λ (i : N ≤ j). omega (arith, get_or-past u N j 0 i))
     (cases_lt j N)
 
 pub within-less : (caps : Caps) (groups : List GroupConfig) (f f' : ℕ → ℕ) → AreWithin caps groups f
@@ -121,16 +118,25 @@ within-less caps groups f f' w h =
     let each : (g : ℕ) → needed f' caps.engines groups g ≤ needed f caps.engines groups g =
     λ g. sum_by-le-sum_by f' f (filter (has (group_at groups g).engines) (numbers_below caps.engines)) h in
     record {
-      allowed = λ g i. let a = w.allowed g i in let b = each g in omega (arith, a, b);
+      allowed = λ g i. omega (arith, w.allowed g i, each g);
       total =
-          let a = length-each (needed f' caps.engines groups) caps.groups in
-          let b = length-each (needed f caps.engines groups) caps.groups in
-          let less = covered-less groups (all_needed f' caps groups) (all_needed f caps groups) (omega (arith, a, b))
-          (table-below (needed f' caps.engines groups) caps.groups (all_needed f caps groups) (λ g i.
-          let e = get_or-each (needed f caps.engines groups) caps.groups g 0 i in let l = each g in
-          omega (arith, e, l))) in
-          let old = w.total in
-          omega (arith, less, old);
+          omega (
+            arith,
+            covered-less groups (all_needed f' caps groups) (all_needed f caps groups)
+                (omega (
+                  arith,
+                  length-each (needed f' caps.engines groups) caps.groups,
+                  length-each
+                      (needed f caps.engines groups) caps.groups,
+                )) (table-below (needed f' caps.engines groups) caps.groups
+                (all_needed f caps groups) (λ g i. omega (
+                  arith,
+                  get_or-each
+                      (needed f caps.engines groups) caps.groups g 0 i,
+                  each g,
+                ))),
+            w.total,
+          );
     }
 
 -- with nothing needed, what is reserved must be at hand
@@ -140,19 +146,20 @@ within-none caps groups f h z =
     let each : (g : ℕ) → needed f caps.engines groups g ≡ 0 =
     λ g. sum-zero (filter (has (group_at groups g).engines) (numbers_below caps.engines)) in
     record {
-      allowed = λ g i. let e = each g in omega (arith, e);
+      allowed = λ g i. omega (arith, each g);
       total =
-          let none = covered-none groups (all_needed f caps groups) (λ j. ⊎_elim
-          (λ (i : j < caps.groups). get_or-each (needed f caps.engines groups) caps.groups j 0 i ∙ each j)
-          (λ (i : caps.groups ≤ j). get_or-past (needed f caps.engines groups) caps.groups j 0 i)
-          (cases_lt j caps.groups)) in
-          omega (arith, none, h);
+          omega (
+            arith,
+            covered-none groups (all_needed f caps groups)
+                (λ j. ⊎_elim (λ (i : j < caps.groups). get_or-each (needed f caps.engines groups) caps.groups j 0 i
+                ∙ each j) (λ (i : caps.groups ≤ j). get_or-past (needed f caps.engines groups) caps.groups j 0 i)
+                (cases_lt j caps.groups)),
+          );
     }
   where
     sum-zero : (xs : List ℕ) → sum_by f xs ≡ 0
     sum-zero [] = refl
-    sum-zero (x ∷ xs) = let more = sum-zero xs in let one = z x in let c = sum_by-cons f x xs in
-        omega (arith, more, one, c)
+    sum-zero (x ∷ xs) = omega (arith, sum-zero xs, z x, sum_by-cons f x xs)
 
 -- the two bounds where n more are in use in group g, whose engine needs them
 within-group : (caps : Caps) (groups : List GroupConfig) (f f' : ℕ → ℕ) (g n : ℕ) → AreWithin caps groups f
@@ -173,25 +180,30 @@ within-group caps groups f f' g n w i room others mine =
     record {
       allowed = λ j k. ⊎_elim
           (λ (q : j ≡ g). subst (λ x. needed f' caps.engines groups x ≤ (group_at groups x).allowed) (sym q)
-          (omega (arith, mine, first, now)))
-          (λ (q : j ≢ g). let a = others j k q in let b = w.allowed j k in omega (arith, a, b))
+          (omega arith))
+          (λ (q : j ≢ g). omega (arith, others j k q, w.allowed j k))
           (cases_eq j g);
       total =
-          let a = length-each (needed f' caps.engines groups) caps.groups in
-          let b = length-set us g (get_or us g 0 + n) in
-          let less = covered-less groups (all_needed f' caps groups) (set us g (get_or us g 0 + n))
-          (omega (arith, a, b, size))
-          (table-below (needed f' caps.engines groups) caps.groups (set us g (get_or us g 0 + n)) (λ j k. ⊎_elim
-          (λ (q : j ≡ g). subst (λ x. needed f' caps.engines groups x ≤ get_or (set us g (get_or us g 0 + n)) x 0)
-          (sym q)
-          (let e = get_or-set_same us g (get_or us g 0 + n) 0 (omega (arith, size, i)) in omega (arith, e, now, mine)))
-          (λ (q : j ≢ g).
-          let e = get_or-set_other us g j (get_or us g 0 + n) 0 q in
-          let is = get_or-each (needed f caps.engines groups) caps.groups j 0 k in
-          let l = others j k q in
-          omega (arith, e, is, l))
-          (cases_eq j g))) in
-          omega (arith, less, second);
+          omega (
+            arith,
+            covered-less groups (all_needed f' caps groups) (set us g (get_or us g 0 + n))
+                (omega (
+                  arith,
+                  length-each (needed f' caps.engines groups) caps.groups,
+                  length-set us g
+                      (get_or us g 0 + n),
+                )) (table-below (needed f' caps.engines groups) caps.groups
+                (set us g (get_or us g 0 + n)) (λ j k. ⊎_elim (λ (q : j ≡ g). subst
+                (λ x. needed f' caps.engines groups x ≤ get_or (set us g (get_or us g 0 + n)) x 0) (sym q)
+                (omega (arith, get_or-set_same us g (get_or us g 0 + n) 0 (omega arith))))
+                (λ (q : j ≢ g). omega (
+                  arith,
+                  get_or-set_other us g j (get_or us g 0 + n) 0 q,
+                  get_or-each
+                      (needed f caps.engines groups) caps.groups j 0 k,
+                  others j k q,
+                )) (cases_eq j g))),
+          );
     }
 
 -- one engine may need n more where these fit its group, and no other group has it
@@ -204,9 +216,12 @@ within-more caps groups f f' e n w size inside alone room others mine =
     go (position (λ g. has g.engines e) groups) refl room
   where
     once : count_by (λ (g : GroupConfig). has g.engines e) groups ≤ 1
-    once = let h = ltb-false 1 (count_by (λ (g : GroupConfig). has g.engines e) groups)
-        (numbers_below-miss (λ k. nat_lt 1
-        (count_by (λ (g : GroupConfig). has g.engines k) groups)) caps.engines e alone inside) in omega (arith, h)
+    once = omega (
+      arith,
+      ltb-false 1 (count_by (λ (g : GroupConfig). has g.engines e) groups)
+          (numbers_below-miss (λ k. nat_lt 1
+          (count_by (λ (g : GroupConfig). has g.engines k) groups)) caps.engines e alone inside),
+    )
 
     go : (o : Option ℕ) → position (λ g. has g.engines e) groups ≡ o
         → passes (λ g. fits caps.read_buffers groups (all_needed f caps groups) g n) o ≡ true → AreWithin caps groups f'
@@ -214,11 +229,11 @@ within-more caps groups f f' e n w size inside alone room others mine =
     go (Some g) is r =
         let at = position-Some (λ (x : GroupConfig). has x.engines e) groups g zero_group is in
         let low = at.0 in
-        within-group caps groups f f' g n w (omega (arith, low, size)) r
+        within-group caps groups f f' g n w (omega arith) r
         (λ j i q. sum-other (has (group_at groups j).engines) f f' e caps.engines
         (⊎_elim
         (λ t. absurd (q (one-place (λ (x : GroupConfig). has x.engines e) groups j g zero_group once
-        (omega (arith, i, size)) low t at.1)))
+        (omega arith) low t at.1)))
         (λ t. t)
         (cases_Bool (has (group_at groups j).engines e)))
         others)

@@ -1,7 +1,7 @@
 -- What entries are, by the list in which they stand.
-use Rattle.std.proofs.Common.{◌≡◌, ℕ, ◌+◌, ◌<◌, ◌≤◌, ◌==◌, not, Bool, true, false, cond, List, [], ◌∷◌, refl, sym, ap}
-use Rattle.std.proofs.Common.{subst, ◌⊎◌, inl, inr, arith, ⊎_elim, get_or, ◌∙◌}
-use Rattle.std.proofs.lemmas.Bool.{false_from_ne_true, cases_Bool, ltb-true, ltb-false, and_parts, not-true}
+use Rattle.std.proofs.Common.{◌≡◌, ℕ, ◌<◌, ◌==◌, not, Bool, true, false, cond, List, [], ◌∷◌, refl, sym, ap}
+use Rattle.std.proofs.Common.{subst, ◌⊎◌, inl, inr, arith, ⊎_elim, ◌∙◌}
+use Rattle.std.proofs.lemmas.Bool.{false_from_ne_true, cases_Bool, ltb-true, ltb-false, not-true}
 use Rattle.std.proofs.lemmas.List.{get_or-set_other}
 use Rattle.std.proofs.Math.ListN.{get_or-eq_default}
 use Rattle.std.specs.{Prelude.{nat_lt, is_some}, List.{list_any}}
@@ -10,27 +10,22 @@ use Rattle.dsa_base.specs.Lists.{In}
 use Rattle.dsa_regs.specs.Caps.{list_count}
 use Rattle.dsa_regs.specs.declared.{Caps.{Caps}, Phase.{Phase, TheVariants.{Off, On, Stopping}}}
 use Rattle.dsa_regs.specs.declared.{Scope.{Scope, TheVariants.{Device}}, Deed.{Deed, TheVariants.{Disable}}}
-use Rattle.dsa_regs.specs.declared.QueueConfig.{QueueConfig}
 use Rattle.dsa_regs.specs.{Command.{queues_in}, Config.{queue_at, zero_queue}}
 use Rattle.dsa_desc.specs.Descriptor.{pasid_of}
 use Rattle.dsa_store.specs.Content.{Slot, Content, chain, all_held, without_front}
-use Rattle.dsa_book.specs.State.{Work, State, opening, is_off, phase_at}
+use Rattle.dsa_book.specs.State.{Setup, Work, State, opening, is_off, phase_at}
 use Rattle.dsa_book.specs.Work.{progress_list, member_list, in_progress, members, with_running_entry, with_first_run}
 use Rattle.dsa_book.specs.Work.{after_take, after_fetch, after_start}
-use Rattle.dsa_book.specs.Commands.{after_stop, with_phases, is_among, is_in_scope, holds_any, is_awaited, size_alone}
+use Rattle.dsa_book.specs.Commands.{after_stop, with_phases, is_among, is_in_scope, holds_any, is_awaited}
 use Rattle.dsa_book.specs.{Submit.{after_accept}, Machine.{intake_of, with_intake}}
 use Rattle.dsa_book.proofs.{Scopes.{unnamed}, Phases.{on-not_off}}
 use Rattle.dsa_laws.specs.Change.{Change, IsAccepted, IsTaken, IsFetched, IsStarted}
-use Rattle.dsa_laws.specs.WellFormed.{HasShape, IsPlaced, NoneOff, PasidsFit, HasLawfulEntries, HasLawfulSetup}
+use Rattle.dsa_laws.specs.WellFormed.{HasShape, IsPlaced, HasLawfulEntries, HasLawfulSetup}
 use Rattle.dsa_laws.specs.Lists.{EachAt}
 use Rattle.dsa_laws.proofs.Effects.{by_effect, by_setting, stopped-keeps, reset-config}
 use Rattle.dsa_laws.proofs.Contents.{In-chain, In-filtered, each-set, each-pushed, each-without_front, each-filtered}
 use Rattle.dsa_laws.proofs.Contents.{chain-empty}
-use Rattle.dsa_laws.proofs.Shapes.{queues-same, engines-same, on-queue, below-engines, In-cond}
-
-pub queue-below : (caps : Caps) (w : Work) (q : ℕ) → HasShape caps w → nat_lt q w.setup.caps.queues ≡ true
-    → q < caps.queues
-queue-below caps w q h t = let i = ltb-true q w.setup.caps.queues t in let e = queues-same h in omega (arith, i, e)
+use Rattle.dsa_laws.proofs.Shapes.{queues-same, engines-same, on-queue, a_taker, In-cond}
 
 -- what holds of each of a list, and is not changed when an entry begins to run, holds when the first begins to run
 pub first_run-each : (P : Slot → Type 0) → ((x : Slot) → P x → P (with_running_entry x)) → (xs : List Slot)
@@ -65,81 +60,78 @@ each-effect P s s' a c accept take fetch start = by_effect (λ w. EachAt P w.con
     (λ c. each-filtered P _ s.work.content a)
     (λ c. each-filtered P _ s.work.content a)
 
--- what is the same wherever an entry stands and whether it runs or not: it is enough to see it of what comes
-each-content : (P : Slot → Type 0) → ((x : Slot) → P x → P (with_running_entry x)) → (s s' : State) → Change s s'
-    → EachAt (λ k. P) s.work.content
-    → ((c : IsAccepted s s') (x : Slot) → x.1.queue ≡ c.queue → pasid_of x.1.desc.pasid ≡ x.1.desc.pasid → P x)
-    → ((c : IsFetched s s') (x : Slot) → x.1.queue ≡ c.batch.1.queue → pasid_of x.1.desc.pasid ≡ x.1.desc.pasid → P x)
-    → EachAt (λ k. P) s'.work.content
-each-content P r s s' c a n m = each-effect (λ k. P) s s' a c
-    (λ c. each-pushed (λ k. P) s.work.content c.queue _ a (n c _ refl (pasid-again _)))
-    (λ c. each-pushed (λ k. P) (without_front s.work.content c.queue) _ (with_running_entry c.front)
-    (each-without_front (λ k. P) s.work.content c.queue a)
-    (r c.front (a c.queue c.front (In-front c.front _ c.is_front))))
-    (λ c. each-pushed (λ k. P) s.work.content _ _ a (m c _ refl (pasid-again _)))
-    (λ c. each-set (λ k. P) s.work.content _ (with_first_run (members s.work c.engine)) a
-    (first_run-each P r (members s.work c.engine) (λ x i. a _ x (In-cond _ x _ i).1)))
+-- of an entry that its queue is in use, and that its PASID is no longer than a PASID: the same
+-- wherever it stands, and whether it runs or not
+abbrev IsSettled : Setup → Slot → Type 0
+IsSettled setup x = (is_off (phase_at setup x.1.queue) ≡ false) × (pasid_of x.1.desc.pasid ≡ x.1.desc.pasid)
 
-pub pasids-change : (s s' : State) → PasidsFit s.work → Change s s' → PasidsFit s'.work
-pasids-change s s' h c = each-content (λ x. pasid_of x.1.desc.pasid ≡ x.1.desc.pasid) (λ x p. p) s s' c h
-    (λ c x e p. p) (λ c x e p. p)
+-- each entry after a change is such, by the phases before it
+settled : (caps : Caps) (s s' : State) → HasLawfulEntries caps s.work → Change s s'
+    → EachAt (λ k. IsSettled s.work.setup) s'.work.content
+settled caps s s' h c =
+    let P : ℕ → Slot → Type 0 = λ k. IsSettled s.work.setup in
+    let old : EachAt P s.work.content = λ k x i. (h.none_off k x i, h.pasids k x i) in
+    each-effect P s s' old c
+    (λ c. each-pushed P s.work.content c.queue _ old (on-not_off _ c.on, pasid-again _))
+    (λ c. each-pushed P (without_front s.work.content c.queue) _ (with_running_entry c.front)
+    (each-without_front P s.work.content c.queue old) (old c.queue c.front (In-front c.front _ c.is_front)))
+    (λ c. each-pushed P s.work.content _ _ old (
+      (old _ c.batch (In-cond _ c.batch _
+          (In-find _ c.batch (in_progress s.work c.engine) c.is_batch).0).1).0,
+      pasid-again _,
+    ))
+    (λ c. each-set P s.work.content _ (with_first_run (members s.work c.engine)) old
+    (first_run-each (IsSettled s.work.setup) (λ x p. p) (members s.work c.engine)
+    (λ x i. old _ x (In-cond _ x _ i).1)))
 
 -- ---- places
 
-placed-member : (caps : Caps) (k : ℕ) (x : Slot) → caps.queues + caps.engines ≤ k → is_some x.1.parent ≡ true
-    → IsPlaced caps k x
-placed-member caps k x h m = record {
-  member = λ i. m;
-  queue = λ i. absurd (omega (arith, h, i));
-  submitted =
-      λ i. absurd (omega (arith, h, i));
-  waiting = λ i. absurd (omega (arith, h, i));
-  running =
-      λ i j. absurd (omega (arith, h, j));
-}
+placed-member : (caps : Caps) (w : Work) (e : ℕ) (x : Slot) → HasShape caps w → is_some x.1.parent ≡ true
+    → IsPlaced caps (member_list w.setup e) x
+placed-member caps w e x h m =
+    let a = queues-same h in
+    let b = engines-same h in
+    record {
+      member = λ i. m;
+      queue = λ i. absurd (omega arith);
+      submitted = λ i. absurd (omega arith);
+      waiting = λ i. absurd (omega arith);
+      running = λ i j. absurd (omega arith);
+    }
 
-member_list-past : (caps : Caps) (w : Work) (e : ℕ) → HasShape caps w
-    → caps.queues + caps.engines ≤ member_list w.setup e
-member_list-past caps w e h = let a = queues-same h in let b = engines-same h in omega (arith, a, b)
-
-pub placed-change : (caps : Caps) (s s' : State) → HasShape caps s.work → EachAt (IsPlaced caps) s.work.content
+placed-change : (caps : Caps) (s s' : State) → HasShape caps s.work → EachAt (IsPlaced caps) s.work.content
     → Change s s' → EachAt (IsPlaced caps) s'.work.content
-placed-change caps s s' h a c = each-effect (IsPlaced caps) s s' a c
+placed-change caps s s' h a c =
+    let queues = queues-same h in
+    let engines = engines-same h in
+    each-effect (IsPlaced caps) s s' a c
     (λ c.
-    let inside = on-queue caps s.work c.queue h c.on in
+    let inside = on-queue h c.queue c.on in
     each-pushed (IsPlaced caps) s.work.content c.queue _ a
     (record {
-      member = λ i. absurd (omega (arith, inside, i));
+      member = λ i. absurd (omega arith);
       queue = λ i. refl;
-      submitted =
-          λ i. refl;
+      submitted = λ i. refl;
       waiting = λ i. refl;
-      running = λ i j. absurd (omega (arith, inside, i));
+      running = λ i j. absurd (omega arith);
     }))
     (λ c.
-    let q = queues-same h in
-    let inside = queue-below caps s.work c.queue h (and_parts _ _ (and_parts _ _ c.qualifies).0).1 in
-    let engine = below-engines caps s.work c.engine h (and_parts _ _ (and_parts _ _ c.qualifies).0).0 in
-    let front = a c.queue c.front (In-front c.front _ c.is_front) in
+    let k = a_taker h c.engine c.queue c.front c.qualifies c.is_front in
+    let inside = k.engine.inside in
     each-pushed (IsPlaced caps) (without_front s.work.content c.queue) (progress_list s.work.setup c.engine)
     (with_running_entry c.front) (each-without_front (IsPlaced caps) s.work.content c.queue a)
     (record {
-      member = λ i. absurd (omega (arith, q, i, engine));
-      queue =
-          λ i. absurd (omega (arith, q, i));
-      submitted = λ i. front.submitted (omega (arith, inside));
-      waiting =
-          λ i. absurd (omega (arith, q, i));
+      member = λ i. absurd (omega arith);
+      queue = λ i. absurd (omega arith);
+      submitted = λ i. (a c.queue c.front (In-front c.front _ c.is_front)).submitted (omega (arith, k.queue));
+      waiting = λ i. absurd (omega arith);
       running = λ i j. refl;
     }))
-    (λ c. each-pushed (IsPlaced caps) s.work.content (member_list s.work.setup c.engine) _ a
-    (placed-member caps _ _ (member_list-past caps s.work c.engine h) refl))
-    (λ c. each-set (IsPlaced caps) s.work.content (member_list s.work.setup c.engine)
-    (with_first_run (members s.work c.engine)) a
-    (λ x i. placed-member caps _ x (member_list-past caps s.work c.engine h)
+    (λ c. each-pushed (IsPlaced caps) s.work.content _ _ a (placed-member caps s.work c.engine _ h refl))
+    (λ c. each-set (IsPlaced caps) s.work.content _ (with_first_run (members s.work c.engine)) a
+    (λ x i. placed-member caps s.work c.engine x h
     (first_run-each (λ x. is_some x.1.parent ≡ true) (λ x p. p) (members s.work c.engine)
-    (λ x j. (a (member_list s.work.setup c.engine) x (In-cond _ x _ j).1).member
-    (member_list-past caps s.work c.engine h)) x i)))
+    (λ x j. (a (member_list s.work.setup c.engine) x (In-cond _ x _ j).1).member (omega arith)) x i)))
 
 -- ---- no entry names a queue that is Off
 
@@ -154,27 +146,16 @@ pub in-use-below : (caps : Caps) (w : Work) (q : ℕ) → HasShape caps w → is
     → q < w.setup.caps.queues
 in-use-below caps w q h n = ⊎_elim
     (λ t. ltb-true q w.setup.caps.queues t)
-    (λ f.
-    let e = ltb-false q w.setup.caps.queues f in
-    let size = queues-same h in
-    let off : phase_at w.setup q ≡ Off = get_or-eq_default w.setup.phases Off (omega (arith, e, size, h.phases)) in
-    not-both (is_off (phase_at w.setup q)) (ap is_off off) n)
+    (λ f. not-both (is_off (phase_at w.setup q)) (ap is_off (get_or-eq_default w.setup.phases Off
+    (omega (arith, ltb-false q w.setup.caps.queues f, queues-same h, h.phases)))) n)
     (cases_Bool (nat_lt q w.setup.caps.queues))
 
 -- a phase that is not set to Off stays
 kept-phase : (caps : Caps) (w : Work) (test : ℕ → Bool) (p : Phase) (q : ℕ) → HasShape caps w
     → (test q ≡ false) ⊎ (is_off p ≡ false) → is_off (phase_at w.setup q) ≡ false
     → is_off (phase_at (with_phases test p w.setup) q) ≡ false
-kept-phase caps w test p q h out n =
-    subst (λ r. is_off r ≡ false) (sym (get_or-each
-    (λ k. cond (test k) p (phase_at w.setup k)) w.setup.caps.queues q Off (in-use-below caps w q h n)))
-    (tested (test q) refl out)
-  where
-    tested : (b : Bool) → test q ≡ b → (test q ≡ false) ⊎ (is_off p ≡ false)
-        → is_off (cond b p (phase_at w.setup q)) ≡ false
-    tested true t (inl f) = not-both (test q) t f
-    tested true t (inr g) = g
-    tested false t o = n
+kept-phase caps w test p q h out n = rw (get_or-each (λ k. cond (test k) p (phase_at w.setup k))
+    w.setup.caps.queues q Off (in-use-below caps w q h n)) (grind arith)
 
 over-off : (caps : Caps) (w : Work) (deed : Deed) (scope : Scope) (mark : ℕ) → HasShape caps w
     → not (holds_any (is_awaited deed scope mark) w.content) ≡ true
@@ -183,8 +164,8 @@ over-off : (caps : Caps) (w : Work) (deed : Deed) (scope : Scope) (mark : ℕ) �
 over-off caps w Disable Device mark h e k x i p =
     absurd (not-both true refl (none-slot (λ slot. true) w.content k x (not-true _ e) i))
 over-off caps w Disable scope mark h e k x i p =
-    let out = none-slot (λ slot. is_in_scope scope slot.1) w.content k x (not-true _ e) i in
-    kept-phase caps w (is_among (queues_in scope)) Off x.1.queue h (inl (unnamed scope x.1 out)) p
+    kept-phase caps w (is_among (queues_in scope)) Off x.1.queue h (inl (unnamed scope x.1
+    (none-slot (λ slot. is_in_scope scope slot.1) w.content k x (not-true _ e) i))) p
 over-off caps w _ scope mark h e k x i p = p
 
 waiting-off : (caps : Caps) (w : Work) (deed : Deed) (scope : Scope) → HasShape caps w → (q : ℕ)
@@ -194,85 +175,68 @@ waiting-off caps w Disable Device h q n =
 waiting-off caps w Disable scope h q n = kept-phase caps w (is_among (queues_in scope)) Stopping q h (inr refl) n
 waiting-off caps w _ scope h q n = n
 
--- the same of what entries there are after the change, by the phases before it
-old-off : (s s' : State) → NoneOff s.work → Change s s'
-    → EachAt (λ k x. is_off (phase_at s.work.setup x.1.queue) ≡ false) s'.work.content
-old-off s s' a c = each-content (λ x. is_off (phase_at s.work.setup x.1.queue) ≡ false) (λ x p. p) s s' c a
-    (λ c x e p. subst (λ q. is_off (phase_at s.work.setup q) ≡ false) (sym e) (on-not_off _ c.on))
-    (λ c x e p. subst (λ q. is_off (phase_at s.work.setup q) ≡ false) (sym e)
-    (a _ c.batch (In-cond _ c.batch _ (In-find _ c.batch (in_progress s.work c.engine) c.is_batch).0).1))
-
 -- what is held after a change, as its last state is made
 pub In-after : (s t : State) → t ≡ s → (k : ℕ) (x : Slot) → In x (chain s.work.content k)
     → In x (chain t.work.content k)
 In-after s t e k x i = subst (λ (u : State). In x (chain u.work.content k)) (sym e) i
 
--- a queue that an entry names is not set to Off
-phases-kept : (caps : Caps) (s s' : State) → HasShape caps s.work → Change s s' → (k : ℕ) (x : Slot)
-    → In x (chain s'.work.content k)
-    → is_off (phase_at s.work.setup x.1.queue) ≡ false → is_off (phase_at s'.work.setup x.1.queue) ≡ false
-phases-kept caps s s' h c k x i p = by_setting (λ setup. is_off (phase_at setup x.1.queue) ≡ false) s s' c
-    (λ e. subst (λ (l : List Phase). is_off (get_or l x.1.queue Off) ≡ false) (sym e.phases) p)
-    (λ c. p)
-    (λ c. kept-phase caps s.work (λ q. q == c.queue) On x.1.queue h (inr refl) p)
-    (λ c. waiting-off caps s.work c.deed c.scope h x.1.queue p)
-    (λ c. over-off caps s.work c.deed c.scope c.mark h c.over k x (In-after s' _ c.after k x i) p)
+-- a queue is in use by the set-up after a change, and configured as before it
+record KeepsQueue (setup setup' : Setup) (q : ℕ) : Type 0 where
+  in_use : is_off (phase_at setup' q) ≡ false
+  config : queue_at setup'.configs q ≡ queue_at setup.configs q
+
+-- so is each that an entry after the change names
+queues-kept : (caps : Caps) (s s' : State) → HasShape caps s.work → HasLawfulEntries caps s.work → Change s s'
+    → EachAt (λ k x. KeepsQueue s.work.setup s'.work.setup x.1.queue) s'.work.content
+queues-kept caps s s' h a c k x i =
+    let p = (settled caps s s' a c k x i).0 in
+    by_setting (λ setup. KeepsQueue s.work.setup setup x.1.queue) s s' c
+    (λ e. record { in_use = rw e.phases p; config = rw e.configs refl })
+    (λ c. record { in_use = p; config = refl })
+    (λ c. record { in_use = kept-phase caps s.work (λ q. q == c.queue) On x.1.queue h (inr refl) p; config = refl })
+    (λ c. record {
+      in_use = waiting-off caps s.work c.deed c.scope h x.1.queue p;
+      config = rw (stopped-keeps c.deed c.scope Stopping s.work.setup).configs refl;
+    })
+    (λ c. record {
+      in_use = over-off caps s.work c.deed c.scope c.mark h c.over k x (In-after s' _ c.after k x i) p;
+      config = rw (stopped-keeps c.deed c.scope Off s.work.setup).configs refl;
+    })
     (λ c. not-both false (In-filtered (λ slot. not true) s.work.content k x (In-after s' _ c.after k x i)).1 refl)
     (λ c.
-    kept-phase caps s.work (is_among (queues_in c.scope)) Off x.1.queue h
-    (inl (unnamed c.scope x.1 (not-true _
-    (In-filtered (λ slot. not (is_in_scope c.scope slot.1)) s.work.content k x
-    (In-after s' _ c.after k x i)).1))) p)
-    (λ c. p)
-    (λ c. p)
+    let old = In-filtered (λ slot. not (is_in_scope c.scope slot.1)) s.work.content k x (In-after s' _ c.after k x i) in
+    let out = unnamed c.scope x.1 (not-true _ old.1) in
+    record {
+      in_use = kept-phase caps s.work (is_among (queues_in c.scope)) Off x.1.queue h (inl out) p;
+      config = reset-config s.work.setup (queues_in c.scope) x.1.queue (in-use-below caps s.work x.1.queue h p)
+          ∙ rw out refl;
+    })
+    (λ c. record {
+      in_use = p;
+      config = get_or-set_other s.work.setup.configs c.queue x.1.queue c.config zero_queue
+          (λ e. not-both (is_off (phase_at s.work.setup c.queue)) c.off (rw e at p));
+    })
+    (λ c. record { in_use = p; config = refl })
 
--- and is configured as before
-pub configs-kept : (caps : Caps) (s s' : State) → HasShape caps s.work → NoneOff s.work → Change s s'
+pub configs-kept : (caps : Caps) (s s' : State) → HasShape caps s.work → HasLawfulEntries caps s.work → Change s s'
     → (k : ℕ) (x : Slot) → In x (chain s'.work.content k)
     → queue_at s'.work.setup.configs x.1.queue ≡ queue_at s.work.setup.configs x.1.queue
-configs-kept caps s s' h a c k x i = by_setting
-    (λ setup. queue_at setup.configs x.1.queue ≡ queue_at s.work.setup.configs x.1.queue) s s' c
-    (λ e. ap (λ (l : List QueueConfig). queue_at l x.1.queue) e.configs)
-    (λ c. refl)
-    (λ c. refl)
-    (λ c. ap (λ (l : List QueueConfig). queue_at l x.1.queue)
-    (stopped-keeps c.deed c.scope Stopping s.work.setup).configs)
-    (λ c. ap (λ (l : List QueueConfig). queue_at l x.1.queue) (stopped-keeps c.deed c.scope Off s.work.setup).configs)
-    (λ c. not-both false (In-filtered (λ slot. not true) s.work.content k x (In-after s' _ c.after k x i)).1 refl)
-    (λ c.
-    let qs = queues_in c.scope in
-    let old = In-filtered (λ slot. not (is_in_scope c.scope slot.1)) s.work.content k x (In-after s' _ c.after k x i) in
-    let below = in-use-below caps s.work x.1.queue h (a k x old.0) in
-    reset-config s.work.setup qs x.1.queue below
-    ∙ ap (λ (b : Bool). cond b (size_alone (queue_at s.work.setup.configs x.1.queue))
-    (queue_at s.work.setup.configs x.1.queue)) (unnamed c.scope x.1 (not-true _ old.1)))
-    (λ c. get_or-set_other s.work.setup.configs c.queue x.1.queue c.config zero_queue
-    (λ (e : x.1.queue ≡ c.queue). not-both (is_off (phase_at s.work.setup c.queue)) c.off
-    (subst (λ q. is_off (phase_at s.work.setup q) ≡ false) e (a k x (In-after s' _ c.after k x i)))))
-    (λ c. refl)
-
-pub off-change : (caps : Caps) (s s' : State) → HasShape caps s.work → NoneOff s.work → Change s s' → NoneOff s'.work
-off-change caps s s' h a c k x i = phases-kept caps s s' h c k x i (old-off s s' a c k x i)
+configs-kept caps s s' h a c k x i = (queues-kept caps s s' h a c k x i).config
 
 pub entries-change : (caps : Caps) (s s' : State) → HasShape caps s.work → HasLawfulEntries caps s.work → Change s s'
     → HasLawfulEntries caps s'.work
 entries-change caps s s' h a c = record {
   placed = placed-change caps s s' h a.placed c;
-  none_off =
-      off-change caps s s' h a.none_off c;
-  pasids = pasids-change s s' a.pasids c;
+  none_off = λ k x i. (queues-kept caps s s' h a c k x i).in_use;
+  pasids = λ k x i. (settled caps s s' a c k x i).1;
 }
 
 pub each-opening : (P : ℕ → Slot → Type 0) (caps : Caps) → EachAt P (opening caps).work.content
 each-opening P caps k x i = absurd (subst (In x) (chain-empty (list_count caps) k) i)
 
 pub entries-opening : (caps : Caps) → HasLawfulEntries caps (opening caps).work
-entries-opening caps = record {
-  placed = each-opening (IsPlaced caps) caps;
-  none_off = each-opening _ caps;
-  pasids =
-      each-opening _ caps;
-}
+entries-opening caps =
+    record { placed = each-opening _ caps; none_off = each-opening _ caps; pasids = each-opening _ caps }
 
 -- where the device is Off nothing is held
 pub none-held : (caps : Caps) (w : Work) → HasLawfulSetup w.setup → HasLawfulEntries caps w

@@ -43,14 +43,12 @@ well_formed-opening caps =
     let none = all_held-empty (list_count caps) in
     record {
       shape = shape-opening caps;
-      cells = record { once = λ cell. let u = unused cell in omega (arith, u); inside = λ cell past. unused cell };
+      cells = record { once = λ cell. omega (arith, unused cell); inside = λ cell past. unused cell };
       names = record {
-        given = λ name below. absurd (omega (arith, below));
+        given = λ name below. absurd (omega arith);
         not_given = λ name past. ap (λ (xs : List Slot). count_by (λ slot. slot.1.name == name) xs + 0) none;
         counted =
-            let e = ap (λ (xs : List Slot). length xs) none in
-            let h = held-counted (replicate (list_count caps) []) in
-            omega (arith, e, h);
+            omega (arith, ap (λ (xs : List Slot). length xs) none, held-counted (replicate (list_count caps) []));
       };
       setup = setup-opening caps;
       entries = entries-opening caps;

@@ -39,11 +39,7 @@ weight-same setup setup' slot h = ap (λ (c : QueueConfig). cond slot.1.running
 pub sum-within : (f f' : Slot → ℕ) (xs : List Slot) → ((x : Slot) → In x xs → f' x ≤ f x) → sum_by f' xs ≤ sum_by f xs
 sum-within f f' [] h = omega arith
 sum-within f f' (x ∷ xs) h =
-    let more = sum-within f f' xs (λ y i. h y (inr i)) in
-    let one = h x (inl refl) in
-    let a = sum_by-cons f x xs in
-    let b = sum_by-cons f' x xs in
-    omega (arith, more, one, a, b)
+    omega (arith, sum-within f f' xs (λ y i. h y (inr i)), h x (inl refl), sum_by-cons f x xs, sum_by-cons f' x xs)
 
 -- ---- one engine
 
@@ -70,9 +66,7 @@ used_on-sum caps w e same =
 pub sum_on-less : (caps : Caps) (f f' : Slot → ℕ) (c c' : Content) (e : ℕ)
     → ((k : ℕ) → sum_by f' (chain c' k) ≤ sum_by f (chain c k)) → sum_on caps f' c' e ≤ sum_on caps f c e
 sum_on-less caps f f' c c' e h =
-    let a = h (caps.queues + e) in
-    let b = h (caps.queues + caps.engines + e) in
-    cond-le (nat_lt e caps.engines) _ _ (λ t. omega (arith, a, b))
+    cond-le (nat_lt e caps.engines) _ _ (λ t. omega (arith, h (caps.queues + e), h (caps.queues + caps.engines + e)))
 
 -- list p, which is one of engine e's, has n more, and no other list has more
 pub record HasMore (caps : Caps) (f : Slot → ℕ) (c c' : Content) (e p n : ℕ) : Type 0 where
@@ -84,14 +78,14 @@ pub record HasMore (caps : Caps) (f : Slot → ℕ) (c c' : Content) (e p n : �
 pub sum_on-others : (caps : Caps) (f : Slot → ℕ) (c c' : Content) (e p n : ℕ) → HasMore caps f c c' e p n → (j : ℕ)
     → j ≢ e → sum_on caps f c' j ≤ sum_on caps f c j
 sum_on-others caps f c c' e p n h j ne = cond-le (nat_lt j caps.engines) _ _ (λ t.
-    let i = ltb-true j caps.engines t in
-    let engine = h.engine in
-    let a = h.others (caps.queues + j) (λ q. ⊎_elim (λ (r : p ≡ caps.queues + e). ne (omega (arith, q, r)))
-    (λ (r : p ≡ caps.queues + caps.engines + e). absurd (omega (arith, q, r, i))) h.place) in
-    let b = h.others (caps.queues + caps.engines + j)
-    (λ q. ⊎_elim (λ (r : p ≡ caps.queues + e). absurd (omega (arith, q, r, engine)))
-    (λ (r : p ≡ caps.queues + caps.engines + e). ne (omega (arith, q, r))) h.place) in
-    omega (arith, a, b))
+    omega (
+      arith,
+      h.others (caps.queues + j) (λ q. ⊎_elim (λ (r : p ≡ caps.queues + e). ne (omega arith))
+          (λ (r : p ≡ caps.queues + caps.engines + e). absurd (omega (arith, ltb-true j caps.engines t))) h.place),
+      h.others
+          (caps.queues + caps.engines + j) (λ q. ⊎_elim (λ (r : p ≡ caps.queues + e). absurd (omega (arith, h.engine)))
+          (λ (r : p ≡ caps.queues + caps.engines + e). ne (omega arith)) h.place),
+    ))
 
 pub sum_on-mine : (caps : Caps) (f : Slot → ℕ) (c c' : Content) (e p n : ℕ) → HasMore caps f c c' e p n
     → sum_on caps f c' e ≤ sum_on caps f c e + n
@@ -107,14 +101,12 @@ sum_on-mine caps f c c' e p n h = tested (nat_lt e caps.engines)
         (λ (r : p ≡ caps.queues + e).
         let a : sum_by f (chain c' (caps.queues + e)) ≤ sum_by f (chain c (caps.queues + e)) + n =
         subst (λ k. sum_by f (chain c' k) ≤ sum_by f (chain c k) + n) r h.mine in
-        let b = h.others (caps.queues + caps.engines + e) (λ q. absurd (omega (arith, q, r, engine))) in
-        omega (arith, a, b))
+        omega (arith, h.others (caps.queues + caps.engines + e) (λ q. absurd (omega arith))))
         (λ (r : p ≡ caps.queues + caps.engines + e).
         let a : sum_by f (chain c' (caps.queues + caps.engines + e)) ≤ sum_by f
         (chain c (caps.queues + caps.engines + e)) + n =
         subst (λ k. sum_by f (chain c' k) ≤ sum_by f (chain c k) + n) r h.mine in
-        let b = h.others (caps.queues + e) (λ q. absurd (omega (arith, q, r, engine))) in
-        omega (arith, a, b))
+        omega (arith, h.others (caps.queues + e) (λ q. absurd (omega arith))))
         h.place
 
     tested : (b : Bool) → cond b (sum_by f (chain c' (caps.queues + e))

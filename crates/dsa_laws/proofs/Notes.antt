@@ -24,10 +24,10 @@ use Rattle.dsa_laws.proofs.Effects.{by_effect}
 
 check_rows : (a b c d : Bool) → first_row_or {X = ℕ} ((a, 0x10) ∷ (b, 0x11) ∷ (c, 0x13) ∷ (d, 0x14) ∷ []) 0 ≡ 0
     → d ≡ false
-check_rows true b c d h = absurd (omega (arith, h))
-check_rows false true c d h = absurd (omega (arith, h))
-check_rows false false true d h = absurd (omega (arith, h))
-check_rows false false false true h = absurd (omega (arith, h))
+check_rows true b c d h = absurd (omega arith)
+check_rows false true c d h = absurd (omega arith)
+check_rows false false true d h = absurd (omega arith)
+check_rows false false false true h = absurd (omega arith)
 check_rows false false false false h = refl
 
 inside : (a b : Bool) → a ≡ true → (a && not b) ≡ false → b ≡ true
@@ -51,17 +51,18 @@ front-size : (caps : Caps) (w : Work) (x : Slot) → HasShape caps w → HasLawf
     → is_off (phase_at w.setup x.1.queue) ≡ false → is_batch_of w.setup x.1 ≡ true
     → x.1.desc.size ≤ 2 ^ caps.max_batch_shift
 front-size caps w x shape setup off b =
-    let size = batch-size x.1.desc (limits_at w.setup x.1.queue) (is_member x.1) b in
     let rows = no-row (queue_table w.setup.caps w.setup.groups x.1.queue (queue_at w.setup.configs x.1.queue))
     (setup.queue x.1.queue off) in
-    let shift = ltb-false w.setup.caps.max_batch_shift
-    (queue_at w.setup.configs x.1.queue).max_batch_shift rows.1.1.1.1.1.0 in
-    let is = ap (λ (c : Caps). c.max_batch_shift) shape.same_caps in
     let below : (queue_at w.setup.configs x.1.queue).max_batch_shift ≤ caps.max_batch_shift =
-    omega (arith, shift, is) in
+    omega (
+      arith,
+      ltb-false w.setup.caps.max_batch_shift
+          (queue_at w.setup.configs x.1.queue).max_batch_shift rows.1.1.1.1.1.0,
+      ap
+          (λ (c : Caps). c.max_batch_shift) shape.same_caps,
+    ) in
     let two : 0 < 2 = omega arith in
-    let more = pow-le-pow_right two below in
-    omega (arith, size, more)
+    omega (arith, batch-size x.1.desc (limits_at w.setup x.1.queue) (is_member x.1) b, pow-le-pow_right two below)
 
 -- ---- notes
 
@@ -79,8 +80,13 @@ marked : (caps : Caps) (f : BatchNote → BatchNote) → ((n : BatchNote) → (f
     → ((n : BatchNote) → (f n).count ≡ n.count) → (o : Option BatchNote) → NoteFits caps o
     → NoteFits caps (option_map f o)
 marked caps f a b None h = h
-marked caps f a b (Some n) h = let p = a n in let q = b n in let l = h.fetched in let m = h.count in
-    record { fetched = omega (arith, p, q, l); count = omega (arith, q, m) }
+marked caps f a b (Some n) h = let q = b n in record {
+  fetched = omega (arith, a n, h.fetched);
+  count = omega (
+    arith,
+    h.count,
+  );
+}
 
 fits-cond : (caps : Caps) (b : Bool) (x y : Option BatchNote) → (b ≡ true → NoteFits caps x) → NoteFits caps y
     → NoteFits caps (cond b x y)
@@ -122,9 +128,14 @@ notes-change caps s s' shape setup entries h c = by_effect (NotesFit caps) s s' 
     (λ b. record { fetched = omega arith; count = front-size caps s.work c.front shape setup off b }))
     (λ c.
     let old : NoteFits caps (Some c.note) = subst (NoteFits caps) c.is_note (h c.engine) in
-    let below = leb-false c.note.count c.note.fetched (or_parts c.note.closed _ c.more).1 in
-    let most = old.count in
-    set-notes caps s.work.notes c.engine _ h (record { fetched = omega (arith, below); count = omega (arith, most) }))
+    set-notes caps s.work.notes c.engine _ h (record {
+      fetched = omega (
+        arith,
+        leb-false c.note.count c.note.fetched
+            (or_parts c.note.closed _ c.more).1,
+      );
+      count = omega (arith, old.count);
+    }))
     (λ c. h)
     (λ c. set-notes caps s.work.notes c.engine _ h
     (marked caps (λ (note : BatchNote). record note { closed = true }) (λ n. refl)

@@ -1,15 +1,20 @@
--- The lengths of all lists stay.
+-- The lengths of all lists stay, and which lists there are.
 use Rattle.std.proofs.Common.{◌≡◌, ℕ, zero, suc, ◌<◌, Bool, true, false, cond, List, [], ◌∷◌, length, set, get_or}
-use Rattle.std.proofs.Common.{Option, Some, None, refl, sym, ap, ◌∙◌, arith, ◌+◌}
-use Rattle.std.proofs.lemmas.{List.{length-set, length-map, length-replicate}, Bool.{ltb-true, lt-ltb}}
-use Rattle.std.specs.Prelude.{nat_lt}
-use Rattle.dsa_base.{proofs.{Lists.{In-find}, NumberLists.{length-each}}, specs.Lists.{In}}
+use Rattle.std.proofs.Common.{Option, Some, None, refl, sym, ap, ◌∙◌, arith, ◌+◌, subst, map, not, is_none, ◌||◌}
+use Rattle.std.proofs.Common.{◌++◌, ◌⊎◌, inl, inr, ⊎_elim}
+use Rattle.std.proofs.lemmas.{List.{length-set, length-map, length-replicate}, Bool.{ltb-true, lt-ltb, and_parts}}
+use Rattle.std.specs.Prelude.{nat_lt, find}
+use Rattle.dsa_base.proofs.{Lists.{In-find, In-append, In-filter}, NumberLists.{length-each}}
+use Rattle.dsa_base.specs.{Lists.{In}, Numbers.{numbers_below}, Rows.{passes}}
 use Rattle.dsa_regs.specs.declared.{Caps.{Caps}, Phase.{Phase, TheVariants.{Off, Stopping}}}
 use Rattle.dsa_regs.specs.declared.{Scope.{Scope, TheVariants.{Device}}, Deed.{Deed, TheVariants.{Disable}}}
 use Rattle.dsa_regs.specs.Caps.{list_count}
 use Rattle.dsa_store.specs.Content.{Slot, chain, without_front}
 use Rattle.dsa_book.specs.{declared.note.BatchNote.{BatchNote}, State.{Setup, Work, State, opening, is_on, phase_at}}
-use Rattle.dsa_book.specs.Work.{progress_list, member_list, in_progress, members, note_at, first_waiting}
+use Rattle.dsa_book.specs.State.{need_of, is_batch_of, is_ticket}
+use Rattle.dsa_book.specs.declared.answer.Ticket.{Ticket}
+use Rattle.dsa_book.specs.Work.{progress_list, member_list, in_progress, members, note_at, first_waiting, has_room}
+use Rattle.dsa_book.specs.Work.{qualifies, front_of, may_take, running_on}
 use Rattle.dsa_book.specs.Commands.{after_stop}
 use Rattle.dsa_laws.specs.{Change.{Change}, WellFormed.{HasShape}}
 use Rattle.dsa_laws.proofs.Effects.{by_effect, by_setting, stopped-keeps}
@@ -17,10 +22,10 @@ use Rattle.dsa_laws.proofs.Effects.{by_effect, by_setting, stopped-keeps}
 -- ---- capabilities stay
 
 pub queues-same : {caps : Caps} {w : Work} → HasShape caps w → w.setup.caps.queues ≡ caps.queues
-queues-same h = ap (λ (c : Caps). c.queues) h.same_caps
+queues-same h = ap (λ c. c.queues) h.same_caps
 
 pub engines-same : {caps : Caps} {w : Work} → HasShape caps w → w.setup.caps.engines ≡ caps.engines
-engines-same h = ap (λ (c : Caps). c.engines) h.same_caps
+engines-same h = ap (λ c. c.engines) h.same_caps
 
 -- ---- the lengths
 
@@ -37,74 +42,65 @@ stopped-phases _ scope phase setup n q h = h
 
 -- a configuration for each queue and each group, and a phase for each queue
 abbrev HasTables : Caps → Setup → Type 0
-HasTables caps setup = (length setup.configs ≡ caps.queues) ×
-    ((length setup.phases ≡ caps.queues) × (length setup.groups ≡ caps.groups))
+HasTables caps setup = (length setup.configs ≡ caps.queues) × (length setup.phases ≡ caps.queues)
+    × (length setup.groups ≡ caps.groups)
 
 pub shape-change : (caps : Caps) (s s' : State) → HasShape caps s.work → Change s s' → HasShape caps s'.work
 shape-change caps s s' h c = record {
   same_caps = held.0 ∙ h.same_caps;
-  lists = held.1.0 ∙ h.lists;
+  lists = held.1 ∙ h.lists;
   configs = tables.0;
-  phases = tables.1.0;
-  groups = tables.1.1;
-  notes = held.1.1 ∙ h.notes;
+  phases = tables.1;
+  groups = tables.2;
+  notes = held.2 ∙ h.notes;
 }
   where
     w : Work
     w = s.work
 
-    held : (s'.work.setup.caps ≡ w.setup.caps) × ((length s'.work.content ≡ length w.content) ×
-        (length s'.work.notes ≡ length w.notes))
-    held = by_effect (λ t. (t.setup.caps ≡ w.setup.caps) × ((length t.content ≡ length w.content) ×
-        (length t.notes ≡ length w.notes))) s s' c
-        (λ e. (e.caps, (ap length e.content, ap length e.notes)))
-        (λ c. (refl, (length-set w.content c.queue _, refl)))
+    held : (s'.work.setup.caps ≡ w.setup.caps) × (length s'.work.content ≡ length w.content)
+        × (length s'.work.notes ≡ length w.notes)
+    held = by_effect (λ t. (t.setup.caps ≡ w.setup.caps) × (length t.content ≡ length w.content)
+        × (length t.notes ≡ length w.notes)) s s' c
+        (λ e. (e.caps, ap length e.content, ap length e.notes))
+        (λ c. (refl, length-set w.content c.queue _, refl))
         (λ c. (
           refl,
-          (
-            length-set (without_front w.content c.queue) (progress_list w.setup c.engine) _
-                ∙ length-set w.content c.queue _,
-            length-cond_set _ w.notes c.engine _,
-          ),
+          length-set (without_front w.content c.queue) _ _ ∙ length-set w.content c.queue _,
+          length-cond_set _ w.notes c.engine _,
         ))
-        (λ c. (refl, (length-set w.content (member_list w.setup c.engine) _, length-set w.notes c.engine _)))
-        (λ c. (refl, (length-set w.content (member_list w.setup c.engine) _, refl)))
-        (λ c. (refl, (length-set w.content (member_list w.setup c.engine) _, length-set w.notes c.engine _)))
-        (λ c. (refl, (length-map w.content _, length-set w.notes c.engine _)))
-        (λ c. (c.caps, (length-map w.content _, length-each _ w.setup.caps.engines ∙ engines-same h ∙ sym h.notes)))
+        (λ c. (refl, length-set w.content _ _, length-set w.notes c.engine _))
+        (λ c. (refl, length-set w.content _ _, refl))
+        (λ c. (refl, length-set w.content _ _, length-set w.notes c.engine _))
+        (λ c. (refl, length-map w.content _, length-set w.notes c.engine _))
+        (λ c. (c.caps, length-map w.content _, length-each _ w.setup.caps.engines ∙ engines-same h ∙ sym h.notes))
 
     waits : (deed : Deed) (scope : Scope) (phase : Phase) → HasTables caps (after_stop deed scope phase w.setup)
     waits deed scope phase =
         let stop = stopped-keeps deed scope phase w.setup in (
           ap length stop.configs ∙ h.configs,
-          (
-            stopped-phases deed scope phase w.setup caps.queues
-                (queues-same h) h.phases,
-            ap length stop.groups ∙ h.groups,
-          ),
+          stopped-phases deed scope phase w.setup caps.queues (queues-same h) h.phases,
+          ap length stop.groups ∙ h.groups,
         )
 
     tables : HasTables caps s'.work.setup
     tables = by_setting (HasTables caps) s s' c
-        (λ e. (ap length e.configs ∙ h.configs, (ap length e.phases ∙ h.phases, ap length e.groups ∙ h.groups)))
-        (λ c. (h.configs, (h.phases, h.groups)))
-        (λ c. (h.configs, (length-each _ w.setup.caps.queues ∙ queues-same h, h.groups)))
+        (λ e. (ap length e.configs ∙ h.configs, ap length e.phases ∙ h.phases, ap length e.groups ∙ h.groups))
+        (λ c. (h.configs, h.phases, h.groups))
+        (λ c. (h.configs, each _, h.groups))
         (λ c. waits c.deed c.scope Stopping)
         (λ c. waits c.deed c.scope Off)
         (λ c. (
           length-replicate w.setup.caps.queues _ ∙ queues-same h,
-          (
-            length-replicate w.setup.caps.queues _ ∙ queues-same h,
-            length-replicate w.setup.caps.groups _
-                ∙ ap (λ (c : Caps). c.groups) h.same_caps,
-          ),
+          length-replicate w.setup.caps.queues _ ∙ queues-same h,
+          length-replicate w.setup.caps.groups _ ∙ ap (λ c. c.groups) h.same_caps,
         ))
-        (λ c. (
-          length-each _ w.setup.caps.queues ∙ queues-same h,
-          (length-each _ w.setup.caps.queues ∙ queues-same h, h.groups),
-        ))
-        (λ c. (length-set w.setup.configs c.queue c.config ∙ h.configs, (h.phases, h.groups)))
-        (λ c. (h.configs, (h.phases, length-set w.setup.groups c.group c.config ∙ h.groups)))
+        (λ c. (each _, each _, h.groups))
+        (λ c. (length-set w.setup.configs c.queue c.config ∙ h.configs, h.phases, h.groups))
+        (λ c. (h.configs, h.phases, length-set w.setup.groups c.group c.config ∙ h.groups))
+      where
+        each : {X : Type 0} (f : ℕ → X) → length (map f (numbers_below w.setup.caps.queues)) ≡ caps.queues
+        each f = length-each f w.setup.caps.queues ∙ queues-same h
 
 pub shape-opening : (caps : Caps) → HasShape caps (opening caps).work
 shape-opening caps = record {
@@ -121,78 +117,110 @@ shape-opening caps = record {
 on-in_range : (phases : List Phase) (q : ℕ) → is_on (get_or phases q Off) ≡ true → q < length phases
 on-in_range [] q h = absurd cc
 on-in_range (p ∷ phases) zero h = omega arith
-on-in_range (p ∷ phases) (suc q) h = let more = on-in_range phases q h in omega (arith, more)
-
-pub on-queue : (caps : Caps) (w : Work) (q : ℕ) → HasShape caps w → is_on (phase_at w.setup q) ≡ true → q < caps.queues
-on-queue caps w q h on = let n = on-in_range w.setup.phases q on in omega (arith, n, h.phases)
+on-in_range (p ∷ phases) (suc q) h = omega (arith, on-in_range phases q h)
 
 note-in_range : (notes : List (Option BatchNote)) (e : ℕ) (note : BatchNote) → get_or notes e None ≡ Some note
     → e < length notes
 note-in_range [] e note h = absurd cc
 note-in_range (n ∷ notes) zero note h = omega arith
-note-in_range (n ∷ notes) (suc e) note h = let more = note-in_range notes e note h in omega (arith, more)
-
-pub note-engine : (caps : Caps) (w : Work) (e : ℕ) (note : BatchNote) → HasShape caps w → note_at w e ≡ Some note
-    → e < caps.engines
-note-engine caps w e note h n = let i = note-in_range w.notes e note n in omega (arith, i, h.notes)
+note-in_range (n ∷ notes) (suc e) note h = omega (arith, note-in_range notes e note h)
 
 pub In-cond : (b : Bool) (x : Slot) (l : List Slot) → In x (cond b l []) → (b ≡ true) × In x l
 In-cond true x l i = (refl, i)
 In-cond false x l i = absurd i
 
-pub below-engines : (caps : Caps) (w : Work) (e : ℕ) → HasShape caps w → nat_lt e w.setup.caps.engines ≡ true
-    → e < caps.engines
-below-engines caps w e h t = let i = ltb-true e w.setup.caps.engines t in let same = engines-same h in
-    omega (arith, i, same)
+-- an engine of the device, with its two lists and its place for a note
+pub record IsEngine (caps : Caps) (w : Work) (e : ℕ) : Type 0 where
+  pub there : nat_lt e w.setup.caps.engines ≡ true
+  pub below : e < w.setup.caps.engines
+  pub inside : e < caps.engines
+  pub noted : e < length w.notes
+  pub progress_inside : progress_list w.setup e < length w.content
+  pub members_inside : member_list w.setup e < length w.content
+  pub progress : in_progress w e ≡ chain w.content (progress_list w.setup e)
+  pub members : members w e ≡ chain w.content (member_list w.setup e)
 
--- the list of an engine's members is one of the lists
-pub member_list-in : (caps : Caps) (w : Work) (e : ℕ) → HasShape caps w → e < caps.engines
-    → member_list w.setup e < length w.content
-member_list-in caps w e h i =
-    let a = engines-same h in
-    let b = queues-same h in
-    omega (arith, i, a, b, h.lists)
+-- the slot stands in one of the engine's two lists
+pub record StandsOn (w : Work) (e : ℕ) (slot : Slot) : Type 0 where
+  pub list : ℕ
+  pub own : (list ≡ progress_list w.setup e) ⊎ (list ≡ member_list w.setup e)
+  pub at : In slot (chain w.content list)
+  pub there : nat_lt e w.setup.caps.engines ≡ true
 
-pub progress_list-in : (caps : Caps) (w : Work) (e : ℕ) → HasShape caps w → e < caps.engines
-    → progress_list w.setup e < length w.content
-progress_list-in caps w e h i =
-    let a = engines-same h in
-    let b = queues-same h in
-    omega (arith, i, a, b, h.lists)
+-- an engine that may take the front of a queue
+pub record IsTaker (caps : Caps) (w : Work) (e q : ℕ) (front : Slot) : Type 0 where
+  pub engine : IsEngine caps w e
+  pub queue : q < caps.queues
+  pub slots : length (in_progress w e) < caps.slots
+  pub room : has_room w e (need_of w.setup front.1) ≡ true
+  pub batches : (is_none (note_at w e) || not (is_batch_of w.setup front.1)) ≡ true
 
-pub queue_list-in : (caps : Caps) (w : Work) (q : ℕ) → HasShape caps w → q < caps.queues → q < length w.content
-queue_list-in caps w q h i = omega (arith, i, h.lists)
+module _ {caps : Caps} {w : Work} (shape : HasShape caps w) where
+  pub on-queue : (q : ℕ) → is_on (phase_at w.setup q) ≡ true → q < caps.queues
+  on-queue q on = omega (arith, on-in_range w.setup.phases q on, shape.phases)
 
-pub waiting-engine : (w : Work) (e : ℕ) (slot : Slot) → first_waiting w e ≡ Some slot
-    → nat_lt e w.setup.caps.engines ≡ true
-waiting-engine w e slot h = (In-cond _ slot _ (In-find _ slot (members w e) h).0).0
+  pub queue_list-in : (q : ℕ) → q < caps.queues → q < length w.content
+  queue_list-in q i = omega (arith, shape.lists)
 
--- ---- the two lists of an engine
+  pub an_engine : (e : ℕ) → nat_lt e w.setup.caps.engines ≡ true → IsEngine caps w e
+  an_engine e t =
+      let below = ltb-true e w.setup.caps.engines t in
+      let engines = engines-same shape in
+      let queues = queues-same shape in
+      record {
+        there = t;
+        below = below;
+        inside = omega arith;
+        noted = omega (arith, shape.notes);
+        progress_inside = omega (arith, shape.lists);
+        members_inside = omega (arith, shape.lists);
+        progress = rw t refl;
+        members = rw t refl;
+      }
 
-pub members-is : (w : Work) (e : ℕ) → nat_lt e w.setup.caps.engines ≡ true
-    → members w e ≡ chain w.content (member_list w.setup e)
-members-is w e t = ap (λ (b : Bool). cond b (chain w.content (member_list w.setup e)) []) t
+  pub below-engines : (e : ℕ) → nat_lt e w.setup.caps.engines ≡ true → e < caps.engines
+  below-engines e t = (an_engine e t).inside
 
-pub progress-is : (w : Work) (e : ℕ) → nat_lt e w.setup.caps.engines ≡ true
-    → in_progress w e ≡ chain w.content (progress_list w.setup e)
-progress-is w e t = ap (λ (b : Bool). cond b (chain w.content (progress_list w.setup e)) []) t
+  -- by its number
+  pub numbered-engine : (e : ℕ) → e < caps.engines → IsEngine caps w e
+  numbered-engine e i = an_engine e (lt-ltb e w.setup.caps.engines (omega (arith, engines-same shape)))
 
--- where one waits
-pub waiting-members : (w : Work) (e : ℕ) (slot : Slot) → first_waiting w e ≡ Some slot
-    → members w e ≡ chain w.content (member_list w.setup e)
-waiting-members w e slot h = members-is w e (waiting-engine w e slot h)
+  -- by its note
+  pub noted-engine : (e : ℕ) (note : BatchNote) → note_at w e ≡ Some note → IsEngine caps w e
+  noted-engine e note h = numbered-engine e (omega (arith, note-in_range w.notes e note h, shape.notes))
 
-engine-there : (caps : Caps) (w : Work) (e : ℕ) → HasShape caps w → e < caps.engines
-    → nat_lt e w.setup.caps.engines ≡ true
-engine-there caps w e h i = let n = engines-same h in lt-ltb e w.setup.caps.engines (omega (arith, i, n))
+  -- by a member that waits there
+  pub waiting-engine : (e : ℕ) (slot : Slot) → first_waiting w e ≡ Some slot → IsEngine caps w e
+  waiting-engine e slot h = an_engine e (In-cond _ slot _ (In-find _ slot (members w e) h).0).0
 
--- by their numbers
-pub members-at : (caps : Caps) (w : Work) (e : ℕ) → HasShape caps w → e < caps.engines
-    → members w e ≡ chain w.content (caps.queues + caps.engines + e)
-members-at caps w e h i = members-is w e (engine-there caps w e h i)
-    ∙ ap (λ (c : Caps). chain w.content (c.queues + c.engines + e)) h.same_caps
+  -- its lists by their numbers
+  pub members-at : (e : ℕ) → e < caps.engines → members w e ≡ chain w.content (caps.queues + caps.engines + e)
+  members-at e i = (numbered-engine e i).members
+      ∙ ap (λ c. chain w.content (c.queues + c.engines + e)) shape.same_caps
 
-pub progress-at : (caps : Caps) (w : Work) (e : ℕ) → HasShape caps w → e < caps.engines
-    → in_progress w e ≡ chain w.content (caps.queues + e)
-progress-at caps w e h i = progress-is w e (engine-there caps w e h i)
-    ∙ ap (λ (c : Caps). chain w.content (c.queues + e)) h.same_caps
+  pub progress-at : (e : ℕ) → e < caps.engines → in_progress w e ≡ chain w.content (caps.queues + e)
+  progress-at e i = (numbered-engine e i).progress ∙ ap (λ c. chain w.content (c.queues + e)) shape.same_caps
+
+  pub a_taker : (e q : ℕ) (front : Slot) → qualifies w e q ≡ true → front_of w q ≡ Some front
+      → IsTaker caps w e q front
+  a_taker e q front h f =
+      let tests = and_parts _ _ (and_parts _ _ h).0 in
+      let may : may_take w e front ≡ true = subst (λ o. passes (may_take w e) o ≡ true) f
+      (and_parts _ _ (and_parts _ _ h).1).1 in
+      let fits = and_parts _ _ (and_parts _ _ may).0 in
+      record {
+        engine = an_engine e tests.0;
+        queue = omega (arith, ltb-true q w.setup.caps.queues tests.1, queues-same shape);
+        slots = subst (λ (c : Caps). length (in_progress w e) < c.slots) shape.same_caps (ltb-true _ _ fits.0);
+        room = fits.1;
+        batches = (and_parts _ _ may).1;
+      }
+
+-- what runs on an engine stands in one of its lists
+pub running-place : (w : Work) (e : ℕ) (ticket : Ticket) (slot : Slot)
+    → find (is_ticket ticket) (running_on w e) ≡ Some slot → StandsOn w e slot
+running-place w e ticket slot h = ⊎_elim
+    (λ i. let p = In-cond _ slot _ i in record { list = _; own = inl refl; at = p.1; there = p.0 })
+    (λ i. let p = In-cond _ slot _ i in record { list = _; own = inr refl; at = p.1; there = p.0 })
+    (In-append slot (in_progress w e) (members w e)
+    (In-filter _ slot (in_progress w e ++ members w e) (In-find _ slot (running_on w e) h).0).0)
