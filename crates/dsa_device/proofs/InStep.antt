@@ -1,6 +1,6 @@
 -- A step of the queues alone moves nothing on an engine, and the entries there need what they needed.
 use Rattle.std.proofs.Common.{◌≡◌, ℕ, ◌++◌, Bool, false, cond, List, [], ◌∷◌, Option, Some, None, refl, sym, ap, ◌∙◌}
-use Rattle.std.proofs.Common.{subst, inl, inr, arith, ⊎_elim}
+use Rattle.std.proofs.Common.{subst, inl, inr, arith}
 use Rattle.std.proofs.lemmas.{Bool.{not-false}, List.{get_or-set_other}}
 use Rattle.std.specs.Prelude.{nat_lt, not, ◌&&◌, ◌==◌}
 use Rattle.dsa_desc.specs.{declared.Descriptor.{Descriptor}, Descriptor.{need}}
