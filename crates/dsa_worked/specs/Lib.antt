@@ -2,6 +2,7 @@ pub mod Setup
 pub mod Submissions
 pub mod Batches
 pub mod Commands
+pub mod Counts
 pub mod Phases
 pub mod Members
 pub mod Answers

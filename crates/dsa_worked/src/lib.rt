@@ -4,6 +4,7 @@
 pub mod answers;
 pub mod batches;
 pub mod commands;
+pub mod counts;
 pub mod members;
 pub mod phases;
 pub mod states;
