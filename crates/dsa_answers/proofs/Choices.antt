@@ -1,25 +1,21 @@
 -- Two replies to one event that may both come differ in what is free alone.
 use Rattle.std.proofs.Common.{◌≡◌, ℕ, Bool, true, false, List, [], ◌∷◌, Option, Some, None, refl, sym, ap, subst, ◌∙◌}
-use Rattle.std.proofs.Common.{◌<◌}
-use Rattle.std.proofs.lemmas.{Bool.{and_parts, ltb-true}, Option.{same_Some}}
-use Rattle.std.specs.{Prelude.{not}, List.{list_any}}
+use Rattle.std.proofs.{lemmas.{Bool.{and_parts, ltb-true, not-true}, Option.{same_Some}}, Common.{◌<◌}}
+use Rattle.std.specs.List.{list_any}
 use Rattle.dsa_desc.specs.declared.Descriptor.{Descriptor}
-use Rattle.dsa_base.specs.{Rows.{first_row_or, passes}, Numbers.{numbers_below}}
 use Rattle.dsa_base.proofs.{NumberLemmas.{numbers_below-hit}, Tables.{not-both}}
+use Rattle.dsa_base.specs.{Rows.{first_row_or, passes}, Numbers.{numbers_below}}
 use Rattle.dsa_store.specs.{declared.entry.Cell.{Cell}, Content.{Slot}}
-use Rattle.dsa_book.specs.declared.answer.SubmitAnswer.{SubmitAnswer, TheVariants.{Accepted}}
-use Rattle.dsa_book.specs.declared.answer.DispatchAnswer.TheVariants.{Taken}
+use Rattle.dsa_book.specs.Work.{after_fetch, note_at, batch_on, is_all_fetched}
+use Rattle.dsa_book.specs.Work.{qualifies, may_take, front_of, may_leave, dispatch, dispatch_of, fetch_for, fetch_of}
 use Rattle.dsa_book.specs.declared.answer.FetchAnswer.{FetchAnswer, TheVariants.{Fetched, AllFetched}}
 use Rattle.dsa_book.specs.declared.answer.Reply.{Reply, TheVariants.{Submit, Dispatch, Fetch}}
-use Rattle.dsa_book.specs.declared.event.{Portal.{Portal}, Kind.{Kind}}
-use Rattle.dsa_book.specs.declared.event.Event.{Event, TheVariants.{Submit, Dispatch, Fetch}}
-use Rattle.dsa_book.specs.declared.note.BatchNote.{BatchNote}
-use Rattle.dsa_book.specs.{State.{Intake, Work, State, ticket_of}, Submit.{submit, submit_table, after_accept}}
-use Rattle.dsa_book.specs.Work.{qualifies, may_take, front_of, may_leave, dispatch, dispatch_of, fetch_for, fetch_of}
-use Rattle.dsa_book.specs.Work.{after_fetch, note_at, batch_on, is_all_fetched}
-use Rattle.dsa_book.specs.Choice.{Choice, nothing, from_queue, choice_of, cell_of}
-use Rattle.dsa_book.specs.Machine.{intake_of, may_choose, reply_of, next}
-use Rattle.dsa_book.proofs.Nexts.{next-is}
+use Rattle.dsa_book.specs.declared.answer.SubmitAnswer.{SubmitAnswer, TheVariants.{Accepted}}
+use Rattle.dsa_book.specs.declared.event.{Event.{Event, TheVariants.{Submit, Dispatch, Fetch}}, Portal.{Portal}}
+use Rattle.dsa_book.specs.declared.{answer.DispatchAnswer.TheVariants.{Taken}, note.BatchNote.{BatchNote}}
+use Rattle.dsa_book.specs.{Choice.{Choice, nothing, from_queue, choice_of, cell_of}, declared.event.Kind.{Kind}}
+use Rattle.dsa_book.specs.{Machine.{intake_of, may_choose, reply_of, next}, Submit.{submit, submit_table, after_accept}}
+use Rattle.dsa_book.{specs.State.{Intake, Work, State, ticket_of}, proofs.Nexts.{next-is}}
 use Rattle.dsa_answers.specs.Choices.{AreAlike}
 
 -- a reply is like itself
@@ -64,11 +60,7 @@ not-idle w e q may none =
     let below : q < w.setup.caps.queues = ltb-true q w.setup.caps.queues (and_parts _ _ (and_parts _ _ may).0).1 in
     not-both (list_any (qualifies w e) (numbers_below w.setup.caps.queues))
     (numbers_below-hit (qualifies w e) w.setup.caps.queues q below may)
-    (is-false (list_any (qualifies w e) (numbers_below w.setup.caps.queues)) none)
-  where
-    is-false : (b : Bool) → not b ≡ true → b ≡ false
-    is-false false h = refl
-    is-false true h = absurd cc
+    (not-true _ none)
 
 dispatches : (w : Work) (e : ℕ) (c c' : Choice) → may_leave w e c ≡ true → may_leave w e c' ≡ true
     → AreAlike (Dispatch (dispatch w e c).0) (Dispatch (dispatch w e c').0)
@@ -113,10 +105,3 @@ replies-alike s s' s'' event a b h k =
     subst (λ (r : Reply × State). AreAlike r.0 b) p.1
     (subst (λ (r : Reply × State). AreAlike (reply_of s event (choice_of a)).0 r.0) q.1
     (choices-alike s event (choice_of a) (choice_of b) p.0 q.0))
-
--- where the same is chosen, the reply and the state after it are the same
-pub choice-decides : (s s' s'' : State) (event : Event) (a b : Reply) → next s event a ≡ Some s'
-    → next s event b ≡ Some s'' → choice_of a ≡ choice_of b → (a ≡ b) × (s' ≡ s'')
-choice-decides s s' s'' event a b h k same =
-    let e = sym (next-is s s' event a h).1 ∙ ap (reply_of s event) same ∙ (next-is s s'' event b k).1 in
-    (ap (λ (r : Reply × State). r.0) e, ap (λ (r : Reply × State). r.1) e)

@@ -1,4 +1,3 @@
 pub mod Choices
 pub mod Stops
 pub mod Writes
-pub mod Retries

@@ -1,40 +1,32 @@
 -- What is Stopping is what the active command disables.
 use Rattle.std.proofs.Common.{◌≡◌, ℕ, Bool, true, false, not, List, [], ◌∷◌, Option, Some, None, refl, sym, ap, subst}
-use Rattle.std.proofs.Common.{◌∙◌}
-use Rattle.std.proofs.lemmas.Bool.{cond_both}
+use Rattle.std.proofs.{lemmas.Bool.{cond_both}, Common.{◌∙◌}}
 use Rattle.std.specs.Prelude.{◌==◌, find, replicate, get_or, slice_set, is_some}
 use Rattle.dsa_desc.specs.declared.Descriptor.{Descriptor}
 use Rattle.dsa_base.proofs.{Lists.{get_or-replicated}, Tables.{first_row_or-each, one_row, table3}}
-use Rattle.dsa_regs.specs.declared.{Caps.{Caps}, Phase.{Phase, TheVariants.{Off, On, Stopping}}, Command.{Command}}
-use Rattle.dsa_regs.specs.declared.Scope.{Scope, TheVariants.{Device, Queue}}
-use Rattle.dsa_regs.specs.declared.Deed.{Deed, TheVariants.{Enable, Disable, Abort, Reset}}
-use Rattle.dsa_regs.specs.declared.Fault.{Fault, TheVariants.{BadQueue, WrongState, Busy}}
-use Rattle.dsa_regs.specs.declared.{QueueConfig.{QueueConfig}, GroupConfig.{GroupConfig}}
-use Rattle.dsa_regs.specs.Command.{scope_of, deed_of, queues_in}
+use Rattle.dsa_regs.specs.declared.{Deed.{Deed, TheVariants.{Enable, Disable, Abort, Reset}}, QueueConfig.{QueueConfig}}
+use Rattle.dsa_regs.specs.declared.{Fault.{Fault, TheVariants.{BadQueue, WrongState, Busy}}, GroupConfig.{GroupConfig}}
+use Rattle.dsa_regs.specs.declared.{Phase.{Phase, TheVariants.{Off, On, Stopping}}, Command.{Command}, Caps.{Caps}}
+use Rattle.dsa_regs.specs.{declared.Scope.{Scope, TheVariants.{Device, Queue}}, Command.{scope_of, deed_of, queues_in}}
 use Rattle.dsa_store.specs.{declared.entry.Cell.{Cell}, Content.{Slot}}
-use Rattle.dsa_book.specs.declared.note.{BatchNote.{BatchNote}, ActiveCommand.{ActiveCommand}}
-use Rattle.dsa_book.specs.declared.answer.NotedError.{NotedError}
-use Rattle.dsa_book.specs.declared.answer.Cause.{Cause, TheVariants.{AtLimit, NotEnabled, WrongKind}}
-use Rattle.dsa_book.specs.declared.answer.SubmitAnswer.{SubmitAnswer}
-use Rattle.dsa_book.specs.declared.answer.FetchAnswer.{FetchAnswer, TheVariants.{AllFetched}}
+use Rattle.dsa_book.proofs.{Leaving.{dispatch-setup, start_of-setup, finish_of-setup}, Replay.{replay_none}}
+use Rattle.dsa_book.proofs.{Nexts.{next-each}, Phases.{by_phase}}
+use Rattle.dsa_book.specs.Commands.{after_stop, is_among, with_phases, write_queue, write_queue_table, write_group}
+use Rattle.dsa_book.specs.Commands.{issue, check_of, refusal_or, command_done_of, deed_done_of, wait_of, poll_of}
+use Rattle.dsa_book.specs.State.{Setup, Intake, Work, State, opening, is_ticket, is_off, phase_at}
+use Rattle.dsa_book.specs.Work.{dispatch, fetch_for, fetch_of, after_fetch, note_at, batch_on, start, first_waiting}
+use Rattle.dsa_book.specs.declared.answer.WriteAnswer.{WriteAnswer, TheVariants.{Written, Refused}}
+use Rattle.dsa_book.specs.declared.answer.{Cause.{Cause, TheVariants.{AtLimit, NotEnabled, WrongKind}}, Reply.{Reply}}
+use Rattle.dsa_book.specs.declared.answer.{FetchAnswer.{FetchAnswer, TheVariants.{AllFetched}}, NotedError.{NotedError}}
 use Rattle.dsa_book.specs.declared.answer.{IssueAnswer.{IssueAnswer, TheVariants.{Refused}}, PollAnswer.{PollAnswer}}
-use Rattle.dsa_book.specs.declared.answer.{WriteAnswer.{WriteAnswer, TheVariants.{Written, Refused}}, Reply.{Reply}}
-use Rattle.dsa_book.specs.declared.event.{Portal.{Portal}, Kind.{Kind, TheVariants.{Enqcmd, Movdir64b}}, Step.{Step}}
-use Rattle.dsa_book.specs.declared.event.Event.{Event}
 use Rattle.dsa_book.specs.declared.event.Event.TheVariants.{Submit, Dispatch, Fetch, Start, Finish, Issue, Poll}
 use Rattle.dsa_book.specs.declared.event.Event.TheVariants.{WriteQueue, WriteGroup, ClearError}
-use Rattle.dsa_book.specs.State.{Setup, Intake, Work, State, opening, is_ticket, is_off, phase_at}
-use Rattle.dsa_book.specs.Submit.{submit, submit_table, after_refusal, after_accept}
-use Rattle.dsa_book.specs.Work.{dispatch, fetch_for, fetch_of, after_fetch, note_at, batch_on, start, first_waiting}
-use Rattle.dsa_book.specs.Work.{finish, running_on}
-use Rattle.dsa_book.specs.Commands.{issue, check_of, refusal_or, command_done_of, deed_done_of, wait_of, poll_of}
-use Rattle.dsa_book.specs.Commands.{after_stop, is_among, with_phases, write_queue, write_queue_table, write_group}
-use Rattle.dsa_book.specs.Commands.{write_group_table, clear_of}
+use Rattle.dsa_book.specs.declared.event.{Kind.{Kind, TheVariants.{Enqcmd, Movdir64b}}, Portal.{Portal}, Event.{Event}}
+use Rattle.dsa_book.specs.declared.{note.{BatchNote.{BatchNote}, ActiveCommand.{ActiveCommand}}, event.Step.{Step}}
 use Rattle.dsa_book.specs.{Machine.{next, reply_of, replay, replay_from, intake_of}, Choice.{Choice, cell_of}}
-use Rattle.dsa_book.proofs.{Nexts.{next-each}, Leaving.{dispatch-setup, start_of-setup, finish_of-setup}}
-use Rattle.dsa_book.proofs.{Replay.{replay_none}, Phases.{by_phase}}
-use Rattle.dsa_answers.specs.Stops.{is_stopping, stops_device, stops_queue, is_active_command, StopsByCommand}
-use Rattle.dsa_answers.specs.Stops.{IsAtRest}
+use Rattle.dsa_book.specs.{Submit.{submit, submit_table, after_refusal, after_accept}, Work.{finish, running_on}}
+use Rattle.dsa_book.specs.{declared.answer.SubmitAnswer.{SubmitAnswer}, Commands.{write_group_table, clear_of}}
+use Rattle.dsa_answers.specs.Stops.{is_stopping, stops_device, stops_queue, is_active_command, IsAtRest}
 
 -- ---- the words of one phase and one command
 
@@ -47,8 +39,9 @@ abbrev pub Stops : Setup → Option ActiveCommand → Type 0
 Stops setup active = StopsBy setup (is_active_command stops_device active)
     (λ q. is_active_command (λ deed scope. stops_queue deed scope q) active)
 
-pub of-stops : (s : State) → Stops s.work.setup s.active → StopsByCommand s
-of-stops s h = record { device = h.device; queues = h.queues }
+-- it holds in a state
+abbrev Holds : State → Type 0
+Holds s = Stops s.work.setup s.active
 
 -- nothing is Stopping
 resting : {whole : Bool} {named : ℕ → Bool} (setup : Setup) → is_stopping setup.device ≡ false
@@ -63,7 +56,7 @@ none true f = sym (f refl)
 none false f = refl
 
 -- without an active command nothing is Stopping
-at-rest : (setup : Setup) (active : Option ActiveCommand) → active ≡ None → Stops setup active → IsAtRest setup
+pub at-rest : (setup : Setup) (active : Option ActiveCommand) → active ≡ None → Stops setup active → IsAtRest setup
 at-rest setup active n h = record {
   device = none (is_stopping setup.device) (λ t. ap (is_active_command stops_device) (sym n) ∙ h.device t);
   queues = λ q. none (is_stopping (phase_at setup q))
@@ -74,59 +67,57 @@ at-rest setup active n h = record {
 
 -- a set-up with the phases of the state
 abbrev HasSame : State → Setup → Type 0
-HasSame s setup = (setup.device ≡ s.work.setup.device) × (setup.phases ≡ s.work.setup.phases)
+HasSame s setup =
+    ◌≡◌ {A = Phase × List Phase} (setup.device, setup.phases) (s.work.setup.device, s.work.setup.phases)
 
-kept : (s : State) (setup : Setup) → Stops s.work.setup s.active → HasSame s setup → Stops setup s.active
-kept s setup i p = record {
-  device = λ h. i.device (sym (ap is_stopping p.0) ∙ h);
-  queues = λ q h. i.queues q (sym (ap (λ (phases : List Phase). is_stopping (get_or phases q Off)) p.1) ∙ h);
+kept : (s : State) (setup : Setup) → Holds s → HasSame s setup → Stops setup s.active
+kept s setup i e = record {
+  device = λ h. i.device (sym (ap (λ (p : Phase × List Phase). is_stopping p.0) e) ∙ h);
+  queues = λ q h. i.queues q (sym (ap (λ (p : Phase × List Phase). is_stopping (get_or p.1 q Off)) e) ∙ h);
 }
+
+-- an engine's step but for a fetch leaves the set-up
+left : (s : State) (w : Work) → Holds s → w.setup ≡ s.work.setup → Stops w.setup s.active
+left s w i e = subst (λ (setup : Setup). Stops setup s.active) (sym e) i
 
 turned_away-phases : (s : State) (q : ℕ) (kind : Kind) (cause : Cause)
     → HasSame s (after_refusal (intake_of s) q kind cause).1.setup
-turned_away-phases s q (Enqcmd pasid) cause = (refl, refl)
-turned_away-phases s q Movdir64b cause = (refl, refl)
+turned_away-phases s q (Enqcmd pasid) cause = refl
+turned_away-phases s q Movdir64b cause = refl
 
 submit-phases : (s : State) (q : ℕ) (portal : Portal) (kind : Kind) (d : Descriptor) (cell : Cell)
     → HasSame s (submit (intake_of s) q portal kind d cell).1.setup
 submit-phases s q portal kind d cell =
+    let away = turned_away-phases s q kind in
     first_row_or-each (λ (r : SubmitAnswer × Intake). HasSame s r.1.setup) (submit_table (intake_of s) q portal kind)
-    (after_accept (intake_of s) q kind d cell) (
-      turned_away-phases s q kind NotEnabled,
-      (turned_away-phases s q kind WrongKind, (turned_away-phases s q kind AtLimit, tt)),
-    ) (refl, refl)
-
--- an engine's step but for a fetch leaves the set-up
-of-same : (s : State) (w : Work) → w.setup ≡ s.work.setup → HasSame s w.setup
-of-same s w e = (ap (λ (setup : Setup). setup.device) e, ap (λ (setup : Setup). setup.phases) e)
+    (after_accept (intake_of s) q kind d cell) (away NotEnabled, (away WrongKind, (away AtLimit, tt))) refl
 
 fetch_of-phases : (s : State) (e : ℕ) (d : Descriptor) (c : Cell) (note : BatchNote) (o : Option Slot)
     → HasSame s (fetch_of s.work e d c note o).1.setup
-fetch_of-phases s e d c note None = (refl, refl)
+fetch_of-phases s e d c note None = refl
 fetch_of-phases s e d c note (Some batch) =
     one_row (λ (r : FetchAnswer × Work). HasSame s r.1.setup) _ (AllFetched, s.work)
-    (after_fetch s.work e d c note batch.1) (refl, refl) (refl, refl)
+    (after_fetch s.work e d c note batch.1) refl refl
 
 fetch-phases : (s : State) (e : ℕ) (d : Descriptor) (c : Cell) (o : Option BatchNote)
     → HasSame s (fetch_for s.work e d c o).1.setup
-fetch-phases s e d c None = (refl, refl)
+fetch-phases s e d c None = refl
 fetch-phases s e d c (Some note) = fetch_of-phases s e d c note (batch_on s.work e note)
 
 write_queue-phases : (s : State) (q : ℕ) (config : QueueConfig) → HasSame s (write_queue s.work.setup q config).1
 write_queue-phases s q config =
     first_row_or-each (λ (r : WriteAnswer × Setup). HasSame s r.1) (write_queue_table s.work.setup q config)
     (Written, record s.work.setup { configs = slice_set s.work.setup.configs q config })
-    ((refl, refl), ((refl, refl), ((refl, refl), tt))) (refl, refl)
+    (refl, (refl, (refl, tt))) refl
 
 write_group-phases : (s : State) (g : ℕ) (config : GroupConfig) → HasSame s (write_group s.work.setup g config).1
 write_group-phases s g config =
     first_row_or-each (λ (r : WriteAnswer × Setup). HasSame s r.1) (write_group_table s.work.setup g)
-    (Written, record s.work.setup { groups = slice_set s.work.setup.groups g config })
-    ((refl, refl), ((refl, refl), tt)) (refl, refl)
+    (Written, record s.work.setup { groups = slice_set s.work.setup.groups g config }) (refl, (refl, tt)) refl
 
 clear-phases : (s : State) (o : Option NotedError) → HasSame s (clear_of s.work.setup o).1
-clear-phases s None = (refl, refl)
-clear-phases s (Some noted) = (refl, refl)
+clear-phases s None = refl
+clear-phases s (Some noted) = refl
 
 -- ---- commands
 
@@ -171,9 +162,8 @@ over-rests setup _ scope i = record { device = none _ i.device; queues = λ q. n
 of-rest : (setup : Setup) (active : Option ActiveCommand) → IsAtRest setup → Stops setup active
 of-rest setup active i = resting setup i.device i.queues
 
-waits-stops : (s : State) (command : Command) → IsAtRest s.work.setup → let t = (wait_of s command).1 in
-    Stops t.work.setup t.active
-waits-stops s command i = cond_both _ _ _ (λ (r : IssueAnswer × State). Stops r.1.work.setup r.1.active)
+waits-stops : (s : State) (command : Command) → IsAtRest s.work.setup → Holds (wait_of s command).1
+waits-stops s command i = cond_both _ _ _ (λ (r : IssueAnswer × State). Holds r.1)
     (λ x. of-rest _ s.active (over-rests s.work.setup (deed_of command) (scope_of command)
     (resting s.work.setup i.device i.queues)))
     (λ x. stopped-stops s.work.setup (deed_of command) (scope_of command) i)
@@ -182,8 +172,8 @@ waits-stops s command i = cond_both _ _ _ (λ (r : IssueAnswer × State). Stops 
 reset-rests : (phases : ℕ) (q : ℕ) → is_stopping (get_or (replicate phases Off) q Off) ≡ false
 reset-rests phases q = ap is_stopping (get_or-replicated Off phases q)
 
-done-stops : (s : State) (command : Command) (deed : Deed) (scope : Scope) → IsAtRest s.work.setup → let t =
-    (deed_done_of s command deed scope).1 in Stops t.work.setup t.active
+done-stops : (s : State) (command : Command) (deed : Deed) (scope : Scope) → IsAtRest s.work.setup
+    → Holds (deed_done_of s command deed scope).1
 done-stops s command Enable Device i = resting _ refl i.queues
 done-stops s command Enable (Queue queue) i =
     resting _ i.device (λ q. set-rests s.work.setup (λ k. k == queue) On q refl (λ t. i.queues q))
@@ -194,15 +184,14 @@ done-stops s command Reset scope i = resting _ i.device
     (λ q. set-rests s.work.setup (is_among (queues_in scope)) Off q refl (λ t. i.queues q))
 done-stops s command _ scope i = waits-stops s command i
 
-refused_or-stops : (s : State) (o : Option Fault) (r : IssueAnswer × State) → Stops s.work.setup s.active
-    → Stops r.1.work.setup r.1.active → let t = (refusal_or s o r).1 in Stops t.work.setup t.active
+refused_or-stops : (s : State) (o : Option Fault) (r : IssueAnswer × State) → Holds s
+    → Holds r.1 → Holds (refusal_or s o r).1
 refused_or-stops s None r i k = k
 refused_or-stops s (Some fault) r i k = i
 
-issue-stops : (s : State) (command : Command) → Stops s.work.setup s.active → let t = (issue s command).1 in
-    Stops t.work.setup t.active
+issue-stops : (s : State) (command : Command) → Holds s → Holds (issue s command).1
 issue-stops s command i =
-    table3 (λ (r : IssueAnswer × State). Stops r.1.work.setup r.1.active) _ _ _ (Refused Busy, s)
+    table3 (λ (r : IssueAnswer × State). Holds r.1) _ _ _ (Refused Busy, s)
     (Refused BadQueue, s) (Refused WrongState, s)
     (refusal_or s (check_of s.work.setup (deed_of command) (scope_of command)) (command_done_of s command))
     (λ x. i) (λ x. i) (λ x. i)
@@ -214,56 +203,41 @@ issue-stops s command i =
     no-command None h = refl
     no-command (Some active) h = absurd cc
 
-poll-stops : (s : State) (o : Option ActiveCommand) → s.active ≡ o → Stops s.work.setup s.active → let t =
-    (poll_of s o).1 in Stops t.work.setup t.active
+poll-stops : (s : State) (o : Option ActiveCommand) → s.active ≡ o → Holds s → Holds (poll_of s o).1
 poll-stops s None e i = i
-poll-stops s (Some active) e i = cond_both _ _ _ (λ (r : PollAnswer × State). Stops r.1.work.setup r.1.active)
+poll-stops s (Some active) e i = cond_both _ _ _ (λ (r : PollAnswer × State). Holds r.1)
     (λ x. of-rest _ None (over-rests s.work.setup (deed_of active.command) (scope_of active.command)
     (subst (λ o. Stops s.work.setup o) e i)))
     (λ x. i)
 
 -- ---- any step, and any history
 
-reply-stops : (s : State) (event : Event) (choice : Choice) → Stops s.work.setup s.active → let t =
-    (reply_of s event choice).1 in Stops t.work.setup t.active
+reply-stops : (s : State) (event : Event) (choice : Choice) → Holds s → Holds (reply_of s event choice).1
 reply-stops s (Submit client q portal kind d) choice i = kept s _ i (submit-phases s q portal kind d (cell_of choice))
-reply-stops s (Dispatch e) choice i = kept s _ i
-    (of-same s (dispatch s.work e choice).1 (dispatch-setup s.work e choice))
+reply-stops s (Dispatch e) choice i = left s (dispatch s.work e choice).1 i (dispatch-setup s.work e choice)
 reply-stops s (Fetch e d) choice i = kept s _ i (fetch-phases s e d (cell_of choice) (note_at s.work e))
-reply-stops s (Start e) choice i = kept s _ i
-    (of-same s (start s.work e).1 (start_of-setup s.work e (first_waiting s.work e)))
-reply-stops s (Finish e t outcome) choice i =
-    kept s _ i (of-same s (finish s.work e t outcome).1
-    (finish_of-setup s.work e outcome (find (is_ticket t) (running_on s.work e))))
+reply-stops s (Start e) choice i = left s (start s.work e).1 i (start_of-setup s.work e (first_waiting s.work e))
+reply-stops s (Finish e t outcome) choice i = left s (finish s.work e t outcome).1 i
+    (finish_of-setup s.work e outcome (find (is_ticket t) (running_on s.work e)))
 reply-stops s (Issue command) choice i = issue-stops s command i
 reply-stops s Poll choice i = poll-stops s s.active refl i
 reply-stops s (WriteQueue q config) choice i = kept s _ i (write_queue-phases s q config)
 reply-stops s (WriteGroup g config) choice i = kept s _ i (write_group-phases s g config)
 reply-stops s ClearError choice i = kept s _ i (clear-phases s s.work.setup.noted)
 
-next-stops : (s s' : State) (event : Event) (reply : Reply) → Stops s.work.setup s.active
-    → next s event reply ≡ Some s' → Stops s'.work.setup s'.active
-next-stops s s' event reply i h = next-each (λ r t. Stops t.work.setup t.active) s s' event reply
+next-stops : (s s' : State) (event : Event) (reply : Reply) → Holds s → next s event reply ≡ Some s' → Holds s'
+next-stops s s' event reply i h = next-each (λ r t. Holds t) s s' event reply
     (λ choice may told. reply-stops s event choice i) h
 
 -- what every step keeps, every history keeps
-replay-stops : (h : List Step) (s s' : State) → Stops s.work.setup s.active → replay_from (Some s) h ≡ Some s'
-    → Stops s'.work.setup s'.active
-replay-stops [] s s' i e = let is : s ≡ s' = cc in subst (λ t. Stops t.work.setup t.active) is i
+replay-stops : (h : List Step) (s s' : State) → Holds s → replay_from (Some s) h ≡ Some s' → Holds s'
+replay-stops [] s s' i e = let is : s ≡ s' = cc in subst (λ t. Holds t) is i
 replay-stops (x ∷ h) s s' i e = go (λ t j r. replay-stops h t s' j r) (next s x.event x.reply) refl e
   where
-    go : ((t : State) → Stops t.work.setup t.active → replay_from (Some t) h ≡ Some s'
-        → Stops s'.work.setup s'.active) → (o : Option State) → next s x.event x.reply ≡ o
-        → replay_from o h ≡ Some s' → Stops s'.work.setup s'.active
+    go : ((t : State) → Holds t → replay_from (Some t) h ≡ Some s' → Holds s') → (o : Option State)
+        → next s x.event x.reply ≡ o → replay_from o h ≡ Some s' → Holds s'
     go more None n e = absurd (replay_none h s' e)
     go more (Some t) n e = more t (next-stops s t x.event x.reply i n) e
 
-from-opening : (caps : Caps) (h : List Step) (s : State) → replay caps h ≡ Some s → Stops s.work.setup s.active
+pub from-opening : (caps : Caps) (h : List Step) (s : State) → replay caps h ≡ Some s → Holds s
 from-opening caps h s e = replay-stops h (opening caps) s (resting _ refl (reset-rests caps.queues)) e
-
-pub histories-stop : (caps : Caps) (h : List Step) (s : State) → replay caps h ≡ Some s → StopsByCommand s
-histories-stop caps h s e = of-stops s (from-opening caps h s e)
-
-pub histories-rest : (caps : Caps) (h : List Step) (s : State) → replay caps h ≡ Some s → s.active ≡ None
-    → IsAtRest s.work.setup
-histories-rest caps h s e n = at-rest s.work.setup s.active n (from-opening caps h s e)

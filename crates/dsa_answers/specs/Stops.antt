@@ -1,10 +1,9 @@
 -- What is Stopping, and by which command.
 use Rattle.std.specs.Prelude.{◌≡◌, ℕ, Bool, true, false, Option, Some, None}
 use Rattle.dsa_regs.specs.declared.{Phase.{Phase, TheVariants.{Stopping}}, Scope.{Scope, TheVariants.{Device}}}
-use Rattle.dsa_regs.specs.declared.Deed.{Deed, TheVariants.{Disable}}
-use Rattle.dsa_regs.specs.Command.{scope_of, deed_of, queues_in}
-use Rattle.dsa_book.specs.{declared.note.ActiveCommand.{ActiveCommand}, State.{Setup, State, phase_at}}
+use Rattle.dsa_regs.specs.{declared.Deed.{Deed, TheVariants.{Disable}}, Command.{scope_of, deed_of, queues_in}}
 use Rattle.dsa_book.specs.Commands.{is_among}
+use Rattle.dsa_book.specs.{declared.note.ActiveCommand.{ActiveCommand}, State.{Setup, State, phase_at}}
 
 -- whether the device or a queue waits for the end of a disable
 abbrev pub is_stopping : Phase → Bool
