@@ -5,13 +5,13 @@ use Rattle.std.proofs.Common.{◌∙◌, subst, arith, take_all, length-append, 
 use Rattle.std.proofs.lemmas.{Bool.Decides.{leb_tells}, Grind.{common_steps}}
 use Rattle.std.proofs.lemmas.List.{length-map, map-set, map-append, get_or-take, get_or-set_same, get_or-set_other}
 use Rattle.std.proofs.lemmas.List.{length-take-le, take-set-le, Sums.{sum_by_more, sum_by-take-le}}
-use Rattle.std.proofs.Math.{Seq.{take-set-lt}, ListN.{get_or-map}}
-use Rattle.std.specs.List.{remove}
+use Rattle.std.proofs.Math.{Seq.{take-set-lt}, ListN.{get_or-map}, Path.{fun_ext}}
+use Rattle.std.proofs.lemmas.Simd.{map-map}
 use Rattle.dsa_store.specs.declared.entry.{Cell.{Cell}, Entry.{Entry}}
 use Rattle.dsa_store.specs.Content.{Slot, Content, is_cell, chain, use_count, held_count, first_cell, after_push}
 use Rattle.dsa_store.specs.Content.{after_move as move, after_unlink, after_set, after_give_back, StandsAt}
-use Rattle.dsa_store.proofs.Finding.{uses-stands, entry_of-at, list_of-at, next_of-at, unlinked-at, unlinked-none}
-use Rattle.dsa_store.proofs.Finding.{replaced-none, entry_of-none, list_of-none, next_of-none}
+use Rattle.dsa_store.proofs.Finding.{uses-stands, entry_of-at, list_of-at, unlinked-none, replaced-none, entry_of-none}
+use Rattle.dsa_store.proofs.{Finding.{list_of-none, next_of-none}, Turns.{Seam, seam}}
 use Rattle.dsa_cells.specs.declared.links.{Node.{Node}, Header.{Header}}
 use Rattle.dsa_cells.specs.Array.{no_entry, node_at, no_node, header_at, entries_of, owners_of}
 use Rattle.dsa_cells.specs.Partition.{first_or, Linked, times, in_use, cells_of, list_at, lists_of}
@@ -35,50 +35,25 @@ pub first-slots : (es : List Entry) (xs : List ℕ) → first_cell (map (slot es
 first-slots es [] = refl
 first-slots es (x ∷ xs) = refl
 
--- a cell between two parts
-slot-mid : (es : List Entry) (xs : List ℕ) (c : ℕ) (zs : List ℕ) (d : Slot) →
-    get_or (map (slot es) (xs ++ c ∷ zs)) (length xs) d ≡ slot es c
-slot-mid es [] c zs d = refl
-slot-mid es (x ∷ xs) c zs d = slot-mid es xs c zs d
-
-drop-mid : (es : List Entry) (xs : List ℕ) (c : ℕ) (zs : List ℕ) →
-    drop (suc (length xs)) (map (slot es) (xs ++ c ∷ zs)) ≡ map (slot es) zs
-drop-mid es [] c zs = refl
-drop-mid es (x ∷ xs) c zs = drop-mid es xs c zs
-
-remove-mid : (es : List Entry) (xs : List ℕ) (c : ℕ) (zs : List ℕ) →
-    remove (map (slot es) (xs ++ c ∷ zs)) (length xs) ≡ map (slot es) (xs ++ zs)
-remove-mid es [] c zs = refl
-remove-mid es (x ∷ xs) c zs = ap (λ (l : List Slot). slot es x ∷ l) (remove-mid es xs c zs)
-
 -- an entry is written
 slot-set : (es : List Entry) (c : ℕ) (e : Entry) (x : ℕ) → c < length es →
     slot (set es c e) x ≡ cond (x == c) (record { 0 = x }, e) (slot es x)
-slot-set es c e x lt = ap (λ (f : Entry). let s : Slot = (record { 0 = x }, f) in s) (entry-set es c e x lt)
-    ∙ choose (x == c) (record { 0 = x }) e (get_or es x no_entry)
+slot-set es c e x lt =
+    let entry : get_or (set es c e) x no_entry ≡ cond (x == c) e (get_or es x no_entry) = grind (arith, common_steps) in
+    ap (λ (f : Entry). let s : Slot = (record { 0 = x }, f) in s) entry ∙ choose (x == c)
   where
-    entry-set : (es : List Entry) (c : ℕ) (e : Entry) (x : ℕ) → c < length es → get_or (set es c e) x no_entry ≡
-        cond (x == c) e (get_or es x no_entry)
-    entry-set es c e x lt = grind (arith, common_steps)
-
-    choose : (b : Bool) (cell : Cell) (e f : Entry) → ◌≡◌ {A = Slot} (cell, cond b e f) (cond b (cell, e) (cell, f))
-    choose true cell e f = refl
-    choose false cell e f = refl
-
-slots-set : (es : List Entry) (c : ℕ) (e : Entry) (xs : List ℕ) → c < length es
-    → map (slot (set es c e)) xs ≡ map (λ s. cond (is_cell (record { 0 = c }) s) (s.0, e) s) (map (slot es) xs)
-slots-set es c e [] lt = refl
-slots-set es c e (x ∷ xs) lt =
-    ap (λ (s : Slot). s ∷ map (slot (set es c e)) xs) (slot-set es c e x lt)
-    ∙ ap (λ (l : List Slot). cond (x == c) (record { 0 = x }, e) (slot es x) ∷ l) (slots-set es c e xs lt)
+    choose : (b : Bool) → ◌≡◌ {A = Slot} (record { 0 = x }, cond b e (get_or es x no_entry))
+        (cond b (record { 0 = x }, e) (slot es x))
+    choose true = refl
+    choose false = refl
 
 lists-set : (es : List Entry) (c : ℕ) (e : Entry) (lists : List (List ℕ)) → c < length es
     → map (map (slot (set es c e))) lists ≡ after_set (map (map (slot es)) lists) (record { 0 = c }) e
-lists-set es c e [] lt = refl
-lists-set es c e (xs ∷ lists) lt =
-    ap (λ (l : List Slot). l ∷ map (map (slot (set es c e))) lists) (slots-set es c e xs lt)
-    ∙ ap (λ (ls : Content). map (λ s. cond (is_cell (record { 0 = c }) s) (s.0, e) s) (map (slot es) xs) ∷
-    ls) (lists-set es c e lists lt)
+lists-set es c e lists lt =
+    let change : Slot → Slot = λ s. cond (is_cell (record { 0 = c }) s) (s.0, e) s in
+    ap (λ (f : ℕ → Slot). map (map f) lists) (fun_ext (λ x. slot-set es c e x lt))
+    ∙ ap (λ (f : List ℕ → List Slot). map f lists) (fun_ext (λ xs. sym (map-map change (slot es) xs)))
+    ∙ sym (map-map (map change) (map (slot es)) lists)
 
 -- ---- all lists
 
@@ -141,13 +116,13 @@ record Standing (s : List Node) (r : List Header) (cell : Cell) : Type 0 where
   behind : List ℕ
   listed : (node_at s cell.0).owner < length (lists_of s r) - 1
   is : list_at (lists_of s r) (node_at s cell.0).owner ≡ before ++ cell.0 ∷ behind
-  chain : chain (content_at s r) (node_at s cell.0).owner ≡ map (slot (entries_of s)) (before ++ cell.0 ∷ behind)
-  stands : StandsAt (content_at s r) (node_at s cell.0).owner (length before) cell (node_at s cell.0).entry
+  seam : Seam (content_at s r) (node_at s cell.0).owner (map (slot (entries_of s)) before)
+      (map (slot (entries_of s)) behind) cell (node_at s cell.0).entry
   once : times cell.0 before + times cell.0 behind ≡ 0
 
-standing : (s : List Node) (r : List Header) (cell : Cell) → IsWhole s r → cell.0 < length s
+standing : {s : List Node} {r : List Header} (cell : Cell) → IsWhole s r → cell.0 < length s
     → (node_at s cell.0).owner < length r - 1 → Standing s r cell
-standing s r cell i lt listed =
+standing {s} {r} cell i lt listed =
     let lists = lists_of s r in
     let es = entries_of s in
     let l = (node_at s cell.0).owner in
@@ -156,55 +131,44 @@ standing s r cell i lt listed =
     let xs = parts.0 in
     let zs = parts.1 in
     let l_in : l < length lists - 1 = omega (arith, listed, length-lists s r) in
-    let at = chain-contents es lists l l_in ∙ ap (map (slot es)) parts.2 in
-    let size = length-map (xs ++ cell.0 ∷ zs) (slot es) in
-    let same : slot es cell.0 ≡ (cell, (node_at s cell.0).entry) =
-    ap (λ (e : Entry). let k : Slot = (cell, e) in k) (entry_is s cell.0) in
     record {
       before = xs;
       behind = zs;
       listed = l_in;
       is = parts.2;
-      chain = at;
-      stands = record {
-        within = omega (arith, ap length at, size, length-append xs (cell.0 ∷ zs));
-        slot = ap (λ (ls : List Slot). get_or ls (length xs) (cell, (node_at s cell.0).entry)) at
-            ∙ slot-mid es xs cell.0 zs (cell, (node_at s cell.0).entry) ∙ same;
-      };
+      seam = seam (content_at s r) l _ _ cell (node_at s cell.0).entry ((IsSound-from_whole s r i).once cell)
+          (chain-contents es lists l l_in ∙ ap (map (slot es)) parts.2 ∙ map-append (slot es) xs (cell.0 ∷ zs)
+          ∙ ap (λ (e : Entry). map (slot es) xs ++ (cell, e) ∷ map (slot es) zs) (entry_is s cell.0));
       once = omega (arith, one, ap (times cell.0) parts.2, times-append cell.0 xs (cell.0 ∷ zs), times-head cell.0 zs);
     }
 
 -- a cell that names a list in use
-pub used : (s : List Node) (r : List Header) (cell : Cell) (node : Node) → IsWhole s r → cell.0 < length s
+pub used : {s : List Node} {r : List Header} (cell : Cell) (node : Node) → IsWhole s r → cell.0 < length s
     → node ≡ node_at s cell.0 → node.owner < length r - 1 → IsUsed s r cell node
-used s r cell node i lt same listed =
+used {s} {r} cell node i lt same listed =
     let C = content_at s r in
     let l = (node_at s cell.0).owner in
-    let e = (node_at s cell.0).entry in
     let own = ap (λ (t : Node). t.owner) same in
-    let p = standing s r cell i lt (omega (arith, listed, own)) in
-    let k = length p.before in
+    let p = standing cell i lt (omega (arith, listed, own)) in
     let once = (IsSound-from_whole s r i).once cell in
     let in_lists : l < length (lists_of s r) = omega (arith, p.listed) in
     let links = subst (λ (ys : List ℕ). Linked s None ys None) p.is (i.store.ends.each l in_lists).links in
     let next = (Linked-right s None p.before (cell.0 ∷ p.behind) None links).1 in
-    let behind = ap (drop (suc k)) p.chain ∙ drop-mid (entries_of s) p.before cell.0 p.behind in
     record {
       inside = lt;
       same = same;
       listed = listed;
-      used = uses-stands p.stands;
-      list = list_of-at C l k cell e once p.stands ∙ ap Some (sym own);
-      entry = entry_of-at C l k cell e once p.stands ∙ ap (λ (t : Node). Some t.entry) (sym same);
-      next = next_of-at C l k cell e once p.stands ∙ ap first_cell behind ∙ first-slots (entries_of s) p.behind
+      used = uses-stands p.seam.stands;
+      list = list_of-at C l _ cell _ once p.seam.stands ∙ ap Some (sym own);
+      entry = entry_of-at C l _ cell _ once p.seam.stands ∙ ap (λ (t : Node). Some t.entry) (sym same);
+      next = p.seam.next ∙ first-slots (entries_of s) p.behind
           ∙ ap cell_of (sym next ∙ ap (λ (t : Node). t.next) (sym same));
     }
 
 -- no list in use names a cell that names none
-unused_uses : (s : List Node) (r : List Header) (cell : Cell) → IsWhole s r →
-    (cell.0 < length s → length r - 1 ≤ (node_at s cell.0).owner)
-    → use_count (content_at s r) cell ≡ 0
-unused_uses s r cell i h =
+unused_uses : {s : List Node} {r : List Header} (cell : Cell) → IsWhole s r
+    → (cell.0 < length s → length r - 1 ≤ (node_at s cell.0).owner) → use_count (content_at s r) cell ≡ 0
+unused_uses {s} {r} cell i h =
     let lists = lists_of s r in
     let c = cell.0 in
     let parts = is_partition s r lists i.store in
@@ -227,11 +191,11 @@ unused_uses s r cell i h =
     ]
 
 -- a cell that names none
-pub unused : (s : List Node) (r : List Header) (cell : Cell) → IsWhole s r →
-    (cell.0 < length s → length r - 1 ≤ (node_at s cell.0).owner) → IsUnused s r cell
-unused s r cell i h =
+pub unused : {s : List Node} {r : List Header} (cell : Cell) → IsWhole s r
+    → (cell.0 < length s → length r - 1 ≤ (node_at s cell.0).owner) → IsUnused s r cell
+unused {s} {r} cell i h =
     let C = content_at s r in
-    let none = unused_uses s r cell i h in
+    let none = unused_uses cell i h in
     record {
       none = none;
       list = list_of-none C cell none;
@@ -248,12 +212,12 @@ pub record Front (s : List Node) (r : List Header) (l c : ℕ) : Type 0 where
   pub behind : List ℕ
   pub is : list_at (lists_of s r) l ≡ c ∷ behind
 
-pub front : (s : List Node) (r : List Header) (l c : ℕ) → IsWhole s r → first_or (list_at (lists_of s r) l) None ≡
-    Some c → Front s r l c
-front s r l c i h =
-    let f = first_is (list_at (lists_of s r) l) c h in
-    let named : 0 < times c (list_at (lists_of s r) l) = omega (arith, ap (times c) f.1, times-head c f.0) in
-    let n = names_in s r (lists_of s r) l c i.store named in
+pub front : {s : List Node} {r : List Header} {c : ℕ} (l : ℕ) → IsWhole s r
+    → first_or (list_at (lists_of s r) l) None ≡ Some c → Front s r l c
+front {s} {r} {c} l i h =
+    let lists = lists_of s r in
+    let f = first_is (list_at lists l) c h in
+    let n = names_in s r lists l c i.store (omega (arith, ap (times c) f.1, times-head c f.0)) in
     record { inside = n.0; owner = n.1; behind = f.0; is = f.1 }
   where
     first_is : (xs : List ℕ) (c : ℕ) → first_or xs None ≡ Some c → (zs : List ℕ) × (xs ≡ c ∷ zs)
@@ -261,9 +225,9 @@ front s r l c i h =
     first_is (x ∷ xs) c e = let same : x ≡ c = cc in (xs, ap (λ (y : ℕ). y ∷ xs) same)
 
 -- its length
-pub len-is : (s : List Node) (r : List Header) (l : ℕ) → IsWhole s r → l < length (content_at s r) →
+pub len-is : {s : List Node} {r : List Header} (l : ℕ) → IsWhole s r → l < length (content_at s r) →
     (header_at r l).count ≡ length (chain (content_at s r) l)
-len-is s r l i lt =
+len-is {s} {r} l i lt =
     let lists = lists_of s r in
     let k : l < length lists - 1 = omega (arith, lt, length-contents (entries_of s) lists) in
     (i.store.ends.each l (omega (arith, k))).count
@@ -318,11 +282,10 @@ content-pushed s r c to e lt un to_in =
     (omega (arith, lt, length-map s (λ (t : Node). t.entry))))
 
 -- the front of a list comes behind another
-pub content-moved : (s : List Node) (r : List Header) (c from to : ℕ) → IsWhole s r → Front s r from c →
-    from < length (content_at s r)
-    → to < length (content_at s r) → from ≢ to → contents (entries_of s) (moved (lists_of s r) c from to) ≡
-    move (content_at s r) from to
-content-moved s r c from to i f from_in to_in ne =
+pub content-moved : {s : List Node} {r : List Header} {c from : ℕ} (to : ℕ) → IsWhole s r → Front s r from c
+    → from < length (content_at s r) → to < length (content_at s r) → from ≢ to
+    → contents (entries_of s) (moved (lists_of s r) c from to) ≡ move (content_at s r) from to
+content-moved {s} {r} {c} {from} to i f from_in to_in ne =
     let lists = lists_of s r in
     let es = entries_of s in
     let C = content_at s r in
@@ -343,28 +306,24 @@ content-moved s r c from to i f from_in to_in ne =
     ∙ sym (ap (λ (l : List Slot). set (set C from (drop 1 l)) to (chain C to ++ take 1 l)) front)
 
 -- a cell comes to the free list
-pub content-unlinked : (s : List Node) (r : List Header) (cell : Cell) (node : Node) → IsWhole s r
+pub content-unlinked : {s : List Node} {r : List Header} {cell : Cell} {node : Node} → IsWhole s r
     → IsUsed s r cell node
     → contents (entries_of s) (moved (lists_of s r) cell.0 (node_at s cell.0).owner (length (content_at s r)))
     ≡ after_unlink (content_at s r) cell
-content-unlinked s r cell node i u =
+content-unlinked {s} {r} {cell} i u =
     let lists = lists_of s r in
     let es = entries_of s in
     let C = content_at s r in
     let f = length C in
     let l = (node_at s cell.0).owner in
-    let p = standing s r cell i u.inside (omega (arith, u.listed, ap (λ (t : Node). t.owner) u.same)) in
+    let p = standing cell i u.inside (omega (arith, u.listed, ap (λ (t : Node). t.owner) u.same)) in
     let ys = lacking cell.0 (list_at lists l) in
     let rest = set lists l ys in
-    let less : ys ≡ p.before ++ p.behind =
-    ap (lacking cell.0) p.is ∙ lacking-split cell.0 p.before p.behind p.once in
+    let less = ap (lacking cell.0) p.is ∙ lacking-split cell.0 p.before p.behind p.once in
     let last : length rest - 1 ≤ f = omega (arith, length-contents es lists, length-set lists l ys) in
     contents-set_free es rest f (list_at rest f ++ cell.0 ∷ []) last
     ∙ contents-set es lists l ys p.listed ∙ ap (λ (x : List ℕ). set C l (map (slot es) x)) less
-    ∙ ap (set C l) (sym (ap (λ (x : List Slot). remove x (length p.before)) p.chain
-    ∙ remove-mid es p.before cell.0 p.behind))
-    ∙ sym (unlinked-at C l (length p.before) cell (node_at s cell.0).entry
-    ((IsSound-from_whole s r i).once cell) p.stands)
+    ∙ ap (set C l) (map-append (slot es) p.before p.behind) ∙ sym p.seam.unlinked
 
 -- a list comes to the free list
 pub content-emptied : (s : List Node) (r : List Header) (l : ℕ) → l < length (content_at s r)
@@ -401,10 +360,9 @@ pub in_use_is : (s : List Node) (r : List Header) → length (content_at s r) �
 in_use_is s r = omega (arith, length-contents (entries_of s) (lists_of s r), length-lists s r)
 
 -- the free list is empty where all cells are held
-pub full-when : (s : List Node) (r : List Header) (n : ℕ) → IsWhole s r → n ≡ length (content_at s r) →
-    first_or (list_at (lists_of s r) n) None ≡ None
-    → held_count (content_at s r) ≡ length s
-full-when s r n i e h = omega (
+pub full-when : {s : List Node} {r : List Header} {n : ℕ} → IsWhole s r → n ≡ length (content_at s r)
+    → first_or (list_at (lists_of s r) n) None ≡ None → held_count (content_at s r) ≡ length s
+full-when {s} {r} {n} i e h = omega (
   arith,
   held-is s r i,
   ap (λ (k : ℕ). length (list_at (lists_of s r) k)) e,
@@ -415,16 +373,21 @@ full-when s r n i e h = omega (
     none_is [] e = refl
     none_is (x ∷ xs) e = absurd (cc)
 
--- and only there
-pub not-full : (s : List Node) (r : List Header) (n c : ℕ) → IsWhole s r → n ≡ length (content_at s r) →
-    Front s r n c → held_count (content_at s r) ≡ length s → ⊥
-not-full s r n c i e f full =
+-- no list in use names its front
+pub front-unused : {s : List Node} {r : List Header} {n c : ℕ} → IsWhole s r → n ≡ length (content_at s r)
+    → Front s r n c → IsUnused s r (record { 0 = c })
+front-unused {s} {r} {c = c} i e f = unused (record { 0 = c }) i (λ _. omega (arith, f.owner, e, in_use_is s r))
+
+-- and it is empty only there
+pub not-full : {s : List Node} {r : List Header} {n c : ℕ} → IsWhole s r → n ≡ length (content_at s r)
+    → Front s r n c → held_count (content_at s r) ≡ length s → ⊥
+not-full {s} {r} i e f full =
     omega (arith, full, held-is s r i, ap (λ (k : ℕ). length (list_at (lists_of s r) k)) e, ap length f.is)
 
 -- its count
-pub free-is : (s : List Node) (r : List Header) (k : ℕ) → IsWhole s r → k ≡ length r →
+pub free-is : {s : List Node} {r : List Header} {k : ℕ} → IsWhole s r → k ≡ length r →
     (header_at r (k - 1)).count + held_count (content_at s r) ≡ length s
-free-is s r k i e =
+free-is {s} {r} {k} i e =
     let n = length (content_at s r) in
     let same : k - 1 ≡ n = omega (arith, e, length-contents (entries_of s) (lists_of s r), length-lists s r) in
     omega (
@@ -444,9 +407,9 @@ pub record Written (s : List Node) (r : List Header) (c : ℕ) (e : Entry) (t : 
   pub owner : (node_at t c).owner ≡ (node_at s c).owner
   pub size : length t ≡ length s
 
-pub written : (s : List Node) (r : List Header) (c : ℕ) (t : Node) (e : Entry) → t ≡ node_at s c → IsWhole s r →
+pub written : {s : List Node} {r : List Header} {c : ℕ} {t : Node} (e : Entry) → IsWhole s r → t ≡ node_at s c →
     Written s r c e (set s c (record t { entry = e }))
-written s r c t e is i = subst (λ (u : Node). Written s r c e (set s c (record u { entry = e }))) (sym is) made
+written {s} {r} {c} e i is = subst (λ (u : Node). Written s r c e (set s c (record u { entry = e }))) (sym is) made
   where
     f : Node → Node
     f = λ u. record u { entry = e }

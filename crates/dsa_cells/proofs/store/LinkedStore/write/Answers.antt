@@ -3,31 +3,19 @@ use Rattle.std.proofs.lemmas.List.{get_or_read}
 use Rattle.dsa_cells.{specs.Array.{no_node}, proofs.Contents.{written}}
 
 pub invariant_of-self : goal.invariant_of-self
-invariant_of-self g c =
-    let s = c.args.self.now.nodes.items in
-    let r = c.args.self.now.headers.items in
-    record {
-      whole = (written s r c.args.cell c.index_mut.result.now c.args.entry (get_or_read s _ _ c.requires
-          c.index_mut.ensures.value no_node) c.args.self.now.whole).whole;
-    }
+invariant_of-self g c = record {
+  whole = (written c.args.entry c.args.self.now.whole (get_or_read _ _ _ c.requires c.index_mut.ensures.value
+      no_node)).whole;
+}
 
 pub returns-clause-lists : goal.returns-clause-lists
-returns-clause-lists g c =
-    let s = c.args.self.now.nodes.items in
-    let r = c.args.self.now.headers.items in
-    (written s r c.args.cell c.index_mut.result.now c.args.entry (get_or_read s _ _ c.requires
-    c.index_mut.ensures.value no_node) c.args.self.now.whole).lists
+returns-clause-lists g c = (written c.args.entry c.args.self.now.whole (get_or_read _ _ _ c.requires
+    c.index_mut.ensures.value no_node)).lists
 
 pub returns-clause-entries : goal.returns-clause-entries
-returns-clause-entries g c =
-    let s = c.args.self.now.nodes.items in
-    let r = c.args.self.now.headers.items in
-    (written s r c.args.cell c.index_mut.result.now c.args.entry (get_or_read s _ _ c.requires
-    c.index_mut.ensures.value no_node) c.args.self.now.whole).entries
+returns-clause-entries g c = (written c.args.entry c.args.self.now.whole (get_or_read _ _ _ c.requires
+    c.index_mut.ensures.value no_node)).entries
 
 pub returns-clause-owner : goal.returns-clause-owner
-returns-clause-owner g c =
-    let s = c.args.self.now.nodes.items in
-    let r = c.args.self.now.headers.items in
-    (written s r c.args.cell c.index_mut.result.now c.args.entry (get_or_read s _ _ c.requires
-    c.index_mut.ensures.value no_node) c.args.self.now.whole).owner
+returns-clause-owner g c = (written c.args.entry c.args.self.now.whole (get_or_read _ _ _ c.requires
+    c.index_mut.ensures.value no_node)).owner

@@ -1,12 +1,11 @@
 use Rattle.dsa_cells.proofs.store.LinkedStoreEntryStore.free.Goals as goal
 use Rattle.std.proofs.{Common.{◌≡◌, ◌-◌, length, ap, arith}, lemmas.List.{get_or_read}}
-use Rattle.dsa_cells.{specs.{declared.links.Header.{Header}, Array.{header_at, no_header}}, proofs.Contents.{free-is}}
+use Rattle.dsa_cells.{specs.{declared.links.Header.{Header}, Array.{no_header}}, proofs.Contents.{free-is}}
 
 pub returns : goal.returns
 returns g c =
-    let s = c.args.self.now.nodes.items in
     let r = c.args.self.now.headers.items in
     let k : c.len.result ≡ length r = omega (arith, c.len.ensures, c.args.self.now.headers.ok.0) in
-    let read : c.index.result.now ≡ header_at r (c.len.result - 1) =
-    get_or_read r _ _ (omega (arith, k, c.args.self.now.whole.free)) c.index.ensures no_header in
-    omega (arith, ap (λ (t : Header). t.count) read, free-is s r c.len.result c.args.self.now.whole k)
+    let read = get_or_read r (c.len.result - 1) _ (omega (arith, k, c.args.self.now.whole.free)) c.index.ensures
+    no_header in
+    omega (arith, ap (λ (t : Header). t.count) read, free-is c.args.self.now.whole k)

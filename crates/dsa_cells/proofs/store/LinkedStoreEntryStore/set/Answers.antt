@@ -4,10 +4,7 @@ use Rattle.dsa_cells.proofs.Contents.{contents-is, content-written}
 
 pub returns-in-Some-clause-after : goal.returns-in-Some-clause-after
 returns-in-Some-clause-after g c =
-    let s = c.args.self.now.nodes.items in
-    let r = c.args.self.now.headers.items in
-    contents-is c.write.ensures.entries c.write.ensures.lists ∙ content-written s r c.args.cell.0 c.args.entry
-    c.in-Some.ensures.inside
+    contents-is c.write.ensures.entries c.write.ensures.lists ∙ content-written _ _ _ _ c.in-Some.ensures.inside
 
 pub returns-in-None-clause-after : goal.returns-in-None-clause-after
 returns-in-None-clause-after g c = sym (c.in-None.ensures.replaced c.args.entry)
