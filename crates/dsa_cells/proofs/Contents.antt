@@ -1,7 +1,7 @@
 -- What callers see of a store: the lists of cells with their entries, and what each write makes of them.
-use Rattle.std.proofs.Common.{◌≡◌, ℕ, suc, ◌+◌, ◌-◌, ◌<◌, ◌≤◌, ◌≢◌, inl, inr, Bool, true, false, List, [], ◌∷◌, ◌++◌}
+use Rattle.std.proofs.Common.{◌≡◌, ℕ, ◌+◌, ◌-◌, ◌<◌, ◌≤◌, ◌≢◌, inl, inr, Bool, true, false, List, [], ◌∷◌, ◌++◌}
 use Rattle.std.proofs.Common.{length, map, take, drop, None, Some, get_or, set, cond, ◌==◌, sum_by, refl, sym, ap}
-use Rattle.std.proofs.Common.{◌∙◌, subst, arith, take_all, length-append, length-set}
+use Rattle.std.proofs.Common.{◌∙◌, subst, arith, take_all, length-set}
 use Rattle.std.proofs.lemmas.{Bool.Decides.{leb_tells}, Grind.{common_steps}}
 use Rattle.std.proofs.lemmas.List.{length-map, map-set, map-append, get_or-take, get_or-set_same, get_or-set_other}
 use Rattle.std.proofs.lemmas.List.{length-take-le, take-set-le, Sums.{sum_by_more, sum_by-take-le}}
@@ -9,7 +9,7 @@ use Rattle.std.proofs.Math.{Seq.{take-set-lt}, ListN.{get_or-map}, Path.{fun_ext
 use Rattle.std.proofs.lemmas.Simd.{map-map}
 use Rattle.dsa_store.specs.declared.entry.{Cell.{Cell}, Entry.{Entry}}
 use Rattle.dsa_store.specs.Content.{Slot, Content, is_cell, chain, use_count, held_count, first_cell, after_push}
-use Rattle.dsa_store.specs.Content.{after_move as move, after_unlink, after_set, after_give_back, StandsAt}
+use Rattle.dsa_store.specs.Content.{after_move as move, after_unlink, after_set, after_give_back}
 use Rattle.dsa_store.proofs.Finding.{uses-stands, entry_of-at, list_of-at, unlinked-none, replaced-none, entry_of-none}
 use Rattle.dsa_store.proofs.{Finding.{list_of-none, next_of-none}, Turns.{Seam, seam}}
 use Rattle.dsa_cells.specs.declared.links.{Node.{Node}, Header.{Header}}
@@ -338,16 +338,6 @@ content-emptied s r l lt =
     contents-set_free es rest (length (content_at s r)) (list_at rest (length (content_at s r)) ++ list_at lists l)
     (omega (arith, size, length-set lists l none))
     ∙ contents-set es lists l none (omega (arith, lt, size))
-
--- the same entries in the same lists
-pub contents-is : {es fs : List Entry} {ls ms : List (List ℕ)} → es ≡ fs → ls ≡ ms → contents es ls ≡ contents fs ms
-contents-is {es} {fs} {ls} {ms} e f = ap (λ (x : List Entry). contents x ls) e ∙ ap (contents fs) f
-
--- the same move
-pub moved-is : {ls ms : List (List ℕ)} {m n to p : ℕ} (c : ℕ) → ls ≡ ms → m ≡ n → to ≡ p →
-    moved ls c m to ≡ moved ms c n p
-moved-is {ls} {ms} {m} {n} {to} {p} c e f g =
-    ap (λ (x : List (List ℕ)). moved x c m to) e ∙ ap (λ (x : ℕ). moved ms c x to) f ∙ ap (moved ms c n) g
 
 -- ---- the ends of a store
 

@@ -229,3 +229,11 @@ lists_is s r lists a =
 pub store_found : (s : List Node) (r : List Header) (lists : List (List ℕ)) → IsStore s r lists →
     IsStore s r (lists_of s r)
 store_found s r lists st = subst (IsStore s r) (sym (lists_is s r lists st.ends)) st
+
+-- and so is what a call leaves
+pub record IsLeft (s : List Node) (r : List Header) (left : List (List ℕ)) : Type 0 where
+  pub store : IsStore s r (lists_of s r)
+  pub lists : lists_of s r ≡ left
+
+pub is_left : {s : List Node} {r : List Header} {lists : List (List ℕ)} → IsStore s r lists → IsLeft s r lists
+is_left {s} {r} {lists} st = record { store = store_found s r lists st; lists = lists_is s r lists st.ends }

@@ -1,6 +1,7 @@
 -- A cell goes from its list to the end of another.
-use Rattle.std.proofs.Common.{◌≡◌, ℕ, suc, ◌+◌, ◌<◌, ◌≤◌, ◌≢◌, List, [], ◌∷◌, ◌++◌, length, Option, None, Some, set}
+use Rattle.std.proofs.Common.{◌≡◌, ℕ, suc, ◌+◌, ◌<◌, ◌≢◌, List, [], ◌∷◌, ◌++◌, length, Option, None, Some, set}
 use Rattle.std.proofs.Common.{cond, ◌==◌, sum_by, refl, sym, ap, ◌∙◌, subst, arith, length-append, length-set}
+use Rattle.std.proofs.Common.{◌^◌}
 use Rattle.std.proofs.lemmas.{Bool.Decides.{nat_tests}, Grind.{common_steps}}
 use Rattle.std.proofs.lemmas.List.{map-set, Sums.{sum_by-set, get_or-le-sum_by}}
 use Rattle.std.specs.Option.{option_or}
@@ -14,7 +15,7 @@ use Rattle.dsa_cells.proofs.Chain.{times-append, times-head, times-tail, Names-m
 use Rattle.dsa_cells.proofs.Chain.{InRange-of, Linked-right, Linked-other, split_at, changed-here, map-changed}
 use Rattle.dsa_cells.proofs.Chain.{length-changed}
 use Rattle.dsa_cells.proofs.Joining.{map-joined, length-joined, list_at-set, list_at-in, AreHeaders-agree}
-use Rattle.dsa_cells.proofs.Joining.{or_else-last, ends-joined, ends-left, stands_in, names_in, distinct}
+use Rattle.dsa_cells.proofs.Joining.{or_else-last, ends-joined, ends-left, stands_in, names_in, distinct, IsLeft, is_left}
 
 -- a list without a cell that it does not name
 pub lacking-none : (c : ℕ) (xs : List ℕ) → times c xs ≡ 0 → lacking c xs ≡ xs
@@ -61,13 +62,9 @@ times-left s r lists c m x st lt in_lists =
 abbrev pub headers_left : List Node → List Header → ℕ → List Header
 headers_left s r c = let from = (node_at s c).owner in set r from (without (header_at r from) (node_at s c))
 
--- the entries stay
-pub entries-moved : (s : List Node) (c to : ℕ) (o : Option ℕ) →
-    entries_of (joined (alone (detached s c) c to) o (Some c)) ≡ entries_of s
-entries-moved s c to o =
-    map-joined (λ t. t.entry) (alone (detached s c) c to) o (Some c) (λ t q. refl) (λ t q. refl)
-    ∙ map-changed (λ t. t.entry) (λ t. record t { next = None; owner = to }) (detached s c) (Some c) (λ t. refl)
-    ∙ map-joined (λ t. t.entry) s (node_at s c).previous (node_at s c).next (λ t q. refl) (λ t q. refl)
+-- the array after a transfer
+abbrev pub transferred : List Node → List Header → ℕ → ℕ → List Node
+transferred s r c to = joined (alone (detached s c) c to) (header_at (headers_left s r c) to).tail (Some c)
 
 -- the header of a list of one cell
 abbrev pub one_cell : ℕ → Header
@@ -86,23 +83,34 @@ with_last-is s h ys c i =
     go [] = refl
     go (y ∷ ys) = sym (or_else-last ys y (Some c) (Some y))
 
--- what the two steps of a transfer ask for, and what it leaves
+-- what a transfer asks
+abbrev pub MayMove : List Node → List Header → List (List ℕ) → ℕ → ℕ → Type 0
+MayMove s r lists c to = record {
+  store : IsStore s r lists;
+  cell_in : c < length s;
+  to_in : to < length r;
+  apart : (node_at s c).owner ≢ to;
+  few : length s < 2 ^ 32;
+}
+
+-- what its two steps ask for, and what it leaves
 pub record Transfer (s : List Node) (r : List Header) (lists : List (List ℕ)) (c to : ℕ) : Type 0 where
   pub next : InRange s (node_at s c).next
   pub previous : InRange s (node_at s c).previous
   pub owner : (node_at s c).owner < length r
   pub counted : 0 < (header_at r (node_at s c).owner).count
   pub tail : InRange (detached s c) (header_at (headers_left s r c) to).tail
-  pub room : (header_at (headers_left s r c) to).count + 1 ≤ length s
-  pub store : IsStore (joined (alone (detached s c) c to) (header_at (headers_left s r c) to).tail (Some c))
-      (set (headers_left s r c) to (with_last (header_at (headers_left s r c) to) c))
-      (moved lists c (node_at s c).owner to)
+  pub room : (header_at (headers_left s r c) to).count + 1 < 2 ^ 32
+  pub entries : entries_of (transferred s r c to) ≡ entries_of s
+  pub left : IsLeft (transferred s r c to)
+      (set (headers_left s r c) to (with_last (header_at (headers_left s r c) to) c)) (moved lists c (node_at s c).owner to)
 
-pub transfer : (s : List Node) (r : List Header) (lists : List (List ℕ)) (c to : ℕ) → IsStore s r lists →
-    c < length s → to < length r
-    → (node_at s c).owner ≢ to → Transfer s r lists c to
-transfer s r lists c to st lt to_r ne = go parts.0 parts.1 parts.2
+pub transfer : (s : List Node) (r : List Header) (lists : List (List ℕ)) (c to : ℕ) → MayMove s r lists c to
+    → Transfer s r lists c to
+transfer s r lists c to may = go parts.0 parts.1 parts.2
   where
+    open may use {store as st, cell_in as lt, to_in as to_r, apart as ne, few}
+
     from : ℕ
     from = (node_at s c).owner
 
@@ -133,8 +141,7 @@ transfer s r lists c to st lt to_r ne = go parts.0 parts.1 parts.2
       sum_by-set length lists from (lacking c (list_at lists from)) [] in_lists,
     )
 
-    owners : owners_of (joined (alone (detached s c) c to) (header_at (headers_left s r c) to).tail (Some c)) ≡
-        set (owners_of s) c to
+    owners : owners_of (transferred s r c to) ≡ set (owners_of s) c to
     owners =
         map-joined (λ t. t.owner) (alone (detached s c) c to) (header_at (headers_left s r c) to).tail (Some c)
         (λ t o. refl) (λ t o. refl)
@@ -194,8 +201,12 @@ transfer s r lists c to st lt to_r ne = go parts.0 parts.1 parts.2
           counted = omega (arith, (st.ends.each from in_lists).count, one, length-lacking c (list_at lists from));
           tail = InRange-of s1 (list_at lists1 to) (last_or (list_at lists1 to) None) (header_at r1 to).tail listed
               (Names-last (list_at lists1 to)) end.tail;
-          room = omega (arith, end.count, total1, get_or-le-sum_by length lists1 to [] to_left);
-          store = record {
+          room = omega (arith, few, end.count, total1, get_or-le-sum_by length lists1 to [] to_left);
+          entries =
+              map-joined (λ t. t.entry) s2 (header_at r1 to).tail (Some c) (λ t o. refl) (λ t o. refl)
+              ∙ map-changed (λ t. t.entry) f s1 (Some c) (λ t. refl)
+              ∙ map-joined (λ t. t.entry) s (node_at s c).previous (node_at s c).next (λ t o. refl) (λ t o. refl);
+          left = is_left (record {
             ends = subst (λ (h : Header). AreHeaders (joined s2 (header_at r1 to).tail (Some c)) (set r1 to h)
                 (moved lists c from to))
                 (with_last-is s2 (header_at r1 to) (list_at lists1 to) c (ends2.each to to_left))
@@ -222,5 +233,5 @@ transfer s r lists c to st lt to_r ne = go parts.0 parts.1 parts.2
               length-joined s2 (header_at r1 to).tail (Some c),
               length-changed f s1 (Some c),
             );
-          };
+          });
         }

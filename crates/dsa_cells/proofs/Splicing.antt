@@ -1,18 +1,18 @@
 -- All cells of a list go behind those of another, by the ends of the two.
 use Rattle.std.proofs.Common.{◌≡◌, ℕ, zero, suc, ◌+◌, ◌-◌, ◌<◌, ◌≤◌, ◌≢◌, List, [], ◌∷◌, ◌++◌, length, Option, None}
 use Rattle.std.proofs.Common.{Some, get_or, set, cond, ◌==◌, ltb, sum_by, refl, sym, ap, ◌∙◌, subst, subst₂, arith}
-use Rattle.std.proofs.Common.{length-append, length-set}
+use Rattle.std.proofs.Common.{length-append, length-set, ◌^◌}
 use Rattle.std.proofs.lemmas.{Bool.Decides.{nat_tests}, Grind.{common_steps}}
 use Rattle.std.proofs.lemmas.List.{map-set, get_or-set_other, Sums.{sum_by-set, get_or-le-sum_by}}
 use Rattle.dsa_cells.specs.declared.links.{Node.{Node}, Header.{Header}}
 use Rattle.dsa_cells.specs.Array.{node_at, header_at, no_header, owners_of, entries_of}
-use Rattle.dsa_cells.specs.Partition.{first_or, last_or, walk, times, IsHeader, AreHeaders, list_at}
+use Rattle.dsa_cells.specs.Partition.{first_or, last_or, walk, cells_of, times, IsHeader, AreHeaders, list_at}
 use Rattle.dsa_cells.specs.Writes.{InRange, AreInside, changed, joined, header_joined, marked, given_back}
 use Rattle.dsa_cells.specs.{Invariant.{place, IsStore}, Owners.{length-owners}}
 use Rattle.dsa_cells.proofs.Chain.{times-append, times-head, times-tail, Names-first, Names-last, InRange-of}
 use Rattle.dsa_cells.proofs.Chain.{SameLinks, Linked-agree, map-changed, length-changed, changed-links}
 use Rattle.dsa_cells.proofs.Joining.{map-joined, length-joined, list_at-set, AreHeaders-set, AreHeaders-agree}
-use Rattle.dsa_cells.proofs.Joining.{ends-joined, names_in}
+use Rattle.dsa_cells.proofs.Joining.{ends-joined, names_in, cells_are, IsLeft, is_left}
 
 -- ---- cells get another list's number
 
@@ -27,7 +27,7 @@ length-marked s (x ∷ xs) owner =
     length-marked (renumbered s x owner) xs owner ∙ length-changed (λ t. record t { owner = owner }) s (Some x)
 
 -- the entries stay
-pub entries-marked : (s : List Node) (xs : List ℕ) (owner : ℕ) → entries_of (marked s xs owner) ≡ entries_of s
+entries-marked : (s : List Node) (xs : List ℕ) (owner : ℕ) → entries_of (marked s xs owner) ≡ entries_of s
 entries-marked s [] owner = refl
 entries-marked s (x ∷ xs) owner =
     entries-marked (renumbered s x owner) xs owner ∙ map-changed (λ t. t.entry) (λ t. record t { owner = owner }) s
@@ -115,66 +115,83 @@ mark-none s t n i owner o p target lt is e f m =
 
 -- ---- a splice as a whole
 
--- what the steps of a splice ask for, and what it leaves
-pub record Splice (s : List Node) (r : List Header) (lists : List (List ℕ)) (from to : ℕ) : Type 0 where
-  pub cells : AreInside s (list_at lists from)
-  pub tail : InRange (marked s (list_at lists from) to) (header_at r to).tail
-  pub head : InRange (marked s (list_at lists from) to) (header_at r from).head
-  pub fits : (header_at r to).count + (header_at r from).count ≤ length s
-  pub store : IsStore (joined (marked s (list_at lists from) to) (header_at r to).tail (header_at r from).head)
+-- what a splice asks
+abbrev pub MaySplice : List Node → List Header → List (List ℕ) → ℕ → ℕ → Type 0
+MaySplice s r lists from to = record {
+  store : IsStore s r lists;
+  from_in : from < length r;
+  to_in : to < length r;
+  apart : from ≢ to;
+  few : length s < 2 ^ 32;
+}
+
+-- what its steps ask for, with the cells of the list that goes, and what it leaves
+pub record Splice (s : List Node) (r : List Header) (lists : List (List ℕ)) (from to : ℕ) (cells : List ℕ)
+    : Type 0 where
+  pub inside : AreInside s cells
+  pub tail : InRange (marked s cells to) (header_at r to).tail
+  pub head : InRange (marked s cells to) (header_at r from).head
+  pub fits : (header_at r to).count + (header_at r from).count < 2 ^ 32
+  pub entries : entries_of (joined (marked s cells to) (header_at r to).tail (header_at r from).head) ≡ entries_of s
+  pub left : IsLeft (joined (marked s cells to) (header_at r to).tail (header_at r from).head)
       (set (set r from no_header) to (header_joined (header_at r to) (header_at r from))) (given_back lists from to)
 
-pub splice : (s : List Node) (r : List Header) (lists : List (List ℕ)) (from to : ℕ) → IsStore s r lists →
-    from < length r → to < length r → from ≢ to
-    → Splice s r lists from to
-splice s r lists from to st from_r to_r ne = record {
-  cells = inside from;
-  tail = InRange-of s1 (list_at lists to) (last_or (list_at lists to) None) (header_at r to).tail (inside1 to)
-      (Names-last (list_at lists to)) (st.ends.each to in_to).tail;
-  head = InRange-of s1 xs (first_or xs None) (header_at r from).head (inside1 from) (Names-first xs)
-      (st.ends.each from in_from).head;
-  fits = omega (
-    arith,
-    st.total,
-    (st.ends.each to in_to).count,
-    (st.ends.each from in_from).count,
-    total1,
-    ap length kept,
-    get_or-le-sum_by length rest to [] to_rest,
-  );
-  store = record {
-    ends = subst (λ (h : Header). AreHeaders (joined s1 h.tail (header_at r from).head) (set (set r from no_header) to
-        (header_joined h (header_at r from))) (given_back lists from to))
-        (get_or-set_other r from to no_header no_header (λ e. ne (sym e)))
-        (ends-joined s1 (set r from no_header) rest to (header_at r from) None xs
-        (AreHeaders-set s1 s1 r lists from no_header [] ends1
-        (record { head = refl; tail = refl; count = refl; links = tt }) (λ m other k. k))
-        to_rest (record { head = given.head; tail = given.tail; count = given.count; links = given.links })
-        (λ x h.
-        let a = times-append x (list_at rest to) xs in
-        let k = inside1 to x in
-        let g = inside1 from x in
-        let q = ap (times x) kept in
-        grind (arith, h, a, k, g, q))
-        (λ m x other.
-        let e = at m x in
-        let k = ap (times x) kept in
-        let d = apart m x other in
-        omega (arith, e, k, d)));
-    placed = λ m x. placed m x
-        ∙ sym (ap (λ (os : List ℕ). place os m x) (map-joined (λ t. t.owner) s1 (header_at r to).tail
-        (header_at r from).head (λ t o. refl) (λ t o. refl)));
-    total = omega (
-      arith,
-      total1,
-      length-joined s1 (header_at r to).tail (header_at r from).head,
-      length-marked s xs to,
-      length-append (list_at rest to) xs,
-      sum_by-set length rest to (list_at rest to ++ xs) [] to_rest,
-    );
-  };
-}
+pub splice : (s : List Node) (r : List Header) (lists : List (List ℕ)) (from to : ℕ) → MaySplice s r lists from to
+    → Splice s r lists from to (cells_of s (header_at r from))
+splice s r lists from to may = subst (Splice s r lists from to)
+    (sym (cells_are s (header_at r from) xs (st.ends.each from in_from))) (record {
+      inside = inside from;
+      tail = InRange-of s1 (list_at lists to) (last_or (list_at lists to) None) (header_at r to).tail (inside1 to)
+          (Names-last (list_at lists to)) (st.ends.each to in_to).tail;
+      head = InRange-of s1 xs (first_or xs None) (header_at r from).head (inside1 from) (Names-first xs)
+          (st.ends.each from in_from).head;
+      fits = omega (
+        arith,
+        few,
+        st.total,
+        (st.ends.each to in_to).count,
+        (st.ends.each from in_from).count,
+        total1,
+        ap length kept,
+        get_or-le-sum_by length rest to [] to_rest,
+      );
+      entries = map-joined (λ t. t.entry) s1 (header_at r to).tail (header_at r from).head (λ t o. refl) (λ t o. refl)
+          ∙ entries-marked s xs to;
+      left = is_left (record {
+        ends = subst (λ (h : Header). AreHeaders (joined s1 h.tail (header_at r from).head) (set (set r from no_header) to
+            (header_joined h (header_at r from))) (given_back lists from to))
+            (get_or-set_other r from to no_header no_header (λ e. ne (sym e)))
+            (ends-joined s1 (set r from no_header) rest to (header_at r from) None xs
+            (AreHeaders-set s1 s1 r lists from no_header [] ends1
+            (record { head = refl; tail = refl; count = refl; links = tt }) (λ m other k. k))
+            to_rest (record { head = given.head; tail = given.tail; count = given.count; links = given.links })
+            (λ x h.
+            let a = times-append x (list_at rest to) xs in
+            let k = inside1 to x in
+            let g = inside1 from x in
+            let q = ap (times x) kept in
+            grind (arith, h, a, k, g, q))
+            (λ m x other.
+            let e = at m x in
+            let k = ap (times x) kept in
+            let d = apart m x other in
+            omega (arith, e, k, d)));
+        placed = λ m x. placed m x
+            ∙ sym (ap (λ (os : List ℕ). place os m x) (map-joined (λ t. t.owner) s1 (header_at r to).tail
+            (header_at r from).head (λ t o. refl) (λ t o. refl)));
+        total = omega (
+          arith,
+          total1,
+          length-joined s1 (header_at r to).tail (header_at r from).head,
+          length-marked s xs to,
+          length-append (list_at rest to) xs,
+          sum_by-set length rest to (list_at rest to ++ xs) [] to_rest,
+        );
+      });
+    })
   where
+    open may use {store as st, from_in as from_r, to_in as to_r, apart as ne, few}
+
     xs : List ℕ
     xs = list_at lists from
 

@@ -1,49 +1,35 @@
 use Rattle.dsa_cells.proofs.links.transfer.Goals as goal
-use Rattle.std.proofs.Common.{arith}
-use Rattle.dsa_cells.proofs.{Joining.{lists_is, store_found}, Moving.{transfer, entries-moved}}
+use Rattle.dsa_cells.proofs.Moving.{transfer}
 
 pub bounds-headers-from : goal.bounds-headers-from
-bounds-headers-from c = (transfer _ _ _ c.args.cell c.args.to c.requires.store c.requires.cell_in c.requires.to_in
-    c.requires.apart).owner
+bounds-headers-from c = (transfer _ _ _ _ _ c.requires).owner
 
 pub detach-requires-clause-next_in : goal.detach-requires-clause-next_in
-detach-requires-clause-next_in c = (transfer _ _ _ c.args.cell c.args.to c.requires.store c.requires.cell_in
-    c.requires.to_in c.requires.apart).next
+detach-requires-clause-next_in c = (transfer _ _ _ _ _ c.requires).next
 
 pub detach-requires-clause-previous_in : goal.detach-requires-clause-previous_in
-detach-requires-clause-previous_in c =
-    (transfer _ _ _ c.args.cell c.args.to c.requires.store c.requires.cell_in c.requires.to_in
-    c.requires.apart).previous
+detach-requires-clause-previous_in c = (transfer _ _ _ _ _ c.requires).previous
 
 pub detach-requires-clause-counted : goal.detach-requires-clause-counted
-detach-requires-clause-counted c = (transfer _ _ _ c.args.cell c.args.to c.requires.store c.requires.cell_in
-    c.requires.to_in c.requires.apart).counted
+detach-requires-clause-counted c = (transfer _ _ _ _ _ c.requires).counted
 
 pub attach-requires-clause-tail_in : goal.attach-requires-clause-tail_in
 attach-requires-clause-tail_in c =
-    rw (c.detach.ensures.header, c.detach.ensures.nodes)
-    (transfer _ _ _ c.args.cell c.args.to c.requires.store c.requires.cell_in c.requires.to_in c.requires.apart).tail
+    rw (c.detach.ensures.header, c.detach.ensures.nodes) (transfer _ _ _ _ _ c.requires).tail
 
 pub attach-requires-clause-room : goal.attach-requires-clause-room
-attach-requires-clause-room c =
-    let t = transfer _ _ _ c.args.cell c.args.to c.requires.store c.requires.cell_in c.requires.to_in
-    c.requires.apart in
-    rw (c.detach.ensures.header) (omega (arith, t.room, c.requires.few))
+attach-requires-clause-room c = rw c.detach.ensures.header (transfer _ _ _ _ _ c.requires).room
 
 pub returns-clause-store : goal.returns-clause-store
 returns-clause-store c =
-    let t = transfer _ _ _ c.args.cell c.args.to c.requires.store c.requires.cell_in c.requires.to_in
-    c.requires.apart in
     rw (c.attach.ensures.nodes, c.attach.ensures.header, c.detach.ensures.nodes, c.detach.ensures.header)
-    (store_found _ _ _ t.store)
+    (transfer _ _ _ _ _ c.requires).left.store
 
 pub returns-clause-lists : goal.returns-clause-lists
 returns-clause-lists c =
-    let t = transfer _ _ _ c.args.cell c.args.to c.requires.store c.requires.cell_in c.requires.to_in
-    c.requires.apart in
     rw (c.attach.ensures.nodes, c.attach.ensures.header, c.detach.ensures.nodes, c.detach.ensures.header)
-    (lists_is _ _ _ t.store.ends)
+    (transfer _ _ _ _ _ c.requires).left.lists
 
 pub returns-clause-entries : goal.returns-clause-entries
-returns-clause-entries c = rw (c.attach.ensures.nodes, c.detach.ensures.nodes) (entries-moved c.args.nodes.now
-    c.args.cell c.args.to _)
+returns-clause-entries c = rw (c.attach.ensures.nodes, c.detach.ensures.nodes, c.detach.ensures.header)
+    (transfer _ _ _ _ _ c.requires).entries

@@ -1,7 +1,7 @@
 use Rattle.dsa_cells.proofs.store.LinkedStoreEntryStore.move_front.Goals as goal
-use Rattle.std.proofs.Common.{refl, ap, sym, ◌∙◌}
+use Rattle.std.proofs.Common.{ap, sym, ◌∙◌}
 use Rattle.dsa_cells.specs.Content.{cell_of}
-use Rattle.dsa_cells.proofs.Contents.{front, front-is, contents-is, moved-is, content-moved}
+use Rattle.dsa_cells.proofs.Contents.{front, front-is, content-moved}
 
 pub transfer-requires-clause-cell_in : goal.transfer-requires-clause-cell_in
 transfer-requires-clause-cell_in g c =
@@ -18,5 +18,5 @@ returns-clause-value g c = sym (front-is _ _ _ c.requires.from ∙ ap cell_of (s
 pub returns-clause-after : goal.returns-clause-after
 returns-clause-after g c =
     let f = front _ c.args.self.now.whole (sym c.head.ensures ∙ c.in_ok-cell.was) in
-    contents-is c.transfer.ensures.entries (c.transfer.ensures.lists ∙ moved-is _ refl f.owner refl)
-    ∙ content-moved _ c.args.self.now.whole f c.requires.from c.requires.to c.requires.apart
+    rw (c.transfer.ensures.entries, c.transfer.ensures.lists, f.owner)
+    (content-moved _ c.args.self.now.whole f c.requires.from c.requires.to c.requires.apart)

@@ -1,6 +1,6 @@
 use Rattle.dsa_cells.proofs.store.LinkedStoreEntryStore.push_back.Goals as goal
-use Rattle.std.proofs.Common.{rules, refl, sym, ◌∙◌, arith}
-use Rattle.dsa_cells.proofs.Contents.{front, front-unused, contents-is, content-pushed, moved-is, full-when}
+use Rattle.std.proofs.Common.{rules, sym, ◌∙◌, arith}
+use Rattle.dsa_cells.proofs.Contents.{front, front-unused, content-pushed, full-when}
 use Rattle.dsa_cells.proofs.Contents.{not-full}
 
 pub returns-in_err-cell-clause-full : goal.returns-in_err-cell-clause-full
@@ -38,6 +38,12 @@ pub returns-clause-some : goal.returns-clause-some
 returns-clause-some g c =
     let f = front _ c.args.self.now.whole (sym c.head.ensures ∙ c.in_ok-cell.was) in
     let u = front-unused c.args.self.now.whole c.lists.ensures f in
-    contents-is (c.transfer.ensures.entries ∙ c.write.ensures.entries)
-    (c.transfer.ensures.lists ∙ moved-is _ c.write.ensures.lists (c.write.ensures.owner ∙ f.owner ∙ c.lists.ensures)
-    refl) ∙ content-pushed _ _ _ _ _ f.inside u c.requires
+    rw (
+      c.transfer.ensures.entries,
+      c.write.ensures.entries,
+      c.transfer.ensures.lists,
+      c.write.ensures.lists,
+      c.write.ensures.owner,
+      f.owner,
+      c.lists.ensures,
+    ) (content-pushed _ _ _ _ _ f.inside u c.requires)
