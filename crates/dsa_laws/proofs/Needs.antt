@@ -1,14 +1,13 @@
 -- What each engine needs, as one list of entries changes.
-use Rattle.std.proofs.Common.{◌≡◌, ◌≢◌, ℕ, ◌+◌, ◌<◌, ◌≤◌, Bool, true, false, cond, List, ◌∷◌, refl, ap, ◌∙◌, subst}
-use Rattle.std.proofs.Common.{◌⊎◌, inl, inr, arith, ⊎_elim, []}
-use Rattle.std.proofs.lemmas.{List.Sums.{sum_by-cons, sum_by-append}, Bool.{ltb-true}}
+use Rattle.std.proofs.Common.{◌≡◌, ℕ, ◌+◌, ◌<◌, ◌==◌, ◌≤◌, Bool, true, false, cond, List, ◌∷◌, refl, ap, ◌∙◌}
+use Rattle.std.proofs.Common.{◌⊎◌, inl, inr, arith, []}
+use Rattle.std.proofs.lemmas.{List.Sums.{sum_by-cons, sum_by-append}, Bool.{Decides.{nat_tests}}}
 use Rattle.std.specs.Prelude.{sum_by, nat_lt}
 use Rattle.dsa_regs.specs.{declared.{Caps.{Caps}, QueueConfig.{QueueConfig}}, Config.{queue_at, limits_of}}
 use Rattle.dsa_desc.specs.Descriptor.{need}
 use Rattle.dsa_store.specs.Content.{Slot, Content, chain}
 use Rattle.dsa_book.specs.State.{Setup, Work, is_member, need_of, held_by}
 use Rattle.dsa_book.specs.Work.{in_progress, members, progress_list, member_list, used_on, with_running_entry}
-use Rattle.dsa_laws.proofs.Covering.{cond-le}
 use Rattle.dsa_base.specs.Lists.{In}
 
 -- ---- one entry
@@ -53,64 +52,27 @@ both-lists : (b : Bool) (f : Slot → ℕ) (xs ys : List Slot)
 both-lists true f xs ys = refl
 both-lists false f xs ys = omega arith
 
-pub used_on-sum : (caps : Caps) (w : Work) (e : ℕ) → w.setup.caps ≡ caps
-    → used_on w e ≡ sum_on caps (weight w.setup) w.content e
+pub used_on-sum : (w : Work) (e : ℕ) → used_on w e ≡ sum_on w.setup.caps (weight w.setup) w.content e
 unfolding weight
-used_on-sum caps w e same =
+used_on-sum w e =
     sum_by-append (weight w.setup) (in_progress w e) (members w e)
     ∙ both-lists (nat_lt e w.setup.caps.engines) (weight w.setup) (chain w.content (progress_list w.setup e))
     (chain w.content (member_list w.setup e))
-    ∙ ap (λ (k : Caps). sum_on k (weight w.setup) w.content e) same
 
 -- where no list has more, no engine needs more
 pub sum_on-less : (caps : Caps) (f f' : Slot → ℕ) (c c' : Content) (e : ℕ)
     → ((k : ℕ) → sum_by f' (chain c' k) ≤ sum_by f (chain c k)) → sum_on caps f' c' e ≤ sum_on caps f c e
 sum_on-less caps f f' c c' e h =
-    cond-le (nat_lt e caps.engines) _ _ (λ t. omega (arith, h (caps.queues + e), h (caps.queues + caps.engines + e)))
+    let progress = h (caps.queues + e) in
+    let members = h (caps.queues + caps.engines + e) in
+    grind arith
 
--- list p, which is one of engine e's, has n more, and no other list has more
-pub record HasMore (caps : Caps) (f : Slot → ℕ) (c c' : Content) (e p n : ℕ) : Type 0 where
-  pub engine : e < caps.engines
-  pub place : (p ≡ caps.queues + e) ⊎ (p ≡ caps.queues + caps.engines + e)
-  pub others : (k : ℕ) → k ≢ p → sum_by f (chain c' k) ≤ sum_by f (chain c k)
-  pub mine : sum_by f (chain c' p) ≤ sum_by f (chain c p) + n
-
-pub sum_on-others : (caps : Caps) (f : Slot → ℕ) (c c' : Content) (e p n : ℕ) → HasMore caps f c c' e p n → (j : ℕ)
-    → j ≢ e → sum_on caps f c' j ≤ sum_on caps f c j
-sum_on-others caps f c c' e p n h j ne = cond-le (nat_lt j caps.engines) _ _ (λ t.
-    omega (
-      arith,
-      h.others (caps.queues + j) (λ q. ⊎_elim (λ (r : p ≡ caps.queues + e). ne (omega arith))
-          (λ (r : p ≡ caps.queues + caps.engines + e). absurd (omega (arith, ltb-true j caps.engines t))) h.place),
-      h.others
-          (caps.queues + caps.engines + j) (λ q. ⊎_elim (λ (r : p ≡ caps.queues + e). absurd (omega (arith, h.engine)))
-          (λ (r : p ≡ caps.queues + caps.engines + e). ne (omega arith)) h.place),
-    ))
-
-pub sum_on-mine : (caps : Caps) (f : Slot → ℕ) (c c' : Content) (e p n : ℕ) → HasMore caps f c c' e p n
-    → sum_on caps f c' e ≤ sum_on caps f c e + n
-sum_on-mine caps f c c' e p n h = tested (nat_lt e caps.engines)
-  where
-    engine : e < caps.engines
-    engine = h.engine
-
-    total : sum_by f (chain c' (caps.queues + e))
-        + sum_by f (chain c' (caps.queues + caps.engines + e)) ≤ sum_by f (chain c (caps.queues + e))
-        + sum_by f (chain c (caps.queues + caps.engines + e)) + n
-    total = ⊎_elim
-        (λ (r : p ≡ caps.queues + e).
-        let a : sum_by f (chain c' (caps.queues + e)) ≤ sum_by f (chain c (caps.queues + e)) + n =
-        subst (λ k. sum_by f (chain c' k) ≤ sum_by f (chain c k) + n) r h.mine in
-        omega (arith, h.others (caps.queues + caps.engines + e) (λ q. absurd (omega arith))))
-        (λ (r : p ≡ caps.queues + caps.engines + e).
-        let a : sum_by f (chain c' (caps.queues + caps.engines + e)) ≤ sum_by f
-        (chain c (caps.queues + caps.engines + e)) + n =
-        subst (λ k. sum_by f (chain c' k) ≤ sum_by f (chain c k) + n) r h.mine in
-        omega (arith, h.others (caps.queues + e) (λ q. absurd (omega arith))))
-        h.place
-
-    tested : (b : Bool) → cond b (sum_by f (chain c' (caps.queues + e))
-        + sum_by f (chain c' (caps.queues + caps.engines + e))) 0 ≤ cond b
-        (sum_by f (chain c (caps.queues + e)) + sum_by f (chain c (caps.queues + caps.engines + e))) 0 + n
-    tested true = total
-    tested false = omega arith
+-- where list p, which is one of engine e's, has n more, no other engine needs more
+pub sum_on-more : (caps : Caps) (f : Slot → ℕ) (c c' : Content) (e p n : ℕ) → e < caps.engines
+    → (p ≡ caps.queues + e) ⊎ (p ≡ caps.queues + caps.engines + e)
+    → ((k : ℕ) → sum_by f (chain c' k) ≤ sum_by f (chain c k) + cond (k == p) n 0) → (j : ℕ)
+    → sum_on caps f c' j ≤ sum_on caps f c j + cond (j == e) n 0
+sum_on-more caps f c c' e p n engine place h j =
+    let progress = h (caps.queues + j) in
+    let members = h (caps.queues + caps.engines + j) in
+    grind (arith, nat_tests)
