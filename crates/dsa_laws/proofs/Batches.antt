@@ -35,12 +35,7 @@ sum-two f (l ∷ ls) (suc i) (suc j) n = omega (
 
 length-first_run : (xs : List Slot) → length (with_first_run xs) ≡ length xs
 length-first_run [] = refl
-length-first_run (x ∷ xs) = go x.1.running (length-first_run xs)
-  where
-    go : (b : Bool) → length (with_first_run xs) ≡ length xs
-        → length (cond b (x ∷ with_first_run xs) (with_running_entry x ∷ xs)) ≡ length (x ∷ xs)
-    go true e = omega arith
-    go false e = refl
+length-first_run (x ∷ xs) = grind (arith, length-first_run xs)
 
 -- ---- by another setup, with fewer entries, with other marks
 
@@ -49,11 +44,8 @@ pub by_setup : (setup setup' : Setup) (ps ms : List Slot) (o : Option BatchNote)
     → ((x : Slot) → In x ps → holds_batch setup' x ≡ holds_batch setup x) → IsLawfulEngine setup ps ms o
     → IsLawfulEngine setup' ps ms o
 by_setup setup setup' ps ms None same h =
-    record {
-      no_batch = count-alike (holds_batch setup') (holds_batch setup) ps same ∙ h.no_batch;
-      no_members =
-          h.no_members;
-    }
+    let count = count-alike (holds_batch setup') (holds_batch setup) ps same in
+    record { no_batch = count ∙ h.no_batch; no_members = h.no_members }
 by_setup setup setup' ps ms (Some note) same h = record {
   one_batch = count-alike (holds_batch setup') (holds_batch setup) ps same ∙ h.one_batch;
   noted = λ b i t. h.noted b i (sym (same b i) ∙ t);
@@ -69,7 +61,7 @@ pub fewer : (setup : Setup) (ps ps' ms ms' : List Slot) (o : Option BatchNote)
     → IsLawfulEngine setup ps' ms' o
 fewer setup ps ps' ms ms' None same p m l h = record {
   no_batch = same ∙ h.no_batch;
-  no_members = length-none ms' (omega (arith, ap (λ (xs : List Slot). length xs) h.no_members));
+  no_members = length-none ms' (omega (arith, ap length h.no_members));
 }
 fewer setup ps ps' ms ms' (Some note) same p m l h = record {
   one_batch = same ∙ h.one_batch;
@@ -113,7 +105,7 @@ with_front setup ps ms None x true is may h =
           (In-push y ps (with_running_entry x) i);
       parents = λ y i. absurd (none y i);
       alike = λ y z i j t. absurd (none y i);
-      most = omega (arith, ap (λ (xs : List Slot). length xs) h.no_members);
+      most = omega (arith, ap length h.no_members);
     }
 with_front setup ps ms (Some n) x true is may h = absurd cc
 with_front setup ps ms None x false is may h = record {
@@ -159,14 +151,6 @@ with_run setup ps ms (Some n) h = record {
   most = omega (arith, h.most, length-first_run ms);
 }
 
--- the batch is gone, and there are no members
-pub batch_gone : (setup : Setup) (ps ps' ms ms' : List Slot) (o : Option BatchNote)
-    → count_by (holds_batch setup) ps' + 1 ≡ count_by (holds_batch setup) ps → ms' ≡ []
-    → IsLawfulEngine setup ps ms o → IsLawfulEngine setup ps' ms' None
-batch_gone setup ps ps' ms ms' None less none h = absurd (omega (arith, h.no_batch))
-batch_gone setup ps ps' ms ms' (Some n) less none h =
-    record { no_batch = omega (arith, h.one_batch); no_members = none }
-
 -- those that pass are left, and no batch is gone
 filtered : (setup : Setup) (p : Slot → Bool) (ps ms : List Slot) (o : Option BatchNote)
     → count_by (holds_batch setup) (filter p ps) ≡ count_by (holds_batch setup) ps → IsLawfulEngine setup ps ms o
@@ -179,8 +163,9 @@ pub with_end : (setup : Setup) (p : Slot → Bool) (ps ms : List Slot) (o : Opti
     → count_by (holds_batch setup) (filter p ps) + cond b 1 0 ≡ count_by (holds_batch setup) ps
     → (b ≡ true → ms ≡ []) → IsLawfulEngine setup ps ms o → IsLawfulEngine setup (filter p ps) (filter p ms)
     (cond b None (cond m (option_map (λ (note : BatchNote). record note { failed = true }) o) o))
-with_end setup p ps ms o true m less none h =
-    batch_gone setup ps (filter p ps) ms (filter p ms) o less (ap (filter p) (none refl)) h
+with_end setup p ps ms None true m less none h = absurd (omega (arith, h.no_batch))
+with_end setup p ps ms (Some n) true m less none h =
+    record { no_batch = omega (arith, h.one_batch); no_members = ap (filter p) (none refl) }
 with_end setup p ps ms o false true less none h =
     marked setup (filter p ps) (filter p ms) (λ (note : BatchNote). record note { failed = true }) o (λ n. refl)
     (λ n. refl) (λ n. refl) (filtered setup p ps ms o (omega arith) h)

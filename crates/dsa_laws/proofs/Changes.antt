@@ -1,33 +1,30 @@
 -- Every step that may come is one of the changes, and its reply tells how many entries that adds.
-use Rattle.std.proofs.Common.{◌≡◌, ℕ, Bool, true, false, cond, not, ◌&&◌, length, slice_set, Option, Some, None, refl}
-use Rattle.std.proofs.Common.{sym, subst}
+use Rattle.std.proofs.Common.{◌≡◌, ℕ, Bool, true, false, cond, Option, Some, None, refl}
+use Rattle.std.proofs.Common.{ap}
 use Rattle.std.proofs.lemmas.Bool.{cond_both, and_parts, not-false}
 use Rattle.std.specs.Prelude.{find, is_some, is_none, count_by}
 use Rattle.dsa_desc.specs.declared.{Descriptor.{Descriptor}, Outcome.{Outcome}}
 use Rattle.dsa_laws.proofs.Effects.{came, gone}
-use Rattle.dsa_laws.specs.Change.{Change, set_up, same, is_noted, is_accepted, is_taken, is_fetched, is_started}
+use Rattle.dsa_laws.specs.Change.{Change, same, is_noted, is_accepted, is_taken, is_fetched, is_started}
 use Rattle.dsa_laws.specs.Change.{is_abandoned, is_ended, is_device_enabled, is_queue_enabled, is_waiting, is_over}
 use Rattle.dsa_laws.specs.Change.{is_aborted, is_device_reset, is_queues_reset, is_queue_written, is_group_written}
 use Rattle.dsa_base.proofs.Tables.{not-both, table1, table2, table3}
-use Rattle.dsa_regs.specs.declared.{Phase.TheVariants.{Off, Stopping}, Command.{Command}}
-use Rattle.dsa_regs.specs.declared.Fault.{Fault, TheVariants.{BadQueue, Locked, WrongState, Busy, BadIndex}}
+use Rattle.dsa_regs.specs.declared.{Command.{Command}}
+use Rattle.dsa_regs.specs.declared.Fault.{Fault, TheVariants.{BadQueue, WrongState, Busy}}
 use Rattle.dsa_regs.specs.declared.{QueueConfig.{QueueConfig}, GroupConfig.{GroupConfig}}
 use Rattle.dsa_regs.specs.declared.Scope.{Scope, TheVariants.{Device, Queue}}
 use Rattle.dsa_regs.specs.declared.Deed.{Deed, TheVariants.{Enable, Abort, Reset}}
 use Rattle.dsa_regs.specs.{Caps.{cell_count}, Command.{number_of, scope_of, deed_of}}
 use Rattle.dsa_store.specs.{declared.entry.Cell.{Cell}, Content.{Slot, is_free}}
 use Rattle.dsa_book.specs.declared.answer.{Ticket.{Ticket}, NotedError.{NotedError}}
-use Rattle.dsa_book.specs.declared.answer.Cause.{Cause, TheVariants.{AtLimit, NotEnabled, WrongKind}}
-use Rattle.dsa_book.specs.declared.answer.SubmitAnswer.{SubmitAnswer, TheVariants.{Retry, Dropped}}
-use Rattle.dsa_book.specs.declared.answer.FetchAnswer.{FetchAnswer, TheVariants.{NoBatch, AllFetched}}
+use Rattle.dsa_book.specs.declared.answer.Cause.{Cause}
+use Rattle.dsa_book.specs.declared.answer.SubmitAnswer.{SubmitAnswer}
+use Rattle.dsa_book.specs.declared.answer.FetchAnswer.{FetchAnswer}
 use Rattle.dsa_book.specs.declared.answer.StartAnswer.{StartAnswer}
-use Rattle.dsa_book.specs.declared.answer.StartAnswer.TheVariants.{Started, FenceWait, NoBuffers, Abandoned, Nothing}
-use Rattle.dsa_book.specs.declared.answer.DispatchAnswer.TheVariants.{Taken, Idle}
-use Rattle.dsa_book.specs.declared.answer.FinishAnswer.{FinishAnswer, TheVariants.{Done, NotReady, Gone}}
-use Rattle.dsa_book.specs.declared.answer.IssueAnswer.{IssueAnswer, TheVariants.{Ended, Active, Refused}}
-use Rattle.dsa_book.specs.declared.answer.PollAnswer.{PollAnswer, TheVariants.{Finished, Active, Nothing}}
-use Rattle.dsa_book.specs.declared.answer.WriteAnswer.{WriteAnswer, TheVariants.{Written, Refused}}
-use Rattle.dsa_book.specs.declared.answer.ClearAnswer.TheVariants.{Cleared, Nothing}
+use Rattle.dsa_book.specs.declared.answer.FinishAnswer.{FinishAnswer}
+use Rattle.dsa_book.specs.declared.answer.IssueAnswer.{IssueAnswer, TheVariants.{Refused}}
+use Rattle.dsa_book.specs.declared.answer.PollAnswer.{PollAnswer}
+use Rattle.dsa_book.specs.declared.answer.WriteAnswer.{WriteAnswer, TheVariants.{Refused}}
 use Rattle.dsa_book.specs.declared.answer.Reply.{Reply}
 use Rattle.dsa_book.specs.declared.answer.Reply.TheVariants.{Submit, Dispatch, Fetch, Start, Finish, Issue, Poll}
 use Rattle.dsa_book.specs.declared.answer.Reply.TheVariants.{Write, Clear}
@@ -36,14 +33,14 @@ use Rattle.dsa_book.specs.declared.event.{Portal.{Portal}, Kind.{Kind, TheVarian
 use Rattle.dsa_book.specs.declared.event.Event.{Event}
 use Rattle.dsa_book.specs.declared.event.Event.TheVariants.{Submit, Dispatch, Fetch, Start, Finish, Issue, Poll}
 use Rattle.dsa_book.specs.declared.event.Event.TheVariants.{WriteQueue, WriteGroup, ClearError}
-use Rattle.dsa_book.specs.State.{Setup, Intake, Work, State, is_ticket, ticket_of, is_batch_of}
+use Rattle.dsa_book.specs.State.{Setup, Intake, Work, State, is_ticket}
 use Rattle.dsa_book.specs.Submit.{submit, after_refusal, after_accept, next_noted}
 use Rattle.dsa_book.specs.Work.{qualifies, front_of, may_leave, dispatch, dispatch_of, fetch_of, fetch_for}
-use Rattle.dsa_book.specs.Work.{after_fetch, note_at, batch_on, is_all_fetched, start_of, after_start, after_abandon}
-use Rattle.dsa_book.specs.Work.{members, first_waiting, is_unfinished, last_status, after_end, finish_of, running_on}
+use Rattle.dsa_book.specs.Work.{after_fetch, note_at, batch_on, is_all_fetched, start_of}
+use Rattle.dsa_book.specs.Work.{first_waiting, finish_of, running_on}
 use Rattle.dsa_book.specs.Commands.{issue, check_of, refusal_or, command_done_of, deed_done_of, wait_of, poll_of}
-use Rattle.dsa_book.specs.Commands.{after_stop, write_queue, write_group, clear_of, is_at_end, is_bad_queues}
-use Rattle.dsa_book.specs.Commands.{may_come, count_in_scope}
+use Rattle.dsa_book.specs.Commands.{write_queue, write_group, clear_of, is_at_end, is_bad_queues}
+use Rattle.dsa_book.specs.Commands.{may_come}
 use Rattle.dsa_book.specs.Totals.{is_accepted as accepts, is_fetched as fetches, ended_by}
 use Rattle.dsa_book.specs.Machine.{next, is_stored, may_choose, reply_of, with_work, with_intake, with_setup}
 use Rattle.dsa_book.specs.Machine.{intake_of}
@@ -55,6 +52,10 @@ use Rattle.dsa_book.proofs.Nexts.{next-each}
 abbrev counted : Bool → ℕ
 counted b = cond b 1 0
 
+-- how many entries a reply says are accepted, fetched and ended
+abbrev told_by : Reply → ℕ × ℕ × ℕ
+told_by reply = (counted (accepts reply), counted (fetches reply), ended_by reply)
+
 -- the change, as many entries as the reply tells of, and none where it is not stored
 pub record Tells (s : State) (r : Reply × State) : Type 0 where
   pub change : Change s r.1
@@ -64,21 +65,24 @@ pub record Tells (s : State) (r : Reply × State) : Type 0 where
   pub kept : is_stored r.0 ≡ false → r.1 ≡ s
 
 -- nothing changes
-stays : (s : State) (reply : Reply) → counted (accepts reply) ≡ 0 → counted (fetches reply) ≡ 0 → ended_by reply ≡ 0
-    → Tells s (reply, s)
-stays s reply a f e = record { change = same refl; accepted = a; fetched = f; ended = e; kept = λ u. refl }
+stays : {s : State} {reply : Reply} → told_by reply ≡ (0, 0, 0) → Tells s (reply, s)
+stays e = record {
+  change = same refl;
+  accepted = ap (λ t. t.0) e;
+  fetched = ap (λ t. t.1) e;
+  ended = ap (λ t. t.2) e;
+  kept = λ u. refl;
+}
 
 -- the change is stored
-makes : {s t : State} (reply : Reply) (c : Change s t) → is_stored reply ≡ true
-    → counted (accepts reply) ≡ count_by is_none (came c)
-    → counted (fetches reply) ≡ count_by is_some (came c) → ended_by reply ≡ gone c → Tells s (reply, t)
-makes reply c stored a f e = record {
+makes : {s t : State} {reply : Reply} (c : Change s t) → is_stored reply ≡ true
+    → told_by reply ≡ (count_by is_none (came c), count_by is_some (came c), gone c) → Tells s (reply, t)
+makes c stored e = record {
   change = c;
-  accepted = a;
-  fetched = f;
-  ended = e;
-  kept = λ u. not-both
-      (is_stored reply) stored u;
+  accepted = ap (λ t. t.0) e;
+  fetched = ap (λ t. t.1) e;
+  ended = ap (λ t. t.2) e;
+  kept = λ u. not-both _ stored u;
 }
 
 -- ---- submit
@@ -89,30 +93,28 @@ Submits s r = Tells s (Submit r.0, with_intake s r.1)
 
 turned_away-tells : (s : State) (q : ℕ) (kind : Kind) (cause : Cause)
     → Submits s (after_refusal (intake_of s) q kind cause)
-turned_away-tells s q (Enqcmd pasid) cause = stays s (Submit (Retry cause)) refl refl refl
+turned_away-tells s q (Enqcmd pasid) cause = stays refl
 turned_away-tells s q Movdir64b cause =
-    makes (Submit (Dropped cause)) (is_noted
-    (record { noted = Some (next_noted s.work.setup.noted q cause); after = refl })) refl refl refl refl
+    makes (is_noted
+    (record { noted = Some (next_noted s.work.setup.noted q cause); after = refl })) refl refl
 
 -- the cell that a reply tells of is free
 free_of : (s : State) (choice : Choice) (cell : Cell) → may_enter s.work.setup s.work.content choice ≡ true
     → in_cell cell ≡ choice → is_free (cell_count s.work.setup.caps) s.work.content cell ≡ true
-free_of s choice cell may told = subst (λ c. may_enter s.work.setup s.work.content c ≡ true) (sym told) may
+free_of s choice cell may told = rw (← told) at may
 
 submit-tells : (s : State) (q : ℕ) (portal : Portal) (kind : Kind) (d : Descriptor) (choice : Choice)
     → may_enter s.work.setup s.work.content choice ≡ true
     → let r = submit (intake_of s) q portal kind d (cell_of choice) in choice_of (Submit r.0) ≡ choice → Submits s r
 submit-tells s q portal kind d choice may =
-    let i = intake_of s in
     let cell = cell_of choice in
     table3 (λ (r : SubmitAnswer × Intake). choice_of (Submit r.0) ≡ choice → Submits s r) _ _ _
-    (after_refusal i q kind NotEnabled) (after_refusal i q kind WrongKind) (after_refusal i q kind AtLimit)
-    (after_accept i q kind d cell)
-    (λ x told. turned_away-tells s q kind NotEnabled)
-    (λ x told. turned_away-tells s q kind WrongKind)
-    (λ x told. turned_away-tells s q kind AtLimit)
+    _ _ _ (after_accept (intake_of s) q kind d cell)
+    (λ x told. turned_away-tells s q kind _)
+    (λ x told. turned_away-tells s q kind _)
+    (λ x told. turned_away-tells s q kind _)
     (λ x y z told.
-    makes (Submit (after_accept i q kind d cell).0) (is_accepted (record {
+    makes (is_accepted (record {
       queue = q;
       portal = portal;
       kind = kind;
@@ -123,21 +125,21 @@ submit-tells s q portal kind d choice may =
       below = z;
       free = free_of s choice cell may told;
       after = refl;
-    })) refl refl refl refl)
+    })) refl refl)
 
 -- ---- dispatch
 
 dispatch_of-tells : (s : State) (e q : ℕ) (o : Option Slot) → front_of s.work q ≡ o → qualifies s.work e q ≡ true
     → let r = dispatch_of s.work e q o in Tells s (Dispatch r.0, with_work s r.1)
-dispatch_of-tells s e q None n may = stays s (Dispatch Idle) refl refl refl
+dispatch_of-tells s e q None n may = stays refl
 dispatch_of-tells s e q (Some front) n may =
-    makes (Dispatch (Taken (ticket_of front) q)) (is_taken
-    (record { engine = e; queue = q; front = front; is_front = n; qualifies = may; after = refl })) refl refl refl refl
+    makes (is_taken
+    (record { engine = e; queue = q; front = front; is_front = n; qualifies = may; after = refl })) refl refl
 
 dispatch-tells : (s : State) (e : ℕ) (choice : Choice) → may_leave s.work e choice ≡ true
     → let r = dispatch s.work e choice in Tells s (Dispatch r.0, with_work s r.1)
 dispatch-tells s e (from_queue q) may = dispatch_of-tells s e q (front_of s.work q) refl may
-dispatch-tells s e _ may = stays s (Dispatch Idle) refl refl refl
+dispatch-tells s e _ may = stays refl
 
 -- ---- fetch
 
@@ -148,13 +150,12 @@ Fetches s choice r = choice_of (Fetch r.0) ≡ choice → Tells s (Fetch r.0, wi
 fetch_of-tells : (s : State) (e : ℕ) (d : Descriptor) (choice : Choice) (note : BatchNote) (o : Option Slot)
     → may_enter s.work.setup s.work.content choice ≡ true → note_at s.work e ≡ Some note → batch_on s.work e note ≡ o
     → Fetches s choice (fetch_of s.work e d (cell_of choice) note o)
-fetch_of-tells s e d choice note None may n m = λ told. stays s (Fetch NoBatch) refl refl refl
+fetch_of-tells s e d choice note None may n m = λ told. stays refl
 fetch_of-tells s e d choice note (Some batch) may n m =
-    let r = after_fetch s.work e d (cell_of choice) note batch.1 in
-    table1 (Fetches s choice) (is_all_fetched note) (AllFetched, s.work) r
-    (λ u told. stays s (Fetch AllFetched) refl refl refl)
+    table1 (Fetches s choice) (is_all_fetched note) _ (after_fetch s.work e d (cell_of choice) note batch.1)
+    (λ u told. stays refl)
     (λ u told.
-    makes (Fetch r.0) (is_fetched (record {
+    makes (is_fetched (record {
       engine = e;
       desc = d;
       cell = cell_of choice;
@@ -165,29 +166,26 @@ fetch_of-tells s e d choice note (Some batch) may n m =
       more = u;
       free = free_of s choice (cell_of choice) may told;
       after = refl;
-    })) refl refl refl refl)
+    })) refl refl)
 
 fetch_for-tells : (s : State) (e : ℕ) (d : Descriptor) (choice : Choice) (o : Option BatchNote)
     → may_enter s.work.setup s.work.content choice ≡ true → note_at s.work e ≡ o
     → Fetches s choice (fetch_for s.work e d (cell_of choice) o)
-fetch_for-tells s e d choice None may n = λ told. stays s (Fetch NoBatch) refl refl refl
+fetch_for-tells s e d choice None may n = λ told. stays refl
 fetch_for-tells s e d choice (Some note) may n = fetch_of-tells s e d choice note (batch_on s.work e note) may n refl
 
 -- ---- start
 
 start_of-tells : (s : State) (e : ℕ) (o : Option Slot) → first_waiting s.work e ≡ o
     → let r = start_of s.work e o in Tells s (Start r.0, with_work s r.1)
-start_of-tells s e None n = stays s (Start Nothing) refl refl refl
+start_of-tells s e None n = stays refl
 start_of-tells s e (Some slot) n =
-    let k = length (members s.work e) in
-    table3 (λ (r : StartAnswer × Work). Tells s (Start r.0, with_work s r.1)) _ _ _
-    (FenceWait, s.work) (Abandoned k, after_abandon s.work e) (NoBuffers, s.work)
-    (Started (ticket_of slot), after_start s.work e)
-    (λ u. stays s (Start FenceWait) refl refl refl)
-    (λ u. makes (Start (Abandoned k)) (is_abandoned
-    (record { engine = e; slot = slot; is_first = n; failed = u; after = refl })) refl refl refl refl)
-    (λ u. stays s (Start NoBuffers) refl refl refl)
-    (λ u v t. makes (Start (Started (ticket_of slot))) (is_started (record {
+    table3 (λ (r : StartAnswer × Work). Tells s (Start r.0, with_work s r.1)) _ _ _ _ _ _ _
+    (λ u. stays refl)
+    (λ u. makes (is_abandoned
+    (record { engine = e; slot = slot; is_first = n; failed = u; after = refl })) refl refl)
+    (λ u. stays refl)
+    (λ u v t. makes (is_started (record {
       engine = e;
       slot = slot;
       is_first = n;
@@ -195,21 +193,18 @@ start_of-tells s e (Some slot) n =
       unfailed = v;
       room = not-false _ t;
       after = refl;
-    })) refl refl refl refl)
+    })) refl refl)
 
 -- ---- finish
 
 finish_of-tells : (s : State) (e : ℕ) (t : Ticket) (outcome : Outcome) (o : Option Slot)
     → find (is_ticket t) (running_on s.work e) ≡ o
     → let r = finish_of s.work e outcome o in Tells s (Finish r.0, with_work s r.1)
-finish_of-tells s e t outcome None n = stays s (Finish Gone) refl refl refl
+finish_of-tells s e t outcome None n = stays refl
 finish_of-tells s e t outcome (Some slot) n =
-    let status = last_status s.work e slot outcome in
-    table1 (λ (r : FinishAnswer × Work). Tells s (Finish r.0, with_work s r.1))
-    (is_batch_of s.work.setup slot.1 && is_unfinished s.work e)
-    (NotReady, s.work) (Done status, after_end s.work e slot outcome)
-    (λ u. stays s (Finish NotReady) refl refl refl)
-    (λ u. makes (Finish (Done status)) (is_ended (record {
+    table1 (λ (r : FinishAnswer × Work). Tells s (Finish r.0, with_work s r.1)) _ _ _
+    (λ u. stays refl)
+    (λ u. makes (is_ended (record {
       engine = e;
       ticket = t;
       outcome = outcome;
@@ -217,7 +212,7 @@ finish_of-tells s e t outcome (Some slot) n =
       is_found = n;
       ready = u;
       after = refl;
-    })) refl refl refl refl)
+    })) refl refl)
 
 -- ---- issue and poll
 
@@ -231,34 +226,27 @@ waits-tells s command may =
     let deed = deed_of command in
     let scope = scope_of command in
     let active : ActiveCommand = record { command = command; mark = s.work.setup.next_name } in
-    cond_both (is_at_end active s.work.content)
-    (Ended 0, set_up s s.active (after_stop deed scope Off s.work.setup))
-    (Active, set_up s (Some active) (after_stop deed scope Stopping s.work.setup))
-    (Issues s)
-    (λ u. makes (Issue (Ended 0)) (is_over
-    (record { deed = deed; scope = scope; mark = active.mark; over = u; active = s.active; after = refl })) refl refl
-    refl refl)
-    (λ u. makes (Issue Active) (is_waiting
-    (record { deed = deed; scope = scope; may = may; active = Some active; after = refl })) refl refl refl refl)
+    cond_both (is_at_end active s.work.content) _ _ (Issues s)
+    (λ u. makes (is_over
+    (record { deed = deed; scope = scope; mark = active.mark; over = u; active = s.active; after = refl })) refl refl)
+    (λ u. makes (is_waiting
+    (record { deed = deed; scope = scope; may = may; active = Some active; after = refl })) refl refl)
 
 done-tells : (s : State) (command : Command) (deed : Deed) (scope : Scope) → may_come s.work.setup deed scope ≡ true
     → check_of s.work.setup deed scope ≡ None → Issues s (wait_of s command)
     → Issues s (deed_done_of s command deed scope)
-done-tells s command Enable Device may check w = makes (Issue (Ended 0))
-    (is_device_enabled (record { off = may; check = check; after = refl })) refl refl refl refl
+done-tells s command Enable Device may check w = makes (is_device_enabled
+    (record { off = may; check = check; after = refl })) refl refl
 done-tells s command Enable (Queue queue) may check w =
-    makes (Issue (Ended 0)) (is_queue_enabled
-    (record { queue = queue; on = (and_parts _ _ may).0; check = check; after = refl })) refl refl refl refl
-done-tells s command Enable scope may check w = stays s (Issue (Ended 0)) refl refl refl
+    makes (is_queue_enabled
+    (record { queue = queue; on = (and_parts _ _ may).0; check = check; after = refl })) refl refl
+done-tells s command Enable scope may check w = stays refl
 done-tells s command Abort scope may check w =
-    makes (Issue (Ended (count_in_scope scope s.work.content)))
-    (is_aborted (record { number = number_of command; scope = scope; after = refl })) refl refl refl refl
+    makes (is_aborted (record { number = number_of command; scope = scope; after = refl })) refl refl
 done-tells s command Reset Device may check w =
-    makes (Issue (Ended (count_in_scope Device s.work.content)))
-    (is_device_reset (record { number = number_of command; after = refl })) refl refl refl refl
+    makes (is_device_reset (record { number = number_of command; after = refl })) refl refl
 done-tells s command Reset scope may check w =
-    makes (Issue (Ended (count_in_scope scope s.work.content)))
-    (is_queues_reset (record { number = number_of command; scope = scope; after = refl })) refl refl refl refl
+    makes (is_queues_reset (record { number = number_of command; scope = scope; after = refl })) refl refl
 done-tells s command _ scope may check w = w
 
 refused_or-tells : (s : State) (command : Command) (o : Option Fault)
@@ -267,32 +255,28 @@ refused_or-tells : (s : State) (command : Command) (o : Option Fault)
     → Issues s (refusal_or s o (command_done_of s command))
 refused_or-tells s command None may check = done-tells s command (deed_of command) (scope_of command) may check
     (waits-tells s command may)
-refused_or-tells s command (Some fault) may check = stays s (Issue (Refused fault)) refl refl refl
+refused_or-tells s command (Some fault) may check = stays refl
 
 issue-tells : (s : State) (command : Command) → Issues s (issue s command)
 issue-tells s command =
-    let deed = deed_of command in
-    let scope = scope_of command in
-    table3 (Issues s) (is_some s.active) (is_bad_queues s.work.setup scope)
-    (not (may_come s.work.setup deed scope)) _ _ _
-    (refusal_or s (check_of s.work.setup deed scope) (command_done_of s command))
-    (λ u. stays s (Issue (Refused Busy)) refl refl refl)
-    (λ u. stays s (Issue (Refused BadQueue)) refl refl refl)
-    (λ u. stays s (Issue (Refused WrongState)) refl refl refl)
-    (λ u v t. refused_or-tells s command (check_of s.work.setup deed scope) (not-false _ t) refl)
+    table3 (Issues s) (is_some s.active) (is_bad_queues s.work.setup (scope_of command)) _
+    (Refused Busy, s) (Refused BadQueue, s) (Refused WrongState, s) _
+    (λ u. stays refl)
+    (λ u. stays refl)
+    (λ u. stays refl)
+    (λ u v t. refused_or-tells s command (check_of s.work.setup (deed_of command) (scope_of command))
+    (not-false _ t) refl)
 
 poll_of-tells : (s : State) (o : Option ActiveCommand) → let r = poll_of s o in Tells s (Poll r.0, r.1)
-poll_of-tells s None = stays s (Poll Nothing) refl refl refl
+poll_of-tells s None = stays refl
 poll_of-tells s (Some active) =
     let deed = deed_of active.command in
     let scope = scope_of active.command in
-    cond_both (is_at_end active s.work.content)
-    (Finished, set_up s None (after_stop deed scope Off s.work.setup)) (Active, s)
+    cond_both (is_at_end active s.work.content) _ _
     (λ (r : PollAnswer × State). Tells s (Poll r.0, r.1))
-    (λ u. makes (Poll Finished) (is_over
-    (record { deed = deed; scope = scope; mark = active.mark; over = u; active = None; after = refl })) refl refl
-    refl refl)
-    (λ u. stays s (Poll Active) refl refl refl)
+    (λ u. makes (is_over
+    (record { deed = deed; scope = scope; mark = active.mark; over = u; active = None; after = refl })) refl refl)
+    (λ u. stays refl)
 
 -- ---- writes and clear
 
@@ -302,30 +286,33 @@ Writes s r = Tells s (Write r.0, with_setup s r.1)
 
 write_queue-tells : (s : State) (q : ℕ) (config : QueueConfig) → Writes s (write_queue s.work.setup q config)
 write_queue-tells s q config =
-    table3 (Writes s) _ _ _ (Refused BadIndex, s.work.setup) (Refused Locked, s.work.setup)
-    (Refused Locked, s.work.setup)
-    (Written, record s.work.setup { configs = slice_set s.work.setup.configs q config })
-    (λ u. stays s (Write (Refused BadIndex)) refl refl refl)
-    (λ u. stays s (Write (Refused Locked)) refl refl refl)
-    (λ u. stays s (Write (Refused Locked)) refl refl refl)
-    (λ u v t. makes (Write Written) (is_queue_written
-    (record { queue = q; config = config; has = not-false _ u; off = not-false _ v; size = t; after = refl })) refl
-    refl refl refl)
+    table3 (Writes s) _ _ _ _ _ _ _
+    (λ u. stays refl)
+    (λ u. stays refl)
+    (λ u. stays refl)
+    (λ u v t. makes (is_queue_written
+    (record {
+      queue = q;
+      config = config;
+      has = not-false _ u;
+      off = not-false _ v;
+      size = t;
+      after =
+          refl;
+    })) refl refl)
 
 write_group-tells : (s : State) (g : ℕ) (config : GroupConfig) → Writes s (write_group s.work.setup g config)
 write_group-tells s g config =
-    table2 (Writes s) _ _ (Refused BadIndex, s.work.setup) (Refused Locked, s.work.setup)
-    (Written, record s.work.setup { groups = slice_set s.work.setup.groups g config })
-    (λ u. stays s (Write (Refused BadIndex)) refl refl refl)
-    (λ u. stays s (Write (Refused Locked)) refl refl refl)
-    (λ u v. makes (Write Written) (is_group_written
-    (record { group = g; config = config; off = not-false _ v; after = refl })) refl refl refl refl)
+    table2 (Writes s) _ _ _ _ _
+    (λ u. stays refl)
+    (λ u. stays refl)
+    (λ u v. makes (is_group_written
+    (record { group = g; config = config; off = not-false _ v; after = refl })) refl refl)
 
 clear_of-tells : (s : State) (o : Option NotedError) → let r = clear_of s.work.setup o in
     Tells s (Clear r.0, with_setup s r.1)
-clear_of-tells s None = stays s (Clear Nothing) refl refl refl
-clear_of-tells s (Some noted) = makes (Clear (Cleared noted))
-    (is_noted (record { noted = None; after = refl })) refl refl refl refl
+clear_of-tells s None = stays refl
+clear_of-tells s (Some noted) = makes (is_noted (record { noted = None; after = refl })) refl refl
 
 -- ---- any step
 

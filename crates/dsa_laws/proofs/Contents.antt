@@ -31,7 +31,7 @@ sum-filter-le f p xs = omega (arith, sum-split f p xs)
 pub sum-without : (f : Slot → ℕ) (p : Slot → Bool) (x : Slot) (xs : List Slot) → count_by p xs ≤ 1 → In x xs
     → p x ≡ true → sum_by f (filter (λ y. not (p y)) xs) + f x ≡ sum_by f xs
 sum-without f p x xs h i t =
-    omega (arith, sum-split f p xs, ap (λ (ys : List Slot). sum_by f ys) (filter-one p x xs h i t), sum_by-cons f x [])
+    omega (arith, sum-split f p xs, ap (sum_by f) (filter-one p x xs h i t), sum_by-cons f x [])
 
 -- ---- one list by its number
 

@@ -85,9 +85,9 @@ gone {s} (is_device_reset c) = count_in_scope Device s.work.content
 gone {s} (is_queues_reset c) = count_in_scope c.scope s.work.content
 gone _ = 0
 
--- a fact of what a change leaves, of what comes in and of how many are gone, by what it does to what is held
-pub by_count : (P : List (Option ℕ) → ℕ → Work → Type 0) (s s' : State) (c : Change s s')
-    → (IsSetUp s.work s'.work → P [] 0 s'.work)
+-- what is to be seen of each kind for a fact of what a change leaves, of what comes in and of how many are gone
+abbrev pub ByEffect : (List (Option ℕ) → ℕ → Work → Type 0) → State → State → Type 0 → Type 0
+ByEffect P s s' goal = (IsSetUp s.work s'.work → P [] 0 s'.work)
     → ((c : IsAccepted s s') → P (None ∷ []) 0 (with_intake s
     (after_accept (intake_of s) c.queue c.kind c.desc c.cell).1).work)
     → ((c : IsTaken s s') → P [] 0 (after_take s.work c.engine c.queue c.front))
@@ -97,7 +97,11 @@ pub by_count : (P : List (Option ℕ) → ℕ → Work → Type 0) (s s' : State
     → ((c : IsAbandoned s s') → P [] (length (members s.work c.engine)) (after_abandon s.work c.engine))
     → ((c : IsEnded s s') → P [] 1 (after_end s.work c.engine c.slot c.outcome))
     → ((c : IsRemoved s.work) → P [] (count_in_scope c.scope s.work.content) (removed s.work c))
-    → P (came c) (gone c) s'.work
+    → goal
+
+-- so it holds
+pub by_count : (P : List (Option ℕ) → ℕ → Work → Type 0) (s s' : State) (c : Change s s')
+    → ByEffect P s s' (P (came c) (gone c) s'.work)
 by_count P s s' c set accept take fetch start abandon end remove = go c
   where
     is_set : (t : State) → t ≡ s' → IsSetUp s.work t.work → P [] 0 s'.work
@@ -138,16 +142,7 @@ by_count P s s' c set accept take fetch start abandon end remove = go c
     go (is_group_written c) = is_set _ c.after (kept _ refl refl)
 
 -- the same of a fact of what it leaves alone
-pub by_effect : (P : Work → Type 0) (s s' : State) → Change s s'
-    → (IsSetUp s.work s'.work → P s'.work)
-    → ((c : IsAccepted s s') → P (with_intake s (after_accept (intake_of s) c.queue c.kind c.desc c.cell).1).work)
-    → ((c : IsTaken s s') → P (after_take s.work c.engine c.queue c.front))
-    → ((c : IsFetched s s') → P (after_fetch s.work c.engine c.desc c.cell c.note c.batch.1).1)
-    → ((c : IsStarted s s') → P (after_start s.work c.engine))
-    → ((c : IsAbandoned s s') → P (after_abandon s.work c.engine))
-    → ((c : IsEnded s s') → P (after_end s.work c.engine c.slot c.outcome))
-    → ((c : IsRemoved s.work) → P (removed s.work c))
-    → P s'.work
+pub by_effect : (P : Work → Type 0) (s s' : State) → Change s s' → ByEffect (λ xs n. P) s s' (P s'.work)
 by_effect P = by_count (λ xs n. P)
 
 -- ---- by the set-up

@@ -82,12 +82,7 @@ rows-counted g fates fate xs =
 sum-first_run : (f : Slot → ℕ) → ((slot : Slot) → f (with_running_entry slot) ≡ f slot) → (xs : List Slot)
     → sum_by f (with_first_run xs) ≡ sum_by f xs
 sum-first_run f alike [] = refl
-sum-first_run f alike (x ∷ xs) = go (sum-first_run f alike xs) x.1.running
-  where
-    go : sum_by f (with_first_run xs) ≡ sum_by f xs → (b : Bool)
-        → sum_by f (cond b (x ∷ with_first_run xs) (with_running_entry x ∷ xs)) ≡ sum_by f (x ∷ xs)
-    go more true = omega (arith, sum_by-cons f x (with_first_run xs), sum_by-cons f x xs)
-    go more false = omega (arith, alike x, sum_by-cons f (with_running_entry x) xs, sum_by-cons f x xs)
+sum-first_run f alike (x ∷ xs) = grind (arith, sum-first_run f alike xs, alike x, sum_by-cons f)
 
 uses-with_free : (cells : ℕ) (content : Content) (x : Slot) → is_free cells content x.0 ≡ true
     → ((cell : Cell) → use_count content cell ≤ cond (nat_lt cell.0 cells) 1 0) → (cell : Cell)

@@ -48,7 +48,7 @@ well_formed-opening caps =
         given = λ name below. absurd (omega arith);
         not_given = λ name past. ap (λ (xs : List Slot). count_by (λ slot. slot.1.name == name) xs + 0) none;
         counted =
-            omega (arith, ap (λ (xs : List Slot). length xs) none, held-counted (replicate (list_count caps) []));
+            omega (arith, ap length none, held-counted (replicate (list_count caps) []));
       };
       setup = setup-opening caps;
       entries = entries-opening caps;
@@ -62,7 +62,7 @@ well_formed-opening caps =
   where
     unused : (cell : Cell) → use_count (opening caps).work.content cell ≡ 0
     unused cell = uses-counted (replicate (list_count caps) []) cell
-        ∙ ap (λ (xs : List Slot). count_by (is_cell cell) xs) (all_held-empty (list_count caps))
+        ∙ ap (count_by (is_cell cell)) (all_held-empty (list_count caps))
 
 -- what every change keeps, every history keeps
 pub replay_keeps : (P : State → Type 0) → ((s s' : State) → P s → Change s s' → P s')
