@@ -34,16 +34,17 @@ replay-accepted caps h s e =
       next-account caps s s' x.event x.reply w n,
     )) h (opening caps) s
     (well_formed-opening caps) e in
-    let none = none-at-first caps in
-    omega (arith, all, none)
+    omega (arith, all, none-at-first caps)
 
 pub replay-fetched : (caps : Caps) (h : List Step) (s : State) → replay caps h ≡ Some s
     → total_fetched h ≡ member_entries s.work
 replay-fetched caps h s e =
-    let names = replay-names caps h s e in
-    let counted = (replay-well_formed caps h s e).names.counted in
-    let accepted = replay-accepted caps h s e in
-    let rows = parts (λ (row : FateRow). row.parent) s.work.fates in
-    let slots = parts (λ (slot : Slot). slot.1.parent) (all_held s.work.content) in
-    let held = held-counted s.work.content in
-    omega (arith, names, counted, accepted, rows, slots, held)
+    omega (
+      arith,
+      replay-names caps h s e,
+      (replay-well_formed caps h s e).names.counted,
+      replay-accepted caps h s e,
+      parts (λ (row : FateRow). row.parent) s.work.fates,
+      parts (λ (slot : Slot). slot.1.parent) (all_held s.work.content),
+      held-counted s.work.content,
+    )

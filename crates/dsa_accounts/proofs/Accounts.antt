@@ -34,22 +34,26 @@ entered : (p : Option ℕ → Bool) (w w' : Work) (k : ℕ) (x : Slot) → k < l
     → w'.content ≡ after_push w.content k x.0 x.1 → w'.fates ≡ w.fates
     → entries_with p w' ≡ entries_with p w + count_by p (x.1.parent ∷ [])
 entered p w w' k x inside content fates =
-    let sum = sum-pushed (weight p) w.content k x.0 x.1 inside in
-    let slots = ap (λ (c : Content). sum_by (weight p) (all_held c)) content in
-    let rows = ap (λ (rows : List FateRow). count_by (λ row. p row.parent) rows) fates in
-    let one = sum_by-cons (λ (o : Option ℕ). cond (p o) 1 0) x.1.parent [] in
-    omega (arith, sum, slots, rows, one)
+    omega (
+      arith,
+      sum-pushed (weight p) w.content k x.0 x.1 inside,
+      ap (λ (c : Content). sum_by (weight p) (all_held c)) content,
+      ap (λ (rows : List FateRow). count_by (λ row. p row.parent) rows) fates,
+      sum_by-cons (λ (o : Option ℕ). cond (p o) 1 0) x.1.parent [],
+    )
 
 -- those with a parent and those without are all
 pub parts : {X : Type 0} (parent : X → Option ℕ) (xs : List X)
     → count_by (λ x. is_none (parent x)) xs + count_by (λ x. is_some (parent x)) xs ≡ length xs
 parts parent [] = refl
 parts {X} parent (x ∷ xs) =
-    let a = sum_by-cons (λ (y : X). cond (is_none (parent y)) 1 0) x xs in
-    let b = sum_by-cons (λ (y : X). cond (is_some (parent y)) 1 0) x xs in
-    let one = either (parent x) in
-    let rest = parts parent xs in
-    omega (arith, a, b, one, rest)
+    omega (
+      arith,
+      sum_by-cons (λ (y : X). cond (is_none (parent y)) 1 0) x xs,
+      sum_by-cons (λ (y : X). cond (is_some (parent y)) 1 0) x xs,
+      either (parent x),
+      parts parent xs,
+    )
   where
     either : (o : Option ℕ) → cond (is_none o) 1 0 + cond (is_some o) 1 0 ≡ 1
     either None = refl
@@ -85,7 +89,10 @@ change-entries p caps s s' h once c =
     kept : Kept s'.work
     kept names =
         let flow = flow-change caps s s' h once c in
-        let all = account-flow p caps s.work s'.work flow in
-        let none = count_by-le-length (λ (slot : Slot). p slot.1.parent) flow.came in
-        let next = flow.next in
-        omega (arith, all, none, next, names)
+        omega (
+          arith,
+          account-flow p caps s.work s'.work flow,
+          count_by-le-length (λ (slot : Slot). p slot.1.parent) flow.came,
+          flow.next,
+          names,
+        )

@@ -90,9 +90,11 @@ before-end caps s e batch w counts h = go (note_at s.work e) refl
   where
     go : (o : Option BatchNote) → note_at s.work e ≡ o → HasEnded s.work batch.1.name batch.1.desc.size
     go None q =
-        let none = (noted w e None q).no_batch in
-        let some = In-counted (holds_batch s.work.setup) batch (in_progress s.work e) h.running h.is_batch in
-        absurd (omega (arith, none, some))
+        absurd (omega (
+          arith,
+          (noted w e None q).no_batch,
+          In-counted (holds_batch s.work.setup) batch (in_progress s.work e) h.running h.is_batch,
+        ))
     go (Some n) q =
         let of = (noted w e (Some n) q).noted batch h.running h.is_batch in
         let count = of.count in

@@ -108,8 +108,7 @@ module _ {caps : Caps} {s : State} (w : IsWellFormed caps s) where
       → n.batch ≡ m.batch → e ≡ k
   noted-once e k n m is also same =
       let x = noted-batch e n is in
-      let q = noted-place k m x.batch (progress_list s.work.setup e) also x.place (x.named ∙ same) in
-      omega (arith, q)
+      omega (arith, noted-place k m x.batch (progress_list s.work.setup e) also x.place (x.named ∙ same))
 
   -- a member of a noted batch is held on that engine
   pub member-engine : (j e : ℕ) (n : BatchNote) (y : Slot) → note_at s.work e ≡ Some n → In y (members s.work j)

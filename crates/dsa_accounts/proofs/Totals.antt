@@ -60,12 +60,14 @@ pub next-names : (s s' : State) (event : Event) (reply : Reply) → next s event
     → name_of s' ≡ name_of s + named_by reply
 next-names s s' event reply h =
     let told = next-tells s s' event reply h in
-    let names = change-names s s' told.change in
-    let is = named_by-is reply in
-    let accepted = told.accepted in
-    let fetched = told.fetched in
-    let all = parts (λ (o : Option ℕ). o) (came told.change) in
-    omega (arith, names, is, accepted, fetched, all)
+    omega (
+      arith,
+      change-names s s' told.change,
+      named_by-is reply,
+      told.accepted,
+      told.fetched,
+      parts (λ (o : Option ℕ). o) (came told.change),
+    )
 
 -- and as many fate rows
 next-rows : (s s' : State) (event : Event) (reply : Reply) → next s event reply ≡ Some s'
@@ -81,12 +83,14 @@ parts-added : (f g h : Reply → ℕ) → ((r : Reply) → f r ≡ g r + h r) �
     → sum_by (λ step. f step.reply) steps ≡ sum_by (λ step. g step.reply) steps + sum_by (λ step. h step.reply) steps
 parts-added f g h is [] = refl
 parts-added f g h is (x ∷ steps) =
-    let one = is x.reply in
-    let rest = parts-added f g h is steps in
-    let a = sum_by-cons (λ (step : Step). f step.reply) x steps in
-    let b = sum_by-cons (λ (step : Step). g step.reply) x steps in
-    let c = sum_by-cons (λ (step : Step). h step.reply) x steps in
-    omega (arith, one, rest, a, b, c)
+    omega (
+      arith,
+      is x.reply,
+      parts-added f g h is steps,
+      sum_by-cons (λ (step : Step). f step.reply) x steps,
+      sum_by-cons (λ (step : Step). g step.reply) x steps,
+      sum_by-cons (λ (step : Step). h step.reply) x steps,
+    )
 
 named_total : (h : List Step) → sum_by (λ step. named_by step.reply) h ≡ total_accepted h + total_fetched h
 named_total = parts-added named_by (λ r. cond (is_accepted r) 1 0) (λ r. cond (is_fetched r) 1 0) named_by-is
@@ -96,25 +100,20 @@ pub replay-names : (caps : Caps) (h : List Step) (s : State) → replay caps h �
 replay-names caps h s e =
     let all = replay-adds (λ s. ⊤) name_of named_by (λ s s' x p n. (tt, next-names s s' x.event x.reply n)) h
     (opening caps) s tt e in
-    let named = named_total h in
-    omega (arith, all, named)
+    omega (arith, all, named_total h)
 
 pub replay-rows : (caps : Caps) (h : List Step) (s : State) → replay caps h ≡ Some s
     → total_done h + total_lost h ≡ rows_of s
 replay-rows caps h s e =
     let all = replay-adds (λ s. ⊤) rows_of ended_by (λ s s' x p n. (tt, next-rows s s' x.event x.reply n)) h
     (opening caps) s tt e in
-    let ended = parts-added ended_by (λ r. cond (is_done r) 1 0) lost_by ended_by-is h in
-    omega (arith, all, ended)
+    omega (arith, all, parts-added ended_by (λ r. cond (is_done r) 1 0) lost_by ended_by-is h)
 
 -- names are held or have a row
 pub replay-held : (caps : Caps) (h : List Step) (s : State) → replay caps h ≡ Some s
     → total_accepted h + total_fetched h ≡ total_done h + total_lost h + held_count s.work.content
 replay-held caps h s e =
-    let names = replay-names caps h s e in
-    let rows = replay-rows caps h s e in
-    let counted = (replay-well_formed caps h s e).names.counted in
-    omega (arith, names, rows, counted)
+    omega (arith, replay-names caps h s e, replay-rows caps h s e, (replay-well_formed caps h s e).names.counted)
 
 named-one : (r : Reply) → named_by r ≤ 1
 named-one (Submit (Accepted t)) = omega arith
@@ -123,16 +122,8 @@ named-one _ = omega arith
 
 named-le : (h : List Step) → sum_by (λ step. named_by step.reply) h ≤ length h
 named-le [] = omega arith
-named-le (x ∷ h) =
-    let one = named-one x.reply in
-    let rest = named-le h in
-    let c = sum_by-cons (λ (step : Step). named_by step.reply) x h in
-    omega (arith, one, rest, c)
+named-le (x ∷ h) = omega (arith, named-one x.reply, named-le h, sum_by-cons (λ (step : Step). named_by step.reply) x h)
 
 -- no step gives two names
 pub replay-names-le : (caps : Caps) (h : List Step) (s : State) → replay caps h ≡ Some s → name_of s ≤ length h
-replay-names-le caps h s e =
-    let names = replay-names caps h s e in
-    let total = named_total h in
-    let most = named-le h in
-    omega (arith, names, total, most)
+replay-names-le caps h s e = omega (arith, replay-names caps h s e, named_total h, named-le h)

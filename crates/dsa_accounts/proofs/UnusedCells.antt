@@ -14,9 +14,7 @@ one-cell : (x : Slot) (n : ℕ) → sum_by (λ k. cond (is_cell (cell_at k) x) 1
     ≡ cond (nat_lt x.0.0 n) 1 0
 one-cell x zero = grind (arith, nat_tests)
 one-cell x (suc n) =
-    let last = sum_by_push (λ k. cond (is_cell (cell_at k) x) 1 0) (numbers_below n) n in
-    let rest = one-cell x n in
-    grind (arith, nat_tests, last, rest)
+    grind (arith, nat_tests, sum_by_push (λ k. cond (is_cell (cell_at k) x) 1 0) (numbers_below n) n, one-cell x n)
 
 -- each slot is of one cell
 counted-once : (xs : List Slot) (n : ℕ) → sum_by (λ k. count_by (is_cell (cell_at k)) xs) (numbers_below n) ≤ length xs
@@ -25,11 +23,14 @@ counted-once (x ∷ xs) n =
     let each = sum-equal (λ k. count_by (is_cell (cell_at k)) (x ∷ xs))
     (λ k. cond (is_cell (cell_at k) x) 1 0 + count_by (is_cell (cell_at k)) xs) (numbers_below n)
     (λ k. sum_by-cons (λ s. cond (is_cell (cell_at k) s) 1 0) x xs) in
-    let both = sum-plus (λ k. cond (is_cell (cell_at k) x) 1 0) (λ k. count_by (is_cell (cell_at k)) xs) n in
-    let one = one-cell x n in
-    let most = at-most-one (nat_lt x.0.0 n) in
-    let rest = counted-once xs n in
-    omega (arith, each, both, one, most, rest)
+    omega (
+      arith,
+      each,
+      sum-plus (λ k. cond (is_cell (cell_at k) x) 1 0) (λ k. count_by (is_cell (cell_at k)) xs) n,
+      one-cell x n,
+      at-most-one (nat_lt x.0.0 n),
+      counted-once xs n,
+    )
   where
     at-most-one : (b : Bool) → cond b 1 0 ≤ 1
     at-most-one true = omega arith
@@ -57,7 +58,5 @@ free-cell cells content room = ⊎_elim
     let each = sum-equal (λ k. use_count content (cell_at k))
     (λ k. count_by (is_cell (cell_at k)) (all_held content)) (numbers_below cells)
     (λ k. uses-counted content (cell_at k)) in
-    let most = counted-once (all_held content) cells in
-    let held_count = held-counted content in
-    absurd (omega (arith, room, all, each, most, held_count)))
+    absurd (omega (arith, room, all, each, counted-once (all_held content) cells, held-counted content)))
     (unused-or-all content cells)

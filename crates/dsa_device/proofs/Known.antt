@@ -75,8 +75,7 @@ pub accepting : (cells : ℕ) (gear : Gear) (d : Running) (queue : ℕ) (portal 
     → is_accepting (intake d.state.work.setup d.state.work.content) queue portal kind ≡ true
     → held_count d.state.work.content < cells
 accepting cells gear d queue portal kind w h =
-    rw (cells-are cells gear d w) (accepting-room d.caps d.state queue portal kind (well_formed d w.replay)
-    (is_none-None _ h))
+    rw (cells-are cells gear d w) (accepting-room (well_formed d w.replay) queue portal kind (is_none-None _ h))
 
 -- names do not run over
 pub names_fit : (d : Running) → IsReplay d → d.state.work.setup.next_name + 1 < 2 ^ 32
@@ -149,7 +148,7 @@ fetching cells gear d engine w h = rw (cells-are cells gear d w) (go (note_at d.
         → passes (λ note. is_some (batch_on d.state.work engine note) && not (is_all_fetched note)) note ≡ true
         → held_count d.state.work.content < cell_count d.caps
     go None is h = absurd cc
-    go (Some note) is h = fetching-room d.caps d.state engine note (well_formed d w.replay) is
+    go (Some note) is h = fetching-room (well_formed d w.replay) engine note is
         (not-true (is_all_fetched note) (and_parts (is_some (batch_on d.state.work engine note)) _ h).1)
 
 -- ---- read buffers
