@@ -38,13 +38,12 @@ replay-accepted caps h s e =
 
 pub replay-fetched : (caps : Caps) (h : List Step) (s : State) → replay caps h ≡ Some s
     → total_fetched h ≡ member_entries s.work
-replay-fetched caps h s e =
-    omega (
-      arith,
-      replay-names caps h s e,
-      (replay-well_formed caps h s e).names.counted,
-      replay-accepted caps h s e,
-      parts (λ (row : FateRow). row.parent) s.work.fates,
-      parts (λ (slot : Slot). slot.1.parent) (all_held s.work.content),
-      held-counted s.work.content,
-    )
+replay-fetched caps h s e = omega (
+  arith,
+  replay-names caps h s e,
+  (replay-well_formed caps h s e).names.counted,
+  replay-accepted caps h s e,
+  parts (λ (row : FateRow). row.parent) s.work.fates,
+  parts (λ (slot : Slot). slot.1.parent) (all_held s.work.content),
+  held-counted s.work.content,
+)

@@ -6,9 +6,8 @@ use Rattle.dsa_regs.specs.declared.Caps.{Caps}
 use Rattle.dsa_store.{specs.Content.{Slot, Content, all_held, after_push}, proofs.Sums.{sum-pushed}}
 use Rattle.dsa_book.specs.{Machine.{with_intake, intake_of}, declared.fate.FateRow.{FateRow}, Submit.{after_accept}}
 use Rattle.dsa_book.specs.{Work.{member_list, after_fetch}, State.{Work, State}}
-use Rattle.dsa_laws.proofs.Flows.{flow-change, rows-counted, IsFlow}
-use Rattle.dsa_laws.proofs.{Shapes.{on-queue, noted-engine, queue_list-in}, Effects.{by_count, came}}
-use Rattle.dsa_laws.specs.{Change.{Change}, WellFormed.{HasShape, CellsOnce}}
+use Rattle.dsa_laws.proofs.{Shapes.{on-queue, noted-engine, queue_list-in}, Flows.{flow-change, rows-counted, IsFlow}}
+use Rattle.dsa_laws.{specs.{Change.{Change}, WellFormed.{HasShape, CellsOnce}}, proofs.Effects.{by_count, came}}
 
 -- ---- words
 
@@ -33,27 +32,25 @@ account-flow p caps w w' flow =
 entered : (p : Option ℕ → Bool) (w w' : Work) (k : ℕ) (x : Slot) → k < length w.content
     → w'.content ≡ after_push w.content k x.0 x.1 → w'.fates ≡ w.fates
     → entries_with p w' ≡ entries_with p w + count_by p (x.1.parent ∷ [])
-entered p w w' k x inside content fates =
-    omega (
-      arith,
-      sum-pushed (weight p) w.content k x.0 x.1 inside,
-      ap (λ (c : Content). sum_by (weight p) (all_held c)) content,
-      ap (λ (rows : List FateRow). count_by (λ row. p row.parent) rows) fates,
-      sum_by-cons (λ (o : Option ℕ). cond (p o) 1 0) x.1.parent [],
-    )
+entered p w w' k x inside content fates = omega (
+  arith,
+  sum-pushed (weight p) w.content k x.0 x.1 inside,
+  ap (λ (c : Content). sum_by (weight p) (all_held c)) content,
+  ap (λ (rows : List FateRow). count_by (λ row. p row.parent) rows) fates,
+  sum_by-cons (λ (o : Option ℕ). cond (p o) 1 0) x.1.parent [],
+)
 
 -- those with a parent and those without are all
 pub parts : {X : Type 0} (parent : X → Option ℕ) (xs : List X)
     → count_by (λ x. is_none (parent x)) xs + count_by (λ x. is_some (parent x)) xs ≡ length xs
 parts parent [] = refl
-parts {X} parent (x ∷ xs) =
-    omega (
-      arith,
-      sum_by-cons (λ (y : X). cond (is_none (parent y)) 1 0) x xs,
-      sum_by-cons (λ (y : X). cond (is_some (parent y)) 1 0) x xs,
-      either (parent x),
-      parts parent xs,
-    )
+parts {X} parent (x ∷ xs) = omega (
+  arith,
+  sum_by-cons (λ (y : X). cond (is_none (parent y)) 1 0) x xs,
+  sum_by-cons (λ (y : X). cond (is_some (parent y)) 1 0) x xs,
+  either (parent x),
+  parts parent xs,
+)
   where
     either : (o : Option ℕ) → cond (is_none o) 1 0 + cond (is_some o) 1 0 ≡ 1
     either None = refl

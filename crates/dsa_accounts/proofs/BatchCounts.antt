@@ -327,7 +327,3 @@ replay-counts caps h s e =
     (replay_keeps (λ t. IsWellFormed caps t × CountsMembers t.work)
     (λ t t' p c. let after = well_formed-change caps t t' p.0 c in (after, counts-change caps t t' p.0 after p.1 c))
     h (opening caps) s (well_formed-opening caps, counts-opening caps) e).1
-
-pub replay-adds_up : (caps : Caps) (h : List Step) (s : State) (e : ℕ) (n : BatchNote) → replay caps h ≡ Some s
-    → note_at s.work e ≡ Some n → AddsUp s.work n
-replay-adds_up caps h s e n r is = adds-up s.work n ((replay-counts caps h s r).notes e n is)

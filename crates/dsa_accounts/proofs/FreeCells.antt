@@ -1,6 +1,6 @@
 -- Where a queue accepts or a batch is open, a cell is free.
-use Rattle.std.proofs.Common.{◌≡◌, ℕ, ◌+◌, ◌^◌, ◌<◌, ◌≤◌, true, false, List, [], length, Some, None, sym, ap, subst}
-use Rattle.std.proofs.{lemmas.Bool.{cases_Bool, ltb-false, leb-false, or_parts, not-false}, Common.{refl, arith, ⊎_elim}}
+use Rattle.std.proofs.Common.{◌≡◌, ℕ, ◌+◌, ◌^◌, ◌<◌, ◌≤◌, true, false, List, [], length, Some, None, ap, subst, refl}
+use Rattle.std.proofs.{lemmas.Bool.{cases_Bool, ltb-false, leb-false, or_parts, not-false}, Common.{arith, ⊎_elim}}
 use Rattle.std.specs.Prelude.{sum_by}
 use Rattle.dsa_base.proofs.NumberSums.{sum-places, sum-equal, sum-split_numbers, sum-plus, sum-same, sum-numbers-le}
 use Rattle.dsa_base.proofs.{NumberSums.{sum-numbers-lt}, Tables.{no-row}}
@@ -8,10 +8,9 @@ use Rattle.dsa_base.specs.{Rows.{first_row}, Numbers.{numbers_below}}
 use Rattle.dsa_regs.specs.declared.{Caps.{Caps}, QueueConfig.{QueueConfig}}
 use Rattle.dsa_regs.specs.{Config.{queue_at, zero_queue, groups_table, total_size}, Caps.{cell_count, list_count}}
 use Rattle.dsa_store.specs.Content.{Slot, Content, chain, held_count}
-use Rattle.dsa_book.proofs.Phases.{on-not_off}
 use Rattle.dsa_book.specs.declared.{event.{Portal.{Portal}, Kind.{Kind}}, note.BatchNote.{BatchNote}}
-use Rattle.dsa_book.specs.{State.{Work, State, is_on, is_off, phase_at}, Machine.{intake_of}}
-use Rattle.dsa_book.specs.{Work.{members, note_at, is_all_fetched, in_progress}, Submit.{limit_of, submit_table}}
+use Rattle.dsa_book.specs.{Work.{members, note_at, is_all_fetched}, State.{State, is_on, is_off, phase_at}}
+use Rattle.dsa_book.{specs.{Submit.{limit_of, submit_table}, Machine.{intake_of}}, proofs.Phases.{on-not_off}}
 use Rattle.dsa_laws.proofs.{Shapes.{on-queue, noted-engine, members-at}, Limits.{limit-le, lists-fit}}
 use Rattle.dsa_laws.{specs.WellFormed.{IsWellFormed, NoteFits}, proofs.Entries.{none-held}}
 use Rattle.dsa_accounts.proofs.NotedBatches.{noted}
