@@ -102,7 +102,7 @@ pub Linked-agree : (s t : List Node) (p : Option ℕ) (xs : List ℕ) (q : Optio
     → Linked s p xs q → Linked t p xs q
 Linked-agree s t p [] q same a = tt
 Linked-agree s t p (x ∷ xs) q same a =
-    let here : SameLinks s t x = same x (omega (arith, times-head x xs)) in (
+    let here = same x (omega (arith, times-head x xs)) in (
       here.previous ∙ a.0,
       here.next
           ∙ a.1,
@@ -113,17 +113,17 @@ Linked-agree s t p (x ∷ xs) q same a =
 pub walk_is : (s : List Node) (p : Option ℕ) (xs : List ℕ) → Linked s p xs None →
     walk s (length xs) (first_or xs None) ≡ xs
 walk_is s p [] l = refl
-walk_is s p (x ∷ xs) l = ap (λ (t : Option ℕ). x ∷ walk s (length xs) t) l.1
-    ∙ ap (λ (ys : List ℕ). x ∷ ys) (walk_is s (Some x) xs l.2)
+walk_is s p (x ∷ xs) l = ap (λ t. x ∷ walk s (length xs) t) l.1
+    ∙ ap (λ ys. x ∷ ys) (walk_is s (Some x) xs l.2)
 
 -- a list that names a cell has it between two parts
 pub split_at : (c : ℕ) (xs : List ℕ) → 0 < times c xs → (ys : List ℕ) × (zs : List ℕ) × (xs ≡ ys ++ c ∷ zs)
 split_at c [] h = absurd (omega arith)
 split_at c (x ∷ xs) h = elim (eqb_tells x c) [
-  | inl w ↦ ([], xs, ap (λ (y : ℕ). y ∷ xs) w.1)
+  | inl w ↦ ([], xs, ap (λ y. y ∷ xs) w.1)
   | inr w ↦
       let rest = split_at c xs (let ne = w.1 in grind (arith, nat_tests)) in
-      (x ∷ rest.0, rest.1, ap (λ (l : List ℕ). x ∷ l) rest.2)
+      (x ∷ rest.0, rest.1, ap (λ l. x ∷ l) rest.2)
 ]
 
 -- a node is changed
@@ -150,7 +150,7 @@ pub changed-other : (f : Node → Node) (s : List Node) (o : Option ℕ) (xs : L
     → node_at (changed f s o) x ≡ node_at s x
 changed-other f s None xs x n h = refl
 changed-other f s (Some c) xs x n h =
-    get_or-set_other s c x (f (node_at s c)) no_node (λ e. omega (arith, n, subst (λ (y : ℕ). times y xs ≡ 0) e h))
+    get_or-set_other s c x (f (node_at s c)) no_node (λ e. omega (arith, n, subst (λ y. times y xs ≡ 0) e h))
 
 -- cells stay linked while a cell of other lists changes
 pub Linked-other : (f : Node → Node) (s : List Node) (o : Option ℕ) (ys : List ℕ) (p : Option ℕ) (xs : List ℕ)
@@ -228,9 +228,9 @@ pub changed-links : (f : Node → Node) (s : List Node) (o : Option ℕ) (x : �
     → ((t : Node) → (f t).previous ≡ t.previous) → SameLinks s (changed f s o) x
 changed-links f s o x n p = record {
   next = sym (get_or-map (λ (t : Node). t.next) (changed f s o) x no_node)
-      ∙ ap (λ (l : List (Option ℕ)). get_or l x None) (map-changed (λ t. t.next) f s o n)
+      ∙ ap (λ l. get_or l x None) (map-changed (λ t. t.next) f s o n)
       ∙ get_or-map (λ (t : Node). t.next) s x no_node;
   previous = sym (get_or-map (λ (t : Node). t.previous) (changed f s o) x no_node)
-      ∙ ap (λ (l : List (Option ℕ)). get_or l x None) (map-changed (λ t. t.previous) f s o p)
+      ∙ ap (λ l. get_or l x None) (map-changed (λ t. t.previous) f s o p)
       ∙ get_or-map (λ (t : Node). t.previous) s x no_node;
 }

@@ -40,7 +40,7 @@ slot-set : (es : List Entry) (c : ℕ) (e : Entry) (x : ℕ) → c < length es �
     slot (set es c e) x ≡ cond (x == c) (record { 0 = x }, e) (slot es x)
 slot-set es c e x lt =
     let entry : get_or (set es c e) x no_entry ≡ cond (x == c) e (get_or es x no_entry) = grind (arith, common_steps) in
-    ap (λ (f : Entry). let s : Slot = (record { 0 = x }, f) in s) entry ∙ choose (x == c)
+    ap (λ f. let s : Slot = (record { 0 = x }, f) in s) entry ∙ choose (x == c)
   where
     choose : (b : Bool) → ◌≡◌ {A = Slot} (record { 0 = x }, cond b e (get_or es x no_entry))
         (cond b (record { 0 = x }, e) (slot es x))
@@ -84,7 +84,7 @@ sum-in_use f lists lt =
 pub contents-set : (es : List Entry) (lists : List (List ℕ)) (l : ℕ) (ys : List ℕ) → l < length lists - 1
     → contents es (set lists l ys) ≡ set (contents es lists) l (map (slot es) ys)
 contents-set es lists l ys lt =
-    ap (λ (n : ℕ). map (map (slot es)) (take (n - 1) (set lists l ys))) (length-set lists l ys)
+    ap (λ n. map (map (slot es)) (take (n - 1) (set lists l ys))) (length-set lists l ys)
     ∙ ap (map (map (slot es))) (take-set-lt (length lists - 1) lists l ys lt)
     ∙ map-set (map (slot es)) (in_use lists) l ys
 
@@ -92,7 +92,7 @@ contents-set es lists l ys lt =
 pub contents-set_free : (es : List Entry) (lists : List (List ℕ)) (l : ℕ) (ys : List ℕ) → length lists - 1 ≤ l
     → contents es (set lists l ys) ≡ contents es lists
 contents-set_free es lists l ys le =
-    ap (λ (n : ℕ). map (map (slot es)) (take (n - 1) (set lists l ys))) (length-set lists l ys)
+    ap (λ n. map (map (slot es)) (take (n - 1) (set lists l ys))) (length-set lists l ys)
     ∙ ap (map (map (slot es))) (take-set-le (length lists - 1) lists l ys le)
 
 -- a cell comes behind a list that is seen
@@ -102,7 +102,7 @@ contents-appended : (es : List Entry) (lists : List (List ℕ)) (l c : ℕ) → 
 contents-appended es lists l c lt =
     contents-set es lists l (list_at lists l ++ c ∷ []) lt
     ∙ ap (set (contents es lists) l) (map-append (slot es) (list_at lists l) (c ∷ [])
-    ∙ ap (λ (ls : List Slot). ls ++ slot es c ∷ []) (sym (chain-contents es lists l lt)))
+    ∙ ap (λ ls. ls ++ slot es c ∷ []) (sym (chain-contents es lists l lt)))
 
 -- ---- what a whole store tells of a cell
 
@@ -138,7 +138,7 @@ standing {s} {r} cell i lt listed =
       is = parts.2;
       seam = seam (content_at s r) l _ _ cell (node_at s cell.0).entry ((IsSound-from_whole s r i).once cell)
           (chain-contents es lists l l_in ∙ ap (map (slot es)) parts.2 ∙ map-append (slot es) xs (cell.0 ∷ zs)
-          ∙ ap (λ (e : Entry). map (slot es) xs ++ (cell, e) ∷ map (slot es) zs) (entry_is s cell.0));
+          ∙ ap (λ e. map (slot es) xs ++ (cell, e) ∷ map (slot es) zs) (entry_is s cell.0));
       once = omega (arith, one, ap (times cell.0) parts.2, times-append cell.0 xs (cell.0 ∷ zs), times-head cell.0 zs);
     }
 
@@ -152,7 +152,7 @@ used {s} {r} cell node i lt same listed =
     let p = standing cell i lt (omega (arith, listed, own)) in
     let once = (IsSound-from_whole s r i).once cell in
     let in_lists : l < length (lists_of s r) = omega (arith, p.listed) in
-    let links = subst (λ (ys : List ℕ). Linked s None ys None) p.is (i.store.ends.each l in_lists).links in
+    let links = subst (λ ys. Linked s None ys None) p.is (i.store.ends.each l in_lists).links in
     let next = (Linked-right s None p.before (cell.0 ∷ p.behind) None links).1 in
     record {
       inside = lt;
@@ -185,7 +185,7 @@ unused_uses {s} {r} cell i h =
             sum,
             sum-in_use (times c) lists (omega (arith, l_in)),
             parts.once c w.1,
-            ap (λ (n : ℕ). times c (list_at lists n)) last,
+            ap (λ n. times c (list_at lists n)) last,
             one,
           )
     ]
@@ -222,7 +222,7 @@ front {s} {r} {c} l i h =
   where
     first_is : (xs : List ℕ) (c : ℕ) → first_or xs None ≡ Some c → (zs : List ℕ) × (xs ≡ c ∷ zs)
     first_is [] c e = absurd (cc)
-    first_is (x ∷ xs) c e = let same : x ≡ c = cc in (xs, ap (λ (y : ℕ). y ∷ xs) same)
+    first_is (x ∷ xs) c e = let same : x ≡ c = cc in (xs, ap (λ y. y ∷ xs) same)
 
 -- its length
 pub len-is : {s : List Node} {r : List Header} (l : ℕ) → IsWhole s r → l < length (content_at s r) →
@@ -252,7 +252,7 @@ held-is s r i =
       held-slots (entries_of s) (in_use lists),
       sum-in_use length lists (omega (arith, i.free, length-lists s r)),
       i.store.total,
-      ap (λ (n : ℕ). length (list_at lists n)) size,
+      ap (λ n. length (list_at lists n)) size,
     )
 
 -- ---- what the calls leave
@@ -276,7 +276,7 @@ content-pushed s r c to e lt un to_in =
     let xs = lacking c (list_at lists f) in
     let size2 = length-set lists f xs in
     contents-appended (set es c e) (set lists f xs) to c (omega (arith, to_in, size, size2))
-    ∙ ap (λ (x : Content). after_push x to (record { 0 = c }) (get_or (set es c e) c no_entry))
+    ∙ ap (λ x. after_push x to (record { 0 = c }) (get_or (set es c e) c no_entry))
     (contents-set_free (set es c e) lists f xs (omega (arith, size)) ∙ content-written s r c e lt ∙ un.replaced e)
     ∙ ap (after_push (content_at s r) to (record { 0 = c })) (get_or-set_same es c e no_entry
     (omega (arith, lt, length-map s (λ (t : Node). t.entry))))
@@ -293,17 +293,17 @@ content-moved {s} {r} {c} {from} to i f from_in to_in ne =
     let xs = lacking c (list_at lists from) in
     let size2 = length-set lists from xs in
     let one = stands_in s r lists c i.store f.inside in
-    let once : times c (list_at lists from) ≡ 1 = ap (λ (n : ℕ). times c (list_at lists n)) (sym f.owner) ∙ one in
-    let less : xs ≡ f.behind = ap (lacking c) f.is
+    let once = ap (λ n. times c (list_at lists n)) (sym f.owner) ∙ one in
+    let less = ap (lacking c) f.is
     ∙ lacking-split c [] f.behind (omega (arith, once, ap (times c) f.is, times-head c f.behind)) in
     let left = contents-set es lists from xs (omega (arith, from_in, size))
-    ∙ ap (λ (ys : List ℕ). set C from (map (slot es) ys)) less in
+    ∙ ap (λ ys. set C from (map (slot es) ys)) less in
     let front = chain-contents es lists from (omega (arith, from_in, size)) ∙ ap (map (slot es)) f.is in
     contents-appended es (set lists from xs) to c (omega (arith, to_in, size, size2))
-    ∙ ap (λ (x : Content). after_push x to (record { 0 = c }) (get_or es c no_entry)) left
-    ∙ ap (λ (l : List Slot). set (set C from (map (slot es) f.behind)) to (l ++ slot es c ∷ []))
+    ∙ ap (λ x. after_push x to (record { 0 = c }) (get_or es c no_entry)) left
+    ∙ ap (λ l. set (set C from (map (slot es) f.behind)) to (l ++ slot es c ∷ []))
     (get_or-set_other C from to (map (slot es) f.behind) [] (λ e. ne (sym e)))
-    ∙ sym (ap (λ (l : List Slot). set (set C from (drop 1 l)) to (chain C to ++ take 1 l)) front)
+    ∙ sym (ap (λ l. set (set C from (drop 1 l)) to (chain C to ++ take 1 l)) front)
 
 -- a cell comes to the free list
 pub content-unlinked : {s : List Node} {r : List Header} {cell : Cell} {node : Node} → IsWhole s r
@@ -322,7 +322,7 @@ content-unlinked {s} {r} {cell} i u =
     let less = ap (lacking cell.0) p.is ∙ lacking-split cell.0 p.before p.behind p.once in
     let last : length rest - 1 ≤ f = omega (arith, length-contents es lists, length-set lists l ys) in
     contents-set_free es rest f (list_at rest f ++ cell.0 ∷ []) last
-    ∙ contents-set es lists l ys p.listed ∙ ap (λ (x : List ℕ). set C l (map (slot es) x)) less
+    ∙ contents-set es lists l ys p.listed ∙ ap (λ x. set C l (map (slot es) x)) less
     ∙ ap (set C l) (map-append (slot es) p.before p.behind) ∙ sym p.seam.unlinked
 
 -- a list comes to the free list
@@ -333,7 +333,7 @@ content-emptied s r l lt =
     let lists = lists_of s r in
     let es = entries_of s in
     let size = length-contents es lists in
-    let none : List ℕ = [] in
+    let none = [] in
     let rest = set lists l none in
     contents-set_free es rest (length (content_at s r)) (list_at rest (length (content_at s r)) ++ list_at lists l)
     (omega (arith, size, length-set lists l none))
@@ -355,7 +355,7 @@ pub full-when : {s : List Node} {r : List Header} {n : ℕ} → IsWhole s r → 
 full-when {s} {r} {n} i e h = omega (
   arith,
   held-is s r i,
-  ap (λ (k : ℕ). length (list_at (lists_of s r) k)) e,
+  ap (λ k. length (list_at (lists_of s r) k)) e,
   none_is (list_at (lists_of s r) n) h,
 )
   where
@@ -372,7 +372,7 @@ front-unused {s} {r} {c = c} i e f = unused (record { 0 = c }) i (λ _. omega (a
 pub not-full : {s : List Node} {r : List Header} {n c : ℕ} → IsWhole s r → n ≡ length (content_at s r)
     → Front s r n c → held_count (content_at s r) ≡ length s → ⊥
 not-full {s} {r} i e f full =
-    omega (arith, full, held-is s r i, ap (λ (k : ℕ). length (list_at (lists_of s r) k)) e, ap length f.is)
+    omega (arith, full, held-is s r i, ap (λ k. length (list_at (lists_of s r) k)) e, ap length f.is)
 
 -- its count
 pub free-is : {s : List Node} {r : List Header} {k : ℕ} → IsWhole s r → k ≡ length r →
@@ -382,7 +382,7 @@ free-is {s} {r} {k} i e =
     let same : k - 1 ≡ n = omega (arith, e, length-contents (entries_of s) (lists_of s r), length-lists s r) in
     omega (
       arith,
-      ap (λ (m : ℕ). (header_at r m).count) same,
+      ap (λ m. (header_at r m).count) same,
       (i.store.ends.each n (omega (arith, same, e, i.free, length-lists s r))).count,
       held-is s r i,
     )
@@ -415,7 +415,7 @@ written {s} {r} {c} e i is = subst (λ (u : Node). Written s r c e (set s c (rec
       ends = AreHeaders-agree s s2 r (lists_of s r) (λ m k.
           Linked-agree s s2 None (list_at (lists_of s r) m) None (λ x h. changed-links f s (Some c) x (λ u. refl)
           (λ u. refl)) k) i.store.ends;
-      placed = λ l x. i.store.placed l x ∙ sym (ap (λ (os : List ℕ). place os l x) owners);
+      placed = λ l x. i.store.placed l x ∙ sym (ap (λ os. place os l x) owners);
       total = i.store.total ∙ sym (length-changed f s (Some c));
     }
 
@@ -429,6 +429,6 @@ written {s} {r} {c} e i is = subst (λ (u : Node). Written s r c e (set s c (rec
       };
       lists = lists_is s2 r (lists_of s r) store.ends;
       entries = map-set (λ (u : Node). u.entry) s c (f (node_at s c));
-      owner = sym (owner_is s2 c) ∙ ap (λ (os : List ℕ). get_or os c 0) owners ∙ owner_is s c;
+      owner = sym (owner_is s2 c) ∙ ap (λ os. get_or os c 0) owners ∙ owner_is s c;
       size = length-changed f s (Some c);
     }

@@ -40,7 +40,7 @@ list_at-set lists l m ys lt = grind (arith, common_steps)
 -- past the last there is none
 pub list_at-in : (lists : List (List ℕ)) (l x : ℕ) → 0 < times x (list_at lists l) → l < length lists
 list_at-in lists l x h = elim (leb_tells (length lists) l) [
-  | inl w ↦ let k = subst (λ (ys : List ℕ). 0 < times x ys) (get_or_past lists l [] w.1) h in absurd (omega (arith, k))
+  | inl w ↦ let k = subst (λ ys. 0 < times x ys) (get_or_past lists l [] w.1) h in absurd (omega (arith, k))
   | inr w ↦ w.1
 ]
 
@@ -55,14 +55,14 @@ AreHeaders-set s t r lists l v ys a i frame = record {
       let lt2 : m < length lists = omega (arith, lt, length-set lists l ys) in
       elim (eqb_tells m l) [
         | inl w ↦
-            let lt3 : l < length lists = subst (λ (n : ℕ). n < length lists) w.1 lt2 in
+            let lt3 : l < length lists = subst (λ n. n < length lists) w.1 lt2 in
             let lt4 : l < length r = omega (arith, lt3, a.sizes) in
-            subst (λ (n : ℕ). IsHeader t (header_at (set r l v) n) (list_at (set lists l ys) n)) (sym w.1)
-            (subst₂ (λ (h : Header) (zs : List ℕ). IsHeader t h zs) (sym (get_or-set_same r l v no_header lt4))
+            subst (λ n. IsHeader t (header_at (set r l v) n) (list_at (set lists l ys) n)) (sym w.1)
+            (subst₂ (λ h zs. IsHeader t h zs) (sym (get_or-set_same r l v no_header lt4))
             (sym (get_or-set_same lists l ys [] lt3)) i)
         | inr w ↦
             let old = a.each m lt2 in
-            subst₂ (λ (h : Header) (zs : List ℕ). IsHeader t h zs) (sym (get_or-set_other r l m v no_header w.1))
+            subst₂ (λ h zs. IsHeader t h zs) (sym (get_or-set_other r l m v no_header w.1))
             (sym (get_or-set_other lists l m ys [] w.1))
             (record { head = old.head; tail = old.tail; count = old.count; links = frame m w.1 old.links })
       ];
@@ -108,14 +108,14 @@ IsHeader-joined : (s : List Node) (kept given : Header) (ys xs : List ℕ) (p : 
     AreInside s (ys ++ xs) → IsHeader s kept ys
     → Comes s given p xs → IsHeader (joined s kept.tail given.head) (header_joined kept given) (ys ++ xs)
 IsHeader-joined s kept given ys xs p o w k g = record {
-  head = ap (λ (h : Option ℕ). option_or h given.head) k.head ∙ ap (option_or (first_or ys None)) g.head
+  head = ap (λ h. option_or h given.head) k.head ∙ ap (option_or (first_or ys None)) g.head
       ∙ or-first ys (first_or xs None)
       ∙ sym (first_or-append ys xs None);
-  tail = ap (λ (t : Option ℕ). option_or t kept.tail) g.tail ∙ ap (option_or (last_or xs None)) k.tail
+  tail = ap (λ t. option_or t kept.tail) g.tail ∙ ap (option_or (last_or xs None)) k.tail
       ∙ or-last xs (last_or ys None)
       ∙ sym (last_or-append ys xs None);
   count = omega (arith, k.count, g.count, length-append ys xs);
-  links = subst₂ (λ (b e : Option ℕ). Linked (joined s b e) None (ys ++ xs) None) (sym k.tail) (sym g.head)
+  links = subst₂ (λ b e. Linked (joined s b e) None (ys ++ xs) None) (sym k.tail) (sym g.head)
       (Linked-join s ys xs None p o w k.links g.links);
 }
 
@@ -133,7 +133,7 @@ ends-joined s r lists to given p xs a lt g w d =
     (ys ++ xs) a
     (IsHeader-joined s (header_at r to) given ys xs p
     (λ x. omega (arith, d (suc to) x (λ e. omega (arith, e)), times-append x ys xs)) w kept g)
-    (λ m ne k. subst₂ (λ (b e : Option ℕ). Linked (joined s b e) None (list_at lists m) None) (sym kept.tail)
+    (λ m ne k. subst₂ (λ b e. Linked (joined s b e) None (list_at lists m) None) (sym kept.tail)
     (sym g.head)
     (Linked-join_other s ys xs (list_at lists m) (λ x. d m x ne) k))
 
@@ -214,7 +214,7 @@ distinct s r lists l m x st ne = grind (arith, nat_tests, st.placed l x, st.plac
 
 -- the cells of a header are its list
 pub cells_are : (s : List Node) (r : Header) (xs : List ℕ) → IsHeader s r xs → cells_of s r ≡ xs
-cells_are s r xs i = ap (λ (n : ℕ). walk s n r.head) i.count ∙ ap (walk s (length xs)) i.head
+cells_are s r xs i = ap (λ n. walk s n r.head) i.count ∙ ap (walk s (length xs)) i.head
     ∙ walk_is s None xs i.links
 
 -- the lists are those that following next finds

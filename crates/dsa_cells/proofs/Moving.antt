@@ -74,10 +74,9 @@ one_cell c = record { head = Some c; tail = Some c; count = 1 }
 with_last-is : (s : List Node) (h : Header) (ys : List ℕ) (c : ℕ) → IsHeader s h ys
     → header_joined h (one_cell c) ≡ with_last h c
 with_last-is s h ys c i =
-    let head : option_or h.head (Some c) ≡ or_else h.tail (Some c) h.head =
-    ap (λ (o : Option ℕ). option_or o (Some c)) i.head ∙ go ys
-    ∙ sym (ap (λ (o : Option ℕ). or_else o (Some c) h.head) i.tail ∙ ap (or_else (last_or ys None) (Some c)) i.head) in
-    ap (λ (o : Option ℕ). let header : Header = record { head = o; tail = Some c; count = h.count + 1 } in header) head
+    let head = ap (λ o. option_or o (Some c)) i.head ∙ go ys
+    ∙ sym (ap (λ o. or_else o (Some c) h.head) i.tail ∙ ap (or_else (last_or ys None) (Some c)) i.head) in
+    ap (λ o. let header : Header = record { head = o; tail = Some c; count = h.count + 1 } in header) head
   where
     go : (ys : List ℕ) → option_or (first_or ys None) (Some c) ≡ or_else (last_or ys None) (Some c) (first_or ys None)
     go [] = refl
@@ -146,7 +145,7 @@ transfer s r lists c to may = go parts.0 parts.1 parts.2
         map-joined (λ t. t.owner) (alone (detached s c) c to) (header_at (headers_left s r c) to).tail (Some c)
         (λ t o. refl) (λ t o. refl)
         ∙ map-set (λ t. t.owner) (detached s c) c (record (node_at (detached s c) c) { next = None; owner = to })
-        ∙ ap (λ (os : List ℕ). set os c to) (map-joined (λ t. t.owner) s (node_at s c).previous (node_at s c).next
+        ∙ ap (λ os. set os c to) (map-joined (λ t. t.owner) s (node_at s c).previous (node_at s c).next
         (λ t o. refl) (λ t o. refl))
 
     placed : (m x : ℕ) → times x (list_at (moved lists c from to) m) ≡ place (set (owners_of s) c to) m x
@@ -166,21 +165,21 @@ transfer s r lists c to may = go parts.0 parts.1 parts.2
         let r1 = headers_left s r c in
         let lists1 = left lists from c in
         let inside : AreInside s (xs ++ c ∷ zs) = λ x h. (names_in s r lists from x st
-        (subst (λ (ys : List ℕ). 0 < times x ys) (sym is) h)).0 in
-        let once : times c (xs ++ c ∷ zs) ≡ 1 = ap (times c) (sym is) ∙ one in
-        let less : lacking c (list_at lists from) ≡ xs ++ zs =
+        (subst (λ ys. 0 < times x ys) (sym is) h)).0 in
+        let once = ap (times c) (sym is) ∙ one in
+        let less =
         ap (lacking c) is ∙ lacking-split c xs zs (omega (arith, once, times-append c xs (c ∷ zs), times-head c zs)) in
-        let ends1 : AreHeaders s1 r1 lists1 = subst (λ (ys : List ℕ). AreHeaders s1 r1 (set lists from ys)) (sym less)
+        let ends1 : AreHeaders s1 r1 lists1 = subst (λ ys. AreHeaders s1 r1 (set lists from ys)) (sym less)
         (ends-left s r lists from c xs zs st.ends in_lists is inside (λ m x other.
         omega (arith, ap (times x) is, distinct s r lists from m x st other))) in
         let f : Node → Node = λ t. record t { next = None; owner = to } in
         let s2 = alone s1 c to in
-        let ends2 : AreHeaders s2 r1 lists1 = AreHeaders-agree s1 s2 r1 lists1 (λ m k.
+        let ends2 = AreHeaders-agree s1 s2 r1 lists1 (λ m k.
         Linked-other f s1 (Some c) (c ∷ []) None (list_at lists1 m) None (omega (arith, times-head c []))
         (λ x. let e = times-left s r lists c m x st lt in_lists in let d = distinct s r lists m (suc m) x st
         (λ q. omega (arith, q)) in grind (arith, nat_tests, e, d)) k) ends1 in
         let at = changed-here f s1 c (omega (arith, lt, size1)) in
-        let h = Linked-right s None xs (c ∷ zs) None (subst (λ (ys : List ℕ). Linked s None ys None) is
+        let h = Linked-right s None xs (c ∷ zs) None (subst (λ ys. Linked s None ys None) is
         (st.ends.each from in_lists).links) in
         let end = ends1.each to to_left in
         let listed : AreInside s1 (list_at lists1 to) = λ x k.
@@ -207,7 +206,7 @@ transfer s r lists c to may = go parts.0 parts.1 parts.2
               ∙ map-changed (λ t. t.entry) f s1 (Some c) (λ t. refl)
               ∙ map-joined (λ t. t.entry) s (node_at s c).previous (node_at s c).next (λ t o. refl) (λ t o. refl);
           left = is_left (record {
-            ends = subst (λ (h : Header). AreHeaders (joined s2 (header_at r1 to).tail (Some c)) (set r1 to h)
+            ends = subst (λ h. AreHeaders (joined s2 (header_at r1 to).tail (Some c)) (set r1 to h)
                 (moved lists c from to))
                 (with_last-is s2 (header_at r1 to) (list_at lists1 to) c (ends2.each to to_left))
                 (ends-joined s2 r1 lists1 to (one_cell c) (node_at s2 c).previous (c ∷ []) ends2 to_left
@@ -223,7 +222,7 @@ transfer s r lists c to may = go parts.0 parts.1 parts.2
                 let k = times-left s r lists c to x st lt in_lists in
                 let d = distinct s r lists to m x st other in
                 grind (arith, nat_tests, e, k, d)));
-            placed = λ m x. placed m x ∙ sym (ap (λ (os : List ℕ). place os m x) owners);
+            placed = λ m x. placed m x ∙ sym (ap (λ os. place os m x) owners);
             total = omega (
               arith,
               total1,

@@ -94,7 +94,7 @@ store-fresh : (s : List Node) (n lists : ℕ) → AreFresh s n lists n →
 store-fresh s n lists f = record {
   ends = record {
     sizes = length-last lists no_header (fresh_header n) ∙ sym (length-last lists no_cells (upto 0 n));
-    each = λ l lt. subst₂ (λ (h : Header) (xs : List ℕ). IsHeader s h xs)
+    each = λ l lt. subst₂ (λ h xs. IsHeader s h xs)
         (sym (get_or-last lists l no_header (fresh_header n))) (sym (get_or-last lists l no_cells (upto 0 n)))
         (by_test (l == lists));
   };
@@ -121,7 +121,7 @@ store-fresh s n lists f = record {
     placed : (l c : ℕ) → times c (cond (l == lists) (upto 0 n) no_cells) ≡ place (owners_of s) l c
     placed l c =
         let t = times-upto c 0 n in
-        let size : length (owners_of s) ≡ n = length-owners s ∙ f.size in
+        let size = length-owners s ∙ f.size in
         let own = owner c in
         grind (arith, nat_tests, t, size, own)
 
@@ -130,9 +130,9 @@ pub sound-fresh : (s : List Node) (r : List Header) (n lists : ℕ) → AreFresh
     r ≡ fresh_headers_of n lists → n < 2 ^ 32
     → lists < 2 ^ 16 → IsWhole s r
 sound-fresh s r n lists f e few few2 =
-    let size : length r ≡ lists + 1 = ap length e ∙ length-last lists no_header (fresh_header n) in
+    let size = ap length e ∙ length-last lists no_header (fresh_header n) in
     record {
-      store = subst (λ (x : List Header). IsStore s x (lists_of s x)) (sym e)
+      store = subst (λ x. IsStore s x (lists_of s x)) (sym e)
           (store_found s (fresh_headers_of n lists) (fresh_lists n lists) (store-fresh s n lists f));
       free = omega (arith, size);
       few_cells = omega (arith, f.size, few);

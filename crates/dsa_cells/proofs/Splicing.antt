@@ -46,7 +46,7 @@ owner-marked s [] owner x lt = grind (arith, nat_tests)
 owner-marked s (y ∷ xs) owner x lt =
     let e = map-set (λ (t : Node). t.owner) s y (record (node_at s y) { owner = owner }) in
     let at : get_or (owners_of (renumbered s y owner)) x 0 ≡ cond (x == y) owner (get_or (owners_of s) x 0) =
-    ap (λ (os : List ℕ). get_or os x 0) e ∙ owner-set (owners_of s) y owner x (omega (arith, lt, length-owners s)) in
+    ap (λ os. get_or os x 0) e ∙ owner-set (owners_of s) y owner x (omega (arith, lt, length-owners s)) in
     let rest = owner-marked (renumbered s y owner) xs owner x
     (omega (arith, lt, length-changed (λ t. record t { owner = owner }) s (Some y))) in
     rest ∙ ap (cond (ltb 0 (times x xs)) owner) at ∙ grind (arith, nat_tests)
@@ -61,8 +61,8 @@ walk-agree : (s t : List Node) (k : ℕ) (o : Option ℕ) → ((x : ℕ) → Sam
 walk-agree s t zero o same = refl
 walk-agree s t (suc k) None same = refl
 walk-agree s t (suc k) (Some c) same =
-    ap (λ (p : Option ℕ). c ∷ walk t k p) (same c).next
-    ∙ ap (λ (xs : List ℕ). c ∷ xs) (walk-agree s t k (node_at s c).next same)
+    ap (λ p. c ∷ walk t k p) (same c).next
+    ∙ ap (λ xs. c ∷ xs) (walk-agree s t k (node_at s c).next same)
 
 -- what is left to mark, of n cells of which i have been, makes that array
 pub record Marking (s : List Node) (k : ℕ) (o : Option ℕ) (owner : ℕ) (target : List Node) : Type 0 where
@@ -75,7 +75,7 @@ pub mark-some : (s : List Node) (n i c owner : ℕ) (o : Option ℕ) (target : L
     → (c < length s) × ((t : List Node) (p : Option ℕ) → t ≡ renumbered s c owner → p ≡ (node_at s c).next →
     Marking t (n - (i + 1)) p owner target)
 mark-some s n i c owner o target lt is m =
-    let made = go (n - (i + 1)) (subst₂ (λ (k : ℕ) (q : Option ℕ). Marking s k q owner target) (omega arith) is m) in (
+    let made = go (n - (i + 1)) (subst₂ (λ k q. Marking s k q owner target) (omega arith) is m) in (
       made.0,
       λ t p e f. subst₂ (λ (x : List Node) (q : Option ℕ). Marking x (n - (i + 1)) q owner target) (sym e)
           (sym f) made.1,
@@ -86,13 +86,12 @@ mark-some s n i c owner o target lt is m =
     go k a =
         let t = renumbered s c owner in
         let o = (node_at s c).next in
-        let same : walk t k o ≡ walk s k o =
-        walk-agree s t k o (λ x. changed-links (λ u. record u { owner = owner }) s (Some c) x (λ u. refl)
+        let same = walk-agree s t k o (λ x. changed-links (λ u. record u { owner = owner }) s (Some c) x (λ u. refl)
         (λ u. refl)) in (
           a.inside c (omega (arith, times-head c (walk s k o))),
           record {
-            rest = ap (λ (xs : List ℕ). marked t xs owner) same ∙ a.rest;
-            inside = λ x h. let later = subst (λ (xs : List ℕ). 0 < times x xs) same h in
+            rest = ap (λ xs. marked t xs owner) same ∙ a.rest;
+            inside = λ x h. let later = subst (λ xs. 0 < times x xs) same h in
                 omega (
                   arith,
                   a.inside x (omega (arith, later, times-tail x c (walk s k o))),
@@ -107,7 +106,7 @@ pub mark-none : (s t : List Node) (n i owner : ℕ) (o p : Option ℕ) (target :
     → Marking t (n - (i + 1)) p owner target
 mark-none s t n i owner o p target lt is e f m =
     subst₂ (λ (x : List Node) (q : Option ℕ). Marking x (n - (i + 1)) q owner target) (sym e) (sym (f ∙ is))
-    (go (n - (i + 1)) (subst₂ (λ (k : ℕ) (q : Option ℕ). Marking s k q owner target) (omega arith) is m))
+    (go (n - (i + 1)) (subst₂ (λ k q. Marking s k q owner target) (omega arith) is m))
   where
     go : (k : ℕ) → Marking s (suc k) None owner target → Marking s k None owner target
     go zero a = record { rest = a.rest; inside = a.inside }
@@ -158,7 +157,7 @@ splice s r lists from to may = subst (Splice s r lists from to)
       entries = map-joined (λ t. t.entry) s1 (header_at r to).tail (header_at r from).head (λ t o. refl) (λ t o. refl)
           ∙ entries-marked s xs to;
       left = is_left (record {
-        ends = subst (λ (h : Header). AreHeaders (joined s1 h.tail (header_at r from).head) (set (set r from no_header) to
+        ends = subst (λ h. AreHeaders (joined s1 h.tail (header_at r from).head) (set (set r from no_header) to
             (header_joined h (header_at r from))) (given_back lists from to))
             (get_or-set_other r from to no_header no_header (λ e. ne (sym e)))
             (ends-joined s1 (set r from no_header) rest to (header_at r from) None xs
@@ -177,7 +176,7 @@ splice s r lists from to may = subst (Splice s r lists from to)
             let d = apart m x other in
             omega (arith, e, k, d)));
         placed = λ m x. placed m x
-            ∙ sym (ap (λ (os : List ℕ). place os m x) (map-joined (λ t. t.owner) s1 (header_at r to).tail
+            ∙ sym (ap (λ os. place os m x) (map-joined (λ t. t.owner) s1 (header_at r to).tail
             (header_at r from).head (λ t o. refl) (λ t o. refl)));
         total = omega (
           arith,

@@ -18,7 +18,7 @@ sum-one : (c : ℕ) (lists : List (List ℕ)) (l : ℕ) → ((m : ℕ) → m ≢
     → sum_by (times c) lists ≡ times c (list_at lists l)
 sum-one c [] l h = refl
 sum-one c (xs ∷ lists) zero h =
-    let none : times c (list_at lists (length lists)) ≡ 0 = h (suc (length lists)) (λ e. omega (arith, e)) in
+    let none = h (suc (length lists)) (λ e. omega (arith, e)) in
     omega (
       arith,
       sum_by-cons (times c) xs lists,
@@ -26,7 +26,7 @@ sum-one c (xs ∷ lists) zero h =
       sum-one c lists (length lists) (λ m ne. h (suc m) (λ e. omega (arith, e))),
     )
 sum-one c (xs ∷ lists) (suc l) h =
-    let none : times c xs ≡ 0 = h 0 (λ e. omega (arith, e)) in
+    let none = h 0 (λ e. omega (arith, e)) in
     omega (
       arith,
       sum_by-cons (times c) xs lists,

@@ -38,8 +38,8 @@ pub sum-without_front : (f : Slot → ℕ) (content : Content) (list : ℕ) (s :
     → list < length content → chain content list ≡ s ∷ rest
     → sum_by f (all_held (without_front content list)) + f s ≡ sum_by f (all_held content)
 sum-without_front f content list s rest h is =
-    let old : sum_by f (chain content list) ≡ sum_by f (s ∷ rest) = ap (sum_by f) is in
-    let new : sum_by f (drop 1 (chain content list)) ≡ sum_by f rest = ap (λ (l : List Slot). sum_by f (drop 1 l)) is in
+    let old = ap (sum_by f) is in
+    let new = ap (λ l. sum_by f (drop 1 l)) is in
     omega (arith, sum-set f content list (drop 1 (chain content list)) h, sum_by-cons f s rest, old, new)
 
 -- ---- a test that each slot passes or not
@@ -53,7 +53,7 @@ sum-split f test l = sum_by-filter_both test (λ x. not (test x)) (λ x. refl) f
 pub all_held-filtered : (test : Slot → Bool) (content : Content)
     → all_held (map (filter test) content) ≡ filter test (all_held content)
 all_held-filtered test [] = refl
-all_held-filtered test (l ∷ ls) = ap (λ (m : List Slot). filter test l ++ m) (all_held-filtered test ls)
+all_held-filtered test (l ∷ ls) = ap (λ m. filter test l ++ m) (all_held-filtered test ls)
     ∙ sym (filter-append test l (all_held ls))
 
 pub all_held-kept : (test : Entry → Bool) (content : Content)
@@ -73,7 +73,7 @@ uses-counted content cell = sym (sum-lists (λ s. cond (is_cell cell s) 1 0) con
 
 pub held-counted : (content : Content) → held_count content ≡ length (all_held content)
 unfolding held_count
-held-counted content = sym (length-flat_map (λ (l : List Slot). l) content)
+held-counted content = sym (length-flat_map (λ l. l) content)
 
 count-all_held : (content : Content) (cell : Cell) → place_count cell (all_held content) ≡ use_count content cell
 unfolding place_count

@@ -42,7 +42,7 @@ drop-front [] zero s m h = absurd cc
 drop-front [] (suc k) s m h = absurd cc
 drop-front (x ∷ l) zero s m h = (omega arith, cc)
 drop-front (x ∷ l) (suc k) s m h =
-    let r : (k < length l) × (get_or l k s ≡ s) = drop-front l k s m h in
+    let r = drop-front l k s m h in
     (omega (arith, r.0), r.1)
 
 -- what is left of a list is what stands from its first cell on
@@ -86,7 +86,7 @@ slots_from-turn content cell e once h =
           let both : ◌≡◌ {A = Option Entry} (Some s.entry) (Some e) =
           sym (entry_of-at content s.list s.place cell s.entry (once cell) s.at) ∙ h in
           let same : s.entry ≡ e = cc in
-          let slot = (s.at.slot ∙ ap (λ (x : Entry). let y : Slot = (cell, x) in y) same) in
+          let slot = (s.at.slot ∙ ap (λ x. let y : Slot = (cell, x) in y) same) in
           let next = next_of-at content s.list s.place cell s.entry (once cell) s.at in
           slots_from-at content s.list s.place cell s.entry (once cell) s.at
           ∙ drop-cons (chain content s.list) s.place (cell, s.entry) s.at.within

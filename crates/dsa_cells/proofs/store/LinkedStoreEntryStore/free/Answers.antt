@@ -8,4 +8,4 @@ returns g c =
     let k : c.len.result ≡ length r = omega (arith, c.len.ensures, c.args.self.now.headers.ok.0) in
     let read = get_or_read r (c.len.result - 1) _ (omega (arith, k, c.args.self.now.whole.free)) c.index.ensures
     no_header in
-    omega (arith, ap (λ (t : Header). t.count) read, free-is c.args.self.now.whole k)
+    omega (arith, ap (λ t. t.count) read, free-is c.args.self.now.whole k)
