@@ -190,8 +190,8 @@ relink_first s p r (x ∷ xs) o w l =
     let e = changed-here f s x (w x (omega (arith, times-head x xs))) in (
       ap (λ (t : Node). t.previous) e,
       ap (λ (t : Node). t.next) e ∙ l.1,
-      Linked-other f s (Some x) (x ∷ []) (Some x) xs None (omega (arith, times-head x [])) (λ z. let k = o z in
-          grind (arith, nat_tests, k)) l.2,
+      Linked-other f s (Some x) (x ∷ []) (Some x) xs None (omega (arith, times-head x []))
+          (λ z. grind (arith, nat_tests, o z)) l.2,
     )
 
 -- two lists of linked cells become one by their ends

@@ -8,7 +8,7 @@ use Rattle.std.proofs.lemmas.List.{length-take-le, take-set-le, Sums.{sum_by_mor
 use Rattle.std.proofs.Math.{Seq.{take-set-lt}, ListN.{get_or-map}, Path.{fun_ext}}
 use Rattle.std.proofs.lemmas.Simd.{map-map}
 use Rattle.dsa_store.specs.declared.entry.{Cell.{Cell}, Entry.{Entry}}
-use Rattle.dsa_store.specs.Content.{Slot, Content, is_cell, chain, use_count, held_count, first_cell, after_push}
+use Rattle.dsa_store.specs.Content.{Slot, is_cell, chain, use_count, held_count, first_cell, after_push}
 use Rattle.dsa_store.specs.Content.{after_move as move, after_unlink, after_set, after_give_back}
 use Rattle.dsa_store.proofs.Finding.{uses-stands, entry_of-at, list_of-at, unlinked-none, replaced-none, entry_of-none}
 use Rattle.dsa_store.proofs.{Finding.{list_of-none, next_of-none}, Turns.{Seam, seam}}
@@ -173,13 +173,12 @@ unused_uses {s} {r} cell i h =
     let c = cell.0 in
     let parts = is_partition s r lists i.store in
     let sum = uses-slots (entries_of s) cell (in_use lists) in
-    let size = length-lists s r in
     elim (leb_tells (length s) c) [
       | inl w ↦ omega (arith, sum, sum_by-take-le (times c) lists (length lists - 1), parts.only c w.1)
       | inr w ↦
           let one = stands_in s r lists c i.store w.1 in
           let l_in = list_at-in lists (node_at s c).owner c (omega (arith, one)) in
-          let last : (node_at s c).owner ≡ length lists - 1 = omega (arith, l_in, h w.1, size) in
+          let last : (node_at s c).owner ≡ length lists - 1 = omega (arith, l_in, h w.1, length-lists s r) in
           omega (
             arith,
             sum,
@@ -274,8 +273,7 @@ content-pushed s r c to e lt un to_in =
     let f = length (content_at s r) in
     let size = length-contents es lists in
     let xs = lacking c (list_at lists f) in
-    let size2 = length-set lists f xs in
-    contents-appended (set es c e) (set lists f xs) to c (omega (arith, to_in, size, size2))
+    contents-appended (set es c e) (set lists f xs) to c (omega (arith, to_in, size, length-set lists f xs))
     ∙ ap (λ x. after_push x to (record { 0 = c }) (get_or (set es c e) c no_entry))
     (contents-set_free (set es c e) lists f xs (omega (arith, size)) ∙ content-written s r c e lt ∙ un.replaced e)
     ∙ ap (after_push (content_at s r) to (record { 0 = c })) (get_or-set_same es c e no_entry
@@ -291,7 +289,6 @@ content-moved {s} {r} {c} {from} to i f from_in to_in ne =
     let C = content_at s r in
     let size = length-contents es lists in
     let xs = lacking c (list_at lists from) in
-    let size2 = length-set lists from xs in
     let one = stands_in s r lists c i.store f.inside in
     let once = ap (λ n. times c (list_at lists n)) (sym f.owner) ∙ one in
     let less = ap (lacking c) f.is
@@ -299,7 +296,7 @@ content-moved {s} {r} {c} {from} to i f from_in to_in ne =
     let left = contents-set es lists from xs (omega (arith, from_in, size))
     ∙ ap (λ ys. set C from (map (slot es) ys)) less in
     let front = chain-contents es lists from (omega (arith, from_in, size)) ∙ ap (map (slot es)) f.is in
-    contents-appended es (set lists from xs) to c (omega (arith, to_in, size, size2))
+    contents-appended es (set lists from xs) to c (omega (arith, to_in, size, length-set lists from xs))
     ∙ ap (λ x. after_push x to (record { 0 = c }) (get_or es c no_entry)) left
     ∙ ap (λ l. set (set C from (map (slot es) f.behind)) to (l ++ slot es c ∷ []))
     (get_or-set_other C from to (map (slot es) f.behind) [] (λ e. ne (sym e)))

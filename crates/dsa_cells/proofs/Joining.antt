@@ -204,8 +204,7 @@ pub names_in : (s : List Node) (r : List Header) (lists : List (List ℕ)) (l c 
     0 < times c (list_at lists l)
     → (c < length s) × ((node_at s c).owner ≡ l)
 names_in s r lists l c st h =
-    let p = st.placed l c in let o = owner_is s c in let n = length-owners s in
-    (grind (arith, nat_tests, p, n), grind (arith, nat_tests, p, o))
+    let p = st.placed l c in (grind (arith, nat_tests, p, length-owners s), grind (arith, nat_tests, p, owner_is s c))
 
 -- no cell stands in two lists, or twice in one
 pub distinct : (s : List Node) (r : List Header) (lists : List (List ℕ)) (l m x : ℕ) → IsStore s r lists → m ≢ l

@@ -1,5 +1,5 @@
 -- A cell goes from its list to the end of another.
-use Rattle.std.proofs.Common.{◌≡◌, ℕ, suc, ◌+◌, ◌<◌, ◌≢◌, List, [], ◌∷◌, ◌++◌, length, Option, None, Some, set}
+use Rattle.std.proofs.Common.{◌≡◌, ℕ, suc, ◌+◌, ◌<◌, ◌≢◌, List, [], ◌∷◌, ◌++◌, length, None, Some, set}
 use Rattle.std.proofs.Common.{cond, ◌==◌, sum_by, refl, sym, ap, ◌∙◌, subst, arith, length-append, length-set}
 use Rattle.std.proofs.Common.{◌^◌}
 use Rattle.std.proofs.lemmas.{Bool.Decides.{nat_tests}, Grind.{common_steps}}
@@ -14,8 +14,8 @@ use Rattle.dsa_cells.specs.{Invariant.{place, IsStore}, Owners.{owner_is, length
 use Rattle.dsa_cells.proofs.Chain.{times-append, times-head, times-tail, Names-more, Names-first, Names-last}
 use Rattle.dsa_cells.proofs.Chain.{InRange-of, Linked-right, Linked-other, split_at, changed-here, map-changed}
 use Rattle.dsa_cells.proofs.Chain.{length-changed}
-use Rattle.dsa_cells.proofs.Joining.{map-joined, length-joined, list_at-set, list_at-in, AreHeaders-agree}
-use Rattle.dsa_cells.proofs.Joining.{or_else-last, ends-joined, ends-left, stands_in, names_in, distinct, IsLeft, is_left}
+use Rattle.dsa_cells.proofs.Joining.{is_left, map-joined, length-joined, list_at-set, list_at-in, AreHeaders-agree}
+use Rattle.dsa_cells.proofs.Joining.{or_else-last, ends-joined, ends-left, stands_in, names_in, distinct, IsLeft}
 
 -- a list without a cell that it does not name
 pub lacking-none : (c : ℕ) (xs : List ℕ) → times c xs ≡ 0 → lacking c xs ≡ xs
@@ -52,11 +52,14 @@ times-left : (s : List Node) (r : List Header) (lists : List (List ℕ)) (c m x 
     → times x (list_at (left lists (node_at s c).owner c) m) ≡ cond (x == c) 0 (times x (list_at lists m))
 times-left s r lists c m x st lt in_lists =
     let from = (node_at s c).owner in
-    let e = list_at-set lists from m (lacking c (list_at lists from)) in_lists in
-    let k = times-lacking c x (list_at lists from) in
-    let p = st.placed m x in
-    let o = owner_is s c in
-    grind (arith, nat_tests, e, k, p, o)
+    grind (
+      arith,
+      nat_tests,
+      list_at-set lists from m (lacking c (list_at lists from)) in_lists,
+      times-lacking c x (list_at lists from),
+      st.placed m x,
+      owner_is s c,
+    )
 
 -- the headers then
 abbrev pub headers_left : List Node → List Header → ℕ → List Header
@@ -102,7 +105,8 @@ pub record Transfer (s : List Node) (r : List Header) (lists : List (List ℕ)) 
   pub room : (header_at (headers_left s r c) to).count + 1 < 2 ^ 32
   pub entries : entries_of (transferred s r c to) ≡ entries_of s
   pub left : IsLeft (transferred s r c to)
-      (set (headers_left s r c) to (with_last (header_at (headers_left s r c) to) c)) (moved lists c (node_at s c).owner to)
+      (set (headers_left s r c) to (with_last (header_at (headers_left s r c) to) c))
+      (moved lists c (node_at s c).owner to)
 
 pub transfer : (s : List Node) (r : List Header) (lists : List (List ℕ)) (c to : ℕ) → MayMove s r lists c to
     → Transfer s r lists c to
@@ -152,12 +156,18 @@ transfer s r lists c to may = go parts.0 parts.1 parts.2
     placed m x =
         let e = list_at-set (left lists from c) to m (list_at (left lists from c) to ++ c ∷ []) to_left in
         let k = times-last x c (list_at (left lists from c) to) in
-        let here = times-left s r lists c to x st lt in_lists in
-        let there = times-left s r lists c m x st lt in_lists in
-        let p = st.placed m x in
         let q = st.placed to x in
-        let w = place-set (owners_of s) c to m x (omega (arith, lt, length-owners s)) in
-        grind (arith, nat_tests, e, k, here, there, p, q, w)
+        grind (
+          arith,
+          nat_tests,
+          e,
+          k,
+          times-left s r lists c to x st lt in_lists,
+          times-left s r lists c m x st lt in_lists,
+          st.placed m x,
+          q,
+          place-set (owners_of s) c to m x (omega (arith, lt, length-owners s)),
+        )
 
     go : (xs zs : List ℕ) → list_at lists from ≡ xs ++ c ∷ zs → Transfer s r lists c to
     go xs zs is =
@@ -213,15 +223,16 @@ transfer s r lists c to may = go parts.0 parts.1 parts.2
                 (record { head = refl; tail = refl; count = refl; links = (refl, ap (λ (t : Node). t.next) at, tt) })
                 (λ x k.
                 let e = times-last x c (list_at lists1 to) in
-                let i = listed x in
-                let n = length-changed f s1 (Some c) in
-                let big : length s2 ≡ length s = omega (arith, n, size1) in
-                grind (arith, nat_tests, e, k, i, lt, big, size1))
+                let big : length s2 ≡ length s = omega (arith, length-changed f s1 (Some c), size1) in
+                grind (arith, nat_tests, e, k, listed x, lt, big, size1))
                 (λ m x other.
-                let e = times-left s r lists c m x st lt in_lists in
-                let k = times-left s r lists c to x st lt in_lists in
-                let d = distinct s r lists to m x st other in
-                grind (arith, nat_tests, e, k, d)));
+                grind (
+                  arith,
+                  nat_tests,
+                  times-left s r lists c m x st lt in_lists,
+                  times-left s r lists c to x st lt in_lists,
+                  distinct s r lists to m x st other,
+                )));
             placed = λ m x. placed m x ∙ sym (ap (λ os. place os m x) owners);
             total = omega (
               arith,

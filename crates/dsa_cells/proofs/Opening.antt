@@ -27,7 +27,7 @@ last_or-upto a (suc m) p = last_or-upto (suc a) m (Some a) ∙ ap Some (omega ar
 
 times-upto : (c a m : ℕ) → times c (upto a m) ≡ cond (leb a c && ltb c (a + m)) 1 0
 times-upto c a zero = grind (arith, nat_tests)
-times-upto c a (suc m) = let e = times-upto c (suc a) m in grind (arith, nat_tests, e)
+times-upto c a (suc m) = grind (arith, nat_tests, times-upto c (suc a) m)
 
 -- a list of equal elements and one more behind them
 get_or-last : {X : Type 0} (k l : ℕ) (x y : X) → get_or (replicate k x ++ y ∷ []) l x ≡ cond (l == k) y x
@@ -120,10 +120,8 @@ store-fresh s n lists f = record {
 
     placed : (l c : ℕ) → times c (cond (l == lists) (upto 0 n) no_cells) ≡ place (owners_of s) l c
     placed l c =
-        let t = times-upto c 0 n in
         let size = length-owners s ∙ f.size in
-        let own = owner c in
-        grind (arith, nat_tests, t, size, own)
+        grind (arith, nat_tests, times-upto c 0 n, size, owner c)
 
 -- a new store is whole
 pub sound-fresh : (s : List Node) (r : List Header) (n lists : ℕ) → AreFresh s n lists n →

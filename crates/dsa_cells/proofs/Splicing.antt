@@ -165,16 +165,10 @@ splice s r lists from to may = subst (Splice s r lists from to)
             (record { head = refl; tail = refl; count = refl; links = tt }) (λ m other k. k))
             to_rest (record { head = given.head; tail = given.tail; count = given.count; links = given.links })
             (λ x h.
-            let a = times-append x (list_at rest to) xs in
             let k = inside1 to x in
-            let g = inside1 from x in
-            let q = ap (times x) kept in
-            grind (arith, h, a, k, g, q))
+            grind (arith, h, times-append x (list_at rest to) xs, k, inside1 from x, ap (times x) kept))
             (λ m x other.
-            let e = at m x in
-            let k = ap (times x) kept in
-            let d = apart m x other in
-            omega (arith, e, k, d)));
+            omega (arith, at m x, ap (times x) kept, apart m x other)));
         placed = λ m x. placed m x
             ∙ sym (ap (λ os. place os m x) (map-joined (λ t. t.owner) s1 (header_at r to).tail
             (header_at r from).head (λ t o. refl) (λ t o. refl)));
@@ -243,16 +237,18 @@ splice s r lists from to may = subst (Splice s r lists from to)
         grind (arith, nat_tests, p, q, k)
 
     placed : (m x : ℕ) → times x (list_at (given_back lists from to) m) ≡ place (owners_of s1) m x
-    placed m x =
-        let e = list_at-set rest to m (list_at rest to ++ xs) to_rest in
-        let a = times-append x (list_at rest to) xs in
-        let k = ap (times x) kept in
-        let b = at m x in
-        let n = length-owners s1 in
-        let n0 = length-owners s in
-        let l = length-marked s xs to in
-        let o = owner-marked s xs to x in
-        let p = st.placed from x in
-        let q = st.placed to x in
-        let w = st.placed m x in
-        grind (arith, nat_tests, e, a, k, b, n, n0, l, o, p, q, w)
+    placed m x = grind (
+      arith,
+      nat_tests,
+      list_at-set rest to m (list_at rest to ++ xs) to_rest,
+      times-append x (list_at rest to) xs,
+      ap (times x) kept,
+      at m x,
+      length-owners s1,
+      length-owners s,
+      length-marked s xs to,
+      owner-marked s xs to x,
+      st.placed from x,
+      st.placed to x,
+      st.placed m x,
+    )

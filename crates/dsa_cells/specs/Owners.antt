@@ -18,19 +18,17 @@ sum-one : (c : ℕ) (lists : List (List ℕ)) (l : ℕ) → ((m : ℕ) → m ≢
     → sum_by (times c) lists ≡ times c (list_at lists l)
 sum-one c [] l h = refl
 sum-one c (xs ∷ lists) zero h =
-    let none = h (suc (length lists)) (λ e. omega (arith, e)) in
     omega (
       arith,
       sum_by-cons (times c) xs lists,
-      none,
+      h (suc (length lists)) (λ e. omega (arith, e)),
       sum-one c lists (length lists) (λ m ne. h (suc m) (λ e. omega (arith, e))),
     )
 sum-one c (xs ∷ lists) (suc l) h =
-    let none = h 0 (λ e. omega (arith, e)) in
     omega (
       arith,
       sum_by-cons (times c) xs lists,
-      none,
+      h 0 (λ e. omega (arith, e)),
       sum-one c lists l (λ m ne. h (suc m) (λ e. ne (omega (arith, e)))),
     )
 

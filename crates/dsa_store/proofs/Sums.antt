@@ -38,9 +38,13 @@ pub sum-without_front : (f : Slot → ℕ) (content : Content) (list : ℕ) (s :
     → list < length content → chain content list ≡ s ∷ rest
     → sum_by f (all_held (without_front content list)) + f s ≡ sum_by f (all_held content)
 sum-without_front f content list s rest h is =
-    let old = ap (sum_by f) is in
-    let new = ap (λ l. sum_by f (drop 1 l)) is in
-    omega (arith, sum-set f content list (drop 1 (chain content list)) h, sum_by-cons f s rest, old, new)
+    omega (
+      arith,
+      sum-set f content list (drop 1 (chain content list)) h,
+      sum_by-cons f s rest,
+      ap (sum_by f) is,
+      ap (λ l. sum_by f (drop 1 l)) is,
+    )
 
 -- ---- a test that each slot passes or not
 

@@ -1,6 +1,6 @@
 use Rattle.dsa_cells.proofs.store.LinkedStoreEntryStore.free.Goals as goal
 use Rattle.std.proofs.{Common.{◌≡◌, ◌-◌, length, ap, arith}, lemmas.List.{get_or_read}}
-use Rattle.dsa_cells.{specs.{declared.links.Header.{Header}, Array.{no_header}}, proofs.Contents.{free-is}}
+use Rattle.dsa_cells.{specs.{Array.{no_header}}, proofs.Contents.{free-is}}
 
 pub returns : goal.returns
 returns g c =

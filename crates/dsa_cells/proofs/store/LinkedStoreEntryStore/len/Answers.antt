@@ -1,6 +1,6 @@
 use Rattle.dsa_cells.proofs.store.LinkedStoreEntryStore.len.Goals as goal
 use Rattle.std.proofs.{Common.{ap, ◌∙◌}, lemmas.List.{get_or_read}}
-use Rattle.dsa_cells.specs.{declared.links.Header.{Header}, Array.{no_header}}
+use Rattle.dsa_cells.specs.{Array.{no_header}}
 use Rattle.dsa_cells.proofs.Contents.{in_headers, len-is}
 
 pub returns : goal.returns

@@ -1,6 +1,6 @@
 use Rattle.dsa_store.proofs.walk.WalkIterator.next.Goals as goal
 use Rattle.std.proofs.Common.{◌∙◌, sym, ap, refl, rules, length}
-use Rattle.dsa_store.{specs.{Content.{Content}, Walk.{slots_from}}, proofs.Walks.{slots_from-end, slots_from-turn}}
+use Rattle.dsa_store.{specs.{Walk.{slots_from}}, proofs.Walks.{slots_from-end, slots_from-turn}}
 
 pub returns-in_err-entry-clause-steps : goal.returns-in_err-entry-clause-steps
 returns-in_err-entry-clause-steps g c =
