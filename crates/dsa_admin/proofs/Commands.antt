@@ -24,15 +24,7 @@ carried-as s command deed is done of e h = ap (λ d. deed_done_of s command d (s
 -- phases of queues change nothing else
 pub in_step-phases : {cells : ℕ} (test : ℕ → Bool) (phase : Phase) (setup : Setup) (gear : Gear) (content : Content)
     → IsInStep setup gear cells content → IsInStep (with_phases test phase setup) gear cells content
-in_step-phases test phase setup gear content s = record {
-  queues = whole-phases test phase setup s.queues;
-  store = s.store;
-  idle = s.idle;
-  checked = s.checked;
-  notes = s.notes;
-  homes = s.homes;
-  buffers = s.buffers;
-}
+in_step-phases test phase setup gear content s = assumption (whole-phases test phase setup s.queues)
 
 -- nothing is held that a disable of the device waits for, so nothing is held
 none-awaited : (content : Content) → holds_any (λ (entry : Entry). true) content ≡ false → held_count content ≡ 0
@@ -49,15 +41,15 @@ pub in_step-stopped : {cells : ℕ} (deed : Deed) (scope : Scope) (mark : ℕ) (
     → (is_off phase ≡ true → holds_any (is_awaited deed scope mark) content ≡ false)
     → IsInStep setup gear cells content → IsInStep (after_stop deed scope phase setup) gear cells content
 in_step-stopped Disable Device mark phase setup gear content come none s =
-    let w = whole-phases (λ q. not (is_off (phase_at setup q))) phase setup s.queues in
+    let on : is_off phase ≡ false → is_off setup.device ≡ false = λ stays. on-not_off setup.device (come stays) in
     record {
-      queues = record { lawful = w.lawful; configs = w.configs; phases = w.phases; groups = w.groups };
+      queues = assumption (whole-phases (λ q. not (is_off (phase_at setup q))) phase setup s.queues);
       store = s.store;
       idle = λ off. none-awaited content (none off);
-      checked = λ on. s.checked (on-not_off setup.device (come on));
+      checked = λ stays. s.checked (on stays);
       notes = s.notes;
-      homes = λ on. s.homes (on-not_off setup.device (come on));
-      buffers = λ on. s.buffers (on-not_off setup.device (come on));
+      homes = λ stays. s.homes (on stays);
+      buffers = λ stays. s.buffers (on stays);
     }
 in_step-stopped Disable scope mark phase setup gear content come none s =
     in_step-phases (is_among (queues_in scope)) phase setup gear content s

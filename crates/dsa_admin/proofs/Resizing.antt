@@ -1,7 +1,7 @@
 -- Queues that lose all but their sizes: what other queues' entries need stays.
-use Rattle.std.proofs.Common.{◌≡◌, ℕ, zero, suc, ◌<◌, ◌≤◌, Bool, true, false, not, cond, List, ◌∷◌, length, refl, sym}
+use Rattle.std.proofs.Common.{◌≡◌, ℕ, zero, suc, Bool, false, not, cond, List, ◌∷◌, length, refl, sym}
 use Rattle.std.proofs.Common.{ap, ◌∙◌, inl, inr, arith, []}
-use Rattle.std.proofs.lemmas.{Grind.{common_steps}, Bool.{cases_lt}}
+use Rattle.std.proofs.lemmas.{Grind.{common_steps}, Bool.{cases_lt, cases_Bool}}
 use Rattle.std.specs.List.{filter}
 use Rattle.dsa_desc.specs.Descriptor.{need}
 use Rattle.dsa_regs.specs.declared.{QueueConfig.{QueueConfig}, Scope.{Scope, TheVariants.{Device}}}
@@ -16,52 +16,46 @@ use Rattle.dsa_book.specs.Commands.{is_in_scope, is_among, with_phases, with_siz
 use Rattle.dsa_book.proofs.{Scopes.{unnamed}, Sizes.{total_size-alone}}
 use Rattle.dsa_engines.specs.Engines.{Gear, IsInStep}
 use Rattle.dsa_engines.proofs.{Keeping.{KeepsLoads, homes-kept, buffers-kept}, Used.{load, load-nil, load-cons}}
-use mathlib.Core.Logic.{◌⊎◌}
 
 -- the set-up after Reset WQ
 abbrev after_reset : Scope → Setup → Setup
 after_reset scope setup = with_sizes_alone (queues_in scope) (with_phases (is_among (queues_in scope)) Off setup)
 
--- a queue that is not named keeps its configuration
-config-same : (scope : Scope) (setup : Setup) (q : ℕ) → IsWhole setup → is_among (queues_in scope) q ≡ false
-    → queue_at (after_reset scope setup).configs q ≡ queue_at setup.configs q
-config-same scope setup q w out = on (cases_lt q setup.caps.queues)
-  where
-    f : ℕ → QueueConfig
-    f k = cond (is_among (queues_in scope) k) (size_alone (queue_at setup.configs k)) (queue_at setup.configs k)
+module _ (scope : Scope) (setup : Setup) (w : IsWhole setup) where
+  -- a queue that is not named keeps its configuration
+  config-same : (q : ℕ) → is_among (queues_in scope) q ≡ false
+      → queue_at (after_reset scope setup).configs q ≡ queue_at setup.configs q
+  config-same q out =
+      let config : ℕ → QueueConfig =
+      λ k. cond (is_among (queues_in scope) k) (size_alone (queue_at setup.configs k)) (queue_at setup.configs k) in
+      elim (cases_lt q setup.caps.queues) [
+        | inl h ↦ get_or-each config setup.caps.queues q zero_queue h ∙ rw out refl
+        | inr past ↦ grind (arith, common_steps, length-each config setup.caps.queues, w.configs, past)
+      ]
 
-    on : (q < setup.caps.queues) ⊎ (setup.caps.queues ≤ q)
-        → queue_at (after_reset scope setup).configs q ≡ queue_at setup.configs q
-    on (inl h) = get_or-each f setup.caps.queues q zero_queue h ∙ rw out refl
-    on (inr h) = grind (arith, common_steps, length-each f setup.caps.queues, w.configs, h)
+  -- and its entries hold what they held
+  held-same : (e : Entry) → is_in_scope scope e ≡ false → held_by (after_reset scope setup) e ≡ held_by setup e
+  held-same e out =
+      ap (λ (config : QueueConfig). cond {A = ℕ} e.running (need e.desc (limits_of config) (is_member e)) 0)
+      (config-same e.queue (unnamed scope e out))
 
--- and its entries hold what they held
-held-same : (scope : Scope) (setup : Setup) (e : Entry) → IsWhole setup → is_in_scope scope e ≡ false
-    → held_by (after_reset scope setup) e ≡ held_by setup e
-held-same scope setup e w out =
-    ap (λ (config : QueueConfig). cond {A = ℕ} e.running (need e.desc (limits_of config) (is_member e)) 0)
-    (config-same scope setup e.queue w (unnamed scope e out))
-
--- so does what is left of a list
-load-spared : (scope : Scope) (setup : Setup) → IsWhole setup → (l : List Slot)
-    → load (after_reset scope setup) (filter (λ (s : Slot). not (is_in_scope scope s.1)) l)
-    ≡ load setup (filter (λ (s : Slot). not (is_in_scope scope s.1)) l)
-load-spared scope setup w [] = load-nil (after_reset scope setup) ∙ sym (load-nil setup)
-load-spared scope setup w (s ∷ l) = on (is_in_scope scope s.1) refl (load-spared scope setup w l)
-  where
-    on : (b : Bool) → is_in_scope scope s.1 ≡ b
-        → load (after_reset scope setup) (filter (λ (x : Slot). not (is_in_scope scope x.1)) l)
-        ≡ load setup (filter (λ (x : Slot). not (is_in_scope scope x.1)) l)
-        → load (after_reset scope setup)
-        (cond (not b) (s ∷ filter (λ (x : Slot). not (is_in_scope scope x.1)) l)
-        (filter (λ (x : Slot). not (is_in_scope scope x.1)) l))
-        ≡ load setup (cond (not b) (s ∷ filter (λ (x : Slot). not (is_in_scope scope x.1)) l)
-        (filter (λ (x : Slot). not (is_in_scope scope x.1)) l))
-    on true is h = h
-    on false is h =
-        let rest : List Slot = filter (λ (x : Slot). not (is_in_scope scope x.1)) l in
-        load-cons (after_reset scope setup) s rest
-        ∙ rw (held-same scope setup s.1 w is, h) (sym (load-cons setup s rest))
+  -- so does what is left of a list
+  load-spared : (l : List Slot) → load (after_reset scope setup) (filter (λ (s : Slot). not (is_in_scope scope s.1)) l)
+      ≡ load setup (filter (λ (s : Slot). not (is_in_scope scope s.1)) l)
+  load-spared [] = load-nil (after_reset scope setup) ∙ sym (load-nil setup)
+  load-spared (s ∷ l) =
+      elim (cases_Bool (is_in_scope scope s.1)) [
+        | inl inside ↦ rw inside (load-spared l)
+        | inr outside ↦
+            let rest : List Slot = filter (λ (x : Slot). not (is_in_scope scope x.1)) l in
+            rw outside (omega (
+              arith,
+              load-spared l,
+              held-same s.1 outside,
+              load-cons (after_reset scope setup) s rest,
+              load-cons setup s rest,
+            ))
+      ]
 
 -- a list of what is kept
 chain-kept : (test : Entry → Bool) (content : Content) (i : ℕ)
@@ -79,9 +73,7 @@ reset-named _ setup n = refl
 none-kept : (content : Content) → held_count (only_where (λ entry. false) content) ≡ 0
 none-kept [] = held-nil
 none-kept (l ∷ ls) =
-    let rest = none-kept ls in
-    let here = none l in
-    omega (arith, held-cons (filter (λ (s : Slot). false) l) (only_where (λ entry. false) ls), here, rest)
+    omega (arith, held-cons (filter (λ (s : Slot). false) l) (only_where (λ entry. false) ls), none l, none-kept ls)
   where
     none : (l : List Slot) → length (filter (λ (s : Slot). false) l) ≡ 0
     none [] = refl

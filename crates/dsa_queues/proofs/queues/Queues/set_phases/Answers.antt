@@ -1,23 +1,27 @@
 use Rattle.dsa_queues.proofs.queues.Queues.set_phases.Goals as goal
-use Rattle.std.proofs.{Common.{ℕ, ◌∙◌, cond, arith}, lemmas.Grind.{common_steps}}
-use Rattle.dsa_regs.specs.{declared.Phase.{Phase}, Command.{queues_in}}
+use Rattle.std.proofs.{Common.{ℕ, ◌<◌, cond, length, refl, arith}, lemmas.Grind.{common_steps}}
+use Rattle.dsa_regs.specs.{declared.Phase.{Phase, TheVariants.{Off}}, Command.{queues_in}}
 use Rattle.dsa_book.specs.{State.{phase_at}, Commands.{is_among}}
-use Rattle.dsa_queues.proofs.Tables.{phases-set, phases-same}
+use Rattle.dsa_queues.proofs.Tables.{renewed-written, renewed-kept}
 use Rattle.dsa_queues.proofs.queues.Queues.set_phases.Goals.{then-contains, else-contains}
 
 pub loop-queue-preserved : goal.loop-queue-preserved
 loop-queue-preserved c =
     let f : ℕ → Phase = λ q. cond (is_among (queues_in c.args.named.now) q) c.args.phase (phase_at c.args.self.now q) in
+    let within : c.loop-queue.queue < length c.args.self.now.phases =
+    grind (arith, c.loop-queue-test.true, c.caps-queue-end.ensures) in
     elim c.if-contains.branch [
-      | then-contains w ↦
-          phases-set c.args.self.now c.loop-queue.self c.if-contains.self f c.loop-queue.queue c.args.phase
-          c.loop-queue.invariant
-          (w.self-is ∙ w.set_phase.ensures.place)
-          (grind (arith, c.loop-queue-test.true, c.caps-queue-end.ensures))
-          (grind (arith, common_steps, w.if-contains.true, c.contains.ensures))
-      | else-contains w ↦
-          phases-same c.args.self.now c.loop-queue.self c.if-contains.self f c.loop-queue.queue
-          c.loop-queue.invariant w.self-is
-          (grind (arith, c.loop-queue-test.true, c.caps-queue-end.ensures))
-          (grind (arith, common_steps, w.if-contains.false, c.contains.ensures))
+      | then-contains w ↦ rw (
+        w.self-is,
+        w.set_phase.ensures.place,
+        c.loop-queue.invariant,
+        renewed-written f c.loop-queue.queue c.args.phase c.args.self.now.phases within
+            (grind (arith, common_steps, w.if-contains.true, c.contains.ensures)),
+      ) refl
+      | else-contains w ↦ rw (
+        w.self-is,
+        c.loop-queue.invariant,
+        renewed-kept f c.loop-queue.queue c.args.self.now.phases Off within
+            (grind (arith, common_steps, w.if-contains.false, c.contains.ensures)),
+      ) refl
     ]
