@@ -37,20 +37,14 @@ entered p w w' k x inside content fates = omega (
   sum-pushed (weight p) w.content k x.0 x.1 inside,
   ap (λ (c : Content). sum_by (weight p) (all_held c)) content,
   ap (λ (rows : List FateRow). count_by (λ row. p row.parent) rows) fates,
-  sum_by-cons (λ (o : Option ℕ). cond (p o) 1 0) x.1.parent [],
+  sum_by-cons,
 )
 
 -- those with a parent and those without are all
 pub parts : {X : Type 0} (parent : X → Option ℕ) (xs : List X)
     → count_by (λ x. is_none (parent x)) xs + count_by (λ x. is_some (parent x)) xs ≡ length xs
 parts parent [] = refl
-parts {X} parent (x ∷ xs) = omega (
-  arith,
-  sum_by-cons (λ (y : X). cond (is_none (parent y)) 1 0) x xs,
-  sum_by-cons (λ (y : X). cond (is_some (parent y)) 1 0) x xs,
-  either (parent x),
-  parts parent xs,
-)
+parts {X} parent (x ∷ xs) = omega (arith, sum_by-cons, either (parent x), parts parent xs)
   where
     either : (o : Option ℕ) → cond (is_none o) 1 0 + cond (is_some o) 1 0 ≡ 1
     either None = refl

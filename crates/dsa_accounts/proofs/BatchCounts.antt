@@ -36,10 +36,7 @@ fates-counted : (batch : ℕ) (rows : List FateRow)
 fates-counted batch [] = refl
 fates-counted batch (row ∷ rows) = omega (
   arith,
-  sum_by-cons (λ (row : FateRow). cond (is_of batch row.parent) 1 0) row rows,
-  sum_by-cons (λ (row : FateRow). cond (was_completed row.fate && is_of batch row.parent) 1 0) row rows,
-  sum_by-cons (λ (row : FateRow). cond (was_abandoned row.fate && is_of batch row.parent) 1 0) row rows,
-  sum_by-cons (λ (row : FateRow). cond (was_aborted row.fate && is_of batch row.parent) 1 0) row rows,
+  sum_by-cons,
   each row.fate (is_of batch row.parent),
   fates-counted batch rows,
 )

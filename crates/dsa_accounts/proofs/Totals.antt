@@ -82,14 +82,7 @@ next-rows s s' event reply h =
 parts-added : (f g h : Reply → ℕ) → ((r : Reply) → f r ≡ g r + h r) → (steps : List Step)
     → sum_by (λ step. f step.reply) steps ≡ sum_by (λ step. g step.reply) steps + sum_by (λ step. h step.reply) steps
 parts-added f g h is [] = refl
-parts-added f g h is (x ∷ steps) = omega (
-  arith,
-  is x.reply,
-  parts-added f g h is steps,
-  sum_by-cons (λ (step : Step). f step.reply) x steps,
-  sum_by-cons (λ (step : Step). g step.reply) x steps,
-  sum_by-cons (λ (step : Step). h step.reply) x steps,
-)
+parts-added f g h is (x ∷ steps) = omega (arith, is x.reply, parts-added f g h is steps, sum_by-cons)
 
 named_total : (h : List Step) → sum_by (λ step. named_by step.reply) h ≡ total_accepted h + total_fetched h
 named_total = parts-added named_by (λ r. cond (is_accepted r) 1 0) (λ r. cond (is_fetched r) 1 0) named_by-is
@@ -121,7 +114,7 @@ named-one _ = omega arith
 
 named-le : (h : List Step) → sum_by (λ step. named_by step.reply) h ≤ length h
 named-le [] = omega arith
-named-le (x ∷ h) = omega (arith, named-one x.reply, named-le h, sum_by-cons (λ (step : Step). named_by step.reply) x h)
+named-le (x ∷ h) = omega (arith, named-one x.reply, named-le h, sum_by-cons)
 
 -- no step gives two names
 pub replay-names-le : (caps : Caps) (h : List Step) (s : State) → replay caps h ≡ Some s → name_of s ≤ length h

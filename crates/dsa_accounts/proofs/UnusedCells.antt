@@ -13,8 +13,7 @@ cell_at k = record { 0 = k }
 one-cell : (x : Slot) (n : ℕ) → sum_by (λ k. cond (is_cell (cell_at k) x) 1 0) (numbers_below n)
     ≡ cond (nat_lt x.0.0 n) 1 0
 one-cell x zero = grind (arith, nat_tests)
-one-cell x (suc n) =
-    grind (arith, nat_tests, sum_by_push (λ k. cond (is_cell (cell_at k) x) 1 0) (numbers_below n) n, one-cell x n)
+one-cell x (suc n) = grind (arith, nat_tests, sum_by_push, one-cell x n)
 
 -- each slot is of one cell
 counted-once : (xs : List Slot) (n : ℕ) → sum_by (λ k. count_by (is_cell (cell_at k)) xs) (numbers_below n) ≤ length xs

@@ -1,12 +1,10 @@
 -- A test that few elements of a list pass.
-use Rattle.std.proofs.Common.{◌≡◌, ℕ, zero, suc, ◌+◌, ◌<◌, ◌≤◌, Bool, true, false, cond, ◌||◌, List, [], ◌∷◌, ◌++◌}
-use Rattle.std.proofs.Common.{take, length, filter, get_or, Some, refl, sym, ap, ◌∙◌, subst, inl, inr, ⊎_elim, arith}
+use Rattle.std.proofs.Common.{take, length, filter, get_or, Some, refl, ap, ◌∙◌, subst, inl, inr, ⊎_elim, arith}
+use Rattle.std.proofs.Common.{◌≡◌, ℕ, zero, suc, ◌+◌, ◌<◌, ◌≤◌, Bool, true, false, cond, ◌||◌, List, [], ◌∷◌, ◌++◌, sym}
 use Rattle.std.proofs.lemmas.List.Sums.{sum_by-cons, sum_by_push, get_or-le-sum_by, length-filter, count_by-le-length}
 use Rattle.std.specs.{Prelude.{count_by}, List.{list_any, position}}
-use Rattle.dsa_base.specs.Lists.{In}
-use Rattle.dsa_base.proofs.FirstPlaces.{position-hit}
 use Rattle.dsa_base.proofs.Lists.{none-In, length-none, In-length, In-only, In-alone, In-push, In-filter, In-passing}
-use Rattle.dsa_base.proofs.Tables.{not-both}
+use Rattle.dsa_base.{proofs.{FirstPlaces.{position-hit}, Tables.{not-both}}, specs.Lists.{In}}
 
 -- one more is counted where it passes
 pub count-cons : {X : Type 0} (p : X → Bool) (x : X) (xs : List X) (b : Bool) → p x ≡ b
@@ -19,17 +17,17 @@ count-push p xs x b is = sum_by_push (λ y. cond (p y) 1 0) xs x ∙ ap (λ (t :
 
 -- a filter leaves no more than there is
 pub length-filter-le : {X : Type 0} (p : X → Bool) (xs : List X) → length (filter p xs) ≤ length xs
-length-filter-le p xs = let a = length-filter p xs in let b = count_by-le-length p xs in omega (arith, a, b)
+length-filter-le p xs = omega (arith, length-filter p xs, count_by-le-length p xs)
 
 -- and nothing where none passes
 pub filter-none : {X : Type 0} (p : X → Bool) (xs : List X) → count_by p xs ≡ 0 → filter p xs ≡ []
-filter-none p xs h = let size = length-filter p xs in length-none (filter p xs) (omega (arith, size, h))
+filter-none p xs h = length-none (filter p xs) (omega (arith, length-filter p xs, h))
 
 -- where a test passes once at most, the one that passes is all that passes
 pub filter-one : {X : Type 0} (p : X → Bool) (x : X) (xs : List X) → count_by p xs ≤ 1 → In x xs → p x ≡ true
     → filter p xs ≡ x ∷ []
-filter-one p x xs h i t = let size = length-filter p xs in In-alone x (filter p xs) (omega (arith, size, h))
-    (In-passing p x xs i t)
+filter-one p x xs h i t =
+    In-alone x (filter p xs) (omega (arith, length-filter p xs, h)) (In-passing p x xs i t)
 
 -- so what passes is the same
 pub In-same : {X : Type 0} (p : X → Bool) (x y : X) (xs : List X) → count_by p xs ≤ 1 → In x xs → In y xs
@@ -38,17 +36,14 @@ In-same p x y xs h i j t u = In-only y x (subst (In y) (filter-one p x xs h i t)
 
 -- what stands there and passes is counted
 pub In-counted : {X : Type 0} (p : X → Bool) (x : X) (xs : List X) → In x xs → p x ≡ true → 1 ≤ count_by p xs
-In-counted p x xs i t =
-    let size = length-filter p xs in
-    let some = In-length x (filter p xs) (In-passing p x xs i t) in
-    omega (arith, size, some)
+In-counted p x xs i t = omega (arith, length-filter p xs, In-length x (filter p xs) (In-passing p x xs i t))
 
 -- where a test is counted, one passes it
 pub counted-In : {X : Type 0} (p : X → Bool) (xs : List X) → 1 ≤ count_by p xs → (x : X) × (In x xs × (p x ≡ true))
 counted-In {X} p xs h = go (filter p xs) refl
   where
     go : (ys : List X) → filter p xs ≡ ys → (x : X) × (In x xs × (p x ≡ true))
-    go [] e = let size = sym (length-filter p xs) ∙ ap length e in absurd (omega (arith, size, h))
+    go [] e = absurd (omega (arith, sym (length-filter p xs) ∙ ap length e, h))
     go (y ∷ ys) e = (y, In-filter p y xs (subst (In y) (sym e) (inl refl)))
 
 -- where none passes, none is counted
@@ -62,10 +57,7 @@ pub count-alike : {X : Type 0} (p q : X → Bool) (xs : List X) → ((x : X) →
     → count_by p xs ≡ count_by q xs
 count-alike p q [] h = refl
 count-alike p q (x ∷ xs) h =
-    let a = count-cons p x xs (q x) (h x (inl refl)) in
-    let b = count-cons q x xs (q x) refl in
-    let rest = count-alike p q xs (λ y i. h y (inr i)) in
-    omega (arith, a, b, rest)
+    omega (arith, count-cons p x xs (q x) (h x (inl refl)), sum_by-cons, count-alike p q xs (λ y i. h y (inr i)))
 
 -- what passes a test that the one more does not pass stands in the list
 pub In-old : {X : Type 0} (p : X → Bool) (x : X) (xs : List X) (y : X) → p y ≡ false → In x (xs ++ y ∷ [])
@@ -77,8 +69,7 @@ pub some-counted : {X : Type 0} (p : X → Bool) (xs : List X) (j : ℕ) (d : X)
     → j < length xs → p (get_or xs j d) ≡ true → 1 ≤ count_by p xs
 some-counted p xs j d l t =
     let one : ◌≡◌ {A = ℕ} (cond (p (get_or xs j d)) 1 0) 1 = ap (λ (b : Bool). cond {A = ℕ} b 1 0) t in
-    let part = get_or-le-sum_by (λ x. cond (p x) 1 0) xs j d l in
-    omega (arith, one, part)
+    omega (arith, one, get_or-le-sum_by (λ x. cond (p x) 1 0) xs j d l)
 
 -- where a test passes once at most, it passes at one place
 pub one-place : {X : Type 0} (p : X → Bool) (xs : List X) (i j : ℕ) (d : X) → count_by p xs ≤ 1
@@ -86,16 +77,11 @@ pub one-place : {X : Type 0} (p : X → Bool) (xs : List X) (i j : ℕ) (d : X) 
 one-place p [] i j d h k l t u = absurd (omega (arith, k))
 one-place p (x ∷ xs) zero zero d h k l t u = refl
 one-place p (x ∷ xs) zero (suc j) d h k l t u =
-    let c = count-cons p x xs true t in
-    let rest = some-counted p xs j d (omega (arith, l)) u in
-    absurd (omega (arith, h, c, rest))
+    absurd (omega (arith, h, count-cons p x xs true t, some-counted p xs j d (omega (arith, l)) u))
 one-place p (x ∷ xs) (suc i) zero d h k l t u =
-    let c = count-cons p x xs true u in
-    let rest = some-counted p xs i d (omega (arith, k)) t in
-    absurd (omega (arith, h, c, rest))
+    absurd (omega (arith, h, count-cons p x xs true u, some-counted p xs i d (omega (arith, k)) t))
 one-place p (x ∷ xs) (suc i) (suc j) d h k l t u =
-    let c = sum_by-cons (λ y. cond (p y) 1 0) x xs in
-    ap suc (one-place p xs i j d (omega (arith, h, c)) (omega (arith, k)) (omega (arith, l)) t u)
+    ap suc (one-place p xs i j d (omega (arith, h, sum_by-cons)) (omega (arith, k)) (omega (arith, l)) t u)
 
 -- what one counts already leaves nothing before it
 before-test : (a b : Bool) → cond a 1 0 + 1 ≤ 1 → b ≡ false → (a || b) ≡ false
@@ -107,10 +93,9 @@ none-before : {X : Type 0} (p : X → Bool) (xs : List X) (k : ℕ) (d : X)
 none-before p [] k d h l t = absurd (omega (arith, l))
 none-before p (x ∷ xs) zero d h l t = refl
 none-before p (x ∷ xs) (suc k) d h l t =
-    let c = sum_by-cons (λ y. cond (p y) 1 0) x xs in
     let rest = some-counted p xs k d (omega (arith, l)) t in
-    before-test (p x) (list_any p (take k xs)) (omega (arith, c, h, rest))
-    (none-before p xs k d (omega (arith, c, h)) (omega (arith, l)) t)
+    before-test (p x) (list_any p (take k xs)) (omega (arith, sum_by-cons, h, rest))
+    (none-before p xs k d (omega (arith, sum_by-cons, h)) (omega (arith, l)) t)
 
 -- what passes a test that one passes at most is the first that does
 pub only-position : {X : Type 0} (p : X → Bool) (xs : List X) (k : ℕ) (d : X)

@@ -1,9 +1,7 @@
 -- The numbers below a bound, and numbers beside powers of two.
-use Rattle.std.proofs.Common.{◌≡◌, ℕ, zero, suc, ◌<◌, ◌/◌, nat_eq, nat_le, not, Bool, true, false, ◌||◌, [], ◌∷◌}
-use Rattle.std.proofs.Common.{arith}
+use Rattle.std.proofs.Common.{◌≡◌, ℕ, zero, suc, ◌<◌, ◌/◌, nat_eq, nat_le, not, Bool, true, false, ◌||◌, [], ◌∷◌, arith}
 use Rattle.std.proofs.lemmas.{Grind.{common_steps}, List.Folds.{list_any-append}}
-use Rattle.std.proofs.Math.Nat.{div-eq_of_lt, lt-div-mul-add}
-use Rattle.std.specs.List.{list_any}
+use Rattle.std.{proofs.Math.Nat.{div-eq_of_lt, lt-div-mul-add}, specs.List.{list_any}}
 use Rattle.dsa_base.specs.Numbers.{numbers_below}
 
 -- a number below the bound that passes a test

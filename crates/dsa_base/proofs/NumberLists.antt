@@ -1,50 +1,27 @@
 -- A list made of a function of the numbers below a bound.
-use Rattle.std.proofs.Common.{◌≡◌, ◌≢◌, ℕ, zero, suc, ◌+◌, ◌<◌, ◌≤◌, List, [], ◌∷◌, ◌++◌, length, map, replicate, set}
-use Rattle.std.proofs.Common.{get_or, refl, sym, ap, ◌∙◌, subst, arith, ⊎_elim, length-append}
+use Rattle.std.proofs.Common.{◌≡◌, ◌≢◌, ℕ, zero, suc, ◌+◌, ◌<◌, ◌≤◌, List, [], ◌∷◌, length, map, replicate, set, get_or}
 use Rattle.std.proofs.lemmas.Grind.{common_steps}
 use Rattle.std.proofs.lemmas.List.{ext_get_or, get_or-map, length-map, length-replicate, length-set, map-append}
-use Rattle.std.proofs.lemmas.Bool.{cases_eq}
-use Rattle.std.proofs.Math.ListN.{get_or-eq_default}
+use Rattle.std.proofs.{Common.{refl, sym, ap, ◌∙◌, arith, length-append}, Math.ListN.{get_or-eq_default}}
 use Rattle.dsa_base.specs.Numbers.{numbers_below}
 
 pub length-numbers : (n : ℕ) → length (numbers_below n) ≡ n
 length-numbers zero = refl
-length-numbers (suc n) = let more = length-append (numbers_below n) (n ∷ []) in let rest = length-numbers n in
-    omega (arith, more, rest)
+length-numbers (suc n) = omega (arith, length-append (numbers_below n) (n ∷ []), length-numbers n)
 
 pub length-each : {X : Type 0} (f : ℕ → X) (n : ℕ) → length (map f (numbers_below n)) ≡ n
 length-each f n = length-map (numbers_below n) f ∙ length-numbers n
 
-push-left : {X : Type 0} (xs : List X) (x d : X) (q : ℕ) → q < length xs → get_or (xs ++ x ∷ []) q d ≡ get_or xs q d
-push-left [] x d q h = absurd (omega arith)
-push-left (y ∷ ys) x d zero h = refl
-push-left (y ∷ ys) x d (suc q) h = push-left ys x d q (omega (arith, h))
-
-push-last : {X : Type 0} (xs : List X) (x d : X) → get_or (xs ++ x ∷ []) (length xs) d ≡ x
-push-last [] x d = refl
-push-last (y ∷ ys) x d = push-last ys x d
-
 get_or-numbers : (n q d : ℕ) → q < n → get_or (numbers_below n) q d ≡ q
 get_or-numbers zero q d h = absurd (omega arith)
-get_or-numbers (suc n) q d h = ⊎_elim
-    (λ (e : q ≡ n).
-    let size = length-numbers n in
-    subst (λ k. get_or (numbers_below n ++ n ∷ []) k d ≡ q) (size ∙ sym e) (let last =
-    push-last (numbers_below n) n d in last ∙ sym e) ∙ refl)
-    (λ (e : q ≢ n).
-    let below : q < n = omega (arith, h, e) in
-    let size = length-numbers n in
-    push-left (numbers_below n) n d q (omega (arith, size, below)) ∙ get_or-numbers n q d below)
-    (cases_eq q n)
+get_or-numbers (suc n) q d h = grind (arith, common_steps, length-numbers n, get_or-numbers n q d, h)
 
 pub get_or-each : {X : Type 0} (f : ℕ → X) (n q : ℕ) (d : X) → q < n → get_or (map f (numbers_below n)) q d ≡ f q
 get_or-each f n q d h =
-    let size = length-numbers n in
-    get_or-map f (numbers_below n) q 0 d (omega (arith, size, h)) ∙ ap f (get_or-numbers n q 0 h)
+    get_or-map f (numbers_below n) q 0 d (omega (arith, length-numbers n, h)) ∙ ap f (get_or-numbers n q 0 h)
 
 pub get_or-past : {X : Type 0} (f : ℕ → X) (n q : ℕ) (d : X) → n ≤ q → get_or (map f (numbers_below n)) q d ≡ d
-get_or-past f n q d h = let size = length-each f n in
-    get_or-eq_default (map f (numbers_below n)) d (omega (arith, size, h))
+get_or-past f n q d h = get_or-eq_default (map f (numbers_below n)) d (omega (arith, length-each f n, h))
 
 -- where f' is f below the bound the tables are the same
 pub same-table : {X : Type 0} (f f' : ℕ → X) (n : ℕ) → ((k : ℕ) → k < n → f' k ≡ f k)

@@ -1,7 +1,6 @@
 -- A list whose places are renewed one by one, from the first on.
-use Rattle.std.proofs.Common.{◌≡◌, ℕ, zero, suc, ◌<◌, ◌≤◌, cond, ◌==◌, List, ◌++◌, length, map, drop, set, get_or}
-use Rattle.std.proofs.Common.{refl, sym, ◌∙◌, arith}
-use Rattle.std.proofs.{lemmas.Grind.{common_steps}, Math.Seq.{drop-cons, set-append_seam}}
+use Rattle.std.proofs.Common.{◌≡◌, ℕ, zero, suc, ◌<◌, ◌≤◌, cond, ◌==◌, List, ◌++◌, length, map, drop, set, get_or, refl}
+use Rattle.std.proofs.{Math.Seq.{drop-cons, set-append_seam}, lemmas.Grind.{common_steps}, Common.{sym, ◌∙◌, arith}}
 use Rattle.dsa_base.{specs.Numbers.{numbers_below}, proofs.NumberLists.{length-each}}
 
 -- the first n places are what f gives for them, the rest are as they were
@@ -10,11 +9,13 @@ renewed f n xs = map f (numbers_below n) ++ drop n xs
 
 pub renewed-set : {X : Type 0} (f : ℕ → X) (n : ℕ) (xs : List X) → n < length xs
     → set (renewed f n xs) n (f n) ≡ renewed f (suc n) xs
-renewed-set f n xs h =
-    let size = length-each f n in
-    let parts = drop-cons xs n (f n) h in
-    let seam = set-append_seam (map f (numbers_below n)) (get_or xs n (f n)) (drop (suc n) xs) (f n) in
-    grind (arith, common_steps, size, parts, seam)
+renewed-set f n xs h = grind (
+  arith,
+  common_steps,
+  length-each f n,
+  drop-cons xs n (f n) h,
+  set-append_seam (map f (numbers_below n)) (get_or xs n (f n)) (drop (suc n) xs) (f n),
+)
 
 pub renewed-same : {X : Type 0} (f : ℕ → X) (n : ℕ) (xs : List X) (d : X) → n < length xs → f n ≡ get_or xs n d
     → renewed f n xs ≡ renewed f (suc n) xs
@@ -27,7 +28,7 @@ renewed-all f n xs h = grind (arith, common_steps, h)
 -- the place that comes next is as it was
 pub renewed-next : {X : Type 0} (f : ℕ → X) (n : ℕ) (xs : List X) (d : X) → n < length xs
     → get_or (renewed f n xs) n d ≡ get_or xs n d
-renewed-next f n xs d h = let size = length-each f n in grind (arith, common_steps, size, h)
+renewed-next f n xs d h = grind (arith, common_steps, length-each f n, h)
 
 -- ---- one place renewed
 
@@ -35,19 +36,21 @@ renewed-before : {X : Type 0} (xs : List X) (k : ℕ) (x d : X) (n : ℕ) → n 
     → renewed (λ q. cond (q == k) x (get_or xs q d)) n xs ≡ xs
 renewed-before xs k x d zero low h = refl
 renewed-before xs k x d (suc n) low h =
-    let further = renewed-before xs k x d n (omega arith) (omega arith) in
-    let same = renewed-same (λ q. cond (q == k) x (get_or xs q d)) n xs d (omega arith) (grind (arith, low)) in
-    sym same ∙ further
+    sym (renewed-same (λ q. cond (q == k) x (get_or xs q d)) n xs d (omega arith) (grind (arith, low)))
+    ∙ renewed-before xs k x d n (omega arith) (omega arith)
 
 renewed-past : {X : Type 0} (xs : List X) (k : ℕ) (x d : X) (n : ℕ) → k < n → n ≤ length xs
     → renewed (λ q. cond (q == k) x (get_or xs q d)) n xs ≡ set xs k x
 renewed-past xs k x d zero high h = absurd (omega arith)
-renewed-past xs k x d (suc n) high h =
-    let before = renewed-before xs k x d n in
-    let further = renewed-past xs k x d n in
-    let here = renewed-set (λ q. cond (q == k) x (get_or xs q d)) n xs (omega arith) in
-    let same = renewed-same (λ q. cond (q == k) x (get_or xs q d)) n xs d (omega arith) in
-    grind (arith, before, further, here, same, high, h)
+renewed-past xs k x d (suc n) high h = grind (
+  arith,
+  renewed-before xs k x d n,
+  renewed-past xs k x d n,
+  renewed-set (λ q. cond (q == k) x (get_or xs q d)) n xs (omega arith),
+  renewed-same (λ q. cond (q == k) x (get_or xs q d)) n xs d (omega arith),
+  high,
+  h,
+)
 
 pub renewed-one : {X : Type 0} (xs : List X) (k : ℕ) (x d : X) (n : ℕ) → k < n → n ≡ length xs
     → set xs k x ≡ map (λ q. cond (q == k) x (get_or xs q d)) (numbers_below n)
