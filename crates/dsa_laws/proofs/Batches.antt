@@ -1,19 +1,15 @@
 -- The batch of an engine, as its lists and its note change.
-use Rattle.std.proofs.Common.{◌≡◌, ◌≢◌, ℕ, zero, suc, ◌+◌, ◌≤◌, ◌&&◌, ◌||◌, ◌==◌, not, Bool, true, false, cond, List}
+use Rattle.std.{specs.Prelude.{count_by, sum_by}, proofs.Common.{subst, arith, ⊎_elim, length-append, []}}
 use Rattle.std.proofs.Common.{◌∷◌, ◌++◌, length, filter, Option, Some, None, option_map, is_none, refl, sym, ap, ◌∙◌}
-use Rattle.std.proofs.Common.{subst, arith, ⊎_elim, length-append, []}
+use Rattle.std.proofs.Common.{◌≡◌, ◌≢◌, ℕ, zero, suc, ◌+◌, ◌≤◌, ◌&&◌, ◌||◌, ◌==◌, not, Bool, true, false, cond, List}
 use Rattle.std.proofs.lemmas.{List.Sums.{sum_by-append}, Bool.{and_parts, false_from_ne_true}}
-use Rattle.std.specs.Prelude.{count_by, sum_by}
 use Rattle.dsa_base.proofs.Lists.{length-none, In-push, In-filter, In-passing, any-In, In-any}
 use Rattle.dsa_base.proofs.Counts.{count-push, length-filter-le, filter-none, In-counted, count-none, count-alike}
-use Rattle.dsa_base.proofs.Counts.{In-old}
-use Rattle.dsa_base.proofs.Tables.{not-both}
-use Rattle.dsa_base.specs.Lists.{In}
+use Rattle.dsa_base.{proofs.{Counts.{In-old}, Tables.{not-both}}, specs.Lists.{In}}
 use Rattle.dsa_regs.specs.{declared.Scope.{Scope, TheVariants.{Device, Pasid}}, Command.{queues_in}}
 use Rattle.dsa_store.{specs.Content.{Slot, Content, chain, all_held}, proofs.Sums.{sum-split}}
-use Rattle.dsa_book.specs.{declared.note.BatchNote.{BatchNote}, State.{Setup, is_batch_of}}
-use Rattle.dsa_book.specs.Work.{with_running_entry, opened_note, with_first_run}
-use Rattle.dsa_book.specs.Commands.{is_in_scope, is_among, takes_batch, kept_note}
+use Rattle.dsa_book.specs.{Commands.{is_in_scope, is_among, takes_batch, kept_note}, State.{Setup, is_batch_of}}
+use Rattle.dsa_book.specs.{Work.{with_running_entry, opened_note, with_first_run}, declared.note.BatchNote.{BatchNote}}
 use Rattle.dsa_laws.specs.Engines.{holds_batch, IsNoteOf, IsAlike, IsLawfulEngine}
 use Rattle.dsa_laws.proofs.{Contents.{sum-list-le}, Entries.{first_run-each}}
 
@@ -68,7 +64,7 @@ fewer setup ps ps' ms ms' (Some note) same p m l h = record {
   noted = λ b i t. h.noted b (p b i) t;
   parents = λ x i. h.parents x (m x i);
   alike = λ x b i j t. h.alike x b (m x i) (p b j) t;
-  most = omega (arith, h.most);
+  most = omega arith;
 }
 
 -- a note with other marks
@@ -82,7 +78,7 @@ marked setup ps ms f (Some n) a b c h = record {
   noted = λ x i t. let is = h.noted x i t in record { name = a n ∙ is.name; count = b n ∙ is.count };
   parents = λ x i. h.parents x i ∙ ap (λ k. Some k) (sym (a n));
   alike = h.alike;
-  most = omega (arith, h.most, c n);
+  most = omega (arith, c n);
 }
 
 -- ---- each kind of step of an engine
@@ -95,12 +91,12 @@ pub with_front : (setup : Setup) (ps ms : List Slot) (o : Option BatchNote) (x :
 with_front setup ps ms None x true is may h =
     let count = count-push (holds_batch setup) ps (with_running_entry x) true is in
     let old = h.no_batch in
-    let none : (y : Slot) → In y ms → ⊥ = λ y i. subst (λ (l : List Slot). In y l) h.no_members i in
+    let none : (y : Slot) → In y ms → ⊥ = λ y i. subst (λ l. In y l) h.no_members i in
     record {
       one_batch = omega arith;
       noted = λ y i t. ⊎_elim
           (λ j. absurd (omega (arith, In-counted (holds_batch setup) y ps j t)))
-          (λ (e : with_running_entry x ≡ y). subst
+          (λ e. subst
           (λ z. IsNoteOf (opened_note x.1) z) e (record { name = refl; count = refl }))
           (In-push y ps (with_running_entry x) i);
       parents = λ y i. absurd (none y i);
@@ -109,11 +105,11 @@ with_front setup ps ms None x true is may h =
     }
 with_front setup ps ms (Some n) x true is may h = absurd cc
 with_front setup ps ms None x false is may h = record {
-  no_batch = omega (arith, count-push (holds_batch setup) ps (with_running_entry x) false is, h.no_batch);
+  no_batch = omega (arith, count-push (holds_batch setup) ps (with_running_entry x) false is);
   no_members = h.no_members;
 }
 with_front setup ps ms (Some n) x false is may h = record {
-  one_batch = omega (arith, count-push (holds_batch setup) ps (with_running_entry x) false is, h.one_batch);
+  one_batch = omega (arith, count-push (holds_batch setup) ps (with_running_entry x) false is);
   noted = λ y i t. h.noted y (In-old (holds_batch setup) y ps (with_running_entry x) is i t) t;
   parents = h.parents;
   alike = λ m y i j t. h.alike m y i (In-old (holds_batch setup) y ps (with_running_entry x) is j t) t;
@@ -129,10 +125,10 @@ with_member setup ps ms n x parent like h = record {
   one_batch = h.one_batch;
   noted = λ b i t. let is = h.noted b i t in record { name = is.name; count = is.count };
   parents = λ m i. ⊎_elim (λ j. h.parents m j)
-      (λ (e : x ≡ m). subst (λ (z : Slot). z.1.parent ≡ Some n.batch) e parent) (In-push m ms x i);
+      (λ e. subst (λ z. z.1.parent ≡ Some n.batch) e parent) (In-push m ms x i);
   alike = λ m b i j t. ⊎_elim (λ k. h.alike m b k j t)
-      (λ (e : x ≡ m). subst (λ z. IsAlike z b) e (like b j t)) (In-push m ms x i);
-  most = omega (arith, h.most, length-append ms (x ∷ []));
+      (λ e. subst (λ z. IsAlike z b) e (like b j t)) (In-push m ms x i);
+  most = omega (arith, length-append ms (x ∷ []));
 }
 
 -- the first member that waits runs
@@ -145,10 +141,10 @@ with_run setup ps ms None h = record {
 with_run setup ps ms (Some n) h = record {
   one_batch = h.one_batch;
   noted = h.noted;
-  parents = first_run-each (λ (m : Slot). m.1.parent ≡ Some n.batch) (λ x p. p) ms h.parents;
+  parents = first_run-each (λ m. m.1.parent ≡ Some n.batch) (λ x p. p) ms h.parents;
   alike = λ m b i j t. first_run-each (λ m. IsAlike m b) (λ x p. record { queue = p.queue; pasid = p.pasid }) ms
       (λ x k. h.alike x b k j t) m i;
-  most = omega (arith, h.most, length-first_run ms);
+  most = omega (arith, length-first_run ms);
 }
 
 -- those that pass are left, and no batch is gone
@@ -163,11 +159,11 @@ pub with_end : (setup : Setup) (p : Slot → Bool) (ps ms : List Slot) (o : Opti
     → count_by (holds_batch setup) (filter p ps) + cond b 1 0 ≡ count_by (holds_batch setup) ps
     → (b ≡ true → ms ≡ []) → IsLawfulEngine setup ps ms o → IsLawfulEngine setup (filter p ps) (filter p ms)
     (cond b None (cond m (option_map (λ (note : BatchNote). record note { failed = true }) o) o))
-with_end setup p ps ms None true m less none h = absurd (omega (arith, h.no_batch))
+with_end setup p ps ms None true m less none h = absurd (omega arith)
 with_end setup p ps ms (Some n) true m less none h =
-    record { no_batch = omega (arith, h.one_batch); no_members = ap (filter p) (none refl) }
+    record { no_batch = omega arith; no_members = ap (filter p) (none refl) }
 with_end setup p ps ms o false true less none h =
-    marked setup (filter p ps) (filter p ms) (λ (note : BatchNote). record note { failed = true }) o (λ n. refl)
+    marked setup (filter p ps) (filter p ms) (λ note. record note { failed = true }) o (λ n. refl)
     (λ n. refl) (λ n. refl) (filtered setup p ps ms o (omega arith) h)
 with_end setup p ps ms o false false less none h = filtered setup p ps ms o (omega arith) h
 
@@ -175,7 +171,7 @@ with_end setup p ps ms o false false less none h = filtered setup p ps ms o (ome
 pub with_none : (setup : Setup) (ps ms : List Slot) (o : Option BatchNote) → IsLawfulEngine setup ps ms o
     → IsLawfulEngine setup ps [] (option_map (λ (note : BatchNote). record note { closed = true }) o)
 with_none setup ps ms o h =
-    marked setup ps [] (λ (note : BatchNote). record note { closed = true }) o (λ n. refl) (λ n. refl)
+    marked setup ps [] (λ note. record note { closed = true }) o (λ n. refl) (λ n. refl)
     (λ n. refl) (fewer setup ps ps ms [] o refl (λ x i. i) (λ x i. absurd i) (omega arith) h)
 
 -- ---- an abort
@@ -199,7 +195,7 @@ goes-along : (scope : Scope) (setup : Setup) (ps ms : List Slot) (o : Option Bat
     → holds_batch setup x ≡ true → is_taken_out scope x ≡ true → IsLawfulEngine setup ps ms o
     → (count_by (holds_batch setup) ps ≡ 1) × ((m : Slot) → In m ms → is_left scope m ≡ false)
 goes-along scope setup ps ms None x i t s h =
-    absurd (omega (arith, In-counted (holds_batch setup) x ps i t, h.no_batch))
+    absurd (omega (arith, In-counted (holds_batch setup) x ps i t))
 goes-along scope setup ps ms (Some n) x i t s h =
     (h.one_batch, λ m j. ap not (scope-alike scope m x (h.alike m x j i t) ∙ s))
 
@@ -222,7 +218,6 @@ with_abort scope setup ps ms o h = go (takes_batch setup scope ps) refl
             In-counted
                 (holds_batch setup) batch.0 (filter (is_taken_out scope) ps)
                 (In-passing (is_taken_out scope) batch.0 ps batch.1.0 both.1) both.0,
-            along.0,
           );
           no_members = filter-none (is_left scope) ms (count-none (is_left scope) ms along.1);
         }
@@ -231,6 +226,6 @@ with_abort scope setup ps ms o h = go (takes_batch setup scope ps) refl
         let i = In-filter (is_taken_out scope) x ps j in
         false_from_ne_true (holds_batch setup x) (λ t.
         not-both _ (In-any (λ slot. is_batch_of setup slot.1 && is_in_scope scope slot.1) x ps i.0
-        (ap (λ (b : Bool). b && is_in_scope scope x.1) t ∙ i.1)) f)) in
+        (ap (λ b. b && is_in_scope scope x.1) t ∙ i.1)) f)) in
         filtered setup (is_left scope) ps ms o
         (omega (arith, sum-split (λ x. cond (holds_batch setup x) 1 0) (is_taken_out scope) ps)) h

@@ -1,30 +1,90 @@
 -- The bounds on read buffers stay.
-use Rattle.std.proofs.Common.{eq-eqb, ◌⊎◌, ◌==◌, drop, ◌≡◌, ℕ, ◌+◌, ◌≤◌, ◌++◌, true, false, not, cond, List, [], ◌∷◌}
-use Rattle.std.proofs.Common.{set, Some, None, refl, sym, ap, ◌∙◌, subst, inl, inr, arith}
-use Rattle.std.proofs.lemmas.{List.Sums.{sum_by-cons, sum_by_push}, Bool.{ltb-false, or_parts}}
-use Rattle.std.proofs.Math.Path.{fun_ext}
-use Rattle.std.specs.Prelude.{sum_by, find, position}
-use Rattle.dsa_base.{specs.{Rows.{passes}, Numbers.{has}, Lists.{In}}, proofs.Tables.{not-both, no-row}}
-use Rattle.dsa_regs.specs.declared.{Caps.{Caps}, GroupConfig.{GroupConfig}, Phase.TheVariants.{Off, Stopping}}
-use Rattle.dsa_regs.specs.declared.{Scope.{Scope, TheVariants.{Device}}, Deed.{Deed, TheVariants.{Disable}}}
-use Rattle.dsa_regs.specs.Config.{queue_at, total_size, total_reserved, groups_table}
-use Rattle.dsa_regs.specs.Config.{check_device}
-use Rattle.dsa_regs.specs.Buffers.{fits}
+use Rattle.std.{specs.Prelude.{find, position, nat_lt, sum_by}, proofs.Common.{true, ◌≡◌, Bool, not, None, ◌==◌, ◌⊎◌}}
+use Rattle.std.proofs.Common.{◌<◌, false, ◌∙◌, List, Some, refl, ◌≤◌, ap, [], eq-eqb, drop, inr, set, arith, cond, ◌++◌}
+use Rattle.std.proofs.{Common.{inl, subst, ◌+◌, ℕ, sym, ◌∷◌}, lemmas.Bool.{ltb-false, Decides.{nat_tests}, or_parts}}
+use Rattle.std.proofs.{lemmas.List.Sums.{sum_by-cons, sum_by-append, sum_by_push}, Math.Path.{fun_ext}}
+use Rattle.dsa_regs.specs.Config.{queue_at, total_size, total_reserved, groups_table, limits_of, check_device}
+use Rattle.dsa_regs.specs.declared.{Caps.{Caps}, Phase.TheVariants.{Off, Stopping}}
+use Rattle.dsa_regs.specs.declared.Deed.{Deed, TheVariants.{Disable}}
+use Rattle.dsa_regs.specs.{declared.{Scope.{Scope, TheVariants.{Device}}}, Buffers.{fits}}
+use Rattle.dsa_desc.specs.Descriptor.{need}
 use Rattle.dsa_store.specs.Content.{Slot, Content, chain, after_push, without_front}
-use Rattle.dsa_book.specs.State.{Setup, Work, State, opening, is_off}
-use Rattle.dsa_book.specs.Work.{progress_list, member_list, members, used_on, has_room}
-use Rattle.dsa_book.specs.Work.{with_running_entry, with_first_run}
-use Rattle.dsa_book.specs.Commands.{after_stop, may_come}
-use Rattle.dsa_book.proofs.Phases.{on-not_off}
-use Rattle.dsa_laws.specs.{Change.{Change}, WellFormed.{HasShape, HasLawfulSetup, IsWellFormed}}
-use Rattle.dsa_laws.specs.Buffering.{HasBuffers}
+use Rattle.dsa_book.{proofs.Phases.{on-not_off}, specs.Work.{progress_list, member_list, members, used_on, has_room}}
+use Rattle.dsa_book.specs.{Work.{in_progress, with_running_entry, with_first_run}, Commands.{after_stop, may_come}}
+use Rattle.dsa_book.specs.State.{Setup, Work, is_member, need_of, held_by, State, opening, is_off}
+use Rattle.dsa_base.{specs.{Lists.{In}, Rows.{passes}, Numbers.{has}}, proofs.Tables.{not-both, no-row}}
+use Rattle.dsa_laws.specs.{Change.{Change}, WellFormed.{HasShape, HasLawfulSetup, IsWellFormed}, Buffering.{HasBuffers}}
 use Rattle.dsa_laws.proofs.Effects.{by_effect, by_setting, stopped-keeps}
 use Rattle.dsa_laws.proofs.Contents.{each-place, chain-filtered, sum-filter-le}
 use Rattle.dsa_laws.proofs.Covering.{AreWithin, all_needed, within-less, within-more, within-none}
-use Rattle.dsa_laws.proofs.Entries.{none-held, configs-kept}
-use Rattle.dsa_laws.proofs.Needs.{weight, weight-waiting, weight-run, weight-same, sum-within, sum_on, used_on-sum}
-use Rattle.dsa_laws.proofs.Needs.{sum_on-less, sum_on-more}
-use Rattle.dsa_laws.proofs.Shapes.{IsEngine, waiting-engine, a_taker, shape-change}
+use Rattle.dsa_laws.proofs.{Entries.{none-held, configs-kept}, Shapes.{IsEngine, waiting-engine, a_taker, shape-change}}
+
+-- ---- one entry
+
+-- what the entry of the slot holds
+weight : Setup → Slot → ℕ
+weight setup slot = held_by setup slot.1
+
+weight-waiting : (setup : Setup) (slot : Slot) → slot.1.running ≡ false → weight setup slot ≡ 0
+unfolding weight
+weight-waiting setup slot h = ap (λ b. cond b (need_of setup slot.1) 0) h
+
+-- it needs as much as it will once it runs
+weight-run : (setup : Setup) (slot : Slot) → weight setup (with_running_entry slot) ≡ need_of setup slot.1
+unfolding weight
+weight-run setup slot = refl
+
+-- the limits of its queue decide
+weight-same : (setup setup' : Setup) (slot : Slot)
+    → queue_at setup'.configs slot.1.queue ≡ queue_at setup.configs slot.1.queue
+    → weight setup' slot ≡ weight setup slot
+unfolding weight
+weight-same setup setup' slot h = ap (λ c. cond slot.1.running
+    (need slot.1.desc (limits_of c) (is_member slot.1)) 0) h
+
+-- ---- one list
+
+sum-within : (f f' : Slot → ℕ) (xs : List Slot) → ((x : Slot) → In x xs → f' x ≤ f x) → sum_by f' xs ≤ sum_by f xs
+sum-within f f' [] h = omega arith
+sum-within f f' (x ∷ xs) h =
+    omega (arith, sum-within f f' xs (λ y i. h y (inr i)), h x (inl refl), sum_by-cons f x xs, sum_by-cons f' x xs)
+
+-- ---- one engine
+
+-- the sum over its entries in progress and its members
+abbrev sum_on : Caps → (Slot → ℕ) → Content → ℕ → ℕ
+sum_on caps f c e = cond (nat_lt e caps.engines)
+    (sum_by f (chain c (caps.queues + e)) + sum_by f (chain c (caps.queues + caps.engines + e))) 0
+
+both-lists : (b : Bool) (f : Slot → ℕ) (xs ys : List Slot)
+    → sum_by f (cond b xs []) + sum_by f (cond b ys []) ≡ cond b (sum_by f xs + sum_by f ys) 0
+both-lists true f xs ys = refl
+both-lists false f xs ys = omega arith
+
+used_on-sum : (w : Work) (e : ℕ) → used_on w e ≡ sum_on w.setup.caps (weight w.setup) w.content e
+unfolding weight
+used_on-sum w e =
+    sum_by-append (weight w.setup) (in_progress w e) (members w e)
+    ∙ both-lists (nat_lt e w.setup.caps.engines) (weight w.setup) (chain w.content (progress_list w.setup e))
+    (chain w.content (member_list w.setup e))
+
+-- where no list has more, no engine needs more
+sum_on-less : (caps : Caps) (f f' : Slot → ℕ) (c c' : Content) (e : ℕ)
+    → ((k : ℕ) → sum_by f' (chain c' k) ≤ sum_by f (chain c k)) → sum_on caps f' c' e ≤ sum_on caps f c e
+sum_on-less caps f f' c c' e h =
+    let progress = h (caps.queues + e) in
+    let members = h (caps.queues + caps.engines + e) in
+    grind arith
+
+-- where list p, which is one of engine e's, has n more, no other engine needs more
+sum_on-more : (caps : Caps) (f : Slot → ℕ) (c c' : Content) (e p n : ℕ) → e < caps.engines
+    → (p ≡ caps.queues + e) ⊎ (p ≡ caps.queues + caps.engines + e)
+    → ((k : ℕ) → sum_by f (chain c' k) ≤ sum_by f (chain c k) + cond (k == p) n 0) → (j : ℕ)
+    → sum_on caps f c' j ≤ sum_on caps f c j + cond (j == e) n 0
+sum_on-more caps f c c' e p n engine place h j =
+    let progress = h (caps.queues + j) in
+    let members = h (caps.queues + caps.engines + j) in
+    grind (arith, nat_tests)
 
 -- ---- the bounds, by what each engine needs
 
@@ -159,7 +219,7 @@ bounded-change : (s s' : State) → IsWellFormed s.work.setup.caps s → Change 
 bounded-change s s' w change = by_setting After s s' change
     (λ e. settle _ e.caps e.groups (λ n. ap is_off (sym e.device) ∙ n))
     (λ c configs on. enabled-bounded s.work.setup _ s'.work.content c.check
-    (λ k. ap (λ (t : State). chain t.work.content k) (sym c.after)
+    (λ k. ap (λ t. chain t.work.content k) (sym c.after)
     ∙ none-held s.work.setup.caps s.work w.setup w.entries c.off k))
     (λ c. settle _ refl refl (λ n. n))
     (λ c. let stop = stopped-keeps c.deed c.scope Stopping s.work.setup in
@@ -184,8 +244,8 @@ bounded-change s s' w change = by_setting After s s' change
         let c = s'.work.content in
         let old = weight s.work.setup in
         let new = weight setup in
-        subst (λ (k : Caps). AreWithin k setup.groups (sum_on k new c)) (sym same)
-        (subst (λ (gs : List GroupConfig). AreWithin caps gs (sum_on caps new c)) (sym groups)
+        subst (λ k. AreWithin k setup.groups (sum_on k new c)) (sym same)
+        (subst (λ gs. AreWithin caps gs (sum_on caps new c)) (sym groups)
         (within-less caps s.work.setup.groups (sum_on caps old c) (sum_on caps new c)
         (buffers-effect s s' w.shape w.setup (bounded s.work w.buffers) change (off on))
         (λ e. sum_on-less caps old new c c e (λ k. sum-within old new (chain c k)

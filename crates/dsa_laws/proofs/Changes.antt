@@ -1,51 +1,35 @@
 -- Every step that may come is one of the changes, and its reply tells how many entries that adds.
-use Rattle.std.proofs.Common.{◌≡◌, ℕ, Bool, true, false, cond, Option, Some, None, refl}
-use Rattle.std.proofs.Common.{ap}
-use Rattle.std.proofs.lemmas.Bool.{cond_both, and_parts, not-false}
-use Rattle.std.specs.Prelude.{find, is_some, is_none, count_by}
+use Rattle.std.proofs.Common.{◌≡◌, ℕ, Bool, true, false, cond, Option, Some, None, refl, ap}
+use Rattle.std.{proofs.lemmas.Bool.{cond_both, and_parts, not-false}, specs.Prelude.{find, is_some, is_none, count_by}}
 use Rattle.dsa_desc.specs.declared.{Descriptor.{Descriptor}, Outcome.{Outcome}}
 use Rattle.dsa_laws.proofs.Effects.{came, gone}
 use Rattle.dsa_laws.specs.Change.{Change, same, is_noted, is_accepted, is_taken, is_fetched, is_started}
 use Rattle.dsa_laws.specs.Change.{is_abandoned, is_ended, is_device_enabled, is_queue_enabled, is_waiting, is_over}
 use Rattle.dsa_laws.specs.Change.{is_aborted, is_device_reset, is_queues_reset, is_queue_written, is_group_written}
 use Rattle.dsa_base.proofs.Tables.{not-both, table1, table2, table3}
-use Rattle.dsa_regs.specs.declared.{Command.{Command}}
-use Rattle.dsa_regs.specs.declared.Fault.{Fault, TheVariants.{BadQueue, WrongState, Busy}}
-use Rattle.dsa_regs.specs.declared.{QueueConfig.{QueueConfig}, GroupConfig.{GroupConfig}}
-use Rattle.dsa_regs.specs.declared.Scope.{Scope, TheVariants.{Device, Queue}}
-use Rattle.dsa_regs.specs.declared.Deed.{Deed, TheVariants.{Enable, Abort, Reset}}
-use Rattle.dsa_regs.specs.{Caps.{cell_count}, Command.{number_of, scope_of, deed_of}}
+use Rattle.dsa_regs.specs.{Command.{number_of, scope_of, deed_of}, Caps.{cell_count}}
+use Rattle.dsa_regs.specs.declared.{Scope.{TheVariants.{Device, Queue}, Scope}, GroupConfig.{GroupConfig}}
+use Rattle.dsa_regs.specs.declared.{QueueConfig.{QueueConfig}, Deed.{Deed, TheVariants.{Enable, Abort, Reset}}}
+use Rattle.dsa_regs.specs.declared.{Fault.{TheVariants.{BadQueue, WrongState, Busy}, Fault}, Command.{Command}}
 use Rattle.dsa_store.specs.{declared.entry.Cell.{Cell}, Content.{Slot, is_free}}
-use Rattle.dsa_book.specs.declared.answer.{Ticket.{Ticket}, NotedError.{NotedError}}
-use Rattle.dsa_book.specs.declared.answer.Cause.{Cause}
-use Rattle.dsa_book.specs.declared.answer.SubmitAnswer.{SubmitAnswer}
-use Rattle.dsa_book.specs.declared.answer.FetchAnswer.{FetchAnswer}
-use Rattle.dsa_book.specs.declared.answer.StartAnswer.{StartAnswer}
-use Rattle.dsa_book.specs.declared.answer.FinishAnswer.{FinishAnswer}
-use Rattle.dsa_book.specs.declared.answer.IssueAnswer.{IssueAnswer, TheVariants.{Refused}}
-use Rattle.dsa_book.specs.declared.answer.PollAnswer.{PollAnswer}
-use Rattle.dsa_book.specs.declared.answer.WriteAnswer.{WriteAnswer, TheVariants.{Refused}}
-use Rattle.dsa_book.specs.declared.answer.Reply.{Reply}
-use Rattle.dsa_book.specs.declared.answer.Reply.TheVariants.{Submit, Dispatch, Fetch, Start, Finish, Issue, Poll}
-use Rattle.dsa_book.specs.declared.answer.Reply.TheVariants.{Write, Clear}
-use Rattle.dsa_book.specs.declared.note.{BatchNote.{BatchNote}, ActiveCommand.{ActiveCommand}}
-use Rattle.dsa_book.specs.declared.event.{Portal.{Portal}, Kind.{Kind, TheVariants.{Enqcmd, Movdir64b}}}
-use Rattle.dsa_book.specs.declared.event.Event.{Event}
-use Rattle.dsa_book.specs.declared.event.Event.TheVariants.{Submit, Dispatch, Fetch, Start, Finish, Issue, Poll}
-use Rattle.dsa_book.specs.declared.event.Event.TheVariants.{WriteQueue, WriteGroup, ClearError}
-use Rattle.dsa_book.specs.State.{Setup, Intake, Work, State, is_ticket}
-use Rattle.dsa_book.specs.Submit.{submit, after_refusal, after_accept, next_noted}
-use Rattle.dsa_book.specs.Work.{qualifies, front_of, may_leave, dispatch, dispatch_of, fetch_of, fetch_for}
-use Rattle.dsa_book.specs.Work.{after_fetch, note_at, batch_on, is_all_fetched, start_of}
-use Rattle.dsa_book.specs.Work.{first_waiting, finish_of, running_on}
-use Rattle.dsa_book.specs.Commands.{issue, check_of, refusal_or, command_done_of, deed_done_of, wait_of, poll_of}
-use Rattle.dsa_book.specs.Commands.{write_queue, write_group, clear_of, is_at_end, is_bad_queues}
-use Rattle.dsa_book.specs.Commands.{may_come}
-use Rattle.dsa_book.specs.Totals.{is_accepted as accepts, is_fetched as fetches, ended_by}
-use Rattle.dsa_book.specs.Machine.{next, is_stored, may_choose, reply_of, with_work, with_intake, with_setup}
-use Rattle.dsa_book.specs.Machine.{intake_of}
-use Rattle.dsa_book.specs.Choice.{Choice, choice_of, in_cell, from_queue, cell_of, may_enter}
-use Rattle.dsa_book.proofs.Nexts.{next-each}
+use Rattle.dsa_book.specs.{Choice.{from_queue, Choice, cell_of, choice_of, may_enter, in_cell}, Commands.{check_of}}
+use Rattle.dsa_book.specs.Commands.{poll_of, deed_done_of, write_group, wait_of, refusal_or, is_at_end, command_done_of}
+use Rattle.dsa_book.specs.{Commands.{issue, clear_of, is_bad_queues, write_queue, may_come}, State.{Setup, is_ticket}}
+use Rattle.dsa_book.specs.{State.{State, Work, Intake}, Submit.{next_noted, after_refusal, submit, after_accept}}
+use Rattle.dsa_book.specs.Work.{finish_of, is_all_fetched, qualifies, fetch_of, batch_on, first_waiting, dispatch_of}
+use Rattle.dsa_book.specs.Work.{may_leave, front_of, dispatch, start_of, after_fetch, running_on, note_at, fetch_for}
+use Rattle.dsa_book.specs.Machine.{next, with_intake, with_work, intake_of, may_choose, with_setup, reply_of, is_stored}
+use Rattle.dsa_book.specs.declared.note.{ActiveCommand.{ActiveCommand}, BatchNote.{BatchNote}}
+use Rattle.dsa_book.specs.declared.answer.{SubmitAnswer.{SubmitAnswer}, FetchAnswer.{FetchAnswer}, Ticket.{Ticket}}
+use Rattle.dsa_book.specs.declared.answer.{PollAnswer.{PollAnswer}, IssueAnswer.{TheVariants.{Refused}, IssueAnswer}}
+use Rattle.dsa_book.specs.declared.answer.Reply.TheVariants.{Fetch, Dispatch, Start, Submit, Issue, Write, Poll}
+use Rattle.dsa_book.specs.declared.answer.{Reply.{TheVariants.{Clear, Finish}, Reply}, FinishAnswer.{FinishAnswer}}
+use Rattle.dsa_book.specs.declared.answer.WriteAnswer.{TheVariants.{Refused}, WriteAnswer}
+use Rattle.dsa_book.specs.declared.answer.{NotedError.{NotedError}, StartAnswer.{StartAnswer}, Cause.{Cause}}
+use Rattle.dsa_book.specs.declared.event.Kind.{TheVariants.{Movdir64b, Enqcmd}, Kind}
+use Rattle.dsa_book.specs.declared.event.Event.TheVariants.{Fetch, WriteQueue, Submit, Finish, WriteGroup, Poll, Start}
+use Rattle.dsa_book.specs.declared.event.{Event.{TheVariants.{Issue, ClearError, Dispatch}, Event}, Portal.{Portal}}
+use Rattle.dsa_book.{specs.Totals.{ended_by, is_fetched as fetches, is_accepted as accepts}, proofs.Nexts.{next-each}}
 
 -- ---- what a reply tells of the change that its step makes
 
@@ -108,7 +92,7 @@ submit-tells : (s : State) (q : ℕ) (portal : Portal) (kind : Kind) (d : Descri
     → let r = submit (intake_of s) q portal kind d (cell_of choice) in choice_of (Submit r.0) ≡ choice → Submits s r
 submit-tells s q portal kind d choice may =
     let cell = cell_of choice in
-    table3 (λ (r : SubmitAnswer × Intake). choice_of (Submit r.0) ≡ choice → Submits s r) _ _ _
+    table3 (λ r. choice_of (Submit r.0) ≡ choice → Submits s r) _ _ _
     _ _ _ (after_accept (intake_of s) q kind d cell)
     (λ x told. turned_away-tells s q kind _)
     (λ x told. turned_away-tells s q kind _)

@@ -4,8 +4,7 @@ use Rattle.std.proofs.Common.{map, filter, set, get_or, refl, ap, subst, inr, ar
 use Rattle.std.proofs.lemmas.List.{Sums.{sum_by-cons, sum_by-append}, get_or-set_same, get_or-set_other}
 use Rattle.std.specs.Prelude.{sum_by, count_by}
 use Rattle.dsa_base.proofs.Lists.{In-only, In-left, In-right, In-append, In-filter, get_or-replicated}
-use Rattle.dsa_base.proofs.Counts.{filter-one}
-use Rattle.dsa_base.specs.Lists.{In}
+use Rattle.dsa_base.{proofs.Counts.{filter-one}, specs.Lists.{In}}
 use Rattle.dsa_store.specs.Content.{Slot, Content, chain, all_held, after_push, without_front}
 use Rattle.dsa_store.proofs.Sums.{sum-split}
 use Rattle.dsa_laws.specs.Lists.{EachAt}

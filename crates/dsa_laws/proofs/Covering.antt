@@ -4,10 +4,9 @@ use Rattle.std.proofs.Common.{map, get_or, replicate, Option, Some, None, refl, 
 use Rattle.std.proofs.lemmas.List.{Quantifiers.{position-Some}, Sums.{sum_by-cons, sum_by-le-sum_by}}
 use Rattle.std.proofs.lemmas.Bool.{cases_lt, ltb-false, Decides.{nat_tests}}
 use Rattle.std.specs.Prelude.{sum_by, count_by, filter, position, nat_lt}
-use Rattle.dsa_base.proofs.{Counts.{one-place}, NumberLemmas.{numbers_below-miss}}
 use Rattle.dsa_base.proofs.NumberLists.{get_or-each, get_or-past, length-each, raised-table, zero-table}
-use Rattle.dsa_base.proofs.NumberSums.{sum-raised, zero-sum}
-use Rattle.dsa_base.specs.{Rows.{passes}, Numbers.{has, numbers_below}}
+use Rattle.dsa_base.proofs.{NumberSums.{sum-raised, zero-sum}, NumberLemmas.{numbers_below-miss}, Counts.{one-place}}
+use Rattle.dsa_base.specs.{Numbers.{has, numbers_below}, Rows.{passes}}
 use Rattle.dsa_regs.specs.declared.{Caps.{Caps}, GroupConfig.{GroupConfig}}
 use Rattle.dsa_regs.specs.{Config.{zero_group, group_at, is_in_two, total_reserved}, Buffers.{covered_count, fits}}
 
@@ -20,7 +19,7 @@ covered-less [] us vs l h = omega arith
 covered-less (g ∷ groups) [] vs l h = omega arith
 covered-less (g ∷ groups) (n ∷ us) [] l h = absurd (omega arith)
 covered-less (g ∷ groups) (n ∷ us) (m ∷ vs) l h =
-    let one : n ≤ m = h zero in
+    let one = h zero in
     omega (arith, covered-less groups us vs (omega arith) (λ j. h (suc j)))
 
 -- the same of two tables
@@ -38,7 +37,7 @@ covered-none : (groups : List GroupConfig) (n : ℕ) → covered_count groups (r
 covered-none [] n = omega arith
 covered-none (g ∷ groups) zero = omega arith
 covered-none (g ∷ groups) (suc n) =
-    omega (arith, covered-none groups n, sum_by-cons (λ (x : GroupConfig). x.reserved) g groups)
+    omega (arith, covered-none groups n, sum_by-cons (λ x. x.reserved) g groups)
 
 -- ---- both bounds, by what each engine needs
 
@@ -60,7 +59,7 @@ within-less caps groups f f' w h =
     λ g. sum_by-le-sum_by f' f (filter (has (group_at groups g).engines) (numbers_below caps.engines)) h in
     let all = covered-table groups (needed f' caps.engines groups) (needed f caps.engines groups) caps.groups
     (λ g i. each g) in
-    record { allowed = λ g i. omega (arith, w.allowed g i, each g); total = omega (arith, w.total) }
+    record { allowed = λ g i. omega (arith, w.allowed g i, each g); total = omega arith }
 
 -- with nothing needed, what is reserved must be at hand
 pub within-none : (caps : Caps) (groups : List GroupConfig) (f : ℕ → ℕ) → total_reserved groups ≤ caps.read_buffers
@@ -90,7 +89,7 @@ within-group : (caps : Caps) (groups : List GroupConfig) (f f' : ℕ → ℕ) (g
     → needed f' caps.engines groups j ≤ needed f caps.engines groups j + cond (j == g) n 0)
     → AreWithin caps groups f'
 within-group caps groups f f' g n w i room more =
-    let old : ℕ → ℕ = needed f caps.engines groups in
+    let old = needed f caps.engines groups in
     let raised : ℕ → ℕ = λ j. old j + cond (j == g) n 0 in
     let table = raised-table old raised caps.groups g n i (λ j k ne. grind (arith, nat_tests))
     (grind (arith, nat_tests)) in
@@ -125,7 +124,7 @@ within-more caps groups f f' e n w size inside alone room more =
     go None is r = absurd cc
     go (Some g) is r =
         let at = position-Some has_it groups g zero_group is in
-        within-group caps groups f f' g n w (omega (arith, at.0)) r
+        within-group caps groups f f' g n w (omega arith) r
         (λ j i. let only = λ (t : has_it (group_at groups j) ≡ true). one-place has_it groups j g zero_group once
         (omega arith) at.0 t at.1 in
         grind (arith, nat_tests, sum-more (has (group_at groups j).engines) f f' e n caps.engines more))

@@ -1,23 +1,19 @@
 -- What changes do, in eight kinds by what is held and in nine by the set-up: each law says what these mean for it.
-use Rattle.std.proofs.Common.{◌≡◌, ◌==◌, ◌<◌, Bool, true, false, cond, ℕ, ◌+◌, Option, Some, None, List, [], ◌∷◌}
-use Rattle.std.proofs.Common.{length, refl, subst}
-use Rattle.std.specs.Prelude.{slice_set}
-use Rattle.dsa_regs.specs.declared.Phase.{Phase, TheVariants.{Off, On, Stopping}}
-use Rattle.dsa_regs.specs.declared.{Deed.{Deed, TheVariants.{Disable}}, QueueConfig.{QueueConfig}}
-use Rattle.dsa_regs.specs.declared.Scope.{Scope, TheVariants.{Device}}
+use Rattle.std.proofs.Common.{◌≡◌, ◌==◌, ◌<◌, Bool, true, false, cond, ℕ}
+use Rattle.std.{proofs.Common.{◌+◌, Option, Some, None, List, [], ◌∷◌, length, refl, subst}, specs.Prelude.{slice_set}}
+use Rattle.dsa_regs.specs.declared.{Phase.{Phase, TheVariants.{Off, On, Stopping}}, Deed.{Deed, TheVariants.{Disable}}}
+use Rattle.dsa_regs.specs.declared.{QueueConfig.{QueueConfig}, Scope.{Scope, TheVariants.{Device}}}
 use Rattle.dsa_regs.specs.{Config.{queue_at, zero_queue}, Command.{queues_in}}
 use Rattle.dsa_base.proofs.NumberLists.{get_or-each}
 use Rattle.dsa_book.specs.{State.{Setup, Work, State}, Submit.{after_accept}, declared.answer.NotedError.{NotedError}}
 use Rattle.dsa_book.specs.Work.{members, after_take, after_fetch, after_start, after_abandon, after_end}
-use Rattle.dsa_book.specs.Commands.{after_stop, with_device, with_phases, with_sizes_alone, size_alone, is_among}
-use Rattle.dsa_book.specs.Commands.{after_abort, count_in_scope, reset}
-use Rattle.dsa_book.specs.Machine.{intake_of, with_intake}
-use Rattle.dsa_laws.specs.Change.{Change, IsAccepted, IsTaken, IsFetched, IsStarted, IsAbandoned, IsEnded}
-use Rattle.dsa_laws.specs.Change.{IsDeviceEnabled, IsQueueEnabled, IsWaiting, IsOver, IsDeviceReset, IsQueuesReset}
-use Rattle.dsa_laws.specs.Change.{IsQueueWritten, IsGroupWritten, same, is_noted, is_accepted, is_taken, is_fetched}
-use Rattle.dsa_laws.specs.Change.{is_started, is_abandoned, is_ended, is_device_enabled, is_queue_enabled, is_waiting}
-use Rattle.dsa_laws.specs.Change.{is_over, is_aborted, is_device_reset, is_queues_reset, is_queue_written}
-use Rattle.dsa_laws.specs.Change.{is_group_written}
+use Rattle.dsa_book.specs.Commands.{after_stop, with_device, with_phases, with_sizes_alone, size_alone}
+use Rattle.dsa_book.specs.{Commands.{is_among, after_abort, count_in_scope, reset}, Machine.{intake_of, with_intake}}
+use Rattle.dsa_laws.specs.Change.{is_device_reset, IsEnded, IsAbandoned, IsOver, Change, is_fetched, IsStarted}
+use Rattle.dsa_laws.specs.Change.{is_abandoned, is_ended, IsGroupWritten, IsQueuesReset, IsTaken, is_noted, is_started}
+use Rattle.dsa_laws.specs.Change.{is_device_enabled, is_waiting, is_taken, IsQueueEnabled, same, IsAccepted, is_over}
+use Rattle.dsa_laws.specs.Change.{is_accepted, IsDeviceEnabled, IsDeviceReset, IsFetched, is_aborted, is_queue_enabled}
+use Rattle.dsa_laws.specs.Change.{is_queues_reset, IsWaiting, is_queue_written, is_group_written, IsQueueWritten}
 
 -- ---- what a disable sets
 
@@ -105,14 +101,14 @@ pub by_count : (P : List (Option ℕ) → ℕ → Work → Type 0) (s s' : State
 by_count P s s' c set accept take fetch start abandon end remove = go c
   where
     is_set : (t : State) → t ≡ s' → IsSetUp s.work t.work → P [] 0 s'.work
-    is_set t e h = set (subst (λ (t : State). IsSetUp s.work t.work) e h)
+    is_set t e h = set (subst (λ t. IsSetUp s.work t.work) e h)
 
     kept : (setup : Setup) → setup.caps ≡ s.work.setup.caps → setup.next_name ≡ s.work.setup.next_name
         → IsSetUp s.work (record s.work { setup = setup })
     kept setup caps is_among = record { content = refl; notes = refl; fates = refl; caps = caps; names = is_among }
 
     at : {xs : List (Option ℕ)} {n : ℕ} (t : State) → t ≡ s' → P xs n t.work → P xs n s'.work
-    at {xs} {n} t e p = subst (λ (t : State). P xs n t.work) e p
+    at {xs} {n} t e p = subst (λ t. P xs n t.work) e p
 
     is_removed : (number : ℕ) (scope : Scope) (setup : Setup) → setup.caps ≡ s.work.setup.caps
         → setup.next_name ≡ s.work.setup.next_name
@@ -172,7 +168,7 @@ pub by_setting : (P : Setup → Type 0) (s s' : State) → Change s s'
 by_setting P s s' c stay device queue wait over reset resets write group = go c
   where
     stays : (t : State) → t ≡ s' → IsUnmoved s.work.setup t.work.setup → P s'.work.setup
-    stays t e h = stay (subst (λ (t : State). IsUnmoved s.work.setup t.work.setup) e h)
+    stays t e h = stay (subst (λ t. IsUnmoved s.work.setup t.work.setup) e h)
 
     unmoved : (name : ℕ) (noted : Option NotedError) → IsUnmoved s.work.setup
         (record s.work.setup { next_name = name; noted = noted })
@@ -185,7 +181,7 @@ by_setting P s s' c stay device queue wait over reset resets write group = go c
     one_more = unmoved (s.work.setup.next_name + 1) s.work.setup.noted
 
     at : (t : State) → t ≡ s' → P t.work.setup → P s'.work.setup
-    at t e p = subst (λ (t : State). P t.work.setup) e p
+    at t e p = subst (λ t. P t.work.setup) e p
 
     go : Change s s' → P s'.work.setup
     go (same e) = stays s e still

@@ -1,36 +1,26 @@
 -- Each engine has a note exactly where it works on a batch, whatever step is made.
-use Rattle.std.proofs.Common.{drop, ◌≡◌, ◌≢◌, ℕ, ◌+◌, ◌<◌, ◌≤◌, ◌&&◌, ◌==◌, not, Bool, true, false, cond, List}
-use Rattle.std.proofs.Common.{◌∷◌, ◌++◌, length, filter, set, get_or, Option, Some, None, option_map, refl}
-use Rattle.std.proofs.Common.{sym, ap, ◌∙◌, subst, arith, ⊎_elim, eq-eqb, eqb-true, []}
-use Rattle.std.proofs.lemmas.Bool.{Decides.{nat_tests}, false_from_ne_true, cases_Bool, cases_eq, ltb-false}
-use Rattle.std.proofs.lemmas.List.{length-set, get_or-set_same, get_or-set_other}
-use Rattle.std.proofs.Math.ListN.{get_or-eq_default}
-use Rattle.std.specs.Prelude.{nat_lt, count_by}
-use Rattle.dsa_base.proofs.{Lists.{length-none, In-find, get_or-replicated}, Counts.{In-same, In-counted}}
-use Rattle.dsa_base.proofs.NumberLists.{get_or-each}
-use Rattle.dsa_base.specs.Lists.{In}
+use Rattle.std.proofs.Common.{◌∷◌, ◌≢◌, get_or, ◌≤◌, ◌++◌, Bool, false, arith, ℕ, List, not, set, ⊎_elim}
+use Rattle.std.proofs.Common.{◌+◌, ap, option_map, cond, refl, None, ◌<◌, ◌&&◌, ◌==◌, Option, eqb-true, sym, subst}
+use Rattle.std.proofs.{Common.{length, Some, filter, eq-eqb, drop, true, [], ◌∙◌, ◌≡◌}, Math.ListN.{get_or-eq_default}}
+use Rattle.std.proofs.lemmas.Bool.{ltb-false, false_from_ne_true, cases_eq, Decides.{nat_tests}, cases_Bool}
+use Rattle.std.{proofs.lemmas.List.{get_or-set_other, length-set, get_or-set_same}, specs.Prelude.{count_by, nat_lt}}
+use Rattle.dsa_base.proofs.Lists.{length-none, In-find, get_or-replicated}
+use Rattle.dsa_base.{proofs.{Counts.{In-same, In-counted}, NumberLists.{get_or-each}}, specs.Lists.{In}}
 use Rattle.dsa_desc.specs.{declared.Outcome.{Outcome}, Descriptor.{with_pasid, is_successful, is_lawful_batch}}
-use Rattle.dsa_regs.specs.{declared.{Caps.{Caps}, QueueConfig.{QueueConfig}}, Caps.{list_count}}
-use Rattle.dsa_regs.specs.Config.{limits_of}
+use Rattle.dsa_regs.specs.{declared.{Caps.{Caps}}, Caps.{list_count}, Config.{limits_of}}
 use Rattle.dsa_store.specs.Content.{Slot, Content, is_cell, chain, place_count, use_count, without_front}
 use Rattle.dsa_store.proofs.{Places.{filter-absent}, Sums.{uses-counted}}
-use Rattle.dsa_book.specs.declared.note.BatchNote.{BatchNote}
 use Rattle.dsa_book.specs.State.{Setup, Work, State, opening, is_member, is_batch_of, status_of}
-use Rattle.dsa_book.specs.Work.{progress_list, member_list, in_progress, members, note_at}
-use Rattle.dsa_book.specs.Work.{with_running_entry, is_unfinished, note_after, with_first_run, opened_note}
-use Rattle.dsa_book.specs.Work.{after_take, after_end}
-use Rattle.dsa_book.specs.Commands.{kept_note, is_among}
-use Rattle.dsa_laws.specs.{Change.{Change}, WellFormed.{HasShape, NamesOnce, IsWellFormed}}
-use Rattle.dsa_laws.specs.Engines.{holds_batch, IsAlike, IsLawfulEngine, HasLawfulEngines}
-use Rattle.dsa_laws.proofs.Effects.{by_effect}
-use Rattle.dsa_laws.proofs.Contents.{chain-filtered, sum-list-le, sum-without, chain-empty}
-use Rattle.dsa_laws.proofs.Shapes.{queues-same, engines-same, shape-change, shape-opening, IsEngine, IsTaker, StandsOn}
-use Rattle.dsa_laws.proofs.Shapes.{on-queue, an_engine, numbered-engine, noted-engine, waiting-engine, a_taker}
-use Rattle.dsa_laws.proofs.Shapes.{running-place}
-use Rattle.dsa_laws.proofs.Entries.{configs-kept}
-use Rattle.dsa_laws.proofs.Batches.{by_setup, with_front, with_member, with_run, with_none, with_end, is_left}
-use Rattle.dsa_laws.proofs.Batches.{with_abort, sum-two}
-use Rattle.dsa_laws.proofs.{Flows.{names-counted}}
+use Rattle.dsa_book.specs.Work.{after_take, after_end, progress_list, member_list, in_progress, members}
+use Rattle.dsa_book.specs.Work.{note_at, with_running_entry, is_unfinished, note_after, with_first_run, opened_note}
+use Rattle.dsa_book.specs.{declared.note.BatchNote.{BatchNote}, Commands.{kept_note, is_among}}
+use Rattle.dsa_laws.proofs.{Flows.{names-counted}, Contents.{sum-list-le, sum-without, chain-filtered, chain-empty}}
+use Rattle.dsa_laws.proofs.Shapes.{StandsOn, waiting-engine, queues-same, engines-same, shape-change, noted-engine}
+use Rattle.dsa_laws.proofs.Shapes.{an_engine, a_taker, IsEngine, IsTaker, on-queue, numbered-engine, running-place}
+use Rattle.dsa_laws.proofs.{Shapes.{shape-opening}, Entries.{configs-kept}, Effects.{by_effect}, Batches.{with_none}}
+use Rattle.dsa_laws.proofs.Batches.{is_left, with_end, with_member, with_run, by_setup, with_front, sum-two, with_abort}
+use Rattle.dsa_laws.specs.WellFormed.{HasShape, NamesOnce, IsWellFormed}
+use Rattle.dsa_laws.specs.{Change.{Change}, Engines.{IsAlike, HasLawfulEngines, holds_batch, IsLawfulEngine}}
 
 -- ---- an engine's lists by their numbers
 
@@ -59,7 +49,7 @@ of-lists caps w shape h e = ⊎_elim
     (λ t. let k = an_engine shape e t in rw (k.progress, k.members) (h e k))
     (λ f.
     let none : note_at w e ≡ None = get_or-eq_default w.notes None
-    (omega (arith, ltb-false e w.setup.caps.engines f, engines-same shape, shape.notes)) in
+    (omega (arith, ltb-false e w.setup.caps.engines f, engines-same shape)) in
     let progress : in_progress w e ≡ [] = rw f refl in
     let members : members w e ≡ [] = rw f refl in
     rw (progress, members, none) (record { no_batch = refl; no_members = refl }))
@@ -70,7 +60,7 @@ of-lists caps w shape h e = ⊎_elim
 -- one engine has changed, or it is another
 by_engine : (setup : Setup) (c : Content) (ns : List (Option BatchNote)) (k e : ℕ) → LawIn setup c ns k
     → (e ≢ k → LawIn setup c ns e) → LawIn setup c ns e
-by_engine setup c ns k e a b = ⊎_elim (λ (q : e ≡ k). subst (LawIn setup c ns) (sym q) a) b (cases_eq e k)
+by_engine setup c ns k e a b = ⊎_elim (λ q. subst (LawIn setup c ns) (sym q) a) b (cases_eq e k)
 
 -- a list is set that is none of the engine's
 set_other : (setup : Setup) (c : Content) (ns ns' : List (Option BatchNote)) (k : ℕ) (l : List Slot) (e : ℕ)
@@ -89,11 +79,11 @@ members_set w k e l ns o i j here other new old =
     let m = member_list w.setup k in
     by_engine w.setup (set w.content m l) ns k e
     (rw (
-      get_or-set_other w.content m (progress_list w.setup k) l [] (omega (arith, j.below)),
+      get_or-set_other w.content m (progress_list w.setup k) l [] (omega arith),
       get_or-set_same w.content m l [] j.members_inside,
       here,
     ) new)
-    (λ n. set_other w.setup w.content w.notes ns m l e (omega (arith, i.below)) (omega arith) (other n) old)
+    (λ n. set_other w.setup w.content w.notes ns m l e (omega arith) (omega arith) (other n) old)
 
 -- ---- an entry ends
 
@@ -140,7 +130,7 @@ entry_ended w k e x outcome i j once place ready own old =
     ))
     (rw q at place.at) (eq-eqb x.0.0 x.0.0 refl))
     (λ (q : place.list ≡ member_list w.setup k).
-    let none : b ≡ false = false_from_ne_true b (λ t. rw (q, empty t) at place.at) in
+    let none = false_from_ne_true b (λ t. rw (q, empty t) at place.at) in
     rw (apart (progress_list w.setup k) (omega arith), none) (omega arith))
     place.own)
     empty own))
@@ -148,9 +138,9 @@ entry_ended w k e x outcome i j once place ready own old =
     rw (
       chain-filtered p w.content (progress_list w.setup e),
       chain-filtered p w.content (member_list w.setup e),
-      apart (progress_list w.setup e) (omega (arith, place.own)),
+      apart (progress_list w.setup e) (omega arith),
       apart (member_list w.setup e)
-          (omega (arith, place.own)),
+          (omega arith),
       get_or-set_other w.notes k e note None n,
     ) old)
   where
@@ -183,13 +173,13 @@ front_taken w k e q x i j same own old =
     let l = chain c1 p ++ with_running_entry x ∷ [] in
     let b = holds_batch w.setup x in
     let notes = (after_take w k q x).notes in
-    let queue : q < w.setup.caps.queues = omega (arith, j.queue) in
+    let queue : q < w.setup.caps.queues = omega arith in
     let own_below = j.engine.below in
     let below = i.below in
     by_engine w.setup (after_take w k q x).content notes k e
     (rw (
       get_or-set_other c1 p (member_list w.setup k) l [] (omega arith),
-      get_or-set_same c1 p l [] (omega (arith, length-set w.content q rest, j.engine.progress_inside)),
+      get_or-set_same c1 p l [] (omega (arith, length-set w.content q rest)),
       get_or-set_other w.content q p rest [] (omega arith),
       get_or-set_other w.content q (member_list w.setup k) rest []
           (omega arith),
@@ -234,7 +224,7 @@ lists-change caps s s' e w i c =
     let engine = noted-engine w.shape k c.note c.is_note in
     let found = In-find (λ slot. slot.1.name == c.note.batch) c.batch (in_progress s.work k) c.is_batch in
     let here : In c.batch (own_progress s.work k) = rw engine.progress at found.0 in
-    let more : Option BatchNote = Some (record c.note { fetched = c.note.fetched + 1 }) in
+    let more = Some (record c.note { fetched = c.note.fetched + 1 }) in
     let member : Slot = (
       c.cell,
       record {
@@ -264,7 +254,7 @@ lists-change caps s s' e w i c =
     (λ c.
     let k = c.engine in
     let engine = waiting-engine w.shape k c.slot c.is_first in
-    let closed : Option BatchNote = option_map (λ (note : BatchNote). record note { closed = true })
+    let closed = option_map (λ (note : BatchNote). record note { closed = true })
     (note_at s.work k) in
     members_set s.work k e [] _ closed i engine
     (get_or-set_same s.work.notes k closed None engine.noted) (get_or-set_other s.work.notes k e closed None)
@@ -290,11 +280,11 @@ pub engines-change : (caps : Caps) (s s' : State) → IsWellFormed caps s → Ch
 engines-change caps s s' w c =
     let after = shape-change caps s s' w.shape c in
     of-lists caps s'.work after (λ e k.
-    subst (λ (c : Caps). IsLawfulEngine s'.work.setup (chain s'.work.content (c.queues + e))
+    subst (λ c. IsLawfulEngine s'.work.setup (chain s'.work.content (c.queues + e))
     (chain s'.work.content (c.queues + c.engines + e)) (note_at s'.work e)) (w.shape.same_caps ∙ sym after.same_caps)
     (by_setup s.work.setup s'.work.setup (chain s'.work.content (progress_list s.work.setup e))
     (chain s'.work.content (member_list s.work.setup e)) (note_at s'.work e)
-    (λ x i. ap (λ (c : QueueConfig). is_lawful_batch x.1.desc (limits_of c) (is_member x.1))
+    (λ x i. ap (λ c. is_lawful_batch x.1.desc (limits_of c) (is_member x.1))
     (configs-kept caps s s' w.shape w.entries c (progress_list s.work.setup e) x i))
     (lists-change caps s s' e w (numbered-engine w.shape e k.inside) c)))
 

@@ -1,31 +1,25 @@
 -- What entries are, by the list in which they stand.
-use Rattle.std.proofs.Common.{◌≡◌, ℕ, ◌<◌, ◌==◌, not, Bool, true, false, cond, List, [], ◌∷◌, refl, sym, ap}
-use Rattle.std.proofs.Common.{subst, ◌⊎◌, inl, inr, arith, ⊎_elim, ◌∙◌}
+use Rattle.std.{specs.{Prelude.{nat_lt, is_some}, List.{list_any}}, proofs.lemmas.List.{get_or-set_other}}
 use Rattle.std.proofs.lemmas.Bool.{false_from_ne_true, cases_Bool, ltb-true, ltb-false, not-true}
-use Rattle.std.proofs.lemmas.List.{get_or-set_other}
-use Rattle.std.proofs.Math.ListN.{get_or-eq_default}
-use Rattle.std.specs.{Prelude.{nat_lt, is_some}, List.{list_any}}
+use Rattle.std.proofs.{Math.ListN.{get_or-eq_default}, Common.{subst, ◌⊎◌, inl, inr, arith, ⊎_elim, ◌∙◌}}
+use Rattle.std.proofs.Common.{◌≡◌, ℕ, ◌<◌, ◌==◌, not, Bool, true, false, cond, List, [], ◌∷◌, refl, sym, ap}
 use Rattle.dsa_base.proofs.{Lists.{In-any, none-In, In-front, In-find}, NumberLists.{get_or-each}, Tables.{not-both}}
 use Rattle.dsa_base.specs.Lists.{In}
-use Rattle.dsa_regs.specs.Caps.{list_count}
-use Rattle.dsa_regs.specs.declared.{Caps.{Caps}, Phase.{Phase, TheVariants.{Off, On, Stopping}}}
-use Rattle.dsa_regs.specs.declared.{Scope.{Scope, TheVariants.{Device}}, Deed.{Deed, TheVariants.{Disable}}}
-use Rattle.dsa_regs.specs.{Command.{queues_in}, Config.{queue_at, zero_queue}}
+use Rattle.dsa_regs.specs.{Caps.{list_count}, Config.{queue_at, zero_queue}, Command.{queues_in}}
+use Rattle.dsa_regs.specs.declared.{Scope.{TheVariants.{Device}, Scope}, Deed.{Deed, TheVariants.{Disable}}}
+use Rattle.dsa_regs.specs.declared.{Phase.{Phase, TheVariants.{Off, On, Stopping}}, Caps.{Caps}}
 use Rattle.dsa_desc.specs.Descriptor.{pasid_of}
 use Rattle.dsa_store.specs.Content.{Slot, Content, chain, all_held, without_front}
-use Rattle.dsa_book.specs.State.{Setup, Work, State, opening, is_off, phase_at}
-use Rattle.dsa_book.specs.Work.{progress_list, member_list, in_progress, members, with_running_entry, with_first_run}
-use Rattle.dsa_book.specs.Work.{after_take, after_fetch, after_start}
 use Rattle.dsa_book.specs.Commands.{after_stop, with_phases, is_among, is_in_scope, holds_any, is_awaited}
-use Rattle.dsa_book.specs.{Submit.{after_accept}, Machine.{intake_of, with_intake}}
+use Rattle.dsa_book.specs.{Submit.{after_accept}, State.{Setup, Work, State, opening, is_off, phase_at}}
+use Rattle.dsa_book.specs.Work.{progress_list, member_list, in_progress, members, with_running_entry, with_first_run}
+use Rattle.dsa_book.specs.{Work.{after_take, after_fetch, after_start}, Machine.{intake_of, with_intake}}
 use Rattle.dsa_book.proofs.{Scopes.{unnamed}, Phases.{on-not_off}}
 use Rattle.dsa_laws.specs.Change.{Change, IsAccepted, IsTaken, IsFetched, IsStarted}
-use Rattle.dsa_laws.specs.WellFormed.{HasShape, IsPlaced, HasLawfulEntries, HasLawfulSetup}
-use Rattle.dsa_laws.specs.Lists.{EachAt}
+use Rattle.dsa_laws.specs.{WellFormed.{HasShape, IsPlaced, HasLawfulEntries, HasLawfulSetup}, Lists.{EachAt}}
 use Rattle.dsa_laws.proofs.Effects.{by_effect, by_setting, stopped-keeps, reset-config}
 use Rattle.dsa_laws.proofs.Contents.{In-chain, In-filtered, each-set, each-pushed, each-without_front, each-filtered}
-use Rattle.dsa_laws.proofs.Contents.{chain-empty}
-use Rattle.dsa_laws.proofs.Shapes.{queues-same, engines-same, on-queue, a_taker, In-cond}
+use Rattle.dsa_laws.proofs.{Contents.{chain-empty}, Shapes.{queues-same, engines-same, on-queue, a_taker, In-cond}}
 
 -- what holds of each of a list, and is not changed when an entry begins to run, holds when the first begins to run
 pub first_run-each : (P : Slot → Type 0) → ((x : Slot) → P x → P (with_running_entry x)) → (xs : List Slot)
@@ -123,7 +117,7 @@ placed-change caps s s' h a c =
     (record {
       member = λ i. absurd (omega arith);
       queue = λ i. absurd (omega arith);
-      submitted = λ i. (a c.queue c.front (In-front c.front _ c.is_front)).submitted (omega (arith, k.queue));
+      submitted = λ i. (a c.queue c.front (In-front c.front _ c.is_front)).submitted (omega arith);
       waiting = λ i. absurd (omega arith);
       running = λ i j. refl;
     }))
@@ -147,7 +141,7 @@ pub in-use-below : (caps : Caps) (w : Work) (q : ℕ) → HasShape caps w → is
 in-use-below caps w q h n = ⊎_elim
     (λ t. ltb-true q w.setup.caps.queues t)
     (λ f. not-both (is_off (phase_at w.setup q)) (ap is_off (get_or-eq_default w.setup.phases Off
-    (omega (arith, ltb-false q w.setup.caps.queues f, queues-same h, h.phases)))) n)
+    (omega (arith, ltb-false q w.setup.caps.queues f, queues-same h)))) n)
     (cases_Bool (nat_lt q w.setup.caps.queues))
 
 -- a phase that is not set to Off stays
@@ -178,7 +172,7 @@ waiting-off caps w _ scope h q n = n
 -- what is held after a change, as its last state is made
 pub In-after : (s t : State) → t ≡ s → (k : ℕ) (x : Slot) → In x (chain s.work.content k)
     → In x (chain t.work.content k)
-In-after s t e k x i = subst (λ (u : State). In x (chain u.work.content k)) (sym e) i
+In-after s t e k x i = subst (λ u. In x (chain u.work.content k)) (sym e) i
 
 -- a queue is in use by the set-up after a change, and configured as before it
 record KeepsQueue (setup setup' : Setup) (q : ℕ) : Type 0 where

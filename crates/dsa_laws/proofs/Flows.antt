@@ -1,22 +1,17 @@
 -- What every change does to the entries, and what follows for cells, names and their number.
-use Rattle.std.proofs.Common.{drop, ◌≡◌, ℕ, ◌+◌, ◌<◌, ◌≤◌, ◌==◌, not, Bool, true, false, cond, List, [], ◌∷◌}
-use Rattle.std.proofs.Common.{◌++◌, length, map, Some, refl, sym, ap, ◌∙◌, subst, arith, ⊎_elim, eqb-true, eq-eqb}
-use Rattle.std.proofs.Common.{length-append}
-use Rattle.std.proofs.lemmas.List.{length-set, Sums.{sum_by-cons, sum_by-append}, length-map, append-nil}
+use Rattle.std.specs.Prelude.{sum_by, count_by, filter, nat_lt, slice_get}
+use Rattle.std.proofs.Common.{ℕ, Some, false, subst, ◌<◌, length, not, ap, map, ◌≤◌, ◌≡◌, true, ◌∙◌, refl, cond, Bool}
+use Rattle.std.proofs.Common.{eq-eqb, ⊎_elim, [], length-append, drop, eqb-true, ◌+◌, ◌==◌, List, sym, ◌++◌, ◌∷◌, arith}
+use Rattle.std.proofs.lemmas.List.{Sums.{sum_by-cons, sum_by-append}, append-nil, length-map, length-set}
 use Rattle.std.proofs.lemmas.Bool.{cases_Bool, Decides.{nat_tests}}
-use Rattle.std.specs.Prelude.{nat_lt, filter, sum_by, count_by, slice_get}
 use Rattle.dsa_base.proofs.{Counts.{count-cons}, NumberSums.{sum-map}}
-use Rattle.dsa_regs.specs.{declared.{Caps.{Caps}}, Caps.{cell_count}}
-use Rattle.dsa_store.specs.declared.entry.Cell.{Cell}
-use Rattle.dsa_store.specs.Content.{Slot, Content, chain, use_count, all_held, is_cell, is_free, after_push}
-use Rattle.dsa_store.specs.Content.{without_front}
-use Rattle.dsa_store.proofs.Sums.{sum-set, sum-pushed, sum-without_front, sum-split, uses-counted, held-counted}
-use Rattle.dsa_store.proofs.Sums.{is_free-unused, all_held-filtered}
-use Rattle.dsa_book.specs.declared.fate.{FateRow.{FateRow}, Fate.{Fate, TheVariants.{Abandoned}}}
-use Rattle.dsa_book.specs.State.{Work, State}
-use Rattle.dsa_book.specs.Work.{progress_list, member_list, members, as_running}
-use Rattle.dsa_book.specs.Work.{with_running_entry, with_first_run, fate_row}
-use Rattle.dsa_book.specs.Commands.{is_in_scope}
+use Rattle.dsa_regs.specs.{declared.Caps.{Caps}, Caps.{cell_count}}
+use Rattle.dsa_store.proofs.Sums.{is_free-unused, sum-set, sum-pushed, held-counted, all_held-filtered, uses-counted}
+use Rattle.dsa_store.{proofs.Sums.{sum-without_front, sum-split}, specs.Content.{is_free, use_count, without_front}}
+use Rattle.dsa_store.specs.{Content.{is_cell, after_push, Slot, Content, all_held, chain}, declared.entry.Cell.{Cell}}
+use Rattle.dsa_book.specs.{State.{State, Work}, Commands.{is_in_scope}, Work.{member_list}}
+use Rattle.dsa_book.specs.Work.{with_running_entry, with_first_run, progress_list, as_running, members, fate_row}
+use Rattle.dsa_book.specs.declared.fate.{FateRow.{FateRow}, Fate.{TheVariants.{Abandoned}, Fate}}
 use Rattle.dsa_laws.specs.{Change.{Change}, WellFormed.{HasShape, CellsOnce, NamesOnce, held_named, fates_named}}
 use Rattle.dsa_laws.proofs.{Effects.{by_effect}, Contents.{In-chain, sum-without}}
 use Rattle.dsa_laws.proofs.Shapes.{on-queue, queue_list-in, noted-engine, waiting-engine, a_taker, running-place}
@@ -74,9 +69,9 @@ pub rows-counted : (g : FateRow → Bool) (fates : List FateRow) (fate : Fate) (
 rows-counted g fates fate xs =
     omega (
       arith,
-      sum_by-append (λ (row : FateRow). cond (g row) 1 0) fates (map (fate_row fate) xs),
+      sum_by-append (λ row. cond (g row) 1 0) fates (map (fate_row fate) xs),
       sum-map
-          (λ (row : FateRow). cond (g row) 1 0) (fate_row fate) xs,
+          (λ row. cond (g row) 1 0) (fate_row fate) xs,
     )
 
 sum-first_run : (f : Slot → ℕ) → ((slot : Slot) → f (with_running_entry slot) ≡ f slot) → (xs : List Slot)
@@ -90,10 +85,10 @@ uses-with_free : (cells : ℕ) (content : Content) (x : Slot) → is_free cells 
 uses-with_free cells content x free once cell =
     let fresh = is_free-unused cells content x.0 free in
     ⊎_elim
-    (λ (t : is_cell cell x ≡ true).
+    (λ t.
     let e = eqb-true x.0.0 cell.0 t in
-    let same : x.0 ≡ cell = ap (λ (n : ℕ). let at : Cell = record { 0 = n } in at) e in
-    let unused : use_count content cell ≡ 0 = subst (λ k. use_count content k ≡ 0) same fresh.1 in
+    let same = ap (λ n. let at : Cell = record { 0 = n } in at) e in
+    let unused = subst (λ k. use_count content k ≡ 0) same fresh.1 in
     let below = fresh.0 in
     let room : ◌≡◌ {A = ℕ} (cond (nat_lt cell.0 cells) 1 0) 1 = grind (arith, nat_tests) in
     omega (arith, count-cons (is_cell cell) x [] true t))
@@ -138,7 +133,7 @@ entered caps w w' x shape once sums fates next name free = record {
   fate = Abandoned;
   fates = fates ∙ sym (append-nil w.fates);
   next = omega arith;
-  names = λ n. rw next (let c = count-cons (λ (slot : Slot). slot.1.name == n) x [] _ refl in grind (arith, nat_tests));
+  names = λ n. rw next (let c = count-cons (λ slot. slot.1.name == n) x [] _ refl in grind (arith, nat_tests));
   cells = uses-with_free (cell_count caps) w.content x (rw shape.same_caps at free) once;
 }
 
@@ -170,7 +165,7 @@ pub flow-change : (caps : Caps) (s s' : State) → HasShape caps s.work → Cell
 flow-change caps s s' h once c =
     let use_count = uses-once caps s.work once in
     by_effect (IsFlow caps s.work) s s' c
-    (λ e. still caps s.work s'.work use_count (λ f alike. ap (λ (c : Content). sum_by f (all_held c)) e.content)
+    (λ e. still caps s.work s'.work use_count (λ f alike. ap (λ c. sum_by f (all_held c)) e.content)
     e.fates e.names)
     (λ c. entered caps s.work _ _ h use_count (λ f.
     sum-pushed f s.work.content c.queue _ _ (queue_list-in h c.queue (on-queue h c.queue c.on))) refl refl refl c.free)
@@ -236,7 +231,7 @@ cells-flow caps w w' flow = of-uses caps w' (λ cell.
 
 length-sum : (xs : List Slot) → sum_by (λ slot. 1) xs ≡ length xs
 length-sum [] = refl
-length-sum (x ∷ xs) = omega (arith, length-sum xs, sum_by-cons (λ (slot : Slot). 1) x xs)
+length-sum (x ∷ xs) = omega (arith, length-sum xs, sum_by-cons (λ slot. 1) x xs)
 
 pub names-flow : (caps : Caps) (w w' : Work) → NamesOnce w → IsFlow caps w w' → NamesOnce w'
 names-flow caps w w' names flow = record {
@@ -247,14 +242,13 @@ names-flow caps w w' names flow = record {
         arith,
         flow.sums (λ slot. 1) (λ slot. refl),
         length-sum (all_held w.content),
-        length-sum (all_held w'.content),
+        length-sum
+            (all_held w'.content),
         held-counted w.content,
         held-counted w'.content,
         length-sum flow.came,
         length-sum flow.gone,
         ap length flow.fates ∙ length-rows w.fates flow.fate flow.gone,
-        flow.next,
-        names.counted,
       );
 }
   where

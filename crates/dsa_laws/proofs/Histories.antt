@@ -1,21 +1,18 @@
 -- Every state that a history leads to is well formed.
 use Rattle.std.proofs.Common.{◌≡◌, ◌==◌, List, [], ◌∷◌, length, replicate, Option, Some, None, refl, ap, subst, arith}
-use Rattle.std.proofs.Common.{◌+◌, ◌∙◌}
-use Rattle.std.specs.Prelude.{count_by}
+use Rattle.std.{proofs.Common.{◌+◌, ◌∙◌}, specs.Prelude.{count_by}}
 use Rattle.dsa_regs.specs.{declared.Caps.{Caps}, Caps.{list_count}}
-use Rattle.dsa_store.specs.{Content.{Slot, is_cell, use_count}, declared.entry.Cell.{Cell}}
+use Rattle.dsa_store.specs.{Content.{is_cell, use_count}, declared.entry.Cell.{Cell}}
 use Rattle.dsa_store.proofs.Sums.{uses-counted, held-counted}
 use Rattle.dsa_book.specs.{declared.event.Step.{Step}, State.{State, opening}, Machine.{next, replay_from, replay}}
 use Rattle.dsa_book.proofs.Replay.{replay_none}
 use Rattle.dsa_laws.specs.{Change.{Change}, WellFormed.{IsWellFormed}}
-use Rattle.dsa_laws.proofs.{Changes.{next-change}, Shapes.{shape-change, shape-opening}}
-use Rattle.dsa_laws.proofs.{Flows.{flow-change, cells-flow, names-flow}, Setups.{setup-change, setup-opening}}
-use Rattle.dsa_laws.proofs.Entries.{entries-change, entries-opening}
 use Rattle.dsa_laws.proofs.Limits.{lists-fit, of-lists_fit, lists_fit-change, lists_fit-opening}
-use Rattle.dsa_laws.proofs.Notes.{notes-change, notes-opening}
+use Rattle.dsa_laws.proofs.{Changes.{next-change}, Notes.{notes-change, notes-opening}, Contents.{all_held-empty}}
+use Rattle.dsa_laws.proofs.{Entries.{entries-change, entries-opening}, Flows.{flow-change, cells-flow, names-flow}}
+use Rattle.dsa_laws.proofs.{Buffering.{buffers-change, buffers-opening}, Setups.{setup-change, setup-opening}}
+use Rattle.dsa_laws.proofs.{Shapes.{shape-change, shape-opening}, Engines.{engines-change, engines-opening}}
 use Rattle.dsa_laws.proofs.Orders.{lists-in_order, of-lists_in_order, order-change, order-opening}
-use Rattle.dsa_laws.proofs.{Engines.{engines-change, engines-opening}, Buffering.{buffers-change, buffers-opening}}
-use Rattle.dsa_laws.proofs.Contents.{all_held-empty}
 
 pub well_formed-change : (caps : Caps) (s s' : State) → IsWellFormed caps s → Change s s' → IsWellFormed caps s'
 well_formed-change caps s s' w c =
@@ -46,7 +43,7 @@ well_formed-opening caps =
       cells = record { once = λ cell. omega (arith, unused cell); inside = λ cell past. unused cell };
       names = record {
         given = λ name below. absurd (omega arith);
-        not_given = λ name past. ap (λ (xs : List Slot). count_by (λ slot. slot.1.name == name) xs + 0) none;
+        not_given = λ name past. ap (λ xs. count_by (λ slot. slot.1.name == name) xs + 0) none;
         counted =
             omega (arith, ap length none, held-counted (replicate (list_count caps) []));
       };

@@ -1,28 +1,21 @@
 -- No list grows past its limit.
-use Rattle.std.proofs.Common.{drop, ◌≡◌, ◌≢◌, ℕ, ◌+◌, ◌<◌, ◌≤◌, not, Bool, true, false, List, []}
-use Rattle.std.proofs.Common.{length, map, set, Some, None, refl, sym, ap, ◌∙◌, subst, arith, ⊎_elim}
-use Rattle.std.proofs.Common.{length-append, ◌^◌, Option}
-use Rattle.std.proofs.lemmas.{Bool.{cases_eq, leb-false, Decides.{nat_tests}}, List.{get_or-set_other, length-drop}}
+use Rattle.std.proofs.lemmas.{Bool.{leb-false, Decides.{nat_tests}, cases_eq}, List.{get_or-set_other, length-drop}}
+use Rattle.std.proofs.Common.{length, map, set, Some, None, refl, sym, ap, ◌∙◌, subst, arith, ⊎_elim, drop}
+use Rattle.std.proofs.Common.{◌≡◌, ℕ, ◌+◌, ◌<◌, ◌≤◌, not, Bool, true, false, List, [], length-append, ◌^◌, Option}
 use Rattle.std.specs.Prelude.{filter}
 use Rattle.dsa_base.proofs.{Lists.{none-In}, Counts.{length-filter-le}, Tables.{not-both, no-row}}
-use Rattle.dsa_regs.specs.declared.{Caps.{Caps}, QueueConfig.{QueueConfig}, GroupConfig.{GroupConfig}}
-use Rattle.dsa_regs.specs.declared.Phase.TheVariants.{Off, Stopping}
-use Rattle.dsa_regs.specs.{Config.{queue_at, check_queue, queue_table, zero_queue}, Caps.{list_count}}
-use Rattle.dsa_regs.specs.Command.{queues_in}
+use Rattle.dsa_regs.specs.declared.{Phase.TheVariants.{Off, Stopping}, Caps.{Caps}, QueueConfig.{QueueConfig}}
+use Rattle.dsa_regs.specs.{declared.GroupConfig.{GroupConfig}, Caps.{list_count}, Command.{queues_in}}
+use Rattle.dsa_regs.specs.Config.{queue_at, check_queue, queue_table, zero_queue}
 use Rattle.dsa_store.specs.Content.{Slot, Content, chain, without_front}
-use Rattle.dsa_book.specs.declared.event.Portal.{Portal, TheVariants.{Limited, Unlimited}}
-use Rattle.dsa_book.specs.declared.note.BatchNote.{BatchNote}
-use Rattle.dsa_book.specs.{State.{Work, State, opening, is_off, phase_at}, Submit.{limit_of}}
-use Rattle.dsa_book.specs.Work.{progress_list, member_list, in_progress}
-use Rattle.dsa_book.specs.Work.{members, note_at}
-use Rattle.dsa_book.specs.Commands.{is_among}
-use Rattle.dsa_book.proofs.Phases.{on-not_off}
-use Rattle.dsa_laws.specs.Change.{Change}
-use Rattle.dsa_laws.specs.WellFormed.{HasShape, HasLawfulSetup, HasLawfulEntries, IsWithinLimits, NoteFits, NotesFit}
-use Rattle.dsa_laws.specs.Engines.{IsLawfulEngine, HasLawfulEngines}
-use Rattle.dsa_laws.proofs.Effects.{by_effect, by_setting, stopped-keeps, reset-config, reset-size}
+use Rattle.dsa_book.{proofs.Phases.{on-not_off}, specs.Work.{progress_list, member_list, in_progress, members, note_at}}
+use Rattle.dsa_book.specs.{Submit.{limit_of}, State.{Work, State, opening, is_off, phase_at}, Commands.{is_among}}
+use Rattle.dsa_book.specs.declared.{event.Portal.{TheVariants.{Limited, Unlimited}, Portal}, note.BatchNote.{BatchNote}}
 use Rattle.dsa_laws.proofs.{Entries.{In-after}, Contents.{each-place, chain-filtered, In-filtered, chain-empty}}
 use Rattle.dsa_laws.proofs.Shapes.{queues-same, engines-same, on-queue, progress-at, a_taker}
+use Rattle.dsa_laws.proofs.Effects.{by_effect, by_setting, stopped-keeps, reset-config, reset-size}
+use Rattle.dsa_laws.specs.{Change.{Change}, Engines.{IsLawfulEngine, HasLawfulEngines}}
+use Rattle.dsa_laws.specs.WellFormed.{HasShape, HasLawfulSetup, HasLawfulEntries, IsWithinLimits, NoteFits, NotesFit}
 
 -- ---- lengths of lists
 
@@ -76,7 +69,7 @@ of-lists_fit caps w shape h notes engines = record {
     few : (e : ℕ) (o : Option BatchNote) → NoteFits caps o → IsLawfulEngine w.setup (in_progress w e) (members w e) o
         → length (members w e) ≤ 2 ^ caps.max_batch_shift
     few e None fits law = rw law.no_members (omega arith)
-    few e (Some note) fits law = omega (arith, law.most, fits.fetched, fits.count)
+    few e (Some note) fits law = omega arith
 
 -- lists that are no longer
 shorter : (caps : Caps) (configs : List QueueConfig) (c c' : Content) → ListsFit caps configs c
@@ -115,7 +108,6 @@ lists-effect caps s s' shape setup h c = by_effect (λ w. ListsFit caps s.work.s
     (λ i. absurd (omega (arith, queues-same shape)))
     (λ e is i. omega (
       arith,
-      k.slots,
       ap length k.engine.progress,
       there (progress_list s.work.setup c.engine),
       length-append {A = Slot},
@@ -151,7 +143,7 @@ lists_fit-change caps s s' shape setup entries fit c =
     (λ c. rw (stopped-keeps c.deed c.scope Stopping s.work.setup).configs h)
     (λ c. rw (stopped-keeps c.deed c.scope Off s.work.setup).configs h)
     (λ c k.
-    let none : chain s'.work.content k ≡ [] = none-In (chain s'.work.content k)
+    let none = none-In (chain s'.work.content k)
     (λ x i. not-both false (In-filtered (λ slot. not true) s.work.content k x (In-after s' _ c.after k x i)).1 refl) in
     record { queue = λ i. rw none (omega arith); progress = λ e is i. rw none (omega arith) })
     (λ c.
@@ -160,15 +152,15 @@ lists_fit-change caps s s' shape setup entries fit c =
     ∙ reset-size (is_among qs q) (queue_at s.work.setup.configs q)))
     (λ c q. record {
       queue = λ i. ⊎_elim
-          (λ (e : q ≡ c.queue). omega (
+          (λ e. omega (
             arith,
             ap length (off-empty caps s.work q entries i (rw e c.off)),
-            ap (λ (t : State). length (chain t.work.content q)) c.after,
+            ap (λ t. length (chain t.work.content q)) c.after,
           ))
-          (λ (e : q ≢ c.queue). omega (
+          (λ e. omega (
             arith,
             (h q).queue i,
-            ap (λ (c : QueueConfig). c.size) (get_or-set_other s.work.setup.configs c.queue q c.config zero_queue e),
+            ap (λ c. c.size) (get_or-set_other s.work.setup.configs c.queue q c.config zero_queue e),
           ))
           (cases_eq q c.queue);
       progress = (h q).progress;

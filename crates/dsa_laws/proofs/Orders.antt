@@ -1,12 +1,10 @@
 -- Members that run stand before the others.
 use Rattle.std.proofs.Common.{drop, ◌≡◌, ℕ, ◌+◌, ◌≤◌, Bool, true, false, List, [], ◌∷◌, ◌++◌, map, set, refl, sym, ap}
-use Rattle.std.proofs.Common.{◌∙◌, subst, arith, ⊎_elim, ◌-◌, ◌<◌, length}
-use Rattle.std.proofs.{lemmas.Bool.{cases_lt, cond_both}, Math.ListN.{get_or-eq_default}}
-use Rattle.std.specs.Prelude.{filter, nat_lt}
+use Rattle.std.proofs.{Common.{◌∙◌, subst, arith, ⊎_elim, ◌-◌, length}, lemmas.Bool.{cases_lt, cond_both}}
+use Rattle.std.{proofs.Math.ListN.{get_or-eq_default}, specs.Prelude.{filter, nat_lt}}
 use Rattle.dsa_regs.specs.{declared.Caps.{Caps}, Caps.{list_count}}
 use Rattle.dsa_store.specs.Content.{Slot, Content, chain, without_front}
-use Rattle.dsa_book.specs.State.{Work, State, opening}
-use Rattle.dsa_book.specs.Work.{progress_list, member_list, members, with_first_run}
+use Rattle.dsa_book.specs.{State.{Work, State, opening}, Work.{progress_list, member_list, members, with_first_run}}
 use Rattle.dsa_laws.specs.{Change.{Change}, WellFormed.{HasShape, MembersInOrder, runs_first, none_runs}}
 use Rattle.dsa_laws.proofs.{Effects.{by_effect}, Contents.{each-place, chain-filtered, chain-empty}}
 use Rattle.dsa_laws.proofs.Shapes.{queues-same, engines-same, on-queue, a_taker, waiting-engine, members-at}
@@ -42,11 +40,11 @@ ListsInOrder caps c = (k : ℕ) → caps.queues + caps.engines ≤ k → runs_fi
 -- there is no list past those of the engines
 pub lists-in_order : (caps : Caps) (w : Work) → HasShape caps w → MembersInOrder w → ListsInOrder caps w.content
 lists-in_order caps w shape h k past = ⊎_elim
-    (λ (i : k < length w.content).
+    (λ i.
     let e = k - (caps.queues + caps.engines) in
     let is : caps.queues + caps.engines + e ≡ k = omega arith in
-    rw (← is, ← members-at shape e (omega (arith, shape.lists))) (h e))
-    (λ (i : length w.content ≤ k). ap runs_first (get_or-eq_default w.content [] i))
+    rw (← is, ← members-at shape e (omega arith)) (h e))
+    (λ i. ap runs_first (get_or-eq_default w.content [] i))
     (cases_lt k (length w.content))
 
 pub of-lists_in_order : (caps : Caps) (w : Work) → HasShape caps w → ListsInOrder caps w.content → MembersInOrder w
@@ -73,8 +71,8 @@ order-change caps s s' shape h c = by_effect (λ w. ListsInOrder caps w.content)
     let k = a_taker shape c.engine c.queue c.front c.qualifies c.is_front in
     set-order caps (without_front s.work.content c.queue) (progress_list s.work.setup c.engine) _
     (set-order caps s.work.content c.queue (drop 1 (chain s.work.content c.queue)) h
-    (λ i. absurd (omega (arith, k.queue))))
-    (λ i. absurd (omega (arith, k.engine.inside, queues-same shape))))
+    (λ i. absurd (omega arith)))
+    (λ i. absurd (omega (arith, queues-same shape))))
     (λ c. let k = member_list s.work.setup c.engine in
     set-order caps s.work.content k _ h (λ i. first-push (chain s.work.content k) _ refl (h k i)))
     (λ c. set-order caps s.work.content _ (with_first_run (members s.work c.engine)) h

@@ -1,21 +1,17 @@
 -- The lengths of all lists stay, and which lists there are.
+use Rattle.std.proofs.lemmas.{Bool.{ltb-true, lt-ltb, and_parts}, List.{length-set, length-map, length-replicate}}
 use Rattle.std.proofs.Common.{◌≡◌, ℕ, zero, suc, ◌<◌, Bool, true, false, cond, List, [], ◌∷◌, length, set, get_or}
 use Rattle.std.proofs.Common.{Option, Some, None, refl, sym, ap, ◌∙◌, arith, ◌+◌, subst, map, not, is_none, ◌||◌}
-use Rattle.std.proofs.Common.{◌++◌, ◌⊎◌, inl, inr, ⊎_elim}
-use Rattle.std.proofs.lemmas.{List.{length-set, length-map, length-replicate}, Bool.{ltb-true, lt-ltb, and_parts}}
-use Rattle.std.specs.Prelude.{nat_lt, find}
+use Rattle.std.{proofs.Common.{◌++◌, ◌⊎◌, inl, inr, ⊎_elim}, specs.Prelude.{nat_lt, find}}
 use Rattle.dsa_base.proofs.{Lists.{In-find, In-append, In-filter}, NumberLists.{length-each}}
 use Rattle.dsa_base.specs.{Lists.{In}, Numbers.{numbers_below}, Rows.{passes}}
-use Rattle.dsa_regs.specs.declared.{Caps.{Caps}, Phase.{Phase, TheVariants.{Off, Stopping}}}
-use Rattle.dsa_regs.specs.declared.{Scope.{Scope, TheVariants.{Device}}, Deed.{Deed, TheVariants.{Disable}}}
-use Rattle.dsa_regs.specs.Caps.{list_count}
+use Rattle.dsa_regs.specs.declared.{Phase.{TheVariants.{Off, Stopping}, Phase}, Deed.{Deed, TheVariants.{Disable}}}
+use Rattle.dsa_regs.specs.{declared.{Scope.{TheVariants.{Device}, Scope}, Caps.{Caps}}, Caps.{list_count}}
 use Rattle.dsa_store.specs.Content.{Slot, chain, without_front}
-use Rattle.dsa_book.specs.{declared.note.BatchNote.{BatchNote}, State.{Setup, Work, State, opening, is_on, phase_at}}
-use Rattle.dsa_book.specs.State.{need_of, is_batch_of, is_ticket}
-use Rattle.dsa_book.specs.declared.answer.Ticket.{Ticket}
+use Rattle.dsa_book.specs.declared.{note.BatchNote.{BatchNote}, answer.Ticket.{Ticket}}
+use Rattle.dsa_book.specs.State.{Setup, Work, State, opening, is_on, phase_at, need_of, is_batch_of, is_ticket}
 use Rattle.dsa_book.specs.Work.{progress_list, member_list, in_progress, members, note_at, first_waiting, has_room}
-use Rattle.dsa_book.specs.Work.{qualifies, front_of, may_take, running_on}
-use Rattle.dsa_book.specs.Commands.{after_stop}
+use Rattle.dsa_book.specs.{Work.{qualifies, front_of, may_take, running_on}, Commands.{after_stop}}
 use Rattle.dsa_laws.specs.{Change.{Change}, WellFormed.{HasShape}}
 use Rattle.dsa_laws.proofs.Effects.{by_effect, by_setting, stopped-keeps}
 
@@ -157,10 +153,10 @@ pub record IsTaker (caps : Caps) (w : Work) (e q : ℕ) (front : Slot) : Type 0 
 
 module _ {caps : Caps} {w : Work} (shape : HasShape caps w) where
   pub on-queue : (q : ℕ) → is_on (phase_at w.setup q) ≡ true → q < caps.queues
-  on-queue q on = omega (arith, on-in_range w.setup.phases q on, shape.phases)
+  on-queue q on = omega (arith, on-in_range w.setup.phases q on)
 
   pub queue_list-in : (q : ℕ) → q < caps.queues → q < length w.content
-  queue_list-in q i = omega (arith, shape.lists)
+  queue_list-in q i = omega arith
 
   pub an_engine : (e : ℕ) → nat_lt e w.setup.caps.engines ≡ true → IsEngine caps w e
   an_engine e t =
@@ -171,9 +167,9 @@ module _ {caps : Caps} {w : Work} (shape : HasShape caps w) where
         there = t;
         below = below;
         inside = omega arith;
-        noted = omega (arith, shape.notes);
-        progress_inside = omega (arith, shape.lists);
-        members_inside = omega (arith, shape.lists);
+        noted = omega arith;
+        progress_inside = omega arith;
+        members_inside = omega arith;
         progress = rw t refl;
         members = rw t refl;
       }
@@ -187,7 +183,7 @@ module _ {caps : Caps} {w : Work} (shape : HasShape caps w) where
 
   -- by its note
   pub noted-engine : (e : ℕ) (note : BatchNote) → note_at w e ≡ Some note → IsEngine caps w e
-  noted-engine e note h = numbered-engine e (omega (arith, note-in_range w.notes e note h, shape.notes))
+  noted-engine e note h = numbered-engine e (omega (arith, note-in_range w.notes e note h))
 
   -- by a member that waits there
   pub waiting-engine : (e : ℕ) (slot : Slot) → first_waiting w e ≡ Some slot → IsEngine caps w e
@@ -205,7 +201,7 @@ module _ {caps : Caps} {w : Work} (shape : HasShape caps w) where
       → IsTaker caps w e q front
   a_taker e q front h f =
       let tests = and_parts _ _ (and_parts _ _ h).0 in
-      let may : may_take w e front ≡ true = subst (λ o. passes (may_take w e) o ≡ true) f
+      let may = subst (λ o. passes (may_take w e) o ≡ true) f
       (and_parts _ _ (and_parts _ _ h).1).1 in
       let fits = and_parts _ _ (and_parts _ _ may).0 in
       record {

@@ -6,18 +6,15 @@ use Rattle.dsa_regs.specs.declared.{Phase.TheVariants.{Off, On, Stopping}, Queue
 use Rattle.dsa_regs.specs.declared.{GroupConfig.{GroupConfig}, Scope.{Scope, TheVariants.{Device}}, Deed.{Deed}}
 use Rattle.dsa_regs.specs.{Caps.{cell_count}, Config.{queue_at, check_device, check_queue}, Command.{queues_in}}
 use Rattle.dsa_store.specs.{declared.entry.Cell.{Cell}, Content.{Slot, is_free}}
-use Rattle.dsa_book.specs.declared.answer.{Ticket.{Ticket}, NotedError.{NotedError}}
-use Rattle.dsa_book.specs.declared.event.{Portal.{Portal}, Kind.{Kind}}
-use Rattle.dsa_book.specs.declared.note.{BatchNote.{BatchNote}, ActiveCommand.{ActiveCommand}}
-use Rattle.dsa_book.specs.State.{Setup, State, is_on, is_off, phase_at, has_queue, occupancy, need_of, is_batch_of}
-use Rattle.dsa_book.specs.State.{is_ticket}
 use Rattle.dsa_book.specs.Submit.{limit_of, after_accept, is_movdir64b}
-use Rattle.dsa_book.specs.Work.{front_of, qualifies, after_take, note_at, batch_on, is_all_fetched, after_fetch}
-use Rattle.dsa_book.specs.Work.{first_waiting, has_room, after_start, after_abandon, running_on, is_unfinished}
-use Rattle.dsa_book.specs.Work.{after_end, is_front, has_failed}
+use Rattle.dsa_book.specs.Work.{after_end, is_front, has_failed, first_waiting, has_room, after_start, after_abandon}
+use Rattle.dsa_book.specs.Work.{running_on, is_unfinished, front_of, qualifies, after_take, note_at, batch_on}
+use Rattle.dsa_book.specs.{Work.{is_all_fetched, after_fetch}, Machine.{with_work, with_intake, with_setup, intake_of}}
+use Rattle.dsa_book.specs.declared.{answer.{NotedError.{NotedError}, Ticket.{Ticket}}, note.BatchNote.{BatchNote}}
+use Rattle.dsa_book.specs.declared.{note.ActiveCommand.{ActiveCommand}, event.{Portal.{Portal}, Kind.{Kind}}}
+use Rattle.dsa_book.specs.State.{is_ticket, Setup, State, is_on, is_off, phase_at, has_queue, occupancy}
+use Rattle.dsa_book.specs.{State.{need_of, is_batch_of}, Commands.{after_abort, reset, is_among, with_sizes_alone}}
 use Rattle.dsa_book.specs.Commands.{holds_any, is_awaited, with_device, with_phases, after_stop, may_come}
-use Rattle.dsa_book.specs.Commands.{after_abort, reset, is_among, with_sizes_alone}
-use Rattle.dsa_book.specs.Machine.{with_work, with_intake, with_setup, intake_of}
 
 -- ---- entries
 

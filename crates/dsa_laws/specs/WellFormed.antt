@@ -2,12 +2,11 @@
 use Rattle.std.specs.Prelude.{◌≡◌, ℕ, ◌+◌, ◌^◌, ◌<◌, ◌≤◌, ◌==◌, ◌&&◌, Bool, true, false, cond, not, List, [], ◌∷◌}
 use Rattle.std.specs.Prelude.{length, count_by, Option, Some, None, is_some, ⊤}
 use Rattle.dsa_desc.specs.Descriptor.{pasid_of}
-use Rattle.dsa_regs.specs.{declared.Caps.{Caps}, Caps.{cell_count, first_members, list_count}}
-use Rattle.dsa_regs.specs.Config.{queue_at, check_device, check_queue}
+use Rattle.dsa_regs.specs.declared.Caps.{Caps}
+use Rattle.dsa_regs.specs.{Caps.{cell_count, first_members, list_count}, Config.{queue_at, check_device, check_queue}}
 use Rattle.dsa_store.specs.{declared.entry.Cell.{Cell}, Content.{Slot, use_count, held_count, all_held}}
-use Rattle.dsa_book.specs.declared.note.BatchNote.{BatchNote}
+use Rattle.dsa_book.specs.{Work.{in_progress, members, note_at}, declared.note.BatchNote.{BatchNote}}
 use Rattle.dsa_book.specs.State.{Setup, Work, State, phase_at, is_on, is_off, occupancy}
-use Rattle.dsa_book.specs.Work.{in_progress, members, note_at}
 use Rattle.dsa_laws.specs.{Lists.{EachAt}, Buffering.{HasBuffers}, Engines.{HasLawfulEngines}}
 
 -- ---- the lists, their cells and their names
