@@ -63,8 +63,8 @@ Names-last (x ∷ xs) = Names-last-from x xs
 
 -- such a cell is one of the array
 pub InRange-of : (s : List Node) (xs : List ℕ) (o p : Option ℕ) → AreInside s xs → Names xs o → p ≡ o → InRange s p
-InRange-of s xs None p w n e = subst (InRange s) (sym e) tt
-InRange-of s xs (Some c) p w n e = subst (InRange s) (sym e) (w c n)
+InRange-of s xs None p w n e = rw e tt
+InRange-of s xs (Some c) p w n e = rw e (w c n)
 
 -- linked cells
 
@@ -113,8 +113,7 @@ Linked-agree s t p (x ∷ xs) q same a =
 pub walk_is : (s : List Node) (p : Option ℕ) (xs : List ℕ) → Linked s p xs None →
     walk s (length xs) (first_or xs None) ≡ xs
 walk_is s p [] l = refl
-walk_is s p (x ∷ xs) l = ap (λ t. x ∷ walk s (length xs) t) l.1
-    ∙ ap (λ ys. x ∷ ys) (walk_is s (Some x) xs l.2)
+walk_is s p (x ∷ xs) l = rw (l.1, walk_is s (Some x) xs l.2) refl
 
 -- a list that names a cell has it between two parts
 pub split_at : (c : ℕ) (xs : List ℕ) → 0 < times c xs → (ys : List ℕ) × (zs : List ℕ) × (xs ≡ ys ++ c ∷ zs)
@@ -223,14 +222,16 @@ Linked-join_other s ys xs zs d l =
     (λ x. omega (arith, d x))
     (Linked-other f s b ys None zs None (Names-last ys) (λ x. omega (arith, d x)) l)
 
--- a change that leaves the links leaves them at each cell
+-- what a change leaves in a node it leaves in that of each cell
+pub changed-keeps : {X : Type 0} (g : Node → X) (f : Node → Node) (s : List Node) (o : Option ℕ) (x : ℕ)
+    → ((t : Node) → g (f t) ≡ g t) → g (node_at (changed f s o) x) ≡ g (node_at s x)
+changed-keeps g f s o x h = sym (get_or-map g (changed f s o) x no_node)
+    ∙ ap (λ l. get_or l x (g no_node)) (map-changed g f s o h) ∙ get_or-map g s x no_node
+
+-- so a change that leaves the links leaves them at each cell
 pub changed-links : (f : Node → Node) (s : List Node) (o : Option ℕ) (x : ℕ) → ((t : Node) → (f t).next ≡ t.next)
     → ((t : Node) → (f t).previous ≡ t.previous) → SameLinks s (changed f s o) x
 changed-links f s o x n p = record {
-  next = sym (get_or-map (λ (t : Node). t.next) (changed f s o) x no_node)
-      ∙ ap (λ l. get_or l x None) (map-changed (λ t. t.next) f s o n)
-      ∙ get_or-map (λ (t : Node). t.next) s x no_node;
-  previous = sym (get_or-map (λ (t : Node). t.previous) (changed f s o) x no_node)
-      ∙ ap (λ l. get_or l x None) (map-changed (λ t. t.previous) f s o p)
-      ∙ get_or-map (λ (t : Node). t.previous) s x no_node;
+  next = changed-keeps (λ t. t.next) f s o x n;
+  previous = changed-keeps (λ t. t.previous) f s o x p;
 }

@@ -1,7 +1,7 @@
 -- What callers see of a store: the lists of cells with their entries, and what each write makes of them.
 use Rattle.std.proofs.Common.{◌≡◌, ℕ, ◌+◌, ◌-◌, ◌<◌, ◌≤◌, ◌≢◌, inl, inr, Bool, true, false, List, [], ◌∷◌, ◌++◌}
-use Rattle.std.proofs.Common.{length, map, take, drop, None, Some, get_or, set, cond, ◌==◌, sum_by, refl, sym, ap}
-use Rattle.std.proofs.Common.{◌∙◌, subst, arith, take_all, length-set}
+use Rattle.std.proofs.Common.{length, map, take, None, Some, get_or, set, cond, ◌==◌, sum_by, refl, sym, ap}
+use Rattle.std.proofs.Common.{◌∙◌, arith, take_all, length-set}
 use Rattle.std.proofs.lemmas.{Bool.Decides.{leb_tells}, Grind.{common_steps}}
 use Rattle.std.proofs.lemmas.List.{length-map, map-set, map-append, get_or-take, get_or-set_same, get_or-set_other}
 use Rattle.std.proofs.lemmas.List.{length-take-le, take-set-le, Sums.{sum_by_more, sum_by-take-le}}
@@ -14,13 +14,13 @@ use Rattle.dsa_store.proofs.Finding.{uses-stands, entry_of-at, list_of-at, unlin
 use Rattle.dsa_store.proofs.{Finding.{list_of-none, next_of-none}, Turns.{Seam, seam}}
 use Rattle.dsa_cells.specs.declared.links.{Node.{Node}, Header.{Header}}
 use Rattle.dsa_cells.specs.Array.{no_entry, node_at, no_node, header_at, entries_of, owners_of}
-use Rattle.dsa_cells.specs.Partition.{first_or, Linked, times, in_use, cells_of, list_at, lists_of}
+use Rattle.dsa_cells.specs.Partition.{first_or, times, in_use, cells_of, list_at, lists_of}
 use Rattle.dsa_cells.specs.Writes.{lacking, appended, moved, given_back, changed}
 use Rattle.dsa_cells.specs.Invariant.{place, IsStore, IsWhole}
 use Rattle.dsa_cells.specs.Content.{slot, contents, content_at, cell_of, IsUnused, IsUsed}
-use Rattle.dsa_cells.specs.{Owners.{is_partition, owner_is}, Naming.{uses-slots, held-slots, IsSound-from_whole}}
+use Rattle.dsa_cells.specs.{Owners.{is_partition}, Naming.{uses-slots, held-slots, IsSound-from_whole}}
 use Rattle.dsa_cells.proofs.Chain.{times-append, times-head, Linked-right, Linked-agree, split_at, map-changed}
-use Rattle.dsa_cells.proofs.Chain.{length-changed, changed-links}
+use Rattle.dsa_cells.proofs.Chain.{length-changed, changed-links, changed-keeps}
 use Rattle.dsa_cells.proofs.Joining.{list_at-in, AreHeaders-agree, stands_in, names_in, lists_is, store_found}
 use Rattle.dsa_cells.proofs.Moving.{lacking-split}
 
@@ -84,16 +84,14 @@ sum-in_use f lists lt =
 pub contents-set : (es : List Entry) (lists : List (List ℕ)) (l : ℕ) (ys : List ℕ) → l < length lists - 1
     → contents es (set lists l ys) ≡ set (contents es lists) l (map (slot es) ys)
 contents-set es lists l ys lt =
-    ap (λ n. map (map (slot es)) (take (n - 1) (set lists l ys))) (length-set lists l ys)
-    ∙ ap (map (map (slot es))) (take-set-lt (length lists - 1) lists l ys lt)
-    ∙ map-set (map (slot es)) (in_use lists) l ys
+    rw (length-set lists l ys, take-set-lt (length lists - 1) lists l ys lt)
+    (map-set (map (slot es)) (in_use lists) l ys)
 
 -- the free list is written
 pub contents-set_free : (es : List Entry) (lists : List (List ℕ)) (l : ℕ) (ys : List ℕ) → length lists - 1 ≤ l
     → contents es (set lists l ys) ≡ contents es lists
 contents-set_free es lists l ys le =
-    ap (λ n. map (map (slot es)) (take (n - 1) (set lists l ys))) (length-set lists l ys)
-    ∙ ap (map (map (slot es))) (take-set-le (length lists - 1) lists l ys le)
+    rw (length-set lists l ys, take-set-le (length lists - 1) lists l ys le) refl
 
 -- a cell comes behind a list that is seen
 contents-appended : (es : List Entry) (lists : List (List ℕ)) (l c : ℕ) → l < length lists - 1
@@ -101,8 +99,7 @@ contents-appended : (es : List Entry) (lists : List (List ℕ)) (l c : ℕ) → 
     ≡ after_push (contents es lists) l (record { 0 = c }) (get_or es c no_entry)
 contents-appended es lists l c lt =
     contents-set es lists l (list_at lists l ++ c ∷ []) lt
-    ∙ ap (set (contents es lists) l) (map-append (slot es) (list_at lists l) (c ∷ [])
-    ∙ ap (λ ls. ls ++ slot es c ∷ []) (sym (chain-contents es lists l lt)))
+    ∙ rw (map-append (slot es) (list_at lists l) (c ∷ []), chain-contents es lists l lt) refl
 
 -- ---- what a whole store tells of a cell
 
@@ -152,7 +149,7 @@ used {s} {r} cell node i lt same listed =
     let p = standing cell i lt (omega (arith, listed, own)) in
     let once = (IsSound-from_whole s r i).once cell in
     let in_lists : l < length (lists_of s r) = omega (arith, p.listed) in
-    let links = subst (λ ys. Linked s None ys None) p.is (i.store.ends.each l in_lists).links in
+    let links = rw p.is at (i.store.ends.each l in_lists).links in
     let next = (Linked-right s None p.before (cell.0 ∷ p.behind) None links).1 in
     record {
       inside = lt;
@@ -274,10 +271,12 @@ content-pushed s r c to e lt un to_in =
     let size = length-contents es lists in
     let xs = lacking c (list_at lists f) in
     contents-appended (set es c e) (set lists f xs) to c (omega (arith, to_in, size, length-set lists f xs))
-    ∙ ap (λ x. after_push x to (record { 0 = c }) (get_or (set es c e) c no_entry))
-    (contents-set_free (set es c e) lists f xs (omega (arith, size)) ∙ content-written s r c e lt ∙ un.replaced e)
-    ∙ ap (after_push (content_at s r) to (record { 0 = c })) (get_or-set_same es c e no_entry
-    (omega (arith, lt, length-map s (λ (t : Node). t.entry))))
+    ∙ rw (
+      contents-set_free (set es c e) lists f xs (omega (arith, size)),
+      content-written s r c e lt,
+      un.replaced e,
+      get_or-set_same es c e no_entry (omega (arith, lt, length-map s (λ (t : Node). t.entry))),
+    ) refl
 
 -- the front of a list comes behind another
 pub content-moved : {s : List Node} {r : List Header} {c from : ℕ} (to : ℕ) → IsWhole s r → Front s r from c
@@ -293,14 +292,14 @@ content-moved {s} {r} {c} {from} to i f from_in to_in ne =
     let once = ap (λ n. times c (list_at lists n)) (sym f.owner) ∙ one in
     let less = ap (lacking c) f.is
     ∙ lacking-split c [] f.behind (omega (arith, once, ap (times c) f.is, times-head c f.behind)) in
-    let left = contents-set es lists from xs (omega (arith, from_in, size))
-    ∙ ap (λ ys. set C from (map (slot es) ys)) less in
-    let front = chain-contents es lists from (omega (arith, from_in, size)) ∙ ap (map (slot es)) f.is in
     contents-appended es (set lists from xs) to c (omega (arith, to_in, size, length-set lists from xs))
-    ∙ ap (λ x. after_push x to (record { 0 = c }) (get_or es c no_entry)) left
-    ∙ ap (λ l. set (set C from (map (slot es) f.behind)) to (l ++ slot es c ∷ []))
-    (get_or-set_other C from to (map (slot es) f.behind) [] (λ e. ne (sym e)))
-    ∙ sym (ap (λ l. set (set C from (drop 1 l)) to (chain C to ++ take 1 l)) front)
+    ∙ rw (
+      contents-set es lists from xs (omega (arith, from_in, size)),
+      less,
+      get_or-set_other C from to (map (slot es) f.behind) [] (λ e. ne (sym e)),
+      chain-contents es lists from (omega (arith, from_in, size)),
+      f.is,
+    ) refl
 
 -- a cell comes to the free list
 pub content-unlinked : {s : List Node} {r : List Header} {cell : Cell} {node : Node} → IsWhole s r
@@ -319,8 +318,8 @@ content-unlinked {s} {r} {cell} i u =
     let less = ap (lacking cell.0) p.is ∙ lacking-split cell.0 p.before p.behind p.once in
     let last : length rest - 1 ≤ f = omega (arith, length-contents es lists, length-set lists l ys) in
     contents-set_free es rest f (list_at rest f ++ cell.0 ∷ []) last
-    ∙ contents-set es lists l ys p.listed ∙ ap (λ x. set C l (map (slot es) x)) less
-    ∙ ap (set C l) (map-append (slot es) p.before p.behind) ∙ sym p.seam.unlinked
+    ∙ contents-set es lists l ys p.listed
+    ∙ rw (less, map-append (slot es) p.before p.behind, p.seam.unlinked) refl
 
 -- a list comes to the free list
 pub content-emptied : (s : List Node) (r : List Header) (l : ℕ) → l < length (content_at s r)
@@ -338,13 +337,13 @@ content-emptied s r l lt =
 
 -- ---- the ends of a store
 
--- a list that callers may name has a header
-pub in_headers : (s : List Node) (r : List Header) (l : ℕ) → l < length (content_at s r) → l < length r
-in_headers s r l lt = omega (arith, lt, length-contents (entries_of s) (lists_of s r), length-lists s r)
-
 -- the lists in use are all but one
 pub in_use_is : (s : List Node) (r : List Header) → length (content_at s r) ≡ length r - 1
 in_use_is s r = omega (arith, length-contents (entries_of s) (lists_of s r), length-lists s r)
+
+-- a list that callers may name has a header
+pub in_headers : (s : List Node) (r : List Header) (l : ℕ) → l < length (content_at s r) → l < length r
+in_headers s r l lt = omega (arith, lt, in_use_is s r)
 
 -- the free list is empty where all cells are held
 pub full-when : {s : List Node} {r : List Header} {n : ℕ} → IsWhole s r → n ≡ length (content_at s r)
@@ -376,7 +375,7 @@ pub free-is : {s : List Node} {r : List Header} {k : ℕ} → IsWhole s r → k 
     (header_at r (k - 1)).count + held_count (content_at s r) ≡ length s
 free-is {s} {r} {k} i e =
     let n = length (content_at s r) in
-    let same : k - 1 ≡ n = omega (arith, e, length-contents (entries_of s) (lists_of s r), length-lists s r) in
+    let same : k - 1 ≡ n = omega (arith, e, in_use_is s r) in
     omega (
       arith,
       ap (λ m. (header_at r m).count) same,
@@ -396,7 +395,7 @@ pub record Written (s : List Node) (r : List Header) (c : ℕ) (e : Entry) (t : 
 
 pub written : {s : List Node} {r : List Header} {c : ℕ} {t : Node} (e : Entry) → IsWhole s r → t ≡ node_at s c →
     Written s r c e (set s c (record t { entry = e }))
-written {s} {r} {c} e i is = subst (λ (u : Node). Written s r c e (set s c (record u { entry = e }))) (sym is) made
+written {s} {r} {c} e i is = rw is made
   where
     f : Node → Node
     f = λ u. record u { entry = e }
@@ -426,6 +425,6 @@ written {s} {r} {c} e i is = subst (λ (u : Node). Written s r c e (set s c (rec
       };
       lists = lists_is s2 r (lists_of s r) store.ends;
       entries = map-set (λ (u : Node). u.entry) s c (f (node_at s c));
-      owner = sym (owner_is s2 c) ∙ ap (λ os. get_or os c 0) owners ∙ owner_is s c;
+      owner = changed-keeps (λ u. u.owner) f s (Some c) c (λ u. refl);
       size = length-changed f s (Some c);
     }

@@ -1,13 +1,13 @@
 -- What holds of the headers and the lists of a store when cells go from one list to another.
 use Rattle.std.proofs.Common.{◌≡◌, ℕ, suc, ◌+◌, ◌<◌, ◌≤◌, ◌≢◌, inl, inr, List, [], ◌∷◌, ◌++◌, length, map, Option}
-use Rattle.std.proofs.Common.{None, Some, set, cond, ◌==◌, refl, sym, ap, ◌∙◌, subst, subst₂, arith, length-append}
+use Rattle.std.proofs.Common.{None, Some, set, cond, ◌==◌, refl, sym, ◌∙◌, subst, arith, length-append}
 use Rattle.std.proofs.Common.{length-set, ext_get_or}
 use Rattle.std.proofs.lemmas.{Bool.Decides.{eqb_tells, leb_tells, nat_tests}, Grind.{common_steps}}
 use Rattle.std.proofs.lemmas.List.{get_or_past, get_or-set_same, get_or-set_other}
 use Rattle.std.proofs.Math.ListN.{get_or-map, length-map}
 use Rattle.std.specs.Option.{option_or}
 use Rattle.dsa_cells.specs.{declared.links.{Node.{Node}, Header.{Header}}, Array.{node_at, header_at, no_header}}
-use Rattle.dsa_cells.specs.Partition.{first_or, last_or, Linked, walk, cells_of, times, IsHeader, AreHeaders, list_at}
+use Rattle.dsa_cells.specs.Partition.{first_or, last_or, Linked, cells_of, times, IsHeader, AreHeaders, list_at}
 use Rattle.dsa_cells.specs.Partition.{lists_of}
 use Rattle.dsa_cells.specs.Writes.{AreInside, changed, joined, detached, or_else, without, header_joined}
 use Rattle.dsa_cells.specs.{Invariant.{IsStore}, Owners.{owner_is, length-owners}}
@@ -40,7 +40,7 @@ list_at-set lists l m ys lt = grind (arith, common_steps)
 -- past the last there is none
 pub list_at-in : (lists : List (List ℕ)) (l x : ℕ) → 0 < times x (list_at lists l) → l < length lists
 list_at-in lists l x h = elim (leb_tells (length lists) l) [
-  | inl w ↦ let k = subst (λ ys. 0 < times x ys) (get_or_past lists l [] w.1) h in absurd (omega (arith, k))
+  | inl w ↦ let k = rw (get_or_past lists l [] w.1) at h in absurd (omega (arith, k))
   | inr w ↦ w.1
 ]
 
@@ -55,15 +55,12 @@ AreHeaders-set s t r lists l v ys a i frame = record {
       let lt2 : m < length lists = omega (arith, lt, length-set lists l ys) in
       elim (eqb_tells m l) [
         | inl w ↦
-            let lt3 : l < length lists = subst (λ n. n < length lists) w.1 lt2 in
+            let lt3 : l < length lists = omega (arith, lt2, w.1) in
             let lt4 : l < length r = omega (arith, lt3, a.sizes) in
-            subst (λ n. IsHeader t (header_at (set r l v) n) (list_at (set lists l ys) n)) (sym w.1)
-            (subst₂ (λ h zs. IsHeader t h zs) (sym (get_or-set_same r l v no_header lt4))
-            (sym (get_or-set_same lists l ys [] lt3)) i)
+            rw (w.1, get_or-set_same r l v no_header lt4, get_or-set_same lists l ys [] lt3) i
         | inr w ↦
             let old = a.each m lt2 in
-            subst₂ (λ h zs. IsHeader t h zs) (sym (get_or-set_other r l m v no_header w.1))
-            (sym (get_or-set_other lists l m ys [] w.1))
+            rw (get_or-set_other r l m v no_header w.1, get_or-set_other lists l m ys [] w.1)
             (record { head = old.head; tail = old.tail; count = old.count; links = frame m w.1 old.links })
       ];
 }
@@ -74,13 +71,8 @@ pub AreHeaders-agree : (s t : List Node) (r : List Header) (lists : List (List �
     AreHeaders t r lists
 AreHeaders-agree s t r lists same a = record {
   sizes = a.sizes;
-  each = λ m lt. let old = a.each m lt in record {
-    head = old.head;
-    tail = old.tail;
-    count = old.count;
-    links = same m
-        old.links;
-  };
+  each = λ m lt. let old = a.each m lt in
+      record { head = old.head; tail = old.tail; count = old.count; links = same m old.links };
 }
 
 -- ---- cells come behind a list
@@ -108,15 +100,10 @@ IsHeader-joined : (s : List Node) (kept given : Header) (ys xs : List ℕ) (p : 
     AreInside s (ys ++ xs) → IsHeader s kept ys
     → Comes s given p xs → IsHeader (joined s kept.tail given.head) (header_joined kept given) (ys ++ xs)
 IsHeader-joined s kept given ys xs p o w k g = record {
-  head = ap (λ h. option_or h given.head) k.head ∙ ap (option_or (first_or ys None)) g.head
-      ∙ or-first ys (first_or xs None)
-      ∙ sym (first_or-append ys xs None);
-  tail = ap (λ t. option_or t kept.tail) g.tail ∙ ap (option_or (last_or xs None)) k.tail
-      ∙ or-last xs (last_or ys None)
-      ∙ sym (last_or-append ys xs None);
+  head = rw (k.head, g.head) (or-first ys (first_or xs None) ∙ sym (first_or-append ys xs None));
+  tail = rw (g.tail, k.tail) (or-last xs (last_or ys None) ∙ sym (last_or-append ys xs None));
   count = omega (arith, k.count, g.count, length-append ys xs);
-  links = subst₂ (λ b e. Linked (joined s b e) None (ys ++ xs) None) (sym k.tail) (sym g.head)
-      (Linked-join s ys xs None p o w k.links g.links);
+  links = rw (k.tail, g.head) (Linked-join s ys xs None p o w k.links g.links);
 }
 
 -- cells that stand in no list come behind one
@@ -133,9 +120,7 @@ ends-joined s r lists to given p xs a lt g w d =
     (ys ++ xs) a
     (IsHeader-joined s (header_at r to) given ys xs p
     (λ x. omega (arith, d (suc to) x (λ e. omega (arith, e)), times-append x ys xs)) w kept g)
-    (λ m ne k. subst₂ (λ b e. Linked (joined s b e) None (list_at lists m) None) (sym kept.tail)
-    (sym g.head)
-    (Linked-join_other s ys xs (list_at lists m) (λ x. d m x ne) k))
+    (λ m ne k. rw (kept.tail, g.head) (Linked-join_other s ys xs (list_at lists m) (λ x. d m x ne) k))
 
 -- ---- a cell leaves its list
 
@@ -169,18 +154,12 @@ ends-left s r lists from c xs zs a lt is w d =
       times-tail x c zs,
     ) in
     let once = λ (x : ℕ). d (suc from) x (λ e. omega (arith, e)) in
-    let back = λ (ys : List ℕ) (k : Linked (joined s (last_or xs None) (first_or zs None)) None ys None).
-    subst₂ (λ (b e : Option ℕ). Linked (joined s b e) None ys None) (sym here.0) (sym here.1) k in
     AreHeaders-set s (detached s c) r lists from (without (header_at r from) (node_at s c)) (xs ++ zs) a
     (record {
-      head = ap (λ (t : Option ℕ). or_else t (node_at s c).next (header_at r from).head) here.0
-          ∙ ap (λ (t : Option ℕ). or_else (last_or xs None) t (header_at r from).head) here.1
-          ∙ ap (or_else (last_or xs None) (first_or zs None)) h.head ∙ head-left xs zs c;
-      tail = ap (λ (t : Option ℕ). or_else t (node_at s c).previous (header_at r from).tail) here.1
-          ∙ ap (λ (t : Option ℕ). or_else (first_or zs None) t (header_at r from).tail) here.0
-          ∙ ap (or_else (first_or zs None) (last_or xs None)) h.tail ∙ tail-left xs zs c;
+      head = rw (here.0, here.1, h.head) (head-left xs zs c);
+      tail = rw (here.0, here.1, h.tail) (tail-left xs zs c);
       count = omega (arith, h.count, length-append xs (c ∷ zs), length-append xs zs);
-      links = back (xs ++ zs) (Linked-join s xs zs (Some c) (Some c) (λ x. omega (
+      links = rw (here.0, here.1) (Linked-join s xs zs (Some c) (Some c) (λ x. omega (
         arith,
         once x,
         fewer x,
@@ -189,7 +168,7 @@ ends-left s r lists from c xs zs a lt is w d =
           (λ x k. w x (omega (arith, k, fewer x, times-append x xs zs))) (Linked-left s None xs (c ∷ zs) None h.links)
           here.2);
     })
-    (λ m ne k. back (list_at lists m) (Linked-join_other s xs zs (list_at lists m)
+    (λ m ne k. rw (here.0, here.1) (Linked-join_other s xs zs (list_at lists m)
     (λ x. omega (arith, d m x ne, fewer x)) k))
 
 -- ---- what a store's numbers say
@@ -213,8 +192,7 @@ distinct s r lists l m x st ne = grind (arith, nat_tests, st.placed l x, st.plac
 
 -- the cells of a header are its list
 pub cells_are : (s : List Node) (r : Header) (xs : List ℕ) → IsHeader s r xs → cells_of s r ≡ xs
-cells_are s r xs i = ap (λ n. walk s n r.head) i.count ∙ ap (walk s (length xs)) i.head
-    ∙ walk_is s None xs i.links
+cells_are s r xs i = rw (i.count, i.head) (walk_is s None xs i.links)
 
 -- the lists are those that following next finds
 pub lists_is : (s : List Node) (r : List Header) (lists : List (List ℕ)) → AreHeaders s r lists → lists_of s r ≡ lists

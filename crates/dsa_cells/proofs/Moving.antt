@@ -1,13 +1,13 @@
 -- A cell goes from its list to the end of another.
 use Rattle.std.proofs.Common.{◌≡◌, ℕ, suc, ◌+◌, ◌<◌, ◌≢◌, List, [], ◌∷◌, ◌++◌, length, None, Some, set}
-use Rattle.std.proofs.Common.{cond, ◌==◌, sum_by, refl, sym, ap, ◌∙◌, subst, arith, length-append, length-set}
+use Rattle.std.proofs.Common.{cond, ◌==◌, sum_by, refl, sym, ap, ◌∙◌, arith, length-append, length-set}
 use Rattle.std.proofs.Common.{◌^◌}
 use Rattle.std.proofs.lemmas.{Bool.Decides.{nat_tests}, Grind.{common_steps}}
 use Rattle.std.proofs.lemmas.List.{map-set, Sums.{sum_by-set, get_or-le-sum_by}}
 use Rattle.std.specs.Option.{option_or}
 use Rattle.dsa_cells.specs.declared.links.{Node.{Node}, Header.{Header}}
 use Rattle.dsa_cells.specs.Array.{node_at, header_at, owners_of, entries_of}
-use Rattle.dsa_cells.specs.Partition.{first_or, last_or, Linked, times, IsHeader, AreHeaders, list_at}
+use Rattle.dsa_cells.specs.Partition.{first_or, last_or, times, IsHeader, AreHeaders, list_at}
 use Rattle.dsa_cells.specs.Writes.{InRange, AreInside, joined, header_joined, detached, without, lacking, alone}
 use Rattle.dsa_cells.specs.Writes.{with_last, or_else, moved}
 use Rattle.dsa_cells.specs.{Invariant.{place, IsStore}, Owners.{owner_is, length-owners}}
@@ -77,8 +77,7 @@ one_cell c = record { head = Some c; tail = Some c; count = 1 }
 with_last-is : (s : List Node) (h : Header) (ys : List ℕ) (c : ℕ) → IsHeader s h ys
     → header_joined h (one_cell c) ≡ with_last h c
 with_last-is s h ys c i =
-    let head = ap (λ o. option_or o (Some c)) i.head ∙ go ys
-    ∙ sym (ap (λ o. or_else o (Some c) h.head) i.tail ∙ ap (or_else (last_or ys None) (Some c)) i.head) in
+    let head : option_or h.head (Some c) ≡ or_else h.tail (Some c) h.head = rw (i.head, i.tail) (go ys) in
     ap (λ o. let header : Header = record { head = o; tail = Some c; count = h.count + 1 } in header) head
   where
     go : (ys : List ℕ) → option_or (first_or ys None) (Some c) ≡ or_else (last_or ys None) (Some c) (first_or ys None)
@@ -175,11 +174,11 @@ transfer s r lists c to may = go parts.0 parts.1 parts.2
         let r1 = headers_left s r c in
         let lists1 = left lists from c in
         let inside : AreInside s (xs ++ c ∷ zs) = λ x h. (names_in s r lists from x st
-        (subst (λ ys. 0 < times x ys) (sym is) h)).0 in
+        (rw is h)).0 in
         let once = ap (times c) (sym is) ∙ one in
         let less =
         ap (lacking c) is ∙ lacking-split c xs zs (omega (arith, once, times-append c xs (c ∷ zs), times-head c zs)) in
-        let ends1 : AreHeaders s1 r1 lists1 = subst (λ ys. AreHeaders s1 r1 (set lists from ys)) (sym less)
+        let ends1 : AreHeaders s1 r1 lists1 = rw less
         (ends-left s r lists from c xs zs st.ends in_lists is inside (λ m x other.
         omega (arith, ap (times x) is, distinct s r lists from m x st other))) in
         let f : Node → Node = λ t. record t { next = None; owner = to } in
@@ -189,8 +188,8 @@ transfer s r lists c to may = go parts.0 parts.1 parts.2
         (λ x. let e = times-left s r lists c m x st lt in_lists in let d = distinct s r lists m (suc m) x st
         (λ q. omega (arith, q)) in grind (arith, nat_tests, e, d)) k) ends1 in
         let at = changed-here f s1 c (omega (arith, lt, size1)) in
-        let h = Linked-right s None xs (c ∷ zs) None (subst (λ ys. Linked s None ys None) is
-        (st.ends.each from in_lists).links) in
+        let h = Linked-right s None xs (c ∷ zs) None (rw is at (st.ends.each from
+        in_lists).links) in
         let end = ends1.each to to_left in
         let listed : AreInside s1 (list_at lists1 to) = λ x k.
         let e = times-left s r lists c to x st lt in_lists in
@@ -216,9 +215,7 @@ transfer s r lists c to may = go parts.0 parts.1 parts.2
               ∙ map-changed (λ t. t.entry) f s1 (Some c) (λ t. refl)
               ∙ map-joined (λ t. t.entry) s (node_at s c).previous (node_at s c).next (λ t o. refl) (λ t o. refl);
           left = is_left (record {
-            ends = subst (λ h. AreHeaders (joined s2 (header_at r1 to).tail (Some c)) (set r1 to h)
-                (moved lists c from to))
-                (with_last-is s2 (header_at r1 to) (list_at lists1 to) c (ends2.each to to_left))
+            ends = rw (← with_last-is s2 (header_at r1 to) (list_at lists1 to) c (ends2.each to to_left))
                 (ends-joined s2 r1 lists1 to (one_cell c) (node_at s2 c).previous (c ∷ []) ends2 to_left
                 (record { head = refl; tail = refl; count = refl; links = (refl, ap (λ (t : Node). t.next) at, tt) })
                 (λ x k.

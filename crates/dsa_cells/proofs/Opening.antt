@@ -1,14 +1,14 @@
 -- A new store: every cell is in the free list.
 use Rattle.std.proofs.Common.{◌≡◌, ℕ, zero, suc, ◌+◌, ◌-◌, ◌^◌, ◌<◌, Bool, true, false, List, [], ◌∷◌, ◌++◌, length}
-use Rattle.std.proofs.Common.{map, take, replicate, Option, None, Some, get_or, cond, ltb, leb, ◌&&◌, ◌==◌, refl, sym}
-use Rattle.std.proofs.Common.{ap, ◌∙◌, subst, subst₂, arith, length-append}
-use Rattle.std.proofs.lemmas.Bool.Decides.{nat_tests}
+use Rattle.std.proofs.Common.{map, replicate, Option, None, Some, get_or, cond, ltb, leb, ◌&&◌, ◌==◌, refl, sym}
+use Rattle.std.proofs.Common.{ap, ◌∙◌, arith, length-append}
+use Rattle.std.proofs.lemmas.{Bool.Decides.{nat_tests}, Grind.{common_steps}}
 use Rattle.std.proofs.lemmas.List.{length-replicate, Sums.{sum_by-append}, Folds.{sum_by-replicate}}
 use Rattle.std.proofs.Math.Seq.{take-append_seam}
 use Rattle.dsa_store.specs.Content.{Slot, Content}
 use Rattle.dsa_cells.specs.{declared.links.{Node.{Node}, Header.{Header}}, Array.{owners_of, entries_of, no_header}}
 use Rattle.dsa_cells.specs.Partition.{first_or, last_or, Linked, times, IsHeader, lists_of}
-use Rattle.dsa_cells.specs.{Invariant.{place, IsStore, IsWhole}, Content.{slot, contents, content_at}}
+use Rattle.dsa_cells.specs.{Invariant.{place, IsStore, IsWhole}, Content.{slot, content_at}}
 use Rattle.dsa_cells.specs.{Fresh.{AreFresh, fresh_header}, Owners.{length-owners, owner_is}}
 use Rattle.dsa_cells.proofs.Joining.{lists_is, store_found}
 
@@ -31,19 +31,7 @@ times-upto c a (suc m) = grind (arith, nat_tests, times-upto c (suc a) m)
 
 -- a list of equal elements and one more behind them
 get_or-last : {X : Type 0} (k l : ℕ) (x y : X) → get_or (replicate k x ++ y ∷ []) l x ≡ cond (l == k) y x
-get_or-last zero zero x y = refl
-get_or-last zero (suc l) x y = ap (λ (b : Bool). cond b y x) (no l)
-  where
-    no : (l : ℕ) → false ≡ (suc l == 0)
-    no l = grind (arith, nat_tests)
-get_or-last (suc k) zero x y = ap (λ (b : Bool). cond b y x) (no k)
-  where
-    no : (k : ℕ) → false ≡ (0 == suc k)
-    no k = grind (arith, nat_tests)
-get_or-last (suc k) (suc l) x y = get_or-last k l x y ∙ ap (λ (b : Bool). cond b y x) (same l k)
-  where
-    same : (l k : ℕ) → (l == k) ≡ (suc l == suc k)
-    same l k = grind (arith, nat_tests)
+get_or-last k l x y = grind (arith, common_steps, length-replicate k x)
 
 length-last : {X : Type 0} (k : ℕ) (x y : X) → length (replicate k x ++ y ∷ []) ≡ k + 1
 length-last k x y = omega (arith, length-append (replicate k x) (y ∷ []), length-replicate k x)
@@ -94,8 +82,7 @@ store-fresh : (s : List Node) (n lists : ℕ) → AreFresh s n lists n →
 store-fresh s n lists f = record {
   ends = record {
     sizes = length-last lists no_header (fresh_header n) ∙ sym (length-last lists no_cells (upto 0 n));
-    each = λ l lt. subst₂ (λ h xs. IsHeader s h xs)
-        (sym (get_or-last lists l no_header (fresh_header n))) (sym (get_or-last lists l no_cells (upto 0 n)))
+    each = λ l lt. rw (get_or-last lists l no_header (fresh_header n), get_or-last lists l no_cells (upto 0 n))
         (by_test (l == lists));
   };
   placed = λ l c. ap (times c) (get_or-last lists l no_cells (upto 0 n)) ∙ placed l c;
@@ -130,8 +117,7 @@ pub sound-fresh : (s : List Node) (r : List Header) (n lists : ℕ) → AreFresh
 sound-fresh s r n lists f e few few2 =
     let size = ap length e ∙ length-last lists no_header (fresh_header n) in
     record {
-      store = subst (λ x. IsStore s x (lists_of s x)) (sym e)
-          (store_found s (fresh_headers_of n lists) (fresh_lists n lists) (store-fresh s n lists f));
+      store = rw e (store_found s (fresh_headers_of n lists) (fresh_lists n lists) (store-fresh s n lists f));
       free = omega (arith, size);
       few_cells = omega (arith, f.size, few);
       few_lists = omega (arith, size, few2);
@@ -148,10 +134,7 @@ content-fresh s r n lists f e =
     let xss : List (List ℕ) = replicate lists [] in
     let size : length (fresh_lists n lists) - 1 ≡ length xss =
     omega (arith, length-append xss (upto 0 n ∷ [])) in
-    ap (contents es) is
-    ∙ ap (λ (k : ℕ). map (map (slot es)) (take k (fresh_lists n lists))) size
-    ∙ ap (map (map (slot es))) (take-append_seam xss (upto 0 n ∷ []))
-    ∙ none lists
+    rw (is, size, take-append_seam xss (upto 0 n ∷ [])) (none lists)
   where
     none : (k : ℕ) → map (map (slot (entries_of s))) (replicate k []) ≡ replicate k []
     none zero = refl

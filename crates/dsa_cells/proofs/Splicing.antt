@@ -1,6 +1,6 @@
 -- All cells of a list go behind those of another, by the ends of the two.
 use Rattle.std.proofs.Common.{◌≡◌, ℕ, zero, suc, ◌+◌, ◌-◌, ◌<◌, ◌≤◌, ◌≢◌, List, [], ◌∷◌, ◌++◌, length, Option, None}
-use Rattle.std.proofs.Common.{Some, get_or, set, cond, ◌==◌, ltb, sum_by, refl, sym, ap, ◌∙◌, subst, subst₂, arith}
+use Rattle.std.proofs.Common.{Some, get_or, set, cond, ◌==◌, ltb, sum_by, refl, sym, ap, ◌∙◌, subst, arith}
 use Rattle.std.proofs.Common.{length-append, length-set, ◌^◌}
 use Rattle.std.proofs.lemmas.{Bool.Decides.{nat_tests}, Grind.{common_steps}}
 use Rattle.std.proofs.lemmas.List.{map-set, get_or-set_other, Sums.{sum_by-set, get_or-le-sum_by}}
@@ -61,8 +61,7 @@ walk-agree : (s t : List Node) (k : ℕ) (o : Option ℕ) → ((x : ℕ) → Sam
 walk-agree s t zero o same = refl
 walk-agree s t (suc k) None same = refl
 walk-agree s t (suc k) (Some c) same =
-    ap (λ p. c ∷ walk t k p) (same c).next
-    ∙ ap (λ xs. c ∷ xs) (walk-agree s t k (node_at s c).next same)
+    rw ((same c).next, walk-agree s t k (node_at s c).next same) refl
 
 -- what is left to mark, of n cells of which i have been, makes that array
 pub record Marking (s : List Node) (k : ℕ) (o : Option ℕ) (owner : ℕ) (target : List Node) : Type 0 where
@@ -75,11 +74,9 @@ pub mark-some : (s : List Node) (n i c owner : ℕ) (o : Option ℕ) (target : L
     → (c < length s) × ((t : List Node) (p : Option ℕ) → t ≡ renumbered s c owner → p ≡ (node_at s c).next →
     Marking t (n - (i + 1)) p owner target)
 mark-some s n i c owner o target lt is m =
-    let made = go (n - (i + 1)) (subst₂ (λ k q. Marking s k q owner target) (omega arith) is m) in (
-      made.0,
-      λ t p e f. subst₂ (λ (x : List Node) (q : Option ℕ). Marking x (n - (i + 1)) q owner target) (sym e)
-          (sym f) made.1,
-    )
+    let less : n - i ≡ suc (n - (i + 1)) = omega arith in
+    let made = go (n - (i + 1)) (rw (less, is) at m) in
+    (made.0, λ t p e f. rw (e, f) made.1)
   where
     go : (k : ℕ) → Marking s (suc k) (Some c) owner target → (c < length s) × Marking (renumbered s c owner) k
         (node_at s c).next owner target
@@ -105,8 +102,7 @@ pub mark-none : (s t : List Node) (n i owner : ℕ) (o p : Option ℕ) (target :
     p ≡ o → Marking s (n - i) o owner target
     → Marking t (n - (i + 1)) p owner target
 mark-none s t n i owner o p target lt is e f m =
-    subst₂ (λ (x : List Node) (q : Option ℕ). Marking x (n - (i + 1)) q owner target) (sym e) (sym (f ∙ is))
-    (go (n - (i + 1)) (subst₂ (λ k q. Marking s k q owner target) (omega arith) is m))
+    let less : n - i ≡ suc (n - (i + 1)) = omega arith in rw (e, f, is) (go (n - (i + 1)) (rw (less, is) at m))
   where
     go : (k : ℕ) → Marking s (suc k) None owner target → Marking s k None owner target
     go zero a = record { rest = a.rest; inside = a.inside }
@@ -157,9 +153,7 @@ splice s r lists from to may = subst (Splice s r lists from to)
       entries = map-joined (λ t. t.entry) s1 (header_at r to).tail (header_at r from).head (λ t o. refl) (λ t o. refl)
           ∙ entries-marked s xs to;
       left = is_left (record {
-        ends = subst (λ h. AreHeaders (joined s1 h.tail (header_at r from).head) (set (set r from no_header) to
-            (header_joined h (header_at r from))) (given_back lists from to))
-            (get_or-set_other r from to no_header no_header (λ e. ne (sym e)))
+        ends = rw (← get_or-set_other r from to no_header no_header (λ e. ne (sym e)))
             (ends-joined s1 (set r from no_header) rest to (header_at r from) None xs
             (AreHeaders-set s1 s1 r lists from no_header [] ends1
             (record { head = refl; tail = refl; count = refl; links = tt }) (λ m other k. k))
