@@ -18,17 +18,14 @@ use Rattle.dsa_book.specs.contracts.event.KindPartialEq.TheImpl as kind_eq
 use Rattle.dsa_book.specs.declared.answer.Cause.TheVariants as cause
 use Rattle.dsa_book.specs.contracts.answer.CausePartialEq.TheImpl as cause_eq
 use Rattle.dsa_book.specs.contracts.answer.NotedErrorPartialEq.TheImpl as noted_error_eq
-use Rattle.std.proofs.Common.{◌≡◌, ℕ, ◌==◌, ◌&&◌, Bool, true, false, refl, ap, ◌∙◌}
-use Rattle.std.proofs.{lemmas.Bool.{and_parts, eqb-true}, Math.Bool.{and_assoc}}
-use Rattle.std.specs.Bool.{beq}
+use Rattle.std.proofs.{Common.{◌≡◌, ℕ, ◌==◌, ◌&&◌, Bool, true, false, refl, ap, ◌∙◌}, lemmas.Bool.{and_parts, eqb-true}}
+use Rattle.std.{proofs.Math.Bool.{and_assoc}, specs.Bool.{beq}}
 use Rattle.dsa_desc.specs.declared.{Descriptor.{Descriptor}, Outcome.{Outcome}}
 use Rattle.dsa_regs.specs.declared.{QueueConfig.{QueueConfig}, GroupConfig.{GroupConfig}, QueueMask.{QueueMask}}
-use Rattle.dsa_regs.specs.declared.{Command.{Command}, Fault.{Fault}}
-use Rattle.dsa_regs.specs.Fault.{same_fault}
+use Rattle.dsa_regs.specs.{declared.{Command.{Command}, Fault.{Fault}}, Fault.{same_fault}}
 use Rattle.dsa_store.specs.declared.entry.Cell.{Cell}
 use Rattle.dsa_book.specs.declared.answer.{Ticket.{Ticket}, Cause.{Cause}, NotedError.{NotedError}}
-use Rattle.dsa_book.specs.declared.event.{Portal.{Portal}, Kind.{Kind}}
-use Rattle.dsa_book.specs.Same.{same_ticket, same_cause, same_noted}
+use Rattle.dsa_book.specs.{declared.event.{Portal.{Portal}, Kind.{Kind}}, Same.{same_ticket, same_cause, same_noted}}
 
 -- what cannot be
 pub never : {X : Type 0} → false ≡ true → X

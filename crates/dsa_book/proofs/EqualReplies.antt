@@ -2,21 +2,19 @@
 use Rattle.dsa_book.specs.contracts.answer.ReplyPartialEq.TheImpl as reply_eq
 use Rattle.dsa_book.specs.contracts.answer.ReplyEq.TheImpl.Laws as reply_laws
 use Rattle.std.proofs.{Common.{◌≡◌, ◌==◌, Bool, true, refl, ap, ◌∙◌}, lemmas.Bool.{and_parts}}
-use Rattle.dsa_book.specs.declared.answer.SubmitAnswer.TheVariants.{Accepted, Retry, Dropped, Full}
+use Rattle.dsa_book.proofs.EqualParts.{never, Tested, numbers, faults, tickets, causes, noted_errors}
+use Rattle.dsa_book.specs.Same.{same_ticket, same_reply}
+use Rattle.dsa_book.specs.declared.answer.ClearAnswer.TheVariants.{Cleared, Nothing, Full}
 use Rattle.dsa_book.specs.declared.answer.DispatchAnswer.TheVariants.{Taken, Idle, Full}
 use Rattle.dsa_book.specs.declared.answer.FetchAnswer.TheVariants.{Fetched, NoBatch, AllFetched, Full}
-use Rattle.dsa_book.specs.declared.answer.StartAnswer.TheVariants.{Started, FenceWait, NoBuffers, Abandoned, Nothing}
-use Rattle.dsa_book.specs.declared.answer.StartAnswer.TheVariants.{Full}
 use Rattle.dsa_book.specs.declared.answer.FinishAnswer.TheVariants.{Done, NotReady, Gone, Full}
 use Rattle.dsa_book.specs.declared.answer.IssueAnswer.TheVariants.{Ended, Active, Refused, Full}
 use Rattle.dsa_book.specs.declared.answer.PollAnswer.TheVariants.{Finished, Active, Nothing, Full}
+use Rattle.dsa_book.specs.declared.answer.Reply.TheVariants.{Submit, Dispatch, Fetch, Start, Finish, Issue, Poll, Write}
+use Rattle.dsa_book.specs.declared.answer.StartAnswer.TheVariants.{Started, FenceWait, NoBuffers, Abandoned, Nothing}
+use Rattle.dsa_book.specs.declared.answer.SubmitAnswer.TheVariants.{Accepted, Retry, Dropped, Full}
 use Rattle.dsa_book.specs.declared.answer.WriteAnswer.TheVariants.{Written, Refused, Full}
-use Rattle.dsa_book.specs.declared.answer.ClearAnswer.TheVariants.{Cleared, Nothing, Full}
-use Rattle.dsa_book.specs.declared.answer.Reply.{Reply}
-use Rattle.dsa_book.specs.declared.answer.Reply.TheVariants.{Submit, Dispatch, Fetch, Start, Finish, Issue, Poll}
-use Rattle.dsa_book.specs.declared.answer.Reply.TheVariants.{Write, Clear}
-use Rattle.dsa_book.specs.Same.{same_ticket, same_reply}
-use Rattle.dsa_book.proofs.EqualParts.{never, Tested, numbers, faults, tickets, causes, noted_errors}
+use Rattle.dsa_book.specs.declared.answer.{Reply.{TheVariants.{Clear}, Reply}, StartAnswer.TheVariants.{Full}}
 
 -- what holds of a part, holds of the reply with that part
 under : {T : Type 0} {x y : Bool} {a b : T} (f : T → Reply) → (x ≡ y) × (x ≡ true → a ≡ b)

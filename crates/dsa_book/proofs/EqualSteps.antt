@@ -4,10 +4,9 @@ use Rattle.dsa_book.specs.contracts.event.EventPartialEq.TheImpl as event_eq
 use Rattle.dsa_book.specs.contracts.event.StepPartialEq.TheImpl as step_eq
 use Rattle.dsa_book.specs.contracts.event.StepEq.TheImpl.Laws as step_laws
 use Rattle.std.proofs.Common.{◌≡◌, true, refl, ap, subst}
-use Rattle.dsa_book.specs.declared.event.{Event.{Event}, Step.{Step}}
 use Rattle.dsa_book.proofs.EqualParts.{never, same-number, field, same-descriptor, same-outcome, same-queue_config}
 use Rattle.dsa_book.proofs.EqualParts.{same-group_config, same-command, same-ticket, same-portal, same-kind}
-use Rattle.dsa_book.proofs.EqualReplies.{same-reply}
+use Rattle.dsa_book.{specs.declared.event.{Event.{Event}, Step.{Step}}, proofs.EqualReplies.{same-reply}}
 
 pub same-event : (a b : Event) → event_eq.eq-value.it a b ≡ true → a ≡ b
 same-event (event.Submit x0 x1 x2 x3 x4) (event.Submit y0 y1 y2 y3 y4) h =

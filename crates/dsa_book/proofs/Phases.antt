@@ -1,8 +1,6 @@
 -- Phases of queues, as the set-up has them after some were set.
-use Rattle.std.proofs.Common.{◌≡◌, ℕ, ◌<◌, ◌≤◌, Bool, true, false, cond, refl, sym, subst, ◌⊎◌, inl, inr, arith}
-use Rattle.std.proofs.Common.{⊎_elim}
-use Rattle.std.proofs.lemmas.Bool.{cases_Bool, ltb-true, ltb-false}
-use Rattle.std.specs.Prelude.{nat_lt}
+use Rattle.std.proofs.Common.{◌≡◌, ℕ, ◌<◌, ◌≤◌, Bool, true, false, cond, refl, sym, subst, ◌⊎◌, inl, inr, arith, ⊎_elim}
+use Rattle.std.{proofs.lemmas.Bool.{cases_Bool, ltb-true, ltb-false}, specs.Prelude.{nat_lt}}
 use Rattle.dsa_regs.specs.declared.Phase.{Phase, TheVariants.{Off, On, Stopping}}
 use Rattle.dsa_base.proofs.NumberLists.{get_or-each, get_or-past}
 use Rattle.dsa_book.specs.{State.{Setup, is_on, is_off, phase_at}, Commands.{with_phases}}

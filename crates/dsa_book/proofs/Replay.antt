@@ -1,10 +1,9 @@
 -- Histories: one that grows by a step at its end, and what its steps add together.
-use Rattle.std.proofs.Common.{◌≡◌, List, [], ◌∷◌, ◌++◌, Option, Some, None, option_and_then, refl, ℕ, ◌+◌, sum_by}
-use Rattle.std.proofs.Common.{sym, ap, ◌∙◌, arith, add-zero}
-use Rattle.std.proofs.lemmas.List.Sums.{sum_by-cons}
+use Rattle.std.proofs.Common.{◌≡◌, List, [], ◌∷◌, ◌++◌, Option, Some, None, option_and_then, refl, ℕ, ◌+◌, sum_by, sym}
+use Rattle.std.proofs.{Common.{ap, ◌∙◌, arith, add-zero}, lemmas.List.Sums.{sum_by-cons}}
 use Rattle.dsa_regs.specs.declared.Caps.{Caps}
-use Rattle.dsa_book.specs.{declared.{event.Step.{Step}, answer.Reply.{Reply}}, State.{State, opening}}
-use Rattle.dsa_book.specs.Machine.{next, replay_from, replay}
+use Rattle.dsa_book.specs.State.{State, opening}
+use Rattle.dsa_book.specs.{declared.{event.Step.{Step}, answer.Reply.{Reply}}, Machine.{next, replay_from, replay}}
 
 -- nothing follows a step that may not come
 pub replay_none : (h : List Step) (s : State) → replay_from None h ≡ Some s → ⊥
@@ -29,10 +28,7 @@ replay-adds P measure gain each (x ∷ h) s s' p e =
     go further None n e = absurd (replay_none h s' e)
     go further (Some t) n e =
         let first = each s t x p n in
-        let here = first.1 in
-        let rest = further t first.0 e in
-        let sum = sum_by-cons (λ (step : Step). gain step.reply) x h in
-        omega (arith, here, rest, sum)
+        omega (arith, first.1, further t first.0 e, sum_by-cons)
 
 -- steps that follow others go on from where those lead
 pub replay_from-append : (xs ys : List Step) (o : Option State)

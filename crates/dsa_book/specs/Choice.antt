@@ -2,10 +2,9 @@
 use Rattle.std.specs.Prelude.{ℕ, Bool, true, false}
 use Rattle.dsa_regs.specs.Caps.{cell_count}
 use Rattle.dsa_store.specs.{declared.entry.Cell.{Cell}, Content.{Content, is_free}}
-use Rattle.dsa_book.specs.declared.answer.{SubmitAnswer.TheVariants.{Accepted}, DispatchAnswer.TheVariants.{Taken}}
-use Rattle.dsa_book.specs.declared.answer.FetchAnswer.TheVariants.{Fetched}
 use Rattle.dsa_book.specs.declared.answer.Reply.{Reply, TheVariants.{Submit, Dispatch, Fetch}}
-use Rattle.dsa_book.specs.State.{Setup}
+use Rattle.dsa_book.specs.declared.answer.{SubmitAnswer.TheVariants.{Accepted}, DispatchAnswer.TheVariants.{Taken}}
+use Rattle.dsa_book.specs.{declared.answer.FetchAnswer.TheVariants.{Fetched}, State.{Setup}}
 
 -- nothing is chosen, or the cell of an entry that comes in, or the queue that one is taken from (profile)
 pub data Choice : Type 0 where

@@ -1,26 +1,22 @@
 -- Commands, configuration and the noted error: the administrator's steps.
-use Rattle.std.specs.Prelude.{ℕ, Bool, true, false, not, cond, ◌&&◌, ◌||◌, ◌==◌, nat_lt, nat_le, List, ◌∷◌, ◌++◌}
-use Rattle.std.specs.Prelude.{length, map, filter, slice_set, Option, Some, None, is_some, []}
-use Rattle.std.specs.List.{list_any, list_all}
+use Rattle.std.specs.Prelude.{ℕ, Bool, true, false, not, cond, ◌&&◌, ◌||◌, ◌==◌, nat_lt, nat_le, List, ◌∷◌, ◌++◌, map}
+use Rattle.std.specs.{Prelude.{length, filter, slice_set, Option, Some, None, is_some, []}, List.{list_any, list_all}}
 use Rattle.dsa_base.specs.{Rows.{first_row_or}, Numbers.{numbers_below}}
-use Rattle.dsa_regs.specs.declared.{Phase.{Phase, TheVariants.{Off, On, Stopping}}, QueueConfig.{QueueConfig}}
-use Rattle.dsa_regs.specs.declared.{GroupConfig.{GroupConfig}, Command.{Command}}
-use Rattle.dsa_regs.specs.declared.Scope.{Scope, TheVariants.{Device, Queue, Pasid}}
-use Rattle.dsa_regs.specs.declared.Deed.{Deed, TheVariants.{Enable, Disable, Abort, Reset}}
-use Rattle.dsa_regs.specs.declared.Fault.{Fault, TheVariants.{BadQueue, Locked, WrongState, Busy, BadIndex}}
-use Rattle.dsa_regs.specs.Config.{zero_queue, queue_at, check_device, check_queue}
 use Rattle.dsa_regs.specs.Command.{number_of, scope_of, deed_of, queues_in}
+use Rattle.dsa_regs.specs.Config.{zero_queue, queue_at, check_device, check_queue}
+use Rattle.dsa_regs.specs.declared.Fault.{Fault, TheVariants.{BadQueue, Locked, WrongState, Busy, BadIndex}}
+use Rattle.dsa_regs.specs.declared.{Deed.{Deed, TheVariants.{Enable, Disable, Abort, Reset}}, QueueConfig.{QueueConfig}}
+use Rattle.dsa_regs.specs.declared.{Phase.{Phase, TheVariants.{Off, On, Stopping}}, Command.{Command}}
+use Rattle.dsa_regs.specs.declared.{Scope.{Scope, TheVariants.{Device, Queue, Pasid}}, GroupConfig.{GroupConfig}}
 use Rattle.dsa_store.specs.{declared.entry.Entry.{Entry}, Content.{Slot, Content, chain, all_held, only_where}}
-use Rattle.dsa_book.specs.declared.answer.NotedError.{NotedError}
+use Rattle.dsa_book.specs.State.{Setup, Work, State, is_on, is_off, is_member, is_batch_of, phase_at, has_queue}
+use Rattle.dsa_book.specs.declared.answer.ClearAnswer.{ClearAnswer, TheVariants.{Cleared, Nothing}}
 use Rattle.dsa_book.specs.declared.answer.IssueAnswer.{IssueAnswer, TheVariants.{Ended, Active, Refused}}
 use Rattle.dsa_book.specs.declared.answer.PollAnswer.{PollAnswer, TheVariants.{Finished, Active, Nothing}}
 use Rattle.dsa_book.specs.declared.answer.WriteAnswer.{WriteAnswer, TheVariants.{Written, Refused}}
-use Rattle.dsa_book.specs.declared.answer.ClearAnswer.{ClearAnswer, TheVariants.{Cleared, Nothing}}
 use Rattle.dsa_book.specs.declared.note.{BatchNote.{BatchNote}, ActiveCommand.{ActiveCommand}}
-use Rattle.dsa_book.specs.declared.fate.Fate.TheVariants.{Aborted}
-use Rattle.dsa_book.specs.State.{Setup, Work, State, is_on, is_off, is_member, is_batch_of, phase_at, has_queue}
-use Rattle.dsa_book.specs.State.{opening_setup}
-use Rattle.dsa_book.specs.Work.{progress_list, note_at, fate_row}
+use Rattle.dsa_book.specs.declared.{fate.Fate.TheVariants.{Aborted}, answer.NotedError.{NotedError}}
+use Rattle.dsa_book.specs.{Work.{progress_list, note_at, fate_row}, State.{opening_setup}}
 
 -- ---- scopes
 

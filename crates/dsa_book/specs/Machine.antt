@@ -1,29 +1,24 @@
 -- The machine: what may follow a state, replays, legal histories and runs.
-use Rattle.std.specs.Prelude.{ℕ, Bool, true, false, cond, ◌&&◌, ◌==◌, List, [], ◌∷◌, ◌++◌, length, filter, Option}
-use Rattle.std.specs.Prelude.{Some, None, is_some, option_and_then}
-use Rattle.std.specs.List.{list_all}
+use Rattle.std.specs.Prelude.{ℕ, Bool, true, false, cond, ◌&&◌, ◌==◌, List, [], ◌∷◌, ◌++◌, length, filter, Option, Some}
+use Rattle.std.specs.{Prelude.{None, is_some, option_and_then}, List.{list_all}}
 use Rattle.dsa_base.specs.Rows.{when}
 use Rattle.dsa_regs.specs.declared.Caps.{Caps}
-use Rattle.dsa_book.specs.declared.answer.SubmitAnswer.TheVariants.{Accepted, Retry, Dropped, Full}
-use Rattle.dsa_book.specs.declared.answer.DispatchAnswer.TheVariants.{Taken, Full}
-use Rattle.dsa_book.specs.declared.answer.FetchAnswer.TheVariants.{Fetched, Full}
-use Rattle.dsa_book.specs.declared.answer.StartAnswer.TheVariants.{Started, Abandoned, Full}
-use Rattle.dsa_book.specs.declared.answer.FinishAnswer.TheVariants.{Done, Full}
+use Rattle.dsa_book.specs.Commands.{issue, poll, write_queue, write_group, clear}
+use Rattle.dsa_book.specs.State.{Setup, Intake, Work, State, opening}
+use Rattle.dsa_book.specs.Work.{may_leave, dispatch, fetch, start, finish}
+use Rattle.dsa_book.specs.declared.answer.ClearAnswer.TheVariants.{Cleared, Full}
 use Rattle.dsa_book.specs.declared.answer.IssueAnswer.TheVariants.{Ended, Active, Full}
 use Rattle.dsa_book.specs.declared.answer.PollAnswer.TheVariants.{Finished, Full}
+use Rattle.dsa_book.specs.declared.answer.Reply.TheVariants.{Submit, Dispatch, Fetch, Start, Finish, Issue, Poll, Write}
+use Rattle.dsa_book.specs.declared.answer.StartAnswer.TheVariants.{Started, Abandoned, Full}
+use Rattle.dsa_book.specs.declared.answer.SubmitAnswer.TheVariants.{Accepted, Retry, Dropped, Full}
 use Rattle.dsa_book.specs.declared.answer.WriteAnswer.TheVariants.{Written, Full}
-use Rattle.dsa_book.specs.declared.answer.ClearAnswer.TheVariants.{Cleared, Full}
-use Rattle.dsa_book.specs.declared.answer.Reply.{Reply}
-use Rattle.dsa_book.specs.declared.answer.Reply.TheVariants.{Submit, Dispatch, Fetch, Start, Finish, Issue, Poll}
-use Rattle.dsa_book.specs.declared.answer.Reply.TheVariants.{Write, Clear}
-use Rattle.dsa_book.specs.declared.event.Event.{Event}
+use Rattle.dsa_book.specs.declared.answer.{DispatchAnswer.TheVariants.{Taken, Full}, Reply.{TheVariants.{Clear}, Reply}}
 use Rattle.dsa_book.specs.declared.event.Event.TheVariants.{Submit, Dispatch, Fetch, Start, Finish, Issue, Poll}
 use Rattle.dsa_book.specs.declared.event.Event.TheVariants.{WriteQueue, WriteGroup, ClearError}
-use Rattle.dsa_book.specs.declared.event.Step.{Step}
-use Rattle.dsa_book.specs.{Same.{same_reply}, Choice.{Choice, choice_of, is_nothing, cell_of, may_enter}}
-use Rattle.dsa_book.specs.{State.{Setup, Intake, Work, State, opening}, Submit.{submit}}
-use Rattle.dsa_book.specs.Work.{may_leave, dispatch, fetch, start, finish}
-use Rattle.dsa_book.specs.Commands.{issue, poll, write_queue, write_group, clear}
+use Rattle.dsa_book.specs.declared.{answer.FinishAnswer.TheVariants.{Done, Full}, event.{Event.{Event}, Step.{Step}}}
+use Rattle.dsa_book.specs.{Choice.{Choice, choice_of, is_nothing, cell_of, may_enter}, Same.{same_reply}}
+use Rattle.dsa_book.specs.{declared.answer.FetchAnswer.TheVariants.{Fetched, Full}, Submit.{submit}}
 
 -- ---- the parts of a state that a step changed
 

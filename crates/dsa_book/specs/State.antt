@@ -1,15 +1,14 @@
 -- The state of the written machine, by what each layer of the device keeps (profile).
-use Rattle.std.specs.Prelude.{ℕ, Bool, true, false, cond, ◌&&◌, ◌==◌, nat_lt, List, length, replicate, get_or, Option}
 use Rattle.std.specs.Prelude.{None, is_some, []}
-use Rattle.dsa_desc.specs.declared.{Outcome.{Outcome}, QueueLimits.{QueueLimits}}
+use Rattle.std.specs.Prelude.{ℕ, Bool, true, false, cond, ◌&&◌, ◌==◌, nat_lt, List, length, replicate, get_or, Option}
 use Rattle.dsa_desc.specs.Descriptor.{need, status, is_lawful_batch}
-use Rattle.dsa_regs.specs.declared.{Caps.{Caps}, Phase.{Phase, TheVariants.{Off, On}}, QueueConfig.{QueueConfig}}
-use Rattle.dsa_regs.specs.declared.GroupConfig.{GroupConfig}
-use Rattle.dsa_regs.specs.{Caps.{list_count}, Config.{zero_queue, zero_group, queue_at, limits_of}}
+use Rattle.dsa_desc.specs.declared.{Outcome.{Outcome}, QueueLimits.{QueueLimits}}
+use Rattle.dsa_regs.specs.Caps.{list_count}
+use Rattle.dsa_regs.specs.declared.{Phase.{Phase, TheVariants.{Off, On}}, QueueConfig.{QueueConfig}, Caps.{Caps}}
+use Rattle.dsa_regs.specs.{Config.{zero_queue, zero_group, queue_at, limits_of}, declared.GroupConfig.{GroupConfig}}
 use Rattle.dsa_store.specs.{declared.entry.Entry.{Entry}, Content.{Slot, Content, chain, is_cell}}
 use Rattle.dsa_book.specs.declared.answer.{Ticket.{Ticket}, NotedError.{NotedError}}
-use Rattle.dsa_book.specs.declared.note.{BatchNote.{BatchNote}, ActiveCommand.{ActiveCommand}}
-use Rattle.dsa_book.specs.declared.fate.FateRow.{FateRow}
+use Rattle.dsa_book.specs.declared.{note.{BatchNote.{BatchNote}, ActiveCommand.{ActiveCommand}}, fate.FateRow.{FateRow}}
 
 -- what is configured: capabilities, phases and configurations, the next name and the noted error (profile)
 pub record Setup : Type 0 where

@@ -1,16 +1,15 @@
 -- A submission: the first cause that stands, or an entry at the end of its queue.
-use Rattle.std.specs.Prelude.{ℕ, ◌+◌, Bool, true, false, not, cond, nat_le, List, [], ◌∷◌, Option, Some, None}
 use Rattle.std.specs.Bool.{beq}
+use Rattle.std.specs.Prelude.{ℕ, ◌+◌, Bool, true, false, not, cond, nat_le, List, [], ◌∷◌, Option, Some, None}
 use Rattle.dsa_desc.specs.{declared.Descriptor.{Descriptor}, Descriptor.{with_pasid}}
 use Rattle.dsa_base.specs.Rows.{first_row_or}
 use Rattle.dsa_regs.specs.{declared.QueueConfig.{QueueConfig}, Config.{queue_at}}
 use Rattle.dsa_store.specs.{declared.entry.Cell.{Cell}, Content.{after_push}}
-use Rattle.dsa_book.specs.declared.event.Portal.{Portal, TheVariants.{Limited, Unlimited}}
-use Rattle.dsa_book.specs.declared.event.Kind.{Kind, TheVariants.{Enqcmd, Movdir64b}}
-use Rattle.dsa_book.specs.declared.answer.Cause.{Cause, TheVariants.{AtLimit, NotEnabled, WrongKind}}
-use Rattle.dsa_book.specs.declared.answer.NotedError.{NotedError}
-use Rattle.dsa_book.specs.declared.answer.SubmitAnswer.{SubmitAnswer, TheVariants.{Accepted, Retry, Dropped}}
 use Rattle.dsa_book.specs.State.{Intake, occupancy, phase_at, is_on}
+use Rattle.dsa_book.specs.declared.answer.Cause.{Cause, TheVariants.{AtLimit, NotEnabled, WrongKind}}
+use Rattle.dsa_book.specs.declared.answer.SubmitAnswer.{SubmitAnswer, TheVariants.{Accepted, Retry, Dropped}}
+use Rattle.dsa_book.specs.declared.event.Portal.{Portal, TheVariants.{Limited, Unlimited}}
+use Rattle.dsa_book.specs.declared.{event.Kind.{Kind, TheVariants.{Enqcmd, Movdir64b}}, answer.NotedError.{NotedError}}
 
 -- the threshold bounds the limited portal of a shared queue, and in all other cases the size does (profile)
 abbrev pub limit_of : QueueConfig → Portal → ℕ

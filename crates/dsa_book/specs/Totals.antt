@@ -1,13 +1,11 @@
 -- Actors, and what a list of steps adds up to.
 use Rattle.std.specs.Prelude.{ℕ, Bool, true, false, ◌==◌, List, filter, sum_by, count_by}
-use Rattle.dsa_book.specs.declared.event.Actor.{Actor, TheVariants.{Client, Engine, Admin}}
-use Rattle.dsa_book.specs.declared.event.Event.{Event, TheVariants.{Submit, Dispatch, Fetch, Start, Finish}}
-use Rattle.dsa_book.specs.declared.event.Step.{Step}
-use Rattle.dsa_book.specs.declared.answer.Cause.TheVariants.{AtLimit}
 use Rattle.dsa_book.specs.declared.answer.Reply.{Reply, TheVariants.{Submit, Fetch, Start, Finish, Issue}}
-use Rattle.dsa_book.specs.declared.answer.SubmitAnswer.TheVariants.{Accepted, Retry}
-use Rattle.dsa_book.specs.declared.answer.{FetchAnswer.TheVariants.{Fetched}, StartAnswer.TheVariants.{Abandoned}}
-use Rattle.dsa_book.specs.declared.answer.{FinishAnswer.TheVariants.{Done}, IssueAnswer.TheVariants.{Ended}}
+use Rattle.dsa_book.specs.declared.answer.{IssueAnswer.TheVariants.{Ended}, Cause.TheVariants.{AtLimit}}
+use Rattle.dsa_book.specs.declared.answer.{StartAnswer.TheVariants.{Abandoned}, FetchAnswer.TheVariants.{Fetched}}
+use Rattle.dsa_book.specs.declared.answer.{SubmitAnswer.TheVariants.{Accepted, Retry}, FinishAnswer.TheVariants.{Done}}
+use Rattle.dsa_book.specs.declared.event.Event.{Event, TheVariants.{Submit, Dispatch, Fetch, Start, Finish}}
+use Rattle.dsa_book.specs.declared.event.{Actor.{Actor, TheVariants.{Client, Engine, Admin}}, Step.{Step}}
 
 -- submissions are a client's, work is an engine's, all else is the administrator's (profile)
 abbrev pub actor_of : Event → Actor

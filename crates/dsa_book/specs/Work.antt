@@ -1,26 +1,22 @@
 -- The steps of an engine: dispatch, fetch, start, finish.
 use Rattle.std.specs.Prelude.{ℕ, ◌+◌, Bool, true, false, not, cond, ◌&&◌, ◌||◌, ◌==◌, nat_lt, nat_le, List, [], ◌∷◌}
 use Rattle.std.specs.Prelude.{◌++◌, length, map, filter, find, position, sum_by, get_or, slice_get, slice_set, Option}
-use Rattle.std.specs.Prelude.{Some, None, is_none, option_map}
-use Rattle.std.specs.List.{list_any}
-use Rattle.dsa_desc.specs.declared.{Descriptor.{Descriptor}, Outcome.{Outcome}}
+use Rattle.std.specs.{Prelude.{Some, None, is_none, option_map}, List.{list_any}}
 use Rattle.dsa_desc.specs.Descriptor.{with_pasid, is_fenced, is_successful}
+use Rattle.dsa_desc.specs.declared.{Descriptor.{Descriptor}, Outcome.{Outcome}}
 use Rattle.dsa_base.specs.{Rows.{first_row_or, passes}, Numbers.{has, numbers_below}}
 use Rattle.dsa_regs.specs.declared.{GroupConfig.{GroupConfig}, layout.ListUse.TheVariants.{Progress, Members}}
-use Rattle.dsa_regs.specs.{Config.{group_at}, Buffers.{fits}, Caps.{list_number}}
-use Rattle.dsa_store.specs.declared.entry.{Cell.{Cell}, Entry.{Entry}}
+use Rattle.dsa_regs.specs.{Caps.{list_number}, Config.{group_at}, Buffers.{fits}}
 use Rattle.dsa_store.specs.Content.{Slot, chain, is_cell, after_push, without_front, after_give_back, after_unlink}
-use Rattle.dsa_book.specs.declared.answer.Ticket.{Ticket}
-use Rattle.dsa_book.specs.declared.answer.DispatchAnswer.{DispatchAnswer, TheVariants.{Taken, Idle}}
+use Rattle.dsa_store.specs.declared.entry.{Cell.{Cell}, Entry.{Entry}}
+use Rattle.dsa_book.specs.State.{Setup, Work, has_queue, is_member, need_of, held_by, status_of, is_batch_of, ticket_of}
 use Rattle.dsa_book.specs.declared.answer.FetchAnswer.{FetchAnswer, TheVariants.{Fetched, NoBatch, AllFetched}}
-use Rattle.dsa_book.specs.declared.answer.StartAnswer.{StartAnswer}
-use Rattle.dsa_book.specs.declared.answer.StartAnswer.TheVariants.{Started, FenceWait, NoBuffers, Abandoned, Nothing}
 use Rattle.dsa_book.specs.declared.answer.FinishAnswer.{FinishAnswer, TheVariants.{Done, NotReady, Gone}}
-use Rattle.dsa_book.specs.declared.note.BatchNote.{BatchNote}
+use Rattle.dsa_book.specs.declared.answer.StartAnswer.TheVariants.{Started, FenceWait, NoBuffers, Abandoned, Nothing}
+use Rattle.dsa_book.specs.declared.answer.{DispatchAnswer.{DispatchAnswer, TheVariants.{Taken, Idle}}, Ticket.{Ticket}}
 use Rattle.dsa_book.specs.declared.fate.{Fate.{Fate, TheVariants.{Completed, Abandoned}}, FateRow.{FateRow}}
-use Rattle.dsa_book.specs.Choice.{Choice, nothing, in_cell, from_queue}
-use Rattle.dsa_book.specs.State.{Setup, Work, has_queue, is_member, need_of, held_by, status_of, is_batch_of}
-use Rattle.dsa_book.specs.State.{ticket_of, is_ticket}
+use Rattle.dsa_book.specs.declared.{answer.StartAnswer.{StartAnswer}, note.BatchNote.{BatchNote}}
+use Rattle.dsa_book.specs.{Choice.{Choice, nothing, in_cell, from_queue}, State.{is_ticket}}
 
 -- ---- what an engine has. An engine that the device does not have has nothing
 
