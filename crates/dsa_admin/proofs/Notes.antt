@@ -84,6 +84,7 @@ module _ (setup : Setup) (scope : Scope) (content : Content) (first : List (Opti
   abbrev pub swept_notes : ℕ → List (Option BatchNote)
   swept_notes n = renewed kept_at (min (n - setup.caps.queues) setup.caps.engines) first
 
+  -- by how many of the engines were looked at
   swept-as : (n engines : ℕ) → min (n - setup.caps.queues) setup.caps.engines ≡ engines
       → swept_notes n ≡ renewed kept_at engines first
   swept-as n engines is = ap (λ (k : ℕ). renewed kept_at k first) is

@@ -45,6 +45,7 @@ module _ {command : Command} {content now : Content} {first book : Records} {i k
     (once : (c : Cell) → use_count now c ≤ 1) (hi : i < length content) (long : size ≡ length (chain content i))
     (hk : k < size) (here : at ≡ first_cell (drop k (chain content i))) (is : at ≡ Some cell)
     (read : got ≡ entry_of now cell) where
+  -- what the calls answer there
   turn : AtTurn (is_spared command) content i k now cell
   turn = at-turn (is_spared command) content i k now cell once hi (omega (arith, long, hk)) w.left (sym here ∙ is)
 
@@ -52,6 +53,7 @@ module _ {command : Command} {content now : Content} {first book : Records} {i k
   pub withdrawn-found : got ≡ None → ⊥
   withdrawn-found none = let told : ◌≡◌ {A = Option Entry} None (Some turn.entry) = sym none ∙ read ∙ turn.get in cc
 
+  -- and that entry is looked at
   pub looks-at : {e : Entry} → got ≡ Some e → LooksAt command content i k now cell e
   looks-at {e} some =
       let told : ◌≡◌ {A = Option Entry} (Some turn.entry) (Some e) = sym turn.get ∙ sym read ∙ some in
@@ -75,6 +77,7 @@ withdrawn-room {now = now} cell w read is =
 -- one more place
 module _ {command : Command} {content now : Content} {first book : Records} {i k : ℕ} {cell : Cell} {e : Entry}
     (t : LooksAt command content i k now cell e) (w : IsWithdrawn command content first i k now book) where
+  -- the rows of one more place
   rows-more : rows_of command (take (k + 1) (chain content i))
       ≡ map (fate_row (Aborted (number_of command))) (filter (is_meant command) (take k (chain content i))
       ++ cond (is_in_scope (scope_of command) e) ((cell, e) ∷ []) [])
@@ -142,9 +145,11 @@ rows-lists command content n h = rw (
 -- one more list
 module _ {command : Command} {content now : Content} {first book : Records} {n : ℕ} (h : n < length content)
     (s : IsSwept command content first n now book) where
+  -- that list is as it was at first
   pub swept-chain : chain now n ≡ chain content n
   swept-chain = let left = s.left in grind (arith, common_steps, left, h)
 
+  -- once it is walked too, one more list is swept
   pub swept-next : {after : Content} {later : Records} → after ≡ set now n (filter (is_spared command) (chain now n))
       → later ≡ record book { fates = book.fates ++ rows_of command (chain now n) }
       → IsSwept command content first (n + 1) after later

@@ -23,6 +23,7 @@ module _ {cells : ℕ} {setup : Setup} {gear : Gear} {content : Content} {e i : 
     (noted : Some note ≡ get_or gear.notes e None)
     (found : find (λ slot. slot.1.name == note.batch) (chain content i) ≡ Some batch)
     (left : false ≡ is_all_fetched note) where
+  -- the engine has members to fetch
   pub is-fetching : is_fetching (work setup gear content []) e ≡ true
   is-fetching = rw (← noted) (rw (lt-ltb e setup.caps.engines he, rw ie at found, sym left) refl)
 
@@ -43,6 +44,7 @@ module _ {cells : ℕ} {setup : Setup} {gear : Gear} {content : Content} {e i : 
         (buffers-same s on (written-less (chain content j ++ (cell, member) ∷ []) s.store.lists he (inr je)
         (omega (arith, load-push setup (chain content j) (cell, member)))))))
 
+    -- the step, by what the calls answer one after another
     pub fetch-done : {fates : List FateRow} (desc : Descriptor) → name ≡ setup.next_name
         → own ≡ with_pasid desc batch.1.desc.pasid
         → fetch (work setup gear content fates) e desc cell

@@ -46,6 +46,7 @@ module _ {cells : ℕ} {setup : Setup} {gear : Gear} {content : Content} {e : �
 
 -- ---- the queue that is chosen
 
+-- where none passes none is found
 pub none-below : (p : ℕ → Bool) (N : ℕ) → ((k : ℕ) → p k ≡ false) → list_any p (numbers_below N) ≡ false
 none-below p zero h = refl
 none-below p (suc N) h =
@@ -57,6 +58,7 @@ abbrev pub IsBest : (ℕ → Bool) → ℕ → ℕ → Option ℕ → Type 0
 IsBest p queues n best =
     MatchOption best (list_any p (numbers_below n) ≡ false) (λ queue. (queue < queues) × (p queue ≡ true))
 
+-- one more queue, which does not qualify
 pub kept-best : (p : ℕ → Bool) (queues n : ℕ) (best : Option ℕ) → IsBest p queues n best → p n ≡ false
     → IsBest p queues (n + 1) best
 kept-best p queues n None h fails = rw add-one
@@ -68,6 +70,7 @@ kept-best p queues n (Some q) h fails = h
 module _ {cells : ℕ} {setup : Setup} {gear : Gear} {content : Content} {e g q : ℕ} {front : Slot}
     (s : IsInStep setup gear cells content) (group : is_off setup.device ≡ false → IsOpen setup content e g)
     (hq : q < setup.caps.queues) (hf : slice_get (chain content q) 0 ≡ Some front) where
+  -- while the device is Off there is no front
   on : is_off setup.device ≡ false
   on = awake-found s (λ (l : List Slot). slice_get l 0) q refl hf
 
@@ -77,6 +80,7 @@ module _ {cells : ℕ} {setup : Setup} {gear : Gear} {content : Content} {e g q 
   home : group_in setup.groups e ≡ Some g
   home = (group on).home
 
+  -- the group is one of those whose buffers are kept
   pub within-groups : g < length gear.buffers.groups
   within-groups = rw (s.buffers on) (hit-at (λ (x : GroupConfig). has x.engines e) setup.groups zero_group g home).0
 
@@ -99,6 +103,7 @@ module _ {cells : ℕ} {setup : Setup} {gear : Gear} {content : Content} {e g q 
       rw is (and_parts (fits gear.buffers.total gear.buffers.groups gear.buffers.used g (need_of setup front.1)) _
       all.1).0
 
+  -- once the front was taken the engine holds what it needs more
   taken-more : HoldsMore setup content
       (after_push (without_front content q) (progress_list setup e) front.0 (as_running front.1)) e
       (progress_list setup e) (need_of setup front.1)

@@ -29,10 +29,12 @@ count-apart (l ∷ ls) (suc i) (suc j) cell ne =
 -- ---- one list
 
 module _ (t : Ticket) where
+  -- in a list without the cell nothing is found
   find-absent : (l : List Slot) → place_count t.cell l ≡ 0 → find (is_ticket t) (filter is_running l) ≡ None
   find-absent [] h = refl
   find-absent (s ∷ l) h = grind (arith, count-cons t.cell s l, find-absent l)
 
+  -- in a list with the cell its entry is, if it is meant
   find-there : (l : List Slot) (k : ℕ) (e : Entry) → k < length l → get_or l k (t.cell, e) ≡ (t.cell, e)
       → place_count t.cell l ≤ 1
       → find (is_ticket t) (filter is_running l) ≡ when (e.running && e.name == t.name) (t.cell, e)
@@ -58,6 +60,7 @@ either a x y h =
       | inr np ↦ elim (cases_eq a y) [ inl q ↦ inr q | inr nq ↦ absurd (grind (arith, h, np, nq)) ]
     ]
 
+-- and where it fails
 neither : (a x y : ℕ) → (a == x || a == y) ≡ false → (a ≢ x) × (a ≢ y)
 neither a x y h = (λ p. absurd (grind (arith, h, p)), λ q. absurd (grind (arith, h, q)))
 
@@ -68,12 +71,14 @@ meant_in setup e t (Some i) (Some entry) =
     (t.cell, entry)
 meant_in setup e t _ _ = None
 
+-- an engine that the device does not have runs nothing
 running-past : (setup : Setup) (content : Content) (e : ℕ) (t : Ticket) → setup.caps.engines ≤ e
     → find (is_ticket t) (running_on (lists_alone setup content) e) ≡ None
 running-past setup content e t h = let past : nat_lt e setup.caps.engines ≡ false = grind arith in rw past refl
 
 module _ (setup : Setup) (content : Content) (e : ℕ) (t : Ticket) (once : use_count content t.cell ≤ 1)
     (h : e < setup.caps.engines) where
+  -- a cell in neither list is not found
   absent : place_count t.cell (chain content (progress_list setup e)) ≡ 0
       → place_count t.cell (chain content (member_list setup e)) ≡ 0
       → find (is_ticket t) (running_on (lists_alone setup content) e) ≡ None
@@ -83,11 +88,13 @@ module _ (setup : Setup) (content : Content) (e : ℕ) (t : Ticket) (once : use_
       rw (lt-ltb e setup.caps.engines h)
       (find-absent t (first ++ second) (omega (arith, count-append t.cell first second, p, m)))
 
+  -- nor is a cell that stands nowhere
   nowhere : use_count content t.cell ≡ 0 → find (is_ticket t) (running_on (lists_alone setup content) e) ≡ None
   nowhere none = absent (omega (arith, none, count-le-uses content (progress_list setup e) t.cell))
       (omega (arith, none, count-le-uses content (member_list setup e) t.cell))
 
   module _ {i k : ℕ} {entry : Entry} (at : StandsAt content i k t.cell entry) where
+    -- a cell in one of them is found there
     mine : IsMine setup e i → find (is_ticket t) (running_on (lists_alone setup content) e)
         ≡ when (entry.running && entry.name == t.name) (t.cell, entry)
     mine is =
@@ -149,6 +156,7 @@ pub record RunsAt (setup : Setup) (content : Content) (e : ℕ) (cell : Cell) (e
   pub stands : StandsAt content list place cell entry
   pub running : entry.running ≡ true
 
+-- what is found stands in one of them, and runs
 pub running-place : (setup : Setup) (content : Content) (e : ℕ) (t : Ticket) (entry : Entry)
     → use_count content t.cell ≤ 1 → find (is_ticket t) (running_on (lists_alone setup content) e)
     ≡ Some (t.cell, entry) → RunsAt setup content e t.cell entry

@@ -40,6 +40,7 @@ module _ {cells : ℕ} (setup more : Setup) (gear : Gear) (content now : Content
   pub homes-kept : gear.homes ≡ homes_of more
   homes-kept = s.homes (k.device on) ∙ rw (k.caps, k.groups) refl
 
+  -- each engine holds what it held
   engine-kept : (e : ℕ) → used_on (lists_alone more now) e ≡ used_on (lists_alone setup content) e
   engine-kept e = used_on-same setup more content now e k.caps (λ j lt is. k.loads j (omega arith))
 

@@ -34,6 +34,7 @@ length-noteless _ true notes = refl
 module _ {cells : ℕ} {setup : Setup} {gear : Gear} {content : Content} {i k : ℕ} {cell : Cell} {entry : Entry}
     (s : IsInStep setup gear cells content) (once : use_count content cell ≤ 1)
     (at : StandsAt content i k cell entry) where
+  -- so the device is not Off
   on : is_off setup.device ≡ false
   on = awake s i (omega (arith, at.within))
 

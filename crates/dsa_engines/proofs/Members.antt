@@ -21,11 +21,13 @@ use Rattle.dsa_engines.proofs.{Homes.{home-of}, Keeping.{awake-found, in_step-mo
 use Rattle.dsa_engines.proofs.Used.{load, load-nil, load-cons, load-set, held-is, none-load, HoldsMore, gives-back}
 use Rattle.dsa_engines.proofs.Used.{taken-of, buffers-same, written-less}
 
+-- an entry that does not run
 abbrev pub waits : Slot → Bool
 waits slot = not slot.1.running
 
 -- ---- the first that waits
 
+-- what runs then, by whether the front does
 first-run : (x : Slot) (l : List Slot) (b : Bool) → x.1.running ≡ b
     → with_first_run (x ∷ l) ≡ cond b (x ∷ with_first_run l) (with_running_entry x ∷ l)
 first-run x l b is = ap (λ (c : Bool). let m : List Slot =
@@ -48,6 +50,7 @@ pub record WaitsIn (l : List Slot) (s : Slot) : Type 0 where
   pub slot : get_or l place s ≡ s
   pub started : with_first_run l ≡ set l place (with_running_entry s)
 
+-- where one is found it has a place
 pub waits-in : (l : List Slot) (s : Slot) → find waits l ≡ Some s → WaitsIn l s
 waits-in [] s h = absurd cc
 waits-in (x ∷ l) s h =
@@ -78,6 +81,7 @@ load-started setup l s h =
     let same = ap (λ (y : Slot). held_by setup y.1) w.slot in
     rw w.started (omega (arith, load-set setup l w.place (with_running_entry s) s w.within, same, none))
 
+-- its cell is named there
 found-counted : (l : List Slot) (s : Slot) → find waits l ≡ Some s → 1 ≤ place_count s.0 l
 found-counted l s h =
     let w = waits-in l s h in
@@ -102,9 +106,11 @@ module _ {cells : ℕ} {setup : Setup} {gear : Gear} {content : Content} {e i : 
     (s : IsInStep setup gear cells content) (once : (c : Cell) → use_count content c ≤ 1)
     (he : e < setup.caps.engines) (ie : i ≡ member_list setup e)
     (h : find waits (chain content i) ≡ Some (cell, entry)) where
+  -- while the device is Off no member waits
   on : is_off setup.device ≡ false
   on = awake-found s (find waits) i refl h
 
+  -- the group has none in use at least
   pub holds-none : Holds (get_or gear.homes e None) 0 gear.buffers
   holds-none = (gives-back s on {after = content} {i = i} (record {
     engine = he;
@@ -120,6 +126,7 @@ module _ {cells : ℕ} {setup : Setup} {gear : Gear} {content : Content} {e i : 
       rw w.started (replaced-at content i w.place cell entry (as_running entry) (once cell)
       (record { within = w.within; slot = w.slot }))
 
+  -- its list needs what it needs more
   started-more : HoldsMore setup content (set content i (with_first_run (chain content i))) e i (need_of setup entry)
   started-more =
       let lists = s.store.lists in
@@ -132,6 +139,7 @@ module _ {cells : ℕ} {setup : Setup} {gear : Gear} {content : Content} {e i : 
             (load-started setup (chain content i) (cell, entry) h);
       }
 
+  -- once it runs all is in step again
   pub in_step-started : {more g n : ℕ} {after : Gear} {now : Content} → more ≡ cells
       → get_or gear.homes e None ≡ Some g → n ≡ need_of setup entry
       → after ≡ record gear {
@@ -165,16 +173,19 @@ module _ {cells : ℕ} {setup : Setup} {gear : Gear} {content : Content} {e i : 
     module _ (failing : false ≡ (is_fenced entry.desc
         && passes (λ (note : BatchNote). note.failed) (get_or gear.notes e None)))
         {n : ℕ} (ne : n ≡ need_of setup entry) (fates : List FateRow) where
+      -- there is room for it where the code finds room
       room-is : has_room (work setup gear content fates) e (need_of setup entry)
           ≡ passes (λ g. fits gear.buffers.total gear.buffers.groups gear.buffers.used g n) (get_or gear.homes e None)
       room-is = rw (ne, home-of s on he, s.buffers on) refl
 
+      -- without room it waits for buffers
       pub start-refused : passes (λ g. fits gear.buffers.total gear.buffers.groups gear.buffers.used g n)
           (get_or gear.homes e None) ≡ false
           → start (work setup gear content fates) e ≡ (NoBuffers, work setup gear content fates)
       start-refused no_room = rw (lt-ltb e setup.caps.engines he, rw ie at h)
           (rw (lt-ltb e setup.caps.engines he, sym (rw ie at fence), sym failing, room-is ∙ no_room) refl)
 
+      -- with room it is started
       pub start-done : {g : ℕ} {after : Gear} {now : Content} → get_or gear.homes e None ≡ Some g
           → fits gear.buffers.total gear.buffers.groups gear.buffers.used g n ≡ true
           → after ≡ record gear {

@@ -100,13 +100,16 @@ pub record HoldsMore (setup : Setup) (before after : Content) (e i n : ℕ) : Ty
   pub mine : load setup (chain after i) ≡ load setup (chain before i) + n
 
 module _ {setup : Setup} {before after : Content} {e i n : ℕ} (h : HoldsMore setup before after e i n) where
+  -- another list of an engine holds what it did
   same-load : (j : ℕ) → setup.caps.queues ≤ j → j ≢ i → load setup (chain after j) ≡ load setup (chain before j)
   same-load j low ne = ap (load setup) (h.others j low ne)
 
+  -- so does another engine
   same-engine : (k : ℕ) → k ≢ e → used_on (lists_alone setup after) k ≡ used_on (lists_alone setup before) k
   same-engine k ne =
       used_on-same setup setup before after k refl (λ j lt is. same-load j (omega arith) (omega arith))
 
+  -- and this engine holds n more
   more-engine : used_on (lists_alone setup after) e ≡ used_on (lists_alone setup before) e + n
   more-engine =
       let old = used_on-loads setup before e h.engine in
@@ -161,6 +164,7 @@ pub record GivesBack (setup : Setup) (gear : Gear) (after : Content) (e n : ℕ)
 
 module _ {cells : ℕ} {setup : Setup} {gear : Gear} {content : Content} (s : IsInStep setup gear cells content)
     (on : is_off setup.device ≡ false) {after : Content} {e i : ℕ} where
+  -- its group, if it has one, has n in use and gives them back
   pub gives-back : {n : ℕ} → HoldsMore setup after content e i n → GivesBack setup gear after e n
   gives-back {n} h = go (group_in setup.groups e) refl
     where
@@ -209,6 +213,7 @@ written-less {setup} {content} {e} {i} {n} l len he is more = record {
 
 -- ---- a device on which nothing is held
 
+-- no engine holds anything
 rest-on : (setup : Setup) (c : Content) (e : ℕ) → held_count c ≡ 0 → used_on (lists_alone setup c) e ≡ 0
 rest-on setup c e h =
     elim (cases_lt e setup.caps.engines) [
@@ -220,6 +225,7 @@ rest-on setup c e h =
     empty : (i : ℕ) → load setup (chain c i) ≡ 0
     empty i = rw (nil_from_length (chain c i) (omega (arith, h, length-le-held c i))) (load-nil setup)
 
+-- so no buffers are in use
 pub buffers-at_rest : (setup : Setup) (c : Content) → length setup.groups ≡ setup.caps.groups → held_count c ≡ 0
     → buffers_at_rest setup ≡ buffers_of setup c
 buffers-at_rest setup c len h =

@@ -1,12 +1,13 @@
 -- The queues that a mask names.
-use Rattle.std.proofs.Common.{◌≡◌, ◌≢◌, ℕ, zero, suc, ◌+◌, ◌-◌, ◌*◌, ◌/◌, ◌%◌, ◌<◌, ◌≤◌, ◌==◌, nat_le, nat_lt, ◌&&◌}
-use Rattle.std.proofs.Common.{◌||◌, Bool, true, false, List, [], ◌∷◌, ◌++◌, map, filter, inl, inr, refl, ap, ◌∙◌}
+use Rattle.std.proofs.Common.{◌≡◌, ◌≢◌, ℕ, zero, suc, ◌+◌, ◌-◌, ◌*◌, ◌/◌, ◌%◌, ◌≤◌, ◌==◌, nat_le, nat_lt, ◌&&◌}
+use Rattle.std.proofs.Common.{◌||◌, Bool, true, false, List, [], ◌∷◌, ◌++◌, map, filter, refl, ap, ◌∙◌}
 use Rattle.std.proofs.Common.{add-one, arith}
 use Rattle.std.proofs.lemmas.{Grind.{common_steps}, Bool.{cases_eq, Decides.{nat_tests}}}
 use Rattle.std.proofs.lemmas.List.{map-append, Elements.{filter-append}, Folds.{list_any-append}}
 use Rattle.std.specs.List.{list_any}
 use Rattle.dsa_base.specs.Numbers.{has, numbers_below}
 
+-- one bit more
 one-last : (f : ℕ → ℕ) (p test : ℕ → Bool) (n : ℕ) (b : Bool) → p n ≡ b
     → list_any test (map f (filter p (n ∷ []))) ≡ (b && test (f n))
 one-last f p test n true e = grind (arith, common_steps)
@@ -19,20 +20,14 @@ kept-last f p test xs n =
     let last = one-last f p test n (p n) refl in
     simp (filter-append, map-append, list_any-append, last)
 
-here : (p : ℕ → Bool) (a n q : ℕ) → q ≡ a + n
-    → ((nat_le a q && nat_lt q (a + n) && p (q - a)) || (p n && (a + n == q)))
-    ≡ (nat_le a q && nat_lt q (a + (n + 1)) && p (q - a))
-here p a n q e = let less : q - a ≡ n = omega arith in grind (arith, nat_tests, common_steps)
-
-elsewhere : (p : ℕ → Bool) (a n q : ℕ) → q ≢ a + n
-    → ((nat_le a q && nat_lt q (a + n) && p (q - a)) || (p n && (a + n == q)))
-    ≡ (nat_le a q && nat_lt q (a + (n + 1)) && p (q - a))
-elsewhere p a n q e = grind (arith, nat_tests, common_steps)
-
+-- the test of one bit more
 one-more : (p : ℕ → Bool) (a n q : ℕ) → ((nat_le a q && nat_lt q (a + n) && p (q - a)) || (p n && (a + n == q)))
     ≡ (nat_le a q && nat_lt q (a + (n + 1)) && p (q - a))
-one-more p a n q = elim (cases_eq q (a + n)) [ inl e ↦ here p a n q e | inr e ↦ elsewhere p a n q e ]
+one-more p a n q =
+    let last : q ≡ a + n → q - a ≡ n = omega arith in
+    grind (arith, nat_tests, common_steps, cases_eq q (a + n))
 
+-- no bit is below the first
 below-none : (p : ℕ → Bool) (a q : ℕ) → false ≡ (nat_le a q && nat_lt q (a + 0) && p (q - a))
 below-none p a q = grind (arith, nat_tests, common_steps)
 
@@ -46,23 +41,13 @@ named-below a m q (suc n) =
     ∙ one-more (has m) a n q
     ∙ ap (λ k. nat_le a q && nat_lt q (a + k) && has m (q - a)) (add-one n)
 
-among-here : (p : ℕ → Bool) (g q : ℕ) → q / 16 ≡ g
-    → (nat_le (16 * g) q && nat_lt q (16 * g + 16) && p (q - 16 * g)) ≡ ((q / 16 == g) && p (q % 16))
-among-here p g q e =
-    let rest : q - 16 * g ≡ q % 16 = omega arith in
-    let low : 16 * g ≤ q = omega arith in
-    let high : q < 16 * g + 16 = omega arith in
-    grind (arith, nat_tests, common_steps)
-
-among-not : (p : ℕ → Bool) (g q : ℕ) → q / 16 ≢ g
-    → (nat_le (16 * g) q && nat_lt q (16 * g + 16) && p (q - 16 * g)) ≡ ((q / 16 == g) && p (q % 16))
-among-not p g q e =
-    let out : 16 * g ≤ q → 16 * g + 16 ≤ q = omega arith in
-    grind (arith, nat_tests, common_steps)
-
+-- a queue of the group of sixteen, by its bit
 among : (p : ℕ → Bool) (g q : ℕ) → (nat_le (16 * g) q && nat_lt q (16 * g + 16) && p (q - 16 * g))
     ≡ ((q / 16 == g) && p (q % 16))
-among p g q = elim (cases_eq (q / 16) g) [ inl e ↦ among-here p g q e | inr e ↦ among-not p g q e ]
+among p g q =
+    let rest : q / 16 ≡ g → q - 16 * g ≡ q % 16 = omega arith in
+    let out : q / 16 ≢ g → 16 * g ≤ q → 16 * g + 16 ≤ q = omega arith in
+    grind (arith, nat_tests, common_steps, cases_eq (q / 16) g)
 
 -- a queue is named where its group of sixteen is the mask's, and its bit is set
 pub queues_of-names : (g m q n : ℕ) → n ≡ 16
