@@ -17,8 +17,9 @@ one-cell x (suc n) = grind (arith, nat_tests, sum_by_push, one-cell x n)
 
 -- each slot is of one cell
 counted-once : (xs : List Slot) (n : ℕ) → sum_by (λ k. count_by (is_cell (cell_at k)) xs) (numbers_below n) ≤ length xs
-counted-once [] n = let none = sum-same 0 n in omega (arith, none)
+counted-once [] n = omega (arith, sum-same 0 n)
 counted-once (x ∷ xs) n =
+    let most : cond (nat_lt x.0.0 n) 1 0 ≤ 1 = grind (arith, nat_tests) in
     let each = sum-equal (λ k. count_by (is_cell (cell_at k)) (x ∷ xs))
     (λ k. cond (is_cell (cell_at k) x) 1 0 + count_by (is_cell (cell_at k)) xs) (numbers_below n)
     (λ k. sum_by-cons (λ s. cond (is_cell (cell_at k) s) 1 0) x xs) in
@@ -27,13 +28,9 @@ counted-once (x ∷ xs) n =
       each,
       sum-plus (λ k. cond (is_cell (cell_at k) x) 1 0) (λ k. count_by (is_cell (cell_at k)) xs) n,
       one-cell x n,
-      at-most-one (nat_lt x.0.0 n),
+      most,
       counted-once xs n,
     )
-  where
-    at-most-one : (b : Bool) → cond b 1 0 ≤ 1
-    at-most-one true = omega arith
-    at-most-one false = omega arith
 
 -- a cell that none uses, or each is used
 unused-or-all : (content : Content) (n : ℕ)
@@ -44,8 +41,7 @@ unused-or-all content (suc n) = ⊎_elim
     (λ found. inl (found.0, omega (arith, found.1), found.2))
     (λ all. ⊎_elim
     (λ (e : use_count content (cell_at n) ≡ 0). inl (cell_at n, omega arith, e))
-    (λ e. inr (let last = sum_by_push (λ k. use_count content (cell_at k)) (numbers_below n) n in
-    omega (arith, last, all, e)))
+    (λ e. inr (omega (arith, sum_by_push, all, e)))
     (cases_eq (use_count content (cell_at n)) 0))
     (unused-or-all content n)
 

@@ -1,9 +1,7 @@
--- What stands in a list, and lists of which one place is set.
-use Rattle.std.proofs.Common.{◌≡◌, ◌≢◌, ℕ, zero, suc, ◌<◌, ◌≤◌, Bool, true, false, cond, ◌||◌, List, [], ◌∷◌}
-use Rattle.std.proofs.Common.{◌++◌, length, filter, set, get_or, replicate, Some, refl, sym, ap, ◌∙◌, subst, ◌⊎◌, inl}
-use Rattle.std.proofs.Common.{inr, ⊎_elim, arith}
-use Rattle.std.proofs.lemmas.{Bool.{cases_eq, or_left, or_right}, List.{get_or-set_same, get_or-set_other}}
-use Rattle.std.specs.{Prelude.{find, slice_get}, List.{list_any}}
+-- What stands in a list.
+use Rattle.std.proofs.Common.{filter, get_or, replicate, refl, sym, ap, ◌∙◌, subst, ◌⊎◌, inl, inr, ⊎_elim, arith}
+use Rattle.std.proofs.Common.{◌≡◌, ℕ, zero, suc, ◌≤◌, Bool, true, false, cond, ◌||◌, List, [], ◌∷◌, ◌++◌, length, Some}
+use Rattle.std.{specs.{Prelude.{find, slice_get}, List.{list_any}}, proofs.lemmas.Bool.{or_left, or_right}}
 use Rattle.dsa_base.specs.Lists.{In}
 
 -- a list in which nothing stands is empty
@@ -111,11 +109,3 @@ pub get_or-replicated : {X : Type 0} (x : X) (n i : ℕ) → get_or (replicate n
 get_or-replicated x zero i = refl
 get_or-replicated x (suc n) zero = refl
 get_or-replicated x (suc n) (suc i) = get_or-replicated x n i
-
--- the place that was set, or another, which is as it was
-pub set-cases : {X : Type 0} (xs : List X) (k i : ℕ) (x d : X) → k < length xs
-    → ((i ≡ k) × (get_or (set xs k x) i d ≡ x)) ⊎ ((i ≢ k) × (get_or (set xs k x) i d ≡ get_or xs i d))
-set-cases xs k i x d inside = ⊎_elim
-    (λ (q : i ≡ k). inl (q, ap (λ j. get_or (set xs k x) j d) q ∙ get_or-set_same xs k x d inside))
-    (λ (q : i ≢ k). inr (q, get_or-set_other xs k i x d q))
-    (cases_eq i k)
