@@ -1,12 +1,11 @@
 -- The bounds on read buffers stay.
-use Rattle.std.{specs.Prelude.{find, position, nat_lt, sum_by}, proofs.Common.{true, ◌≡◌, Bool, not, None, ◌==◌, ◌⊎◌}}
-use Rattle.std.proofs.Common.{◌<◌, false, ◌∙◌, List, Some, refl, ◌≤◌, ap, [], eq-eqb, drop, inr, set, arith, cond, ◌++◌}
-use Rattle.std.proofs.{Common.{inl, subst, ◌+◌, ℕ, sym, ◌∷◌}, lemmas.Bool.{ltb-false, Decides.{nat_tests}, or_parts}}
-use Rattle.std.proofs.{lemmas.List.Sums.{sum_by-cons, sum_by-append, sum_by_push}, Math.Path.{fun_ext}}
+use Rattle.std.proofs.Common.{sym, set, eq-eqb, not, Bool, List, arith, drop, ◌≡◌, refl, ◌<◌, ◌≤◌}
+use Rattle.std.proofs.Common.{inr, false, ◌⊎◌, ℕ, ◌+◌, None, ◌==◌, [], ap, ◌∙◌, cond, subst, ◌++◌, true, Some, ◌∷◌, inl}
+use Rattle.std.proofs.lemmas.{List.Sums.{sum_by-cons, sum_by-append, sum_by_push}, Bool.{Decides.{nat_tests}, or_parts}}
+use Rattle.std.{proofs.{lemmas.Bool.{ltb-false}, Math.Path.{fun_ext}}, specs.Prelude.{find, sum_by, position, nat_lt}}
 use Rattle.dsa_regs.specs.Config.{queue_at, total_size, total_reserved, groups_table, limits_of, check_device}
-use Rattle.dsa_regs.specs.declared.{Caps.{Caps}, Phase.TheVariants.{Off, Stopping}}
-use Rattle.dsa_regs.specs.declared.Deed.{Deed, TheVariants.{Disable}}
-use Rattle.dsa_regs.specs.{declared.{Scope.{Scope, TheVariants.{Device}}}, Buffers.{fits}}
+use Rattle.dsa_regs.specs.declared.{Caps.{Caps}, Phase.TheVariants.{Off, Stopping}, Deed.{Deed, TheVariants.{Disable}}}
+use Rattle.dsa_regs.specs.{declared.Scope.{Scope, TheVariants.{Device}}, Buffers.{fits}}
 use Rattle.dsa_desc.specs.Descriptor.{need}
 use Rattle.dsa_store.specs.Content.{Slot, Content, chain, after_push, without_front}
 use Rattle.dsa_book.{proofs.Phases.{on-not_off}, specs.Work.{progress_list, member_list, members, used_on, has_room}}
@@ -230,7 +229,7 @@ bounded-change s s' w change = by_setting After s s' change
     (λ c. settle _ refl refl (λ n. n))
     (λ c. settle _ refl refl (λ n. n))
     (λ c configs on. not-both (is_off s.work.setup.device) c.off on)
-    (configs-kept s.work.setup.caps s s' w.shape w.entries change)
+    (configs-kept s.work.setup.caps s s' w change)
   where
     After : Setup → Type 0
     After = λ setup. ((k : ℕ) (x : Slot) → In x (chain s'.work.content k)

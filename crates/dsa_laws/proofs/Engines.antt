@@ -7,7 +7,7 @@ use Rattle.std.{proofs.lemmas.List.{get_or-set_other, length-set, get_or-set_sam
 use Rattle.dsa_base.proofs.Lists.{length-none, In-find, get_or-replicated}
 use Rattle.dsa_base.{proofs.{Counts.{In-same, In-counted}, NumberLists.{get_or-each}}, specs.Lists.{In}}
 use Rattle.dsa_desc.specs.{declared.Outcome.{Outcome}, Descriptor.{with_pasid, is_successful, is_lawful_batch}}
-use Rattle.dsa_regs.specs.{declared.{Caps.{Caps}}, Caps.{list_count}, Config.{limits_of}}
+use Rattle.dsa_regs.specs.{declared.Caps.{Caps}, Caps.{list_count}, Config.{limits_of}}
 use Rattle.dsa_store.specs.Content.{Slot, Content, is_cell, chain, place_count, use_count, without_front}
 use Rattle.dsa_store.proofs.{Places.{filter-absent}, Sums.{uses-counted}}
 use Rattle.dsa_book.specs.State.{Setup, Work, State, opening, is_member, is_batch_of, status_of}
@@ -154,13 +154,7 @@ entry_ended w k e x outcome i j once place ready own old =
 -- a note is set, or stays
 note-same : (b : Bool) (ns : List (Option BatchNote)) (k : ℕ) (o : Option BatchNote) → k < length ns
     → get_or (cond b (set ns k o) ns) k None ≡ cond b o (get_or ns k None)
-note-same true ns k o i = get_or-set_same ns k o None i
-note-same false ns k o i = refl
-
-note-other : (b : Bool) (ns : List (Option BatchNote)) (k e : ℕ) (o : Option BatchNote) → e ≢ k
-    → get_or (cond b (set ns k o) ns) e None ≡ get_or ns e None
-note-other true ns k e o n = get_or-set_other ns k e o None n
-note-other false ns k e o n = refl
+note-same b ns k o i = let is = get_or-set_same ns k o None i in grind arith
 
 -- a front is taken
 front_taken : {caps : Caps} (w : Work) (k e q : ℕ) (x : Slot) → IsEngine caps w e → IsTaker caps w k q x
@@ -187,7 +181,7 @@ front_taken w k e q x i j same own old =
     )
     (with_front w.setup (own_progress w k) (own_members w k) (note_at w k) x b refl j.batches own))
     (λ n. set_other w.setup c1 w.notes notes p l e (omega arith) (omega arith)
-    (note-other b w.notes k e (Some (opened_note x.1)) n)
+    (let same = get_or-set_other w.notes k e (Some (opened_note x.1)) None n in grind arith)
     (set_other w.setup w.content w.notes w.notes q rest e (omega arith) (omega arith) refl old))
 
 -- the entry in progress that has the name of the batch is like each of the batches there
@@ -285,7 +279,7 @@ engines-change caps s s' w c =
     (by_setup s.work.setup s'.work.setup (chain s'.work.content (progress_list s.work.setup e))
     (chain s'.work.content (member_list s.work.setup e)) (note_at s'.work e)
     (λ x i. ap (λ c. is_lawful_batch x.1.desc (limits_of c) (is_member x.1))
-    (configs-kept caps s s' w.shape w.entries c (progress_list s.work.setup e) x i))
+    (configs-kept caps s s' w c (progress_list s.work.setup e) x i))
     (lists-change caps s s' e w (numbered-engine w.shape e k.inside) c)))
 
 pub engines-opening : (caps : Caps) → HasLawfulEngines (opening caps).work

@@ -1,8 +1,8 @@
 -- What entries are, by the list in which they stand.
 use Rattle.std.{specs.{Prelude.{nat_lt, is_some}, List.{list_any}}, proofs.lemmas.List.{get_or-set_other}}
 use Rattle.std.proofs.lemmas.Bool.{false_from_ne_true, cases_Bool, ltb-true, ltb-false, not-true}
-use Rattle.std.proofs.{Math.ListN.{get_or-eq_default}, Common.{subst, ◌⊎◌, inl, inr, arith, ⊎_elim, ◌∙◌}}
-use Rattle.std.proofs.Common.{◌≡◌, ℕ, ◌<◌, ◌==◌, not, Bool, true, false, cond, List, [], ◌∷◌, refl, sym, ap}
+use Rattle.std.proofs.{Math.ListN.{get_or-eq_default}, Common.{subst, ◌⊎◌, inl, inr, arith, ⊎_elim}}
+use Rattle.std.proofs.Common.{◌∙◌, ◌≡◌, ℕ, ◌<◌, ◌==◌, not, Bool, true, false, cond, List, [], ◌∷◌, refl, sym, ap}
 use Rattle.dsa_base.proofs.{Lists.{In-any, none-In, In-front, In-find}, NumberLists.{get_or-each}, Tables.{not-both}}
 use Rattle.dsa_base.specs.Lists.{In}
 use Rattle.dsa_regs.specs.{Caps.{list_count}, Config.{queue_at, zero_queue}, Command.{queues_in}}
@@ -15,11 +15,11 @@ use Rattle.dsa_book.specs.{Submit.{after_accept}, State.{Setup, Work, State, ope
 use Rattle.dsa_book.specs.Work.{progress_list, member_list, in_progress, members, with_running_entry, with_first_run}
 use Rattle.dsa_book.specs.{Work.{after_take, after_fetch, after_start}, Machine.{intake_of, with_intake}}
 use Rattle.dsa_book.proofs.{Scopes.{unnamed}, Phases.{on-not_off}}
-use Rattle.dsa_laws.specs.Change.{Change, IsAccepted, IsTaken, IsFetched, IsStarted}
-use Rattle.dsa_laws.specs.{WellFormed.{HasShape, IsPlaced, HasLawfulEntries, HasLawfulSetup}, Lists.{EachAt}}
-use Rattle.dsa_laws.proofs.Effects.{by_effect, by_setting, stopped-keeps, reset-config}
-use Rattle.dsa_laws.proofs.Contents.{In-chain, In-filtered, each-set, each-pushed, each-without_front, each-filtered}
-use Rattle.dsa_laws.proofs.{Contents.{chain-empty}, Shapes.{queues-same, engines-same, on-queue, a_taker, In-cond}}
+use Rattle.dsa_laws.specs.WellFormed.{HasLawfulSetup, IsPlaced, HasLawfulEntries, IsWellFormed, HasShape}
+use Rattle.dsa_laws.specs.{Lists.{EachAt}, Change.{Change, IsTaken, IsFetched, IsStarted, IsAccepted}}
+use Rattle.dsa_laws.proofs.Shapes.{engines-same, on-queue, In-cond, a_taker, queues-same}
+use Rattle.dsa_laws.proofs.Contents.{chain-empty, each-without_front, each-pushed, In-filtered, each-set, each-filtered}
+use Rattle.dsa_laws.proofs.{Contents.{In-chain}, Effects.{stopped-keeps, reset-config, by_setting, by_effect}}
 
 -- what holds of each of a list, and is not changed when an entry begins to run, holds when the first begins to run
 pub first_run-each : (P : Slot → Type 0) → ((x : Slot) → P x → P (with_running_entry x)) → (xs : List Slot)
@@ -60,11 +60,11 @@ abbrev IsSettled : Setup → Slot → Type 0
 IsSettled setup x = (is_off (phase_at setup x.1.queue) ≡ false) × (pasid_of x.1.desc.pasid ≡ x.1.desc.pasid)
 
 -- each entry after a change is such, by the phases before it
-settled : (caps : Caps) (s s' : State) → HasLawfulEntries caps s.work → Change s s'
+settled : (caps : Caps) (s s' : State) → IsWellFormed caps s → Change s s'
     → EachAt (λ k. IsSettled s.work.setup) s'.work.content
-settled caps s s' h c =
+settled caps s s' w c =
     let P : ℕ → Slot → Type 0 = λ k. IsSettled s.work.setup in
-    let old : EachAt P s.work.content = λ k x i. (h.none_off k x i, h.pasids k x i) in
+    let old : EachAt P s.work.content = λ k x i. (w.entries.none_off k x i, w.entries.pasids k x i) in
     each-effect P s s' old c
     (λ c. each-pushed P s.work.content c.queue _ old (on-not_off _ c.on, pasid-again _))
     (λ c. each-pushed P (without_front s.work.content c.queue) _ (with_running_entry c.front)
@@ -93,9 +93,11 @@ placed-member caps w e x h m =
       running = λ i j. absurd (omega arith);
     }
 
-placed-change : (caps : Caps) (s s' : State) → HasShape caps s.work → EachAt (IsPlaced caps) s.work.content
-    → Change s s' → EachAt (IsPlaced caps) s'.work.content
-placed-change caps s s' h a c =
+placed-change : (caps : Caps) (s s' : State) → IsWellFormed caps s → Change s s' → EachAt
+    (IsPlaced caps) s'.work.content
+placed-change caps s s' w c =
+    let h = w.shape in
+    let a = w.entries.placed in
     let queues = queues-same h in
     let engines = engines-same h in
     each-effect (IsPlaced caps) s s' a c
@@ -180,10 +182,11 @@ record KeepsQueue (setup setup' : Setup) (q : ℕ) : Type 0 where
   config : queue_at setup'.configs q ≡ queue_at setup.configs q
 
 -- so is each that an entry after the change names
-queues-kept : (caps : Caps) (s s' : State) → HasShape caps s.work → HasLawfulEntries caps s.work → Change s s'
+queues-kept : (caps : Caps) (s s' : State) → IsWellFormed caps s → Change s s'
     → EachAt (λ k x. KeepsQueue s.work.setup s'.work.setup x.1.queue) s'.work.content
-queues-kept caps s s' h a c k x i =
-    let p = (settled caps s s' a c k x i).0 in
+queues-kept caps s s' w c k x i =
+    let h = w.shape in
+    let p = (settled caps s s' w c k x i).0 in
     by_setting (λ setup. KeepsQueue s.work.setup setup x.1.queue) s s' c
     (λ e. record { in_use = rw e.phases p; config = rw e.configs refl })
     (λ c. record { in_use = p; config = refl })
@@ -212,17 +215,17 @@ queues-kept caps s s' h a c k x i =
     })
     (λ c. record { in_use = p; config = refl })
 
-pub configs-kept : (caps : Caps) (s s' : State) → HasShape caps s.work → HasLawfulEntries caps s.work → Change s s'
+pub configs-kept : (caps : Caps) (s s' : State) → IsWellFormed caps s → Change s s'
     → (k : ℕ) (x : Slot) → In x (chain s'.work.content k)
     → queue_at s'.work.setup.configs x.1.queue ≡ queue_at s.work.setup.configs x.1.queue
-configs-kept caps s s' h a c k x i = (queues-kept caps s s' h a c k x i).config
+configs-kept caps s s' w c k x i = (queues-kept caps s s' w c k x i).config
 
-pub entries-change : (caps : Caps) (s s' : State) → HasShape caps s.work → HasLawfulEntries caps s.work → Change s s'
+pub entries-change : (caps : Caps) (s s' : State) → IsWellFormed caps s → Change s s'
     → HasLawfulEntries caps s'.work
-entries-change caps s s' h a c = record {
-  placed = placed-change caps s s' h a.placed c;
-  none_off = λ k x i. (queues-kept caps s s' h a c k x i).in_use;
-  pasids = λ k x i. (settled caps s s' a c k x i).1;
+entries-change caps s s' w c = record {
+  placed = placed-change caps s s' w c;
+  none_off = λ k x i. (queues-kept caps s s' w c k x i).in_use;
+  pasids = λ k x i. (settled caps s s' w c k x i).1;
 }
 
 pub each-opening : (P : ℕ → Slot → Type 0) (caps : Caps) → EachAt P (opening caps).work.content

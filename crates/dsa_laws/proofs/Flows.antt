@@ -1,13 +1,12 @@
 -- What every change does to the entries, and what follows for cells, names and their number.
-use Rattle.std.specs.Prelude.{sum_by, count_by, filter, nat_lt, slice_get}
-use Rattle.std.proofs.Common.{ℕ, Some, false, subst, ◌<◌, length, not, ap, map, ◌≤◌, ◌≡◌, true, ◌∙◌, refl, cond, Bool}
-use Rattle.std.proofs.Common.{eq-eqb, ⊎_elim, [], length-append, drop, eqb-true, ◌+◌, ◌==◌, List, sym, ◌++◌, ◌∷◌, arith}
-use Rattle.std.proofs.lemmas.List.{Sums.{sum_by-cons, sum_by-append}, append-nil, length-map, length-set}
-use Rattle.std.proofs.lemmas.Bool.{cases_Bool, Decides.{nat_tests}}
+use Rattle.std.{specs.Prelude.{sum_by, slice_get, filter, nat_lt, count_by}, proofs.lemmas.Bool.Decides.{nat_tests}}
+use Rattle.std.proofs.lemmas.List.{length-map, append-nil, Sums.{sum_by-append, sum_by-cons}, length-set}
+use Rattle.std.proofs.Common.{cond, length-append, true, ℕ, not, List, sym, ◌++◌, ◌≡◌}
+use Rattle.std.proofs.Common.{Some, ◌≤◌, map, length, ◌∷◌, ap, Bool, eq-eqb, drop, ◌∙◌, ◌+◌, [], refl, ◌==◌, arith, ◌<◌}
 use Rattle.dsa_base.proofs.{Counts.{count-cons}, NumberSums.{sum-map}}
 use Rattle.dsa_regs.specs.{declared.Caps.{Caps}, Caps.{cell_count}}
-use Rattle.dsa_store.proofs.Sums.{is_free-unused, sum-set, sum-pushed, held-counted, all_held-filtered, uses-counted}
-use Rattle.dsa_store.{proofs.Sums.{sum-without_front, sum-split}, specs.Content.{is_free, use_count, without_front}}
+use Rattle.dsa_store.proofs.Sums.{is_free-unused, sum-set, sum-pushed, held-counted, all_held-filtered}
+use Rattle.dsa_store.{proofs.Sums.{uses-counted, sum-split}, specs.Content.{is_free, use_count, without_front}}
 use Rattle.dsa_store.specs.{Content.{is_cell, after_push, Slot, Content, all_held, chain}, declared.entry.Cell.{Cell}}
 use Rattle.dsa_book.specs.{State.{State, Work}, Commands.{is_in_scope}, Work.{member_list}}
 use Rattle.dsa_book.specs.Work.{with_running_entry, with_first_run, progress_list, as_running, members, fate_row}
@@ -84,16 +83,10 @@ uses-with_free : (cells : ℕ) (content : Content) (x : Slot) → is_free cells 
     → use_count content cell + count_by (is_cell cell) (x ∷ []) ≤ cond (nat_lt cell.0 cells) 1 0
 uses-with_free cells content x free once cell =
     let fresh = is_free-unused cells content x.0 free in
-    ⊎_elim
-    (λ t.
-    let e = eqb-true x.0.0 cell.0 t in
-    let same = ap (λ n. let at : Cell = record { 0 = n } in at) e in
-    let unused = subst (λ k. use_count content k ≡ 0) same fresh.1 in
-    let below = fresh.0 in
-    let room : ◌≡◌ {A = ℕ} (cond (nat_lt cell.0 cells) 1 0) 1 = grind (arith, nat_tests) in
-    omega (arith, count-cons (is_cell cell) x [] true t))
-    (λ f. omega (arith, count-cons (is_cell cell) x [] false f, once cell))
-    (cases_Bool (is_cell cell x))
+    let old = once cell in
+    let one = count-cons (is_cell cell) x [] _ refl in
+    let same = λ (e : x.0.0 ≡ cell.0). ap (λ (n : ℕ). let at : Cell = record { 0 = n } in use_count content at) e in
+    grind (arith, nat_tests)
 
 -- ---- flows
 
@@ -137,28 +130,22 @@ entered caps w w' x shape once sums fates next name free = record {
   cells = uses-with_free (cell_count caps) w.content x (rw shape.same_caps at free) once;
 }
 
+sum-front : (f : Slot → ℕ) (l : List Slot) (front : Slot) → slice_get l 0 ≡ Some front
+    → sum_by f l ≡ f front + sum_by f (drop 1 l)
+sum-front f [] front h = absurd cc
+sum-front f (x ∷ rest) front h = let is : x ≡ front = cc in omega (arith, sum_by-cons f x rest, ap f is)
+
 -- the sum where a front moves and runs
 sum-taken : (f : Slot → ℕ) → ((slot : Slot) → f (with_running_entry slot) ≡ f slot)
     → (content : Content) (q to : ℕ) (front : Slot) → q < length content → to < length content
     → slice_get (chain content q) 0 ≡ Some front
     → sum_by f (all_held (after_push (without_front content q) to front.0 (as_running front.1)))
     ≡ sum_by f (all_held content)
-sum-taken f alike content q to front qin toin h = go (chain content q) refl h
-  where
-    go : (l : List Slot) → chain content q ≡ l → slice_get l 0 ≡ Some front
-        → sum_by f (all_held (after_push (without_front content q) to front.0 (as_running front.1)))
-        ≡ sum_by f (all_held content)
-    go [] e h = absurd cc
-    go (x ∷ rest) e h =
-        let is : x ≡ front = cc in
-        omega (
-          arith,
-          sum-without_front f content q x rest qin e,
-          sum-pushed f (without_front content q) to front.0
-              (as_running front.1) (omega (arith, length-set content q (drop 1 (chain content q)))),
-          alike front,
-          ap f is,
-        )
+sum-taken f alike content q to front qin toin h =
+    let rest = drop 1 (chain content q) in
+    let more = sum-pushed f (without_front content q) to front.0 (as_running front.1)
+    (omega (arith, length-set content q rest)) in
+    omega (arith, sum-set f content q rest qin, sum-front f (chain content q) front h, alike front)
 
 pub flow-change : (caps : Caps) (s s' : State) → HasShape caps s.work → CellsOnce caps s.work → Change s s'
     → IsFlow caps s.work s'.work

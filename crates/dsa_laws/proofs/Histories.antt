@@ -1,38 +1,37 @@
 -- Every state that a history leads to is well formed.
-use Rattle.std.proofs.Common.{◌≡◌, ◌==◌, List, [], ◌∷◌, length, replicate, Option, Some, None, refl, ap, subst, arith}
-use Rattle.std.{proofs.Common.{◌+◌, ◌∙◌}, specs.Prelude.{count_by}}
+use Rattle.std.proofs.Common.{◌≡◌, ◌==◌, List, [], ◌∷◌, length, replicate}
+use Rattle.std.{proofs.Common.{Option, Some, None, refl, ap, subst, arith, ◌+◌, ◌∙◌}, specs.Prelude.{count_by}}
 use Rattle.dsa_regs.specs.{declared.Caps.{Caps}, Caps.{list_count}}
 use Rattle.dsa_store.specs.{Content.{is_cell, use_count}, declared.entry.Cell.{Cell}}
 use Rattle.dsa_store.proofs.Sums.{uses-counted, held-counted}
 use Rattle.dsa_book.specs.{declared.event.Step.{Step}, State.{State, opening}, Machine.{next, replay_from, replay}}
 use Rattle.dsa_book.proofs.Replay.{replay_none}
-use Rattle.dsa_laws.specs.{Change.{Change}, WellFormed.{IsWellFormed}}
-use Rattle.dsa_laws.proofs.Limits.{lists-fit, of-lists_fit, lists_fit-change, lists_fit-opening}
-use Rattle.dsa_laws.proofs.{Changes.{next-change}, Notes.{notes-change, notes-opening}, Contents.{all_held-empty}}
-use Rattle.dsa_laws.proofs.{Entries.{entries-change, entries-opening}, Flows.{flow-change, cells-flow, names-flow}}
-use Rattle.dsa_laws.proofs.{Buffering.{buffers-change, buffers-opening}, Setups.{setup-change, setup-opening}}
-use Rattle.dsa_laws.proofs.{Shapes.{shape-change, shape-opening}, Engines.{engines-change, engines-opening}}
-use Rattle.dsa_laws.proofs.Orders.{lists-in_order, of-lists_in_order, order-change, order-opening}
+use Rattle.dsa_laws.{specs.{WellFormed.{IsWellFormed}, Change.{Change}}, proofs.Shapes.{shape-change, shape-opening}}
+use Rattle.dsa_laws.proofs.{Engines.{engines-opening, engines-change}, Setups.{setup-opening, setup-change}}
+use Rattle.dsa_laws.proofs.{Orders.{of-lists_in_order, order-change, order-opening}, Flows.{cells-flow, flow-change}}
+use Rattle.dsa_laws.proofs.{Flows.{names-flow}, Entries.{entries-opening, entries-change}, Changes.{next-change}}
+use Rattle.dsa_laws.proofs.{Buffering.{buffers-change, buffers-opening}, Notes.{notes-change, notes-opening}}
+use Rattle.dsa_laws.proofs.{Limits.{lists_fit-change, of-lists_fit, lists_fit-opening}, Contents.{all_held-empty}}
 
 pub well_formed-change : (caps : Caps) (s s' : State) → IsWellFormed caps s → Change s s' → IsWellFormed caps s'
 well_formed-change caps s s' w c =
     let shape = shape-change caps s s' w.shape c in
     let flow = flow-change caps s s' w.shape w.cells c in
     let engines = engines-change caps s s' w c in
-    let notes = notes-change caps s s' w.shape w.setup w.entries w.notes c in
-    let lists = lists_fit-change caps s s' w.shape w.setup w.entries (lists-fit caps s.work w.shape w.limits) c in
+    let notes = notes-change caps s s' w c in
+    let lists = lists_fit-change caps s s' w c in
     record {
       shape = shape;
       cells = cells-flow caps s.work s'.work flow;
       names = names-flow caps s.work s'.work w.names flow;
-      setup = setup-change caps s s' w.shape w.setup c;
-      entries = entries-change caps s s' w.shape w.entries c;
+      setup = setup-change caps s s' w c;
+      entries = entries-change caps s s' w c;
       limits = of-lists_fit caps s'.work shape lists notes engines;
       buffers = buffers-change caps s s' w c;
       engines = engines;
       notes = notes;
       order = of-lists_in_order caps s'.work shape
-          (order-change caps s s' w.shape (lists-in_order caps s.work w.shape w.order) c);
+          (order-change caps s s' w c);
     }
 
 pub well_formed-opening : (caps : Caps) → IsWellFormed caps (opening caps)

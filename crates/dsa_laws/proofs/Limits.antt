@@ -1,7 +1,7 @@
 -- No list grows past its limit.
 use Rattle.std.proofs.lemmas.{Bool.{leb-false, Decides.{nat_tests}, cases_eq}, List.{get_or-set_other, length-drop}}
-use Rattle.std.proofs.Common.{length, map, set, Some, None, refl, sym, ap, ◌∙◌, subst, arith, ⊎_elim, drop}
-use Rattle.std.proofs.Common.{◌≡◌, ℕ, ◌+◌, ◌<◌, ◌≤◌, not, Bool, true, false, List, [], length-append, ◌^◌, Option}
+use Rattle.std.proofs.Common.{length, map, set, Some, None, refl, sym, ap, ◌∙◌, subst, arith, ⊎_elim}
+use Rattle.std.proofs.Common.{drop, ◌≡◌, ℕ, ◌+◌, ◌<◌, ◌≤◌, not, Bool, true, false, List, [], length-append, ◌^◌, Option}
 use Rattle.std.specs.Prelude.{filter}
 use Rattle.dsa_base.proofs.{Lists.{none-In}, Counts.{length-filter-le}, Tables.{not-both, no-row}}
 use Rattle.dsa_regs.specs.declared.{Phase.TheVariants.{Off, Stopping}, Caps.{Caps}, QueueConfig.{QueueConfig}}
@@ -15,7 +15,7 @@ use Rattle.dsa_laws.proofs.{Entries.{In-after}, Contents.{each-place, chain-filt
 use Rattle.dsa_laws.proofs.Shapes.{queues-same, engines-same, on-queue, progress-at, a_taker}
 use Rattle.dsa_laws.proofs.Effects.{by_effect, by_setting, stopped-keeps, reset-config, reset-size}
 use Rattle.dsa_laws.specs.{Change.{Change}, Engines.{IsLawfulEngine, HasLawfulEngines}}
-use Rattle.dsa_laws.specs.WellFormed.{HasShape, HasLawfulSetup, HasLawfulEntries, IsWithinLimits, NoteFits, NotesFit}
+use Rattle.dsa_laws.specs.WellFormed.{HasShape, HasLawfulEntries, IsWithinLimits, NoteFits, NotesFit, IsWellFormed}
 
 -- ---- lengths of lists
 
@@ -85,9 +85,9 @@ off-empty caps w q h i off = none-In (chain w.content q) (λ x j.
     not-both (is_off (phase_at w.setup q)) off (rw ((h.placed q x j).queue i) at (h.none_off q x j)))
 
 -- the lists after a change, at the sizes before it
-lists-effect : (caps : Caps) (s s' : State) → HasShape caps s.work → HasLawfulSetup s.work.setup
-    → Fitting caps s.work → Change s s' → ListsFit caps s.work.setup.configs s'.work.content
-lists-effect caps s s' shape setup h c = by_effect (λ w. ListsFit caps s.work.setup.configs w.content) s s' c
+lists-effect : (caps : Caps) (s s' : State) → IsWellFormed caps s → Change s s'
+    → ListsFit caps s.work.setup.configs s'.work.content
+lists-effect caps s s' w c = by_effect (λ w. ListsFit caps s.work.setup.configs w.content) s s' c
     (λ e. subst (ListsFit caps s.work.setup.configs) (sym e.content) h)
     (λ c.
     let config = queue_at s.work.setup.configs c.queue in
@@ -95,17 +95,18 @@ lists-effect caps s s' shape setup h c = by_effect (λ w. ListsFit caps s.work.s
     (λ i. omega (
       arith,
       leb-false (limit_of config c.portal) (length (chain s.work.content c.queue)) c.below,
-      limit-le s.work.setup.caps s.work.setup.groups c.queue config c.portal (setup.queue c.queue (on-not_off _ c.on)),
+      limit-le s.work.setup.caps s.work.setup.groups c.queue config c.portal
+          (w.setup.queue c.queue (on-not_off _ c.on)),
       length-append {A = Slot},
     ))
-    (λ e is. absurd (omega (arith, on-queue shape c.queue c.on))))
+    (λ e is. absurd (omega (arith, on-queue w.shape c.queue c.on))))
     (λ c.
-    let k = a_taker shape c.engine c.queue c.front c.qualifies c.is_front in
+    let k = a_taker w.shape c.engine c.queue c.front c.qualifies c.is_front in
     let front = without_front s.work.content c.queue in
     let there = size-without_front s.work.content c.queue in
     set-fit front (progress_list s.work.setup c.engine) _
     (shorter caps s.work.setup.configs s.work.content front h there)
-    (λ i. absurd (omega (arith, queues-same shape)))
+    (λ i. absurd (omega (arith, queues-same w.shape)))
     (λ e is i. omega (
       arith,
       ap length k.engine.progress,
@@ -118,6 +119,9 @@ lists-effect caps s s' shape setup h c = by_effect (λ w. ListsFit caps s.work.s
     (λ c. shorter caps s.work.setup.configs s.work.content _ h (size-filtered _ s.work.content))
     (λ c. shorter caps s.work.setup.configs s.work.content _ h (size-filtered _ s.work.content))
   where
+    h : Fitting caps s.work
+    h = lists-fit caps s.work w.shape w.limits
+
     set-fit : (content : Content) (k : ℕ) (l : List Slot) → ListsFit caps s.work.setup.configs content
         → (k < caps.queues → length l ≤ (queue_at s.work.setup.configs k).size)
         → ((e : ℕ) → k ≡ caps.queues + e → e < caps.engines → length l ≤ caps.slots)
@@ -128,14 +132,13 @@ lists-effect caps s s' shape setup h c = by_effect (λ w. ListsFit caps s.work.s
     members_set : (e : ℕ) (l : List Slot)
         → ListsFit caps s.work.setup.configs (set s.work.content (member_list s.work.setup e) l)
     members_set e l =
-        let a = queues-same shape in
-        let b = engines-same shape in
+        let a = queues-same w.shape in
+        let b = engines-same w.shape in
         set-fit s.work.content (member_list s.work.setup e) l h
         (λ i. absurd (omega arith)) (λ i is j. absurd (omega arith))
 
-pub lists_fit-change : (caps : Caps) (s s' : State) → HasShape caps s.work → HasLawfulSetup s.work.setup
-    → HasLawfulEntries caps s.work → Fitting caps s.work → Change s s' → Fitting caps s'.work
-lists_fit-change caps s s' shape setup entries fit c =
+pub lists_fit-change : (caps : Caps) (s s' : State) → IsWellFormed caps s → Change s s' → Fitting caps s'.work
+lists_fit-change caps s s' w c =
     by_setting (λ setup. ListsFit caps setup.configs s'.work.content) s s' c
     (λ e. rw e.configs h)
     (λ c. h)
@@ -148,13 +151,13 @@ lists_fit-change caps s s' shape setup entries fit c =
     record { queue = λ i. rw none (omega arith); progress = λ e is i. rw none (omega arith) })
     (λ c.
     let qs = queues_in c.scope in
-    resized (λ q i. ap (λ c. c.size) (reset-config s.work.setup qs q (omega (arith, queues-same shape)))
+    resized (λ q i. ap (λ c. c.size) (reset-config s.work.setup qs q (omega (arith, queues-same w.shape)))
     ∙ reset-size (is_among qs q) (queue_at s.work.setup.configs q)))
     (λ c q. record {
       queue = λ i. ⊎_elim
           (λ e. omega (
             arith,
-            ap length (off-empty caps s.work q entries i (rw e c.off)),
+            ap length (off-empty caps s.work q w.entries i (rw e c.off)),
             ap (λ t. length (chain t.work.content q)) c.after,
           ))
           (λ e. omega (
@@ -168,7 +171,7 @@ lists_fit-change caps s s' shape setup entries fit c =
     (λ c. h)
   where
     h : ListsFit caps s.work.setup.configs s'.work.content
-    h = lists-effect caps s s' shape setup fit c
+    h = lists-effect caps s s' w c
 
     resized : {configs : List QueueConfig}
         → ((q : ℕ) → q < caps.queues → (queue_at configs q).size ≡ (queue_at s.work.setup.configs q).size)

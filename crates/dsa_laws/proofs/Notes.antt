@@ -1,19 +1,17 @@
 -- The numbers of the batch notes.
-use Rattle.std.proofs.Common.{◌≡◌, ℕ, ◌<◌, ◌≤◌, ◌^◌, ◌&&◌, not, Bool, true, false, List}
-use Rattle.std.proofs.Common.{get_or, Option, Some, None, option_map, refl, ap, arith, ⊎_elim}
-use Rattle.std.proofs.lemmas.Bool.{cases_lt, cond_both, ltb-false, leb-false, or_parts}
-use Rattle.std.{proofs.{lemmas.Bool.Decides.{nat_tests}, Math.Nat.{pow-le-pow_right}}}
+use Rattle.std.proofs.lemmas.Bool.{cond_both, cases_lt, ltb-false, or_parts, Decides.{nat_tests}, leb-false}
+use Rattle.std.proofs.Common.{◌≡◌, false, Some, get_or, true, ◌^◌, None, Bool, not, List, ◌<◌}
+use Rattle.std.proofs.{Common.{◌≤◌, refl, arith, ℕ, ap, Option, ⊎_elim, option_map, ◌&&◌}, Math.Nat.{pow-le-pow_right}}
 use Rattle.dsa_base.proofs.Lists.{In-front, get_or-replicated}
-use Rattle.dsa_base.{proofs.{NumberLists.{get_or-each, get_or-past}, Tables.{no-row}}}
+use Rattle.dsa_base.proofs.{NumberLists.{get_or-each, get_or-past}, Tables.{no-row}}
 use Rattle.dsa_desc.specs.declared.{Descriptor.{Descriptor}, QueueLimits.{QueueLimits}}
-use Rattle.dsa_desc.specs.Descriptor.{is_lawful_batch}
-use Rattle.dsa_desc.specs.Descriptor.{is_successful}
-use Rattle.dsa_regs.specs.{declared.{Caps.{Caps}}, Config.{queue_at, queue_table}}
+use Rattle.dsa_desc.specs.Descriptor.{is_lawful_batch, is_successful}
+use Rattle.dsa_regs.specs.{declared.Caps.{Caps}, Config.{queue_at, queue_table}}
 use Rattle.dsa_store.specs.Content.{Slot, chain}
 use Rattle.dsa_book.specs.declared.note.BatchNote.{BatchNote}
 use Rattle.dsa_book.specs.State.{Work, State, opening, is_off, is_member, phase_at, limits_at, is_batch_of, status_of}
 use Rattle.dsa_book.specs.{Work.{note_at, opened_note, progress_list}, Commands.{kept_note}}
-use Rattle.dsa_laws.specs.{Change.{Change}, WellFormed.{HasShape, HasLawfulSetup, HasLawfulEntries, NoteFits, NotesFit}}
+use Rattle.dsa_laws.specs.{Change.{Change}, WellFormed.{HasShape, HasLawfulSetup, NoteFits, NotesFit, IsWellFormed}}
 use Rattle.dsa_laws.proofs.{Effects.{by_effect}, Contents.{each-place}}
 
 -- ---- the size of a batch
@@ -49,20 +47,20 @@ marked caps f a b None h = h
 marked caps f a b (Some n) h =
     record { fetched = omega (arith, a n, b n, h.fetched); count = omega (arith, b n, h.count) }
 
-pub notes-change : (caps : Caps) (s s' : State) → HasShape caps s.work → HasLawfulSetup s.work.setup
-    → HasLawfulEntries caps s.work → NotesFit caps s.work → Change s s' → NotesFit caps s'.work
-notes-change caps s s' shape setup entries h c =
+pub notes-change : (caps : Caps) (s s' : State) → IsWellFormed caps s → Change s s' → NotesFit caps s'.work
+notes-change caps s s' w c =
+    let h = w.notes in
     let set = λ (e : ℕ) (note : Option BatchNote) (fits : NoteFits caps note).
     each-place (λ j. NoteFits caps) None s.work.notes e note h fits in
     by_effect (NotesFit caps) s s' c
     (λ e. rw e.notes h)
     (λ c. h)
     (λ c.
-    let off = entries.none_off c.queue c.front (In-front c.front (chain s.work.content c.queue) c.is_front) in
+    let off = w.entries.none_off c.queue c.front (In-front c.front (chain s.work.content c.queue) c.is_front) in
     cond_both (is_batch_of s.work.setup c.front.1) _ _
     (λ (ns : List (Option BatchNote)). (j : ℕ) → NoteFits caps (get_or ns j None))
     (λ b. set c.engine (Some (opened_note c.front.1))
-    (record { fetched = omega arith; count = front-size caps s.work c.front shape setup off b }))
+    (record { fetched = omega arith; count = front-size caps s.work c.front w.shape w.setup off b }))
     (λ b. h))
     (λ c.
     let old : NoteFits caps (Some c.note) = rw c.is_note at (h c.engine) in

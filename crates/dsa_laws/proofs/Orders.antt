@@ -1,11 +1,11 @@
 -- Members that run stand before the others.
-use Rattle.std.proofs.Common.{drop, ◌≡◌, ℕ, ◌+◌, ◌≤◌, Bool, true, false, List, [], ◌∷◌, ◌++◌, map, set, refl, sym, ap}
-use Rattle.std.proofs.{Common.{◌∙◌, subst, arith, ⊎_elim, ◌-◌, length}, lemmas.Bool.{cases_lt, cond_both}}
+use Rattle.std.proofs.Common.{drop, ◌≡◌, ℕ, ◌+◌, ◌≤◌, Bool, true, false, List, [], ◌∷◌, ◌++◌, map, set, refl}
+use Rattle.std.proofs.{Common.{sym, ap, ◌∙◌, subst, arith, ⊎_elim, ◌-◌, length}, lemmas.Bool.{cases_lt, cond_both}}
 use Rattle.std.{proofs.Math.ListN.{get_or-eq_default}, specs.Prelude.{filter, nat_lt}}
 use Rattle.dsa_regs.specs.{declared.Caps.{Caps}, Caps.{list_count}}
 use Rattle.dsa_store.specs.Content.{Slot, Content, chain, without_front}
 use Rattle.dsa_book.specs.{State.{Work, State, opening}, Work.{progress_list, member_list, members, with_first_run}}
-use Rattle.dsa_laws.specs.{Change.{Change}, WellFormed.{HasShape, MembersInOrder, runs_first, none_runs}}
+use Rattle.dsa_laws.specs.{Change.{Change}, WellFormed.{HasShape, MembersInOrder, runs_first, none_runs, IsWellFormed}}
 use Rattle.dsa_laws.proofs.{Effects.{by_effect}, Contents.{each-place, chain-filtered, chain-empty}}
 use Rattle.dsa_laws.proofs.Shapes.{queues-same, engines-same, on-queue, a_taker, waiting-engine, members-at}
 
@@ -62,9 +62,11 @@ set-order : (caps : Caps) (c : Content) (k : ℕ) (l : List Slot) → ListsInOrd
     → (caps.queues + caps.engines ≤ k → runs_first l ≡ true) → ListsInOrder caps (set c k l)
 set-order caps = each-place (λ k l. caps.queues + caps.engines ≤ k → runs_first l ≡ true) []
 
-pub order-change : (caps : Caps) (s s' : State) → HasShape caps s.work → ListsInOrder caps s.work.content
-    → Change s s' → ListsInOrder caps s'.work.content
-order-change caps s s' shape h c = by_effect (λ w. ListsInOrder caps w.content) s s' c
+pub order-change : (caps : Caps) (s s' : State) → IsWellFormed caps s → Change s s' → ListsInOrder caps s'.work.content
+order-change caps s s' w c =
+    let shape = w.shape in
+    let h = lists-in_order caps s.work w.shape w.order in
+    by_effect (λ w. ListsInOrder caps w.content) s s' c
     (λ e. subst (ListsInOrder caps) (sym e.content) h)
     (λ c. set-order caps s.work.content c.queue _ h (λ i. absurd (omega (arith, on-queue shape c.queue c.on))))
     (λ c.
