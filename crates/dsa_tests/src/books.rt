@@ -155,41 +155,32 @@ fn actors(rt: HostRuntime) {
 
 #[test]
 fn a_book_keeps_steps_and_rows(rt: HostRuntime) -> Result<(), Fail> {
+    const EVENT: Event = Event::Dispatch { engine: 0 };
+    const IDLE: Reply = Reply::Dispatch(DispatchAnswer::Idle);
+    const TAKEN: Step = Step {
+        event: EVENT,
+        reply: Reply::Dispatch(DispatchAnswer::Taken {
+            ticket: TICKET,
+            queue: 0,
+        }),
+    };
+    const RETRY: Step = Step {
+        event: EVENT,
+        reply: Reply::Submit(SubmitAnswer::Retry(Cause::AtLimit)),
+    };
+    const STEPS: [Step; 2] = [TAKEN, RETRY];
     let mut book = Book::new(rt.alloc(), 2)?;
-    assert_eq!(rt; book.capacity(), 2);
-    assert_eq!(rt; book.is_full(), false);
-    assert_eq!(rt; book.history().is_empty(), true);
-    assert_eq!(rt; book.fates().is_empty(), true);
-
-    let idle = Reply::Dispatch(DispatchAnswer::Idle);
-    let retry = Reply::Submit(SubmitAnswer::Retry(Cause::AtLimit));
-    let taken = Reply::Dispatch(DispatchAnswer::Taken {
-        ticket: TICKET,
-        queue: 0,
-    });
-    let event = Event::Dispatch { engine: 0 };
+    assert!(rt; book.capacity() == 2 && !book.is_full());
+    assert!(rt; book.history().is_empty() && book.fates().is_empty());
     assert!(rt; book.history().len() < book.capacity());
-    book.record(event, idle);
-    assert_eq!(rt; book.history().is_empty(), true);
+    book.record(EVENT, IDLE);
+    assert!(rt; book.history().is_empty());
     assert!(rt; book.history().len() < book.capacity());
-    book.record(event, taken);
+    book.record(EVENT, TAKEN.reply);
     assert!(rt; book.history().len() < book.capacity());
-    book.add_step(Step {
-        event,
-        reply: retry,
-    });
-    let steps = [
-        Step {
-            event,
-            reply: taken,
-        },
-        Step {
-            event,
-            reply: retry,
-        },
-    ];
-    assert_eq!(rt; book.history(), steps.as_slice());
-    assert_eq!(rt; book.is_full(), true);
+    book.add_step(RETRY);
+    assert!(rt; book.is_full());
+    assert_eq!(rt; book.history(), STEPS.as_slice());
     Ok(())
 }
 

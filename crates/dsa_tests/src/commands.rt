@@ -128,43 +128,36 @@ fn push<S: EntryStore>(rt: &impl Abort, parts: &mut Parts<S>, queue: u16, pasid:
     assert_eq!(rt; parts.store.list_of(cell), Some(ListId(queue)));
 }
 
-// The answer of a command that ended at once and aborted so many.
-fn ended(aborted: u32) -> IssueAnswer {
-    IssueAnswer::Ended { aborted }
+// The moves are pushed in turn, each to a queue with a PASID.
+fn push_each<S: EntryStore>(rt: &impl Abort, parts: &mut Parts<S>, entries: &[(u16, u32)])
+    requires { IsInStep parts.old.queues parts.old.engines (S.cells parts.old.store) (S.content parts.old.store) }
+    ensures { IsInStep parts.new.queues parts.new.engines (S.cells parts.new.store) (S.content parts.new.store) }
+{
+    for (queue, pasid) in entries {
+        push(rt, parts, *queue, *pasid);
+    }
 }
+
+// The answer of a command that ended at once and aborted nothing.
+const ENDED: IssueAnswer = IssueAnswer::Ended { aborted: 0 };
 
 // Enable Device and Enable WQ take the first cause that stands, and a mask is looked at before the phases.
 fn refused<S: EntryStore>(rt: &impl Abort, store: S, book: Book) {
+    const NO_ENGINE: IssueAnswer = IssueAnswer::Refused(Fault::GroupWithoutEngine);
+    const WRONG_STATE: IssueAnswer = IssueAnswer::Refused(Fault::WrongState);
+    const BAD_QUEUE: IssueAnswer = IssueAnswer::Refused(Fault::BadQueue);
+    const COMMANDS: [(Command, IssueAnswer); 7] = [
+        (Command::EnableDevice, NO_ENGINE),
+        (Command::EnableWq(0), WRONG_STATE),
+        (Command::EnableWq(2), BAD_QUEUE),
+        (Command::DrainWq(NONE), BAD_QUEUE),
+        (Command::AbortWq(PAST), BAD_QUEUE),
+        (Command::DisableWq(BOTH), WRONG_STATE),
+        (Command::DrainAll, WRONG_STATE),
+    ];
     let mut parts = parts_of(rt, [WITHOUT_ENGINE, SECOND_GROUP], store, book);
-    issue_each(
-        rt,
-        &mut parts,
-        &[
-            (
-                Command::EnableDevice,
-                IssueAnswer::Refused(Fault::GroupWithoutEngine),
-            ),
-            (
-                Command::EnableWq(0),
-                IssueAnswer::Refused(Fault::WrongState),
-            ),
-            (Command::EnableWq(2), IssueAnswer::Refused(Fault::BadQueue)),
-            (
-                Command::DrainWq(NONE),
-                IssueAnswer::Refused(Fault::BadQueue),
-            ),
-            (
-                Command::AbortWq(PAST),
-                IssueAnswer::Refused(Fault::BadQueue),
-            ),
-            (
-                Command::DisableWq(BOTH),
-                IssueAnswer::Refused(Fault::WrongState),
-            ),
-            (Command::DrainAll, IssueAnswer::Refused(Fault::WrongState)),
-        ],
-    );
-    assert_eq!(rt; parts.admin.active(), None);
+    issue_each(rt, &mut parts, &COMMANDS);
+    assert!(rt; parts.admin.active().is_none());
 }
 
 #[test]
@@ -176,40 +169,41 @@ fn the_first_cause_refuses(rt: HostRuntime) -> Result<(), Fail> {
 
 // An abort of one PASID takes out its entries of both queues, and a reset keeps the sizes and the next name.
 fn aborted<S: EntryStore>(rt: &impl Abort, store: S, book: Book) {
+    const ENABLES: [(Command, IssueAnswer); 3] = [
+        (Command::EnableDevice, ENDED),
+        (Command::EnableWq(0), ENDED),
+        (Command::EnableWq(1), ENDED),
+    ];
+    const ENTRIES: [(u16, u32); 5] = [(0, 5), (0, 6), (0, 5), (1, 5), (1, 7)];
+    const ABORTS: [(Command, IssueAnswer); 3] = [
+        (Command::AbortPasid(5), IssueAnswer::Ended { aborted: 3 }),
+        (
+            Command::AbortWq(FIRST_QUEUE),
+            IssueAnswer::Ended { aborted: 1 },
+        ),
+        (Command::ResetWq(BOTH), IssueAnswer::Ended { aborted: 1 }),
+    ];
+    const RESET: [(Command, IssueAnswer); 1] = [(Command::ResetDevice, ENDED)];
     let mut parts = parts_of(rt, [FIRST_GROUP, SECOND_GROUP], store, book);
-    issue_each(
-        rt,
-        &mut parts,
-        &[
-            (Command::EnableDevice, ended(0)),
-            (Command::EnableWq(0), ended(0)),
-            (Command::EnableWq(1), ended(0)),
-        ],
-    );
-    for (queue, pasid) in [(0, 5), (0, 6), (0, 5), (1, 5), (1, 7)] {
-        push(rt, &mut parts, queue, pasid);
-    }
-    issue_each(
-        rt,
-        &mut parts,
-        &[
-            (Command::AbortPasid(5), ended(3)),
-            (Command::AbortWq(FIRST_QUEUE), ended(1)),
-            (Command::ResetWq(BOTH), ended(1)),
-        ],
-    );
+    issue_each(rt, &mut parts, &ENABLES);
+    push_each(rt, &mut parts, &ENTRIES);
+    issue_each(rt, &mut parts, &ABORTS);
     were_aborted(rt, &parts.book);
-    assert_eq!(rt; parts.queues.queue(0).size, 4);
-    assert_eq!(rt; parts.queues.queue(0).priority, 0);
-    assert_eq!(rt; parts.queues.phase(1), Phase::Off);
-    issue_each(rt, &mut parts, &[(Command::ResetDevice, ended(0))]);
-    assert_eq!(rt; parts.queues.device(), Phase::Off);
-    assert_eq!(rt; parts.queues.next_name(), 5);
+    sizes_are_kept(rt, &parts.queues);
+    issue_each(rt, &mut parts, &RESET);
+    assert!(rt; parts.queues.device() == Phase::Off && parts.queues.next_name() == 5);
+}
+
+// A reset of queues keeps their sizes alone.
+fn sizes_are_kept(rt: &impl Abort, queues: &Queues) {
+    assert!(rt; queues.queue(0).size == 4 && queues.queue(0).priority == 0);
+    assert!(rt; queues.phase(1) == Phase::Off);
 }
 
 // Each entry has the number of the command that took it out.
 fn were_aborted(rt: &impl Abort, book: &Book) {
-    for (name, number) in [(0, 12), (2, 12), (3, 12), (1, 9), (4, 10)] {
+    const ROWS: [(u32, u8); 5] = [(0, 12), (2, 12), (3, 12), (1, 9), (4, 10)];
+    for (name, number) in ROWS {
         let row = FateRow {
             name,
             parent: None,
@@ -231,41 +225,43 @@ fn poll<S: EntryStore>(parts: &mut Parts<S>) -> PollAnswer
     requires { IsInStep parts.old.queues parts.old.engines (S.cells parts.old.store) (S.content parts.old.store) }
     ensures { IsInStep parts.new.queues parts.new.engines (S.cells parts.new.store) (S.content parts.new.store) }
 {
-    parts.admin.poll(&mut parts.queues, &parts.store)
+    let Parts {
+        admin,
+        queues,
+        store,
+        ..
+    } = parts;
+    admin.poll(queues, store)
 }
 
 // A drain waits for what came before it alone; a disable for all of its scope.
 fn waited<S: EntryStore>(rt: &impl Abort, store: S, book: Book) {
+    const ENABLES: [(Command, IssueAnswer); 2] = [
+        (Command::EnableDevice, ENDED),
+        (Command::EnableWq(0), ENDED),
+    ];
+    const DRAINS: [(Command, IssueAnswer); 3] = [
+        (Command::DrainPasid(6), ENDED),
+        (Command::DrainPasid(5), IssueAnswer::Active),
+        (Command::AbortAll, IssueAnswer::Refused(Fault::Busy)),
+    ];
     let mut parts = parts_of(rt, [FIRST_GROUP, SECOND_GROUP], store, book);
     assert_eq!(rt; poll(&mut parts), PollAnswer::Nothing);
-    issue_each(
-        rt,
-        &mut parts,
-        &[
-            (Command::EnableDevice, ended(0)),
-            (Command::EnableWq(0), ended(0)),
-        ],
-    );
+    issue_each(rt, &mut parts, &ENABLES);
     push(rt, &mut parts, 0, 5);
-    issue_each(
-        rt,
-        &mut parts,
-        &[
-            (Command::DrainPasid(6), ended(0)),
-            (Command::DrainPasid(5), IssueAnswer::Active),
-            (Command::AbortAll, IssueAnswer::Refused(Fault::Busy)),
-        ],
-    );
+    issue_each(rt, &mut parts, &DRAINS);
     assert_eq!(rt; poll(&mut parts), PollAnswer::Active);
     push(rt, &mut parts, 0, 5);
+    front_leaves(rt, &mut parts);
+}
+
+// The drain is over once the front of queue 0 has left.
+fn front_leaves<S: EntryStore>(rt: &impl Abort, parts: &mut Parts<S>) {
     assert!(rt; parts.store.lists() == LISTS);
     let front = parts.store.front(ListId(0));
     assert!(rt; front.is_some_and(|cell| parts.store.unlink(cell).is_some()));
-    assert_eq!(rt;
-        parts.admin.poll(&mut parts.queues, &parts.store),
-        PollAnswer::Finished
-    );
-    assert_eq!(rt; parts.admin.active(), None);
+    assert!(rt; parts.admin.poll(&mut parts.queues, &parts.store) == PollAnswer::Finished);
+    assert!(rt; parts.admin.active().is_none());
 }
 
 #[test]

@@ -8,16 +8,12 @@ use dsa_desc::{Descriptor, Outcome};
 use dsa_device::{Device, MakeFault};
 use dsa_fixtures::{
     CAPS, CELLS, ENABLED, ENQCMD, FIRST_GROUP as GROUP, LISTS, MOVE as PAGE, NO_OP,
-    SHARED_QUEUE as QUEUE, batch_of,
+    SHARED_QUEUE as QUEUE, batch_of, bytes_of,
 };
 use dsa_regs::{Caps, Command, Fault};
 use dsa_store::{Cell, Entry, EntryStore, ListId, PlainStore};
+use std::process::Abort;
 use std::test::Fail;
-
-const TICKET: Ticket = Ticket {
-    cell: Cell(0),
-    name: 0,
-};
 
 fn device(rt: &HostRuntime, capacity: u64) -> Result<Device<PlainStore>, Fail> {
     let store = PlainStore::new(rt.alloc(), LISTS, CELLS)?;
@@ -27,7 +23,7 @@ fn device(rt: &HostRuntime, capacity: u64) -> Result<Device<PlainStore>, Fail> {
     }
 }
 
-// The fault that comes over a store with so many lists and cells, and the store as it came back.
+// The fault that comes over a store, and the store as it came back.
 fn refused(
     rt: &HostRuntime,
     caps: Caps,
@@ -40,31 +36,40 @@ fn refused(
     }
 }
 
+// The fault that comes over an empty store of so many lists and cells, and what the store has as it came back: its lists,
+// its cells and those that are free.
+fn refusal(
+    rt: &HostRuntime,
+    caps: Caps,
+    capacity: u64,
+    (lists, cells): (u16, u32),
+) -> Result<(MakeFault, u16, u32, u32), Fail> {
+    let store = PlainStore::new(rt.alloc(), lists, cells)?;
+    let (fault, back) = refused(rt, caps, capacity, store)?;
+    Ok((fault, back.lists(), back.cells(), back.free()))
+}
+
 #[test]
 fn faults_in_their_order(rt: HostRuntime) -> Result<(), Fail> {
-    let none = Caps { queues: 0, ..CAPS };
-    let table = [
-        (none, 1_048_577, MakeFault::BadCaps),
-        (CAPS, 1_048_577, MakeFault::BadCapacity),
-        (CAPS, 1_048_576, MakeFault::BadStore),
+    const NONE: Caps = Caps { queues: 0, ..CAPS };
+    const CASES: [(Caps, u64, u16, u32, MakeFault); 4] = [
+        (NONE, 1_048_577, LISTS, CELLS - 1, MakeFault::BadCaps),
+        (CAPS, 1_048_577, LISTS, CELLS - 1, MakeFault::BadCapacity),
+        (CAPS, 1_048_576, LISTS, CELLS - 1, MakeFault::BadStore),
+        (CAPS, 8, LISTS + 1, CELLS, MakeFault::BadStore),
     ];
-    for (caps, capacity, fault) in table {
-        let store = PlainStore::new(rt.alloc(), LISTS, CELLS - 1)?;
-        let (found, back) = refused(&rt, caps, capacity, store)?;
-        assert_eq!(rt; found, fault);
-        assert_eq!(rt; back.cells(), CELLS - 1);
-        assert_eq!(rt; back.free(), CELLS - 1);
+    for (caps, capacity, lists, cells, fault) in CASES {
+        assert_eq!(rt;
+            refusal(&rt, caps, capacity, (lists, cells))?,
+            (fault, lists, cells, cells)
+        );
     }
-    let store = PlainStore::new(rt.alloc(), LISTS + 1, CELLS)?;
-    let (found, back) = refused(&rt, CAPS, 8, store)?;
-    assert_eq!(rt; found, MakeFault::BadStore);
-    assert_eq!(rt; back.lists(), LISTS + 1);
     Ok(())
 }
 
 #[test]
 fn store_with_an_entry_comes_back(rt: HostRuntime) -> Result<(), Fail> {
-    let entry = Entry {
+    const ENTRY: Entry = Entry {
         name: 7,
         parent: None,
         desc: NO_OP,
@@ -73,13 +78,12 @@ fn store_with_an_entry_comes_back(rt: HostRuntime) -> Result<(), Fail> {
     };
     let mut store = PlainStore::new(rt.alloc(), LISTS, CELLS)?;
     assert_eq!(rt; store.lists(), LISTS);
-    let Some(cell) = store.push_back(ListId(0), entry) else {
+    let Some(cell) = store.push_back(ListId(0), ENTRY) else {
         return Err("no cell is free")?;
     };
     let (found, back) = refused(&rt, CAPS, 8, store)?;
-    assert_eq!(rt; found, MakeFault::BadStore);
-    assert_eq!(rt; back.get(cell), Some(entry));
-    assert_eq!(rt; back.free(), CELLS - 1);
+    assert!(rt; found == MakeFault::BadStore);
+    assert!(rt; back.get(cell) == Some(ENTRY) && back.free() == CELLS - 1);
     Ok(())
 }
 
@@ -87,77 +91,166 @@ fn store_with_an_entry_comes_back(rt: HostRuntime) -> Result<(), Fail> {
 fn new_device(rt: HostRuntime) -> Result<(), Fail> {
     let device = device(&rt, 8)?;
     device.state_is_replay();
-    assert_eq!(rt; device.caps(), CAPS);
-    assert_eq!(rt; device.capacity(), 8);
-    assert_eq!(rt; device.occupancy(0), Some(0));
-    assert_eq!(rt; device.occupancy(2), None);
-    assert_eq!(rt; device.used(0), Some(0));
-    assert_eq!(rt; device.used(2), None);
-    assert_eq!(rt; device.noted(), None);
-    assert_eq!(rt; device.active(), None);
-    assert_eq!(rt; device.held(), 0);
-    assert_eq!(rt; device.next_name(), 0);
-    assert_eq!(rt; device.history().len(), 0);
-    assert_eq!(rt; device.fates().len(), 0);
-    assert_eq!(rt; device.fate(0), None);
+    assert!(rt; device.caps() == CAPS && device.capacity() == 8);
+    assert!(rt; device.occupancy(0) == Some(0) && device.occupancy(2).is_none());
+    assert!(rt; device.used(0) == Some(0) && device.used(2).is_none());
+    assert!(rt; device.noted().is_none() && device.active().is_none());
+    assert!(rt; device.held() == 0 && device.next_name() == 0 && device.fate(0).is_none());
+    assert!(rt; device.history().is_empty() && device.fates().is_empty());
     Ok(())
 }
 
+// The step of an event by the call for such events.
+fn call(device: &mut Device<PlainStore>, event: Event) -> Reply {
+    match event {
+        Event::Submit {
+            client,
+            queue,
+            portal,
+            kind,
+            desc,
+        } => Reply::Submit(device.submit(client, queue, portal, kind, &bytes_of(desc))),
+        Event::Dispatch { engine } => Reply::Dispatch(device.dispatch(engine)),
+        Event::Fetch { engine, desc } => Reply::Fetch(device.fetch(engine, desc)),
+        Event::Start { engine } => Reply::Start(device.start(engine)),
+        Event::Finish {
+            engine,
+            ticket,
+            outcome,
+        } => Reply::Finish(device.finish(engine, ticket, outcome)),
+        Event::Issue { command } => Reply::Issue(device.issue(command)),
+        Event::Poll => Reply::Poll(device.poll()),
+        Event::WriteQueue { queue, config } => Reply::Write(device.write_queue(queue, config)),
+        Event::WriteGroup { group, config } => Reply::Write(device.write_group(group, config)),
+        Event::ClearError => Reply::Clear(device.clear_error()),
+    }
+}
+
+// The events come in turn, each with its reply.
+fn replies(rt: &impl Abort, device: &mut Device<PlainStore>, rows: &[(Event, Reply)]) {
+    for (event, reply) in rows {
+        assert_eq!(rt; call(device, *event), *reply, "{event:?}");
+    }
+}
+
+// A submission of 64 bytes that are 0.
+const ZEROS: Event = Event::Submit {
+    client: 0,
+    queue: 0,
+    portal: Portal::Limited,
+    kind: ENQCMD,
+    desc: NO_OP,
+};
+
+const DISPATCH: Event = Event::Dispatch { engine: 0 };
+
+const FETCH: Event = Event::Fetch {
+    engine: 0,
+    desc: NO_OP,
+};
+
+const START: Event = Event::Start { engine: 0 };
+
+const WRITE_QUEUE: Event = Event::WriteQueue {
+    queue: 0,
+    config: QUEUE,
+};
+
+const WRITE_GROUP: Event = Event::WriteGroup {
+    group: 0,
+    config: GROUP,
+};
+
+const FINISH: Event = Event::Finish {
+    engine: 0,
+    ticket: Ticket {
+        cell: Cell(0),
+        name: 0,
+    },
+    outcome: Outcome::Success,
+};
+
 #[test]
 fn steps_while_off(rt: HostRuntime) -> Result<(), Fail> {
-    let mut device = device(&rt, 8)?;
-    let bytes = [0u8; 64];
-    let retry = device.submit(0, 0, Portal::Limited, ENQCMD, &bytes);
-    assert_eq!(rt; retry, SubmitAnswer::Retry(Cause::NotEnabled));
-    let dropped = device.submit(1, 0, Portal::Unlimited, Kind::Movdir64b, &bytes);
-    assert_eq!(rt; dropped, SubmitAnswer::Dropped(Cause::NotEnabled));
-    let noted = NotedError {
+    const NOTED: NotedError = NotedError {
         queue: 0,
         cause: Cause::NotEnabled,
         overflow: false,
     };
-    assert_eq!(rt; device.noted(), Some(noted));
-    assert_eq!(rt; device.clear_error(), ClearAnswer::Cleared(noted));
-    assert_eq!(rt; device.clear_error(), ClearAnswer::Nothing);
-    assert_eq!(rt; device.write_queue(0, QUEUE), WriteAnswer::Written);
-    let missing = WriteAnswer::Refused(Fault::BadIndex);
-    assert_eq!(rt; device.write_queue(2, QUEUE), missing);
-    assert_eq!(rt; device.write_group(0, GROUP), WriteAnswer::Written);
-    assert_eq!(rt; device.write_group(2, GROUP), missing);
-    assert_eq!(rt; device.dispatch(0), DispatchAnswer::Idle);
-    assert_eq!(rt; device.fetch(0, NO_OP), FetchAnswer::NoBatch);
-    assert_eq!(rt; device.start(0), StartAnswer::Nothing);
-    assert_eq!(rt;
-        device.finish(0, TICKET, Outcome::Success),
-        FinishAnswer::Gone
-    );
-    assert_eq!(rt; device.poll(), PollAnswer::Nothing);
-    assert_eq!(rt;
-        device.issue(Command::DrainAll),
-        IssueAnswer::Refused(Fault::WrongState)
-    );
+    const SUBMITTED: [(Event, Reply); 2] = [
+        (ZEROS, Reply::Submit(SubmitAnswer::Retry(Cause::NotEnabled))),
+        (
+            Event::Submit {
+                client: 1,
+                queue: 0,
+                portal: Portal::Unlimited,
+                kind: Kind::Movdir64b,
+                desc: NO_OP,
+            },
+            Reply::Submit(SubmitAnswer::Dropped(Cause::NotEnabled)),
+        ),
+    ];
+    const MISSING: Reply = Reply::Write(WriteAnswer::Refused(Fault::BadIndex));
+    const STEPS: [(Event, Reply); 12] = [
+        (Event::ClearError, Reply::Clear(ClearAnswer::Cleared(NOTED))),
+        (Event::ClearError, Reply::Clear(ClearAnswer::Nothing)),
+        (WRITE_QUEUE, Reply::Write(WriteAnswer::Written)),
+        (
+            Event::WriteQueue {
+                queue: 2,
+                config: QUEUE,
+            },
+            MISSING,
+        ),
+        (WRITE_GROUP, Reply::Write(WriteAnswer::Written)),
+        (
+            Event::WriteGroup {
+                group: 2,
+                config: GROUP,
+            },
+            MISSING,
+        ),
+        (DISPATCH, Reply::Dispatch(DispatchAnswer::Idle)),
+        (FETCH, Reply::Fetch(FetchAnswer::NoBatch)),
+        (START, Reply::Start(StartAnswer::Nothing)),
+        (FINISH, Reply::Finish(FinishAnswer::Gone)),
+        (Event::Poll, Reply::Poll(PollAnswer::Nothing)),
+        (
+            Event::Issue {
+                command: Command::DrainAll,
+            },
+            Reply::Issue(IssueAnswer::Refused(Fault::WrongState)),
+        ),
+    ];
+    let mut device = device(&rt, 8)?;
+    replies(&rt, &mut device, &SUBMITTED);
+    assert_eq!(rt; device.noted(), Some(NOTED));
+    replies(&rt, &mut device, &STEPS);
     assert_eq!(rt; device.history().len(), 5);
     Ok(())
 }
 
 #[test]
 fn no_room_for_any_step(rt: HostRuntime) -> Result<(), Fail> {
+    const STEPS: [(Event, Reply); 10] = [
+        (ZEROS, Reply::Submit(SubmitAnswer::Full)),
+        (DISPATCH, Reply::Dispatch(DispatchAnswer::Full)),
+        (FETCH, Reply::Fetch(FetchAnswer::Full)),
+        (START, Reply::Start(StartAnswer::Full)),
+        (FINISH, Reply::Finish(FinishAnswer::Full)),
+        (
+            Event::Issue {
+                command: Command::EnableDevice,
+            },
+            Reply::Issue(IssueAnswer::Full),
+        ),
+        (Event::Poll, Reply::Poll(PollAnswer::Full)),
+        (WRITE_QUEUE, Reply::Write(WriteAnswer::Full)),
+        (WRITE_GROUP, Reply::Write(WriteAnswer::Full)),
+        (Event::ClearError, Reply::Clear(ClearAnswer::Full)),
+    ];
     let mut device = device(&rt, 0)?;
-    let bytes = [0u8; 64];
-    let full = device.submit(0, 0, Portal::Limited, ENQCMD, &bytes);
-    assert_eq!(rt; full, SubmitAnswer::Full);
-    assert_eq!(rt; device.dispatch(0), DispatchAnswer::Full);
-    assert_eq!(rt; device.fetch(0, NO_OP), FetchAnswer::Full);
-    assert_eq!(rt; device.start(0), StartAnswer::Full);
-    assert_eq!(rt;
-        device.finish(0, TICKET, Outcome::Success),
-        FinishAnswer::Full
-    );
-    assert_eq!(rt; device.issue(Command::EnableDevice), IssueAnswer::Full);
-    assert_eq!(rt; device.poll(), PollAnswer::Full);
-    assert_eq!(rt; device.write_queue(0, QUEUE), WriteAnswer::Full);
-    assert_eq!(rt; device.write_group(0, GROUP), WriteAnswer::Full);
-    assert_eq!(rt; device.clear_error(), ClearAnswer::Full);
+    replies(&rt, &mut device, &STEPS);
     assert_eq!(rt; device.history().len(), 0);
     Ok(())
 }
@@ -182,83 +275,116 @@ fn enabled(rt: &HostRuntime, capacity: u64) -> Result<Device<PlainStore>, Fail> 
     Ok(device)
 }
 
+// The ticket of a descriptor that is accepted.
+fn accepted(rt: &impl Abort, device: &mut Device<PlainStore>, desc: Descriptor) -> Ticket {
+    let Reply::Submit(SubmitAnswer::Accepted(ticket)) = device.step(submission(desc)) else {
+        panic!(rt; "not accepted");
+    };
+    ticket
+}
+
+// What waits in queue 0, the read buffers that the first group uses, and all that is held.
+fn counts(device: &Device<PlainStore>) -> (Option<u16>, Option<u16>, u32) {
+    (device.occupancy(0), device.used(0), device.held())
+}
+
+// The engine takes the entry of the ticket.
+fn is_taken(ticket: Ticket) -> (Event, Reply) {
+    let taken = DispatchAnswer::Taken { ticket, queue: 0 };
+    (DISPATCH, Reply::Dispatch(taken))
+}
+
+// The entry of the ticket is ended with that answer.
+fn is_ended(ticket: Ticket, outcome: Outcome, answer: FinishAnswer) -> (Event, Reply) {
+    let event = Event::Finish {
+        engine: 0,
+        ticket,
+        outcome,
+    };
+    (event, Reply::Finish(answer))
+}
+
 #[test]
 fn move_from_submission_to_fate(rt: HostRuntime) -> Result<(), Fail> {
     let mut device = enabled(&rt, 7)?;
-    let Reply::Submit(SubmitAnswer::Accepted(ticket)) = device.step(submission(MOVE)) else {
-        return Err("not accepted")?;
-    };
-    assert_eq!(rt; ticket.name, 0);
-    assert_eq!(rt; device.occupancy(0), Some(1));
-    let taken = DispatchAnswer::Taken { ticket, queue: 0 };
-    assert_eq!(rt; device.dispatch(0), taken);
-    assert_eq!(rt; device.occupancy(0), Some(0));
-    assert_eq!(rt; device.used(0), Some(2));
-    assert_eq!(rt; device.held(), 1);
-    assert_eq!(rt; device.dispatch(0), DispatchAnswer::Idle);
-    let done = device.finish(0, ticket, Outcome::PageFault);
-    assert_eq!(rt; done, FinishAnswer::Done(0x03));
-    assert_eq!(rt; device.used(0), Some(0));
-    assert_eq!(rt; device.held(), 0);
-    assert_eq!(rt; device.fates().len(), 1);
-    assert_eq!(rt; device.fate(0), Some(Fate::Completed(0x03)));
-    assert_eq!(rt; device.next_name(), 1);
-    // The seven places are taken.
-    assert_eq!(rt;
-        device.finish(0, ticket, Outcome::Success),
-        FinishAnswer::Full
-    );
-    assert_eq!(rt; device.poll(), PollAnswer::Full);
+    let ticket = accepted(&rt, &mut device, MOVE);
+    assert!(rt; ticket.name == 0 && counts(&device) == (Some(1), Some(0), 1));
+    let idle = (DISPATCH, Reply::Dispatch(DispatchAnswer::Idle));
+    replies(&rt, &mut device, &[is_taken(ticket), idle]);
+    assert!(rt; counts(&device) == (Some(0), Some(2), 1));
+    ends_in_the_last_place(&rt, &mut device, ticket);
     Ok(())
+}
+
+// The entry ends by a page fault, whose step takes the last of the places.
+fn ends_in_the_last_place(rt: &impl Abort, device: &mut Device<PlainStore>, ticket: Ticket) {
+    let done = is_ended(ticket, Outcome::PageFault, FinishAnswer::Done(0x03));
+    let full = is_ended(ticket, Outcome::Success, FinishAnswer::Full);
+    let last = (Event::Poll, Reply::Poll(PollAnswer::Full));
+    replies(rt, device, &[done, full, last]);
+    assert!(rt; counts(device) == (Some(0), Some(0), 0) && device.next_name() == 1);
+    assert!(rt; device.fates().len() == 1 && device.fate(0) == Some(Fate::Completed(0x03)));
 }
 
 #[test]
 fn drain_ends_with_its_batch(rt: HostRuntime) -> Result<(), Fail> {
-    let mut device = enabled(&rt, 64)?;
-    assert!(rt;
-        matches!(
-            device.step(submission(batch_of(2))),
-            Reply::Submit(SubmitAnswer::Accepted(_))
-        )
+    const DRAIN: (Event, Reply) = (
+        Event::Issue {
+            command: Command::DrainAll,
+        },
+        Reply::Issue(IssueAnswer::Active),
     );
-    let DispatchAnswer::Taken { ticket, .. } = device.dispatch(0) else {
-        return Err("idle")?;
-    };
-    assert_eq!(rt; device.issue(Command::DrainAll), IssueAnswer::Active);
+    let mut device = enabled(&rt, 64)?;
+    let ticket = accepted(&rt, &mut device, batch_of(2));
+    replies(&rt, &mut device, &[is_taken(ticket), DRAIN]);
     assert_eq!(rt; device.active(), Some(Command::DrainAll));
     for _ in 0..2 {
-        let FetchAnswer::Fetched(member) = device.fetch(0, MOVE) else {
-            return Err("not fetched")?;
-        };
-        assert_eq!(rt; device.start(0), StartAnswer::Started(member));
-        let early = device.finish(0, ticket, Outcome::Success);
-        assert_eq!(rt; early, FinishAnswer::NotReady);
-        let done = device.finish(0, member, Outcome::Success);
-        assert_eq!(rt; done, FinishAnswer::Done(0x01));
+        member_ends(&rt, &mut device, ticket);
     }
-    assert_eq!(rt; device.fetch(0, MOVE), FetchAnswer::AllFetched);
-    assert_eq!(rt; device.poll(), PollAnswer::Active);
-    let done = device.finish(0, ticket, Outcome::Success);
-    assert_eq!(rt; done, FinishAnswer::Done(0x01));
-    assert_eq!(rt; device.poll(), PollAnswer::Finished);
+    batch_ends(&rt, &mut device, ticket);
     assert_eq!(rt; device.active(), None);
     Ok(())
 }
 
+// A member is fetched, started and ended, and its batch cannot end before it.
+fn member_ends(rt: &impl Abort, device: &mut Device<PlainStore>, ticket: Ticket) {
+    let FetchAnswer::Fetched(member) = device.fetch(0, MOVE) else {
+        panic!(rt; "nothing was fetched");
+    };
+    let started = (START, Reply::Start(StartAnswer::Started(member)));
+    let early = is_ended(ticket, Outcome::Success, FinishAnswer::NotReady);
+    let done = is_ended(member, Outcome::Success, FinishAnswer::Done(0x01));
+    replies(rt, device, &[started, early, done]);
+}
+
+// The batch ends, and with it the drain.
+fn batch_ends(rt: &impl Abort, device: &mut Device<PlainStore>, ticket: Ticket) {
+    let fetch = Event::Fetch {
+        engine: 0,
+        desc: MOVE,
+    };
+    let all = (fetch, Reply::Fetch(FetchAnswer::AllFetched));
+    let active = (Event::Poll, Reply::Poll(PollAnswer::Active));
+    let done = is_ended(ticket, Outcome::Success, FinishAnswer::Done(0x01));
+    let finished = (Event::Poll, Reply::Poll(PollAnswer::Finished));
+    replies(rt, device, &[all, active, done, finished]);
+}
+
 #[test]
 fn run_of_events(rt: HostRuntime) -> Result<(), Fail> {
+    const REPLIES: [(usize, Reply); 3] = [
+        (2, Reply::Submit(SubmitAnswer::Retry(Cause::AtLimit))),
+        (3, Reply::Submit(SubmitAnswer::Full)),
+        (4, Reply::Submit(SubmitAnswer::Full)),
+    ];
     let mut device = enabled(&rt, 7)?;
     let mut steps = Vec::new(rt.alloc());
-    let events = [submission(MOVE); 5];
-    device.run(&events, &mut steps)?;
-    let again = Reply::Submit(SubmitAnswer::Retry(Cause::AtLimit));
-    let full = Reply::Submit(SubmitAnswer::Full);
-    assert_eq!(rt; steps.len(), 5);
+    let event = submission(MOVE);
+    device.run(&[event; 5], &mut steps)?;
+    assert!(rt; steps.len() == 5 && device.history().len() == 7);
     assert!(rt; matches!(steps[1].reply, Reply::Submit(SubmitAnswer::Accepted(_))));
-    for (k, reply) in [(2, again), (3, full), (4, full)] {
-        let event = submission(MOVE);
+    for (k, reply) in REPLIES {
         assert_eq!(rt; steps.get(k), Some(&Step { event, reply }));
     }
-    assert_eq!(rt; device.history().len(), 7);
     Ok(())
 }

@@ -76,38 +76,6 @@ fn put<S: EntryStore>(
     cell
 }
 
-// The first of two entries needs all buffers of the group: the second waits for its end.
-fn one_runs_at_a_time<S: EntryStore>(rt: &impl Abort, store: &mut S, book: &mut Book) {
-    let queues = enabled(rt, GROUPS);
-    let mut engines = enabled_engines(rt, &queues, store);
-    assert_eq!(rt; engines.dispatch(&queues, store, 0), DispatchAnswer::Idle);
-    let cell = put(rt, &queues, &engines, store, entry(10, 1, LARGE_MOVE));
-    let second = put(rt, &queues, &engines, store, entry(11, 0, MOVE));
-    let ticket = Ticket { cell, name: 10 };
-    let taken = DispatchAnswer::Taken { ticket, queue: 1 };
-    assert_eq!(rt; engines.dispatch(&queues, store, 0), taken);
-    assert_eq!(rt; engines.dispatch(&queues, store, 0), DispatchAnswer::Idle);
-    assert!(rt; book.fates().len() < book.capacity());
-    let other = Ticket { cell, name: 11 };
-    let gone = engines.finish(&queues, store, book, 0, other, Outcome::Success);
-    assert_eq!(rt; gone, FinishAnswer::Gone);
-    assert!(rt; book.fates().len() < book.capacity());
-    let done = engines.finish(&queues, store, book, 0, ticket, Outcome::PageFault);
-    assert_eq!(rt; done, FinishAnswer::Done(0x03));
-    let row = FateRow {
-        name: 10,
-        parent: None,
-        fate: Fate::Completed(0x03),
-    };
-    assert_eq!(rt; book.fate(10), Some(row));
-    let ticket = Ticket {
-        cell: second,
-        name: 11,
-    };
-    let taken = DispatchAnswer::Taken { ticket, queue: 0 };
-    assert_eq!(rt; engines.dispatch(&queues, store, 0), taken);
-}
-
 // Starts the one member that the engine of the device has.
 fn start_one<S: EntryStore>(
     rt: &impl Abort,
@@ -127,7 +95,7 @@ fn start_one<S: EntryStore>(
     engines.start(queues, store, book, 0)
 }
 
-// Ends the entry of the ticket.
+// Ends the entry of the ticket, whose work went so.
 fn end<S: EntryStore>(
     rt: &impl Abort,
     queues: &Queues,
@@ -135,12 +103,13 @@ fn end<S: EntryStore>(
     store: &mut S,
     book: &mut Book,
     ticket: Ticket,
+    outcome: Outcome,
 ) -> FinishAnswer
     requires { IsInStep queues.now engines.old (S.cells store.old) (S.content store.old) }
     ensures { IsInStep queues.now engines.new (S.cells store.new) (S.content store.new) }
 {
     assert!(rt; book.fates().len() < book.capacity());
-    engines.finish(queues, store, book, 0, ticket, Outcome::PageFault)
+    engines.finish(queues, store, book, 0, ticket, outcome)
 }
 
 // Hands a move of one page in.
@@ -158,6 +127,74 @@ fn fetch_move<S: EntryStore>(
     engines.fetch(queues, store, 0, MOVE)
 }
 
+// The first of two entries needs all buffers of the group: the second waits for its end.
+fn one_runs_at_a_time<S: EntryStore>(rt: &impl Abort, store: &mut S, book: &mut Book) {
+    let queues = enabled(rt, GROUPS);
+    let mut engines = enabled_engines(rt, &queues, store);
+    assert_eq!(rt; engines.dispatch(&queues, store, 0), DispatchAnswer::Idle);
+    let cell = put(rt, &queues, &engines, store, entry(10, 1, LARGE_MOVE));
+    let second = put(rt, &queues, &engines, store, entry(11, 0, MOVE));
+    let ticket = Ticket { cell, name: 10 };
+    let taken = DispatchAnswer::Taken { ticket, queue: 1 };
+    assert_eq!(rt; engines.dispatch(&queues, store, 0), taken);
+    assert_eq!(rt; engines.dispatch(&queues, store, 0), DispatchAnswer::Idle);
+    first_ends(rt, &queues, &mut engines, store, book, ticket);
+    let ticket = Ticket {
+        cell: second,
+        name: 11,
+    };
+    let taken = DispatchAnswer::Taken { ticket, queue: 0 };
+    assert_eq!(rt; engines.dispatch(&queues, store, 0), taken);
+}
+
+// The entry of that cell and no other name ends, and has a row.
+fn first_ends<S: EntryStore>(
+    rt: &impl Abort,
+    queues: &Queues,
+    engines: &mut Engines,
+    store: &mut S,
+    book: &mut Book,
+    ticket: Ticket,
+)
+    requires { IsInStep queues.now engines.old (S.cells store.old) (S.content store.old) }
+    ensures { IsInStep queues.now engines.new (S.cells store.new) (S.content store.new) }
+{
+    const ROW: FateRow = FateRow {
+        name: 10,
+        parent: None,
+        fate: Fate::Completed(0x03),
+    };
+    let other = Ticket { name: 11, ..ticket };
+    let gone = end(rt, queues, engines, store, book, other, Outcome::Success);
+    assert_eq!(rt; gone, FinishAnswer::Gone);
+    let done = end(rt, queues, engines, store, book, ticket, Outcome::PageFault);
+    assert_eq!(rt; done, FinishAnswer::Done(0x03));
+    assert_eq!(rt; book.fate(10), Some(ROW));
+}
+
+// A member is fetched and started, and fails; its batch cannot end before it.
+fn member_fails<S: EntryStore>(
+    rt: &impl Abort,
+    queues: &mut Queues,
+    engines: &mut Engines,
+    store: &mut S,
+    book: &mut Book,
+    ticket: Ticket,
+)
+    requires { IsInStep queues.old engines.old (S.cells store.old) (S.content store.old) }
+    ensures { IsInStep queues.new engines.new (S.cells store.new) (S.content store.new) }
+{
+    let FetchAnswer::Fetched(member) = fetch_move(rt, queues, engines, store) else {
+        panic!(rt; "nothing was fetched");
+    };
+    let answer = start_one(rt, queues, engines, store, book);
+    assert_eq!(rt; answer, StartAnswer::Started(member));
+    let early = end(rt, queues, engines, store, book, ticket, Outcome::PageFault);
+    assert_eq!(rt; early, FinishAnswer::NotReady);
+    let failed = end(rt, queues, engines, store, book, member, Outcome::PageFault);
+    assert_eq!(rt; failed, FinishAnswer::Done(0x03));
+}
+
 // A batch of two: it ends after its members, and as failed where one of them failed.
 fn batch_ends_last<S: EntryStore>(rt: &impl Abort, store: &mut S, book: &mut Book) {
     let mut queues = enabled(rt, GROUPS);
@@ -171,23 +208,27 @@ fn batch_ends_last<S: EntryStore>(rt: &impl Abort, store: &mut S, book: &mut Boo
     let taken = DispatchAnswer::Taken { ticket, queue: 0 };
     assert_eq!(rt; engines.dispatch(&queues, store, 0), taken);
     for _ in 0..2 {
-        let FetchAnswer::Fetched(member) = fetch_move(rt, &mut queues, &mut engines, store) else {
-            panic!(rt; "nothing was fetched");
-        };
-        let answer = start_one(rt, &queues, &mut engines, store, book);
-        assert_eq!(rt; answer, StartAnswer::Started(member));
-        let early = end(rt, &queues, &mut engines, store, book, ticket);
-        assert_eq!(rt; early, FinishAnswer::NotReady);
-        let failed = end(rt, &queues, &mut engines, store, book, member);
-        assert_eq!(rt; failed, FinishAnswer::Done(0x03));
+        member_fails(rt, &mut queues, &mut engines, store, book, ticket);
     }
-    assert_eq!(rt;
-        fetch_move(rt, &mut queues, &mut engines, store),
-        FetchAnswer::AllFetched
-    );
-    let answer = start_one(rt, &queues, &mut engines, store, book);
+    batch_fails(rt, &mut queues, &mut engines, store, book, ticket);
+}
+
+// The batch has no member left, and ends as failed.
+fn batch_fails<S: EntryStore>(
+    rt: &impl Abort,
+    queues: &mut Queues,
+    engines: &mut Engines,
+    store: &mut S,
+    book: &mut Book,
+    ticket: Ticket,
+)
+    requires { IsInStep queues.old engines.old (S.cells store.old) (S.content store.old) }
+{
+    let answer = fetch_move(rt, queues, engines, store);
+    assert_eq!(rt; answer, FetchAnswer::AllFetched);
+    let answer = start_one(rt, queues, engines, store, book);
     assert_eq!(rt; answer, StartAnswer::Nothing);
-    let last = end(rt, &queues, &mut engines, store, book, ticket);
+    let last = end(rt, queues, engines, store, book, ticket, Outcome::PageFault);
     assert_eq!(rt; last, FinishAnswer::Done(0x05));
 }
 

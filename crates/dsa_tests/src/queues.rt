@@ -28,42 +28,45 @@ fn submit<S: EntryStore>(
     queues.submit(store, queue, portal, kind, MOVE)
 }
 
-// The name that was given, where the move was accepted.
-fn name_of(answer: SubmitAnswer) -> Option<u32> {
+// The name that was given, where the move was accepted, and else the answer.
+fn name_of(answer: SubmitAnswer) -> Result<u32, SubmitAnswer> {
     match answer {
-        SubmitAnswer::Accepted(Ticket { name, .. }) => Some(name),
-        _ => None,
+        SubmitAnswer::Accepted(Ticket { name, .. }) => Ok(name),
+        other => Err(other),
+    }
+}
+
+// A submission of the move, and the name that it is given or the answer that it gets.
+type Row = (u16, Portal, Kind, Result<u32, SubmitAnswer>);
+
+// The move is submitted in each way in turn.
+fn submit_each<S: EntryStore>(rt: &impl Abort, queues: &mut Queues, store: &mut S, rows: &[Row]) {
+    for (queue, portal, kind, named) in rows {
+        let answer = submit(rt, queues, store, *queue, *portal, *kind);
+        assert_eq!(rt; name_of(answer), *named);
     }
 }
 
 fn both_portals<S: EntryStore>(rt: &impl Abort, store: &mut S) {
+    const FULL: Result<u32, SubmitAnswer> = Err(SubmitAnswer::Retry(Cause::AtLimit));
+    const BEFORE: [Row; 6] = [
+        (0, Portal::Limited, ENQCMD, Ok(0)),
+        (0, Portal::Limited, ENQCMD, Ok(1)),
+        (0, Portal::Limited, ENQCMD, FULL),
+        (0, Portal::Unlimited, ENQCMD, Ok(2)),
+        (0, Portal::Unlimited, ENQCMD, Ok(3)),
+        (0, Portal::Unlimited, ENQCMD, FULL),
+    ];
+    const AFTER: [Row; 2] = [
+        (0, Portal::Limited, ENQCMD, FULL),
+        (0, Portal::Unlimited, ENQCMD, Ok(4)),
+    ];
     let mut queues = enabled(rt, [FIRST_GROUP, SECOND_GROUP]);
-    let full = SubmitAnswer::Retry(Cause::AtLimit);
-    for name in 0..2 {
-        let answer = submit(rt, &mut queues, store, 0, Portal::Limited, ENQCMD);
-        assert_eq!(rt; name_of(answer), Some(name));
-    }
-    assert_eq!(rt;
-        submit(rt, &mut queues, store, 0, Portal::Limited, ENQCMD),
-        full
-    );
-    for name in 2..4 {
-        let answer = submit(rt, &mut queues, store, 0, Portal::Unlimited, ENQCMD);
-        assert_eq!(rt; name_of(answer), Some(name));
-    }
-    assert_eq!(rt;
-        submit(rt, &mut queues, store, 0, Portal::Unlimited, ENQCMD),
-        full
-    );
+    submit_each(rt, &mut queues, store, &BEFORE);
     // An engine takes the front, which is counted no more.
     assert!(rt; store.lists() == 6);
     assert!(rt; store.move_front(ListId(0), ListId(2)).is_some());
-    assert_eq!(rt;
-        submit(rt, &mut queues, store, 0, Portal::Limited, ENQCMD),
-        full
-    );
-    let answer = submit(rt, &mut queues, store, 0, Portal::Unlimited, ENQCMD);
-    assert_eq!(rt; name_of(answer), Some(4));
+    submit_each(rt, &mut queues, store, &AFTER);
 }
 
 #[test]
@@ -74,45 +77,35 @@ fn threshold_bounds_the_limited_portal(rt: HostRuntime) -> Result<(), Fail> {
 }
 
 fn dropped_twice<S: EntryStore>(rt: &impl Abort, store: &mut S) {
-    let mut queues = enabled(rt, [FIRST_GROUP, SECOND_GROUP]);
-    let full = SubmitAnswer::Dropped(Cause::AtLimit);
-    let mut noted = NotedError {
+    const WRITE: Kind = Kind::Movdir64b;
+    const FULL: Result<u32, SubmitAnswer> = Err(SubmitAnswer::Dropped(Cause::AtLimit));
+    const TWICE: [Row; 4] = [
+        (1, Portal::Limited, WRITE, Ok(0)),
+        (1, Portal::Limited, WRITE, Ok(1)),
+        (1, Portal::Limited, WRITE, FULL),
+        (1, Portal::Limited, WRITE, FULL),
+    ];
+    const ONCE: [Row; 1] = [(1, Portal::Unlimited, WRITE, FULL)];
+    const FIRST: NotedError = NotedError {
         queue: 1,
         cause: Cause::AtLimit,
-        overflow: true,
+        overflow: false,
     };
-    for name in 0..2 {
-        let answer = submit(rt, &mut queues, store, 1, Portal::Limited, Kind::Movdir64b);
-        assert_eq!(rt; name_of(answer), Some(name));
-    }
-    assert_eq!(rt;
-        submit(rt, &mut queues, store, 1, Portal::Limited, Kind::Movdir64b),
-        full
-    );
-    assert_eq!(rt;
-        submit(rt, &mut queues, store, 1, Portal::Limited, Kind::Movdir64b),
-        full
-    );
-    assert_eq!(rt; queues.noted(), Some(noted));
-    assert_eq!(rt; queues.clear_error(), ClearAnswer::Cleared(noted));
-    assert_eq!(rt; queues.clear_error(), ClearAnswer::Nothing);
-    assert_eq!(rt;
-        submit(
-            rt,
-            &mut queues,
-            store,
-            1,
-            Portal::Unlimited,
-            Kind::Movdir64b
-        ),
-        full
-    );
-    noted.overflow = false;
-    assert_eq!(rt; queues.clear_error(), ClearAnswer::Cleared(noted));
+    const SECOND: NotedError = NotedError {
+        overflow: true,
+        ..FIRST
+    };
+    let mut queues = enabled(rt, [FIRST_GROUP, SECOND_GROUP]);
+    submit_each(rt, &mut queues, store, &TWICE);
+    assert!(rt; queues.noted() == Some(SECOND));
+    assert!(rt; queues.clear_error() == ClearAnswer::Cleared(SECOND));
+    assert!(rt; queues.clear_error() == ClearAnswer::Nothing);
+    submit_each(rt, &mut queues, store, &ONCE);
+    assert!(rt; queues.clear_error() == ClearAnswer::Cleared(FIRST));
     // The descriptor has the PASID of the queue.
     assert!(rt; store.lists() == 6);
     let front = front_slot(store, ListId(1)).map(|slot| slot.1.desc.pasid);
-    assert_eq!(rt; front, Some(7));
+    assert!(rt; front == Some(7));
 }
 
 #[test]
@@ -123,37 +116,37 @@ fn dropped_descriptors_are_noted(rt: HostRuntime) -> Result<(), Fail> {
 }
 
 fn turned_away<S: EntryStore>(rt: &impl Abort, store: &mut S) {
-    let mut queues = enabled(rt, [FIRST_GROUP, SECOND_GROUP]);
-    let wrong = Cause::WrongKind;
-    assert_eq!(rt;
-        submit(rt, &mut queues, store, 1, Portal::Limited, ENQCMD),
-        SubmitAnswer::Retry(wrong)
-    );
-    assert_eq!(rt;
-        submit(rt, &mut queues, store, 0, Portal::Limited, Kind::Movdir64b),
-        SubmitAnswer::Dropped(wrong)
-    );
-    queues.set_phases(&Scope::Queue(0), Phase::Stopping);
-    let off = Cause::NotEnabled;
-    assert_eq!(rt;
-        submit(rt, &mut queues, store, 0, Portal::Limited, ENQCMD),
-        SubmitAnswer::Retry(off)
-    );
-    assert_eq!(rt;
-        submit(rt, &mut queues, store, 9, Portal::Limited, ENQCMD),
-        SubmitAnswer::Retry(off)
-    );
-    assert_eq!(rt;
-        submit(rt, &mut queues, store, 9, Portal::Limited, Kind::Movdir64b),
-        SubmitAnswer::Dropped(off)
-    );
-    let noted = NotedError {
+    const WRONG: Cause = Cause::WrongKind;
+    const OFF: Cause = Cause::NotEnabled;
+    const WRONG_KIND: [Row; 2] = [
+        (1, Portal::Limited, ENQCMD, Err(SubmitAnswer::Retry(WRONG))),
+        (
+            0,
+            Portal::Limited,
+            Kind::Movdir64b,
+            Err(SubmitAnswer::Dropped(WRONG)),
+        ),
+    ];
+    const NOT_ENABLED: [Row; 3] = [
+        (0, Portal::Limited, ENQCMD, Err(SubmitAnswer::Retry(OFF))),
+        (9, Portal::Limited, ENQCMD, Err(SubmitAnswer::Retry(OFF))),
+        (
+            9,
+            Portal::Limited,
+            Kind::Movdir64b,
+            Err(SubmitAnswer::Dropped(OFF)),
+        ),
+    ];
+    const NOTED: NotedError = NotedError {
         queue: 0,
-        cause: wrong,
+        cause: WRONG,
         overflow: true,
     };
-    assert_eq!(rt; queues.noted(), Some(noted));
-    assert_eq!(rt; queues.next_name(), 0);
+    let mut queues = enabled(rt, [FIRST_GROUP, SECOND_GROUP]);
+    submit_each(rt, &mut queues, store, &WRONG_KIND);
+    queues.set_phases(&Scope::Queue(0), Phase::Stopping);
+    submit_each(rt, &mut queues, store, &NOT_ENABLED);
+    assert!(rt; queues.noted() == Some(NOTED) && queues.next_name() == 0);
 }
 
 #[test]
@@ -163,26 +156,29 @@ fn causes_come_in_order(rt: HostRuntime) -> Result<(), Fail> {
     Ok(())
 }
 
+// The entries that wait in queue 0, in queue 1, and in a queue that the device does not have.
+fn occupancies<S: EntryStore>(rt: &impl Abort, queues: &Queues, store: &S) -> [Option<u16>; 3] {
+    let caps = queues.caps();
+    assert!(rt; store.lists() == list_count(&caps) && store.cells() == cell_count(&caps));
+    [
+        queues.occupancy(store, 0),
+        queues.occupancy(store, 1),
+        queues.occupancy(store, 2),
+    ]
+}
+
 fn entries<S: EntryStore>(rt: &impl Abort, store: &mut S) {
+    const ONE: [Row; 1] = [(0, Portal::Limited, ENQCMD, Ok(0))];
     let mut queues = enabled(rt, [FIRST_GROUP, SECOND_GROUP]);
-    assert_eq!(rt;
-        name_of(submit(rt, &mut queues, store, 0, Portal::Limited, ENQCMD)),
-        Some(0)
-    );
-    assert!(rt; store.lists() == list_count(&queues.caps()));
+    submit_each(rt, &mut queues, store, &ONE);
+    assert!(rt; store.lists() == 6);
     let Some((_, entry)) = front_slot(store, ListId(0)) else {
-        assert!(rt; false);
-        return;
+        panic!(rt; "nothing waits");
     };
-    assert_eq!(rt; entry.desc.pasid, 5);
-    assert_eq!(rt; queues.need(&entry), 1);
-    assert_eq!(rt; queues.status(&entry, Outcome::PageFault), 3);
-    assert!(rt; !queues.is_batch(&entry));
-    assert!(rt; store.cells() == cell_count(&queues.caps()));
-    assert_eq!(rt; queues.occupancy(store, 0), Some(1));
-    assert_eq!(rt; queues.occupancy(store, 1), Some(0));
+    assert!(rt; entry.desc.pasid == 5 && queues.need(&entry) == 1 && !queues.is_batch(&entry));
+    assert!(rt; queues.status(&entry, Outcome::PageFault) == 3);
+    assert!(rt; occupancies(rt, &queues, store) == [Some(1), Some(0), None]);
     assert!(rt; !queues.has_queue(2));
-    assert_eq!(rt; queues.occupancy(store, 2), None);
 }
 
 #[test]
@@ -195,42 +191,39 @@ fn entry_is_asked_about(rt: HostRuntime) -> Result<(), Fail> {
 #[test]
 fn parts_are_read(rt: HostRuntime) {
     let queues = enabled(&rt, [FIRST_GROUP, SECOND_GROUP]);
-    assert_eq!(rt; queues.caps(), CAPS);
-    assert_eq!(rt; queues.device(), Phase::On);
-    assert_eq!(rt; queues.phase(1), Phase::On);
-    assert_eq!(rt; queues.phase(2), Phase::Off);
-    assert_eq!(rt; queues.queue(1), DEDICATED);
-    assert_eq!(rt; queues.queue(2), QueueConfig::default());
-    assert_eq!(rt; queues.group(0), FIRST_GROUP);
-    assert_eq!(rt; queues.group(2), GroupConfig::default());
-    assert_eq!(rt; queues.group_of(1), Some(1));
-    assert_eq!(rt; queues.group_of(2), None);
+    assert!(rt; queues.caps() == CAPS && queues.device() == Phase::On);
+    assert!(rt; queues.phase(1) == Phase::On && queues.phase(2) == Phase::Off);
+    assert!(rt; queues.queue(1) == DEDICATED && queues.queue(2) == QueueConfig::default());
+    assert!(rt; queues.group(0) == FIRST_GROUP && queues.group(2) == GroupConfig::default());
+    assert!(rt; queues.group_of(1) == Some(1) && queues.group_of(2).is_none());
     assert!(rt; queues.has_queue_in(1, 1) && !queues.has_queue_in(1, 0));
-    assert_eq!(rt; queues.priority(1), 2);
-    assert_eq!(rt; queues.limits(0), LIMITS);
+    assert!(rt; queues.priority(1) == 2 && queues.limits(0) == LIMITS);
 }
 
 #[test]
 fn writes_are_refused(rt: HostRuntime) {
+    const LOCKED: WriteAnswer = WriteAnswer::Refused(Fault::Locked);
+    const UNKNOWN: WriteAnswer = WriteAnswer::Refused(Fault::BadIndex);
     let mut queues = enabled(&rt, [FIRST_GROUP, SECOND_GROUP]);
-    let locked = WriteAnswer::Refused(Fault::Locked);
-    let unknown = WriteAnswer::Refused(Fault::BadIndex);
-    assert_eq!(rt; queues.write_queue(0, SHARED), locked);
-    assert_eq!(rt; queues.write_queue(2, SHARED), unknown);
-    assert_eq!(rt; queues.write_group(0, FIRST_GROUP), locked);
-    assert_eq!(rt; queues.write_group(2, FIRST_GROUP), unknown);
+    assert!(rt; queues.write_queue(0, SHARED) == LOCKED);
+    assert!(rt; queues.write_queue(2, SHARED) == UNKNOWN);
+    assert!(rt; queues.write_group(0, FIRST_GROUP) == LOCKED);
+    assert!(rt; queues.write_group(2, FIRST_GROUP) == UNKNOWN);
     assert!(rt; queues.has_queue(0));
     queues.set_phase(0, Phase::Off);
-    let threshold = QueueConfig {
+    written_while_on(&rt, &mut queues);
+}
+
+// A queue that is Off in a device that is On: its threshold may be written and its size may not.
+fn written_while_on(rt: &impl Abort, queues: &mut Queues) {
+    const SIZE: QueueConfig = QueueConfig { size: 5, ..SHARED };
+    const THRESHOLD: QueueConfig = QueueConfig {
         threshold: 4,
         ..SHARED
     };
-    assert_eq!(rt;
-        queues.write_queue(0, QueueConfig { size: 5, ..SHARED }),
-        locked
-    );
-    assert_eq!(rt; queues.write_queue(0, threshold), WriteAnswer::Written);
-    assert_eq!(rt; queues.queue(0), threshold);
+    assert!(rt; queues.write_queue(0, SIZE) == WriteAnswer::Refused(Fault::Locked));
+    assert!(rt; queues.write_queue(0, THRESHOLD) == WriteAnswer::Written);
+    assert!(rt; queues.queue(0) == THRESHOLD);
 }
 
 #[test]
@@ -238,26 +231,27 @@ fn commands_change_phases_and_configurations(rt: HostRuntime) {
     let mut queues = enabled(&rt, [FIRST_GROUP, SECOND_GROUP]);
     queues.set_phases(&Scope::Queue(1), Phase::Off);
     queues.set_live_phases(Phase::Stopping);
-    assert_eq!(rt; queues.phase(0), Phase::Stopping);
-    assert_eq!(rt; queues.phase(1), Phase::Off);
+    assert!(rt; queues.phase(0) == Phase::Stopping && queues.phase(1) == Phase::Off);
     queues.keep_sizes(&Scope::Queues(FIRST_QUEUE));
     let size = QueueConfig {
         size: 4,
         ..QueueConfig::default()
     };
-    assert_eq!(rt; queues.queue(0), size);
-    assert_eq!(rt; queues.queue(1), DEDICATED);
+    assert!(rt; queues.queue(0) == size && queues.queue(1) == DEDICATED);
+    queues_are_reset(&rt, &mut queues);
+}
+
+// A reset keeps the next name alone of what was set.
+fn queues_are_reset(rt: &impl Abort, queues: &mut Queues) {
     assert!(rt; queues.next_name() == 0);
-    assert_eq!(rt; queues.give_name(), 0);
+    assert!(rt; queues.give_name() == 0);
     queues.note_error(1, Cause::WrongKind);
     assert!(rt; queues.has_queue(1) && queues.caps().groups == 2);
     queues.set_queue(1, SHARED);
     queues.set_group(1, FIRST_GROUP);
     queues.reset();
-    assert_eq!(rt; queues.next_name(), 1);
-    assert_eq!(rt; queues.noted(), None);
-    assert_eq!(rt; queues.device(), Phase::Off);
-    assert_eq!(rt; queues.phase(0), Phase::Off);
-    assert_eq!(rt; queues.queue(1), QueueConfig::default());
-    assert_eq!(rt; queues.group(1), GroupConfig::default());
+    assert!(rt; queues.next_name() == 1 && queues.noted().is_none());
+    assert!(rt; queues.device() == Phase::Off && queues.phase(0) == Phase::Off);
+    assert!(rt; queues.queue(1) == QueueConfig::default());
+    assert!(rt; queues.group(1) == GroupConfig::default());
 }

@@ -14,7 +14,7 @@ use std::test::Fail;
 
 #[test]
 fn faults_have_numbers(rt: HostRuntime) {
-    let faults = [
+    const FAULTS: [(Fault, u8); 20] = [
         (Fault::SizesTooLarge, 1),
         (Fault::TwoGroups, 2),
         (Fault::ReservedTooMany, 3),
@@ -36,14 +36,14 @@ fn faults_have_numbers(rt: HostRuntime) {
         (Fault::TransferTooLarge, 19),
         (Fault::BadIndex, 20),
     ];
-    for (fault, number) in faults {
+    for (fault, number) in FAULTS {
         assert_eq!(rt; fault.number(), number);
     }
 }
 
 #[test]
 fn faults_have_names(rt: HostRuntime) {
-    let faults = [
+    const FAULTS: [(Fault, &str); 20] = [
         (Fault::SizesTooLarge, "SizesTooLarge"),
         (Fault::TwoGroups, "TwoGroups"),
         (Fault::ReservedTooMany, "ReservedTooMany"),
@@ -65,7 +65,7 @@ fn faults_have_names(rt: HostRuntime) {
         (Fault::TransferTooLarge, "TransferTooLarge"),
         (Fault::BadIndex, "BadIndex"),
     ];
-    for (fault, name) in faults {
+    for (fault, name) in FAULTS {
         let said = fault.name();
         assert_eq!(rt; said, name);
     }
@@ -73,7 +73,7 @@ fn faults_have_names(rt: HostRuntime) {
 
 #[test]
 fn faults_print_as_sentences(rt: HostRuntime) {
-    let faults = [
+    const FAULTS: [(Fault, &str); 20] = [
         (
             Fault::SizesTooLarge,
             "the sizes of all queues add up to more than the device has",
@@ -137,7 +137,7 @@ fn faults_print_as_sentences(rt: HostRuntime) {
             "a queue, engine or group is named that the device does not have",
         ),
     ];
-    for (fault, sentence) in faults {
+    for (fault, sentence) in FAULTS {
         let said = InlineText::<96>::of(fault);
         assert_eq!(rt; said.as_str(), sentence);
     }
@@ -146,28 +146,26 @@ fn faults_print_as_sentences(rt: HostRuntime) {
 #[test]
 fn devices_within_limits(rt: HostRuntime) {
     assert!(rt; check_caps(&CAPS));
-    assert_eq!(rt; cell_count(&CAPS), 28);
-    assert_eq!(rt; list_count(&CAPS), 6);
+    assert!(rt; cell_count(&CAPS) == 28 && list_count(&CAPS) == 6);
     assert!(rt; !check_caps(&Caps { queues: 17, ..CAPS }));
     let queues = zero_queues(&CAPS);
-    assert_eq!(rt; queues.as_slice(), [QueueConfig::default(); 2].as_slice());
+    assert!(rt; queues.as_slice() == [QueueConfig::default(); 2].as_slice());
     let groups = zero_groups(&CAPS);
-    assert_eq!(rt; groups.as_slice(), [GroupConfig::default(); 2].as_slice());
-    let phases = off_phases(&CAPS);
-    assert_eq!(rt; phases.as_slice(), [Phase::Off; 2].as_slice());
-    let widest = Caps {
+    assert!(rt; groups.as_slice() == [GroupConfig::default(); 2].as_slice());
+    assert!(rt; off_phases(&CAPS).as_slice() == [Phase::Off; 2].as_slice());
+    const WIDEST: Caps = Caps {
         queues: 16,
         groups: 8,
         ..CAPS
     };
-    assert!(rt; check_caps(&widest));
-    assert_eq!(rt; zero_queues(&widest).len(), MAX_QUEUES);
-    assert_eq!(rt; zero_groups(&widest).len(), MAX_GROUPS);
+    assert!(rt; check_caps(&WIDEST));
+    assert!(rt; zero_queues(&WIDEST).len() == MAX_QUEUES);
+    assert!(rt; zero_groups(&WIDEST).len() == MAX_GROUPS);
 }
 
 #[test]
 fn enabling_the_device(rt: HostRuntime) {
-    let cases = [
+    const CASES: [(QueueConfig, GroupConfig, GroupConfig, Option<Fault>); 9] = [
         (DEDICATED, FIRST, SECOND, None),
         (
             DEDICATED,
@@ -242,7 +240,7 @@ fn enabling_the_device(rt: HostRuntime) {
             Some(Fault::GroupWithoutQueue),
         ),
     ];
-    for (queue, first, second, fault) in cases {
+    for (queue, first, second, fault) in CASES {
         assert_eq!(rt;
             check_device(&CAPS, &[SHARED, queue], &[first, second]),
             fault
@@ -252,8 +250,8 @@ fn enabling_the_device(rt: HostRuntime) {
 
 #[test]
 fn enabling_a_queue(rt: HostRuntime) {
-    let groups = [FIRST, SECOND];
-    let cases = [
+    const GROUPS: [GroupConfig; 2] = [FIRST, SECOND];
+    const CASES: [(u16, QueueConfig, Option<Fault>); 12] = [
         (0, SHARED, None),
         (1, DEDICATED, None),
         (0, QueueConfig { size: 0, ..SHARED }, Some(Fault::SizeZero)),
@@ -323,8 +321,8 @@ fn enabling_a_queue(rt: HostRuntime) {
         ),
         (2, SHARED, Some(Fault::NoGroup)),
     ];
-    for (queue, config, fault) in cases {
-        assert_eq!(rt; check_queue(&CAPS, &groups, queue, &config), fault);
+    for (queue, config, fault) in CASES {
+        assert_eq!(rt; check_queue(&CAPS, &GROUPS, queue, &config), fault);
     }
 }
 
@@ -345,9 +343,9 @@ fn configurations_speak(rt: HostRuntime) {
 
 #[test]
 fn words_are_commands(rt: HostRuntime) {
-    let third = QueueMask { group: 0, mask: 4 };
-    let seventeenth = QueueMask { group: 1, mask: 1 };
-    let words = [
+    const THIRD: QueueMask = QueueMask { group: 0, mask: 4 };
+    const SEVENTEENTH: QueueMask = QueueMask { group: 1, mask: 1 };
+    const WORDS: [(u32, Result<Command, Fault>); 20] = [
         (0, Err(Fault::BadCommand)),
         (0x0210_0000, Err(Fault::BadCommand)),
         (0x00d0_0000, Err(Fault::BadCommand)),
@@ -361,22 +359,22 @@ fn words_are_commands(rt: HostRuntime) {
         (0x8060_0000, Ok(Command::EnableWq(0))),
         (0x0060_0002, Ok(Command::EnableWq(2))),
         (0x8070_0001, Ok(Command::DisableWq(FIRST_QUEUE))),
-        (0x0071_0001, Ok(Command::DisableWq(seventeenth))),
-        (0x0070_0004, Ok(Command::DisableWq(third))),
+        (0x0071_0001, Ok(Command::DisableWq(SEVENTEENTH))),
+        (0x0070_0004, Ok(Command::DisableWq(THIRD))),
         (0x0080_0001, Ok(Command::DrainWq(FIRST_QUEUE))),
         (0x8090_0001, Ok(Command::AbortWq(FIRST_QUEUE))),
         (0x00a0_0001, Ok(Command::ResetWq(FIRST_QUEUE))),
         (0x80b0_0005, Ok(Command::DrainPasid(5))),
         (0x00c0_0005, Ok(Command::AbortPasid(5))),
     ];
-    for (word, command) in words {
+    for (word, command) in WORDS {
         assert_eq!(rt; CommandWord::parse(word), command, "at {word}");
     }
 }
 
 #[test]
 fn commands_have_numbers_and_names(rt: HostRuntime) -> Result<(), Fail> {
-    let commands = [
+    const COMMANDS: [(u32, u8, &str); 12] = [
         (0x0010_0000, 1, "Enable Device"),
         (0x0020_0000, 2, "Disable Device"),
         (0x0030_0000, 3, "Drain All"),
@@ -390,31 +388,31 @@ fn commands_have_numbers_and_names(rt: HostRuntime) -> Result<(), Fail> {
         (0x00b0_0000, 11, "Drain PASID"),
         (0x00c0_0000, 12, "Abort PASID"),
     ];
-    for (word, number, name) in commands {
+    for (word, number, name) in COMMANDS {
         let command = CommandWord::parse(word)?;
-        assert_eq!(rt; command.number(), number);
-        assert_eq!(rt; command.name(), name);
+        assert!(rt;
+            command.number() == number && command.name() == name,
+            "at {word}"
+        );
     }
     Ok(())
 }
 
 #[test]
 fn commands_name_queues(rt: HostRuntime) {
-    let mask = QueueMask {
+    const MASK: QueueMask = QueueMask {
         group: 1,
         mask: 0x8005,
     };
-    assert_eq!(rt; mask.queues().as_slice(), [16, 18, 31].as_slice());
-    assert!(rt; mask.contains(16) && mask.contains(18) && mask.contains(31));
-    assert!(rt; !mask.contains(0) && !mask.contains(17) && !mask.contains(32));
-    assert_eq!(rt;
-        Command::DrainWq(mask).queues().as_slice(),
-        [16, 18, 31].as_slice()
-    );
-    assert_eq!(rt; Command::EnableWq(2).queues().as_slice(), [2].as_slice());
+    const NUMBERS: [u32; 3] = [16, 18, 31];
+    assert!(rt; MASK.queues().as_slice() == NUMBERS.as_slice());
+    assert!(rt; MASK.contains(16) && MASK.contains(18) && MASK.contains(31));
+    assert!(rt; !MASK.contains(0) && !MASK.contains(17) && !MASK.contains(32));
+    assert!(rt; Command::DrainWq(MASK).queues().as_slice() == NUMBERS.as_slice());
+    assert!(rt; Command::EnableWq(2).queues().as_slice() == [2].as_slice());
     assert!(rt; Command::DrainAll.queues().is_empty());
     assert!(rt; QueueMask { group: 1, mask: 0 }.queues().is_empty());
-    assert!(rt; Scope::Queues(mask).contains(18) && !Scope::Queues(mask).contains(17));
+    assert!(rt; Scope::Queues(MASK).contains(18) && !Scope::Queues(MASK).contains(17));
     assert!(rt; Scope::Queue(17).contains(17) && !Scope::Queue(17).contains(1));
     assert!(rt; !Scope::Device.contains(0) && !Scope::Pasid(0).contains(0));
 }

@@ -1,4 +1,4 @@
-use Rattle.dsa_tests.proofs.commands.aborted.Given as goal
+use Rattle.dsa_tests.proofs.commands.push_each.Given as goal
 use Rattle.dsa_engines.specs.Engines.{IsInStep}
 
 abbrev pub invariant-loop-queue : goal.invariant-loop-queue
