@@ -4,6 +4,5 @@ pub mod Finding
 pub mod Sums
 pub mod Turns
 pub mod Partition
-pub mod Search
 pub mod Steps
 pub mod Walks

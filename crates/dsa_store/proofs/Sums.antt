@@ -8,7 +8,7 @@ use Rattle.std.proofs.lemmas.List.Filters.{sum_by-filter_both}
 use Rattle.std.specs.List.{filter, count_by, sum_by}
 use Rattle.dsa_store.specs.declared.entry.{Cell.{Cell}, Entry.{Entry}}
 use Rattle.dsa_store.specs.Content.{Slot, Content, is_cell, chain, place_count, use_count, held_count, after_push}
-use Rattle.dsa_store.specs.Content.{without_front, after_unlink, all_held, is_free, only_where}
+use Rattle.dsa_store.specs.Content.{without_front, all_held, is_free, only_where}
 use Rattle.dsa_store.proofs.Places.{list_any-absent, list_any-present}
 
 -- a sum over all slots goes list by list
@@ -63,10 +63,6 @@ all_held-filtered test (l ∷ ls) = ap (λ m. filter test l ++ m) (all_held-filt
 pub all_held-kept : (test : Entry → Bool) (content : Content)
     → all_held (only_where test content) ≡ filter (λ s. test s.1) (all_held content)
 all_held-kept test content = all_held-filtered (λ s. test s.1) content
-
-pub all_held-unlinked : (content : Content) (cell : Cell)
-    → all_held (after_unlink content cell) ≡ filter (λ s. not (is_cell cell s)) (all_held content)
-all_held-unlinked content cell = all_held-filtered (λ s. not (is_cell cell s)) content
 
 -- ---- counts are sums
 
