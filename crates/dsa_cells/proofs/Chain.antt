@@ -62,9 +62,9 @@ Names-last [] = tt
 Names-last (x ∷ xs) = Names-last-from x xs
 
 -- such a cell is one of the array
-pub InRange-of : (s : List Node) (xs : List ℕ) (o p : Option ℕ) → AreInside s xs → Names xs o → p ≡ o → InRange s p
-InRange-of s xs None p w n e = rw e tt
-InRange-of s xs (Some c) p w n e = rw e (w c n)
+pub InRange-of : (s : List Node) (xs : List ℕ) {o p : Option ℕ} → AreInside s xs → Names xs o → p ≡ o → InRange s p
+InRange-of s xs {o = None} w n e = rw e tt
+InRange-of s xs {o = Some c} w n e = rw e (w c n)
 
 -- linked cells
 

@@ -46,21 +46,6 @@ place-set os c to l x lt = grind (arith, common_steps)
 abbrev pub left : List (List ℕ) → ℕ → ℕ → List (List ℕ)
 left lists from c = set lists from (lacking c (list_at lists from))
 
--- what a list names then
-times-left : (s : List Node) (r : List Header) (lists : List (List ℕ)) (c m x : ℕ) → IsStore s r lists →
-    c < length s → (node_at s c).owner < length lists
-    → times x (list_at (left lists (node_at s c).owner c) m) ≡ cond (x == c) 0 (times x (list_at lists m))
-times-left s r lists c m x st lt in_lists =
-    let from = (node_at s c).owner in
-    grind (
-      arith,
-      nat_tests,
-      list_at-set lists from m (lacking c (list_at lists from)) in_lists,
-      times-lacking c x (list_at lists from),
-      st.placed m x,
-      owner_is s c,
-    )
-
 -- the headers then
 abbrev pub headers_left : List Node → List Header → ℕ → List Header
 headers_left s r c = let from = (node_at s c).owner in set r from (without (header_at r from) (node_at s c))
@@ -125,11 +110,18 @@ transfer s r lists c to may = go parts.0 parts.1 parts.2
     in_lists : from < length lists
     in_lists = list_at-in lists from c (omega (arith, one))
 
-    to_lists : to < length lists
-    to_lists = omega (arith, to_r, st.ends.sizes)
+    fewer : (m x : ℕ) → times x (list_at (left lists from c) m) ≡ cond (x == c) 0 (times x (list_at lists m))
+    fewer m x = grind (
+      arith,
+      nat_tests,
+      list_at-set lists from m (lacking c (list_at lists from)) in_lists,
+      times-lacking c x (list_at lists from),
+      st.placed m x,
+      owner_is s c,
+    )
 
     to_left : to < length (left lists from c)
-    to_left = omega (arith, to_lists, length-set lists from (lacking c (list_at lists from)))
+    to_left = omega (arith, to_r, st.ends.sizes, length-set lists from (lacking c (list_at lists from)))
 
     size1 : length (detached s c) ≡ length s
     size1 = length-joined s (node_at s c).previous (node_at s c).next
@@ -161,8 +153,8 @@ transfer s r lists c to may = go parts.0 parts.1 parts.2
           nat_tests,
           e,
           k,
-          times-left s r lists c to x st lt in_lists,
-          times-left s r lists c m x st lt in_lists,
+          fewer to x,
+          fewer m x,
           st.placed m x,
           q,
           place-set (owners_of s) c to m x (omega (arith, lt, length-owners s)),
@@ -173,11 +165,10 @@ transfer s r lists c to may = go parts.0 parts.1 parts.2
         let s1 = detached s c in
         let r1 = headers_left s r c in
         let lists1 = left lists from c in
-        let inside : AreInside s (xs ++ c ∷ zs) = λ x h. (names_in s r lists from x st
-        (rw is h)).0 in
+        let inside : AreInside s (xs ++ c ∷ zs) = λ x h. (names_in s r lists from x st (rw is h)).0 in
         let once = ap (times c) (sym is) ∙ one in
-        let less =
-        ap (lacking c) is ∙ lacking-split c xs zs (omega (arith, once, times-append c xs (c ∷ zs), times-head c zs)) in
+        let less = ap (lacking c) is
+        ∙ lacking-split c xs zs (omega (arith, once, times-append c xs (c ∷ zs), times-head c zs)) in
         let ends1 : AreHeaders s1 r1 lists1 = rw less
         (ends-left s r lists from c xs zs st.ends in_lists is inside (λ m x other.
         omega (arith, ap (times x) is, distinct s r lists from m x st other))) in
@@ -185,30 +176,23 @@ transfer s r lists c to may = go parts.0 parts.1 parts.2
         let s2 = alone s1 c to in
         let ends2 = AreHeaders-agree s1 s2 r1 lists1 (λ m k.
         Linked-other f s1 (Some c) (c ∷ []) None (list_at lists1 m) None (omega (arith, times-head c []))
-        (λ x. let e = times-left s r lists c m x st lt in_lists in let d = distinct s r lists m (suc m) x st
-        (λ q. omega (arith, q)) in grind (arith, nat_tests, e, d)) k) ends1 in
+        (λ x. let d = distinct s r lists m (suc m) x st (λ q. omega (arith, q)) in
+        grind (arith, nat_tests, fewer m x, d)) k) ends1 in
         let at = changed-here f s1 c (omega (arith, lt, size1)) in
-        let h = Linked-right s None xs (c ∷ zs) None (rw is at (st.ends.each from
-        in_lists).links) in
+        let h = Linked-right s None xs (c ∷ zs) None (rw is at (st.ends.each from in_lists).links) in
         let end = ends1.each to to_left in
         let listed : AreInside s1 (list_at lists1 to) = λ x k.
-        let e = times-left s r lists c to x st lt in_lists in
-        let some : 0 < times x (list_at lists to) = grind (arith, nat_tests, e, k) in
+        let some : 0 < times x (list_at lists to) = grind (arith, nat_tests, fewer to x, k) in
         omega (arith, size1, (names_in s r lists to x st some).0) in
         record {
-          next = InRange-of s (xs ++ c ∷ zs) (first_or zs None) (node_at s c).next inside
-              (Names-more zs (xs ++ c ∷ zs) (first_or zs None) (λ x. omega (
-                arith,
-                times-append x xs (c ∷ zs),
-                times-tail x c zs,
-              )) (Names-first zs)) h.1;
-          previous = InRange-of s (xs ++ c ∷ zs) (last_or xs None) (node_at s c).previous inside
+          next = InRange-of s (xs ++ c ∷ zs) inside (Names-more zs (xs ++ c ∷ zs) (first_or zs None)
+              (λ x. omega (arith, times-append x xs (c ∷ zs), times-tail x c zs)) (Names-first zs)) h.1;
+          previous = InRange-of s (xs ++ c ∷ zs) inside
               (Names-more xs (xs ++ c ∷ zs) (last_or xs None) (λ x. omega (arith, times-append x xs (c ∷ zs)))
               (Names-last xs)) h.0;
           owner = omega (arith, in_lists, st.ends.sizes);
           counted = omega (arith, (st.ends.each from in_lists).count, one, length-lacking c (list_at lists from));
-          tail = InRange-of s1 (list_at lists1 to) (last_or (list_at lists1 to) None) (header_at r1 to).tail listed
-              (Names-last (list_at lists1 to)) end.tail;
+          tail = InRange-of s1 (list_at lists1 to) listed (Names-last (list_at lists1 to)) end.tail;
           room = omega (arith, few, end.count, total1, get_or-le-sum_by length lists1 to [] to_left);
           entries =
               map-joined (λ t. t.entry) s2 (header_at r1 to).tail (Some c) (λ t o. refl) (λ t o. refl)
@@ -222,14 +206,7 @@ transfer s r lists c to may = go parts.0 parts.1 parts.2
                 let e = times-last x c (list_at lists1 to) in
                 let big : length s2 ≡ length s = omega (arith, length-changed f s1 (Some c), size1) in
                 grind (arith, nat_tests, e, k, listed x, lt, big, size1))
-                (λ m x other.
-                grind (
-                  arith,
-                  nat_tests,
-                  times-left s r lists c m x st lt in_lists,
-                  times-left s r lists c to x st lt in_lists,
-                  distinct s r lists to m x st other,
-                )));
+                (λ m x other. grind (arith, nat_tests, fewer m x, fewer to x, distinct s r lists to m x st other)));
             placed = λ m x. placed m x ∙ sym (ap (λ os. place os m x) owners);
             total = omega (
               arith,

@@ -6,7 +6,7 @@ use Rattle.std.proofs.lemmas.{Bool.Decides.{nat_tests}, Grind.{common_steps}}
 use Rattle.std.proofs.lemmas.List.{map-set, get_or-set_other, Sums.{sum_by-set, get_or-le-sum_by}}
 use Rattle.dsa_cells.specs.declared.links.{Node.{Node}, Header.{Header}}
 use Rattle.dsa_cells.specs.Array.{node_at, header_at, no_header, owners_of, entries_of}
-use Rattle.dsa_cells.specs.Partition.{first_or, last_or, walk, cells_of, times, IsHeader, AreHeaders, list_at}
+use Rattle.dsa_cells.specs.Partition.{walk, cells_of, times, IsHeader, AreHeaders, list_at}
 use Rattle.dsa_cells.specs.Writes.{InRange, AreInside, changed, joined, header_joined, marked, given_back}
 use Rattle.dsa_cells.specs.{Invariant.{place, IsStore}, Owners.{length-owners}}
 use Rattle.dsa_cells.proofs.Chain.{times-append, times-head, times-tail, Names-first, Names-last, InRange-of}
@@ -136,9 +136,9 @@ pub splice : (s : List Node) (r : List Header) (lists : List (List ℕ)) (from t
 splice s r lists from to may = subst (Splice s r lists from to)
     (sym (cells_are s (header_at r from) xs (st.ends.each from in_from))) (record {
       inside = inside from;
-      tail = InRange-of s1 (list_at lists to) (last_or (list_at lists to) None) (header_at r to).tail (inside1 to)
+      tail = InRange-of s1 (list_at lists to) (inside1 to)
           (Names-last (list_at lists to)) (st.ends.each to in_to).tail;
-      head = InRange-of s1 xs (first_or xs None) (header_at r from).head (inside1 from) (Names-first xs)
+      head = InRange-of s1 xs (inside1 from) (Names-first xs)
           (st.ends.each from in_from).head;
       fits = omega (
         arith,
