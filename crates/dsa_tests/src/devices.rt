@@ -87,16 +87,26 @@ fn store_with_an_entry_comes_back(rt: HostRuntime) -> Result<(), Fail> {
     Ok(())
 }
 
+// Nothing has happened to the device.
+fn is_unused(rt: &impl Abort, device: &Device<PlainStore>) {
+    assert!(rt; device.noted().is_none() && device.active().is_none());
+    assert!(rt; device.next_name() == 0 && device.fate(0).is_none());
+    assert!(rt; device.history().is_empty() && device.fates().is_empty());
+}
+
+// What waits in queue 0, the read buffers that the first group uses, and all that is held.
+fn counts(device: &Device<PlainStore>) -> (Option<u16>, Option<u16>, u32) {
+    (device.occupancy(0), device.used(0), device.held())
+}
+
 #[test]
 fn new_device(rt: HostRuntime) -> Result<(), Fail> {
     let device = device(&rt, 8)?;
     device.state_is_replay();
+    is_unused(&rt, &device);
+    assert!(rt; counts(&device) == (Some(0), Some(0), 0));
+    assert!(rt; device.occupancy(2).is_none() && device.used(2).is_none());
     assert!(rt; device.caps() == CAPS && device.capacity() == 8);
-    assert!(rt; device.occupancy(0) == Some(0) && device.occupancy(2).is_none());
-    assert!(rt; device.used(0) == Some(0) && device.used(2).is_none());
-    assert!(rt; device.noted().is_none() && device.active().is_none());
-    assert!(rt; device.held() == 0 && device.next_name() == 0 && device.fate(0).is_none());
-    assert!(rt; device.history().is_empty() && device.fates().is_empty());
     Ok(())
 }
 
@@ -283,11 +293,6 @@ fn accepted(rt: &impl Abort, device: &mut Device<PlainStore>, desc: Descriptor) 
     ticket
 }
 
-// What waits in queue 0, the read buffers that the first group uses, and all that is held.
-fn counts(device: &Device<PlainStore>) -> (Option<u16>, Option<u16>, u32) {
-    (device.occupancy(0), device.used(0), device.held())
-}
-
 // The engine takes the entry of the ticket.
 fn is_taken(ticket: Ticket) -> (Event, Reply) {
     let taken = DispatchAnswer::Taken { ticket, queue: 0 };
@@ -370,21 +375,27 @@ fn batch_ends(rt: &impl Abort, device: &mut Device<PlainStore>, ticket: Ticket) 
     replies(rt, device, &[all, active, done, finished]);
 }
 
-#[test]
-fn run_of_events(rt: HostRuntime) -> Result<(), Fail> {
+// Of five steps with the same event, the second is accepted and the third not, and no place is left for the others.
+fn second_is_accepted(rt: &impl Abort, steps: &[Step], event: Event) {
     const REPLIES: [(usize, Reply); 3] = [
         (2, Reply::Submit(SubmitAnswer::Retry(Cause::AtLimit))),
         (3, Reply::Submit(SubmitAnswer::Full)),
         (4, Reply::Submit(SubmitAnswer::Full)),
     ];
-    let mut device = enabled(&rt, 7)?;
-    let mut steps = Vec::new(rt.alloc());
-    let event = submission(MOVE);
-    device.run(&[event; 5], &mut steps)?;
-    assert!(rt; steps.len() == 5 && device.history().len() == 7);
+    assert!(rt; steps.len() == 5);
     assert!(rt; matches!(steps[1].reply, Reply::Submit(SubmitAnswer::Accepted(_))));
     for (k, reply) in REPLIES {
         assert_eq!(rt; steps.get(k), Some(&Step { event, reply }));
     }
+}
+
+#[test]
+fn run_of_events(rt: HostRuntime) -> Result<(), Fail> {
+    let mut device = enabled(&rt, 7)?;
+    let mut steps = Vec::new(rt.alloc());
+    let event = submission(MOVE);
+    device.run(&[event; 5], &mut steps)?;
+    second_is_accepted(&rt, &steps, event);
+    assert!(rt; device.history().len() == 7);
     Ok(())
 }

@@ -166,10 +166,10 @@ fn first_ends<S: EntryStore>(
     };
     let other = Ticket { name: 11, ..ticket };
     let gone = end(rt, queues, engines, store, book, other, Outcome::Success);
-    assert_eq!(rt; gone, FinishAnswer::Gone);
+    assert!(rt; gone == FinishAnswer::Gone);
     let done = end(rt, queues, engines, store, book, ticket, Outcome::PageFault);
-    assert_eq!(rt; done, FinishAnswer::Done(0x03));
-    assert_eq!(rt; book.fate(10), Some(ROW));
+    assert!(rt; done == FinishAnswer::Done(0x03));
+    assert!(rt; book.fate(10) == Some(ROW));
 }
 
 // A member is fetched and started, and fails; its batch cannot end before it.
@@ -225,11 +225,11 @@ fn batch_fails<S: EntryStore>(
     requires { IsInStep queues.old engines.old (S.cells store.old) (S.content store.old) }
 {
     let answer = fetch_move(rt, queues, engines, store);
-    assert_eq!(rt; answer, FetchAnswer::AllFetched);
+    assert!(rt; answer == FetchAnswer::AllFetched);
     let answer = start_one(rt, queues, engines, store, book);
-    assert_eq!(rt; answer, StartAnswer::Nothing);
+    assert!(rt; answer == StartAnswer::Nothing);
     let last = end(rt, queues, engines, store, book, ticket, Outcome::PageFault);
-    assert_eq!(rt; last, FinishAnswer::Done(0x05));
+    assert!(rt; last == FinishAnswer::Done(0x05));
 }
 
 #[test]
