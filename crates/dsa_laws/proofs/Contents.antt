@@ -1,7 +1,7 @@
 -- Members, sums and facts of lists of lists, as each effect changes them.
-use Rattle.std.proofs.Common.{drop, ◌≡◌, ℕ, zero, suc, ◌+◌, ◌<◌, ◌≤◌, Bool, true, not, List, [], ◌∷◌, ◌++◌, length}
-use Rattle.std.proofs.Common.{map, filter, set, get_or, refl, ap, subst, inr, arith, ⊎_elim, replicate, ◌≢◌}
-use Rattle.std.proofs.lemmas.List.{Sums.{sum_by-cons, sum_by-append}, get_or-set_same, get_or-set_other}
+use Rattle.std.proofs.Common.{drop, ◌≡◌, ℕ, zero, suc, ◌+◌, ◌≤◌, Bool, true, not, List, [], ◌∷◌, ◌++◌}
+use Rattle.std.proofs.Common.{map, filter, set, get_or, refl, ap, subst, inr, arith, ⊎_elim, replicate}
+use Rattle.std.proofs.lemmas.List.{Sums.{sum_by-cons, sum_by-append}}
 use Rattle.std.specs.Prelude.{sum_by, count_by}
 use Rattle.dsa_base.proofs.Lists.{In-only, In-left, In-right, In-append, In-filter, get_or-replicated}
 use Rattle.dsa_base.{proofs.Counts.{filter-one}, specs.Lists.{In}}
@@ -33,12 +33,6 @@ sum-without f p x xs h i t =
     omega (arith, sum-split f p xs, ap (sum_by f) (filter-one p x xs h i t), sum_by-cons f x [])
 
 -- ---- one list by its number
-
-pub chain-other : (c : Content) (k : ℕ) (l : List Slot) (j : ℕ) → j ≢ k → chain (set c k l) j ≡ chain c j
-chain-other c k l j n = get_or-set_other c k j l [] n
-
-pub chain-same : (c : Content) (k : ℕ) (l : List Slot) → k < length c → chain (set c k l) k ≡ l
-chain-same c k l i = get_or-set_same c k l [] i
 
 -- what holds of each of a list by its place, after one is set
 pub each-place : {X : Type 0} (P : ℕ → X → Type 0) (d : X) (xs : List X) (k : ℕ) (x : X)

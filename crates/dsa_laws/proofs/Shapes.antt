@@ -174,9 +174,6 @@ module _ {caps : Caps} {w : Work} (shape : HasShape caps w) where
         members = rw t refl;
       }
 
-  pub below-engines : (e : ℕ) → nat_lt e w.setup.caps.engines ≡ true → e < caps.engines
-  below-engines e t = (an_engine e t).inside
-
   -- by its number
   pub numbered-engine : (e : ℕ) → e < caps.engines → IsEngine caps w e
   numbered-engine e i = an_engine e (lt-ltb e w.setup.caps.engines (omega (arith, engines-same shape)))
