@@ -1,12 +1,10 @@
 //! Configurations that are refused, told to the administrator's seat.
 
 use crate::playing::Play;
-use crate::steps::{
-    DEDICATED_QUEUE, FIRST_GROUP, FIRST_QUEUE, SECOND_GROUP, SHARED_QUEUE, enables, ended,
-    group_written, issued, queue_written, totals, writes,
-};
+use crate::steps::{ended, group_written, issued, queue_written, totals, writes};
 use crate::stores::{Trial, over_both_stores};
 use dsa_book::{IssueAnswer, Step, WriteAnswer};
+use dsa_fixtures::{DEDICATED_QUEUE, FIRST_GROUP, FIRST_QUEUE, SECOND_GROUP, SHARED_QUEUE};
 use dsa_regs::{Command, Fault, GroupConfig, QueueConfig};
 use std::test::Fail;
 
@@ -81,18 +79,9 @@ fn queue_is_not_enabled(rt: HostRuntime) -> Result<(), Fail> {
         };
         queue_written(0, config, WRITTEN)
     };
-    let [a, b, c, d] = writes();
-    let [e, f, g] = enables();
     let play = Play {
         capacity: 100,
         steps: &[
-            a,
-            b,
-            c,
-            d,
-            e,
-            f,
-            g,
             ended(Command::DisableWq(FIRST_QUEUE), 0),
             threshold(0),
             refused(enable, Fault::ThresholdZero),
@@ -107,5 +96,5 @@ fn queue_is_not_enabled(rt: HostRuntime) -> Result<(), Fail> {
         fates: &[],
         totals: totals(0, 0, 0, 0, 0, 0, 12),
     };
-    over_both_stores(&rt, rt.alloc(), Trial::Play(play))
+    over_both_stores(&rt, rt.alloc(), Trial::PlayEnabled(play))
 }

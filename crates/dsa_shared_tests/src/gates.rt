@@ -78,11 +78,30 @@ impl Gate for Passes {
 /// waited in vain.
 #[derive(Drop)]
 pub struct Meeting<'a, R: Clock> {
-    pub clock: &'a R,
+    clock: &'a R,
     pub passes: Passes,
-    pub first_has_come: AtomicU32,
-    pub second_has_come: AtomicU32,
-    pub missed: AtomicU32,
+    first_has_come: AtomicU32,
+    second_has_come: AtomicU32,
+    missed: AtomicU32,
+}
+
+impl<'a, R: Clock + Abort> Meeting<'a, R> {
+    pub fn new(clock: &'a R, alloc: Global) -> Result<Meeting<'a, R>, AllocError> {
+        Ok(Meeting {
+            clock,
+            passes: Passes::new(alloc, 5)?,
+            first_has_come: AtomicU32::new(0),
+            second_has_come: AtomicU32::new(0),
+            missed: AtomicU32::new(0),
+        })
+    }
+
+    /// Each has come once, and none waited in vain.
+    pub fn was_kept(&self, rt: &R) {
+        assert_eq!(rt; self.first_has_come.load(Ordering::SeqCst), 1);
+        assert_eq!(rt; self.second_has_come.load(Ordering::SeqCst), 1);
+        assert_eq!(rt; self.missed.load(Ordering::SeqCst), 0);
+    }
 }
 
 impl<'a, R: Clock> Gate for Meeting<'a, R> {

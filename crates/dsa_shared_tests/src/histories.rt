@@ -2,8 +2,7 @@
 
 use crate::playing::Play;
 use crate::steps::{
-    ENQCMD, FENCED_MOVE, FENCED_NO_OP, FIRST_QUEUE, LARGE_MOVE, MOVE, NO_OP, accepted, batch_of,
-    begun, cleared, dispatched, done, enables, ended, fetched, finished, issued, limited, member,
+    accepted, begun, cleared, dispatched, done, ended, fetched, finished, issued, limited, member,
     polled, row, started, taken, ticket, totals, unlimited, writes, written_to,
 };
 use crate::stores::{Trial, over_both_stores};
@@ -12,6 +11,9 @@ use dsa_book::{
     Kind, NotedError, PollAnswer, Reply, StartAnswer, Step, SubmitAnswer, Ticket, WriteAnswer,
 };
 use dsa_desc::Outcome;
+use dsa_fixtures::{
+    ENQCMD, FENCED_MOVE, FENCED_NO_OP, FIRST_QUEUE, LARGE_MOVE, MOVE, NO_OP, batch_of,
+};
 use dsa_regs::{Command, Fault};
 use dsa_shared::Totals;
 use dsa_store::Cell;
@@ -29,8 +31,8 @@ const RETRY_AT_LIMIT: SubmitAnswer = SubmitAnswer::Retry(Cause::AtLimit);
 
 const DROPPED_AT_LIMIT: SubmitAnswer = SubmitAnswer::Dropped(Cause::AtLimit);
 
-// Enables the device, and then makes the steps.
-fn play<R: Threads + Wait + Clock + Abort + Sync>(
+// Enables the device, and then makes the steps. The history has room for so many.
+fn play_within<R: Threads + Wait + Clock + Abort + Sync>(
     rt: &R,
     alloc: Global,
     capacity: u64,
@@ -38,31 +40,31 @@ fn play<R: Threads + Wait + Clock + Abort + Sync>(
     fates: &[FateRow],
     totals: Totals,
 ) -> Result<(), Fail> {
-    let mut all = Vec::new(alloc);
-    all.extend_from_slice(&writes())?;
-    all.extend_from_slice(&enables())?;
-    all.extend_from_slice(steps)?;
     let play = Play {
         capacity,
-        steps: &all,
+        steps,
         fates,
         totals,
     };
-    over_both_stores(rt, alloc, Trial::Play(play))
+    over_both_stores(rt, alloc, Trial::PlayEnabled(play))
+}
+
+fn play<R: Threads + Wait + Clock + Abort + Sync>(
+    rt: &R,
+    alloc: Global,
+    steps: &[Step],
+    fates: &[FateRow],
+    totals: Totals,
+) -> Result<(), Fail> {
+    play_within(rt, alloc, 100, steps, fates, totals)
 }
 
 #[test]
 fn one_move(rt: HostRuntime) -> Result<(), Fail> {
     let steps = [limited(MOVE, accepted(0)), taken(0, 0), done(0, 0x01)];
     let fates = [row(0, None, COMPLETED)];
-    play(
-        &rt,
-        rt.alloc(),
-        100,
-        &steps,
-        &fates,
-        totals(1, 0, 0, 1, 0, 0, 10),
-    )
+    let totals = totals(1, 0, 0, 1, 0, 0, 10);
+    play(&rt, rt.alloc(), &steps, &fates, totals)
 }
 
 #[test]
@@ -78,14 +80,8 @@ fn limits_of_two_portals(rt: HostRuntime) -> Result<(), Fail> {
         limited(NO_OP, RETRY_AT_LIMIT),
         unlimited(5, accepted(4)),
     ];
-    play(
-        &rt,
-        rt.alloc(),
-        100,
-        &steps,
-        &[],
-        totals(5, 0, 3, 0, 0, 5, 16),
-    )
+    let totals = totals(5, 0, 3, 0, 0, 5, 16);
+    play(&rt, rt.alloc(), &steps, &[], totals)
 }
 
 #[test]
@@ -109,14 +105,8 @@ fn noted_error(rt: HostRuntime) -> Result<(), Fail> {
         written_to(1, Kind::Movdir64b, NO_OP, DROPPED_AT_LIMIT),
         cleared(ClearAnswer::Cleared(noted)),
     ];
-    play(
-        &rt,
-        rt.alloc(),
-        100,
-        &steps,
-        &[],
-        totals(2, 0, 0, 0, 0, 2, 14),
-    )
+    let totals = totals(2, 0, 0, 0, 0, 2, 14);
+    play(&rt, rt.alloc(), &steps, &[], totals)
 }
 
 #[test]
@@ -134,14 +124,8 @@ fn causes_of_refused_submissions(rt: HostRuntime) -> Result<(), Fail> {
         written_to(0, ENQCMD, NO_OP, not_enabled),
         written_to(9, ENQCMD, NO_OP, not_enabled),
     ];
-    play(
-        &rt,
-        rt.alloc(),
-        100,
-        &steps,
-        &[],
-        totals(0, 0, 0, 0, 0, 0, 12),
-    )
+    let totals = totals(0, 0, 0, 0, 0, 0, 12);
+    play(&rt, rt.alloc(), &steps, &[], totals)
 }
 
 #[test]
@@ -165,14 +149,8 @@ fn read_buffers_of_two_groups(rt: HostRuntime) -> Result<(), Fail> {
         dispatched(0, DispatchAnswer::Idle),
     ];
     let fates = [row(0, None, COMPLETED)];
-    play(
-        &rt,
-        rt.alloc(),
-        100,
-        &steps,
-        &fates,
-        totals(4, 3, 0, 1, 0, 6, 21),
-    )
+    let totals = totals(4, 3, 0, 1, 0, 6, 21);
+    play(&rt, rt.alloc(), &steps, &fates, totals)
 }
 
 #[test]
@@ -201,14 +179,8 @@ fn fence_waits(rt: HostRuntime) -> Result<(), Fail> {
         row(3, Some(0), COMPLETED),
         row(0, None, COMPLETED),
     ];
-    play(
-        &rt,
-        rt.alloc(),
-        100,
-        &steps,
-        &fates,
-        totals(1, 3, 0, 4, 0, 0, 19),
-    )
+    let totals = totals(1, 3, 0, 4, 0, 0, 19);
+    play(&rt, rt.alloc(), &steps, &fates, totals)
 }
 
 #[test]
@@ -230,14 +202,8 @@ fn fence_abandons(rt: HostRuntime) -> Result<(), Fail> {
         row(2, Some(0), Fate::Abandoned),
         row(0, None, Fate::Completed(0x05)),
     ];
-    play(
-        &rt,
-        rt.alloc(),
-        100,
-        &steps,
-        &fates,
-        totals(1, 2, 0, 2, 1, 0, 15),
-    )
+    let totals = totals(1, 2, 0, 2, 1, 0, 15);
+    play(&rt, rt.alloc(), &steps, &fates, totals)
 }
 
 #[test]
@@ -256,14 +222,8 @@ fn batches_of_too_few_and_too_many(rt: HostRuntime) -> Result<(), Fail> {
     ];
     let refused = Fate::Completed(0x14);
     let fates = [row(0, None, refused), row(1, None, refused)];
-    play(
-        &rt,
-        rt.alloc(),
-        100,
-        &steps,
-        &fates,
-        totals(3, 1, 0, 2, 0, 2, 16),
-    )
+    let totals = totals(3, 1, 0, 2, 0, 2, 16);
+    play(&rt, rt.alloc(), &steps, &fates, totals)
 }
 
 #[test]
@@ -280,14 +240,8 @@ fn drain_of_a_queue(rt: HostRuntime) -> Result<(), Fail> {
         polled(PollAnswer::Nothing),
     ];
     let fates = [row(0, None, COMPLETED)];
-    play(
-        &rt,
-        rt.alloc(),
-        100,
-        &steps,
-        &fates,
-        totals(2, 0, 0, 1, 0, 1, 13),
-    )
+    let totals = totals(2, 0, 0, 1, 0, 1, 13);
+    play(&rt, rt.alloc(), &steps, &fates, totals)
 }
 
 #[test]
@@ -305,14 +259,8 @@ fn abort_of_a_pasid(rt: HostRuntime) -> Result<(), Fail> {
         row(0, None, Fate::Aborted(12)),
         row(2, None, Fate::Aborted(12)),
     ];
-    play(
-        &rt,
-        rt.alloc(),
-        100,
-        &steps,
-        &fates,
-        totals(4, 0, 0, 0, 2, 2, 14),
-    )
+    let totals = totals(4, 0, 0, 0, 2, 2, 14);
+    play(&rt, rt.alloc(), &steps, &fates, totals)
 }
 
 #[test]
@@ -332,14 +280,8 @@ fn tickets_after_an_abort(rt: HostRuntime) -> Result<(), Fail> {
         done(1, 0x01),
     ];
     let fates = [row(0, None, Fate::Aborted(4)), row(1, None, COMPLETED)];
-    play(
-        &rt,
-        rt.alloc(),
-        100,
-        &steps,
-        &fates,
-        totals(2, 0, 0, 1, 1, 0, 13),
-    )
+    let totals = totals(2, 0, 0, 1, 1, 0, 13);
+    play(&rt, rt.alloc(), &steps, &fates, totals)
 }
 
 // Every kind of step is refused, and by each kind of seat.
@@ -367,12 +309,6 @@ fn full_history(rt: HostRuntime) -> Result<(), Fail> {
         },
         cleared(ClearAnswer::Full),
     ];
-    play(
-        &rt,
-        rt.alloc(),
-        10,
-        &steps,
-        &[],
-        totals(3, 0, 0, 0, 0, 3, 10),
-    )
+    let totals = totals(3, 0, 0, 0, 0, 3, 10);
+    play_within(&rt, rt.alloc(), 10, &steps, &[], totals)
 }

@@ -22,6 +22,8 @@ mod sharing;
 #[cfg(test)]
 mod soak;
 #[cfg(test)]
+mod stage;
+#[cfg(test)]
 mod steps;
 #[cfg(test)]
 mod stores;

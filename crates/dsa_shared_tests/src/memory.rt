@@ -3,22 +3,22 @@
 use crate::gates::Passes;
 use crate::refusing::Refusing;
 use crate::sharing::{fresh, tried};
-use crate::steps::CAPS;
+use crate::stage::Stage;
 use crate::stores::{Trial, over_both_stores};
 use crate::working::scripts_for;
 use dsa_cells::LinkedStore;
 use dsa_device::Device;
+use dsa_fixtures::CAPS;
 use dsa_regs::{cell_count, check_caps, list_count};
-use dsa_shared::{Blanks, Seats, ShareFault, SharedDevice, Sharing};
+use dsa_shared::{Blanks, ShareFault, Sharing};
 use dsa_store::{EntryStore, PlainStore};
-use dsa_workers::{RunFault, run_threads};
+use dsa_workers::{RunFault, Scripts, run_threads};
 use std::alloc::Global;
 use std::marker::{Send, Sync};
 use std::process::Abort;
 use std::sync::Wait;
 use std::test::Fail;
 use std::thread::Threads;
-use std::time::Clock;
 
 // What sharing with two clients and two engines asks for: for each kind the seats, a list of rooms for
 // receipts and these rooms, and then the administrator's room.
@@ -28,40 +28,41 @@ const REQUESTS_OF_SHARING: u32 = 9;
 // tickets, then each engine's room, and the two lists of the report.
 const REQUESTS_OF_A_RUN: u32 = 8;
 
-/// Each request of a run is refused in turn. Then no worker has passed the gate, and the seats have no
-/// receipts.
-pub fn run_without_memory<S, L, R>(
-    rt: &R,
-    alloc: Global,
-    shared: SharedDevice<S, L>,
-    seats: Seats<L>,
-) -> Result<(), Fail>
+impl<'a, S, L, R> Stage<'a, S, L, R>
 where
     S: EntryStore + Send,
     L: Sharing + Send + Sync,
-    R: Threads + Wait + Clock + Abort + Sync,
+    R: Threads + Wait + Abort + Sync,
 {
-    let mut seats = seats;
-    let scripts = scripts_for(alloc, 2, 2)?;
-    let gate = Passes::new(alloc, 5)?;
-    for granted in 0..=REQUESTS_OF_A_RUN {
-        let heap = Refusing::new(alloc, granted);
-        let ran = run_threads(rt, &heap, &shared, &mut seats, &scripts, &gate, 5);
+    /// Each request of a run is refused in turn. Then no worker has passed the gate, and the seats have
+    /// no receipts.
+    pub fn run_without_memory(self) -> Result<(), Fail> {
+        let mut stage = self;
+        let rt = stage.rt;
+        let scripts = scripts_for(stage.alloc, 2, 2)?;
+        let gate = Passes::new(stage.alloc, 5)?;
+        for granted in 0..=REQUESTS_OF_A_RUN {
+            stage.run_with(granted, &scripts, &gate);
+        }
+        let (settled, _) = stage.settled()?;
+        assert_eq!(rt; settled.totals.accepted, 0);
+        Ok(())
+    }
+
+    fn run_with(&mut self, granted: u32, scripts: &Scripts, gate: &Passes) {
+        let rt = self.rt;
+        let heap = Refusing::new(self.alloc, granted);
+        let ran = run_threads(rt, &heap, &self.shared, &mut self.seats, scripts, gate, 5);
         if granted == REQUESTS_OF_A_RUN {
             assert!(rt; ran.is_ok());
             assert_eq!(rt; heap.asked(), granted);
         } else {
             let fault = Some(RunFault::OutOfMemory);
             assert_eq!(rt; ran.err(), fault, "with {granted} requests granted");
-            assert_eq!(rt; heap.asked(), granted + 1);
+            assert_eq!(rt; heap.asked(), granted.saturating_add(1));
             gate.are_none(rt);
         }
     }
-    let Ok(settled) = shared.settle(seats) else {
-        return Err("settling was refused")?;
-    };
-    assert_eq!(rt; settled.totals.accepted, 0);
-    Ok(())
 }
 
 #[test]

@@ -1,9 +1,10 @@
 //! Seats: their receipts and counts, what other threads read, and settling with a seat missing.
 
-use crate::playing::Record;
-use crate::steps::{ENQCMD, NO_OP, accepted, done, limited, taken, totals, written_to};
+use crate::stage::Stage;
+use crate::steps::{accepted, done, limited, taken, totals, written_to};
 use crate::stores::{Trial, over_both_stores};
 use dsa_book::{Actor, Fate, Step, SubmitAnswer, Ticket};
+use dsa_fixtures::{ENQCMD, NO_OP};
 use dsa_shared::locked::check;
 use dsa_shared::{
     ClientSeat, EngineSeat, Seats, SettleFault, SharedDevice, Sharing, compare_receipts,
@@ -15,7 +16,6 @@ use std::process::Abort;
 use std::sync::Wait;
 use std::test::Fail;
 use std::thread::{Threads, join};
-use std::time::Clock;
 
 #[test]
 fn receipts_against_a_history(rt: HostRuntime) {
@@ -47,37 +47,6 @@ fn receipts_against_a_history(rt: HostRuntime) {
         let found = compare_receipts(&history, Actor::Client(client), receipts);
         assert_eq!(rt; found, at, "of client {client}");
     }
-}
-
-// One No-op of each client, and then settling: with a seat missing, and with seats in another order.
-pub fn seats_withheld<S, L, R>(
-    rt: &R,
-    alloc: Global,
-    shared: SharedDevice<S, L>,
-    seats: Seats<L>,
-) -> Result<(), Fail>
-where
-    S: EntryStore + Send,
-    L: Sharing + Send + Sync,
-    R: Threads + Wait + Clock + Abort + Sync,
-{
-    let mut seats = seats;
-    let mut record = Record::new(alloc);
-    record.set_up(rt, &shared, &mut seats)?;
-    let posted = [
-        limited(NO_OP, accepted(0)),
-        written_to(0, ENQCMD, NO_OP, accepted(1)),
-    ];
-    record.make(rt, &shared, &mut seats, &posted)?;
-    are_checked(rt, alloc, &record.kept, &seats)?;
-    let (shared, seats) = withheld_in_turn(rt, shared, seats)?;
-    record.is_told_by(rt, &seats);
-    let Ok(settled) = shared.settle(seats) else {
-        return Err("settling was refused")?;
-    };
-    assert_eq!(rt; settled.device.history(), record.kept.as_slice());
-    assert_eq!(rt; settled.totals, totals(2, 0, 0, 0, 0, 2, 9));
-    Ok(())
 }
 
 // Without the administrator's seat, without one of a client and without one of an engine. The last two
@@ -177,53 +146,6 @@ fn with(alloc: Global, history: &[Step], steps: &[Step]) -> Result<Vec<Step>, Al
     Ok(all)
 }
 
-#[test]
-fn settling_without_a_seat(rt: HostRuntime) -> Result<(), Fail> {
-    over_both_stores(&rt, rt.alloc(), Trial::SeatsWithheld)
-}
-
-// One No-op from its submission to its fate, which threads read that were started after it.
-pub fn fate_is_read<S, L, R>(
-    rt: &R,
-    alloc: Global,
-    shared: SharedDevice<S, L>,
-    seats: Seats<L>,
-) -> Result<(), Fail>
-where
-    S: EntryStore + Send,
-    L: Sharing + Send + Sync,
-    R: Threads + Wait + Clock + Abort + Sync,
-{
-    let mut seats = seats;
-    let mut record = Record::new(alloc);
-    record.set_up(rt, &shared, &mut seats)?;
-    record.make(rt, &shared, &mut seats, &[limited(NO_OP, accepted(0))])?;
-    assert_eq!(rt; shared.fate(rt, 0), None);
-    assert_eq!(rt; shared.held(rt), 1);
-    record.make(rt, &shared, &mut seats, &[taken(0, 0), done(0, 0x01)])?;
-    let completed = Some(Fate::Completed(0x01));
-    assert_eq!(rt; fate_by_two(rt, &shared), (completed, completed));
-    assert_eq!(rt; shared.fate(rt, 1), None);
-    assert_eq!(rt; shared.held(rt), 0);
-    record.is_told_by(rt, &seats);
-    are_counted(rt, &seats);
-    let Ok(settled) = shared.settle(seats) else {
-        return Err("settling was refused")?;
-    };
-    assert_eq!(rt; settled.totals, totals(1, 0, 0, 1, 0, 0, 10));
-    Ok(())
-}
-
-// What became of the first entry, read by two threads that are started here.
-fn fate_by_two<S, L, R>(rt: &R, shared: &SharedDevice<S, L>) -> (Option<Fate>, Option<Fate>)
-where
-    S: EntryStore + Send,
-    L: Sharing + Send + Sync,
-    R: Threads + Wait + Sync,
-{
-    join(rt, || shared.fate(rt, 0), || shared.fate(rt, 0))
-}
-
 // What the seats count where the first client and the first engine took one entry to its end.
 fn are_counted<L: Sharing, R: Abort>(rt: &R, seats: &Seats<L>) {
     clients_are_counted(rt, &seats.clients);
@@ -253,6 +175,76 @@ fn engines_are_counted<L: Sharing, R: Abort>(rt: &R, seats: &[EngineSeat<L>]) {
             seat.number()
         );
     }
+}
+
+impl<'a, S: EntryStore, L: Sharing, R: Wait + Abort> Stage<'a, S, L, R> {
+    /// One No-op of each client, and then settling: with a seat missing, and with seats in another order.
+    pub fn seats_withheld(self) -> Result<(), Fail> {
+        let mut stage = self;
+        let rt = stage.rt;
+        stage.set_up()?;
+        let posted = [
+            limited(NO_OP, accepted(0)),
+            written_to(0, ENQCMD, NO_OP, accepted(1)),
+        ];
+        stage.make(&posted)?;
+        are_checked(rt, stage.alloc, &stage.record.kept, &stage.seats)?;
+        let Stage {
+            rt: _,
+            alloc,
+            shared,
+            seats,
+            record,
+        } = stage;
+        let (shared, seats) = withheld_in_turn(rt, shared, seats)?;
+        let stage = Stage {
+            rt,
+            alloc,
+            shared,
+            seats,
+            record,
+        };
+        let settled = stage.settled_as_told()?;
+        assert_eq!(rt; settled.totals, totals(2, 0, 0, 0, 0, 2, 9));
+        Ok(())
+    }
+}
+
+impl<'a, S, L, R> Stage<'a, S, L, R>
+where
+    S: EntryStore + Send,
+    L: Sharing + Send + Sync,
+    R: Threads + Wait + Abort + Sync,
+{
+    /// One No-op from its submission to its fate, which threads read that were started after it.
+    pub fn fate_is_read(self) -> Result<(), Fail> {
+        let mut stage = self;
+        let rt = stage.rt;
+        stage.set_up()?;
+        stage.make(&[limited(NO_OP, accepted(0))])?;
+        assert_eq!(rt; stage.shared.fate(rt, 0), None);
+        assert_eq!(rt; stage.shared.held(rt), 1);
+        stage.make(&[taken(0, 0), done(0, 0x01)])?;
+        let completed = Some(Fate::Completed(0x01));
+        assert_eq!(rt; stage.fate_by_two(), (completed, completed));
+        assert_eq!(rt; stage.shared.fate(rt, 1), None);
+        assert_eq!(rt; stage.shared.held(rt), 0);
+        are_counted(rt, &stage.seats);
+        let settled = stage.settled_as_told()?;
+        assert_eq!(rt; settled.totals, totals(1, 0, 0, 1, 0, 0, 10));
+        Ok(())
+    }
+
+    // What became of the first entry, read by two threads that are started here.
+    fn fate_by_two(&self) -> (Option<Fate>, Option<Fate>) {
+        let (rt, shared) = (self.rt, &self.shared);
+        join(rt, || shared.fate(rt, 0), || shared.fate(rt, 0))
+    }
+}
+
+#[test]
+fn settling_without_a_seat(rt: HostRuntime) -> Result<(), Fail> {
+    over_both_stores(&rt, rt.alloc(), Trial::SeatsWithheld)
 }
 
 #[test]

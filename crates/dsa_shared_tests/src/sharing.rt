@@ -2,10 +2,10 @@
 
 ghost use Rattle.std.specs.Prelude.{◌≡◌};
 
-use crate::steps::{CAPS, SHARED_QUEUE};
 use dsa_book::WriteAnswer;
 use dsa_cells::LinkedStore;
 use dsa_device::Device;
+use dsa_fixtures::{CAPS, SHARED_QUEUE};
 use dsa_regs::{cell_count, check_caps, list_count};
 use dsa_shared::{Blanks, ShareFault, SharedDevice, Sharing};
 use dsa_store::{EntryStore, PlainStore};

@@ -2,14 +2,15 @@
 
 use crate::accounts::add_up;
 use crate::gates::Yielding;
-use crate::steps::{FENCED_MOVE, FENCED_NO_OP, MOVE, NO_OP, batch_of, bytes_of};
+use crate::stage::Stage;
 use crate::stores::{Trial, over_both_stores};
 use dsa_book::{IssueAnswer, Kind, Portal, WriteAnswer};
 use dsa_desc::{Descriptor, Outcome};
+use dsa_fixtures::{FENCED_MOVE, FENCED_NO_OP, MOVE, NO_OP, batch_of, bytes_of};
 use dsa_regs::{Caps, Command, GroupConfig, QueueConfig, QueueMask};
-use dsa_shared::{AdminSeat, Seats, SharedDevice, Sharing};
+use dsa_shared::{AdminSeat, ClientSeat, SharedDevice, Sharing};
 use dsa_store::EntryStore;
-use dsa_workers::{ClientStep, EngineScript, Scripts, run_threads};
+use dsa_workers::{ClientStep, EngineScript, Scripts};
 use std::alloc::{AllocError, Global};
 use std::marker::{Send, Sync};
 use std::process::Abort;
@@ -181,44 +182,57 @@ fn enable<S: EntryStore, L: Sharing, R: Wait + Abort>(
     }
 }
 
-/// Runs the workers, and adds up what they did.
-pub fn soaked<S, L, R>(
-    rt: &R,
-    alloc: Global,
-    shared: SharedDevice<S, L>,
-    seats: Seats<L>,
-) -> Result<(), Fail>
+impl<'a, S: EntryStore, L: Sharing, R: Wait + Abort> Stage<'a, S, L, R> {
+    fn enable_four(&mut self) -> Result<(), Fail> {
+        let (rt, shared) = (self.rt, &self.shared);
+        let Some(admin) = self.seats.admin.as_mut() else {
+            return Err("there is no administrator")?;
+        };
+        configure(rt, shared, admin);
+        enable(rt, shared, admin);
+        Ok(())
+    }
+}
+
+fn scripts(alloc: Global) -> Result<Scripts, AllocError> {
+    Ok(Scripts {
+        clients: client_scripts(alloc)?,
+        engines: engine_scripts(alloc)?,
+        admin: admin_script(alloc)?,
+    })
+}
+
+// How many submissions of the clients were accepted.
+fn accepted_of<L: Sharing, R: Abort>(rt: &R, seats: &[ClientSeat<L>]) -> u64 {
+    let mut accepted = 0u64;
+    for seat in seats {
+        assert!(rt; seat.accepted() <= EACH as u64);
+        accepted = accepted.saturating_add(seat.accepted());
+    }
+    accepted
+}
+
+impl<'a, S, L, R> Stage<'a, S, L, R>
 where
     S: EntryStore + Send,
     L: Sharing + Send + Sync,
     R: Threads + Wait + Clock + Abort + Sync,
 {
-    let mut seats = seats;
-    let Some(admin) = seats.admin.as_mut() else {
-        return Err("there is no administrator")?;
-    };
-    configure(rt, &shared, admin);
-    enable(rt, &shared, admin);
-    let scripts = Scripts {
-        clients: client_scripts(alloc)?,
-        engines: engine_scripts(alloc)?,
-        admin: admin_script(alloc)?,
-    };
-    let gate = Yielding {
-        clients: usize::from(SOAKING_CLIENTS),
-    };
-    let report = run_threads(rt, alloc, &shared, &mut seats, &scripts, &gate, TURNS)?;
-    let mut accepted = 0u64;
-    for seat in &seats.clients {
-        assert!(rt; seat.accepted() <= EACH as u64);
-        accepted = accepted.saturating_add(seat.accepted());
+    /// Runs the workers, and adds up what they did.
+    pub fn soaked(self) -> Result<(), Fail> {
+        let mut stage = self;
+        let (rt, alloc) = (stage.rt, stage.alloc);
+        stage.enable_four()?;
+        let gate = Yielding {
+            clients: usize::from(SOAKING_CLIENTS),
+        };
+        let report = stage.run(&scripts(alloc)?, &gate, TURNS)?;
+        let accepted = accepted_of(rt, &stage.seats.clients);
+        assert!(rt; report.turns.iter().all(|turns| *turns <= TURNS));
+        let (settled, _) = stage.settled()?;
+        assert_eq!(rt; settled.totals.accepted, accepted);
+        add_up(rt, alloc, &settled)
     }
-    assert!(rt; report.turns.iter().all(|turns| *turns <= TURNS));
-    let Ok(settled) = shared.settle(seats) else {
-        return Err("settling was refused")?;
-    };
-    assert_eq!(rt; settled.totals.accepted, accepted);
-    add_up(rt, alloc, &settled)
 }
 
 #[test]

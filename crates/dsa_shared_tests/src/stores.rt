@@ -2,16 +2,14 @@
 
 ghost use Rattle.std.specs.Prelude.{◌≡◌};
 
-use crate::memory::run_without_memory;
-use crate::playing::{Play, played};
-use crate::seating::{fate_is_read, seats_withheld};
-use crate::soak::{SOAKED_CAPACITY, SOAKED_CAPS, SOAKING_CLIENTS, soaked};
-use crate::steps::CAPS;
-use crate::working::{busy_run, clients_meet, history_fills, nothing_is_done};
+use crate::playing::Play;
+use crate::soak::{SOAKED_CAPACITY, SOAKED_CAPS, SOAKING_CLIENTS};
+use crate::stage::Stage;
 use dsa_cells::LinkedStore;
 use dsa_device::Device;
+use dsa_fixtures::CAPS;
 use dsa_regs::{Caps, cell_count, check_caps, list_count};
-use dsa_shared::{Blanks, Seats, SharedDevice, Sharing};
+use dsa_shared::{Blanks, SharedDevice, Sharing};
 use dsa_store::{EntryStore, PlainStore};
 use std::alloc::Global;
 use std::marker::{Brand, Send, Sync};
@@ -25,6 +23,7 @@ use std::time::Clock;
 #[derive(Clone, Copy)]
 pub enum Trial<'a> {
     Play(Play<'a>),
+    PlayEnabled(Play<'a>),
     SeatsWithheld,
     FateIsRead,
     BusyRun,
@@ -39,7 +38,7 @@ impl<'a> Trial<'a> {
     // The device's capabilities, how many steps its history has room for, and how many clients it has.
     fn shape(self) -> (Caps, u64, u16) {
         match self {
-            Trial::Play(play) => (CAPS, play.capacity, 2),
+            Trial::Play(play) | Trial::PlayEnabled(play) => (CAPS, play.capacity, 2),
             Trial::BusyRun => (CAPS, 12_000, 2),
             Trial::HistoryFills => (CAPS, 40, 2),
             Trial::Soak => (SOAKED_CAPS, SOAKED_CAPACITY, SOAKING_CLIENTS),
@@ -48,28 +47,25 @@ impl<'a> Trial<'a> {
     }
 }
 
-fn try_on<S, L, R>(
-    rt: &R,
-    alloc: Global,
-    trial: Trial,
-    shared: SharedDevice<S, L>,
-    seats: Seats<L>,
-) -> Result<(), Fail>
+impl<'a, S, L, R> Stage<'a, S, L, R>
 where
     S: EntryStore + Send,
     L: Sharing + Send + Sync,
     R: Threads + Wait + Clock + Abort + Sync,
 {
-    match trial {
-        Trial::Play(play) => played(rt, alloc, shared, seats, play),
-        Trial::SeatsWithheld => seats_withheld(rt, alloc, shared, seats),
-        Trial::FateIsRead => fate_is_read(rt, alloc, shared, seats),
-        Trial::BusyRun => busy_run(rt, alloc, shared, seats),
-        Trial::HistoryFills => history_fills(rt, alloc, shared, seats),
-        Trial::ClientsMeet => clients_meet(rt, alloc, shared, seats),
-        Trial::NothingIsDone => nothing_is_done(rt, alloc, shared, seats),
-        Trial::RunWithoutMemory => run_without_memory(rt, alloc, shared, seats),
-        Trial::Soak => soaked(rt, alloc, shared, seats),
+    fn try_on(self, trial: Trial) -> Result<(), Fail> {
+        match trial {
+            Trial::Play(play) => self.played(play),
+            Trial::PlayEnabled(play) => self.played_enabled(play),
+            Trial::SeatsWithheld => self.seats_withheld(),
+            Trial::FateIsRead => self.fate_is_read(),
+            Trial::BusyRun => self.busy_run(),
+            Trial::HistoryFills => self.history_fills(),
+            Trial::ClientsMeet => self.clients_meet(),
+            Trial::NothingIsDone => self.nothing_is_done(),
+            Trial::RunWithoutMemory => self.run_without_memory(),
+            Trial::Soak => self.soaked(),
+        }
     }
 }
 
@@ -116,5 +112,5 @@ where
     let Ok((shared, seats)) = SharedDevice::<S, L>::new(alloc, device, blanks, clients) else {
         return Err("the device was not shared")?;
     };
-    try_on(rt, alloc, trial, shared, seats)
+    Stage::new(rt, alloc, shared, seats).try_on(trial)
 }

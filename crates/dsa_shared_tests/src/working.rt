@@ -2,22 +2,19 @@
 
 use crate::accounts::add_up;
 use crate::gates::{Meeting, Passes};
-use crate::playing::Record;
-use crate::steps::{ENQCMD, MOVE, NO_OP, bytes_of};
+use crate::stage::Stage;
 use crate::stores::{Trial, over_both_stores};
 use dsa_book::{Kind, Portal};
 use dsa_desc::{Descriptor, Outcome};
+use dsa_fixtures::{ENQCMD, MOVE, NO_OP, bytes_of};
 use dsa_regs::Command;
-use dsa_shared::{Seats, Settled, SharedDevice, Sharing};
+use dsa_shared::{Sharing, Totals};
 use dsa_store::EntryStore;
-use dsa_workers::{
-    ClientStep, EngineScript, Gate, RunFault, RunReport, Scripts, WorkerEnd, run_threads,
-};
+use dsa_workers::{ClientStep, EngineScript, Gate, RunFault, RunReport, Scripts, WorkerEnd};
 use std::alloc::{AllocError, Global};
 use std::marker::{Send, Sync};
 use std::process::Abort;
 use std::sync::Wait;
-use std::sync::atomic::{AtomicU32, Ordering};
 use std::test::Fail;
 use std::thread::Threads;
 use std::time::Clock;
@@ -27,177 +24,57 @@ const ENGINE: EngineScript = EngineScript {
     outcome: Outcome::Success,
 };
 
-// So often by ENQCMD to the limited portal of the shared queue.
-fn enqueued(alloc: Global, desc: Descriptor, count: usize) -> Result<Vec<ClientStep>, AllocError> {
-    let step = ClientStep {
-        queue: 0,
+// To the limited portal of a queue.
+fn submission(queue: u16, kind: Kind, desc: Descriptor) -> ClientStep {
+    ClientStep {
+        queue,
         portal: Portal::Limited,
-        kind: ENQCMD,
+        kind,
         bytes: bytes_of(desc),
-    };
-    Vec::from_elem(alloc, step, count)
+    }
+}
+
+// So often by ENQCMD to the shared queue.
+fn enqueued(alloc: Global, desc: Descriptor, count: usize) -> Result<Vec<ClientStep>, AllocError> {
+    Vec::from_elem(alloc, submission(0, ENQCMD, desc), count)
 }
 
 // So often by MOVDIR64B to the dedicated queue.
 fn posted(alloc: Global, count: usize) -> Result<Vec<ClientStep>, AllocError> {
-    let step = ClientStep {
-        queue: 1,
-        portal: Portal::Limited,
-        kind: Kind::Movdir64b,
-        bytes: bytes_of(NO_OP),
-    };
-    Vec::from_elem(alloc, step, count)
+    Vec::from_elem(alloc, submission(1, Kind::Movdir64b, NO_OP), count)
+}
+
+// The scripts of two clients, of two engines and of an administrator.
+fn scripts_of(
+    alloc: Global,
+    first: Vec<ClientStep>,
+    second: Vec<ClientStep>,
+    commands: &[Command],
+) -> Result<Scripts, AllocError> {
+    let mut clients = Vec::new(alloc);
+    clients.push(first)?;
+    clients.push(second)?;
+    let engines = Vec::from_elem(alloc, ENGINE, 2)?;
+    let mut admin = Vec::new(alloc);
+    admin.extend_from_slice(commands)?;
+    Ok(Scripts {
+        clients,
+        engines,
+        admin,
+    })
 }
 
 // Twenty submissions to each queue, a drain and an abort.
 fn busy(alloc: Global) -> Result<Scripts, AllocError> {
-    Ok(Scripts {
-        clients: vec![in alloc; enqueued(alloc, MOVE, 20)?, posted(alloc, 20)?]?,
-        engines: vec![in alloc; ENGINE, ENGINE]?,
-        admin: vec![in alloc; Command::DrainAll, Command::AbortPasid(5)]?,
-    })
+    let commands = [Command::DrainAll, Command::AbortPasid(5)];
+    let moves = enqueued(alloc, MOVE, 20)?;
+    scripts_of(alloc, moves, posted(alloc, 20)?, &commands)
 }
 
-/// Enables the device and its queues, runs the workers, and settles.
-pub fn work<S, L, G, R>(
-    rt: &R,
-    alloc: Global,
-    shared: SharedDevice<S, L>,
-    seats: Seats<L>,
-    scripts: &Scripts,
-    gate: &G,
-    turns: u32,
-) -> Result<(RunReport, Settled<S>), Fail>
-where
-    S: EntryStore + Send,
-    L: Sharing + Send + Sync,
-    G: Gate + Sync,
-    R: Threads + Wait + Clock + Abort + Sync,
-{
-    let mut seats = seats;
-    Record::new(alloc).set_up(rt, &shared, &mut seats)?;
-    let report = run_threads(rt, alloc, &shared, &mut seats, scripts, gate, turns)?;
-    for (seat, script) in seats.clients.iter().zip(&scripts.clients) {
-        assert!(rt; seat.accepted() <= script.len() as u64);
-    }
-    assert!(rt; report.turns.iter().all(|had| *had <= turns));
-    let Ok(settled) = shared.settle(seats) else {
-        return Err("settling was refused")?;
-    };
-    add_up(rt, alloc, &settled)?;
-    Ok((report, settled))
-}
-
-// Two clients, two engines and an administrator.
-pub fn busy_run<S, L, R>(
-    rt: &R,
-    alloc: Global,
-    shared: SharedDevice<S, L>,
-    seats: Seats<L>,
-) -> Result<(), Fail>
-where
-    S: EntryStore + Send,
-    L: Sharing + Send + Sync,
-    R: Threads + Wait + Clock + Abort + Sync,
-{
-    let gate = Passes::new(alloc, 5)?;
-    let scripts = busy(alloc)?;
-    let (report, settled) = work(rt, alloc, shared, seats, &scripts, &gate, 2_000)?;
-    gate.are_those_of(rt, &report);
-    assert_eq!(rt; settled.totals.fetched, 0);
-    let [client, poster, engine, other, admin] = five(rt, &report);
-    assert_ne!(rt; client.1, WorkerEnd::HistoryFull);
-    assert_eq!(rt; poster, (20, WorkerEnd::ScriptDone));
-    assert_eq!(rt; engine, (2_000, WorkerEnd::TurnsOut));
-    assert_eq!(rt; other, (2_000, WorkerEnd::TurnsOut));
-    assert_ne!(rt; admin.1, WorkerEnd::HistoryFull);
-    Ok(())
-}
-
-// What five workers did.
-fn five(rt: &impl Abort, report: &RunReport) -> [(u32, WorkerEnd); 5] {
-    assert_eq!(rt; report.turns.len(), 5);
-    assert_eq!(rt; report.ended.len(), 5);
-    let mut items = [(0, WorkerEnd::TurnsOut); 5];
-    for k in 0..5usize {
-        items[k] = (report.turns[k], report.ended[k]);
-    }
-    items
-}
-
-#[test]
-fn busy_workers(rt: HostRuntime) -> Result<(), Fail> {
-    over_both_stores(&rt, rt.alloc(), Trial::BusyRun)
-}
-
-// The same with a history that fills while they run: the clients alone have more steps to make than it
-// has room for.
-pub fn history_fills<S, L, R>(
-    rt: &R,
-    alloc: Global,
-    shared: SharedDevice<S, L>,
-    seats: Seats<L>,
-) -> Result<(), Fail>
-where
-    S: EntryStore + Send,
-    L: Sharing + Send + Sync,
-    R: Threads + Wait + Clock + Abort + Sync,
-{
-    let gate = Passes::new(alloc, 5)?;
-    let scripts = busy(alloc)?;
-    let (report, settled) = work(rt, alloc, shared, seats, &scripts, &gate, 2_000)?;
-    gate.are_those_of(rt, &report);
-    assert_eq!(rt; settled.totals.steps, 40);
-    let [client, poster, _, _, _] = five(rt, &report);
-    assert!(rt; client.1 == WorkerEnd::HistoryFull || poster.1 == WorkerEnd::HistoryFull);
-    Ok(())
-}
-
-#[test]
-fn history_fills_meanwhile(rt: HostRuntime) -> Result<(), Fail> {
-    over_both_stores(&rt, rt.alloc(), Trial::HistoryFills)
-}
-
-// One No-op of each of two clients, neither of which submits before the other has come.
-pub fn clients_meet<S, L, R>(
-    rt: &R,
-    alloc: Global,
-    shared: SharedDevice<S, L>,
-    seats: Seats<L>,
-) -> Result<(), Fail>
-where
-    S: EntryStore + Send,
-    L: Sharing + Send + Sync,
-    R: Threads + Wait + Clock + Abort + Sync,
-{
-    let scripts = Scripts {
-        clients: vec![in alloc; enqueued(alloc, NO_OP, 1)?, enqueued(alloc, NO_OP, 1)?]?,
-        engines: vec![in alloc; ENGINE, ENGINE]?,
-        admin: Vec::new(alloc),
-    };
-    let gate = Meeting {
-        clock: rt,
-        passes: Passes::new(alloc, 5)?,
-        first_has_come: AtomicU32::new(0),
-        second_has_come: AtomicU32::new(0),
-        missed: AtomicU32::new(0),
-    };
-    let (report, settled) = work(rt, alloc, shared, seats, &scripts, &gate, 100)?;
-    gate.passes.are_those_of(rt, &report);
-    assert_eq!(rt; gate.first_has_come.load(Ordering::SeqCst), 1);
-    assert_eq!(rt; gate.second_has_come.load(Ordering::SeqCst), 1);
-    assert_eq!(rt; gate.missed.load(Ordering::SeqCst), 0);
-    let [first, second, _, _, admin] = five(rt, &report);
-    assert_eq!(rt; first, (1, WorkerEnd::ScriptDone));
-    assert_eq!(rt; second, (1, WorkerEnd::ScriptDone));
-    assert_eq!(rt; admin, (0, WorkerEnd::ScriptDone));
-    assert_eq!(rt; settled.totals.accepted, 2);
-    Ok(())
-}
-
-#[test]
-fn clients_at_the_same_time(rt: HostRuntime) -> Result<(), Fail> {
-    over_both_stores(&rt, rt.alloc(), Trial::ClientsMeet)
+// One No-op of each of two clients.
+fn one_each(alloc: Global) -> Result<Scripts, AllocError> {
+    let first = enqueued(alloc, NO_OP, 1)?;
+    scripts_of(alloc, first, enqueued(alloc, NO_OP, 1)?, &[])
 }
 
 /// Scripts for some numbers of seats, each of one step.
@@ -209,77 +86,168 @@ pub fn scripts_for(alloc: Global, clients: usize, engines: usize) -> Result<Scri
     Ok(Scripts {
         clients: scripts,
         engines: Vec::from_elem(alloc, ENGINE, engines)?,
-        admin: vec![in alloc; Command::DrainAll]?,
+        admin: Vec::from_elem(alloc, Command::DrainAll, 1)?,
     })
 }
 
-// Too few or too many scripts for the clients or the engines, and then no administrator's seat.
-fn do_not_fit<S, L, R>(
-    rt: &R,
-    alloc: Global,
-    shared: &SharedDevice<S, L>,
-    seats: &mut Seats<L>,
-    gate: &Passes,
-) -> Result<(), Fail>
-where
-    S: EntryStore + Send,
-    L: Sharing + Send + Sync,
-    R: Threads + Wait + Abort + Sync,
-{
-    let fault = Some(RunFault::ScriptCount);
-    for (clients, engines) in [(1, 2), (3, 2), (0, 2), (2, 1), (2, 3), (2, 0)] {
-        let scripts = scripts_for(alloc, clients, engines)?;
-        let ran = run_threads(rt, alloc, shared, seats, &scripts, gate, 10);
-        assert_eq!(rt;
-            ran.err(),
-            fault,
-            "for {clients} clients and {engines} engines"
-        );
+// How many turns each of five workers had, and how it ended.
+type Five = [(u32, WorkerEnd); 5];
+
+// What five workers did.
+fn five(rt: &impl Abort, report: &RunReport) -> Five {
+    assert_eq!(rt; report.turns.len(), 5);
+    assert_eq!(rt; report.ended.len(), 5);
+    let mut items = [(0, WorkerEnd::TurnsOut); 5];
+    for k in 0..5usize {
+        items[k] = (report.turns[k], report.ended[k]);
     }
-    let scripts = scripts_for(alloc, 2, 2)?;
-    let admin = seats.admin.take();
-    let ran = run_threads(rt, alloc, shared, seats, &scripts, gate, 10);
-    assert_eq!(rt; ran.err(), fault, "without an administrator");
-    seats.admin = admin;
-    Ok(())
+    items
 }
 
-// Scripts that do not fit the seats, then scripts without turns for them, and then empty ones.
-pub fn nothing_is_done<S, L, R>(
-    rt: &R,
-    alloc: Global,
-    shared: SharedDevice<S, L>,
-    seats: Seats<L>,
-) -> Result<(), Fail>
+impl<'a, S, L, R> Stage<'a, S, L, R>
 where
     S: EntryStore + Send,
     L: Sharing + Send + Sync,
     R: Threads + Wait + Clock + Abort + Sync,
 {
-    let mut seats = seats;
-    let gate = Passes::new(alloc, 5)?;
-    do_not_fit(rt, alloc, &shared, &mut seats, &gate)?;
-    gate.are_none(rt);
-    let scripts = scripts_for(alloc, 2, 2)?;
-    let report = run_threads(rt, alloc, &shared, &mut seats, &scripts, &gate, 0)?;
-    gate.are_those_of(rt, &report);
-    assert_eq!(rt; five(rt, &report), [(0, WorkerEnd::TurnsOut); 5]);
-    let scripts = Scripts {
-        clients: vec![in alloc; Vec::new(alloc), Vec::new(alloc)]?,
-        engines: vec![in alloc; ENGINE, ENGINE]?,
-        admin: Vec::new(alloc),
-    };
-    let gate = Passes::new(alloc, 5)?;
-    let report = run_threads(rt, alloc, &shared, &mut seats, &scripts, &gate, 10)?;
-    gate.are_those_of(rt, &report);
-    let done = (0, WorkerEnd::ScriptDone);
-    let served = (10, WorkerEnd::TurnsOut);
-    assert_eq!(rt; five(rt, &report), [done, done, served, served, done]);
-    let Ok(settled) = shared.settle(seats) else {
-        return Err("settling was refused")?;
-    };
-    assert_eq!(rt; settled.totals.steps, 0);
-    Ok(())
+    // Enables the device and its queues, runs five workers, and settles.
+    fn work<G: Gate + Sync>(
+        self,
+        scripts: &Scripts,
+        gate: &G,
+        turns: u32,
+    ) -> Result<(RunReport, Totals), Fail> {
+        let mut stage = self;
+        let (rt, alloc) = (stage.rt, stage.alloc);
+        stage.set_up()?;
+        let report = stage.run(scripts, gate, turns)?;
+        for (seat, script) in stage.seats.clients.iter().zip(&scripts.clients) {
+            assert!(rt; seat.accepted() <= script.len() as u64);
+        }
+        assert!(rt; report.turns.iter().all(|had| *had <= turns));
+        let (settled, _) = stage.settled()?;
+        add_up(rt, alloc, &settled)?;
+        Ok((report, settled.totals))
+    }
+
+    // The same with the busy scripts.
+    fn work_busily(self) -> Result<(Five, Totals), Fail> {
+        let rt = self.rt;
+        let gate = Passes::new(self.alloc, 5)?;
+        let scripts = busy(self.alloc)?;
+        let (report, totals) = self.work(&scripts, &gate, 2_000)?;
+        gate.are_those_of(rt, &report);
+        Ok((five(rt, &report), totals))
+    }
+
+    /// Two clients, two engines and an administrator.
+    pub fn busy_run(self) -> Result<(), Fail> {
+        let rt = self.rt;
+        let ([client, poster, engine, other, admin], totals) = self.work_busily()?;
+        assert_eq!(rt; totals.fetched, 0);
+        assert_ne!(rt; client.1, WorkerEnd::HistoryFull);
+        assert_eq!(rt; poster, (20, WorkerEnd::ScriptDone));
+        assert_eq!(rt; engine, (2_000, WorkerEnd::TurnsOut));
+        assert_eq!(rt; other, (2_000, WorkerEnd::TurnsOut));
+        assert_ne!(rt; admin.1, WorkerEnd::HistoryFull);
+        Ok(())
+    }
+
+    /// The same with a history that fills while they run: the clients alone have more steps to make than
+    /// it has room for.
+    pub fn history_fills(self) -> Result<(), Fail> {
+        let rt = self.rt;
+        let ([client, poster, _, _, _], totals) = self.work_busily()?;
+        assert_eq!(rt; totals.steps, 40);
+        assert!(rt; client.1 == WorkerEnd::HistoryFull || poster.1 == WorkerEnd::HistoryFull);
+        Ok(())
+    }
+
+    /// One No-op of each of two clients, neither of which submits before the other has come.
+    pub fn clients_meet(self) -> Result<(), Fail> {
+        let rt = self.rt;
+        let scripts = one_each(self.alloc)?;
+        let gate = Meeting::new(rt, self.alloc)?;
+        let (report, totals) = self.work(&scripts, &gate, 100)?;
+        gate.passes.are_those_of(rt, &report);
+        gate.was_kept(rt);
+        let [first, second, _, _, admin] = five(rt, &report);
+        assert_eq!(rt; first, (1, WorkerEnd::ScriptDone));
+        assert_eq!(rt; second, (1, WorkerEnd::ScriptDone));
+        assert_eq!(rt; admin, (0, WorkerEnd::ScriptDone));
+        assert_eq!(rt; totals.accepted, 2);
+        Ok(())
+    }
+
+    // The run of these scripts is refused, for their number.
+    fn do_not_fit(
+        &mut self,
+        gate: &Passes,
+        clients: usize,
+        engines: usize,
+        of: &str,
+    ) -> Result<(), Fail> {
+        let scripts = scripts_for(self.alloc, clients, engines)?;
+        let ran = self.run(&scripts, gate, 10);
+        assert_eq!(self.rt;
+            ran.err(),
+            Some(RunFault::ScriptCount),
+            "for {clients} clients and {engines} engines{of}"
+        );
+        Ok(())
+    }
+
+    // Too few or too many scripts for the clients or the engines, and then no administrator's seat.
+    fn none_fits(&mut self) -> Result<(), Fail> {
+        let gate = Passes::new(self.alloc, 5)?;
+        for (clients, engines) in [(1, 2), (3, 2), (0, 2), (2, 1), (2, 3), (2, 0)] {
+            self.do_not_fit(&gate, clients, engines, "")?;
+        }
+        let admin = self.seats.admin.take();
+        self.do_not_fit(&gate, 2, 2, " without an administrator")?;
+        self.seats.admin = admin;
+        gate.are_none(self.rt);
+        Ok(())
+    }
+
+    // What five workers did with these scripts and so many turns.
+    fn ran(&mut self, scripts: &Scripts, turns: u32) -> Result<Five, Fail> {
+        let gate = Passes::new(self.alloc, 5)?;
+        let report = self.run(scripts, &gate, turns)?;
+        gate.are_those_of(self.rt, &report);
+        Ok(five(self.rt, &report))
+    }
+
+    /// Scripts that do not fit the seats, then scripts without turns for them, and then empty ones.
+    pub fn nothing_is_done(self) -> Result<(), Fail> {
+        let mut stage = self;
+        let (rt, alloc) = (stage.rt, stage.alloc);
+        stage.none_fits()?;
+        let idle = stage.ran(&scripts_for(alloc, 2, 2)?, 0)?;
+        assert_eq!(rt; idle, [(0, WorkerEnd::TurnsOut); 5]);
+        let empty = scripts_of(alloc, Vec::new(alloc), Vec::new(alloc), &[])?;
+        let done = (0, WorkerEnd::ScriptDone);
+        let served = (10, WorkerEnd::TurnsOut);
+        assert_eq!(rt; stage.ran(&empty, 10)?, [done, done, served, served, done]);
+        let (settled, _) = stage.settled()?;
+        assert_eq!(rt; settled.totals.steps, 0);
+        Ok(())
+    }
+}
+
+#[test]
+fn busy_workers(rt: HostRuntime) -> Result<(), Fail> {
+    over_both_stores(&rt, rt.alloc(), Trial::BusyRun)
+}
+
+#[test]
+fn history_fills_meanwhile(rt: HostRuntime) -> Result<(), Fail> {
+    over_both_stores(&rt, rt.alloc(), Trial::HistoryFills)
+}
+
+#[test]
+fn clients_at_the_same_time(rt: HostRuntime) -> Result<(), Fail> {
+    over_both_stores(&rt, rt.alloc(), Trial::ClientsMeet)
 }
 
 #[test]

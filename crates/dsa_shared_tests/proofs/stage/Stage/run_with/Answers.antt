@@ -1,4 +1,4 @@
-use Rattle.dsa_shared_tests.proofs.memory.run_without_memory.Goals as goal
+use Rattle.dsa_shared_tests.proofs.stage.Stage.run_with.Goals as goal
 use Rattle.std.proofs.Crossing.{frees as heap}
 
 -- A block goes back as one of the heap does, from any thread.
