@@ -1,14 +1,20 @@
 use Rattle.dsa_tests.proofs.engines.start_one.Goals as goal
-use Rattle.std.proofs.Common.{◌≡◌, ◌∙◌, ◌≤◌, List, [], ◌∷◌, length, refl, sym, ap, subst, arith}
+use Rattle.std.proofs.Common.{◌≡◌, ℕ, ◌∙◌, ◌<◌, ◌≤◌, List, [], ◌∷◌, length, refl, sym, ap, subst, arith}
+use Rattle.std.proofs.lemmas.Bool.{lt-ltb}
 use Rattle.dsa_regs.specs.declared.Caps.{Caps}
 use Rattle.dsa_store.specs.Content.{Slot, Content, chain}
-use Rattle.dsa_book.specs.Work.{members, member_list}
-use Rattle.dsa_engines.{specs.Engines.{lists_alone, WaitInOrder}, proofs.Members.{members-are}}
+use Rattle.dsa_book.specs.{State.{Setup}, Work.{members, member_list}}
+use Rattle.dsa_engines.specs.Engines.{lists_alone, WaitInOrder}
 
 one-waits : (l : List Slot) → length l ≤ 1 → WaitInOrder l
 one-waits [] h = tt
 one-waits (x ∷ []) h = λ _. refl
 one-waits (x ∷ y ∷ l) h = absurd (omega (arith, h))
+
+-- the members of an engine are its list
+members-are : (setup : Setup) (content : Content) (e : ℕ) → e < setup.caps.engines
+    → members (lists_alone setup content) e ≡ chain content (member_list setup e)
+members-are setup content e h = rw (lt-ltb e setup.caps.engines h) refl
 
 pub start-requires-clause-order : goal.start-requires-clause-order
 start-requires-clause-order g c =
