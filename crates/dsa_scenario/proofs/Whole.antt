@@ -1,11 +1,9 @@
 -- The parts of a document, together.
-use Rattle.std.proofs.Common.{◌≡◌, ◌⊎◌, inl, inr, ℕ, List, [], ◌∷◌, Some, map, refl, sym, ap}
+use Rattle.std.proofs.Common.{◌≡◌, ◌⊎◌, inl, inr, ℕ, List, [], ◌∷◌, Some, map, sym, ap, refl}
 use Rattle.serde_json.specs.{Data.{Data}, View.{view, items_of, items_view}, declared.value.Value.{Value}}
 use Rattle.dsa_regs.specs.declared.Caps.{Caps}
-use Rattle.dsa_scenario.specs.declared.actions.Action.{Action}
 use Rattle.dsa_scenario.specs.declared.faults.ScenarioFault.{ScenarioFault, TheVariants.{BadStep, OutOfMemory}}
-use Rattle.dsa_scenario.specs.Actions.{action_of}
-use Rattle.dsa_scenario.specs.Document.{list_of, head_of, IsJson, HasHead, IsDocument, IsFirstBad, IsFaultOf}
+use Rattle.dsa_scenario.specs.Document.{list_of, head_of, IsJson, HasHead, IsFirstBad, IsFaultOf}
 
 -- the items of a list are the list
 list_of-items_of : (ds : List Data) → list_of (items_of ds) ≡ ds
@@ -13,7 +11,7 @@ list_of-items_of [] = refl
 list_of-items_of (d ∷ ds) = ap (λ l. d ∷ l) (list_of-items_of ds)
 
 -- the head of a value, by its text
-has_head : (bytes : List ℕ) (v : Value) (caps : Caps) (capacity : ℕ) (steps : List Value) → IsJson bytes (view v)
+pub has_head : (bytes : List ℕ) (v : Value) (caps : Caps) (capacity : ℕ) (steps : List Value) → IsJson bytes (view v)
     → Some (caps, capacity, items_view steps) ≡ head_of (view v) → HasHead bytes caps capacity (map view steps)
 has_head bytes v caps capacity steps h e = record {
   document = view v;
@@ -23,24 +21,11 @@ has_head bytes v caps capacity steps h e = record {
   listed = list_of-items_of (map view steps);
 }
 
--- a value whose step objects are read is a document
-pub is_document : (bytes : List ℕ) (v : Value) (caps : Caps) (capacity : ℕ) (steps : List Value) (actions : List Action)
-    → IsJson bytes (view v) → Some (caps, capacity, items_view steps) ≡ head_of (view v)
-    → map action_of (map view steps) ≡ map Some actions → IsDocument bytes caps capacity actions
-is_document bytes v caps capacity steps actions h e asked =
-    record { steps = map view steps; head = has_head bytes v caps capacity steps h e; asked = asked }
-
--- and one with a bad step object has that fault
-pub first_bad : (bytes : List ℕ) (v : Value) (caps : Caps) (capacity : ℕ) (steps : List Value) (e : ScenarioFault)
-    → IsJson bytes (view v) → Some (caps, capacity, items_view steps) ≡ head_of (view v)
-    → (e ≡ OutOfMemory) ⊎ IsFirstBad (map view steps) e → (e ≡ OutOfMemory) ⊎ IsFaultOf bytes e
-first_bad bytes v caps capacity steps e json head (inl h) = inl h
-first_bad bytes v caps capacity steps (BadStep i) json head (inr h) =
-    inr (record {
-      caps = caps;
-      capacity = capacity;
-      steps = map view steps;
-      head = has_head bytes v caps capacity steps json head;
-      bad = h;
-    })
-first_bad bytes v caps capacity steps _ json head (inr h) = absurd h
+-- a document with a bad step object has that fault
+pub first_bad : (bytes : List ℕ) (caps : Caps) (capacity : ℕ) (steps : List Data) (e : ScenarioFault)
+    → HasHead bytes caps capacity steps → (e ≡ OutOfMemory) ⊎ IsFirstBad steps e
+    → (e ≡ OutOfMemory) ⊎ IsFaultOf bytes e
+first_bad bytes caps capacity steps e head (inl h) = inl h
+first_bad bytes caps capacity steps (BadStep i) head (inr h) =
+    inr (record { caps = caps; capacity = capacity; steps = steps; head = head; bad = h })
+first_bad bytes caps capacity steps _ head (inr h) = absurd h

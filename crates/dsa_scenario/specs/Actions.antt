@@ -11,7 +11,7 @@ use Rattle.dsa_regs.specs.Command.{command_of}
 use Rattle.dsa_book.specs.declared.event.Portal.{Portal, TheVariants.{Limited, Unlimited}}
 use Rattle.dsa_book.specs.declared.event.Kind.TheVariants.{Enqcmd, Movdir64b}
 use Rattle.dsa_scenario.specs.declared.actions.Action.{Action, TheVariants.{Ask, Finish, Refuse}}
-use Rattle.dsa_scenario.specs.Fields.{◌>>=◌, whole_of, truth_of, text_of, hex_bytes_of}
+use Rattle.dsa_scenario.specs.Fields.{◌>>=◌, whole_of, wholes_of, truth_of, text_of, hex_bytes_of}
 
 -- the object `caps` (profile)
 abbrev pub caps_of : Data → Option Caps
@@ -38,13 +38,11 @@ caps_of d = do
 -- the configuration of a queue (profile)
 abbrev pub queue_config_of : Data → Option QueueConfig
 queue_config_of d = do
-  size ← whole_of (2 ^ 16) (codes "size") d
-  threshold ← whole_of (2 ^ 16) (codes "threshold") d
+  (size, threshold) ← wholes_of (2 ^ 16) (codes "size") (codes "threshold") d
   dedicated ← truth_of (codes "dedicated") d
   priority ← whole_of (2 ^ 8) (codes "priority") d
   pasid ← whole_of (2 ^ 32) (codes "pasid") d
-  max_batch_shift ← whole_of (2 ^ 8) (codes "batch") d
-  max_xfer_shift ← whole_of (2 ^ 8) (codes "xfer") d
+  (max_batch_shift, max_xfer_shift) ← wholes_of (2 ^ 8) (codes "batch") (codes "xfer") d
   Some (record {
     size = size;
     threshold = threshold;
@@ -103,8 +101,7 @@ group_of d = do
 -- `enqcmd`: a submission by ENQCMD (profile)
 abbrev pub enqcmd_of : Data → Option Action
 enqcmd_of d = do
-  client ← whole_of (2 ^ 16) (codes "client") d
-  queue ← whole_of (2 ^ 16) (codes "queue") d
+  (client, queue) ← wholes_of (2 ^ 16) (codes "client") (codes "queue") d
   limited ← truth_of (codes "limited") d
   pasid ← whole_of (2 ^ 32) (codes "pasid") d
   desc ← desc_of d
@@ -113,8 +110,7 @@ enqcmd_of d = do
 -- `movdir`: a submission by MOVDIR64B (profile)
 abbrev pub movdir_of : Data → Option Action
 movdir_of d = do
-  client ← whole_of (2 ^ 16) (codes "client") d
-  queue ← whole_of (2 ^ 16) (codes "queue") d
+  (client, queue) ← wholes_of (2 ^ 16) (codes "client") (codes "queue") d
   limited ← truth_of (codes "limited") d
   desc ← desc_of d
   Some (Ask (event.Submit client queue (portal_of limited) Movdir64b desc))

@@ -17,6 +17,13 @@ below limit n = if nat_lt n limit then Some n else None
 abbrev pub whole_of : ℕ → List ℕ → Data → Option ℕ
 whole_of limit key d = option_and_then (below limit) (option_and_then as_u64 (option_and_then as_number (get key d)))
 
+-- and those at two keys (profile)
+abbrev pub wholes_of : ℕ → List ℕ → List ℕ → Data → Option (ℕ × ℕ)
+wholes_of limit first second d = do
+  m ← whole_of limit first d
+  n ← whole_of limit second d
+  Some (m, n)
+
 -- the truth value at the key (profile)
 abbrev pub truth_of : List ℕ → Data → Option Bool
 truth_of key d = option_and_then as_bool (get key d)
