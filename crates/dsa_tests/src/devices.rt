@@ -120,6 +120,11 @@ fn call(device: &mut Device<PlainStore>, event: Event) -> Reply {
             kind,
             desc,
         } => Reply::Submit(device.submit(client, queue, portal, kind, &bytes_of(desc))),
+        Event::Issue { command } => Reply::Issue(device.issue(command)),
+        Event::Poll => Reply::Poll(device.poll()),
+        Event::WriteQueue { queue, config } => Reply::Write(device.write_queue(queue, config)),
+        Event::WriteGroup { group, config } => Reply::Write(device.write_group(group, config)),
+        Event::ClearError => Reply::Clear(device.clear_error()),
         Event::Dispatch { engine } => Reply::Dispatch(device.dispatch(engine)),
         Event::Fetch { engine, desc } => Reply::Fetch(device.fetch(engine, desc)),
         Event::Start { engine } => Reply::Start(device.start(engine)),
@@ -128,11 +133,6 @@ fn call(device: &mut Device<PlainStore>, event: Event) -> Reply {
             ticket,
             outcome,
         } => Reply::Finish(device.finish(engine, ticket, outcome)),
-        Event::Issue { command } => Reply::Issue(device.issue(command)),
-        Event::Poll => Reply::Poll(device.poll()),
-        Event::WriteQueue { queue, config } => Reply::Write(device.write_queue(queue, config)),
-        Event::WriteGroup { group, config } => Reply::Write(device.write_group(group, config)),
-        Event::ClearError => Reply::Clear(device.clear_error()),
     }
 }
 
