@@ -5,7 +5,7 @@ use Rattle.std.proofs.lemmas.{Bool.Decides.{eqb_tells, nat_tests}, List.{get_or-
 use Rattle.std.proofs.Math.{Seq.{map-set_same}, ListN.{get_or-map}}
 use Rattle.dsa_cells.specs.{declared.links.Node.{Node}, Array.{node_at, no_node}}
 use Rattle.dsa_cells.specs.Partition.{first_or, last_or, Linked, walk, times}
-use Rattle.dsa_cells.specs.Writes.{InRange, AreInside, changed, joined}
+use Rattle.dsa_cells.specs.Writes.{InRange, AreInside, after_change, after_join}
 
 -- lists
 
@@ -128,25 +128,25 @@ split_at c (x ∷ xs) h = elim (eqb_tells x c) [
 -- a node is changed
 
 -- no node comes or goes
-pub length-changed : (f : Node → Node) (s : List Node) (o : Option ℕ) → length (changed f s o) ≡ length s
+pub length-changed : (f : Node → Node) (s : List Node) (o : Option ℕ) → length (after_change f s o) ≡ length s
 length-changed f s None = refl
 length-changed f s (Some c) = length-set s c (f (node_at s c))
 
 -- what the change leaves in a node is left in all
 pub map-changed : {X : Type 0} (g : Node → X) (f : Node → Node) (s : List Node) (o : Option ℕ) →
     ((t : Node) → g (f t) ≡ g t)
-    → map g (changed f s o) ≡ map g s
+    → map g (after_change f s o) ≡ map g s
 map-changed g f s None h = refl
 map-changed g f s (Some c) h = map-set_same g s c (f (node_at s c)) no_node (h (node_at s c))
 
 -- the node that is changed
-pub changed-here : (f : Node → Node) (s : List Node) (c : ℕ) → c < length s → node_at (changed f s (Some c)) c ≡
+pub changed-here : (f : Node → Node) (s : List Node) (c : ℕ) → c < length s → node_at (after_change f s (Some c)) c ≡
     f (node_at s c)
 changed-here f s c lt = get_or-set_same s c (f (node_at s c)) no_node lt
 
 -- another node
 pub changed-other : (f : Node → Node) (s : List Node) (o : Option ℕ) (xs : List ℕ) (x : ℕ) → Names xs o → times x xs ≡ 0
-    → node_at (changed f s o) x ≡ node_at s x
+    → node_at (after_change f s o) x ≡ node_at s x
 changed-other f s None xs x n h = refl
 changed-other f s (Some c) xs x n h =
     get_or-set_other s c x (f (node_at s c)) no_node (λ e. omega (arith, n, subst (λ y. times y xs ≡ 0) e h))
@@ -154,15 +154,15 @@ changed-other f s (Some c) xs x n h =
 -- cells stay linked while a cell of other lists changes
 pub Linked-other : (f : Node → Node) (s : List Node) (o : Option ℕ) (ys : List ℕ) (p : Option ℕ) (xs : List ℕ)
     (q : Option ℕ)
-    → Names ys o → ((x : ℕ) → times x ys + times x xs ≤ 1) → Linked s p xs q → Linked (changed f s o) p xs q
-Linked-other f s o ys p xs q n d l = Linked-agree s (changed f s o) p xs q (λ x h.
+    → Names ys o → ((x : ℕ) → times x ys + times x xs ≤ 1) → Linked s p xs q → Linked (after_change f s o) p xs q
+Linked-other f s o ys p xs q n d l = Linked-agree s (after_change f s o) p xs q (λ x h.
     let e = changed-other f s o ys x n (omega (arith, h, d x)) in
     record { next = ap (λ (t : Node). t.next) e; previous = ap (λ (t : Node). t.previous) e }) l
 
 -- the last cell of a list gets another next
 relink_tail : (s : List Node) (p : Option ℕ) (x : ℕ) (xs : List ℕ) (q r : Option ℕ) → Once (x ∷ xs) →
     AreInside s (x ∷ xs)
-    → Linked s p (x ∷ xs) q → Linked (changed (λ t. record t { next = r }) s (last_or xs (Some x))) p (x ∷ xs) r
+    → Linked s p (x ∷ xs) q → Linked (after_change (λ t. record t { next = r }) s (last_or xs (Some x))) p (x ∷ xs) r
 relink_tail s p x [] q r o w l =
     let e = changed-here (λ t. record t { next = r }) s x (w x (omega (arith, times-head x []))) in
     (ap (λ (t : Node). t.previous) e ∙ l.0, ap (λ (t : Node). t.next) e, tt)
@@ -176,13 +176,13 @@ relink_tail s p x (y ∷ ys) q r o w l =
     )
 
 relink_last : (s : List Node) (xs : List ℕ) (q r : Option ℕ) → Once xs → AreInside s xs → Linked s None xs q
-    → Linked (changed (λ t. record t { next = r }) s (last_or xs None)) None xs r
+    → Linked (after_change (λ t. record t { next = r }) s (last_or xs None)) None xs r
 relink_last s [] q r o w l = tt
 relink_last s (x ∷ xs) q r o w l = relink_tail s None x xs q r o w l
 
 -- the first cell of a list gets another previous
 relink_first : (s : List Node) (p r : Option ℕ) (xs : List ℕ) → Once xs → AreInside s xs → Linked s p xs None
-    → Linked (changed (λ t. record t { previous = r }) s (first_or xs None)) r xs None
+    → Linked (after_change (λ t. record t { previous = r }) s (first_or xs None)) r xs None
 relink_first s p r [] o w l = tt
 relink_first s p r (x ∷ xs) o w l =
     let f : Node → Node = λ t. record t { previous = r } in
@@ -196,41 +196,41 @@ relink_first s p r (x ∷ xs) o w l =
 -- two lists of linked cells become one by their ends
 pub Linked-join : (s : List Node) (ys xs : List ℕ) (q p : Option ℕ) → Once (ys ++ xs) → AreInside s (ys ++ xs) →
     Linked s None ys q
-    → Linked s p xs None → Linked (joined s (last_or ys None) (first_or xs None)) None (ys ++ xs) None
+    → Linked s p xs None → Linked (after_join s (last_or ys None) (first_or xs None)) None (ys ++ xs) None
 Linked-join s ys xs q p o w k l =
     let b = last_or ys None in
     let e = first_or xs None in
     let f : Node → Node = λ t. record t { next = e } in
     let g : Node → Node = λ t. record t { previous = b } in
-    let s1 = changed f s b in
+    let s1 = after_change f s b in
     let left = relink_last s ys q e (λ x. omega (arith, o x, times-append x ys xs))
     (λ x h. w x (omega (arith, h, times-append x ys xs))) k in
     let right = Linked-other f s b ys p xs None (Names-last ys) (λ x. omega (arith, o x, times-append x ys xs)) l in
-    Linked-append (joined s b e) None ys xs None
+    Linked-append (after_join s b e) None ys xs None
     (Linked-other g s1 e xs None ys e (Names-first xs) (λ x. omega (arith, o x, times-append x ys xs)) left)
     (relink_first s1 p b xs (λ x. omega (arith, o x, times-append x ys xs))
     (λ x h. omega (arith, w x (omega (arith, h, times-append x ys xs)), length-changed f s b)) right)
 
 -- a third list stays as it is
 pub Linked-join_other : (s : List Node) (ys xs zs : List ℕ) → ((x : ℕ) → times x ys + times x xs + times x zs ≤ 1)
-    → Linked s None zs None → Linked (joined s (last_or ys None) (first_or xs None)) None zs None
+    → Linked s None zs None → Linked (after_join s (last_or ys None) (first_or xs None)) None zs None
 Linked-join_other s ys xs zs d l =
     let b = last_or ys None in
     let e = first_or xs None in
     let f : Node → Node = λ t. record t { next = e } in
-    Linked-other (λ t. record t { previous = b }) (changed f s b) e xs None zs None (Names-first xs)
+    Linked-other (λ t. record t { previous = b }) (after_change f s b) e xs None zs None (Names-first xs)
     (λ x. omega (arith, d x))
     (Linked-other f s b ys None zs None (Names-last ys) (λ x. omega (arith, d x)) l)
 
 -- what a change leaves in a node it leaves in that of each cell
 pub changed-keeps : {X : Type 0} (g : Node → X) (f : Node → Node) (s : List Node) (o : Option ℕ) (x : ℕ)
-    → ((t : Node) → g (f t) ≡ g t) → g (node_at (changed f s o) x) ≡ g (node_at s x)
-changed-keeps g f s o x h = sym (get_or-map g (changed f s o) x no_node)
+    → ((t : Node) → g (f t) ≡ g t) → g (node_at (after_change f s o) x) ≡ g (node_at s x)
+changed-keeps g f s o x h = sym (get_or-map g (after_change f s o) x no_node)
     ∙ ap (λ l. get_or l x (g no_node)) (map-changed g f s o h) ∙ get_or-map g s x no_node
 
 -- so a change that leaves the links leaves them at each cell
 pub changed-links : (f : Node → Node) (s : List Node) (o : Option ℕ) (x : ℕ) → ((t : Node) → (f t).next ≡ t.next)
-    → ((t : Node) → (f t).previous ≡ t.previous) → SameLinks s (changed f s o) x
+    → ((t : Node) → (f t).previous ≡ t.previous) → SameLinks s (after_change f s o) x
 changed-links f s o x n p = record {
   next = changed-keeps (λ t. t.next) f s o x n;
   previous = changed-keeps (λ t. t.previous) f s o x p;

@@ -15,7 +15,7 @@ use Rattle.dsa_store.proofs.{Finding.{list_of-none, next_of-none}, Turns.{Seam, 
 use Rattle.dsa_cells.specs.declared.links.{Node.{Node}, Header.{Header}}
 use Rattle.dsa_cells.specs.Array.{no_entry, node_at, no_node, header_at, entries_of, owners_of}
 use Rattle.dsa_cells.specs.Partition.{first_or, times, in_use, cells_of, list_at, lists_of}
-use Rattle.dsa_cells.specs.Writes.{lacking, appended, moved, given_back, changed}
+use Rattle.dsa_cells.specs.Writes.{cells_without, after_append, after_transfer, after_splice, after_change}
 use Rattle.dsa_cells.specs.Invariant.{place, IsStore, IsWhole}
 use Rattle.dsa_cells.specs.Content.{slot, contents, content_at, cell_of, IsUnused, IsUsed}
 use Rattle.dsa_cells.specs.{Owners.{is_partition}, Naming.{uses-slots, held-slots, IsSound-from_whole}}
@@ -95,7 +95,7 @@ contents-set_free es lists l ys le =
 
 -- a cell comes behind a list that is seen
 contents-appended : (es : List Entry) (lists : List (List ℕ)) (l c : ℕ) → l < length lists - 1
-    → contents es (appended lists l (c ∷ []))
+    → contents es (after_append lists l (c ∷ []))
     ≡ after_push (contents es lists) l (record { 0 = c }) (get_or es c no_entry)
 contents-appended es lists l c lt =
     contents-set es lists l (list_at lists l ++ c ∷ []) lt
@@ -262,14 +262,14 @@ content-written s r c e lt = lists-set (entries_of s) c e (in_use (lists_of s r)
 -- a cell comes from the free list to another, with an entry
 pub content-pushed : (s : List Node) (r : List Header) (c to : ℕ) (e : Entry) → c < length s →
     IsUnused s r (record { 0 = c }) → to < length (content_at s r)
-    → contents (set (entries_of s) c e) (moved (lists_of s r) c (length (content_at s r)) to) ≡
+    → contents (set (entries_of s) c e) (after_transfer (lists_of s r) c (length (content_at s r)) to) ≡
     after_push (content_at s r) to (record { 0 = c }) e
 content-pushed s r c to e lt un to_in =
     let lists = lists_of s r in
     let es = entries_of s in
     let f = length (content_at s r) in
     let size = length-contents es lists in
-    let xs = lacking c (list_at lists f) in
+    let xs = cells_without c (list_at lists f) in
     contents-appended (set es c e) (set lists f xs) to c (omega (arith, to_in, size, length-set lists f xs))
     ∙ rw (
       contents-set_free (set es c e) lists f xs (omega (arith, size)),
@@ -281,16 +281,16 @@ content-pushed s r c to e lt un to_in =
 -- the front of a list comes behind another
 pub content-moved : {s : List Node} {r : List Header} {c from : ℕ} (to : ℕ) → IsWhole s r → Front s r from c
     → from < length (content_at s r) → to < length (content_at s r) → from ≢ to
-    → contents (entries_of s) (moved (lists_of s r) c from to) ≡ move (content_at s r) from to
+    → contents (entries_of s) (after_transfer (lists_of s r) c from to) ≡ move (content_at s r) from to
 content-moved {s} {r} {c} {from} to i f from_in to_in ne =
     let lists = lists_of s r in
     let es = entries_of s in
     let C = content_at s r in
     let size = length-contents es lists in
-    let xs = lacking c (list_at lists from) in
+    let xs = cells_without c (list_at lists from) in
     let one = stands_in s r lists c i.store f.inside in
     let once = ap (λ n. times c (list_at lists n)) (sym f.owner) ∙ one in
-    let less = ap (lacking c) f.is
+    let less = ap (cells_without c) f.is
     ∙ lacking-split c [] f.behind (omega (arith, once, ap (times c) f.is, times-head c f.behind)) in
     contents-appended es (set lists from xs) to c (omega (arith, to_in, size, length-set lists from xs))
     ∙ rw (
@@ -304,7 +304,7 @@ content-moved {s} {r} {c} {from} to i f from_in to_in ne =
 -- a cell comes to the free list
 pub content-unlinked : {s : List Node} {r : List Header} {cell : Cell} {node : Node} → IsWhole s r
     → IsUsed s r cell node
-    → contents (entries_of s) (moved (lists_of s r) cell.0 (node_at s cell.0).owner (length (content_at s r)))
+    → contents (entries_of s) (after_transfer (lists_of s r) cell.0 (node_at s cell.0).owner (length (content_at s r)))
     ≡ after_unlink (content_at s r) cell
 content-unlinked {s} {r} {cell} i u =
     let lists = lists_of s r in
@@ -313,9 +313,9 @@ content-unlinked {s} {r} {cell} i u =
     let f = length C in
     let l = (node_at s cell.0).owner in
     let p = standing cell i u.inside (omega (arith, u.listed, ap (λ (t : Node). t.owner) u.same)) in
-    let ys = lacking cell.0 (list_at lists l) in
+    let ys = cells_without cell.0 (list_at lists l) in
     let rest = set lists l ys in
-    let less = ap (lacking cell.0) p.is ∙ lacking-split cell.0 p.before p.behind p.once in
+    let less = ap (cells_without cell.0) p.is ∙ lacking-split cell.0 p.before p.behind p.once in
     let last : length rest - 1 ≤ f = omega (arith, length-contents es lists, length-set lists l ys) in
     contents-set_free es rest f (list_at rest f ++ cell.0 ∷ []) last
     ∙ contents-set es lists l ys p.listed
@@ -323,7 +323,7 @@ content-unlinked {s} {r} {cell} i u =
 
 -- a list comes to the free list
 pub content-emptied : (s : List Node) (r : List Header) (l : ℕ) → l < length (content_at s r)
-    → contents (entries_of s) (given_back (lists_of s r) l (length (content_at s r)))
+    → contents (entries_of s) (after_splice (lists_of s r) l (length (content_at s r)))
     ≡ after_give_back (content_at s r) l
 content-emptied s r l lt =
     let lists = lists_of s r in
@@ -401,7 +401,7 @@ written {s} {r} {c} e i is = rw is made
     f = λ u. record u { entry = e }
 
     s2 : List Node
-    s2 = changed f s (Some c)
+    s2 = after_change f s (Some c)
 
     owners : owners_of s2 ≡ owners_of s
     owners = map-changed (λ u. u.owner) f s (Some c) (λ u. refl)

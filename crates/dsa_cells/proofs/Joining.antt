@@ -9,7 +9,7 @@ use Rattle.std.specs.Option.{option_or}
 use Rattle.dsa_cells.specs.{declared.links.{Node.{Node}, Header.{Header}}, Array.{node_at, header_at, no_header}}
 use Rattle.dsa_cells.specs.Partition.{first_or, last_or, Linked, cells_of, times, IsHeader, AreHeaders, list_at}
 use Rattle.dsa_cells.specs.Partition.{lists_of}
-use Rattle.dsa_cells.specs.Writes.{AreInside, changed, joined, detached, or_else, without, header_joined}
+use Rattle.dsa_cells.specs.Writes.{AreInside, after_change, after_join, after_detach, or_else, without, header_after_join}
 use Rattle.dsa_cells.specs.{Invariant.{IsStore}, Owners.{owner_is, length-owners}}
 use Rattle.dsa_cells.proofs.Chain.{first_or-append, last_or-append, times-append, times-tail, Once, Linked-left}
 use Rattle.dsa_cells.proofs.Chain.{Linked-right, Linked-join, Linked-join_other, walk_is, map-changed, length-changed}
@@ -19,15 +19,15 @@ use Rattle.dsa_cells.proofs.Chain.{Linked-right, Linked-join, Linked-join_other,
 -- what a write of links leaves in a node it leaves in all
 pub map-joined : {X : Type 0} (g : Node → X) (s : List Node) (b e : Option ℕ) → ((t : Node) (o : Option ℕ) →
     g (record t { next = o }) ≡ g t)
-    → ((t : Node) (o : Option ℕ) → g (record t { previous = o }) ≡ g t) → map g (joined s b e) ≡ map g s
+    → ((t : Node) (o : Option ℕ) → g (record t { previous = o }) ≡ g t) → map g (after_join s b e) ≡ map g s
 map-joined g s b e n p =
-    map-changed g (λ t. record t { previous = b }) (changed (λ t. record t { next = e }) s b) e (λ t. p t b)
+    map-changed g (λ t. record t { previous = b }) (after_change (λ t. record t { next = e }) s b) e (λ t. p t b)
     ∙ map-changed g (λ t. record t { next = e }) s b (λ t. n t e)
 
 -- no node comes or goes
-pub length-joined : (s : List Node) (b e : Option ℕ) → length (joined s b e) ≡ length s
+pub length-joined : (s : List Node) (b e : Option ℕ) → length (after_join s b e) ≡ length s
 length-joined s b e =
-    length-changed (λ t. record t { previous = b }) (changed (λ t. record t { next = e }) s b) e
+    length-changed (λ t. record t { previous = b }) (after_change (λ t. record t { next = e }) s b) e
     ∙ length-changed (λ t. record t { next = e }) s b
 
 -- ---- one of the lists is written
@@ -98,7 +98,7 @@ or-last (x ∷ xs) o = some xs x o
 
 IsHeader-joined : (s : List Node) (kept given : Header) (ys xs : List ℕ) (p : Option ℕ) → Once (ys ++ xs) →
     AreInside s (ys ++ xs) → IsHeader s kept ys
-    → Comes s given p xs → IsHeader (joined s kept.tail given.head) (header_joined kept given) (ys ++ xs)
+    → Comes s given p xs → IsHeader (after_join s kept.tail given.head) (header_after_join kept given) (ys ++ xs)
 IsHeader-joined s kept given ys xs p o w k g = record {
   head = rw (k.head, g.head) (or-first ys (first_or xs None) ∙ sym (first_or-append ys xs None));
   tail = rw (g.tail, k.tail) (or-last xs (last_or ys None) ∙ sym (last_or-append ys xs None));
@@ -111,12 +111,12 @@ pub ends-joined : (s : List Node) (r : List Header) (lists : List (List ℕ)) (t
     (xs : List ℕ) → AreHeaders s r lists
     → to < length lists → Comes s given p xs → AreInside s (list_at lists to ++ xs)
     → ((m x : ℕ) → m ≢ to → times x (list_at lists to) + times x xs + times x (list_at lists m) ≤ 1)
-    → AreHeaders (joined s (header_at r to).tail given.head) (set r to (header_joined (header_at r to) given))
+    → AreHeaders (after_join s (header_at r to).tail given.head) (set r to (header_after_join (header_at r to) given))
     (set lists to (list_at lists to ++ xs))
 ends-joined s r lists to given p xs a lt g w d =
     let ys = list_at lists to in
     let kept = a.each to lt in
-    AreHeaders-set s (joined s (header_at r to).tail given.head) r lists to (header_joined (header_at r to) given)
+    AreHeaders-set s (after_join s (header_at r to).tail given.head) r lists to (header_after_join (header_at r to) given)
     (ys ++ xs) a
     (IsHeader-joined s (header_at r to) given ys xs p
     (λ x. omega (arith, d (suc to) x (λ e. omega (arith, e)), times-append x ys xs)) w kept g)
@@ -144,7 +144,7 @@ pub ends-left : (s : List Node) (r : List Header) (lists : List (List ℕ)) (fro
     AreHeaders s r lists → from < length lists
     → list_at lists from ≡ xs ++ c ∷ zs → AreInside s (xs ++ c ∷ zs) →
     ((m x : ℕ) → m ≢ from → times x (xs ++ c ∷ zs) + times x (list_at lists m) ≤ 1)
-    → AreHeaders (detached s c) (set r from (without (header_at r from) (node_at s c))) (set lists from (xs ++ zs))
+    → AreHeaders (after_detach s c) (set r from (without (header_at r from) (node_at s c))) (set lists from (xs ++ zs))
 ends-left s r lists from c xs zs a lt is w d =
     let h : IsHeader s (header_at r from) (xs ++ c ∷ zs) = subst (IsHeader s (header_at r from)) is (a.each from lt) in
     let here = Linked-right s None xs (c ∷ zs) None h.links in
@@ -154,7 +154,7 @@ ends-left s r lists from c xs zs a lt is w d =
       times-tail x c zs,
     ) in
     let once = λ (x : ℕ). d (suc from) x (λ e. omega (arith, e)) in
-    AreHeaders-set s (detached s c) r lists from (without (header_at r from) (node_at s c)) (xs ++ zs) a
+    AreHeaders-set s (after_detach s c) r lists from (without (header_at r from) (node_at s c)) (xs ++ zs) a
     (record {
       head = rw (here.0, here.1, h.head) (head-left xs zs c);
       tail = rw (here.0, here.1, h.tail) (tail-left xs zs c);

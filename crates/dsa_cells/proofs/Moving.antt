@@ -8,8 +8,8 @@ use Rattle.std.specs.Option.{option_or}
 use Rattle.dsa_cells.specs.declared.links.{Node.{Node}, Header.{Header}}
 use Rattle.dsa_cells.specs.Array.{node_at, header_at, owners_of, entries_of}
 use Rattle.dsa_cells.specs.Partition.{first_or, last_or, times, IsHeader, AreHeaders, list_at}
-use Rattle.dsa_cells.specs.Writes.{InRange, AreInside, joined, header_joined, detached, without, lacking, alone}
-use Rattle.dsa_cells.specs.Writes.{with_last, or_else, moved}
+use Rattle.dsa_cells.specs.Writes.{InRange, AreInside, after_join, header_after_join, after_detach, without, cells_without, as_last}
+use Rattle.dsa_cells.specs.Writes.{with_last, or_else, after_transfer}
 use Rattle.dsa_cells.specs.{Invariant.{place, IsStore}, Owners.{owner_is, length-owners}}
 use Rattle.dsa_cells.proofs.Chain.{times-append, times-head, times-tail, Names-more, Names-first, Names-last}
 use Rattle.dsa_cells.proofs.Chain.{InRange-of, Linked-right, Linked-other, split_at, changed-here, map-changed}
@@ -18,20 +18,20 @@ use Rattle.dsa_cells.proofs.Joining.{is_left, map-joined, length-joined, list_at
 use Rattle.dsa_cells.proofs.Joining.{or_else-last, ends-joined, ends-left, stands_in, names_in, distinct, IsLeft}
 
 -- a list without a cell that it does not name
-pub lacking-none : (c : ℕ) (xs : List ℕ) → times c xs ≡ 0 → lacking c xs ≡ xs
+pub lacking-none : (c : ℕ) (xs : List ℕ) → times c xs ≡ 0 → cells_without c xs ≡ xs
 lacking-none c [] h = refl
 lacking-none c (x ∷ xs) h = grind (arith, nat_tests, lacking-none c xs)
 
 -- a list without a cell that it names once
-pub lacking-split : (c : ℕ) (xs zs : List ℕ) → times c xs + times c zs ≡ 0 → lacking c (xs ++ c ∷ zs) ≡ xs ++ zs
+pub lacking-split : (c : ℕ) (xs zs : List ℕ) → times c xs + times c zs ≡ 0 → cells_without c (xs ++ c ∷ zs) ≡ xs ++ zs
 lacking-split c [] zs h = grind (arith, nat_tests, lacking-none c zs)
 lacking-split c (x ∷ xs) zs h = grind (arith, nat_tests, lacking-split c xs zs)
 
-times-lacking : (c x : ℕ) (xs : List ℕ) → times x (lacking c xs) ≡ cond (x == c) 0 (times x xs)
+times-lacking : (c x : ℕ) (xs : List ℕ) → times x (cells_without c xs) ≡ cond (x == c) 0 (times x xs)
 times-lacking c x [] = grind arith
 times-lacking c x (y ∷ xs) = grind (arith, nat_tests, times-lacking c x xs)
 
-length-lacking : (c : ℕ) (xs : List ℕ) → times c xs + length (lacking c xs) ≡ length xs
+length-lacking : (c : ℕ) (xs : List ℕ) → times c xs + length (cells_without c xs) ≡ length xs
 length-lacking c [] = refl
 length-lacking c (x ∷ xs) = grind (arith, nat_tests, length-lacking c xs)
 
@@ -44,7 +44,7 @@ place-set os c to l x lt = grind (arith, common_steps)
 
 -- the lists once the cell has left its own
 abbrev pub left : List (List ℕ) → ℕ → ℕ → List (List ℕ)
-left lists from c = set lists from (lacking c (list_at lists from))
+left lists from c = set lists from (cells_without c (list_at lists from))
 
 -- the headers then
 abbrev pub headers_left : List Node → List Header → ℕ → List Header
@@ -52,7 +52,7 @@ headers_left s r c = let from = (node_at s c).owner in set r from (without (head
 
 -- the array after a transfer
 abbrev pub transferred : List Node → List Header → ℕ → ℕ → List Node
-transferred s r c to = joined (alone (detached s c) c to) (header_at (headers_left s r c) to).tail (Some c)
+transferred s r c to = after_join (as_last (after_detach s c) c to) (header_at (headers_left s r c) to).tail (Some c)
 
 -- the header of a list of one cell
 abbrev pub one_cell : ℕ → Header
@@ -60,7 +60,7 @@ one_cell c = record { head = Some c; tail = Some c; count = 1 }
 
 -- behind which that list comes
 with_last-is : (s : List Node) (h : Header) (ys : List ℕ) (c : ℕ) → IsHeader s h ys
-    → header_joined h (one_cell c) ≡ with_last h c
+    → header_after_join h (one_cell c) ≡ with_last h c
 with_last-is s h ys c i =
     let head : option_or h.head (Some c) ≡ or_else h.tail (Some c) h.head = rw (i.head, i.tail) (go ys) in
     ap (λ o. let header : Header = record { head = o; tail = Some c; count = h.count + 1 } in header) head
@@ -85,12 +85,12 @@ pub record Transfer (s : List Node) (r : List Header) (lists : List (List ℕ)) 
   pub previous : InRange s (node_at s c).previous
   pub owner : (node_at s c).owner < length r
   pub counted : 0 < (header_at r (node_at s c).owner).count
-  pub tail : InRange (detached s c) (header_at (headers_left s r c) to).tail
+  pub tail : InRange (after_detach s c) (header_at (headers_left s r c) to).tail
   pub room : (header_at (headers_left s r c) to).count + 1 < 2 ^ 32
   pub entries : entries_of (transferred s r c to) ≡ entries_of s
   pub left : IsLeft (transferred s r c to)
       (set (headers_left s r c) to (with_last (header_at (headers_left s r c) to) c))
-      (moved lists c (node_at s c).owner to)
+      (after_transfer lists c (node_at s c).owner to)
 
 pub transfer : (s : List Node) (r : List Header) (lists : List (List ℕ)) (c to : ℕ) → MayMove s r lists c to
     → Transfer s r lists c to
@@ -114,16 +114,16 @@ transfer s r lists c to may = go parts.0 parts.1 parts.2
     fewer m x = grind (
       arith,
       nat_tests,
-      list_at-set lists from m (lacking c (list_at lists from)) in_lists,
+      list_at-set lists from m (cells_without c (list_at lists from)) in_lists,
       times-lacking c x (list_at lists from),
       st.placed m x,
       owner_is s c,
     )
 
     to_left : to < length (left lists from c)
-    to_left = omega (arith, to_r, st.ends.sizes, length-set lists from (lacking c (list_at lists from)))
+    to_left = omega (arith, to_r, st.ends.sizes, length-set lists from (cells_without c (list_at lists from)))
 
-    size1 : length (detached s c) ≡ length s
+    size1 : length (after_detach s c) ≡ length s
     size1 = length-joined s (node_at s c).previous (node_at s c).next
 
     total1 : suc (sum_by length (left lists from c)) ≡ length s
@@ -132,18 +132,18 @@ transfer s r lists c to may = go parts.0 parts.1 parts.2
       one,
       st.total,
       length-lacking c (list_at lists from),
-      sum_by-set length lists from (lacking c (list_at lists from)) [] in_lists,
+      sum_by-set length lists from (cells_without c (list_at lists from)) [] in_lists,
     )
 
     owners : owners_of (transferred s r c to) ≡ set (owners_of s) c to
     owners =
-        map-joined (λ t. t.owner) (alone (detached s c) c to) (header_at (headers_left s r c) to).tail (Some c)
+        map-joined (λ t. t.owner) (as_last (after_detach s c) c to) (header_at (headers_left s r c) to).tail (Some c)
         (λ t o. refl) (λ t o. refl)
-        ∙ map-set (λ t. t.owner) (detached s c) c (record (node_at (detached s c) c) { next = None; owner = to })
+        ∙ map-set (λ t. t.owner) (after_detach s c) c (record (node_at (after_detach s c) c) { next = None; owner = to })
         ∙ ap (λ os. set os c to) (map-joined (λ t. t.owner) s (node_at s c).previous (node_at s c).next
         (λ t o. refl) (λ t o. refl))
 
-    placed : (m x : ℕ) → times x (list_at (moved lists c from to) m) ≡ place (set (owners_of s) c to) m x
+    placed : (m x : ℕ) → times x (list_at (after_transfer lists c from to) m) ≡ place (set (owners_of s) c to) m x
     placed m x =
         let e = list_at-set (left lists from c) to m (list_at (left lists from c) to ++ c ∷ []) to_left in
         let k = times-last x c (list_at (left lists from c) to) in
@@ -162,18 +162,18 @@ transfer s r lists c to may = go parts.0 parts.1 parts.2
 
     go : (xs zs : List ℕ) → list_at lists from ≡ xs ++ c ∷ zs → Transfer s r lists c to
     go xs zs is =
-        let s1 = detached s c in
+        let s1 = after_detach s c in
         let r1 = headers_left s r c in
         let lists1 = left lists from c in
         let inside : AreInside s (xs ++ c ∷ zs) = λ x h. (names_in s r lists from x st (rw is h)).0 in
         let once = ap (times c) (sym is) ∙ one in
-        let less = ap (lacking c) is
+        let less = ap (cells_without c) is
         ∙ lacking-split c xs zs (omega (arith, once, times-append c xs (c ∷ zs), times-head c zs)) in
         let ends1 : AreHeaders s1 r1 lists1 = rw less
         (ends-left s r lists from c xs zs st.ends in_lists is inside (λ m x other.
         omega (arith, ap (times x) is, distinct s r lists from m x st other))) in
         let f : Node → Node = λ t. record t { next = None; owner = to } in
-        let s2 = alone s1 c to in
+        let s2 = as_last s1 c to in
         let ends2 = AreHeaders-agree s1 s2 r1 lists1 (λ m k.
         Linked-other f s1 (Some c) (c ∷ []) None (list_at lists1 m) None (omega (arith, times-head c []))
         (λ x. let d = distinct s r lists m (suc m) x st (λ q. omega (arith, q)) in

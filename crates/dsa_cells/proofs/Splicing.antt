@@ -7,7 +7,7 @@ use Rattle.std.proofs.lemmas.List.{map-set, get_or-set_other, Sums.{sum_by-set, 
 use Rattle.dsa_cells.specs.declared.links.{Node.{Node}, Header.{Header}}
 use Rattle.dsa_cells.specs.Array.{node_at, header_at, no_header, owners_of, entries_of}
 use Rattle.dsa_cells.specs.Partition.{walk, cells_of, times, IsHeader, AreHeaders, list_at}
-use Rattle.dsa_cells.specs.Writes.{InRange, AreInside, changed, joined, header_joined, marked, given_back}
+use Rattle.dsa_cells.specs.Writes.{InRange, AreInside, after_change, after_join, header_after_join, after_mark, after_splice}
 use Rattle.dsa_cells.specs.{Invariant.{place, IsStore}, Owners.{length-owners}}
 use Rattle.dsa_cells.proofs.Chain.{times-append, times-head, times-tail, Names-first, Names-last, InRange-of}
 use Rattle.dsa_cells.proofs.Chain.{SameLinks, Linked-agree, map-changed, length-changed, changed-links}
@@ -18,22 +18,22 @@ use Rattle.dsa_cells.proofs.Joining.{ends-joined, names_in, cells_are, IsLeft, i
 
 -- the cell with that list's number
 abbrev pub renumbered : List Node → ℕ → ℕ → List Node
-renumbered s c owner = changed (λ node. record node { owner = owner }) s (Some c)
+renumbered s c owner = after_change (λ node. record node { owner = owner }) s (Some c)
 
 -- no node comes or goes
-pub length-marked : (s : List Node) (xs : List ℕ) (owner : ℕ) → length (marked s xs owner) ≡ length s
+pub length-marked : (s : List Node) (xs : List ℕ) (owner : ℕ) → length (after_mark s xs owner) ≡ length s
 length-marked s [] owner = refl
 length-marked s (x ∷ xs) owner =
     length-marked (renumbered s x owner) xs owner ∙ length-changed (λ t. record t { owner = owner }) s (Some x)
 
 -- the entries stay
-entries-marked : (s : List Node) (xs : List ℕ) (owner : ℕ) → entries_of (marked s xs owner) ≡ entries_of s
+entries-marked : (s : List Node) (xs : List ℕ) (owner : ℕ) → entries_of (after_mark s xs owner) ≡ entries_of s
 entries-marked s [] owner = refl
 entries-marked s (x ∷ xs) owner =
     entries-marked (renumbered s x owner) xs owner ∙ map-changed (λ t. t.entry) (λ t. record t { owner = owner }) s
     (Some x) (λ t. refl)
 
-links-marked : (s : List Node) (xs : List ℕ) (owner x : ℕ) → SameLinks s (marked s xs owner) x
+links-marked : (s : List Node) (xs : List ℕ) (owner x : ℕ) → SameLinks s (after_mark s xs owner) x
 links-marked s [] owner x = record { next = refl; previous = refl }
 links-marked s (y ∷ xs) owner x =
     let one = changed-links (λ t. record t { owner = owner }) s (Some y) x (λ t. refl) (λ t. refl) in
@@ -41,7 +41,7 @@ links-marked s (y ∷ xs) owner x =
     record { next = rest.next ∙ one.next; previous = rest.previous ∙ one.previous }
 
 owner-marked : (s : List Node) (xs : List ℕ) (owner x : ℕ) → x < length s
-    → get_or (owners_of (marked s xs owner)) x 0 ≡ cond (ltb 0 (times x xs)) owner (get_or (owners_of s) x 0)
+    → get_or (owners_of (after_mark s xs owner)) x 0 ≡ cond (ltb 0 (times x xs)) owner (get_or (owners_of s) x 0)
 owner-marked s [] owner x lt = grind (arith, nat_tests)
 owner-marked s (y ∷ xs) owner x lt =
     let e = map-set (λ (t : Node). t.owner) s y (record (node_at s y) { owner = owner }) in
@@ -65,7 +65,7 @@ walk-agree s t (suc k) (Some c) same =
 
 -- what is left to mark, of n cells of which i have been, makes that array
 pub record Marking (s : List Node) (k : ℕ) (o : Option ℕ) (owner : ℕ) (target : List Node) : Type 0 where
-  pub rest : marked s (walk s k o) owner ≡ target
+  pub rest : after_mark s (walk s k o) owner ≡ target
   pub inside : AreInside s (walk s k o)
 
 -- there is a cell to mark
@@ -87,7 +87,7 @@ mark-some s n i c owner o target lt is m =
         (λ u. refl)) in (
           a.inside c (omega (arith, times-head c (walk s k o))),
           record {
-            rest = ap (λ xs. marked t xs owner) same ∙ a.rest;
+            rest = ap (λ xs. after_mark t xs owner) same ∙ a.rest;
             inside = λ x h. let later = subst (λ xs. 0 < times x xs) same h in
                 omega (
                   arith,
@@ -124,12 +124,12 @@ MaySplice s r lists from to = record {
 pub record Splice (s : List Node) (r : List Header) (lists : List (List ℕ)) (from to : ℕ) (cells : List ℕ)
     : Type 0 where
   pub inside : AreInside s cells
-  pub tail : InRange (marked s cells to) (header_at r to).tail
-  pub head : InRange (marked s cells to) (header_at r from).head
+  pub tail : InRange (after_mark s cells to) (header_at r to).tail
+  pub head : InRange (after_mark s cells to) (header_at r from).head
   pub fits : (header_at r to).count + (header_at r from).count < 2 ^ 32
-  pub entries : entries_of (joined (marked s cells to) (header_at r to).tail (header_at r from).head) ≡ entries_of s
-  pub left : IsLeft (joined (marked s cells to) (header_at r to).tail (header_at r from).head)
-      (set (set r from no_header) to (header_joined (header_at r to) (header_at r from))) (given_back lists from to)
+  pub entries : entries_of (after_join (after_mark s cells to) (header_at r to).tail (header_at r from).head) ≡ entries_of s
+  pub left : IsLeft (after_join (after_mark s cells to) (header_at r to).tail (header_at r from).head)
+      (set (set r from no_header) to (header_after_join (header_at r to) (header_at r from))) (after_splice lists from to)
 
 pub splice : (s : List Node) (r : List Header) (lists : List (List ℕ)) (from to : ℕ) → MaySplice s r lists from to
     → Splice s r lists from to (cells_of s (header_at r from))
@@ -186,7 +186,7 @@ splice s r lists from to may = subst (Splice s r lists from to)
     rest = set lists from []
 
     s1 : List Node
-    s1 = marked s xs to
+    s1 = after_mark s xs to
 
     in_from : from < length lists
     in_from = omega (arith, from_r, st.ends.sizes)
@@ -230,7 +230,7 @@ splice s r lists from to may = subst (Splice s r lists from to)
         let k = st.placed m x in
         grind (arith, nat_tests, p, q, k)
 
-    placed : (m x : ℕ) → times x (list_at (given_back lists from to) m) ≡ place (owners_of s1) m x
+    placed : (m x : ℕ) → times x (list_at (after_splice lists from to) m) ≡ place (owners_of s1) m x
     placed m x = grind (
       arith,
       nat_tests,

@@ -15,19 +15,19 @@ abbrev pub AreInside : List Node → List ℕ → Type 0
 AreInside nodes cells = (cell : ℕ) → 0 < times cell cells → cell < length nodes
 
 -- the array: the node of the cell, if there is one, is changed so
-abbrev pub changed : (Node → Node) → List Node → Option ℕ → List Node
-changed change nodes None = nodes
-changed change nodes (Some cell) = slice_set nodes cell (change (node_at nodes cell))
+abbrev pub after_change : (Node → Node) → List Node → Option ℕ → List Node
+after_change change nodes None = nodes
+after_change change nodes (Some cell) = slice_set nodes cell (change (node_at nodes cell))
 
 -- the array: these two, as far as they are there, are neighbours
-abbrev pub joined : List Node → Option ℕ → Option ℕ → List Node
-joined nodes before after =
-    changed (λ node. record node { previous = before }) (changed (λ node. record node { next = after }) nodes before)
+abbrev pub after_join : List Node → Option ℕ → Option ℕ → List Node
+after_join nodes before after =
+    after_change (λ node. record node { previous = before }) (after_change (λ node. record node { next = after }) nodes before)
     after
 
 -- the header of a list behind which another came
-abbrev pub header_joined : Header → Header → Header
-header_joined kept given = record {
+abbrev pub header_after_join : Header → Header → Header
+header_after_join kept given = record {
   head = option_or kept.head given.head;
   tail = option_or given.tail kept.tail;
   count = kept.count + given.count;
@@ -36,8 +36,8 @@ header_joined kept given = record {
 -- ---- a cell leaves its list
 
 -- the array: the neighbours of the cell are neighbours now
-abbrev pub detached : List Node → ℕ → List Node
-detached nodes cell = joined nodes (node_at nodes cell).previous (node_at nodes cell).next
+abbrev pub after_detach : List Node → ℕ → List Node
+after_detach nodes cell = after_join nodes (node_at nodes cell).previous (node_at nodes cell).next
 
 -- the end of a list, or the other neighbour of the cell where the cell was that end
 abbrev pub or_else : Option ℕ → Option ℕ → Option ℕ → Option ℕ
@@ -53,14 +53,14 @@ without header node = record {
 }
 
 -- a list without the cell
-abbrev pub lacking : ℕ → List ℕ → List ℕ
-lacking cell cells = filter (λ other. not (other == cell)) cells
+abbrev pub cells_without : ℕ → List ℕ → List ℕ
+cells_without cell cells = filter (λ other. not (other == cell)) cells
 
 -- ---- a cell becomes the last of a list
 
 -- the array: the cell has none behind it, and the list's number
-abbrev pub alone : List Node → ℕ → ℕ → List Node
-alone nodes cell list = changed (λ node. record node { next = None; owner = list }) nodes (Some cell)
+abbrev pub as_last : List Node → ℕ → ℕ → List Node
+as_last nodes cell list = after_change (λ node. record node { next = None; owner = list }) nodes (Some cell)
 
 -- the header of a list whose last cell that is now
 abbrev pub with_last : Header → ℕ → Header
@@ -71,21 +71,21 @@ with_last header cell = record {
 }
 
 -- the lists with these cells at the end of one
-abbrev pub appended : List (List ℕ) → ℕ → List ℕ → List (List ℕ)
-appended lists to cells = slice_set lists to (list_at lists to ++ cells)
+abbrev pub after_append : List (List ℕ) → ℕ → List ℕ → List (List ℕ)
+after_append lists to cells = slice_set lists to (list_at lists to ++ cells)
 
 -- the lists after the cell went from its list to the end of another
-abbrev pub moved : List (List ℕ) → ℕ → ℕ → ℕ → List (List ℕ)
-moved lists cell from to = appended (slice_set lists from (lacking cell (list_at lists from))) to (cell ∷ [])
+abbrev pub after_transfer : List (List ℕ) → ℕ → ℕ → ℕ → List (List ℕ)
+after_transfer lists cell from to = after_append (slice_set lists from (cells_without cell (list_at lists from))) to (cell ∷ [])
 
 -- ---- a list goes to the end of another
 
 -- the array: these cells bear that list's number
-abbrev pub marked : List Node → List ℕ → ℕ → List Node
-marked nodes [] owner = nodes
-marked nodes (cell ∷ cells) owner = marked (changed (λ node. record node { owner = owner }) nodes (Some cell)) cells
+abbrev pub after_mark : List Node → List ℕ → ℕ → List Node
+after_mark nodes [] owner = nodes
+after_mark nodes (cell ∷ cells) owner = after_mark (after_change (λ node. record node { owner = owner }) nodes (Some cell)) cells
     owner
 
 -- the lists after all cells of one went to the end of another
-abbrev pub given_back : List (List ℕ) → ℕ → ℕ → List (List ℕ)
-given_back lists from to = appended (slice_set lists from []) to (list_at lists from)
+abbrev pub after_splice : List (List ℕ) → ℕ → ℕ → List (List ℕ)
+after_splice lists from to = after_append (slice_set lists from []) to (list_at lists from)

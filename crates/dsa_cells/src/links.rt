@@ -3,7 +3,7 @@
 ghost use Rattle.std.specs.Prelude.{◌≡◌, ℕ, ◌+◌, ◌-◌, ◌^◌, ◌<◌, ◌≤◌, ◌≢◌, length, Option, Some};
 ghost use Rattle.dsa_cells.specs.Array.{node_at, entries_of};
 ghost use Rattle.dsa_cells.specs.Partition.{lists_of, cells_of, list_at};
-ghost use Rattle.dsa_cells.specs.Writes.{without, with_last, alone, detached, InRange, AreInside, moved, marked, joined, header_joined, given_back};
+ghost use Rattle.dsa_cells.specs.Writes.{without, with_last, as_last, after_detach, InRange, AreInside, after_transfer, after_mark, after_join, header_after_join, after_splice};
 ghost use Rattle.dsa_cells.specs.Invariant.{IsStore};
 
 use dsa_store::Entry;
@@ -32,7 +32,7 @@ pub fn detach(nodes: &mut [Node], header: &mut Header, cell: u32)
     requires next_in { InRange nodes.old (node_at nodes.old cell).next }
     requires previous_in { InRange nodes.old (node_at nodes.old cell).previous }
     requires counted { 0 < header.old.count }
-    ensures nodes { nodes.new ≡ detached nodes.old cell }
+    ensures nodes { nodes.new ≡ after_detach nodes.old cell }
     ensures header { header.new ≡ without header.old (node_at nodes.old cell) }
 {
     let Node { next, previous, .. } = nodes[cell as usize];
@@ -53,7 +53,7 @@ pub fn attach(nodes: &mut [Node], header: &mut Header, list: u16, cell: u32)
     requires cell_in { cell < length nodes.old }
     requires tail_in { InRange nodes.old header.old.tail }
     requires room { header.old.count + 1 < 2 ^ 32 }
-    ensures nodes { nodes.new ≡ joined (alone nodes.old cell list) header.old.tail (Some cell) }
+    ensures nodes { nodes.new ≡ after_join (as_last nodes.old cell list) header.old.tail (Some cell) }
     ensures header { header.new ≡ with_last header.old cell }
 {
     let node = &mut nodes[cell as usize];
@@ -77,7 +77,7 @@ pub fn transfer(nodes: &mut [Node], headers: &mut [Header], cell: u32, to: u16)
     requires apart { (node_at nodes.old cell).owner ≢ to }
     requires few { length nodes.old < 2 ^ 32 }
     ensures store { IsStore nodes.new headers.new (lists_of nodes.new headers.new) }
-    ensures lists { lists_of nodes.new headers.new ≡ moved (lists_of nodes.old headers.old) cell (node_at nodes.old cell).owner to }
+    ensures lists { lists_of nodes.new headers.new ≡ after_transfer (lists_of nodes.old headers.old) cell (node_at nodes.old cell).owner to }
     ensures entries { entries_of nodes.new ≡ entries_of nodes.old }
 {
     let from = nodes[cell as usize].owner;
@@ -90,7 +90,7 @@ pub fn transfer(nodes: &mut [Node], headers: &mut [Header], cell: u32, to: u16)
 /// Writes the number of another list into each cell of the list with that header.
 fn mark(nodes: &mut [Node], header: Header, owner: u16)
     requires { AreInside nodes.old (cells_of nodes.old header) }
-    ensures { nodes.new ≡ marked nodes.old (cells_of nodes.old header) owner }
+    ensures { nodes.new ≡ after_mark nodes.old (cells_of nodes.old header) owner }
 {
     let mut at = header.head;
     for _step in 0..header.count {
@@ -105,7 +105,7 @@ fn mark(nodes: &mut [Node], header: Header, owner: u16)
 fn join(nodes: &mut [Node], before: Option<u32>, after: Option<u32>)
     requires before_in { InRange nodes.old before }
     requires after_in { InRange nodes.old after }
-    ensures { nodes.new ≡ joined nodes.old before after }
+    ensures { nodes.new ≡ after_join nodes.old before after }
 {
     if let Some(cell) = before {
         nodes[cell as usize].next = after;
@@ -118,7 +118,7 @@ fn join(nodes: &mut [Node], before: Option<u32>, after: Option<u32>)
 /// The header of a list once another has come behind it.
 fn joined_ends(kept: Header, given: Header) -> Header
     requires { kept.count + given.count < 2 ^ 32 }
-    ensures { result ≡ header_joined kept given }
+    ensures { result ≡ header_after_join kept given }
 {
     Header {
         head: kept.head.or(given.head),
@@ -136,7 +136,7 @@ pub fn splice(nodes: &mut [Node], headers: &mut [Header], from: u16, to: u16)
     requires apart { from ≢ to }
     requires few { length nodes.old < 2 ^ 32 }
     ensures store { IsStore nodes.new headers.new (lists_of nodes.new headers.new) }
-    ensures lists { lists_of nodes.new headers.new ≡ given_back (lists_of nodes.old headers.old) from to }
+    ensures lists { lists_of nodes.new headers.new ≡ after_splice (lists_of nodes.old headers.old) from to }
     ensures entries { entries_of nodes.new ≡ entries_of nodes.old }
 {
     let given = headers[from as usize];

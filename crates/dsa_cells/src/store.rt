@@ -3,7 +3,7 @@
 ghost use Rattle.std.specs.Prelude.{◌≡◌, ◌≢◌, ◌<◌, ℕ, List, [], length, IfOk, MatchOption, None, slice_set, replicate};
 ghost use Rattle.dsa_cells.specs.Array.{node_at, entries_of};
 ghost use Rattle.dsa_cells.specs.Partition.{AreHeaders, IsPartition, first_or, list_at};
-ghost use Rattle.dsa_cells.specs.Writes.{moved, given_back};
+ghost use Rattle.dsa_cells.specs.Writes.{after_transfer, after_splice};
 ghost use Rattle.dsa_cells.specs.Invariant.{IsWhole, IsWhole-prop};
 ghost use Rattle.dsa_cells.specs.Content.{content_at, IsUnused, IsUsed};
 ghost use Rattle.dsa_cells.specs.Naming.{IsSound-from_whole};
@@ -98,7 +98,7 @@ impl<A: Allocator> LinkedStore<A> {
         requires cell_in { cell < length (array_of self.old) }
         requires to_in { to < length (headers_of self.old) }
         requires apart { (node_at (array_of self.old) cell).owner ≢ to }
-        ensures lists { all_lists self.new ≡ moved (all_lists self.old) cell (node_at (array_of self.old) cell).owner to }
+        ensures lists { all_lists self.new ≡ after_transfer (all_lists self.old) cell (node_at (array_of self.old) cell).owner to }
         ensures entries { entries_of (array_of self.new) ≡ entries_of (array_of self.old) }
         ensures sizes { length (array_of self.new) ≡ length (array_of self.old) }
     {
@@ -111,7 +111,7 @@ impl<A: Allocator> LinkedStore<A> {
         requires from_in { from < length (headers_of self.old) }
         requires to_in { to < length (headers_of self.old) }
         requires apart { from ≢ to }
-        ensures lists { all_lists self.new ≡ given_back (all_lists self.old) from to }
+        ensures lists { all_lists self.new ≡ after_splice (all_lists self.old) from to }
         ensures entries { entries_of (array_of self.new) ≡ entries_of (array_of self.old) }
         ensures sizes { length (array_of self.new) ≡ length (array_of self.old) }
     {
