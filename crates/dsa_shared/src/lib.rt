@@ -34,5 +34,7 @@ pub use compare::compare_receipts;
 pub use device::SharedDevice;
 pub use dsa_book::Actor;
 pub use make::ShareFault;
-pub use seats::{AdminSeat, ClientSeat, EngineSeat, Seats};
+pub use seats::{
+    AdminSeat, ClientRole, ClientSeat, EngineRole, EngineSeat, NumberedSeat, Role, Seats,
+};
 pub use settle::{SettleFault, SettleRefused, Settled, Totals};

@@ -48,6 +48,21 @@ impl<S: EntryStore, L: Sharing> Model for Locked<S, L> {
         × (l.device.capacity ≡ L.capacity) × (l.device.caps ≡ L.caps) };
 }
 
+// Makes a step of the device, and adds it to the ledger and to the receipts of the seat where the history
+// keeps it.
+macro_rules! noting {
+    ($locked:ident, $seat:ident, |$device:ident| $step:expr) => {{
+        let Locked {
+            device: $device,
+            book,
+        } = $locked;
+        let before = $device.history().len();
+        let answer = $step;
+        $seat.receipts.note(book, $device, before);
+        answer
+    }};
+}
+
 /// The client of the seat writes the 64 bytes of a descriptor to a portal of a queue.
 #[inline(always)]
 pub fn submit<S: EntryStore, L: Sharing, A: Allocator>(
@@ -58,17 +73,16 @@ pub fn submit<S: EntryStore, L: Sharing, A: Allocator>(
     kind: Kind,
     bytes: &[u8; 64],
 ) -> SubmitAnswer
-    ensures step { after_answer locked.old (event.Submit seat.old.number queue portal kind (read bytes.now))
-        (reply.Submit result) ≡ Some locked.new }
+    ensures step { after_answer locked.old (event.Submit seat.old.number queue portal kind (read bytes.now)) (reply.Submit result)
+        ≡ Some locked.new }
     ensures receipts { seat.new ≡ noted seat.old (event.Submit seat.old.number queue portal kind (read bytes.now))
         (reply.Submit result) }
 {
-    let Locked { device, book } = locked;
-    let ClientSeat { number, receipts } = seat;
-    let before = device.history().len();
-    let answer = device.submit(*number, queue, portal, kind, bytes);
-    receipts.note(book, device, before);
-    answer
+    noting!(
+        locked,
+        seat,
+        |device| device.submit(seat.number, queue, portal, kind, bytes)
+    )
 }
 
 /// The engine of the seat asks for an entry.
@@ -79,15 +93,9 @@ pub fn dispatch<S: EntryStore, L: Sharing, A: Allocator>(
 ) -> DispatchAnswer
     ensures step { after_answer locked.old (event.Dispatch seat.old.number) (reply.Dispatch result)
         ≡ Some locked.new }
-    ensures receipts { seat.new ≡ noted seat.old (event.Dispatch seat.old.number)
-        (reply.Dispatch result) }
+    ensures receipts { seat.new ≡ noted seat.old (event.Dispatch seat.old.number) (reply.Dispatch result) }
 {
-    let Locked { device, book } = locked;
-    let EngineSeat { number, receipts } = seat;
-    let before = device.history().len();
-    let answer = device.dispatch(*number);
-    receipts.note(book, device, before);
-    answer
+    noting!(locked, seat, |device| device.dispatch(seat.number))
 }
 
 /// The engine of the seat hands in the next member of its batch.
@@ -99,15 +107,9 @@ pub fn fetch<S: EntryStore, L: Sharing, A: Allocator>(
 ) -> FetchAnswer
     ensures step { after_answer locked.old (event.Fetch seat.old.number desc) (reply.Fetch result)
         ≡ Some locked.new }
-    ensures receipts { seat.new ≡ noted seat.old (event.Fetch seat.old.number desc)
-        (reply.Fetch result) }
+    ensures receipts { seat.new ≡ noted seat.old (event.Fetch seat.old.number desc) (reply.Fetch result) }
 {
-    let Locked { device, book } = locked;
-    let EngineSeat { number, receipts } = seat;
-    let before = device.history().len();
-    let answer = device.fetch(*number, desc);
-    receipts.note(book, device, before);
-    answer
+    noting!(locked, seat, |device| device.fetch(seat.number, desc))
 }
 
 /// The engine of the seat starts the first of its members that does not run.
@@ -116,16 +118,10 @@ pub fn start<S: EntryStore, L: Sharing, A: Allocator>(
     locked: &mut Locked<S, L>,
     seat: &mut EngineSeat<L, A>,
 ) -> StartAnswer
-    ensures step { after_answer locked.old (event.Start seat.old.number) (reply.Start result)
-        ≡ Some locked.new }
+    ensures step { after_answer locked.old (event.Start seat.old.number) (reply.Start result) ≡ Some locked.new }
     ensures receipts { seat.new ≡ noted seat.old (event.Start seat.old.number) (reply.Start result) }
 {
-    let Locked { device, book } = locked;
-    let EngineSeat { number, receipts } = seat;
-    let before = device.history().len();
-    let answer = device.start(*number);
-    receipts.note(book, device, before);
-    answer
+    noting!(locked, seat, |device| device.start(seat.number))
 }
 
 /// The engine of the seat ends the running entry of that ticket.
@@ -136,17 +132,16 @@ pub fn finish<S: EntryStore, L: Sharing, A: Allocator>(
     ticket: Ticket,
     outcome: Outcome,
 ) -> FinishAnswer
-    ensures step { after_answer locked.old (event.Finish seat.old.number ticket outcome)
-        (reply.Finish result) ≡ Some locked.new }
+    ensures step { after_answer locked.old (event.Finish seat.old.number ticket outcome) (reply.Finish result)
+        ≡ Some locked.new }
     ensures receipts { seat.new ≡ noted seat.old (event.Finish seat.old.number ticket outcome)
         (reply.Finish result) }
 {
-    let Locked { device, book } = locked;
-    let EngineSeat { number, receipts } = seat;
-    let before = device.history().len();
-    let answer = device.finish(*number, ticket, outcome);
-    receipts.note(book, device, before);
-    answer
+    noting!(
+        locked,
+        seat,
+        |device| device.finish(seat.number, ticket, outcome)
+    )
 }
 
 /// The administrator issues a command.
@@ -159,12 +154,7 @@ pub fn issue<S: EntryStore, L: Sharing, A: Allocator>(
     ensures step { after_answer locked.old (event.Issue command) (reply.Issue result) ≡ Some locked.new }
     ensures receipts { seat.new ≡ with_step seat.old (event.Issue command) (reply.Issue result) }
 {
-    let Locked { device, book } = locked;
-    let AdminSeat { receipts } = seat;
-    let before = device.history().len();
-    let answer = device.issue(command);
-    receipts.note(book, device, before);
-    answer
+    noting!(locked, seat, |device| device.issue(command))
 }
 
 /// The administrator asks whether the active command is over.
@@ -176,12 +166,20 @@ pub fn poll<S: EntryStore, L: Sharing, A: Allocator>(
     ensures step { after_answer locked.old event.Poll (reply.Poll result) ≡ Some locked.new }
     ensures receipts { seat.new ≡ with_step seat.old event.Poll (reply.Poll result) }
 {
-    let Locked { device, book } = locked;
-    let AdminSeat { receipts } = seat;
-    let before = device.history().len();
-    let answer = device.poll();
-    receipts.note(book, device, before);
-    answer
+    noting!(locked, seat, |device| device.poll())
+}
+
+/// The administrator clears the noted error, and is told it.
+#[inline(always)]
+pub fn clear_error<S: EntryStore, L: Sharing, A: Allocator>(
+    locked: &mut Locked<S, L>,
+    seat: &mut AdminSeat<L, A>,
+) -> ClearAnswer
+    ensures step { after_answer locked.old event.ClearError (reply.Clear result)
+        ≡ Some locked.new }
+    ensures receipts { seat.new ≡ with_step seat.old event.ClearError (reply.Clear result) }
+{
+    noting!(locked, seat, |device| device.clear_error())
 }
 
 /// The administrator writes the configuration of a queue.
@@ -192,17 +190,10 @@ pub fn write_queue<S: EntryStore, L: Sharing, A: Allocator>(
     queue: u16,
     config: QueueConfig,
 ) -> WriteAnswer
-    ensures step { after_answer locked.old (event.WriteQueue queue config) (reply.Write result)
-        ≡ Some locked.new }
-    ensures receipts { seat.new ≡ with_step seat.old (event.WriteQueue queue config)
-        (reply.Write result) }
+    ensures step { after_answer locked.old (event.WriteQueue queue config) (reply.Write result) ≡ Some locked.new }
+    ensures receipts { seat.new ≡ with_step seat.old (event.WriteQueue queue config) (reply.Write result) }
 {
-    let Locked { device, book } = locked;
-    let AdminSeat { receipts } = seat;
-    let before = device.history().len();
-    let answer = device.write_queue(queue, config);
-    receipts.note(book, device, before);
-    answer
+    noting!(locked, seat, |device| device.write_queue(queue, config))
 }
 
 /// The administrator writes the configuration of a group.
@@ -213,32 +204,8 @@ pub fn write_group<S: EntryStore, L: Sharing, A: Allocator>(
     group: u16,
     config: GroupConfig,
 ) -> WriteAnswer
-    ensures step { after_answer locked.old (event.WriteGroup group config) (reply.Write result)
-        ≡ Some locked.new }
-    ensures receipts { seat.new ≡ with_step seat.old (event.WriteGroup group config)
-        (reply.Write result) }
+    ensures step { after_answer locked.old (event.WriteGroup group config) (reply.Write result) ≡ Some locked.new }
+    ensures receipts { seat.new ≡ with_step seat.old (event.WriteGroup group config) (reply.Write result) }
 {
-    let Locked { device, book } = locked;
-    let AdminSeat { receipts } = seat;
-    let before = device.history().len();
-    let answer = device.write_group(group, config);
-    receipts.note(book, device, before);
-    answer
-}
-
-/// The administrator clears the noted error, and is told it.
-#[inline(always)]
-pub fn clear_error<S: EntryStore, L: Sharing, A: Allocator>(
-    locked: &mut Locked<S, L>,
-    seat: &mut AdminSeat<L, A>,
-) -> ClearAnswer
-    ensures step { after_answer locked.old event.ClearError (reply.Clear result) ≡ Some locked.new }
-    ensures receipts { seat.new ≡ with_step seat.old event.ClearError (reply.Clear result) }
-{
-    let Locked { device, book } = locked;
-    let AdminSeat { receipts } = seat;
-    let before = device.history().len();
-    let answer = device.clear_error();
-    receipts.note(book, device, before);
-    answer
+    noting!(locked, seat, |device| device.write_group(group, config))
 }

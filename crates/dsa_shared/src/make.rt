@@ -7,10 +7,11 @@ use crate::blanks::{Blanks, Sharing};
 use crate::device::SharedDevice;
 use crate::locked::Locked;
 use crate::receipts::Room;
-use crate::seats::{AdminSeat, ClientSeat, EngineSeat, Seats};
+use crate::seats::{AdminSeat, ClientSeat, EngineSeat, NumberedSeat, Role, Seats};
 use dsa_device::Device;
 use dsa_store::EntryStore;
 use std::alloc::{AllocError, Allocator};
+use std::marker::PhantomData;
 use std::sync::Mutex;
 use std::sync::ledger::Share;
 use thiserror::Error;
@@ -128,8 +129,8 @@ impl<L: Sharing, A: Allocator + Copy> Rooms<L, A> {
             admin,
         } = self;
         let mut rest = share;
-        let clients = client_seats(clients, client_rooms, &mut rest);
-        let engines = engine_seats(engines, engine_rooms, &mut rest);
+        let clients = numbered_seats(clients, client_rooms, &mut rest);
+        let engines = numbered_seats(engines, engine_rooms, &mut rest);
         Seats {
             clients,
             engines,
@@ -140,11 +141,11 @@ impl<L: Sharing, A: Allocator + Copy> Rooms<L, A> {
     }
 }
 
-fn client_seats<L: Sharing, A: Allocator>(
-    seats: Vec<ClientSeat<L, A>, A>,
+fn numbered_seats<K: Role, L: Sharing, A: Allocator>(
+    seats: Vec<NumberedSeat<K, L, A>, A>,
     rooms: Vec<Room<L, A>, A>,
     rest: &mut Share<L>,
-) -> Vec<ClientSeat<L, A>, A>
+) -> Vec<NumberedSeat<K, L, A>, A>
     requires none { vec_len seats ≡ 0 }
     requires room { vec_len rooms ≤ vec_capacity seats }
     requires few { vec_len rooms ≤ 64 }
@@ -158,31 +159,12 @@ fn client_seats<L: Sharing, A: Allocator>(
     let mut number = 0u16;
     for room in rooms {
         let receipts = room.with(rest.split_off(1, 0));
-        seats.push_reserved(ClientSeat { number, receipts });
-        number += 1;
-    }
-    seats
-}
-
-fn engine_seats<L: Sharing, A: Allocator>(
-    seats: Vec<EngineSeat<L, A>, A>,
-    rooms: Vec<Room<L, A>, A>,
-    rest: &mut Share<L>,
-) -> Vec<EngineSeat<L, A>, A>
-    requires none { vec_len seats ≡ 0 }
-    requires room { vec_len rooms ≤ vec_capacity seats }
-    requires few { vec_len rooms ≤ 64 }
-    requires parts { vec_len rooms < rest.old.parts }
-    requires amount { rest.old.amount ≡ 0 }
-    ensures fresh { AllFresh (vec_len rooms) result.items }
-    ensures parts { rest.new.parts + vec_len rooms ≡ rest.old.parts }
-    ensures amount { rest.new.amount ≡ 0 }
-{
-    let mut seats = seats;
-    let mut number = 0u16;
-    for room in rooms {
-        let receipts = room.with(rest.split_off(1, 0));
-        seats.push_reserved(EngineSeat { number, receipts });
+        let role = PhantomData;
+        seats.push_reserved(NumberedSeat {
+            number,
+            receipts,
+            role,
+        });
         number += 1;
     }
     seats

@@ -3,15 +3,16 @@
 ghost use Rattle.std.specs.Prelude.{◌≡◌, ℕ, List, length};
 ghost use Rattle.dsa_book.specs.declared.event.Step.{Step};
 ghost use Rattle.dsa_book.specs.declared.event.Actor.{Actor};
+ghost use Rattle.dsa_book.specs.declared.event.Actor.TheVariants as actor;
 ghost use Rattle.dsa_book.specs.Totals.{total_accepted, total_retried, total_fetched, total_done, total_lost};
-ghost use Rattle.dsa_shared.specs.Seat.{client_of, engine_of, number_of, receipts_of};
+ghost use Rattle.dsa_shared.specs.Seat.{number_of, receipts_of};
 
 use crate::blanks::Sharing;
 use crate::counts::{accepted_in, done_in, fetched_in, lost_in, retried_in};
 use crate::receipts::Receipts;
 use dsa_book::{Actor, Step};
 use std::alloc::{Allocator, Global};
-use std::marker::Model;
+use std::marker::{Model, PhantomData};
 
 // A seat with a number.
 pub(crate) trait Numbered {
@@ -31,14 +32,52 @@ pub(crate) trait Numbered {
         ensures { result.now ≡ receipts self.now };
 }
 
-/// The seat of a client, which submits. Contracts see its number and its receipts.
-#[derive(Drop)]
-pub struct ClientSeat<L: Sharing, A: Allocator = Global> {
-    pub(crate) number: u16,
-    pub(crate) receipts: Receipts<L, A>,
+/// Whose a numbered seat is.
+pub trait Role {
+    ghost actor: { ℕ → Actor };
+
+    /// The one who has that number.
+    fn actor_of(number: u16) -> Actor
+        ensures { result ≡ actor number };
 }
 
-impl<L: Sharing, A: Allocator> Model for ClientSeat<L, A> {
+/// A client, who submits.
+pub struct ClientRole;
+
+impl Role for ClientRole {
+    ghost actor = { λ number. actor.Client number };
+
+    fn actor_of(number: u16) -> Actor {
+        Actor::Client(number)
+    }
+}
+
+/// An engine, which takes entries, works on them and ends them.
+pub struct EngineRole;
+
+impl Role for EngineRole {
+    ghost actor = { λ number. actor.Engine number };
+
+    fn actor_of(number: u16) -> Actor {
+        Actor::Engine(number)
+    }
+}
+
+/// The seat of a client or of an engine. Contracts see its number and its receipts.
+#[derive(Drop)]
+pub struct NumberedSeat<K: Role, L: Sharing, A: Allocator = Global> {
+    pub(crate) number: u16,
+    pub(crate) receipts: Receipts<L, A>,
+    pub(crate) role: PhantomData<K>,
+}
+
+/// The seat of a client.
+pub type ClientSeat<L, A = Global> = NumberedSeat<ClientRole, L, A>;
+
+/// The seat of an engine.
+pub type EngineSeat<L, A = Global> = NumberedSeat<EngineRole, L, A>;
+
+impl<K: Role, L: Sharing, A: Allocator> Model for NumberedSeat<K, L, A> {
     ghost use Rattle.std.specs.Prelude.{◌≡◌};
     ghost use Rattle.dsa_shared.specs.Seat.{SeatLog};
 
@@ -49,10 +88,10 @@ impl<L: Sharing, A: Allocator> Model for ClientSeat<L, A> {
     ghost invariant = { λ s. s.receipts.parts ≡ 1 };
 }
 
-impl<L: Sharing, A: Allocator> Numbered for ClientSeat<L, A> {
+impl<K: Role, L: Sharing, A: Allocator> Numbered for NumberedSeat<K, L, A> {
     ghost number = { number_of };
 
-    ghost actor = { client_of };
+    ghost actor = { λ s. K.actor s.number };
 
     ghost receipts = { receipts_of };
 
@@ -61,7 +100,7 @@ impl<L: Sharing, A: Allocator> Numbered for ClientSeat<L, A> {
     }
 
     fn seat_actor(&self) -> Actor {
-        Actor::Client(self.number)
+        K::actor_of(self.number)
     }
 
     fn seat_receipts(&self) -> &[Step] {
@@ -69,15 +108,15 @@ impl<L: Sharing, A: Allocator> Numbered for ClientSeat<L, A> {
     }
 }
 
-impl<L: Sharing, A: Allocator> ClientSeat<L, A> {
-    /// The number of the client, counted from 0.
+impl<K: Role, L: Sharing, A: Allocator> NumberedSeat<K, L, A> {
+    /// The number of the client or of the engine, counted from 0.
     pub fn number(&self) -> u16
         ensures { result ≡ self.now.number }
     {
         self.number
     }
 
-    /// The stored steps of this client, in the order in which it made them.
+    /// The stored steps that it made, in their order.
     pub fn receipts(&self) -> &[Step]
         ensures { result.now ≡ self.now.receipts }
     {
@@ -90,7 +129,9 @@ impl<L: Sharing, A: Allocator> ClientSeat<L, A> {
     {
         self.receipts.steps().len() as u64
     }
+}
 
+impl<L: Sharing, A: Allocator> NumberedSeat<ClientRole, L, A> {
     /// How many of its submissions were accepted.
     pub fn accepted(&self) -> u64
         ensures { result ≡ total_accepted self.now.receipts }
@@ -106,67 +147,7 @@ impl<L: Sharing, A: Allocator> ClientSeat<L, A> {
     }
 }
 
-/// The seat of an engine, which takes entries, works on them and ends them. Contracts see its number and
-/// its receipts.
-#[derive(Drop)]
-pub struct EngineSeat<L: Sharing, A: Allocator = Global> {
-    pub(crate) number: u16,
-    pub(crate) receipts: Receipts<L, A>,
-}
-
-impl<L: Sharing, A: Allocator> Model for EngineSeat<L, A> {
-    ghost use Rattle.std.specs.Prelude.{◌≡◌};
-    ghost use Rattle.dsa_shared.specs.Seat.{SeatLog};
-
-    ghost Value = { SeatLog };
-
-    ghost view = { λ s. record { number = s.number; receipts = s.receipts.steps } };
-
-    ghost invariant = { λ s. s.receipts.parts ≡ 1 };
-}
-
-impl<L: Sharing, A: Allocator> Numbered for EngineSeat<L, A> {
-    ghost number = { number_of };
-
-    ghost actor = { engine_of };
-
-    ghost receipts = { receipts_of };
-
-    fn seat_number(&self) -> u16 {
-        self.number
-    }
-
-    fn seat_actor(&self) -> Actor {
-        Actor::Engine(self.number)
-    }
-
-    fn seat_receipts(&self) -> &[Step] {
-        self.receipts.steps()
-    }
-}
-
-impl<L: Sharing, A: Allocator> EngineSeat<L, A> {
-    /// The number of the engine, counted from 0.
-    pub fn number(&self) -> u16
-        ensures { result ≡ self.now.number }
-    {
-        self.number
-    }
-
-    /// The stored steps of this engine, in the order in which it made them.
-    pub fn receipts(&self) -> &[Step]
-        ensures { result.now ≡ self.now.receipts }
-    {
-        self.receipts.steps()
-    }
-
-    /// The number of its stored steps.
-    pub fn steps(&self) -> u64
-        ensures { result ≡ length self.now.receipts }
-    {
-        self.receipts.steps().len() as u64
-    }
-
+impl<L: Sharing, A: Allocator> NumberedSeat<EngineRole, L, A> {
     /// How many members it fetched.
     pub fn fetched(&self) -> u64
         ensures { result ≡ total_fetched self.now.receipts }

@@ -12,7 +12,7 @@ use crate::blanks::Sharing;
 use crate::counts::{accepted_in, done_in, fetched_in, lost_in, retried_in};
 use crate::device::SharedDevice;
 use crate::locked::{Locked, check};
-use crate::seats::{AdminSeat, ClientSeat, EngineSeat, Seats};
+use crate::seats::{AdminSeat, NumberedSeat, Role, Seats};
 use dsa_book::Step;
 use dsa_device::Device;
 use dsa_store::EntryStore;
@@ -171,32 +171,23 @@ fn close<L: Sharing, A: Allocator>(book: Book<L>, seats: Seats<L, A>, steps: u64
     let AdminSeat { receipts } = admin;
     let mut book = book;
     let mut all = receipts.into_share();
-    gather_clients(clients, &mut all);
-    gather_engines(engines, &mut all);
+    gather(clients, &mut all);
+    gather(engines, &mut all);
     book.audit(&mut all);
 }
 
-fn gather_clients<L: Sharing, A: Allocator>(seats: Vec<ClientSeat<L, A>, A>, all: &mut Share<L>)
+fn gather<K: Role, L: Sharing, A: Allocator>(
+    seats: Vec<NumberedSeat<K, L, A>, A>,
+    all: &mut Share<L>,
+)
     ensures parts { all.new.parts ≡ all.old.parts + length seats.items }
     ensures amount { all.new.amount ≡ all.old.amount + sum_by (λ s. length s.receipts) seats.items }
 {
     for seat in seats {
-        let ClientSeat {
+        let NumberedSeat {
             number: _,
             receipts,
-        } = seat;
-        all.merge(receipts.into_share());
-    }
-}
-
-fn gather_engines<L: Sharing, A: Allocator>(seats: Vec<EngineSeat<L, A>, A>, all: &mut Share<L>)
-    ensures parts { all.new.parts ≡ all.old.parts + length seats.items }
-    ensures amount { all.new.amount ≡ all.old.amount + sum_by (λ s. length s.receipts) seats.items }
-{
-    for seat in seats {
-        let EngineSeat {
-            number: _,
-            receipts,
+            role: _,
         } = seat;
         all.merge(receipts.into_share());
     }

@@ -1,4 +1,4 @@
-use Rattle.dsa_shared.proofs.make.engine_seats.Goals as goal
+use Rattle.dsa_shared.proofs.make.numbered_seats.Goals as goal
 use Rattle.std.proofs.{Common.{get_or, ap, sym, ◌∙◌, arith}, lemmas.Grind.{common_steps}}
 use Rattle.dsa_shared.{specs.Seat.{SeatLog}, proofs.Fresh.{one_more}}
 

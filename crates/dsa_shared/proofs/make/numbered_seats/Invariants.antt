@@ -1,4 +1,4 @@
-use Rattle.dsa_shared.proofs.make.engine_seats.Given as goal
+use Rattle.dsa_shared.proofs.make.numbered_seats.Given as goal
 use Rattle.std.proofs.Common.{◌≡◌, ℕ, ◌+◌, ◌<◌, ◌≤◌, get_or, vec_len, vec_capacity, vec_items}
 use Rattle.std.specs.Vec.Iter.{into_iter_len}
 use Rattle.dsa_shared.specs.Seat.{SeatLog, fresh}

@@ -1,0 +1,28 @@
+use Rattle.dsa_shared.proofs.locked.checks.mismatch.Goals as goal
+use Rattle.std.proofs.Common.{◌≡◌, ℕ, List, Option, Some, None, IfSome, inr, sym, subst}
+use Rattle.std.specs.Option.{IsSomeAnd}
+use Rattle.dsa_book.specs.{declared.event.{Step.{Step}, Actor.TheVariants.{Admin}}, Totals.{steps_of}}
+use Rattle.dsa_shared.specs.{Compare.{DiffersFirstAt}, Seat.{SeatLog, client_of, engine_of, receipts_of}}
+use Rattle.dsa_shared.specs.Settle.{AllMatch, IsFirstMismatch}
+
+-- where all numbered seats match, the administrator's mismatch is the first
+admin_first : (h : List Step) (clients engines : List SeatLog) (admin : Option (List Step)) (own : List Step)
+    (found : Option ℕ) → AllMatch client_of receipts_of h clients → AllMatch engine_of receipts_of h engines
+    → admin ≡ Some own → IfSome found (DiffersFirstAt own (steps_of h Admin))
+    → IfSome found (IsFirstMismatch h clients engines admin)
+admin_first h clients engines admin own (Some i) client_match engine_match is differs =
+    inr (inr (
+      client_match,
+      engine_match,
+      subst (λ a. IsSomeAnd a (λ r. DiffersFirstAt r (steps_of h Admin) i)) (sym is) differs,
+    ))
+admin_first h clients engines admin own None client_match engine_match is differs = differs
+
+pub returns-clause-some : goal.returns-clause-some
+returns-clause-some g c =
+    let history = c.args.history.now in
+    admin_first history _ _ _ _ _
+    (subst (AllMatch client_of receipts_of history) c.deref.ensures.value c.in_default-first_mismatch.ensures.none)
+    (subst (AllMatch engine_of receipts_of history) c.deref-2.ensures.value c.in_default-first_mismatch-2.ensures.none)
+    c.in-Some.is (subst (λ r. IfSome c.compare_receipts.result (DiffersFirstAt r (steps_of history Admin)))
+    c.receipts.ensures c.compare_receipts.ensures.some)
