@@ -77,22 +77,7 @@ fn issue_all<S: EntryStore, L: Sharing, G: Gate, R: Wait>(
     }
 }
 
-/// Runs the administrator on the seat that it is lent.
-pub fn run_admin<S: EntryStore, L: Sharing, G: Gate, R: Wait>(
-    rt: &R,
-    run: &Run<S, L, G>,
-    worker: usize,
-    script: &[Command],
-    seat: &mut AdminSeat<L>,
-) -> Stint
-    ensures { RunsAdmin script.now run.now.turns seat.old seat.new result }
-{
-    let stint = issue_all(rt, run, worker, script, seat);
-    run.gate.pass(worker, stint.turns);
-    stint
-}
-
-/// Runs the administrator in this thread.
+/// Runs the administrator in this thread, on the seat in its lane.
 pub fn run_admin_lane<S: EntryStore, L: Sharing, G: Gate, A: Allocator, R: Wait>(
     rt: &R,
     run: &Run<S, L, G>,
@@ -102,5 +87,6 @@ pub fn run_admin_lane<S: EntryStore, L: Sharing, G: Gate, A: Allocator, R: Wait>
 )
     ensures { RunsAdmin script.now run.now.turns lane.old.seat lane.new.seat lane.new.stint }
 {
-    lane.stint = run_admin(rt, run, worker, script, &mut lane.seat);
+    lane.stint = issue_all(rt, run, worker, script, &mut lane.seat);
+    run.gate.pass(worker, lane.stint.turns);
 }

@@ -76,21 +76,7 @@ fn submit_all<S: EntryStore, L: Sharing, G: Gate, R: Wait>(
     }
 }
 
-/// Runs a client on the seat that it is lent.
-pub fn run_client<S: EntryStore, L: Sharing, G: Gate, R: Wait>(
-    rt: &R,
-    run: &Run<S, L, G>,
-    worker: usize,
-    script: &[ClientStep],
-    seat: &mut ClientSeat<L>,
-) -> Stint
-    ensures { RunsClient script.now run.now.turns seat.old seat.new result }
-{
-    let stint = submit_all(rt, run, worker, script, seat);
-    run.gate.pass(worker, stint.turns);
-    stint
-}
-
+// Runs a client on the seat in its lane.
 fn run_lane<S: EntryStore, L: Sharing, G: Gate, A: Allocator, R: Wait>(
     rt: &R,
     run: &Run<S, L, G>,
@@ -100,7 +86,8 @@ fn run_lane<S: EntryStore, L: Sharing, G: Gate, A: Allocator, R: Wait>(
 )
     ensures { RunsClient script.now run.now.turns lane.old.seat lane.new.seat lane.new.stint }
 {
-    lane.stint = run_client(rt, run, worker, script, &mut lane.seat);
+    lane.stint = submit_all(rt, run, worker, script, &mut lane.seat);
+    run.gate.pass(worker, lane.stint.turns);
 }
 
 /// Runs each client in a thread of its own. Client k is worker k.

@@ -72,23 +72,7 @@ fn serve<S: EntryStore, L: Sharing, G: Gate, A: Allocator, R: Wait>(
     }
 }
 
-/// Runs an engine on the seat that it is lent.
-pub fn run_engine<S: EntryStore, L: Sharing, G: Gate, A: Allocator, R: Wait>(
-    rt: &R,
-    run: &Run<S, L, G>,
-    worker: usize,
-    script: &EngineScript,
-    tickets: &mut Tickets<A>,
-    seat: &mut EngineSeat<L>,
-) -> Stint
-    requires { HasRoom tickets.old run.now.turns }
-    ensures { RunsEngine script.now run.now.turns seat.old seat.new result }
-{
-    let stint = serve(rt, run, worker, script, tickets, seat);
-    run.gate.pass(worker, stint.turns);
-    stint
-}
-
+// Runs an engine on the seat in its lane.
 fn run_lane<S: EntryStore, L: Sharing, G: Gate, A: Allocator, R: Wait>(
     rt: &R,
     run: &Run<S, L, G>,
@@ -99,7 +83,8 @@ fn run_lane<S: EntryStore, L: Sharing, G: Gate, A: Allocator, R: Wait>(
     requires { HasRoom lane.old.tickets run.now.turns }
     ensures { RunsEngine script.now run.now.turns lane.old.seat lane.new.seat lane.new.stint }
 {
-    lane.stint = run_engine(rt, run, worker, script, &mut lane.tickets, &mut lane.seat);
+    lane.stint = serve(rt, run, worker, script, &mut lane.tickets, &mut lane.seat);
+    run.gate.pass(worker, lane.stint.turns);
 }
 
 /// Runs each engine in a thread of its own. Engine k is worker `first + k`.
