@@ -3,7 +3,7 @@ use Rattle.std.specs.Prelude.{◌≡◌, ℕ, None, Some}
 use Rattle.dsa_base.specs.Rows.{first_row}
 use Rattle.dsa_regs.specs.declared.Caps.{Caps}
 use Rattle.dsa_device.specs.Running.{running_at_first}
-use Rattle.dsa_machine.specs.Opening.{opening_table, opening_fault}
+use Rattle.dsa_device.specs.Made.{opening_table, opening_fault}
 use Rattle.dsa_c.specs.{declared.opening.DeviceCaps.{DeviceCaps}, Calls.{opening_number}, Place.{HeldMachine}}
 
 abbrev pub caps_of : DeviceCaps → Caps

@@ -3,3 +3,4 @@ pub mod Steps
 pub mod InStep
 pub mod Opening
 pub mod Runs
+pub mod NewStore

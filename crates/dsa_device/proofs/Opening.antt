@@ -2,13 +2,13 @@
 use Rattle.std.proofs.Common.{◌≡◌, ℕ, ◌^◌, ◌≤◌, IsTrue, List, [], length, replicate, None, refl, ap, ◌∙◌}
 use Rattle.std.proofs.Common.{arith}
 use Rattle.std.proofs.lemmas.Bool.{eqb-true, ltb-false, and_parts, not-false}
-use Rattle.dsa_base.proofs.Tables.{no-row}
+use Rattle.dsa_base.{specs.Rows.{first_row}, proofs.Tables.{no-row}}
 use Rattle.dsa_regs.specs.{declared.Caps.{Caps}, Caps.{check_caps, list_count}}
 use Rattle.dsa_store.{specs.Content.{Slot, Content, held_count}, proofs.Lists.{contents-from_held_zero}}
 use Rattle.dsa_book.specs.State.{opening_setup}
 use Rattle.dsa_queues.specs.Queues.{IsStoreFor}
 use Rattle.dsa_engines.specs.Engines.{Gear, IsInStep}
-use Rattle.dsa_device.specs.{Running.{Running, running_at_first, IsWhole}, Made.{make_table, make_fault}}
+use Rattle.dsa_device.specs.{Running.{Running, running_at_first, IsWhole}, Made.{opening_table, make_table, make_fault}}
 
 -- what stands where no cause does
 pub record IsClear (c : Caps) (room count : ℕ) (lists : Content) : Type 0 where
@@ -21,6 +21,12 @@ pub record IsClear (c : Caps) (room count : ℕ) (lists : Content) : Type 0 wher
 empty_lists : (content : Content) (n : ℕ) → held_count content ≡ 0 → length content ≡ n → content ≡ replicate n []
 empty_lists content n none long = contents-from_held_zero content none
     ∙ ap (λ (k : ℕ). replicate {A = List Slot} k []) long
+
+-- what stands where no cause but the store can
+pub opening-clear : (caps : Caps) (capacity : ℕ) → first_row (opening_table caps capacity) ≡ None
+    → IsTrue (check_caps caps) × (capacity ≤ 2 ^ 20)
+opening-clear caps capacity h =
+    let rows = no-row (opening_table caps capacity) h in (not-false _ rows.0, ltb-false (2 ^ 20) capacity rows.1.0)
 
 pub clear-of : (caps : Caps) (capacity cells : ℕ) (content : Content) → make_fault caps capacity cells content ≡ None
     → IsClear caps capacity cells content

@@ -5,7 +5,8 @@ ghost use Rattle.dsa_desc.specs.Descriptor.{read};
 ghost use Rattle.dsa_regs.specs.Caps.{check_caps};
 ghost use Rattle.dsa_book.specs.declared.event.Event.TheVariants as event;
 ghost use Rattle.dsa_book.specs.declared.answer.Reply.TheVariants as reply;
-ghost use Rattle.dsa_device.specs.Made.{is_store_of, make_fault, fault_or_memory};
+ghost use Rattle.dsa_base.specs.Rows.{first_row};
+ghost use Rattle.dsa_device.specs.Made.{is_store_of, opening_table, make_fault, fault_or_memory};
 ghost use Rattle.dsa_device.specs.Running.{running_at_first, after_answer};
 
 mod reads;
@@ -63,15 +64,26 @@ fn is_store_of<S: EntryStore>(store: &S, caps: &Caps) -> bool
         && store.cells() == cell_count(caps)
 }
 
-// The first cause that keeps a device from being made.
-fn make_fault<S: EntryStore>(store: &S, caps: &Caps, capacity: u64) -> Option<MakeFault>
-    ensures { result ≡ make_fault caps.now capacity (S.cells store.now) (S.content store.now) }
+/// The first cause that keeps a device from being made, whatever its store: `BadCaps`, then `BadCapacity` (profile).
+pub fn check_opening(caps: &Caps, capacity: u64) -> Option<MakeFault>
+    ensures { result ≡ first_row (opening_table caps.now capacity) }
 {
     if !check_caps(caps) {
         return Some(MakeFault::BadCaps);
     }
     if capacity > MAX_CAPACITY {
         return Some(MakeFault::BadCapacity);
+    }
+    None
+}
+
+// The first cause that keeps a device from being made over this store.
+fn make_fault<S: EntryStore>(store: &S, caps: &Caps, capacity: u64) -> Option<MakeFault>
+    ensures { result ≡ make_fault caps.now capacity (S.cells store.now) (S.content store.now) }
+{
+    let fault = check_opening(caps, capacity);
+    if fault.is_some() {
+        return fault;
     }
     if !is_store_of(store, caps) {
         return Some(MakeFault::BadStore);

@@ -8,5 +8,5 @@
 mod device;
 mod faults;
 
-pub use device::Device;
+pub use device::{Device, check_opening};
 pub use faults::MakeFault;

@@ -4,15 +4,12 @@
 ghost use Rattle.std.specs.Prelude.{◌≡◌, None, IfOk, IfErr};
 ghost use Rattle.dsa_base.specs.Rows.{first_row};
 ghost use Rattle.dsa_device.specs.Running.{running_at_first};
-ghost use Rattle.dsa_machine.specs.Opening.{opening_table, opening_fault};
+ghost use Rattle.dsa_device.specs.Made.{opening_table, opening_fault};
 
 use dsa_cells::LinkedStore;
-use dsa_device::{Device, MakeFault};
-use dsa_regs::{Caps, cell_count, check_caps, list_count};
+use dsa_device::{Device, MakeFault, check_opening};
+use dsa_regs::{Caps, cell_count, list_count};
 use std::alloc::Global;
-
-/// The most steps that a history may have room for (profile).
-const MAX_CAPACITY: u64 = 1_048_576;
 
 /// A device and its store.
 #[derive(Drop)]
@@ -28,11 +25,8 @@ impl Machine {
         ensures no_fault { IfOk result (λ machine. first_row (opening_table caps capacity) ≡ None) }
         ensures fault { IfErr result (λ fault. fault ≡ opening_fault caps capacity) }
     {
-        if !check_caps(&caps) {
-            return Err(MakeFault::BadCaps);
-        }
-        if capacity > MAX_CAPACITY {
-            return Err(MakeFault::BadCapacity);
+        if let Some(fault) = check_opening(&caps, capacity) {
+            return Err(fault);
         }
         let Ok(store) = LinkedStore::new(alloc, list_count(&caps), cell_count(&caps)) else {
             return Err(MakeFault::OutOfMemory);

@@ -1,6 +1,5 @@
 pub mod Accepted
 pub mod Bytes
-pub mod Fresh
 pub mod Hex
 pub mod OptionNumbers
 pub mod Pushes

@@ -11,12 +11,10 @@ ghost use Rattle.dsa_scenario.specs.Document.{head_of, IsFirstBad, IsJson, IsNoJ
 use crate::actions::{Action, parse_action, parse_caps};
 use crate::faults::ScenarioFault;
 use crate::fields::u64_field;
-use dsa_regs::{Caps, check_caps};
+use dsa_device::{MakeFault, check_opening};
+use dsa_regs::Caps;
 use serde_json::{Error, Value};
 use std::alloc::Global;
-
-/// The greatest capacity of a history (profile).
-const MAX_CAPACITY: u64 = 1_048_576;
 
 /// A document that is read: the capabilities of the device, the capacity of its history, and what is asked of it.
 #[derive(Drop)]
@@ -107,11 +105,9 @@ pub fn check_document(document: &Document) -> Result<(), ScenarioFault>
     ensures bad { IfErr result (λ e. ((e ≡ ScenarioFault.BadCaps) × (check_caps document.now.caps ≡ false))
         ⊎ ((e ≡ ScenarioFault.BadCapacity) × (check_caps document.now.caps ≡ true) × (2 ^ 20 < document.now.capacity))) }
 {
-    if !check_caps(&document.caps) {
-        return Err(ScenarioFault::BadCaps);
+    match check_opening(&document.caps, document.capacity) {
+        None => Ok(()),
+        Some(MakeFault::BadCaps) => Err(ScenarioFault::BadCaps),
+        Some(_) => Err(ScenarioFault::BadCapacity),
     }
-    if document.capacity > MAX_CAPACITY {
-        return Err(ScenarioFault::BadCapacity);
-    }
-    Ok(())
 }

@@ -1,5 +1,5 @@
 use Rattle.dsa_scenario.proofs.scenario.render_document.Goals as goal
-use Rattle.dsa_scenario.proofs.Fresh.{new-make_fault}
+use Rattle.dsa_device.proofs.NewStore.{new-make_fault}
 
 pub run_document-requires : goal.run_document-requires
 run_document-requires c = new-make_fault c.in_ok-document.document.caps c.in_ok-document.document.capacity
