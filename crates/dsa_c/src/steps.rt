@@ -205,6 +205,19 @@ pub extern "C" fn dsa_dispatch(alloc: Global, handle: &mut Handle, engine: u16) 
     Answer::of_dispatch(answer)
 }
 
+/// The step of an engine that starts the first of its members that does not run.
+#[unsafe(no_mangle)]
+pub extern "C" fn dsa_start(alloc: Global, handle: &mut Handle, engine: u16) -> Answer
+    ensures { IsStep handle.old.place.machine (event.Start engine) result handle.new.place.machine }
+{
+    let Some(mut machine) = handle.take(alloc) else {
+        return Answer::no_device();
+    };
+    let answer = machine.device.start(engine);
+    handle.put(machine);
+    Answer::of_start(answer)
+}
+
 /// The step of an engine that hands in the next member of its batch.
 #[unsafe(no_mangle)]
 pub extern "C" fn dsa_fetch(
@@ -222,19 +235,6 @@ pub extern "C" fn dsa_fetch(
     let answer = machine.device.fetch(engine, desc);
     handle.put(machine);
     Answer::of_fetch(answer)
-}
-
-/// The step of an engine that starts the first of its members that does not run.
-#[unsafe(no_mangle)]
-pub extern "C" fn dsa_start(alloc: Global, handle: &mut Handle, engine: u16) -> Answer
-    ensures { IsStep handle.old.place.machine (event.Start engine) result handle.new.place.machine }
-{
-    let Some(mut machine) = handle.take(alloc) else {
-        return Answer::no_device();
-    };
-    let answer = machine.device.start(engine);
-    handle.put(machine);
-    Answer::of_start(answer)
 }
 
 /// The step of an engine that ends an entry, and says by 0 that all was done or by 1 that an address had no page.
