@@ -9,7 +9,8 @@ use Rattle.std.specs.Option.{option_or}
 use Rattle.dsa_cells.specs.{declared.links.{Node.{Node}, Header.{Header}}, Array.{node_at, header_at, no_header}}
 use Rattle.dsa_cells.specs.Partition.{first_or, last_or, Linked, cells_of, times, IsHeader, AreHeaders, list_at}
 use Rattle.dsa_cells.specs.Partition.{lists_of}
-use Rattle.dsa_cells.specs.Writes.{AreInside, after_change, after_join, after_detach, or_else, without, header_after_join}
+use Rattle.dsa_cells.specs.Writes.{AreInside, after_change, after_join, after_detach, or_else, without}
+use Rattle.dsa_cells.specs.Writes.{header_after_join}
 use Rattle.dsa_cells.specs.{Invariant.{IsStore}, Owners.{owner_is, length-owners}}
 use Rattle.dsa_cells.proofs.Chain.{first_or-append, last_or-append, times-append, times-tail, Once, Linked-left}
 use Rattle.dsa_cells.proofs.Chain.{Linked-right, Linked-join, Linked-join_other, walk_is, map-changed, length-changed}
@@ -116,8 +117,8 @@ pub ends-joined : (s : List Node) (r : List Header) (lists : List (List ℕ)) (t
 ends-joined s r lists to given p xs a lt g w d =
     let ys = list_at lists to in
     let kept = a.each to lt in
-    AreHeaders-set s (after_join s (header_at r to).tail given.head) r lists to (header_after_join (header_at r to) given)
-    (ys ++ xs) a
+    AreHeaders-set s (after_join s (header_at r to).tail given.head) r lists to
+    (header_after_join (header_at r to) given) (ys ++ xs) a
     (IsHeader-joined s (header_at r to) given ys xs p
     (λ x. omega (arith, d (suc to) x (λ e. omega (arith, e)), times-append x ys xs)) w kept g)
     (λ m ne k. rw (kept.tail, g.head) (Linked-join_other s ys xs (list_at lists m) (λ x. d m x ne) k))

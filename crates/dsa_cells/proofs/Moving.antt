@@ -8,8 +8,8 @@ use Rattle.std.specs.Option.{option_or}
 use Rattle.dsa_cells.specs.declared.links.{Node.{Node}, Header.{Header}}
 use Rattle.dsa_cells.specs.Array.{node_at, header_at, owners_of, entries_of}
 use Rattle.dsa_cells.specs.Partition.{first_or, last_or, times, IsHeader, AreHeaders, list_at}
-use Rattle.dsa_cells.specs.Writes.{InRange, AreInside, after_join, header_after_join, after_detach, without, cells_without, as_last}
-use Rattle.dsa_cells.specs.Writes.{with_last, or_else, after_transfer}
+use Rattle.dsa_cells.specs.Writes.{InRange, AreInside, after_join, header_after_join, after_detach, without}
+use Rattle.dsa_cells.specs.Writes.{cells_without, as_last, with_last, or_else, after_transfer}
 use Rattle.dsa_cells.specs.{Invariant.{place, IsStore}, Owners.{owner_is, length-owners}}
 use Rattle.dsa_cells.proofs.Chain.{times-append, times-head, times-tail, Names-more, Names-first, Names-last}
 use Rattle.dsa_cells.proofs.Chain.{InRange-of, Linked-right, Linked-other, split_at, changed-here, map-changed}
@@ -139,7 +139,8 @@ transfer s r lists c to may = go parts.0 parts.1 parts.2
     owners =
         map-joined (λ t. t.owner) (as_last (after_detach s c) c to) (header_at (headers_left s r c) to).tail (Some c)
         (λ t o. refl) (λ t o. refl)
-        ∙ map-set (λ t. t.owner) (after_detach s c) c (record (node_at (after_detach s c) c) { next = None; owner = to })
+        ∙ map-set (λ t. t.owner) (after_detach s c) c
+        (record (node_at (after_detach s c) c) { next = None; owner = to })
         ∙ ap (λ os. set os c to) (map-joined (λ t. t.owner) s (node_at s c).previous (node_at s c).next
         (λ t o. refl) (λ t o. refl))
 

@@ -7,7 +7,8 @@ use Rattle.std.proofs.lemmas.List.{map-set, get_or-set_other, Sums.{sum_by-set, 
 use Rattle.dsa_cells.specs.declared.links.{Node.{Node}, Header.{Header}}
 use Rattle.dsa_cells.specs.Array.{node_at, header_at, no_header, owners_of, entries_of}
 use Rattle.dsa_cells.specs.Partition.{walk, cells_of, times, IsHeader, AreHeaders, list_at}
-use Rattle.dsa_cells.specs.Writes.{InRange, AreInside, after_change, after_join, header_after_join, after_mark, after_splice}
+use Rattle.dsa_cells.specs.Writes.{InRange, AreInside, after_change, after_join, header_after_join, after_mark}
+use Rattle.dsa_cells.specs.Writes.{after_splice}
 use Rattle.dsa_cells.specs.{Invariant.{place, IsStore}, Owners.{length-owners}}
 use Rattle.dsa_cells.proofs.Chain.{times-append, times-head, times-tail, Names-first, Names-last, InRange-of}
 use Rattle.dsa_cells.proofs.Chain.{SameLinks, Linked-agree, map-changed, length-changed, changed-links}
@@ -127,9 +128,11 @@ pub record Splice (s : List Node) (r : List Header) (lists : List (List ℕ)) (f
   pub tail : InRange (after_mark s cells to) (header_at r to).tail
   pub head : InRange (after_mark s cells to) (header_at r from).head
   pub fits : (header_at r to).count + (header_at r from).count < 2 ^ 32
-  pub entries : entries_of (after_join (after_mark s cells to) (header_at r to).tail (header_at r from).head) ≡ entries_of s
+  pub entries : entries_of (after_join (after_mark s cells to) (header_at r to).tail (header_at r from).head)
+      ≡ entries_of s
   pub left : IsLeft (after_join (after_mark s cells to) (header_at r to).tail (header_at r from).head)
-      (set (set r from no_header) to (header_after_join (header_at r to) (header_at r from))) (after_splice lists from to)
+      (set (set r from no_header) to (header_after_join (header_at r to) (header_at r from)))
+      (after_splice lists from to)
 
 pub splice : (s : List Node) (r : List Header) (lists : List (List ℕ)) (from to : ℕ) → MaySplice s r lists from to
     → Splice s r lists from to (cells_of s (header_at r from))

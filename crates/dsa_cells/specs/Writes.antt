@@ -22,8 +22,8 @@ after_change change nodes (Some cell) = slice_set nodes cell (change (node_at no
 -- the array: these two, as far as they are there, are neighbours
 abbrev pub after_join : List Node → Option ℕ → Option ℕ → List Node
 after_join nodes before after =
-    after_change (λ node. record node { previous = before }) (after_change (λ node. record node { next = after }) nodes before)
-    after
+    after_change (λ node. record node { previous = before })
+    (after_change (λ node. record node { next = after }) nodes before) after
 
 -- the header of a list behind which another came
 abbrev pub header_after_join : Header → Header → Header
@@ -76,15 +76,16 @@ after_append lists to cells = slice_set lists to (list_at lists to ++ cells)
 
 -- the lists after the cell went from its list to the end of another
 abbrev pub after_transfer : List (List ℕ) → ℕ → ℕ → ℕ → List (List ℕ)
-after_transfer lists cell from to = after_append (slice_set lists from (cells_without cell (list_at lists from))) to (cell ∷ [])
+after_transfer lists cell from to =
+    after_append (slice_set lists from (cells_without cell (list_at lists from))) to (cell ∷ [])
 
 -- ---- a list goes to the end of another
 
 -- the array: these cells bear that list's number
 abbrev pub after_mark : List Node → List ℕ → ℕ → List Node
 after_mark nodes [] owner = nodes
-after_mark nodes (cell ∷ cells) owner = after_mark (after_change (λ node. record node { owner = owner }) nodes (Some cell)) cells
-    owner
+after_mark nodes (cell ∷ cells) owner =
+    after_mark (after_change (λ node. record node { owner = owner }) nodes (Some cell)) cells owner
 
 -- the lists after all cells of one went to the end of another
 abbrev pub after_splice : List (List ℕ) → ℕ → ℕ → List (List ℕ)

@@ -17,7 +17,8 @@ opening_table caps capacity = (not (check_caps caps), BadCaps) ∷ (nat_lt (2 ^ 
 
 -- the same over a store with so many cells, which has to be one of the device's (profile)
 abbrev pub make_table : Caps → ℕ → ℕ → Content → List (Bool × MakeFault)
-make_table caps capacity cells content = opening_table caps capacity ++ (not (is_store_of caps cells content), BadStore) ∷ []
+make_table caps capacity cells content =
+    opening_table caps capacity ++ (not (is_store_of caps cells content), BadStore) ∷ []
 
 -- the first cause that stands (profile)
 abbrev pub make_fault : Caps → ℕ → ℕ → Content → Option MakeFault

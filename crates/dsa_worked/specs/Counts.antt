@@ -8,4 +8,4 @@ use Rattle.dsa_worked.specs.Setup.{state_after}
 abbrev pub members_after : List Step → ℕ → Option (List ℕ)
 members_after steps batch =
     option_map (λ (s : State). members_done s.work batch ∷ members_abandoned s.work batch ∷
-      members_aborted s.work batch ∷ members_held s.work batch ∷ []) (state_after steps)
+    members_aborted s.work batch ∷ members_held s.work batch ∷ []) (state_after steps)
