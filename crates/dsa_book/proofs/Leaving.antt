@@ -1,13 +1,13 @@
 -- A dispatch, a start and an end leave the set-up as it was.
-use Rattle.std.proofs.Common.{◌≡◌, ℕ, [], ◌∷◌, ◌&&◌, Option, Some, None, refl}
+use Rattle.std.proofs.Common.{◌≡◌, ℕ, [], ◌∷◌, Option, Some, None, refl}
 use Rattle.dsa_desc.specs.declared.Outcome.{Outcome}
 use Rattle.dsa_base.proofs.Tables.{first_row_or-each}
 use Rattle.dsa_store.specs.Content.{Slot}
 use Rattle.dsa_book.specs.declared.answer.StartAnswer.{StartAnswer, TheVariants.{Started}}
 use Rattle.dsa_book.specs.declared.answer.FinishAnswer.{FinishAnswer, TheVariants.{Done, NotReady}}
-use Rattle.dsa_book.specs.{State.{Work, is_batch_of, ticket_of}, Choice.{Choice, from_queue}}
+use Rattle.dsa_book.specs.{State.{Work, ticket_of}, Choice.{Choice, from_queue}}
 use Rattle.dsa_book.specs.Work.{front_of, dispatch, dispatch_of, start_of, start_table, after_start, finish_of}
-use Rattle.dsa_book.specs.Work.{is_unfinished, last_status, after_end}
+use Rattle.dsa_book.specs.Work.{must_wait, last_status, after_end}
 
 dispatch_of-setup : (w : Work) (e q : ℕ) (o : Option Slot) → (dispatch_of w e q o).1.setup ≡ w.setup
 dispatch_of-setup w e q None = refl
@@ -29,5 +29,5 @@ pub finish_of-setup : (w : Work) (e : ℕ) (outcome : Outcome) (o : Option Slot)
 finish_of-setup w e outcome None = refl
 finish_of-setup w e outcome (Some slot) =
     let P : FinishAnswer × Work → Type 0 = λ r. r.1.setup ≡ w.setup in
-    first_row_or-each P ((is_batch_of w.setup slot.1 && is_unfinished w e, (NotReady, w)) ∷ [])
+    first_row_or-each P ((must_wait w e slot.1, (NotReady, w)) ∷ [])
     (Done (last_status w e slot outcome), after_end w e slot outcome) (refl, tt) refl

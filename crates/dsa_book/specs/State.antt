@@ -1,7 +1,7 @@
 -- The state of the written machine, by what each layer of the device keeps (profile).
 use Rattle.std.specs.Prelude.{None, is_some, []}
 use Rattle.std.specs.Prelude.{ℕ, Bool, true, false, cond, ◌&&◌, ◌==◌, nat_lt, List, length, replicate, get_or, Option}
-use Rattle.dsa_desc.specs.Descriptor.{need, status, is_lawful_batch}
+use Rattle.dsa_desc.specs.Descriptor.{need, status, is_lawful_batch, is_lawful_drain}
 use Rattle.dsa_desc.specs.declared.{Outcome.{Outcome}, QueueLimits.{QueueLimits}}
 use Rattle.dsa_regs.specs.Caps.{list_count}
 use Rattle.dsa_regs.specs.declared.{Phase.{Phase, TheVariants.{Off, On}}, QueueConfig.{QueueConfig}, Caps.{Caps}}
@@ -108,6 +108,10 @@ status_of setup entry outcome = status entry.desc (limits_at setup entry.queue) 
 -- whether an entry is a well-formed Batch, by the limits of its queue (profile)
 abbrev pub is_batch_of : Setup → Entry → Bool
 is_batch_of setup entry = is_lawful_batch entry.desc (limits_at setup entry.queue) (is_member entry)
+
+-- whether an entry is a well-formed Drain, by the limits of its queue (profile)
+abbrev pub is_drain_of : Setup → Entry → Bool
+is_drain_of setup entry = is_lawful_drain entry.desc (limits_at setup entry.queue) (is_member entry)
 
 -- ---- lists and names
 

@@ -7,16 +7,16 @@ use Rattle.dsa_desc.specs.declared.{Descriptor.{Descriptor}, Outcome.{Outcome}}
 use Rattle.dsa_base.specs.{Rows.{first_row_or, passes}, Numbers.{has, numbers_below}}
 use Rattle.dsa_regs.specs.declared.{GroupConfig.{GroupConfig}, layout.ListUse.TheVariants.{Progress, Members}}
 use Rattle.dsa_regs.specs.{Caps.{list_number}, Config.{group_at}, Buffers.{fits}}
-use Rattle.dsa_store.specs.Content.{Slot, chain, is_cell, after_push, without_front, after_give_back, after_unlink}
+use Rattle.dsa_store.specs.Content.{Slot, chain, all_held, is_cell, after_push, without_front, after_give_back, after_unlink}
 use Rattle.dsa_store.specs.declared.entry.{Cell.{Cell}, Entry.{Entry}}
-use Rattle.dsa_book.specs.State.{Setup, Work, has_queue, is_member, need_of, held_by, status_of, is_batch_of, ticket_of}
+use Rattle.dsa_book.specs.State.{Setup, Work, has_queue, is_member, need_of, held_by, status_of, is_batch_of, is_drain_of}
 use Rattle.dsa_book.specs.declared.answer.FetchAnswer.{FetchAnswer, TheVariants.{Fetched, NoBatch, AllFetched}}
 use Rattle.dsa_book.specs.declared.answer.FinishAnswer.{FinishAnswer, TheVariants.{Done, NotReady, Gone}}
 use Rattle.dsa_book.specs.declared.answer.StartAnswer.TheVariants.{Started, FenceWait, NoBuffers, Abandoned, Nothing}
 use Rattle.dsa_book.specs.declared.answer.{DispatchAnswer.{DispatchAnswer, TheVariants.{Taken, Idle}}, Ticket.{Ticket}}
 use Rattle.dsa_book.specs.declared.fate.{Fate.{Fate, TheVariants.{Completed, Abandoned}}, FateRow.{FateRow}}
 use Rattle.dsa_book.specs.declared.{answer.StartAnswer.{StartAnswer}, note.BatchNote.{BatchNote}}
-use Rattle.dsa_book.specs.{Choice.{Choice, nothing, in_cell, from_queue}, State.{is_ticket}}
+use Rattle.dsa_book.specs.{Choice.{Choice, nothing, in_cell, from_queue}, State.{ticket_of, is_ticket}}
 
 -- ---- what an engine has. An engine that the device does not have has nothing
 
@@ -80,12 +80,18 @@ has_room w e n = passes (λ g. fits w.setup.caps.read_buffers w.setup.groups (al
 abbrev pub serves : Work → ℕ → ℕ → Bool
 serves w e q = passes (λ g. has (group_at w.setup.groups g).queues q) (group_of w e)
 
--- the engine has a slot left and the buffers that the front needs, and works on one batch at a time (profile)
+-- a well-formed Drain is in progress on the engine
+abbrev pub is_draining : Work → ℕ → Bool
+is_draining w e = list_any (λ slot. is_drain_of w.setup slot.1) (in_progress w e)
+
+-- the engine has a slot left and the buffers that the front needs, and works on one batch and on one Drain at a time
+-- (profile)
 abbrev pub may_take : Work → ℕ → Slot → Bool
 may_take w e front =
     nat_lt (length (in_progress w e)) w.setup.caps.slots
     && has_room w e (need_of w.setup front.1)
     && (is_none (note_at w e) || not (is_batch_of w.setup front.1))
+    && not (is_drain_of w.setup front.1 && is_draining w e)
 
 -- a queue is served front first (profile)
 abbrev pub front_of : Work → ℕ → Option Slot
@@ -235,6 +241,22 @@ start w e = start_of w e (first_waiting w e)
 abbrev pub is_unfinished : Work → ℕ → Bool
 is_unfinished w e = nat_lt 0 (length (members w e)) || passes (λ note. not (is_all_fetched note)) (note_at w e)
 
+-- a Drain waits for this one: it was submitted before the Drain, to the same queue and under the same PASID (profile)
+abbrev pub waits_for : Entry → Slot → Bool
+waits_for drain slot =
+    not (is_member slot.1)
+    && (slot.1.queue == drain.queue && slot.1.desc.pasid == drain.desc.pasid)
+    && nat_lt slot.1.name drain.name
+
+-- one that the Drain waits for is held (profile)
+abbrev pub waits : Work → Entry → Bool
+waits w drain = list_any (waits_for drain) (all_held w.content)
+
+-- what is not ready to end: a well-formed Batch that is unfinished, and a well-formed Drain that waits (profile)
+abbrev pub must_wait : Work → ℕ → Entry → Bool
+must_wait w e entry =
+    (is_batch_of w.setup entry && is_unfinished w e) || (is_drain_of w.setup entry && waits w entry)
+
 -- a batch with a member that was not successful ends with 0x05 (profile; the number is equal to
 -- that of the Linux header)
 abbrev pub last_status : Work → ℕ → Slot → Outcome → ℕ
@@ -257,11 +279,11 @@ after_end w e slot outcome = record w {
   fates = w.fates ++ fate_row (Completed (last_status w e slot outcome)) slot ∷ [];
 }
 
--- Gone without such an entry, NotReady for a batch that is not finished, else Done (profile)
+-- Gone without such an entry, NotReady for one that must wait, else Done (profile)
 abbrev pub finish_of : Work → ℕ → Outcome → Option Slot → FinishAnswer × Work
 finish_of w e outcome None = (Gone, w)
 finish_of w e outcome (Some slot) =
-    first_row_or ((is_batch_of w.setup slot.1 && is_unfinished w e, (NotReady, w)) ∷ [])
+    first_row_or ((must_wait w e slot.1, (NotReady, w)) ∷ [])
     (Done (last_status w e slot outcome), after_end w e slot outcome)
 
 -- the answer to an end and what it leaves: it is of the running entry of the engine that has the

@@ -11,7 +11,8 @@ use crate::completion::{
     DSA_COMP_PAGE_FAULT_NOBOF, DSA_COMP_SUCCESS, DSA_COMP_XFER_ERANGE,
 };
 use crate::opcode::{
-    DSA_OPCODE_BATCH, DSA_OPCODE_COMPARE, DSA_OPCODE_MEMFILL, DSA_OPCODE_MEMMOVE, DSA_OPCODE_NOOP,
+    DSA_OPCODE_BATCH, DSA_OPCODE_COMPARE, DSA_OPCODE_DRAIN, DSA_OPCODE_MEMFILL, DSA_OPCODE_MEMMOVE,
+    DSA_OPCODE_NOOP,
 };
 use crate::{Descriptor, Outcome, QueueLimits};
 
@@ -29,13 +30,20 @@ fn is_within_power(low: u32, shift: u8, n: u32) -> bool
 }
 
 impl Descriptor {
-    ghost use Rattle.dsa_desc.specs.Descriptor.{is_batch, is_transfer, is_supported, check, is_well_formed, is_lawful_batch, need, status};
+    ghost use Rattle.dsa_desc.specs.Descriptor.{is_batch, is_drain, is_transfer, is_supported, check, is_well_formed, is_lawful_batch, is_lawful_drain, need, status};
 
     /// Whether the descriptor is a Batch, well formed or not.
     pub fn is_batch(&self) -> bool
         ensures { result ≡ is_batch self.now }
     {
         self.op == DSA_OPCODE_BATCH
+    }
+
+    /// Whether the descriptor is a Drain, well formed or not.
+    pub fn is_drain(&self) -> bool
+        ensures { result ≡ is_drain self.now }
+    {
+        self.op == DSA_OPCODE_DRAIN
     }
 
     /// Whether the descriptor is a Memory Move, a Fill or a Compare.
@@ -52,7 +60,9 @@ impl Descriptor {
     fn is_supported(&self, member: bool) -> bool
         ensures { result ≡ is_supported self.now member }
     {
-        self.op == DSA_OPCODE_NOOP || self.is_transfer() || (self.is_batch() && !member)
+        self.op == DSA_OPCODE_NOOP
+            || self.is_transfer()
+            || ((self.is_batch() || self.is_drain()) && !member)
     }
 
     /// The status number of the first check that fails, `DSA_COMP_NONE` where none does.
@@ -84,6 +94,13 @@ impl Descriptor {
         ensures { result ≡ is_lawful_batch self.now limits.now member }
     {
         self.is_batch() && self.is_well_formed(limits, member)
+    }
+
+    /// Whether the descriptor is a Drain that waits for what was submitted before it.
+    pub fn is_lawful_drain(&self, limits: &QueueLimits, member: bool) -> bool
+        ensures { result ≡ is_lawful_drain self.now limits.now member }
+    {
+        self.is_drain() && self.is_well_formed(limits, member)
     }
 
     /// How many read buffers the descriptor holds while it runs, 0 to 4: one for each 4096 bytes

@@ -7,7 +7,7 @@ pub const DSA_OPCODE_NOOP: u8 = 0x00;
 /// The descriptors of a list are fetched and worked on.
 pub const DSA_OPCODE_BATCH: u8 = 0x01;
 
-/// Earlier descriptors are waited for. The profile does not support it.
+/// Drain: earlier descriptors are waited for.
 pub const DSA_OPCODE_DRAIN: u8 = 0x02;
 
 /// Memory Move: bytes are copied.

@@ -8,12 +8,12 @@ use Rattle.dsa_regs.specs.{Caps.{cell_count}, Config.{queue_at, check_device, ch
 use Rattle.dsa_store.specs.{declared.entry.Cell.{Cell}, Content.{Slot, is_free}}
 use Rattle.dsa_book.specs.Submit.{limit_of, after_accept, is_movdir64b}
 use Rattle.dsa_book.specs.Work.{after_end, is_front, has_failed, first_waiting, has_room, after_start, after_abandon}
-use Rattle.dsa_book.specs.Work.{running_on, is_unfinished, front_of, qualifies, after_take, note_at, batch_on}
+use Rattle.dsa_book.specs.Work.{running_on, must_wait, front_of, qualifies, after_take, note_at, batch_on}
 use Rattle.dsa_book.specs.{Work.{is_all_fetched, after_fetch}, Machine.{with_work, with_intake, with_setup, intake_of}}
 use Rattle.dsa_book.specs.declared.{answer.{NotedError.{NotedError}, Ticket.{Ticket}}, note.BatchNote.{BatchNote}}
 use Rattle.dsa_book.specs.declared.{note.ActiveCommand.{ActiveCommand}, event.{Portal.{Portal}, Kind.{Kind}}}
 use Rattle.dsa_book.specs.State.{is_ticket, Setup, State, is_on, is_off, phase_at, has_queue, occupancy}
-use Rattle.dsa_book.specs.{State.{need_of, is_batch_of}, Commands.{after_abort, reset, is_among, with_sizes_alone}}
+use Rattle.dsa_book.specs.{State.{need_of}, Commands.{after_abort, reset, is_among, with_sizes_alone}}
 use Rattle.dsa_book.specs.Commands.{holds_any, is_awaited, with_device, with_phases, after_stop, may_come}
 
 -- ---- entries
@@ -73,14 +73,14 @@ pub record IsAbandoned (s s' : State) : Type 0 where
   pub failed : (is_fenced slot.1.desc && has_failed s.work engine) ≡ true
   pub after : with_work s (after_abandon s.work engine) ≡ s'
 
--- an entry that runs ends, a batch after its members (profile)
+-- an entry that runs ends: a batch after its members, a Drain after what it waits for (profile)
 pub record IsEnded (s s' : State) : Type 0 where
   pub engine : ℕ
   pub ticket : Ticket
   pub outcome : Outcome
   pub slot : Slot
   pub is_found : find (is_ticket ticket) (running_on s.work engine) ≡ Some slot
-  pub ready : (is_batch_of s.work.setup slot.1 && is_unfinished s.work engine) ≡ false
+  pub ready : must_wait s.work engine slot.1 ≡ false
   pub after : with_work s (after_end s.work engine slot outcome) ≡ s'
 
 -- ---- commands and configuration

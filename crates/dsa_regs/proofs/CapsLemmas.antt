@@ -6,19 +6,19 @@ use Rattle.dsa_regs.specs.declared.{Caps.{Caps}, layout.ListUse.{ListUse, TheVar
 use Rattle.dsa_regs.specs.Caps.{check_caps, cell_count, list_count, list_number, list_use, HasList}
 
 -- the engines of the largest device
-pub engines-bound : (caps : Caps) → IsTrue (check_caps caps) → caps.engines ≤ 8
+pub engines-bound : (caps : Caps) → IsTrue (check_caps caps) → caps.engines ≤ 64
 engines-bound caps h = grind (arith, nat_tests)
 
 -- and its cells
-pub cell_count-bound : (caps : Caps) → IsTrue (check_caps caps) → cell_count caps ≤ 768
+pub cell_count-bound : (caps : Caps) → IsTrue (check_caps caps) → cell_count caps ≤ 70656
 cell_count-bound caps h =
-    let size : caps.total_size ≤ 128 = grind (arith, nat_tests) in
+    let size : caps.total_size ≤ 4096 = grind (arith, nat_tests) in
     let engines = engines-bound caps h in
     let slots : caps.slots ≤ 16 = grind (arith, nat_tests) in
-    let shift : caps.max_batch_shift ≤ 6 = grind (arith, nat_tests) in
-    let members : 2 ^ caps.max_batch_shift ≤ 2 ^ 6 = pow_mono shift in
-    let each : caps.slots + 2 ^ caps.max_batch_shift ≤ 80 = omega arith in
-    let all = mul-le caps.engines (caps.slots + 2 ^ caps.max_batch_shift) 8 80 engines each in
+    let shift : caps.max_batch_shift ≤ 10 = grind (arith, nat_tests) in
+    let members : 2 ^ caps.max_batch_shift ≤ 2 ^ 10 = pow_mono shift in
+    let each : caps.slots + 2 ^ caps.max_batch_shift ≤ 1040 = omega arith in
+    let all = mul-le caps.engines (caps.slots + 2 ^ caps.max_batch_shift) 64 1040 engines each in
     omega (arith, all, engines)
 
 -- what a list of the device is for: the device has it, and it has that number
