@@ -11,6 +11,7 @@ use Rattle.dsa_store.specs.Content.{Slot, all_held}
 use Rattle.dsa_book.proofs.{Nexts.{next-each}, Replay.{replay_from-append, replay_none}}
 use Rattle.dsa_book.specs.Machine.{next, replay, replay_from, with_work}
 use Rattle.dsa_book.specs.Work.{after_end, finish_of, in_progress, is_all_fetched, is_unfinished, last_status, members}
+use Rattle.dsa_book.specs.Work.{must_wait}
 use Rattle.dsa_book.specs.declared.answer.Reply.{Reply, TheVariants.{Finish}}
 use Rattle.dsa_book.specs.declared.answer.{FinishAnswer.{FinishAnswer, TheVariants.{Done, NotReady}}, Ticket.{Ticket}}
 use Rattle.dsa_book.specs.declared.fate.{Fate.{Fate, TheVariants.{Completed}}, FateRow.{FateRow}}
@@ -28,7 +29,7 @@ use Rattle.dsa_accounts.{proofs.{Accounts.{change-entries}, BatchCounts.{rows-ap
 
 -- a batch that ends had nothing left to do
 abbrev Ends : State → ℕ → Slot → Outcome → State → Type 0
-Ends s e batch outcome t = ((is_batch_of s.work.setup batch.1 && is_unfinished s.work e) ≡ false)
+Ends s e batch outcome t = (must_wait s.work e batch.1 ≡ false)
     × (with_work s (after_end s.work e batch outcome) ≡ t)
 
 -- what an answer says, where it tells of an end with the status
@@ -65,10 +66,10 @@ record IsEnding (s : State) (e : ℕ) (batch : Slot) : Type 0 where
 
 ending : (s : State) (e : ℕ) (ticket : Ticket) (batch : Slot)
     → find (is_ticket ticket) (running_on s.work e) ≡ Some batch
-    → is_batch_of s.work.setup batch.1 ≡ true → (is_batch_of s.work.setup batch.1 && is_unfinished s.work e) ≡ false
-    → IsEnding s e batch
+    → is_batch_of s.work.setup batch.1 ≡ true → must_wait s.work e batch.1 ≡ false → IsEnding s e batch
 ending s e ticket batch found is ready =
-    let unfinished : is_unfinished s.work e ≡ false = ap (λ (b : Bool). b && is_unfinished s.work e) (sym is) ∙ ready in
+    let unfinished : is_unfinished s.work e ≡ false = ap (λ (b : Bool). b && is_unfinished s.work e) (sym is)
+    ∙ (or_parts _ _ ready).0 in
     let parts = or_parts (nat_lt 0 (length (members s.work e))) _ unfinished in
     let none = ltb-false 0 (length (members s.work e)) parts.0 in
     let empty = length-none (members s.work e) (omega (arith, none)) in

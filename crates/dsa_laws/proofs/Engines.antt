@@ -2,7 +2,7 @@
 use Rattle.std.proofs.Common.{◌∷◌, ◌≢◌, get_or, ◌≤◌, ◌++◌, Bool, false, arith, ℕ, List, not, set, ⊎_elim}
 use Rattle.std.proofs.Common.{◌+◌, ap, option_map, cond, refl, None, ◌<◌, ◌&&◌, ◌==◌, Option, eqb-true, sym, subst}
 use Rattle.std.proofs.{Common.{length, Some, filter, eq-eqb, drop, true, [], ◌∙◌, ◌≡◌}, Math.ListN.{get_or-eq_default}}
-use Rattle.std.proofs.lemmas.Bool.{ltb-false, false_from_ne_true, cases_eq, Decides.{nat_tests}, cases_Bool}
+use Rattle.std.proofs.lemmas.Bool.{ltb-false, false_from_ne_true, cases_eq, Decides.{nat_tests}, cases_Bool, or_parts}
 use Rattle.std.{proofs.lemmas.List.{get_or-set_other, length-set, get_or-set_same}, specs.Prelude.{count_by, nat_lt}}
 use Rattle.dsa_base.proofs.Lists.{length-none, In-find, get_or-replicated}
 use Rattle.dsa_base.{proofs.{Counts.{In-same, In-counted}, NumberLists.{get_or-each}}, specs.Lists.{In}}
@@ -258,8 +258,8 @@ lists-change caps s s' e w i c =
     let k = c.engine in
     let place = running-place s.work k c.ticket c.slot c.is_found in
     let engine = an_engine w.shape k place.there in
-    entry_ended s.work k e c.slot c.outcome engine i (w.cells.once c.slot.0) place c.ready
-    (lists-of s.work k engine w.engines) old)
+    entry_ended s.work k e c.slot c.outcome engine i (w.cells.once c.slot.0) place
+    (or_parts _ _ c.ready).0 (lists-of s.work k engine w.engines) old)
     (λ c.
     let p = is_left c.scope in
     rw (

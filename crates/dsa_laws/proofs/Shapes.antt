@@ -198,8 +198,9 @@ module _ {caps : Caps} {w : Work} (shape : HasShape caps w) where
       → IsTaker caps w e q front
   a_taker e q front h f =
       let tests = and_parts _ _ (and_parts _ _ h).0 in
-      let may = subst (λ o. passes (may_take w e) o ≡ true) f
+      let takes = subst (λ o. passes (may_take w e) o ≡ true) f
       (and_parts _ _ (and_parts _ _ h).1).1 in
+      let may = (and_parts _ _ takes).0 in
       let fits = and_parts _ _ (and_parts _ _ may).0 in
       record {
         engine = an_engine e tests.0;
