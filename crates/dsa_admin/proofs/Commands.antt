@@ -7,7 +7,7 @@ use Rattle.dsa_regs.specs.Command.{scope_of, deed_of, queues_in}
 use Rattle.dsa_store.specs.{declared.entry.Entry.{Entry}, Content.{Slot, Content, all_held, held_count}}
 use Rattle.dsa_store.proofs.Sums.{held-counted}
 use Rattle.dsa_book.specs.{declared.answer.IssueAnswer.{IssueAnswer}, State.{Setup, State, is_off, phase_at}}
-use Rattle.dsa_book.specs.Commands.{command_done_of, deed_done_of, holds_any, is_awaited, may_come, is_among}
+use Rattle.dsa_book.specs.{State.{holds_any}, Commands.{command_done_of, deed_done_of, is_awaited, may_come, is_among}}
 use Rattle.dsa_book.specs.Commands.{after_stop, with_phases}
 use Rattle.dsa_book.proofs.Phases.{on-not_off}
 use Rattle.dsa_queues.proofs.Whole.{whole-phases}

@@ -7,3 +7,4 @@ pub mod Scopes
 pub mod Nexts
 pub mod Leaving
 pub mod Sizes
+pub mod Held

@@ -16,7 +16,7 @@ use Rattle.dsa_book.specs.declared.answer.PollAnswer.{PollAnswer, TheVariants.{F
 use Rattle.dsa_book.specs.declared.answer.WriteAnswer.{WriteAnswer, TheVariants.{Written, Refused}}
 use Rattle.dsa_book.specs.declared.note.{BatchNote.{BatchNote}, ActiveCommand.{ActiveCommand}}
 use Rattle.dsa_book.specs.declared.{fate.Fate.TheVariants.{Aborted}, answer.NotedError.{NotedError}}
-use Rattle.dsa_book.specs.{Work.{progress_list, note_at, fate_row}, State.{opening_setup}}
+use Rattle.dsa_book.specs.{Work.{progress_list, note_at, fate_row}, State.{opening_setup, holds_any}}
 
 -- ---- scopes
 
@@ -31,10 +31,6 @@ is_in_scope (Pasid pasid) entry = entry.desc.pasid == pasid
 is_in_scope scope entry = is_among (queues_in scope) entry.queue
 
 -- ---- ends
-
--- whether an entry that passes is held
-abbrev pub holds_any : (Entry → Bool) → Content → Bool
-holds_any test content = list_any (λ slot. test slot.1) (all_held content)
 
 -- the entries that keep a command from its end: of a drain's scope what was submitted before it
 -- (Intel DSA: drain commands), and all of a disable's (profile)

@@ -1,12 +1,12 @@
 -- The state of the written machine, by what each layer of the device keeps (profile).
-use Rattle.std.specs.Prelude.{None, is_some, []}
+use Rattle.std.specs.{Prelude.{None, is_some, []}, List.{list_any}}
 use Rattle.std.specs.Prelude.{ℕ, Bool, true, false, cond, ◌&&◌, ◌==◌, nat_lt, List, length, replicate, get_or, Option}
 use Rattle.dsa_desc.specs.Descriptor.{need, status, is_lawful_batch, is_lawful_drain}
 use Rattle.dsa_desc.specs.declared.{Outcome.{Outcome}, QueueLimits.{QueueLimits}}
 use Rattle.dsa_regs.specs.Caps.{list_count}
 use Rattle.dsa_regs.specs.declared.{Phase.{Phase, TheVariants.{Off, On}}, QueueConfig.{QueueConfig}, Caps.{Caps}}
 use Rattle.dsa_regs.specs.{Config.{zero_queue, zero_group, queue_at, limits_of}, declared.GroupConfig.{GroupConfig}}
-use Rattle.dsa_store.specs.{declared.entry.Entry.{Entry}, Content.{Slot, Content, chain, is_cell}}
+use Rattle.dsa_store.specs.{declared.entry.Entry.{Entry}, Content.{Slot, Content, chain, all_held, is_cell}}
 use Rattle.dsa_book.specs.declared.answer.{Ticket.{Ticket}, NotedError.{NotedError}}
 use Rattle.dsa_book.specs.declared.{note.{BatchNote.{BatchNote}, ActiveCommand.{ActiveCommand}}, fate.FateRow.{FateRow}}
 
@@ -118,6 +118,14 @@ is_drain_of setup entry = is_lawful_drain entry.desc (limits_at setup entry.queu
 -- the entries that wait in the queue; one that an engine has taken is not counted (profile)
 abbrev pub occupancy : Content → ℕ → ℕ
 occupancy content q = length (chain content q)
+
+-- whether an entry that passes stands in the list
+abbrev pub any_in : (Entry → Bool) → List Slot → Bool
+any_in test slots = list_any (λ slot. test slot.1) slots
+
+-- whether an entry that passes is held
+abbrev pub holds_any : (Entry → Bool) → Content → Bool
+holds_any test content = any_in test (all_held content)
 
 -- the ticket of an entry is its cell and its name (profile)
 abbrev pub ticket_of : Slot → Ticket

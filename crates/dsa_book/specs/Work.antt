@@ -7,7 +7,7 @@ use Rattle.dsa_desc.specs.declared.{Descriptor.{Descriptor}, Outcome.{Outcome}}
 use Rattle.dsa_base.specs.{Rows.{first_row_or, passes}, Numbers.{has, numbers_below}}
 use Rattle.dsa_regs.specs.declared.{GroupConfig.{GroupConfig}, layout.ListUse.TheVariants.{Progress, Members}}
 use Rattle.dsa_regs.specs.{Caps.{list_number}, Config.{group_at}, Buffers.{fits}}
-use Rattle.dsa_store.specs.Content.{Slot, chain, all_held, is_cell, after_push, without_front, after_give_back, after_unlink}
+use Rattle.dsa_store.specs.Content.{Slot, chain, is_cell, after_push, without_front, after_give_back, after_unlink}
 use Rattle.dsa_store.specs.declared.entry.{Cell.{Cell}, Entry.{Entry}}
 use Rattle.dsa_book.specs.State.{Setup, Work, has_queue, is_member, need_of, held_by, status_of, is_batch_of, is_drain_of}
 use Rattle.dsa_book.specs.declared.answer.FetchAnswer.{FetchAnswer, TheVariants.{Fetched, NoBatch, AllFetched}}
@@ -16,7 +16,7 @@ use Rattle.dsa_book.specs.declared.answer.StartAnswer.TheVariants.{Started, Fenc
 use Rattle.dsa_book.specs.declared.answer.{DispatchAnswer.{DispatchAnswer, TheVariants.{Taken, Idle}}, Ticket.{Ticket}}
 use Rattle.dsa_book.specs.declared.fate.{Fate.{Fate, TheVariants.{Completed, Abandoned}}, FateRow.{FateRow}}
 use Rattle.dsa_book.specs.declared.{answer.StartAnswer.{StartAnswer}, note.BatchNote.{BatchNote}}
-use Rattle.dsa_book.specs.{Choice.{Choice, nothing, in_cell, from_queue}, State.{ticket_of, is_ticket}}
+use Rattle.dsa_book.specs.{Choice.{Choice, nothing, in_cell, from_queue}, State.{ticket_of, is_ticket, any_in, holds_any}}
 
 -- ---- what an engine has. An engine that the device does not have has nothing
 
@@ -82,7 +82,7 @@ serves w e q = passes (λ g. has (group_at w.setup.groups g).queues q) (group_of
 
 -- a well-formed Drain is in progress on the engine
 abbrev pub is_draining : Work → ℕ → Bool
-is_draining w e = list_any (λ slot. is_drain_of w.setup slot.1) (in_progress w e)
+is_draining w e = any_in (is_drain_of w.setup) (in_progress w e)
 
 -- the engine has a slot left and the buffers that the front needs, and works on one batch and on one Drain at a time
 -- (profile)
@@ -242,15 +242,16 @@ abbrev pub is_unfinished : Work → ℕ → Bool
 is_unfinished w e = nat_lt 0 (length (members w e)) || passes (λ note. not (is_all_fetched note)) (note_at w e)
 
 -- a Drain waits for this one: it was submitted before the Drain, to the same queue and under the same PASID (profile)
-abbrev pub waits_for : Entry → Slot → Bool
-waits_for drain slot =
-    not (is_member slot.1)
-    && (slot.1.queue == drain.queue && slot.1.desc.pasid == drain.desc.pasid)
-    && nat_lt slot.1.name drain.name
+abbrev pub waits_for : Entry → Entry → Bool
+waits_for drain entry =
+    not (is_member entry)
+    && entry.queue == drain.queue
+    && entry.desc.pasid == drain.desc.pasid
+    && nat_lt entry.name drain.name
 
 -- one that the Drain waits for is held (profile)
 abbrev pub waits : Work → Entry → Bool
-waits w drain = list_any (waits_for drain) (all_held w.content)
+waits w drain = holds_any (waits_for drain) w.content
 
 -- what is not ready to end: a well-formed Batch that is unfinished, and a well-formed Drain that waits (profile)
 abbrev pub must_wait : Work → ℕ → Entry → Bool

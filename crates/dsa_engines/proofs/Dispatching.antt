@@ -10,9 +10,9 @@ use Rattle.dsa_regs.specs.{declared.GroupConfig.{GroupConfig}, Config.{group_at,
 use Rattle.dsa_base.{specs.Numbers.{has, numbers_below}, proofs.FirstPlaces.{hit-at}}
 use Rattle.dsa_store.specs.Content.{Slot, Content, chain, after_push, without_front}
 use Rattle.dsa_store.proofs.Lists.{length-le-held, length-pushed}
-use Rattle.dsa_book.specs.{State.{Setup, is_off, need_of, is_batch_of}}
-use Rattle.dsa_book.specs.Work.{progress_list, qualifies, group_in, as_running, with_note, opened_note}
-use Rattle.dsa_engines.specs.Engines.{Gear, work, IsInStep, IsOpen}
+use Rattle.dsa_book.specs.{State.{Setup, is_off, need_of, is_batch_of, is_drain_of}}
+use Rattle.dsa_book.specs.Work.{progress_list, qualifies, is_draining, group_in, as_running, with_note, opened_note}
+use Rattle.dsa_engines.specs.Engines.{Gear, work, lists_alone, IsInStep, IsOpen}
 use Rattle.dsa_engines.proofs.{Homes.{home-of}, Keeping.{awake-found, in_step-moved}}
 use Rattle.dsa_engines.proofs.Used.{load-push, HoldsMore, taken-of}
 
@@ -88,7 +88,8 @@ module _ {cells : ℕ} {setup : Setup} {gear : Gear} {content : Content} {e g q 
   pub qualifies-is : {served : Bool} → served ≡ has (group_at setup.groups g).queues q
       → qualifies (work setup gear content []) e q
       ≡ (served && (fits gear.buffers.total gear.buffers.groups gear.buffers.used g (need_of setup front.1)
-      && (is_none (get_or gear.notes e None) || not (is_batch_of setup front.1))))
+      && (is_none (get_or gear.notes e None) || not (is_batch_of setup front.1))
+      && not (is_drain_of setup front.1 && is_draining (lists_alone setup content) e)))
   qualifies-is same =
       let slot : nat_lt (length (chain content (progress_list setup e))) setup.caps.slots ≡ true =
       lt-ltb _ _ (group on).slot in
@@ -101,7 +102,7 @@ module _ {cells : ℕ} {setup : Setup} {gear : Gear} {content : Content} {e g q 
   fits-taken is taking =
       let all = and_parts (has (group_at setup.groups g).queues q) _ (sym (qualifies-is refl) ∙ taking) in
       rw is (and_parts (fits gear.buffers.total gear.buffers.groups gear.buffers.used g (need_of setup front.1)) _
-      all.1).0
+      (and_parts _ _ all.1).0).0
 
   -- once the front was taken the engine holds what it needs more
   taken-more : HoldsMore setup content

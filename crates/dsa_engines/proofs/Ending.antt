@@ -1,13 +1,13 @@
 -- What an entry that ends leaves.
-use Rattle.std.proofs.Common.{◌≡◌, ℕ, ◌≤◌, false, ◌&&◌, List, ◌∷◌, ◌++◌, get_or, Option, Some, None, refl, []}
+use Rattle.std.proofs.Common.{◌≡◌, ℕ, ◌≤◌, false, List, ◌∷◌, ◌++◌, get_or, Option, Some, None, refl, []}
 use Rattle.std.proofs.lemmas.List.{length-set}
 use Rattle.std.specs.List.{find}
 use Rattle.dsa_store.specs.{declared.entry.{Cell.{Cell}, Entry.{Entry}}, Content.{Content, use_count, after_unlink}}
 use Rattle.dsa_book.specs.declared.note.BatchNote.{BatchNote}
 use Rattle.dsa_book.specs.declared.answer.{Ticket.{Ticket}, FinishAnswer.TheVariants.{Done}}
 use Rattle.dsa_book.specs.declared.fate.{FateRow.{FateRow}, Fate.TheVariants.{Completed}}
-use Rattle.dsa_book.specs.State.{Setup, need_of, is_batch_of, is_ticket}
-use Rattle.dsa_book.specs.Work.{with_note, running_on, is_unfinished, last_status, note_after, finish}
+use Rattle.dsa_book.specs.State.{Setup, need_of, is_ticket}
+use Rattle.dsa_book.specs.Work.{with_note, running_on, must_wait, last_status, note_after, finish}
 use Rattle.dsa_desc.specs.declared.Outcome.{Outcome}
 use Rattle.dsa_engines.specs.Engines.{Gear, work, lists_alone, IsInStep, buffers_after_return, Holds}
 use Rattle.dsa_engines.proofs.{Finding.{RunsAt}, Leaving.{gives, in_step-left}, Used.{held-is}}
@@ -33,7 +33,7 @@ pub finish-done : {setup : Setup} {gave after : Gear} {now : Content} {more : Li
     {new : Option BatchNote} (gear : Gear) (content : Content) (fates : List FateRow) (e n : ℕ) (home : Option ℕ)
     (t : Ticket) (outcome : Outcome)
     → find (is_ticket t) (running_on (lists_alone setup content) e) ≡ Some (t.cell, entry)
-    → (is_batch_of setup entry && is_unfinished (work setup gear content []) e) ≡ false
+    → must_wait (work setup gear content []) e entry ≡ false
     → status ≡ last_status (work setup gear content []) e (t.cell, entry) outcome
     → new ≡ note_after (work setup gear content []) e (t.cell, entry) outcome
     → gave ≡ record gear { buffers = buffers_after_return home n gear.buffers }

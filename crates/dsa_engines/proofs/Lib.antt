@@ -7,3 +7,4 @@ pub mod Ending
 pub mod Members
 pub mod Batches
 pub mod Keeping
+pub mod Draining

@@ -1,15 +1,15 @@
 -- What the engines keep beside the lists, and how it agrees with them.
 use Rattle.std.specs.Prelude.{◌≡◌, ℕ, ◌-◌, ◌<◌, ◌≤◌, true, false, Bool, not, ◌&&◌, is_some, cond, List, ◌∷◌, length}
 use Rattle.std.specs.Prelude.{map, filter, replicate, get_or, slice_index, slice_set, Option, Some, None, []}
-use Rattle.dsa_base.specs.{Rows.{passes}, Numbers.{numbers_below}}
+use Rattle.dsa_base.specs.{Rows.{passes}, Numbers.{numbers_below}, Lists.{In}}
 use Rattle.dsa_regs.specs.declared.{Caps.{Caps}, layout.ListUse.{ListUse, TheVariants.{Queue, Progress, Members}}}
 use Rattle.dsa_regs.specs.{Caps.{engine_of}, Config.{check_device}}
 use Rattle.dsa_store.specs.{declared.entry.Entry.{Entry}, Content.{Slot, Content, chain, held_count}}
 use Rattle.dsa_buffers.specs.Buffers.{Buffers}
 use Rattle.dsa_queues.specs.Queues.{IsStoreFor, IsWhole}
 use Rattle.dsa_book.specs.declared.{note.BatchNote.{BatchNote}, fate.FateRow.{FateRow}}
-use Rattle.dsa_book.specs.State.{Setup, Work, is_off, held_by, is_batch_of}
-use Rattle.dsa_book.specs.Work.{all_used, group_in, progress_list, batch_on, is_all_fetched, note_at, with_note}
+use Rattle.dsa_book.specs.State.{Setup, Work, is_off, held_by, is_batch_of, is_member}
+use Rattle.dsa_book.specs.Work.{all_used, group_in, progress_list, member_list, batch_on, is_all_fetched, note_at, with_note}
 
 -- a note or none for each engine, the read buffers of the groups, and the group of each engine (profile)
 pub record Gear : Type 0 where
@@ -67,6 +67,12 @@ pub record IsInStep (setup : Setup) (gear : Gear) (cells : ℕ) (content : Conte
   pub notes : length gear.notes ≡ setup.caps.engines
   pub homes : is_off setup.device ≡ false → gear.homes ≡ homes_of setup
   pub buffers : is_off setup.device ≡ false → gear.buffers ≡ buffers_of setup content
+
+-- what stands in a queue's list names that queue, and what stands in an engine's list of members is one (profile)
+pub record IsInPlace (setup : Setup) (content : Content) : Type 0 where
+  pub queued : (q : ℕ) (slot : Slot) → q < setup.caps.queues → In slot (chain content q) → slot.1.queue ≡ q
+  pub members : (e : ℕ) (slot : Slot) → e < setup.caps.engines → In slot (chain content (member_list setup e))
+      → is_member slot.1 ≡ true
 
 abbrev pub is_running : Slot → Bool
 is_running slot = slot.1.running

@@ -2,11 +2,11 @@
 
 ghost use Rattle.std.specs.Prelude.{◌≡◌, ℕ, ◌<◌, ◌&&◌, ◌||◌, ◌==◌, [], length, find, option_map};
 ghost use Rattle.dsa_store.specs.declared.entry.Cell.{Cell};
-ghost use Rattle.dsa_store.specs.Content.{Content};
-ghost use Rattle.dsa_book.specs.State.{is_ticket, is_batch_of};
-ghost use Rattle.dsa_book.specs.Work.{running_on, is_unfinished, last_status, note_after, finish};
+ghost use Rattle.dsa_store.specs.Content.{Content, chain};
+ghost use Rattle.dsa_book.specs.State.{is_ticket, any_in};
+ghost use Rattle.dsa_book.specs.Work.{running_on, is_unfinished, waits_for, waits, must_wait, last_status, note_after, finish};
 ghost use Rattle.dsa_queues.specs.Queues.{IsStoreFor};
-ghost use Rattle.dsa_engines.specs.Engines.{work, lists_alone, IsInStep};
+ghost use Rattle.dsa_engines.specs.Engines.{work, lists_alone, IsInStep, IsInPlace};
 
 use crate::Engines;
 use crate::fetching::is_all_fetched;
@@ -14,7 +14,7 @@ use dsa_book::{BatchNote, Book, Fate, FateRow, FinishAnswer, Ticket};
 use dsa_desc::Outcome;
 use dsa_queues::Queues;
 use dsa_regs::ListUse;
-use dsa_store::{Entry, EntryStore, ListId};
+use dsa_store::{Entry, EntryStore, ListId, slots};
 
 fn is_either(list: ListId, one: ListId, other: ListId) -> bool
     ensures { result ≡ (list.0 == one.0 || list.0 == other.0) }
@@ -53,6 +53,41 @@ fn find_running<S: EntryStore>(
     is_meant(ticket, &entry).then_some(entry)
 }
 
+// Whether the Drain waits for this entry.
+fn waits_for(drain: &Entry, other: &Entry) -> bool
+    ensures { result ≡ waits_for drain.now other.now }
+{
+    other.parent.is_none()
+        && other.queue == drain.queue
+        && other.desc.pasid == drain.desc.pasid
+        && other.name < drain.name
+}
+
+// Whether the Drain waits for an entry of the list.
+fn waits_in<S: EntryStore>(store: &S, list: ListId, drain: &Entry) -> bool
+    requires { list.0 < length (S.content store.now) }
+    ensures { result ≡ any_in (waits_for drain.now) (chain (S.content store.now) list.0) }
+{
+    slots(store, list).any(|slot| waits_for(drain, &slot.1))
+}
+
+// Whether an entry that the Drain waits for is held. It stands in the Drain's queue or is in progress on an engine.
+fn waits<S: EntryStore>(queues: &Queues, store: &S, drain: &Entry) -> bool
+    requires store { IsStoreFor queues.now.caps (S.cells store.now) (S.content store.now) }
+    requires placed { IsInPlace queues.now (S.content store.now) }
+    ensures { result ≡ waits (lists_alone queues.now (S.content store.now)) drain.now }
+{
+    if queues.has_queue(drain.queue) && waits_in(store, ListId(drain.queue), drain) {
+        return true;
+    }
+    for engine in 0..queues.caps().engines {
+        if waits_in(store, queues.list(ListUse::Progress(engine)), drain) {
+            return true;
+        }
+    }
+    false
+}
+
 impl Engines {
     // Whether members are left, or may still be fetched.
     fn is_unfinished<S: EntryStore>(&self, queues: &Queues, store: &S, engine: u16) -> bool
@@ -69,7 +104,7 @@ impl Engines {
         }
     }
 
-    // Whether the entry is a batch that is not finished.
+    // Whether the entry is a batch that is not finished, or a Drain that waits.
     fn must_wait<S: EntryStore>(
         &self,
         queues: &Queues,
@@ -78,13 +113,14 @@ impl Engines {
         entry: &Entry,
     ) -> bool
         requires store { IsStoreFor queues.now.caps (S.cells store.now) (S.content store.now) }
+        requires placed { IsInPlace queues.now (S.content store.now) }
         requires engine { engine < queues.now.caps.engines }
-        ensures { result ≡ (is_batch_of queues.now entry.now && is_unfinished (work queues.now self.now (S.content store.now) []) engine) }
+        ensures { result ≡ must_wait (work queues.now self.now (S.content store.now) []) engine entry.now }
     {
-        if !queues.is_batch(entry) {
-            return false;
+        if queues.is_batch(entry) && self.is_unfinished(queues, store, engine) {
+            return true;
         }
-        self.is_unfinished(queues, store, engine)
+        queues.is_drain(entry) && waits(queues, store, entry)
     }
 
     // The status of an entry that ends.
@@ -129,9 +165,11 @@ impl Engines {
     /// The engine ends the running entry that has the ticket's cell and name, and says how its work went.
     ///
     /// `Gone` where no running entry of the engine has them, `NotReady` for a well-formed Batch with members that are left
-    /// or that may still be fetched, else `Done` with the status. The entry leaves and gives its read buffers back, and the
+    /// or that may still be fetched and for a well-formed Drain while an entry that was submitted before it to its queue
+    /// and under its PASID is held, else `Done` with the status. The entry leaves and gives its read buffers back, and the
     /// book gets a row. A member that was not successful marks its batch as failed; a batch that is so marked ends with
-    /// 0x05, and its note goes. Touches the cell of the ticket alone.
+    /// 0x05, and its note goes. Touches the cell of the ticket alone; the end of a Drain looks at what stands in its queue
+    /// and at what is in progress on each engine.
     pub fn finish<S: EntryStore>(
         &mut self,
         queues: &Queues,
@@ -142,6 +180,7 @@ impl Engines {
         outcome: Outcome,
     ) -> FinishAnswer
         requires in_step { IsInStep queues.now self.old (S.cells store.old) (S.content store.old) }
+        requires placed { IsInPlace queues.now (S.content store.old) }
         requires room { length book.old.fates < book.old.capacity }
         ensures step { finish (work queues.now self.old (S.content store.old) book.old.fates) engine ticket outcome
             ≡ (result, work queues.now self.new (S.content store.new) book.new.fates) }

@@ -6,17 +6,18 @@ ghost use Rattle.dsa_base.specs.Numbers.{numbers_below};
 ghost use Rattle.dsa_regs.specs.Buffers.{fits};
 ghost use Rattle.dsa_store.specs.Content.{chain, after_push, without_front};
 ghost use Rattle.dsa_book.specs.declared.fate.FateRow.{FateRow};
-ghost use Rattle.dsa_book.specs.State.{is_off, need_of, is_batch_of};
+ghost use Rattle.dsa_book.specs.State.{is_off, need_of, is_batch_of, is_drain_of};
 ghost use Rattle.dsa_book.specs.declared.answer.Reply.TheVariants as reply;
 ghost use Rattle.dsa_book.specs.Choice.{choice_of};
-ghost use Rattle.dsa_book.specs.Work.{qualifies, may_leave, dispatch, as_running, opened_note, with_note};
-ghost use Rattle.dsa_engines.specs.Engines.{work, IsInStep, IsOpen};
+ghost use Rattle.dsa_book.specs.Work.{qualifies, may_leave, dispatch, as_running, opened_note, with_note, is_draining};
+ghost use Rattle.dsa_queues.specs.Queues.{IsStoreFor};
+ghost use Rattle.dsa_engines.specs.Engines.{work, lists_alone, IsInStep, IsOpen};
 
 use crate::Engines;
 use dsa_book::{BatchNote, DispatchAnswer, Ticket};
 use dsa_queues::Queues;
 use dsa_regs::ListUse;
-use dsa_store::{Cell, Entry, EntryStore, ListId, front_slot};
+use dsa_store::{Cell, Entry, EntryStore, ListId, front_slot, slots};
 
 // The front of one list goes to the end of the other, and runs.
 fn run_front<S: EntryStore>(store: &mut S, from: ListId, to: ListId, front: (Cell, Entry))
@@ -38,6 +39,16 @@ fn run_front<S: EntryStore>(store: &mut S, from: ListId, to: ListId, front: (Cel
     );
 }
 
+// Whether a well-formed Drain is in progress on the engine.
+fn is_draining<S: EntryStore>(queues: &Queues, store: &S, engine: u16) -> bool
+    requires store { IsStoreFor queues.now.caps (S.cells store.now) (S.content store.now) }
+    requires engine { engine < queues.now.caps.engines }
+    ensures { result ≡ is_draining (lists_alone queues.now (S.content store.now)) engine }
+{
+    let progress = queues.list(ListUse::Progress(engine));
+    slots(store, progress).any(|slot| queues.is_drain(&slot.1))
+}
+
 impl Engines {
     // The engine's group, where the engine has a slot left.
     fn open_group<S: EntryStore>(&self, queues: &Queues, store: &S, engine: u16) -> Option<u16>
@@ -55,16 +66,29 @@ impl Engines {
         self.home(engine)
     }
 
-    // Whether there are the buffers that the entry needs, and no second batch would be begun.
-    fn may_run(&self, queues: &Queues, engine: u16, group: u16, entry: &Entry) -> bool
-        requires { group < length self.now.buffers.groups }
+    // Whether there are the buffers that the entry needs, and neither a second batch nor a second Drain would be begun.
+    fn may_run<S: EntryStore>(
+        &self,
+        queues: &Queues,
+        store: &S,
+        engine: u16,
+        group: u16,
+        entry: &Entry,
+    ) -> bool
+        requires store { IsStoreFor queues.now.caps (S.cells store.now) (S.content store.now) }
+        requires engine { engine < queues.now.caps.engines }
+        requires group { group < length self.now.buffers.groups }
         ensures { result ≡ (fits self.now.buffers.total self.now.buffers.groups self.now.buffers.used group (need_of queues.now entry.now)
-            && (is_none (get_or self.now.notes engine None) || not (is_batch_of queues.now entry.now))) }
+            && (is_none (get_or self.now.notes engine None) || not (is_batch_of queues.now entry.now))
+            && not (is_drain_of queues.now entry.now && is_draining (lists_alone queues.now (S.content store.now)) engine)) }
     {
         if !self.fits(group, queues.need(entry)) {
             return false;
         }
-        self.note(engine).is_none() || !queues.is_batch(entry)
+        if self.note(engine).is_some() && queues.is_batch(entry) {
+            return false;
+        }
+        !(queues.is_drain(entry) && is_draining(queues, store, engine))
     }
 
     // Whether the engine may take the front of the queue.
@@ -87,7 +111,7 @@ impl Engines {
         if !queues.has_queue_in(group, queue) {
             return false;
         }
-        self.may_run(queues, engine, group, &entry)
+        self.may_run(queues, store, engine, group, &entry)
     }
 
     // Whether the queue goes before the other: by priority, and among equals by whose turn is next.
@@ -146,9 +170,10 @@ impl Engines {
     /// The engine takes the front of a queue of its group, and it runs: it goes to the end of those in progress, and a
     /// well-formed Batch opens the engine's note (profile).
     ///
-    /// A queue qualifies if its front's read buffers fit the group, and if it is no well-formed Batch while the engine works
-    /// on one. Of those that qualify the one of the highest priority is served, and among equals they take turns.
-    /// `Idle` exactly where none qualifies; so too where all slots of the engine are taken. Looks at the front of each queue.
+    /// A queue qualifies if its front's read buffers fit the group, and if it is no well-formed Batch or Drain while the
+    /// engine works on one. Of those that qualify the one of the highest priority is served, and among equals they take turns.
+    /// `Idle` exactly where none qualifies; so too where all slots of the engine are taken. Looks at the front of each queue,
+    /// and for a Drain at what is in progress.
     pub fn dispatch<S: EntryStore>(
         &mut self,
         queues: &Queues,

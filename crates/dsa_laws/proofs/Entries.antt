@@ -10,7 +10,7 @@ use Rattle.dsa_regs.specs.declared.{Scope.{TheVariants.{Device}, Scope}, Deed.{D
 use Rattle.dsa_regs.specs.declared.{Phase.{Phase, TheVariants.{Off, On, Stopping}}, Caps.{Caps}}
 use Rattle.dsa_desc.specs.Descriptor.{pasid_of}
 use Rattle.dsa_store.specs.Content.{Slot, Content, chain, all_held, without_front}
-use Rattle.dsa_book.specs.Commands.{after_stop, with_phases, is_among, is_in_scope, holds_any, is_awaited}
+use Rattle.dsa_book.specs.{State.{holds_any}, Commands.{after_stop, with_phases, is_among, is_in_scope, is_awaited}}
 use Rattle.dsa_book.specs.{Submit.{after_accept}, State.{Setup, Work, State, opening, is_off, phase_at}}
 use Rattle.dsa_book.specs.Work.{progress_list, member_list, in_progress, members, with_running_entry, with_first_run}
 use Rattle.dsa_book.specs.{Work.{after_take, after_fetch, after_start}, Machine.{intake_of, with_intake}}

@@ -13,8 +13,8 @@ use Rattle.dsa_book.specs.{Work.{is_all_fetched, after_fetch}, Machine.{with_wor
 use Rattle.dsa_book.specs.declared.{answer.{NotedError.{NotedError}, Ticket.{Ticket}}, note.BatchNote.{BatchNote}}
 use Rattle.dsa_book.specs.declared.{note.ActiveCommand.{ActiveCommand}, event.{Portal.{Portal}, Kind.{Kind}}}
 use Rattle.dsa_book.specs.State.{is_ticket, Setup, State, is_on, is_off, phase_at, has_queue, occupancy}
-use Rattle.dsa_book.specs.{State.{need_of}, Commands.{after_abort, reset, is_among, with_sizes_alone}}
-use Rattle.dsa_book.specs.Commands.{holds_any, is_awaited, with_device, with_phases, after_stop, may_come}
+use Rattle.dsa_book.specs.{State.{need_of, holds_any}, Commands.{after_abort, reset, is_among, with_sizes_alone}}
+use Rattle.dsa_book.specs.Commands.{is_awaited, with_device, with_phases, after_stop, may_come}
 
 -- ---- entries
 

@@ -5,7 +5,7 @@ ghost use Rattle.dsa_regs.specs.Caps.{HasList, check_caps, list_count, list_numb
 ghost use Rattle.dsa_regs.specs.declared.Scope.TheVariants.{Device};
 ghost use Rattle.dsa_base.specs.Numbers.{has};
 ghost use Rattle.dsa_regs.specs.Config.{queue_at, group_at};
-ghost use Rattle.dsa_book.specs.State.{Setup, opening_setup, phase_at, is_off, has_queue, limits_at, need_of, held_by, status_of, is_batch_of};
+ghost use Rattle.dsa_book.specs.State.{Setup, opening_setup, phase_at, is_off, has_queue, limits_at, need_of, held_by, status_of, is_batch_of, is_drain_of};
 ghost use Rattle.dsa_book.specs.Submit.{next_noted};
 ghost use Rattle.dsa_book.specs.Commands.{clear, reset, with_device, with_phases};
 ghost use Rattle.dsa_queues.specs.Queues.{IsWhole};
@@ -340,5 +340,15 @@ impl Queues {
         entry
             .desc
             .is_lawful_batch(&self.limits(entry.queue), entry.parent.is_some())
+    }
+
+    /// Whether the entry is a well-formed Drain, which waits for what was submitted before it.
+    #[inline(always)]
+    pub fn is_drain(&self, entry: &Entry) -> bool
+        ensures { result ≡ is_drain_of self.now entry.now }
+    {
+        entry
+            .desc
+            .is_lawful_drain(&self.limits(entry.queue), entry.parent.is_some())
     }
 }

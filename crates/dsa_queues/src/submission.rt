@@ -110,6 +110,7 @@ impl Queues {
     /// The number of entries in the queue's own list. `None` exactly when the device has no such queue.
     pub fn occupancy<S: EntryStore>(&self, store: &S, queue: u16) -> Option<u16>
         requires store { IsStoreFor self.now.caps (S.cells store.now) (S.content store.now) }
+        requires short { has_queue self.now queue ≡ true → occupancy (S.content store.now) queue < 2 ^ 16 }
         ensures { result ≡ when (has_queue self.now queue) (occupancy (S.content store.now) queue) }
     {
         if queue < self.caps().queues {

@@ -1,6 +1,7 @@
 use Rattle.dsa_admin.proofs.ends.is_at_end.Goals as goal
 use Rattle.std.proofs.Common.{arith, ◌∙◌, sym, ap, not}
-use Rattle.dsa_admin.{specs.Admin.{is_waited_for}, proofs.Waits.{holds-hit, holds-none}}
+use Rattle.dsa_book.proofs.Held.{holds-hit, holds-none}
+use Rattle.dsa_admin.specs.Admin.{is_waited_for}
 
 pub returns-then-is_awaited_in : goal.returns-then-is_awaited_in
 returns-then-is_awaited_in g c =

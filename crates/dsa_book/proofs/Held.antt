@@ -1,14 +1,10 @@
 -- Whether a store holds an entry that passes, list by list.
 use Rattle.std.proofs.Common.{◌≡◌, ℕ, ◌<◌, ◌≤◌, Bool, true, false, ◌||◌, List, [], ◌∷◌, take, length, refl, sym, ap}
-use Rattle.std.proofs.Common.{◌∙◌}
+use Rattle.std.proofs.Common.{◌∙◌, suc, arith}
 use Rattle.std.proofs.lemmas.List.{take_all, Folds.{list_any-append, list_any_at}}
 use Rattle.std.specs.List.{list_any}
 use Rattle.dsa_store.specs.{declared.entry.Entry.{Entry}, Content.{Slot, Content, chain, all_held}}
-use Rattle.dsa_book.specs.Commands.{holds_any}
-
--- the list has one
-abbrev pub any_in : (Entry → Bool) → List Slot → Bool
-any_in test l = list_any (λ s. test s.1) l
+use Rattle.dsa_book.specs.State.{any_in, holds_any}
 
 -- the store holds one exactly where some list has one
 holds-lists : (test : Entry → Bool) (content : Content) → holds_any test content ≡ list_any (any_in test) content
@@ -27,3 +23,12 @@ pub holds-none : (test : Entry → Bool) (content : Content) (n : ℕ) → lengt
     → list_any (any_in test) (take n content) ≡ false → holds_any test content ≡ false
 holds-none test content n h none =
     holds-lists test content ∙ ap (list_any (any_in test)) (sym (take_all n content h)) ∙ none
+
+-- by the lists one after another
+pub holds-nowhere : (test : Entry → Bool) (content : Content)
+    → ((i : ℕ) → i < length content → any_in test (chain content i) ≡ false) → holds_any test content ≡ false
+holds-nowhere test [] none = refl
+holds-nowhere test (l ∷ ls) none =
+    let rest = holds-nowhere test ls (λ i h. none (suc i) (omega (arith, h))) in
+    let here = none 0 (omega arith) in
+    holds-lists test (l ∷ ls) ∙ ap (λ (b : Bool). b || list_any (any_in test) ls) here ∙ sym (holds-lists test ls) ∙ rest
