@@ -7,3 +7,5 @@ pub mod Phases
 pub mod Members
 pub mod Answers
 pub mod States
+pub mod Drains
+pub mod Largest

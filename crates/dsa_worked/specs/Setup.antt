@@ -31,7 +31,7 @@ no_op = record { pasid = 0; flags = 0; op = 0; size = 0 }
 abbrev pub batch : ℕ → Descriptor
 batch count = record { pasid = 0; flags = 0; op = 1; size = count }
 
--- the Drain operation, which is not supported yet (Intel DSA: operation 2; that it is not supported is the profile's)
+-- the Drain operation (Intel DSA: operation 2, Drain)
 abbrev pub drain : Descriptor
 drain = record { pasid = 0; flags = 0; op = 2; size = 0 }
 

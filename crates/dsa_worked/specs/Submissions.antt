@@ -53,11 +53,12 @@ transfer_sizes =
     to_shared (move 0) 0 0 ∷ taken 0 0 0 ∷ ended 0 0 0 0x13 ∷ to_shared (move 1048576) 0 1 ∷ taken 0 0 1 ∷
     ended 0 0 1 0x01 ∷ to_shared (move 1048577) 0 2 ∷ taken 0 0 2 ∷ ended 0 0 2 0x13 ∷ []
 
--- an operation that is not supported, a fence outside a batch, and flags that are ignored
+-- a Drain, a fence outside a batch, flags that are ignored, and an operation that is not supported
 abbrev pub operations_and_flags : List Step
 operations_and_flags =
-    to_shared drain 0 0 ∷ taken 0 0 0 ∷ ended 0 0 0 0x10 ∷ to_shared (fenced no_op) 0 1 ∷ taken 0 0 1 ∷
-    ended 0 0 1 0x11 ∷ to_shared (record (move 4096) { flags = 0x0c }) 0 2 ∷ taken 0 0 2 ∷ ended 0 0 2 0x01 ∷ []
+    to_shared drain 0 0 ∷ taken 0 0 0 ∷ ended 0 0 0 0x01 ∷ to_shared (fenced no_op) 0 1 ∷ taken 0 0 1 ∷
+    ended 0 0 1 0x11 ∷ to_shared (record (move 4096) { flags = 0x0c }) 0 2 ∷ taken 0 0 2 ∷ ended 0 0 2 0x01 ∷
+    to_shared (record no_op { op = 6 }) 0 3 ∷ taken 0 0 3 ∷ ended 0 0 3 0x10 ∷ []
 
 -- a history of 10 steps, of which the set-up took 7
 abbrev pub history_is_full : List Step

@@ -5,6 +5,8 @@ pub mod answers;
 pub mod batches;
 pub mod commands;
 pub mod counts;
+pub mod drains;
+pub mod largest;
 pub mod members;
 pub mod phases;
 pub mod states;

@@ -75,11 +75,13 @@ pub fn transfer_sizes()
     ensures fates { fates_after transfer_sizes ≡ Some (row 0 None (Completed 0x13) ∷ row 1 None (Completed 0x01) ∷ row 2 None (Completed 0x13) ∷ []) }
 {}
 
-/// Drain is not supported yet, a fence has no place outside a batch, and other flags are ignored.
+/// Drain is an operation, a fence has no place outside a batch, other flags are ignored, and operation 6 is not supported.
 pub fn operations_and_flags()
     ensures run { is_run_here operations_and_flags ≡ true }
-    ensures fates { fates_after operations_and_flags ≡ Some (row 0 None (Completed 0x10) ∷ row 1 None (Completed 0x11) ∷ row 2 None (Completed 0x01) ∷ []) }
+    ensures fates { fates_after operations_and_flags ≡ Some (row 0 None (Completed 0x01) ∷ row 1 None (Completed 0x11) ∷ row 2 None (Completed 0x01) ∷ row 3 None (Completed 0x10) ∷ []) }
+    ensures a_drain_is_supported { may_not_follow (take 2 operations_and_flags) (finished 0 (ticket 0 0) (Done 0x10)) ≡ true }
     ensures a_fence_is_no_success { may_not_follow (take 5 operations_and_flags) (finished 0 (ticket 0 1) (Done 0x01)) ≡ true }
+    ensures other_operations_fail { may_not_follow (take 11 operations_and_flags) (finished 0 (ticket 0 3) (Done 0x01)) ≡ true }
 {}
 
 /// A history with room for ten steps, of which the set-up took seven: from then on each answer is Full, and nothing changes.
