@@ -10,9 +10,9 @@ use Rattle.dsa_regs.specs.{declared.GroupConfig.{GroupConfig}, Config.{group_at,
 use Rattle.dsa_base.{specs.Numbers.{has, numbers_below}, proofs.FirstPlaces.{hit-at}}
 use Rattle.dsa_store.specs.Content.{Slot, Content, chain, after_push, without_front}
 use Rattle.dsa_store.proofs.Lists.{length-le-held, length-pushed}
-use Rattle.dsa_book.specs.{State.{Setup, is_off, need_of, is_batch_of, is_drain_of}}
-use Rattle.dsa_book.specs.Work.{progress_list, qualifies, is_draining, group_in, as_running, with_note, opened_note}
-use Rattle.dsa_engines.specs.Engines.{Gear, work, lists_alone, IsInStep, IsOpen}
+use Rattle.dsa_book.specs.{State.{Setup, any_in, is_off, need_of, is_batch_of, is_drain_of}}
+use Rattle.dsa_book.specs.Work.{progress_list, qualifies, group_in, as_running, with_note, opened_note}
+use Rattle.dsa_engines.specs.Engines.{Gear, work, IsInStep, IsOpen}
 use Rattle.dsa_engines.proofs.{Homes.{home-of}, Keeping.{awake-found, in_step-moved}}
 use Rattle.dsa_engines.proofs.Used.{load-push, HoldsMore, taken-of}
 
@@ -74,8 +74,8 @@ module _ {cells : ℕ} {setup : Setup} {gear : Gear} {content : Content} {e g q 
   on : is_off setup.device ≡ false
   on = awake-found s (λ (l : List Slot). slice_get l 0) q refl hf
 
-  engine : e < setup.caps.engines
-  engine = (group on).engine
+  pub taking-engine : e < setup.caps.engines
+  taking-engine = (group on).engine
 
   home : group_in setup.groups e ≡ Some g
   home = (group on).home
@@ -89,12 +89,13 @@ module _ {cells : ℕ} {setup : Setup} {gear : Gear} {content : Content} {e g q 
       → qualifies (work setup gear content []) e q
       ≡ (served && (fits gear.buffers.total gear.buffers.groups gear.buffers.used g (need_of setup front.1)
       && (is_none (get_or gear.notes e None) || not (is_batch_of setup front.1))
-      && not (is_drain_of setup front.1 && is_draining (lists_alone setup content) e)))
+      && not (is_drain_of setup front.1
+      && any_in (is_drain_of setup) (chain content (progress_list setup e)))))
   qualifies-is same =
       let slot : nat_lt (length (chain content (progress_list setup e))) setup.caps.slots ≡ true =
       lt-ltb _ _ (group on).slot in
-      rw (same, s.buffers on, lt-ltb e setup.caps.engines engine, lt-ltb q setup.caps.queues hq, home, hf)
-      (rw (lt-ltb e setup.caps.engines engine, home, slot) refl)
+      rw (same, s.buffers on, lt-ltb e setup.caps.engines taking-engine, lt-ltb q setup.caps.queues hq, home, hf)
+      (rw (lt-ltb e setup.caps.engines taking-engine, home, slot) refl)
 
   -- so its buffers fit
   pub fits-taken : {n : ℕ} → n ≡ need_of setup front.1 → qualifies (work setup gear content []) e q ≡ true
@@ -116,9 +117,9 @@ module _ {cells : ℕ} {setup : Setup} {gear : Gear} {content : Content} {e g q 
       let new : List Slot = chain mid p ++ (front.0, as_running front.1) ∷ [] in
       let lists = s.store.lists in
       let within : p < length mid =
-      rw (length-set content q (drop 1 (chain content q))) (omega (arith, lists, engine)) in
+      rw (length-set content q (drop 1 (chain content q))) (omega (arith, lists, taking-engine)) in
       record {
-        engine = engine;
+        engine = taking-engine;
         list = inl refl;
         others = λ j low ne. get_or-set_other mid p j new [] ne
             ∙ get_or-set_other content q j (drop 1 (chain content q)) [] (omega (arith, hq, low));
@@ -146,4 +147,4 @@ module _ {cells : ℕ} {setup : Setup} {gear : Gear} {content : Content} {e g q 
       (in_step-moved s on kept
       (length-pushed (without_front content q) (progress_list setup e) front.0 (as_running front.1)
       ∙ length-set content q (drop 1 (chain content q)))
-      (grind (arith, common_steps)) refl (taken-of s on taken-more (home-of s on engine ∙ home)))
+      (grind (arith, common_steps)) refl (taken-of s on taken-more (home-of s on taking-engine ∙ home)))

@@ -1,12 +1,12 @@
 -- What a Drain waits for, list by list.
-use Rattle.std.proofs.Common.{◌≡◌, ◌≢◌, ℕ, ◌+◌, ◌-◌, ◌<◌, ◌≤◌, ◌&&◌, ◌==◌, Bool, true, false, not, nat_lt, length}
-use Rattle.std.proofs.Common.{[], ◌∷◌, List, ◌⊎◌, inl, inr, ap, sym, ◌∙◌, arith, add-one}
+use Rattle.std.proofs.Common.{◌≡◌, ℕ, ◌+◌, ◌-◌, ◌<◌, ◌&&◌, Bool, true, false, nat_lt, length}
+use Rattle.std.proofs.Common.{[], ◌∷◌, List, inl, inr, sym, ◌∙◌, arith, add-one}
 use Rattle.std.proofs.lemmas.{Grind.{common_steps}, Bool.{cases_lt, cases_eq, cases_Bool}}
 use Rattle.std.proofs.lemmas.List.Folds.{list_any-append}
 use Rattle.std.specs.List.{list_any}
 use Rattle.dsa_base.{specs.{Lists.{In}, Numbers.{numbers_below}}, proofs.{Lists.{any-In}, NumberLemmas.{numbers_below-miss}}}
 use Rattle.dsa_store.specs.{declared.entry.Entry.{Entry}, Content.{Slot, Content, chain}}
-use Rattle.dsa_book.specs.State.{Setup, any_in, holds_any, is_member}
+use Rattle.dsa_book.specs.State.{Setup, any_in, holds_any}
 use Rattle.dsa_book.{specs.Work.{waits_for}, proofs.Held.{holds-hit, holds-nowhere}}
 use Rattle.dsa_queues.specs.Queues.{IsStoreFor}
 use Rattle.dsa_engines.specs.Engines.{IsInPlace}
@@ -32,7 +32,7 @@ none-in drain l none = elim (cases_Bool (any_in (waits_for drain) l)) [
   | inr none ↦ none
 ]
 
-module _ {setup : Setup} {cells : ℕ} {content : Content} {drain : Entry} (store : IsStoreFor setup.caps cells content)
+module _ (setup : Setup) {cells : ℕ} (content : Content) (drain : Entry) (store : IsStoreFor setup.caps cells content)
     where
   -- one that stands in a queue's list is held
   pub waits-queued : drain.queue < setup.caps.queues → any_in (waits_for drain) (chain content drain.queue) ≡ true

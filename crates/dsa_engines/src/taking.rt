@@ -6,12 +6,12 @@ ghost use Rattle.dsa_base.specs.Numbers.{numbers_below};
 ghost use Rattle.dsa_regs.specs.Buffers.{fits};
 ghost use Rattle.dsa_store.specs.Content.{chain, after_push, without_front};
 ghost use Rattle.dsa_book.specs.declared.fate.FateRow.{FateRow};
-ghost use Rattle.dsa_book.specs.State.{is_off, need_of, is_batch_of, is_drain_of};
+ghost use Rattle.dsa_book.specs.State.{any_in, is_off, need_of, is_batch_of, is_drain_of};
 ghost use Rattle.dsa_book.specs.declared.answer.Reply.TheVariants as reply;
 ghost use Rattle.dsa_book.specs.Choice.{choice_of};
-ghost use Rattle.dsa_book.specs.Work.{qualifies, may_leave, dispatch, as_running, opened_note, with_note, is_draining};
+ghost use Rattle.dsa_book.specs.Work.{qualifies, may_leave, dispatch, progress_list, as_running, opened_note, with_note};
 ghost use Rattle.dsa_queues.specs.Queues.{IsStoreFor};
-ghost use Rattle.dsa_engines.specs.Engines.{work, lists_alone, IsInStep, IsOpen};
+ghost use Rattle.dsa_engines.specs.Engines.{work, IsInStep, IsOpen};
 
 use crate::Engines;
 use dsa_book::{BatchNote, DispatchAnswer, Ticket};
@@ -43,7 +43,7 @@ fn run_front<S: EntryStore>(store: &mut S, from: ListId, to: ListId, front: (Cel
 fn is_draining<S: EntryStore>(queues: &Queues, store: &S, engine: u16) -> bool
     requires store { IsStoreFor queues.now.caps (S.cells store.now) (S.content store.now) }
     requires engine { engine < queues.now.caps.engines }
-    ensures { result ≡ is_draining (lists_alone queues.now (S.content store.now)) engine }
+    ensures { result ≡ any_in (is_drain_of queues.now) (chain (S.content store.now) (progress_list queues.now engine)) }
 {
     let progress = queues.list(ListUse::Progress(engine));
     slots(store, progress).any(|slot| queues.is_drain(&slot.1))
@@ -80,7 +80,8 @@ impl Engines {
         requires group { group < length self.now.buffers.groups }
         ensures { result ≡ (fits self.now.buffers.total self.now.buffers.groups self.now.buffers.used group (need_of queues.now entry.now)
             && (is_none (get_or self.now.notes engine None) || not (is_batch_of queues.now entry.now))
-            && not (is_drain_of queues.now entry.now && is_draining (lists_alone queues.now (S.content store.now)) engine)) }
+            && not (is_drain_of queues.now entry.now
+                && any_in (is_drain_of queues.now) (chain (S.content store.now) (progress_list queues.now engine)))) }
     {
         if !self.fits(group, queues.need(entry)) {
             return false;
