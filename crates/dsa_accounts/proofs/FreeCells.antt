@@ -2,7 +2,7 @@
 use Rattle.std.proofs.Common.{◌≡◌, ℕ, ◌+◌, ◌^◌, ◌<◌, ◌≤◌, true, false, List, [], length, Some, None, ap, subst, refl}
 use Rattle.std.proofs.{lemmas.Bool.{cases_Bool, ltb-false, leb-false, or_parts, not-false}, Common.{arith, ⊎_elim}}
 use Rattle.std.specs.Prelude.{sum_by}
-use Rattle.dsa_base.proofs.NumberSums.{sum-places, sum-equal, sum-split_numbers, sum-plus, sum-same, sum-numbers-le}
+use Rattle.dsa_base.proofs.NumberSums.{sum-places, sum-equal, sum-split_numbers, sum-plus, sum-same, sum-numbers-le, sum-numbers-each}
 use Rattle.dsa_base.proofs.{NumberSums.{sum-numbers-lt}, Tables.{no-row}}
 use Rattle.dsa_base.specs.{Rows.{first_row}, Numbers.{numbers_below}}
 use Rattle.dsa_regs.specs.declared.{Caps.{Caps}, QueueConfig.{QueueConfig}}
@@ -78,6 +78,11 @@ module _ {caps : Caps} {s : State} (w : IsWellFormed caps s) where
         sizes-fit not_off,
       ))
       (cases_Bool (is_off s.work.setup.device))
+
+  -- so no queue holds more than the device has room for
+  pub queue-fits : (queue : ℕ) → queue < caps.queues → size s.work.content queue ≤ caps.total_size
+  queue-fits queue i =
+      omega (arith, sum-numbers-each (size s.work.content) caps.queues queue i, queues-fit)
 
   -- with a bound of its members
   engine-fits : (e most : ℕ) → e < caps.engines → length (members s.work e) ≤ most

@@ -33,6 +33,13 @@ sum-numbers-le F G (suc n) h = omega (
   sum-numbers-le F G n (λ k i. h k (omega (arith, i))),
 )
 
+-- the sum is no less than each
+pub sum-numbers-each : (F : ℕ → ℕ) (n k : ℕ) → k < n → F k ≤ sum_by F (numbers_below n)
+sum-numbers-each F zero k h = absurd (omega (arith, h))
+sum-numbers-each F (suc n) k h = ⊎_elim
+    (λ (e : k ≡ n). rw e (omega (arith, sum_by_push)))
+    (λ e. omega (arith, sum_by_push, sum-numbers-each F n k (omega (arith, h, e)))) (cases_eq k n)
+
 -- and less at one number
 pub sum-numbers-lt : (F G : ℕ → ℕ) (n j : ℕ) → ((k : ℕ) → k < n → F k ≤ G k) → j < n → F j < G j
     → sum_by F (numbers_below n) < sum_by G (numbers_below n)

@@ -1,20 +1,21 @@
 -- What the laws of the machine say of a device.
 use Rattle.std.proofs.Common.{◌≡◌, ◌≢◌, ℕ, suc, ◌+◌, ◌^◌, ◌<◌, ◌≤◌, ◌==◌, true, false, List, [], ◌∷◌, length}
 use Rattle.std.proofs.Common.{Option, Some, None, refl, sym, ap, ◌∙◌, arith, get_or}
-use Rattle.std.proofs.lemmas.{Bool.{lt-ltb, eqb-false, not-true, and_parts, cond_both}, List.{get_or-replicate}}
+use Rattle.std.proofs.lemmas.{Bool.{lt-ltb, ltb-true, eqb-false, not-true, and_parts, cond_both}, List.{get_or-replicate}}
 use Rattle.std.specs.Prelude.{is_none, is_some, filter, not, ◌&&◌, nat_lt}
 use Rattle.dsa_base.{specs.Rows.{passes, when}, proofs.NumberLists.{get_or-each}}
 use Rattle.dsa_regs.specs.{declared.{Phase.{Phase, TheVariants.{Off}}, Caps.{Caps}}, Caps.{cell_count}}
+use Rattle.dsa_regs.proofs.CapsLemmas.{total_size-bound}
 use Rattle.dsa_store.specs.Content.{Slot, Content, chain, held_count}
 use Rattle.dsa_store.proofs.Lists.{held-nil, held-cons, length-le-held}
 use Rattle.dsa_book.specs.declared.{event.{Portal.{Portal}, Kind.{Kind}}, note.BatchNote.{BatchNote}}
-use Rattle.dsa_book.specs.State.{is_off}
+use Rattle.dsa_book.specs.State.{is_off, has_queue}
 use Rattle.dsa_book.specs.Work.{used, all_used, members, member_list, note_at, batch_on, is_all_fetched}
 use Rattle.dsa_queues.specs.Queues.{intake, is_accepting}
 use Rattle.dsa_laws.specs.WellFormed.{IsWellFormed, none_runs, runs_first}
 use Rattle.dsa_laws.proofs.{Histories.{replay-well_formed}}
-use Rattle.dsa_accounts.proofs.{FreeCells.{accepting-room, fetching-room}, Totals.{replay-names-le}}
-use Rattle.dsa_engines.specs.Engines.{Gear, WaitInOrder, is_fetching, is_running, lists_alone}
+use Rattle.dsa_accounts.proofs.{FreeCells.{accepting-room, fetching-room, queue-fits}, Totals.{replay-names-le}}
+use Rattle.dsa_engines.specs.Engines.{Gear, WaitInOrder, IsInPlace, is_fetching, is_running, lists_alone}
 use Rattle.dsa_engines.proofs.{Used.{buffers-at_rest}}
 use Rattle.dsa_buffers.specs.Buffers.{Buffers}
 use Rattle.dsa_device.specs.Running.{Running, IsReplay, IsWhole}
@@ -99,6 +100,37 @@ fetching cells gear d engine w h = rw (cells-are cells gear d w) (go (note_at d.
     go None is h = absurd cc
     go (Some note) is h = fetching-room (well_formed d w.replay) engine note is
         (not-true (is_all_fetched note) (and_parts (is_some (batch_on d.state.work engine note)) _ h).1)
+
+-- ---- what the end of a Drain asks
+
+pub in_place : (d : Running) → IsReplay d → IsInPlace d.state.work.setup d.state.work.content
+in_place d i =
+    let w = d.state.work in
+    let same = (well_formed d i).shape.same_caps in
+    let queues : w.setup.caps.queues ≡ d.caps.queues = ap (λ (c : Caps). c.queues) same in
+    let engines : w.setup.caps.engines ≡ d.caps.engines = ap (λ (c : Caps). c.engines) same in
+    let placed = (well_formed d i).entries.placed in
+    record {
+      queued = λ q slot h at. (placed q slot at).queue (omega (arith, h, queues));
+      members = λ e slot h at. (placed (member_list w.setup e) slot at).member (omega (arith, queues, engines));
+    }
+
+-- ---- what a reader of the occupancy asks
+
+-- no queue is longer than all of them together may be
+pub occupancy_fits : (cells : ℕ) (gear : Gear) (d : Running) (queue : ℕ) → IsWhole cells gear d
+    → has_queue d.state.work.setup queue ≡ true → length (chain d.state.work.content queue) < 2 ^ 16
+occupancy_fits cells gear d queue w has =
+    let setup = d.state.work.setup in
+    let same = (well_formed d w.replay).shape.same_caps in
+    let there : queue < d.caps.queues =
+    omega (arith, ltb-true queue setup.caps.queues has, ap (λ (c : Caps). c.queues) same) in
+    omega (
+      arith,
+      queue-fits (well_formed d w.replay) queue there,
+      total_size-bound setup.caps w.in_step.queues.lawful,
+      ap (λ (c : Caps). c.total_size) same,
+    )
 
 -- ---- read buffers
 

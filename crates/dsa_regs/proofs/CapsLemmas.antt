@@ -9,10 +9,14 @@ use Rattle.dsa_regs.specs.Caps.{check_caps, cell_count, list_count, list_number,
 pub engines-bound : (caps : Caps) → IsTrue (check_caps caps) → caps.engines ≤ 64
 engines-bound caps h = grind (arith, nat_tests)
 
+-- the places in its queues
+pub total_size-bound : (caps : Caps) → check_caps caps ≡ true → caps.total_size ≤ 4096
+total_size-bound caps h = grind (arith, nat_tests)
+
 -- and its cells
 pub cell_count-bound : (caps : Caps) → IsTrue (check_caps caps) → cell_count caps ≤ 70656
 cell_count-bound caps h =
-    let size : caps.total_size ≤ 4096 = grind (arith, nat_tests) in
+    let size = total_size-bound caps h in
     let engines = engines-bound caps h in
     let slots : caps.slots ≤ 16 = grind (arith, nat_tests) in
     let shift : caps.max_batch_shift ≤ 10 = grind (arith, nat_tests) in

@@ -2,10 +2,13 @@ use Rattle.dsa_book.specs.declared.event.Event.TheVariants as event
 use Rattle.dsa_book.specs.declared.answer.Reply.TheVariants as reply
 use Rattle.dsa_device.proofs.device.Device.finish.Goals as goal
 use Rattle.std.proofs.Common.{◌∙◌, refl, sym}
-use Rattle.dsa_device.proofs.{Known.{row_fits}, Steps.{answered, whole_after}}
+use Rattle.dsa_device.proofs.{Known.{row_fits, in_place}, Steps.{answered, whole_after}}
 
 pub finish-answer-requires-clause-in_step : goal.finish-answer-requires-clause-in_step
 finish-answer-requires-clause-in_step g c = c.self.invariant.in_step
+
+pub finish-answer-requires-clause-placed : goal.finish-answer-requires-clause-placed
+finish-answer-requires-clause-placed g c = in_place _ c.self.invariant.replay
 
 pub finish-answer-requires-clause-room : goal.finish-answer-requires-clause-room
 finish-answer-requires-clause-room g c =

@@ -1,8 +1,11 @@
 use Rattle.dsa_device.proofs.device.Device.occupancy.Goals as goal
-use Rattle.dsa_device.proofs.Known.{well_formed}
+use Rattle.dsa_device.proofs.Known.{well_formed, occupancy_fits}
 
-pub occupancy-requires : goal.occupancy-requires
-occupancy-requires g c = record { store = c.self.invariant.in_step.store }
+pub occupancy-requires-clause-store : goal.occupancy-requires-clause-store
+occupancy-requires-clause-store g c = c.self.invariant.in_step.store
+
+pub occupancy-requires-clause-short : goal.occupancy-requires-clause-short
+occupancy-requires-clause-short g c = occupancy_fits _ _ _ c.args.queue c.self.invariant
 
 pub returns : goal.returns
 returns g c = rw (← c.self.view_is, ← (well_formed _ c.self.invariant.replay).shape.same_caps) c.occupancy.ensures
