@@ -50,6 +50,12 @@ abort_takes_members =
     member 0 no_op 2 2 ∷ member 0 no_op 3 3 ∷ begun 0 2 2 ∷ issued (AbortPasid 5) (Ended 3) ∷
     finished 0 (ticket 2 2) Gone ∷ fetched 0 no_op NoBatch ∷ ended 0 1 1 0x01 ∷ []
 
+-- with the batch its engine's note went, so that the engine takes another
+abbrev pub batch_after_an_abort : List Step
+batch_after_an_abort =
+    to_shared (batch 3) 0 0 ∷ taken 0 0 0 ∷ issued AbortAll (Ended 1) ∷ to_shared (batch 2) 0 1 ∷ taken 0 0 1 ∷
+    member 0 no_op 1 2 ∷ []
+
 -- a ticket of an entry that was aborted does not end the entry that stands in its cell now
 abbrev pub old_ticket_is_gone : List Step
 old_ticket_is_gone =

@@ -4,7 +4,7 @@ ghost use Rattle.std.specs.Prelude.{◌≡◌, ◌++◌, [], ◌∷◌, Some, No
 ghost use Rattle.dsa_regs.specs.declared.Command.TheVariants.{EnableDevice, EnableWq, DisableDevice, DrainWq, DrainAll, DrainPasid, AbortPasid, AbortAll, ResetWq, DisableWq};
 ghost use Rattle.dsa_regs.specs.declared.Fault.TheVariants.{SizesTooLarge, TwoGroups, ReservedTooMany, AllowedOutOfRange, GroupWithoutEngine, GroupWithoutQueue, BadIndex, SizeZero, WrongState};
 ghost use Rattle.dsa_book.specs.declared.answer.SubmitAnswer.TheVariants.{Accepted};
-ghost use Rattle.dsa_book.specs.declared.answer.DispatchAnswer.TheVariants.{Taken};
+ghost use Rattle.dsa_book.specs.declared.answer.DispatchAnswer.TheVariants.{Idle, Taken};
 ghost use Rattle.dsa_book.specs.declared.answer.FinishAnswer.TheVariants.{Done, Gone};
 ghost use Rattle.dsa_book.specs.declared.answer.IssueAnswer.TheVariants.{Ended, Active, Refused};
 ghost use Rattle.dsa_book.specs.declared.answer.PollAnswer.TheVariants.{Finished, Active};
@@ -12,7 +12,7 @@ ghost use Rattle.dsa_book.specs.declared.fate.Fate.TheVariants.{Completed, Abort
 ghost use Rattle.dsa_book.specs.Machine.{is_run};
 ghost use Rattle.dsa_regs.specs.Worked.{caps, dedicated_queue, first_group, second_group};
 ghost use Rattle.dsa_worked.specs.Setup.{room, setup, is_run_here, may_not_follow, fates_after, content_after, next_name_after, account_after, row, slot, no_op, batch, ticket, enqcmd, dispatched, finished, issued, polled};
-ghost use Rattle.dsa_worked.specs.Commands.{drain_of_a_queue, drain_of_a_batch, drain_of_a_pasid, abort_of_a_pasid, abort_takes_members, old_ticket_is_gone, abort_and_reset, names_go_on_after_a_reset, reset_of_a_queue, disable_and_enable_again, refused_enables_and_writes, priorities, queues_that_are_not_there, refused_device};
+ghost use Rattle.dsa_worked.specs.Commands.{drain_of_a_queue, drain_of_a_batch, drain_of_a_pasid, abort_of_a_pasid, abort_takes_members, batch_after_an_abort, old_ticket_is_gone, abort_and_reset, names_go_on_after_a_reset, reset_of_a_queue, disable_and_enable_again, refused_enables_and_writes, priorities, queues_that_are_not_there, refused_device};
 
 /// A drain of a queue waits for what was submitted before it: it does not end at once, and what comes later does not hold it up.
 pub fn drain_of_a_queue()
@@ -55,6 +55,12 @@ pub fn abort_takes_members()
     ensures content { content_after abort_takes_members ≡ Some ([] ∷ [] ∷ [] ∷ [] ∷ [] ∷ [] ∷ []) }
     ensures no_member_is_left { may_not_follow (take 7 abort_takes_members) (issued (AbortPasid 5) (Ended 1)) ≡ true }
     ensures no_member_ends_later { may_not_follow (take 8 abort_takes_members) (finished 0 (ticket 2 2) (Done 0x01)) ≡ true }
+{}
+
+/// With a batch that is aborted its engine's note goes, and the engine takes another.
+pub fn batch_after_an_abort()
+    ensures run { is_run_here batch_after_an_abort ≡ true }
+    ensures not_idle { may_not_follow (take 4 batch_after_an_abort) (dispatched 0 Idle) ≡ true }
 {}
 
 /// The ticket of an entry that was aborted does not end the entry that stands in its cell now.
