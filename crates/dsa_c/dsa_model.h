@@ -41,13 +41,13 @@ struct dsa_descriptor {
 
 /* What the device has. */
 struct dsa_caps {
-	uint16_t queues;         /* work queues, 1 to 16 */
+	uint16_t queues;         /* work queues, 1 to 64 */
 	uint16_t groups;         /* 1 to 8 */
-	uint16_t engines;        /* 1 to 8 */
-	uint16_t total_size;     /* entries that all queues together may hold, 1 to 128 */
+	uint16_t engines;        /* 1 to 64 */
+	uint16_t total_size;     /* entries that all queues together may hold, 1 to 4096 */
 	uint16_t read_buffers;   /* 1 to 255 */
 	uint16_t slots;          /* submitted descriptors that an engine may have in progress, 1 to 16 */
-	uint8_t max_batch_shift; /* a batch has at most 2 to this many members, 1 to 6 */
+	uint8_t max_batch_shift; /* a batch has at most 2 to this many members, 1 to 10 */
 	uint8_t max_xfer_shift;  /* a transfer has at most 2 to this many bytes, 0 to 31 */
 };
 
@@ -104,7 +104,7 @@ enum dsa_kind {
 	DSA_ABANDONED = 12,   /* more: how many members ended behind a fence */
 	DSA_NOTHING = 13,     /* no member, no command, no error, no such step */
 	DSA_DONE = 14,        /* more: the completion status */
-	DSA_NOT_READY = 15,   /* a batch whose members have not all ended */
+	DSA_NOT_READY = 15,   /* a batch whose members have not all ended, or a Drain while what it waits for is held */
 	DSA_GONE = 16,        /* no running entry of the engine has that cell and name */
 	DSA_ENDED = 17,       /* more: how many entries were aborted; the command is over */
 	DSA_ACTIVE = 18,      /* the command waits */
@@ -166,7 +166,8 @@ struct dsa_answer dsa_dispatch(struct dsa_model *handle, uint16_t engine);
 struct dsa_answer dsa_fetch(struct dsa_model *handle, uint16_t engine, const struct dsa_descriptor *descriptor);
 /* An engine starts the first of its members that does not run. */
 struct dsa_answer dsa_start(struct dsa_model *handle, uint16_t engine);
-/* An engine ends the running entry of that cell and name, with an enum dsa_outcome. */
+/* An engine ends the running entry of that cell and name, with an enum dsa_outcome. The end of a Drain looks at its queue and at
+ * what is in progress on each engine. */
 struct dsa_answer dsa_finish(struct dsa_model *handle, uint16_t engine, uint32_t cell, uint32_t name, uint32_t outcome);
 
 /* A word is written to the command register (DSA_COMMAND); one that is no command is refused with fault 13, even by a closed handle. */
