@@ -84,6 +84,11 @@ pub const NO_OP: Descriptor = Descriptor {
 
 pub const FENCED_NO_OP: Descriptor = Descriptor { flags: 1, ..NO_OP };
 
+/// A Drain.
+pub const DRAIN: Descriptor = Descriptor { op: 2, ..NO_OP };
+
+pub const FENCED_DRAIN: Descriptor = Descriptor { flags: 1, ..DRAIN };
+
 /// A Memory Move of one page.
 pub const MOVE: Descriptor = Descriptor {
     op: 3,

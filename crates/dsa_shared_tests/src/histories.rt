@@ -3,7 +3,7 @@
 use crate::playing::Play;
 use crate::steps::{
     accepted, begun, cleared, dispatched, done, ended, fetched, finished, issued, limited, member,
-    polled, row, started, taken, ticket, totals, unlimited, writes, written_to,
+    polled, row, sent, started, taken, ticket, totals, unlimited, writes, written_to,
 };
 use crate::stores::{Trial, over_both_stores};
 use dsa_book::{
@@ -12,7 +12,7 @@ use dsa_book::{
 };
 use dsa_desc::Outcome;
 use dsa_fixtures::{
-    ENQCMD, FENCED_MOVE, FENCED_NO_OP, FIRST_QUEUE, LARGE_MOVE, MOVE, NO_OP, batch_of,
+    DRAIN, ENQCMD, FENCED_MOVE, FENCED_NO_OP, FIRST_QUEUE, LARGE_MOVE, MOVE, NO_OP, batch_of,
 };
 use dsa_regs::{Command, Fault};
 use dsa_shared::Totals;
@@ -241,6 +241,35 @@ fn drain_of_a_queue(rt: HostRuntime) -> Result<(), Fail> {
     ];
     let fates = [row(0, None, COMPLETED)];
     let totals = totals(2, 0, 0, 1, 0, 1, 13);
+    play(&rt, rt.alloc(), &steps, &fates, totals)
+}
+
+#[test]
+fn drains_of_two_programs(rt: HostRuntime) -> Result<(), Fail> {
+    let steps = [
+        unlimited(5, accepted(0)),
+        unlimited(6, accepted(1)),
+        sent(5, DRAIN, accepted(2)),
+        sent(6, DRAIN, accepted(3)),
+        taken(0, 0),
+        taken(0, 1),
+        done(1, 0x01),
+        taken(0, 2),
+        finished(0, ticket(2), Outcome::Success, FinishAnswer::NotReady),
+        dispatched(0, DispatchAnswer::Idle),
+        done(0, 0x01),
+        dispatched(0, DispatchAnswer::Idle),
+        done(2, 0x01),
+        taken(0, 3),
+        done(3, 0x01),
+    ];
+    let fates = [
+        row(1, None, COMPLETED),
+        row(0, None, COMPLETED),
+        row(2, None, COMPLETED),
+        row(3, None, COMPLETED),
+    ];
+    let totals = totals(4, 0, 0, 4, 0, 0, 19);
     play(&rt, rt.alloc(), &steps, &fates, totals)
 }
 

@@ -47,12 +47,17 @@ pub fn limited(desc: Descriptor, answer: SubmitAnswer) -> Step {
 
 // By the first client, on the unlimited portal of the shared queue.
 pub fn unlimited(pasid: u32, answer: SubmitAnswer) -> Step {
+    sent(pasid, NO_OP, answer)
+}
+
+// The same with any descriptor.
+pub fn sent(pasid: u32, desc: Descriptor, answer: SubmitAnswer) -> Step {
     submitted(
         0,
         0,
         Portal::Unlimited,
         Kind::Enqcmd { pasid },
-        NO_OP,
+        desc,
         answer,
     )
 }

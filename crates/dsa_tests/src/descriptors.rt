@@ -144,8 +144,12 @@ fn writes_images(rt: HostRuntime) {
 
 #[test]
 fn checks(rt: HostRuntime) {
-    const ROWS: [(u8, u32, u32, bool, u8); 13] = [
-        (DSA_OPCODE_DRAIN, 0, 0, false, DSA_COMP_BAD_OPCODE),
+    const ROWS: [(u8, u32, u32, bool, u8); 17] = [
+        (DSA_OPCODE_DRAIN, 0, 0, false, DSA_COMP_NONE),
+        (DSA_OPCODE_DRAIN, 0xfe, u32::MAX, false, DSA_COMP_NONE),
+        (DSA_OPCODE_DRAIN, 0, 0, true, DSA_COMP_BAD_OPCODE),
+        (DSA_OPCODE_DRAIN, 1, 0, false, DSA_COMP_INVALID_FLAGS),
+        (DSA_OPCODE_DRAIN, 1, 0, true, DSA_COMP_BAD_OPCODE),
         (0x06, 0, 4096, false, DSA_COMP_BAD_OPCODE),
         (DSA_OPCODE_BATCH, 0, 2, true, DSA_COMP_BAD_OPCODE),
         (DSA_OPCODE_NOOP, 1, 0, false, DSA_COMP_INVALID_FLAGS),
@@ -179,7 +183,8 @@ fn checks(rt: HostRuntime) {
 
 #[test]
 fn needs_read_buffers(rt: HostRuntime) {
-    const ROWS: [(u8, u32, u8); 10] = [
+    const ROWS: [(u8, u32, u8); 11] = [
+        (DSA_OPCODE_DRAIN, 16384, 0),
         (DSA_OPCODE_MEMMOVE, 0, 0),
         (DSA_OPCODE_MEMMOVE, 1, 1),
         (DSA_OPCODE_MEMMOVE, 4096, 1),
@@ -202,7 +207,7 @@ fn needs_read_buffers(rt: HostRuntime) {
 
 #[test]
 fn completes(rt: HostRuntime) {
-    const ROWS: [(u8, u32, Outcome, u8); 6] = [
+    const ROWS: [(u8, u32, Outcome, u8); 7] = [
         (DSA_OPCODE_MEMMOVE, 4096, Outcome::Success, DSA_COMP_SUCCESS),
         (
             DSA_OPCODE_MEMMOVE,
@@ -218,7 +223,8 @@ fn completes(rt: HostRuntime) {
         ),
         (DSA_OPCODE_NOOP, 0, Outcome::PageFault, DSA_COMP_SUCCESS),
         (DSA_OPCODE_BATCH, 2, Outcome::PageFault, DSA_COMP_SUCCESS),
-        (DSA_OPCODE_DRAIN, 0, Outcome::Success, DSA_COMP_BAD_OPCODE),
+        (DSA_OPCODE_DRAIN, 0, Outcome::Success, DSA_COMP_SUCCESS),
+        (DSA_OPCODE_DRAIN, 0, Outcome::PageFault, DSA_COMP_SUCCESS),
     ];
     for (op, size, outcome, want) in ROWS {
         assert_eq!(rt;
@@ -231,23 +237,43 @@ fn completes(rt: HostRuntime) {
 
 #[test]
 fn sorts_operations(rt: HostRuntime) {
-    const ROWS: [(u8, bool, bool); 7] = [
-        (DSA_OPCODE_NOOP, false, false),
-        (DSA_OPCODE_BATCH, true, false),
-        (DSA_OPCODE_DRAIN, false, false),
-        (DSA_OPCODE_MEMMOVE, false, true),
-        (DSA_OPCODE_MEMFILL, false, true),
-        (DSA_OPCODE_COMPARE, false, true),
-        (0x06, false, false),
+    const ROWS: [(u8, bool, bool, bool); 7] = [
+        (DSA_OPCODE_NOOP, false, false, false),
+        (DSA_OPCODE_BATCH, true, false, false),
+        (DSA_OPCODE_DRAIN, false, true, false),
+        (DSA_OPCODE_MEMMOVE, false, false, true),
+        (DSA_OPCODE_MEMFILL, false, false, true),
+        (DSA_OPCODE_COMPARE, false, false, true),
+        (0x06, false, false, false),
     ];
-    for (op, is_batch, is_transfer) in ROWS {
+    for (op, is_batch, is_drain, is_transfer) in ROWS {
         let descriptor = submitted(op, 0, 2);
         assert!(rt; descriptor.is_batch() == is_batch, "code {op}");
+        assert!(rt; descriptor.is_drain() == is_drain, "code {op}");
+        assert!(rt; descriptor.is_transfer() == is_transfer, "code {op}");
+    }
+}
+
+#[test]
+fn sorts_lawful_operations(rt: HostRuntime) {
+    const ROWS: [(u8, u32, bool, bool, bool); 6] = [
+        (DSA_OPCODE_NOOP, 0, false, false, false),
+        (DSA_OPCODE_BATCH, 0, false, true, false),
+        (DSA_OPCODE_BATCH, 0, true, false, false),
+        (DSA_OPCODE_DRAIN, 0, false, false, true),
+        (DSA_OPCODE_DRAIN, 0, true, false, false),
+        (DSA_OPCODE_DRAIN, 1, false, false, false),
+    ];
+    for (op, flags, member, is_batch, is_drain) in ROWS {
+        let descriptor = submitted(op, flags, 2);
         assert!(rt;
-            descriptor.is_lawful_batch(&LIMITS, false) == is_batch,
+            descriptor.is_lawful_batch(&LIMITS, member) == is_batch,
             "code {op}"
         );
-        assert!(rt; descriptor.is_transfer() == is_transfer, "code {op}");
+        assert!(rt;
+            descriptor.is_lawful_drain(&LIMITS, member) == is_drain,
+            "code {op}"
+        );
     }
 }
 

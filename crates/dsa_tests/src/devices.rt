@@ -7,7 +7,7 @@ use dsa_book::{
 use dsa_desc::{Descriptor, Outcome};
 use dsa_device::{Device, MakeFault};
 use dsa_fixtures::{
-    CAPS, CELLS, ENABLED, ENQCMD, FIRST_GROUP as GROUP, LISTS, MOVE as PAGE, NO_OP,
+    CAPS, CELLS, DRAIN, ENABLED, ENQCMD, FIRST_GROUP as GROUP, LISTS, MOVE as PAGE, NO_OP,
     SHARED_QUEUE as QUEUE, batch_of, bytes_of,
 };
 use dsa_regs::{Caps, Command, Fault};
@@ -331,9 +331,28 @@ fn ends_in_the_last_place(rt: &impl Abort, device: &mut Device<PlainStore>, tick
     assert!(rt; device.fates().len() == 1 && device.fate(0) == Some(Fate::Completed(0x03)));
 }
 
+// A Drain ends after what was submitted before it, whatever the outcome.
+#[test]
+fn drain_waits_for_an_entry(rt: HostRuntime) -> Result<(), Fail> {
+    const DONE: FinishAnswer = FinishAnswer::Done(0x01);
+    let mut device = enabled(&rt, 64)?;
+    let first = accepted(&rt, &mut device, NO_OP);
+    let drain = accepted(&rt, &mut device, DRAIN);
+    let steps = [
+        is_taken(first),
+        is_taken(drain),
+        is_ended(drain, Outcome::Success, FinishAnswer::NotReady),
+        is_ended(first, Outcome::Success, DONE),
+        is_ended(drain, Outcome::PageFault, DONE),
+    ];
+    replies(&rt, &mut device, &steps);
+    assert!(rt; device.fates().len() == 2 && device.held() == 0);
+    Ok(())
+}
+
 #[test]
 fn drain_ends_with_its_batch(rt: HostRuntime) -> Result<(), Fail> {
-    const DRAIN: (Event, Reply) = (
+    const DRAIN_ALL: (Event, Reply) = (
         Event::Issue {
             command: Command::DrainAll,
         },
@@ -341,7 +360,7 @@ fn drain_ends_with_its_batch(rt: HostRuntime) -> Result<(), Fail> {
     );
     let mut device = enabled(&rt, 64)?;
     let ticket = accepted(&rt, &mut device, batch_of(2));
-    replies(&rt, &mut device, &[is_taken(ticket), DRAIN]);
+    replies(&rt, &mut device, &[is_taken(ticket), DRAIN_ALL]);
     assert_eq!(rt; device.active(), Some(Command::DrainAll));
     for _ in 0..2 {
         member_ends(&rt, &mut device, ticket);

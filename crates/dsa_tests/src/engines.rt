@@ -8,7 +8,7 @@ use dsa_book::{
 };
 use dsa_desc::{Descriptor, Outcome};
 use dsa_engines::Engines;
-use dsa_fixtures::{CELLS, LARGE_MOVE, LISTS, MOVE, batch_of};
+use dsa_fixtures::{CELLS, DRAIN, LARGE_MOVE, LISTS, MOVE, batch_of};
 use dsa_queues::Queues;
 use dsa_regs::{GroupConfig, Phase, cell_count, check_device, list_count};
 use dsa_store::{Cell, Entry, EntryStore, ListId, PlainStore};
@@ -230,6 +230,67 @@ fn batch_fails<S: EntryStore>(
     assert!(rt; answer == StartAnswer::Nothing);
     let last = end(rt, queues, engines, store, book, ticket, Outcome::PageFault);
     assert!(rt; last == FinishAnswer::Done(0x05));
+}
+
+// The engine takes the entry of the ticket from the first queue.
+fn take<S: EntryStore>(
+    rt: &impl Abort,
+    queues: &Queues,
+    engines: &mut Engines,
+    store: &mut S,
+    ticket: Ticket,
+)
+    requires { IsInStep queues.now engines.old (S.cells store.old) (S.content store.old) }
+    ensures { IsInStep queues.now engines.new (S.cells store.new) (S.content store.new) }
+{
+    let taken = DispatchAnswer::Taken { ticket, queue: 0 };
+    assert_eq!(rt; engines.dispatch(queues, store, 0), taken);
+}
+
+// The Drain ends after the first entry, and no second one is taken before that.
+fn drain_waits<S: EntryStore>(
+    rt: &impl Abort,
+    queues: &Queues,
+    engines: &mut Engines,
+    store: &mut S,
+    book: &mut Book,
+    first: Ticket,
+    drain: Ticket,
+)
+    requires { IsInStep queues.now engines.old (S.cells store.old) (S.content store.old) }
+    ensures { IsInStep queues.now engines.new (S.cells store.new) (S.content store.new) }
+{
+    let early = end(rt, queues, engines, store, book, drain, Outcome::Success);
+    assert!(rt; early == FinishAnswer::NotReady);
+    let done = end(rt, queues, engines, store, book, first, Outcome::Success);
+    assert!(rt; done == FinishAnswer::Done(0x01));
+    assert!(rt; engines.dispatch(queues, store, 0) == DispatchAnswer::Idle);
+    let done = end(rt, queues, engines, store, book, drain, Outcome::PageFault);
+    assert!(rt; done == FinishAnswer::Done(0x01));
+}
+
+// A Move and two Drains: the second Drain is taken when the first has ended.
+fn drains_end_in_turn<S: EntryStore>(rt: &impl Abort, store: &mut S, book: &mut Book) {
+    let queues = enabled(rt, GROUPS);
+    let mut engines = enabled_engines(rt, &queues, store);
+    let cell = put(rt, &queues, &engines, store, entry(30, 0, MOVE));
+    let first = Ticket { cell, name: 30 };
+    let cell = put(rt, &queues, &engines, store, entry(31, 0, DRAIN));
+    let drain = Ticket { cell, name: 31 };
+    let cell = put(rt, &queues, &engines, store, entry(32, 0, DRAIN));
+    let second = Ticket { cell, name: 32 };
+    take(rt, &queues, &mut engines, store, first);
+    take(rt, &queues, &mut engines, store, drain);
+    drain_waits(rt, &queues, &mut engines, store, book, first, drain);
+    take(rt, &queues, &mut engines, store, second);
+}
+
+#[test]
+fn drains_of_an_engine(rt: HostRuntime) -> Result<(), Fail> {
+    let mut store = PlainStore::new(rt.alloc(), LISTS, CELLS)?;
+    let mut book = Book::new(rt.alloc(), 4)?;
+    drains_end_in_turn(&rt, &mut store, &mut book);
+    Ok(())
 }
 
 #[test]

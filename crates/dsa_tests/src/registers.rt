@@ -147,20 +147,72 @@ fn faults_print_as_sentences(rt: HostRuntime) {
 fn devices_within_limits(rt: HostRuntime) {
     assert!(rt; check_caps(&CAPS));
     assert!(rt; cell_count(&CAPS) == 28 && list_count(&CAPS) == 6);
-    assert!(rt; !check_caps(&Caps { queues: 17, ..CAPS }));
     let queues = zero_queues(&CAPS);
     assert!(rt; queues.as_slice() == [QueueConfig::default(); 2].as_slice());
     let groups = zero_groups(&CAPS);
     assert!(rt; groups.as_slice() == [GroupConfig::default(); 2].as_slice());
     assert!(rt; off_phases(&CAPS).as_slice() == [Phase::Off; 2].as_slice());
-    const WIDEST: Caps = Caps {
-        queues: 16,
-        groups: 8,
-        ..CAPS
-    };
-    assert!(rt; check_caps(&WIDEST));
-    assert!(rt; zero_queues(&WIDEST).len() == MAX_QUEUES);
-    assert!(rt; zero_groups(&WIDEST).len() == MAX_GROUPS);
+}
+
+const LARGEST: Caps = Caps {
+    queues: 64,
+    groups: 8,
+    engines: 64,
+    total_size: 4096,
+    read_buffers: 255,
+    slots: 16,
+    max_batch_shift: 10,
+    max_xfer_shift: 31,
+};
+
+#[test]
+fn largest_device(rt: HostRuntime) {
+    assert!(rt; check_caps(&LARGEST));
+    assert!(rt; cell_count(&LARGEST) == 70_656 && list_count(&LARGEST) == 192);
+    assert!(rt; zero_queues(&LARGEST).len() == MAX_QUEUES);
+    assert!(rt; zero_groups(&LARGEST).len() == MAX_GROUPS);
+    assert!(rt; off_phases(&LARGEST).len() == MAX_QUEUES);
+}
+
+#[test]
+fn devices_past_a_limit(rt: HostRuntime) {
+    const ROWS: [Caps; 8] = [
+        Caps {
+            queues: 65,
+            ..LARGEST
+        },
+        Caps {
+            groups: 9,
+            ..LARGEST
+        },
+        Caps {
+            engines: 65,
+            ..LARGEST
+        },
+        Caps {
+            total_size: 4097,
+            ..LARGEST
+        },
+        Caps {
+            read_buffers: 256,
+            ..LARGEST
+        },
+        Caps {
+            slots: 17,
+            ..LARGEST
+        },
+        Caps {
+            max_batch_shift: 11,
+            ..LARGEST
+        },
+        Caps {
+            max_xfer_shift: 32,
+            ..LARGEST
+        },
+    ];
+    for caps in ROWS {
+        assert!(rt; !check_caps(&caps), "{caps:?}");
+    }
 }
 
 #[test]
@@ -345,7 +397,11 @@ fn configurations_speak(rt: HostRuntime) {
 fn words_are_commands(rt: HostRuntime) {
     const THIRD: QueueMask = QueueMask { group: 0, mask: 4 };
     const SEVENTEENTH: QueueMask = QueueMask { group: 1, mask: 1 };
-    const WORDS: [(u32, Result<Command, Fault>); 20] = [
+    const LAST: QueueMask = QueueMask {
+        group: 3,
+        mask: 0x8000,
+    };
+    const WORDS: [(u32, Result<Command, Fault>); 22] = [
         (0, Err(Fault::BadCommand)),
         (0x0210_0000, Err(Fault::BadCommand)),
         (0x00d0_0000, Err(Fault::BadCommand)),
@@ -358,8 +414,10 @@ fn words_are_commands(rt: HostRuntime) {
         (0x0060_0000, Ok(Command::EnableWq(0))),
         (0x8060_0000, Ok(Command::EnableWq(0))),
         (0x0060_0002, Ok(Command::EnableWq(2))),
+        (0x0060_003f, Ok(Command::EnableWq(63))),
         (0x8070_0001, Ok(Command::DisableWq(FIRST_QUEUE))),
         (0x0071_0001, Ok(Command::DisableWq(SEVENTEENTH))),
+        (0x0073_8000, Ok(Command::DisableWq(LAST))),
         (0x0070_0004, Ok(Command::DisableWq(THIRD))),
         (0x0080_0001, Ok(Command::DrainWq(FIRST_QUEUE))),
         (0x8090_0001, Ok(Command::AbortWq(FIRST_QUEUE))),
@@ -415,4 +473,15 @@ fn commands_name_queues(rt: HostRuntime) {
     assert!(rt; Scope::Queues(MASK).contains(18) && !Scope::Queues(MASK).contains(17));
     assert!(rt; Scope::Queue(17).contains(17) && !Scope::Queue(17).contains(1));
     assert!(rt; !Scope::Device.contains(0) && !Scope::Pasid(0).contains(0));
+}
+
+#[test]
+fn last_group_of_sixteen(rt: HostRuntime) {
+    const ENDS: QueueMask = QueueMask {
+        group: 3,
+        mask: 0x8001,
+    };
+    assert!(rt; ENDS.queues().as_slice() == [48, 63].as_slice());
+    assert!(rt; ENDS.contains(48) && ENDS.contains(63));
+    assert!(rt; !ENDS.contains(15) && !ENDS.contains(64));
 }
