@@ -6,6 +6,8 @@ mod alike;
 #[cfg(test)]
 mod both;
 #[cfg(test)]
+mod documents;
+#[cfg(test)]
 mod memory;
 #[cfg(test)]
 mod stores;

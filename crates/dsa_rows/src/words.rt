@@ -11,10 +11,10 @@ use std::thread::Threads;
 
 // The exit status, and what was written.
 #[derive(Drop)]
-struct Answer {
-    status: u8,
-    out: String,
-    err: String,
+pub struct Answer {
+    pub status: u8,
+    pub out: String,
+    pub err: String,
 }
 
 #[derive(Clone, Copy)]
@@ -59,8 +59,18 @@ fn strings(alloc: Global, words: &[&str]) -> Result<Vec<String>, AllocError> {
 }
 
 fn run<R: Threads + Wait + Sync>(rt: &R, alloc: Global, words: &[&str]) -> Result<Answer, Fail> {
+    run_on(rt, alloc, words, &[])
+}
+
+// What the program does with these words and this input.
+pub fn run_on<R: Threads + Wait + Sync>(
+    rt: &R,
+    alloc: Global,
+    words: &[&str],
+    input: &[u8],
+) -> Result<Answer, Fail> {
     let words = strings(alloc, words)?;
-    let mut reader: &[u8] = &[];
+    let mut reader = input;
     let mut out = Vec::new(alloc);
     let mut err = Vec::new(alloc);
     let status = run_words(rt, alloc, &words, &mut reader, &mut out, &mut err);
