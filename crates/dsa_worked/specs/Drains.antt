@@ -1,4 +1,5 @@
--- Worked histories of the Drain operation: what a Drain waits for, what it does not wait for, and how many an engine takes.
+-- Worked histories of the Drain operation: what a Drain waits for, what it does not wait for, and one at a time on an
+-- engine.
 use Rattle.std.specs.Prelude.{ℕ, List, [], ◌∷◌}
 use Rattle.dsa_desc.specs.declared.Descriptor.{Descriptor}
 use Rattle.dsa_book.specs.declared.answer.DispatchAnswer.TheVariants.{Taken, Idle}
@@ -13,7 +14,7 @@ comes pasid descriptor name = enqcmd_unlimited pasid descriptor (Accepted (ticke
 
 -- ---- what a Drain waits for
 
--- two No-ops and two Drains, of two PASIDs: the first Drain waits for one No-op, and the second for the first Drain's slot
+-- No-ops and Drains of two PASIDs: the first Drain waits for one No-op, and the second is taken after the first ended
 abbrev pub drains_of_two_pasids : List Step
 drains_of_two_pasids =
     comes 5 no_op 0 ∷ comes 6 no_op 1 ∷ comes 5 drain 2 ∷ comes 6 drain 3 ∷ taken 0 0 0 ∷ taken 0 1 1 ∷

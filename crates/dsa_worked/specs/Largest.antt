@@ -2,7 +2,8 @@
 use Rattle.std.specs.Prelude.{ℕ, false, List, [], ◌∷◌, ◌++◌, Option, option_map}
 use Rattle.dsa_regs.specs.Worked.{largest}
 use Rattle.dsa_regs.specs.declared.{Caps.{Caps}, QueueConfig.{QueueConfig}, GroupConfig.{GroupConfig}}
-use Rattle.dsa_regs.specs.declared.{Command.TheVariants.{EnableDevice, EnableWq, DisableWq}, Fault.TheVariants.{BadQueue}}
+use Rattle.dsa_regs.specs.declared.Command.TheVariants.{EnableDevice, EnableWq, DisableWq}
+use Rattle.dsa_regs.specs.declared.Fault.TheVariants.{BadQueue}
 use Rattle.dsa_book.specs.declared.answer.{SubmitAnswer.TheVariants.{Accepted}, WriteAnswer.TheVariants.{Written}}
 use Rattle.dsa_book.specs.declared.answer.{FinishAnswer.{FinishAnswer}, IssueAnswer.TheVariants.{Active}}
 use Rattle.dsa_book.specs.declared.event.{Step.{Step}, Portal.TheVariants.{Limited}, Kind.TheVariants.{Enqcmd}}

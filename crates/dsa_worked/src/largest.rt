@@ -3,7 +3,8 @@
 ghost use Rattle.std.specs.Prelude.{◌≡◌, ◌++◌, [], ◌∷◌, Some, None, Ok, true, false};
 ghost use Rattle.dsa_regs.specs.declared.Command.TheVariants.{DisableWq, EnableWq};
 ghost use Rattle.dsa_regs.specs.declared.Fault.TheVariants.{BadQueue};
-ghost use Rattle.dsa_regs.specs.{Caps.{check_caps, cell_count}, Command.{command_of}};
+ghost use Rattle.dsa_regs.specs.Caps.{check_caps, cell_count};
+ghost use Rattle.dsa_regs.specs.Command.{command_of};
 ghost use Rattle.dsa_book.specs.declared.answer.DispatchAnswer.TheVariants.{Idle};
 ghost use Rattle.dsa_book.specs.declared.answer.FinishAnswer.TheVariants.{Done, NotReady, Full};
 ghost use Rattle.dsa_book.specs.declared.fate.Fate.TheVariants.{Completed};
