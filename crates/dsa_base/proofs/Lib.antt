@@ -6,3 +6,4 @@ pub mod FirstPlaces
 pub mod Renewing
 pub mod Lists
 pub mod Counts
+pub mod Bits

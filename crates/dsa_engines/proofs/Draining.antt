@@ -33,43 +33,43 @@ none-in drain l none = elim (cases_Bool (any_in (waits_for drain) l)) [
 ]
 
 module _ (setup : Setup) {cells : ℕ} (content : Content) (drain : Entry) (store : IsStoreFor setup.caps cells content)
-    where
-  -- one that stands in a queue's list is held
-  pub waits-queued : drain.queue < setup.caps.queues → any_in (waits_for drain) (chain content drain.queue) ≡ true
-      → holds_any (waits_for drain) content ≡ true
-  waits-queued h hit = holds-hit (waits_for drain) content drain.queue (omega (arith, store.lists, h)) hit
+  where
+    -- one that stands in a queue's list is held
+    pub waits-queued : drain.queue < setup.caps.queues → any_in (waits_for drain) (chain content drain.queue) ≡ true
+        → holds_any (waits_for drain) content ≡ true
+    waits-queued h hit = holds-hit (waits_for drain) content drain.queue (omega (arith, store.lists, h)) hit
 
-  -- and one that is in progress
-  pub waits-running : {k : ℕ} → k < setup.caps.engines → waits_on setup content drain k ≡ true
-      → holds_any (waits_for drain) content ≡ true
-  waits-running {k} h hit = holds-hit (waits_for drain) content (setup.caps.queues + k) (omega (arith, store.lists, h)) hit
+    -- and one that is in progress
+    pub waits-running : {k : ℕ} → k < setup.caps.engines → waits_on setup content drain k ≡ true
+        → holds_any (waits_for drain) content ≡ true
+    waits-running {k} h hit = holds-hit (waits_for drain) content (setup.caps.queues + k) (omega (arith, store.lists, h)) hit
 
-  -- where there is none in the Drain's queue, and none in progress, none is held
-  pub waits-nowhere : IsInPlace setup content
-      → (nat_lt drain.queue setup.caps.queues && any_in (waits_for drain) (chain content drain.queue)) ≡ false
-      → list_any (waits_on setup content drain) (numbers_below setup.caps.engines) ≡ false
-      → holds_any (waits_for drain) content ≡ false
-  waits-nowhere placed queued running = holds-nowhere (waits_for drain) content by_list
-    where
-      by_list : (i : ℕ) → i < length content → any_in (waits_for drain) (chain content i) ≡ false
-      by_list i h = elim (cases_lt i setup.caps.queues) [
-        | inl low ↦ elim (cases_eq i drain.queue) [
-          | inl same ↦ rw same (grind (arith, common_steps, queued, low, same))
-          | inr other ↦ none-in drain (chain content i) (λ slot at.
-              let its = placed.queued i slot low at in
-              grind (arith, common_steps, its, other))
+    -- where there is none in the Drain's queue, and none in progress, none is held
+    pub waits-nowhere : IsInPlace setup content
+        → (nat_lt drain.queue setup.caps.queues && any_in (waits_for drain) (chain content drain.queue)) ≡ false
+        → list_any (waits_on setup content drain) (numbers_below setup.caps.engines) ≡ false
+        → holds_any (waits_for drain) content ≡ false
+    waits-nowhere placed queued running = holds-nowhere (waits_for drain) content by_list
+      where
+        by_list : (i : ℕ) → i < length content → any_in (waits_for drain) (chain content i) ≡ false
+        by_list i h = elim (cases_lt i setup.caps.queues) [
+          | inl low ↦ elim (cases_eq i drain.queue) [
+            | inl same ↦ rw same (grind (arith, common_steps, queued, low, same))
+            | inr other ↦ none-in drain (chain content i) (λ slot at.
+                let its = placed.queued i slot low at in
+                grind (arith, common_steps, its, other))
+          ]
+          | inr past ↦ elim (cases_lt i (setup.caps.queues + setup.caps.engines)) [
+            | inl low ↦
+                let k = i - setup.caps.queues in
+                let is : setup.caps.queues + k ≡ i = omega (arith, past) in
+                rw (← is) (numbers_below-miss (waits_on setup content drain) setup.caps.engines k running
+                (omega (arith, past, low)))
+            | inr high ↦
+                let k = i - (setup.caps.queues + setup.caps.engines) in
+                let is : setup.caps.queues + setup.caps.engines + k ≡ i = omega (arith, high) in
+                rw (← is) (none-in drain (chain content (setup.caps.queues + setup.caps.engines + k)) (λ slot at.
+                let its = placed.members k slot (omega (arith, store.lists, h, high)) at in
+                grind (arith, common_steps, its)))
+          ]
         ]
-        | inr past ↦ elim (cases_lt i (setup.caps.queues + setup.caps.engines)) [
-          | inl low ↦
-              let k = i - setup.caps.queues in
-              let is : setup.caps.queues + k ≡ i = omega (arith, past) in
-              rw (← is) (numbers_below-miss (waits_on setup content drain) setup.caps.engines k running
-              (omega (arith, past, low)))
-          | inr high ↦
-              let k = i - (setup.caps.queues + setup.caps.engines) in
-              let is : setup.caps.queues + setup.caps.engines + k ≡ i = omega (arith, high) in
-              rw (← is) (none-in drain (chain content (setup.caps.queues + setup.caps.engines + k)) (λ slot at.
-              let its = placed.members k slot (omega (arith, store.lists, h, high)) at in
-              grind (arith, common_steps, its)))
-        ]
-      ]

@@ -1,9 +1,9 @@
 //! Dispatch: an engine takes an entry from a queue of its group.
 
 ghost use Rattle.std.specs.Prelude.{◌≡◌, ℕ, List, ◌<◌, ◌≢◌, ◌&&◌, ◌||◌, not, is_none, true, false, Some, None, [], length, get_or, slice_get, slice_index, slice_set, cond, IfSome, IfNone, MatchOption};
-ghost use Rattle.std.specs.List.{list_any};
-ghost use Rattle.dsa_base.specs.Numbers.{numbers_below};
+ghost use Rattle.dsa_base.specs.Numbers.{has};
 ghost use Rattle.dsa_regs.specs.Buffers.{fits};
+ghost use Rattle.dsa_regs.specs.Config.{group_at};
 ghost use Rattle.dsa_store.specs.Content.{chain, after_push, without_front};
 ghost use Rattle.dsa_book.specs.declared.fate.FateRow.{FateRow};
 ghost use Rattle.dsa_book.specs.State.{any_in, is_off, need_of, is_batch_of, is_drain_of};
@@ -11,13 +11,20 @@ ghost use Rattle.dsa_book.specs.declared.answer.Reply.TheVariants as reply;
 ghost use Rattle.dsa_book.specs.Choice.{choice_of};
 ghost use Rattle.dsa_book.specs.Work.{qualifies, may_leave, dispatch, progress_list, as_running, opened_note, with_note};
 ghost use Rattle.dsa_queues.specs.Queues.{IsStoreFor};
-ghost use Rattle.dsa_engines.specs.Engines.{work, IsInStep, IsOpen};
+ghost use Rattle.dsa_engines.specs.Engines.{work, IsInStep, IsOpen, IsServed};
 
 use crate::Engines;
 use dsa_book::{BatchNote, DispatchAnswer, Ticket};
 use dsa_queues::Queues;
 use dsa_regs::ListUse;
 use dsa_store::{Cell, Entry, EntryStore, ListId, front_slot, slots};
+
+// A queue that an engine may serve, and its front.
+#[derive(Clone, Copy)]
+struct Served {
+    queue: u16,
+    front: (Cell, Entry),
+}
 
 // The front of one list goes to the end of the other, and runs.
 fn run_front<S: EntryStore>(store: &mut S, from: ListId, to: ListId, front: (Cell, Entry))
@@ -81,7 +88,7 @@ impl Engines {
         ensures { result ≡ (fits self.now.buffers.total self.now.buffers.groups self.now.buffers.used group (need_of queues.now entry.now)
             && (is_none (get_or self.now.notes engine None) || not (is_batch_of queues.now entry.now))
             && not (is_drain_of queues.now entry.now
-                && any_in (is_drain_of queues.now) (chain (S.content store.now) (progress_list queues.now engine)))) }
+            && any_in (is_drain_of queues.now) (chain (S.content store.now) (progress_list queues.now engine)))) }
     {
         if !self.fits(group, queues.need(entry)) {
             return false;
@@ -92,27 +99,30 @@ impl Engines {
         !(queues.is_drain(entry) && is_draining(queues, store, engine))
     }
 
-    // Whether the engine may take the front of the queue.
-    fn qualifies<S: EntryStore>(
+    // The front of the queue, which is one of the group's, where the engine may take it.
+    fn front_to_take<S: EntryStore>(
         &self,
         queues: &Queues,
         store: &S,
         engine: u16,
         group: u16,
         queue: u16,
-    ) -> bool
+    ) -> Option<(Cell, Entry)>
         requires in_step { IsInStep queues.now self.now (S.cells store.now) (S.content store.now) }
         requires group { is_off queues.now.device ≡ false → IsOpen queues.now (S.content store.now) engine group }
-        requires queue { queue < queues.now.caps.queues }
-        ensures { result ≡ qualifies (work queues.now self.now (S.content store.now) []) engine queue }
+        requires served { has (group_at queues.now.groups group).queues queue ≡ true }
+        ensures { MatchOption result
+            (qualifies (work queues.now self.now (S.content store.now) []) engine queue ≡ false)
+            (λ front. IsServed queues.now self.now (S.content store.now) engine queue front) }
     {
-        let Some((_, entry)) = front_slot(store, ListId(queue)) else {
-            return false;
-        };
-        if !queues.has_queue_in(group, queue) {
-            return false;
+        if !queues.has_queue(queue) {
+            return None;
         }
-        self.may_run(queues, store, engine, group, &entry)
+        let (cell, entry) = front_slot(store, ListId(queue))?;
+        if !self.may_run(queues, store, engine, group, &entry) {
+            return None;
+        }
+        Some((cell, entry))
     }
 
     // Whether the queue goes before the other: by priority, and among equals by whose turn is next.
@@ -123,28 +133,55 @@ impl Engines {
         mine > theirs || mine == theirs && queue >= turn && other < turn
     }
 
-    // A queue whose front the engine may take.
+    // The better of the best so far and this queue of the group, whose front is looked at only where it goes before.
+    fn better<S: EntryStore>(
+        &self,
+        queues: &Queues,
+        store: &S,
+        engine: u16,
+        group: u16,
+        best: Option<Served>,
+        queue: u16,
+    ) -> Option<Served>
+        requires in_step { IsInStep queues.now self.now (S.cells store.now) (S.content store.now) }
+        requires group { is_off queues.now.device ≡ false → IsOpen queues.now (S.content store.now) engine group }
+        requires served { has (group_at queues.now.groups group).queues queue ≡ true }
+        requires best { IfSome best (λ served. IsServed queues.now self.now (S.content store.now) engine served.queue served.front) }
+        ensures { MatchOption result
+            ((best ≡ None) × (qualifies (work queues.now self.now (S.content store.now) []) engine queue ≡ false))
+            (λ served. IsServed queues.now self.now (S.content store.now) engine served.queue served.front) }
+    {
+        if let Some(other) = best {
+            if !self.goes_before(queues, group, queue, other.queue) {
+                return best;
+            }
+        }
+        match self.front_to_take(queues, store, engine, group, queue) {
+            Some(front) => Some(Served { queue, front }),
+            None => best,
+        }
+    }
+
+    // A queue whose front the engine may take. Looks at the queues of the group alone.
     fn choose<S: EntryStore>(
         &self,
         queues: &Queues,
         store: &S,
         engine: u16,
         group: u16,
-    ) -> Option<u16>
+    ) -> Option<Served>
         requires in_step { IsInStep queues.now self.now (S.cells store.now) (S.content store.now) }
         requires group { is_off queues.now.device ≡ false → IsOpen queues.now (S.content store.now) engine group }
         ensures { MatchOption result
-            (list_any (qualifies (work queues.now self.now (S.content store.now) []) engine) (numbers_below queues.now.caps.queues) ≡ false)
-            (λ queue. (queue < queues.now.caps.queues) × (qualifies (work queues.now self.now (S.content store.now) []) engine queue ≡ true)) }
+            ((q : ℕ) → qualifies (work queues.now self.now (S.content store.now) []) engine q ≡ false)
+            (λ served. IsServed queues.now self.now (S.content store.now) engine served.queue served.front) }
     {
+        let config = queues.group(group);
         let mut best = None;
-        for queue in 0..queues.caps().queues {
-            if self.qualifies(queues, store, engine, group, queue) {
-                best = match best {
-                    Some(other) if !self.goes_before(queues, group, queue, other) => best,
-                    _ => Some(queue),
-                };
-            }
+        let mut from = 0;
+        while let Some(queue) = config.next_queue(from) {
+            best = self.better(queues, store, engine, group, best, queue);
+            from = queue + 1;
         }
         best
     }
@@ -173,8 +210,8 @@ impl Engines {
     ///
     /// A queue qualifies if its front's read buffers fit the group, and if it is no well-formed Batch or Drain while the
     /// engine works on one. Of those that qualify the one of the highest priority is served, and among equals they take turns.
-    /// `Idle` exactly where none qualifies; so too where all slots of the engine are taken. Looks at the front of each queue,
-    /// and for a Drain at what is in progress.
+    /// `Idle` exactly where none qualifies; so too where all slots of the engine are taken. Looks at the queues of the
+    /// group, at the fronts of those that go before the best so far, and for a Drain at what is in progress.
     pub fn dispatch<S: EntryStore>(
         &mut self,
         queues: &Queues,
@@ -192,12 +229,13 @@ impl Engines {
         let Some(group) = self.open_group(queues, store, engine) else {
             return DispatchAnswer::Idle;
         };
-        let Some(queue) = self.choose(queues, store, engine, group) else {
+        let Some(served) = self.choose(queues, store, engine, group) else {
             return DispatchAnswer::Idle;
         };
-        let Some((cell, entry)) = front_slot(store, ListId(queue)) else {
-            unreachable!();
-        };
+        let Served {
+            queue,
+            front: (cell, entry),
+        } = served;
         let progress = queues.list(ListUse::Progress(engine));
         run_front(store, ListId(queue), progress, (cell, entry));
         self.take(group, queues.need(&entry));

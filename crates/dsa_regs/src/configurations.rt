@@ -1,7 +1,7 @@
 //! What a queue's and a group's configuration say.
 
-ghost use Rattle.std.specs.Prelude.{◌≡◌};
-ghost use Rattle.dsa_base.specs.Numbers.{has};
+ghost use Rattle.std.specs.Prelude.{◌≡◌, ◌<◌, IfSome, MatchOption};
+ghost use Rattle.dsa_base.specs.Numbers.{has, IsNext, NoneFrom};
 
 use crate::{GroupConfig, QueueConfig};
 use dsa_desc::QueueLimits;
@@ -11,6 +11,21 @@ pub(crate) fn has_number(bits: u64, k: u16) -> bool
     ensures { result ≡ has bits k }
 {
     k < 64 && bits >> k & 1 == 1
+}
+
+/// The first number of the set from that one on; no set of 64 bits has one past 63.
+fn next_number(bits: u64, from: u16) -> Option<u16>
+    ensures number { MatchOption result (NoneFrom bits from) (λ n. IsNext bits from n) }
+    ensures within { IfSome result (λ n. n < 64) }
+{
+    if from >= 64 {
+        return None;
+    }
+    let rest = bits >> from;
+    if rest == 0 {
+        return None;
+    }
+    Some(from + rest.trailing_zeros() as u16)
 }
 
 impl QueueConfig {
@@ -33,6 +48,14 @@ impl GroupConfig {
         ensures { result ≡ has self.now.queues queue }
     {
         has_number(self.queues, queue)
+    }
+
+    /// The first queue of the group from that number on.
+    pub fn next_queue(&self, from: u16) -> Option<u16>
+        ensures number { MatchOption result (NoneFrom self.now.queues from) (λ queue. IsNext self.now.queues from queue) }
+        ensures within { IfSome result (λ queue. queue < 64) }
+    {
+        next_number(self.queues, from)
     }
 
     /// Whether the engine is in the group.
