@@ -2,7 +2,8 @@
 use Rattle.std.proofs.Common.{◌≡◌, ℕ, ◌+◌, ◌^◌, ◌<◌, ◌≤◌, true, false, List, [], length, Some, None, ap, subst, refl}
 use Rattle.std.proofs.{lemmas.Bool.{cases_Bool, ltb-false, leb-false, or_parts, not-false}, Common.{arith, ⊎_elim}}
 use Rattle.std.specs.Prelude.{sum_by}
-use Rattle.dsa_base.proofs.NumberSums.{sum-places, sum-equal, sum-split_numbers, sum-plus, sum-same, sum-numbers-le, sum-numbers-each}
+use Rattle.dsa_base.proofs.NumberSums.{sum-places, sum-equal, sum-split_numbers, sum-plus, sum-same, sum-numbers-le}
+use Rattle.dsa_base.proofs.NumberSums.{sum-numbers-each}
 use Rattle.dsa_base.proofs.{NumberSums.{sum-numbers-lt}, Tables.{no-row}}
 use Rattle.dsa_base.specs.{Rows.{first_row}, Numbers.{numbers_below}}
 use Rattle.dsa_regs.specs.declared.{Caps.{Caps}, QueueConfig.{QueueConfig}}

@@ -31,4 +31,5 @@ holds-nowhere test [] none = refl
 holds-nowhere test (l ∷ ls) none =
     let rest = holds-nowhere test ls (λ i h. none (suc i) (omega (arith, h))) in
     let here = none 0 (omega arith) in
-    holds-lists test (l ∷ ls) ∙ ap (λ (b : Bool). b || list_any (any_in test) ls) here ∙ sym (holds-lists test ls) ∙ rest
+    holds-lists test (l ∷ ls) ∙ ap (λ (b : Bool). b || list_any (any_in test) ls) here
+    ∙ sym (holds-lists test ls) ∙ rest

@@ -9,14 +9,16 @@ use Rattle.dsa_regs.specs.declared.{GroupConfig.{GroupConfig}, layout.ListUse.Th
 use Rattle.dsa_regs.specs.{Caps.{list_number}, Config.{group_at}, Buffers.{fits}}
 use Rattle.dsa_store.specs.Content.{Slot, chain, is_cell, after_push, without_front, after_give_back, after_unlink}
 use Rattle.dsa_store.specs.declared.entry.{Cell.{Cell}, Entry.{Entry}}
-use Rattle.dsa_book.specs.State.{Setup, Work, has_queue, is_member, need_of, held_by, status_of, is_batch_of, is_drain_of}
+use Rattle.dsa_book.specs.State.{Setup, Work, has_queue, is_member, need_of, held_by, status_of, is_batch_of}
+use Rattle.dsa_book.specs.State.{is_drain_of}
 use Rattle.dsa_book.specs.declared.answer.FetchAnswer.{FetchAnswer, TheVariants.{Fetched, NoBatch, AllFetched}}
 use Rattle.dsa_book.specs.declared.answer.FinishAnswer.{FinishAnswer, TheVariants.{Done, NotReady, Gone}}
 use Rattle.dsa_book.specs.declared.answer.StartAnswer.TheVariants.{Started, FenceWait, NoBuffers, Abandoned, Nothing}
 use Rattle.dsa_book.specs.declared.answer.{DispatchAnswer.{DispatchAnswer, TheVariants.{Taken, Idle}}, Ticket.{Ticket}}
 use Rattle.dsa_book.specs.declared.fate.{Fate.{Fate, TheVariants.{Completed, Abandoned}}, FateRow.{FateRow}}
 use Rattle.dsa_book.specs.declared.{answer.StartAnswer.{StartAnswer}, note.BatchNote.{BatchNote}}
-use Rattle.dsa_book.specs.{Choice.{Choice, nothing, in_cell, from_queue}, State.{ticket_of, is_ticket, any_in, holds_any}}
+use Rattle.dsa_book.specs.Choice.{Choice, nothing, in_cell, from_queue}
+use Rattle.dsa_book.specs.State.{ticket_of, is_ticket, any_in, holds_any}
 
 -- ---- what an engine has. An engine that the device does not have has nothing
 

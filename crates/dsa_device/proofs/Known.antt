@@ -1,7 +1,8 @@
 -- What the laws of the machine say of a device.
 use Rattle.std.proofs.Common.{◌≡◌, ◌≢◌, ℕ, suc, ◌+◌, ◌^◌, ◌<◌, ◌≤◌, ◌==◌, true, false, List, [], ◌∷◌, length}
 use Rattle.std.proofs.Common.{Option, Some, None, refl, sym, ap, ◌∙◌, arith, get_or}
-use Rattle.std.proofs.lemmas.{Bool.{lt-ltb, ltb-true, eqb-false, not-true, and_parts, cond_both}, List.{get_or-replicate}}
+use Rattle.std.proofs.lemmas.Bool.{lt-ltb, ltb-true, eqb-false, not-true, and_parts, cond_both}
+use Rattle.std.proofs.lemmas.List.{get_or-replicate}
 use Rattle.std.specs.Prelude.{is_none, is_some, filter, not, ◌&&◌, nat_lt}
 use Rattle.dsa_base.{specs.Rows.{passes, when}, proofs.NumberLists.{get_or-each}}
 use Rattle.dsa_regs.specs.{declared.{Phase.{Phase, TheVariants.{Off}}, Caps.{Caps}}, Caps.{cell_count}}

@@ -4,7 +4,8 @@ use Rattle.std.proofs.Common.{[], ◌∷◌, List, inl, inr, sym, ◌∙◌, ari
 use Rattle.std.proofs.lemmas.{Grind.{common_steps}, Bool.{cases_lt, cases_eq, cases_Bool}}
 use Rattle.std.proofs.lemmas.List.Folds.{list_any-append}
 use Rattle.std.specs.List.{list_any}
-use Rattle.dsa_base.{specs.{Lists.{In}, Numbers.{numbers_below}}, proofs.{Lists.{any-In}, NumberLemmas.{numbers_below-miss}}}
+use Rattle.dsa_base.specs.{Lists.{In}, Numbers.{numbers_below}}
+use Rattle.dsa_base.proofs.{Lists.{any-In}, NumberLemmas.{numbers_below-miss}}
 use Rattle.dsa_store.specs.{declared.entry.Entry.{Entry}, Content.{Slot, Content, chain}}
 use Rattle.dsa_book.specs.State.{Setup, any_in, holds_any}
 use Rattle.dsa_book.{specs.Work.{waits_for}, proofs.Held.{holds-hit, holds-nowhere}}
@@ -42,7 +43,8 @@ module _ (setup : Setup) {cells : ℕ} (content : Content) (drain : Entry) (stor
     -- and one that is in progress
     pub waits-running : {k : ℕ} → k < setup.caps.engines → waits_on setup content drain k ≡ true
         → holds_any (waits_for drain) content ≡ true
-    waits-running {k} h hit = holds-hit (waits_for drain) content (setup.caps.queues + k) (omega (arith, store.lists, h)) hit
+    waits-running {k} h hit =
+        holds-hit (waits_for drain) content (setup.caps.queues + k) (omega (arith, store.lists, h)) hit
 
     -- where there is none in the Drain's queue, and none in progress, none is held
     pub waits-nowhere : IsInPlace setup content

@@ -9,7 +9,8 @@ use Rattle.dsa_buffers.specs.Buffers.{Buffers}
 use Rattle.dsa_queues.specs.Queues.{IsStoreFor, IsWhole}
 use Rattle.dsa_book.specs.declared.{note.BatchNote.{BatchNote}, fate.FateRow.{FateRow}}
 use Rattle.dsa_book.specs.State.{Setup, Work, is_off, held_by, is_batch_of, is_member}
-use Rattle.dsa_book.specs.Work.{all_used, group_in, qualifies, progress_list, member_list, batch_on, is_all_fetched, note_at, with_note}
+use Rattle.dsa_book.specs.Work.{all_used, group_in, qualifies, progress_list, member_list, batch_on, is_all_fetched}
+use Rattle.dsa_book.specs.Work.{note_at, with_note}
 
 -- a note or none for each engine, the read buffers of the groups, and the group of each engine (profile)
 pub record Gear : Type 0 where
