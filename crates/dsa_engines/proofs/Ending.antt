@@ -30,15 +30,17 @@ module _ {cells : ℕ} {setup : Setup} {gear : Gear} {content : Content} {e n : 
 
 -- the step, by what the calls answer one after another
 pub finish-done : {setup : Setup} {gave after : Gear} {now : Content} {more : List FateRow} {entry : Entry} {status : ℕ}
-    {new : Option BatchNote} (gear : Gear) (content : Content) (fates : List FateRow) (e n : ℕ) (home : Option ℕ)
+    (gear : Gear) (content : Content) (fates : List FateRow) (e n : ℕ) (home : Option ℕ)
     (t : Ticket) (outcome : Outcome)
     → find (is_ticket t) (running_on (lists_alone setup content) e) ≡ Some (t.cell, entry)
     → must_wait (work setup gear content []) e entry ≡ false
     → status ≡ last_status (work setup gear content []) e (t.cell, entry) outcome
-    → new ≡ note_after (work setup gear content []) e (t.cell, entry) outcome
     → gave ≡ record gear { buffers = buffers_after_return home n gear.buffers }
-    → after ≡ record gave { notes = with_note gave.notes e new } → now ≡ after_unlink content t.cell
+    → after ≡ record gave {
+      notes = with_note gave.notes e (note_after (work setup gave content []) e (t.cell, entry) outcome);
+    }
+    → now ≡ after_unlink content t.cell
     → more ≡ fates ++ record { name = entry.name; parent = entry.parent; fate = Completed status } ∷ []
     → finish (work setup gear content fates) e t outcome ≡ (Done status, work setup after now more)
-finish-done gear content fates e n home t outcome found ready se ne ge ae is me =
-    rw (found, ready, ae, ge, is, me, ne, se) refl
+finish-done gear content fates e n home t outcome found ready se ge ae is me =
+    rw (found, ready, ae, ge, is, me, se) refl

@@ -4,7 +4,7 @@ ghost use Rattle.std.specs.Prelude.{◌≡◌, ℕ, ◌<◌, ◌&&◌, ◌||◌,
 ghost use Rattle.dsa_store.specs.declared.entry.Cell.{Cell};
 ghost use Rattle.dsa_store.specs.Content.{Content, chain};
 ghost use Rattle.dsa_book.specs.State.{is_ticket, any_in};
-ghost use Rattle.dsa_book.specs.Work.{running_on, is_unfinished, waits_for, waits, must_wait, last_status, note_after, finish};
+ghost use Rattle.dsa_book.specs.Work.{running_on, is_unfinished, waits_for, waits, must_wait, last_status, note_after, with_note, finish};
 ghost use Rattle.dsa_queues.specs.Queues.{IsStoreFor};
 ghost use Rattle.dsa_engines.specs.Engines.{work, lists_alone, IsInStep, IsInPlace};
 
@@ -124,6 +124,7 @@ impl Engines {
     }
 
     // The status of an entry that ends.
+    #[inline(always)]
     fn last_status(&self, queues: &Queues, engine: u16, entry: &Entry, outcome: Outcome) -> u8
         ensures { (content : Content) (cell : Cell) → result ≡ last_status (work queues.now self.now content []) engine (cell, entry.now) outcome }
     {
@@ -133,32 +134,30 @@ impl Engines {
         }
     }
 
-    // The engine's note after the entry ends.
-    fn note_after(
-        &self,
-        queues: &Queues,
-        engine: u16,
-        entry: &Entry,
-        outcome: Outcome,
-    ) -> Option<BatchNote>
-        ensures { (content : Content) (cell : Cell) → result ≡ note_after (work queues.now self.now content []) engine (cell, entry.now) outcome }
+    // Writes what the engine's note is after the entry ends, where it changes.
+    #[inline(always)]
+    fn write_note_after(&mut self, queues: &Queues, engine: u16, entry: &Entry, outcome: Outcome)
+        requires { engine < length self.old.notes }
+        ensures { (content : Content) (cell : Cell) → self.new ≡ record self.old {
+          notes = with_note self.old.notes engine
+              (note_after (work queues.now self.old content []) engine (cell, entry.now) outcome);
+        } }
     {
         if queues.is_batch(entry) {
-            return None;
+            self.set_note(engine, None);
+            return;
         }
-        let note = self.note(engine);
-        if entry.parent.is_none() {
-            return note;
+        if entry.parent.is_none() || queues.status(entry, outcome) == 0x01 {
+            return;
         }
-        if queues.status(entry, outcome) == 0x01 {
-            return note;
-        }
-        match note {
-            Some(note) => Some(BatchNote {
-                failed: true,
-                ..note
-            }),
-            None => None,
+        if let Some(note) = self.note(engine) {
+            self.set_note(
+                engine,
+                Some(BatchNote {
+                    failed: true,
+                    ..note
+                }),
+            );
         }
     }
 
@@ -194,9 +193,8 @@ impl Engines {
             return FinishAnswer::NotReady;
         }
         let status = self.last_status(queues, engine, &entry, outcome);
-        let note = self.note_after(queues, engine, &entry, outcome);
         self.give_back(self.home(engine), queues.need(&entry));
-        self.set_note(engine, note);
+        self.write_note_after(queues, engine, &entry, outcome);
         let _ = store.unlink(ticket.cell);
         book.add_row(FateRow {
             name: entry.name,

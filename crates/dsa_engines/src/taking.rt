@@ -74,6 +74,7 @@ impl Engines {
     }
 
     // Whether there are the buffers that the entry needs, and neither a second batch nor a second Drain would be begun.
+    #[inline(always)]
     fn may_run<S: EntryStore>(
         &self,
         queues: &Queues,
@@ -100,6 +101,7 @@ impl Engines {
     }
 
     // The front of the queue, which is one of the group's, where the engine may take it.
+    #[inline(always)]
     fn front_to_take<S: EntryStore>(
         &self,
         queues: &Queues,
