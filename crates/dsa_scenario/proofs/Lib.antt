@@ -1,6 +1,7 @@
 pub mod Accepted
 pub mod Bytes
 pub mod Hex
+pub mod Names
 pub mod OptionNumbers
 pub mod Pushes
 pub mod Records

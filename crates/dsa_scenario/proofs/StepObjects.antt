@@ -1,7 +1,7 @@
 -- One more step object.
-use Rattle.std.proofs.Common.{◌≡◌, ◌<◌, ◌+◌, ℕ, List, [], ◌∷◌, ◌++◌, Some, None, map, length, take, get_or, refl, sym}
+use Rattle.std.proofs.Common.{◌≡◌, ◌<◌, ◌≤◌, ◌+◌, ℕ, List, [], ◌∷◌, ◌++◌, Some, None, map, length, take, get_or, refl, sym}
 use Rattle.std.proofs.Common.{ap, ◌∙◌}
-use Rattle.std.proofs.lemmas.{List.{take_more, length-map, map-append}, Option.{slice_get-map, slice_get_read}}
+use Rattle.std.proofs.lemmas.{List.{take_more, take_all, length-map, map-append}, Option.{slice_get-map, slice_get_read}}
 use Rattle.std.proofs.Math.ListN.{get_or-map}
 use Rattle.serde_json.specs.{View.{view}, declared.value.Value.{Value}}
 use Rattle.dsa_scenario.specs.{declared.actions.Action.{Action}, Actions.{action_of}, Document.{IsBadAt}}
@@ -27,3 +27,10 @@ bad_here vs i v actions inside is asks h = record {
   before = h;
   here = rw (slice_get-map view vs i, slice_get_read vs (length vs) i v refl inside is, ← asks) refl;
 }
+
+-- all step objects are read
+pub all_asked : (vs : List Value) (i : ℕ) (actions : List Action) → length vs ≤ i
+    → map action_of (take i (map view vs)) ≡ map Some actions → map action_of (map view vs) ≡ map Some actions
+all_asked vs i actions past h =
+    let all : take i (map view vs) ≡ map view vs = take_all i (map view vs) (rw (length-map vs view) past) in
+    rw all at h

@@ -68,6 +68,7 @@ fn parse_group_config(object: &Value) -> Option<GroupConfig>
     })
 }
 
+#[inline(always)]
 fn parse_desc(object: &Value) -> Option<Descriptor>
     ensures { result ≡ desc_of (view object.now) }
 {
@@ -76,6 +77,7 @@ fn parse_desc(object: &Value) -> Option<Descriptor>
     Some(Descriptor::parse(&bytes))
 }
 
+#[inline(always)]
 fn portal_of(limited: bool) -> Portal
     ensures { result ≡ portal_of limited }
 {
@@ -86,6 +88,7 @@ fn portal_of(limited: bool) -> Portal
     }
 }
 
+#[inline(always)]
 fn outcome_of(fault: bool) -> Outcome
     ensures { result ≡ outcome_of fault }
 {
@@ -145,6 +148,7 @@ fn parse_movdir(object: &Value) -> Option<Action>
     }))
 }
 
+#[inline(always)]
 fn parse_dispatch(object: &Value) -> Option<Action>
     ensures { result ≡ dispatch_of (view object.now) }
 {
@@ -152,6 +156,7 @@ fn parse_dispatch(object: &Value) -> Option<Action>
     Some(Action::Ask(Event::Dispatch { engine }))
 }
 
+#[inline(always)]
 fn parse_fetch(object: &Value) -> Option<Action>
     ensures { result ≡ fetch_of (view object.now) }
 {
@@ -160,6 +165,7 @@ fn parse_fetch(object: &Value) -> Option<Action>
     Some(Action::Ask(Event::Fetch { engine, desc }))
 }
 
+#[inline(always)]
 fn parse_start(object: &Value) -> Option<Action>
     ensures { result ≡ start_of (view object.now) }
 {
@@ -167,6 +173,7 @@ fn parse_start(object: &Value) -> Option<Action>
     Some(Action::Ask(Event::Start { engine }))
 }
 
+#[inline(always)]
 fn parse_finish(object: &Value) -> Option<Action>
     ensures { result ≡ finish_of (view object.now) }
 {
@@ -180,6 +187,7 @@ fn parse_finish(object: &Value) -> Option<Action>
     })
 }
 
+#[inline(always)]
 fn action_of_word(word: u32) -> Action
     ensures { result ≡ action_of_command (command_of word) }
 {
@@ -189,6 +197,7 @@ fn action_of_word(word: u32) -> Action
     }
 }
 
+#[inline(always)]
 fn parse_command(object: &Value) -> Option<Action>
     ensures { result ≡ command_action_of (view object.now) }
 {

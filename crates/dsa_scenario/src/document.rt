@@ -24,12 +24,12 @@ pub struct Document {
     pub actions: Vec<Action>,
 }
 
-// The three keys of a document.
+/// The three keys of a document.
 #[derive(Drop)]
-struct Head<'v> {
-    caps: Caps,
-    capacity: u64,
-    steps: &'v [Value],
+pub struct Head<'v> {
+    pub caps: Caps,
+    pub capacity: u64,
+    pub steps: &'v [Value],
 }
 
 fn json_fault(error: Error) -> ScenarioFault
@@ -43,7 +43,8 @@ fn json_fault(error: Error) -> ScenarioFault
     }
 }
 
-fn parse_json(alloc: Global, bytes: &[u8]) -> Result<Value, ScenarioFault>
+/// Reads a JSON value.
+pub fn parse_json(alloc: Global, bytes: &[u8]) -> Result<Value, ScenarioFault>
     ensures ok { IfOk result (λ v. IsJson bytes.now (view v)) }
     ensures err { IfErr result (λ e. (e ≡ ScenarioFault.OutOfMemory) ⊎ ((e ≡ ScenarioFault.NotJson) × IsNoJson bytes.now)) }
 {
@@ -53,7 +54,8 @@ fn parse_json(alloc: Global, bytes: &[u8]) -> Result<Value, ScenarioFault>
     }
 }
 
-fn parse_head(document: &Value) -> Option<Head<'_>>
+/// The three keys of a document, where it has them.
+pub fn parse_head(document: &Value) -> Option<Head<'_>>
     ensures { option_map (λ h. (h.caps, h.capacity, items_view h.steps.now)) result ≡ head_of (view document.now) }
 {
     let caps = parse_caps(document.get("caps")?)?;
@@ -66,8 +68,8 @@ fn parse_head(document: &Value) -> Option<Head<'_>>
     })
 }
 
-// What the step objects ask.
-fn parse_actions(alloc: Global, steps: &[Value]) -> Result<Vec<Action>, ScenarioFault>
+/// What the step objects ask.
+pub fn parse_actions(alloc: Global, steps: &[Value]) -> Result<Vec<Action>, ScenarioFault>
     ensures ok { IfOk result (λ actions. map action_of (map view steps.now) ≡ map Some actions.items) }
     ensures bad { IfErr result (λ e. (e ≡ ScenarioFault.OutOfMemory) ⊎ IsFirstBad (map view steps.now) e) }
 {
@@ -98,6 +100,20 @@ pub fn parse_document(alloc: Global, bytes: &[u8]) -> Result<Document, ScenarioF
     })
 }
 
+/// Whether a device can have these capabilities, and a history of this capacity.
+pub fn check_head(caps: &Caps, capacity: u64) -> Result<(), ScenarioFault>
+    ensures caps { OnOk result (check_caps caps.now ≡ true) }
+    ensures capacity { OnOk result (capacity ≤ 2 ^ 20) }
+    ensures bad { IfErr result (λ e. ((e ≡ ScenarioFault.BadCaps) × (check_caps caps.now ≡ false))
+        ⊎ ((e ≡ ScenarioFault.BadCapacity) × (check_caps caps.now ≡ true) × (2 ^ 20 < capacity))) }
+{
+    match check_opening(caps, capacity) {
+        None => Ok(()),
+        Some(MakeFault::BadCaps) => Err(ScenarioFault::BadCaps),
+        Some(_) => Err(ScenarioFault::BadCapacity),
+    }
+}
+
 /// Whether a device can be made as the document says.
 pub fn check_document(document: &Document) -> Result<(), ScenarioFault>
     ensures caps { OnOk result (check_caps document.now.caps ≡ true) }
@@ -105,9 +121,5 @@ pub fn check_document(document: &Document) -> Result<(), ScenarioFault>
     ensures bad { IfErr result (λ e. ((e ≡ ScenarioFault.BadCaps) × (check_caps document.now.caps ≡ false))
         ⊎ ((e ≡ ScenarioFault.BadCapacity) × (check_caps document.now.caps ≡ true) × (2 ^ 20 < document.now.capacity))) }
 {
-    match check_opening(&document.caps, document.capacity) {
-        None => Ok(()),
-        Some(MakeFault::BadCaps) => Err(ScenarioFault::BadCaps),
-        Some(_) => Err(ScenarioFault::BadCapacity),
-    }
+    check_head(&document.caps, document.capacity)
 }

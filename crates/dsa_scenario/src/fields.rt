@@ -8,6 +8,7 @@ ghost use Rattle.dsa_scenario.specs.Fields.{whole_of, truth_of, text_of, hex_byt
 use serde_json::Value;
 
 /// The number at the key, where it is whole and without sign.
+#[inline(always)]
 pub fn u64_field(object: &Value, key: &str) -> Option<u64>
     ensures { result ≡ whole_of (2 ^ 64) key.now (view object.now) }
 {
@@ -15,6 +16,7 @@ pub fn u64_field(object: &Value, key: &str) -> Option<u64>
 }
 
 /// Such a number of 32 bits.
+#[inline(always)]
 pub fn u32_field(object: &Value, key: &str) -> Option<u32>
     ensures { result ≡ whole_of (2 ^ 32) key.now (view object.now) }
 {
@@ -22,6 +24,7 @@ pub fn u32_field(object: &Value, key: &str) -> Option<u32>
 }
 
 /// Such a number of 16 bits.
+#[inline(always)]
 pub fn u16_field(object: &Value, key: &str) -> Option<u16>
     ensures { result ≡ whole_of (2 ^ 16) key.now (view object.now) }
 {
@@ -29,6 +32,7 @@ pub fn u16_field(object: &Value, key: &str) -> Option<u16>
 }
 
 /// Such a number of 8 bits.
+#[inline(always)]
 pub fn u8_field(object: &Value, key: &str) -> Option<u8>
     ensures { result ≡ whole_of (2 ^ 8) key.now (view object.now) }
 {
@@ -36,6 +40,7 @@ pub fn u8_field(object: &Value, key: &str) -> Option<u8>
 }
 
 /// The truth value at the key.
+#[inline(always)]
 pub fn truth_field(object: &Value, key: &str) -> Option<bool>
     ensures { result ≡ truth_of key.now (view object.now) }
 {
@@ -43,6 +48,7 @@ pub fn truth_field(object: &Value, key: &str) -> Option<bool>
 }
 
 // Writes the bytes of a text of hexadecimal digits over the first of `bytes`, and says whether it is one.
+#[inline(always)]
 fn decode_front(text: &str, bytes: &mut [u8]) -> bool
     requires even { length text.now % 2 ≡ 0 }
     requires room { length text.now / 2 ≤ length bytes.old }

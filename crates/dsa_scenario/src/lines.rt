@@ -1,7 +1,7 @@
 //! Lines: one for each step object, and one for each entry that ended.
 
-ghost use Rattle.std.specs.Prelude.{◌≡◌, ◌++◌, OnOk, IfOk, string_bytes, flat_map};
-ghost use Rattle.dsa_scenario.specs.Lines.{cause_text, refusal_text, submit_text, dispatch_text, fetch_text, start_text, finish_text, issue_text, poll_text, write_text, noted_text, clear_text, reply_text, parent_text, fate_text, row_text, record_text, line_of, lines_of};
+ghost use Rattle.std.specs.Prelude.{◌≡◌, ◌++◌, OnOk, string_bytes, flat_map};
+ghost use Rattle.dsa_scenario.specs.Lines.{cause_text, refusal_text, submit_text, dispatch_text, fetch_text, start_text, finish_text, issue_text, poll_text, write_text, noted_text, clear_text, reply_text, parent_text, fate_text, row_text, record_text, line_of};
 
 use crate::run::Record;
 use dsa_book::{
@@ -9,7 +9,7 @@ use dsa_book::{
     NotedError, PollAnswer, Reply, StartAnswer, SubmitAnswer, WriteAnswer,
 };
 use dsa_regs::Fault;
-use std::alloc::{AllocError, Global};
+use std::alloc::AllocError;
 use std::fmt::Write;
 
 fn cause_text(cause: Cause) -> &'static str
@@ -139,6 +139,7 @@ fn add_clear(text: &mut String, answer: ClearAnswer) -> Result<(), AllocError>
     }
 }
 
+#[inline(always)]
 fn add_reply(text: &mut String, reply: Reply) -> Result<(), AllocError>
     ensures { OnOk result (string_bytes text.new ≡ string_bytes text.old ++ reply_text reply) }
 {
@@ -155,7 +156,9 @@ fn add_reply(text: &mut String, reply: Reply) -> Result<(), AllocError>
     }
 }
 
-fn add_record(text: &mut String, entry: &Record) -> Result<(), AllocError>
+/// Adds the line of a record.
+#[inline(always)]
+pub fn add_record(text: &mut String, entry: &Record) -> Result<(), AllocError>
     ensures { OnOk result (string_bytes text.new ≡ string_bytes text.old ++ line_of (record_text entry.now)) }
 {
     match entry {
@@ -195,24 +198,12 @@ fn add_row(text: &mut String, row: &FateRow) -> Result<(), AllocError>
     text.push_str("\n")
 }
 
-// The lines of all records.
-fn render_records(alloc: Global, records: &[Record]) -> Result<String, AllocError>
-    ensures { IfOk result (λ text. string_bytes text ≡ flat_map (λ entry. line_of (record_text entry)) records.now) }
+/// Adds a line for each fate row.
+pub fn add_rows(text: &mut String, fates: &[FateRow]) -> Result<(), AllocError>
+    ensures { OnOk result (string_bytes text.new ≡ string_bytes text.old ++ flat_map (λ row. line_of (row_text row)) fates.now) }
 {
-    let mut text = String::new(alloc);
-    for entry in records {
-        add_record(&mut text, entry)?;
-    }
-    Ok(text)
-}
-
-/// The lines of a run: one for each record, and then one for each fate row.
-pub fn render(alloc: Global, records: &[Record], fates: &[FateRow]) -> Result<String, AllocError>
-    ensures { IfOk result (λ text. string_bytes text ≡ lines_of records.now fates.now) }
-{
-    let mut text = render_records(alloc, records)?;
     for row in fates {
-        add_row(&mut text, row)?;
+        add_row(text, row)?;
     }
-    Ok(text)
+    Ok(())
 }

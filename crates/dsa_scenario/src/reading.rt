@@ -54,8 +54,8 @@ pub fn read_document<R: Read>(alloc: Global, reader: &mut R) -> Result<Vec<u8>, 
         left: MAX_READS,
     };
     let mut bytes = Vec::new(alloc);
+    let mut chunk = [0u8; CHUNK];
     'reads: while bytes.len() <= MAX_DOCUMENT {
-        let mut chunk = [0u8; CHUNK];
         let count = match metered.read(&mut chunk) {
             Ok(count) => count,
             Err(_) => return Err(ScenarioFault::Read),

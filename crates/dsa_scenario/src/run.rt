@@ -1,20 +1,20 @@
-//! A run of a document's actions on a device.
+//! A run of a document's actions on a device, with the lines of each as it is made.
 
-ghost use Rattle.std.specs.Prelude.{◌≡◌, ◌++◌, [], ◌∷◌, map, Some, None, IfOk, OnOk, nat_eq, string_bytes};
-ghost use Rattle.std.specs.HashMap.{get};
-ghost use Rattle.dsa_device.specs.Runs.{IsRunOf};
+ghost use Rattle.std.specs.Prelude.{◌≡◌, ◌++◌, [], ◌∷◌, List, Some, None, IfOk, OnOk, slice_get, filter_map, string_bytes};
 ghost use Rattle.dsa_device.specs.Made.{make_fault};
-ghost use Rattle.dsa_scenario.specs.Run.{given_by, ticket_of, event_of, IsTable, AreOf, steps_of, AreLinesOf};
+ghost use Rattle.dsa_device.specs.Running.{Running};
+ghost use Rattle.dsa_scenario.specs.declared.actions.Action.{Action};
+ghost use Rattle.dsa_scenario.specs.declared.run.Record.{Record};
+ghost use Rattle.dsa_scenario.specs.Run.{given_by, ticket_of, event_of, answered_by, IsTable, Leads, IsRunTo, AreLinesOf};
 
 use crate::actions::Action;
 use crate::document::Document;
-use crate::lines::render;
+use crate::lines::{add_record, add_rows};
 use dsa_book::{Event, FetchAnswer, Reply, Step, SubmitAnswer, Ticket};
 use dsa_device::Device;
 use dsa_regs::Fault;
 use dsa_store::{Cell, EntryStore};
 use std::alloc::{AllocError, Global};
-use std::collections::HashMap;
 
 /// What became of one step object.
 #[derive(Clone, Copy, Debug, PartialEq, Eq)]
@@ -25,6 +25,7 @@ pub enum Record {
     Refused(Fault),
 }
 
+#[inline(always)]
 fn ticket_given(entry: &Record) -> Option<Ticket>
     ensures { result ≡ given_by entry.now }
 {
@@ -38,32 +39,33 @@ fn ticket_given(entry: &Record) -> Option<Ticket>
     }
 }
 
-// The ticket under which the name was given.
-fn ticket_for(tickets: &HashMap<u32, Ticket>, name: u32) -> Ticket
-    ensures { (before : _) → IsTable (get nat_eq tickets.now) before → result ≡ ticket_of before name }
+// The ticket under which the name was given: names are given in turn, and so it stands at its name's place.
+#[inline(always)]
+fn ticket_for(tickets: &[Ticket], name: u32) -> Ticket
+    ensures { (before : _) → IsTable (slice_get tickets.now) before → result ≡ ticket_of before name }
 {
     let unknown = Ticket {
         cell: Cell(0),
         name,
     };
-    tickets.get(&name).copied().unwrap_or(unknown)
+    tickets.get(name as usize).copied().unwrap_or(unknown)
 }
 
 // Notes the ticket that this record gives.
-fn note_ticket(tickets: &mut HashMap<u32, Ticket>, entry: &Record) -> Result<(), AllocError>
-    ensures { OnOk result ((before : _) → IsTable (get nat_eq tickets.old) before → IsTable (get nat_eq tickets.new) (before ++ entry.now ∷ [])) }
+#[inline(always)]
+fn note_ticket(tickets: &mut Vec<Ticket>, entry: &Record) -> Result<(), AllocError>
+    ensures { OnOk result (tickets.new.items ≡ tickets.old.items ++ filter_map given_by (entry.now ∷ [])) }
 {
     if let Some(ticket) = ticket_given(entry) {
-        if !tickets.contains_key(&ticket.name) {
-            tickets.insert(ticket.name, ticket)?;
-        }
+        tickets.push(ticket)?;
     }
     Ok(())
 }
 
 // The event that the action asks for.
-fn event_for(tickets: &HashMap<u32, Ticket>, action: Action) -> Result<Event, Fault>
-    ensures { (before : _) → IsTable (get nat_eq tickets.now) before → result ≡ event_of before action }
+#[inline(always)]
+fn event_for(tickets: &[Ticket], action: Action) -> Result<Event, Fault>
+    ensures { (before : _) → IsTable (slice_get tickets.now) before → result ≡ event_of before action }
 {
     match action {
         Action::Ask(event) => Ok(event),
@@ -80,32 +82,38 @@ fn event_for(tickets: &HashMap<u32, Ticket>, action: Action) -> Result<Event, Fa
     }
 }
 
-/// Asks the device for one action after the other, and keeps what each came to.
-///
-/// A table by name finds the ticket of an entry that is to end, so a step takes the same time however many came before.
-pub fn run_actions<S: EntryStore>(
-    alloc: Global,
-    device: &mut Device<S>,
-    actions: &[Action],
-) -> Result<Vec<Record>, AllocError>
-    ensures of_actions { IfOk result (λ records. AreOf [] actions.now records.items) }
-    ensures run { IfOk result (λ records. IsRunOf device.old (map (λ step. step.event) (steps_of records.items)) [] (steps_of records.items) device.new) }
+// Asks the device for what the action says.
+#[inline(always)]
+fn ask<S: EntryStore>(device: &mut Device<S>, tickets: &[Ticket], action: Action) -> Record
+    ensures answers { (before : _) → IsTable (slice_get tickets.now) before → answered_by result ≡ event_of before action }
+    ensures leads { Leads device.old result device.new }
 {
-    device.state_is_replay();
-    let mut records = Vec::with_capacity(alloc, actions.len())?;
-    let mut tickets = HashMap::new(alloc);
-    for action in actions {
-        let entry = match event_for(&tickets, *action) {
-            Ok(event) => {
-                let reply = device.step(event);
-                Record::Stepped(Step { event, reply })
-            }
-            Err(fault) => Record::Refused(fault),
-        };
-        note_ticket(&mut tickets, &entry)?;
-        records.push(entry)?;
+    match event_for(tickets, action) {
+        Ok(event) => {
+            let reply = device.step(event);
+            Record::Stepped(Step { event, reply })
+        }
+        Err(fault) => Record::Refused(fault),
     }
-    Ok(records)
+}
+
+/// Runs one action more, notes the ticket that it is given, and adds its line.
+///
+/// A ticket is found at the place of its name, so an action takes the same time however many came before.
+#[inline(always)]
+pub fn run_action<S: EntryStore>(
+    device: &mut Device<S>,
+    tickets: &mut Vec<Ticket>,
+    text: &mut String,
+    action: Action,
+) -> Result<(), AllocError>
+    ensures { OnOk result ((first : Running) → (done : List Action)
+        → IsRunTo first done device.old tickets.old.items (string_bytes text.old)
+        → IsRunTo first (done ++ action ∷ []) device.new tickets.new.items (string_bytes text.new)) }
+{
+    let entry = ask(device, tickets, action);
+    note_ticket(tickets, &entry)?;
+    add_record(text, &entry)
 }
 
 /// The lines of a run of the document on a new device over this store, which is to be an empty one with the lists and the
@@ -122,6 +130,12 @@ pub fn run_document<S: EntryStore>(
     let Ok(mut device) = made else {
         return Err(AllocError);
     };
-    let records = run_actions(alloc, &mut device, &document.actions)?;
-    render(alloc, &records, device.fates())
+    device.state_is_replay();
+    let mut tickets = Vec::new(alloc);
+    let mut text = String::new(alloc);
+    for action in &document.actions {
+        run_action(&mut device, &mut tickets, &mut text, *action)?;
+    }
+    add_rows(&mut text, device.fates())?;
+    Ok(text)
 }

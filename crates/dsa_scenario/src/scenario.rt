@@ -1,30 +1,75 @@
 //! A document in, its lines out.
 
-ghost use Rattle.std.specs.Prelude.{◌≡◌, ◌≢◌, ◌⊎◌, ◌≤◌, ◌<◌, ◌^◌, ℕ, List, length, take, OnOk, IfOk, IfErr, IsErrOf, string_bytes};
+ghost use Rattle.std.specs.Prelude.{◌≡◌, ◌≢◌, ◌⊎◌, ◌≤◌, ◌<◌, ◌^◌, ℕ, List, map, Some, None, length, take, OnOk, IfOk, IfErr, IsErrOf, string_bytes};
 ghost use Rattle.std.specs.Io.KnownBytes.{Consumes, IsAtEnd, Appends, Keeps};
-ghost use Rattle.dsa_scenario.specs.Document.{IsFaultOf};
+ghost use Rattle.serde_json.specs.View.{view};
+ghost use Rattle.dsa_device.specs.Made.{make_fault};
+ghost use Rattle.dsa_scenario.specs.declared.actions.Action.{Action};
+ghost use Rattle.dsa_scenario.specs.Actions.{action_of};
+ghost use Rattle.dsa_scenario.specs.Document.{IsFirstBad, IsFaultOf};
+ghost use Rattle.dsa_scenario.specs.Run.{AreLinesOf};
 ghost use Rattle.dsa_scenario.specs.Scenario.{IsRenderingOf};
 
-use crate::document::{check_document, parse_document};
+use crate::actions::parse_action;
+use crate::document::{Head, check_head, parse_actions, parse_head, parse_json};
 use crate::faults::ScenarioFault;
+use crate::lines::add_rows;
 use crate::reading::read_document;
-use crate::run::run_document;
+use crate::run::run_action;
 use crate::writing::write_text;
 use dsa_cells::LinkedStore;
+use dsa_device::Device;
 use dsa_regs::{cell_count, list_count};
+use dsa_store::EntryStore;
 use std::alloc::Global;
 use std::io::{Read, Write};
 
+// The lines of a run of the step objects on a new device over this store. Each is run as soon as it is read.
+fn run_steps<S: EntryStore>(
+    alloc: Global,
+    store: S,
+    head: &Head<'_>,
+) -> Result<String, ScenarioFault>
+    requires { make_fault head.now.caps head.now.capacity (S.cells store) (S.content store) ≡ None }
+    ensures ok { IfOk result (λ text. (actions : List Action) × (map action_of (map view head.now.steps.now) ≡ map Some actions)
+        × AreLinesOf head.now.caps head.now.capacity actions (string_bytes text)) }
+    ensures bad { IfErr result (λ e. (e ≡ ScenarioFault.OutOfMemory) ⊎ IsFirstBad (map view head.now.steps.now) e) }
+{
+    let made = Device::new(alloc, store, head.caps, head.capacity);
+    let Ok(mut device) = made else {
+        return Err(ScenarioFault::OutOfMemory);
+    };
+    device.state_is_replay();
+    let mut tickets = Vec::new(alloc);
+    let mut text = String::new(alloc);
+    for (i, step) in head.steps.iter().enumerate() {
+        match parse_action(step) {
+            Some(action) => run_action(&mut device, &mut tickets, &mut text, action)?,
+            None => return Err(ScenarioFault::BadStep(i as u64)),
+        }
+    }
+    add_rows(&mut text, device.fates())?;
+    Ok(text)
+}
+
 /// The lines of the document in these bytes.
+///
+/// A step object that is none comes before a fault of the device, so all of them are read before that is told.
 pub fn render_document(alloc: Global, bytes: &[u8]) -> Result<String, ScenarioFault>
     ensures ok { IfOk result (λ text. IsRenderingOf bytes.now (string_bytes text)) }
     ensures err { IfErr result (λ e. (e ≡ ScenarioFault.OutOfMemory) ⊎ IsFaultOf bytes.now e) }
 {
-    let document = parse_document(alloc, bytes)?;
-    check_document(&document)?;
-    let lists = list_count(&document.caps);
-    let store = LinkedStore::new(alloc, lists, cell_count(&document.caps))?;
-    let text = run_document(alloc, store, &document)?;
+    let value = parse_json(alloc, bytes)?;
+    let Some(head) = parse_head(&value) else {
+        return Err(ScenarioFault::BadDocument);
+    };
+    if let Err(fault) = check_head(&head.caps, head.capacity) {
+        parse_actions(alloc, head.steps)?;
+        return Err(fault);
+    }
+    let lists = list_count(&head.caps);
+    let store = LinkedStore::new(alloc, lists, cell_count(&head.caps))?;
+    let text = run_steps(alloc, store, &head)?;
     Ok(text)
 }
 
