@@ -6,7 +6,8 @@ use Rattle.dsa_base.proofs.Tables.{table1, table3}
 use Rattle.dsa_desc.specs.declared.Descriptor.{Descriptor}
 use Rattle.dsa_store.specs.{Content.{Slot}, declared.entry.Cell.{Cell}}
 use Rattle.dsa_book.specs.declared.answer.{Ticket.{Ticket}, Cause.{Cause, TheVariants.{NotEnabled, WrongKind, AtLimit}}}
-use Rattle.dsa_book.specs.declared.answer.{FetchAnswer.TheVariants.{AllFetched}, Reply.{Reply, TheVariants.{Submit, Fetch}}}
+use Rattle.dsa_book.specs.declared.answer.FetchAnswer.TheVariants.{AllFetched}
+use Rattle.dsa_book.specs.declared.answer.Reply.{Reply, TheVariants.{Submit, Fetch}}
 use Rattle.dsa_book.specs.declared.event.{Event.{Event}, Portal.{Portal}, Kind.{Kind, TheVariants.{Enqcmd, Movdir64b}}}
 use Rattle.dsa_book.specs.declared.note.BatchNote.{BatchNote}
 use Rattle.dsa_book.specs.{Choice.{Choice, cell_of}, State.{State}, Submit.{after_refusal, after_accept, submit}}

@@ -76,7 +76,8 @@ one_more first now new actions a seen tickets more lines longer entry answers al
       run = on.run;
       replay = on.replay;
       table = IsTable-noted tickets more h.records entry h.table (rw h.in_turn named.0) noted;
-      in_turn = ap length noted ∙ length-append tickets (filter_map given_by (entry ∷ [])) ∙ omega (arith, h.in_turn, named.1);
+      in_turn = ap length noted ∙ length-append tickets (filter_map given_by (entry ∷ []))
+          ∙ omega (arith, h.in_turn, named.1);
       rendered = line ∙ ap (λ text. text ++ line_of (record_text entry)) h.rendered
           ∙ flat_map_more (λ entry. line_of (record_text entry)) [] h.records entry;
     }

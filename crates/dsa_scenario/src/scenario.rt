@@ -21,8 +21,17 @@ use dsa_cells::LinkedStore;
 use dsa_device::Device;
 use dsa_regs::{cell_count, list_count};
 use dsa_store::EntryStore;
+use serde_json::Value;
 use std::alloc::Global;
 use std::io::{Read, Write};
+
+// The lines of a document, and its JSON value, which is let go after them: where a large block comes back, an allocator
+// looks at all small ones that are free, and the value is of many.
+#[derive(Drop)]
+struct Rendering {
+    text: String,
+    _document: Value,
+}
 
 // The lines of a run of the step objects on a new device over this store. Each is run as soon as it is read.
 fn run_steps<S: EntryStore>(
@@ -52,11 +61,11 @@ fn run_steps<S: EntryStore>(
     Ok(text)
 }
 
-/// The lines of the document in these bytes.
-///
-/// A step object that is none comes before a fault of the device, so all of them are read before that is told.
-pub fn render_document(alloc: Global, bytes: &[u8]) -> Result<String, ScenarioFault>
-    ensures ok { IfOk result (λ text. IsRenderingOf bytes.now (string_bytes text)) }
+// The lines of the document in these bytes.
+//
+// A step object that is none comes before a fault of the device, so all of them are read before that is told.
+fn render(alloc: Global, bytes: &[u8]) -> Result<Rendering, ScenarioFault>
+    ensures ok { IfOk result (λ r. IsRenderingOf bytes.now (string_bytes r.text)) }
     ensures err { IfErr result (λ e. (e ≡ ScenarioFault.OutOfMemory) ⊎ IsFaultOf bytes.now e) }
 {
     let value = parse_json(alloc, bytes)?;
@@ -70,7 +79,19 @@ pub fn render_document(alloc: Global, bytes: &[u8]) -> Result<String, ScenarioFa
     let lists = list_count(&head.caps);
     let store = LinkedStore::new(alloc, lists, cell_count(&head.caps))?;
     let text = run_steps(alloc, store, &head)?;
-    Ok(text)
+    Ok(Rendering {
+        text,
+        _document: value,
+    })
+}
+
+/// The lines of the document in these bytes.
+pub fn render_document(alloc: Global, bytes: &[u8]) -> Result<String, ScenarioFault>
+    ensures ok { IfOk result (λ text. IsRenderingOf bytes.now (string_bytes text)) }
+    ensures err { IfErr result (λ e. (e ≡ ScenarioFault.OutOfMemory) ⊎ IsFaultOf bytes.now e) }
+{
+    let rendering = render(alloc, bytes)?;
+    Ok(rendering.text)
 }
 
 /// Reads one document to the end of input, runs it and writes its lines.
@@ -110,6 +131,6 @@ pub fn run_scenario<R: Read, W: Write>(
         × Consumes (R.remaining reader.old) (R.remaining reader.new) bytes × (2 ^ 20 < length bytes) }
 {
     let bytes = read_document(alloc, reader)?;
-    let text = render_document(alloc, &bytes)?;
-    write_text(writer, text.as_bytes())
+    let rendering = render(alloc, &bytes)?;
+    write_text(writer, rendering.text.as_bytes())
 }

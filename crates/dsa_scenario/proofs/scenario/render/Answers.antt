@@ -1,4 +1,4 @@
-use Rattle.dsa_scenario.proofs.scenario.render_document.Goals as goal
+use Rattle.dsa_scenario.proofs.scenario.render.Goals as goal
 use Rattle.std.proofs.lemmas.Result.{err_from_is_err_and}
 use Rattle.dsa_device.proofs.NewStore.{new-make_fault}
 use Rattle.dsa_scenario.proofs.Whole.{has_head, first_bad, bad_head}
