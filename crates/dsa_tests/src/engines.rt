@@ -1,6 +1,10 @@
 //! Engines over a store of vectors.
 
-ghost use Rattle.dsa_engines.specs.Engines.{IsInStep};
+ghost use Rattle.std.specs.Prelude.{◌≡◌, ◌<◌, ◌==◌, not, length};
+ghost use Rattle.dsa_store.specs.Content.{chain};
+ghost use Rattle.dsa_book.specs.State.{any_in, is_member};
+ghost use Rattle.dsa_queues.specs.Queues.{IsStoreFor};
+ghost use Rattle.dsa_engines.specs.Engines.{IsInStep, IsInPlace};
 
 use crate::setup::enabled;
 use dsa_book::{
@@ -11,7 +15,7 @@ use dsa_engines::Engines;
 use dsa_fixtures::{CELLS, DRAIN, LARGE_MOVE, LISTS, MOVE, batch_of};
 use dsa_queues::Queues;
 use dsa_regs::{GroupConfig, Phase, cell_count, check_device, list_count};
-use dsa_store::{Cell, Entry, EntryStore, ListId, PlainStore};
+use dsa_store::{Cell, Entry, EntryStore, ListId, PlainStore, slots};
 use std::process::Abort;
 use std::test::Fail;
 
@@ -95,6 +99,35 @@ fn start_one<S: EntryStore>(
     engines.start(queues, store, book, 0)
 }
 
+// Whether an entry in the queue names another one.
+fn is_misplaced<S: EntryStore>(store: &S, queue: u16) -> bool
+    requires { queue < length (S.content store.now) }
+    ensures { result ≡ any_in (λ entry. not (entry.queue == queue)) (chain (S.content store.now) queue) }
+{
+    slots(store, ListId(queue)).any(|slot| slot.1.queue != queue)
+}
+
+// Whether an entry in the list is no member of a batch.
+fn has_submitted<S: EntryStore>(store: &S, list: ListId) -> bool
+    requires { list.0 < length (S.content store.now) }
+    ensures { result ≡ any_in (λ entry. not (is_member entry)) (chain (S.content store.now) list.0) }
+{
+    slots(store, list).any(|slot| slot.1.parent.is_none())
+}
+
+// What waits in a queue names it, and what stands with the members of an engine is one.
+fn see_places<S: EntryStore>(rt: &impl Abort, queues: &Queues, store: &S)
+    requires { IsStoreFor queues.now.caps (S.cells store.now) (S.content store.now) }
+    ensures { IsInPlace queues.now (S.content store.now) }
+{
+    let caps = queues.caps();
+    assert!(rt; caps.queues == 2 && caps.engines == 2);
+    assert!(rt; !is_misplaced(store, 0));
+    assert!(rt; !is_misplaced(store, 1));
+    assert!(rt; !has_submitted(store, ListId(4)));
+    assert!(rt; !has_submitted(store, ListId(5)));
+}
+
 // Ends the entry of the ticket, whose work went so.
 fn end<S: EntryStore>(
     rt: &impl Abort,
@@ -108,6 +141,7 @@ fn end<S: EntryStore>(
     requires { IsInStep queues.now engines.old (S.cells store.old) (S.content store.old) }
     ensures { IsInStep queues.now engines.new (S.cells store.new) (S.content store.new) }
 {
+    see_places(rt, queues, store);
     assert!(rt; book.fates().len() < book.capacity());
     engines.finish(queues, store, book, 0, ticket, outcome)
 }

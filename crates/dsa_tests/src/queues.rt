@@ -160,6 +160,9 @@ fn causes_come_in_order(rt: HostRuntime) -> Result<(), Fail> {
 fn occupancies<S: EntryStore>(rt: &impl Abort, queues: &Queues, store: &S) -> [Option<u16>; 3] {
     let caps = queues.caps();
     assert!(rt; store.lists() == list_count(&caps) && store.cells() == cell_count(&caps));
+    assert!(rt; store.lists() == LISTS);
+    assert!(rt; store.len(ListId(0)) <= CELLS && store.len(ListId(1)) <= CELLS);
+    assert!(rt; store.len(ListId(2)) <= CELLS);
     [
         queues.occupancy(store, 0),
         queues.occupancy(store, 1),
