@@ -6,7 +6,7 @@ use crate::stage::Stage;
 use crate::stores::{Trial, over_both_stores};
 use dsa_book::{IssueAnswer, Kind, Portal, WriteAnswer};
 use dsa_desc::{Descriptor, Outcome};
-use dsa_fixtures::{DRAIN, FENCED_MOVE, FENCED_NO_OP, MOVE, NO_OP, batch_of, bytes_of};
+use dsa_fixtures::{FENCED_MOVE, FENCED_NO_OP, MOVE, NO_OP, batch_of, bytes_of};
 use dsa_regs::{Caps, Command, GroupConfig, QueueConfig, QueueMask};
 use dsa_shared::{AdminSeat, ClientSeat, SharedDevice, Sharing};
 use dsa_store::EntryStore;
@@ -90,11 +90,10 @@ fn commands() -> [Command; 12] {
 
 // The descriptor at a place of a client's script.
 fn desc_at(place: usize) -> Descriptor {
-    match place % 6 {
+    match place % 5 {
         0 => batch_of(3),
         1 | 2 => MOVE,
         3 => batch_of(1),
-        4 => DRAIN,
         _ => NO_OP,
     }
 }
