@@ -2,7 +2,7 @@
 use Rattle.std.proofs.Common.{◌≡◌, ℕ, zero, suc, ◌+◌, ◌<◌, Bool, true, false, not, cond, ◌&&◌, ◌||◌, nat_lt}
 use Rattle.std.proofs.Common.{List, [], ◌∷◌, ◌++◌, drop, length, set, get_or, Option, Some, None, slice_get, is_none}
 use Rattle.std.proofs.Common.{refl, sym, ◌∙◌, inl, inr, arith}
-use Rattle.std.proofs.lemmas.{Grind.{common_steps}, Bool.{cases_Bool, cases_lt, cases_eq, and_parts, lt-ltb}}
+use Rattle.std.proofs.lemmas.{Grind.{common_steps}, Bool.{cases_Bool, cases_lt, cases_eq, and_parts, lt-ltb, ltb-true}}
 use Rattle.std.proofs.lemmas.List.{get_or-set_same, get_or-set_other, length-set, nil_from_length}
 use Rattle.std.proofs.lemmas.List.Folds.{list_any-append}
 use Rattle.std.specs.{Prelude.{IfSome, MatchOption}, Option.{IfNone}, List.{list_any}}
@@ -12,8 +12,7 @@ use Rattle.dsa_store.specs.Content.{Slot, Content, chain, after_push, without_fr
 use Rattle.dsa_store.proofs.Lists.{length-le-held, length-pushed}
 use Rattle.dsa_book.specs.{State.{Setup, any_in, is_off, need_of, is_batch_of, is_drain_of}}
 use Rattle.dsa_book.specs.Work.{progress_list, qualifies, group_in, as_running, with_note, opened_note}
-use Rattle.dsa_engines.specs.declared.taking.Served.{Served}
-use Rattle.dsa_engines.specs.Engines.{Gear, work, IsInStep, IsOpen, IsServed}
+use Rattle.dsa_engines.specs.Engines.{Gear, work, IsInStep, IsOpen}
 use Rattle.dsa_engines.proofs.{Homes.{home-of}, Keeping.{awake-found, in_step-moved}}
 use Rattle.dsa_engines.proofs.Used.{load-push, HoldsMore, taken-of}
 
@@ -54,11 +53,16 @@ none-below p (suc N) h =
     let here = h N in
     grind (arith, common_steps, list_any-append p (numbers_below N) (N ∷ []), none-below p N h, here)
 
--- the best so far of the queues below n: one that the engine may serve, or none qualifies
-abbrev pub IsBest : Setup → Gear → Content → ℕ → ℕ → Option Served → Type 0
+-- what qualifies is a queue of the device
+pub qualifying-queue : (setup : Setup) (gear : Gear) (content : Content) (e q : ℕ)
+    → qualifies (work setup gear content []) e q ≡ true → q < setup.caps.queues
+qualifying-queue setup gear content e q h = ltb-true q setup.caps.queues (and_parts _ _ (and_parts _ _ h).0).1
+
+-- the best so far of the queues below n: one that qualifies, or none does
+abbrev pub IsBest : Setup → Gear → Content → ℕ → ℕ → Option ℕ → Type 0
 IsBest setup gear content e n best =
     MatchOption best ((q : ℕ) → q < n → qualifies (work setup gear content []) e q ≡ false)
-    (λ served. IsServed setup gear content e served.queue served.front)
+    (λ queue. qualifies (work setup gear content []) e queue ≡ true)
 
 module _ {cells : ℕ} {setup : Setup} {gear : Gear} {content : Content} {e g : ℕ}
     (s : IsInStep setup gear cells content) (group : is_off setup.device ≡ false → IsOpen setup content e g) where
@@ -72,28 +76,27 @@ module _ {cells : ℕ} {setup : Setup} {gear : Gear} {content : Content} {e g : 
     | inr on ↦ rw ((group on).home, other) (grind (arith, common_steps))
   ]
 
-  -- one more queue of the group, with those before it that are not the group's
-  pub next-best : {from queue : ℕ} (best more : Option Served) → IsBest setup gear content e from best
+  -- one more queue of the group, with those before it that are not the group's, where it does not qualify
+  pub next-best : {from queue : ℕ} (best : Option ℕ) → IsBest setup gear content e from best
       → IsNext (group_at setup.groups g).queues from queue
-      → MatchOption more ((best ≡ None) × (qualifies (work setup gear content []) e queue ≡ false))
-      (λ served. IsServed setup gear content e served.queue served.front)
-      → IsBest setup gear content e (queue + 1) more
-  next-best best (Some served) before next better = better
-  next-best {from = from} {queue = queue} best None before next better = λ q low.
+      → (best ≡ None → false ≡ qualifies (work setup gear content []) e queue)
+      → IsBest setup gear content e (queue + 1) best
+  next-best (Some other) before next none = before
+  next-best {from = from} {queue = queue} None before next none = λ q low.
       elim (cases_lt q from) [
-        | inl below ↦ (rw better.0 at before) q below
+        | inl below ↦ before q below
         | inr past ↦ elim (cases_eq q queue) [
-          | inl same ↦ rw same better.1
+          | inl same ↦ rw same (sym (none refl))
           | inr other ↦ not-served q (next.first q past (omega (arith, low, other)))
         ]
       ]
 
   -- with none from there on, that is all
-  pub last-best : {from : ℕ} (best : Option Served) → IsBest setup gear content e from best
+  pub last-best : {from : ℕ} (best : Option ℕ) → IsBest setup gear content e from best
       → NoneFrom (group_at setup.groups g).queues from
       → MatchOption best ((q : ℕ) → qualifies (work setup gear content []) e q ≡ false)
-      (λ served. IsServed setup gear content e served.queue served.front)
-  last-best (Some served) before none = before
+      (λ queue. qualifies (work setup gear content []) e queue ≡ true)
+  last-best (Some queue) before none = before
   last-best {from = from} None before none = λ q.
       elim (cases_lt q from) [ inl below ↦ before q below | inr past ↦ not-served q (none q past) ]
 

@@ -1,6 +1,6 @@
 -- What the engines keep beside the lists, and how it agrees with them.
 use Rattle.std.specs.Prelude.{◌≡◌, ℕ, ◌-◌, ◌<◌, ◌≤◌, true, false, Bool, not, ◌&&◌, is_some, cond, List, ◌∷◌, length}
-use Rattle.std.specs.Prelude.{map, filter, replicate, get_or, slice_get, slice_index, slice_set, Option, Some, None, []}
+use Rattle.std.specs.Prelude.{map, filter, replicate, get_or, slice_index, slice_set, Option, Some, None, []}
 use Rattle.dsa_base.specs.{Rows.{passes}, Numbers.{numbers_below}, Lists.{In}}
 use Rattle.dsa_regs.specs.declared.{Caps.{Caps}, layout.ListUse.{ListUse, TheVariants.{Queue, Progress, Members}}}
 use Rattle.dsa_regs.specs.{Caps.{engine_of}, Config.{check_device}}
@@ -9,7 +9,7 @@ use Rattle.dsa_buffers.specs.Buffers.{Buffers}
 use Rattle.dsa_queues.specs.Queues.{IsStoreFor, IsWhole}
 use Rattle.dsa_book.specs.declared.{note.BatchNote.{BatchNote}, fate.FateRow.{FateRow}}
 use Rattle.dsa_book.specs.State.{Setup, Work, is_off, held_by, is_batch_of, is_member}
-use Rattle.dsa_book.specs.Work.{all_used, group_in, qualifies, progress_list, member_list, batch_on, is_all_fetched}
+use Rattle.dsa_book.specs.Work.{all_used, group_in, progress_list, member_list, batch_on, is_all_fetched}
 use Rattle.dsa_book.specs.Work.{note_at, with_note}
 
 -- a note or none for each engine, the read buffers of the groups, and the group of each engine (profile)
@@ -118,12 +118,6 @@ pub record IsOpen (setup : Setup) (content : Content) (e g : ℕ) : Type 0 where
   pub engine : e < setup.caps.engines
   pub home : group_in setup.groups e ≡ Some g
   pub slot : length (chain content (progress_list setup e)) < setup.caps.slots
-
--- the device has the queue, the engine may take its front, and this is the front
-pub record IsServed (setup : Setup) (gear : Gear) (content : Content) (e q : ℕ) (front : Slot) : Type 0 where
-  pub queue : q < setup.caps.queues
-  pub qualifies : qualifies (work setup gear content []) e q ≡ true
-  pub is_front : slice_get (chain content q) 0 ≡ Some front
 
 -- where the first of them waits, none runs
 abbrev pub WaitInOrder : List Slot → Type 0

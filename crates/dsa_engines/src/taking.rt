@@ -11,20 +11,13 @@ ghost use Rattle.dsa_book.specs.declared.answer.Reply.TheVariants as reply;
 ghost use Rattle.dsa_book.specs.Choice.{choice_of};
 ghost use Rattle.dsa_book.specs.Work.{qualifies, may_leave, dispatch, progress_list, as_running, opened_note, with_note};
 ghost use Rattle.dsa_queues.specs.Queues.{IsStoreFor};
-ghost use Rattle.dsa_engines.specs.Engines.{work, IsInStep, IsOpen, IsServed};
+ghost use Rattle.dsa_engines.specs.Engines.{work, IsInStep, IsOpen};
 
 use crate::Engines;
 use dsa_book::{BatchNote, DispatchAnswer, Ticket};
 use dsa_queues::Queues;
 use dsa_regs::ListUse;
 use dsa_store::{Cell, Entry, EntryStore, ListId, front_slot, slots};
-
-// A queue that an engine may serve, and its front.
-#[derive(Clone, Copy)]
-struct Served {
-    queue: u16,
-    front: (Cell, Entry),
-}
 
 // The front of one list goes to the end of the other, and runs.
 fn run_front<S: EntryStore>(store: &mut S, from: ListId, to: ListId, front: (Cell, Entry))
@@ -100,34 +93,32 @@ impl Engines {
         !(queues.is_drain(entry) && is_draining(queues, store, engine))
     }
 
-    // The front of the queue, which is one of the group's, where the engine may take it.
+    // Whether the engine may take the front of the queue, which is one of the group's.
     #[inline(always)]
-    fn front_to_take<S: EntryStore>(
+    fn qualifies<S: EntryStore>(
         &self,
         queues: &Queues,
         store: &S,
         engine: u16,
         group: u16,
         queue: u16,
-    ) -> Option<(Cell, Entry)>
+    ) -> bool
         requires in_step { IsInStep queues.now self.now (S.cells store.now) (S.content store.now) }
         requires group { is_off queues.now.device ≡ false → IsOpen queues.now (S.content store.now) engine group }
         requires served { has (group_at queues.now.groups group).queues queue ≡ true }
-        ensures { MatchOption result
-            (qualifies (work queues.now self.now (S.content store.now) []) engine queue ≡ false)
-            (λ front. IsServed queues.now self.now (S.content store.now) engine queue front) }
+        ensures { result ≡ qualifies (work queues.now self.now (S.content store.now) []) engine queue }
     {
         if !queues.has_queue(queue) {
-            return None;
+            return false;
         }
-        let (cell, entry) = front_slot(store, ListId(queue))?;
-        if !self.may_run(queues, store, engine, group, &entry) {
-            return None;
-        }
-        Some((cell, entry))
+        let Some((_, entry)) = front_slot(store, ListId(queue)) else {
+            return false;
+        };
+        self.may_run(queues, store, engine, group, &entry)
     }
 
     // Whether the queue goes before the other: by priority, and among equals by whose turn is next.
+    #[inline(always)]
     fn goes_before(&self, queues: &Queues, group: u16, queue: u16, other: u16) -> bool {
         let mine = queues.priority(queue);
         let theirs = queues.priority(other);
@@ -135,33 +126,29 @@ impl Engines {
         mine > theirs || mine == theirs && queue >= turn && other < turn
     }
 
-    // The better of the best so far and this queue of the group, whose front is looked at only where it goes before.
-    fn better<S: EntryStore>(
+    // Whether this queue of the group is better than the best so far. Its front is looked at only where it goes before.
+    #[inline(always)]
+    fn is_better<S: EntryStore>(
         &self,
         queues: &Queues,
         store: &S,
         engine: u16,
         group: u16,
-        best: Option<Served>,
+        best: Option<u16>,
         queue: u16,
-    ) -> Option<Served>
+    ) -> bool
         requires in_step { IsInStep queues.now self.now (S.cells store.now) (S.content store.now) }
         requires group { is_off queues.now.device ≡ false → IsOpen queues.now (S.content store.now) engine group }
         requires served { has (group_at queues.now.groups group).queues queue ≡ true }
-        requires best { IfSome best (λ served. IsServed queues.now self.now (S.content store.now) engine served.queue served.front) }
-        ensures { MatchOption result
-            ((best ≡ None) × (qualifies (work queues.now self.now (S.content store.now) []) engine queue ≡ false))
-            (λ served. IsServed queues.now self.now (S.content store.now) engine served.queue served.front) }
+        ensures better { result ≡ true → qualifies (work queues.now self.now (S.content store.now) []) engine queue ≡ true }
+        ensures first { best ≡ None → result ≡ qualifies (work queues.now self.now (S.content store.now) []) engine queue }
     {
         if let Some(other) = best {
-            if !self.goes_before(queues, group, queue, other.queue) {
-                return best;
+            if !self.goes_before(queues, group, queue, other) {
+                return false;
             }
         }
-        match self.front_to_take(queues, store, engine, group, queue) {
-            Some(front) => Some(Served { queue, front }),
-            None => best,
-        }
+        self.qualifies(queues, store, engine, group, queue)
     }
 
     // A queue whose front the engine may take. Looks at the queues of the group alone.
@@ -171,18 +158,20 @@ impl Engines {
         store: &S,
         engine: u16,
         group: u16,
-    ) -> Option<Served>
+    ) -> Option<u16>
         requires in_step { IsInStep queues.now self.now (S.cells store.now) (S.content store.now) }
         requires group { is_off queues.now.device ≡ false → IsOpen queues.now (S.content store.now) engine group }
         ensures { MatchOption result
             ((q : ℕ) → qualifies (work queues.now self.now (S.content store.now) []) engine q ≡ false)
-            (λ served. IsServed queues.now self.now (S.content store.now) engine served.queue served.front) }
+            (λ queue. qualifies (work queues.now self.now (S.content store.now) []) engine queue ≡ true) }
     {
         let config = queues.group(group);
         let mut best = None;
         let mut from = 0;
         while let Some(queue) = config.next_queue(from) {
-            best = self.better(queues, store, engine, group, best, queue);
+            if self.is_better(queues, store, engine, group, best, queue) {
+                best = Some(queue);
+            }
             from = queue + 1;
         }
         best
@@ -231,13 +220,12 @@ impl Engines {
         let Some(group) = self.open_group(queues, store, engine) else {
             return DispatchAnswer::Idle;
         };
-        let Some(served) = self.choose(queues, store, engine, group) else {
+        let Some(queue) = self.choose(queues, store, engine, group) else {
             return DispatchAnswer::Idle;
         };
-        let Served {
-            queue,
-            front: (cell, entry),
-        } = served;
+        let Some((cell, entry)) = front_slot(store, ListId(queue)) else {
+            unreachable!();
+        };
         let progress = queues.list(ListUse::Progress(engine));
         run_front(store, ListId(queue), progress, (cell, entry));
         self.take(group, queues.need(&entry));

@@ -1,20 +1,15 @@
 use Rattle.dsa_engines.proofs.engines.Engines.choose.Goals as goal
-use Rattle.std.proofs.Common.{arith}
+use Rattle.std.proofs.Common.{◌∙◌, sym}
 use Rattle.dsa_engines.proofs.Dispatching.{next-best, last-best}
+use Rattle.dsa_engines.proofs.engines.Engines.choose.Goals.{then-is_better, else-is_better}
 
 pub loop-queue-preserved : goal.loop-queue-preserved
-loop-queue-preserved g c =
-    next-best c.requires.in_step c.requires.group c.loop-queue.best c.better-best.result c.loop-queue.invariant
-    (rw (← c.group-config.ensures) c.in-Some.ensures.number) c.better-best.ensures
-
-pub better-best-requires-clause-served : goal.better-best-requires-clause-served
-better-best-requires-clause-served g c = rw (← c.group-config.ensures) c.in-Some.ensures.number.in_the_set
-
-pub overflow_add-from : goal.overflow_add-from
-overflow_add-from g c = omega (arith, c.in-Some.ensures.within)
-
-pub loop-queue-smaller : goal.loop-queue-smaller
-loop-queue-smaller g c = omega (arith, c.in-Some.ensures.within, c.in-Some.ensures.number.from_there)
+loop-queue-preserved g c = elim c.if-is_better.branch [
+  | then-is_better w ↦ rw w.best-is (c.is_better.ensures.better w.if-is_better.true)
+  | else-is_better w ↦ rw w.best-is (next-best c.requires.in_step c.requires.group c.loop-queue.best
+      c.loop-queue.invariant (rw (← c.group-config.ensures) c.in-Some.ensures.number)
+      (λ none. sym w.if-is_better.false ∙ c.is_better.ensures.first none))
+]
 
 pub returns : goal.returns
 returns g c =
