@@ -1,7 +1,8 @@
 -- A list made of a function of the numbers below a bound.
-use Rattle.std.proofs.Common.{◌≡◌, ◌≢◌, ℕ, zero, suc, ◌+◌, ◌<◌, ◌≤◌, List, [], ◌∷◌, length, map, replicate, set, get_or}
+use Rattle.std.proofs.Common.{◌≡◌, ◌≢◌, ℕ, zero, suc, ◌+◌, ◌-◌, ◌<◌, ◌≤◌, List, [], ◌∷◌, length, map, replicate, set, get_or}
 use Rattle.std.proofs.lemmas.Grind.{common_steps}
 use Rattle.std.proofs.lemmas.List.{ext_get_or, get_or-map, length-map, length-replicate, length-set, map-append}
+use Rattle.std.proofs.lemmas.List.{get_or-set_same, set-set, set-get_or}
 use Rattle.std.proofs.{Common.{refl, sym, ap, ◌∙◌, arith, length-append}, Math.ListN.{get_or-eq_default}}
 use Rattle.dsa_base.specs.Numbers.{numbers_below}
 
@@ -53,6 +54,14 @@ raised-table f f' n k more h same raised =
       get_or-each f' n i 0,
       get_or-each f n k 0,
     ))
+
+-- what was raised is given back
+pub given-back : (xs ys : List ℕ) (g n : ℕ) → g < length ys → xs ≡ set ys g (get_or ys g 0 + n)
+    → (n ≤ get_or xs g 0) × (set xs g (get_or xs g 0 - n) ≡ ys)
+given-back xs ys g n h is =
+    let at : get_or xs g 0 ≡ get_or ys g 0 + n = rw is (get_or-set_same ys g (get_or ys g 0 + n) 0 h) in
+    let less : get_or xs g 0 - n ≡ get_or ys g 0 = omega (arith, at) in
+    (omega (arith, at), rw (less, is, set-set ys g (get_or ys g 0 + n) (get_or ys g 0), set-get_or ys g 0) refl)
 
 -- a table of zeros
 pub zero-table : (f : ℕ → ℕ) (n : ℕ) → ((k : ℕ) → f k ≡ 0) → map f (numbers_below n) ≡ replicate n 0

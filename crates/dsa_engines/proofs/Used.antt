@@ -5,7 +5,7 @@ use Rattle.std.proofs.lemmas.List.{get_or-set_same, get_or-set_other, set-set, s
 use Rattle.std.proofs.lemmas.{List.Sums.{sum_by-cons, sum_by-append, sum_by_push, sum_by-set}, Bool.{cases_lt, lt-ltb}}
 use Rattle.std.specs.List.{filter, sum_by}
 use Rattle.dsa_base.specs.Numbers.{has, numbers_below}
-use Rattle.dsa_base.proofs.NumberLists.{length-each, raised-table, same-table, zero-table}
+use Rattle.dsa_base.proofs.NumberLists.{length-each, raised-table, given-back, same-table, zero-table}
 use Rattle.dsa_base.proofs.{NumberSums.{sum-raised, zero-sum}, FirstPlaces.{hit-at}}
 use Rattle.dsa_regs.specs.declared.{Caps.{Caps}, GroupConfig.{GroupConfig}}
 use Rattle.dsa_regs.specs.declared.layout.ListUse.TheVariants.{Progress, Members}
@@ -148,14 +148,6 @@ module _ {cells : ℕ} {setup : Setup} {gear : Gear} {content : Content} (s : Is
       let groups = s.queues.groups in
       same-table (used (lists_alone setup before)) (used (lists_alone setup after)) setup.caps.groups
       (λ k lt. grind (arith, group-raised h k, one-group s on h.engine {g = k} (omega (arith, lt, groups)), is))
-
--- what was raised is given back
-given-back : (xs ys : List ℕ) (g n : ℕ) → g < length ys → xs ≡ set ys g (get_or ys g 0 + n)
-    → (n ≤ get_or xs g 0) × (set xs g (get_or xs g 0 - n) ≡ ys)
-given-back xs ys g n h is =
-    let at : get_or xs g 0 ≡ get_or ys g 0 + n = rw is (get_or-set_same ys g (get_or ys g 0 + n) 0 h) in
-    let less : get_or xs g 0 - n ≡ get_or ys g 0 = omega (arith, at) in
-    (omega (arith, at), rw (less, is, set-set ys g (get_or ys g 0 + n) (get_or ys g 0), set-get_or ys g 0) refl)
 
 -- as an engine holds n less, its group, if it has one, gives n back
 pub record GivesBack (setup : Setup) (gear : Gear) (after : Content) (e n : ℕ) : Type 0 where

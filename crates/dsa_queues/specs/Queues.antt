@@ -1,10 +1,15 @@
 -- What the queues and a store keep together, and whether a submission is accepted.
-use Rattle.std.specs.Prelude.{◌≡◌, ℕ, Bool, true, length, is_none}
-use Rattle.dsa_base.specs.Rows.{first_row}
+use Rattle.std.specs.Prelude.{◌≡◌, ℕ, ◌==◌, Bool, true, not, List, map, length, is_none}
+use Rattle.dsa_base.specs.{Rows.{first_row}, Numbers.{numbers_below}}
 use Rattle.dsa_regs.specs.{declared.Caps.{Caps}, Caps.{cell_count, check_caps, list_count}}
-use Rattle.dsa_store.specs.Content.{Content}
-use Rattle.dsa_book.specs.{declared.event.{Portal.{Portal}, Kind.{Kind}}, State.{Setup, Intake}}
+use Rattle.dsa_store.specs.Content.{Content, count_where}
+use Rattle.dsa_book.specs.{declared.event.{Portal.{Portal}, Kind.{Kind}}, State.{Setup, Intake, has_queue}}
 use Rattle.dsa_book.specs.Submit.{submit_table}
+
+-- what is kept of the queues: the set-up, and for each queue how many held entries name it (profile)
+pub record Kept : Type 0 where
+  pub setup : Setup
+  pub held : List ℕ
 
 -- the queues, and what a store holds (profile)
 abbrev pub intake : Setup → Content → Intake
@@ -26,3 +31,18 @@ pub record IsWhole (setup : Setup) : Type 0 where
 pub record IsStoreFor (caps : Caps) (count : ℕ) (content : Content) : Type 0 where
   pub lists : length content ≡ list_count caps
   pub cells : count ≡ cell_count caps
+
+-- the set-up is whole, and there is a number for each queue (profile)
+pub record IsKept (kept : Kept) : Type 0 where
+  pub whole : IsWhole kept.setup
+  pub numbers : length kept.held ≡ kept.setup.caps.queues
+
+-- how many entries in all lists name the queue (profile)
+abbrev pub held_of : Content → ℕ → ℕ
+held_of content queue = count_where (λ entry. entry.queue == queue) content
+
+-- each number that is kept is the count over the lists, and no entry names a queue that the device
+-- does not have (profile)
+pub record IsCounted (kept : Kept) (content : Content) : Type 0 where
+  pub counts : kept.held ≡ map (held_of content) (numbers_below kept.setup.caps.queues)
+  pub named : count_where (λ entry. not (has_queue kept.setup entry.queue)) content ≡ 0

@@ -1,15 +1,15 @@
 -- Sums over all slots of a store, as its calls change them. How often a cell is used, and how many
 -- are held, are such sums.
-use Rattle.std.proofs.Common.{◌≡◌, ℕ, ◌+◌, ◌<◌, Bool, true, not, cond, List, [], ◌∷◌, ◌++◌, drop, length, map, set}
-use Rattle.std.proofs.Common.{refl, sym, ap, ◌∙◌, arith}
+use Rattle.std.proofs.Common.{◌≡◌, ℕ, zero, suc, ◌+◌, ◌<◌, ◌≤◌, Bool, true, not, cond, List, [], ◌∷◌, ◌++◌, drop, length}
+use Rattle.std.proofs.Common.{map, set, get_or, refl, sym, ap, ◌∙◌, arith}
 use Rattle.std.proofs.lemmas.List.{Concat.{length-flat_map}, Elements.{filter-append}}
 use Rattle.std.proofs.lemmas.List.Sums.{sum_by-cons, sum_by-append, sum_by_push, sum_by-set}
 use Rattle.std.proofs.lemmas.List.Filters.{sum_by-filter_both}
-use Rattle.std.specs.List.{filter, count_by, sum_by}
+use Rattle.std.specs.List.{filter, count_by, sum_by, remove}
 use Rattle.dsa_store.specs.declared.entry.{Cell.{Cell}, Entry.{Entry}}
 use Rattle.dsa_store.specs.Content.{Slot, Content, is_cell, chain, place_count, use_count, held_count, after_push}
-use Rattle.dsa_store.specs.Content.{without_front, all_held, is_free, only_where}
-use Rattle.dsa_store.proofs.Places.{list_any-absent, list_any-present}
+use Rattle.dsa_store.specs.Content.{without_front, after_unlink, after_set, all_held, is_free, only_where, StandsAt}
+use Rattle.dsa_store.proofs.{Places.{list_any-absent, list_any-present}, Finding.{unlinked-at, replaced-at}}
 
 -- a sum over all slots goes list by list
 pub sum-lists : (f : Slot → ℕ) (content : Content) → sum_by f (all_held content) ≡ sum_by (sum_by f) content
@@ -44,6 +44,45 @@ sum-without_front f content list s rest h is =
       sum_by-cons f s rest,
       ap (sum_by f) is,
       ap (λ l. sum_by f (drop 1 l)) is,
+    )
+
+sum-removed : (f : Slot → ℕ) (l : List Slot) (k : ℕ) (s : Slot) → k < length l → get_or l k s ≡ s
+    → sum_by f (remove l k) + f s ≡ sum_by f l
+sum-removed f [] k s h is = absurd (omega arith)
+sum-removed f (x ∷ l) zero s h is = omega (arith, sum_by-cons f x l, ap f is)
+sum-removed f (x ∷ l) (suc k) s h is =
+    omega (
+      arith,
+      sum_by-cons f x l,
+      sum_by-cons f x (remove l k),
+      sum-removed f l k s (omega arith) is,
+    )
+
+pub sum-unlinked : (f : Slot → ℕ) (content : Content) (i k : ℕ) (cell : Cell) (e : Entry) → use_count content cell ≤ 1
+    → i < length content → StandsAt content i k cell e
+    → sum_by f (all_held (after_unlink content cell)) + f (cell, e) ≡ sum_by f (all_held content)
+sum-unlinked f content i k cell e once hi at =
+    let l = chain content i in
+    omega (
+      arith,
+      ap (λ c. sum_by f (all_held c)) (unlinked-at content i k cell e once at),
+      sum-set f content i (remove l k) hi,
+      sum-removed f l k (cell, e) at.within at.slot,
+    )
+
+-- another entry in the cell, which counts as the one before it
+pub sum-replaced : (f : Slot → ℕ) (content : Content) (i k : ℕ) (cell : Cell) (e new : Entry)
+    → use_count content cell ≤ 1 → i < length content → StandsAt content i k cell e → f (cell, new) ≡ f (cell, e)
+    → sum_by f (all_held (after_set content cell new)) ≡ sum_by f (all_held content)
+sum-replaced f content i k cell e new once hi at same =
+    let l = chain content i in
+    omega (
+      arith,
+      ap (λ c. sum_by f (all_held c)) (replaced-at content i k cell e new once at),
+      sum-set f content i (set l k (cell, new)) hi,
+      sum_by-set f l k (cell, new) (cell, e) at.within,
+      ap f at.slot,
+      same,
     )
 
 -- ---- a test that each slot passes or not

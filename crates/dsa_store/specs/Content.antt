@@ -105,3 +105,7 @@ is_free cells content cell = nat_lt cell.0 cells && not (list_any (is_cell cell)
 -- the slots whose entry passes, in order
 abbrev pub only_where : (Entry → Bool) → Content → Content
 only_where test content = map (filter (λ s. test s.1)) content
+
+-- how many held entries pass
+abbrev pub count_where : (Entry → Bool) → Content → ℕ
+count_where test content = count_by (λ s. test s.1) (all_held content)

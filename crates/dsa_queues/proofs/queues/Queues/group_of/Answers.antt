@@ -7,8 +7,8 @@ returns-then-has_engine c = grind (
   arith,
   common_steps,
   position-hit
-      (λ g. has g.engines c.args.engine) c.args.self.now.groups c.loop-group.group,
-  c.self.invariant,
+      (λ g. has g.engines c.args.engine) c.args.self.now.setup.groups c.loop-group.group,
+  c.self.invariant.whole,
   c.self.view_is,
   c.loop-group.invariant,
 )
@@ -18,8 +18,8 @@ returns c = grind (
   arith,
   common_steps,
   position-none
-      (λ g. has g.engines c.args.engine) c.args.self.now.groups,
-  c.self.invariant,
+      (λ g. has g.engines c.args.engine) c.args.self.now.setup.groups,
+  c.self.invariant.whole,
   c.self.view_is,
   c.loop-group.invariant,
 )

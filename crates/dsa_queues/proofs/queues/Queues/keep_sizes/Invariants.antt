@@ -7,7 +7,9 @@ use Rattle.dsa_base.proofs.Renewing.{renewed}
 abbrev pub invariant-loop-queue : goal.invariant-loop-queue
 invariant-loop-queue l =
     l.self ≡ record l.fn.self {
-      configs =
-          renewed (λ q. cond (is_among (queues_in l.named) q) (size_alone (queue_at l.fn.self.configs q))
-          (queue_at l.fn.self.configs q)) l.queue l.fn.self.configs;
+      setup = record l.fn.self.setup {
+        configs =
+            renewed (λ q. cond (is_among (queues_in l.named) q) (size_alone (queue_at l.fn.self.setup.configs q))
+            (queue_at l.fn.self.setup.configs q)) l.queue l.fn.self.setup.configs;
+      };
     }

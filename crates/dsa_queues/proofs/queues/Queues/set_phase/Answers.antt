@@ -6,4 +6,4 @@ use Rattle.dsa_base.proofs.Renewing.{renewed-one}
 pub returns-clause-alone : goal.returns-clause-alone
 returns-clause-alone c =
     let one = renewed-one c.self.inside.phases.items c.args.queue c.args.phase Off c.self.inside.caps.queues in
-    grind (arith, common_steps, one, c.requires, c.self.view_is, c.self.invariant)
+    grind (arith, common_steps, one, c.requires, c.self.view_is, c.self.invariant.whole)

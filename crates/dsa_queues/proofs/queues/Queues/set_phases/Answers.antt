@@ -7,21 +7,21 @@ use Rattle.dsa_queues.proofs.queues.Queues.set_phases.Goals.{then-contains, else
 
 pub loop-queue-preserved : goal.loop-queue-preserved
 loop-queue-preserved c =
-    let f : ℕ → Phase = λ q. cond (is_among (queues_in c.args.named.now) q) c.args.phase (phase_at c.args.self.now q) in
-    let within : c.loop-queue.queue < length c.args.self.now.phases =
+    let f : ℕ → Phase = λ q. cond (is_among (queues_in c.args.named.now) q) c.args.phase (phase_at c.args.self.now.setup q) in
+    let within : c.loop-queue.queue < length c.args.self.now.setup.phases =
     grind (arith, c.loop-queue-test.true, c.caps-queue-end.ensures) in
     elim c.if-contains.branch [
       | then-contains w ↦ rw (
         w.self-is,
         w.set_phase.ensures.place,
         c.loop-queue.invariant,
-        renewed-written f c.loop-queue.queue c.args.phase c.args.self.now.phases within
+        renewed-written f c.loop-queue.queue c.args.phase c.args.self.now.setup.phases within
             (grind (arith, common_steps, w.if-contains.true, c.contains.ensures)),
       ) refl
       | else-contains w ↦ rw (
         w.self-is,
         c.loop-queue.invariant,
-        renewed-kept f c.loop-queue.queue c.args.self.now.phases Off within
+        renewed-kept f c.loop-queue.queue c.args.self.now.setup.phases Off within
             (grind (arith, common_steps, w.if-contains.false, c.contains.ensures)),
       ) refl
     ]

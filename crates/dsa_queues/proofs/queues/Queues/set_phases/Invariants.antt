@@ -7,6 +7,8 @@ use Rattle.dsa_base.proofs.Renewing.{renewed}
 abbrev pub invariant-loop-queue : goal.invariant-loop-queue
 invariant-loop-queue l =
     l.self ≡ record l.fn.self {
-      phases =
-          renewed (λ q. cond (is_among (queues_in l.named) q) l.phase (phase_at l.fn.self q)) l.queue l.fn.self.phases;
+      setup = record l.fn.self.setup {
+        phases =
+            renewed (λ q. cond (is_among (queues_in l.named) q) l.phase (phase_at l.fn.self.setup q)) l.queue l.fn.self.setup.phases;
+      };
     }
