@@ -1,6 +1,6 @@
 //! The active command, and what is issued and polled.
 
-ghost use Rattle.std.specs.Prelude.{◌≡◌, ℕ, ◌+◌, ◌≤◌, IsTrue, List, None, Option, length, true};
+ghost use Rattle.std.specs.Prelude.{◌≡◌, ℕ, ◌+◌, ◌-◌, ◌<◌, ◌≤◌, IsTrue, cond, List, None, Option, length, true};
 ghost use Rattle.dsa_store.specs.Content.{Content, held_count};
 ghost use Rattle.dsa_book.specs.declared.fate.FateRow.{FateRow};
 ghost use Rattle.dsa_book.specs.declared.note.ActiveCommand.{ActiveCommand};
@@ -10,36 +10,39 @@ ghost use Rattle.dsa_regs.specs.Command.{scope_of, deed_of};
 ghost use Rattle.dsa_book.specs.State.{State};
 ghost use Rattle.dsa_book.specs.Commands.{issue, poll, refusal_or, command_done_of, wait_of, after_stop, after_enable, may_come};
 ghost use Rattle.dsa_engines.specs.Engines.{Gear, IsInStep};
-ghost use Rattle.dsa_admin.specs.Admin.{IsUnrefused, state};
+ghost use Rattle.dsa_queues.specs.Queues.{IsCounted};
+ghost use Rattle.dsa_admin.specs.Admin.{IsAwaiting, IsUnrefused, is_counted_by, state};
 
 use crate::abort::{abort_alone, reset};
-use crate::ends::is_at_end;
+use crate::ends::{count_watched, is_at_end};
 use crate::refusals::{check, is_bad_queues, may_come};
+use crate::scope::is_watched;
 use dsa_book::{ActiveCommand, Book, IssueAnswer, PollAnswer};
 use dsa_engines::Engines;
 use dsa_queues::Queues;
 use dsa_regs::{Command, Deed, Fault, Phase, Scope};
-use dsa_store::EntryStore;
+use dsa_store::{Entry, EntryStore};
 use std::marker::Model;
 
-/// The command that is not over yet, if there is one, with the name that was the next one when it was issued.
+/// The command that is not over yet, if there is one, with the name that was the next one when it was issued, and the
+/// number of entries that it still waits for, where it is a drain.
 #[derive(Drop)]
 pub struct Admin {
     active: Option<ActiveCommand>,
+    awaited: u32,
 }
 
 impl Model for Admin {
-    ghost use Rattle.std.specs.Prelude.{Option};
-    ghost use Rattle.dsa_book.specs.declared.note.ActiveCommand.{ActiveCommand};
+    ghost use Rattle.dsa_admin.specs.Admin.{Watch};
 
-    ghost Value = { Option ActiveCommand };
+    ghost Value = { Watch };
 
-    ghost view = { λ a. a.active };
+    ghost view = { λ a. record { active = a.active; awaited = a.awaited } };
 }
 
 // A disable brings the device with its queues, or the named queues, to this phase; other commands stop nothing.
 fn stop(queues: &mut Queues, command: &Command, phase: Phase)
-    ensures { queues.new ≡ after_stop (deed_of command.now) (scope_of command.now) phase queues.old }
+    ensures { queues.new ≡ record queues.old { setup = after_stop (deed_of command.now) (scope_of command.now) phase queues.old.setup } }
 {
     let Deed::Disable = command.deed() else {
         return;
@@ -55,13 +58,13 @@ fn stop(queues: &mut Queues, command: &Command, phase: Phase)
 
 // The device or the queue is On; no command enables by a mask or a PASID.
 fn enable(queues: &mut Queues, engines: &mut Engines, scope: &Scope)
-    requires unrefused { IsUnrefused queues.old Enable scope.now }
-    requires caps { IsTrue (check_caps queues.old.caps) }
-    requires notes { length engines.old.notes ≡ queues.old.caps.engines }
-    ensures enabled { queues.new ≡ after_enable scope.now queues.old }
+    requires unrefused { IsUnrefused queues.old.setup Enable scope.now }
+    requires caps { IsTrue (check_caps queues.old.setup.caps) }
+    requires notes { length engines.old.notes ≡ queues.old.setup.caps.engines }
+    ensures enabled { queues.new ≡ record queues.old { setup = after_enable scope.now queues.old.setup } }
     ensures notes { engines.new.notes ≡ engines.old.notes }
-    ensures in_step { (cells : ℕ) (content : Content) → IsInStep queues.old engines.old cells content
-        → IsInStep queues.new engines.new cells content }
+    ensures in_step { (cells : ℕ) (content : Content) → IsInStep queues.old.setup engines.old cells content
+        → IsInStep queues.new.setup engines.new cells content }
 {
     match scope {
         Scope::Device => {
@@ -76,23 +79,27 @@ fn enable(queues: &mut Queues, engines: &mut Engines, scope: &Scope)
 impl Admin {
     /// No command is active.
     pub fn new() -> Admin
-        ensures { result ≡ None }
+        ensures { result ≡ record { active = None; awaited = 0 } }
     {
-        Admin { active: None }
+        Admin {
+            active: None,
+            awaited: 0,
+        }
     }
 
     /// The command that is not over yet.
     #[inline(always)]
     pub fn active(&self) -> Option<ActiveCommand>
-        ensures { result ≡ self.now }
+        ensures { result ≡ self.now.active }
     {
         self.active
     }
 
     // The first refusal that stands.
     fn refusal(&self, queues: &Queues, command: &Command) -> Option<Fault>
-        ensures refused { (s : State) → s.active ≡ self.now → s.work.setup ≡ queues.now → issue s command.now ≡ refusal_or s result (command_done_of s command.now) }
-        ensures unrefused { result ≡ None → IsUnrefused queues.now (deed_of command.now) (scope_of command.now) }
+        ensures refused { (s : State) → s.active ≡ self.now.active → s.work.setup ≡ queues.now.setup → issue s command.now ≡ refusal_or s result (command_done_of s command.now) }
+        ensures idle { result ≡ None → self.now.active ≡ None }
+        ensures unrefused { result ≡ None → IsUnrefused queues.now.setup (deed_of command.now) (scope_of command.now) }
     {
         if self.active.is_some() {
             return Some(Fault::Busy);
@@ -115,22 +122,28 @@ impl Admin {
         store: &S,
         command: Command,
     ) -> IssueAnswer
-        ensures waiting { (gear : Gear) (fates : List FateRow) → wait_of (state queues.old gear (S.content store.now) fates self.old) command
-            ≡ (result, state queues.new gear (S.content store.now) fates self.new) }
-        ensures in_step { (gear : Gear) → may_come queues.old (deed_of command) (scope_of command) ≡ true
-            → IsInStep queues.old gear (S.cells store.now) (S.content store.now)
-            → IsInStep queues.new gear (S.cells store.now) (S.content store.now) }
+        requires counted { IsCounted queues.old (S.content store.now) }
+        requires idle { self.old.active ≡ None }
+        ensures waiting { (gear : Gear) (fates : List FateRow) → wait_of (state queues.old.setup gear (S.content store.now) fates self.old.active) command
+            ≡ (result, state queues.new.setup gear (S.content store.now) fates self.new.active) }
+        ensures in_step { (gear : Gear) → may_come queues.old.setup (deed_of command) (scope_of command) ≡ true
+            → IsInStep queues.old.setup gear (S.cells store.now) (S.content store.now)
+            → IsInStep queues.new.setup gear (S.cells store.now) (S.content store.now) }
+        ensures counted { IsCounted queues.new (S.content store.now) }
+        ensures awaiting { IsAwaiting self.new queues.new.setup.next_name (S.content store.now) }
     {
         let active = ActiveCommand {
             command,
             mark: queues.next_name(),
         };
-        if is_at_end(store, &active) {
+        let awaited = count_watched(store, &active);
+        if is_at_end(queues, &active, awaited) {
             stop(queues, &command, Phase::Off);
             return IssueAnswer::Ended { aborted: 0 };
         }
         stop(queues, &command, Phase::Stopping);
         self.active = Some(active);
+        self.awaited = awaited;
         IssueAnswer::Active
     }
 
@@ -143,13 +156,17 @@ impl Admin {
         book: &mut Book,
         command: Command,
     ) -> IssueAnswer
-        requires unrefused { IsUnrefused queues.old (deed_of command) (scope_of command) }
-        requires in_step { IsInStep queues.old engines.old (S.cells store.old) (S.content store.old) }
+        requires idle { self.old.active ≡ None }
+        requires unrefused { IsUnrefused queues.old.setup (deed_of command) (scope_of command) }
+        requires in_step { IsInStep queues.old.setup engines.old (S.cells store.old) (S.content store.old) }
+        requires counted { IsCounted queues.old (S.content store.old) }
         requires room { length book.old.fates + held_count (S.content store.old) ≤ book.old.capacity }
-        ensures carried { command_done_of (state queues.old engines.old (S.content store.old) book.old.fates self.old) command
-            ≡ (result, state queues.new engines.new (S.content store.new) book.new.fates self.new) }
+        ensures carried { command_done_of (state queues.old.setup engines.old (S.content store.old) book.old.fates self.old.active) command
+            ≡ (result, state queues.new.setup engines.new (S.content store.new) book.new.fates self.new.active) }
         ensures book { book.new ≡ record book.old { fates = book.new.fates } }
-        ensures in_step { IsInStep queues.new engines.new (S.cells store.new) (S.content store.new) }
+        ensures in_step { IsInStep queues.new.setup engines.new (S.cells store.new) (S.content store.new) }
+        ensures counted { IsCounted queues.new (S.content store.new) }
+        ensures awaiting { IsAwaiting self.new queues.new.setup.next_name (S.content store.new) }
     {
         match command.deed() {
             Deed::Enable => {
@@ -171,7 +188,7 @@ impl Admin {
     ///
     /// Enables, aborts and resets are over at once, and so is a drain or a disable that nothing is held for; `Ended` gives
     /// the number of aborted entries, each of which has a new row in the book. Else the drain or the disable is active until
-    /// [`Admin::poll`] finds it over. Walks the lists, but for an enable.
+    /// [`Admin::poll`] finds it over. Walks the lists, but for an enable and a disable.
     ///
     /// The book needs room for a row of each entry that is held.
     pub fn issue<S: EntryStore>(
@@ -182,12 +199,16 @@ impl Admin {
         book: &mut Book,
         command: Command,
     ) -> IssueAnswer
-        requires in_step { IsInStep queues.old engines.old (S.cells store.old) (S.content store.old) }
+        requires in_step { IsInStep queues.old.setup engines.old (S.cells store.old) (S.content store.old) }
+        requires counted { IsCounted queues.old (S.content store.old) }
+        requires awaiting { IsAwaiting self.old queues.old.setup.next_name (S.content store.old) }
         requires room { length book.old.fates + held_count (S.content store.old) ≤ book.old.capacity }
-        ensures issued { issue (state queues.old engines.old (S.content store.old) book.old.fates self.old) command
-            ≡ (result, state queues.new engines.new (S.content store.new) book.new.fates self.new) }
+        ensures issued { issue (state queues.old.setup engines.old (S.content store.old) book.old.fates self.old.active) command
+            ≡ (result, state queues.new.setup engines.new (S.content store.new) book.new.fates self.new.active) }
         ensures book { book.new ≡ record book.old { fates = book.new.fates } }
-        ensures in_step { IsInStep queues.new engines.new (S.cells store.new) (S.content store.new) }
+        ensures in_step { IsInStep queues.new.setup engines.new (S.cells store.new) (S.content store.new) }
+        ensures counted { IsCounted queues.new (S.content store.new) }
+        ensures awaiting { IsAwaiting self.new queues.new.setup.next_name (S.content store.new) }
     {
         if let Some(fault) = self.refusal(queues, &command) {
             return IssueAnswer::Refused(fault);
@@ -196,21 +217,49 @@ impl Admin {
     }
 
     /// Asks after the active command. It is over, and no more active, when nothing is held that it waits for: a drain waits
-    /// for the entries of its scope that were submitted before it, a disable for all of its scope. Walks the lists.
-    pub fn poll<S: EntryStore>(&mut self, queues: &mut Queues, store: &S) -> PollAnswer
-        ensures polled { (gear : Gear) (fates : List FateRow) → poll (state queues.old gear (S.content store.now) fates self.old)
-            ≡ (result, state queues.new gear (S.content store.now) fates self.new) }
-        ensures in_step { (gear : Gear) → IsInStep queues.old gear (S.cells store.now) (S.content store.now)
-            → IsInStep queues.new gear (S.cells store.now) (S.content store.now) }
+    /// for the entries of its scope that were submitted before it, a disable for all of its scope. Looks at the number
+    /// that is kept, or at those of the queues, and at no list.
+    pub fn poll(&mut self, queues: &mut Queues) -> PollAnswer
+        ensures polled { (gear : Gear) (content : Content) (fates : List FateRow) → IsCounted queues.old content
+            → IsAwaiting self.old queues.old.setup.next_name content
+            → poll (state queues.old.setup gear content fates self.old.active)
+            ≡ (result, state queues.new.setup gear content fates self.new.active) }
+        ensures in_step { (gear : Gear) (cells : ℕ) (content : Content) → IsInStep queues.old.setup gear cells content
+            → IsInStep queues.new.setup gear cells content }
+        ensures counted { (content : Content) → IsCounted queues.old content → IsCounted queues.new content }
+        ensures awaiting { (content : Content) → IsAwaiting self.old queues.old.setup.next_name content
+            → IsAwaiting self.new queues.new.setup.next_name content }
     {
         let Some(active) = self.active else {
             return PollAnswer::Nothing;
         };
-        if !is_at_end(store, &active) {
+        if !is_at_end(queues, &active, self.awaited) {
             return PollAnswer::Active;
         }
         stop(queues, &active.command, Phase::Off);
         self.active = None;
         PollAnswer::Finished
+    }
+
+    // Whether the entry is one that the active command counts.
+    #[inline(always)]
+    fn is_counted_by(&self, entry: &Entry) -> bool
+        ensures { result ≡ is_counted_by self.now entry.now }
+    {
+        match &self.active {
+            Some(active) => is_watched(active, entry),
+            None => false,
+        }
+    }
+
+    /// An entry has ended. Where the active command waited for it, it waits for one less.
+    #[inline(always)]
+    pub fn ended(&mut self, entry: &Entry)
+        requires { is_counted_by self.old entry.now ≡ true → 0 < self.old.awaited }
+        ensures { self.new ≡ record self.old { awaited = self.old.awaited - cond (is_counted_by self.old entry.now) 1 0 } }
+    {
+        if self.is_counted_by(entry) {
+            self.awaited -= 1;
+        }
     }
 }

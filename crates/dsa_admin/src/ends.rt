@@ -1,31 +1,68 @@
 //! Whether a command has to wait.
 
-ghost use Rattle.std.specs.Prelude.{◌≡◌, ◌<◌, length};
-ghost use Rattle.std.specs.List.{list_any};
-ghost use Rattle.dsa_store.specs.Content.{chain};
-ghost use Rattle.dsa_book.specs.Commands.{is_at_end};
-ghost use Rattle.dsa_admin.specs.Admin.{is_waited_for};
+ghost use Rattle.std.specs.Prelude.{◌≡◌, ◌<◌, length, not, true};
+ghost use Rattle.std.specs.List.{count_by};
+ghost use Rattle.dsa_store.specs.Content.{Content, chain, count_where};
+ghost use Rattle.dsa_book.specs.State.{holds_any};
+ghost use Rattle.dsa_book.specs.Commands.{is_at_end, is_in_scope};
+ghost use Rattle.dsa_queues.specs.Queues.{IsCounted};
+ghost use Rattle.dsa_admin.specs.Admin.{is_watched, names_queues};
 
-use crate::scope::is_waited_for;
+use crate::scope::{is_counting, is_watched, names};
 use dsa_book::ActiveCommand;
+use dsa_queues::Queues;
+use dsa_regs::{Deed, Scope};
 use dsa_store::{EntryStore, ListId, slots};
 
-// Whether the list has an entry that the command waits for.
-fn is_awaited_in<S: EntryStore>(store: &S, active: &ActiveCommand, list: ListId) -> bool
+// How many entries of the list the command counts.
+fn count_in<S: EntryStore>(store: &S, active: &ActiveCommand, list: ListId) -> u32
     requires { list.0 < length (S.content store.now) }
-    ensures { result ≡ list_any (λ slot. is_waited_for active.now slot.1) (chain (S.content store.now) list.0) }
+    ensures { result ≡ count_by (λ slot. is_watched active.now slot.1) (chain (S.content store.now) list.0) }
 {
-    slots(store, list).any(|slot| is_waited_for(active, &slot.1))
+    let mut count = 0;
+    for (_, entry) in slots(store, list) {
+        if is_watched(active, &entry) {
+            count += 1;
+        }
+    }
+    count
 }
 
-/// Whether nothing is held that the command waits for. Walks the lists.
-pub(crate) fn is_at_end<S: EntryStore>(store: &S, active: &ActiveCommand) -> bool
-    ensures { result ≡ is_at_end active.now (S.content store.now) }
+/// How many held entries the command counts. Walks the lists, but for a disable, which counts none.
+pub(crate) fn count_watched<S: EntryStore>(store: &S, active: &ActiveCommand) -> u32
+    ensures { result ≡ count_where (is_watched active.now) (S.content store.now) }
 {
+    if !is_counting(active.command.deed()) {
+        return 0;
+    }
+    let mut count = 0;
     for list in 0..store.lists() {
-        if is_awaited_in(store, active, ListId(list)) {
+        count += count_in(store, active, ListId(list));
+    }
+    count
+}
+
+// Whether no held entry names a queue of the scope.
+fn is_clear(queues: &Queues, scope: &Scope) -> bool
+    requires { names_queues scope.now ≡ true }
+    ensures { (content : Content) → IsCounted queues.now content → result ≡ not (holds_any (is_in_scope scope.now) content) }
+{
+    for queue in 0..queues.caps().queues {
+        if names(scope, queue) && queues.held_of(queue) > 0 {
             return false;
         }
     }
     true
+}
+
+/// Whether nothing is held that the command waits for: of a disable's queues by their numbers, else by the number of
+/// entries that are still awaited. Looks at no list.
+pub(crate) fn is_at_end(queues: &Queues, active: &ActiveCommand, awaited: u32) -> bool
+    ensures { (content : Content) → IsCounted queues.now content → awaited ≡ count_where (is_watched active.now) content
+        → result ≡ is_at_end active.now content }
+{
+    match active.command.deed() {
+        Deed::Disable => is_clear(queues, &active.command.scope()),
+        _ => awaited == 0,
+    }
 }

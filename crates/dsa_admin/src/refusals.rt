@@ -12,7 +12,7 @@ use dsa_regs::{Deed, Fault, Phase, Scope, check_device, check_queue};
 
 // The phase of the queue; `Off` where the device has no such queue.
 fn phase_of(queues: &Queues, queue: u32) -> Phase
-    ensures { result ≡ phase_at queues.now queue }
+    ensures { result ≡ phase_at queues.now.setup queue }
 {
     if queue < u32::from(queues.caps().queues) {
         queues.phase(queue as u16)
@@ -23,21 +23,21 @@ fn phase_of(queues: &Queues, queue: u32) -> Phase
 
 // Whether the device has the queue. The numbers of a command may be larger than those of any queue.
 fn has_queue(queues: &Queues, queue: u32) -> bool
-    ensures { result ≡ has_queue queues.now queue }
+    ensures { result ≡ has_queue queues.now.setup queue }
 {
     queue < u32::from(queues.caps().queues)
 }
 
 // Whether the device has each queue that is named.
 fn has_queues(queues: &Queues, scope: &Scope) -> bool
-    ensures { result ≡ list_all (has_queue queues.now) (queues_in scope.now) }
+    ensures { result ≡ list_all (has_queue queues.now.setup) (queues_in scope.now) }
 {
     scope.queues().iter().all(|queue| has_queue(queues, *queue))
 }
 
 // Whether no queue is named, or one is that the device does not have.
 fn names_bad_queue(queues: &Queues, scope: &Scope) -> bool
-    ensures { result ≡ names_bad_queue queues.now (queues_in scope.now) }
+    ensures { result ≡ names_bad_queue queues.now.setup (queues_in scope.now) }
 {
     scope.queues().is_empty() || !has_queues(queues, scope)
 }
@@ -45,7 +45,7 @@ fn names_bad_queue(queues: &Queues, scope: &Scope) -> bool
 /// Whether a scope of queues names no queue, or one that the device does not have. The device as a whole and a PASID
 /// name no queues, and are never wrong.
 pub(crate) fn is_bad_queues(queues: &Queues, scope: &Scope) -> bool
-    ensures { result ≡ is_bad_queues queues.now scope.now }
+    ensures { result ≡ is_bad_queues queues.now.setup scope.now }
 {
     match scope {
         Scope::Queue(_) => names_bad_queue(queues, scope),
@@ -67,7 +67,7 @@ fn suits(deed: Deed, phase: Phase) -> bool
 
 // Whether the deed may find each queue that is named in its phase.
 fn all_suit(queues: &Queues, deed: Deed, scope: &Scope) -> bool
-    ensures { result ≡ list_all (λ q. suits deed (phase_at queues.now q)) (queues_in scope.now) }
+    ensures { result ≡ list_all (λ q. suits deed (phase_at queues.now.setup q)) (queues_in scope.now) }
 {
     scope
         .queues()
@@ -77,7 +77,7 @@ fn all_suit(queues: &Queues, deed: Deed, scope: &Scope) -> bool
 
 /// Whether the device and the queues that are named are in the phases that the deed needs.
 pub(crate) fn may_come(queues: &Queues, deed: Deed, scope: &Scope) -> bool
-    ensures { result ≡ may_come queues.now deed scope.now }
+    ensures { result ≡ may_come queues.now.setup deed scope.now }
 {
     match scope {
         Scope::Device => suits(deed, queues.device()),
@@ -87,8 +87,8 @@ pub(crate) fn may_come(queues: &Queues, deed: Deed, scope: &Scope) -> bool
 
 /// The first fault that the configuration has against an enable. It has none against any other deed.
 pub(crate) fn check(queues: &Queues, deed: Deed, scope: &Scope) -> Option<Fault>
-    requires { is_bad_queues queues.now scope.now ≡ false }
-    ensures { result ≡ check_of queues.now deed scope.now }
+    requires { is_bad_queues queues.now.setup scope.now ≡ false }
+    ensures { result ≡ check_of queues.now.setup deed scope.now }
 {
     let caps = queues.caps();
     let Deed::Enable = deed else {

@@ -48,7 +48,7 @@ fn no_notes(engines: u16) -> ArrayVec<Option<BatchNote>, MAX_ENGINES>
 
 // The group of each engine.
 fn homes(queues: &Queues) -> ArrayVec<Option<u16>, MAX_ENGINES>
-    ensures { result.items ≡ homes_of queues.now }
+    ensures { result.items ≡ homes_of queues.now.setup }
 {
     let mut homes = ArrayVec::new();
     for engine in 0..queues.caps().engines {
@@ -75,11 +75,11 @@ impl Engines {
 
     /// Makes the read buffers and finds the group of each engine, as Enable Device asks. Nothing may be held then.
     pub fn enable(&mut self, queues: &Queues)
-        requires checked { check_device queues.now.caps queues.now.configs queues.now.groups ≡ None }
-        requires notes { length self.old.notes ≡ queues.now.caps.engines }
-        ensures after { self.new ≡ record self.old { homes = homes_of queues.now; buffers = buffers_at_rest queues.now } }
-        ensures in_step { (cells : ℕ) (content : Content) → IsStoreFor queues.now.caps cells content → held_count content ≡ 0
-            → IsInStep queues.now self.new cells content }
+        requires checked { check_device queues.now.setup.caps queues.now.setup.configs queues.now.setup.groups ≡ None }
+        requires notes { length self.old.notes ≡ queues.now.setup.caps.engines }
+        ensures after { self.new ≡ record self.old { homes = homes_of queues.now.setup; buffers = buffers_at_rest queues.now.setup } }
+        ensures in_step { (cells : ℕ) (content : Content) → IsStoreFor queues.now.setup.caps cells content → held_count content ≡ 0
+            → IsInStep queues.now.setup self.new cells content }
     {
         self.homes = homes(queues);
         self.buffers = ReadBuffers::new(queues.caps().read_buffers, queues.groups());

@@ -6,6 +6,7 @@ ghost use Rattle.dsa_book.specs.declared.fate.FateRow.{FateRow};
 ghost use Rattle.dsa_book.specs.declared.answer.Reply.TheVariants as reply;
 ghost use Rattle.dsa_book.specs.Choice.{choice_of, cell_of, may_enter};
 ghost use Rattle.dsa_book.specs.Work.{fetch, is_all_fetched};
+ghost use Rattle.dsa_queues.specs.Queues.{IsCounted};
 ghost use Rattle.dsa_engines.specs.Engines.{work, IsInStep, is_fetching};
 
 use crate::Engines;
@@ -43,14 +44,16 @@ impl Engines {
         engine: u16,
         desc: Descriptor,
     ) -> FetchAnswer
-        requires in_step { IsInStep queues.old self.old (S.cells store.old) (S.content store.old) }
-        requires room { is_fetching (work queues.old self.old (S.content store.old) []) engine ≡ true → held_count (S.content store.old) < S.cells store.old }
-        requires names { is_fetching (work queues.old self.old (S.content store.old) []) engine ≡ true → queues.old.next_name + 1 < 2 ^ 32 }
+        requires in_step { IsInStep queues.old.setup self.old (S.cells store.old) (S.content store.old) }
+        requires counted { IsCounted queues.old (S.content store.old) }
+        requires room { is_fetching (work queues.old.setup self.old (S.content store.old) []) engine ≡ true → held_count (S.content store.old) < S.cells store.old }
+        requires names { is_fetching (work queues.old.setup self.old (S.content store.old) []) engine ≡ true → queues.old.setup.next_name + 1 < 2 ^ 32 }
         ensures step { (fates : List FateRow)
-            → fetch (work queues.old self.old (S.content store.old) fates) engine desc (cell_of (choice_of (reply.Fetch result)))
-            ≡ (result, work queues.new self.new (S.content store.new) fates) }
-        ensures free { may_enter queues.old (S.content store.old) (choice_of (reply.Fetch result)) ≡ true }
-        ensures in_step { IsInStep queues.new self.new (S.cells store.new) (S.content store.new) }
+            → fetch (work queues.old.setup self.old (S.content store.old) fates) engine desc (cell_of (choice_of (reply.Fetch result)))
+            ≡ (result, work queues.new.setup self.new (S.content store.new) fates) }
+        ensures free { may_enter queues.old.setup (S.content store.old) (choice_of (reply.Fetch result)) ≡ true }
+        ensures in_step { IsInStep queues.new.setup self.new (S.cells store.new) (S.content store.new) }
+        ensures counted { IsCounted queues.new (S.content store.new) }
     {
         let caps = queues.caps();
         if engine >= caps.engines {
@@ -79,6 +82,7 @@ impl Engines {
             unreachable!();
         };
         queues.give_name();
+        queues.entered(batch.queue);
         let fetched = note.fetched + 1;
         self.set_note(engine, Some(BatchNote { fetched, ..note }));
         FetchAnswer::Fetched(Ticket { cell, name })

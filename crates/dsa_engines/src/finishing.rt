@@ -5,7 +5,7 @@ ghost use Rattle.dsa_store.specs.declared.entry.Cell.{Cell};
 ghost use Rattle.dsa_store.specs.Content.{Content, chain};
 ghost use Rattle.dsa_book.specs.State.{is_ticket, any_in};
 ghost use Rattle.dsa_book.specs.Work.{running_on, is_unfinished, waits_for, waits, must_wait, last_status, note_after, with_note, finish};
-ghost use Rattle.dsa_queues.specs.Queues.{IsStoreFor};
+ghost use Rattle.dsa_queues.specs.Queues.{IsCounted, IsStoreFor};
 ghost use Rattle.dsa_engines.specs.Engines.{work, lists_alone, IsInStep, IsInPlace};
 
 use crate::Engines;
@@ -36,8 +36,8 @@ fn find_running<S: EntryStore>(
     engine: u16,
     ticket: Ticket,
 ) -> Option<Entry>
-    requires { IsStoreFor queues.now.caps (S.cells store.now) (S.content store.now) }
-    ensures { find (is_ticket ticket) (running_on (lists_alone queues.now (S.content store.now)) engine) ≡ option_map (λ entry. (ticket.cell, entry)) result }
+    requires { IsStoreFor queues.now.setup.caps (S.cells store.now) (S.content store.now) }
+    ensures { find (is_ticket ticket) (running_on (lists_alone queues.now.setup (S.content store.now)) engine) ≡ option_map (λ entry. (ticket.cell, entry)) result }
 {
     let caps = queues.caps();
     if engine >= caps.engines {
@@ -73,9 +73,9 @@ fn waits_in<S: EntryStore>(store: &S, list: ListId, drain: &Entry) -> bool
 
 // Whether an entry that the Drain waits for is held. It stands in the Drain's queue or is in progress on an engine.
 fn waits<S: EntryStore>(queues: &Queues, store: &S, drain: &Entry) -> bool
-    requires store { IsStoreFor queues.now.caps (S.cells store.now) (S.content store.now) }
-    requires placed { IsInPlace queues.now (S.content store.now) }
-    ensures { result ≡ waits (lists_alone queues.now (S.content store.now)) drain.now }
+    requires store { IsStoreFor queues.now.setup.caps (S.cells store.now) (S.content store.now) }
+    requires placed { IsInPlace queues.now.setup (S.content store.now) }
+    ensures { result ≡ waits (lists_alone queues.now.setup (S.content store.now)) drain.now }
 {
     if queues.has_queue(drain.queue) && waits_in(store, ListId(drain.queue), drain) {
         return true;
@@ -91,9 +91,9 @@ fn waits<S: EntryStore>(queues: &Queues, store: &S, drain: &Entry) -> bool
 impl Engines {
     // Whether members are left, or may still be fetched.
     fn is_unfinished<S: EntryStore>(&self, queues: &Queues, store: &S, engine: u16) -> bool
-        requires store { IsStoreFor queues.now.caps (S.cells store.now) (S.content store.now) }
-        requires engine { engine < queues.now.caps.engines }
-        ensures { result ≡ is_unfinished (work queues.now self.now (S.content store.now) []) engine }
+        requires store { IsStoreFor queues.now.setup.caps (S.cells store.now) (S.content store.now) }
+        requires engine { engine < queues.now.setup.caps.engines }
+        ensures { result ≡ is_unfinished (work queues.now.setup self.now (S.content store.now) []) engine }
     {
         if store.len(queues.list(ListUse::Members(engine))) > 0 {
             return true;
@@ -112,10 +112,10 @@ impl Engines {
         engine: u16,
         entry: &Entry,
     ) -> bool
-        requires store { IsStoreFor queues.now.caps (S.cells store.now) (S.content store.now) }
-        requires placed { IsInPlace queues.now (S.content store.now) }
-        requires engine { engine < queues.now.caps.engines }
-        ensures { result ≡ must_wait (work queues.now self.now (S.content store.now) []) engine entry.now }
+        requires store { IsStoreFor queues.now.setup.caps (S.cells store.now) (S.content store.now) }
+        requires placed { IsInPlace queues.now.setup (S.content store.now) }
+        requires engine { engine < queues.now.setup.caps.engines }
+        ensures { result ≡ must_wait (work queues.now.setup self.now (S.content store.now) []) engine entry.now }
     {
         if queues.is_batch(entry) && self.is_unfinished(queues, store, engine) {
             return true;
@@ -126,7 +126,7 @@ impl Engines {
     // The status of an entry that ends.
     #[inline(always)]
     fn last_status(&self, queues: &Queues, engine: u16, entry: &Entry, outcome: Outcome) -> u8
-        ensures { (content : Content) (cell : Cell) → result ≡ last_status (work queues.now self.now content []) engine (cell, entry.now) outcome }
+        ensures { (content : Content) (cell : Cell) → result ≡ last_status (work queues.now.setup self.now content []) engine (cell, entry.now) outcome }
     {
         match self.note(engine) {
             Some(note) if note.failed && queues.is_batch(entry) => 0x05,
@@ -140,7 +140,7 @@ impl Engines {
         requires { engine < length self.old.notes }
         ensures { (content : Content) (cell : Cell) → self.new ≡ record self.old {
           notes = with_note self.old.notes engine
-              (note_after (work queues.now self.old content []) engine (cell, entry.now) outcome);
+              (note_after (work queues.now.setup self.old content []) engine (cell, entry.now) outcome);
         } }
     {
         if queues.is_batch(entry) {
@@ -171,20 +171,22 @@ impl Engines {
     /// and at what is in progress on each engine.
     pub fn finish<S: EntryStore>(
         &mut self,
-        queues: &Queues,
+        queues: &mut Queues,
         store: &mut S,
         book: &mut Book,
         engine: u16,
         ticket: Ticket,
         outcome: Outcome,
     ) -> FinishAnswer
-        requires in_step { IsInStep queues.now self.old (S.cells store.old) (S.content store.old) }
-        requires placed { IsInPlace queues.now (S.content store.old) }
+        requires in_step { IsInStep queues.old.setup self.old (S.cells store.old) (S.content store.old) }
+        requires counted { IsCounted queues.old (S.content store.old) }
+        requires placed { IsInPlace queues.old.setup (S.content store.old) }
         requires room { length book.old.fates < book.old.capacity }
-        ensures step { finish (work queues.now self.old (S.content store.old) book.old.fates) engine ticket outcome
-            ≡ (result, work queues.now self.new (S.content store.new) book.new.fates) }
+        ensures step { finish (work queues.old.setup self.old (S.content store.old) book.old.fates) engine ticket outcome
+            ≡ (result, work queues.new.setup self.new (S.content store.new) book.new.fates) }
         ensures book { book.new ≡ record book.old { fates = book.new.fates } }
-        ensures in_step { IsInStep queues.now self.new (S.cells store.new) (S.content store.new) }
+        ensures in_step { IsInStep queues.new.setup self.new (S.cells store.new) (S.content store.new) }
+        ensures counted { IsCounted queues.new (S.content store.new) }
     {
         let Some(entry) = find_running(queues, store, engine, ticket) else {
             return FinishAnswer::Gone;
@@ -196,6 +198,7 @@ impl Engines {
         self.give_back(self.home(engine), queues.need(&entry));
         self.write_note_after(queues, engine, &entry, outcome);
         let _ = store.unlink(ticket.cell);
+        queues.left(entry.queue);
         book.add_row(FateRow {
             name: entry.name,
             parent: entry.parent,

@@ -13,9 +13,9 @@ use dsa_store::Entry;
 impl Engines {
     // A well-formed Batch in progress takes the engine's note along.
     fn drop_note(&mut self, queues: &Queues, from: ListUse, entry: &Entry)
-        requires notes { length self.old.notes ≡ queues.now.caps.engines }
-        requires list { HasList queues.now.caps from }
-        ensures { self.new ≡ record self.old { notes = cond (is_batch_of queues.now entry.now) (notes_without from self.old.notes) self.old.notes } }
+        requires notes { length self.old.notes ≡ queues.now.setup.caps.engines }
+        requires list { HasList queues.now.setup.caps from }
+        ensures { self.new ≡ record self.old { notes = cond (is_batch_of queues.now.setup entry.now) (notes_without from self.old.notes) self.old.notes } }
     {
         if !queues.is_batch(entry) {
             return;
@@ -29,8 +29,8 @@ impl Engines {
 
     // What runs gives its read buffers back.
     fn release(&mut self, queues: &Queues, engine: Option<u16>, entry: &Entry)
-        requires { MayRelease queues.now self.old engine entry.now }
-        ensures { self.new ≡ record self.old { buffers = buffers_after_removal queues.now self.old engine entry.now } }
+        requires { MayRelease queues.now.setup self.old engine entry.now }
+        ensures { self.new ≡ record self.old { buffers = buffers_after_removal queues.now.setup self.old engine entry.now } }
     {
         if let Some(engine) = engine {
             self.give_back(self.home(engine), queues.held_by(entry));
@@ -41,10 +41,10 @@ impl Engines {
     ///
     /// One that runs gives its read buffers back, and a well-formed Batch in progress takes the engine's note along.
     pub fn removed(&mut self, queues: &Queues, from: ListUse, entry: &Entry)
-        requires notes { length self.old.notes ≡ queues.now.caps.engines }
-        requires list { HasList queues.now.caps from }
-        requires held { MayRelease queues.now self.old (engine_of from) entry.now }
-        ensures { self.new ≡ gear_after_removal queues.now from entry.now self.old }
+        requires notes { length self.old.notes ≡ queues.now.setup.caps.engines }
+        requires list { HasList queues.now.setup.caps from }
+        requires held { MayRelease queues.now.setup self.old (engine_of from) entry.now }
+        ensures { self.new ≡ gear_after_removal queues.now.setup from entry.now self.old }
     {
         self.release(queues, from.engine(), entry);
         self.drop_note(queues, from, entry);

@@ -4,10 +4,11 @@ ghost use Rattle.std.specs.Prelude.{◌≡◌, ℕ, ◌<◌, ◌≤◌, ◌+◌,
 ghost use Rattle.dsa_base.specs.Rows.{passes};
 ghost use Rattle.dsa_desc.specs.Descriptor.{is_fenced};
 ghost use Rattle.dsa_regs.specs.Buffers.{fits};
-ghost use Rattle.dsa_store.specs.Content.{chain, is_cell};
+ghost use Rattle.dsa_store.specs.Content.{after_give_back, chain, is_cell};
 ghost use Rattle.dsa_book.specs.declared.note.BatchNote.{BatchNote};
 ghost use Rattle.dsa_book.specs.declared.fate.Fate.TheVariants.{Abandoned};
 ghost use Rattle.dsa_book.specs.Work.{members, start, fate_row, with_note};
+ghost use Rattle.dsa_queues.specs.Queues.{IsCounted};
 ghost use Rattle.dsa_engines.specs.Engines.{work, lists_alone, IsInStep, Holds, WaitInOrder};
 
 use crate::Engines;
@@ -38,11 +39,14 @@ fn waits_at_fence<S: EntryStore>(store: &S, list: ListId, cell: Cell, entry: &En
     }
 }
 
-// A row for each entry of the list, front first.
-fn abandon_all<S: EntryStore>(store: &S, book: &mut Book, list: ListId)
+// A row for each entry of the list, front first, and none of them is counted any more.
+fn abandon_all<S: EntryStore>(queues: &mut Queues, store: &S, book: &mut Book, list: ListId)
     requires list { list.0 < length (S.content store.now) }
+    requires counted { IsCounted queues.old (S.content store.now) }
     requires room { length book.old.fates + length (chain (S.content store.now) list.0) ≤ book.old.capacity }
-    ensures { book.new ≡ record book.old { fates = book.old.fates ++ map (fate_row Abandoned) (chain (S.content store.now) list.0) } }
+    ensures counted { IsCounted queues.new (after_give_back (S.content store.now) list.0) }
+    ensures setup { queues.new.setup ≡ queues.old.setup }
+    ensures rows { book.new ≡ record book.old { fates = book.old.fates ++ map (fate_row Abandoned) (chain (S.content store.now) list.0) } }
 {
     for (_, entry) in slots(store, list) {
         book.add_row(FateRow {
@@ -50,6 +54,7 @@ fn abandon_all<S: EntryStore>(store: &S, book: &mut Book, list: ListId)
             parent: entry.parent,
             fate: Fate::Abandoned,
         });
+        queues.left(entry.queue);
     }
 }
 
@@ -103,18 +108,20 @@ impl Engines {
     /// Looks at the members up to the first that waits, and at all of them where they are abandoned.
     pub fn start<S: EntryStore>(
         &mut self,
-        queues: &Queues,
+        queues: &mut Queues,
         store: &mut S,
         book: &mut Book,
         engine: u16,
     ) -> StartAnswer
-        requires in_step { IsInStep queues.now self.old (S.cells store.old) (S.content store.old) }
-        requires order { WaitInOrder (members (lists_alone queues.now (S.content store.old)) engine) }
-        requires room { length book.old.fates + length (members (lists_alone queues.now (S.content store.old)) engine) ≤ book.old.capacity }
-        ensures step { start (work queues.now self.old (S.content store.old) book.old.fates) engine
-            ≡ (result, work queues.now self.new (S.content store.new) book.new.fates) }
+        requires in_step { IsInStep queues.old.setup self.old (S.cells store.old) (S.content store.old) }
+        requires counted { IsCounted queues.old (S.content store.old) }
+        requires order { WaitInOrder (members (lists_alone queues.old.setup (S.content store.old)) engine) }
+        requires room { length book.old.fates + length (members (lists_alone queues.old.setup (S.content store.old)) engine) ≤ book.old.capacity }
+        ensures step { start (work queues.old.setup self.old (S.content store.old) book.old.fates) engine
+            ≡ (result, work queues.new.setup self.new (S.content store.new) book.new.fates) }
         ensures book { book.new ≡ record book.old { fates = book.new.fates } }
-        ensures in_step { IsInStep queues.now self.new (S.cells store.new) (S.content store.new) }
+        ensures in_step { IsInStep queues.new.setup self.new (S.cells store.new) (S.content store.new) }
+        ensures counted { IsCounted queues.new (S.content store.new) }
     {
         let caps = queues.caps();
         if engine >= caps.engines {
@@ -128,7 +135,7 @@ impl Engines {
             return StartAnswer::FenceWait;
         }
         if self.fails_at_fence(engine, &entry) {
-            abandon_all(store, book, list);
+            abandon_all(queues, store, book, list);
             self.close_note(engine);
             return StartAnswer::Abandoned(store.give_back(list));
         }

@@ -10,7 +10,7 @@ ghost use Rattle.dsa_book.specs.State.{any_in, is_off, need_of, is_batch_of, is_
 ghost use Rattle.dsa_book.specs.declared.answer.Reply.TheVariants as reply;
 ghost use Rattle.dsa_book.specs.Choice.{choice_of};
 ghost use Rattle.dsa_book.specs.Work.{qualifies, may_leave, dispatch, progress_list, as_running, opened_note, with_note};
-ghost use Rattle.dsa_queues.specs.Queues.{IsStoreFor};
+ghost use Rattle.dsa_queues.specs.Queues.{IsCounted, IsStoreFor};
 ghost use Rattle.dsa_engines.specs.Engines.{work, IsInStep, IsOpen};
 
 use crate::Engines;
@@ -41,9 +41,9 @@ fn run_front<S: EntryStore>(store: &mut S, from: ListId, to: ListId, front: (Cel
 
 // Whether a well-formed Drain is in progress on the engine.
 fn is_draining<S: EntryStore>(queues: &Queues, store: &S, engine: u16) -> bool
-    requires store { IsStoreFor queues.now.caps (S.cells store.now) (S.content store.now) }
-    requires engine { engine < queues.now.caps.engines }
-    ensures { result ≡ any_in (is_drain_of queues.now) (chain (S.content store.now) (progress_list queues.now engine)) }
+    requires store { IsStoreFor queues.now.setup.caps (S.cells store.now) (S.content store.now) }
+    requires engine { engine < queues.now.setup.caps.engines }
+    ensures { result ≡ any_in (is_drain_of queues.now.setup) (chain (S.content store.now) (progress_list queues.now.setup engine)) }
 {
     let progress = queues.list(ListUse::Progress(engine));
     slots(store, progress).any(|slot| queues.is_drain(&slot.1))
@@ -52,9 +52,9 @@ fn is_draining<S: EntryStore>(queues: &Queues, store: &S, engine: u16) -> bool
 impl Engines {
     // The engine's group, where the engine has a slot left.
     fn open_group<S: EntryStore>(&self, queues: &Queues, store: &S, engine: u16) -> Option<u16>
-        requires in_step { IsInStep queues.now self.now (S.cells store.now) (S.content store.now) }
-        ensures none { IfNone result ((q : ℕ) → qualifies (work queues.now self.now (S.content store.now) []) engine q ≡ false) }
-        ensures some { IfSome result (λ group. is_off queues.now.device ≡ false → IsOpen queues.now (S.content store.now) engine group) }
+        requires in_step { IsInStep queues.now.setup self.now (S.cells store.now) (S.content store.now) }
+        ensures none { IfNone result ((q : ℕ) → qualifies (work queues.now.setup self.now (S.content store.now) []) engine q ≡ false) }
+        ensures some { IfSome result (λ group. is_off queues.now.setup.device ≡ false → IsOpen queues.now.setup (S.content store.now) engine group) }
     {
         let caps = queues.caps();
         if engine >= caps.engines {
@@ -76,13 +76,13 @@ impl Engines {
         group: u16,
         entry: &Entry,
     ) -> bool
-        requires store { IsStoreFor queues.now.caps (S.cells store.now) (S.content store.now) }
-        requires engine { engine < queues.now.caps.engines }
+        requires store { IsStoreFor queues.now.setup.caps (S.cells store.now) (S.content store.now) }
+        requires engine { engine < queues.now.setup.caps.engines }
         requires group { group < length self.now.buffers.groups }
-        ensures { result ≡ (fits self.now.buffers.total self.now.buffers.groups self.now.buffers.used group (need_of queues.now entry.now)
-            && (is_none (get_or self.now.notes engine None) || not (is_batch_of queues.now entry.now))
-            && not (is_drain_of queues.now entry.now
-            && any_in (is_drain_of queues.now) (chain (S.content store.now) (progress_list queues.now engine)))) }
+        ensures { result ≡ (fits self.now.buffers.total self.now.buffers.groups self.now.buffers.used group (need_of queues.now.setup entry.now)
+            && (is_none (get_or self.now.notes engine None) || not (is_batch_of queues.now.setup entry.now))
+            && not (is_drain_of queues.now.setup entry.now
+            && any_in (is_drain_of queues.now.setup) (chain (S.content store.now) (progress_list queues.now.setup engine)))) }
     {
         if !self.fits(group, queues.need(entry)) {
             return false;
@@ -103,10 +103,10 @@ impl Engines {
         group: u16,
         queue: u16,
     ) -> bool
-        requires in_step { IsInStep queues.now self.now (S.cells store.now) (S.content store.now) }
-        requires group { is_off queues.now.device ≡ false → IsOpen queues.now (S.content store.now) engine group }
-        requires served { has (group_at queues.now.groups group).queues queue ≡ true }
-        ensures { result ≡ qualifies (work queues.now self.now (S.content store.now) []) engine queue }
+        requires in_step { IsInStep queues.now.setup self.now (S.cells store.now) (S.content store.now) }
+        requires group { is_off queues.now.setup.device ≡ false → IsOpen queues.now.setup (S.content store.now) engine group }
+        requires served { has (group_at queues.now.setup.groups group).queues queue ≡ true }
+        ensures { result ≡ qualifies (work queues.now.setup self.now (S.content store.now) []) engine queue }
     {
         if !queues.has_queue(queue) {
             return false;
@@ -137,11 +137,11 @@ impl Engines {
         best: Option<u16>,
         queue: u16,
     ) -> bool
-        requires in_step { IsInStep queues.now self.now (S.cells store.now) (S.content store.now) }
-        requires group { is_off queues.now.device ≡ false → IsOpen queues.now (S.content store.now) engine group }
-        requires served { has (group_at queues.now.groups group).queues queue ≡ true }
-        ensures better { result ≡ true → qualifies (work queues.now self.now (S.content store.now) []) engine queue ≡ true }
-        ensures first { best ≡ None → result ≡ qualifies (work queues.now self.now (S.content store.now) []) engine queue }
+        requires in_step { IsInStep queues.now.setup self.now (S.cells store.now) (S.content store.now) }
+        requires group { is_off queues.now.setup.device ≡ false → IsOpen queues.now.setup (S.content store.now) engine group }
+        requires served { has (group_at queues.now.setup.groups group).queues queue ≡ true }
+        ensures better { result ≡ true → qualifies (work queues.now.setup self.now (S.content store.now) []) engine queue ≡ true }
+        ensures first { best ≡ None → result ≡ qualifies (work queues.now.setup self.now (S.content store.now) []) engine queue }
     {
         if let Some(other) = best {
             if !self.goes_before(queues, group, queue, other) {
@@ -159,11 +159,11 @@ impl Engines {
         engine: u16,
         group: u16,
     ) -> Option<u16>
-        requires in_step { IsInStep queues.now self.now (S.cells store.now) (S.content store.now) }
-        requires group { is_off queues.now.device ≡ false → IsOpen queues.now (S.content store.now) engine group }
+        requires in_step { IsInStep queues.now.setup self.now (S.cells store.now) (S.content store.now) }
+        requires group { is_off queues.now.setup.device ≡ false → IsOpen queues.now.setup (S.content store.now) engine group }
         ensures { MatchOption result
-            ((q : ℕ) → qualifies (work queues.now self.now (S.content store.now) []) engine q ≡ false)
-            (λ queue. qualifies (work queues.now self.now (S.content store.now) []) engine queue ≡ true) }
+            ((q : ℕ) → qualifies (work queues.now.setup self.now (S.content store.now) []) engine q ≡ false)
+            (λ queue. qualifies (work queues.now.setup self.now (S.content store.now) []) engine queue ≡ true) }
     {
         let config = queues.group(group);
         let mut best = None;
@@ -180,7 +180,7 @@ impl Engines {
     // A well-formed Batch opens a note.
     fn open_note(&mut self, queues: &Queues, engine: u16, entry: &Entry)
         requires { engine < length self.old.notes }
-        ensures { self.new ≡ record self.old { notes = cond (is_batch_of queues.now entry.now) (with_note self.old.notes engine (Some (opened_note entry.now))) self.old.notes } }
+        ensures { self.new ≡ record self.old { notes = cond (is_batch_of queues.now.setup entry.now) (with_note self.old.notes engine (Some (opened_note entry.now))) self.old.notes } }
     {
         if queues.is_batch(entry) {
             self.set_note(
@@ -209,13 +209,15 @@ impl Engines {
         store: &mut S,
         engine: u16,
     ) -> DispatchAnswer
-        requires in_step { IsInStep queues.now self.old (S.cells store.old) (S.content store.old) }
+        requires in_step { IsInStep queues.now.setup self.old (S.cells store.old) (S.content store.old) }
+        requires counted { IsCounted queues.now (S.content store.old) }
         ensures step { (fates : List FateRow)
-            → dispatch (work queues.now self.old (S.content store.old) fates) engine (choice_of (reply.Dispatch result))
-            ≡ (result, work queues.now self.new (S.content store.new) fates) }
-        ensures free { may_leave (work queues.now self.old (S.content store.old) []) engine (choice_of (reply.Dispatch result))
+            → dispatch (work queues.now.setup self.old (S.content store.old) fates) engine (choice_of (reply.Dispatch result))
+            ≡ (result, work queues.now.setup self.new (S.content store.new) fates) }
+        ensures free { may_leave (work queues.now.setup self.old (S.content store.old) []) engine (choice_of (reply.Dispatch result))
             ≡ true }
-        ensures in_step { IsInStep queues.now self.new (S.cells store.new) (S.content store.new) }
+        ensures in_step { IsInStep queues.now.setup self.new (S.cells store.new) (S.content store.new) }
+        ensures counted { IsCounted queues.now (S.content store.new) }
     {
         let Some(group) = self.open_group(queues, store, engine) else {
             return DispatchAnswer::Idle;

@@ -11,5 +11,5 @@ returns-clause-in_step g c =
     ≡ only_where (λ entry. not (is_in_scope (scope_of c.args.command.now) entry))
     (g.S.EntryStore.content c.args.store.now) = sym (ap (λ (w : Work). w.content) c.abort-aborted.ensures.work) in
     rw (c.reset_scope.ensures, c.scope.ensures)
-    (in_step-reset (scope_of c.args.command.now) c.args.queues.now _
+    (in_step-reset (scope_of c.args.command.now) c.args.queues.now.setup _
     (g.S.EntryStore.content c.args.store.now) _ left c.abort-aborted.ensures.in_step)

@@ -7,4 +7,4 @@ use Rattle.dsa_admin.proofs.Resizing.{reset-named}
 pub returns-in_default : goal.returns-in_default
 returns-in_default c =
     c.keep_sizes.ensures ∙ ap (with_sizes_alone (queues_in c.args.scope.now)) c.set_phases.ensures
-    ∙ sym (reset-named c.args.scope.now c.args.queues.now c.in_default.not-Device)
+    ∙ sym (reset-named c.args.scope.now c.args.queues.now.setup c.in_default.not-Device)

@@ -28,7 +28,7 @@ loop-place-preserved-then-not-is_in_scope g c =
     record {
       here = c.next-at.ensures ∙ t.next;
       withdrawn = withdrawn-stays t w scope;
-      notes = notes-stay c.args.queues.now (scope_of c.args.command.now) c.list_use-from.result _ t.stands scope
+      notes = notes-stay c.args.queues.now.setup (scope_of c.args.command.now) c.list_use-from.result _ t.stands scope
           c.loop-place.invariant.notes;
       in_step = c.loop-place.invariant.in_step;
     }
@@ -59,7 +59,7 @@ loop-place-preserved g c =
     record {
       here = c.next-at.ensures ∙ t.next;
       withdrawn = withdrawn-leaves t w scope c.unlink.ensures.after c.row_of.ensures c.add_row.ensures;
-      notes = notes-leave c.args.queues.now (scope_of c.args.command.now) c.list_use-from.result _ t.stands
+      notes = notes-leave c.args.queues.now.setup (scope_of c.args.command.now) c.list_use-from.result _ t.stands
           c.loop-place.engines scope c.loop-place.invariant.notes c.removed.ensures;
       in_step = rw (c.unlink.ensures.after, c.removed.ensures) (in_step-removed c.loop-place.invariant.in_step
           (once c.in-Some.cell) t.now_stands c.list_use-from.result c.unlink.ensures.cells

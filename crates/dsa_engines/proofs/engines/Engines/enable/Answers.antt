@@ -11,7 +11,7 @@ returns-clause-in_step c cells content store none = record {
   notes = ap (λ (x : Gear). length x.notes) c.self.view_is ∙ c.requires.notes;
   homes = λ on. c.homes-self-inside.ensures;
   buffers = λ on.
-      let len : length c.args.queues.now.groups ≡ c.args.queues.now.caps.groups = omega arith in
+      let len : length c.args.queues.now.setup.groups ≡ c.args.queues.now.setup.caps.groups = omega arith in
       rw (c.new-self-inside.ensures, c.caps.ensures.value, c.groups.ensures)
-      (buffers-at_rest c.args.queues.now content len none);
+      (buffers-at_rest c.args.queues.now.setup content len none);
 }
