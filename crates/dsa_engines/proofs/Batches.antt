@@ -3,12 +3,14 @@ use Rattle.std.proofs.Common.{◌≡◌, ℕ, ◌+◌, ◌<◌, true, false, ◌
 use Rattle.std.proofs.Common.{sym, arith, inr}
 use Rattle.std.proofs.lemmas.{Bool.{lt-ltb}, List.{length-set}}
 use Rattle.std.specs.List.{find}
+use Rattle.dsa_base.{specs.Lists.{In}, proofs.Lists.{In-find}}
 use Rattle.dsa_desc.specs.{declared.Descriptor.{Descriptor}, Descriptor.{with_pasid}}
 use Rattle.dsa_store.specs.{declared.entry.{Cell.{Cell}, Entry.{Entry}}, Content.{Slot, Content, chain, after_push}}
 use Rattle.dsa_store.proofs.Lists.{length-pushed}
 use Rattle.dsa_book.specs.declared.{note.BatchNote.{BatchNote}, answer.FetchAnswer.TheVariants.{Fetched}}
 use Rattle.dsa_book.specs.declared.fate.FateRow.{FateRow}
-use Rattle.dsa_book.specs.{State.{Setup}, Work.{progress_list, member_list, fetch, is_all_fetched}}
+use Rattle.dsa_book.specs.{State.{Setup, has_queue}, Work.{progress_list, member_list, fetch, is_all_fetched}}
+use Rattle.dsa_queues.{specs.Queues.{Kept, IsCounted}, proofs.Counts.{named-in}}
 use Rattle.dsa_engines.specs.Engines.{Gear, work, IsInStep, is_fetching}
 use Rattle.dsa_engines.proofs.Keeping.{awake-found, in_step-moved}
 use Rattle.dsa_engines.proofs.Used.{load-push, buffers-same, written-less}
@@ -17,6 +19,16 @@ use Rattle.dsa_engines.proofs.Used.{load-push, buffers-same, written-less}
 in_step-next_name : {cells : ℕ} {setup : Setup} {gear : Gear} {content : Content} (name : ℕ)
     → IsInStep setup gear cells content → IsInStep (record setup { next_name = name }) gear cells content
 in_step-next_name name s = assumption
+
+-- the batch is held, so it names a queue of the device
+pub batch-named : {cells : ℕ} {k : Kept} {gear : Gear} {content : Content} {e i : ℕ} {batch : Slot}
+    (name : ℕ) → IsInStep k.setup gear cells content → IsCounted k content → e < k.setup.caps.engines
+    → i ≡ progress_list k.setup e → find (λ slot. slot.1.name == name) (chain content i) ≡ Some batch
+    → has_queue k.setup batch.1.queue ≡ true
+batch-named {k = k} {content = content} {i = i} {batch = batch} name s c he ie found =
+    let at : In batch (chain content i) = (In-find (λ (slot : Slot). slot.1.name == name) batch (chain content i) found).0
+    in
+    named-in k content i batch (omega (arith, s.store.lists, he, ie)) at c
 
 module _ {cells : ℕ} {setup : Setup} {gear : Gear} {content : Content} {e i : ℕ} {note : BatchNote} {batch : Slot}
     (s : IsInStep setup gear cells content) (he : e < setup.caps.engines) (ie : i ≡ progress_list setup e)

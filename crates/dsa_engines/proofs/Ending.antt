@@ -1,5 +1,5 @@
 -- What an entry that ends leaves.
-use Rattle.std.proofs.Common.{◌≡◌, ℕ, ◌≤◌, false, List, ◌∷◌, ◌++◌, get_or, Option, Some, None, refl, []}
+use Rattle.std.proofs.Common.{◌≡◌, ℕ, ◌≤◌, false, List, ◌∷◌, ◌++◌, get_or, Option, Some, None, refl, [], arith}
 use Rattle.std.proofs.lemmas.List.{length-set}
 use Rattle.std.specs.List.{find}
 use Rattle.dsa_store.specs.{declared.entry.{Cell.{Cell}, Entry.{Entry}}, Content.{Content, use_count, after_unlink}}
@@ -9,6 +9,7 @@ use Rattle.dsa_book.specs.declared.fate.{FateRow.{FateRow}, Fate.TheVariants.{Co
 use Rattle.dsa_book.specs.State.{Setup, need_of, is_ticket}
 use Rattle.dsa_book.specs.Work.{with_note, running_on, must_wait, last_status, note_after, finish}
 use Rattle.dsa_desc.specs.declared.Outcome.{Outcome}
+use Rattle.dsa_queues.{specs.Queues.{Kept, IsCounted}, proofs.Counts.{Leaves, unlinked-leaves}}
 use Rattle.dsa_engines.specs.Engines.{Gear, work, lists_alone, IsInStep, buffers_after_return, Holds}
 use Rattle.dsa_engines.proofs.{Finding.{RunsAt}, Leaving.{gives, in_step-left}, Used.{held-is}}
 
@@ -27,6 +28,13 @@ module _ {cells : ℕ} {setup : Setup} {gear : Gear} {content : Content} {e n : 
   in_step-ended new same ge ae is =
       rw (ae, ge, is, he, ne, ← held-is setup entry at.running)
       (in_step-left s once at.stands same at.engine at.mine (length-set gear.notes e new))
+
+-- and it is counted no more
+pub leaves-ended : {cells : ℕ} {k : Kept} {gear : Gear} {content : Content} {e : ℕ} {cell : Cell} {entry : Entry}
+    → IsInStep k.setup gear cells content → use_count content cell ≤ 1 → RunsAt k.setup content e cell entry
+    → IsCounted k content → Leaves k (after_unlink content cell) entry.queue
+leaves-ended {k = k} {content = content} {cell = cell} {entry = entry} s once at = unlinked-leaves k content at.list
+    at.place cell entry once (omega (arith, s.store.lists, at.engine, at.mine)) at.stands
 
 -- the step, by what the calls answer one after another
 pub finish-done : {setup : Setup} {gave after : Gear} {now : Content} {more : List FateRow} {entry : Entry} {status : ℕ}

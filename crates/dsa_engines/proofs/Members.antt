@@ -16,6 +16,7 @@ use Rattle.dsa_book.specs.declared.{note.BatchNote.{BatchNote}, answer.StartAnsw
 use Rattle.dsa_book.specs.declared.fate.FateRow.{FateRow}
 use Rattle.dsa_book.specs.State.{Setup, is_off, need_of, held_by}
 use Rattle.dsa_book.specs.Work.{member_list, members, with_first_run, with_running_entry, as_running, has_room, start}
+use Rattle.dsa_queues.{specs.Queues.{Kept, IsCounted}, proofs.Counts.{counted-replaced}}
 use Rattle.dsa_engines.specs.Engines.{Gear, work, lists_alone, Holds, IsInStep, WaitInOrder}
 use Rattle.dsa_engines.proofs.{Homes.{home-of}, Keeping.{awake-found, in_step-moved}}
 use Rattle.dsa_engines.proofs.Used.{load, load-nil, load-cons, load-set, held-is, none-load, HoldsMore, gives-back}
@@ -101,6 +102,16 @@ none-runs setup (x ∷ l) s once h here order =
     ]
 
 -- ---- a start
+
+-- the member that runs now counts as it did
+pub started-counted : {cells : ℕ} {k : Kept} {gear : Gear} {content now : Content} {e i : ℕ} {cell : Cell} {entry : Entry}
+    → IsInStep k.setup gear cells content → ((c : Cell) → use_count content c ≤ 1) → e < k.setup.caps.engines
+    → i ≡ member_list k.setup e → find waits (chain content i) ≡ Some (cell, entry) → IsCounted k content
+    → now ≡ after_set content cell (as_running entry) → IsCounted k now
+started-counted {k = k} {content = content} {i = i} {cell = cell} {entry = entry} s once he ie h c is =
+    let w = waits-in (chain content i) (cell, entry) h in
+    rw is (counted-replaced k content i w.place cell entry (as_running entry) (once cell)
+    (omega (arith, s.store.lists, he, ie)) (record { within = w.within; slot = w.slot }) refl c)
 
 module _ {cells : ℕ} {setup : Setup} {gear : Gear} {content : Content} {e i : ℕ} {cell : Cell} {entry : Entry}
     (s : IsInStep setup gear cells content) (once : (c : Cell) → use_count content c ≤ 1)

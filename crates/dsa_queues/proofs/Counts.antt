@@ -1,12 +1,15 @@
 -- The numbers of held entries that name each queue, as entries come and go.
-use Rattle.std.proofs.Common.{◌≡◌, ℕ, ◌+◌, ◌-◌, ◌<◌, ◌==◌, Bool, true, not, cond, List, [], length, map, replicate, set, get_or}
+use Rattle.std.proofs.Common.{◌≡◌, ℕ, ◌+◌, ◌-◌, ◌<◌, ◌≤◌, ◌==◌, Bool, true, not, cond, List, [], ◌∷◌, drop, length, map}
+use Rattle.std.proofs.Common.{replicate, set, get_or, slice_get, Some, inl, inr}
 use Rattle.std.proofs.Common.{refl, sym, ap, ◌∙◌, arith, eq-eqb}
-use Rattle.std.proofs.lemmas.{List.{nil_from_length, Sums.{count_by-le-length}}, Bool.{ltb-true}}
-use Rattle.dsa_base.specs.Numbers.{numbers_below}
+use Rattle.std.proofs.lemmas.{List.{length-set, nil_from_length, Sums.{count_by-le-length, sum_by-cons}}, Bool.{ltb-true}}
+use Rattle.std.specs.List.{sum_by}
+use Rattle.dsa_base.specs.{Numbers.{numbers_below}, Lists.{In}}
 use Rattle.dsa_base.proofs.NumberLists.{length-each, get_or-each, given-back, raised-table, same-table, zero-table}
 use Rattle.dsa_store.specs.declared.entry.{Cell.{Cell}, Entry.{Entry}}
-use Rattle.dsa_store.specs.Content.{Content, all_held, count_where, held_count, after_push}
-use Rattle.dsa_store.proofs.Sums.{held-counted, sum-pushed}
+use Rattle.dsa_store.specs.Content.{Slot, Content, StandsAt, chain, all_held, count_where, use_count, held_count}
+use Rattle.dsa_store.specs.Content.{after_push, after_set, after_unlink, without_front}
+use Rattle.dsa_store.proofs.Sums.{held-counted, sum-set, sum-pushed, sum-without_front, sum-unlinked, sum-replaced}
 use Rattle.dsa_book.specs.State.{Setup, has_queue}
 use Rattle.dsa_queues.specs.Queues.{Kept, IsCounted, held_of}
 
@@ -100,3 +103,80 @@ counted-pushed k content now list cell e is h there c =
       entered-room k.setup content now e.queue there one k.held c,
       counted-entered k.setup content now e.queue there one k.held c,
     )
+
+-- ---- an entry that leaves
+
+-- the device has the queue, its number is not 0, and with one less the numbers are the counts of what stays
+pub record Leaves (k : Kept) (less : Content) (q : ℕ) : Type 0 where
+  pub there : has_queue k.setup q ≡ true
+  pub some : 0 < get_or k.held q 0
+  pub counted : IsCounted (record k { held = set k.held q (get_or k.held q 0 - 1) }) less
+
+-- where one less names queue q
+pub leaves : (k : Kept) (less more : Content) (q : ℕ)
+    → ((test : ℕ → Bool) → naming test more ≡ naming test less + cond (test q) 1 0) → IsCounted k more
+    → Leaves k less q
+leaves k less more q one c =
+    let there : has_queue k.setup q ≡ true =
+    let here = one (λ n. not (has_queue k.setup n)) in
+    grind (arith, here, c.named) in
+    let left = counted-left k.setup less more q there one k.held c in
+    record { there = there; some = left.0; counted = left.1 }
+
+-- a cell that is unlinked
+pub unlinked-leaves : (k : Kept) (content : Content) (i p : ℕ) (cell : Cell) (e : Entry) → use_count content cell ≤ 1
+    → i < length content → StandsAt content i p cell e → IsCounted k content
+    → Leaves k (after_unlink content cell) e.queue
+unlinked-leaves k content i p cell e once h at = leaves k (after_unlink content cell) content e.queue
+    (λ test. sym (sum-unlinked (λ slot. cond (test slot.1.queue) 1 0) content i p cell e once h at))
+
+-- the first of what is left of a list
+pub first-leaves : (k : Kept) (content : Content) (i : ℕ) (s : Slot) (rest : List Slot) → i < length content
+    → IsCounted k (set content i (s ∷ rest)) → Leaves k (set content i rest) s.1.queue
+first-leaves k content i s rest h = leaves k (set content i rest) (set content i (s ∷ rest)) s.1.queue (λ test.
+    let f : Slot → ℕ = λ slot. cond (test slot.1.queue) 1 0 in
+    omega (arith, sum-set f content i (s ∷ rest) h, sum-set f content i rest h, sum_by-cons f s rest))
+
+-- ---- an entry that stays
+
+-- a front that is taken goes to another list, and runs there
+pub counted-moved : (k : Kept) (content : Content) (from to : ℕ) (front : Slot) (e : Entry) → from < length content
+    → to < length content → slice_get (chain content from) 0 ≡ Some front → e.queue ≡ front.1.queue
+    → IsCounted k content → IsCounted k (after_push (without_front content from) to front.0 e)
+counted-moved k content from to front e hf ht is same = counted-same k content _ (λ test.
+    let f : Slot → ℕ = λ slot. cond (test slot.1.queue) 1 0 in
+    let within : to < length (without_front content from) =
+    rw (length-set content from (drop 1 (chain content from))) ht in
+    omega (
+      arith,
+      sum-pushed f (without_front content from) to front.0 e within,
+      sum-without_front f content from front (drop 1 (chain content from)) hf (front-first (chain content from) front is),
+      ap (λ n. cond {A = ℕ} (test n) 1 0) same,
+    ))
+  where
+    front-first : (l : List Slot) (s : Slot) → slice_get l 0 ≡ Some s → l ≡ s ∷ drop 1 l
+    front-first [] s h = absurd cc
+    front-first (x ∷ l) s h = let one : x ≡ s = cc in ap (λ y. y ∷ l) one
+
+-- an entry that begins to run where it stands
+pub counted-replaced : (k : Kept) (content : Content) (i p : ℕ) (cell : Cell) (e new : Entry) → use_count content cell ≤ 1
+    → i < length content → StandsAt content i p cell e → new.queue ≡ e.queue → IsCounted k content
+    → IsCounted k (after_set content cell new)
+counted-replaced k content i p cell e new once h at same = counted-same k content _ (λ test.
+    sum-replaced (λ slot. cond (test slot.1.queue) 1 0) content i p cell e new once h at
+    (ap (λ n. cond {A = ℕ} (test n) 1 0) same))
+
+-- one of a list counts in its sum
+In-sum : (f : Slot → ℕ) (s : Slot) (l : List Slot) → In s l → f s ≤ sum_by f l
+In-sum f s [] at = absurd at
+In-sum f s (x ∷ l) (inl is) = omega (arith, sum_by-cons f x l, ap f is)
+In-sum f s (x ∷ l) (inr at) = omega (arith, sum_by-cons f x l, In-sum f s l at)
+
+-- what stands in a list names a queue of the device
+pub named-in : (k : Kept) (content : Content) (i : ℕ) (s : Slot) → i < length content → In s (chain content i)
+    → IsCounted k content → has_queue k.setup s.1.queue ≡ true
+named-in k content i s h at c =
+    let f : Slot → ℕ = λ slot. cond (not (has_queue k.setup slot.1.queue)) 1 0 in
+    let most = In-sum f s (chain content i) at in
+    let all = sum-set f content i [] h in
+    grind (arith, most, all, c.named)

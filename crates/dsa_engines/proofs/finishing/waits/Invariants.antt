@@ -5,4 +5,4 @@ use Rattle.dsa_engines.proofs.Draining.{waits_on}
 
 abbrev pub invariant-loop-engine : goal.invariant-loop-engine
 invariant-loop-engine g l =
-    list_any (waits_on l.queues (g.S.EntryStore.content l.store) l.drain) (numbers_below l.engine) ≡ false
+    list_any (waits_on l.queues.setup (g.S.EntryStore.content l.store) l.drain) (numbers_below l.engine) ≡ false
