@@ -2,3 +2,4 @@ pub mod Withdrawals
 pub mod Notes
 pub mod Commands
 pub mod Resizing
+pub mod Counting

@@ -1,8 +1,8 @@
 -- The notes of the engines, as a command takes entries out of the lists one after the other.
-use Rattle.std.proofs.Common.{◌≡◌, ℕ, suc, ◌+◌, ◌-◌, ◌*◌, ◌<◌, ◌≤◌, Bool, true, false, cond, ◌&&◌, ◌||◌, min, List, []}
+use Rattle.std.proofs.Common.{◌≡◌, ℕ, suc, ◌+◌, ◌-◌, ◌*◌, ◌<◌, ◌≤◌, Bool, true, false, cond, ◌&&◌, ◌||◌, min, List, [], ◌++◌}
 use Rattle.std.proofs.Common.{◌∷◌, take, length, set, get_or, map, Option, None, refl, sym, ap, ◌∙◌, arith}
 use Rattle.std.proofs.lemmas.List.{set-set, set-get_or, take_more, Folds.{list_any-append}}
-use Rattle.dsa_regs.specs.declared.{Scope.{Scope}, layout.ListUse.{ListUse, TheVariants.{Queue, Progress, Members}}}
+use Rattle.dsa_regs.specs.declared.{Scope.{Scope, TheVariants.{Device}}, layout.ListUse.{ListUse, TheVariants.{Queue, Progress, Members}}}
 use Rattle.dsa_regs.specs.Caps.{list_count, list_use}
 use Rattle.dsa_regs.proofs.CapsLemmas.{IsUse, read-back}
 use Rattle.dsa_base.{specs.Numbers.{numbers_below}, proofs.Renewing.{renewed, renewed-set, renewed-next, renewed-all}}
@@ -66,6 +66,21 @@ module _ (setup : Setup) (scope : Scope) (from : ListUse) (first : List (Option 
           ≡ cond (b && true) (notes_without from gear.notes) gear.notes
       same true = refl
       same false = refl
+
+-- where all are meant, one place more
+pub notes-taken : {after : Gear} (setup : Setup) (from : ListUse) (first : List (Option BatchNote)) (xs : List Slot)
+    (s : Slot) (gear : Gear) → gear.notes ≡ notes_left setup Device from xs first
+    → after ≡ gear_after_removal setup from s.1 gear → after.notes ≡ notes_left setup Device from (xs ++ s ∷ []) first
+notes-taken setup from first xs s gear is step =
+    ap (λ (g : Gear). g.notes) step ∙ same (is_batch_of setup s.1)
+    ∙ rw is (sym (gone-with from first (takes_batch setup Device xs) (is_batch_of setup s.1 && is_in_scope Device s.1)))
+    ∙ ap (λ (b : Bool). cond b (notes_without from first) first) (sym (list_any-append
+    (λ (slot : Slot). is_batch_of setup slot.1 && is_in_scope Device slot.1) xs (s ∷ [])))
+  where
+    same : (b : Bool) → cond b (notes_without from gear.notes) gear.notes
+        ≡ cond (b && true) (notes_without from gear.notes) gear.notes
+    same true = refl
+    same false = refl
 
 -- ---- the lists
 

@@ -3,9 +3,10 @@ use Rattle.std.proofs.Common.{◌≡◌, ℕ, ◌+◌, ◌<◌, ◌≤◌, true,
 use Rattle.std.proofs.Common.{map, set, Option, Some, None, refl, sym, subst, append_assoc, ap, ◌∙◌, arith}
 use Rattle.std.proofs.Common.{length-append}
 use Rattle.std.proofs.lemmas.Grind.{common_steps, flat_map-append}
-use Rattle.std.proofs.lemmas.List.{length-map, map-append, append-nil, take_more, Edits.{map_over_more}}
+use Rattle.std.proofs.lemmas.List.{length-map, length-set, map-append, append-nil, take_more, Edits.{map_over_more}}
 use Rattle.std.proofs.lemmas.List.{Elements.{filter-append, filter_more}, Filters.{length-filter_both}}
 use Rattle.std.specs.List.{filter}
+use Rattle.dsa_regs.specs.declared.Scope.{Scope, TheVariants.{Device}}
 use Rattle.dsa_regs.specs.{declared.Command.{Command}, Command.{number_of, scope_of}}
 use Rattle.dsa_store.specs.declared.entry.{Cell.{Cell}, Entry.{Entry}}
 use Rattle.dsa_store.specs.Content.{Slot, Content, chain, use_count, held_count, first_cell, entry_of, next_of}
@@ -28,6 +29,12 @@ pub record IsWithdrawn (command : Command) (content : Content) (first : Records)
   pub left : now ≡ thinned (is_spared command) content i k
   pub rows : book ≡ record first { fates = first.fates ++ rows_of command (take k (chain content i)) }
   pub room : length book.fates + held_count now ≤ book.capacity
+
+-- and the lists are as many
+pub withdrawn-list : {command : Command} {content now : Content} {first book : Records} {i k : ℕ}
+    → IsWithdrawn command content first i k now book → i < length content → i < length now
+withdrawn-list {command = command} {content = content} {i = i} {k = k} w h =
+    rw (w.left, length-set content i (filter (is_spared command) (take k (chain content i)) ++ drop k (chain content i))) h
 
 -- what is known of the cell at place k, with the entry that the store gives for it
 pub record LooksAt (command : Command) (content : Content) (i k : ℕ) (now : Content) (cell : Cell)
@@ -173,6 +180,31 @@ module _ {command : Command} {content now : Content} {first book : Records} {n :
           s.room,
         ));
       }
+
+-- ---- a command that is about all
+
+module _ (command : Command) (all : scope_of command ≡ Device) where
+  -- nothing of a list stays
+  pub spares-none : (l : List Slot) → filter (is_spared command) l ≡ []
+  spares-none l = ap (λ (s : Scope). filter (λ (x : Slot). not (is_in_scope s x.1)) l) all ∙ none l
+    where
+      none : (l : List Slot) → filter (λ (s : Slot). false) l ≡ []
+      none [] = refl
+      none (s ∷ l) = none l
+
+  -- one place more is one row more
+  pub rows-pushed : (l : List Slot) (s : Slot) → rows_of command (l ++ s ∷ []) ≡ rows_of command l ++ row_of command s.1 ∷ []
+  rows-pushed l s = rw (filter-append (is_meant command) l (s ∷ []), all)
+      (map-append (fate_row (Aborted (number_of command))) _ (s ∷ []))
+
+-- a list has no fewer places than rows
+pub rows-few : (command : Command) (l : List Slot) → length (rows_of command l) ≤ length l
+rows-few command l =
+    omega (
+      arith,
+      length-filter_both (is_meant command) (is_spared command) (λ x. refl) l,
+      length-map (filter (is_meant command) l) (fate_row (Aborted (number_of command))),
+    )
 
 -- ---- an abort as a whole
 

@@ -224,8 +224,9 @@ impl Admin {
             → IsAwaiting self.old queues.old.setup.next_name content
             → poll (state queues.old.setup gear content fates self.old.active)
             ≡ (result, state queues.new.setup gear content fates self.new.active) }
-        ensures in_step { (gear : Gear) (cells : ℕ) (content : Content) → IsInStep queues.old.setup gear cells content
-            → IsInStep queues.new.setup gear cells content }
+        ensures in_step { (gear : Gear) (cells : ℕ) (content : Content) → IsCounted queues.old content
+            → IsAwaiting self.old queues.old.setup.next_name content
+            → IsInStep queues.old.setup gear cells content → IsInStep queues.new.setup gear cells content }
         ensures counted { (content : Content) → IsCounted queues.old content → IsCounted queues.new content }
         ensures awaiting { (content : Content) → IsAwaiting self.old queues.old.setup.next_name content
             → IsAwaiting self.new queues.new.setup.next_name content }

@@ -1,8 +1,8 @@
 //! Whether a command has to wait.
 
-ghost use Rattle.std.specs.Prelude.{◌≡◌, ◌<◌, length, not, true};
+ghost use Rattle.std.specs.Prelude.{◌≡◌, ◌<◌, ◌^◌, length, not, true};
 ghost use Rattle.std.specs.List.{count_by};
-ghost use Rattle.dsa_store.specs.Content.{Content, chain, count_where};
+ghost use Rattle.dsa_store.specs.Content.{Content, chain, count_where, held_count};
 ghost use Rattle.dsa_book.specs.State.{holds_any};
 ghost use Rattle.dsa_book.specs.Commands.{is_at_end, is_in_scope};
 ghost use Rattle.dsa_queues.specs.Queues.{IsCounted};
@@ -16,7 +16,8 @@ use dsa_store::{EntryStore, ListId, slots};
 
 // How many entries of the list the command counts.
 fn count_in<S: EntryStore>(store: &S, active: &ActiveCommand, list: ListId) -> u32
-    requires { list.0 < length (S.content store.now) }
+    requires list { list.0 < length (S.content store.now) }
+    requires few { held_count (S.content store.now) < 2 ^ 32 }
     ensures { result ≡ count_by (λ slot. is_watched active.now slot.1) (chain (S.content store.now) list.0) }
 {
     let mut count = 0;
@@ -33,6 +34,10 @@ pub(crate) fn count_watched<S: EntryStore>(store: &S, active: &ActiveCommand) ->
     ensures { result ≡ count_where (is_watched active.now) (S.content store.now) }
 {
     if !is_counting(active.command.deed()) {
+        return 0;
+    }
+    // Nothing is held.
+    if store.free() == store.cells() {
         return 0;
     }
     let mut count = 0;

@@ -92,10 +92,10 @@ fn give_back<S: EntryStore>(
     ensures counted { IsCounted queues.new (S.content store.new) }
 {
     let from = queues.list_use(list);
-    for (_, entry) in slots(store, list) {
-        book.add_row(row_of(command, &entry));
-        engines.removed(queues, from, &entry);
-        queues.left(entry.queue);
+    for (_, held) in slots(store, list) {
+        book.add_row(row_of(command, &held));
+        engines.removed(queues, from, &held);
+        queues.left(held.queue);
     }
     let _ = store.give_back(list);
 }
