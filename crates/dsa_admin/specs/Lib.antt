@@ -1,1 +1,2 @@
 pub mod Admin
+pub mod Worked

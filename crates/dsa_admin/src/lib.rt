@@ -5,6 +5,7 @@ mod abort;
 mod admin;
 mod ends;
 mod refusals;
+pub mod rows;
 mod scope;
 mod withdrawal;
 
