@@ -3,7 +3,7 @@
 ghost use Rattle.std.specs.Prelude.{◌≡◌, ℕ, ◌<◌, ◌&&◌, ◌||◌, ◌==◌, [], length, find, option_map};
 ghost use Rattle.dsa_store.specs.declared.entry.Cell.{Cell};
 ghost use Rattle.dsa_store.specs.Content.{Content, chain};
-ghost use Rattle.dsa_book.specs.State.{is_ticket, any_in};
+ghost use Rattle.dsa_book.specs.State.{is_batch_of, is_ticket, any_in};
 ghost use Rattle.dsa_book.specs.Work.{running_on, is_unfinished, waits_for, waits, must_wait, last_status, note_after, with_note, finish};
 ghost use Rattle.dsa_queues.specs.Queues.{IsCounted, IsStoreFor};
 ghost use Rattle.dsa_engines.specs.Engines.{work, lists_alone, IsInStep, IsInPlace};
@@ -111,39 +111,57 @@ impl Engines {
         store: &S,
         engine: u16,
         entry: &Entry,
+        is_batch: bool,
     ) -> bool
+        requires batch { is_batch ≡ is_batch_of queues.now.setup entry.now }
         requires store { IsStoreFor queues.now.setup.caps (S.cells store.now) (S.content store.now) }
         requires placed { IsInPlace queues.now.setup (S.content store.now) }
         requires engine { engine < queues.now.setup.caps.engines }
         ensures { result ≡ must_wait (work queues.now.setup self.now (S.content store.now) []) engine entry.now }
     {
-        if queues.is_batch(entry) && self.is_unfinished(queues, store, engine) {
-            return true;
+        if is_batch {
+            return self.is_unfinished(queues, store, engine);
         }
         queues.is_drain(entry) && waits(queues, store, entry)
     }
 
     // The status of an entry that ends.
     #[inline(always)]
-    fn last_status(&self, queues: &Queues, engine: u16, entry: &Entry, outcome: Outcome) -> u8
+    fn last_status(
+        &self,
+        queues: &Queues,
+        engine: u16,
+        entry: &Entry,
+        is_batch: bool,
+        outcome: Outcome,
+    ) -> u8
+        requires batch { is_batch ≡ is_batch_of queues.now.setup entry.now }
         ensures { (content : Content) (cell : Cell) → result ≡ last_status (work queues.now.setup self.now content []) engine (cell, entry.now) outcome }
     {
         match self.note(engine) {
-            Some(note) if note.failed && queues.is_batch(entry) => 0x05,
+            Some(note) if is_batch && note.failed => 0x05,
             _ => queues.status(entry, outcome),
         }
     }
 
     // Writes what the engine's note is after the entry ends, where it changes.
     #[inline(always)]
-    fn write_note_after(&mut self, queues: &Queues, engine: u16, entry: &Entry, outcome: Outcome)
-        requires { engine < length self.old.notes }
+    fn write_note_after(
+        &mut self,
+        queues: &Queues,
+        engine: u16,
+        entry: &Entry,
+        is_batch: bool,
+        outcome: Outcome,
+    )
+        requires engine { engine < length self.old.notes }
+        requires batch { is_batch ≡ is_batch_of queues.now.setup entry.now }
         ensures { (content : Content) (cell : Cell) → self.new ≡ record self.old {
           notes = with_note self.old.notes engine
               (note_after (work queues.now.setup self.old content []) engine (cell, entry.now) outcome);
         } }
     {
-        if queues.is_batch(entry) {
+        if is_batch {
             self.set_note(engine, None);
             return;
         }
@@ -191,12 +209,13 @@ impl Engines {
         let Some(entry) = find_running(queues, store, engine, ticket) else {
             return FinishAnswer::Gone;
         };
-        if self.must_wait(queues, store, engine, &entry) {
+        let is_batch = queues.is_batch(&entry);
+        if self.must_wait(queues, store, engine, &entry, is_batch) {
             return FinishAnswer::NotReady;
         }
-        let status = self.last_status(queues, engine, &entry, outcome);
+        let status = self.last_status(queues, engine, &entry, is_batch, outcome);
         self.give_back(self.home(engine), queues.need(&entry));
-        self.write_note_after(queues, engine, &entry, outcome);
+        self.write_note_after(queues, engine, &entry, is_batch, outcome);
         let _ = store.unlink(ticket.cell);
         queues.left(entry.queue);
         book.add_row(FateRow {
