@@ -5,7 +5,7 @@ use Rattle.std.proofs.lemmas.List.{length_push, drop_at, drop_all, append-nil}
 use Rattle.dsa_book.specs.declared.{answer.Reply.{Reply}, event.{Event.{Event}, Step.{Step}}}
 use Rattle.dsa_book.specs.Machine.{is_stored, history_after}
 use Rattle.dsa_device.{specs.Running.{Running, after_answer}, proofs.Steps.{grows}}
-use Rattle.dsa_shared.specs.Seat.{SeatLog, with_step, noted}
+use Rattle.dsa_shared.specs.Seat.{SeatLog, with_step, with_receipt}
 
 grown : (h t : List Step) (x : Step) → t ≡ history_after h x → (length h ≤ length t) × (length t ≤ length h + 1)
 grown h t x s = let e = ap (λ (xs : List Step). length xs) s in go (is_stored x.reply) e
@@ -37,7 +37,7 @@ gained receipts h d t e r same a =
 -- a numbered seat after a step, from what it has inside
 pub seat_after : (inside seat : SeatLog) (after : List Step) (event_by : ℕ → Event) (r : Reply)
     → inside ≡ seat → after ≡ with_step inside.receipts (event_by inside.number) r
-    → record { number = inside.number; receipts = after } ≡ noted seat (event_by seat.number) r
+    → record { number = inside.number; receipts = after } ≡ with_receipt seat (event_by seat.number) r
 seat_after inside seat after event_by r same is =
     ap (λ (xs : List Step). let s : SeatLog = record { number = inside.number; receipts = xs } in s) is
-    ∙ ap (λ (s : SeatLog). noted s (event_by s.number) r) same
+    ∙ ap (λ (s : SeatLog). with_receipt s (event_by s.number) r) same

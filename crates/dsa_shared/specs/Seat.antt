@@ -27,9 +27,9 @@ AllFresh n seats = (length seats ≡ n) × ((k : ℕ) (d : SeatLog) → k < n �
 abbrev pub with_step : List Step → Event → Reply → List Step
 with_step receipts event reply = history_after receipts (record { event = event; reply = reply })
 
--- a seat after a step
-abbrev pub noted : SeatLog → Event → Reply → SeatLog
-noted seat event reply = record { number = seat.number; receipts = with_step seat.receipts event reply }
+-- a seat with the receipt of one more step
+abbrev pub with_receipt : SeatLog → Event → Reply → SeatLog
+with_receipt seat event reply = record { number = seat.number; receipts = with_step seat.receipts event reply }
 
 abbrev pub client_of : SeatLog → Actor
 client_of seat = Client seat.number

@@ -5,7 +5,7 @@ ghost use Rattle.dsa_regs.specs.Caps.{cell_count};
 ghost use Rattle.dsa_desc.specs.Descriptor.{read};
 ghost use Rattle.dsa_book.specs.declared.event.Event.TheVariants as event;
 ghost use Rattle.dsa_book.specs.declared.answer.Reply.TheVariants as reply;
-ghost use Rattle.dsa_shared.specs.Seat.{noted, with_step};
+ghost use Rattle.dsa_shared.specs.Seat.{with_receipt, with_step};
 
 use crate::blanks::Sharing;
 use crate::locked;
@@ -43,7 +43,7 @@ impl<S: EntryStore, L: Sharing> SharedDevice<S, L> {
         kind: Kind,
         bytes: &[u8; 64],
     ) -> SubmitAnswer
-        ensures { seat.new ≡ noted seat.old (event.Submit seat.old.number queue portal kind (read bytes.now))
+        ensures { seat.new ≡ with_receipt seat.old (event.Submit seat.old.number queue portal kind (read bytes.now))
             (reply.Submit result) }
     {
         locked::submit(&mut self.locked.lock(rt), seat, queue, portal, kind, bytes)
@@ -56,7 +56,7 @@ impl<S: EntryStore, L: Sharing> SharedDevice<S, L> {
         rt: &R,
         seat: &mut EngineSeat<L, A>,
     ) -> DispatchAnswer
-        ensures { seat.new ≡ noted seat.old (event.Dispatch seat.old.number) (reply.Dispatch result) }
+        ensures { seat.new ≡ with_receipt seat.old (event.Dispatch seat.old.number) (reply.Dispatch result) }
     {
         locked::dispatch(&mut self.locked.lock(rt), seat)
     }
@@ -69,7 +69,7 @@ impl<S: EntryStore, L: Sharing> SharedDevice<S, L> {
         seat: &mut EngineSeat<L, A>,
         desc: Descriptor,
     ) -> FetchAnswer
-        ensures { seat.new ≡ noted seat.old (event.Fetch seat.old.number desc) (reply.Fetch result) }
+        ensures { seat.new ≡ with_receipt seat.old (event.Fetch seat.old.number desc) (reply.Fetch result) }
     {
         locked::fetch(&mut self.locked.lock(rt), seat, desc)
     }
@@ -77,7 +77,7 @@ impl<S: EntryStore, L: Sharing> SharedDevice<S, L> {
     /// The engine of the seat starts the first of its members that does not run.
     #[inline(always)]
     pub fn start<R: Wait, A: Allocator>(&self, rt: &R, seat: &mut EngineSeat<L, A>) -> StartAnswer
-        ensures { seat.new ≡ noted seat.old (event.Start seat.old.number) (reply.Start result) }
+        ensures { seat.new ≡ with_receipt seat.old (event.Start seat.old.number) (reply.Start result) }
     {
         locked::start(&mut self.locked.lock(rt), seat)
     }
@@ -91,7 +91,7 @@ impl<S: EntryStore, L: Sharing> SharedDevice<S, L> {
         ticket: Ticket,
         outcome: Outcome,
     ) -> FinishAnswer
-        ensures { seat.new ≡ noted seat.old (event.Finish seat.old.number ticket outcome)
+        ensures { seat.new ≡ with_receipt seat.old (event.Finish seat.old.number ticket outcome)
             (reply.Finish result) }
     {
         locked::finish(&mut self.locked.lock(rt), seat, ticket, outcome)

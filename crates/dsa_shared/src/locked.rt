@@ -8,7 +8,7 @@ ghost use Rattle.dsa_desc.specs.Descriptor.{read};
 ghost use Rattle.dsa_book.specs.declared.event.Event.TheVariants as event;
 ghost use Rattle.dsa_book.specs.declared.answer.Reply.TheVariants as reply;
 ghost use Rattle.dsa_device.specs.Running.{after_answer};
-ghost use Rattle.dsa_shared.specs.Seat.{noted, with_step};
+ghost use Rattle.dsa_shared.specs.Seat.{with_receipt, with_step};
 
 mod checks;
 mod kept;
@@ -75,7 +75,7 @@ pub fn submit<S: EntryStore, L: Sharing, A: Allocator>(
 ) -> SubmitAnswer
     ensures step { after_answer locked.old (event.Submit seat.old.number queue portal kind (read bytes.now)) (reply.Submit result)
         ≡ Some locked.new }
-    ensures receipts { seat.new ≡ noted seat.old (event.Submit seat.old.number queue portal kind (read bytes.now))
+    ensures receipts { seat.new ≡ with_receipt seat.old (event.Submit seat.old.number queue portal kind (read bytes.now))
         (reply.Submit result) }
 {
     noting!(
@@ -93,7 +93,7 @@ pub fn dispatch<S: EntryStore, L: Sharing, A: Allocator>(
 ) -> DispatchAnswer
     ensures step { after_answer locked.old (event.Dispatch seat.old.number) (reply.Dispatch result)
         ≡ Some locked.new }
-    ensures receipts { seat.new ≡ noted seat.old (event.Dispatch seat.old.number) (reply.Dispatch result) }
+    ensures receipts { seat.new ≡ with_receipt seat.old (event.Dispatch seat.old.number) (reply.Dispatch result) }
 {
     noting!(locked, seat, |device| device.dispatch(seat.number))
 }
@@ -107,7 +107,7 @@ pub fn fetch<S: EntryStore, L: Sharing, A: Allocator>(
 ) -> FetchAnswer
     ensures step { after_answer locked.old (event.Fetch seat.old.number desc) (reply.Fetch result)
         ≡ Some locked.new }
-    ensures receipts { seat.new ≡ noted seat.old (event.Fetch seat.old.number desc) (reply.Fetch result) }
+    ensures receipts { seat.new ≡ with_receipt seat.old (event.Fetch seat.old.number desc) (reply.Fetch result) }
 {
     noting!(locked, seat, |device| device.fetch(seat.number, desc))
 }
@@ -119,7 +119,7 @@ pub fn start<S: EntryStore, L: Sharing, A: Allocator>(
     seat: &mut EngineSeat<L, A>,
 ) -> StartAnswer
     ensures step { after_answer locked.old (event.Start seat.old.number) (reply.Start result) ≡ Some locked.new }
-    ensures receipts { seat.new ≡ noted seat.old (event.Start seat.old.number) (reply.Start result) }
+    ensures receipts { seat.new ≡ with_receipt seat.old (event.Start seat.old.number) (reply.Start result) }
 {
     noting!(locked, seat, |device| device.start(seat.number))
 }
@@ -134,7 +134,7 @@ pub fn finish<S: EntryStore, L: Sharing, A: Allocator>(
 ) -> FinishAnswer
     ensures step { after_answer locked.old (event.Finish seat.old.number ticket outcome) (reply.Finish result)
         ≡ Some locked.new }
-    ensures receipts { seat.new ≡ noted seat.old (event.Finish seat.old.number ticket outcome)
+    ensures receipts { seat.new ≡ with_receipt seat.old (event.Finish seat.old.number ticket outcome)
         (reply.Finish result) }
 {
     noting!(

@@ -16,7 +16,7 @@ use Rattle.dsa_book.specs.declared.answer.Reply.{Reply}
 use Rattle.dsa_book.specs.declared.answer.Reply.TheVariants.{Submit, Dispatch, Fetch, Start, Finish, Issue, Poll}
 use Rattle.dsa_book.specs.declared.answer.Reply.TheVariants.{Write, Clear}
 use Rattle.dsa_book.specs.{Machine.{is_stored, history_after, stored_steps}, Totals.{total_accepted, is_accepted}}
-use Rattle.dsa_workers.specs.Calls.{InOrder, is_answer, is_full, goes_on, passed, found_full, waits, submission}
+use Rattle.dsa_workers.specs.Calls.{InOrder, is_answer, is_full, goes_on, steps_done, found_full, waits, submission}
 use Rattle.dsa_workers.specs.Calls.{NextSubmission, NextCommand}
 use Rattle.dsa_workers.specs.Workers.{Grows, RunsScript, RunsClient, RunsAdmin}
 use Rattle.dsa_workers.specs.declared.scripts.{ClientStep.{ClientStep}, Stint.{Stint}}
@@ -43,9 +43,9 @@ in_order_more {T} next xs x old last k d lt = elim (cases_lt k (length xs)) [
 
 -- ---- what one more call changes
 
-pub passed_more : (calls : List Step) (call : Step)
-    → passed (calls ++ call ∷ []) ≡ passed calls + cond (goes_on call.reply) 1 0
-passed_more calls call = sum_by_push (λ (c : Step). cond (goes_on c.reply) 1 0) calls call
+pub steps_done-more : (calls : List Step) (call : Step)
+    → steps_done (calls ++ call ∷ []) ≡ steps_done calls + cond (goes_on call.reply) 1 0
+steps_done-more calls call = sum_by_push (λ (c : Step). cond (goes_on c.reply) 1 0) calls call
 
 pub found_more : (calls : List Step) (call : Step)
     → found_full (calls ++ call ∷ []) ≡ found_full calls + cond (is_full call.reply) 1 0
@@ -103,7 +103,7 @@ pub record SoFar (next : List Step → Step → Type 0) (steps : ℕ) (old new :
   pub in_order : InOrder next calls
   pub stops : InOrder (λ before call. found_full before ≡ 0) calls
   pub turns : length calls ≡ turn
-  pub passed : passed calls ≡ at
+  pub steps_done : steps_done calls ≡ at
   pub room : found_full calls ≡ 0
   pub short : at ≤ steps
 
@@ -114,7 +114,7 @@ so_far_none next steps old = record {
   in_order = in_order_none next;
   stops = in_order_none (λ before call. found_full before ≡ 0);
   turns = refl;
-  passed = refl;
+  steps_done = refl;
   room = refl;
   short = omega arith;
 }
@@ -159,8 +159,8 @@ full_stays (Clear answer) full = refl
 
 -- what follows of a worker's calls, however it ended
 ended_so : (next : List Step → Step → Type 0) (steps limit : ℕ) (old new calls : List Step) (stint : Stint)
-    → Called next old new calls stint.turns → stint.turns ≤ limit → passed calls ≤ steps
-    → ((stint.ended ≡ ScriptDone) ↔ (passed calls ≡ steps)) → (stint.ended ≡ TurnsOut → stint.turns ≡ limit)
+    → Called next old new calls stint.turns → stint.turns ≤ limit → steps_done calls ≤ steps
+    → ((stint.ended ≡ ScriptDone) ↔ (steps_done calls ≡ steps)) → (stint.ended ≡ TurnsOut → stint.turns ≡ limit)
     → ((stint.ended ≡ HistoryFull) ↔ (0 < found_full calls))
     → RunsScript next steps limit old new stint
 ended_so next steps limit old new calls stint c within short done out full = record {
@@ -200,7 +200,7 @@ so_far_more next steps old mid new turn at after call so follows is room below n
       in_order = c.in_order;
       stops = c.stops;
       turns = c.turns;
-      passed = omega (arith, passed_more so.calls call, so.passed);
+      steps_done = omega (arith, steps_done-more so.calls call, so.steps_done);
       room = omega (arith, found_more so.calls call, so.room);
       short = omega arith;
     }
@@ -220,10 +220,10 @@ ends_full next steps limit old mid new turn at call so follows is full below wit
     let none : cond {A = ℕ} (goes_on call.reply) 1 0 ≡ 0 =
     count_of (goes_on call.reply) false (full_stays call.reply full) in
     let found = found_more so.calls call in
-    let through = passed_more so.calls call in
+    let through = steps_done-more so.calls call in
     ended_so next steps limit old new (so.calls ++ call ∷ []) (record { turns = turn + 1; ended = HistoryFull })
-    (called next steps old mid new turn at call so follows is) (omega arith) (omega (arith, through, so.passed))
-    ((λ e. absurd cc), (λ e. absurd (omega (arith, through, so.passed, e)))) (λ e. absurd cc)
+    (called next steps old mid new turn at call so follows is) (omega arith) (omega (arith, through, so.steps_done))
+    ((λ e. absurd cc), (λ e. absurd (omega (arith, through, so.steps_done, e)))) (λ e. absurd cc)
     ((λ e. omega (arith, found, so.room)), (λ e. refl))
 
 -- the end of the script
@@ -233,8 +233,8 @@ pub ends_done : (next : List Step → Step → Type 0) (steps limit : ℕ) (old 
 ends_done next steps limit old new turn turns at so had through within =
     ended_so next steps limit old new so.calls (record { turns = turns; ended = ScriptDone })
     (subst (λ n. Called next old new so.calls n) had (as_it_is next steps old new turn at so)) within
-    (omega (arith, so.passed, so.short))
-    ((λ e. omega (arith, so.passed, so.short)), (λ e. refl)) (λ e. absurd cc)
+    (omega (arith, so.steps_done, so.short))
+    ((λ e. omega (arith, so.steps_done, so.short)), (λ e. refl)) (λ e. absurd cc)
     ((λ e. absurd cc), (λ e. absurd (omega (arith, so.room, e))))
 
 -- no turn is left
@@ -244,8 +244,8 @@ pub ends_out : (next : List Step → Step → Type 0) (steps limit : ℕ) (old n
 ends_out next steps limit old new turn at so had below =
     ended_so next steps limit old new so.calls (record { turns = limit; ended = TurnsOut })
     (subst (λ n. Called next old new so.calls n) had (as_it_is next steps old new turn at so)) (omega arith)
-    (omega (arith, so.passed, so.short))
-    ((λ e. absurd cc), (λ e. absurd (omega (arith, so.passed, e)))) (λ e. refl)
+    (omega (arith, so.steps_done, so.short))
+    ((λ e. absurd cc), (λ e. absurd (omega (arith, so.steps_done, e)))) (λ e. refl)
     ((λ e. absurd cc), (λ e. absurd (omega (arith, so.room, e))))
 
 -- ---- what was accepted
@@ -266,7 +266,7 @@ accepted_goes (Clear answer) = omega arith
 
 -- no more is accepted than the worker is through with
 pub accepts_by : (old new calls : List Step) → new ≡ old ++ stored_steps calls
-    → total_accepted new ≤ total_accepted old + passed calls
+    → total_accepted new ≤ total_accepted old + steps_done calls
 accepts_by old new calls is =
     let f = λ (c : Step). cond (is_accepted c.reply) 1 0 in
     let all = ap total_accepted is in
@@ -279,8 +279,8 @@ accepts_by old new calls is =
 -- ---- clients
 
 pub client_next : (client mine : ℕ) (script : List ClientStep) (at : ℕ) (e : ClientStep) (calls : List Step)
-    → mine ≡ client → passed calls ≡ at → at < length script
-    → (d : ClientStep) → submission mine (get_or script at e) ≡ submission client (get_or script (passed calls) d)
+    → mine ≡ client → steps_done calls ≡ at → at < length script
+    → (d : ClientStep) → submission mine (get_or script at e) ≡ submission client (get_or script (steps_done calls) d)
 client_next client mine script at e calls same through below d =
     ap (λ n. submission n (get_or script at e)) same
     ∙ ap (submission client) (get_or_default script at e d below ∙ ap (λ n. get_or script n d) (sym through))
@@ -306,9 +306,9 @@ unfolding so_far_none
 asks_none script old = record { so_far = so_far_none (NextCommand script) (length script) old; waits = refl }
 
 admin_next : (script : List Command) (at : ℕ) (asks : Bool) (e : Command) (calls : List Step) → waits calls ≡ asks
-    → passed calls ≡ at → at < length script
+    → steps_done calls ≡ at → at < length script
     → (d : Command) → cond {A = Event} asks Poll (Issue (get_or script at e))
-    ≡ cond {A = Event} (waits calls) Poll (Issue (get_or script (passed calls) d))
+    ≡ cond {A = Event} (waits calls) Poll (Issue (get_or script (steps_done calls) d))
 admin_next script at asks e calls w through below d =
     ap (λ (b : Bool). cond {A = Event} b Poll (Issue (get_or script at e))) (sym w)
     ∙ ap (λ (c : Command). cond {A = Event} (waits calls) Poll (Issue c)) (get_or_default script at e d below
@@ -330,7 +330,7 @@ asks_more script old mid new turn at after asks e reply was answer is room below
     let call : Step = record { event = cond {A = Event} asks Poll (Issue (get_or script at e)); reply = reply } in
     record {
       so_far = so_far_more (NextCommand script) (length script) old mid new turn at after call was.so_far
-          (answer, admin_next script at asks e was.so_far.calls was.waits was.so_far.passed below) is room below moved;
+          (answer, admin_next script at asks e was.so_far.calls was.waits was.so_far.steps_done below) is room below moved;
       waits = waits_more was.so_far.calls call;
     }
 
@@ -348,4 +348,4 @@ pub asks_full : (script : List Command) (limit : ℕ) (old mid new : List Step) 
 asks_full script limit old mid new turn at asks e reply was answer is full below within =
     ends_full (NextCommand script) (length script) limit old mid new turn at
     (record { event = cond {A = Event} asks Poll (Issue (get_or script at e)); reply = reply }) was.so_far
-    (answer, admin_next script at asks e was.so_far.calls was.waits was.so_far.passed below) is full below within
+    (answer, admin_next script at asks e was.so_far.calls was.waits was.so_far.steps_done below) is full below within

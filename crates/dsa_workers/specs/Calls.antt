@@ -17,7 +17,7 @@ use Rattle.dsa_book.specs.declared.answer.Reply.TheVariants.{Submit, Dispatch, F
 use Rattle.dsa_book.specs.declared.event.Event.{Event}
 use Rattle.dsa_book.specs.declared.event.Event.TheVariants.{Submit, Dispatch, Fetch, Start, Finish, Issue, Poll}
 use Rattle.dsa_book.specs.declared.event.Step.{Step}
-use Rattle.dsa_shared.specs.Seat.{SeatLog, noted}
+use Rattle.dsa_shared.specs.Seat.{SeatLog, with_receipt}
 use Rattle.dsa_workers.specs.declared.scripts.{ClientStep.{ClientStep}, EngineScript.{EngineScript}}
 
 -- each of these is what may come after those before it
@@ -62,8 +62,8 @@ abbrev pub IsAnswered : Step → Type 0
 IsAnswered call = is_answer call.event call.reply ≡ true
 
 -- how many steps of its script the worker is through with after these calls
-abbrev pub passed : List Step → ℕ
-passed calls = count_by (λ call. goes_on call.reply) calls
+abbrev pub steps_done : List Step → ℕ
+steps_done calls = count_by (λ call. goes_on call.reply) calls
 
 -- how many of these calls found the history full
 abbrev pub found_full : List Step → ℕ
@@ -80,13 +80,13 @@ submission client step = Submit client step.queue step.portal step.kind (read st
 -- a client submits the first step of its script that it is not through with
 abbrev pub NextSubmission : ℕ → List ClientStep → List Step → Step → Type 0
 NextSubmission client script calls call =
-    IsAnswered call × ((d : ClientStep) → call.event ≡ submission client (slice_index_or script (passed calls) d))
+    IsAnswered call × ((d : ClientStep) → call.event ≡ submission client (slice_index_or script (steps_done calls) d))
 
 -- the administrator asks after a command that waits, and else issues the first one that it is not
 -- through with
 abbrev pub NextCommand : List Command → List Step → Step → Type 0
 NextCommand script calls call = IsAnswered call
-    × ((d : Command) → call.event ≡ cond (waits calls) Poll (Issue (slice_index_or script (passed calls) d)))
+    × ((d : Command) → call.event ≡ cond (waits calls) Poll (Issue (slice_index_or script (steps_done calls) d)))
 
 -- the tickets of an engine's worker, oldest first, and the room for more
 pub record Pending : Type 0 where
@@ -131,7 +131,7 @@ call_of _ _ = None
 
 -- a seat after a turn
 abbrev pub after_turn : SeatLog → Option Step → SeatLog
-after_turn seat turn = option_map_or (λ call. noted seat call.event call.reply) turn seat
+after_turn seat turn = option_map_or (λ call. with_receipt seat call.event call.reply) turn seat
 
 -- the turn of an engine's worker after those before it
 abbrev pub NextTurn : ℕ → EngineScript → List (Option Step) → Option Step → Type 0

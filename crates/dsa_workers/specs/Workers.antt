@@ -8,7 +8,7 @@ use Rattle.dsa_shared.specs.Seat.{SeatLog}
 use Rattle.dsa_workers.specs.declared.scripts.{ClientStep.{ClientStep}, EngineScript.{EngineScript}, Stint.{Stint}}
 use Rattle.dsa_workers.specs.declared.scripts.WorkerEnd.TheVariants.{ScriptDone, TurnsOut, HistoryFull}
 use Rattle.dsa_workers.specs.declared.scripts.RunReport.{RunReport}
-use Rattle.dsa_workers.specs.Calls.{InOrder, passed, found_full, NextSubmission, NextCommand, NextTurn, calls_of}
+use Rattle.dsa_workers.specs.Calls.{InOrder, steps_done, found_full, NextSubmission, NextCommand, NextTurn, calls_of}
 
 -- the receipts begin with the old ones, and at most so many were added
 pub record Grows (old new : List Step) (most : ℕ) : Type 0 where
@@ -25,8 +25,8 @@ pub record RunsScript (next : List Step → Step
   pub stops : InOrder (λ before call. found_full before ≡ 0) calls
   pub turns : length calls ≡ stint.turns
   pub within : stint.turns ≤ limit
-  pub short : passed calls ≤ steps
-  pub done : (stint.ended ≡ ScriptDone) ↔ (passed calls ≡ steps)
+  pub short : steps_done calls ≤ steps
+  pub done : (stint.ended ≡ ScriptDone) ↔ (steps_done calls ≡ steps)
   pub out_of_turns : stint.ended ≡ TurnsOut → stint.turns ≡ limit
   pub full : (stint.ended ≡ HistoryFull) ↔ (0 < found_full calls)
   pub grows : Grows old new stint.turns

@@ -1,7 +1,7 @@
 //! The workers of clients.
 
 ghost use Rattle.std.specs.Prelude.{◌≡◌, true, ◌<◌, ℕ, length, slice_index_or};
-ghost use Rattle.dsa_shared.specs.Seat.{noted};
+ghost use Rattle.dsa_shared.specs.Seat.{with_receipt};
 ghost use Rattle.dsa_workers.specs.Calls.{submission, is_answer};
 ghost use Rattle.dsa_workers.specs.Workers.{RunsClient};
 
@@ -24,7 +24,7 @@ fn turn_once<S: EntryStore, L: Sharing, G: Gate, R: Wait>(
     step: &ClientStep,
     seat: &mut ClientSeat<L>,
 ) -> Reply
-    ensures seat { seat.new ≡ noted seat.old (submission seat.old.number step.now) result }
+    ensures seat { seat.new ≡ with_receipt seat.old (submission seat.old.number step.now) result }
     ensures answer { is_answer (submission seat.old.number step.now) result ≡ true }
 {
     let ClientStep {

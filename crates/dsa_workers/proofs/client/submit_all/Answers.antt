@@ -24,7 +24,7 @@ returns-then-is_full g c =
       reply = c.turn_once-reply.result;
     } in
     let follows = client_next c.args.seat.now.number c.loop-turn.seat.number c.args.script.now c.loop-turn.at _
-    was.so_far.calls was.number was.so_far.passed (omega arith) in
+    was.so_far.calls was.number was.so_far.steps_done (omega arith) in
     client_runs _ _ _ _ _ (ap (λ s. s.number) c.turn_once-reply.ensures.seat ∙ was.number)
     (ends_full _ _ _ _ _ _ _ _ call was.so_far (c.turn_once-reply.ensures.answer, follows)
     (ap (λ s. s.receipts) c.turn_once-reply.ensures.seat) (sym c.is_full.ensures
@@ -39,7 +39,7 @@ loop-turn-preserved g c =
       reply = c.turn_once-reply.result;
     } in
     let follows = client_next c.args.seat.now.number c.loop-turn.seat.number c.args.script.now c.loop-turn.at _
-    was.so_far.calls was.number was.so_far.passed (omega arith) in
+    was.so_far.calls was.number was.so_far.steps_done (omega arith) in
     let moved : c.if-goes_on.at ≡ c.loop-turn.at + cond {A = ℕ} (goes_on c.turn_once-reply.result) 1 0 =
     elim c.if-goes_on.branch [
       | then-goes_on w ↦ moved_by (goes_on c.turn_once-reply.result) true _ _ (sym c.goes_on.ensures
