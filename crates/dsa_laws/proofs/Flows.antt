@@ -73,7 +73,7 @@ rows-counted g fates fate xs =
           (λ row. cond (g row) 1 0) (fate_row fate) xs,
     )
 
-sum-first_run : (f : Slot → ℕ) → ((slot : Slot) → f (with_running_entry slot) ≡ f slot) → (xs : List Slot)
+pub sum-first_run : (f : Slot → ℕ) → ((slot : Slot) → f (with_running_entry slot) ≡ f slot) → (xs : List Slot)
     → sum_by f (with_first_run xs) ≡ sum_by f xs
 sum-first_run f alike [] = refl
 sum-first_run f alike (x ∷ xs) = grind (arith, sum-first_run f alike xs, alike x, sum_by-cons f)
@@ -136,7 +136,7 @@ sum-front f [] front h = absurd cc
 sum-front f (x ∷ rest) front h = let is : x ≡ front = cc in omega (arith, sum_by-cons f x rest, ap f is)
 
 -- the sum where a front moves and runs
-sum-taken : (f : Slot → ℕ) → ((slot : Slot) → f (with_running_entry slot) ≡ f slot)
+pub sum-taken : (f : Slot → ℕ) → ((slot : Slot) → f (with_running_entry slot) ≡ f slot)
     → (content : Content) (q to : ℕ) (front : Slot) → q < length content → to < length content
     → slice_get (chain content q) 0 ≡ Some front
     → sum_by f (all_held (after_push (without_front content q) to front.0 (as_running front.1)))
