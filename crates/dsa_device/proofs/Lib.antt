@@ -1,5 +1,6 @@
 pub mod Known
 pub mod Steps
+pub mod Awaiting
 pub mod InStep
 pub mod Opening
 pub mod Runs

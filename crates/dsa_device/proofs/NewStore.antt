@@ -1,7 +1,7 @@
 -- A store that was made for a device is one of the device's.
 use Rattle.std.proofs.Common.{◌≡◌, ◌≤◌, ◌^◌, ℕ, true, List, [], length, replicate, None, refl, ap, ◌∙◌, arith, eq-eqb}
 use Rattle.std.proofs.lemmas.{Bool.{le-ltb}, List.{length-replicate, Folds.{sum_by-replicate}}}
-use Rattle.dsa_base.specs.Rows.{first_row, first_row_or}
+use Rattle.dsa_base.specs.Rows.{first_row}
 use Rattle.dsa_regs.specs.{declared.Caps.{Caps}, Caps.{check_caps, cell_count, list_count}}
 use Rattle.dsa_store.specs.Content.{Slot, Content, held_count}
 use Rattle.dsa_device.specs.Made.{is_store_of, opening_table, make_fault, fault_or_memory, opening_fault}

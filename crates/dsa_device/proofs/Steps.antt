@@ -14,7 +14,7 @@ use Rattle.dsa_engines.{specs.Engines.{Gear, IsInStep}, proofs.Keeping.{KeepsLoa
 use Rattle.dsa_device.proofs.Known.{well_formed, none-held_all, cells-are}
 use Rattle.dsa_device.specs.Running.{Running, running_after, after_answer, IsReplay, IsWhole}
 use Rattle.dsa_laws.proofs.{Changes.{next_keeps}, Entries.{none-held}}
-use Rattle.dsa_regs.specs.Caps.{cell_count}
+use Rattle.dsa_regs.specs.{declared.Caps.{Caps}, Caps.{cell_count}}
 
 -- what a reply came of: a history without room, or a step of the machine
 pub answered_by_cases : (P : Running → Type 0) (d t : Running) (e : Event) (r : Reply) → after_answer d e r ≡ Some t
@@ -78,6 +78,15 @@ pub answered-replay : (d t : Running) (e : Event) (r : Reply) → IsReplay d →
 answered-replay d t e r i a =
     answered_by_cases IsReplay d t e r a (λ room full. i) (λ s room n. recorded d (record { event = e; reply = r }) s
     i room n)
+
+-- the device has the queues that it had
+pub same-queues : (d now t : Running) (e : Event) (r : Reply) → IsReplay d → d ≡ now → after_answer now e r ≡ Some t
+    → t.state.work.setup.caps.queues ≡ d.state.work.setup.caps.queues
+same-queues d now t e r i is a =
+    let a = rw (← is) at a in
+    let caps = (well_formed t (answered-replay d t e r i a)).shape.same_caps ∙ (grows d t e r a).caps
+    ∙ sym (well_formed d i).shape.same_caps in
+    ap (λ (c : Caps). c.queues) caps
 
 -- a device with room that goes on by the machine's reply has answered it
 pub answered : (d now t : Running) (e : Event) (r : Reply) → d ≡ now → (length d.history == d.capacity) ≡ false

@@ -1,13 +1,17 @@
 -- A device as its callers see it, and what each call makes of it.
-use Rattle.std.specs.Prelude.{◌≡◌, ℕ, ◌^◌, ◌≤◌, ◌==◌, cond, true, IsTrue, List, [], length, Option, Some, option_map}
-use Rattle.dsa_base.specs.Rows.{when}
+use Rattle.std.specs.Prelude.{◌≡◌, ℕ, ◌^◌, ◌≤◌, ◌==◌, cond, true, IsTrue, List, [], length, Option, Some, None}
+use Rattle.std.specs.Prelude.{option_map, is_some}
+use Rattle.dsa_base.specs.Rows.{when, passes}
 use Rattle.dsa_regs.specs.{declared.Caps.{Caps}, Caps.{check_caps}}
-use Rattle.dsa_store.specs.Content.{Content}
+use Rattle.dsa_store.specs.{declared.entry.Entry.{Entry}, Content.{Content, entry_of}}
 use Rattle.dsa_book.specs.declared.{event.{Event.{Event}, Step.{Step}}, answer.Reply.{Reply}}
+use Rattle.dsa_book.specs.declared.answer.{Ticket.{Ticket}, FinishAnswer.{FinishAnswer, TheVariants.{Done}}}
 use Rattle.dsa_book.specs.declared.note.ActiveCommand.{ActiveCommand}
 use Rattle.dsa_book.specs.{Records.{Records}, State.{Setup, State, opening}}
 use Rattle.dsa_book.specs.Machine.{next, history_after, is_full, is_legal, replay}
+use Rattle.dsa_queues.specs.Queues.{Kept, IsCounted}
 use Rattle.dsa_engines.specs.Engines.{Gear, IsInStep, work}
+use Rattle.dsa_admin.specs.Admin.{Watch, IsAwaiting, is_counted_by}
 
 -- what a device has, for how many steps its history has room, the steps that it stored, and its state (profile)
 pub record Running : Type 0 where
@@ -59,3 +63,21 @@ running_of caps setup gear content active book = record {
 pub record IsWhole (cells : ℕ) (gear : Gear) (d : Running) : Type 0 where
   pub replay : IsReplay d
   pub in_step : IsInStep d.state.work.setup gear cells d.state.work.content
+
+-- the parts belong together, and the numbers that are kept are counts over the lists (profile)
+pub record IsRunning (cells : ℕ) (kept : Kept) (gear : Gear) (watch : Watch) (d : Running) : Type 0 where
+  pub whole : IsWhole cells gear d
+  pub counted : IsCounted kept d.state.work.content
+  pub awaiting : IsAwaiting watch d.state.work.setup.next_name d.state.work.content
+
+-- ---- the end of an entry that is awaited
+
+-- the entry in the ticket's cell, where a command is active (profile)
+abbrev pub watched_in : State → Ticket → Option Entry
+watched_in s ticket = cond (is_some s.active) (entry_of s.work.content ticket.cell) None
+
+-- how many of those that the active command counts this answer ends: one where it is Done and the
+-- entry that was read before it is such (profile)
+abbrev pub awaited_end : Watch → Option Entry → FinishAnswer → ℕ
+awaited_end watch entry (Done status) = cond (passes (is_counted_by watch) entry) 1 0
+awaited_end watch entry _ = 0

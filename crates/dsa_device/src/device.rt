@@ -1,13 +1,13 @@
 //! A device: how it is made, and its steps.
 
-ghost use Rattle.std.specs.Prelude.{◌≡◌, IsTrue, None, Some, IfOk, IfErr};
+ghost use Rattle.std.specs.Prelude.{◌≡◌, ◌≤◌, ◌-◌, IsTrue, None, Some, IfOk, IfErr};
 ghost use Rattle.dsa_desc.specs.Descriptor.{read};
 ghost use Rattle.dsa_regs.specs.Caps.{check_caps};
 ghost use Rattle.dsa_book.specs.declared.event.Event.TheVariants as event;
 ghost use Rattle.dsa_book.specs.declared.answer.Reply.TheVariants as reply;
 ghost use Rattle.dsa_base.specs.Rows.{first_row};
 ghost use Rattle.dsa_device.specs.Made.{is_store_of, opening_table, make_fault, fault_or_memory};
-ghost use Rattle.dsa_device.specs.Running.{running_at_first, after_answer};
+ghost use Rattle.dsa_device.specs.Running.{running_at_first, after_answer, watched_in, awaited_end};
 
 mod reads;
 mod runs;
@@ -22,7 +22,7 @@ use dsa_desc::{Descriptor, Outcome};
 use dsa_engines::Engines;
 use dsa_queues::Queues;
 use dsa_regs::{Caps, Command, GroupConfig, QueueConfig, cell_count, check_caps, list_count};
-use dsa_store::EntryStore;
+use dsa_store::{Entry, EntryStore};
 use std::alloc::Global;
 use std::marker::Model;
 
@@ -45,13 +45,13 @@ pub struct Device<S: EntryStore> {
 }
 
 impl<S: EntryStore> Model for Device<S> {
-    ghost use Rattle.dsa_device.specs.Running.{Running, running_of, IsWhole};
+    ghost use Rattle.dsa_device.specs.Running.{Running, running_of, IsRunning};
 
     ghost Value = { Running };
 
-    ghost view = { λ d. running_of d.caps d.queues d.engines (S.content d.store) d.admin d.book };
+    ghost view = { λ d. running_of d.caps d.queues.setup d.engines (S.content d.store) d.admin.active d.book };
 
-    ghost invariant = { λ d. IsWhole (S.cells d.store) d.engines (running_of d.caps d.queues d.engines (S.content d.store) d.admin d.book) };
+    ghost invariant = { λ d. IsRunning (S.cells d.store) d.queues d.engines d.admin (running_of d.caps d.queues.setup d.engines (S.content d.store) d.admin.active d.book) };
 }
 
 // Whether the store is empty, with the lists and cells of such a device.
@@ -89,6 +89,17 @@ fn make_fault<S: EntryStore>(store: &S, caps: &Caps, capacity: u64) -> Option<Ma
         return Some(MakeFault::BadStore);
     }
     None
+}
+
+// Tells the administrator of the entry that an answer ends, which was read before it.
+#[inline(always)]
+fn tell_end(admin: &mut Admin, entry: Option<Entry>, answer: FinishAnswer)
+    requires { awaited_end admin.old entry answer ≤ admin.old.awaited }
+    ensures { admin.new ≡ record admin.old { awaited = admin.old.awaited - awaited_end admin.old entry answer } }
+{
+    if let (Some(entry), FinishAnswer::Done(_)) = (entry, answer) {
+        admin.ended(&entry);
+    }
 }
 
 impl<S: EntryStore> Device<S> {
@@ -208,10 +219,19 @@ impl<S: EntryStore> Device<S> {
         }
         let answer = self
             .engines
-            .start(&self.queues, &mut self.store, &mut self.book, engine);
+            .start(&mut self.queues, &mut self.store, &mut self.book, engine);
         self.book
             .record(Event::Start { engine }, Reply::Start(answer));
         answer
+    }
+
+    // The entry in the ticket's cell, while a command is active that may count it.
+    #[inline(always)]
+    fn watched(&self, ticket: Ticket) -> Option<Entry>
+        ensures { result ≡ watched_in self.now.state ticket }
+    {
+        self.admin.active()?;
+        self.store.get(ticket.cell)
     }
 
     /// An engine ends the running entry of that ticket, and says how its work went.
@@ -222,14 +242,16 @@ impl<S: EntryStore> Device<S> {
         if self.book.is_full() {
             return FinishAnswer::Full;
         }
+        let entry = self.watched(ticket);
         let answer = self.engines.finish(
-            &self.queues,
+            &mut self.queues,
             &mut self.store,
             &mut self.book,
             engine,
             ticket,
             outcome,
         );
+        tell_end(&mut self.admin, entry, answer);
         let event = Event::Finish {
             engine,
             ticket,
@@ -267,7 +289,7 @@ impl<S: EntryStore> Device<S> {
         if self.book.is_full() {
             return PollAnswer::Full;
         }
-        let answer = self.admin.poll(&mut self.queues, &self.store);
+        let answer = self.admin.poll(&mut self.queues);
         self.book.record(Event::Poll, Reply::Poll(answer));
         answer
     }

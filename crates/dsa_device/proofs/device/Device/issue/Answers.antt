@@ -5,10 +5,16 @@ use Rattle.std.proofs.Common.{◌∙◌, refl, sym}
 use Rattle.dsa_device.proofs.{Known.{rows_fit}, Steps.{answered, whole_after}}
 
 pub issue-answer-requires-clause-in_step : goal.issue-answer-requires-clause-in_step
-issue-answer-requires-clause-in_step g c = c.self.invariant.in_step
+issue-answer-requires-clause-in_step g c = c.self.invariant.whole.in_step
+
+pub issue-answer-requires-clause-counted : goal.issue-answer-requires-clause-counted
+issue-answer-requires-clause-counted g c = c.self.invariant.counted
+
+pub issue-answer-requires-clause-awaiting : goal.issue-answer-requires-clause-awaiting
+issue-answer-requires-clause-awaiting g c = c.self.invariant.awaiting
 
 pub issue-answer-requires-clause-room : goal.issue-answer-requires-clause-room
-issue-answer-requires-clause-room g c = rows_fit _ c.self.invariant.replay
+issue-answer-requires-clause-room g c = rows_fit _ c.self.invariant.whole.replay
 
 pub returns : goal.returns
 returns g c =
@@ -18,6 +24,10 @@ returns g c =
     (rw (c.record.ensures, c.issue-answer.ensures.book))
 
 pub invariant_of-self : goal.invariant_of-self
-invariant_of-self g c = whole_after _ _ _ _ _ _ _
-    (event.Issue c.args.command) (reply.Issue c.issue-answer.result)
-    c.self.invariant c.self.view_is (returns g c) c.issue-answer.ensures.in_step
+invariant_of-self g c = record {
+  whole = whole_after _ _ _ _ _ _ _
+      (event.Issue c.args.command) (reply.Issue c.issue-answer.result)
+      c.self.invariant.whole c.self.view_is (returns g c) c.issue-answer.ensures.in_step;
+  counted = c.issue-answer.ensures.counted;
+  awaiting = c.issue-answer.ensures.awaiting;
+}

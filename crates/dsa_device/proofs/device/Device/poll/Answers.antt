@@ -7,12 +7,20 @@ use Rattle.dsa_device.proofs.Steps.{answered, whole_after}
 pub returns : goal.returns
 returns g c =
     answered _ _ _ event.Poll (reply.Poll c.poll-answer.result) c.self.view_is
-    (sym c.is_full.ensures.full ∙ c.if-is_full.false) refl (rw
-    (c.poll-answer.ensures.polled c.self.inside.engines c.self.inside.book.fates, c.record.ensures))
+    (sym c.is_full.ensures.full ∙ c.if-is_full.false) refl (rw (
+      c.poll-answer.ensures.polled c.self.inside.engines _ c.self.inside.book.fates c.self.invariant.counted
+          c.self.invariant.awaiting,
+      c.record.ensures,
+    ))
     (rw c.record.ensures)
 
 pub invariant_of-self : goal.invariant_of-self
-invariant_of-self g c = whole_after _ _ _ _ _ _ _
-    event.Poll (reply.Poll c.poll-answer.result)
-    c.self.invariant c.self.view_is (returns g c)
-    (c.poll-answer.ensures.in_step c.self.inside.engines c.self.invariant.in_step)
+invariant_of-self g c = record {
+  whole = whole_after _ _ _ _ _ _ _
+      event.Poll (reply.Poll c.poll-answer.result)
+      c.self.invariant.whole c.self.view_is (returns g c)
+      (c.poll-answer.ensures.in_step c.self.inside.engines _ _ c.self.invariant.counted c.self.invariant.awaiting
+      c.self.invariant.whole.in_step);
+  counted = c.poll-answer.ensures.counted _ c.self.invariant.counted;
+  awaiting = c.poll-answer.ensures.awaiting _ c.self.invariant.awaiting;
+}

@@ -2,16 +2,22 @@ use Rattle.dsa_book.specs.declared.event.Event.TheVariants as event
 use Rattle.dsa_book.specs.declared.answer.Reply.TheVariants as reply
 use Rattle.dsa_device.proofs.device.Device.start.Goals as goal
 use Rattle.std.proofs.Common.{◌∙◌, refl, sym}
-use Rattle.dsa_device.proofs.{Known.{members_wait, member_rows_fit}, Steps.{answered, whole_after}}
+use Rattle.dsa_admin.specs.Admin.{is_watched}
+use Rattle.dsa_laws.proofs.Awaits.{start-counts}
+use Rattle.dsa_device.proofs.Awaiting.{awaiting-kept, names-after}
+use Rattle.dsa_device.proofs.{Known.{well_formed, members_wait, member_rows_fit}, Steps.{answered, whole_after}}
 
 pub start-answer-requires-clause-in_step : goal.start-answer-requires-clause-in_step
-start-answer-requires-clause-in_step g c = c.self.invariant.in_step
+start-answer-requires-clause-in_step g c = c.self.invariant.whole.in_step
+
+pub start-answer-requires-clause-counted : goal.start-answer-requires-clause-counted
+start-answer-requires-clause-counted g c = c.self.invariant.counted
 
 pub start-answer-requires-clause-order : goal.start-answer-requires-clause-order
-start-answer-requires-clause-order g c = members_wait _ c.args.engine c.self.invariant.replay
+start-answer-requires-clause-order g c = members_wait _ c.args.engine c.self.invariant.whole.replay
 
 pub start-answer-requires-clause-room : goal.start-answer-requires-clause-room
-start-answer-requires-clause-room g c = member_rows_fit _ c.args.engine c.self.invariant.replay
+start-answer-requires-clause-room g c = member_rows_fit _ c.args.engine c.self.invariant.whole.replay
 
 pub returns : goal.returns
 returns g c =
@@ -21,6 +27,17 @@ returns g c =
     (rw (c.record.ensures, c.start-answer.ensures.book))
 
 pub invariant_of-self : goal.invariant_of-self
-invariant_of-self g c = whole_after _ _ _ _ _ _ _
-    (event.Start c.args.engine) (reply.Start c.start-answer.result)
-    c.self.invariant c.self.view_is (returns g c) c.start-answer.ensures.in_step
+invariant_of-self g c =
+    let lawful = well_formed _ c.self.invariant.whole.replay in
+    record {
+      whole = whole_after _ _ _ _ _ _ _
+          (event.Start c.args.engine) (reply.Start c.start-answer.result)
+          c.self.invariant.whole c.self.view_is (returns g c) c.start-answer.ensures.in_step;
+      counted = c.start-answer.ensures.counted;
+      awaiting = awaiting-kept _ _ _ _ _
+          (names-after _ _ _ (event.Start c.args.engine) (reply.Start c.start-answer.result)
+          c.self.invariant.whole.replay c.self.view_is (returns g c))
+          (λ active earlier past. start-counts (is_watched active) active.mark earlier _ _ c.args.engine _ _
+          lawful.shape lawful.entries.placed c.start-answer.ensures.step)
+          c.self.invariant.awaiting;
+    }

@@ -1,0 +1,101 @@
+-- The number of entries that the active command waits for, across each step.
+use Rattle.std.proofs.Common.{◌≡◌, ℕ, ◌+◌, ◌-◌, ◌≤◌, true, false, Option, Some, None, refl, sym, ◌∙◌, arith}
+use Rattle.dsa_desc.specs.declared.Outcome.{Outcome}
+use Rattle.dsa_regs.specs.{declared.Caps.{Caps}, Command.{deed_of, scope_of}}
+use Rattle.dsa_store.specs.{declared.entry.Entry.{Entry}, Content.{Content, count_where}}
+use Rattle.dsa_book.specs.declared.answer.{Ticket.{Ticket}, Reply.{Reply}}
+use Rattle.dsa_book.specs.declared.answer.FinishAnswer.{FinishAnswer, TheVariants.{Done}}
+use Rattle.dsa_book.specs.declared.{event.Event.{Event}, note.ActiveCommand.{ActiveCommand}}
+use Rattle.dsa_book.specs.{State.{Work}, Work.{finish}}
+use Rattle.dsa_admin.specs.Admin.{Watch, IsAwaiting, is_watched, is_waited_for, is_counting}
+use Rattle.dsa_laws.specs.WellFormed.{CellsOnce}
+use Rattle.dsa_laws.proofs.Awaits.{IsOfEarlier, guarded, awaited-earlier, ended_of, finish-counts}
+use Rattle.dsa_laws.proofs.{Changes.{next-change}, Flows.{flow-change}}
+use Rattle.dsa_device.proofs.{Known.{well_formed}, Steps.{answered_by_cases}}
+use Rattle.dsa_device.specs.Running.{Running, IsReplay, after_answer, watched_in, awaited_end}
+
+-- what a command counts was submitted before it
+watched-earlier : (active : ActiveCommand) → IsOfEarlier (is_watched active) active.mark
+watched-earlier active = guarded (is_counting (deed_of active.command)) (is_waited_for active) active.mark
+    (λ counts. awaited-earlier (deed_of active.command) (scope_of active.command) active.mark
+    (λ disables. let no : false ≡ true = rw disables at counts in absurd cc))
+
+-- before a device has a command
+pub awaiting-none : (watch : Watch) (name : ℕ) (content : Content) → watch.active ≡ None
+    → IsAwaiting watch name content
+awaiting-none watch name content none = record {
+  counts = λ active is. let no : None ≡ Some active = rw none at is in absurd cc;
+  mark = λ active is. let no : None ≡ Some active = rw none at is in absurd cc;
+}
+
+-- where as many are held that the command counts, and the next name is none before it
+pub awaiting-kept : (watch : Watch) (name more : ℕ) (content now : Content) → name ≤ more
+    → ((active : ActiveCommand) → IsOfEarlier (is_watched active) active.mark → active.mark ≤ name
+    → count_where (is_watched active) now ≡ count_where (is_watched active) content)
+    → IsAwaiting watch name content → IsAwaiting watch more now
+awaiting-kept watch name more content now le same a = record {
+  counts = λ active is. a.counts active is ∙ sym (same active (watched-earlier active) (a.mark active is));
+  mark = λ active is. omega (arith, a.mark active is, le);
+}
+
+-- no step takes a name back
+next-names : (d t : Running) (e : Event) (r : Reply) → IsReplay d → after_answer d e r ≡ Some t
+    → d.state.work.setup.next_name ≤ t.state.work.setup.next_name
+next-names d t e r i a = answered_by_cases
+    (λ t. d.state.work.setup.next_name ≤ t.state.work.setup.next_name) d t e r a
+    (λ room full. omega arith)
+    (λ s room n.
+    let lawful = well_formed d i in
+    omega (arith, (flow-change d.caps d.state s lawful.shape lawful.cells (next-change d.state s e r n)).next))
+
+pub names-after : (d now t : Running) (e : Event) (r : Reply) → IsReplay d → d ≡ now → after_answer now e r ≡ Some t
+    → d.state.work.setup.next_name ≤ t.state.work.setup.next_name
+names-after d now t e r i is a = next-names d t e r i (rw (← is) at a)
+
+-- ---- the end of an entry
+
+-- no command counts it
+no-end : (watch : Watch) (entry : Option Entry) (answer : FinishAnswer) → watch.active ≡ None
+    → awaited_end watch entry answer ≡ 0
+no-end watch None (Done status) is = refl
+no-end watch (Some entry) (Done status) is = rw is refl
+no-end watch entry _ is = refl
+
+module _ (caps : Caps) (w after : Work) (engine : ℕ) (ticket : Ticket) (outcome : Outcome) (answer : FinishAnswer)
+    (once : CellsOnce caps w) (goes : finish w engine ticket outcome ≡ (answer, after)) where
+  -- what is read before it
+  abbrev entry_read : Watch → Option Entry
+  entry_read watch = watched_in (record { work = w; active = watch.active }) ticket
+
+  -- the entry that was read is the one that ends
+  same-end : (watch : Watch) (active : ActiveCommand) (answer : FinishAnswer) → watch.active ≡ Some active
+      → awaited_end watch (entry_read watch) answer ≡ ended_of (is_watched active) w.content ticket answer
+  same-end watch active (Done status) is = rw is refl
+  same-end watch active _ is = refl
+
+  ends : (watch : Watch) (name : ℕ) → IsAwaiting watch name w.content → (active : ActiveCommand)
+      → watch.active ≡ Some active
+      → count_where (is_watched active) after.content + awaited_end watch (entry_read watch) answer ≡ watch.awaited
+  ends watch name a active is =
+      let counts = finish-counts (is_watched active) active.mark (watched-earlier active) caps w engine ticket outcome
+      answer after once goes in
+      omega (arith, counts, same-end watch active answer is, a.counts active is)
+
+  -- so the number is no less than what ends
+  pub end-counted : (watch : Watch) (name : ℕ) → IsAwaiting watch name w.content
+      → awaited_end watch (entry_read watch) answer ≤ watch.awaited
+  end-counted watch name a = by_active watch.active refl
+    where
+      by_active : (o : Option ActiveCommand) → watch.active ≡ o
+          → awaited_end watch (entry_read watch) answer ≤ watch.awaited
+      by_active None is = omega (arith, no-end watch (entry_read watch) answer is)
+      by_active (Some active) is = omega (arith, ends watch name a active is)
+
+  -- and without it the number of those that are left
+  pub awaiting-end : (watch : Watch) (name more : ℕ) → name ≤ more → IsAwaiting watch name w.content
+      → IsAwaiting (record watch { awaited = watch.awaited - awaited_end watch (entry_read watch) answer }) more
+      after.content
+  awaiting-end watch name more le a = record {
+    counts = λ active is. omega (arith, ends watch name a active is);
+    mark = λ active is. omega (arith, a.mark active is, le);
+  }
