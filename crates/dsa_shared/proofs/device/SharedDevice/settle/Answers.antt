@@ -1,5 +1,5 @@
 use Rattle.dsa_shared.proofs.device.SharedDevice.settle.Goals as goal
-use Rattle.std.proofs.{Common.{◌∙◌, ap}, lemmas.Option.{same_Some}}
+use Rattle.std.proofs.{Common.{◌∙◌, Some, sym, ap}, lemmas.Option.{same_Some}}
 use Rattle.dsa_shared.proofs.Sums.{complete_by}
 
 pub returns-in-Some-clause-mismatch : goal.returns-in-Some-clause-mismatch
@@ -7,3 +7,13 @@ returns-in-Some-clause-mismatch g c other =
     let engines = ap (λ k. k.engines) (c.caps-engines.ensures ∙ c.locked.invariant.2) in
     complete_by _ _ _ _ _ _ _ c.args.self.clients_are engines
     (c.in-Some.ensures.complete (λ e. other (same_Some _ _ e)))
+
+pub returns-in-Some-clause-missing : goal.returns-in-Some-clause-missing
+returns-in-Some-clause-missing g c =
+    let engines = ap (λ k. k.engines) (c.caps-engines.ensures ∙ c.locked.invariant.2) in
+    let missing = c.in-Some.ensures.missing in
+    (
+      λ is all. missing.0 (ap Some is)
+          (complete_by _ _ _ _ _ _ _ (sym c.args.self.clients_are) (sym engines) all),
+      λ no. same_Some _ _ (missing.1 (λ all. no (complete_by _ _ _ _ _ _ _ c.args.self.clients_are engines all))),
+    )
