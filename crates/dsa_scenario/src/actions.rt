@@ -207,6 +207,7 @@ fn parse_command(object: &Value) -> Option<Action>
 
 /// What a step object asks, by its text `do` and the fields of that kind of step; other fields are ignored. `None` says
 /// that it is no step object.
+#[inline(always)]
 pub fn parse_action(object: &Value) -> Option<Action>
     ensures { result ≡ action_of (view object.now) }
 {

@@ -1,7 +1,8 @@
 //! Lines: one for each step object, and one for each entry that ended.
 
-ghost use Rattle.std.specs.Prelude.{◌≡◌, ◌++◌, OnOk, string_bytes, flat_map};
-ghost use Rattle.dsa_scenario.specs.Lines.{cause_text, refusal_text, submit_text, dispatch_text, fetch_text, start_text, finish_text, issue_text, poll_text, write_text, noted_text, clear_text, reply_text, parent_text, fate_text, row_text, record_text, line_of};
+ghost use Rattle.std.specs.Prelude.{◌≡◌, ◌<◌, ◌++◌, false, OnOk, string_bytes, flat_map};
+ghost use Rattle.std.specs.Fmt.{decimal, digit_glyph};
+ghost use Rattle.dsa_scenario.specs.Lines.{two_digits, cause_text, refusal_text, submit_text, dispatch_text, fetch_text, start_text, finish_text, issue_text, poll_text, write_text, noted_text, clear_text, reply_text, parent_text, fate_text, row_text, record_text, line_of};
 
 use crate::run::Record;
 use dsa_book::{
@@ -9,6 +10,7 @@ use dsa_book::{
     NotedError, PollAnswer, Reply, StartAnswer, SubmitAnswer, WriteAnswer,
 };
 use dsa_regs::Fault;
+use itoa::Buffer;
 use std::alloc::AllocError;
 use std::fmt::Write;
 
@@ -22,17 +24,56 @@ fn cause_text(cause: Cause) -> &'static str
     }
 }
 
+// A hexadecimal digit in lower case.
+#[inline(always)]
+fn hex_digit(n: u8) -> char
+    requires { n < 16 }
+    ensures { result ≡ digit_glyph false n }
+{
+    char::from(if n < 10 { b'0' + n } else { b'a' + (n - 10) })
+}
+
+// Two hexadecimal digits. The formatter would pad them, at more than the rest of the line costs.
+#[inline(always)]
+fn add_status(text: &mut String, status: u8) -> Result<(), AllocError>
+    ensures { OnOk result (string_bytes text.new ≡ string_bytes text.old ++ two_digits status) }
+{
+    text.push(hex_digit(status / 16))?;
+    text.push(hex_digit(status % 16))
+}
+
+// A word and a number.
+#[inline(always)]
+fn add_number(text: &mut String, word: &str, number: u32) -> Result<(), AllocError>
+    ensures { OnOk result (string_bytes text.new ≡ string_bytes text.old ++ word.now ++ decimal number) }
+{
+    let mut buffer = Buffer::new();
+    text.push_str(word)?;
+    text.push_str(buffer.format(number))
+}
+
+// A word and a status.
+#[inline(always)]
+fn add_ended(text: &mut String, word: &str, status: u8) -> Result<(), AllocError>
+    ensures { OnOk result (string_bytes text.new ≡ string_bytes text.old ++ (word.now ++ two_digits status)) }
+{
+    text.push_str(word)?;
+    add_status(text, status)
+}
+
 fn add_refusal(text: &mut String, fault: Fault) -> Result<(), AllocError>
     ensures { OnOk result (string_bytes text.new ≡ string_bytes text.old ++ refusal_text fault) }
 {
-    write!(text, "refused {} {}", fault.number(), fault.name())
+    add_number(text, "refused ", u32::from(fault.number()))?;
+    text.push_str(" ")?;
+    text.push_str(fault.name())
 }
 
 fn add_submit(text: &mut String, answer: SubmitAnswer) -> Result<(), AllocError>
     ensures { OnOk result (string_bytes text.new ≡ string_bytes text.old ++ submit_text answer) }
 {
     match answer {
-        SubmitAnswer::Accepted(ticket) => write!(text, "accepted {}", ticket.name),
+        SubmitAnswer::Accepted(ticket) => add_number(text, "accepted ", ticket.name),
         SubmitAnswer::Retry(cause) => write!(text, "retry {}", cause_text(cause)),
         SubmitAnswer::Dropped(cause) => write!(text, "dropped {}", cause_text(cause)),
         SubmitAnswer::Full => text.push_str("full"),
@@ -43,11 +84,10 @@ fn add_dispatch(text: &mut String, answer: DispatchAnswer) -> Result<(), AllocEr
     ensures { OnOk result (string_bytes text.new ≡ string_bytes text.old ++ dispatch_text answer) }
 {
     match answer {
-        DispatchAnswer::Taken { ticket, queue } => write!(
-            text,
-            "taken {} from {queue}",
-            ticket.name
-        ),
+        DispatchAnswer::Taken { ticket, queue } => {
+            add_number(text, "taken ", ticket.name)?;
+            add_number(text, " from ", u32::from(queue))
+        }
         DispatchAnswer::Idle => text.push_str("idle"),
         DispatchAnswer::Full => text.push_str("full"),
     }
@@ -57,7 +97,7 @@ fn add_fetch(text: &mut String, answer: FetchAnswer) -> Result<(), AllocError>
     ensures { OnOk result (string_bytes text.new ≡ string_bytes text.old ++ fetch_text answer) }
 {
     match answer {
-        FetchAnswer::Fetched(ticket) => write!(text, "fetched {}", ticket.name),
+        FetchAnswer::Fetched(ticket) => add_number(text, "fetched ", ticket.name),
         FetchAnswer::NoBatch => text.push_str("no-batch"),
         FetchAnswer::AllFetched => text.push_str("all-fetched"),
         FetchAnswer::Full => text.push_str("full"),
@@ -68,21 +108,20 @@ fn add_start(text: &mut String, answer: StartAnswer) -> Result<(), AllocError>
     ensures { OnOk result (string_bytes text.new ≡ string_bytes text.old ++ start_text answer) }
 {
     match answer {
-        StartAnswer::Started(ticket) => write!(text, "started {}", ticket.name),
+        StartAnswer::Started(ticket) => add_number(text, "started ", ticket.name),
         StartAnswer::FenceWait => text.push_str("fence-wait"),
         StartAnswer::NoBuffers => text.push_str("no-buffers"),
-        StartAnswer::Abandoned(count) => write!(text, "abandoned {count}"),
+        StartAnswer::Abandoned(count) => add_number(text, "abandoned ", count),
         StartAnswer::Nothing => text.push_str("nothing"),
         StartAnswer::Full => text.push_str("full"),
     }
 }
 
-#[tactic(auto, using(std::proofs::lemmas::Fmt::hex_byte))]
 fn add_finish(text: &mut String, answer: FinishAnswer) -> Result<(), AllocError>
     ensures { OnOk result (string_bytes text.new ≡ string_bytes text.old ++ finish_text answer) }
 {
     match answer {
-        FinishAnswer::Done(status) => write!(text, "done {status:02x}"),
+        FinishAnswer::Done(status) => add_ended(text, "done ", status),
         FinishAnswer::NotReady => text.push_str("not-ready"),
         FinishAnswer::Gone => text.push_str("gone"),
         FinishAnswer::Full => text.push_str("full"),
@@ -93,7 +132,7 @@ fn add_issue(text: &mut String, answer: IssueAnswer) -> Result<(), AllocError>
     ensures { OnOk result (string_bytes text.new ≡ string_bytes text.old ++ issue_text answer) }
 {
     match answer {
-        IssueAnswer::Ended { aborted } => write!(text, "ended {aborted}"),
+        IssueAnswer::Ended { aborted } => add_number(text, "ended ", aborted),
         IssueAnswer::Active => text.push_str("active"),
         IssueAnswer::Refused(fault) => add_refusal(text, fault),
         IssueAnswer::Full => text.push_str("full"),
@@ -172,18 +211,17 @@ fn add_parent(text: &mut String, parent: Option<u32>) -> Result<(), AllocError>
     ensures { OnOk result (string_bytes text.new ≡ string_bytes text.old ++ parent_text parent) }
 {
     match parent {
-        Some(name) => write!(text, "{name}"),
+        Some(name) => add_number(text, "", name),
         None => text.push_str("-"),
     }
 }
 
-#[tactic(auto, using(std::proofs::lemmas::Fmt::hex_byte))]
 fn add_fate(text: &mut String, fate: Fate) -> Result<(), AllocError>
     ensures { OnOk result (string_bytes text.new ≡ string_bytes text.old ++ fate_text fate) }
 {
     match fate {
-        Fate::Completed(status) => write!(text, "completed {status:02x}"),
-        Fate::Aborted(command) => write!(text, "aborted {command}"),
+        Fate::Completed(status) => add_ended(text, "completed ", status),
+        Fate::Aborted(command) => add_number(text, "aborted ", u32::from(command)),
         Fate::Abandoned => text.push_str("abandoned"),
     }
 }
@@ -191,7 +229,8 @@ fn add_fate(text: &mut String, fate: Fate) -> Result<(), AllocError>
 fn add_row(text: &mut String, row: &FateRow) -> Result<(), AllocError>
     ensures { OnOk result (string_bytes text.new ≡ string_bytes text.old ++ line_of (row_text row.now)) }
 {
-    write!(text, "fate {} ", row.name)?;
+    add_number(text, "fate ", row.name)?;
+    text.push_str(" ")?;
     add_parent(text, row.parent)?;
     text.push_str(" ")?;
     add_fate(text, row.fate)?;
