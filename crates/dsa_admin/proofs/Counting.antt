@@ -1,11 +1,13 @@
 -- Numbers of held entries: what commands read from them, and what one entry less leaves.
-use Rattle.std.proofs.Common.{◌≡◌, ℕ, ◌+◌, ◌<◌, ◌≤◌, ◌==◌, Bool, true, false, not, cond, List, [], ◌∷◌, ◌++◌, length, get_or}
-use Rattle.std.proofs.Common.{take, set, length-append, zero, suc, refl, sym, ap, ◌∙◌, subst, arith, inl, inr, eq-eqb}
+use Rattle.std.proofs.Common.{◌≡◌, ℕ, ◌+◌, ◌<◌, ◌≤◌, ◌==◌, Bool, true, false, not, cond, List, [], ◌∷◌, ◌++◌}
+use Rattle.std.proofs.Common.{take, length, get_or, set, length-append, zero, suc, refl, sym, ap, ◌∙◌, subst, arith, inl, inr, eq-eqb}
 use Rattle.std.proofs.lemmas.{Grind.{flat_map-append}, Bool.{cases_Bool, ltb-true, eqb-true}}
-use Rattle.std.proofs.lemmas.List.{get_or-set_same, set-set, append-nil, take_more, Sums.{sum_by-cons, sum_by-append, count_by-le-length}}
+use Rattle.std.proofs.lemmas.List.{get_or-set_same, set-set, append-nil, take_more}
+use Rattle.std.proofs.lemmas.List.Sums.{sum_by-cons, sum_by-append, count_by-le-length}
 use Rattle.std.specs.List.{count_by, list_any}
 use Rattle.dsa_base.proofs.NumberLists.{get_or-each}
-use Rattle.dsa_regs.specs.declared.{Scope.{Scope, TheVariants.{Device, Queue, Pasid}}, Deed.{Deed, TheVariants.{Disable}}}
+use Rattle.dsa_regs.specs.declared.Scope.{Scope, TheVariants.{Device, Queue, Pasid}}
+use Rattle.dsa_regs.specs.declared.Deed.{Deed, TheVariants.{Disable}}
 use Rattle.dsa_regs.specs.declared.{Phase.{Phase}, layout.ListUse.{ListUse}}
 use Rattle.dsa_regs.specs.{Caps.{HasList, engine_of, list_number}}
 use Rattle.dsa_store.specs.declared.entry.{Cell.{Cell}, Entry.{Entry}}

@@ -1,8 +1,9 @@
 -- The notes of the engines, as a command takes entries out of the lists one after the other.
-use Rattle.std.proofs.Common.{◌≡◌, ℕ, suc, ◌+◌, ◌-◌, ◌*◌, ◌<◌, ◌≤◌, Bool, true, false, cond, ◌&&◌, ◌||◌, min, List, [], ◌++◌}
-use Rattle.std.proofs.Common.{◌∷◌, take, length, set, get_or, map, Option, None, refl, sym, ap, ◌∙◌, arith}
+use Rattle.std.proofs.Common.{◌≡◌, ℕ, suc, ◌+◌, ◌-◌, ◌*◌, ◌<◌, ◌≤◌, Bool, true, false, cond, ◌&&◌, ◌||◌, min, List, []}
+use Rattle.std.proofs.Common.{◌∷◌, ◌++◌, take, length, set, get_or, map, Option, None, refl, sym, ap, ◌∙◌, arith}
 use Rattle.std.proofs.lemmas.List.{set-set, set-get_or, take_more, Folds.{list_any-append}}
-use Rattle.dsa_regs.specs.declared.{Scope.{Scope, TheVariants.{Device}}, layout.ListUse.{ListUse, TheVariants.{Queue, Progress, Members}}}
+use Rattle.dsa_regs.specs.declared.Scope.{Scope, TheVariants.{Device}}
+use Rattle.dsa_regs.specs.declared.layout.ListUse.{ListUse, TheVariants.{Queue, Progress, Members}}
 use Rattle.dsa_regs.specs.Caps.{list_count, list_use}
 use Rattle.dsa_regs.proofs.CapsLemmas.{IsUse, read-back}
 use Rattle.dsa_base.{specs.Numbers.{numbers_below}, proofs.Renewing.{renewed, renewed-set, renewed-next, renewed-all}}

@@ -34,7 +34,10 @@ pub record IsWithdrawn (command : Command) (content : Content) (first : Records)
 pub withdrawn-list : {command : Command} {content now : Content} {first book : Records} {i k : ℕ}
     → IsWithdrawn command content first i k now book → i < length content → i < length now
 withdrawn-list {command = command} {content = content} {i = i} {k = k} w h =
-    rw (w.left, length-set content i (filter (is_spared command) (take k (chain content i)) ++ drop k (chain content i))) h
+    rw (
+      w.left,
+      length-set content i (filter (is_spared command) (take k (chain content i)) ++ drop k (chain content i)),
+    ) h
 
 -- what is known of the cell at place k, with the entry that the store gives for it
 pub record LooksAt (command : Command) (content : Content) (i k : ℕ) (now : Content) (cell : Cell)
@@ -193,7 +196,8 @@ module _ (command : Command) (all : scope_of command ≡ Device) where
       none (s ∷ l) = none l
 
   -- one place more is one row more
-  pub rows-pushed : (l : List Slot) (s : Slot) → rows_of command (l ++ s ∷ []) ≡ rows_of command l ++ row_of command s.1 ∷ []
+  pub rows-pushed : (l : List Slot) (s : Slot)
+      → rows_of command (l ++ s ∷ []) ≡ rows_of command l ++ row_of command s.1 ∷ []
   rows-pushed l s = rw (filter-append (is_meant command) l (s ∷ []), all)
       (map-append (fate_row (Aborted (number_of command))) _ (s ∷ []))
 

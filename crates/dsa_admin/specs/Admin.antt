@@ -3,7 +3,8 @@ use Rattle.std.specs.Prelude.{◌≡◌, ℕ, ◌≤◌, Bool, true, false, not,
 use Rattle.std.specs.Prelude.{Option, None, Some}
 use Rattle.std.specs.List.{list_all}
 use Rattle.dsa_base.specs.Rows.{passes}
-use Rattle.dsa_regs.specs.declared.{Command.{Command}, Scope.{Scope, TheVariants.{Device, Pasid}}, Deed.{Deed, TheVariants.{Disable}}, layout.ListUse.{ListUse}}
+use Rattle.dsa_regs.specs.declared.{Command.{Command}, Scope.{Scope, TheVariants.{Device, Pasid}}}
+use Rattle.dsa_regs.specs.declared.{Deed.{Deed, TheVariants.{Disable}}, layout.ListUse.{ListUse}}
 use Rattle.dsa_regs.specs.Command.{number_of, scope_of, deed_of, queues_in}
 use Rattle.dsa_store.specs.{declared.entry.Entry.{Entry}, Content.{Slot, Content, count_where}}
 use Rattle.dsa_book.specs.declared.note.{BatchNote.{BatchNote}, ActiveCommand.{ActiveCommand}}

@@ -25,7 +25,8 @@ add_row-requires g c =
 
 pub removed-requires-clause-held : goal.removed-requires-clause-held
 removed-requires-clause-held g c =
-    let parts = c.loop-held.invariant.parts ∙ ap (λ (l : List Slot). c.loop-held.yielded ++ l) c.in-Some.ensures.steps in
+    let parts = c.loop-held.invariant.parts
+    ∙ ap (λ (l : List Slot). c.loop-held.yielded ++ l) c.in-Some.ensures.steps in
     rw c.loop-held.invariant.setup (first-releases (g.S.EntryStore.content c.args.store.now) c.args.list.0
     c.loop-held.yielded c.next.new.self (c.in-Some.field-0-0, c.in-Some.held) c.requires.list
     (g.met.S.EntryStore.sound c.args.store.now).once parts (rw c.in-Some.ensures.steps at c.loop-held.invariant.in_step)
@@ -47,7 +48,8 @@ pub loop-held-preserved : goal.loop-held-preserved
 loop-held-preserved g c =
     let s : Slot = (c.in-Some.field-0-0, c.in-Some.held) in
     let first = c.args.book.now.fates in
-    let parts = c.loop-held.invariant.parts ∙ ap (λ (l : List Slot). c.loop-held.yielded ++ l) c.in-Some.ensures.steps in
+    let parts = c.loop-held.invariant.parts
+    ∙ ap (λ (l : List Slot). c.loop-held.yielded ++ l) c.in-Some.ensures.steps in
     let removed = c.removed.ensures
     ∙ ap (λ (x : Setup). gear_after_removal x c.list_use-from.result c.in-Some.held c.loop-held.engines)
     c.loop-held.invariant.setup in

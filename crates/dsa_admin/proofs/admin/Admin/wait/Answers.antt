@@ -12,7 +12,8 @@ returns-then-is_at_end-clause-in_step g c =
     λ gear come s. rw c.stop.ensures (in_step-stopped _ _ c.next_name.result Off c.args.queues.now.setup gear
     (g.S.EntryStore.content c.args.store.now) (λ x. come)
     (λ off. not-true _ (sym (c.is_at_end.ensures
-    (g.S.EntryStore.content c.args.store.now) c.requires.counted c.count_watched-awaited.ensures) ∙ c.if-is_at_end.true)) s)
+    (g.S.EntryStore.content c.args.store.now) c.requires.counted c.count_watched-awaited.ensures)
+    ∙ c.if-is_at_end.true)) s)
 
 pub returns-clause-in_step : goal.returns-clause-in_step
 returns-clause-in_step g c = λ gear come s.
