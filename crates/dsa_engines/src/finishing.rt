@@ -187,6 +187,7 @@ impl Engines {
     /// book gets a row. A member that was not successful marks its batch as failed; a batch that is so marked ends with
     /// 0x05, and its note goes. Touches the cell of the ticket alone; the end of a Drain looks at what stands in its queue
     /// and at what is in progress on each engine.
+    #[inline(always)]
     pub fn finish<S: EntryStore>(
         &mut self,
         queues: &mut Queues,

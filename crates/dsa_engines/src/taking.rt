@@ -203,6 +203,7 @@ impl Engines {
     /// engine works on one. Of those that qualify the one of the highest priority is served, and among equals they take turns.
     /// `Idle` exactly where none qualifies; so too where all slots of the engine are taken. Looks at the queues of the
     /// group, at the fronts of those that go before the best so far, and for a Drain at what is in progress.
+    #[inline(always)]
     pub fn dispatch<S: EntryStore>(
         &mut self,
         queues: &Queues,

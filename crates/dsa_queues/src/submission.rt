@@ -65,6 +65,7 @@ impl Queues {
     /// `WrongKind` for ENQCMD to a dedicated queue or MOVDIR64B to a shared one, `AtLimit` where the queue holds as many
     /// entries as the portal allows. ENQCMD is answered `Retry`, MOVDIR64B `Dropped`, and an error is noted.
     /// Else the descriptor stands last in its queue, under the PASID that the instruction or the queue gives it.
+    #[inline(always)]
     pub fn submit<S: EntryStore>(
         &mut self,
         store: &mut S,

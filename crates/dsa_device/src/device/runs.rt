@@ -11,6 +11,7 @@ use std::alloc::AllocError;
 
 impl<S: EntryStore> Device<S> {
     /// The step of any event. A submission has its descriptor as it was parsed.
+    #[inline(always)]
     pub fn step(&mut self, event: Event) -> Reply
         ensures { after_answer self.old event result ≡ Some self.new }
     {
