@@ -1,18 +1,19 @@
 //! Engines over a store of vectors.
 
 ghost use Rattle.std.specs.Prelude.{◌≡◌, ◌<◌, ◌==◌, not, length};
-ghost use Rattle.dsa_store.specs.Content.{chain};
+ghost use Rattle.dsa_store.specs.Content.{Content, chain, held_count};
 ghost use Rattle.dsa_book.specs.State.{any_in, is_member};
-ghost use Rattle.dsa_queues.specs.Queues.{IsStoreFor};
-ghost use Rattle.dsa_engines.specs.Engines.{IsInStep, IsInPlace};
+ghost use Rattle.dsa_queues.specs.Queues.{IsCounted, IsStoreFor};
+ghost use Rattle.dsa_engines.specs.Engines.{IsInPlace};
+ghost use Rattle.dsa_tests.specs.Parts.{Agree};
 
-use crate::setup::enabled;
+use crate::setup::{enabled, numbers};
 use dsa_book::{
     Book, DispatchAnswer, Fate, FateRow, FetchAnswer, FinishAnswer, StartAnswer, Ticket,
 };
 use dsa_desc::{Descriptor, Outcome};
 use dsa_engines::Engines;
-use dsa_fixtures::{CELLS, DRAIN, LARGE_MOVE, LISTS, MOVE, batch_of};
+use dsa_fixtures::{CELLS, DRAIN, FENCED_MOVE, LARGE_MOVE, LISTS, MOVE, batch_of};
 use dsa_queues::Queues;
 use dsa_regs::{GroupConfig, Phase, cell_count, check_device, list_count};
 use dsa_store::{Cell, Entry, EntryStore, ListId, PlainStore, slots};
@@ -48,7 +49,8 @@ fn entry(name: u32, queue: u16, desc: Descriptor) -> Entry {
 
 // The engines of an enabled device, over an empty store.
 fn enabled_engines<S: EntryStore>(rt: &impl Abort, queues: &Queues, store: &S) -> Engines
-    ensures { IsInStep queues.now result (S.cells store.now) (S.content store.now) }
+    requires { (content : Content) → held_count content ≡ 0 → IsCounted queues.now content }
+    ensures { Agree queues.now result (S.cells store.now) (S.content store.now) }
 {
     let caps = queues.caps();
     assert!(rt; store.lists() == list_count(&caps));
@@ -60,16 +62,16 @@ fn enabled_engines<S: EntryStore>(rt: &impl Abort, queues: &Queues, store: &S) -
     engines
 }
 
-// The entry in a queue, which leaves the engines in step.
+// The entry in a queue, which counts it.
 fn put<S: EntryStore>(
     rt: &impl Abort,
-    queues: &Queues,
+    queues: &mut Queues,
     engines: &Engines,
     store: &mut S,
     entry: Entry,
 ) -> Cell
-    requires { IsInStep queues.now engines.now (S.cells store.old) (S.content store.old) }
-    ensures { IsInStep queues.now engines.now (S.cells store.new) (S.content store.new) }
+    requires { Agree queues.old engines.now (S.cells store.old) (S.content store.old) }
+    ensures { Agree queues.new engines.now (S.cells store.new) (S.content store.new) }
 {
     let caps = queues.caps();
     assert!(rt; entry.queue < caps.queues);
@@ -77,19 +79,20 @@ fn put<S: EntryStore>(
     let Some(cell) = store.push_back(ListId(entry.queue), entry) else {
         panic!(rt; "no cell is free");
     };
+    queues.entered(entry.queue);
     cell
 }
 
 // Starts the one member that the engine of the device has.
 fn start_one<S: EntryStore>(
     rt: &impl Abort,
-    queues: &Queues,
+    queues: &mut Queues,
     engines: &mut Engines,
     store: &mut S,
     book: &mut Book,
 ) -> StartAnswer
-    requires { IsInStep queues.now engines.old (S.cells store.old) (S.content store.old) }
-    ensures { IsInStep queues.now engines.new (S.cells store.new) (S.content store.new) }
+    requires { Agree queues.old engines.old (S.cells store.old) (S.content store.old) }
+    ensures { Agree queues.new engines.new (S.cells store.new) (S.content store.new) }
 {
     let caps = queues.caps();
     assert!(rt; caps.queues == 2 && caps.engines == 2);
@@ -117,8 +120,8 @@ fn has_submitted<S: EntryStore>(store: &S, list: ListId) -> bool
 
 // What waits in a queue names it, and what stands with the members of an engine is one.
 fn see_places<S: EntryStore>(rt: &impl Abort, queues: &Queues, store: &S)
-    requires { IsStoreFor queues.now.caps (S.cells store.now) (S.content store.now) }
-    ensures { IsInPlace queues.now (S.content store.now) }
+    requires { IsStoreFor queues.now.setup.caps (S.cells store.now) (S.content store.now) }
+    ensures { IsInPlace queues.now.setup (S.content store.now) }
 {
     let caps = queues.caps();
     assert!(rt; caps.queues == 2 && caps.engines == 2);
@@ -131,48 +134,49 @@ fn see_places<S: EntryStore>(rt: &impl Abort, queues: &Queues, store: &S)
 // Ends the entry of the ticket, whose work went so.
 fn end<S: EntryStore>(
     rt: &impl Abort,
-    queues: &Queues,
+    queues: &mut Queues,
     engines: &mut Engines,
     store: &mut S,
     book: &mut Book,
     ticket: Ticket,
     outcome: Outcome,
 ) -> FinishAnswer
-    requires { IsInStep queues.now engines.old (S.cells store.old) (S.content store.old) }
-    ensures { IsInStep queues.now engines.new (S.cells store.new) (S.content store.new) }
+    requires { Agree queues.old engines.old (S.cells store.old) (S.content store.old) }
+    ensures { Agree queues.new engines.new (S.cells store.new) (S.content store.new) }
 {
     see_places(rt, queues, store);
     assert!(rt; book.fates().len() < book.capacity());
     engines.finish(queues, store, book, 0, ticket, outcome)
 }
 
-// Hands a move of one page in.
-fn fetch_move<S: EntryStore>(
+// Hands in a member with this descriptor.
+fn fetch<S: EntryStore>(
     rt: &impl Abort,
     queues: &mut Queues,
     engines: &mut Engines,
     store: &mut S,
+    desc: Descriptor,
 ) -> FetchAnswer
-    requires { IsInStep queues.old engines.old (S.cells store.old) (S.content store.old) }
-    ensures { IsInStep queues.new engines.new (S.cells store.new) (S.content store.new) }
+    requires { Agree queues.old engines.old (S.cells store.old) (S.content store.old) }
+    ensures { Agree queues.new engines.new (S.cells store.new) (S.content store.new) }
 {
     assert!(rt; store.free() > 0);
     assert!(rt; queues.next_name() < 100);
-    engines.fetch(queues, store, 0, MOVE)
+    engines.fetch(queues, store, 0, desc)
 }
 
 // The first of two entries needs all buffers of the group: the second waits for its end.
 fn one_runs_at_a_time<S: EntryStore>(rt: &impl Abort, store: &mut S, book: &mut Book) {
-    let queues = enabled(rt, GROUPS);
+    let mut queues = enabled(rt, GROUPS);
     let mut engines = enabled_engines(rt, &queues, store);
     assert_eq!(rt; engines.dispatch(&queues, store, 0), DispatchAnswer::Idle);
-    let cell = put(rt, &queues, &engines, store, entry(10, 1, LARGE_MOVE));
-    let second = put(rt, &queues, &engines, store, entry(11, 0, MOVE));
+    let cell = put(rt, &mut queues, &engines, store, entry(10, 1, LARGE_MOVE));
+    let second = put(rt, &mut queues, &engines, store, entry(11, 0, MOVE));
     let ticket = Ticket { cell, name: 10 };
     let taken = DispatchAnswer::Taken { ticket, queue: 1 };
     assert_eq!(rt; engines.dispatch(&queues, store, 0), taken);
     assert_eq!(rt; engines.dispatch(&queues, store, 0), DispatchAnswer::Idle);
-    first_ends(rt, &queues, &mut engines, store, book, ticket);
+    first_ends(rt, &mut queues, &mut engines, store, book, ticket);
     let ticket = Ticket {
         cell: second,
         name: 11,
@@ -184,14 +188,14 @@ fn one_runs_at_a_time<S: EntryStore>(rt: &impl Abort, store: &mut S, book: &mut 
 // The entry of that cell and no other name ends, and has a row.
 fn first_ends<S: EntryStore>(
     rt: &impl Abort,
-    queues: &Queues,
+    queues: &mut Queues,
     engines: &mut Engines,
     store: &mut S,
     book: &mut Book,
     ticket: Ticket,
 )
-    requires { IsInStep queues.now engines.old (S.cells store.old) (S.content store.old) }
-    ensures { IsInStep queues.now engines.new (S.cells store.new) (S.content store.new) }
+    requires { Agree queues.old engines.old (S.cells store.old) (S.content store.old) }
+    ensures { Agree queues.new engines.new (S.cells store.new) (S.content store.new) }
 {
     const ROW: FateRow = FateRow {
         name: 10,
@@ -215,10 +219,10 @@ fn member_fails<S: EntryStore>(
     book: &mut Book,
     ticket: Ticket,
 )
-    requires { IsInStep queues.old engines.old (S.cells store.old) (S.content store.old) }
-    ensures { IsInStep queues.new engines.new (S.cells store.new) (S.content store.new) }
+    requires { Agree queues.old engines.old (S.cells store.old) (S.content store.old) }
+    ensures { Agree queues.new engines.new (S.cells store.new) (S.content store.new) }
 {
-    let FetchAnswer::Fetched(member) = fetch_move(rt, queues, engines, store) else {
+    let FetchAnswer::Fetched(member) = fetch(rt, queues, engines, store, MOVE) else {
         panic!(rt; "nothing was fetched");
     };
     let answer = start_one(rt, queues, engines, store, book);
@@ -234,10 +238,10 @@ fn batch_ends_last<S: EntryStore>(rt: &impl Abort, store: &mut S, book: &mut Boo
     let mut queues = enabled(rt, GROUPS);
     let mut engines = enabled_engines(rt, &queues, store);
     assert_eq!(rt;
-        fetch_move(rt, &mut queues, &mut engines, store),
+        fetch(rt, &mut queues, &mut engines, store, MOVE),
         FetchAnswer::NoBatch
     );
-    let cell = put(rt, &queues, &engines, store, entry(20, 0, batch_of(2)));
+    let cell = put(rt, &mut queues, &engines, store, entry(20, 0, batch_of(2)));
     let ticket = Ticket { cell, name: 20 };
     let taken = DispatchAnswer::Taken { ticket, queue: 0 };
     assert_eq!(rt; engines.dispatch(&queues, store, 0), taken);
@@ -256,9 +260,9 @@ fn batch_fails<S: EntryStore>(
     book: &mut Book,
     ticket: Ticket,
 )
-    requires { IsInStep queues.old engines.old (S.cells store.old) (S.content store.old) }
+    requires { Agree queues.old engines.old (S.cells store.old) (S.content store.old) }
 {
-    let answer = fetch_move(rt, queues, engines, store);
+    let answer = fetch(rt, queues, engines, store, MOVE);
     assert!(rt; answer == FetchAnswer::AllFetched);
     let answer = start_one(rt, queues, engines, store, book);
     assert!(rt; answer == StartAnswer::Nothing);
@@ -266,33 +270,34 @@ fn batch_fails<S: EntryStore>(
     assert!(rt; last == FinishAnswer::Done(0x05));
 }
 
-// The engine takes the entry of the ticket from the first queue.
+// The engine takes the entry of the ticket from the queue.
 fn take<S: EntryStore>(
     rt: &impl Abort,
     queues: &Queues,
     engines: &mut Engines,
     store: &mut S,
     ticket: Ticket,
+    queue: u16,
 )
-    requires { IsInStep queues.now engines.old (S.cells store.old) (S.content store.old) }
-    ensures { IsInStep queues.now engines.new (S.cells store.new) (S.content store.new) }
+    requires { Agree queues.now engines.old (S.cells store.old) (S.content store.old) }
+    ensures { Agree queues.now engines.new (S.cells store.new) (S.content store.new) }
 {
-    let taken = DispatchAnswer::Taken { ticket, queue: 0 };
+    let taken = DispatchAnswer::Taken { ticket, queue };
     assert_eq!(rt; engines.dispatch(queues, store, 0), taken);
 }
 
 // The Drain ends after the first entry, and no second one is taken before that.
 fn drain_waits<S: EntryStore>(
     rt: &impl Abort,
-    queues: &Queues,
+    queues: &mut Queues,
     engines: &mut Engines,
     store: &mut S,
     book: &mut Book,
     first: Ticket,
     drain: Ticket,
 )
-    requires { IsInStep queues.now engines.old (S.cells store.old) (S.content store.old) }
-    ensures { IsInStep queues.now engines.new (S.cells store.new) (S.content store.new) }
+    requires { Agree queues.old engines.old (S.cells store.old) (S.content store.old) }
+    ensures { Agree queues.new engines.new (S.cells store.new) (S.content store.new) }
 {
     let early = end(rt, queues, engines, store, book, drain, Outcome::Success);
     assert!(rt; early == FinishAnswer::NotReady);
@@ -305,18 +310,64 @@ fn drain_waits<S: EntryStore>(
 
 // A Move and two Drains: the second Drain is taken when the first has ended.
 fn drains_end_in_turn<S: EntryStore>(rt: &impl Abort, store: &mut S, book: &mut Book) {
-    let queues = enabled(rt, GROUPS);
+    let mut queues = enabled(rt, GROUPS);
     let mut engines = enabled_engines(rt, &queues, store);
-    let cell = put(rt, &queues, &engines, store, entry(30, 0, MOVE));
+    let cell = put(rt, &mut queues, &engines, store, entry(30, 0, MOVE));
     let first = Ticket { cell, name: 30 };
-    let cell = put(rt, &queues, &engines, store, entry(31, 0, DRAIN));
+    let cell = put(rt, &mut queues, &engines, store, entry(31, 0, DRAIN));
     let drain = Ticket { cell, name: 31 };
-    let cell = put(rt, &queues, &engines, store, entry(32, 0, DRAIN));
+    let cell = put(rt, &mut queues, &engines, store, entry(32, 0, DRAIN));
     let second = Ticket { cell, name: 32 };
-    take(rt, &queues, &mut engines, store, first);
-    take(rt, &queues, &mut engines, store, drain);
-    drain_waits(rt, &queues, &mut engines, store, book, first, drain);
-    take(rt, &queues, &mut engines, store, second);
+    take(rt, &queues, &mut engines, store, first, 0);
+    take(rt, &queues, &mut engines, store, drain, 0);
+    drain_waits(rt, &mut queues, &mut engines, store, book, first, drain);
+    take(rt, &queues, &mut engines, store, second, 0);
+}
+
+// A member that counts for the queue of its batch is started, and counts no more once it has failed.
+fn member_is_counted<S: EntryStore>(
+    rt: &impl Abort,
+    queues: &mut Queues,
+    engines: &mut Engines,
+    store: &mut S,
+    book: &mut Book,
+)
+    requires { Agree queues.old engines.old (S.cells store.old) (S.content store.old) }
+    ensures { Agree queues.new engines.new (S.cells store.new) (S.content store.new) }
+{
+    let FetchAnswer::Fetched(member) = fetch(rt, queues, engines, store, MOVE) else {
+        panic!(rt; "nothing was fetched");
+    };
+    assert!(rt; numbers(rt, queues) == [0, 2]);
+    let answer = start_one(rt, queues, engines, store, book);
+    assert!(rt; answer == StartAnswer::Started(member) && numbers(rt, queues) == [0, 2]);
+    let done = end(rt, queues, engines, store, book, member, Outcome::PageFault);
+    assert!(rt; done == FinishAnswer::Done(0x03) && numbers(rt, queues) == [0, 1]);
+}
+
+// A batch of two of queue 1: the second member stands at a fence behind the first, which failed, and is abandoned.
+fn abandoned_members<S: EntryStore>(rt: &impl Abort, store: &mut S, book: &mut Book) {
+    let mut queues = enabled(rt, GROUPS);
+    let mut engines = enabled_engines(rt, &queues, store);
+    let cell = put(rt, &mut queues, &engines, store, entry(40, 1, batch_of(2)));
+    let ticket = Ticket { cell, name: 40 };
+    take(rt, &queues, &mut engines, store, ticket, 1);
+    assert!(rt; numbers(rt, &queues) == [0, 1]);
+    member_is_counted(rt, &mut queues, &mut engines, store, book);
+    let answer = fetch(rt, &mut queues, &mut engines, store, FENCED_MOVE);
+    assert!(rt; matches!(answer, FetchAnswer::Fetched(_)) && numbers(rt, &queues) == [0, 2]);
+    let answer = start_one(rt, &mut queues, &mut engines, store, book);
+    assert!(rt; answer == StartAnswer::Abandoned(1) && numbers(rt, &queues) == [0, 1]);
+    batch_fails(rt, &mut queues, &mut engines, store, book, ticket);
+    assert!(rt; numbers(rt, &queues) == [0, 0]);
+}
+
+#[test]
+fn members_count_until_they_end(rt: HostRuntime) -> Result<(), Fail> {
+    let mut store = PlainStore::new(rt.alloc(), LISTS, CELLS)?;
+    let mut book = Book::new(rt.alloc(), 4)?;
+    abandoned_members(&rt, &mut store, &mut book);
+    Ok(())
 }
 
 #[test]

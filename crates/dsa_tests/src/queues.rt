@@ -1,6 +1,9 @@
 //! Each call at a store of vectors, on two queues: queue 0 is shared, of size 4 and threshold 2, and queue 1 dedicated, of size 2.
 
-use crate::setup::enabled;
+ghost use Rattle.std.specs.Prelude.{◌≡◌};
+ghost use Rattle.dsa_queues.specs.Queues.{IsCounted};
+
+use crate::setup::{enabled, numbers};
 use dsa_book::{Cause, ClearAnswer, Kind, NotedError, Portal, SubmitAnswer, Ticket, WriteAnswer};
 use dsa_desc::Outcome;
 use dsa_fixtures::{
@@ -13,6 +16,14 @@ use dsa_store::{EntryStore, ListId, PlainStore, front_slot};
 use std::process::Abort;
 use std::test::Fail;
 
+// The queues of the enabled device, over an empty store.
+fn enabled_over<S: EntryStore>(rt: &impl Abort, store: &S) -> Queues
+    ensures { IsCounted result (S.content store.now) }
+{
+    assert!(rt; store.free() == store.cells());
+    enabled(rt, [FIRST_GROUP, SECOND_GROUP])
+}
+
 // The move is submitted, once it is seen that a cell and a name are left.
 fn submit<S: EntryStore>(
     rt: &impl Abort,
@@ -21,7 +32,10 @@ fn submit<S: EntryStore>(
     queue: u16,
     portal: Portal,
     kind: Kind,
-) -> SubmitAnswer {
+) -> SubmitAnswer
+    requires { IsCounted queues.old (S.content store.old) }
+    ensures { IsCounted queues.new (S.content store.new) }
+{
     let caps = queues.caps();
     assert!(rt; store.lists() == list_count(&caps) && store.cells() == cell_count(&caps));
     assert!(rt; store.free() > 0 && queues.next_name() < 1000);
@@ -40,7 +54,10 @@ fn name_of(answer: SubmitAnswer) -> Result<u32, SubmitAnswer> {
 type Row = (u16, Portal, Kind, Result<u32, SubmitAnswer>);
 
 // The move is submitted in each way in turn.
-fn submit_each<S: EntryStore>(rt: &impl Abort, queues: &mut Queues, store: &mut S, rows: &[Row]) {
+fn submit_each<S: EntryStore>(rt: &impl Abort, queues: &mut Queues, store: &mut S, rows: &[Row])
+    requires { IsCounted queues.old (S.content store.old) }
+    ensures { IsCounted queues.new (S.content store.new) }
+{
     for (queue, portal, kind, named) in rows {
         let answer = submit(rt, queues, store, *queue, *portal, *kind);
         assert_eq!(rt; name_of(answer), *named);
@@ -61,9 +78,9 @@ fn both_portals<S: EntryStore>(rt: &impl Abort, store: &mut S) {
         (0, Portal::Limited, ENQCMD, FULL),
         (0, Portal::Unlimited, ENQCMD, Ok(4)),
     ];
-    let mut queues = enabled(rt, [FIRST_GROUP, SECOND_GROUP]);
+    let mut queues = enabled_over(rt, store);
     submit_each(rt, &mut queues, store, &BEFORE);
-    // An engine takes the front, which is counted no more.
+    // An engine takes the front, which the portals count no more.
     assert!(rt; store.lists() == 6);
     assert!(rt; store.move_front(ListId(0), ListId(2)).is_some());
     submit_each(rt, &mut queues, store, &AFTER);
@@ -95,7 +112,7 @@ fn dropped_twice<S: EntryStore>(rt: &impl Abort, store: &mut S) {
         overflow: true,
         ..FIRST
     };
-    let mut queues = enabled(rt, [FIRST_GROUP, SECOND_GROUP]);
+    let mut queues = enabled_over(rt, store);
     submit_each(rt, &mut queues, store, &TWICE);
     assert!(rt; queues.noted() == Some(SECOND));
     assert!(rt; queues.clear_error() == ClearAnswer::Cleared(SECOND));
@@ -142,7 +159,7 @@ fn turned_away<S: EntryStore>(rt: &impl Abort, store: &mut S) {
         cause: WRONG,
         overflow: true,
     };
-    let mut queues = enabled(rt, [FIRST_GROUP, SECOND_GROUP]);
+    let mut queues = enabled_over(rt, store);
     submit_each(rt, &mut queues, store, &WRONG_KIND);
     queues.set_phases(&Scope::Queue(0), Phase::Stopping);
     submit_each(rt, &mut queues, store, &NOT_ENABLED);
@@ -172,7 +189,7 @@ fn occupancies<S: EntryStore>(rt: &impl Abort, queues: &Queues, store: &S) -> [O
 
 fn entries<S: EntryStore>(rt: &impl Abort, store: &mut S) {
     const ONE: [Row; 1] = [(0, Portal::Limited, ENQCMD, Ok(0))];
-    let mut queues = enabled(rt, [FIRST_GROUP, SECOND_GROUP]);
+    let mut queues = enabled_over(rt, store);
     submit_each(rt, &mut queues, store, &ONE);
     assert!(rt; store.lists() == 6);
     let Some((_, entry)) = front_slot(store, ListId(0)) else {
@@ -257,4 +274,49 @@ fn queues_are_reset(rt: &impl Abort, queues: &mut Queues) {
     assert!(rt; queues.device() == Phase::Off && queues.phase(0) == Phase::Off);
     assert!(rt; queues.queue(1) == QueueConfig::default());
     assert!(rt; queues.group(1) == GroupConfig::default());
+}
+
+// Each submission that is accepted is counted, and none that is turned away.
+fn counted<S: EntryStore>(rt: &impl Abort, store: &mut S) {
+    const LIMIT: SubmitAnswer = SubmitAnswer::Retry(Cause::AtLimit);
+    const WRONG: SubmitAnswer = SubmitAnswer::Retry(Cause::WrongKind);
+    const ROWS: [Row; 5] = [
+        (0, Portal::Limited, ENQCMD, Ok(0)),
+        (1, Portal::Limited, Kind::Movdir64b, Ok(1)),
+        (0, Portal::Limited, ENQCMD, Ok(2)),
+        (0, Portal::Limited, ENQCMD, Err(LIMIT)),
+        (1, Portal::Limited, ENQCMD, Err(WRONG)),
+    ];
+    let mut queues = enabled_over(rt, store);
+    assert!(rt; numbers(rt, &queues) == [0, 0]);
+    submit_each(rt, &mut queues, store, &ROWS);
+    assert!(rt; numbers(rt, &queues) == [2, 1]);
+}
+
+#[test]
+fn numbers_of_accepted_submissions(rt: HostRuntime) -> Result<(), Fail> {
+    let mut store = PlainStore::new(rt.alloc(), LISTS, CELLS)?;
+    counted(&rt, &mut store);
+    Ok(())
+}
+
+// One more entry names queue 1, once it is seen that there is room for it.
+fn enter(rt: &impl Abort, queues: &mut Queues) {
+    let caps = queues.caps();
+    assert!(rt; queues.has_queue(1));
+    assert!(rt; queues.held_of(1) < cell_count(&caps));
+    queues.entered(1);
+}
+
+#[test]
+fn numbers_of_what_enters_and_leaves(rt: HostRuntime) {
+    let mut queues = enabled(&rt, [FIRST_GROUP, SECOND_GROUP]);
+    enter(&rt, &mut queues);
+    enter(&rt, &mut queues);
+    assert!(rt; numbers(&rt, &queues) == [0, 2]);
+    assert!(rt; queues.has_queue(1) && queues.held_of(1) > 0);
+    queues.left(1);
+    assert!(rt; numbers(&rt, &queues) == [0, 1]);
+    queues.reset();
+    assert!(rt; numbers(&rt, &queues) == [0, 1]);
 }

@@ -1,5 +1,9 @@
 //! The queues of the small device, written and enabled.
 
+ghost use Rattle.std.specs.Prelude.{◌≡◌};
+ghost use Rattle.dsa_store.specs.Content.{Content, held_count};
+ghost use Rattle.dsa_queues.specs.Queues.{IsCounted};
+
 use dsa_book::WriteAnswer;
 use dsa_fixtures::{CAPS, DEDICATED_QUEUE, SHARED_QUEUE};
 use dsa_queues::Queues;
@@ -7,7 +11,9 @@ use dsa_regs::{GroupConfig, Phase, check_caps};
 use std::process::Abort;
 
 /// The queues of a device that is Off, with both queues and both groups written.
-pub fn written(rt: &impl Abort, groups: [GroupConfig; 2]) -> Queues {
+pub fn written(rt: &impl Abort, groups: [GroupConfig; 2]) -> Queues
+    ensures { (content : Content) → held_count content ≡ 0 → IsCounted result content }
+{
     assert!(rt; check_caps(&CAPS));
     let mut queues = Queues::new(CAPS);
     assert!(rt; queues.write_queue(0, SHARED_QUEUE) == WriteAnswer::Written);
@@ -18,11 +24,20 @@ pub fn written(rt: &impl Abort, groups: [GroupConfig; 2]) -> Queues {
 }
 
 /// The same with the device and both queues On.
-pub fn enabled(rt: &impl Abort, groups: [GroupConfig; 2]) -> Queues {
+pub fn enabled(rt: &impl Abort, groups: [GroupConfig; 2]) -> Queues
+    ensures { (content : Content) → held_count content ≡ 0 → IsCounted result content }
+{
     let mut queues = written(rt, groups);
     queues.set_device(Phase::On);
     assert!(rt; queues.has_queue(0) && queues.has_queue(1) && !queues.has_queue(2));
     queues.set_phase(0, Phase::On);
     queues.set_phase(1, Phase::On);
     queues
+}
+
+/// The numbers of held entries that name queue 0 and queue 1.
+pub fn numbers(rt: &impl Abort, queues: &Queues) -> [u32; 2] {
+    assert!(rt; queues.has_queue(0));
+    assert!(rt; queues.has_queue(1));
+    [queues.held_of(0), queues.held_of(1)]
 }

@@ -10,10 +10,13 @@ returns g c =
     let count = ap cell_count c.caps-caps.ensures.value in
     let none : held_count (g.S.EntryStore.content c.args.store.now) ≡ 0 =
     omega (arith, c.free.ensures, c.cells-2.ensures) in
-    c.enable.ensures.in_step (g.S.EntryStore.cells c.args.store.now) (g.S.EntryStore.content c.args.store.now)
-    (record {
-      lists = omega (arith, c.lists.ensures, c.list_count.ensures, lists);
-      cells =
-          omega (arith, c.cells.ensures, c.cell_count.ensures.number, count);
-    })
-    none
+    record {
+      in_step = c.enable.ensures.in_step (g.S.EntryStore.cells c.args.store.now) (g.S.EntryStore.content c.args.store.now)
+          (record {
+            lists = omega (arith, c.lists.ensures, c.list_count.ensures, lists);
+            cells =
+                omega (arith, c.cells.ensures, c.cell_count.ensures.number, count);
+          })
+          none;
+      counted = c.requires (g.S.EntryStore.content c.args.store.now) none;
+    }

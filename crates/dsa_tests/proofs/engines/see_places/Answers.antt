@@ -34,8 +34,8 @@ returns g c =
     let content : Content = g.S.EntryStore.content c.args.store.now in
     let q = ap (λ (x : Caps). x.queues) c.caps-caps.ensures.value in
     let e = ap (λ (x : Caps). x.engines) c.caps-caps.ensures.value in
-    let queues : c.args.queues.now.caps.queues ≡ 2 = omega (arith, q) in
-    let engines : c.args.queues.now.caps.engines ≡ 2 = omega (arith, e) in
+    let queues : c.args.queues.now.setup.caps.queues ≡ 2 = omega (arith, q) in
+    let engines : c.args.queues.now.setup.caps.engines ≡ 2 = omega (arith, e) in
     let first : c.is_misplaced.result ≡ false = search rules in
     let second : c.is_misplaced-2.result ≡ false = search rules in
     let third : c.has_submitted.result ≡ false = search rules in
@@ -51,10 +51,10 @@ returns g c =
       ];
       members = λ k slot h at. elim (cases_lt k 1) [
         | inl low ↦
-            let is : member_list c.args.queues.now k ≡ 4 = omega (arith, low, queues, engines) in
-            member slot (chain content (member_list c.args.queues.now k)) (rw is (sym c.has_submitted.ensures ∙ third)) at
+            let is : member_list c.args.queues.now.setup k ≡ 4 = omega (arith, low, queues, engines) in
+            member slot (chain content (member_list c.args.queues.now.setup k)) (rw is (sym c.has_submitted.ensures ∙ third)) at
         | inr high ↦
-            let is : member_list c.args.queues.now k ≡ 5 = omega (arith, high, h, queues, engines) in
-            member slot (chain content (member_list c.args.queues.now k)) (rw is (sym c.has_submitted-2.ensures ∙ fourth)) at
+            let is : member_list c.args.queues.now.setup k ≡ 5 = omega (arith, high, h, queues, engines) in
+            member slot (chain content (member_list c.args.queues.now.setup k)) (rw is (sym c.has_submitted-2.ensures ∙ fourth)) at
       ];
     }

@@ -21,8 +21,8 @@ start-requires-clause-order g c =
     let content : Content = g.S.EntryStore.content c.args.store.now in
     let q = ap (λ (x : Caps). x.queues) c.caps-caps.ensures.value in
     let e = ap (λ (x : Caps). x.engines) c.caps-caps.ensures.value in
-    let is : member_list c.args.queues.now 0 ≡ 4 = omega (arith, q, e) in
-    subst WaitInOrder (sym (members-are c.args.queues.now content 0 (omega (arith, q, e)) ∙ ap (chain content) is))
+    let is : member_list c.args.queues.now.setup 0 ≡ 4 = omega (arith, q, e) in
+    subst WaitInOrder (sym (members-are c.args.queues.now.setup content 0 (omega (arith, q, e)) ∙ ap (chain content) is))
     (one-waits (chain content 4) (omega (arith, c.len-members.ensures)))
 
 pub start-requires-clause-room : goal.start-requires-clause-room
@@ -30,7 +30,7 @@ start-requires-clause-room g c =
     let content : Content = g.S.EntryStore.content c.args.store.now in
     let q = ap (λ (x : Caps). x.queues) c.caps-caps.ensures.value in
     let e = ap (λ (x : Caps). x.engines) c.caps-caps.ensures.value in
-    let is : member_list c.args.queues.now 0 ≡ 4 = omega (arith, q, e) in
-    let same : members (lists_alone c.args.queues.now content) 0 ≡ chain content 4 =
-    members-are c.args.queues.now content 0 (omega (arith, q, e)) ∙ ap (chain content) is in
+    let is : member_list c.args.queues.now.setup 0 ≡ 4 = omega (arith, q, e) in
+    let same : members (lists_alone c.args.queues.now.setup content) 0 ≡ chain content 4 =
+    members-are c.args.queues.now.setup content 0 (omega (arith, q, e)) ∙ ap (chain content) is in
     omega (arith, ap length same, ap length c.fates.ensures, c.len-members.ensures)

@@ -1,0 +1,10 @@
+-- What the parts of a device keep together.
+use Rattle.std.specs.Prelude.{◌≡◌, ℕ}
+use Rattle.dsa_store.specs.Content.{Content}
+use Rattle.dsa_queues.specs.Queues.{Kept, IsCounted}
+use Rattle.dsa_engines.specs.Engines.{Gear, IsInStep}
+
+-- the queues, the engines and a store are in step, and the numbers of the queues are counts over the lists
+pub record Agree (kept : Kept) (gear : Gear) (cells : ℕ) (content : Content) : Type 0 where
+  pub in_step : IsInStep kept.setup gear cells content
+  pub counted : IsCounted kept content
