@@ -1,15 +1,20 @@
 //! Commands over a store of vectors, on two queues: queue 0 is shared, of size 4, and queue 1 dedicated, of size 2 and PASID 7.
 
 ghost use Rattle.std.specs.Prelude.{◌≡◌, ◌+◌, ◌≤◌, length, true};
-ghost use Rattle.dsa_store.specs.Content.{held_count};
-ghost use Rattle.dsa_engines.specs.Engines.{IsInStep};
+ghost use Rattle.dsa_store.specs.Content.{Content, held_count};
+ghost use Rattle.dsa_queues.specs.Queues.{IsCounted};
+ghost use Rattle.dsa_tests.specs.Parts.{Agree, AllAgree};
 
-use crate::setup::written;
+use crate::engines::{fetch, see_places, start_one};
+use crate::setup::{numbers, written};
 use dsa_admin::Admin;
-use dsa_book::{Book, Fate, FateRow, IssueAnswer, PollAnswer};
-use dsa_desc::Descriptor;
+use dsa_book::{
+    Book, DispatchAnswer, Fate, FateRow, FetchAnswer, FinishAnswer, IssueAnswer, PollAnswer,
+    StartAnswer, Ticket,
+};
+use dsa_desc::{Descriptor, Outcome};
 use dsa_engines::Engines;
-use dsa_fixtures::{CELLS, FIRST_GROUP, FIRST_QUEUE, LISTS, MOVE, SECOND_GROUP};
+use dsa_fixtures::{CELLS, FIRST_GROUP, FIRST_QUEUE, LISTS, MOVE, SECOND_GROUP, batch_of};
 use dsa_queues::Queues;
 use dsa_regs::{Command, Fault, GroupConfig, Phase, QueueMask, cell_count, list_count};
 use dsa_store::{Entry, EntryStore, ListId, PlainStore};
@@ -52,7 +57,8 @@ struct Parts<S: EntryStore> {
 
 // The engines of a device that is Off, over an empty store.
 fn engines_of<S: EntryStore>(rt: &impl Abort, queues: &Queues, store: &S) -> Engines
-    ensures { IsInStep queues.now result (S.cells store.now) (S.content store.now) }
+    requires { (content : Content) → held_count content ≡ 0 → IsCounted queues.now content }
+    ensures { Agree queues.now result (S.cells store.now) (S.content store.now) }
 {
     let caps = queues.caps();
     assert!(rt; queues.device() == Phase::Off);
@@ -69,7 +75,7 @@ fn parts_of<S: EntryStore>(
     store: S,
     book: Book,
 ) -> Parts<S>
-    ensures { IsInStep result.queues result.engines (S.cells result.store) (S.content result.store) }
+    ensures { AllAgree result.queues result.engines result.admin (S.cells result.store) (S.content result.store) }
 {
     let queues = written(rt, groups);
     Parts {
@@ -83,8 +89,8 @@ fn parts_of<S: EntryStore>(
 
 // The command is issued, once it is seen that the book has room.
 fn issue<S: EntryStore>(rt: &impl Abort, parts: &mut Parts<S>, command: Command) -> IssueAnswer
-    requires { IsInStep parts.old.queues parts.old.engines (S.cells parts.old.store) (S.content parts.old.store) }
-    ensures { IsInStep parts.new.queues parts.new.engines (S.cells parts.new.store) (S.content parts.new.store) }
+    requires { AllAgree parts.old.queues parts.old.engines parts.old.admin (S.cells parts.old.store) (S.content parts.old.store) }
+    ensures { AllAgree parts.new.queues parts.new.engines parts.new.admin (S.cells parts.new.store) (S.content parts.new.store) }
 {
     let Parts {
         admin,
@@ -99,18 +105,23 @@ fn issue<S: EntryStore>(rt: &impl Abort, parts: &mut Parts<S>, command: Command)
 
 // The commands are issued in turn, each with its answer.
 fn issue_each<S: EntryStore>(rt: &impl Abort, parts: &mut Parts<S>, rows: &[(Command, IssueAnswer)])
-    requires { IsInStep parts.old.queues parts.old.engines (S.cells parts.old.store) (S.content parts.old.store) }
-    ensures { IsInStep parts.new.queues parts.new.engines (S.cells parts.new.store) (S.content parts.new.store) }
+    requires { AllAgree parts.old.queues parts.old.engines parts.old.admin (S.cells parts.old.store) (S.content parts.old.store) }
+    ensures { AllAgree parts.new.queues parts.new.engines parts.new.admin (S.cells parts.new.store) (S.content parts.new.store) }
 {
     for (command, answer) in rows {
         assert_eq!(rt; issue(rt, parts, *command), *answer, "{}", command.name());
     }
 }
 
-// A move that was submitted stands last in the queue.
-fn push<S: EntryStore>(rt: &impl Abort, parts: &mut Parts<S>, queue: u16, pasid: u32)
-    requires { IsInStep parts.old.queues parts.old.engines (S.cells parts.old.store) (S.content parts.old.store) }
-    ensures { IsInStep parts.new.queues parts.new.engines (S.cells parts.new.store) (S.content parts.new.store) }
+// An entry that was submitted stands last in the queue, which counts it.
+fn push<S: EntryStore>(
+    rt: &impl Abort,
+    parts: &mut Parts<S>,
+    queue: u16,
+    desc: Descriptor,
+) -> Ticket
+    requires { AllAgree parts.old.queues parts.old.engines parts.old.admin (S.cells parts.old.store) (S.content parts.old.store) }
+    ensures { AllAgree parts.new.queues parts.new.engines parts.new.admin (S.cells parts.new.store) (S.content parts.new.store) }
 {
     assert!(rt; parts.queues.device() == Phase::On);
     assert!(rt; parts.queues.has_queue(queue));
@@ -118,23 +129,32 @@ fn push<S: EntryStore>(rt: &impl Abort, parts: &mut Parts<S>, queue: u16, pasid:
     let entry = Entry {
         name: parts.queues.give_name(),
         parent: None,
-        desc: Descriptor { pasid, ..MOVE },
+        desc,
         queue,
         running: false,
     };
     let Some(cell) = parts.store.push_back(ListId(queue), entry) else {
         panic!(rt; "no cell is free")
     };
+    parts.queues.entered(queue);
     assert_eq!(rt; parts.store.list_of(cell), Some(ListId(queue)));
+    Ticket {
+        cell,
+        name: entry.name,
+    }
 }
 
 // The moves are pushed in turn, each to a queue with a PASID.
 fn push_each<S: EntryStore>(rt: &impl Abort, parts: &mut Parts<S>, entries: &[(u16, u32)])
-    requires { IsInStep parts.old.queues parts.old.engines (S.cells parts.old.store) (S.content parts.old.store) }
-    ensures { IsInStep parts.new.queues parts.new.engines (S.cells parts.new.store) (S.content parts.new.store) }
+    requires { AllAgree parts.old.queues parts.old.engines parts.old.admin (S.cells parts.old.store) (S.content parts.old.store) }
+    ensures { AllAgree parts.new.queues parts.new.engines parts.new.admin (S.cells parts.new.store) (S.content parts.new.store) }
 {
     for (queue, pasid) in entries {
-        push(rt, parts, *queue, *pasid);
+        let desc = Descriptor {
+            pasid: *pasid,
+            ..MOVE
+        };
+        push(rt, parts, *queue, desc);
     }
 }
 
@@ -167,6 +187,22 @@ fn the_first_cause_refuses(rt: HostRuntime) -> Result<(), Fail> {
     Ok(())
 }
 
+// The commands are issued in turn: how many entries each aborts, and the numbers of the queues after it.
+fn abort_each<S: EntryStore>(
+    rt: &impl Abort,
+    parts: &mut Parts<S>,
+    rows: &[(Command, u32, [u32; 2])],
+)
+    requires { AllAgree parts.old.queues parts.old.engines parts.old.admin (S.cells parts.old.store) (S.content parts.old.store) }
+    ensures { AllAgree parts.new.queues parts.new.engines parts.new.admin (S.cells parts.new.store) (S.content parts.new.store) }
+{
+    for (command, aborted, left) in rows {
+        let answer = IssueAnswer::Ended { aborted: *aborted };
+        assert_eq!(rt; issue(rt, parts, *command), answer, "{}", command.name());
+        assert_eq!(rt; numbers(rt, &parts.queues), *left, "{}", command.name());
+    }
+}
+
 // An abort of one PASID takes out its entries of both queues, and a reset keeps the sizes and the next name.
 fn aborted<S: EntryStore>(rt: &impl Abort, store: S, book: Book) {
     const ENABLES: [(Command, IssueAnswer); 3] = [
@@ -175,19 +211,17 @@ fn aborted<S: EntryStore>(rt: &impl Abort, store: S, book: Book) {
         (Command::EnableWq(1), ENDED),
     ];
     const ENTRIES: [(u16, u32); 5] = [(0, 5), (0, 6), (0, 5), (1, 5), (1, 7)];
-    const ABORTS: [(Command, IssueAnswer); 3] = [
-        (Command::AbortPasid(5), IssueAnswer::Ended { aborted: 3 }),
-        (
-            Command::AbortWq(FIRST_QUEUE),
-            IssueAnswer::Ended { aborted: 1 },
-        ),
-        (Command::ResetWq(BOTH), IssueAnswer::Ended { aborted: 1 }),
+    const ABORTS: [(Command, u32, [u32; 2]); 3] = [
+        (Command::AbortPasid(5), 3, [1, 1]),
+        (Command::AbortWq(FIRST_QUEUE), 1, [0, 1]),
+        (Command::ResetWq(BOTH), 1, [0, 0]),
     ];
     const RESET: [(Command, IssueAnswer); 1] = [(Command::ResetDevice, ENDED)];
     let mut parts = parts_of(rt, [FIRST_GROUP, SECOND_GROUP], store, book);
     issue_each(rt, &mut parts, &ENABLES);
     push_each(rt, &mut parts, &ENTRIES);
-    issue_each(rt, &mut parts, &ABORTS);
+    assert_eq!(rt; numbers(rt, &parts.queues), [3, 2]);
+    abort_each(rt, &mut parts, &ABORTS);
     were_aborted(rt, &parts.book);
     sizes_are_kept(rt, &parts.queues);
     issue_each(rt, &mut parts, &RESET);
@@ -222,24 +256,69 @@ fn aborts_take_out_their_scope(rt: HostRuntime) -> Result<(), Fail> {
 
 // The answer to a poll.
 fn poll<S: EntryStore>(parts: &mut Parts<S>) -> PollAnswer
-    requires { IsInStep parts.old.queues parts.old.engines (S.cells parts.old.store) (S.content parts.old.store) }
-    ensures { IsInStep parts.new.queues parts.new.engines (S.cells parts.new.store) (S.content parts.new.store) }
+    requires { AllAgree parts.old.queues parts.old.engines parts.old.admin (S.cells parts.old.store) (S.content parts.old.store) }
+    ensures { AllAgree parts.new.queues parts.new.engines parts.new.admin (S.cells parts.new.store) (S.content parts.new.store) }
+{
+    parts.admin.poll(&mut parts.queues)
+}
+
+// A batch of one runs on the first engine, and so does its member. No command is active.
+fn run_batch<S: EntryStore>(rt: &impl Abort, parts: &mut Parts<S>, batch: Ticket) -> Ticket
+    requires { AllAgree parts.old.queues parts.old.engines parts.old.admin (S.cells parts.old.store) (S.content parts.old.store) }
+    ensures { AllAgree parts.new.queues parts.new.engines parts.new.admin (S.cells parts.new.store) (S.content parts.new.store) }
 {
     let Parts {
         admin,
         queues,
+        engines,
         store,
-        ..
+        book,
     } = parts;
-    admin.poll(queues, store)
+    assert!(rt; admin.active().is_none());
+    let taken = DispatchAnswer::Taken {
+        ticket: batch,
+        queue: 0,
+    };
+    assert_eq!(rt; engines.dispatch(queues, store, 0), taken);
+    let FetchAnswer::Fetched(member) = fetch(rt, queues, engines, store, MOVE) else {
+        panic!(rt; "nothing was fetched");
+    };
+    let answer = start_one(rt, queues, engines, store, book);
+    assert_eq!(rt; answer, StartAnswer::Started(member));
+    member
 }
 
-// A drain waits for what came before it alone; a disable for all of its scope.
-fn waited<S: EntryStore>(rt: &impl Abort, store: S, book: Book) {
-    const ENABLES: [(Command, IssueAnswer); 2] = [
-        (Command::EnableDevice, ENDED),
-        (Command::EnableWq(0), ENDED),
-    ];
+// The entry of the ticket ends, and the command that may wait for it is told so.
+fn end<S: EntryStore>(rt: &impl Abort, parts: &mut Parts<S>, ticket: Ticket)
+    requires { AllAgree parts.old.queues parts.old.engines parts.old.admin (S.cells parts.old.store) (S.content parts.old.store) }
+    ensures { AllAgree parts.new.queues parts.new.engines parts.new.admin (S.cells parts.new.store) (S.content parts.new.store) }
+{
+    let Parts {
+        admin,
+        queues,
+        engines,
+        store,
+        book,
+    } = parts;
+    let Some(entry) = store.get(ticket.cell) else {
+        panic!(rt; "no entry has the ticket's cell");
+    };
+    see_places(rt, queues, store);
+    assert!(rt; book.fates().len() < book.capacity());
+    let answer = engines.finish(queues, store, book, 0, ticket, Outcome::Success);
+    let FinishAnswer::Done(_) = answer else {
+        panic!(rt; "nothing ended");
+    };
+    admin.ended(&entry);
+}
+
+const ENABLES: [(Command, IssueAnswer); 2] = [
+    (Command::EnableDevice, ENDED),
+    (Command::EnableWq(0), ENDED),
+];
+
+// A drain waits for the batch that came before it, and for neither its member nor what comes later.
+fn drained<S: EntryStore>(rt: &impl Abort, store: S, book: Book) {
     const DRAINS: [(Command, IssueAnswer); 3] = [
         (Command::DrainPasid(6), ENDED),
         (Command::DrainPasid(5), IssueAnswer::Active),
@@ -248,25 +327,56 @@ fn waited<S: EntryStore>(rt: &impl Abort, store: S, book: Book) {
     let mut parts = parts_of(rt, [FIRST_GROUP, SECOND_GROUP], store, book);
     assert_eq!(rt; poll(&mut parts), PollAnswer::Nothing);
     issue_each(rt, &mut parts, &ENABLES);
-    push(rt, &mut parts, 0, 5);
+    let batch = push(rt, &mut parts, 0, batch_of(1).with_pasid(5));
+    let member = run_batch(rt, &mut parts, batch);
     issue_each(rt, &mut parts, &DRAINS);
     assert_eq!(rt; poll(&mut parts), PollAnswer::Active);
-    push(rt, &mut parts, 0, 5);
-    front_leaves(rt, &mut parts);
-}
-
-// The drain is over once the front of queue 0 has left.
-fn front_leaves<S: EntryStore>(rt: &impl Abort, parts: &mut Parts<S>) {
-    assert!(rt; parts.store.lists() == LISTS);
-    let front = parts.store.front(ListId(0));
-    assert!(rt; front.is_some_and(|cell| parts.store.unlink(cell).is_some()));
-    assert!(rt; parts.admin.poll(&mut parts.queues, &parts.store) == PollAnswer::Finished);
-    assert!(rt; parts.admin.active().is_none());
+    push(rt, &mut parts, 0, MOVE.with_pasid(5));
+    end(rt, &mut parts, member);
+    assert_eq!(rt; poll(&mut parts), PollAnswer::Active);
+    end(rt, &mut parts, batch);
+    assert_eq!(rt; poll(&mut parts), PollAnswer::Finished);
+    assert!(rt; parts.admin.active().is_none() && numbers(rt, &parts.queues) == [1, 0]);
 }
 
 #[test]
 fn drains_wait_for_what_came_before(rt: HostRuntime) -> Result<(), Fail> {
     let store = PlainStore::new(rt.alloc(), LISTS, CELLS)?;
-    waited(&rt, store, Book::new(rt.alloc(), 100)?);
+    drained(&rt, store, Book::new(rt.alloc(), 100)?);
+    Ok(())
+}
+
+// A disable waits for all that its queue holds.
+fn disabled<S: EntryStore>(rt: &impl Abort, store: S, book: Book) {
+    const DISABLE: [(Command, IssueAnswer); 1] = [(
+        Command::DisableWq(FIRST_QUEUE),
+        IssueAnswer::Active,
+    )];
+    let mut parts = parts_of(rt, [FIRST_GROUP, SECOND_GROUP], store, book);
+    issue_each(rt, &mut parts, &ENABLES);
+    push(rt, &mut parts, 0, MOVE);
+    issue_each(rt, &mut parts, &DISABLE);
+    assert_eq!(rt; poll(&mut parts), PollAnswer::Active);
+    assert!(rt; parts.queues.phase(0) == Phase::Stopping);
+    front_leaves(rt, &mut parts);
+}
+
+// The disable is over once the number of its queue is 0.
+fn front_leaves<S: EntryStore>(rt: &impl Abort, parts: &mut Parts<S>) {
+    assert!(rt; parts.store.lists() == LISTS);
+    let front = parts.store.front(ListId(0));
+    assert!(rt; front.is_some_and(|cell| parts.store.unlink(cell).is_some()));
+    assert!(rt; numbers(rt, &parts.queues) == [1, 0]);
+    assert!(rt; parts.queues.has_queue(0));
+    assert!(rt; parts.queues.held_of(0) > 0);
+    parts.queues.left(0);
+    assert!(rt; parts.admin.poll(&mut parts.queues) == PollAnswer::Finished);
+    assert!(rt; parts.queues.phase(0) == Phase::Off);
+}
+
+#[test]
+fn disables_wait_for_all_of_their_queue(rt: HostRuntime) -> Result<(), Fail> {
+    let store = PlainStore::new(rt.alloc(), LISTS, CELLS)?;
+    disabled(&rt, store, Book::new(rt.alloc(), 100)?);
     Ok(())
 }

@@ -83,8 +83,8 @@ fn put<S: EntryStore>(
     cell
 }
 
-// Starts the one member that the engine of the device has.
-fn start_one<S: EntryStore>(
+/// Starts the one member that the engine of the device has.
+pub fn start_one<S: EntryStore>(
     rt: &impl Abort,
     queues: &mut Queues,
     engines: &mut Engines,
@@ -118,8 +118,8 @@ fn has_submitted<S: EntryStore>(store: &S, list: ListId) -> bool
     slots(store, list).any(|slot| slot.1.parent.is_none())
 }
 
-// What waits in a queue names it, and what stands with the members of an engine is one.
-fn see_places<S: EntryStore>(rt: &impl Abort, queues: &Queues, store: &S)
+/// What waits in a queue names it, and what stands with the members of an engine is one.
+pub fn see_places<S: EntryStore>(rt: &impl Abort, queues: &Queues, store: &S)
     requires { IsStoreFor queues.now.setup.caps (S.cells store.now) (S.content store.now) }
     ensures { IsInPlace queues.now.setup (S.content store.now) }
 {
@@ -149,8 +149,8 @@ fn end<S: EntryStore>(
     engines.finish(queues, store, book, 0, ticket, outcome)
 }
 
-// Hands in a member with this descriptor.
-fn fetch<S: EntryStore>(
+/// Hands in a member with this descriptor.
+pub fn fetch<S: EntryStore>(
     rt: &impl Abort,
     queues: &mut Queues,
     engines: &mut Engines,
