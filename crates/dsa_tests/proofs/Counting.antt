@@ -1,5 +1,6 @@
 -- The numbers of held entries, as a test moves entries by the store itself.
-use Rattle.std.proofs.Common.{◌≡◌, ℕ, ◌+◌, ◌<◌, ◌≢◌, Bool, cond, List, [], ◌++◌, take, drop, length, set, sym, ap, arith}
+use Rattle.std.proofs.Common.{◌≡◌, ℕ, ◌+◌, ◌<◌, ◌≢◌, Bool, cond, List, [], ◌++◌, take, drop, length}
+use Rattle.std.proofs.Common.{set, sym, ap, arith}
 use Rattle.std.proofs.lemmas.List.{length-set, get_or-set_other, take-append-drop, Sums.{sum_by-append}}
 use Rattle.std.specs.List.{sum_by}
 use Rattle.dsa_store.specs.Content.{Slot, Content, chain, after_move}

@@ -1,5 +1,6 @@
 -- The number of entries that a command waits for, as a test submits entries and ends them.
-use Rattle.std.proofs.Common.{◌≡◌, ℕ, ◌+◌, ◌-◌, ◌<◌, ◌≤◌, ◌&&◌, Bool, true, false, not, nat_lt, cond, [], ◌∷◌, Option, None, Some}
+use Rattle.std.proofs.Common.{◌≡◌, ℕ, ◌+◌, ◌-◌, ◌<◌, ◌≤◌, ◌&&◌, Bool, true, false, not}
+use Rattle.std.proofs.Common.{nat_lt, cond, [], ◌∷◌, Option, None, Some}
 use Rattle.std.proofs.Common.{length, refl, sym, ap, ◌∙◌, arith, inl, inr, eq-eqb}
 use Rattle.std.proofs.lemmas.{Grind.{common_steps}, Bool.{and_parts, cases_Bool}}
 use Rattle.std.specs.List.{find}
@@ -54,7 +55,8 @@ pub awaiting-pushed : (watch : Watch) (name : ℕ) (content now : Content) (list
 awaiting-pushed watch name content now list cell entry is h at a = record {
   counts = λ active on.
       let no : is_watched active entry ≡ false =
-      later (deed_of active.command) (scope_of active.command) active.mark entry (omega (arith, a.mark active on, at)) in
+      later (deed_of active.command) (scope_of active.command) active.mark entry
+      (omega (arith, a.mark active on, at)) in
       omega (
         arith,
         a.counts active on,

@@ -262,8 +262,25 @@ fn poll<S: EntryStore>(parts: &mut Parts<S>) -> PollAnswer
     parts.admin.poll(&mut parts.queues)
 }
 
-// A batch of one runs on the first engine, and so does its member. No command is active.
-fn run_batch<S: EntryStore>(rt: &impl Abort, parts: &mut Parts<S>, batch: Ticket) -> Ticket
+// The first engine takes the entry of the ticket, while no command is active.
+fn take<S: EntryStore>(rt: &impl Abort, parts: &mut Parts<S>, ticket: Ticket)
+    requires { AllAgree parts.old.queues parts.old.engines parts.old.admin (S.cells parts.old.store) (S.content parts.old.store) }
+    ensures { AllAgree parts.new.queues parts.new.engines parts.new.admin (S.cells parts.new.store) (S.content parts.new.store) }
+{
+    let Parts {
+        admin,
+        queues,
+        engines,
+        store,
+        ..
+    } = parts;
+    assert!(rt; admin.active().is_none());
+    let taken = DispatchAnswer::Taken { ticket, queue: 0 };
+    assert_eq!(rt; engines.dispatch(queues, store, 0), taken);
+}
+
+// A member of its batch runs on the first engine, while no command is active.
+fn run_member<S: EntryStore>(rt: &impl Abort, parts: &mut Parts<S>) -> Ticket
     requires { AllAgree parts.old.queues parts.old.engines parts.old.admin (S.cells parts.old.store) (S.content parts.old.store) }
     ensures { AllAgree parts.new.queues parts.new.engines parts.new.admin (S.cells parts.new.store) (S.content parts.new.store) }
 {
@@ -275,11 +292,6 @@ fn run_batch<S: EntryStore>(rt: &impl Abort, parts: &mut Parts<S>, batch: Ticket
         book,
     } = parts;
     assert!(rt; admin.active().is_none());
-    let taken = DispatchAnswer::Taken {
-        ticket: batch,
-        queue: 0,
-    };
-    assert_eq!(rt; engines.dispatch(queues, store, 0), taken);
     let FetchAnswer::Fetched(member) = fetch(rt, queues, engines, store, MOVE) else {
         panic!(rt; "nothing was fetched");
     };
@@ -327,8 +339,11 @@ fn drained<S: EntryStore>(rt: &impl Abort, store: S, book: Book) {
     let mut parts = parts_of(rt, [FIRST_GROUP, SECOND_GROUP], store, book);
     assert_eq!(rt; poll(&mut parts), PollAnswer::Nothing);
     issue_each(rt, &mut parts, &ENABLES);
-    let batch = push(rt, &mut parts, 0, batch_of(1).with_pasid(5));
-    let member = run_batch(rt, &mut parts, batch);
+    let batch = push(rt, &mut parts, 0, batch_of(2).with_pasid(5));
+    take(rt, &mut parts, batch);
+    let first = run_member(rt, &mut parts);
+    end(rt, &mut parts, first);
+    let member = run_member(rt, &mut parts);
     issue_each(rt, &mut parts, &DRAINS);
     assert_eq!(rt; poll(&mut parts), PollAnswer::Active);
     push(rt, &mut parts, 0, MOVE.with_pasid(5));

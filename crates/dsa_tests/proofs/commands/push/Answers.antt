@@ -1,5 +1,6 @@
 use Rattle.dsa_tests.proofs.commands.push.Goals as goal
-use Rattle.std.proofs.{Common.{rules, ◌≡◌, ℕ, ◌+◌, ◌<◌, true, false, length, ◌++◌, [], ◌∷◌, refl, arith}, lemmas.Bool.{ltb-true}}
+use Rattle.std.proofs.Common.{rules, ◌≡◌, ℕ, ◌+◌, ◌<◌, true, false, length, ◌++◌, [], ◌∷◌, refl, arith}
+use Rattle.std.proofs.lemmas.Bool.{ltb-true}
 use Rattle.dsa_store.specs.Content.{Content, chain}
 use Rattle.dsa_book.specs.State.{Setup, is_off, has_queue}
 use Rattle.dsa_queues.proofs.Counts.{counted-pushed, counted-setup}
@@ -45,6 +46,6 @@ returns g c =
         in_step = named (parts.queues.setup.next_name + 1) in_step;
         counted = counted-setup _ _ _ refl refl pushed.1;
       };
-      awaiting = awaiting-pushed parts.admin parts.queues.setup.next_name content _ c.args.queue _ _ c.in-Some.ensures.some
-          list c.give_name.ensures.name c.requires.awaiting;
+      awaiting = awaiting-pushed parts.admin parts.queues.setup.next_name content _ c.args.queue _ _
+          c.in-Some.ensures.some list c.give_name.ensures.name c.requires.awaiting;
     })

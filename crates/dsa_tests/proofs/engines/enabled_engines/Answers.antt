@@ -11,7 +11,8 @@ returns g c =
     let none : held_count (g.S.EntryStore.content c.args.store.now) ≡ 0 =
     omega (arith, c.free.ensures, c.cells-2.ensures) in
     record {
-      in_step = c.enable.ensures.in_step (g.S.EntryStore.cells c.args.store.now) (g.S.EntryStore.content c.args.store.now)
+      in_step = c.enable.ensures.in_step (g.S.EntryStore.cells c.args.store.now)
+          (g.S.EntryStore.content c.args.store.now)
           (record {
             lists = omega (arith, c.lists.ensures, c.list_count.ensures, lists);
             cells =

@@ -9,12 +9,14 @@ use Rattle.dsa_engines.{specs.Engines.{IsInStep}, proofs.Keeping.{in_step-queue}
 
 pub entered-requires-clause-there : goal.entered-requires-clause-there
 entered-requires-clause-there g c =
-    let queue : c.args.entry.queue < c.args.queues.now.setup.caps.queues = omega (arith, ap (λ (x : Caps). x.queues) c.caps-caps.ensures.value) in
+    let queue : c.args.entry.queue < c.args.queues.now.setup.caps.queues =
+    omega (arith, ap (λ (x : Caps). x.queues) c.caps-caps.ensures.value) in
     lt-ltb _ _ queue
 
 pub entered-requires-clause-room : goal.entered-requires-clause-room
 entered-requires-clause-room g c =
-    let queue : c.args.entry.queue < c.args.queues.now.setup.caps.queues = omega (arith, ap (λ (x : Caps). x.queues) c.caps-caps.ensures.value) in
+    let queue : c.args.entry.queue < c.args.queues.now.setup.caps.queues =
+    omega (arith, ap (λ (x : Caps). x.queues) c.caps-caps.ensures.value) in
     let pushed = counted-pushed c.args.queues.now _ _ c.args.entry.queue _ _ c.in-Some.ensures.some
     (omega (arith, queue, c.requires.in_step.store.lists)) (lt-ltb _ _ queue) c.requires.counted in
     omega (
@@ -30,12 +32,14 @@ returns g c =
     let on : is_off c.args.queues.now.setup.device ≡ false = search rules in
     let content : Content = g.S.EntryStore.content c.args.store.now in
     let q = c.args.entry.queue in
-    let queue : c.args.entry.queue < c.args.queues.now.setup.caps.queues = omega (arith, ap (λ (x : Caps). x.queues) c.caps-caps.ensures.value) in
+    let queue : c.args.entry.queue < c.args.queues.now.setup.caps.queues =
+    omega (arith, ap (λ (x : Caps). x.queues) c.caps-caps.ensures.value) in
     let pushed = counted-pushed c.args.queues.now _ _ c.args.entry.queue _ _ c.in-Some.ensures.some
     (omega (arith, queue, c.requires.in_step.store.lists)) (lt-ltb _ _ queue) c.requires.counted in
     rw c.entered.ensures (record {
       in_step = subst (λ (x : Content). IsInStep c.args.queues.now.setup c.args.engines.now
           (g.S.EntryStore.cells c.push_back.new.self) x) (sym c.in-Some.ensures.some)
-          (in_step-queue c.requires.in_step on c.push_back.ensures.cells q (chain content q ++ (c.in-Some.cell, c.args.entry) ∷ []) queue);
+          (in_step-queue c.requires.in_step on c.push_back.ensures.cells q
+          (chain content q ++ (c.in-Some.cell, c.args.entry) ∷ []) queue);
       counted = pushed.1;
     })

@@ -52,9 +52,11 @@ returns g c =
       members = λ k slot h at. elim (cases_lt k 1) [
         | inl low ↦
             let is : member_list c.args.queues.now.setup k ≡ 4 = omega (arith, low, queues, engines) in
-            member slot (chain content (member_list c.args.queues.now.setup k)) (rw is (sym c.has_submitted.ensures ∙ third)) at
+            member slot (chain content (member_list c.args.queues.now.setup k))
+            (rw is (sym c.has_submitted.ensures ∙ third)) at
         | inr high ↦
             let is : member_list c.args.queues.now.setup k ≡ 5 = omega (arith, high, h, queues, engines) in
-            member slot (chain content (member_list c.args.queues.now.setup k)) (rw is (sym c.has_submitted-2.ensures ∙ fourth)) at
+            member slot (chain content (member_list c.args.queues.now.setup k))
+            (rw is (sym c.has_submitted-2.ensures ∙ fourth)) at
       ];
     }

@@ -22,7 +22,8 @@ start-requires-clause-order g c =
     let q = ap (λ (x : Caps). x.queues) c.caps-caps.ensures.value in
     let e = ap (λ (x : Caps). x.engines) c.caps-caps.ensures.value in
     let is : member_list c.args.queues.now.setup 0 ≡ 4 = omega (arith, q, e) in
-    subst WaitInOrder (sym (members-are c.args.queues.now.setup content 0 (omega (arith, q, e)) ∙ ap (chain content) is))
+    subst WaitInOrder (sym (members-are c.args.queues.now.setup content 0 (omega (arith, q, e))
+    ∙ ap (chain content) is))
     (one-waits (chain content 4) (omega (arith, c.len-members.ensures)))
 
 pub start-requires-clause-room : goal.start-requires-clause-room
