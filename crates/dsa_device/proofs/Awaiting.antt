@@ -1,18 +1,20 @@
 -- The number of entries that the active command waits for, across each step.
-use Rattle.std.proofs.Common.{◌≡◌, ℕ, ◌+◌, ◌-◌, ◌≤◌, true, false, Option, Some, None, refl, sym, ◌∙◌, arith}
+use Rattle.std.proofs.Common.{◌≡◌, ℕ, ◌+◌, ◌-◌, ◌≤◌, true, false, Option, Some, None, refl, sym, ap, ◌∙◌, arith}
 use Rattle.dsa_desc.specs.declared.Outcome.{Outcome}
 use Rattle.dsa_regs.specs.{declared.Caps.{Caps}, Command.{deed_of, scope_of}}
 use Rattle.dsa_store.specs.{declared.entry.Entry.{Entry}, Content.{Content, count_where}}
 use Rattle.dsa_book.specs.declared.answer.{Ticket.{Ticket}, Reply.{Reply}}
 use Rattle.dsa_book.specs.declared.answer.FinishAnswer.{FinishAnswer, TheVariants.{Done}}
 use Rattle.dsa_book.specs.declared.{event.Event.{Event}, note.ActiveCommand.{ActiveCommand}}
-use Rattle.dsa_book.specs.{State.{Work}, Work.{finish}}
+use Rattle.dsa_book.specs.{State.{Setup, Work, is_off}, Work.{finish}}
+use Rattle.dsa_queues.{specs.Queues.{Kept}, proofs.Counts.{counted-setup}}
+use Rattle.dsa_engines.{specs.Engines.{Gear}, proofs.Keeping.{KeepsLoads}}
 use Rattle.dsa_admin.specs.Admin.{Watch, IsAwaiting, is_watched, is_waited_for, is_counting}
 use Rattle.dsa_laws.specs.WellFormed.{CellsOnce}
 use Rattle.dsa_laws.proofs.Awaits.{IsOfEarlier, guarded, awaited-earlier, ended_of, finish-counts}
 use Rattle.dsa_laws.proofs.{Changes.{next-change}, Flows.{flow-change}}
-use Rattle.dsa_device.proofs.{Known.{well_formed}, Steps.{answered_by_cases}}
-use Rattle.dsa_device.specs.Running.{Running, IsReplay, after_answer, watched_in, awaited_end}
+use Rattle.dsa_device.proofs.{Known.{well_formed}, Steps.{answered_by_cases, same-queues, whole_after_queues}}
+use Rattle.dsa_device.specs.Running.{Running, IsReplay, IsRunning, after_answer, watched_in, awaited_end}
 
 -- what a command counts was submitted before it
 watched-earlier : (active : ActiveCommand) → IsOfEarlier (is_watched active) active.mark
@@ -51,6 +53,26 @@ next-names d t e r i a = answered_by_cases
 pub names-after : (d now t : Running) (e : Event) (r : Reply) → IsReplay d → d ≡ now → after_answer now e r ≡ Some t
     → d.state.work.setup.next_name ≤ t.state.work.setup.next_name
 names-after d now t e r i is a = next-names d t e r i (rw (← is) at a)
+
+-- a step of the set-up alone, which leaves all entries and numbers as they are
+pub set-up-running : (cells more : ℕ) (kept after : Kept) (gear : Gear) (watch : Watch) (d now t : Running) (e : Event)
+    (r : Reply) → IsRunning cells kept gear watch d → d ≡ now → after_answer now e r ≡ Some t
+    → gear.notes ≡ t.state.work.notes → more ≡ cells
+    → (is_off t.state.work.setup.device ≡ false
+    → KeepsLoads d.state.work.setup t.state.work.setup d.state.work.content t.state.work.content)
+    → after.held ≡ kept.held → kept.setup ≡ d.state.work.setup → after.setup ≡ t.state.work.setup
+    → t.state.work.content ≡ d.state.work.content → IsRunning more after gear watch t
+set-up-running cells more kept after gear watch d now t e r i is a notes count keeps held before setup same = record {
+  whole = whole_after_queues cells more gear d now t e r i.whole is a notes count keeps;
+  counted = rw same (counted-setup kept after d.state.work.content held
+      (ap queues_of setup ∙ same-queues d now t e r i.whole.replay is a ∙ ap queues_of (sym before)) i.counted);
+  awaiting = rw same (awaiting-kept watch d.state.work.setup.next_name t.state.work.setup.next_name
+      d.state.work.content d.state.work.content (names-after d now t e r i.whole.replay is a)
+      (λ active earlier past. refl) i.awaiting);
+}
+  where
+    queues_of : Setup → ℕ
+    queues_of setup = setup.caps.queues
 
 -- ---- the end of an entry
 

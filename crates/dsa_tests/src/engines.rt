@@ -210,6 +210,14 @@ fn first_ends<S: EntryStore>(
     assert!(rt; book.fate(10) == Some(ROW));
 }
 
+#[test]
+fn buffers_of_a_group(rt: HostRuntime) -> Result<(), Fail> {
+    let mut store = PlainStore::new(rt.alloc(), LISTS, CELLS)?;
+    let mut book = Book::new(rt.alloc(), 2)?;
+    one_runs_at_a_time(&rt, &mut store, &mut book);
+    Ok(())
+}
+
 // A member is fetched and started, and fails; its batch cannot end before it.
 fn member_fails<S: EntryStore>(
     rt: &impl Abort,
@@ -270,6 +278,14 @@ fn batch_fails<S: EntryStore>(
     assert!(rt; last == FinishAnswer::Done(0x05));
 }
 
+#[test]
+fn members_of_a_batch(rt: HostRuntime) -> Result<(), Fail> {
+    let mut store = PlainStore::new(rt.alloc(), LISTS, CELLS)?;
+    let mut book = Book::new(rt.alloc(), 4)?;
+    batch_ends_last(&rt, &mut store, &mut book);
+    Ok(())
+}
+
 // The engine takes the entry of the ticket from the queue.
 fn take<S: EntryStore>(
     rt: &impl Abort,
@@ -306,6 +322,14 @@ fn drain_waits<S: EntryStore>(
     assert!(rt; engines.dispatch(queues, store, 0) == DispatchAnswer::Idle);
     let done = end(rt, queues, engines, store, book, drain, Outcome::PageFault);
     assert!(rt; done == FinishAnswer::Done(0x01));
+}
+
+#[test]
+fn drains_of_an_engine(rt: HostRuntime) -> Result<(), Fail> {
+    let mut store = PlainStore::new(rt.alloc(), LISTS, CELLS)?;
+    let mut book = Book::new(rt.alloc(), 4)?;
+    drains_end_in_turn(&rt, &mut store, &mut book);
+    Ok(())
 }
 
 // A Move and two Drains: the second Drain is taken when the first has ended.
@@ -367,29 +391,5 @@ fn members_count_until_they_end(rt: HostRuntime) -> Result<(), Fail> {
     let mut store = PlainStore::new(rt.alloc(), LISTS, CELLS)?;
     let mut book = Book::new(rt.alloc(), 4)?;
     abandoned_members(&rt, &mut store, &mut book);
-    Ok(())
-}
-
-#[test]
-fn drains_of_an_engine(rt: HostRuntime) -> Result<(), Fail> {
-    let mut store = PlainStore::new(rt.alloc(), LISTS, CELLS)?;
-    let mut book = Book::new(rt.alloc(), 4)?;
-    drains_end_in_turn(&rt, &mut store, &mut book);
-    Ok(())
-}
-
-#[test]
-fn buffers_of_a_group(rt: HostRuntime) -> Result<(), Fail> {
-    let mut store = PlainStore::new(rt.alloc(), LISTS, CELLS)?;
-    let mut book = Book::new(rt.alloc(), 2)?;
-    one_runs_at_a_time(&rt, &mut store, &mut book);
-    Ok(())
-}
-
-#[test]
-fn members_of_a_batch(rt: HostRuntime) -> Result<(), Fail> {
-    let mut store = PlainStore::new(rt.alloc(), LISTS, CELLS)?;
-    let mut book = Book::new(rt.alloc(), 4)?;
-    batch_ends_last(&rt, &mut store, &mut book);
     Ok(())
 }

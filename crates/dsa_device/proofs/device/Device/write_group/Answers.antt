@@ -2,9 +2,8 @@ use Rattle.dsa_book.specs.declared.event.Event.TheVariants as event
 use Rattle.dsa_book.specs.declared.answer.Reply.TheVariants as reply
 use Rattle.dsa_device.proofs.device.Device.write_group.Goals as goal
 use Rattle.std.proofs.Common.{◌∙◌, refl, sym}
-use Rattle.dsa_queues.proofs.Counts.{counted-setup}
-use Rattle.dsa_device.proofs.Awaiting.{awaiting-kept, names-after}
-use Rattle.dsa_device.proofs.{InStep.{write_group-keeps}, Steps.{answered, whole_after_queues, same-queues}}
+use Rattle.dsa_device.proofs.Awaiting.{set-up-running}
+use Rattle.dsa_device.proofs.{InStep.{write_group-keeps}, Steps.{answered}}
 
 pub returns : goal.returns
 returns g c =
@@ -14,16 +13,8 @@ returns g c =
     (rw c.record.ensures)
 
 pub invariant_of-self : goal.invariant_of-self
-invariant_of-self g c = record {
-  whole = whole_after_queues _ _ _ _ _ _
-      (event.WriteGroup c.args.group c.args.config) (reply.Write c.write_group-answer.result)
-      c.self.invariant.whole c.self.view_is (returns g c) refl refl
-      (write_group-keeps _ _ c.args.group c.args.config _ _ c.write_group-answer.ensures.answer);
-  counted = counted-setup _ _ _ c.write_group-answer.ensures.held
-      (same-queues _ _ _ (event.WriteGroup c.args.group c.args.config) (reply.Write c.write_group-answer.result)
-      c.self.invariant.whole.replay c.self.view_is (returns g c)) c.self.invariant.counted;
-  awaiting = awaiting-kept _ _ _ _ _
-      (names-after _ _ _ (event.WriteGroup c.args.group c.args.config) (reply.Write c.write_group-answer.result)
-      c.self.invariant.whole.replay c.self.view_is (returns g c))
-      (λ active earlier past. refl) c.self.invariant.awaiting;
-}
+invariant_of-self g c =
+    set-up-running _ _ _ _ _ _ _ _ _ (event.WriteGroup c.args.group c.args.config) (reply.Write c.write_group-answer.result)
+    c.self.invariant c.self.view_is (returns g c) refl refl
+    (write_group-keeps _ _ c.args.group c.args.config _ _ c.write_group-answer.ensures.answer)
+    c.write_group-answer.ensures.held refl refl refl

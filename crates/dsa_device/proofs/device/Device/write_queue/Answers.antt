@@ -2,10 +2,9 @@ use Rattle.dsa_book.specs.declared.event.Event.TheVariants as event
 use Rattle.dsa_book.specs.declared.answer.Reply.TheVariants as reply
 use Rattle.dsa_device.proofs.device.Device.write_queue.Goals as goal
 use Rattle.std.proofs.Common.{◌∙◌, refl, sym}
-use Rattle.dsa_queues.proofs.Counts.{counted-setup}
-use Rattle.dsa_device.proofs.Awaiting.{awaiting-kept, names-after}
+use Rattle.dsa_device.proofs.Awaiting.{set-up-running}
 use Rattle.dsa_device.proofs.{Known.{well_formed}, InStep.{write_queue-keeps}}
-use Rattle.dsa_device.proofs.Steps.{answered, whole_after_queues, same-queues}
+use Rattle.dsa_device.proofs.Steps.{answered}
 
 pub returns : goal.returns
 returns g c =
@@ -14,18 +13,11 @@ returns g c =
     (sym c.is_full.ensures.full ∙ c.if-is_full.false) refl (rw (c.write_queue-answer.ensures.answer, c.record.ensures))
     (rw c.record.ensures)
 
+-- the queue is Off, so no entry names it
 pub invariant_of-self : goal.invariant_of-self
-invariant_of-self g c = record {
-  whole = whole_after_queues _ _ _ _ _ _
-      (event.WriteQueue c.args.queue c.args.config) (reply.Write c.write_queue-answer.result)
-      c.self.invariant.whole c.self.view_is (returns g c) refl refl
-      (λ on. write_queue-keeps _ _ c.args.queue c.args.config _ _ (well_formed _ c.self.invariant.whole.replay).entries
-      c.write_queue-answer.ensures.answer);
-  counted = counted-setup _ _ _ c.write_queue-answer.ensures.held
-      (same-queues _ _ _ (event.WriteQueue c.args.queue c.args.config) (reply.Write c.write_queue-answer.result)
-      c.self.invariant.whole.replay c.self.view_is (returns g c)) c.self.invariant.counted;
-  awaiting = awaiting-kept _ _ _ _ _
-      (names-after _ _ _ (event.WriteQueue c.args.queue c.args.config) (reply.Write c.write_queue-answer.result)
-      c.self.invariant.whole.replay c.self.view_is (returns g c))
-      (λ active earlier past. refl) c.self.invariant.awaiting;
-}
+invariant_of-self g c =
+    set-up-running _ _ _ _ _ _ _ _ _ (event.WriteQueue c.args.queue c.args.config) (reply.Write c.write_queue-answer.result)
+    c.self.invariant c.self.view_is (returns g c) refl refl
+    (λ on. write_queue-keeps _ _ c.args.queue c.args.config _ _
+    (well_formed _ c.self.invariant.whole.replay).entries c.write_queue-answer.ensures.answer)
+    c.write_queue-answer.ensures.held refl refl refl
