@@ -105,6 +105,7 @@ impl Engines {
     }
 
     // Whether the entry is a batch that is not finished, or a Drain that waits.
+    #[inline(always)]
     fn must_wait<S: EntryStore>(
         &self,
         queues: &Queues,

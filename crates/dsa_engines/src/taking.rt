@@ -20,6 +20,7 @@ use dsa_regs::ListUse;
 use dsa_store::{Cell, Entry, EntryStore, ListId, front_slot, slots};
 
 // The front of one list goes to the end of the other, and runs.
+#[inline(always)]
 fn run_front<S: EntryStore>(store: &mut S, from: ListId, to: ListId, front: (Cell, Entry))
     requires from { from.0 < length (S.content store.old) }
     requires to { to.0 < length (S.content store.old) }
@@ -152,6 +153,7 @@ impl Engines {
     }
 
     // A queue whose front the engine may take. Looks at the queues of the group alone.
+    #[inline(always)]
     fn choose<S: EntryStore>(
         &self,
         queues: &Queues,
