@@ -11,8 +11,7 @@ returns-in-Some-clause-mismatch g c other =
 pub returns-in-Some-clause-missing : goal.returns-in-Some-clause-missing
 returns-in-Some-clause-missing g c =
     let engines = ap (λ k. k.engines) (c.caps-engines.ensures ∙ c.locked.invariant.2) in
-    let missing = c.in-Some.ensures.missing in
-    (
+    let missing = c.in-Some.ensures.missing in (
       λ is all. missing.0 (ap Some is)
           (complete_by _ _ _ _ _ _ _ (sym c.args.self.clients_are) (sym engines) all),
       λ no. same_Some _ _ (missing.1 (λ all. no (complete_by _ _ _ _ _ _ _ c.args.self.clients_are engines all))),
