@@ -1,7 +1,7 @@
 -- The read buffers in use, as one list of one engine changes.
 use Rattle.std.proofs.Common.{◌≡◌, ℕ, ◌+◌, ◌-◌, ◌*◌, ◌<◌, ◌≤◌, ◌≢◌, Bool, cond, ◌&&◌, nat_lt, List, [], ◌∷◌, ◌++◌}
 use Rattle.std.proofs.Common.{length, set, get_or, Option, Some, None, refl, sym, ◌∙◌, ap, arith, inl, inr, ◌⊎◌, false}
-use Rattle.std.proofs.lemmas.List.{get_or-set_same, get_or-set_other, set-set, set-get_or, nil_from_length}
+use Rattle.std.proofs.lemmas.List.{get_or-set_same, get_or-set_other, set-get_or, nil_from_length}
 use Rattle.std.proofs.lemmas.{List.Sums.{sum_by-cons, sum_by-append, sum_by_push, sum_by-set}, Bool.{cases_lt, lt-ltb}}
 use Rattle.std.specs.List.{filter, sum_by}
 use Rattle.dsa_base.specs.Numbers.{has, numbers_below}

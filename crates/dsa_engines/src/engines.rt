@@ -6,6 +6,7 @@ ghost use Rattle.dsa_regs.specs.Caps.{check_caps};
 ghost use Rattle.dsa_regs.specs.Config.{check_device};
 ghost use Rattle.dsa_store.specs.Content.{Content, held_count};
 ghost use Rattle.dsa_book.specs.State.{opening_setup};
+ghost use Rattle.dsa_buffers.specs.Buffers.{IsRoom};
 ghost use Rattle.dsa_queues.specs.Queues.{IsStoreFor};
 ghost use Rattle.dsa_engines.specs.Engines.{IsInStep, gear_at_first, homes_of, buffers_at_rest, buffers_after_return, Holds};
 
@@ -122,6 +123,14 @@ impl Engines {
         ensures { result ≡ fits self.now.buffers.total self.now.buffers.groups self.now.buffers.used group n }
     {
         self.buffers.fits(group, u16::from(n))
+    }
+
+    /// How many more read buffers the group has room for.
+    #[inline(always)]
+    pub(crate) fn room(&self, group: u16) -> u16
+        ensures { IsRoom self.now.buffers group result }
+    {
+        self.buffers.room(group)
     }
 
     /// Takes so many read buffers for the group.

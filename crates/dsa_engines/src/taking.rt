@@ -1,8 +1,8 @@
 //! Dispatch: an engine takes an entry from a queue of its group.
 
-ghost use Rattle.std.specs.Prelude.{◌≡◌, ℕ, List, ◌<◌, ◌≢◌, ◌&&◌, ◌||◌, not, is_none, true, false, Some, None, [], length, get_or, slice_get, slice_index, slice_set, cond, IfSome, IfNone, MatchOption};
+ghost use Rattle.std.specs.Prelude.{◌≡◌, ℕ, List, ◌<◌, ◌≢◌, nat_le, ◌&&◌, ◌||◌, not, is_none, true, false, Some, None, [], length, get_or, slice_get, slice_index, slice_set, cond, IfSome, IfNone, MatchOption};
 ghost use Rattle.dsa_base.specs.Numbers.{has};
-ghost use Rattle.dsa_regs.specs.Buffers.{fits};
+ghost use Rattle.dsa_buffers.specs.Buffers.{IsRoom};
 ghost use Rattle.dsa_regs.specs.Config.{group_at};
 ghost use Rattle.dsa_store.specs.Content.{chain, after_push, without_front};
 ghost use Rattle.dsa_book.specs.declared.fate.FateRow.{FateRow};
@@ -18,6 +18,13 @@ use dsa_book::{BatchNote, DispatchAnswer, Ticket};
 use dsa_queues::Queues;
 use dsa_regs::ListUse;
 use dsa_store::{Cell, Entry, EntryStore, ListId, front_slot, slots};
+
+// An engine's group, and how many more read buffers it has room for.
+#[derive(Clone, Copy)]
+struct Share {
+    group: u16,
+    room: u16,
+}
 
 // The front of one list goes to the end of the other, and runs.
 #[inline(always)]
@@ -67,25 +74,24 @@ impl Engines {
         self.home(engine)
     }
 
-    // Whether there are the buffers that the entry needs, and neither a second batch nor a second Drain would be begun.
+    // Whether there is room for the buffers that the entry needs, and neither a second batch nor a second Drain would be begun.
     #[inline(always)]
     fn may_run<S: EntryStore>(
         &self,
         queues: &Queues,
         store: &S,
         engine: u16,
-        group: u16,
+        room: u16,
         entry: &Entry,
     ) -> bool
         requires store { IsStoreFor queues.now.setup.caps (S.cells store.now) (S.content store.now) }
         requires engine { engine < queues.now.setup.caps.engines }
-        requires group { group < length self.now.buffers.groups }
-        ensures { result ≡ (fits self.now.buffers.total self.now.buffers.groups self.now.buffers.used group (need_of queues.now.setup entry.now)
+        ensures { result ≡ (nat_le (need_of queues.now.setup entry.now) room
             && (is_none (get_or self.now.notes engine None) || not (is_batch_of queues.now.setup entry.now))
             && not (is_drain_of queues.now.setup entry.now
             && any_in (is_drain_of queues.now.setup) (chain (S.content store.now) (progress_list queues.now.setup engine)))) }
     {
-        if !self.fits(group, queues.need(entry)) {
+        if u16::from(queues.need(entry)) > room {
             return false;
         }
         if self.note(engine).is_some() && queues.is_batch(entry) {
@@ -101,12 +107,13 @@ impl Engines {
         queues: &Queues,
         store: &S,
         engine: u16,
-        group: u16,
+        share: Share,
         queue: u16,
     ) -> bool
         requires in_step { IsInStep queues.now.setup self.now (S.cells store.now) (S.content store.now) }
-        requires group { is_off queues.now.setup.device ≡ false → IsOpen queues.now.setup (S.content store.now) engine group }
-        requires served { has (group_at queues.now.setup.groups group).queues queue ≡ true }
+        requires group { is_off queues.now.setup.device ≡ false → IsOpen queues.now.setup (S.content store.now) engine share.group }
+        requires room { IsRoom self.now.buffers share.group share.room }
+        requires served { has (group_at queues.now.setup.groups share.group).queues queue ≡ true }
         ensures { result ≡ qualifies (work queues.now.setup self.now (S.content store.now) []) engine queue }
     {
         if !queues.has_queue(queue) {
@@ -115,7 +122,7 @@ impl Engines {
         let Some((_, entry)) = front_slot(store, ListId(queue)) else {
             return false;
         };
-        self.may_run(queues, store, engine, group, &entry)
+        self.may_run(queues, store, engine, share.room, &entry)
     }
 
     // Whether the queue goes before the other: by priority, and among equals by whose turn is next.
@@ -134,22 +141,23 @@ impl Engines {
         queues: &Queues,
         store: &S,
         engine: u16,
-        group: u16,
+        share: Share,
         best: Option<u16>,
         queue: u16,
     ) -> bool
         requires in_step { IsInStep queues.now.setup self.now (S.cells store.now) (S.content store.now) }
-        requires group { is_off queues.now.setup.device ≡ false → IsOpen queues.now.setup (S.content store.now) engine group }
-        requires served { has (group_at queues.now.setup.groups group).queues queue ≡ true }
+        requires group { is_off queues.now.setup.device ≡ false → IsOpen queues.now.setup (S.content store.now) engine share.group }
+        requires room { IsRoom self.now.buffers share.group share.room }
+        requires served { has (group_at queues.now.setup.groups share.group).queues queue ≡ true }
         ensures better { result ≡ true → qualifies (work queues.now.setup self.now (S.content store.now) []) engine queue ≡ true }
         ensures first { best ≡ None → result ≡ qualifies (work queues.now.setup self.now (S.content store.now) []) engine queue }
     {
         if let Some(other) = best {
-            if !self.goes_before(queues, group, queue, other) {
+            if !self.goes_before(queues, share.group, queue, other) {
                 return false;
             }
         }
-        self.qualifies(queues, store, engine, group, queue)
+        self.qualifies(queues, store, engine, share, queue)
     }
 
     // A queue whose front the engine may take. Looks at the queues of the group alone.
@@ -159,19 +167,20 @@ impl Engines {
         queues: &Queues,
         store: &S,
         engine: u16,
-        group: u16,
+        share: Share,
     ) -> Option<u16>
         requires in_step { IsInStep queues.now.setup self.now (S.cells store.now) (S.content store.now) }
-        requires group { is_off queues.now.setup.device ≡ false → IsOpen queues.now.setup (S.content store.now) engine group }
+        requires group { is_off queues.now.setup.device ≡ false → IsOpen queues.now.setup (S.content store.now) engine share.group }
+        requires room { IsRoom self.now.buffers share.group share.room }
         ensures { MatchOption result
             ((q : ℕ) → qualifies (work queues.now.setup self.now (S.content store.now) []) engine q ≡ false)
             (λ queue. qualifies (work queues.now.setup self.now (S.content store.now) []) engine queue ≡ true) }
     {
-        let config = queues.group(group);
+        let config = queues.group(share.group);
         let mut best = None;
         let mut from = 0;
         while let Some(queue) = config.next_queue(from) {
-            if self.is_better(queues, store, engine, group, best, queue) {
+            if self.is_better(queues, store, engine, share, best, queue) {
                 best = Some(queue);
             }
             from = queue + 1;
@@ -225,7 +234,11 @@ impl Engines {
         let Some(group) = self.open_group(queues, store, engine) else {
             return DispatchAnswer::Idle;
         };
-        let Some(queue) = self.choose(queues, store, engine, group) else {
+        let share = Share {
+            group,
+            room: self.room(group),
+        };
+        let Some(queue) = self.choose(queues, store, engine, share) else {
             return DispatchAnswer::Idle;
         };
         let Some((cell, entry)) = front_slot(store, ListId(queue)) else {
