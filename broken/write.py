@@ -1,0 +1,458 @@
+#!/usr/bin/env python3
+"""Writes the documents of this folder, each with what the program has to print.
+
+NAME.json is a document. NAME.out has the lines that it prints, and the exit status is 0. Where there is a NAME.err
+instead, the document has a fault: that line goes to standard error, and the exit status is 1. What is expected stands here
+by hand, from docs/SCENARIO.md and docs/MODEL.md; nothing is taken from the program. ./corpus runs them."""
+import json
+import pathlib
+import shutil
+
+FOLDER = pathlib.Path(__file__).resolve().parent
+
+NOT_JSON, BAD_DOCUMENT, BAD_CAPS, BAD_CAPACITY = "not JSON", "bad document", "bad caps", "bad capacity"
+
+# the capabilities, each with the bits of its field, the least and the greatest number
+CAPS = {
+    "queues": (16, 1, 64), "groups": (16, 1, 8), "engines": (16, 1, 64), "total_size": (16, 1, 4096),
+    "read_buffers": (16, 1, 255), "slots": (16, 1, 16), "max_batch_shift": (8, 1, 10), "max_xfer_shift": (8, 0, 31),
+}
+LEAST = {key: least for key, (_, least, _) in CAPS.items()}
+SMALL = {**LEAST, "total_size": 4, "read_buffers": 4}
+
+TRUTH, HEX = "a truth value", "hexadecimal digits"
+
+# the further keys of each kind of step: the bits of a number, a truth value or digits
+KEYS = {
+    "queue": {"queue": 16, "size": 16, "threshold": 16, "dedicated": TRUTH, "priority": 8, "pasid": 32, "batch": 8,
+              "xfer": 8},
+    "group": {"group": 16, "queues": 64, "engines": 64, "reserved": 16, "allowed": 16},
+    "enqcmd": {"client": 16, "queue": 16, "limited": TRUTH, "pasid": 32, "desc": HEX},
+    "movdir": {"client": 16, "queue": 16, "limited": TRUTH, "desc": HEX},
+    "dispatch": {"engine": 16},
+    "fetch": {"engine": 16, "desc": HEX},
+    "start": {"engine": 16},
+    "finish": {"engine": 16, "name": 32, "fault": TRUTH},
+    "command": {"word": 32},
+    "poll": {},
+    "clear": {},
+}
+
+# the line of a step on a new device of the capabilities SMALL, whose numbers are 0
+FIRST_LINE = {
+    "queue": "written", "group": "written", "enqcmd": "retry not-enabled", "movdir": "dropped not-enabled",
+    "dispatch": "idle", "fetch": "no-batch", "start": "nothing", "finish": "gone", "command": "refused 13 BadCommand",
+    "poll": "nothing", "clear": "nothing",
+}
+
+# the same with the greatest number at that key, where it is another
+GREATEST_LINE = {("queue", "queue"): "refused 20 BadIndex", ("group", "group"): "refused 20 BadIndex"}
+
+POLL = {"do": "poll"}
+
+
+class Raw(str):
+    """JSON text that is written as it stands."""
+
+
+class Pairs(list):
+    """The members of an object, of which keys may come twice."""
+
+
+def text_of(value):
+    if isinstance(value, Raw):
+        return str(value)
+    if isinstance(value, dict):
+        value = Pairs(value.items())
+    if isinstance(value, Pairs):
+        return "{" + ",".join(f"{text_of(key)}:{text_of(item)}" for key, item in value) + "}"
+    if isinstance(value, list):
+        return "[" + ",".join(map(text_of, value)) + "]"
+    return json.dumps(value)
+
+
+def document(steps, caps=SMALL, capacity=100):
+    return text_of({"caps": caps, "capacity": capacity, "steps": steps})
+
+
+def put(name, text, expected):
+    """Writes a document and what is expected of it: a fault, or the lines."""
+    path = FOLDER / name
+    path.parent.mkdir(exist_ok=True)
+    path.with_suffix(".json").write_bytes(text if isinstance(text, bytes) else text.encode())
+    if isinstance(expected, str):
+        path.with_suffix(".err").write_bytes(f"dsa_run: {expected}\n".encode())
+    else:
+        path.with_suffix(".out").write_bytes("".join(f"{line}\n" for line in expected).encode())
+
+
+def without(members, key):
+    return {name: value for name, value in members.items() if name != key}
+
+
+def wrong_numbers(bits):
+    """What is no number of a field of so many bits, in short."""
+    return {
+        "text": "1", "fraction": Raw("1.0"), "negative": -1, "above": 1 << bits,
+    }
+
+
+# what is wrong at a field of any width, so that it is tried at one field of each
+WRONG_NUMBERS = {
+    "null": None, "truth": True, "array": [1], "object": {}, "exponent": Raw("1e2"), "minus-zero": Raw("-0"),
+    "small-exponent": Raw("1E0"), "zero-fraction": Raw("0.0"), "above-64-bits": 1 << 64, "300-digits": Raw("9" * 300),
+}
+WRONG_TRUTHS = {"number": 1, "text": "true", "null": None, "array": [True], "object": {}}
+WRONG_DIGITS = {
+    "number": 0, "null": None, "truth": True, "array": ["00"], "object": {}, "one-digit": "0", "127-digits": "0" * 127,
+    "129-digits": "0" * 129, "130-digits": "0" * 130, "space": "00 0", "space-behind": "0 ", "prefix": "0x00",
+    "letter": "0g", "sign": "-1", "wide-digits": "\uff10\uff10", "line-feed": "00\n0", "underscore": "00_0",
+}
+
+# the keys at which WRONG_NUMBERS are tried: one of each width
+TRIED_WHOLE = {("queue", "priority"), ("dispatch", "engine"), ("command", "word"), ("group", "queues")}
+
+
+def first_step(kind):
+    first = {TRUTH: False, HEX: ""}
+    return {"do": kind, **{key: first.get(form, 0) for key, form in KEYS[kind].items()}}
+
+
+def wrong_values(kind, key, form):
+    if form == TRUTH:
+        return WRONG_TRUTHS
+    if form == HEX:
+        few = ("number", "one-digit", "130-digits")
+        return WRONG_DIGITS if kind == "enqcmd" else {name: WRONG_DIGITS[name] for name in few}
+    return {**wrong_numbers(form), **(WRONG_NUMBERS if (kind, key) in TRIED_WHOLE else {})}
+
+
+def put_step_keys():
+    """Each key of each kind of step: it is missing, of another type, or a number that does not fit."""
+    for kind, keys in KEYS.items():
+        good = first_step(kind)
+        put(f"steps/{kind}", document([good, POLL]), [FIRST_LINE[kind], "nothing"])
+        put(f"steps/{kind}-without-do", document([POLL, without(good, "do")]), "bad step 1")
+        for key, form in keys.items():
+            put(f"steps/{kind}-without-{key}", document([POLL, without(good, key)]), "bad step 1")
+            for what, value in wrong_values(kind, key, form).items():
+                put(f"steps/{kind}-{key}-{what}", document([POLL, {**good, key: value}]), "bad step 1")
+
+
+def put_greatest_numbers():
+    """Each number of each kind of step at the greatest that its field has."""
+    for kind, keys in KEYS.items():
+        numbers = {key: (1 << form) - 1 for key, form in keys.items() if isinstance(form, int)}
+        steps = [{**first_step(kind), key: number} for key, number in numbers.items()]
+        lines = [GREATEST_LINE.get((kind, key), FIRST_LINE[kind]) for key in numbers]
+        if numbers:
+            put(f"steps/{kind}-greatest", document(steps), lines)
+
+
+def put_step_shapes():
+    """Items of the steps that are no step object, whatever their keys."""
+    shapes = {
+        "null": None, "truth": True, "number": 7, "text": "poll", "empty-array": [], "array": [POLL], "empty-object": {},
+        "do-null": {"do": None}, "do-number": {"do": 1}, "do-truth": {"do": True}, "do-array": {"do": ["poll"]},
+        "do-object": {"do": POLL}, "do-empty": {"do": ""}, "do-unknown": {"do": "fly"}, "do-capital": {"do": "Poll"},
+        "do-space": {"do": "poll "}, "do-longer": {"do": "polls"}, "do-shorter": {"do": "pol"}, "do-nul": {"do": "poll\0"},
+        "key-capital": {"Do": "poll"}, "key-space": {"do ": "poll"}, "key-empty": {"": "poll"},
+        "device-call": {"do": "submit", "client": 0, "queue": 0, "limited": True, "pasid": 5, "desc": ""},
+        "threshold-misspelled": {**without(first_step("queue"), "threshold"), "treshold": 0},
+    }
+    for name, shape in shapes.items():
+        put(f"steps/item-{name}", document([POLL, shape]), "bad step 1")
+    put("steps/first-item", document([None]), "bad step 0")
+    put("steps/first-of-two", document([POLL, {"do": "fly"}, POLL, {}]), "bad step 1")
+    put("steps/last-of-twenty", document([POLL] * 19 + [{"do": "fly"}]), "bad step 19")
+    put("steps/behind-a-full-history", document([first_step("queue"), {"do": "fly"}], capacity=0), "bad step 1")
+
+
+SET_UP = [
+    {"do": "queue", "queue": 0, "size": 4, "threshold": 4, "dedicated": False, "priority": 1, "pasid": 0, "batch": 1,
+     "xfer": 20},
+    {"do": "group", "group": 0, "queues": 1, "engines": 1, "reserved": 0, "allowed": 4},
+    {"do": "command", "word": 1 << 20},
+    {"do": "command", "word": 6 << 20},
+]
+SET_UP_LINES = ["written", "written", "ended 0", "ended 0"]
+SET_UP_CAPS = {**SMALL, "max_xfer_shift": 20}
+
+
+def round_of(name, desc):
+    return [
+        {**first_step("enqcmd"), "desc": desc}, first_step("dispatch"), {**first_step("finish"), "name": name},
+    ]
+
+
+def put_digits():
+    """What digits are read, told by the status of the descriptor."""
+    rows = [
+        ("", "01"), ("00" * 64, "01"), ("ff" * 64, "10"), ("FF" * 64, "10"),
+        ("0000000000000003" + "00" * 24 + "00001000", "01"),  # a Memory Move of 2^20 bytes, which is the greatest
+        ("0000000000000003" + "00" * 24 + "01001000", "13"),
+        ("00000000fEfFfF03" + "00" * 24 + "0000aB", "13"),  # of 0xab0000 bytes, with all flags but the fence
+        ("00000000FEFFFF03" + "00" * 24 + "00100000", "01"),
+        ("0000000001", "11"), ("00000000000000", "01"), ("0000000000000006", "10"),
+        ("0000000000000004", "13"), ("000000000000000400", "13"), ("0000000000000004" + "00" * 24 + "01", "01"),
+    ]
+    steps, lines = list(SET_UP), list(SET_UP_LINES)
+    for name, (desc, status) in enumerate(rows):
+        steps += round_of(name, desc)
+        lines += [f"accepted {name}", f"taken {name} from 0", f"done {status}"]
+    fates = [f"fate {name} - completed {status}" for name, (_, status) in enumerate(rows)]
+    put("steps/digits", document(steps, SET_UP_CAPS), lines + fates)
+
+
+def put_command_words():
+    """Words that are no command, beside those that are."""
+    refused = "refused 13 BadCommand"
+    rows = [
+        (0, refused), ((1 << 20) - 1, refused), (13 << 20, refused), (14 << 20, refused), (31 << 20, refused),
+        (1 << 25 | 1 << 20, refused), (1 << 30 | 1 << 20, refused), (1 << 31, refused), ((1 << 32) - 1, refused),
+        (2 << 20, "refused 16 WrongState"), (1 << 31 | 1 << 20, "ended 0"), ((2 << 20) - 1, "refused 16 WrongState"),
+        (6 << 20 | 1, "refused 14 BadQueue"), (7 << 20, "refused 14 BadQueue"), (7 << 20 | 2, "refused 14 BadQueue"),
+        (8 << 20 | 1 << 16 | 1, "refused 14 BadQueue"), (9 << 20 | 1, "refused 16 WrongState"), (10 << 20 | 1, "ended 0"),
+        ((12 << 20) - 1, "ended 0"), ((13 << 20) - 1, "ended 0"), (5 << 20, "ended 0"), (3 << 20, "refused 16 WrongState"),
+    ]
+    put("steps/command-words", document([{"do": "command", "word": word} for word, _ in rows]), [line for _, line in rows])
+
+
+def put_ignored_keys():
+    """What is not asked for is not looked at, but it has to be JSON."""
+    wild = Raw(r'[null,-0,-1.5e-7,1e308,18446744073709551616,"\ud83d\ude00\u0000\"\\\/\b\f\n\r\t",{"do":"fly"},[[]]]')
+    steps = [{"do": "poll", "engine": "none", "": wild}, {**first_step("movdir"), "pasid": wild}]
+    put("steps/ignored-keys", document(steps), ["nothing", "dropped not-enabled"])
+    more = {"note": wild, "caps": {**SMALL, "portals": wild}, "capacity": 100, "steps": [POLL], "Caps": None}
+    put("document/ignored-keys", text_of(more), ["nothing"])
+    turned = {"steps": [POLL], "capacity": 100, "caps": dict(reversed(SMALL.items()))}
+    put("document/other-order", text_of(turned), ["nothing"])
+
+
+def queue_step(**fields):
+    return {**SET_UP[0], **fields}
+
+
+def group_step(**fields):
+    return {**SET_UP[1], **fields}
+
+
+def four_rounds(first):
+    """Four entries more that come and are taken."""
+    names = range(first, first + 4)
+    return [(first_step("enqcmd"), f"accepted {name}") for name in names] + [
+        (first_step("dispatch"), f"taken {name} from 0") for name in names]
+
+
+ENABLE, ENABLE_QUEUE = SET_UP[2], SET_UP[3]
+
+# what a device with that capability at its greatest is asked, and the lines
+AT_THE_LIMIT = {
+    "queues": [(queue_step(queue=63), "written"), (queue_step(queue=64), "refused 20 BadIndex"),
+               (group_step(queues=1 << 63), "written"), (ENABLE, "ended 0")],
+    "groups": [(group_step(group=7), "written"), (group_step(group=8), "refused 20 BadIndex")],
+    "engines": [(group_step(engines=1 << 63), "written"), (ENABLE, "ended 0"), ({"do": "dispatch", "engine": 63}, "idle")],
+    "total_size": [(queue_step(size=4097), "written"), (ENABLE, "refused 1 SizesTooLarge"),
+                   (queue_step(size=4096), "written"), (ENABLE, "ended 0")],
+    "read_buffers": [(group_step(allowed=256), "written"), (ENABLE, "refused 4 AllowedOutOfRange"),
+                     (group_step(allowed=255), "written"), (ENABLE, "ended 0")],
+    "slots": [*zip(SET_UP, SET_UP_LINES), *(row for first in range(0, 16, 4) for row in four_rounds(first)),
+              (first_step("enqcmd"), "accepted 16"), (first_step("dispatch"), "idle")],
+    "max_batch_shift": [(queue_step(batch=11), "written"), (SET_UP[1], "written"), (ENABLE, "ended 0"),
+                        (ENABLE_QUEUE, "refused 11 BatchTooLarge"), (queue_step(batch=10), "written"),
+                        (ENABLE_QUEUE, "ended 0")],
+    "max_xfer_shift": [(queue_step(xfer=32), "written"), (SET_UP[1], "written"), (ENABLE, "ended 0"),
+                       (ENABLE_QUEUE, "refused 19 TransferTooLarge"), (queue_step(xfer=31), "written"),
+                       (ENABLE_QUEUE, "ended 0")],
+}
+
+
+def put_caps():
+    put("caps/least", document([POLL], LEAST), ["nothing"])
+    for key, (bits, least, greatest) in CAPS.items():
+        steps, lines = zip(*AT_THE_LIMIT[key])
+        put(f"caps/{key}-greatest", document(list(steps), {**SET_UP_CAPS, key: greatest}), lines)
+        if least > 0:
+            put(f"caps/{key}-below", document([POLL], {**SMALL, key: least - 1}), BAD_CAPS)
+        put(f"caps/{key}-above", document([POLL], {**SMALL, key: greatest + 1}), BAD_CAPS)
+        put(f"caps/{key}-all-bits", document([POLL], {**SMALL, key: (1 << bits) - 1}), BAD_CAPS)
+        put(f"caps/{key}-missing", document([POLL], without(SMALL, key)), BAD_DOCUMENT)
+        wrong = {**wrong_numbers(bits), **(WRONG_NUMBERS if key in ("queues", "max_batch_shift") else {})}
+        for what, value in wrong.items():
+            put(f"caps/{key}-{what}", document([POLL], {**SMALL, key: value}), BAD_DOCUMENT)
+    for what, caps in {"null": None, "truth": True, "number": 1, "text": "caps", "array": [1] * 8, "empty": {}}.items():
+        put(f"caps/{what}", document([POLL], caps), BAD_DOCUMENT)
+    put("caps/key-capital", document([POLL], {**without(SMALL, "queues"), "Queues": 1}), BAD_DOCUMENT)
+    put("caps/queue-keys", document([POLL], {**without(SMALL, "max_xfer_shift"), "xfer": 1}), BAD_DOCUMENT)
+
+
+def put_capacity():
+    for capacity in (0, 1, 2, 1 << 20):
+        lines = ["written" if capacity > before else "full" for before in range(2)]
+        put(f"capacity/{capacity}", document([SET_UP[0]] * 2, capacity=capacity), lines)
+    for capacity in ((1 << 20) + 1, 1 << 32, (1 << 64) - 1):
+        put(f"capacity/{capacity}", document([POLL], capacity=capacity), BAD_CAPACITY)
+    for what, capacity in {**wrong_numbers(64), **WRONG_NUMBERS}.items():
+        put(f"capacity/{what}", document([POLL], capacity=capacity), BAD_DOCUMENT)
+
+
+def put_shapes():
+    """Documents of another form."""
+    whole = {"caps": SMALL, "capacity": 100, "steps": [POLL]}
+    for what, value in {"null": None, "truth": False, "number": 0, "text": "{}", "empty-array": [], "array": [whole],
+                        "empty-object": {}}.items():
+        put(f"document/{what}", text_of(value), BAD_DOCUMENT)
+    for key in whole:
+        put(f"document/without-{key}", text_of(without(whole, key)), BAD_DOCUMENT)
+        put(f"document/capital-{key}", text_of({**without(whole, key), key.capitalize(): whole[key]}), BAD_DOCUMENT)
+    for what, steps in {"null": None, "truth": True, "number": 0, "text": "[]", "empty-object": {},
+                        "object": {"0": POLL}}.items():
+        put(f"document/steps-{what}", document(steps), BAD_DOCUMENT)
+    put("document/no-steps", document([]), [])
+    put("document/caps-inside", text_of({"document": whole}), BAD_DOCUMENT)
+
+
+def put_twice():
+    """Keys that come twice, of which the last counts."""
+    good = Pairs({"caps": SMALL, "capacity": 100, "steps": [POLL]}.items())
+    bad = {"caps": 1, "capacity": "1", "steps": {}}
+    for key, value in bad.items():
+        put(f"twice/{key}-last-good", text_of(Pairs([(key, value), *good])), ["nothing"])
+        put(f"twice/{key}-last-bad", text_of(Pairs([*good, (key, value)])), BAD_DOCUMENT)
+    put("twice/capacity-last-large", text_of(Pairs([*good, ("capacity", (1 << 20) + 1)])), BAD_CAPACITY)
+    put("twice/steps-last-unknown", text_of(Pairs([*good, ("steps", [{"do": "fly"}])])), "bad step 0")
+    put("twice/caps-escaped", text_of(Pairs([*good, (Raw(r'"\u0063aps"'), 1)])), BAD_DOCUMENT)
+    put("twice/limit-last-good", document([POLL], Pairs([("queues", 65), *SMALL.items()])), ["nothing"])
+    put("twice/limit-last-bad", document([POLL], Pairs([*SMALL.items(), ("queues", 65)])), BAD_CAPS)
+    put("twice/do-last-good", document([Pairs([("do", "fly"), ("do", "poll")])]), ["nothing"])
+    put("twice/do-last-bad", document([Pairs([("do", "poll"), ("do", "fly")])]), "bad step 0")
+    put("twice/word-last-good", document([Pairs([("word", -1), ("do", "command"), ("word", 1 << 20)])]), ["ended 0"])
+    put("twice/word-last-bad", document([Pairs([("do", "command"), ("word", 1 << 20), ("word", -1)])]), "bad step 0")
+    words = [("word", word) for word in ("", 13 << 20, 1 << 20)]
+    put("twice/three-times", document([Pairs([("do", "command"), *words])]), ["ended 0"])
+
+
+def put_order():
+    """Documents with several faults, of which the first is told."""
+    unknown, many, large = [{"do": "fly"}], {**SMALL, "queues": 65}, (1 << 20) + 1
+    put("order/step-caps-capacity", document(unknown, many, large), "bad step 0")
+    put("order/step-caps", document(unknown, many), "bad step 0")
+    put("order/step-capacity", document(unknown, capacity=large), "bad step 0")
+    put("order/late-step-caps", document([POLL] * 9 + unknown, many), "bad step 9")
+    put("order/caps-capacity", document([POLL], many, large), BAD_CAPS)
+    put("order/capacity", document([POLL], SMALL, large), BAD_CAPACITY)
+    put("order/document-step", document(unknown, without(SMALL, "slots")), BAD_DOCUMENT)
+    put("order/document-caps", text_of({"caps": many, "steps": [POLL]}), BAD_DOCUMENT)
+    put("order/document-capacity", document({}, SMALL, large), BAD_DOCUMENT)
+    put("order/json-document", '{"caps":1,"capacity":"1","steps":{},}', NOT_JSON)
+    put("order/json-step", document(unknown)[:-1], NOT_JSON)
+    put("order/json-caps", document([POLL], many) + "]", NOT_JSON)
+
+
+WHOLE = document([POLL])
+CAPACITY = '"capacity":100'
+
+# what is no JSON where a number stands
+NO_NUMBERS = {
+    "plus-sign": "+100", "zero-before": "0100", "no-whole-part": ".1", "no-fraction": "1.", "no-exponent": "1e",
+    "no-exponent-digits": "1e+", "hexadecimal": "0x10", "underscore": "1_0", "minus-alone": "-", "two-signs": "--1",
+    "above-floats": "1e999", "below-floats": "-1e999", "not-a-number": "NaN", "infinity": "Infinity",
+    "capital-truth": "True", "capital-null": "NULL", "cut-truth": "tru", "longer-null": "nulls", "two-points": "1.0.0",
+    "letter-behind": "1f", "space-inside": "1 0",
+}
+
+# what is no JSON where a text stands
+NO_TEXTS = {
+    "line-feed": b'"\n"', "tab": b'"\t"', "nul": b'"\0"', "not-ended": b'"', "cut-escape": b'"\\',
+    "other-escape": rb'"\x41"', "short-escape": rb'"\u12"', "no-digits": rb'"\uzzzz"', "high-surrogate": rb'"\ud800"',
+    "low-surrogate": rb'"\udc00"', "turned-surrogates": rb'"\udc00\ud800"', "no-low-surrogate": rb'"\ud800\u0041"',
+    "byte-ff": b'"\xff"', "long-nul": b'"\xc0\x80"', "cut-character": b'"\xe2\x82"', "tail-alone": b'"\x80"',
+    "surrogate-bytes": b'"\xed\xa0\x80"', "past-unicode": b'"\xf4\x90\x80\x80"', "latin-1": b'"\xe9"',
+}
+
+
+def changed(old, new):
+    assert WHOLE.count(old) == 1, old
+    return WHOLE.replace(old, new)
+
+
+def noted(text):
+    """A document that runs, with this text as the value of a key that is not asked for."""
+    return WHOLE[:-1].encode() + b',"note":' + text + b"}"
+
+
+def put_marks():
+    """What is no JSON text for a mark too many, too few or another, by one change of a document that runs."""
+    texts = {
+        "empty": "", "spaces": " \t\r\n", "cut": WHOLE[:-1], "cut-in-a-key": WHOLE[:5], "first-byte-gone": WHOLE[1:],
+        "comma-behind-a-member": WHOLE[:-1] + ",}", "comma-behind-an-item": changed("}]}", "},]}"),
+        "comma-before-an-item": changed("[{", "[,{"), "two-commas": changed("},", "},,"), "no-comma": changed("},", "}"),
+        "no-colon": changed('"steps":', '"steps"'), "equals-sign": changed('"steps":', '"steps"='),
+        "no-value": changed(CAPACITY, '"capacity":'), "no-key": changed('"capacity":', ":"),
+        "number-as-key": changed('"capacity":', "1:"), "bare-key": changed('"steps"', "steps"),
+        "other-bracket": WHOLE[:-2] + "}}", "single-quotes": WHOLE.replace('"', "'"),
+        "two-documents": WHOLE + WHOLE, "two-lines": f"{WHOLE}\n{WHOLE}\n", "object-behind": WHOLE + "{}",
+        "text-behind": WHOLE + "x", "brace-behind": WHOLE + "}", "comma-behind": WHOLE + ",",
+        "nul-behind": WHOLE + "\0", "nul-before": "\0" + WHOLE,
+        "comment": WHOLE + "/* */", "line-comment": WHOLE + "\n//", "hash-comment": "# \n" + WHOLE,
+        "form-feed": changed("[{", "[\f{"), "vertical-tab": changed("[{", "[\v{"),
+        "no-break-space": changed("[{", "[\u00a0{"),
+    }
+    for name, text in texts.items():
+        put(f"json/{name}", text, NOT_JSON)
+
+
+def put_texts():
+    """What is no JSON text for its bytes, its numbers or its texts; and what is one, though it looks odd."""
+    put("json/byte-order-mark", "\ufeff" + WHOLE, NOT_JSON)
+    for name in "utf-16", "utf-16-le", "utf-16-be", "utf-32":
+        put(f"json/{name}", WHOLE.encode(name), NOT_JSON)
+    for name, number in NO_NUMBERS.items():
+        put(f"json/number-{name}", changed(CAPACITY, f'"capacity":{number}'), NOT_JSON)
+    for name, text in NO_TEXTS.items():
+        put(f"json/text-{name}", noted(text), NOT_JSON)
+    put("json/white-space", "\t\r\n " + changed("[{", "[ \r\n\t{ ") + "\n\n", ["nothing"])
+    put("json/escaped-names", changed('"do":"poll"', r'"\u0064\u006F":"\u0070oll"'), ["nothing"])
+    put("json/characters", noted('"é\u0800\uffff\U0010ffff\x7f"'.encode()), ["nothing"])
+
+
+def nested(depth):
+    return b"[" * depth + b"]" * depth
+
+
+def put_nesting():
+    """A text may be nested 127 deep; the object of the document is the first of them."""
+    put("json/nested-127", noted(nested(126)), ["nothing"])
+    put("json/nested-128", noted(nested(127)), NOT_JSON)
+    put("json/objects-nested-127", noted(b'{"":' * 126 + b"0" + b"}" * 126), ["nothing"])
+    put("json/objects-nested-128", noted(b'{"":' * 127 + b"0" + b"}" * 127), NOT_JSON)
+    put("json/array-nested-127", nested(127), BAD_DOCUMENT)
+    put("json/array-nested-128", nested(128), NOT_JSON)
+    put("json/nested-500", nested(500), NOT_JSON)
+    put("json/opened-500", b"[" * 500, NOT_JSON)
+    put("json/nested-in-a-step", document([{"do": "poll", "note": Raw(nested(124).decode())}]), ["nothing"])
+    put("json/nested-too-deep-in-a-step", document([{"do": "poll", "note": Raw(nested(125).decode())}]), NOT_JSON)
+
+
+def main():
+    for folder in FOLDER.iterdir():
+        if folder.is_dir():
+            shutil.rmtree(folder)
+    put_step_keys()
+    put_greatest_numbers()
+    put_step_shapes()
+    put_digits()
+    put_command_words()
+    put_ignored_keys()
+    put_caps()
+    put_capacity()
+    put_shapes()
+    put_twice()
+    put_order()
+    put_marks()
+    put_texts()
+    put_nesting()
+
+
+if __name__ == "__main__":
+    main()
