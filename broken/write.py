@@ -267,6 +267,44 @@ AT_THE_LIMIT = {
 }
 
 
+def put_tickets():
+    """Ends of entries that wait, that another engine runs, that were not started, that have ended, and that never were."""
+    def end(name, engine=0):
+        return {**first_step("finish"), "engine": engine, "name": name}
+
+    batch = {**first_step("enqcmd"), "desc": "0000000000000001" + "00" * 24 + "02"}
+    rows = [
+        *zip(SET_UP, SET_UP_LINES),
+        (first_step("enqcmd"), "accepted 0"), (end(0), "gone"), (end(1), "gone"),
+        (first_step("dispatch"), "taken 0 from 0"), (end(0, 1), "gone"), (end(0, 65535), "gone"), (end((1 << 32) - 1), "gone"),
+        (end(0), "done 01"), (end(0), "gone"),
+        (batch, "accepted 1"), (first_step("dispatch"), "taken 1 from 0"), (first_step("fetch"), "fetched 2"), (end(2), "gone"),
+        (first_step("start"), "started 2"), (end(2, 1), "gone"), (end(1), "not-ready"), (end(2), "done 01"), (end(2), "gone"),
+        (first_step("fetch"), "fetched 3"), (first_step("fetch"), "all-fetched"), (first_step("start"), "started 3"),
+        (end(3), "done 01"), (end(1), "done 01"), (end(1), "gone"), (first_step("fetch"), "no-batch"),
+    ]
+    fates = ["fate 0 - completed 01", "fate 2 1 completed 01", "fate 3 1 completed 01", "fate 1 - completed 01"]
+    steps, lines = zip(*rows)
+    put("steps/tickets", document(list(steps), {**SET_UP_CAPS, "engines": 2}), [*lines, *fates])
+
+
+def put_abort():
+    """An abort of a batch whose members run and wait, beside an entry of another program."""
+    batch = {**first_step("enqcmd"), "pasid": 5, "desc": "0000000000000001" + "00" * 24 + "03"}
+    other = {**first_step("enqcmd"), "pasid": 6}
+    rows = [
+        *zip([{**SET_UP[0], "batch": 2}, *SET_UP[1:]], SET_UP_LINES),
+        (batch, "accepted 0"), (other, "accepted 1"),
+        (first_step("dispatch"), "taken 0 from 0"), (first_step("dispatch"), "taken 1 from 0"),
+        (first_step("fetch"), "fetched 2"), (first_step("fetch"), "fetched 3"), (first_step("start"), "started 2"),
+        ({"do": "command", "word": 12 << 20 | 5}, "ended 3"), ({**first_step("finish"), "name": 2}, "gone"),
+        (first_step("fetch"), "no-batch"), (first_step("start"), "nothing"), ({**first_step("finish"), "name": 1}, "done 01"),
+    ]
+    fates = [f"fate {name} aborted 12" for name in ("0 -", "2 0", "3 0")] + ["fate 1 - completed 01"]
+    steps, lines = zip(*rows)
+    put("steps/abort", document(list(steps), {**SET_UP_CAPS, "slots": 2, "max_batch_shift": 2}), [*lines, *fates])
+
+
 def put_caps():
     put("caps/least", document([POLL], LEAST), ["nothing"])
     for key, (bits, least, greatest) in CAPS.items():
@@ -444,6 +482,8 @@ def main():
     put_digits()
     put_command_words()
     put_ignored_keys()
+    put_tickets()
+    put_abort()
     put_caps()
     put_capacity()
     put_shapes()
