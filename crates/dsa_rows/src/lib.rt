@@ -12,4 +12,6 @@ mod memory;
 #[cfg(test)]
 mod stores;
 #[cfg(test)]
+mod streams;
+#[cfg(test)]
 mod words;

@@ -1,9 +1,8 @@
 //! What the program does with the words of its command line.
 
+use crate::streams::Narrow;
 use dsa_scenario::run_words;
 use std::alloc::{AllocError, Global};
-use std::io;
-use std::io::{ErrorKind, Write};
 use std::marker::Sync;
 use std::sync::Wait;
 use std::test::Fail;
@@ -25,29 +24,6 @@ struct Totals {
     done: u32,
     lost: u32,
     held: u32,
-}
-
-// Takes so many bytes, and then fails.
-#[derive(Drop)]
-struct Narrow {
-    left: usize,
-    taken: Vec<u8>,
-}
-
-impl Write for Narrow {
-    fn write(&mut self, buf: &[u8]) -> io::Result<usize> {
-        if self.left == 0 {
-            return Err(io::Error::from(ErrorKind::StorageFull));
-        }
-        let count = buf.len().min(self.left);
-        self.taken.extend_from_slice(&buf[..count])?;
-        self.left -= count;
-        Ok(count)
-    }
-
-    fn flush(&mut self) -> io::Result<()> {
-        Ok(())
-    }
 }
 
 fn strings(alloc: Global, words: &[&str]) -> Result<Vec<String>, AllocError> {
@@ -229,10 +205,7 @@ fn output_fails(rt: HostRuntime) -> Result<(), Fail> {
     for (words, first) in asked {
         let alloc = rt.alloc();
         let mut reader: &[u8] = &[];
-        let mut out = Narrow {
-            left: 5,
-            taken: Vec::new(alloc),
-        };
+        let mut out = Narrow::new(alloc, (usize::MAX, 5));
         let mut err = Vec::new(alloc);
         let words = strings(alloc, words)?;
         let status = run_words(&rt, alloc, &words, &mut reader, &mut out, &mut err);
