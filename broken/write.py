@@ -79,6 +79,7 @@ def put(name, text, expected):
     """Writes a document and what is expected of it: a fault, or the lines."""
     path = FOLDER / name
     path.parent.mkdir(exist_ok=True)
+    assert not path.with_suffix(".json").exists(), f"{name} comes twice"
     path.with_suffix(".json").write_bytes(text if isinstance(text, bytes) else text.encode())
     if isinstance(expected, str):
         path.with_suffix(".err").write_bytes(f"dsa_run: {expected}\n".encode())
@@ -92,9 +93,7 @@ def without(members, key):
 
 def wrong_numbers(bits):
     """What is no number of a field of so many bits, in short."""
-    return {
-        "text": "1", "fraction": Raw("1.0"), "negative": -1, "above": 1 << bits,
-    }
+    return {"text": "1", "fraction": Raw("1.0"), "negative": -1, "above": 1 << bits}
 
 
 # what is wrong at a field of any width, so that it is tried at one field of each
@@ -180,9 +179,8 @@ SET_UP_CAPS = {**SMALL, "max_xfer_shift": 20}
 
 
 def round_of(name, desc):
-    return [
-        {**first_step("enqcmd"), "desc": desc}, first_step("dispatch"), {**first_step("finish"), "name": name},
-    ]
+    """A descriptor that is submitted, taken and ended."""
+    return [{**first_step("enqcmd"), "desc": desc}, first_step("dispatch"), {**first_step("finish"), "name": name}]
 
 
 def put_digits():
@@ -311,8 +309,8 @@ def put_caps():
         steps, lines = zip(*AT_THE_LIMIT[key])
         put(f"caps/{key}-greatest", document(list(steps), {**SET_UP_CAPS, key: greatest}), lines)
         if least > 0:
-            put(f"caps/{key}-below", document([POLL], {**SMALL, key: least - 1}), BAD_CAPS)
-        put(f"caps/{key}-above", document([POLL], {**SMALL, key: greatest + 1}), BAD_CAPS)
+            put(f"caps/{key}-one-below", document([POLL], {**SMALL, key: least - 1}), BAD_CAPS)
+        put(f"caps/{key}-one-above", document([POLL], {**SMALL, key: greatest + 1}), BAD_CAPS)
         put(f"caps/{key}-all-bits", document([POLL], {**SMALL, key: (1 << bits) - 1}), BAD_CAPS)
         put(f"caps/{key}-missing", document([POLL], without(SMALL, key)), BAD_DOCUMENT)
         wrong = {**wrong_numbers(bits), **(WRONG_NUMBERS if key in ("queues", "max_batch_shift") else {})}
