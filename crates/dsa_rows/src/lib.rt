@@ -14,4 +14,6 @@ mod stores;
 #[cfg(test)]
 mod streams;
 #[cfg(test)]
+mod tickets;
+#[cfg(test)]
 mod words;

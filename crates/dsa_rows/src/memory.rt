@@ -1,10 +1,13 @@
-//! What a store does where memory is refused.
+//! What a store and a device do where memory is refused.
 
 use crate::stores::middle_is_taken;
+use dsa_book::Step;
 use dsa_cells::LinkedStore;
+use dsa_device::{Device, MakeFault};
+use dsa_fixtures::{CAPS, CELLS, ENABLED, LISTS};
 use dsa_store::{EntryStore, PlainStore};
 use linked_list_allocator::LocalHeap;
-use std::alloc::AllocError;
+use std::alloc::{AllocError, Global};
 use std::process::Abort;
 use std::test::Fail;
 
@@ -43,5 +46,64 @@ fn linked_store_is_refused_memory(rt: HostRuntime) -> Result<(), Fail> {
         takes_no_more(&rt, &heap, made);
         assert_eq!(rt; heap.used(), 0);
     }
+    Ok(())
+}
+
+// A device over the store. Where it is refused memory the store comes back as it was, and serves the next time.
+fn device_over<S: EntryStore>(
+    rt: &impl Abort,
+    alloc: Global,
+    store: S,
+) -> Result<Device<S>, MakeFault> {
+    let (fault, store) = match Device::new(alloc, store, CAPS, 16) {
+        Ok(device) => return Ok(device),
+        Err(refused) => refused,
+    };
+    assert_eq!(rt; fault, MakeFault::OutOfMemory);
+    assert_eq!(rt;
+        (store.lists(), store.cells(), store.free()),
+        (LISTS, CELLS, CELLS)
+    );
+    match Device::new(alloc, store, CAPS, 16) {
+        Ok(device) => Ok(device),
+        Err((fault, _)) => Err(fault),
+    }
+}
+
+// Runs the events. Where that is refused memory, device and list are as they were, and it goes the next time.
+fn run_over<S: EntryStore>(
+    rt: &impl Abort,
+    device: &mut Device<S>,
+    steps: &mut Vec<Step>,
+) -> Result<(), AllocError> {
+    let (stored, listed) = (device.history().len(), steps.len());
+    if device.run(&ENABLED, steps).is_ok() {
+        return Ok(());
+    }
+    assert_eq!(rt; (device.history().len(), steps.len()), (stored, listed));
+    assert!(rt; device.next_name() == 0 && device.held() == 0 && device.fates().is_empty());
+    device.run(&ENABLED, steps)
+}
+
+// These calls take the global allocator, which no test can replace: docs/GATE.md says how each request was refused.
+fn device_runs<S: EntryStore>(rt: &impl Abort, alloc: Global, store: S) -> Result<(), Fail> {
+    let mut device = match device_over(rt, alloc, store) {
+        Ok(device) => device,
+        Err(fault) => return Err(fault)?,
+    };
+    let mut steps = Vec::new(alloc);
+    for _ in 0..3 {
+        run_over(rt, &mut device, &mut steps)?;
+    }
+    assert_eq!(rt; steps.len(), 3 * ENABLED.len());
+    assert_eq!(rt; device.history().len(), 4);
+    Ok(())
+}
+
+#[test]
+fn device_is_refused_memory(rt: HostRuntime) -> Result<(), Fail> {
+    let alloc = rt.alloc();
+    device_runs(&rt, alloc, PlainStore::new(alloc, LISTS, CELLS)?)?;
+    device_runs(&rt, alloc, LinkedStore::new(alloc, LISTS, CELLS)?)?;
     Ok(())
 }
