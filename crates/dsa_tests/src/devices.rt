@@ -68,6 +68,30 @@ fn faults_in_their_order(rt: HostRuntime) -> Result<(), Fail> {
 }
 
 #[test]
+fn sentences_of_faults(rt: HostRuntime) -> Result<(), Fail> {
+    const SENTENCES: [(MakeFault, &str); 4] = [
+        (
+            MakeFault::BadCaps,
+            "the capabilities are not within the limits of a device",
+        ),
+        (
+            MakeFault::BadCapacity,
+            "a history has room for at most 1,048,576 steps",
+        ),
+        (
+            MakeFault::BadStore,
+            "the store is not empty, or has other lists or cells than the device needs",
+        ),
+        (MakeFault::OutOfMemory, "out of memory"),
+    ];
+    for (fault, sentence) in SENTENCES {
+        let text = format!(in rt.alloc(); "{fault}")?;
+        assert_eq!(rt; text.as_str(), sentence);
+    }
+    Ok(())
+}
+
+#[test]
 fn store_with_an_entry_comes_back(rt: HostRuntime) -> Result<(), Fail> {
     const ENTRY: Entry = Entry {
         name: 7,
