@@ -5,7 +5,8 @@ use Rattle.std.proofs.lemmas.Bool.{lt-ltb, ltb-true, eqb-false, not-true, and_pa
 use Rattle.std.proofs.lemmas.List.{get_or-replicate}
 use Rattle.std.specs.Prelude.{is_none, is_some, filter, not, ◌&&◌, nat_lt}
 use Rattle.dsa_base.{specs.Rows.{passes, when}, proofs.NumberLists.{get_or-each}}
-use Rattle.dsa_regs.specs.{declared.{Phase.{Phase, TheVariants.{Off}}, Caps.{Caps}}, Caps.{cell_count}}
+use Rattle.dsa_regs.specs.{declared.{Phase.{Phase, TheVariants.{Off}}, Caps.{Caps}}, Caps.{cell_count, HasList, list_number}}
+use Rattle.dsa_regs.specs.declared.layout.ListUse.{ListUse, TheVariants.{Queue, Progress, Members}}
 use Rattle.dsa_regs.proofs.CapsLemmas.{total_size-bound}
 use Rattle.dsa_store.specs.Content.{Slot, Content, chain, held_count}
 use Rattle.dsa_store.proofs.Lists.{held-nil, held-cons, length-le-held}
@@ -170,3 +171,10 @@ groups-on cells gear d group w h on = rw (w.in_step.buffers on)
 pub not_off : (phase : Phase) → (phase ≡ Off → ⊥) → is_off phase ≡ false
 not_off Off h = absurd (h refl)
 not_off _ h = refl
+
+-- each list of the device is one of the store's
+pub has-list : (cells : ℕ) (gear : Gear) (d : Running) (list : ListUse) → IsWhole cells gear d → HasList d.caps list
+    → list_number d.caps list < length d.state.work.content
+has-list cells gear d (Queue q) w h = omega (arith, h, (well_formed d w.replay).shape.lists)
+has-list cells gear d (Progress e) w h = omega (arith, h, (well_formed d w.replay).shape.lists)
+has-list cells gear d (Members e) w h = omega (arith, h, (well_formed d w.replay).shape.lists)

@@ -5,3 +5,4 @@ pub mod InStep
 pub mod Opening
 pub mod Runs
 pub mod NewStore
+pub mod Held

@@ -1,3 +1,4 @@
 pub mod Running
 pub mod Made
 pub mod Runs
+pub mod Reads

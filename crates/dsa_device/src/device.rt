@@ -9,6 +9,7 @@ ghost use Rattle.dsa_base.specs.Rows.{first_row};
 ghost use Rattle.dsa_device.specs.Made.{is_store_of, opening_table, make_fault, fault_or_memory};
 ghost use Rattle.dsa_device.specs.Running.{running_at_first, after_answer, watched_in, awaited_end};
 
+mod entries;
 mod reads;
 mod runs;
 

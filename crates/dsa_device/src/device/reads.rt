@@ -1,18 +1,20 @@
 //! What a device tells of itself.
 
-ghost use Rattle.std.specs.Prelude.{◌≡◌, ◌≤◌, ◌==◌, nat_lt, find};
+ghost use Rattle.std.specs.Prelude.{◌≡◌, ◌≤◌, ◌==◌, nat_lt, find, length};
 ghost use Rattle.dsa_regs.specs.Caps.{cell_count};
+ghost use Rattle.dsa_regs.specs.Config.{queue_at, group_at};
 ghost use Rattle.std.specs.Option.{option_map};
 ghost use Rattle.dsa_base.specs.Rows.{when};
 ghost use Rattle.dsa_store.specs.Content.{held_count};
-ghost use Rattle.dsa_book.specs.State.{occupancy};
-ghost use Rattle.dsa_book.specs.Work.{used};
+ghost use Rattle.dsa_book.specs.State.{occupancy, phase_at};
+ghost use Rattle.dsa_book.specs.Work.{used, note_at};
 ghost use Rattle.dsa_laws.specs.WellFormed.{IsWellFormed};
 ghost use Rattle.dsa_device.specs.Running.{IsReplay};
+ghost use Rattle.dsa_device.specs.Reads.{is_held};
 
 use super::Device;
-use dsa_book::{Fate, FateRow, NotedError, Step};
-use dsa_regs::{Caps, Command, Phase};
+use dsa_book::{BatchNote, Fate, FateRow, NotedError, Step, Ticket};
+use dsa_regs::{Caps, Command, GroupConfig, Phase, QueueConfig};
 use dsa_store::EntryStore;
 
 impl<S: EntryStore> Device<S> {
@@ -28,6 +30,43 @@ impl<S: EntryStore> Device<S> {
         ensures { result ≡ self.now.capacity }
     {
         self.book.capacity() as u64
+    }
+
+    /// The phase of the device.
+    pub fn phase(&self) -> Phase
+        ensures { result ≡ self.now.state.work.setup.device }
+    {
+        self.queues.device()
+    }
+
+    /// The phase of the queue. `None` exactly when the device has no such queue.
+    pub fn queue_phase(&self, queue: u16) -> Option<Phase>
+        ensures { result ≡ when (nat_lt queue self.now.caps.queues) (phase_at self.now.state.work.setup queue) }
+    {
+        if queue >= self.caps.queues {
+            return None;
+        }
+        Some(self.queues.phase(queue))
+    }
+
+    /// The configuration of the queue. `None` exactly when the device has no such queue.
+    pub fn queue_config(&self, queue: u16) -> Option<QueueConfig>
+        ensures { result ≡ when (nat_lt queue self.now.caps.queues) (queue_at self.now.state.work.setup.configs queue) }
+    {
+        if queue >= self.caps.queues {
+            return None;
+        }
+        Some(self.queues.queue(queue))
+    }
+
+    /// The configuration of the group. `None` exactly when the device has no such group.
+    pub fn group_config(&self, group: u16) -> Option<GroupConfig>
+        ensures { result ≡ when (nat_lt group self.now.caps.groups) (group_at self.now.state.work.setup.groups group) }
+    {
+        if group >= self.caps.groups {
+            return None;
+        }
+        Some(self.queues.group(group))
     }
 
     /// The number of entries that wait in the queue; those that engines have taken are not counted (profile). `None`
@@ -59,6 +98,24 @@ impl<S: EntryStore> Device<S> {
         self.queues.noted()
     }
 
+    /// What is noted of the batch that the engine works on. `None` exactly when it works on none, or the device has no such
+    /// engine.
+    pub fn batch(&self, engine: u16) -> Option<BatchNote>
+        ensures { result ≡ note_at self.now.state.work engine }
+    {
+        self.engines.note(engine)
+    }
+
+    /// Whether the device holds the entry of that ticket still, in any list.
+    pub fn holds(&self, ticket: Ticket) -> bool
+        ensures { result ≡ is_held self.now.state.work.content ticket }
+    {
+        match self.store.get(ticket.cell) {
+            Some(entry) => entry.name == ticket.name,
+            None => false,
+        }
+    }
+
     /// The command that is not over yet.
     pub fn active(&self) -> Option<Command>
         ensures { result ≡ option_map (λ active. active.command) self.now.state.active }
@@ -79,6 +136,13 @@ impl<S: EntryStore> Device<S> {
         ensures { result ≡ self.now.state.work.setup.next_name }
     {
         self.queues.next_name()
+    }
+
+    /// Whether the history has no room left, so that each step is answered `Full`.
+    pub fn is_full(&self) -> bool
+        ensures { result ≡ (length self.now.history == self.now.capacity) }
+    {
+        self.book.is_full()
     }
 
     /// The steps that were stored, the first one first.
