@@ -41,7 +41,7 @@ pub number-held : (k : Kept) (content : Content) (q : ℕ) → q < k.setup.caps.
 number-held k content q h c = ap (λ l. get_or l q 0) c.counts ∙ get_or-each (held_of content) k.setup.caps.queues q 0 h
 
 -- a scope of queues has the entries that name one of them
-names-scope : (scope : Scope) (e : Entry) → names_queues scope ≡ true
+pub names-scope : (scope : Scope) (e : Entry) → names_queues scope ≡ true
     → is_in_scope scope e ≡ names_queue scope e.queue
 names-scope Device e h = refl
 names-scope (Pasid pasid) e h = absurd cc

@@ -3,3 +3,4 @@ pub mod Notes
 pub mod Commands
 pub mod Resizing
 pub mod Counting
+mod Naming

@@ -1,7 +1,8 @@
 //! The active command, and what is issued and polled.
 
 ghost use Rattle.std.specs.Prelude.{◌≡◌, ℕ, ◌+◌, ◌-◌, ◌<◌, ◌≤◌, IsTrue, cond, List, None, Option, length, true};
-ghost use Rattle.dsa_store.specs.Content.{Content, held_count};
+ghost use Rattle.std.specs.Option.{option_map};
+ghost use Rattle.dsa_store.specs.Content.{Content, count_where, held_count};
 ghost use Rattle.dsa_book.specs.declared.fate.FateRow.{FateRow};
 ghost use Rattle.dsa_book.specs.declared.note.ActiveCommand.{ActiveCommand};
 ghost use Rattle.dsa_regs.specs.Caps.{check_caps};
@@ -11,10 +12,10 @@ ghost use Rattle.dsa_book.specs.State.{State};
 ghost use Rattle.dsa_book.specs.Commands.{issue, poll, refusal_or, command_done_of, wait_of, after_stop, after_enable, may_come};
 ghost use Rattle.dsa_engines.specs.Engines.{Gear, IsInStep};
 ghost use Rattle.dsa_queues.specs.Queues.{IsCounted};
-ghost use Rattle.dsa_admin.specs.Admin.{IsAwaiting, IsUnrefused, is_counted_by, state};
+ghost use Rattle.dsa_admin.specs.Admin.{IsAwaiting, IsUnrefused, is_counted_by, is_waited_for, state};
 
 use crate::abort::{abort_alone, reset};
-use crate::ends::{count_watched, is_at_end};
+use crate::ends::{count_awaited, count_watched, is_at_end};
 use crate::refusals::{check, is_bad_queues, may_come};
 use crate::scope::is_watched;
 use dsa_book::{ActiveCommand, Book, IssueAnswer, PollAnswer};
@@ -93,6 +94,17 @@ impl Admin {
         ensures { result ≡ self.now.active }
     {
         self.active
+    }
+
+    /// How many held entries the active command still waits for, by the numbers that are kept. `None` exactly when no
+    /// command is active. Looks at no list.
+    pub fn awaited(&self, queues: &Queues) -> Option<u64>
+        ensures { (content : Content) → IsCounted queues.now content
+            → IsAwaiting self.now queues.now.setup.next_name content
+            → result ≡ option_map (λ active. count_where (is_waited_for active) content) self.now.active }
+    {
+        let active = self.active?;
+        Some(count_awaited(queues, &active, self.awaited))
     }
 
     // The first refusal that stands.

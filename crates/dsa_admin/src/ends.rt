@@ -6,7 +6,7 @@ ghost use Rattle.dsa_store.specs.Content.{Content, chain, count_where, held_coun
 ghost use Rattle.dsa_book.specs.State.{holds_any};
 ghost use Rattle.dsa_book.specs.Commands.{is_at_end, is_in_scope};
 ghost use Rattle.dsa_queues.specs.Queues.{IsCounted};
-ghost use Rattle.dsa_admin.specs.Admin.{is_watched, names_queues};
+ghost use Rattle.dsa_admin.specs.Admin.{is_waited_for, is_watched, names_queues};
 
 use crate::scope::{is_counting, is_watched, names};
 use dsa_book::ActiveCommand;
@@ -69,5 +69,31 @@ pub(crate) fn is_at_end(queues: &Queues, active: &ActiveCommand, awaited: u32) -
     match active.command.deed() {
         Deed::Disable => is_clear(queues, &active.command.scope()),
         _ => awaited == 0,
+    }
+}
+
+// How many held entries name a queue of the scope.
+fn count_named(queues: &Queues, scope: &Scope) -> u64
+    requires { names_queues scope.now ≡ true }
+    ensures { (content : Content) → IsCounted queues.now content → result ≡ count_where (is_in_scope scope.now) content }
+{
+    let mut count = 0;
+    for queue in 0..queues.caps().queues {
+        if names(scope, queue) {
+            count += u64::from(queues.held_of(queue));
+        }
+    }
+    count
+}
+
+/// How many held entries the command waits for: of a disable's queues by their numbers, else the number of entries that
+/// are still awaited. Looks at no list.
+pub(crate) fn count_awaited(queues: &Queues, active: &ActiveCommand, awaited: u32) -> u64
+    ensures { (content : Content) → IsCounted queues.now content → awaited ≡ count_where (is_watched active.now) content
+        → result ≡ count_where (is_waited_for active.now) content }
+{
+    match active.command.deed() {
+        Deed::Disable => count_named(queues, &active.command.scope()),
+        _ => u64::from(awaited),
     }
 }

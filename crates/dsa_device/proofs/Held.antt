@@ -1,14 +1,17 @@
--- Whether an entry is held, as it is found by its cell.
+-- Whether an entry is held, as it is found by its cell, and how many are awaited at most.
 use Rattle.std.proofs.Common.{◌≡◌, ℕ, ◌+◌, ◌≤◌, ◌==◌, Bool, true, false, ◌||◌, List, [], ◌∷◌, ◌++◌}
 use Rattle.std.proofs.Common.{Option, Some, None, refl, sym, ◌∙◌, ap, arith, inl, inr}
-use Rattle.std.proofs.lemmas.{Bool.{cases_Bool, cases_eq}, List.Folds.{list_any-append}}
+use Rattle.std.proofs.lemmas.{Bool.{cases_Bool, cases_eq}, List.{Folds.{list_any-append}, Sums.{count_by-le-length}}}
 use Rattle.std.specs.List.{find, list_any}
 use Rattle.std.specs.Option.{option_map}
 use Rattle.dsa_base.specs.Rows.{passes}
 use Rattle.dsa_store.specs.declared.entry.{Cell.{Cell}, Entry.{Entry}}
 use Rattle.dsa_store.specs.Content.{Slot, Content, is_cell, place_count, use_count, entry_of, all_held}
-use Rattle.dsa_store.proofs.{Places.{count-cons, list_any-absent, list_any-present}, Lists.{uses-cons}}
+use Rattle.dsa_store.specs.Content.{held_count, count_where}
+use Rattle.dsa_store.proofs.{Places.{count-cons, list_any-absent, list_any-present}, Lists.{uses-cons}, Sums.{held-counted}}
 use Rattle.dsa_book.specs.{declared.answer.Ticket.{Ticket}, State.{is_ticket}}
+use Rattle.dsa_book.specs.declared.note.ActiveCommand.{ActiveCommand}
+use Rattle.dsa_admin.specs.Admin.{is_waited_for}
 use Rattle.dsa_device.specs.Reads.{is_held}
 
 module _ (t : Ticket) where
@@ -61,3 +64,18 @@ module _ (t : Ticket) where
             let name = name-of (find (is_cell t.cell) l) in
             rw (list_any-present t.cell l (omega (arith, some))) (grind (arith, split, here, rest, name))
       ]
+
+-- no more entries are awaited than there are cells
+pub awaited-few : (o : Option ActiveCommand) (content : Content) (n cells : ℕ)
+    → Some n ≡ option_map (λ (active : ActiveCommand). count_where (is_waited_for active) content) o
+    → held_count content ≤ cells → n ≤ cells
+awaited-few None content n cells is room = absurd cc
+awaited-few (Some active) content n cells is room =
+    let same : n ≡ count_where (is_waited_for active) content = cc in
+    omega (
+      arith,
+      same,
+      count_by-le-length (λ (s : Slot). is_waited_for active s.1) (all_held content),
+      held-counted content,
+      room,
+    )

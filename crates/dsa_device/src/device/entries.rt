@@ -5,10 +5,19 @@ ghost use Rattle.dsa_regs.specs.Caps.{HasList, list_number};
 ghost use Rattle.dsa_base.specs.Rows.{when};
 ghost use Rattle.dsa_store.specs.Content.{chain};
 ghost use Rattle.dsa_book.specs.Work.{in_progress, members};
+ghost use Rattle.dsa_device.specs.Reads.{slot_at};
 
 use super::Device;
 use dsa_regs::ListUse;
-use dsa_store::{EntryStore, ListId, Walk, slots};
+use dsa_store::{Cell, Entry, EntryStore, ListId, Walk, slots};
+
+// The cell and the entry at a place of the list, the front at 0.
+fn slot_at<S: EntryStore>(slots: Option<Walk<'_, S>>, place: usize) -> Option<(Cell, Entry)>
+    ensures { result ≡ slot_at slots.entry place }
+{
+    let mut slots = slots?;
+    slots.nth(place)
+}
 
 impl<S: EntryStore> Device<S> {
     // The list of the store that is for this.
@@ -51,6 +60,29 @@ impl<S: EntryStore> Device<S> {
             return None;
         }
         Some(slots(&self.store, self.list(ListUse::Members(engine))))
+    }
+
+    /// The entry that waits at this place of the queue, the front at 0. `None` exactly where there is none.
+    pub fn waiting_at(&self, queue: u16, place: usize) -> Option<(Cell, Entry)>
+        ensures { result ≡ slot_at (when (nat_lt queue self.now.caps.queues) (chain self.now.state.work.content queue)) place }
+    {
+        slot_at(self.waiting(queue), place)
+    }
+
+    /// The submitted entry at this place of those that the engine has in progress, the first one taken at 0. `None` exactly
+    /// where there is none.
+    pub fn in_progress_at(&self, engine: u16, place: usize) -> Option<(Cell, Entry)>
+        ensures { result ≡ slot_at (when (nat_lt engine self.now.caps.engines) (in_progress self.now.state.work engine)) place }
+    {
+        slot_at(self.in_progress(engine), place)
+    }
+
+    /// The member at this place of those of the engine's batch that have not ended, the first one fetched at 0. `None`
+    /// exactly where there is none.
+    pub fn member_at(&self, engine: u16, place: usize) -> Option<(Cell, Entry)>
+        ensures { result ≡ slot_at (when (nat_lt engine self.now.caps.engines) (members self.now.state.work engine)) place }
+    {
+        slot_at(self.members(engine), place)
     }
 
     /// How many submitted entries the engine has in progress. `None` exactly when the device has no such engine.

@@ -10,7 +10,7 @@ ghost use Rattle.dsa_book.specs.State.{occupancy, phase_at};
 ghost use Rattle.dsa_book.specs.Work.{used, note_at};
 ghost use Rattle.dsa_laws.specs.WellFormed.{IsWellFormed};
 ghost use Rattle.dsa_device.specs.Running.{IsReplay};
-ghost use Rattle.dsa_device.specs.Reads.{is_held};
+ghost use Rattle.dsa_device.specs.Reads.{awaited, is_held};
 
 use super::Device;
 use dsa_book::{BatchNote, Fate, FateRow, NotedError, Step, Ticket};
@@ -121,6 +121,15 @@ impl<S: EntryStore> Device<S> {
         ensures { result ≡ option_map (λ active. active.command) self.now.state.active }
     {
         self.admin.active().map(|active| active.command)
+    }
+
+    /// How many held entries the active command still waits for: of a drain's scope those that were submitted before it, all
+    /// of a disable's. `None` exactly when no command is active.
+    pub fn awaited(&self) -> Option<u32>
+        ensures { result ≡ awaited self.now.state }
+    {
+        let awaited = self.admin.awaited(&self.queues)?;
+        Some(awaited as u32)
     }
 
     /// The number of entries that the device holds, in all queues and engines.

@@ -1,5 +1,5 @@
 use Rattle.dsa_device.proofs.device.Device.list.Goals as goal
-use Rattle.std.proofs.Common.{◌<◌, ◌∙◌, length, sym, ap, subst}
+use Rattle.std.proofs.Common.{◌∙◌, sym, ap, subst}
 use Rattle.dsa_regs.specs.{declared.Caps.{Caps}, Caps.{HasList, list_number}}
 use Rattle.dsa_device.specs.Running.{Running}
 use Rattle.dsa_device.proofs.Known.{well_formed, has-list}
