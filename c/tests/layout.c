@@ -42,6 +42,22 @@ AT(dsa_ending, kind, 0);
 AT(dsa_ending, name, 4);
 AT(dsa_ending, parent, 8);
 AT(dsa_ending, number, 12);
+SIZE(dsa_entry, 28);
+AT(dsa_entry, name, 0);
+AT(dsa_entry, cell, 4);
+AT(dsa_entry, parent, 8);
+AT(dsa_entry, pasid, 12);
+AT(dsa_entry, flags, 16);
+AT(dsa_entry, size, 20);
+AT(dsa_entry, queue, 24);
+AT(dsa_entry, operation, 26);
+AT(dsa_entry, running, 27);
+SIZE(dsa_batch, 16);
+AT(dsa_batch, name, 0);
+AT(dsa_batch, count, 4);
+AT(dsa_batch, fetched, 8);
+AT(dsa_batch, failed, 12);
+AT(dsa_batch, closed, 13);
 
 /* Each field that goes in is told apart from its neighbours by what the device does with it. */
 int main(void)

@@ -135,6 +135,31 @@ struct dsa_ending {
 	uint32_t number; /* the status, or the number of the command that aborted it */
 };
 
+/* The phase of the device or of a queue. */
+enum dsa_phase_number { DSA_OFF = 0, DSA_ON = 1, DSA_STOPPING = 2 };
+
+/* An entry: a descriptor that the device holds. Its cell and name are its ticket, which dsa_finish takes. */
+struct dsa_entry {
+	uint32_t name;
+	uint32_t cell;
+	uint32_t parent;   /* the name of its batch, UINT32_MAX where it was submitted */
+	uint32_t pasid;
+	uint32_t flags;    /* 24 bits */
+	uint32_t size;     /* bytes; in a Batch the number of its members */
+	uint16_t queue;    /* that it, or its batch, was submitted to */
+	uint8_t operation;
+	uint8_t running;   /* 0 or 1 */
+};
+
+/* What is noted of the batch that an engine works on. */
+struct dsa_batch {
+	uint32_t name;
+	uint32_t count;    /* of members that it has */
+	uint32_t fetched;  /* of these so far */
+	uint8_t failed;    /* 1: a member was not successful */
+	uint8_t closed;    /* 1: the rest was abandoned behind a fence */
+};
+
 enum dsa_open_result {
 	DSA_OPENED = 0, DSA_BAD_CAPS = 1, DSA_BAD_CAPACITY = 2, DSA_BAD_STORE = 3, DSA_OUT_OF_MEMORY = 4, DSA_ALREADY_OPEN = 5
 };
@@ -180,7 +205,7 @@ struct dsa_answer dsa_write_group(struct dsa_model *handle, uint16_t group, cons
 /* Clears the noted error, and tells it. */
 struct dsa_answer dsa_clear_error(struct dsa_model *handle);
 
-/* ---- reads: none changes the device; each gives DSA_NONE, DSA_NO_DEVICE or DSA_NOT_ENDED on a closed handle ---- */
+/* ---- reads: none changes the device; each gives DSA_NONE, DSA_NO_DEVICE, DSA_NOT_ENDED or 0 on a closed handle ---- */
 
 uint64_t dsa_capacity(struct dsa_model *handle);
 uint64_t dsa_occupancy(struct dsa_model *handle, uint16_t queue); /* entries that wait; DSA_NONE: no such queue */
@@ -194,6 +219,24 @@ struct dsa_answer dsa_noted(struct dsa_model *handle);            /* DSA_CLEARED
 struct dsa_answer dsa_history_answer(struct dsa_model *handle, uint64_t position); /* of a stored step, the first at 0 */
 struct dsa_ending dsa_fate_at(struct dsa_model *handle, uint64_t position);        /* in the order of endings, the first at 0 */
 struct dsa_ending dsa_fate_of(struct dsa_model *handle, uint32_t name);            /* DSA_NOT_ENDED: still held, or no such name */
+
+uint64_t dsa_phase(struct dsa_model *handle);                        /* enum dsa_phase_number */
+uint64_t dsa_queue_phase(struct dsa_model *handle, uint16_t queue);  /* the same; DSA_NONE: no such queue */
+uint64_t dsa_in_progress(struct dsa_model *handle, uint16_t engine); /* submitted entries in progress; DSA_NONE: no such engine */
+uint64_t dsa_members(struct dsa_model *handle, uint16_t engine);     /* members not ended; DSA_NONE: no such engine */
+uint64_t dsa_awaited(struct dsa_model *handle); /* entries that the active command still waits for; DSA_NONE: none is active */
+uint32_t dsa_holds(struct dsa_model *handle, uint32_t cell, uint32_t name); /* 1: the entry of that ticket is held; 0: it is not */
+uint32_t dsa_history_is_full(struct dsa_model *handle);                     /* 1: each step is answered DSA_FULL; 0: it is not full */
+
+/* These write what they read and give 1. They write nothing and give 0 on a closed handle, and where the device has no such queue,
+ * group, engine or place, or the engine works on no batch. Places count from 0, in the order in which entries came. A place in a
+ * list is found by a walk from its front. */
+uint32_t dsa_queue_config(struct dsa_model *handle, uint16_t queue, struct dsa_queue *config);
+uint32_t dsa_group_config(struct dsa_model *handle, uint16_t group, struct dsa_group *config);
+uint32_t dsa_waiting_at(struct dsa_model *handle, uint16_t queue, uint64_t place, struct dsa_entry *entry);
+uint32_t dsa_in_progress_at(struct dsa_model *handle, uint16_t engine, uint64_t place, struct dsa_entry *entry);
+uint32_t dsa_member_at(struct dsa_model *handle, uint16_t engine, uint64_t place, struct dsa_entry *entry);
+uint32_t dsa_batch(struct dsa_model *handle, uint16_t engine, struct dsa_batch *batch);
 
 /* ---- descriptors: these need no device; `member` is 0 for one that is submitted, else it is in a batch ---- */
 

@@ -2,3 +2,4 @@ pub mod Answers
 pub mod Calls
 pub mod Opening
 pub mod Place
+pub mod Reads

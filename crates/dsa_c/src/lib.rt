@@ -6,6 +6,7 @@ mod handle;
 mod opening;
 mod place;
 mod reads;
+mod standing;
 mod steps;
 mod unboxed;
 mod words;

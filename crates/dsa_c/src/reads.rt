@@ -15,7 +15,7 @@ use dsa_book::FateRow;
 use std::alloc::Global;
 
 // A number that may not be there.
-fn or_none(number: Option<u64>) -> u64
+pub(crate) fn or_none(number: Option<u64>) -> u64
     ensures { result ≡ or_none number }
 {
     number.unwrap_or(u64::MAX)

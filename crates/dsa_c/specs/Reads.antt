@@ -1,0 +1,66 @@
+-- What a read writes for C.
+use Rattle.std.specs.Prelude.{◌≡◌, ℕ, Bool, Option, None, Some}
+use Rattle.dsa_base.specs.Rows.{passes}
+use Rattle.dsa_regs.specs.declared.Phase.{Phase, TheVariants.{Off, On, Stopping}}
+use Rattle.dsa_regs.specs.declared.{QueueConfig.{QueueConfig}, GroupConfig.{GroupConfig}}
+use Rattle.dsa_store.specs.Content.{Slot}
+use Rattle.dsa_book.specs.declared.note.BatchNote.{BatchNote}
+use Rattle.dsa_device.specs.Running.{Running}
+use Rattle.dsa_c.specs.declared.steps.{DeviceQueue.{DeviceQueue}, DeviceGroup.{DeviceGroup}}
+use Rattle.dsa_c.specs.declared.standing.{DeviceEntry.{DeviceEntry}, DeviceBatch.{DeviceBatch}}
+use Rattle.dsa_c.specs.{Answers.{bit_number, parent_number}, Place.{HeldMachine}}
+
+-- 1 where there is something to read, and it is written in C's form; 0 where there is not, and nothing is written
+abbrev pub IsWritten : {X Y : Type 0} → (X → Y) → Option X → ℕ → Y → Y → Type 0
+IsWritten form None said before after = (said ≡ 0) × (after ≡ before)
+IsWritten form (Some x) said before after = (said ≡ 1) × (after ≡ form x)
+
+-- whether there is a device behind the handle, and it passes
+abbrev pub bit_asked : HeldMachine → (Running → Bool) → ℕ
+bit_asked before test = bit_number (passes (λ machine. test machine.device) before)
+
+abbrev pub phase_number : Phase → ℕ
+phase_number Off = 0
+phase_number On = 1
+phase_number Stopping = 2
+
+abbrev pub queue_for_c : QueueConfig → DeviceQueue
+queue_for_c config = record {
+  size = config.size;
+  threshold = config.threshold;
+  dedicated = bit_number config.dedicated;
+  priority = config.priority;
+  max_batch_shift = config.max_batch_shift;
+  max_xfer_shift = config.max_xfer_shift;
+  pasid = config.pasid;
+}
+
+abbrev pub group_for_c : GroupConfig → DeviceGroup
+group_for_c config = record {
+  queues = config.queues;
+  engines = config.engines;
+  reserved = config.reserved;
+  allowed = config.allowed;
+}
+
+abbrev pub entry_for_c : Slot → DeviceEntry
+entry_for_c slot = record {
+  name = slot.1.name;
+  cell = slot.0.0;
+  parent = parent_number slot.1.parent;
+  pasid = slot.1.desc.pasid;
+  flags = slot.1.desc.flags;
+  size = slot.1.desc.size;
+  queue = slot.1.queue;
+  operation = slot.1.desc.op;
+  running = bit_number slot.1.running;
+}
+
+abbrev pub batch_for_c : BatchNote → DeviceBatch
+batch_for_c note = record {
+  name = note.batch;
+  count = note.count;
+  fetched = note.fetched;
+  failed = bit_number note.failed;
+  closed = bit_number note.closed;
+}

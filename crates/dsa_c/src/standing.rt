@@ -1,0 +1,351 @@
+//! What stands in the device behind a handle: phases, configurations, and entries one by one. No read changes it.
+
+ghost use Rattle.std.specs.Prelude.{◌≡◌, ◌==◌, nat_lt, length};
+ghost use Rattle.dsa_base.specs.Rows.{when};
+ghost use Rattle.dsa_regs.specs.Config.{queue_at, group_at};
+ghost use Rattle.dsa_store.specs.Content.{chain};
+ghost use Rattle.dsa_book.specs.State.{phase_at};
+ghost use Rattle.dsa_book.specs.Work.{in_progress, members, note_at};
+ghost use Rattle.dsa_device.specs.Reads.{awaited, is_held, slot_at};
+ghost use Rattle.dsa_c.specs.Calls.{asked, asked_for, or_none};
+ghost use Rattle.dsa_c.specs.Reads.{IsWritten, bit_asked, phase_number, queue_for_c, group_for_c, entry_for_c, batch_for_c};
+ghost use Rattle.dsa_c.specs.Answers.{bit_number};
+
+use crate::handle::Handle;
+use crate::reads::or_none;
+use crate::steps::{DeviceGroup, DeviceQueue};
+use dsa_book::{BatchNote, Ticket};
+use dsa_regs::{GroupConfig, Phase, QueueConfig};
+use dsa_store::{Cell, Entry};
+use std::alloc::Global;
+
+/// An entry that the device holds, as C reads it.
+#[repr(C)]
+#[derive(Clone, Copy)]
+pub struct DeviceEntry {
+    pub name: u32,
+    pub cell: u32,
+    pub parent: u32,
+    pub pasid: u32,
+    pub flags: u32,
+    pub size: u32,
+    pub queue: u16,
+    pub operation: u8,
+    pub running: u8,
+}
+
+/// What is noted of an engine's batch, as C reads it.
+#[repr(C)]
+#[derive(Clone, Copy)]
+pub struct DeviceBatch {
+    pub name: u32,
+    pub count: u32,
+    pub fetched: u32,
+    pub failed: u8,
+    pub closed: u8,
+}
+
+fn phase_number(phase: Phase) -> u64
+    ensures { result ≡ phase_number phase }
+{
+    match phase {
+        Phase::Off => 0,
+        Phase::On => 1,
+        Phase::Stopping => 2,
+    }
+}
+
+fn queue_for_c(config: &QueueConfig) -> DeviceQueue
+    ensures { result ≡ queue_for_c config.now }
+{
+    DeviceQueue {
+        size: config.size,
+        threshold: config.threshold,
+        dedicated: u8::from(config.dedicated),
+        priority: config.priority,
+        max_batch_shift: config.max_batch_shift,
+        max_xfer_shift: config.max_xfer_shift,
+        pasid: config.pasid,
+    }
+}
+
+fn group_for_c(config: &GroupConfig) -> DeviceGroup
+    ensures { result ≡ group_for_c config.now }
+{
+    DeviceGroup {
+        queues: config.queues,
+        engines: config.engines,
+        reserved: config.reserved,
+        allowed: config.allowed,
+    }
+}
+
+fn batch_for_c(note: &BatchNote) -> DeviceBatch
+    ensures { result ≡ batch_for_c note.now }
+{
+    DeviceBatch {
+        name: note.batch,
+        count: note.count,
+        fetched: note.fetched,
+        failed: u8::from(note.failed),
+        closed: u8::from(note.closed),
+    }
+}
+
+fn entry_for_c(cell: Cell, entry: &Entry) -> DeviceEntry
+    ensures { result ≡ entry_for_c (cell, entry.now) }
+{
+    DeviceEntry {
+        name: entry.name,
+        cell: cell.0,
+        parent: entry.parent.unwrap_or(u32::MAX),
+        pasid: entry.desc.pasid,
+        flags: entry.desc.flags,
+        size: entry.desc.size,
+        queue: entry.queue,
+        operation: entry.desc.op,
+        running: u8::from(entry.running),
+    }
+}
+
+// Writes the entry, where there is one.
+fn write_entry(slot: Option<(Cell, Entry)>, entry: &mut DeviceEntry) -> u32
+    ensures { IsWritten entry_for_c slot result entry.old entry.new }
+{
+    let Some((cell, found)) = slot else {
+        return 0;
+    };
+    *entry = entry_for_c(cell, &found);
+    1
+}
+
+/// The phase of the device.
+#[unsafe(no_mangle)]
+pub extern "C" fn dsa_phase(alloc: Global, handle: &mut Handle) -> u64
+    ensures value { result ≡ or_none (asked handle.old.place.machine (λ d. phase_number d.state.work.setup.device)) }
+    ensures same { handle.new.place.machine ≡ handle.old.place.machine }
+{
+    let Some(machine) = handle.take(alloc) else {
+        return or_none(None);
+    };
+    let phase = machine.device.phase();
+    handle.put(machine);
+    phase_number(phase)
+}
+
+/// The phase of the queue.
+#[unsafe(no_mangle)]
+pub extern "C" fn dsa_queue_phase(alloc: Global, handle: &mut Handle, queue: u16) -> u64
+    ensures value { result ≡ or_none (asked_for handle.old.place.machine (λ d. when (nat_lt queue d.caps.queues) (phase_number (phase_at d.state.work.setup queue)))) }
+    ensures same { handle.new.place.machine ≡ handle.old.place.machine }
+{
+    let Some(machine) = handle.take(alloc) else {
+        return or_none(None);
+    };
+    let phase = machine.device.queue_phase(queue);
+    handle.put(machine);
+    or_none(phase.map(phase_number))
+}
+
+/// The configuration of the queue.
+#[unsafe(no_mangle)]
+pub extern "C" fn dsa_queue_config(
+    alloc: Global,
+    handle: &mut Handle,
+    queue: u16,
+    config: &mut DeviceQueue,
+) -> u32
+    ensures value { IsWritten queue_for_c (asked_for handle.old.place.machine (λ d. when (nat_lt queue d.caps.queues) (queue_at d.state.work.setup.configs queue))) result config.old config.new }
+    ensures same { handle.new.place.machine ≡ handle.old.place.machine }
+{
+    let Some(machine) = handle.take(alloc) else {
+        return 0;
+    };
+    let found = machine.device.queue_config(queue);
+    handle.put(machine);
+    let Some(found) = found else {
+        return 0;
+    };
+    *config = queue_for_c(&found);
+    1
+}
+
+/// The configuration of the group.
+#[unsafe(no_mangle)]
+pub extern "C" fn dsa_group_config(
+    alloc: Global,
+    handle: &mut Handle,
+    group: u16,
+    config: &mut DeviceGroup,
+) -> u32
+    ensures value { IsWritten group_for_c (asked_for handle.old.place.machine (λ d. when (nat_lt group d.caps.groups) (group_at d.state.work.setup.groups group))) result config.old config.new }
+    ensures same { handle.new.place.machine ≡ handle.old.place.machine }
+{
+    let Some(machine) = handle.take(alloc) else {
+        return 0;
+    };
+    let found = machine.device.group_config(group);
+    handle.put(machine);
+    let Some(found) = found else {
+        return 0;
+    };
+    *config = group_for_c(&found);
+    1
+}
+
+/// The number of submitted entries that the engine has in progress.
+#[unsafe(no_mangle)]
+pub extern "C" fn dsa_in_progress(alloc: Global, handle: &mut Handle, engine: u16) -> u64
+    ensures value { result ≡ or_none (asked_for handle.old.place.machine (λ d. when (nat_lt engine d.caps.engines) (length (in_progress d.state.work engine)))) }
+    ensures same { handle.new.place.machine ≡ handle.old.place.machine }
+{
+    let Some(machine) = handle.take(alloc) else {
+        return or_none(None);
+    };
+    let count = machine.device.in_progress_count(engine);
+    handle.put(machine);
+    or_none(count.map(u64::from))
+}
+
+/// The number of members of the engine's batch that have not ended.
+#[unsafe(no_mangle)]
+pub extern "C" fn dsa_members(alloc: Global, handle: &mut Handle, engine: u16) -> u64
+    ensures value { result ≡ or_none (asked_for handle.old.place.machine (λ d. when (nat_lt engine d.caps.engines) (length (members d.state.work engine)))) }
+    ensures same { handle.new.place.machine ≡ handle.old.place.machine }
+{
+    let Some(machine) = handle.take(alloc) else {
+        return or_none(None);
+    };
+    let count = machine.device.member_count(engine);
+    handle.put(machine);
+    or_none(count.map(u64::from))
+}
+
+/// The entry that waits at this place of the queue, the front at 0.
+#[unsafe(no_mangle)]
+pub extern "C" fn dsa_waiting_at(
+    alloc: Global,
+    handle: &mut Handle,
+    queue: u16,
+    place: u64,
+    entry: &mut DeviceEntry,
+) -> u32
+    ensures value { IsWritten entry_for_c (asked_for handle.old.place.machine (λ d. slot_at (when (nat_lt queue d.caps.queues) (chain d.state.work.content queue)) place)) result entry.old entry.new }
+    ensures same { handle.new.place.machine ≡ handle.old.place.machine }
+{
+    let Some(machine) = handle.take(alloc) else {
+        return 0;
+    };
+    let slot = machine.device.waiting_at(queue, place as usize);
+    handle.put(machine);
+    write_entry(slot, entry)
+}
+
+/// The submitted entry at this place of those that the engine has in progress, the first one taken at 0.
+#[unsafe(no_mangle)]
+pub extern "C" fn dsa_in_progress_at(
+    alloc: Global,
+    handle: &mut Handle,
+    engine: u16,
+    place: u64,
+    entry: &mut DeviceEntry,
+) -> u32
+    ensures value { IsWritten entry_for_c (asked_for handle.old.place.machine (λ d. slot_at (when (nat_lt engine d.caps.engines) (in_progress d.state.work engine)) place)) result entry.old entry.new }
+    ensures same { handle.new.place.machine ≡ handle.old.place.machine }
+{
+    let Some(machine) = handle.take(alloc) else {
+        return 0;
+    };
+    let slot = machine.device.in_progress_at(engine, place as usize);
+    handle.put(machine);
+    write_entry(slot, entry)
+}
+
+/// The member at this place of those of the engine's batch that have not ended, the first one fetched at 0.
+#[unsafe(no_mangle)]
+pub extern "C" fn dsa_member_at(
+    alloc: Global,
+    handle: &mut Handle,
+    engine: u16,
+    place: u64,
+    entry: &mut DeviceEntry,
+) -> u32
+    ensures value { IsWritten entry_for_c (asked_for handle.old.place.machine (λ d. slot_at (when (nat_lt engine d.caps.engines) (members d.state.work engine)) place)) result entry.old entry.new }
+    ensures same { handle.new.place.machine ≡ handle.old.place.machine }
+{
+    let Some(machine) = handle.take(alloc) else {
+        return 0;
+    };
+    let slot = machine.device.member_at(engine, place as usize);
+    handle.put(machine);
+    write_entry(slot, entry)
+}
+
+/// What is noted of the batch that the engine works on.
+#[unsafe(no_mangle)]
+pub extern "C" fn dsa_batch(
+    alloc: Global,
+    handle: &mut Handle,
+    engine: u16,
+    batch: &mut DeviceBatch,
+) -> u32
+    ensures value { IsWritten batch_for_c (asked_for handle.old.place.machine (λ d. note_at d.state.work engine)) result batch.old batch.new }
+    ensures same { handle.new.place.machine ≡ handle.old.place.machine }
+{
+    let Some(machine) = handle.take(alloc) else {
+        return 0;
+    };
+    let note = machine.device.batch(engine);
+    handle.put(machine);
+    let Some(note) = note else {
+        return 0;
+    };
+    *batch = batch_for_c(&note);
+    1
+}
+
+/// The number of held entries that the active command still waits for.
+#[unsafe(no_mangle)]
+pub extern "C" fn dsa_awaited(alloc: Global, handle: &mut Handle) -> u64
+    ensures value { result ≡ or_none (asked_for handle.old.place.machine (λ d. awaited d.state)) }
+    ensures same { handle.new.place.machine ≡ handle.old.place.machine }
+{
+    let Some(machine) = handle.take(alloc) else {
+        return or_none(None);
+    };
+    let awaited = machine.device.awaited();
+    handle.put(machine);
+    or_none(awaited.map(u64::from))
+}
+
+/// Whether the device holds the entry of that cell and name still: 1 or 0.
+#[unsafe(no_mangle)]
+pub extern "C" fn dsa_holds(alloc: Global, handle: &mut Handle, cell: u32, name: u32) -> u32
+    ensures value { result ≡ bit_asked handle.old.place.machine (λ d. is_held d.state.work.content (record { cell = record { 0 = cell }; name = name })) }
+    ensures same { handle.new.place.machine ≡ handle.old.place.machine }
+{
+    let Some(machine) = handle.take(alloc) else {
+        return 0;
+    };
+    let ticket = Ticket {
+        cell: Cell(cell),
+        name,
+    };
+    let holds = machine.device.holds(ticket);
+    handle.put(machine);
+    u32::from(holds)
+}
+
+/// Whether the history has no room left: 1 or 0.
+#[unsafe(no_mangle)]
+pub extern "C" fn dsa_history_is_full(alloc: Global, handle: &mut Handle) -> u32
+    ensures value { result ≡ bit_asked handle.old.place.machine (λ d. length d.history == d.capacity) }
+    ensures same { handle.new.place.machine ≡ handle.old.place.machine }
+{
+    let Some(machine) = handle.take(alloc) else {
+        return 0;
+    };
+    let full = machine.device.is_full();
+    handle.put(machine);
+    u32::from(full)
+}
