@@ -2,6 +2,7 @@ pub mod Fields
 pub mod Actions
 pub mod Document
 pub mod Lines
+pub mod Metered
 pub mod Run
 pub mod Scenario
 pub mod Threads

@@ -1,12 +1,12 @@
 //! Reading a document.
 
-ghost use Rattle.std.specs.Prelude.{◌≡◌, ◌<◌, ◌≤◌, ◌+◌, ◌⊎◌, ℕ, List, length, vec_len, IfOk, IfErr, IsErrOf};
-ghost use Rattle.std.specs.Io.KnownBytes.{Consumes, IsAtEnd, ReadConsumes};
-ghost use Rattle.std.specs.Io.{ReadsAtMost};
+ghost use Rattle.std.specs.Prelude.{◌≡◌, ◌≢◌, ◌<◌, ◌≤◌, ◌+◌, ◌⊎◌, true, ℕ, List, length, vec_len, IfOk, OnOk, IfErr, IsErrOf};
+ghost use Rattle.std.specs.Io.KnownBytes.{Consumes, IsAtEnd};
+ghost use Rattle.dsa_scenario.specs.Metered.{metered_remaining, budget_of, has_failed, IsSameReader};
 
 use crate::faults::ScenarioFault;
+use crate::metered::MeteredReader;
 use std::alloc::Global;
-use std::io;
 use std::io::Read;
 
 /// The most bytes that a document has (profile).
@@ -17,46 +17,37 @@ pub const MAX_READS: u32 = 1_048_577;
 
 const CHUNK: usize = 4096;
 
-// A reader that may be asked `left` times.
-#[derive(Drop)]
-struct Metered<'r, R: Read> {
-    reader: &'r mut R,
-    left: u32,
-}
-
-impl<R: Read> Metered<'_, R> {
-    // One read.
-    fn read(&mut self, buf: &mut [u8]) -> io::Result<usize>
-        requires { 0 < self.old.left }
-        ensures same_reference { self.new.reader.ghost_name ≡ self.old.reader.ghost_name }
-        ensures left { self.new.left + 1 ≡ self.old.left }
-        ensures bound { ReadsAtMost result buf.new }
-        ensures bytes { ReadConsumes (R.remaining self.old.reader.now) (R.remaining self.new.reader.now) result buf.new }
-    {
-        self.left -= 1;
-        self.reader.read(buf)
-    }
-}
-
 /// Reads to the end of input, by at most [`MAX_READS`] reads.
 ///
 /// `Read` is an error of the reader, and `TooLong` says that more than [`MAX_DOCUMENT`] bytes came.
-pub fn read_document<R: Read>(alloc: Global, reader: &mut R) -> Result<Vec<u8>, ScenarioFault>
-    ensures bytes { IfOk result (λ bytes. Consumes (R.remaining reader.old) (R.remaining reader.new) bytes.items) }
-    ensures end { IfOk result (λ bytes. IsAtEnd (R.remaining reader.new)) }
+pub fn read_document<R: Read>(
+    alloc: Global,
+    reader: &mut MeteredReader<'_, R>,
+) -> Result<Vec<u8>, ScenarioFault>
+    requires { MAX_READS ≤ budget_of reader.old }
+    ensures same_reader { IsSameReader reader.old reader.new }
+    ensures reads { budget_of reader.old ≤ budget_of reader.new + MAX_READS }
+    ensures bytes { IfOk result (λ bytes. Consumes (metered_remaining R.remaining reader.old)
+        (metered_remaining R.remaining reader.new) bytes.items) }
+    ensures end { IfOk result (λ bytes. IsAtEnd (metered_remaining R.remaining reader.new)) }
     ensures fits { IfOk result (λ bytes. vec_len bytes ≤ MAX_DOCUMENT) }
+
+    // `TooLong` is told of more bytes than a document has, and `Read` of an error that came before.
     ensures too_long { IsErrOf result ScenarioFault.TooLong → (bytes : List ℕ)
-        × Consumes (R.remaining reader.old) (R.remaining reader.new) bytes × (MAX_DOCUMENT < length bytes) }
+        × Consumes (metered_remaining R.remaining reader.old) (metered_remaining R.remaining reader.new) bytes
+        × (MAX_DOCUMENT < length bytes) }
+    ensures read { IsErrOf result ScenarioFault.Read → (bytes : List ℕ)
+        × Consumes (metered_remaining R.remaining reader.old) (metered_remaining R.remaining reader.new) bytes
+        × (length bytes ≤ MAX_DOCUMENT) }
+    ensures failed { IsErrOf result ScenarioFault.Read → has_failed reader.new ≡ true }
+    ensures well { OnOk result (has_failed reader.new ≡ has_failed reader.old) }
+    ensures other { IfErr result (λ e. e ≢ ScenarioFault.Read → has_failed reader.new ≡ has_failed reader.old) }
     ensures faults { IfErr result (λ e. (e ≡ ScenarioFault.Read) ⊎ (e ≡ ScenarioFault.TooLong) ⊎ (e ≡ ScenarioFault.OutOfMemory)) }
 {
-    let mut metered = Metered {
-        reader,
-        left: MAX_READS,
-    };
     let mut bytes = Vec::new(alloc);
     let mut chunk = [0u8; CHUNK];
     'reads: while bytes.len() <= MAX_DOCUMENT {
-        let count = match metered.read(&mut chunk) {
+        let count = match reader.read(&mut chunk) {
             Ok(count) => count,
             Err(_) => return Err(ScenarioFault::Read),
         };

@@ -1,20 +1,22 @@
 //! A document in, its lines out.
 
-ghost use Rattle.std.specs.Prelude.{◌≡◌, ◌≢◌, ◌⊎◌, ◌≤◌, ◌<◌, ◌^◌, ℕ, List, map, Some, None, length, take, OnOk, IfOk, IfErr, IsErrOf, string_bytes};
-ghost use Rattle.std.specs.Io.KnownBytes.{Consumes, IsAtEnd, Appends, Keeps};
+ghost use Rattle.std.specs.Prelude.{◌≡◌, ◌≢◌, ◌⊎◌, ◌≤◌, ◌<◌, ◌+◌, ◌^◌, true, ℕ, List, map, Some, None, length, take, OnOk, IfOk, IfErr, IsErrOf, string_bytes};
+ghost use Rattle.std.specs.Io.KnownBytes.{Consumes, Appends};
 ghost use Rattle.serde_json.specs.View.{view};
 ghost use Rattle.dsa_device.specs.Made.{make_fault};
 ghost use Rattle.dsa_scenario.specs.declared.actions.Action.{Action};
 ghost use Rattle.dsa_scenario.specs.Actions.{action_of};
 ghost use Rattle.dsa_scenario.specs.Document.{IsFirstBad, IsFaultOf};
+ghost use Rattle.dsa_scenario.specs.Metered.{metered_remaining, budget_of, has_failed, IsSameReader};
 ghost use Rattle.dsa_scenario.specs.Run.{AreLinesOf};
-ghost use Rattle.dsa_scenario.specs.Scenario.{IsRenderingOf};
+ghost use Rattle.dsa_scenario.specs.Scenario.{IsWhole, IsRenderingOf};
 
 use crate::actions::parse_action;
 use crate::document::{Head, check_head, parse_actions, parse_head, parse_json};
 use crate::faults::ScenarioFault;
 use crate::lines::add_rows;
-use crate::reading::read_document;
+use crate::metered::MeteredReader;
+use crate::reading::{MAX_READS, read_document};
 use crate::run::run_action;
 use crate::writing::write_text;
 use dsa_cells::LinkedStore;
@@ -94,43 +96,87 @@ pub fn render_document(alloc: Global, bytes: &[u8]) -> Result<String, ScenarioFa
     Ok(rendering.text)
 }
 
-/// Reads one document to the end of input, runs it and writes its lines.
+/// Reads one document to the end of input, runs it and writes its lines, by at most [`MAX_READS`] reads.
 ///
-/// The whole run is computed before the first byte is written. At most 1,048,577 reads are made. The faults come in the order
-/// of [`ScenarioFault`]; want of memory comes where it is refused. On `Write` the writer has got a prefix of the lines, on any
-/// other fault nothing.
-pub fn run_scenario<R: Read, W: Write>(
+/// The whole run is computed before the first byte is written. The faults come in the order of [`ScenarioFault`]; want of
+/// memory comes where it is refused. On `Write` the writer has got a proper prefix of the lines, on any other fault it was not
+/// asked for anything.
+pub fn run_metered<R: Read, W: Write>(
     alloc: Global,
-    reader: &mut R,
+    reader: &mut MeteredReader<'_, R>,
     writer: &mut W,
 ) -> Result<(), ScenarioFault>
+    requires { MAX_READS ≤ budget_of reader.old }
+    ensures same_reader { IsSameReader reader.old reader.new }
+    ensures reads { budget_of reader.old ≤ budget_of reader.new + MAX_READS }
     ensures ok { OnOk result ((bytes : List ℕ) × (lines : List ℕ)
-        × Consumes (R.remaining reader.old) (R.remaining reader.new) bytes
-        × IsAtEnd (R.remaining reader.new)
-        × (length bytes ≤ 2 ^ 20)
+        × IsWhole (metered_remaining R.remaining reader.old) (metered_remaining R.remaining reader.new) bytes
         × IsRenderingOf bytes lines
         × Appends (W.contents writer.old) (W.contents writer.new) lines) }
 
-    // Only `Write` may have written, and then a prefix of such lines.
-    ensures nothing { IfErr result (λ e. e ≢ ScenarioFault.Write → Keeps (W.contents writer.old) (W.contents writer.new)) }
+    // Only `Write` may have written, and then some of such lines.
+    ensures nothing { IfErr result (λ e. e ≢ ScenarioFault.Write → writer.new ≡ writer.old) }
     ensures prefix { IsErrOf result ScenarioFault.Write → (bytes : List ℕ) × (lines : List ℕ) × (count : ℕ)
-        × Consumes (R.remaining reader.old) (R.remaining reader.new) bytes
-        × IsAtEnd (R.remaining reader.new)
+        × IsWhole (metered_remaining R.remaining reader.old) (metered_remaining R.remaining reader.new) bytes
         × IsRenderingOf bytes lines
+        × (count < length lines)
         × Appends (W.contents writer.old) (W.contents writer.new) (take count lines) }
 
     // A fault of the document is the first that stands.
     ensures document { IfErr result (λ e. (e ≡ ScenarioFault.Read) ⊎ (e ≡ ScenarioFault.TooLong)
         ⊎ (e ≡ ScenarioFault.Write) ⊎ (e ≡ ScenarioFault.OutOfMemory)
         ⊎ ((bytes : List ℕ)
-        × Consumes (R.remaining reader.old) (R.remaining reader.new) bytes
-        × IsAtEnd (R.remaining reader.new)
-        × (length bytes ≤ 2 ^ 20)
+        × IsWhole (metered_remaining R.remaining reader.old) (metered_remaining R.remaining reader.new) bytes
         × IsFaultOf bytes e)) }
+
+    // `TooLong` is told of more bytes than a document has, and `Read` of an error that came before.
     ensures too_long { IsErrOf result ScenarioFault.TooLong → (bytes : List ℕ)
-        × Consumes (R.remaining reader.old) (R.remaining reader.new) bytes × (2 ^ 20 < length bytes) }
+        × Consumes (metered_remaining R.remaining reader.old) (metered_remaining R.remaining reader.new) bytes
+        × (2 ^ 20 < length bytes) }
+    ensures read { IsErrOf result ScenarioFault.Read → (bytes : List ℕ)
+        × Consumes (metered_remaining R.remaining reader.old) (metered_remaining R.remaining reader.new) bytes
+        × (length bytes ≤ 2 ^ 20) }
+    ensures failed { IsErrOf result ScenarioFault.Read → has_failed reader.new ≡ true }
+    ensures well { OnOk result (has_failed reader.new ≡ has_failed reader.old) }
+    ensures other { IfErr result (λ e. e ≢ ScenarioFault.Read → has_failed reader.new ≡ has_failed reader.old) }
 {
     let bytes = read_document(alloc, reader)?;
     let rendering = render(alloc, &bytes)?;
     write_text(writer, rendering.text.as_bytes())
+}
+
+/// Reads one document to the end of input, runs it and writes its lines.
+///
+/// All of it is the work of [`run_metered`], which is lent the reader with a budget of [`MAX_READS`].
+pub fn run_scenario<R: Read, W: Write>(
+    alloc: Global,
+    reader: &mut R,
+    writer: &mut W,
+) -> Result<(), ScenarioFault>
+    ensures ok { OnOk result ((bytes : List ℕ) × (lines : List ℕ)
+        × IsWhole (R.remaining reader.old) (R.remaining reader.new) bytes
+        × IsRenderingOf bytes lines
+        × Appends (W.contents writer.old) (W.contents writer.new) lines) }
+
+    // Only `Write` may have written, and then some of such lines.
+    ensures nothing { IfErr result (λ e. e ≢ ScenarioFault.Write → writer.new ≡ writer.old) }
+    ensures prefix { IsErrOf result ScenarioFault.Write → (bytes : List ℕ) × (lines : List ℕ) × (count : ℕ)
+        × IsWhole (R.remaining reader.old) (R.remaining reader.new) bytes
+        × IsRenderingOf bytes lines
+        × (count < length lines)
+        × Appends (W.contents writer.old) (W.contents writer.new) (take count lines) }
+
+    // A fault of the document is the first that stands.
+    ensures document { IfErr result (λ e. (e ≡ ScenarioFault.Read) ⊎ (e ≡ ScenarioFault.TooLong)
+        ⊎ (e ≡ ScenarioFault.Write) ⊎ (e ≡ ScenarioFault.OutOfMemory)
+        ⊎ ((bytes : List ℕ)
+        × IsWhole (R.remaining reader.old) (R.remaining reader.new) bytes
+        × IsFaultOf bytes e)) }
+    ensures too_long { IsErrOf result ScenarioFault.TooLong → (bytes : List ℕ)
+        × Consumes (R.remaining reader.old) (R.remaining reader.new) bytes × (2 ^ 20 < length bytes) }
+    ensures read { IsErrOf result ScenarioFault.Read → (bytes : List ℕ)
+        × Consumes (R.remaining reader.old) (R.remaining reader.new) bytes × (length bytes ≤ 2 ^ 20) }
+{
+    let mut reader = MeteredReader::new(reader, MAX_READS);
+    run_metered(alloc, &mut reader, writer)
 }

@@ -1,11 +1,11 @@
 //! What the words of the command line make the program do.
 
-ghost use Rattle.std.specs.Prelude.{◌≡◌, ◌≢◌, ◌⊎◌, ◌≤◌, ◌^◌, ℕ, List, length, take, map, string_bytes};
-ghost use Rattle.std.specs.Io.KnownBytes.{Consumes, IsAtEnd, Appends, Keeps};
+ghost use Rattle.std.specs.Prelude.{◌≡◌, ◌≢◌, ◌⊎◌, ◌≤◌, ◌<◌, ℕ, List, length, take, map, string_bytes};
+ghost use Rattle.std.specs.Io.KnownBytes.{Appends, Keeps};
 ghost use Rattle.clap.specs.Words.{Row, kind_of};
 ghost use Rattle.dsa_shared.specs.declared.settle.Totals.{Totals};
 ghost use Rattle.dsa_scenario.specs.declared.options.Workload.{Workload};
-ghost use Rattle.dsa_scenario.specs.Scenario.{IsRenderingOf};
+ghost use Rattle.dsa_scenario.specs.Scenario.{IsWhole, IsRenderingOf};
 ghost use Rattle.dsa_scenario.specs.Threads.{IsInRange, AreTotalsOf, totals_text};
 ghost use Rattle.dsa_scenario.specs.Words.{AreNumbersOf, IsMistaken, NameThreads};
 
@@ -47,16 +47,14 @@ fn run_input<R: Read, O: Write, E: Write>(
     err: &mut E,
 ) -> u8
     ensures done { result ≡ 0 → (bytes : List ℕ) × (lines : List ℕ)
-        × Consumes (R.remaining reader.old) (R.remaining reader.new) bytes
-        × IsAtEnd (R.remaining reader.new)
-        × (length bytes ≤ 2 ^ 20)
+        × IsWhole (R.remaining reader.old) (R.remaining reader.new) bytes
         × IsRenderingOf bytes lines
         × Appends (O.contents out.old) (O.contents out.new) lines }
-    ensures failed { result ≡ 1 → Keeps (O.contents out.old) (O.contents out.new)
+    ensures failed { result ≡ 1 → (out.new ≡ out.old)
         ⊎ ((bytes : List ℕ) × (lines : List ℕ) × (count : ℕ)
-        × Consumes (R.remaining reader.old) (R.remaining reader.new) bytes
-        × IsAtEnd (R.remaining reader.new)
+        × IsWhole (R.remaining reader.old) (R.remaining reader.new) bytes
         × IsRenderingOf bytes lines
+        × (count < length lines)
         × Appends (O.contents out.old) (O.contents out.new) (take count lines)) }
     ensures statuses { (result ≡ 0) ⊎ (result ≡ 1) }
 {
@@ -125,9 +123,7 @@ pub fn run_words<T: Threads + Wait + Sync, R: Read, O: Write, E: Write>(
     err: &mut E,
 ) -> u8
     ensures done { length words.now ≡ 0 → result ≡ 0 → (bytes : List ℕ) × (lines : List ℕ)
-        × Consumes (R.remaining reader.old) (R.remaining reader.new) bytes
-        × IsAtEnd (R.remaining reader.new)
-        × (length bytes ≤ 2 ^ 20)
+        × IsWhole (R.remaining reader.old) (R.remaining reader.new) bytes
         × IsRenderingOf bytes lines
         × Appends (O.contents out.old) (O.contents out.new) lines }
     ensures threads { result ≡ 0 → (rows : List Row) → NameThreads (map string_bytes words.now) rows
@@ -135,11 +131,11 @@ pub fn run_words<T: Threads + Wait + Sync, R: Read, O: Write, E: Write>(
         × Appends (O.contents out.old) (O.contents out.new) (totals_text totals) }
 
     // Where it fails, nothing was written, or the first bytes of the lines.
-    ensures failed { length words.now ≡ 0 → result ≡ 1 → Keeps (O.contents out.old) (O.contents out.new)
+    ensures failed { length words.now ≡ 0 → result ≡ 1 → (out.new ≡ out.old)
         ⊎ ((bytes : List ℕ) × (lines : List ℕ) × (count : ℕ)
-        × Consumes (R.remaining reader.old) (R.remaining reader.new) bytes
-        × IsAtEnd (R.remaining reader.new)
+        × IsWhole (R.remaining reader.old) (R.remaining reader.new) bytes
         × IsRenderingOf bytes lines
+        × (count < length lines)
         × Appends (O.contents out.old) (O.contents out.new) (take count lines)) }
     ensures threads_failed { result ≡ 1 → (rows : List Row) → NameThreads (map string_bytes words.now) rows
         → Keeps (O.contents out.old) (O.contents out.new)

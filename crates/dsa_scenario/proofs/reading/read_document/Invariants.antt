@@ -1,12 +1,15 @@
 use Rattle.dsa_scenario.proofs.reading.read_document.Given as goal
 use Rattle.std.{proofs.Common.{◌≡◌, ◌-◌, ◌+◌, ◌≤◌, vec_len}, specs.Io.KnownBytes.{Consumes}}
+use Rattle.dsa_scenario.specs.Metered.{metered_remaining, budget_of, has_failed, IsSameReader}
 
 abbrev pub invariant-reads : goal.invariant-reads
 invariant-reads g l = record {
-  same_reference : l.metered.reader.ghost_name ≡ l.initial.metered.reader.ghost_name;
-  counted : 1_048_577 ≤ l.metered.left + vec_len l.bytes;
-  taken : Consumes (g.R.Read.remaining l.initial.metered.reader.now) (g.R.Read.remaining l.metered.reader.now)
-      l.bytes.items;
+  same_reader : IsSameReader l.initial.reader l.reader;
+  each : budget_of l.initial.reader ≤ budget_of l.reader + vec_len l.bytes;
+  most : budget_of l.initial.reader ≤ budget_of l.reader + 1_048_577;
+  well : has_failed l.reader ≡ has_failed l.initial.reader;
+  taken : Consumes (metered_remaining g.R.Read.remaining l.initial.reader)
+      (metered_remaining g.R.Read.remaining l.reader) l.bytes.items;
 }
 
 abbrev pub decreases-reads : goal.decreases-reads
