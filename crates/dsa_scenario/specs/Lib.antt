@@ -6,5 +6,6 @@ pub mod Metered
 pub mod Run
 pub mod Scenario
 pub mod Threads
+pub mod Watched
 pub mod Words
 pub mod Worked

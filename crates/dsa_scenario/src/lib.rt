@@ -18,6 +18,7 @@ mod run;
 mod scenario;
 mod threads;
 mod totals;
+mod watched;
 mod words;
 mod writing;
 
@@ -31,4 +32,5 @@ pub use run::{Record, run_document};
 pub use scenario::{render_document, run_metered, run_scenario};
 pub use threads::{ThreadsFault, run_workload};
 pub use totals::render_totals;
+pub use watched::WatchedWriter;
 pub use words::{run_words, tell};

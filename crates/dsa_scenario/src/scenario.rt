@@ -10,6 +10,7 @@ ghost use Rattle.dsa_scenario.specs.Document.{IsFirstBad, IsFaultOf};
 ghost use Rattle.dsa_scenario.specs.Metered.{metered_remaining, budget_of, has_failed, IsSameReader};
 ghost use Rattle.dsa_scenario.specs.Run.{AreLinesOf};
 ghost use Rattle.dsa_scenario.specs.Scenario.{IsWhole, IsRenderingOf};
+ghost use Rattle.dsa_scenario.specs.Watched.{watched_contents, has_refused, IsSameWriter};
 
 use crate::actions::parse_action;
 use crate::document::{Head, check_head, parse_actions, parse_head, parse_json};
@@ -18,6 +19,7 @@ use crate::lines::add_rows;
 use crate::metered::MeteredReader;
 use crate::reading::{MAX_READS, read_document};
 use crate::run::run_action;
+use crate::watched::WatchedWriter;
 use crate::writing::write_text;
 use dsa_cells::LinkedStore;
 use dsa_device::Device;
@@ -104,15 +106,16 @@ pub fn render_document(alloc: Global, bytes: &[u8]) -> Result<String, ScenarioFa
 pub fn run_metered<R: Read, W: Write>(
     alloc: Global,
     reader: &mut MeteredReader<'_, R>,
-    writer: &mut W,
+    writer: &mut WatchedWriter<'_, W>,
 ) -> Result<(), ScenarioFault>
     requires { MAX_READS ≤ budget_of reader.old }
     ensures same_reader { IsSameReader reader.old reader.new }
+    ensures same_writer { IsSameWriter writer.old writer.new }
     ensures reads { budget_of reader.old ≤ budget_of reader.new + MAX_READS }
     ensures ok { OnOk result ((bytes : List ℕ) × (lines : List ℕ)
         × IsWhole (metered_remaining R.remaining reader.old) (metered_remaining R.remaining reader.new) bytes
         × IsRenderingOf bytes lines
-        × Appends (W.contents writer.old) (W.contents writer.new) lines) }
+        × Appends (watched_contents W.contents writer.old) (watched_contents W.contents writer.new) lines) }
 
     // Only `Write` may have written, and then some of such lines.
     ensures nothing { IfErr result (λ e. e ≢ ScenarioFault.Write → writer.new ≡ writer.old) }
@@ -120,7 +123,10 @@ pub fn run_metered<R: Read, W: Write>(
         × IsWhole (metered_remaining R.remaining reader.old) (metered_remaining R.remaining reader.new) bytes
         × IsRenderingOf bytes lines
         × (count < length lines)
-        × Appends (W.contents writer.old) (W.contents writer.new) (take count lines) }
+        × Appends (watched_contents W.contents writer.old) (watched_contents W.contents writer.new) (take count lines) }
+
+    ensures refused { IsErrOf result ScenarioFault.Write → has_refused writer.new ≡ true }
+    ensures taken { OnOk result (has_refused writer.new ≡ has_refused writer.old) }
 
     // A fault of the document is the first that stands.
     ensures document { IfErr result (λ e. (e ≡ ScenarioFault.Read) ⊎ (e ≡ ScenarioFault.TooLong)
@@ -147,7 +153,8 @@ pub fn run_metered<R: Read, W: Write>(
 
 /// Reads one document to the end of input, runs it and writes its lines.
 ///
-/// All of it is the work of [`run_metered`], which is lent the reader with a budget of [`MAX_READS`].
+/// All of it is the work of [`run_metered`], which is lent the reader with a budget of [`MAX_READS`], and the writer as one
+/// that is watched.
 pub fn run_scenario<R: Read, W: Write>(
     alloc: Global,
     reader: &mut R,
@@ -178,5 +185,6 @@ pub fn run_scenario<R: Read, W: Write>(
         × Consumes (R.remaining reader.old) (R.remaining reader.new) bytes × (length bytes ≤ 2 ^ 20) }
 {
     let mut reader = MeteredReader::new(reader, MAX_READS);
-    run_metered(alloc, &mut reader, writer)
+    let mut writer = WatchedWriter::new(writer);
+    run_metered(alloc, &mut reader, &mut writer)
 }

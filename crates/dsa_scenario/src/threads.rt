@@ -1,7 +1,7 @@
 //! The threads mode: clients, engines and an administrator in threads of their own, on one shared device.
 
-ghost use Rattle.std.specs.Prelude.{◌≡◌, ◌≢◌, ◌≤◌, ◌<◌, ◌+◌, ◌*◌, ◌^◌, ℕ, All, IfOk, OnOk, IfErr, IsErrOf, vec_len, take, replicate, [], Some};
-ghost use Rattle.std.specs.Io.KnownBytes.{Appends, Keeps};
+ghost use Rattle.std.specs.Prelude.{◌≡◌, ◌≢◌, ◌≤◌, ◌<◌, ◌+◌, ◌*◌, ◌^◌, ℕ, All, IfOk, OnOk, IfErr, IsErrOf, vec_len, length, take, replicate, [], Some};
+ghost use Rattle.std.specs.Io.KnownBytes.{Appends};
 ghost use Rattle.dsa_shared.specs.declared.settle.Totals.{Totals};
 ghost use Rattle.dsa_shared.specs.Seat.{AllFresh};
 ghost use Rattle.dsa_device.specs.Running.{running_at_first};
@@ -9,6 +9,7 @@ ghost use Rattle.dsa_scenario.specs.Threads.{IsInRange, AreTotalsOf, AreScriptsO
 
 use crate::options::Workload;
 use crate::totals::render_totals;
+use crate::watched::WatchedWriter;
 use crate::writing::write_text;
 use dsa_book::{Kind, Portal};
 use dsa_cells::LinkedStore;
@@ -223,7 +224,7 @@ fn run_shared<S: EntryStore + Send, L: Sharing + Send + Sync, R: Threads + Wait 
 
 /// Runs the workers in threads on a new device, settles, and writes their totals.
 ///
-/// Nothing is written before the seats are settled. On `Write` the writer has got a prefix of the lines.
+/// Nothing is written before the seats are settled. On `Write` the writer has got a proper prefix of the lines.
 pub fn run_workload<R: Threads + Wait + Sync, W: Write>(
     rt: &R,
     alloc: Global,
@@ -233,10 +234,12 @@ pub fn run_workload<R: Threads + Wait + Sync, W: Write>(
     requires { IsInRange load.now }
     ensures ok { OnOk result ((totals : Totals) × AreTotalsOf load.now totals
         × Appends (W.contents writer.old) (W.contents writer.new) (totals_text totals)) }
-    ensures nothing { IfErr result (λ e. e ≢ ThreadsFault.Write → Keeps (W.contents writer.old) (W.contents writer.new)) }
+    ensures nothing { IfErr result (λ e. e ≢ ThreadsFault.Write → writer.new ≡ writer.old) }
     ensures prefix { IsErrOf result ThreadsFault.Write → (totals : Totals) × (count : ℕ) × AreTotalsOf load.now totals
+        × (count < length (totals_text totals))
         × Appends (W.contents writer.old) (W.contents writer.new) (take count (totals_text totals)) }
 {
+    let mut writer = WatchedWriter::new(writer);
     let caps = caps_for(load.engines);
     let store = LinkedStore::new(alloc, list_count(&caps), cell_count(&caps))?;
     let Ok(device) = Device::new(alloc, store, caps, capacity_for(load)) else {
@@ -244,7 +247,7 @@ pub fn run_workload<R: Threads + Wait + Sync, W: Write>(
     };
     let totals = run_shared::<LinkedStore, Brand, R>(rt, alloc, device, Blanks::new(), load)?;
     let text = render_totals(alloc, &totals)?;
-    match write_text(writer, text.as_bytes()) {
+    match write_text(&mut writer, text.as_bytes()) {
         Ok(()) => Ok(()),
         Err(_) => Err(ThreadsFault::Write),
     }

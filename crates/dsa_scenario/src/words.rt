@@ -1,7 +1,7 @@
 //! What the words of the command line make the program do.
 
 ghost use Rattle.std.specs.Prelude.{◌≡◌, ◌≢◌, ◌⊎◌, ◌≤◌, ◌<◌, ℕ, List, length, take, map, string_bytes};
-ghost use Rattle.std.specs.Io.KnownBytes.{Appends, Keeps};
+ghost use Rattle.std.specs.Io.KnownBytes.{Appends};
 ghost use Rattle.clap.specs.Words.{Row, kind_of};
 ghost use Rattle.dsa_shared.specs.declared.settle.Totals.{Totals};
 ghost use Rattle.dsa_scenario.specs.declared.options.Workload.{Workload};
@@ -75,8 +75,9 @@ fn run_workers<T: Threads + Wait + Sync, O: Write, E: Write>(
     requires { IsInRange load.now }
     ensures done { result ≡ 0 → (totals : Totals) × AreTotalsOf load.now totals
         × Appends (O.contents out.old) (O.contents out.new) (totals_text totals) }
-    ensures failed { result ≡ 1 → Keeps (O.contents out.old) (O.contents out.new)
+    ensures failed { result ≡ 1 → (out.new ≡ out.old)
         ⊎ ((totals : Totals) × (count : ℕ) × AreTotalsOf load.now totals
+        × (count < length (totals_text totals))
         × Appends (O.contents out.old) (O.contents out.new) (take count (totals_text totals))) }
     ensures statuses { (result ≡ 0) ⊎ (result ≡ 1) }
 {
@@ -88,10 +89,10 @@ fn run_workers<T: Threads + Wait + Sync, O: Write, E: Write>(
 
 // Shows what `clap` has to say, and gives the exit status: help goes to `out`, all else to `err`.
 fn show<O: Write, E: Write>(out: &mut O, err: &mut E, error: &Error) -> u8
-    ensures refused { result ≡ 2 → Keeps (O.contents out.old) (O.contents out.new) }
+    ensures refused { result ≡ 2 → out.new ≡ out.old }
     ensures mistake { result ≡ 2 → (kind_of error.now ≢ ErrorKind.OutOfMemory)
         × (kind_of error.now ≢ ErrorKind.DisplayHelp) × (kind_of error.now ≢ ErrorKind.DisplayVersion) }
-    ensures memory { kind_of error.now ≡ ErrorKind.OutOfMemory → (result ≡ 1) × Keeps (O.contents out.old) (O.contents out.new) }
+    ensures memory { kind_of error.now ≡ ErrorKind.OutOfMemory → (result ≡ 1) × (out.new ≡ out.old) }
     ensures statuses { result ≤ 2 }
 {
     if error.kind() == ErrorKind::OutOfMemory {
@@ -138,12 +139,13 @@ pub fn run_words<T: Threads + Wait + Sync, R: Read, O: Write, E: Write>(
         × (count < length lines)
         × Appends (O.contents out.old) (O.contents out.new) (take count lines)) }
     ensures threads_failed { result ≡ 1 → (rows : List Row) → NameThreads (map string_bytes words.now) rows
-        → Keeps (O.contents out.old) (O.contents out.new)
+        → (out.new ≡ out.old)
         ⊎ ((load : Workload) × (totals : Totals) × (count : ℕ) × AreNumbersOf rows load × IsInRange load × AreTotalsOf load totals
+        × (count < length (totals_text totals))
         × Appends (O.contents out.old) (O.contents out.new) (take count (totals_text totals))) }
 
     // Words that are not understood.
-    ensures refused { result ≡ 2 → Keeps (O.contents out.old) (O.contents out.new) }
+    ensures refused { result ≡ 2 → (out.new ≡ out.old) × (reader.new ≡ reader.old) }
     ensures mistake { result ≡ 2 → IsMistaken (map string_bytes words.now) }
     ensures statuses { (result ≡ 0) ⊎ (result ≡ 1) ⊎ ((result ≡ 2) × (1 ≤ length words.now)) }
 {

@@ -1,23 +1,32 @@
 //! Writing the lines.
 
-ghost use Rattle.std.specs.Prelude.{◌≡◌, ◌≤◌, ◌<◌, ℕ, List, length, take, OnOk, IfErr};
+ghost use Rattle.std.specs.Prelude.{◌≡◌, ◌≤◌, ◌<◌, true, ℕ, List, length, take, OnOk, OnErr, IfErr};
 ghost use Rattle.std.specs.Io.KnownBytes.{Appends};
+ghost use Rattle.dsa_scenario.specs.Watched.{watched_contents, has_refused, IsSameWriter};
 
 use crate::faults::ScenarioFault;
+use crate::watched::WatchedWriter;
 use std::io::Write;
 
-/// Writes all of `text`. On a fault the writer has got a proper prefix of it.
-pub fn write_text<W: Write>(writer: &mut W, text: &[u8]) -> Result<(), ScenarioFault>
-    ensures whole { OnOk result (Appends (W.contents writer.old) (W.contents writer.new) text.now) }
+/// Writes all of `text`. On a fault a write was refused, and the writer has got a proper prefix of the text.
+pub fn write_text<W: Write>(
+    writer: &mut WatchedWriter<'_, W>,
+    text: &[u8],
+) -> Result<(), ScenarioFault>
+    ensures same_writer { IsSameWriter writer.old writer.new }
+    ensures whole { OnOk result (Appends (watched_contents W.contents writer.old)
+        (watched_contents W.contents writer.new) text.now) }
+    ensures taken { OnOk result (has_refused writer.new ≡ has_refused writer.old) }
     ensures fault { IfErr result (λ e. e ≡ ScenarioFault.Write) }
-    ensures prefix { IfErr result (λ e. (count : ℕ)
-        × (count < length text.now) × Appends (W.contents writer.old) (W.contents writer.new) (take count text.now)) }
+    ensures refused { OnErr result (has_refused writer.new ≡ true) }
+    ensures prefix { IfErr result (λ e. (count : ℕ) × (count < length text.now)
+        × Appends (watched_contents W.contents writer.old) (watched_contents W.contents writer.new) (take count text.now)) }
 {
     let mut written = 0;
     'writes: while written < text.len() {
         match writer.write(&text[written..]) {
-            Ok(0) | Err(_) => return Err(ScenarioFault::Write),
-            Ok(count) => written += count,
+            Ok(count) if count > 0 => written += count,
+            _ => return Err(ScenarioFault::Write),
         }
     }
     Ok(())

@@ -1,0 +1,15 @@
+-- A writer that is watched.
+use Rattle.std.specs.Prelude.{◌≡◌, ℕ, Bool, List, Option}
+use Rattle.dsa_scenario.specs.declared.watched.WatchedWriter.{WatchedWriter}
+
+-- the bytes that the writer holds, where they are known
+abbrev pub watched_contents : {W : Type 0} → (W → Option (List ℕ)) → WatchedWriter W → Option (List ℕ)
+watched_contents contents watched = contents watched.writer.now
+
+-- whether a write was refused: an error, or no byte of some
+abbrev pub has_refused : {W : Type 0} → WatchedWriter W → Bool
+has_refused watched = watched.refused
+
+-- both watch the same writer
+abbrev pub IsSameWriter : {W : Type 0} → WatchedWriter W → WatchedWriter W → Type 0
+IsSameWriter old new = new.writer.ghost_name ≡ old.writer.ghost_name

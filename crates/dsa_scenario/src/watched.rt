@@ -1,0 +1,58 @@
+//! A writer that is watched.
+
+ghost use Rattle.std.specs.Prelude.{◌≡◌, ◌<◌, true, false, IsErr, IfOk, Ok, length};
+ghost use Rattle.std.specs.Io.{WritesAtMost};
+ghost use Rattle.std.specs.Io.KnownBytes.{Keeps, WriteAppends};
+ghost use Rattle.dsa_scenario.specs.Watched.{watched_contents, has_refused, IsSameWriter};
+
+use std::io;
+use std::io::Write;
+
+/// A writer that notes whether a write was refused: it was answered by an error, or took no byte of some.
+#[derive(Drop)]
+pub struct WatchedWriter<'w, W: Write> {
+    writer: &'w mut W,
+    refused: bool,
+}
+
+impl<'w, W: Write> WatchedWriter<'w, W> {
+    /// The writer, which has refused nothing yet.
+    pub fn new(writer: &'w mut W) -> WatchedWriter<'w, W>
+        ensures same_reference { result.writer.ghost_name ≡ writer.entry.ghost_name }
+        ensures writer { result.writer.now ≡ writer.old }
+        ensures refused { has_refused result ≡ false }
+    {
+        WatchedWriter {
+            writer,
+            refused: false,
+        }
+    }
+}
+
+impl<W: Write> Write for WatchedWriter<'_, W> {
+    ghost contents = { watched_contents W.contents };
+
+    fn write(&mut self, buf: &[u8]) -> io::Result<usize>
+        ensures bound { WritesAtMost result buf.now }
+        ensures bytes { WriteAppends (watched_contents W.contents self.old)
+            (watched_contents W.contents self.new) result buf.now }
+        ensures same_writer { IsSameWriter self.old self.new }
+        ensures failed { IsErr result → has_refused self.new ≡ true }
+        ensures took_none { 0 < length buf.now → result ≡ Ok 0 → has_refused self.new ≡ true }
+        ensures took { IfOk result (λ n. 0 < n → has_refused self.new ≡ has_refused self.old) }
+    {
+        let result = self.writer.write(buf);
+        if !matches!(result, Ok(count) if count > 0 || buf.is_empty()) {
+            self.refused = true;
+        }
+        result
+    }
+
+    fn flush(&mut self) -> io::Result<()>
+        ensures bytes { Keeps (watched_contents W.contents self.old) (watched_contents W.contents self.new) }
+        ensures same_writer { IsSameWriter self.old self.new }
+        ensures refused { has_refused self.new ≡ has_refused self.old }
+    {
+        self.writer.flush()
+    }
+}
