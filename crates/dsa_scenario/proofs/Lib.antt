@@ -1,5 +1,6 @@
 pub mod Accepted
 pub mod Bytes
+pub mod FaultCauses
 pub mod Hex
 pub mod Names
 pub mod OptionNumbers
@@ -10,4 +11,3 @@ pub mod Submissions
 pub mod ThreadTotals
 pub mod Tickets
 pub mod Whole
-pub mod WriteFaults

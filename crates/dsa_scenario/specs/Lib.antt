@@ -1,3 +1,4 @@
+pub mod Faults
 pub mod Fields
 pub mod Actions
 pub mod Document

@@ -1,8 +1,10 @@
 -- What is read of a document, and what is written.
-use Rattle.std.specs.Prelude.{◌≡◌, ◌≤◌, ℕ, ◌^◌, true, List, length, Option}
-use Rattle.std.specs.Io.KnownBytes.{Consumes, IsAtEnd}
+use Rattle.std.specs.Prelude.{◌≡◌, ◌≤◌, ◌<◌, ℕ, ◌^◌, true, List, length, take, Option, ⊤}
+use Rattle.std.specs.Io.KnownBytes.{Consumes, IsAtEnd, Appends}
 use Rattle.dsa_regs.specs.{declared.Caps.{Caps}, Caps.{check_caps}}
-use Rattle.dsa_scenario.specs.{declared.actions.Action.{Action}, Document.{IsDocument}, Run.{AreLinesOf}}
+use Rattle.dsa_scenario.specs.{declared.actions.Action.{Action}, Document.{IsDocument, IsFaultOf}, Run.{AreLinesOf}}
+use Rattle.dsa_scenario.specs.declared.faults.ScenarioFault.{ScenarioFault}
+use Rattle.dsa_scenario.specs.declared.faults.ScenarioFault.TheVariants.{Read, TooLong, Write, OutOfMemory}
 
 -- the reader gave these bytes and then its end, and they are no more than a document has (profile)
 abbrev pub IsWhole : Option (List ℕ) → Option (List ℕ) → List ℕ → Type 0
@@ -17,3 +19,16 @@ pub record IsRenderingOf (bytes lines : List ℕ) : Type 0 where
   pub good : check_caps caps ≡ true
   pub small : capacity ≤ 2 ^ 20
   pub lines_of_run : AreLinesOf caps capacity actions lines
+
+-- what the reader gave, by the bytes that it had and has left, gives rise to this fault (profile)
+abbrev pub HasFault : Option (List ℕ) → Option (List ℕ) → ScenarioFault → Type 0
+HasFault had left Read = (bytes : List ℕ) × Consumes had left bytes × (length bytes ≤ 2 ^ 20)
+HasFault had left TooLong = (bytes : List ℕ) × Consumes had left bytes × (2 ^ 20 < length bytes)
+HasFault had left Write = ⊤
+HasFault had left OutOfMemory = ⊤
+HasFault had left fault = (bytes : List ℕ) × IsWhole had left bytes × IsFaultOf bytes fault
+
+-- the writer, which held and holds these bytes, has taken the first lines of a run of the document, and not all of them
+abbrev pub IsCutShort : Option (List ℕ) → Option (List ℕ) → Option (List ℕ) → Option (List ℕ) → Type 0
+IsCutShort had left held holds = (bytes : List ℕ) × (lines : List ℕ) × (count : ℕ) × IsWhole had left bytes
+    × IsRenderingOf bytes lines × (count < length lines) × Appends held holds (take count lines)

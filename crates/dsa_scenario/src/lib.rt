@@ -33,4 +33,4 @@ pub use scenario::{render_document, run_metered, run_scenario};
 pub use threads::{ThreadsFault, run_workload};
 pub use totals::render_totals;
 pub use watched::WatchedWriter;
-pub use words::{run_words, tell};
+pub use words::{answer_words, run_words, tell};

@@ -1,10 +1,11 @@
 //! A writer that is watched.
 
-ghost use Rattle.std.specs.Prelude.{◌≡◌, ◌<◌, true, false, IsErr, IfOk, Ok, length};
+ghost use Rattle.std.specs.Prelude.{◌≡◌, ◌<◌, true, false, IsErr, IfOk, OnOk, IfSome, Ok, length};
 ghost use Rattle.std.specs.Io.{WritesAtMost};
-ghost use Rattle.std.specs.Io.KnownBytes.{Keeps, WriteAppends};
+ghost use Rattle.std.specs.Io.KnownBytes.{Keeps, Appends, WriteAppends};
 ghost use Rattle.dsa_scenario.specs.Watched.{watched_contents, has_refused, IsSameWriter};
 
+use std::fmt::Display;
 use std::io;
 use std::io::Write;
 
@@ -26,6 +27,21 @@ impl<'w, W: Write> WatchedWriter<'w, W> {
             writer,
             refused: false,
         }
+    }
+
+    /// Writes what `text` shows. Where it was not all written, a write was refused.
+    pub fn print<D: Display + Drop>(&mut self, text: D) -> io::Result<()>
+        ensures same_writer { IsSameWriter self.old self.new }
+        ensures kept { has_refused self.old ≡ true → has_refused self.new ≡ true }
+        ensures refused { IsErr result → has_refused self.new ≡ true }
+        ensures taken { OnOk result (IfSome (D.output text)
+            (Appends (watched_contents W.contents self.old) (watched_contents W.contents self.new))) }
+    {
+        let result = write!(self.writer, "{text}");
+        if result.is_err() {
+            self.refused = true;
+        }
+        result
     }
 }
 

@@ -1,18 +1,22 @@
 //! What the words of the command line make the program do.
 
-ghost use Rattle.std.specs.Prelude.{◌≡◌, ◌≢◌, ◌⊎◌, ◌≤◌, ◌<◌, ℕ, List, length, take, map, string_bytes};
+ghost use Rattle.std.specs.Prelude.{◌≡◌, ◌≢◌, ◌⊎◌, ◌≤◌, ◌<◌, ◌++◌, false, ℕ, List, length, take, codes, map, string_bytes, IfSome};
 ghost use Rattle.std.specs.Io.KnownBytes.{Appends};
 ghost use Rattle.clap.specs.Words.{Row, kind_of};
 ghost use Rattle.dsa_shared.specs.declared.settle.Totals.{Totals};
 ghost use Rattle.dsa_scenario.specs.declared.options.Workload.{Workload};
-ghost use Rattle.dsa_scenario.specs.Scenario.{IsWhole, IsRenderingOf};
+ghost use Rattle.dsa_scenario.specs.declared.faults.ScenarioFault.{ScenarioFault};
+ghost use Rattle.dsa_scenario.specs.Faults.{fault_line};
+ghost use Rattle.dsa_scenario.specs.Scenario.{IsWhole, IsRenderingOf, HasFault, IsCutShort};
 ghost use Rattle.dsa_scenario.specs.Threads.{IsInRange, AreTotalsOf, totals_text};
+ghost use Rattle.dsa_scenario.specs.Watched.{watched_contents, has_refused, IsSameWriter};
 ghost use Rattle.dsa_scenario.specs.Words.{AreNumbersOf, IsMistaken, NameThreads};
 
 use crate::faults::ScenarioFault;
 use crate::options::{Asked, Workload, read_words};
 use crate::scenario::run_scenario;
 use crate::threads::run_workload;
+use crate::watched::WatchedWriter;
 use clap::Error;
 use clap::error::ErrorKind;
 use std::alloc::Global;
@@ -31,12 +35,22 @@ const FAILED: u8 = 1;
 /// The exit status of words that are not understood.
 const REFUSED: u8 = 2;
 
+// Writes the line of a fault, and gives the exit status.
+fn tell_watched<E: Write, F: Display>(err: &mut WatchedWriter<'_, E>, fault: &F) -> u8
+    ensures status { result ≡ 1 }
+    ensures same_writer { IsSameWriter err.old err.new }
+    ensures line { has_refused err.new ≡ false → IfSome (F.output fault.now) (λ text. Appends
+        (watched_contents E.contents err.old) (watched_contents E.contents err.new) (codes "dsa_run: " ++ text ++ codes "\n")) }
+{
+    let _ = err.print(format_args!("dsa_run: {fault}\n"));
+    FAILED
+}
+
 /// Writes the line of a fault, and gives the exit status. A line that `err` does not take changes nothing.
 pub fn tell<E: Write, F: Display>(err: &mut E, fault: &F) -> u8
     ensures { result ≡ 1 }
 {
-    let _ = writeln!(err, "dsa_run: {fault}");
-    FAILED
+    tell_watched(&mut WatchedWriter::new(err), fault)
 }
 
 // Runs the scenario that the reader gives.
@@ -44,23 +58,26 @@ fn run_input<R: Read, O: Write, E: Write>(
     alloc: Global,
     reader: &mut R,
     out: &mut O,
-    err: &mut E,
+    err: &mut WatchedWriter<'_, E>,
 ) -> u8
+    ensures same_writer { IsSameWriter err.old err.new }
     ensures done { result ≡ 0 → (bytes : List ℕ) × (lines : List ℕ)
         × IsWhole (R.remaining reader.old) (R.remaining reader.new) bytes
         × IsRenderingOf bytes lines
         × Appends (O.contents out.old) (O.contents out.new) lines }
-    ensures failed { result ≡ 1 → (out.new ≡ out.old)
-        ⊎ ((bytes : List ℕ) × (lines : List ℕ) × (count : ℕ)
-        × IsWhole (R.remaining reader.old) (R.remaining reader.new) bytes
-        × IsRenderingOf bytes lines
-        × (count < length lines)
-        × Appends (O.contents out.old) (O.contents out.new) (take count lines)) }
+    ensures failed { result ≡ 1 → (fault : ScenarioFault)
+        × HasFault (R.remaining reader.old) (R.remaining reader.new) fault
+        × (fault ≢ ScenarioFault.Write → out.new ≡ out.old)
+        × (fault ≡ ScenarioFault.Write → IsCutShort (R.remaining reader.old) (R.remaining reader.new)
+        (O.contents out.old) (O.contents out.new))
+        × (has_refused err.new ≡ false → Appends (watched_contents E.contents err.old)
+        (watched_contents E.contents err.new) (fault_line fault)) }
+    ensures quiet { result ≡ 0 → err.new ≡ err.old }
     ensures statuses { (result ≡ 0) ⊎ (result ≡ 1) }
 {
     match run_scenario(alloc, reader, out) {
         Ok(()) => DONE,
-        Err(fault) => tell(err, &fault),
+        Err(fault) => tell_watched(err, &fault),
     }
 }
 
@@ -70,41 +87,45 @@ fn run_workers<T: Threads + Wait + Sync, O: Write, E: Write>(
     alloc: Global,
     load: &Workload,
     out: &mut O,
-    err: &mut E,
+    err: &mut WatchedWriter<'_, E>,
 ) -> u8
     requires { IsInRange load.now }
+    ensures same_writer { IsSameWriter err.old err.new }
     ensures done { result ≡ 0 → (totals : Totals) × AreTotalsOf load.now totals
         × Appends (O.contents out.old) (O.contents out.new) (totals_text totals) }
     ensures failed { result ≡ 1 → (out.new ≡ out.old)
         ⊎ ((totals : Totals) × (count : ℕ) × AreTotalsOf load.now totals
         × (count < length (totals_text totals))
         × Appends (O.contents out.old) (O.contents out.new) (take count (totals_text totals))) }
+    ensures quiet { result ≡ 0 → err.new ≡ err.old }
     ensures statuses { (result ≡ 0) ⊎ (result ≡ 1) }
 {
     match run_workload(rt, alloc, load, out) {
         Ok(()) => DONE,
-        Err(fault) => tell(err, &fault),
+        Err(fault) => tell_watched(err, &fault),
     }
 }
 
 // Shows what `clap` has to say, and gives the exit status: help goes to `out`, all else to `err`.
-fn show<O: Write, E: Write>(out: &mut O, err: &mut E, error: &Error) -> u8
+fn show<O: Write, E: Write>(out: &mut O, err: &mut WatchedWriter<'_, E>, error: &Error) -> u8
+    ensures same_writer { IsSameWriter err.old err.new }
     ensures refused { result ≡ 2 → out.new ≡ out.old }
     ensures mistake { result ≡ 2 → (kind_of error.now ≢ ErrorKind.OutOfMemory)
         × (kind_of error.now ≢ ErrorKind.DisplayHelp) × (kind_of error.now ≢ ErrorKind.DisplayVersion) }
     ensures memory { kind_of error.now ≡ ErrorKind.OutOfMemory → (result ≡ 1) × (out.new ≡ out.old) }
+    ensures quiet { result ≡ 0 → err.new ≡ err.old }
     ensures statuses { result ≤ 2 }
 {
     if error.kind() == ErrorKind::OutOfMemory {
-        return tell(err, &ScenarioFault::OutOfMemory);
+        return tell_watched(err, &ScenarioFault::OutOfMemory);
     }
     if error.use_stderr() {
-        let _ = write!(err, "{error}");
+        let _ = err.print(error);
         return REFUSED;
     }
     match write!(out, "{error}") {
         Ok(()) => DONE,
-        Err(_) => tell(err, &ScenarioFault::Write),
+        Err(_) => tell_watched(err, &ScenarioFault::Write),
     }
 }
 
@@ -115,6 +136,56 @@ fn show<O: Write, E: Write>(out: &mut O, err: &mut E, error: &Error) -> u8
 ///
 /// The status is 0 where all of it was written, and 1 on a fault, whose line goes to `err`. It is 2 where the
 /// words are not understood, and `err` gets what `clap` says of them.
+pub fn answer_words<T: Threads + Wait + Sync, R: Read, O: Write, E: Write>(
+    rt: &T,
+    alloc: Global,
+    words: &[String],
+    reader: &mut R,
+    out: &mut O,
+    err: &mut WatchedWriter<'_, E>,
+) -> u8
+    ensures same_writer { IsSameWriter err.old err.new }
+    ensures done { length words.now ≡ 0 → result ≡ 0 → (bytes : List ℕ) × (lines : List ℕ)
+        × IsWhole (R.remaining reader.old) (R.remaining reader.new) bytes
+        × IsRenderingOf bytes lines
+        × Appends (O.contents out.old) (O.contents out.new) lines }
+    ensures threads { result ≡ 0 → (rows : List Row) → NameThreads (map string_bytes words.now) rows
+        → (load : Workload) × (totals : Totals) × AreNumbersOf rows load × IsInRange load × AreTotalsOf load totals
+        × Appends (O.contents out.old) (O.contents out.new) (totals_text totals) }
+
+    // Where it fails, the output is as it was, or has the first of the lines.
+    ensures failed { length words.now ≡ 0 → result ≡ 1 → (fault : ScenarioFault)
+        × HasFault (R.remaining reader.old) (R.remaining reader.new) fault
+        × (fault ≢ ScenarioFault.Write → out.new ≡ out.old)
+        × (fault ≡ ScenarioFault.Write → IsCutShort (R.remaining reader.old) (R.remaining reader.new)
+        (O.contents out.old) (O.contents out.new))
+        × (has_refused err.new ≡ false → Appends (watched_contents E.contents err.old)
+        (watched_contents E.contents err.new) (fault_line fault)) }
+    ensures threads_failed { result ≡ 1 → (rows : List Row) → NameThreads (map string_bytes words.now) rows
+        → (out.new ≡ out.old)
+        ⊎ ((load : Workload) × (totals : Totals) × (count : ℕ) × AreNumbersOf rows load × IsInRange load × AreTotalsOf load totals
+        × (count < length (totals_text totals))
+        × Appends (O.contents out.old) (O.contents out.new) (take count (totals_text totals))) }
+
+    // Words that are not understood.
+    ensures refused { result ≡ 2 → (out.new ≡ out.old) × (reader.new ≡ reader.old) }
+    ensures mistake { result ≡ 2 → IsMistaken (map string_bytes words.now) }
+    ensures quiet { result ≡ 0 → err.new ≡ err.old }
+    ensures statuses { (result ≡ 0) ⊎ (result ≡ 1) ⊎ ((result ≡ 2) × (1 ≤ length words.now)) }
+{
+    if words.is_empty() {
+        return run_input(alloc, reader, out, err);
+    }
+    match read_words(alloc, words) {
+        Ok(Asked::Scenario) => run_input(alloc, reader, out, err),
+        Ok(Asked::Threads(load)) => run_workers(rt, alloc, &load, out, err),
+        Err(error) => show(out, err, &error),
+    }
+}
+
+/// Does what the words after the program's name ask, and gives the exit status.
+///
+/// All of it is the work of [`answer_words`], which is lent `err` as a writer that is watched.
 pub fn run_words<T: Threads + Wait + Sync, R: Read, O: Write, E: Write>(
     rt: &T,
     alloc: Global,
@@ -131,13 +202,12 @@ pub fn run_words<T: Threads + Wait + Sync, R: Read, O: Write, E: Write>(
         → (load : Workload) × (totals : Totals) × AreNumbersOf rows load × IsInRange load × AreTotalsOf load totals
         × Appends (O.contents out.old) (O.contents out.new) (totals_text totals) }
 
-    // Where it fails, nothing was written, or the first bytes of the lines.
-    ensures failed { length words.now ≡ 0 → result ≡ 1 → (out.new ≡ out.old)
-        ⊎ ((bytes : List ℕ) × (lines : List ℕ) × (count : ℕ)
-        × IsWhole (R.remaining reader.old) (R.remaining reader.new) bytes
-        × IsRenderingOf bytes lines
-        × (count < length lines)
-        × Appends (O.contents out.old) (O.contents out.new) (take count lines)) }
+    // Where it fails, the output is as it was, or has the first of the lines.
+    ensures failed { length words.now ≡ 0 → result ≡ 1 → (fault : ScenarioFault)
+        × HasFault (R.remaining reader.old) (R.remaining reader.new) fault
+        × (fault ≢ ScenarioFault.Write → out.new ≡ out.old)
+        × (fault ≡ ScenarioFault.Write → IsCutShort (R.remaining reader.old) (R.remaining reader.new)
+        (O.contents out.old) (O.contents out.new)) }
     ensures threads_failed { result ≡ 1 → (rows : List Row) → NameThreads (map string_bytes words.now) rows
         → (out.new ≡ out.old)
         ⊎ ((load : Workload) × (totals : Totals) × (count : ℕ) × AreNumbersOf rows load × IsInRange load × AreTotalsOf load totals
@@ -147,14 +217,8 @@ pub fn run_words<T: Threads + Wait + Sync, R: Read, O: Write, E: Write>(
     // Words that are not understood.
     ensures refused { result ≡ 2 → (out.new ≡ out.old) × (reader.new ≡ reader.old) }
     ensures mistake { result ≡ 2 → IsMistaken (map string_bytes words.now) }
+    ensures quiet { result ≡ 0 → err.new ≡ err.old }
     ensures statuses { (result ≡ 0) ⊎ (result ≡ 1) ⊎ ((result ≡ 2) × (1 ≤ length words.now)) }
 {
-    if words.is_empty() {
-        return run_input(alloc, reader, out, err);
-    }
-    match read_words(alloc, words) {
-        Ok(Asked::Scenario) => run_input(alloc, reader, out, err),
-        Ok(Asked::Threads(load)) => run_workers(rt, alloc, &load, out, err),
-        Err(error) => show(out, err, &error),
-    }
+    answer_words(rt, alloc, words, reader, out, &mut WatchedWriter::new(err))
 }

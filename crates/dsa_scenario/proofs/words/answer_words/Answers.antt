@@ -1,4 +1,4 @@
-use Rattle.dsa_scenario.proofs.words.run_words.Goals as goal
+use Rattle.dsa_scenario.proofs.words.answer_words.Goals as goal
 use Rattle.std.proofs.Common.{inl, inr}
 use Rattle.clap.specs.Values.{kind_of}
 

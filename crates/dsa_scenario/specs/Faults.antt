@@ -1,0 +1,21 @@
+-- What is told of a fault.
+use Rattle.std.specs.Prelude.{ℕ, List, ◌++◌, codes, decimal}
+use Rattle.dsa_scenario.specs.declared.faults.ScenarioFault.{ScenarioFault, TheVariants.{Read, TooLong, NotJson}}
+use Rattle.dsa_scenario.specs.declared.faults.ScenarioFault.TheVariants.{BadDocument, BadStep, BadCaps, BadCapacity}
+use Rattle.dsa_scenario.specs.declared.faults.ScenarioFault.TheVariants.{Write, OutOfMemory}
+
+-- the sentence of a fault (profile)
+abbrev pub fault_text : ScenarioFault → List ℕ
+fault_text Read = codes "read failed"
+fault_text TooLong = codes "document too long"
+fault_text NotJson = codes "not JSON"
+fault_text BadDocument = codes "bad document"
+fault_text (BadStep i) = codes "bad step " ++ decimal i
+fault_text BadCaps = codes "bad caps"
+fault_text BadCapacity = codes "bad capacity"
+fault_text Write = codes "write failed"
+fault_text OutOfMemory = codes "out of memory"
+
+-- the line of a fault (profile)
+abbrev pub fault_line : ScenarioFault → List ℕ
+fault_line fault = codes "dsa_run: " ++ fault_text fault ++ codes "\n"
