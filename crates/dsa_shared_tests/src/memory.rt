@@ -2,16 +2,13 @@
 
 use crate::gates::Passes;
 use crate::refusing::Refusing;
-use crate::sharing::{fresh, tried};
+use crate::sharing::{has_steps, over_cells, over_vectors, tried};
 use crate::stage::Stage;
 use crate::stores::{Trial, over_both_stores};
 use crate::working::scripts_for;
-use dsa_cells::LinkedStore;
 use dsa_device::Device;
-use dsa_fixtures::CAPS;
-use dsa_regs::{cell_count, check_caps, list_count};
 use dsa_shared::{Blanks, ShareFault, Sharing};
-use dsa_store::{EntryStore, PlainStore};
+use dsa_store::EntryStore;
 use dsa_workers::{RunFault, Scripts, run_threads};
 use std::alloc::Global;
 use std::marker::{Send, Sync};
@@ -39,29 +36,46 @@ where
     pub fn run_without_memory(self) -> Result<(), Fail> {
         let mut stage = self;
         let rt = stage.rt;
-        let scripts = scripts_for(stage.alloc, 2, 2)?;
-        let gate = Passes::new(stage.alloc, 5)?;
-        for granted in 0..=REQUESTS_OF_A_RUN {
-            stage.run_with(granted, &scripts, &gate);
-        }
-        let (settled, _) = stage.settled()?;
-        assert_eq!(rt; settled.totals.accepted, 0);
+        stage.run_with_each()?;
+        let totals = stage.totals()?;
+        assert_eq!(rt; totals.accepted, 0);
         Ok(())
     }
 
-    fn run_with(&mut self, granted: u32, scripts: &Scripts, gate: &Passes) {
-        let rt = self.rt;
-        let heap = Refusing::new(self.alloc, granted);
-        let ran = run_threads(rt, &heap, &self.shared, &mut self.seats, scripts, gate, 5);
-        if granted == REQUESTS_OF_A_RUN {
-            assert!(rt; ran.is_ok());
-            assert_eq!(rt; heap.asked(), granted);
-        } else {
-            let fault = Some(RunFault::OutOfMemory);
-            assert_eq!(rt; ran.err(), fault, "with {granted} requests granted");
-            assert_eq!(rt; heap.asked(), granted.saturating_add(1));
-            gate.are_none(rt);
+    fn run_with_each(&mut self) -> Result<(), Fail> {
+        let scripts = scripts_for(self.alloc, 2, 2)?;
+        let gate = Passes::new(self.alloc, 5)?;
+        for granted in 0..=REQUESTS_OF_A_RUN {
+            let heap = Refusing::new(self.alloc, granted);
+            let fault = self.run_on(&heap, &scripts, &gate);
+            is_refused(self.rt, granted, fault, heap.asked());
+            if granted < REQUESTS_OF_A_RUN {
+                gate.are_none(self.rt);
+            }
         }
+        Ok(())
+    }
+
+    fn run_on(
+        &mut self,
+        heap: &Refusing<Global>,
+        scripts: &Scripts,
+        gate: &Passes,
+    ) -> Option<RunFault> {
+        let rt = self.rt;
+        run_threads(rt, heap, &self.shared, &mut self.seats, scripts, gate, 5).err()
+    }
+}
+
+// A run with so many requests granted has asked so often. It has a fault where one more was refused.
+fn is_refused<R: Abort>(rt: &R, granted: u32, fault: Option<RunFault>, asked: u32) {
+    if granted == REQUESTS_OF_A_RUN {
+        assert_eq!(rt; fault, None);
+        assert_eq!(rt; asked, granted);
+    } else {
+        let expected = Some(RunFault::OutOfMemory);
+        assert_eq!(rt; fault, expected, "with {granted} requests granted");
+        assert_eq!(rt; asked, granted.saturating_add(1));
     }
 }
 
@@ -82,30 +96,35 @@ fn shared_without_memory<S: EntryStore, R: Abort>(
             return Err("shared with a request refused")?;
         };
         let heap = Refusing::new(alloc, granted);
-        rest = match tried(&heap, device, blanks, 2) {
-            Ok(counts) => {
-                assert_eq!(rt; counts, (2, 2));
-                assert_eq!(rt; heap.asked(), granted, "granted {granted}");
-                None
-            }
-            Err((fault, device, blanks)) => {
-                assert_eq!(rt; fault, ShareFault::OutOfMemory);
-                assert_eq!(rt; heap.asked(), granted + 1);
-                assert_eq!(rt; device.history().len(), 0);
-                Some((device, blanks))
-            }
-        };
+        let (found, back) = tried(&heap, device, blanks, 2);
+        is_shared(rt, granted, found, heap.asked());
+        has_steps(rt, &back, 0);
+        rest = back;
     }
     assert!(rt; rest.is_none());
     Ok(())
 }
 
+// Sharing with so many requests granted has asked so often. It has a fault where one more was refused.
+fn is_shared<R: Abort>(
+    rt: &R,
+    granted: u32,
+    found: Result<(usize, usize), ShareFault>,
+    asked: u32,
+) {
+    if granted == REQUESTS_OF_SHARING {
+        assert_eq!(rt; found, Ok((2, 2)));
+        assert_eq!(rt; asked, granted);
+    } else {
+        let expected = Err(ShareFault::OutOfMemory);
+        assert_eq!(rt; found, expected, "with {granted} requests granted");
+        assert_eq!(rt; asked, granted.saturating_add(1));
+    }
+}
+
 #[test]
 fn sharing(rt: HostRuntime) -> Result<(), Fail> {
-    assert!(rt; check_caps(&CAPS));
     let alloc = rt.alloc();
-    let store = PlainStore::new(alloc, list_count(&CAPS), cell_count(&CAPS))?;
-    shared_without_memory(&rt, alloc, fresh(alloc, store)?)?;
-    let store = LinkedStore::new(alloc, list_count(&CAPS), cell_count(&CAPS))?;
-    shared_without_memory(&rt, alloc, fresh(alloc, store)?)
+    shared_without_memory(&rt, alloc, over_vectors(&rt, alloc)?)?;
+    shared_without_memory(&rt, alloc, over_cells(&rt, alloc)?)
 }

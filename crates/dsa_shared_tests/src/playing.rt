@@ -2,7 +2,7 @@
 
 use crate::stage::Stage;
 use dsa_book::{FateRow, Step};
-use dsa_shared::{Sharing, Totals};
+use dsa_shared::{Settled, Sharing, Totals};
 use dsa_store::EntryStore;
 use std::process::Abort;
 use std::sync::Wait;
@@ -17,6 +17,13 @@ pub struct Play<'a> {
     pub totals: Totals,
 }
 
+impl<'a> Play<'a> {
+    fn was_settled<S: EntryStore, R: Abort>(self, rt: &R, settled: &Settled<S>) {
+        assert_eq!(rt; settled.device.fates(), self.fates);
+        assert_eq!(rt; settled.totals, self.totals);
+    }
+}
+
 impl<'a, S: EntryStore, L: Sharing, R: Wait + Abort> Stage<'a, S, L, R> {
     /// Makes the steps of the play, and settles.
     pub fn played(self, play: Play) -> Result<(), Fail> {
@@ -24,8 +31,7 @@ impl<'a, S: EntryStore, L: Sharing, R: Wait + Abort> Stage<'a, S, L, R> {
         let rt = stage.rt;
         stage.make(play.steps)?;
         let settled = stage.settled_as_told()?;
-        assert_eq!(rt; settled.device.fates(), play.fates);
-        assert_eq!(rt; settled.totals, play.totals);
+        play.was_settled(rt, &settled);
         Ok(())
     }
 

@@ -6,9 +6,7 @@ use crate::stores::{Trial, over_both_stores};
 use dsa_book::{Actor, Fate, Step, SubmitAnswer, Ticket};
 use dsa_fixtures::{ENQCMD, NO_OP};
 use dsa_shared::locked::check;
-use dsa_shared::{
-    ClientSeat, EngineSeat, Seats, SettleFault, SharedDevice, Sharing, compare_receipts,
-};
+use dsa_shared::{ClientSeat, EngineSeat, Seats, SettleFault, Sharing, compare_receipts};
 use dsa_store::{Cell, EntryStore};
 use std::alloc::{AllocError, Global};
 use std::marker::{Send, Sync};
@@ -49,39 +47,52 @@ fn receipts_against_a_history(rt: HostRuntime) {
     }
 }
 
-// Without the administrator's seat, without one of a client and without one of an engine. The last two
-// come back in front of the others.
-fn withheld_in_turn<S: EntryStore, L: Sharing, R: Abort>(
+// The device has as many seats as it was made with.
+fn finds<L: Sharing, R: Abort>(
     rt: &R,
-    shared: SharedDevice<S, L>,
-    seats: Seats<L>,
-) -> Result<(SharedDevice<S, L>, Seats<L>), Fail> {
-    let mut seats = seats;
-    let admin = seats.admin.take();
-    let (shared, mut seats) = not_settled(rt, shared, seats)?;
-    assert!(rt; seats.admin.is_none());
-    seats.admin = admin;
-    let client = seats.clients.pop().ok_or("there is no client")?;
-    let (shared, mut seats) = not_settled(rt, shared, seats)?;
-    assert_eq!(rt; seats.clients.len(), 1);
-    seats.clients.insert(0, client)?;
-    let engine = seats.engines.pop().ok_or("there is no engine")?;
-    let (shared, mut seats) = not_settled(rt, shared, seats)?;
-    assert_eq!(rt; seats.engines.len(), 1);
-    seats.engines.insert(0, engine)?;
-    Ok((shared, seats))
+    seats: &Seats<L>,
+    history: &[Step],
+    fault: Option<SettleFault>,
+) {
+    let steps = history.len();
+    assert_eq!(rt; check(history, seats, 2, 2), fault, "of {steps} steps");
 }
 
-fn not_settled<S: EntryStore, L: Sharing, R: Abort>(
+fn numbers_are_checked<L: Sharing, R: Abort>(rt: &R, kept: &[Step], seats: &Seats<L>) {
+    let missing = Some(SettleFault::SeatMissing);
+    for (clients, engines) in [(1, 2), (3, 2), (2, 1), (2, 3)] {
+        let found = check(kept, seats, clients, engines);
+        assert_eq!(rt; found, missing, "for {clients} clients");
+    }
+}
+
+// Steps at the end or at the beginning are missing.
+fn parts_are_checked<L: Sharing, R: Abort>(
     rt: &R,
-    shared: SharedDevice<S, L>,
-    seats: Seats<L>,
-) -> Result<(SharedDevice<S, L>, Seats<L>), Fail> {
-    let Err(refused) = shared.settle(seats) else {
-        return Err("settled without a seat")?;
-    };
-    assert_eq!(rt; refused.fault, SettleFault::SeatMissing);
-    Ok((refused.device, refused.seats))
+    kept: &[Step],
+    seats: &Seats<L>,
+) -> Result<(), Fail> {
+    for part in [kept.get(..7), kept.get(..8), kept.get(1..)] {
+        let history = part.ok_or("nothing was submitted")?;
+        finds(rt, seats, history, Some(SettleFault::ReceiptMismatch(0)));
+    }
+    Ok(())
+}
+
+// The seats differ at this place from a history with further steps.
+fn differ_at<L: Sharing, R: Abort>(
+    rt: &R,
+    alloc: Global,
+    seats: &Seats<L>,
+    place: u64,
+    history: Option<&[Step]>,
+    steps: Option<&[Step]>,
+) -> Result<(), Fail> {
+    let history = history.ok_or("nothing was set up")?;
+    let steps = steps.ok_or("nothing was submitted")?;
+    let all = with(alloc, history, steps)?;
+    finds(rt, seats, &all, Some(SettleFault::ReceiptMismatch(place)));
+    Ok(())
 }
 
 // The seats against the history that they made, against others, and for other numbers of seats.
@@ -91,51 +102,20 @@ fn are_checked<L: Sharing, R: Abort>(
     kept: &[Step],
     seats: &Seats<L>,
 ) -> Result<(), Fail> {
-    let begun = kept.get(..7).ok_or("nothing was set up")?;
-    let shorter = kept.get(..8).ok_or("nothing was submitted")?;
-    let later = kept.get(1..).ok_or("nothing was made")?;
-    let exchanged = with(
-        alloc,
-        begun,
-        &[
-            limited(NO_OP, accepted(1)),
-            written_to(0, ENQCMD, NO_OP, accepted(0)),
-        ],
-    )?;
-    let skipped = with(
-        alloc,
-        kept.get(..6).ok_or("nothing was made")?,
-        kept.get(7..).ok_or("nothing was made")?,
-    )?;
-    let longer = with(alloc, kept, &[taken(1, 0)])?;
-    let missing = Some(SettleFault::SeatMissing);
-    let differ = Some(SettleFault::ReceiptMismatch(0));
-    let table = [
-        (kept, 2, 2, None),
-        (kept, 1, 2, missing),
-        (kept, 3, 2, missing),
-        (kept, 2, 1, missing),
-        (kept, 2, 3, missing),
-        (begun, 2, 2, differ),
-        (shorter, 2, 2, differ),
-        (later, 2, 2, differ),
-        (
-            skipped.as_slice(),
-            2,
-            2,
-            Some(SettleFault::ReceiptMismatch(6)),
-        ),
-        (exchanged.as_slice(), 2, 2, differ),
-        (longer.as_slice(), 2, 2, differ),
-    ];
-    for (at, (history, clients, engines, fault)) in table.into_iter().enumerate() {
-        assert_eq!(rt;
-            check(history, seats, clients, engines),
-            fault,
-            "in row {at}"
-        );
-    }
-    Ok(())
+    finds(rt, seats, kept, None);
+    numbers_are_checked(rt, kept, seats);
+    parts_are_checked(rt, kept, seats)?;
+    differ_at(rt, alloc, seats, 6, kept.get(..6), kept.get(7..))?;
+    differ_at(rt, alloc, seats, 0, kept.get(..7), Some(&exchanged()))?;
+    differ_at(rt, alloc, seats, 0, Some(kept), Some(&[taken(1, 0)]))
+}
+
+// Two submissions, each with the name of the other.
+fn exchanged() -> [Step; 2] {
+    [
+        limited(NO_OP, accepted(1)),
+        written_to(0, ENQCMD, NO_OP, accepted(0)),
+    ]
 }
 
 // A history with further steps.
@@ -178,35 +158,75 @@ fn engines_are_counted<L: Sharing, R: Abort>(rt: &R, seats: &[EngineSeat<L>]) {
 }
 
 impl<'a, S: EntryStore, L: Sharing, R: Wait + Abort> Stage<'a, S, L, R> {
-    /// One No-op of each client, and then settling: with a seat missing, and with seats in another order.
-    pub fn seats_withheld(self) -> Result<(), Fail> {
-        let mut stage = self;
-        let rt = stage.rt;
-        stage.set_up()?;
-        let posted = [
-            limited(NO_OP, accepted(0)),
-            written_to(0, ENQCMD, NO_OP, accepted(1)),
-        ];
-        stage.make(&posted)?;
-        are_checked(rt, stage.alloc, &stage.record.kept, &stage.seats)?;
+    // Settling is refused for a seat that is missing, and all comes back.
+    fn not_settled(self) -> Result<Self, Fail> {
         let Stage {
-            rt: _,
-            alloc,
-            shared,
-            seats,
-            record,
-        } = stage;
-        let (shared, seats) = withheld_in_turn(rt, shared, seats)?;
-        let stage = Stage {
             rt,
             alloc,
             shared,
             seats,
             record,
+        } = self;
+        let Err(refused) = shared.settle(seats) else {
+            return Err("settled without a seat")?;
         };
-        let settled = stage.settled_as_told()?;
-        assert_eq!(rt; settled.totals, totals(2, 0, 0, 0, 0, 2, 9));
-        Ok(())
+        assert_eq!(rt; refused.fault, SettleFault::SeatMissing);
+        Ok(Stage {
+            rt,
+            alloc,
+            shared: refused.device,
+            seats: refused.seats,
+            record,
+        })
+    }
+
+    fn without_administrator(self) -> Result<Self, Fail> {
+        let mut stage = self;
+        let admin = stage.seats.admin.take();
+        let mut stage = stage.not_settled()?;
+        assert!(stage.rt; stage.seats.admin.is_none());
+        let seats = &mut stage.seats;
+        seats.admin = admin;
+        Ok(stage)
+    }
+
+    // The client comes back in front of the others.
+    fn without_client(self) -> Result<Self, Fail> {
+        let mut stage = self;
+        let client = stage.seats.clients.pop().ok_or("there is no client")?;
+        let mut stage = stage.not_settled()?;
+        assert_eq!(stage.rt; stage.seats.clients.len(), 1);
+        stage.seats.clients.insert(0, client)?;
+        Ok(stage)
+    }
+
+    // The engine comes back in front of the others.
+    fn without_engine(self) -> Result<Self, Fail> {
+        let mut stage = self;
+        let engine = stage.seats.engines.pop().ok_or("there is no engine")?;
+        let mut stage = stage.not_settled()?;
+        assert_eq!(stage.rt; stage.seats.engines.len(), 1);
+        stage.seats.engines.insert(0, engine)?;
+        Ok(stage)
+    }
+
+    // One No-op of each client.
+    fn post_two(&mut self) -> Result<(), Fail> {
+        self.make(&[
+            limited(NO_OP, accepted(0)),
+            written_to(0, ENQCMD, NO_OP, accepted(1)),
+        ])
+    }
+
+    /// One No-op of each client, and then settling: with a seat missing, and with seats in another order.
+    pub fn seats_withheld(self) -> Result<(), Fail> {
+        let mut stage = self;
+        stage.set_up()?;
+        stage.post_two()?;
+        are_checked(stage.rt, stage.alloc, &stage.record.kept, &stage.seats)?;
+        let stage = stage.without_administrator()?;
+        let stage = stage.without_client()?.without_engine()?;
+        stage.settles_with(totals(2, 0, 0, 0, 0, 2, 9))
     }
 }
 
@@ -219,20 +239,31 @@ where
     /// One No-op from its submission to its fate, which threads read that were started after it.
     pub fn fate_is_read(self) -> Result<(), Fail> {
         let mut stage = self;
-        let rt = stage.rt;
         stage.set_up()?;
-        stage.make(&[limited(NO_OP, accepted(0))])?;
-        assert_eq!(rt; stage.shared.fate(rt, 0), None);
-        assert_eq!(rt; stage.shared.held(rt), 1);
-        stage.make(&[taken(0, 0), done(0, 0x01)])?;
-        let completed = Some(Fate::Completed(0x01));
-        assert_eq!(rt; stage.fate_by_two(), (completed, completed));
-        assert_eq!(rt; stage.shared.fate(rt, 1), None);
-        assert_eq!(rt; stage.shared.held(rt), 0);
-        are_counted(rt, &stage.seats);
-        let settled = stage.settled_as_told()?;
-        assert_eq!(rt; settled.totals, totals(1, 0, 0, 1, 0, 0, 10));
+        stage.submit_and_read()?;
+        stage.finish_and_read()?;
+        stage.settles_with(totals(1, 0, 0, 1, 0, 0, 10))
+    }
+
+    fn submit_and_read(&mut self) -> Result<(), Fail> {
+        self.make(&[limited(NO_OP, accepted(0))])?;
+        self.tells(0, None, 1);
         Ok(())
+    }
+
+    fn finish_and_read(&mut self) -> Result<(), Fail> {
+        self.make(&[taken(0, 0), done(0, 0x01)])?;
+        let completed = Some(Fate::Completed(0x01));
+        assert_eq!(self.rt; self.fate_by_two(), (completed, completed));
+        self.tells(1, None, 0);
+        are_counted(self.rt, &self.seats);
+        Ok(())
+    }
+
+    // What became of an entry, and how many are held.
+    fn tells(&self, name: u32, fate: Option<Fate>, held: u32) {
+        assert_eq!(self.rt; self.shared.fate(self.rt, name), fate);
+        assert_eq!(self.rt; self.shared.held(self.rt), held);
     }
 
     // What became of the first entry, read by two threads that are started here.

@@ -33,14 +33,35 @@ fn seats_of<S: EntryStore, L: Sharing, A: Allocator + Copy>(
     }
 }
 
-/// The numbers of seats of clients and of engines where the device is shared, and else what comes back.
+/// The numbers of seats of clients and of engines, or why the device is not shared, and then what comes
+/// back.
+pub type Attempt<S> = (
+    Result<(usize, usize), ShareFault>,
+    Option<(Device<S>, Blanks)>,
+);
+
+/// Shares the device with so many clients.
 pub fn tried<S: EntryStore, A: Allocator + Copy>(
     alloc: A,
     device: Device<S>,
     blanks: Blanks,
     clients: u16,
-) -> Result<(usize, usize), (ShareFault, Device<S>, Blanks)> {
-    seats_of::<S, Brand, A>(alloc, device, blanks, clients)
+) -> Attempt<S> {
+    match seats_of::<S, Brand, A>(alloc, device, blanks, clients) {
+        Ok(counts) => (Ok(counts), None),
+        Err((fault, device, blanks)) => (Err(fault), Some((device, blanks))),
+    }
+}
+
+/// A device that comes back has as many steps as before.
+pub fn has_steps<S: EntryStore, R: Abort>(
+    rt: &R,
+    rest: &Option<(Device<S>, Blanks)>,
+    steps: usize,
+) {
+    if let Some((device, _)) = rest {
+        assert_eq!(rt; device.history().len(), steps);
+    }
 }
 
 // A device that is refused for some numbers of clients, and then shared for another.
@@ -48,64 +69,64 @@ fn are_refused<S: EntryStore, R: Abort>(
     rt: &R,
     alloc: Global,
     device: Device<S>,
-    table: &[(u16, Option<ShareFault>)],
+    table: &[(u16, Result<(usize, usize), ShareFault>)],
 ) -> Result<(), Fail> {
     let steps = device.history().len();
     let mut rest = Some((device, Blanks::new()));
-    for (clients, fault) in table {
+    for (clients, expected) in table {
         let Some((device, blanks)) = rest else {
             return Err("the device is gone")?;
         };
-        rest = match tried(alloc, device, blanks, *clients) {
-            Ok(counts) => {
-                assert_eq!(rt; *fault, None, "for {clients} clients");
-                assert_eq!(rt; counts, (usize::from(*clients), 2));
-                None
-            }
-            Err((found, device, blanks)) => {
-                assert_eq!(rt; Some(found), *fault, "for {clients} clients");
-                assert_eq!(rt; device.history().len(), steps);
-                Some((device, blanks))
-            }
-        };
+        let (found, back) = tried(alloc, device, blanks, *clients);
+        assert_eq!(rt; found, *expected, "for {clients} clients");
+        has_steps(rt, &back, steps);
+        rest = back;
     }
     Ok(())
 }
 
-/// A device that has made no step.
-pub fn fresh<S: EntryStore>(alloc: Global, store: S) -> Result<Device<S>, Fail> {
+fn fresh<S: EntryStore>(alloc: Global, store: S) -> Result<Device<S>, Fail> {
     let Ok(device) = Device::new(alloc, store, CAPS, 100) else {
         return Err("the device was not made")?;
     };
     Ok(device)
 }
 
+/// A device over a store of vectors that has made no step.
+pub fn over_vectors<R: Abort>(rt: &R, alloc: Global) -> Result<Device<PlainStore>, Fail> {
+    assert!(rt; check_caps(&CAPS));
+    let store = PlainStore::new(alloc, list_count(&CAPS), cell_count(&CAPS))?;
+    fresh(alloc, store)
+}
+
+/// The same over linked cells.
+pub fn over_cells<R: Abort>(rt: &R, alloc: Global) -> Result<Device<LinkedStore>, Fail> {
+    assert!(rt; check_caps(&CAPS));
+    let store = LinkedStore::new(alloc, list_count(&CAPS), cell_count(&CAPS))?;
+    fresh(alloc, store)
+}
+
 #[test]
 fn numbers_of_clients(rt: HostRuntime) -> Result<(), Fail> {
-    assert!(rt; check_caps(&CAPS));
     let alloc = rt.alloc();
-    let none = Some(ShareFault::BadClients);
-    for most in [1, 64] {
-        let table = [(0, none), (65, none), (most, None)];
-        let store = PlainStore::new(alloc, list_count(&CAPS), cell_count(&CAPS))?;
-        are_refused(&rt, alloc, fresh(alloc, store)?, &table)?;
-        let store = LinkedStore::new(alloc, list_count(&CAPS), cell_count(&CAPS))?;
-        are_refused(&rt, alloc, fresh(alloc, store)?, &table)?;
+    let none = Err(ShareFault::BadClients);
+    for most in [1u16, 64] {
+        let table = [(0, none), (65, none), (most, Ok((usize::from(most), 2)))];
+        are_refused(&rt, alloc, over_vectors(&rt, alloc)?, &table)?;
+        are_refused(&rt, alloc, over_cells(&rt, alloc)?, &table)?;
     }
     Ok(())
 }
 
 #[test]
 fn device_with_a_step(rt: HostRuntime) -> Result<(), Fail> {
-    assert!(rt; check_caps(&CAPS));
     let alloc = rt.alloc();
-    let store = LinkedStore::new(alloc, list_count(&CAPS), cell_count(&CAPS))?;
-    let mut device = fresh(alloc, store)?;
+    let mut device = over_cells(&rt, alloc)?;
     assert_eq!(rt; device.write_queue(0, SHARED_QUEUE), WriteAnswer::Written);
     let table = [
-        (0, Some(ShareFault::BadClients)),
-        (65, Some(ShareFault::BadClients)),
-        (1, Some(ShareFault::NotFresh)),
+        (0, Err(ShareFault::BadClients)),
+        (65, Err(ShareFault::BadClients)),
+        (1, Err(ShareFault::NotFresh)),
     ];
     are_refused(&rt, alloc, device, &table)
 }

@@ -1,14 +1,14 @@
 //! Rounds of sixteen clients, eight engines, and an administrator who stops, drains and aborts.
 
-use crate::accounts::add_up;
 use crate::gates::Yielding;
 use crate::stage::Stage;
+use crate::steps::{ended, group_written, queue_written};
 use crate::stores::{Trial, over_both_stores};
-use dsa_book::{IssueAnswer, Kind, Portal, WriteAnswer};
+use dsa_book::{Kind, Portal, Step, WriteAnswer};
 use dsa_desc::{Descriptor, Outcome};
 use dsa_fixtures::{FENCED_MOVE, FENCED_NO_OP, MOVE, NO_OP, batch_of, bytes_of};
 use dsa_regs::{Caps, Command, GroupConfig, QueueConfig, QueueMask};
-use dsa_shared::{AdminSeat, ClientSeat, SharedDevice, Sharing};
+use dsa_shared::{ClientSeat, Sharing};
 use dsa_store::EntryStore;
 use dsa_workers::{ClientStep, EngineScript, Scripts};
 use std::alloc::{AllocError, Global};
@@ -156,42 +156,31 @@ fn admin_script(alloc: Global) -> Result<Vec<Command>, AllocError> {
     Ok(script)
 }
 
-fn configure<S: EntryStore, L: Sharing, R: Wait + Abort>(
-    rt: &R,
-    shared: &SharedDevice<S, L>,
-    admin: &mut AdminSeat<L>,
-) {
-    let written = WriteAnswer::Written;
-    for number in 0..4 {
-        let queue = queue_config(number);
-        assert_eq!(rt; shared.write_queue(rt, admin, number, queue), written);
-        let group = group_config(number);
-        assert_eq!(rt; shared.write_group(rt, admin, number, group), written);
-    }
+// What configures four queues and their groups.
+fn configured() -> [Step; 8] {
+    let queue = |number| queue_written(number, queue_config(number), WriteAnswer::Written);
+    let group = |number| group_written(number, group_config(number), WriteAnswer::Written);
+    [
+        queue(0),
+        group(0),
+        queue(1),
+        group(1),
+        queue(2),
+        group(2),
+        queue(3),
+        group(3),
+    ]
 }
 
-fn enable<S: EntryStore, L: Sharing, R: Wait + Abort>(
-    rt: &R,
-    shared: &SharedDevice<S, L>,
-    admin: &mut AdminSeat<L>,
-) {
-    let ended = IssueAnswer::Ended { aborted: 0 };
-    assert_eq!(rt; shared.issue(rt, admin, Command::EnableDevice), ended);
-    for queue in 0..4 {
-        assert_eq!(rt; shared.issue(rt, admin, Command::EnableWq(queue)), ended);
-    }
-}
-
-impl<'a, S: EntryStore, L: Sharing, R: Wait + Abort> Stage<'a, S, L, R> {
-    fn enable_four(&mut self) -> Result<(), Fail> {
-        let (rt, shared) = (self.rt, &self.shared);
-        let Some(admin) = self.seats.admin.as_mut() else {
-            return Err("there is no administrator")?;
-        };
-        configure(rt, shared, admin);
-        enable(rt, shared, admin);
-        Ok(())
-    }
+// What enables the device and its queues.
+fn enabled() -> [Step; 5] {
+    [
+        ended(Command::EnableDevice, 0),
+        ended(Command::EnableWq(0), 0),
+        ended(Command::EnableWq(1), 0),
+        ended(Command::EnableWq(2), 0),
+        ended(Command::EnableWq(3), 0),
+    ]
 }
 
 fn scripts(alloc: Global) -> Result<Scripts, AllocError> {
@@ -221,17 +210,28 @@ where
     /// Runs the workers, and adds up what they did.
     pub fn soaked(self) -> Result<(), Fail> {
         let mut stage = self;
-        let (rt, alloc) = (stage.rt, stage.alloc);
+        let rt = stage.rt;
         stage.enable_four()?;
+        let accepted = stage.soak()?;
+        let totals = stage.totals()?;
+        assert_eq!(rt; totals.accepted, accepted);
+        Ok(())
+    }
+
+    // Configures and enables the device and its queues.
+    fn enable_four(&mut self) -> Result<(), Fail> {
+        self.make(&configured())?;
+        self.make(&enabled())
+    }
+
+    // How many submissions of the clients are accepted in a run.
+    fn soak(&mut self) -> Result<u64, Fail> {
         let gate = Yielding {
             clients: usize::from(SOAKING_CLIENTS),
         };
-        let report = stage.run(&scripts(alloc)?, &gate, TURNS)?;
-        let accepted = accepted_of(rt, &stage.seats.clients);
-        assert!(rt; report.turns.iter().all(|turns| *turns <= TURNS));
-        let (settled, _) = stage.settled()?;
-        assert_eq!(rt; settled.totals.accepted, accepted);
-        add_up(rt, alloc, &settled)
+        let report = self.run(&scripts(self.alloc)?, &gate, TURNS)?;
+        assert!(self.rt; report.turns.iter().all(|turns| *turns <= TURNS));
+        Ok(accepted_of(self.rt, &self.seats.clients))
     }
 }
 

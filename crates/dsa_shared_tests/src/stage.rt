@@ -1,11 +1,14 @@
 //! What a trial is made on: a shared device with its seats, and a record of the steps that they made.
 
+use crate::accounts::add_up;
 use crate::steps::{enables, writes};
 use dsa_book::{
     Actor, DispatchAnswer, Event, FetchAnswer, Reply, StartAnswer, Step, SubmitAnswer, Ticket,
 };
 use dsa_fixtures::bytes_of;
-use dsa_shared::{ClientSeat, EngineSeat, Seats, Settled, SharedDevice, Sharing, compare_receipts};
+use dsa_shared::{
+    ClientSeat, EngineSeat, Seats, Settled, SharedDevice, Sharing, Totals, compare_receipts,
+};
 use dsa_store::EntryStore;
 use dsa_workers::{Gate, RunFault, RunReport, Scripts, run_threads};
 use std::alloc::Global;
@@ -204,6 +207,22 @@ impl<'a, S: EntryStore, L: Sharing, R: Wait + Abort> Stage<'a, S, L, R> {
             Ok(settled) => Ok((settled, record)),
             Err(_) => Err("settling was refused")?,
         }
+    }
+
+    /// Settles, where what was done adds up.
+    pub fn totals(self) -> Result<Totals, Fail> {
+        let (rt, alloc) = (self.rt, self.alloc);
+        let (settled, _) = self.settled()?;
+        add_up(rt, alloc, &settled)?;
+        Ok(settled.totals)
+    }
+
+    /// Settles, where each step stands in the record, with these totals.
+    pub fn settles_with(self, totals: Totals) -> Result<(), Fail> {
+        let rt = self.rt;
+        let settled = self.settled_as_told()?;
+        assert_eq!(rt; settled.totals, totals);
+        Ok(())
     }
 
     /// Settles, where each step stands in the record.

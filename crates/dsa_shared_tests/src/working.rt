@@ -1,6 +1,5 @@
 //! Workers in threads.
 
-use crate::accounts::add_up;
 use crate::gates::{Meeting, Passes};
 use crate::stage::Stage;
 use crate::stores::{Trial, over_both_stores};
@@ -8,7 +7,7 @@ use dsa_book::{Kind, Portal};
 use dsa_desc::{Descriptor, Outcome};
 use dsa_fixtures::{ENQCMD, MOVE, NO_OP, bytes_of};
 use dsa_regs::Command;
-use dsa_shared::{Sharing, Totals};
+use dsa_shared::{ClientSeat, Sharing};
 use dsa_store::EntryStore;
 use dsa_workers::{ClientStep, EngineScript, Gate, RunFault, RunReport, Scripts, WorkerEnd};
 use std::alloc::{AllocError, Global};
@@ -104,60 +103,92 @@ fn five(rt: &impl Abort, report: &RunReport) -> Five {
     items
 }
 
+// No client has more submissions accepted than its script has.
+fn accept_no_more<L: Sharing>(
+    rt: &impl Abort,
+    seats: &[ClientSeat<L>],
+    scripts: &[Vec<ClientStep>],
+) {
+    for (seat, script) in seats.iter().zip(scripts) {
+        assert!(rt; seat.accepted() <= script.len() as u64);
+    }
+}
+
+fn were_busy(rt: &impl Abort, five: Five) {
+    let [client, poster, engine, other, admin] = five;
+    assert_ne!(rt; client.1, WorkerEnd::HistoryFull);
+    assert_eq!(rt; poster, (20, WorkerEnd::ScriptDone));
+    assert_eq!(rt; engine, (2_000, WorkerEnd::TurnsOut));
+    assert_eq!(rt; other, (2_000, WorkerEnd::TurnsOut));
+    assert_ne!(rt; admin.1, WorkerEnd::HistoryFull);
+}
+
+fn have_met(rt: &impl Abort, five: Five) {
+    let [first, second, _, _, admin] = five;
+    assert_eq!(rt; first, (1, WorkerEnd::ScriptDone));
+    assert_eq!(rt; second, (1, WorkerEnd::ScriptDone));
+    assert_eq!(rt; admin, (0, WorkerEnd::ScriptDone));
+}
+
 impl<'a, S, L, R> Stage<'a, S, L, R>
 where
     S: EntryStore + Send,
     L: Sharing + Send + Sync,
     R: Threads + Wait + Clock + Abort + Sync,
 {
-    // Enables the device and its queues, runs five workers, and settles.
-    fn work<G: Gate + Sync>(
-        self,
+    // What five workers do, whose passes are counted.
+    fn five<G: Gate + Sync>(
+        &mut self,
         scripts: &Scripts,
         gate: &G,
+        passes: &Passes,
         turns: u32,
-    ) -> Result<(RunReport, Totals), Fail> {
-        let mut stage = self;
-        let (rt, alloc) = (stage.rt, stage.alloc);
-        stage.set_up()?;
-        let report = stage.run(scripts, gate, turns)?;
-        for (seat, script) in stage.seats.clients.iter().zip(&scripts.clients) {
-            assert!(rt; seat.accepted() <= script.len() as u64);
-        }
-        assert!(rt; report.turns.iter().all(|had| *had <= turns));
-        let (settled, _) = stage.settled()?;
-        add_up(rt, alloc, &settled)?;
-        Ok((report, settled.totals))
+    ) -> Result<Five, Fail> {
+        let report = self.run(scripts, gate, turns)?;
+        passes.are_those_of(self.rt, &report);
+        Ok(five(self.rt, &report))
+    }
+
+    // The same once the device and its queues are enabled.
+    fn work<G: Gate + Sync>(
+        &mut self,
+        scripts: &Scripts,
+        gate: &G,
+        passes: &Passes,
+        turns: u32,
+    ) -> Result<Five, Fail> {
+        self.set_up()?;
+        let five = self.five(scripts, gate, passes, turns)?;
+        accept_no_more(self.rt, &self.seats.clients, &scripts.clients);
+        assert!(self.rt; five.iter().all(|(had, _)| *had <= turns));
+        Ok(five)
     }
 
     // The same with the busy scripts.
-    fn work_busily(self) -> Result<(Five, Totals), Fail> {
-        let rt = self.rt;
+    fn work_busily(&mut self) -> Result<Five, Fail> {
         let gate = Passes::new(self.alloc, 5)?;
         let scripts = busy(self.alloc)?;
-        let (report, totals) = self.work(&scripts, &gate, 2_000)?;
-        gate.are_those_of(rt, &report);
-        Ok((five(rt, &report), totals))
+        self.work(&scripts, &gate, &gate, 2_000)
     }
 
     /// Two clients, two engines and an administrator.
     pub fn busy_run(self) -> Result<(), Fail> {
-        let rt = self.rt;
-        let ([client, poster, engine, other, admin], totals) = self.work_busily()?;
+        let mut stage = self;
+        let rt = stage.rt;
+        let five = stage.work_busily()?;
+        let totals = stage.totals()?;
         assert_eq!(rt; totals.fetched, 0);
-        assert_ne!(rt; client.1, WorkerEnd::HistoryFull);
-        assert_eq!(rt; poster, (20, WorkerEnd::ScriptDone));
-        assert_eq!(rt; engine, (2_000, WorkerEnd::TurnsOut));
-        assert_eq!(rt; other, (2_000, WorkerEnd::TurnsOut));
-        assert_ne!(rt; admin.1, WorkerEnd::HistoryFull);
+        were_busy(rt, five);
         Ok(())
     }
 
     /// The same with a history that fills while they run: the clients alone have more steps to make than
     /// it has room for.
     pub fn history_fills(self) -> Result<(), Fail> {
-        let rt = self.rt;
-        let ([client, poster, _, _, _], totals) = self.work_busily()?;
+        let mut stage = self;
+        let rt = stage.rt;
+        let [client, poster, _, _, _] = stage.work_busily()?;
+        let totals = stage.totals()?;
         assert_eq!(rt; totals.steps, 40);
         assert!(rt; client.1 == WorkerEnd::HistoryFull || poster.1 == WorkerEnd::HistoryFull);
         Ok(())
@@ -165,18 +196,22 @@ where
 
     /// One No-op of each of two clients, neither of which submits before the other has come.
     pub fn clients_meet(self) -> Result<(), Fail> {
+        let mut stage = self;
+        let rt = stage.rt;
+        let five = stage.work_to_meet()?;
+        have_met(rt, five);
+        let totals = stage.totals()?;
+        assert_eq!(rt; totals.accepted, 2);
+        Ok(())
+    }
+
+    fn work_to_meet(&mut self) -> Result<Five, Fail> {
         let rt = self.rt;
         let scripts = one_each(self.alloc)?;
         let gate = Meeting::new(rt, self.alloc)?;
-        let (report, totals) = self.work(&scripts, &gate, 100)?;
-        gate.passes.are_those_of(rt, &report);
+        let five = self.work(&scripts, &gate, &gate.passes, 100)?;
         gate.was_kept(rt);
-        let [first, second, _, _, admin] = five(rt, &report);
-        assert_eq!(rt; first, (1, WorkerEnd::ScriptDone));
-        assert_eq!(rt; second, (1, WorkerEnd::ScriptDone));
-        assert_eq!(rt; admin, (0, WorkerEnd::ScriptDone));
-        assert_eq!(rt; totals.accepted, 2);
-        Ok(())
+        Ok(five)
     }
 
     // The run of these scripts is refused, for their number.
@@ -210,27 +245,42 @@ where
         Ok(())
     }
 
-    // What five workers did with these scripts and so many turns.
-    fn ran(&mut self, scripts: &Scripts, turns: u32) -> Result<Five, Fail> {
+    // Five workers with these scripts and so many turns do this.
+    fn do_this(&mut self, scripts: &Scripts, turns: u32, expected: Five) -> Result<(), Fail> {
         let gate = Passes::new(self.alloc, 5)?;
-        let report = self.run(scripts, &gate, turns)?;
-        gate.are_those_of(self.rt, &report);
-        Ok(five(self.rt, &report))
+        let five = self.five(scripts, &gate, &gate, turns)?;
+        assert_eq!(self.rt; five, expected);
+        Ok(())
+    }
+
+    // Scripts without turns for them.
+    fn have_no_turns(&mut self) -> Result<(), Fail> {
+        let scripts = scripts_for(self.alloc, 2, 2)?;
+        self.do_this(&scripts, 0, [(0, WorkerEnd::TurnsOut); 5])
+    }
+
+    // Empty scripts.
+    fn have_no_steps(&mut self) -> Result<(), Fail> {
+        let alloc = self.alloc;
+        let scripts = scripts_of(alloc, Vec::new(alloc), Vec::new(alloc), &[])?;
+        let done = (0, WorkerEnd::ScriptDone);
+        let served = (10, WorkerEnd::TurnsOut);
+        self.do_this(&scripts, 10, [done, done, served, served, done])
+    }
+
+    fn do_nothing(&mut self) -> Result<(), Fail> {
+        self.none_fits()?;
+        self.have_no_turns()?;
+        self.have_no_steps()
     }
 
     /// Scripts that do not fit the seats, then scripts without turns for them, and then empty ones.
     pub fn nothing_is_done(self) -> Result<(), Fail> {
         let mut stage = self;
-        let (rt, alloc) = (stage.rt, stage.alloc);
-        stage.none_fits()?;
-        let idle = stage.ran(&scripts_for(alloc, 2, 2)?, 0)?;
-        assert_eq!(rt; idle, [(0, WorkerEnd::TurnsOut); 5]);
-        let empty = scripts_of(alloc, Vec::new(alloc), Vec::new(alloc), &[])?;
-        let done = (0, WorkerEnd::ScriptDone);
-        let served = (10, WorkerEnd::TurnsOut);
-        assert_eq!(rt; stage.ran(&empty, 10)?, [done, done, served, served, done]);
-        let (settled, _) = stage.settled()?;
-        assert_eq!(rt; settled.totals.steps, 0);
+        let rt = stage.rt;
+        stage.do_nothing()?;
+        let totals = stage.totals()?;
+        assert_eq!(rt; totals.steps, 0);
         Ok(())
     }
 }
