@@ -1,17 +1,18 @@
 //! Each call of a device over a store of vectors: queue 0 is shared, with its group and its engine, and queue 1 is left Off.
 
 use dsa_book::{
-    Cause, ClearAnswer, DispatchAnswer, Event, Fate, FetchAnswer, FinishAnswer, IssueAnswer, Kind,
-    NotedError, PollAnswer, Portal, Reply, StartAnswer, Step, SubmitAnswer, Ticket, WriteAnswer,
+    BatchNote, Cause, ClearAnswer, DispatchAnswer, Event, Fate, FetchAnswer, FinishAnswer,
+    IssueAnswer, Kind, NotedError, PollAnswer, Portal, Reply, StartAnswer, Step, SubmitAnswer,
+    Ticket, WriteAnswer,
 };
 use dsa_desc::{Descriptor, Outcome};
 use dsa_device::{Device, MakeFault};
 use dsa_fixtures::{
-    CAPS, CELLS, DRAIN, ENABLED, ENQCMD, FIRST_GROUP as GROUP, LISTS, MOVE as PAGE, NO_OP,
-    SHARED_QUEUE as QUEUE, batch_of, bytes_of,
+    CAPS, CELLS, DRAIN, ENABLED, ENQCMD, FIRST_GROUP as GROUP, FIRST_QUEUE, LISTS, MOVE as PAGE,
+    NO_OP, SHARED_QUEUE as QUEUE, batch_of, bytes_of,
 };
-use dsa_regs::{Caps, Command, Fault};
-use dsa_store::{Cell, Entry, EntryStore, ListId, PlainStore};
+use dsa_regs::{Caps, Command, Fault, Phase, QueueConfig};
+use dsa_store::{Cell, Entry, EntryStore, ListId, PlainStore, Walk};
 use std::process::Abort;
 use std::test::Fail;
 
@@ -391,6 +392,92 @@ fn drain_ends_with_its_batch(rt: HostRuntime) -> Result<(), Fail> {
     }
     batch_ends(&rt, &mut device, ticket);
     assert_eq!(rt; device.active(), None);
+    Ok(())
+}
+
+// The engine works on a batch, of which it fetched one member, while a No-op waits in the queue. The tickets are those of
+// batch, member and No-op.
+fn works(rt: &impl Abort, device: &mut Device<PlainStore>) -> [Ticket; 3] {
+    let batch = accepted(rt, device, batch_of(2));
+    replies(rt, device, &[is_taken(batch)]);
+    let no_op = accepted(rt, device, NO_OP);
+    let FetchAnswer::Fetched(member) = device.fetch(0, MOVE) else {
+        panic!(rt; "nothing was fetched");
+    };
+    [batch, member, no_op]
+}
+
+// The tickets of the first two entries that the walk yields.
+fn tickets(
+    rt: &impl Abort,
+    slots: Option<Walk<'_, PlainStore>>,
+) -> (Option<Ticket>, Option<Ticket>) {
+    let Some(mut slots) = slots else {
+        panic!(rt; "there is no such list");
+    };
+    let first = slots.next().map(ticket_of);
+    (first, slots.next().map(ticket_of))
+}
+
+fn ticket_of((cell, entry): (Cell, Entry)) -> Ticket {
+    Ticket {
+        cell,
+        name: entry.name,
+    }
+}
+
+#[test]
+fn readers_of_what_is_configured(rt: HostRuntime) -> Result<(), Fail> {
+    let mut device = enabled(&rt, 64)?;
+    let _ = works(&rt, &mut device);
+    let disable = Command::DisableWq(FIRST_QUEUE);
+    assert!(rt; device.issue(disable) == IssueAnswer::Active);
+    assert!(rt; device.phase() == Phase::On && !device.is_full());
+    assert!(rt; device.queue_phase(0) == Some(Phase::Stopping));
+    assert!(rt; device.queue_phase(1) == Some(Phase::Off) && device.queue_phase(2).is_none());
+    assert!(rt; device.queue_config(0) == Some(QUEUE) && device.queue_config(2).is_none());
+    assert!(rt; device.queue_config(1) == Some(QueueConfig::default()));
+    assert!(rt; device.group_config(0) == Some(GROUP) && device.group_config(2).is_none());
+    assert!(rt; device.awaited() == Some(3));
+    Ok(())
+}
+
+#[test]
+fn readers_of_entries(rt: HostRuntime) -> Result<(), Fail> {
+    let mut device = enabled(&rt, 64)?;
+    let [batch, member, no_op] = works(&rt, &mut device);
+    assert!(rt; device.awaited().is_none());
+    assert!(rt; device.issue(Command::DrainAll) == IssueAnswer::Active);
+    assert!(rt; device.awaited() == Some(2));
+    assert!(rt; tickets(&rt, device.in_progress(0)) == (Some(batch), None));
+    assert!(rt; tickets(&rt, device.members(0)) == (Some(member), None));
+    assert!(rt; tickets(&rt, device.waiting(0)) == (Some(no_op), None));
+    assert!(rt; tickets(&rt, device.in_progress(1)) == (None, None));
+    assert!(rt; device.in_progress(2).is_none() && device.members(2).is_none());
+    assert!(rt; device.waiting(2).is_none());
+    assert!(rt; device.in_progress_count(0) == Some(1) && device.member_count(0) == Some(1));
+    assert!(rt; device.in_progress_count(2).is_none() && device.member_count(2).is_none());
+    Ok(())
+}
+
+#[test]
+fn readers_by_place_and_ticket(rt: HostRuntime) -> Result<(), Fail> {
+    const NOTE: BatchNote = BatchNote {
+        batch: 0,
+        count: 2,
+        fetched: 1,
+        failed: false,
+        closed: false,
+    };
+    let mut device = enabled(&rt, 64)?;
+    let [batch, member, no_op] = works(&rt, &mut device);
+    assert!(rt; device.in_progress_at(0, 0).map(ticket_of) == Some(batch));
+    assert!(rt; device.member_at(0, 0).map(ticket_of) == Some(member));
+    assert!(rt; device.waiting_at(0, 0).map(ticket_of) == Some(no_op));
+    assert!(rt; device.in_progress_at(0, 1).is_none() && device.in_progress_at(2, 0).is_none());
+    assert!(rt; device.member_at(0, 1).is_none() && device.waiting_at(0, 1).is_none());
+    assert!(rt; device.batch(0) == Some(NOTE) && device.batch(1).is_none());
+    assert!(rt; device.holds(member) && !device.holds(Ticket { name: 7, ..member }));
     Ok(())
 }
 
