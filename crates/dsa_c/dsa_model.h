@@ -6,7 +6,7 @@
  *
  * What the caller keeps to, since nothing checks it:
  *   - No pointer is null. A handle starts as DSA_CLOSED, and after that only these calls write to it. It is never copied.
- *   - A handle stays on the thread that opened it, where its calls come one at a time. Different handles are independent.
+ *   - Calls on one handle come one at a time: threads that share one take a lock around each call. Different handles are independent.
  *   - dsa_open and dsa_close take and free memory: they are not for signal handlers, nor for the child of a fork of a process with
  *     threads. The other calls take no memory, so a handler may make them, unless it interrupts a call on the same handle.
  * All numbers may be wrong: a queue, group or engine that the device does not have, a portal, an outcome, a word. They are answered.

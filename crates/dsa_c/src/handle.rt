@@ -16,6 +16,13 @@ pub struct Handle {
     ghost agrees: { holds ≡ is_some place.machine },
 }
 
+// A value that may go to another thread, as C may take a handle there.
+fn crossing<T: Send>(value: T) -> T
+    ensures { result ≡ value }
+{
+    value
+}
+
 impl Handle {
     /// The handle of no device.
     fn closed(alloc: Global) -> Handle
@@ -59,7 +66,7 @@ impl Handle {
     pub(crate) fn put(&mut self, machine: Box<Machine>)
         ensures { self.new.place.machine ≡ Some machine.value }
     {
-        *self = Handle::of(machine);
+        *self = crossing(Handle::of(machine));
     }
 }
 

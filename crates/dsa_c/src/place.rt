@@ -17,6 +17,9 @@ pub struct Place {
     pub ghost machine: { HeldMachine } by { held_machine_coded },
 }
 
+// A machine may go to another thread, and so may its place.
+unsafe impl Send for Place {}
+
 impl Model for Place {
     ghost use Rattle.dsa_c.specs.Place.{place_owns};
 
