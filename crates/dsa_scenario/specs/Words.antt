@@ -1,10 +1,14 @@
 -- The words of the command line, by clap's own definitions of what words say.
-use Rattle.std.specs.Prelude.{◌≡◌, ◌≢◌, ◌≤◌, ℕ, pos, true, List, [], ◌∷◌, codes, Some, option_map}
+use Rattle.std.specs.Prelude.{◌≡◌, ◌≢◌, ◌<◌, ◌≤◌, ℕ, pos, true, List, [], ◌∷◌, length, take, codes, Option, Some}
+use Rattle.std.specs.Prelude.{option_map}
+use Rattle.std.specs.Io.KnownBytes.{Appends}
 use Rattle.std.specs.Str.Parse.{IsNumeral, digits_value, without_leading_plus}
 use Rattle.clap.specs.declared.builder.value_parser.ValueParser.TheVariants.{Signed}
 use Rattle.clap.specs.declared.error.kind.ErrorKind.{ErrorKind, TheVariants.{DisplayHelp, DisplayVersion}}
 use Rattle.clap.specs.{Walk.{Row, Rule, Text, one_of}, Faults.{fault_of}, Kinds.{Kinds, IsAmong}}
 use Rattle.clap.specs.Simple.{App, new_app, new_rule, on_top, subcommand_of, with_rule, with_subcommand}
+use Rattle.dsa_shared.specs.declared.settle.Totals.{Totals}
+use Rattle.dsa_scenario.specs.Threads.{IsInRange, AreTotalsOf, totals_text}
 use Rattle.dsa_scenario.specs.declared.options.{Workload.{Workload}, Asked.{Asked, TheVariants.{Scenario, Threads}}}
 
 -- the option `--name`, whose value is a number from 1 to `most`, and `default` where it is not given
@@ -54,6 +58,17 @@ pub record AreNumbersOf (rows : List Row) (load : Workload) : Type 0 where
   pub engines : IsNumberOf rows (codes "engines") 8 load.engines
   pub each : IsNumberOf rows (codes "each") 1_000 load.each
   pub turns : IsNumberOf rows (codes "turns") 40_000 load.turns
+
+-- what was written is the totals of a run of workers with these numbers
+abbrev pub AreTotalsWritten : List Row → Option (List ℕ) → Option (List ℕ) → Type 0
+AreTotalsWritten rows old new = (load : Workload) × (totals : Totals) × AreNumbersOf rows load × IsInRange load
+    × AreTotalsOf load totals × Appends old new (totals_text totals)
+
+-- what was written is only the first bytes of such totals
+abbrev pub AreTotalsCutShort : List Row → Option (List ℕ) → Option (List ℕ) → Type 0
+AreTotalsCutShort rows old new = (load : Workload) × (totals : Totals) × (count : ℕ) × AreNumbersOf rows load
+    × IsInRange load × AreTotalsOf load totals × (count < length (totals_text totals))
+    × Appends old new (take count (totals_text totals))
 
 -- what the words ask for: workers where they name the command `threads`, and else a scenario
 abbrev pub AsksFor : List Text → Asked → Type 0

@@ -10,7 +10,7 @@ ghost use Rattle.dsa_scenario.specs.Faults.{fault_line};
 ghost use Rattle.dsa_scenario.specs.Scenario.{IsWhole, IsRenderingOf, HasFault, IsCutShort};
 ghost use Rattle.dsa_scenario.specs.Threads.{IsInRange, AreTotalsOf, totals_text};
 ghost use Rattle.dsa_scenario.specs.Watched.{watched_contents, has_refused, IsSameWriter};
-ghost use Rattle.dsa_scenario.specs.Words.{AreNumbersOf, IsMistaken, NameThreads};
+ghost use Rattle.dsa_scenario.specs.Words.{IsMistaken, NameThreads, AreTotalsWritten, AreTotalsCutShort};
 
 use crate::faults::ScenarioFault;
 use crate::options::{Asked, Workload, read_words};
@@ -150,8 +150,7 @@ pub fn answer_words<T: Threads + Wait + Sync, R: Read, O: Write, E: Write>(
         × IsRenderingOf bytes lines
         × Appends (O.contents out.old) (O.contents out.new) lines }
     ensures threads { result ≡ 0 → (rows : List Row) → NameThreads (map string_bytes words.now) rows
-        → (load : Workload) × (totals : Totals) × AreNumbersOf rows load × IsInRange load × AreTotalsOf load totals
-        × Appends (O.contents out.old) (O.contents out.new) (totals_text totals) }
+        → AreTotalsWritten rows (O.contents out.old) (O.contents out.new) }
 
     // Where it fails, the output is as it was, or has the first of the lines.
     ensures failed { length words.now ≡ 0 → result ≡ 1 → (fault : ScenarioFault)
@@ -162,10 +161,7 @@ pub fn answer_words<T: Threads + Wait + Sync, R: Read, O: Write, E: Write>(
         × (has_refused err.new ≡ false → Appends (watched_contents E.contents err.old)
         (watched_contents E.contents err.new) (fault_line fault)) }
     ensures threads_failed { result ≡ 1 → (rows : List Row) → NameThreads (map string_bytes words.now) rows
-        → (out.new ≡ out.old)
-        ⊎ ((load : Workload) × (totals : Totals) × (count : ℕ) × AreNumbersOf rows load × IsInRange load × AreTotalsOf load totals
-        × (count < length (totals_text totals))
-        × Appends (O.contents out.old) (O.contents out.new) (take count (totals_text totals))) }
+        → (out.new ≡ out.old) ⊎ AreTotalsCutShort rows (O.contents out.old) (O.contents out.new) }
 
     // Words that are not understood.
     ensures refused { result ≡ 2 → (out.new ≡ out.old) × (reader.new ≡ reader.old) }
@@ -199,8 +195,7 @@ pub fn run_words<T: Threads + Wait + Sync, R: Read, O: Write, E: Write>(
         × IsRenderingOf bytes lines
         × Appends (O.contents out.old) (O.contents out.new) lines }
     ensures threads { result ≡ 0 → (rows : List Row) → NameThreads (map string_bytes words.now) rows
-        → (load : Workload) × (totals : Totals) × AreNumbersOf rows load × IsInRange load × AreTotalsOf load totals
-        × Appends (O.contents out.old) (O.contents out.new) (totals_text totals) }
+        → AreTotalsWritten rows (O.contents out.old) (O.contents out.new) }
 
     // Where it fails, the output is as it was, or has the first of the lines.
     ensures failed { length words.now ≡ 0 → result ≡ 1 → (fault : ScenarioFault)
@@ -209,10 +204,7 @@ pub fn run_words<T: Threads + Wait + Sync, R: Read, O: Write, E: Write>(
         × (fault ≡ ScenarioFault.Write → IsCutShort (R.remaining reader.old) (R.remaining reader.new)
         (O.contents out.old) (O.contents out.new)) }
     ensures threads_failed { result ≡ 1 → (rows : List Row) → NameThreads (map string_bytes words.now) rows
-        → (out.new ≡ out.old)
-        ⊎ ((load : Workload) × (totals : Totals) × (count : ℕ) × AreNumbersOf rows load × IsInRange load × AreTotalsOf load totals
-        × (count < length (totals_text totals))
-        × Appends (O.contents out.old) (O.contents out.new) (take count (totals_text totals))) }
+        → (out.new ≡ out.old) ⊎ AreTotalsCutShort rows (O.contents out.old) (O.contents out.new) }
 
     // Words that are not understood.
     ensures refused { result ≡ 2 → (out.new ≡ out.old) × (reader.new ≡ reader.old) }
