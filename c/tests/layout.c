@@ -58,6 +58,22 @@ AT(dsa_batch, count, 4);
 AT(dsa_batch, fetched, 8);
 AT(dsa_batch, failed, 12);
 AT(dsa_batch, closed, 13);
+SIZE(dsa_event, 40);
+AT(dsa_event, kind, 0);
+AT(dsa_event, name, 4);
+AT(dsa_event, cell, 8);
+AT(dsa_event, pasid, 12);
+AT(dsa_event, flags, 16);
+AT(dsa_event, size, 20);
+AT(dsa_event, operand, 24);
+AT(dsa_event, client, 28);
+AT(dsa_event, queue, 30);
+AT(dsa_event, group, 32);
+AT(dsa_event, engine, 34);
+AT(dsa_event, operation, 36);
+AT(dsa_event, portal, 37);
+AT(dsa_event, outcome, 38);
+AT(dsa_event, command, 39);
 
 /* Each field that goes in is told apart from its neighbours by what the device does with it. */
 int main(void)

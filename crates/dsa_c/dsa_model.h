@@ -160,6 +160,40 @@ struct dsa_batch {
 	uint8_t closed;    /* 1: the rest was abandoned behind a fence */
 };
 
+enum dsa_event_kind {
+	DSA_EVENT_ENQCMD = 1,       /* client, queue, portal, pasid; operation, flags, size */
+	DSA_EVENT_MOVDIR64B = 2,    /* client, queue, portal; operation, flags, size */
+	DSA_EVENT_DISPATCH = 3,     /* engine */
+	DSA_EVENT_FETCH = 4,        /* engine; operation, flags, size */
+	DSA_EVENT_START = 5,        /* engine */
+	DSA_EVENT_FINISH = 6,       /* engine, name, cell, outcome */
+	DSA_EVENT_COMMAND = 7,      /* command, operand */
+	DSA_EVENT_POLL = 8,
+	DSA_EVENT_WRITE_QUEUE = 9,  /* queue */
+	DSA_EVENT_WRITE_GROUP = 10, /* group */
+	DSA_EVENT_CLEAR_ERROR = 11
+};
+
+/* An event of the history: the call that was made. Numbers that its kind does not speak of are 0. Of a descriptor it has what
+ * dsa_entry has, but for the PASID; which configuration was written is not told. */
+struct dsa_event {
+	uint32_t kind;      /* enum dsa_event_kind */
+	uint32_t name;
+	uint32_t cell;
+	uint32_t pasid;     /* as ENQCMD was given it */
+	uint32_t flags;
+	uint32_t size;
+	uint32_t operand;   /* 0 where the command takes none; DSA_COMMAND(command, operand) is a word of the command */
+	uint16_t client;
+	uint16_t queue;
+	uint16_t group;
+	uint16_t engine;
+	uint8_t operation;
+	uint8_t portal;     /* enum dsa_portal */
+	uint8_t outcome;    /* enum dsa_outcome */
+	uint8_t command;    /* enum dsa_command_number */
+};
+
 enum dsa_open_result {
 	DSA_OPENED = 0, DSA_BAD_CAPS = 1, DSA_BAD_CAPACITY = 2, DSA_BAD_STORE = 3, DSA_OUT_OF_MEMORY = 4, DSA_ALREADY_OPEN = 5
 };
@@ -229,14 +263,15 @@ uint32_t dsa_holds(struct dsa_model *handle, uint32_t cell, uint32_t name); /* 1
 uint32_t dsa_history_is_full(struct dsa_model *handle);                     /* 1: each step is answered DSA_FULL; 0: it is not full */
 
 /* These write what they read and give 1. They write nothing and give 0 on a closed handle, and where the device has no such queue,
- * group, engine or place, or the engine works on no batch. Places count from 0, in the order in which entries came. A place in a
- * list is found by a walk from its front. */
+ * group, engine, place or stored step, or the engine works on no batch. Places count from 0, in the order in which entries came. A
+ * place in a list is found by a walk from its front. */
 uint32_t dsa_queue_config(struct dsa_model *handle, uint16_t queue, struct dsa_queue *config);
 uint32_t dsa_group_config(struct dsa_model *handle, uint16_t group, struct dsa_group *config);
 uint32_t dsa_waiting_at(struct dsa_model *handle, uint16_t queue, uint64_t place, struct dsa_entry *entry);
 uint32_t dsa_in_progress_at(struct dsa_model *handle, uint16_t engine, uint64_t place, struct dsa_entry *entry);
 uint32_t dsa_member_at(struct dsa_model *handle, uint16_t engine, uint64_t place, struct dsa_entry *entry);
 uint32_t dsa_batch(struct dsa_model *handle, uint16_t engine, struct dsa_batch *batch);
+uint32_t dsa_history_event(struct dsa_model *handle, uint64_t position, struct dsa_event *event); /* of a stored step */
 
 /* ---- descriptors: these need no device; `member` is 0 for one that is submitted, else it is in a batch ---- */
 

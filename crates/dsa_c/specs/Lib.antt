@@ -1,5 +1,6 @@
 pub mod Answers
 pub mod Calls
+pub mod Events
 pub mod Opening
 pub mod Place
 pub mod Reads

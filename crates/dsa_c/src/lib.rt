@@ -2,6 +2,7 @@
 #![tactic(auto)]
 
 mod answer;
+mod events;
 mod handle;
 mod opening;
 mod place;

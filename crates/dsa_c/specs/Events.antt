@@ -1,0 +1,86 @@
+-- The events of the history, for C.
+use Rattle.std.specs.Prelude.{ℕ, ◌+◌, ◌*◌, ◌^◌}
+use Rattle.dsa_desc.specs.declared.{Outcome.{Outcome, TheVariants.{Success, PageFault}}, Descriptor.{Descriptor}}
+use Rattle.dsa_regs.specs.declared.{Command.{Command}, QueueMask.{QueueMask}}
+use Rattle.dsa_regs.specs.declared.Command.TheVariants.{EnableWq, DisableWq, DrainWq, AbortWq, ResetWq, DrainPasid}
+use Rattle.dsa_regs.specs.declared.Command.TheVariants.{AbortPasid}
+use Rattle.dsa_regs.specs.Command.{number_of}
+use Rattle.dsa_book.specs.declared.answer.Ticket.{Ticket}
+use Rattle.dsa_book.specs.declared.event.Portal.{Portal, TheVariants.{Limited, Unlimited}}
+use Rattle.dsa_book.specs.declared.event.Kind.{Kind, TheVariants.{Enqcmd, Movdir64b}}
+use Rattle.dsa_book.specs.declared.event.Event.{Event}
+use Rattle.dsa_book.specs.declared.event.Event.TheVariants.{Submit, Dispatch, Fetch, Start, Finish, Issue, Poll}
+use Rattle.dsa_book.specs.declared.event.Event.TheVariants.{WriteQueue, WriteGroup, ClearError}
+use Rattle.dsa_c.specs.declared.events.DeviceEvent.{DeviceEvent}
+
+abbrev pub portal_number : Portal → ℕ
+portal_number Limited = 0
+portal_number Unlimited = 1
+
+abbrev pub outcome_number : Outcome → ℕ
+outcome_number Success = 0
+outcome_number PageFault = 1
+
+-- the operand of a command that names queues by a mask
+abbrev pub mask_number : QueueMask → ℕ
+mask_number queues = queues.group * 2 ^ 16 + queues.mask
+
+-- the operand of a command, 0 where it has none
+abbrev pub operand_of : Command → ℕ
+operand_of (EnableWq queue) = queue
+operand_of (DisableWq queues) = mask_number queues
+operand_of (DrainWq queues) = mask_number queues
+operand_of (AbortWq queues) = mask_number queues
+operand_of (ResetWq queues) = mask_number queues
+operand_of (DrainPasid pasid) = pasid
+operand_of (AbortPasid pasid) = pasid
+operand_of _ = 0
+
+-- an event of this kind, of which nothing more is said
+abbrev pub of_kind : ℕ → DeviceEvent
+of_kind kind = record {
+  kind = kind;
+  name = 0;
+  cell = 0;
+  pasid = 0;
+  flags = 0;
+  size = 0;
+  operand = 0;
+  client = 0;
+  queue = 0;
+  group = 0;
+  engine = 0;
+  operation = 0;
+  portal = 0;
+  outcome = 0;
+  command = 0;
+}
+
+abbrev pub of_engine : ℕ → ℕ → DeviceEvent
+of_engine kind engine = record (of_kind kind) { engine = engine }
+
+-- the event with what the device reads of its descriptor
+abbrev pub with_descriptor : Descriptor → DeviceEvent → DeviceEvent
+with_descriptor desc event = record event { operation = desc.op; flags = desc.flags; size = desc.size }
+
+abbrev pub of_instruction : Kind → DeviceEvent
+of_instruction (Enqcmd pasid) = record (of_kind 1) { pasid = pasid }
+of_instruction Movdir64b = of_kind 2
+
+abbrev pub of_finish : ℕ → Ticket → Outcome → DeviceEvent
+of_finish engine ticket outcome =
+    record (of_engine 6 engine) { name = ticket.name; cell = ticket.cell.0; outcome = outcome_number outcome }
+
+-- what each event of the machine is to C
+abbrev pub event_for_c : Event → DeviceEvent
+event_for_c (Submit client queue portal kind desc) =
+    record (with_descriptor desc (of_instruction kind)) { client = client; queue = queue; portal = portal_number portal }
+event_for_c (Dispatch engine) = of_engine 3 engine
+event_for_c (Fetch engine desc) = with_descriptor desc (of_engine 4 engine)
+event_for_c (Start engine) = of_engine 5 engine
+event_for_c (Finish engine ticket outcome) = of_finish engine ticket outcome
+event_for_c (Issue command) = record (of_kind 7) { command = number_of command; operand = operand_of command }
+event_for_c Poll = of_kind 8
+event_for_c (WriteQueue queue config) = record (of_kind 9) { queue = queue }
+event_for_c (WriteGroup group config) = record (of_kind 10) { group = group }
+event_for_c ClearError = of_kind 11

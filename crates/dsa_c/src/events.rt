@@ -1,0 +1,206 @@
+//! The events of the history as numbers.
+
+ghost use Rattle.std.specs.Prelude.{◌≡◌, slice_get};
+ghost use Rattle.dsa_c.specs.Calls.{asked_for};
+ghost use Rattle.dsa_c.specs.Reads.{IsWritten};
+ghost use Rattle.dsa_c.specs.Events.{portal_number, outcome_number, mask_number, operand_of, of_kind, of_engine, with_descriptor, of_instruction, of_finish, event_for_c};
+
+use crate::handle::Handle;
+use dsa_book::{Event, Kind, Portal, Ticket};
+use dsa_desc::{Descriptor, Outcome};
+use dsa_regs::{Command, QueueMask};
+use std::alloc::Global;
+
+/// An event: its kind, and the numbers that it speaks of.
+#[repr(C)]
+#[derive(Clone, Copy)]
+pub struct DeviceEvent {
+    pub kind: u32,
+    pub name: u32,
+    pub cell: u32,
+    pub pasid: u32,
+    pub flags: u32,
+    pub size: u32,
+    pub operand: u32,
+    pub client: u16,
+    pub queue: u16,
+    pub group: u16,
+    pub engine: u16,
+    pub operation: u8,
+    pub portal: u8,
+    pub outcome: u8,
+    pub command: u8,
+}
+
+fn portal_number(portal: Portal) -> u8
+    ensures { result ≡ portal_number portal }
+{
+    match portal {
+        Portal::Limited => 0,
+        Portal::Unlimited => 1,
+    }
+}
+
+fn outcome_number(outcome: Outcome) -> u8
+    ensures { result ≡ outcome_number outcome }
+{
+    match outcome {
+        Outcome::Success => 0,
+        Outcome::PageFault => 1,
+    }
+}
+
+fn mask_number(queues: QueueMask) -> u32
+    ensures { result ≡ mask_number queues }
+{
+    u32::from(queues.group) * 0x1_0000 + u32::from(queues.mask)
+}
+
+fn operand_of(command: Command) -> u32
+    ensures { result ≡ operand_of command }
+{
+    match command {
+        Command::EnableDevice => 0,
+        Command::DisableDevice => 0,
+        Command::DrainAll => 0,
+        Command::AbortAll => 0,
+        Command::ResetDevice => 0,
+        Command::EnableWq(queue) => queue,
+        Command::DisableWq(queues) => mask_number(queues),
+        Command::DrainWq(queues) => mask_number(queues),
+        Command::AbortWq(queues) => mask_number(queues),
+        Command::ResetWq(queues) => mask_number(queues),
+        Command::DrainPasid(pasid) => pasid,
+        Command::AbortPasid(pasid) => pasid,
+    }
+}
+
+fn of_kind(kind: u32) -> DeviceEvent
+    ensures { result ≡ of_kind kind }
+{
+    DeviceEvent {
+        kind,
+        name: 0,
+        cell: 0,
+        pasid: 0,
+        flags: 0,
+        size: 0,
+        operand: 0,
+        client: 0,
+        queue: 0,
+        group: 0,
+        engine: 0,
+        operation: 0,
+        portal: 0,
+        outcome: 0,
+        command: 0,
+    }
+}
+
+fn of_engine(kind: u32, engine: u16) -> DeviceEvent
+    ensures { result ≡ of_engine kind engine }
+{
+    DeviceEvent {
+        engine,
+        ..of_kind(kind)
+    }
+}
+
+fn with_descriptor(desc: Descriptor, event: DeviceEvent) -> DeviceEvent
+    ensures { result ≡ with_descriptor desc event }
+{
+    DeviceEvent {
+        operation: desc.op,
+        flags: desc.flags,
+        size: desc.size,
+        ..event
+    }
+}
+
+fn of_instruction(kind: Kind) -> DeviceEvent
+    ensures { result ≡ of_instruction kind }
+{
+    match kind {
+        Kind::Enqcmd { pasid } => DeviceEvent {
+            pasid,
+            ..of_kind(1)
+        },
+        Kind::Movdir64b => of_kind(2),
+    }
+}
+
+fn of_finish(engine: u16, ticket: Ticket, outcome: Outcome) -> DeviceEvent
+    ensures { result ≡ of_finish engine ticket outcome }
+{
+    DeviceEvent {
+        name: ticket.name,
+        cell: ticket.cell.0,
+        outcome: outcome_number(outcome),
+        ..of_engine(6, engine)
+    }
+}
+
+fn event_for_c(event: Event) -> DeviceEvent
+    ensures { result ≡ event_for_c event }
+{
+    match event {
+        Event::Submit {
+            client,
+            queue,
+            portal,
+            kind,
+            desc,
+        } => DeviceEvent {
+            client,
+            queue,
+            portal: portal_number(portal),
+            ..with_descriptor(desc, of_instruction(kind))
+        },
+        Event::Dispatch { engine } => of_engine(3, engine),
+        Event::Fetch { engine, desc } => with_descriptor(desc, of_engine(4, engine)),
+        Event::Start { engine } => of_engine(5, engine),
+        Event::Finish {
+            engine,
+            ticket,
+            outcome,
+        } => of_finish(engine, ticket, outcome),
+        Event::Issue { command } => DeviceEvent {
+            command: command.number(),
+            operand: operand_of(command),
+            ..of_kind(7)
+        },
+        Event::Poll => of_kind(8),
+        Event::WriteQueue { queue, .. } => DeviceEvent {
+            queue,
+            ..of_kind(9)
+        },
+        Event::WriteGroup { group, .. } => DeviceEvent {
+            group,
+            ..of_kind(10)
+        },
+        Event::ClearError => of_kind(11),
+    }
+}
+
+/// Reads the event of the stored step at this position, the first one at 0.
+#[unsafe(no_mangle)]
+pub extern "C" fn dsa_history_event(
+    alloc: Global,
+    handle: &mut Handle,
+    position: u64,
+    event: &mut DeviceEvent,
+) -> u32
+    ensures value { IsWritten (λ step. event_for_c step.event) (asked_for handle.old.place.machine (λ d. slice_get d.history position)) result event.old event.new }
+    ensures same { handle.new.place.machine ≡ handle.old.place.machine }
+{
+    let Some(machine) = handle.take(alloc) else {
+        return 0;
+    };
+    let step = machine.device.history().get(position as usize).copied();
+    handle.put(machine);
+    let Some(step) = step else {
+        return 0;
+    };
+    *event = event_for_c(step.event);
+    1
+}
