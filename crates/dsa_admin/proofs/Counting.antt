@@ -1,6 +1,7 @@
 -- Numbers of held entries: what commands read from them, and what one entry less leaves.
 use Rattle.std.proofs.Common.{◌≡◌, ℕ, ◌+◌, ◌<◌, ◌≤◌, ◌==◌, Bool, true, false, not, cond, List, [], ◌∷◌, ◌++◌}
-use Rattle.std.proofs.Common.{take, length, get_or, set, length-append, zero, suc, refl, sym, ap, ◌∙◌, subst, arith, inl, inr, eq-eqb}
+use Rattle.std.proofs.Common.{take, length, get_or, set, length-append, zero, suc, refl, sym, ap, ◌∙◌, subst, arith}
+use Rattle.std.proofs.Common.{inl, inr, eq-eqb}
 use Rattle.std.proofs.lemmas.{Grind.{flat_map-append}, Bool.{cases_Bool, ltb-true, eqb-true}}
 use Rattle.std.proofs.lemmas.List.{get_or-set_same, set-set, append-nil, take_more}
 use Rattle.std.proofs.lemmas.List.Sums.{sum_by-cons, sum_by-append, count_by-le-length}

@@ -74,7 +74,11 @@ of_finish engine ticket outcome =
 -- what each event of the machine is to C
 abbrev pub event_for_c : Event → DeviceEvent
 event_for_c (Submit client queue portal kind desc) =
-    record (with_descriptor desc (of_instruction kind)) { client = client; queue = queue; portal = portal_number portal }
+    record (with_descriptor desc (of_instruction kind)) {
+      client = client;
+      queue = queue;
+      portal = portal_number portal;
+    }
 event_for_c (Dispatch engine) = of_engine 3 engine
 event_for_c (Fetch engine desc) = with_descriptor desc (of_engine 4 engine)
 event_for_c (Start engine) = of_engine 5 engine

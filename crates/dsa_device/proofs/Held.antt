@@ -8,7 +8,8 @@ use Rattle.dsa_base.specs.Rows.{passes}
 use Rattle.dsa_store.specs.declared.entry.{Cell.{Cell}, Entry.{Entry}}
 use Rattle.dsa_store.specs.Content.{Slot, Content, is_cell, place_count, use_count, entry_of, all_held}
 use Rattle.dsa_store.specs.Content.{held_count, count_where}
-use Rattle.dsa_store.proofs.{Places.{count-cons, list_any-absent, list_any-present}, Lists.{uses-cons}, Sums.{held-counted}}
+use Rattle.dsa_store.proofs.{Places.{count-cons, list_any-absent, list_any-present}, Lists.{uses-cons}}
+use Rattle.dsa_store.proofs.Sums.{held-counted}
 use Rattle.dsa_book.specs.{declared.answer.Ticket.{Ticket}, State.{is_ticket}}
 use Rattle.dsa_book.specs.declared.note.ActiveCommand.{ActiveCommand}
 use Rattle.dsa_admin.specs.Admin.{is_waited_for}

@@ -5,7 +5,8 @@ use Rattle.std.proofs.lemmas.Bool.{lt-ltb, ltb-true, eqb-false, not-true, and_pa
 use Rattle.std.proofs.lemmas.List.{get_or-replicate}
 use Rattle.std.specs.Prelude.{is_none, is_some, filter, not, ◌&&◌, nat_lt}
 use Rattle.dsa_base.{specs.Rows.{passes, when}, proofs.NumberLists.{get_or-each}}
-use Rattle.dsa_regs.specs.{declared.{Phase.{Phase, TheVariants.{Off}}, Caps.{Caps}}, Caps.{cell_count, HasList, list_number}}
+use Rattle.dsa_regs.specs.declared.{Phase.{Phase, TheVariants.{Off}}, Caps.{Caps}}
+use Rattle.dsa_regs.specs.Caps.{cell_count, HasList, list_number}
 use Rattle.dsa_regs.specs.declared.layout.ListUse.{ListUse, TheVariants.{Queue, Progress, Members}}
 use Rattle.dsa_regs.proofs.CapsLemmas.{total_size-bound}
 use Rattle.dsa_store.specs.Content.{Slot, Content, chain, held_count}

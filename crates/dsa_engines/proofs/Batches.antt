@@ -26,7 +26,8 @@ pub batch-named : {cells : ℕ} {k : Kept} {gear : Gear} {content : Content} {e 
     → i ≡ progress_list k.setup e → find (λ slot. slot.1.name == name) (chain content i) ≡ Some batch
     → has_queue k.setup batch.1.queue ≡ true
 batch-named {k = k} {content = content} {i = i} {batch = batch} name s c he ie found =
-    let at : In batch (chain content i) = (In-find (λ (slot : Slot). slot.1.name == name) batch (chain content i) found).0
+    let at : In batch (chain content i) =
+        (In-find (λ (slot : Slot). slot.1.name == name) batch (chain content i) found).0
     in
     named-in k content i batch (omega (arith, s.store.lists, he, ie)) at c
 

@@ -104,7 +104,8 @@ none-runs setup (x ∷ l) s once h here order =
 -- ---- a start
 
 -- the member that runs now counts as it did
-pub started-counted : {cells : ℕ} {k : Kept} {gear : Gear} {content now : Content} {e i : ℕ} {cell : Cell} {entry : Entry}
+pub started-counted : {cells : ℕ} {k : Kept} {gear : Gear} {content now : Content} {e i : ℕ} {cell : Cell}
+    {entry : Entry}
     → IsInStep k.setup gear cells content → ((c : Cell) → use_count content c ≤ 1) → e < k.setup.caps.engines
     → i ≡ member_list k.setup e → find waits (chain content i) ≡ Some (cell, entry) → IsCounted k content
     → now ≡ after_set content cell (as_running entry) → IsCounted k now

@@ -2,7 +2,8 @@
 use Rattle.std.proofs.Common.{◌≡◌, ℕ, ◌+◌, ◌-◌, ◌<◌, ◌≤◌, ◌==◌, Bool, true, not, cond, List, [], ◌∷◌, drop, length, map}
 use Rattle.std.proofs.Common.{replicate, set, get_or, slice_get, Some, inl, inr}
 use Rattle.std.proofs.Common.{refl, sym, ap, ◌∙◌, arith, eq-eqb}
-use Rattle.std.proofs.lemmas.{List.{length-set, nil_from_length, Sums.{count_by-le-length, sum_by-cons}}, Bool.{ltb-true}}
+use Rattle.std.proofs.lemmas.List.{length-set, nil_from_length, Sums.{count_by-le-length, sum_by-cons}}
+use Rattle.std.proofs.lemmas.Bool.{ltb-true}
 use Rattle.std.specs.List.{sum_by}
 use Rattle.dsa_base.specs.{Numbers.{numbers_below}, Lists.{In}}
 use Rattle.dsa_base.proofs.NumberLists.{length-each, get_or-each, given-back, raised-table, same-table, zero-table}
@@ -150,7 +151,8 @@ counted-moved k content from to front e hf ht is same = counted-same k content _
     omega (
       arith,
       sum-pushed f (without_front content from) to front.0 e within,
-      sum-without_front f content from front (drop 1 (chain content from)) hf (front-first (chain content from) front is),
+      sum-without_front f content from front (drop 1 (chain content from)) hf
+          (front-first (chain content from) front is),
       ap (λ n. cond {A = ℕ} (test n) 1 0) same,
     ))
   where
@@ -159,7 +161,8 @@ counted-moved k content from to front e hf ht is same = counted-same k content _
     front-first (x ∷ l) s h = let one : x ≡ s = cc in ap (λ y. y ∷ l) one
 
 -- an entry that begins to run where it stands
-pub counted-replaced : (k : Kept) (content : Content) (i p : ℕ) (cell : Cell) (e new : Entry) → use_count content cell ≤ 1
+pub counted-replaced : (k : Kept) (content : Content) (i p : ℕ) (cell : Cell) (e new : Entry)
+    → use_count content cell ≤ 1
     → i < length content → StandsAt content i p cell e → new.queue ≡ e.queue → IsCounted k content
     → IsCounted k (after_set content cell new)
 counted-replaced k content i p cell e new once h at same = counted-same k content _ (λ test.

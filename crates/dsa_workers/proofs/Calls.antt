@@ -330,7 +330,8 @@ asks_more script old mid new turn at after asks e reply was answer is room below
     let call : Step = record { event = cond {A = Event} asks Poll (Issue (get_or script at e)); reply = reply } in
     record {
       so_far = so_far_more (NextCommand script) (length script) old mid new turn at after call was.so_far
-          (answer, admin_next script at asks e was.so_far.calls was.waits was.so_far.steps_done below) is room below moved;
+          (answer, admin_next script at asks e was.so_far.calls was.waits was.so_far.steps_done below) is room
+              below moved;
       waits = waits_more was.so_far.calls call;
     }
 

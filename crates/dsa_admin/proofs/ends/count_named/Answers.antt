@@ -23,7 +23,8 @@ loop-queue-preserved c =
             few = omega (arith, c.loop-queue.invariant.few, w.count-is, w.from-count.ensures, w.held_of.type_inv);
             counts = λ content counted.
                 let hit = sym c.names.ensures ∙ w.if-names.true in
-                let more = rw hit at (more-below c.args.scope.now c.requires q c.args.queues.now content there counted) in
+                let more = rw hit at (more-below c.args.scope.now c.requires q c.args.queues.now content there
+                    counted) in
                 omega (
                   arith,
                   w.count-is,
@@ -39,7 +40,8 @@ loop-queue-preserved c =
             few = omega (arith, c.loop-queue.invariant.few, w.count-is);
             counts = λ content counted.
                 let miss = sym c.names.ensures ∙ w.if-names.false in
-                let more = rw miss at (more-below c.args.scope.now c.requires q c.args.queues.now content there counted) in
+                let more = rw miss at (more-below c.args.scope.now c.requires q c.args.queues.now content there
+                    counted) in
                 omega (arith, w.count-is, c.loop-queue.invariant.counts content counted, more);
           }
     ]

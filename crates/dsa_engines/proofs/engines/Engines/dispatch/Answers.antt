@@ -3,7 +3,8 @@ use Rattle.std.proofs.Common.{◌∙◌, [], refl, sym, arith}
 use Rattle.dsa_book.specs.Work.{qualifies}
 use Rattle.dsa_engines.specs.Engines.{work}
 use Rattle.dsa_queues.proofs.Counts.{counted-moved}
-use Rattle.dsa_engines.proofs.Dispatching.{none-below, qualifying-queue, within-groups, fits-taken, in_step-after, taking-engine}
+use Rattle.dsa_engines.proofs.Dispatching.{none-below, qualifying-queue, within-groups, fits-taken, in_step-after}
+use Rattle.dsa_engines.proofs.Dispatching.{taking-engine}
 
 pub returns-in_default-clause-free : goal.returns-in_default-clause-free
 returns-in_default-clause-free g c =
@@ -54,5 +55,6 @@ returns-clause-counted g c =
       arith,
       c.requires.in_step.store.lists,
       c.list-progress.ensures,
-      taking-engine c.requires.in_step c.in-Some.ensures.some queue (sym c.front_slot.ensures ∙ c.in-Some-front_slot.is),
+      taking-engine c.requires.in_step c.in-Some.ensures.some queue
+          (sym c.front_slot.ensures ∙ c.in-Some-front_slot.is),
     )) (sym c.front_slot.ensures ∙ c.in-Some-front_slot.is) refl c.requires.counted)

@@ -9,6 +9,7 @@ invariant-loop-queue l =
     l.self ≡ record l.fn.self {
       setup = record l.fn.self.setup {
         phases =
-            renewed (λ q. cond (is_among (queues_in l.named) q) l.phase (phase_at l.fn.self.setup q)) l.queue l.fn.self.setup.phases;
+            renewed (λ q. cond (is_among (queues_in l.named) q) l.phase (phase_at l.fn.self.setup q)) l.queue
+                l.fn.self.setup.phases;
       };
     }

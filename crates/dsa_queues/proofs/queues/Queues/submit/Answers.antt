@@ -12,7 +12,8 @@ returns-clause-free g c = unused-is_free _ _ c.in-Some.cell
 pub entered-requires-clause-room : goal.entered-requires-clause-room
 entered-requires-clause-room g c =
     let there = c.phase.ensures.known (grind (arith, c.if-ne.false, c.ne.ensures)) in
-    let pushed = counted-pushed c.args.self.now _ _ c.args.queue _ _ c.in-Some.ensures.some (omega (arith, ltb-true _ _ there, c.requires.store.lists)) there c.requires.counted in
+    let pushed = counted-pushed c.args.self.now _ _ c.args.queue _ _ c.in-Some.ensures.some
+        (omega (arith, ltb-true _ _ there, c.requires.store.lists)) there c.requires.counted in
     rw c.give_name.ensures.after (omega (
       arith,
       pushed.0,
@@ -24,6 +25,7 @@ entered-requires-clause-room g c =
 pub returns-clause-counted : goal.returns-clause-counted
 returns-clause-counted g c =
     let there = c.phase.ensures.known (grind (arith, c.if-ne.false, c.ne.ensures)) in
-    let pushed = counted-pushed c.args.self.now _ _ c.args.queue _ _ c.in-Some.ensures.some (omega (arith, ltb-true _ _ there, c.requires.store.lists)) there c.requires.counted in
+    let pushed = counted-pushed c.args.self.now _ _ c.args.queue _ _ c.in-Some.ensures.some
+        (omega (arith, ltb-true _ _ there, c.requires.store.lists)) there c.requires.counted in
     rw (c.entered.ensures, c.give_name.ensures.after)
     (counted-setup _ _ _ refl refl pushed.1)
