@@ -4,10 +4,9 @@
 //! its engine. The one in [`single`] has one shared queue.
 #![tactic(auto)]
 
-ghost use Rattle.std.specs.Prelude.{◌≡◌, ◌%◌, ◌^◌};
-ghost use Rattle.dsa_desc.specs.Descriptor.{read, with_pasid};
+ghost use Rattle.std.specs.Prelude.{◌≡◌};
+ghost use Rattle.dsa_desc.specs.Descriptor.{read, as_written};
 
-use byteorder::{ByteOrder, LittleEndian};
 use dsa_book::{Event, Kind};
 use dsa_desc::{Descriptor, QueueLimits};
 use dsa_regs::{Caps, Command, GroupConfig, QueueConfig, QueueMask};
@@ -73,8 +72,6 @@ pub const FIRST_QUEUE: QueueMask = QueueMask { group: 0, mask: 1 };
 
 pub const ENQCMD: Kind = Kind::Enqcmd { pasid: 5 };
 
-const FLAG_BITS: u32 = 0xff_ffff;
-
 pub const NO_OP: Descriptor = Descriptor {
     pasid: 0,
     flags: 0,
@@ -135,12 +132,7 @@ pub fn batch_of(count: u32) -> Descriptor
 
 /// The 64 bytes of a descriptor: its fields in their places, and 0 everywhere else.
 pub fn bytes_of(desc: Descriptor) -> [u8; 64]
-    ensures { read result ≡ record (with_pasid desc desc.pasid) { flags = desc.flags % 2 ^ 24 } }
+    ensures { read result ≡ as_written desc }
 {
-    let mut bytes = [0u8; 64];
-    LittleEndian::write_u32(&mut bytes, desc.pasid);
-    LittleEndian::write_u24(&mut bytes[4..], desc.flags & FLAG_BITS);
-    bytes[7] = desc.op;
-    LittleEndian::write_u32(&mut bytes[32..], desc.size);
-    bytes
+    desc.to_bytes()
 }

@@ -1,11 +1,14 @@
 //! Commands: their numbers, names and words, whom they are about and what they do.
 
-ghost use Rattle.std.specs.Prelude.{◌≡◌, ℕ, ◌<◌, ◌/◌, ◌%◌, ◌^◌, ◌==◌};
+ghost use Rattle.std.specs.Prelude.{◌≡◌, ℕ, ◌<◌, ◌/◌, ◌%◌, ◌^◌, ◌==◌, Ok, IfSome};
 ghost use Rattle.std.specs.List.{list_any};
 
 use crate::configurations::has_number;
 use crate::{Command, Deed, Fault, QUEUES_IN_MASK, QueueMask, Scope};
 use arrayvec::ArrayVec;
+
+/// The operand of a command word has 20 bits (Intel DSA specification, Command register).
+const OPERAND_BITS: u32 = 0xf_ffff;
 
 /// The numbers of the queues that a command names.
 pub type QueueNumbers = ArrayVec<u32, QUEUES_IN_MASK>;
@@ -45,7 +48,19 @@ impl QueueMask {
 }
 
 impl Scope {
-    ghost use Rattle.dsa_regs.specs.Command.{queues_in};
+    ghost use Rattle.dsa_regs.specs.Command.{queues_in, operand_of};
+
+    // The operand that names it.
+    fn operand(self) -> u32
+        ensures { result ≡ operand_of self }
+    {
+        match self {
+            Scope::Device => 0,
+            Scope::Queue(queue) => queue,
+            Scope::Queues(named) => 65_536 * u32::from(named.group) + u32::from(named.mask),
+            Scope::Pasid(pasid) => pasid,
+        }
+    }
 
     /// Whether the queue is one of those named.
     pub fn contains(&self, queue: u16) -> bool
@@ -75,7 +90,7 @@ impl Scope {
 }
 
 impl Command {
-    ghost use Rattle.dsa_regs.specs.Command.{number_of, command_name, scope_of, deed_of, named_queues};
+    ghost use Rattle.dsa_regs.specs.Command.{command_of, number_of, command_name, scope_of, deed_of, named_queues, word_of};
 
     /// The number of the command, 1 to 12 (Intel DSA specification, Command register).
     pub fn number(&self) -> u8
@@ -115,6 +130,20 @@ impl Command {
             Command::DrainPasid(_) => "Drain PASID",
             Command::AbortPasid(_) => "Abort PASID",
         }
+    }
+
+    /// The word that is written to the command register, without asking for an interrupt (Intel DSA specification, Command
+    /// register). `None` exactly where the operand has more than 20 bits: a queue's number or a PASID that is not below
+    /// 1,048,576, or a mask of a group past 15.
+    pub fn word(&self) -> Option<u32>
+        ensures word { result ≡ word_of self.now }
+        ensures parsed { IfSome result (λ word. command_of word ≡ Ok self.now) }
+    {
+        let operand = self.scope().operand();
+        if operand > OPERAND_BITS {
+            return None;
+        }
+        Some((u32::from(self.number()) << 20) + operand)
     }
 
     /// Whom the command is about.
@@ -187,7 +216,7 @@ impl CommandWord {
     fn operand(self) -> u32
         ensures { result ≡ self.0 % 2 ^ 20 }
     {
-        self.0 & 0xf_ffff
+        self.0 & OPERAND_BITS
     }
 
     fn number(self) -> u32
