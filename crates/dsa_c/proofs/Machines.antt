@@ -5,8 +5,10 @@ use Rattle.std_heap.proofs.Global.TheLaws as global_laws
 use Rattle.dsa_machine.specs.contracts.Machine as Machine
 use Rattle.dsa_machine.proofs.Machine.TheLaws as machine_laws
 use mir.Syntax.{impl, tnil, dnil}
-use mathlib.Core.List.{[]}
+use mathlib.Core.{Path.{◌≡◌, refl, sym}, List.{[]}}
+use Rattle.std.{proofs.lemmas.Bool.{true≢false}, specs.Prelude.{None, Some, IsSome}}
 use Rattle.std_alloc.proofs.BoxSteps.Form.{Bx}
+use Rattle.dsa_c.specs.Place.{HeldMachine}
 
 abbrev pub machines : Bx
 machines = record {
@@ -21,3 +23,8 @@ machines = record {
         impl [] tnil dnil;
   };
 }
+
+-- a machine that there is
+pub there_is : (held : HeldMachine) → IsSome held → (m : Machine.the_row.Denot) × (held ≡ Some m)
+there_is None is = absurd (true≢false (sym is))
+there_is (Some m) is = (m, refl)

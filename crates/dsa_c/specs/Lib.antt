@@ -1,6 +1,7 @@
 pub mod Answers
 pub mod Calls
 pub mod Events
+pub mod Lending
 pub mod Opening
 pub mod Place
 pub mod Reads

@@ -9,7 +9,6 @@ use crate::handle::Handle;
 use dsa_book::{Event, Kind, Portal, Ticket};
 use dsa_desc::{Descriptor, Outcome};
 use dsa_regs::{Command, QueueMask};
-use std::alloc::Global;
 
 /// An event: its kind, and the numbers that it speaks of.
 #[repr(C)]
@@ -185,7 +184,6 @@ fn event_for_c(event: Event) -> DeviceEvent
 /// Reads the event of the stored step at this position, the first one at 0.
 #[unsafe(no_mangle)]
 pub extern "C" fn dsa_history_event(
-    alloc: Global,
     handle: &mut Handle,
     position: u64,
     event: &mut DeviceEvent,
@@ -193,11 +191,16 @@ pub extern "C" fn dsa_history_event(
     ensures value { IsWritten (λ step. event_for_c step.event) (asked_for handle.old.place.machine (λ d. slice_get d.history position)) result event.old event.new }
     ensures same { handle.new.place.machine ≡ handle.old.place.machine }
 {
-    let Some(machine) = handle.take(alloc) else {
+    if !handle.holds {
         return 0;
-    };
-    let step = machine.device.history().get(position as usize).copied();
-    handle.put(machine);
+    }
+    let step = handle
+        .place
+        .machine()
+        .device
+        .history()
+        .get(position as usize)
+        .copied();
     let Some(step) = step else {
         return 0;
     };

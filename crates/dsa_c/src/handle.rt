@@ -6,13 +6,12 @@ use crate::place::Place;
 use crate::unboxed::Unboxed;
 use dsa_machine::Machine;
 use std::alloc::Global;
-use std::mem::replace;
 
 /// A device that C holds, or none. C makes one of zeros, and never writes to it.
 #[repr(C)]
 pub struct Handle {
     pub(crate) place: Place,
-    holds: bool,
+    pub(crate) holds: bool,
     ghost agrees: { holds ≡ is_some place.machine },
 }
 
@@ -25,7 +24,7 @@ fn crossing<T: Send>(value: T) -> T
 
 impl Handle {
     /// The handle of no device.
-    fn closed(alloc: Global) -> Handle
+    pub(crate) fn closed(alloc: Global) -> Handle
         ensures { result.place.machine ≡ None }
     {
         Handle {
@@ -52,14 +51,6 @@ impl Handle {
             return Some(place.unboxed().boxed());
         }
         None
-    }
-
-    /// Takes the machine, where there is one. The handle has none from then on.
-    pub(crate) fn take(&mut self, alloc: Global) -> Option<Box<Machine>>
-        ensures machine { option_map (λ machine. machine.value) result ≡ self.old.place.machine }
-        ensures closed { self.new.place.machine ≡ None }
-    {
-        replace(self, Handle::closed(alloc)).into_box()
     }
 
     /// Puts the machine in. One that was there is let go.

@@ -60,8 +60,7 @@ pub extern "C" fn dsa_open(
 ) -> u32
     ensures { IsOpening handle.old.place.machine (caps_of caps.now) capacity result handle.new.place.machine }
 {
-    if let Some(machine) = handle.take(alloc) {
-        handle.put(machine);
+    if handle.holds {
         return 5;
     }
     let machine = match Machine::new(alloc, caps_of(caps), capacity) {
@@ -80,5 +79,5 @@ pub extern "C" fn dsa_open(
 pub extern "C" fn dsa_close(alloc: Global, handle: &mut Handle)
     ensures { handle.new.place.machine ≡ None }
 {
-    drop(handle.take(alloc));
+    *handle = Handle::closed(alloc);
 }

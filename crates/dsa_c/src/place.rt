@@ -1,6 +1,7 @@
 //! Where a machine lies, by a pointer that C may keep.
 
 ghost use Rattle.std.specs.Prelude.{◌≡◌, Some, None, IsSome};
+ghost use Rattle.std.specs.Borrow.{sem};
 ghost use Rattle.dsa_c.specs.Place.{HeldMachine, held_machine_coded};
 
 use crate::unboxed::Unboxed;
@@ -27,6 +28,8 @@ impl Model for Place {
 }
 
 impl Place {
+    ghost use Rattle.dsa_c.specs.Lending.{LendsMachine};
+
     /// The place of no machine.
     pub(crate) fn empty(alloc: Global) -> Place
         ensures { result.machine ≡ None }
@@ -58,5 +61,14 @@ impl Place {
             to: at as *mut Machine,
             alloc,
         }
+    }
+
+    /// Lends the machine that lies there.
+    pub(crate) fn machine(&mut self) -> &mut Machine
+        requires { IsSome self.old.machine }
+        ensures* writes_back { sem 𝓛 (LendsMachine self.entry result) }
+        ensures value { self.old.machine ≡ Some result.now }
+    {
+        unsafe { &mut *(self.at as *mut Machine) }
     }
 }

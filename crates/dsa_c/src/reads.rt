@@ -12,7 +12,6 @@ ghost use Rattle.dsa_c.specs.Answers.{ending_of};
 use crate::answer::{Answer, Ending};
 use crate::handle::Handle;
 use dsa_book::FateRow;
-use std::alloc::Global;
 
 // A number that may not be there.
 pub(crate) fn or_none(number: Option<u64>) -> u64
@@ -30,168 +29,168 @@ fn row_of(rows: &[FateRow], name: u32) -> Option<FateRow>
 
 /// For how many steps the history has room.
 #[unsafe(no_mangle)]
-pub extern "C" fn dsa_capacity(alloc: Global, handle: &mut Handle) -> u64
+pub extern "C" fn dsa_capacity(handle: &mut Handle) -> u64
     ensures value { result ≡ or_none (asked handle.old.place.machine (λ d. d.capacity)) }
     ensures same { handle.new.place.machine ≡ handle.old.place.machine }
 {
-    let Some(machine) = handle.take(alloc) else {
+    if !handle.holds {
         return or_none(None);
-    };
-    let capacity = machine.device.capacity();
-    handle.put(machine);
+    }
+    let capacity = handle.place.machine().device.capacity();
     capacity
 }
 
 /// The number of entries that wait in the queue.
 #[unsafe(no_mangle)]
-pub extern "C" fn dsa_occupancy(alloc: Global, handle: &mut Handle, queue: u16) -> u64
+pub extern "C" fn dsa_occupancy(handle: &mut Handle, queue: u16) -> u64
     ensures value { result ≡ or_none (asked_for handle.old.place.machine (λ d. when (nat_lt queue d.caps.queues) (occupancy d.state.work.content queue))) }
     ensures same { handle.new.place.machine ≡ handle.old.place.machine }
 {
-    let Some(machine) = handle.take(alloc) else {
+    if !handle.holds {
         return or_none(None);
-    };
-    let occupancy = machine.device.occupancy(queue);
-    handle.put(machine);
+    }
+    let occupancy = handle.place.machine().device.occupancy(queue);
     or_none(occupancy.map(u64::from))
 }
 
 /// The number of read buffers that the group uses.
 #[unsafe(no_mangle)]
-pub extern "C" fn dsa_used(alloc: Global, handle: &mut Handle, group: u16) -> u64
+pub extern "C" fn dsa_used(handle: &mut Handle, group: u16) -> u64
     ensures value { result ≡ or_none (asked_for handle.old.place.machine (λ d. when (nat_lt group d.caps.groups) (used d.state.work group))) }
     ensures same { handle.new.place.machine ≡ handle.old.place.machine }
 {
-    let Some(machine) = handle.take(alloc) else {
+    if !handle.holds {
         return or_none(None);
-    };
-    let used = machine.device.used(group);
-    handle.put(machine);
+    }
+    let used = handle.place.machine().device.used(group);
     or_none(used.map(u64::from))
 }
 
 /// The number of entries that the device holds.
 #[unsafe(no_mangle)]
-pub extern "C" fn dsa_held(alloc: Global, handle: &mut Handle) -> u64
+pub extern "C" fn dsa_held(handle: &mut Handle) -> u64
     ensures value { result ≡ or_none (asked handle.old.place.machine (λ d. held_count d.state.work.content)) }
     ensures same { handle.new.place.machine ≡ handle.old.place.machine }
 {
-    let Some(machine) = handle.take(alloc) else {
+    if !handle.holds {
         return or_none(None);
-    };
-    let held = machine.device.held();
-    handle.put(machine);
+    }
+    let held = handle.place.machine().device.held();
     u64::from(held)
 }
 
 /// The name that the next entry gets.
 #[unsafe(no_mangle)]
-pub extern "C" fn dsa_next_name(alloc: Global, handle: &mut Handle) -> u64
+pub extern "C" fn dsa_next_name(handle: &mut Handle) -> u64
     ensures value { result ≡ or_none (asked handle.old.place.machine (λ d. d.state.work.setup.next_name)) }
     ensures same { handle.new.place.machine ≡ handle.old.place.machine }
 {
-    let Some(machine) = handle.take(alloc) else {
+    if !handle.holds {
         return or_none(None);
-    };
-    let name = machine.device.next_name();
-    handle.put(machine);
+    }
+    let name = handle.place.machine().device.next_name();
     u64::from(name)
 }
 
 /// The number of the command that is not over yet.
 #[unsafe(no_mangle)]
-pub extern "C" fn dsa_active(alloc: Global, handle: &mut Handle) -> u64
+pub extern "C" fn dsa_active(handle: &mut Handle) -> u64
     ensures value { result ≡ or_none (asked_for handle.old.place.machine (λ d. option_map (λ active. number_of active.command) d.state.active)) }
     ensures same { handle.new.place.machine ≡ handle.old.place.machine }
 {
-    let Some(machine) = handle.take(alloc) else {
+    if !handle.holds {
         return or_none(None);
-    };
-    let active = machine.device.active();
-    handle.put(machine);
+    }
+    let active = handle.place.machine().device.active();
     or_none(active.map(|command| u64::from(command.number())))
 }
 
 /// The number of steps that were stored.
 #[unsafe(no_mangle)]
-pub extern "C" fn dsa_history_length(alloc: Global, handle: &mut Handle) -> u64
+pub extern "C" fn dsa_history_length(handle: &mut Handle) -> u64
     ensures value { result ≡ or_none (asked handle.old.place.machine (λ d. length d.history)) }
     ensures same { handle.new.place.machine ≡ handle.old.place.machine }
 {
-    let Some(machine) = handle.take(alloc) else {
+    if !handle.holds {
         return or_none(None);
-    };
-    let length = machine.device.history().len();
-    handle.put(machine);
+    }
+    let length = handle.place.machine().device.history().len();
     length as u64
 }
 
 /// The number of entries that ended.
 #[unsafe(no_mangle)]
-pub extern "C" fn dsa_fates_length(alloc: Global, handle: &mut Handle) -> u64
+pub extern "C" fn dsa_fates_length(handle: &mut Handle) -> u64
     ensures value { result ≡ or_none (asked handle.old.place.machine (λ d. length d.state.work.fates)) }
     ensures same { handle.new.place.machine ≡ handle.old.place.machine }
 {
-    let Some(machine) = handle.take(alloc) else {
+    if !handle.holds {
         return or_none(None);
-    };
-    let length = machine.device.fates().len();
-    handle.put(machine);
+    }
+    let length = handle.place.machine().device.fates().len();
     length as u64
 }
 
 /// The noted error.
 #[unsafe(no_mangle)]
-pub extern "C" fn dsa_noted(alloc: Global, handle: &mut Handle) -> Answer
+pub extern "C" fn dsa_noted(handle: &mut Handle) -> Answer
     ensures value { result ≡ noted_of handle.old.place.machine }
     ensures same { handle.new.place.machine ≡ handle.old.place.machine }
 {
-    let Some(machine) = handle.take(alloc) else {
+    if !handle.holds {
         return Answer::no_device();
-    };
-    let noted = machine.device.noted();
-    handle.put(machine);
+    }
+    let noted = handle.place.machine().device.noted();
     Answer::noted(noted)
 }
 
 /// The answer of the stored step at this position, the first one at 0.
 #[unsafe(no_mangle)]
-pub extern "C" fn dsa_history_answer(alloc: Global, handle: &mut Handle, position: u64) -> Answer
+pub extern "C" fn dsa_history_answer(handle: &mut Handle, position: u64) -> Answer
     ensures value { result ≡ reply_at handle.old.place.machine position }
     ensures same { handle.new.place.machine ≡ handle.old.place.machine }
 {
-    let Some(machine) = handle.take(alloc) else {
+    if !handle.holds {
         return Answer::no_device();
-    };
-    let step = machine.device.history().get(position as usize).copied();
-    handle.put(machine);
+    }
+    let step = handle
+        .place
+        .machine()
+        .device
+        .history()
+        .get(position as usize)
+        .copied();
     Answer::of_step(step)
 }
 
 /// The fate at this position, in the order in which entries ended, the first one at 0.
 #[unsafe(no_mangle)]
-pub extern "C" fn dsa_fate_at(alloc: Global, handle: &mut Handle, position: u64) -> Ending
+pub extern "C" fn dsa_fate_at(handle: &mut Handle, position: u64) -> Ending
     ensures value { result ≡ ending_of (asked_for handle.old.place.machine (λ d. slice_get d.state.work.fates position)) }
     ensures same { handle.new.place.machine ≡ handle.old.place.machine }
 {
-    let Some(machine) = handle.take(alloc) else {
+    if !handle.holds {
         return Ending::of(None);
-    };
-    let row = machine.device.fates().get(position as usize).copied();
-    handle.put(machine);
+    }
+    let row = handle
+        .place
+        .machine()
+        .device
+        .fates()
+        .get(position as usize)
+        .copied();
     Ending::of(row)
 }
 
 /// The fate of the entry of this name.
 #[unsafe(no_mangle)]
-pub extern "C" fn dsa_fate_of(alloc: Global, handle: &mut Handle, name: u32) -> Ending
+pub extern "C" fn dsa_fate_of(handle: &mut Handle, name: u32) -> Ending
     ensures value { result ≡ ending_of (asked_for handle.old.place.machine (λ d. find (λ row. row.name == name) d.state.work.fates)) }
     ensures same { handle.new.place.machine ≡ handle.old.place.machine }
 {
-    let Some(machine) = handle.take(alloc) else {
+    if !handle.holds {
         return Ending::of(None);
-    };
-    let row = row_of(machine.device.fates(), name);
-    handle.put(machine);
+    }
+    let row = row_of(handle.place.machine().device.fates(), name);
     Ending::of(row)
 }

@@ -17,7 +17,6 @@ use crate::steps::{DeviceGroup, DeviceQueue};
 use dsa_book::{BatchNote, Ticket};
 use dsa_regs::{GroupConfig, Phase, QueueConfig};
 use dsa_store::{Cell, Entry};
-use std::alloc::Global;
 
 /// An entry that the device holds, as C reads it.
 #[repr(C)]
@@ -121,48 +120,40 @@ fn write_entry(slot: Option<(Cell, Entry)>, entry: &mut DeviceEntry) -> u32
 
 /// The phase of the device.
 #[unsafe(no_mangle)]
-pub extern "C" fn dsa_phase(alloc: Global, handle: &mut Handle) -> u64
+pub extern "C" fn dsa_phase(handle: &mut Handle) -> u64
     ensures value { result ≡ or_none (asked handle.old.place.machine (λ d. phase_number d.state.work.setup.device)) }
     ensures same { handle.new.place.machine ≡ handle.old.place.machine }
 {
-    let Some(machine) = handle.take(alloc) else {
+    if !handle.holds {
         return or_none(None);
-    };
-    let phase = machine.device.phase();
-    handle.put(machine);
+    }
+    let phase = handle.place.machine().device.phase();
     phase_number(phase)
 }
 
 /// The phase of the queue.
 #[unsafe(no_mangle)]
-pub extern "C" fn dsa_queue_phase(alloc: Global, handle: &mut Handle, queue: u16) -> u64
+pub extern "C" fn dsa_queue_phase(handle: &mut Handle, queue: u16) -> u64
     ensures value { result ≡ or_none (asked_for handle.old.place.machine (λ d. when (nat_lt queue d.caps.queues) (phase_number (phase_at d.state.work.setup queue)))) }
     ensures same { handle.new.place.machine ≡ handle.old.place.machine }
 {
-    let Some(machine) = handle.take(alloc) else {
+    if !handle.holds {
         return or_none(None);
-    };
-    let phase = machine.device.queue_phase(queue);
-    handle.put(machine);
+    }
+    let phase = handle.place.machine().device.queue_phase(queue);
     or_none(phase.map(phase_number))
 }
 
 /// The configuration of the queue.
 #[unsafe(no_mangle)]
-pub extern "C" fn dsa_queue_config(
-    alloc: Global,
-    handle: &mut Handle,
-    queue: u16,
-    config: &mut DeviceQueue,
-) -> u32
+pub extern "C" fn dsa_queue_config(handle: &mut Handle, queue: u16, config: &mut DeviceQueue) -> u32
     ensures value { IsWritten queue_for_c (asked_for handle.old.place.machine (λ d. when (nat_lt queue d.caps.queues) (queue_at d.state.work.setup.configs queue))) result config.old config.new }
     ensures same { handle.new.place.machine ≡ handle.old.place.machine }
 {
-    let Some(machine) = handle.take(alloc) else {
+    if !handle.holds {
         return 0;
-    };
-    let found = machine.device.queue_config(queue);
-    handle.put(machine);
+    }
+    let found = handle.place.machine().device.queue_config(queue);
     let Some(found) = found else {
         return 0;
     };
@@ -172,20 +163,14 @@ pub extern "C" fn dsa_queue_config(
 
 /// The configuration of the group.
 #[unsafe(no_mangle)]
-pub extern "C" fn dsa_group_config(
-    alloc: Global,
-    handle: &mut Handle,
-    group: u16,
-    config: &mut DeviceGroup,
-) -> u32
+pub extern "C" fn dsa_group_config(handle: &mut Handle, group: u16, config: &mut DeviceGroup) -> u32
     ensures value { IsWritten group_for_c (asked_for handle.old.place.machine (λ d. when (nat_lt group d.caps.groups) (group_at d.state.work.setup.groups group))) result config.old config.new }
     ensures same { handle.new.place.machine ≡ handle.old.place.machine }
 {
-    let Some(machine) = handle.take(alloc) else {
+    if !handle.holds {
         return 0;
-    };
-    let found = machine.device.group_config(group);
-    handle.put(machine);
+    }
+    let found = handle.place.machine().device.group_config(group);
     let Some(found) = found else {
         return 0;
     };
@@ -195,36 +180,33 @@ pub extern "C" fn dsa_group_config(
 
 /// The number of submitted entries that the engine has in progress.
 #[unsafe(no_mangle)]
-pub extern "C" fn dsa_in_progress(alloc: Global, handle: &mut Handle, engine: u16) -> u64
+pub extern "C" fn dsa_in_progress(handle: &mut Handle, engine: u16) -> u64
     ensures value { result ≡ or_none (asked_for handle.old.place.machine (λ d. when (nat_lt engine d.caps.engines) (length (in_progress d.state.work engine)))) }
     ensures same { handle.new.place.machine ≡ handle.old.place.machine }
 {
-    let Some(machine) = handle.take(alloc) else {
+    if !handle.holds {
         return or_none(None);
-    };
-    let count = machine.device.in_progress_count(engine);
-    handle.put(machine);
+    }
+    let count = handle.place.machine().device.in_progress_count(engine);
     or_none(count.map(u64::from))
 }
 
 /// The number of members of the engine's batch that have not ended.
 #[unsafe(no_mangle)]
-pub extern "C" fn dsa_members(alloc: Global, handle: &mut Handle, engine: u16) -> u64
+pub extern "C" fn dsa_members(handle: &mut Handle, engine: u16) -> u64
     ensures value { result ≡ or_none (asked_for handle.old.place.machine (λ d. when (nat_lt engine d.caps.engines) (length (members d.state.work engine)))) }
     ensures same { handle.new.place.machine ≡ handle.old.place.machine }
 {
-    let Some(machine) = handle.take(alloc) else {
+    if !handle.holds {
         return or_none(None);
-    };
-    let count = machine.device.member_count(engine);
-    handle.put(machine);
+    }
+    let count = handle.place.machine().device.member_count(engine);
     or_none(count.map(u64::from))
 }
 
 /// The entry that waits at this place of the queue, the front at 0.
 #[unsafe(no_mangle)]
 pub extern "C" fn dsa_waiting_at(
-    alloc: Global,
     handle: &mut Handle,
     queue: u16,
     place: u64,
@@ -233,18 +215,20 @@ pub extern "C" fn dsa_waiting_at(
     ensures value { IsWritten entry_for_c (asked_for handle.old.place.machine (λ d. slot_at (when (nat_lt queue d.caps.queues) (chain d.state.work.content queue)) place)) result entry.old entry.new }
     ensures same { handle.new.place.machine ≡ handle.old.place.machine }
 {
-    let Some(machine) = handle.take(alloc) else {
+    if !handle.holds {
         return 0;
-    };
-    let slot = machine.device.waiting_at(queue, place as usize);
-    handle.put(machine);
+    }
+    let slot = handle
+        .place
+        .machine()
+        .device
+        .waiting_at(queue, place as usize);
     write_entry(slot, entry)
 }
 
 /// The submitted entry at this place of those that the engine has in progress, the first one taken at 0.
 #[unsafe(no_mangle)]
 pub extern "C" fn dsa_in_progress_at(
-    alloc: Global,
     handle: &mut Handle,
     engine: u16,
     place: u64,
@@ -253,18 +237,20 @@ pub extern "C" fn dsa_in_progress_at(
     ensures value { IsWritten entry_for_c (asked_for handle.old.place.machine (λ d. slot_at (when (nat_lt engine d.caps.engines) (in_progress d.state.work engine)) place)) result entry.old entry.new }
     ensures same { handle.new.place.machine ≡ handle.old.place.machine }
 {
-    let Some(machine) = handle.take(alloc) else {
+    if !handle.holds {
         return 0;
-    };
-    let slot = machine.device.in_progress_at(engine, place as usize);
-    handle.put(machine);
+    }
+    let slot = handle
+        .place
+        .machine()
+        .device
+        .in_progress_at(engine, place as usize);
     write_entry(slot, entry)
 }
 
 /// The member at this place of those of the engine's batch that have not ended, the first one fetched at 0.
 #[unsafe(no_mangle)]
 pub extern "C" fn dsa_member_at(
-    alloc: Global,
     handle: &mut Handle,
     engine: u16,
     place: u64,
@@ -273,30 +259,27 @@ pub extern "C" fn dsa_member_at(
     ensures value { IsWritten entry_for_c (asked_for handle.old.place.machine (λ d. slot_at (when (nat_lt engine d.caps.engines) (members d.state.work engine)) place)) result entry.old entry.new }
     ensures same { handle.new.place.machine ≡ handle.old.place.machine }
 {
-    let Some(machine) = handle.take(alloc) else {
+    if !handle.holds {
         return 0;
-    };
-    let slot = machine.device.member_at(engine, place as usize);
-    handle.put(machine);
+    }
+    let slot = handle
+        .place
+        .machine()
+        .device
+        .member_at(engine, place as usize);
     write_entry(slot, entry)
 }
 
 /// What is noted of the batch that the engine works on.
 #[unsafe(no_mangle)]
-pub extern "C" fn dsa_batch(
-    alloc: Global,
-    handle: &mut Handle,
-    engine: u16,
-    batch: &mut DeviceBatch,
-) -> u32
+pub extern "C" fn dsa_batch(handle: &mut Handle, engine: u16, batch: &mut DeviceBatch) -> u32
     ensures value { IsWritten batch_for_c (asked_for handle.old.place.machine (λ d. note_at d.state.work engine)) result batch.old batch.new }
     ensures same { handle.new.place.machine ≡ handle.old.place.machine }
 {
-    let Some(machine) = handle.take(alloc) else {
+    if !handle.holds {
         return 0;
-    };
-    let note = machine.device.batch(engine);
-    handle.put(machine);
+    }
+    let note = handle.place.machine().device.batch(engine);
     let Some(note) = note else {
         return 0;
     };
@@ -306,46 +289,43 @@ pub extern "C" fn dsa_batch(
 
 /// The number of held entries that the active command still waits for.
 #[unsafe(no_mangle)]
-pub extern "C" fn dsa_awaited(alloc: Global, handle: &mut Handle) -> u64
+pub extern "C" fn dsa_awaited(handle: &mut Handle) -> u64
     ensures value { result ≡ or_none (asked_for handle.old.place.machine (λ d. awaited d.state)) }
     ensures same { handle.new.place.machine ≡ handle.old.place.machine }
 {
-    let Some(machine) = handle.take(alloc) else {
+    if !handle.holds {
         return or_none(None);
-    };
-    let awaited = machine.device.awaited();
-    handle.put(machine);
+    }
+    let awaited = handle.place.machine().device.awaited();
     or_none(awaited.map(u64::from))
 }
 
 /// Whether the device holds the entry of that cell and name still: 1 or 0.
 #[unsafe(no_mangle)]
-pub extern "C" fn dsa_holds(alloc: Global, handle: &mut Handle, cell: u32, name: u32) -> u32
+pub extern "C" fn dsa_holds(handle: &mut Handle, cell: u32, name: u32) -> u32
     ensures value { result ≡ bit_asked handle.old.place.machine (λ d. is_held d.state.work.content (record { cell = record { 0 = cell }; name = name })) }
     ensures same { handle.new.place.machine ≡ handle.old.place.machine }
 {
-    let Some(machine) = handle.take(alloc) else {
+    if !handle.holds {
         return 0;
-    };
+    }
     let ticket = Ticket {
         cell: Cell(cell),
         name,
     };
-    let holds = machine.device.holds(ticket);
-    handle.put(machine);
+    let holds = handle.place.machine().device.holds(ticket);
     u32::from(holds)
 }
 
 /// Whether the history has no room left: 1 or 0.
 #[unsafe(no_mangle)]
-pub extern "C" fn dsa_history_is_full(alloc: Global, handle: &mut Handle) -> u32
+pub extern "C" fn dsa_history_is_full(handle: &mut Handle) -> u32
     ensures value { result ≡ bit_asked handle.old.place.machine (λ d. length d.history == d.capacity) }
     ensures same { handle.new.place.machine ≡ handle.old.place.machine }
 {
-    let Some(machine) = handle.take(alloc) else {
+    if !handle.holds {
         return 0;
-    };
-    let full = machine.device.is_full();
-    handle.put(machine);
+    }
+    let full = handle.place.machine().device.is_full();
     u32::from(full)
 }

@@ -13,7 +13,6 @@ use dsa_book::{Kind, Portal, Ticket};
 use dsa_desc::{Descriptor, Outcome};
 use dsa_regs::{Command, CommandWord, GroupConfig, QueueConfig};
 use dsa_store::Cell;
-use std::alloc::Global;
 
 /// The 64 bytes of a descriptor.
 #[repr(C)]
@@ -75,8 +74,8 @@ pub(crate) fn outcome_of(number: u32) -> Option<Outcome>
     }
 }
 
+#[inline(always)]
 fn submit_at(
-    alloc: Global,
     handle: &mut Handle,
     client: u16,
     queue: u16,
@@ -86,58 +85,54 @@ fn submit_at(
 ) -> Answer
     ensures { IsStep handle.old.place.machine (event.Submit client queue portal kind (read bytes.now.bytes)) result handle.new.place.machine }
 {
-    let Some(mut machine) = handle.take(alloc) else {
+    if !handle.holds {
         return Answer::no_device();
-    };
-    let answer = machine
+    }
+    let answer = handle
+        .place
+        .machine()
         .device
         .submit(client, queue, portal, kind, &bytes.bytes);
-    handle.put(machine);
     Answer::of_submit(answer)
 }
 
-fn finish_at(
-    alloc: Global,
-    handle: &mut Handle,
-    engine: u16,
-    ticket: Ticket,
-    outcome: Outcome,
-) -> Answer
+fn finish_at(handle: &mut Handle, engine: u16, ticket: Ticket, outcome: Outcome) -> Answer
     ensures { IsStep handle.old.place.machine (event.Finish engine ticket outcome) result handle.new.place.machine }
 {
-    let Some(mut machine) = handle.take(alloc) else {
+    if !handle.holds {
         return Answer::no_device();
-    };
-    let answer = machine.device.finish(engine, ticket, outcome);
-    handle.put(machine);
+    }
+    let answer = handle
+        .place
+        .machine()
+        .device
+        .finish(engine, ticket, outcome);
     Answer::of_finish(answer)
 }
 
-fn issue(alloc: Global, handle: &mut Handle, command: Command) -> Answer
+fn issue(handle: &mut Handle, command: Command) -> Answer
     ensures { IsStep handle.old.place.machine (event.Issue command) result handle.new.place.machine }
 {
-    let Some(mut machine) = handle.take(alloc) else {
+    if !handle.holds {
         return Answer::no_device();
-    };
-    let answer = machine.device.issue(command);
-    handle.put(machine);
+    }
+    let answer = handle.place.machine().device.issue(command);
     Answer::of_issue(answer)
 }
 
-fn write_queue(alloc: Global, handle: &mut Handle, queue: u16, config: QueueConfig) -> Answer
+fn write_queue(handle: &mut Handle, queue: u16, config: QueueConfig) -> Answer
     ensures { IsStep handle.old.place.machine (event.WriteQueue queue config) result handle.new.place.machine }
 {
-    let Some(mut machine) = handle.take(alloc) else {
+    if !handle.holds {
         return Answer::no_device();
-    };
-    let answer = machine.device.write_queue(queue, config);
-    handle.put(machine);
+    }
+    let answer = handle.place.machine().device.write_queue(queue, config);
     Answer::of_write(answer)
 }
 
 // A submission, where the portal's number is one.
+#[inline(always)]
 fn submit(
-    alloc: Global,
     handle: &mut Handle,
     client: u16,
     queue: u16,
@@ -148,7 +143,7 @@ fn submit(
     ensures { IsCall handle.old.place.machine (submission client queue portal kind bytes.now.bytes) result handle.new.place.machine }
 {
     match portal_of(portal) {
-        Some(portal) => submit_at(alloc, handle, client, queue, portal, kind, bytes),
+        Some(portal) => submit_at(handle, client, queue, portal, kind, bytes),
         None => Answer::bad_argument(),
     }
 }
@@ -156,7 +151,6 @@ fn submit(
 /// The step of a client that writes a descriptor by ENQCMD.
 #[unsafe(no_mangle)]
 pub extern "C" fn dsa_enqcmd(
-    alloc: Global,
     handle: &mut Handle,
     client: u16,
     queue: u16,
@@ -166,21 +160,12 @@ pub extern "C" fn dsa_enqcmd(
 ) -> Answer
     ensures { IsCall handle.old.place.machine (submission client queue portal (kind.Enqcmd pasid) bytes.now.bytes) result handle.new.place.machine }
 {
-    submit(
-        alloc,
-        handle,
-        client,
-        queue,
-        portal,
-        Kind::Enqcmd { pasid },
-        bytes,
-    )
+    submit(handle, client, queue, portal, Kind::Enqcmd { pasid }, bytes)
 }
 
 /// The step of a client that writes a descriptor by MOVDIR64B.
 #[unsafe(no_mangle)]
 pub extern "C" fn dsa_movdir64b(
-    alloc: Global,
     handle: &mut Handle,
     client: u16,
     queue: u16,
@@ -189,58 +174,49 @@ pub extern "C" fn dsa_movdir64b(
 ) -> Answer
     ensures { IsCall handle.old.place.machine (submission client queue portal kind.Movdir64b bytes.now.bytes) result handle.new.place.machine }
 {
-    submit(alloc, handle, client, queue, portal, Kind::Movdir64b, bytes)
+    submit(handle, client, queue, portal, Kind::Movdir64b, bytes)
 }
 
 /// The step of an engine that asks for an entry.
 #[unsafe(no_mangle)]
-pub extern "C" fn dsa_dispatch(alloc: Global, handle: &mut Handle, engine: u16) -> Answer
+pub extern "C" fn dsa_dispatch(handle: &mut Handle, engine: u16) -> Answer
     ensures { IsStep handle.old.place.machine (event.Dispatch engine) result handle.new.place.machine }
 {
-    let Some(mut machine) = handle.take(alloc) else {
+    if !handle.holds {
         return Answer::no_device();
-    };
-    let answer = machine.device.dispatch(engine);
-    handle.put(machine);
+    }
+    let answer = handle.place.machine().device.dispatch(engine);
     Answer::of_dispatch(answer)
 }
 
 /// The step of an engine that starts the first of its members that does not run.
 #[unsafe(no_mangle)]
-pub extern "C" fn dsa_start(alloc: Global, handle: &mut Handle, engine: u16) -> Answer
+pub extern "C" fn dsa_start(handle: &mut Handle, engine: u16) -> Answer
     ensures { IsStep handle.old.place.machine (event.Start engine) result handle.new.place.machine }
 {
-    let Some(mut machine) = handle.take(alloc) else {
+    if !handle.holds {
         return Answer::no_device();
-    };
-    let answer = machine.device.start(engine);
-    handle.put(machine);
+    }
+    let answer = handle.place.machine().device.start(engine);
     Answer::of_start(answer)
 }
 
 /// The step of an engine that hands in the next member of its batch.
 #[unsafe(no_mangle)]
-pub extern "C" fn dsa_fetch(
-    alloc: Global,
-    handle: &mut Handle,
-    engine: u16,
-    bytes: &Bytes,
-) -> Answer
+pub extern "C" fn dsa_fetch(handle: &mut Handle, engine: u16, bytes: &Bytes) -> Answer
     ensures { IsStep handle.old.place.machine (event.Fetch engine (read bytes.now.bytes)) result handle.new.place.machine }
 {
     let desc = Descriptor::parse(&bytes.bytes);
-    let Some(mut machine) = handle.take(alloc) else {
+    if !handle.holds {
         return Answer::no_device();
-    };
-    let answer = machine.device.fetch(engine, desc);
-    handle.put(machine);
+    }
+    let answer = handle.place.machine().device.fetch(engine, desc);
     Answer::of_fetch(answer)
 }
 
 /// The step of an engine that ends an entry, and says by 0 that all was done or by 1 that an address had no page.
 #[unsafe(no_mangle)]
 pub extern "C" fn dsa_finish(
-    alloc: Global,
     handle: &mut Handle,
     engine: u16,
     cell: u32,
@@ -254,43 +230,37 @@ pub extern "C" fn dsa_finish(
         name,
     };
     match outcome_of(outcome) {
-        Some(outcome) => finish_at(alloc, handle, engine, ticket, outcome),
+        Some(outcome) => finish_at(handle, engine, ticket, outcome),
         None => Answer::bad_argument(),
     }
 }
 
 /// The step of an administrator who writes the command register.
 #[unsafe(no_mangle)]
-pub extern "C" fn dsa_command(alloc: Global, handle: &mut Handle, word: u32) -> Answer
+pub extern "C" fn dsa_command(handle: &mut Handle, word: u32) -> Answer
     ensures { IsIssue (command_of word) handle.old.place.machine result handle.new.place.machine }
 {
     match CommandWord::parse(word) {
-        Ok(command) => issue(alloc, handle, command),
+        Ok(command) => issue(handle, command),
         Err(fault) => Answer::refused(fault),
     }
 }
 
 /// The step of an administrator who asks whether the active command is over.
 #[unsafe(no_mangle)]
-pub extern "C" fn dsa_poll(alloc: Global, handle: &mut Handle) -> Answer
+pub extern "C" fn dsa_poll(handle: &mut Handle) -> Answer
     ensures { IsStep handle.old.place.machine event.Poll result handle.new.place.machine }
 {
-    let Some(mut machine) = handle.take(alloc) else {
+    if !handle.holds {
         return Answer::no_device();
-    };
-    let answer = machine.device.poll();
-    handle.put(machine);
+    }
+    let answer = handle.place.machine().device.poll();
     Answer::of_poll(answer)
 }
 
 /// The step of an administrator who writes the configuration of a queue.
 #[unsafe(no_mangle)]
-pub extern "C" fn dsa_write_queue(
-    alloc: Global,
-    handle: &mut Handle,
-    queue: u16,
-    config: &DeviceQueue,
-) -> Answer
+pub extern "C" fn dsa_write_queue(handle: &mut Handle, queue: u16, config: &DeviceQueue) -> Answer
     ensures { IsCall handle.old.place.machine (queue_write queue config.now) result handle.new.place.machine }
 {
     let Some(dedicated) = bit_of(config.dedicated) else {
@@ -305,17 +275,12 @@ pub extern "C" fn dsa_write_queue(
         max_batch_shift: config.max_batch_shift,
         max_xfer_shift: config.max_xfer_shift,
     };
-    write_queue(alloc, handle, queue, config)
+    write_queue(handle, queue, config)
 }
 
 /// The step of an administrator who writes the configuration of a group.
 #[unsafe(no_mangle)]
-pub extern "C" fn dsa_write_group(
-    alloc: Global,
-    handle: &mut Handle,
-    group: u16,
-    config: &DeviceGroup,
-) -> Answer
+pub extern "C" fn dsa_write_group(handle: &mut Handle, group: u16, config: &DeviceGroup) -> Answer
     ensures { IsStep handle.old.place.machine (event.WriteGroup group (group_of config.now)) result handle.new.place.machine }
 {
     let config = GroupConfig {
@@ -324,23 +289,21 @@ pub extern "C" fn dsa_write_group(
         reserved: config.reserved,
         allowed: config.allowed,
     };
-    let Some(mut machine) = handle.take(alloc) else {
+    if !handle.holds {
         return Answer::no_device();
-    };
-    let answer = machine.device.write_group(group, config);
-    handle.put(machine);
+    }
+    let answer = handle.place.machine().device.write_group(group, config);
     Answer::of_write(answer)
 }
 
 /// The step of an administrator who clears the noted error, and is told it.
 #[unsafe(no_mangle)]
-pub extern "C" fn dsa_clear_error(alloc: Global, handle: &mut Handle) -> Answer
+pub extern "C" fn dsa_clear_error(handle: &mut Handle) -> Answer
     ensures { IsStep handle.old.place.machine event.ClearError result handle.new.place.machine }
 {
-    let Some(mut machine) = handle.take(alloc) else {
+    if !handle.holds {
         return Answer::no_device();
-    };
-    let answer = machine.device.clear_error();
-    handle.put(machine);
+    }
+    let answer = handle.place.machine().device.clear_error();
     Answer::of_clear(answer)
 }

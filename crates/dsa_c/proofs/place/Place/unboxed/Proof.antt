@@ -18,9 +18,9 @@ use denote.RattleType.{RattleType}
 use denote.Signature.{Slot, plain, type_at}
 use denote.Steps.{heard, nothing}
 use denote.Triple.Walked.{says, Stays, stay_dropped, walk_of, ends_at, Goes-dropped}
-use Rattle.std.{proofs.{raw_atomic.Walks.{proved_at}, lemmas.Bool.{true≢false}}, specs.Prelude.{None, Some, IsSome}}
+use Rattle.std.{proofs.raw_atomic.Walks.{proved_at}, specs.Prelude.{IsSome}}
 use Rattle.std_alloc.proofs.BoxSteps.{Form.{D, B, word, box_typed}, Steps.{box_out, box_in}}
-use Rattle.dsa_c.proofs.{Machines.{machines}, place.Place.unboxed.Statement.{statement}}
+use Rattle.dsa_c.proofs.{Machines.{machines, there_is}, place.Place.unboxed.Statement.{statement}}
 use Rattle.dsa_c.specs.{Place.{HeldMachine}, contracts.place.Place.unboxed.Key.{name as #self}}
 
 abbrev Given : Slot 0
@@ -31,11 +31,6 @@ Made = type_at (here.signature).result tt
 
 abbrev stayed : Stays (here.ended).signature.params (here.ended).kept
 stayed = (stay_dropped Given yes, tt)
-
--- a machine that there is
-there_is : (held : HeldMachine) → IsSome held → (m : _) × (held ≡ Some m)
-there_is None is = absurd (true≢false (sym is))
-there_is (Some m) is = (m, refl)
 
 pub unboxed_spec : {M : Type 1} → statement M
 unboxed_spec 𝓤 𝓛 𝓜 𝓡 wired =
