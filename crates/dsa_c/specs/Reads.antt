@@ -1,9 +1,11 @@
 -- What a read writes for C.
-use Rattle.std.specs.Prelude.{◌≡◌, ℕ, Bool, Option, None, Some}
-use Rattle.dsa_base.specs.Rows.{passes}
+use Rattle.std.specs.Prelude.{◌≡◌, ℕ, Bool, List, Option, None, Some, nat_lt}
+use Rattle.dsa_base.specs.Rows.{passes, when}
 use Rattle.dsa_regs.specs.declared.Phase.{Phase, TheVariants.{Off, On, Stopping}}
 use Rattle.dsa_regs.specs.declared.{QueueConfig.{QueueConfig}, GroupConfig.{GroupConfig}}
-use Rattle.dsa_store.specs.Content.{Slot}
+use Rattle.dsa_regs.specs.declared.layout.ListUse.{ListUse, TheVariants.{Queue, Progress, Members}}
+use Rattle.dsa_store.specs.Content.{Slot, chain}
+use Rattle.dsa_book.specs.Work.{in_progress, members}
 use Rattle.dsa_book.specs.declared.note.BatchNote.{BatchNote}
 use Rattle.dsa_device.specs.Running.{Running}
 use Rattle.dsa_c.specs.declared.steps.{DeviceQueue.{DeviceQueue}, DeviceGroup.{DeviceGroup}}
@@ -18,6 +20,12 @@ IsWritten form (Some x) said before after = (said ≡ 1) × (after ≡ form x)
 -- whether there is a device behind the handle, and it passes
 abbrev pub bit_asked : HeldMachine → (Running → Bool) → ℕ
 bit_asked before test = bit_number (passes (λ machine. test machine.device) before)
+
+-- the entries of a list, where the device has such a list
+abbrev pub listed : Running → ListUse → Option (List Slot)
+listed d (Queue queue) = when (nat_lt queue d.caps.queues) (chain d.state.work.content queue)
+listed d (Progress engine) = when (nat_lt engine d.caps.engines) (in_progress d.state.work engine)
+listed d (Members engine) = when (nat_lt engine d.caps.engines) (members d.state.work engine)
 
 abbrev pub phase_number : Phase → ℕ
 phase_number Off = 0

@@ -3,19 +3,19 @@
 ghost use Rattle.std.specs.Prelude.{◌≡◌, ◌==◌, nat_lt, length};
 ghost use Rattle.dsa_base.specs.Rows.{when};
 ghost use Rattle.dsa_regs.specs.Config.{queue_at, group_at};
-ghost use Rattle.dsa_store.specs.Content.{chain};
+ghost use Rattle.dsa_regs.specs.declared.layout.ListUse.TheVariants as list;
 ghost use Rattle.dsa_book.specs.State.{phase_at};
 ghost use Rattle.dsa_book.specs.Work.{in_progress, members, note_at};
 ghost use Rattle.dsa_device.specs.Reads.{awaited, is_held, slot_at};
 ghost use Rattle.dsa_c.specs.Calls.{asked, asked_for, or_none};
-ghost use Rattle.dsa_c.specs.Reads.{IsWritten, bit_asked, phase_number, queue_for_c, group_for_c, entry_for_c, batch_for_c};
+ghost use Rattle.dsa_c.specs.Reads.{IsWritten, bit_asked, phase_number, listed, queue_for_c, group_for_c, entry_for_c, batch_for_c};
 ghost use Rattle.dsa_c.specs.Answers.{bit_number};
 
 use crate::handle::Handle;
 use crate::reads::or_none;
 use crate::steps::{DeviceGroup, DeviceQueue};
 use dsa_book::{BatchNote, Ticket};
-use dsa_regs::{GroupConfig, Phase, QueueConfig};
+use dsa_regs::{GroupConfig, ListUse, Phase, QueueConfig};
 use dsa_store::{Cell, Entry};
 
 /// An entry that the device holds, as C reads it.
@@ -107,10 +107,20 @@ fn entry_for_c(cell: Cell, entry: &Entry) -> DeviceEntry
     }
 }
 
-// Writes the entry, where there is one.
-fn write_entry(slot: Option<(Cell, Entry)>, entry: &mut DeviceEntry) -> u32
-    ensures { IsWritten entry_for_c slot result entry.old entry.new }
+// Writes the entry at this place of one of the device's lists, where there is one.
+fn write_entry(handle: &mut Handle, list: ListUse, place: u64, entry: &mut DeviceEntry) -> u32
+    ensures value { IsWritten entry_for_c (asked_for handle.old.place.machine (λ d. slot_at (listed d list) place)) result entry.old entry.new }
+    ensures same { handle.new.place.machine ≡ handle.old.place.machine }
 {
+    if !handle.holds {
+        return 0;
+    }
+    let machine = handle.place.machine();
+    let slot = match list {
+        ListUse::Queue(queue) => machine.device.waiting_at(queue, place as usize),
+        ListUse::Progress(engine) => machine.device.in_progress_at(engine, place as usize),
+        ListUse::Members(engine) => machine.device.member_at(engine, place as usize),
+    };
     let Some((cell, found)) = slot else {
         return 0;
     };
@@ -212,18 +222,10 @@ pub extern "C" fn dsa_waiting_at(
     place: u64,
     entry: &mut DeviceEntry,
 ) -> u32
-    ensures value { IsWritten entry_for_c (asked_for handle.old.place.machine (λ d. slot_at (when (nat_lt queue d.caps.queues) (chain d.state.work.content queue)) place)) result entry.old entry.new }
+    ensures value { IsWritten entry_for_c (asked_for handle.old.place.machine (λ d. slot_at (listed d (list.Queue queue)) place)) result entry.old entry.new }
     ensures same { handle.new.place.machine ≡ handle.old.place.machine }
 {
-    if !handle.holds {
-        return 0;
-    }
-    let slot = handle
-        .place
-        .machine()
-        .device
-        .waiting_at(queue, place as usize);
-    write_entry(slot, entry)
+    write_entry(handle, ListUse::Queue(queue), place, entry)
 }
 
 /// The submitted entry at this place of those that the engine has in progress, the first one taken at 0.
@@ -234,18 +236,10 @@ pub extern "C" fn dsa_in_progress_at(
     place: u64,
     entry: &mut DeviceEntry,
 ) -> u32
-    ensures value { IsWritten entry_for_c (asked_for handle.old.place.machine (λ d. slot_at (when (nat_lt engine d.caps.engines) (in_progress d.state.work engine)) place)) result entry.old entry.new }
+    ensures value { IsWritten entry_for_c (asked_for handle.old.place.machine (λ d. slot_at (listed d (list.Progress engine)) place)) result entry.old entry.new }
     ensures same { handle.new.place.machine ≡ handle.old.place.machine }
 {
-    if !handle.holds {
-        return 0;
-    }
-    let slot = handle
-        .place
-        .machine()
-        .device
-        .in_progress_at(engine, place as usize);
-    write_entry(slot, entry)
+    write_entry(handle, ListUse::Progress(engine), place, entry)
 }
 
 /// The member at this place of those of the engine's batch that have not ended, the first one fetched at 0.
@@ -256,18 +250,10 @@ pub extern "C" fn dsa_member_at(
     place: u64,
     entry: &mut DeviceEntry,
 ) -> u32
-    ensures value { IsWritten entry_for_c (asked_for handle.old.place.machine (λ d. slot_at (when (nat_lt engine d.caps.engines) (members d.state.work engine)) place)) result entry.old entry.new }
+    ensures value { IsWritten entry_for_c (asked_for handle.old.place.machine (λ d. slot_at (listed d (list.Members engine)) place)) result entry.old entry.new }
     ensures same { handle.new.place.machine ≡ handle.old.place.machine }
 {
-    if !handle.holds {
-        return 0;
-    }
-    let slot = handle
-        .place
-        .machine()
-        .device
-        .member_at(engine, place as usize);
-    write_entry(slot, entry)
+    write_entry(handle, ListUse::Members(engine), place, entry)
 }
 
 /// What is noted of the batch that the engine works on.
