@@ -12,6 +12,27 @@ static bool is_last(struct dsa_model *device, struct dsa_event wanted)
 	return memcmp(&event, &wanted, sizeof event) == 0;
 }
 
+/* Whether the last stored step wrote this configuration to a queue, and none to a group. */
+static bool wrote_queue(struct dsa_model *device, const struct dsa_queue *wanted)
+{
+	struct dsa_queue queue;
+	struct dsa_group group = { .queues = 77 };
+	uint64_t last = dsa_history_length(device) - 1;
+	memset(&queue, 0xff, sizeof queue);
+	CHECK(dsa_history_group_config(device, last, &group) == 0 && group.queues == 77);
+	return dsa_history_queue_config(device, last, &queue) == 1 && memcmp(&queue, wanted, sizeof queue) == 0;
+}
+
+static bool wrote_group(struct dsa_model *device, const struct dsa_group *wanted)
+{
+	struct dsa_queue queue = { .size = 77 };
+	struct dsa_group group = { 0, 0, 0, 0 };
+	uint64_t last = dsa_history_length(device) - 1;
+	CHECK(dsa_history_queue_config(device, last, &queue) == 0 && queue.size == 77);
+	return dsa_history_group_config(device, last, &group) == 1 && group.queues == wanted->queues &&
+		group.engines == wanted->engines && group.reserved == wanted->reserved && group.allowed == wanted->allowed;
+}
+
 static void set_up(struct dsa_model *device)
 {
 	const struct dsa_caps caps = { 2, 2, 2, 16, 16, 2, 3, 20 };
@@ -19,10 +40,13 @@ static void set_up(struct dsa_model *device)
 	CHECK(dsa_open(device, &caps, 100) == DSA_OPENED);
 	CHECK(dsa_write_queue(device, 0, &shared_queue).kind == DSA_WRITTEN);
 	LAST_IS(device, .kind = DSA_EVENT_WRITE_QUEUE);
+	CHECK(wrote_queue(device, &shared_queue));
 	CHECK(dsa_write_queue(device, 1, &own_queue).kind == DSA_WRITTEN);
 	LAST_IS(device, .kind = DSA_EVENT_WRITE_QUEUE, .queue = 1);
+	CHECK(wrote_queue(device, &own_queue));
 	CHECK(dsa_write_group(device, 1, &group).kind == DSA_WRITTEN);
 	LAST_IS(device, .kind = DSA_EVENT_WRITE_GROUP, .group = 1);
+	CHECK(wrote_group(device, &group));
 	CHECK(dsa_command(device, DSA_COMMAND(DSA_ENABLE_DEVICE, 0)).kind == DSA_ENDED);
 	LAST_IS(device, .kind = DSA_EVENT_COMMAND, .command = DSA_ENABLE_DEVICE);
 	CHECK(dsa_command(device, DSA_COMMAND(DSA_ENABLE_WQ, 0)).kind == DSA_ENDED);
@@ -75,12 +99,18 @@ int main(void)
 {
 	struct dsa_model device = DSA_CLOSED;
 	struct dsa_event event = { .kind = 77 };
+	struct dsa_queue queue = { .size = 77 };
+	struct dsa_group group = { .queues = 77 };
 	CHECK(dsa_history_event(&device, 0, &event) == 0 && event.kind == 77);
+	CHECK(dsa_history_queue_config(&device, 0, &queue) == 0 && dsa_history_group_config(&device, 0, &group) == 0);
 	set_up(&device);
 	batch(&device);
 	disable(&device);
 	CHECK(dsa_history_event(&device, dsa_history_length(&device), &event) == 0 && event.kind == 77);
 	CHECK(dsa_history_event(&device, UINT64_MAX, &event) == 0 && event.kind == 77);
+	CHECK(dsa_history_queue_config(&device, UINT64_MAX, &queue) == 0 && queue.size == 77);
+	CHECK(dsa_history_group_config(&device, UINT64_MAX, &group) == 0 && group.queues == 77);
+	CHECK(dsa_history_queue_config(&device, 0, &queue) == 1 && queue.size == shared_queue.size);
 	CHECK(dsa_history_event(&device, 1, &event) == 1 && event.kind == DSA_EVENT_WRITE_QUEUE && event.queue == 1);
 	dsa_close(&device);
 	return 0;

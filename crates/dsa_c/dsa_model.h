@@ -175,7 +175,7 @@ enum dsa_event_kind {
 };
 
 /* An event of the history: the call that was made. Numbers that its kind does not speak of are 0. Of a descriptor it has what
- * dsa_entry has, but for the PASID; which configuration was written is not told. */
+ * dsa_entry has, but for the PASID. dsa_history_queue_config and dsa_history_group_config tell which configuration was written. */
 struct dsa_event {
 	uint32_t kind;      /* enum dsa_event_kind */
 	uint32_t name;
@@ -272,6 +272,9 @@ uint32_t dsa_in_progress_at(struct dsa_model *handle, uint16_t engine, uint64_t 
 uint32_t dsa_member_at(struct dsa_model *handle, uint16_t engine, uint64_t place, struct dsa_entry *entry);
 uint32_t dsa_batch(struct dsa_model *handle, uint16_t engine, struct dsa_batch *batch);
 uint32_t dsa_history_event(struct dsa_model *handle, uint64_t position, struct dsa_event *event); /* of a stored step */
+/* The configuration that a stored step wrote to a queue or to a group; of another step there is none. */
+uint32_t dsa_history_queue_config(struct dsa_model *handle, uint64_t position, struct dsa_queue *config);
+uint32_t dsa_history_group_config(struct dsa_model *handle, uint64_t position, struct dsa_group *config);
 
 /* ---- descriptors: these need no device; `member` is 0 for one that is submitted, else it is in a batch ---- */
 

@@ -1,7 +1,8 @@
 -- The events of the history, for C.
-use Rattle.std.specs.Prelude.{ℕ, ◌+◌, ◌*◌, ◌^◌}
+use Rattle.std.specs.Prelude.{ℕ, ◌+◌, ◌*◌, ◌^◌, Option, None, Some, option_map, slice_get}
 use Rattle.dsa_desc.specs.declared.{Outcome.{Outcome, TheVariants.{Success, PageFault}}, Descriptor.{Descriptor}}
 use Rattle.dsa_regs.specs.declared.{Command.{Command}, QueueMask.{QueueMask}}
+use Rattle.dsa_regs.specs.declared.{QueueConfig.{QueueConfig}, GroupConfig.{GroupConfig}}
 use Rattle.dsa_regs.specs.declared.Command.TheVariants.{EnableWq, DisableWq, DrainWq, AbortWq, ResetWq, DrainPasid}
 use Rattle.dsa_regs.specs.declared.Command.TheVariants.{AbortPasid}
 use Rattle.dsa_regs.specs.Command.{number_of}
@@ -11,7 +12,7 @@ use Rattle.dsa_book.specs.declared.event.Kind.{Kind, TheVariants.{Enqcmd, Movdir
 use Rattle.dsa_book.specs.declared.event.Event.{Event}
 use Rattle.dsa_book.specs.declared.event.Event.TheVariants.{Submit, Dispatch, Fetch, Start, Finish, Issue, Poll}
 use Rattle.dsa_book.specs.declared.event.Event.TheVariants.{WriteQueue, WriteGroup, ClearError}
-use Rattle.dsa_c.specs.declared.events.DeviceEvent.{DeviceEvent}
+use Rattle.dsa_c.specs.{declared.events.DeviceEvent.{DeviceEvent}, Calls.{asked_for}, Place.{HeldMachine}}
 
 abbrev pub portal_number : Portal → ℕ
 portal_number Limited = 0
@@ -88,3 +89,17 @@ event_for_c Poll = of_kind 8
 event_for_c (WriteQueue queue config) = record (of_kind 9) { queue = queue }
 event_for_c (WriteGroup group config) = record (of_kind 10) { group = group }
 event_for_c ClearError = of_kind 11
+
+-- the event of the stored step at a position, the first one at 0
+abbrev pub event_at : HeldMachine → ℕ → Option Event
+event_at before position =
+    option_map (λ step. step.event) (asked_for before (λ d. slice_get d.history position))
+
+-- the configuration that an event writes to a queue
+abbrev pub queue_written : Event → Option QueueConfig
+queue_written (WriteQueue queue config) = Some config
+queue_written _ = None
+
+abbrev pub group_written : Event → Option GroupConfig
+group_written (WriteGroup group config) = Some config
+group_written _ = None

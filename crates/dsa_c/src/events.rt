@@ -1,14 +1,15 @@
 //! The events of the history as numbers.
 
-ghost use Rattle.std.specs.Prelude.{◌≡◌, slice_get};
-ghost use Rattle.dsa_c.specs.Calls.{asked_for};
-ghost use Rattle.dsa_c.specs.Reads.{IsWritten};
-ghost use Rattle.dsa_c.specs.Events.{portal_number, outcome_number, mask_number, operand_of, of_kind, of_engine, with_descriptor, of_instruction, of_finish, event_for_c};
+ghost use Rattle.std.specs.Prelude.{◌≡◌, option_and_then};
+ghost use Rattle.dsa_c.specs.Reads.{IsWritten, queue_for_c, group_for_c};
+ghost use Rattle.dsa_c.specs.Events.{portal_number, outcome_number, mask_number, operand_of, of_kind, of_engine, with_descriptor, of_instruction, of_finish, event_for_c, event_at, queue_written, group_written};
 
 use crate::handle::Handle;
+use crate::standing::{write_group, write_queue};
+use crate::steps::{DeviceGroup, DeviceQueue};
 use dsa_book::{Event, Kind, Portal, Ticket};
 use dsa_desc::{Descriptor, Outcome};
-use dsa_regs::{Command, QueueMask};
+use dsa_regs::{Command, GroupConfig, QueueConfig, QueueMask};
 
 /// An event: its kind, and the numbers that it speaks of.
 #[repr(C)]
@@ -181,6 +182,37 @@ fn event_for_c(event: Event) -> DeviceEvent
     }
 }
 
+fn queue_written(event: Event) -> Option<QueueConfig>
+    ensures { result ≡ queue_written event }
+{
+    match event {
+        Event::WriteQueue { config, .. } => Some(config),
+        _ => None,
+    }
+}
+
+fn group_written(event: Event) -> Option<GroupConfig>
+    ensures { result ≡ group_written event }
+{
+    match event {
+        Event::WriteGroup { config, .. } => Some(config),
+        _ => None,
+    }
+}
+
+// The event of the stored step at this position.
+fn event_at(handle: &mut Handle, position: u64) -> Option<Event>
+    ensures value { result ≡ event_at handle.old.place.machine position }
+    ensures same { handle.new.place.machine ≡ handle.old.place.machine }
+{
+    if !handle.holds {
+        return None;
+    }
+    let machine = handle.place.machine();
+    let step = machine.device.history().get(position as usize).copied();
+    step.map(|step| step.event)
+}
+
 /// Reads the event of the stored step at this position, the first one at 0.
 #[unsafe(no_mangle)]
 pub extern "C" fn dsa_history_event(
@@ -188,22 +220,40 @@ pub extern "C" fn dsa_history_event(
     position: u64,
     event: &mut DeviceEvent,
 ) -> u32
-    ensures value { IsWritten (λ step. event_for_c step.event) (asked_for handle.old.place.machine (λ d. slice_get d.history position)) result event.old event.new }
+    ensures value { IsWritten event_for_c (event_at handle.old.place.machine position) result event.old event.new }
     ensures same { handle.new.place.machine ≡ handle.old.place.machine }
 {
-    if !handle.holds {
-        return 0;
-    }
-    let step = handle
-        .place
-        .machine()
-        .device
-        .history()
-        .get(position as usize)
-        .copied();
-    let Some(step) = step else {
+    let Some(found) = event_at(handle, position) else {
         return 0;
     };
-    *event = event_for_c(step.event);
+    *event = event_for_c(found);
     1
+}
+
+/// Reads the configuration that the stored step at this position wrote to a queue.
+#[unsafe(no_mangle)]
+pub extern "C" fn dsa_history_queue_config(
+    handle: &mut Handle,
+    position: u64,
+    config: &mut DeviceQueue,
+) -> u32
+    ensures value { IsWritten queue_for_c (option_and_then queue_written (event_at handle.old.place.machine position)) result config.old config.new }
+    ensures same { handle.new.place.machine ≡ handle.old.place.machine }
+{
+    let written = event_at(handle, position).and_then(|event| queue_written(event));
+    write_queue(written, config)
+}
+
+/// Reads the configuration that the stored step at this position wrote to a group.
+#[unsafe(no_mangle)]
+pub extern "C" fn dsa_history_group_config(
+    handle: &mut Handle,
+    position: u64,
+    config: &mut DeviceGroup,
+) -> u32
+    ensures value { IsWritten group_for_c (option_and_then group_written (event_at handle.old.place.machine position)) result config.old config.new }
+    ensures same { handle.new.place.machine ≡ handle.old.place.machine }
+{
+    let written = event_at(handle, position).and_then(|event| group_written(event));
+    write_group(written, config)
 }

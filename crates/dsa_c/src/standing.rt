@@ -79,6 +79,28 @@ fn group_for_c(config: &GroupConfig) -> DeviceGroup
     }
 }
 
+// Writes the configuration, where there is one.
+pub(crate) fn write_queue(found: Option<QueueConfig>, config: &mut DeviceQueue) -> u32
+    ensures { IsWritten queue_for_c found result config.old config.new }
+{
+    let Some(found) = found else {
+        return 0;
+    };
+    *config = queue_for_c(&found);
+    1
+}
+
+// Writes the configuration, where there is one.
+pub(crate) fn write_group(found: Option<GroupConfig>, config: &mut DeviceGroup) -> u32
+    ensures { IsWritten group_for_c found result config.old config.new }
+{
+    let Some(found) = found else {
+        return 0;
+    };
+    *config = group_for_c(&found);
+    1
+}
+
 fn batch_for_c(note: &BatchNote) -> DeviceBatch
     ensures { result ≡ batch_for_c note.now }
 {
@@ -164,11 +186,7 @@ pub extern "C" fn dsa_queue_config(handle: &mut Handle, queue: u16, config: &mut
         return 0;
     }
     let found = handle.place.machine().device.queue_config(queue);
-    let Some(found) = found else {
-        return 0;
-    };
-    *config = queue_for_c(&found);
-    1
+    write_queue(found, config)
 }
 
 /// The configuration of the group.
@@ -181,11 +199,7 @@ pub extern "C" fn dsa_group_config(handle: &mut Handle, group: u16, config: &mut
         return 0;
     }
     let found = handle.place.machine().device.group_config(group);
-    let Some(found) = found else {
-        return 0;
-    };
-    *config = group_for_c(&found);
-    1
+    write_group(found, config)
 }
 
 /// The number of submitted entries that the engine has in progress.
