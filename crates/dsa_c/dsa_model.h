@@ -208,6 +208,9 @@ enum dsa_open_result {
  * but DSA_OPENED the handle is as it was. All memory is taken here, in proportion to the capacity and the cells. */
 uint32_t dsa_open(struct dsa_model *handle, const struct dsa_caps *caps, uint64_t capacity);
 
+/* How many bytes dsa_open asks malloc for in all, where it opens a device; 0 where it would refuse the capabilities or the capacity. */
+uint64_t dsa_size(const struct dsa_caps *caps, uint64_t capacity);
+
 /* Closes the device and frees its memory. On a closed handle it does nothing. */
 void dsa_close(struct dsa_model *handle);
 

@@ -1,7 +1,8 @@
 -- What opening a device does.
-use Rattle.std.specs.Prelude.{◌≡◌, ℕ, None, Some}
+use Rattle.std.specs.Prelude.{◌≡◌, ℕ, ◌+◌, ◌*◌, Option, None, Some}
 use Rattle.dsa_base.specs.Rows.{first_row}
-use Rattle.dsa_regs.specs.declared.Caps.{Caps}
+use Rattle.dsa_regs.specs.{declared.Caps.{Caps}, Caps.{cell_count, list_count}}
+use Rattle.dsa_device.specs.declared.faults.MakeFault.{MakeFault}
 use Rattle.dsa_device.specs.Running.{running_at_first}
 use Rattle.dsa_device.specs.Made.{opening_table, opening_fault}
 use Rattle.dsa_c.specs.{declared.opening.DeviceCaps.{DeviceCaps}, Calls.{opening_number}, Place.{HeldMachine}}
@@ -31,3 +32,9 @@ IsOpened caps capacity number (Some machine) =
 abbrev pub IsOpening : HeldMachine → Caps → ℕ → ℕ → HeldMachine → Type 0
 IsOpening None caps capacity number after = IsOpened caps capacity number after
 IsOpening (Some machine) caps capacity number after = (number ≡ 5) × (after ≡ Some machine)
+
+-- the bytes of a device with its store and its book, where nothing keeps it from being opened: a
+-- store has one list more than the device, for its free cells
+abbrev pub bytes_taken : Caps → ℕ → Option MakeFault → ℕ
+bytes_taken caps capacity None = 52 * cell_count caps + 20 * (list_count caps + 1) + 72 * capacity + 3552
+bytes_taken caps capacity (Some fault) = 0

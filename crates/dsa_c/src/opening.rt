@@ -1,13 +1,16 @@
 //! How a handle gets its device, and gives it up.
 
 ghost use Rattle.std.specs.Prelude.{◌≡◌, None, is_some};
-ghost use Rattle.dsa_c.specs.Opening.{IsOpening, caps_of};
+ghost use Rattle.dsa_base.specs.Rows.{first_row};
+ghost use Rattle.dsa_device.specs.Made.{opening_table};
+ghost use Rattle.dsa_c.specs.Opening.{IsOpening, caps_of, bytes_taken};
 ghost use Rattle.dsa_c.specs.Calls.{opening_number};
 
 use crate::handle::Handle;
-use dsa_device::MakeFault;
+use dsa_book::{FateRow, Step};
+use dsa_device::{MakeFault, check_opening};
 use dsa_machine::Machine;
-use dsa_regs::Caps;
+use dsa_regs::{Caps, cell_count, list_count};
 use std::alloc::Global;
 
 /// What a device has, as C says it.
@@ -48,6 +51,33 @@ fn fault_number(fault: MakeFault) -> u32
         MakeFault::BadStore => 3,
         MakeFault::OutOfMemory => 4,
     }
+}
+
+// The bytes of a cell with its entry and links, of the head of a list, of a step and a fate row, and of the device itself.
+const CELL_BYTES: u64 = 52;
+
+const LIST_BYTES: u64 = 20;
+
+const STEP_BYTES: u64 = 72;
+
+const DEVICE_BYTES: u64 = 3552;
+
+const _: () = prove!(size_of::<Step>() + size_of::<FateRow>() == 72);
+
+const _: () = prove!(size_of::<Machine>() == 3552);
+
+/// How many bytes an opened device of these capabilities and this capacity takes, 0 where it would be refused.
+#[unsafe(no_mangle)]
+pub extern "C" fn dsa_size(caps: &DeviceCaps, capacity: u64) -> u64
+    ensures { result ≡ bytes_taken (caps_of caps.now) capacity (first_row (opening_table (caps_of caps.now) capacity)) }
+{
+    let caps = caps_of(caps);
+    if check_opening(&caps, capacity).is_some() {
+        return 0;
+    }
+    let cells = CELL_BYTES * u64::from(cell_count(&caps));
+    let lists = LIST_BYTES * (u64::from(list_count(&caps)) + 1);
+    cells + lists + STEP_BYTES * capacity + DEVICE_BYTES
 }
 
 /// Opens a device behind a handle that has none: 0, or the number of what keeps it from being opened.
