@@ -3,10 +3,9 @@
 #![tactic(auto)]
 
 use dsa_regs::{cell_count, list_count};
-use dsa_scenario::{
-    ScenarioFault, check_document, parse_document, run_document, run_scenario, run_words,
-};
+use dsa_scenario::{ScenarioFault, check_document, parse_document, run_document, run_scenario};
 use dsa_store::PlainStore;
+use dsa_words::run_words;
 use std::alloc::Global;
 use std::marker::Sync;
 use std::sync::Wait;

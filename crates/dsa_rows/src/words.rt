@@ -1,7 +1,7 @@
 //! What the program does with the words of its command line.
 
 use crate::streams::Narrow;
-use dsa_scenario::run_words;
+use dsa_words::run_words;
 use std::alloc::{AllocError, Global};
 use std::marker::Sync;
 use std::sync::Wait;

@@ -5,7 +5,8 @@
 //! the command line are not understood.
 #![tactic(auto)]
 
-use dsa_scenario::{ScenarioFault, run_words, tell};
+use dsa_scenario::ScenarioFault;
+use dsa_words::{run_words, tell};
 use std::alloc::Global;
 use std::env;
 use std::process::ExitCode;

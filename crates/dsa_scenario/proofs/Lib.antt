@@ -1,13 +1,7 @@
-pub mod Accepted
 pub mod Bytes
-pub mod FaultCauses
 pub mod Hex
 pub mod Names
-pub mod OptionNumbers
-pub mod Pushes
 pub mod Records
 pub mod StepObjects
-pub mod Submissions
-pub mod ThreadTotals
 pub mod Tickets
 pub mod Whole

@@ -6,7 +6,5 @@ pub mod Lines
 pub mod Metered
 pub mod Run
 pub mod Scenario
-pub mod Threads
 pub mod Watched
-pub mod Words
 pub mod Worked

@@ -1,28 +1,26 @@
--- JSON values, step objects, records and words that the worked rows speak of.
+-- JSON values, step objects and records that the worked rows speak of.
 use Rattle.dsa_book.specs.declared.answer.Reply.TheVariants as reply
 use Rattle.dsa_book.specs.declared.event.Event.TheVariants as event
-use Rattle.std.specs.Prelude.{ℕ, ◌-◌, ◌^◌, ◌++◌, ◌&&◌, negsuc, Bool, true, false, not, List, [], ◌∷◌, filter, map}
-use Rattle.std.specs.Prelude.{replicate, codes, bytes_eq, Option, None, is_some, is_none, option_map, option_and_then}
+use Rattle.std.specs.Prelude.{ℕ, ◌-◌, ◌^◌, ◌++◌, ◌&&◌, negsuc, Bool, true, false, not, List, [], ◌∷◌, filter}
+use Rattle.std.specs.Prelude.{codes, bytes_eq, Option, None, is_some, is_none, option_and_then}
 use Rattle.std.specs.Prelude.{⊤}
 use Rattle.std.specs.{List.{list_all}, Fmt.{digits}}
 use Rattle.serde_json.specs.Data.{unsigned, negative, Data, null, boolean, number, string, array, object, no_items}
 use Rattle.serde_json.specs.Data.{item, Members, no_members, member}
 use Rattle.serde_json.specs.Read.{read}
-use Rattle.clap.specs.{Walk.{Text, one_of}, Simple.{subcommand_of}}
 use Rattle.dsa_desc.specs.declared.{Descriptor.{Descriptor}, Outcome.TheVariants.{Success}}
-use Rattle.dsa_regs.specs.declared.{Caps.{Caps}, Command.TheVariants.{EnableDevice, EnableWq}}
+use Rattle.dsa_regs.specs.declared.{Caps.{Caps}, QueueConfig.{QueueConfig}, GroupConfig.{GroupConfig}}
+use Rattle.dsa_regs.specs.declared.Command.TheVariants.{EnableDevice, EnableWq}
 use Rattle.dsa_regs.specs.declared.Fault.TheVariants.{BadCommand}
 use Rattle.dsa_book.specs.declared.answer.{Ticket.{Ticket}, Reply.{Reply}, SubmitAnswer.TheVariants.{Accepted}}
 use Rattle.dsa_book.specs.declared.answer.{DispatchAnswer.TheVariants.{Taken}, FetchAnswer.TheVariants.{Fetched}}
 use Rattle.dsa_book.specs.declared.answer.{FinishAnswer.TheVariants.{Done}, IssueAnswer.TheVariants.{Ended}}
 use Rattle.dsa_book.specs.declared.answer.{PollAnswer.TheVariants.{Full}, WriteAnswer.TheVariants.{Written}}
-use Rattle.dsa_book.specs.declared.event.{Event.{Event}, Kind.TheVariants.{Movdir64b}, Portal.TheVariants.{Limited}}
+use Rattle.dsa_book.specs.declared.event.{Event.{Event}, Kind.TheVariants.{Enqcmd, Movdir64b}, Portal.TheVariants.{Limited}}
 use Rattle.dsa_book.specs.declared.fate.{Fate.{Fate}, FateRow.{FateRow}}
 use Rattle.dsa_scenario.specs.declared.actions.Action.{Action, TheVariants.{Ask, Finish, Refuse}}
-use Rattle.dsa_scenario.specs.declared.options.Workload.{Workload}
 use Rattle.dsa_scenario.specs.declared.run.Record.{Record, TheVariants.{Stepped, Refused}}
-use Rattle.dsa_scenario.specs.{Fields.{whole_of}, Threads.{group_config, queue_config, setup_events, submission_of}}
-use Rattle.dsa_scenario.specs.Words.{program_app}
+use Rattle.dsa_scenario.specs.Fields.{whole_of}
 
 -- ---- JSON
 
@@ -254,19 +252,57 @@ digits_on_literals = tt
 
 -- ---- a run of one submission on a device of one engine, which fills the history
 
+abbrev pub caps_of_a_run : Caps
+caps_of_a_run = record {
+  queues = 1;
+  groups = 1;
+  engines = 1;
+  total_size = 16;
+  read_buffers = 32;
+  slots = 4;
+  max_batch_shift = 3;
+  max_xfer_shift = 20;
+}
+
+abbrev pub queue_of_a_run : QueueConfig
+queue_of_a_run = record {
+  size = 16;
+  threshold = 8;
+  dedicated = false;
+  priority = 1;
+  pasid = 0;
+  max_batch_shift = 3;
+  max_xfer_shift = 20;
+}
+
+abbrev pub group_of_a_run : GroupConfig
+group_of_a_run = record { queues = 1; engines = 1; reserved = 0; allowed = 32 }
+
+-- a Move of 4096 bytes, under PASID 1
+abbrev pub submission_of_a_run : Event
+submission_of_a_run =
+    event.Submit 0 0 Limited (Enqcmd 1) (record { pasid = 0; flags = 0; op = 3; size = 4096 })
+
 abbrev pub actions_of_a_run : List Action
 actions_of_a_run =
-    map Ask (setup_events 1)
-    ++ Refuse BadCommand ∷ Ask (submission_of 0) ∷ Ask (event.Dispatch 0) ∷ Finish 0 0 Success ∷ Ask event.Poll ∷ []
+    Ask (event.WriteQueue 0 queue_of_a_run) ∷
+    Ask (event.WriteGroup 0 group_of_a_run) ∷
+    Ask (event.Issue EnableDevice) ∷
+    Ask (event.Issue (EnableWq 0)) ∷
+    Refuse BadCommand ∷
+    Ask submission_of_a_run ∷
+    Ask (event.Dispatch 0) ∷
+    Finish 0 0 Success ∷
+    Ask event.Poll ∷ []
 
 abbrev pub records_of_a_run : List Record
 records_of_a_run =
-    stepped (event.WriteQueue 0 queue_config) (reply.Write Written) ∷
-    stepped (event.WriteGroup 0 (group_config 1)) (reply.Write Written) ∷
+    stepped (event.WriteQueue 0 queue_of_a_run) (reply.Write Written) ∷
+    stepped (event.WriteGroup 0 group_of_a_run) (reply.Write Written) ∷
     stepped (event.Issue EnableDevice) (reply.Issue (Ended 0)) ∷
     stepped (event.Issue (EnableWq 0)) (reply.Issue (Ended 0)) ∷
     Refused BadCommand ∷
-    stepped (submission_of 0) (reply.Submit (Accepted (ticket 3 0))) ∷
+    stepped submission_of_a_run (reply.Submit (Accepted (ticket 3 0))) ∷
     stepped (event.Dispatch 0) (reply.Dispatch (Taken (ticket 3 0) 0)) ∷
     stepped (event.Finish 0 (ticket 3 0) Success) (reply.Finish (Done 1)) ∷
     stepped event.Poll (reply.Poll Full) ∷ []
@@ -275,24 +311,3 @@ abbrev pub lines_of_a_run : List ℕ
 lines_of_a_run =
     codes "written\nwritten\nended 0\nended 0\nrefused 13 BadCommand\n"
     ++ codes "accepted 0\ntaken 0 from 0\ndone 01\nfull\nfate 0 - completed 01\n"
-
--- the bytes of a Move of 4096 bytes
-abbrev pub move_bytes : List ℕ
-move_bytes = replicate 7 0 ++ 0x03 ∷ replicate 25 0 ++ 0x10 ∷ replicate 30 0
-
--- ---- words
-
-abbrev pub load : ℕ → ℕ → ℕ → ℕ → Workload
-load clients engines each turns = record { clients = clients; engines = engines; each = each; turns = turns }
-
--- the command `threads` with one option
-abbrev pub threads_with : Text → Text → List Text
-threads_with option value = codes "threads" ∷ option ∷ value ∷ []
-
--- the command that the words name
-abbrev pub command_in : List Text → Option Text
-command_in words = option_map (λ found. found.0) (subcommand_of program_app words)
-
--- the text that the option has by these words
-abbrev pub value_in : List Text → Text → Option Text
-value_in words name = option_and_then (λ found. one_of name found.1) (subcommand_of program_app words)

@@ -1,9 +1,9 @@
-//! Worked documents, lines and words: what the definitions answer at chosen values, by computation.
+//! Worked documents and lines: what the definitions answer at chosen values, by computation.
 
 ghost use Rattle.std.specs.Prelude.{◌≡◌, ◌^◌, ◌++◌, [], ◌∷◌, codes, map, replicate, negsuc, Some, None, Ok, Err, true, false};
 ghost use Rattle.serde_json.specs.Data.{negative, null, boolean, number, string, array, no_items, item};
 ghost use Rattle.dsa_desc.specs.declared.Outcome.TheVariants.{Success, PageFault};
-ghost use Rattle.dsa_regs.specs.declared.Command.TheVariants.{EnableDevice, EnableWq};
+ghost use Rattle.dsa_regs.specs.declared.Command.TheVariants.{EnableWq};
 ghost use Rattle.dsa_regs.specs.declared.Fault.TheVariants.{BadCommand, Busy, BadIndex};
 ghost use Rattle.dsa_book.specs.declared.answer.Cause.TheVariants.{AtLimit, NotEnabled, WrongKind};
 ghost use Rattle.dsa_book.specs.declared.answer.ClearAnswer.TheVariants.{Cleared, Nothing, Full};
@@ -22,18 +22,14 @@ ghost use Rattle.dsa_book.specs.declared.event.Portal.TheVariants.{Limited, Unli
 ghost use Rattle.dsa_book.specs.declared.fate.Fate.TheVariants.{Completed, Aborted, Abandoned};
 ghost use Rattle.dsa_scenario.specs.declared.actions.Action.TheVariants.{Ask, Finish, Refuse};
 ghost use Rattle.dsa_scenario.specs.declared.faults.ScenarioFault.TheVariants.{NotJson, BadDocument, BadStep, BadCaps, BadCapacity};
-ghost use Rattle.dsa_scenario.specs.declared.options.Asked.TheVariants.{Scenario, Threads};
 ghost use Rattle.dsa_scenario.specs.declared.run.Record.TheVariants.{Refused};
-ghost use Rattle.clap.specs.declared.error.kind.ErrorKind.TheVariants.{UnknownArgument, InvalidSubcommand, ValueValidation, DisplayHelp};
 ghost use Rattle.dsa_scenario.specs.Fields.{whole_of, truth_of, text_of, hex_bytes_of};
 ghost use Rattle.dsa_scenario.specs.Actions.{caps_of, action_of};
 ghost use Rattle.dsa_scenario.specs.Document.{head_of, list_of, IsFaultOf};
 ghost use Rattle.dsa_scenario.specs.Lines.{reply_text, record_text, row_text, lines_of};
 ghost use Rattle.dsa_scenario.specs.Run.{ticket_of, event_of, steps_of, AreLinesOf};
 ghost use Rattle.dsa_scenario.specs.Scenario.{IsRenderingOf};
-ghost use Rattle.dsa_scenario.specs.Threads.{AreTotalsOf, IsInRange, Submits, caps_for, capacity_for, engine_script, group_config, move, queue_config, setup_events, submission_of, totals_text};
-ghost use Rattle.dsa_scenario.specs.Words.{AsksFor, IsMistaken, faults_of};
-ghost use Rattle.dsa_scenario.specs.Worked.{move_bytes, actions_of_a_run, lines_of_a_run, whole, read_number, fate, load, threads_with, value_in, command_in, smallest_caps_text, no_caps_text, document_text, object_of, changed, texts, takes, refuses, needs_each, are_below, is_truth, is_text, some_caps, some_document, queue_step, group_step, fill_text, fill, enqcmd_step, movdir_step, dispatch_step, fetch_step, start_step, finish_step, command_step, poll_step, clear_step, ticket, stepped, accepted, fetched};
+ghost use Rattle.dsa_scenario.specs.Worked.{actions_of_a_run, caps_of_a_run, lines_of_a_run, whole, read_number, fate, smallest_caps_text, no_caps_text, document_text, object_of, changed, texts, takes, refuses, needs_each, are_below, is_truth, is_text, some_caps, some_document, queue_step, group_step, fill_text, fill, enqcmd_step, movdir_step, dispatch_step, fetch_step, start_step, finish_step, command_step, poll_step, clear_step, ticket, stepped, accepted, fetched};
 
 /// Numbers are whole, without sign, and below the limit of their field; the key stands in an object.
 pub fn numbers()
@@ -273,65 +269,6 @@ pub fn events()
     ensures steps { steps_of (Refused Busy ∷ stepped Poll (Poll Nothing) ∷ Refused Busy ∷ []) ≡ record { event = Poll; reply = Poll Nothing } ∷ [] }
 {}
 
-/// What the words may be: none, or the command `threads` with its options.
-#[tactic(auto, unfolding(clap::proofs::OnLiterals::clap_on_literals))]
-pub fn words_understood()
-    ensures none { faults_of [] ≡ [] }
-    ensures scenario { command_in [] ≡ None }
-    ensures threads { faults_of (codes "threads" ∷ []) ≡ [] }
-    ensures workers { command_in (codes "threads" ∷ []) ≡ Some (codes "threads") }
-    ensures other_word { faults_of (codes "scenario" ∷ []) ≡ UnknownArgument ∷ InvalidSubcommand ∷ [] }
-    ensures option_alone { faults_of (codes "--clients" ∷ codes "2" ∷ []) ≡ UnknownArgument ∷ [] }
-    ensures other_option { faults_of (threads_with (codes "--queues") (codes "2")) ≡ UnknownArgument ∷ [] }
-    ensures help { faults_of (codes "--help" ∷ []) ≡ DisplayHelp ∷ [] }
-    ensures version { faults_of (codes "--version" ∷ []) ≡ UnknownArgument ∷ [] }
-{}
-
-/// The numbers of the options, where they are not given and where they are.
-#[tactic(auto, unfolding(clap::proofs::OnLiterals::clap_on_literals))]
-pub fn option_values()
-    ensures clients { value_in (codes "threads" ∷ []) (codes "clients") ≡ Some (codes "2") }
-    ensures engines { value_in (codes "threads" ∷ []) (codes "engines") ≡ Some (codes "2") }
-    ensures each { value_in (codes "threads" ∷ []) (codes "each") ≡ Some (codes "100") }
-    ensures turns { value_in (codes "threads" ∷ []) (codes "turns") ≡ Some (codes "10000") }
-    ensures given { value_in (threads_with (codes "--each") (codes "7")) (codes "each") ≡ Some (codes "7") }
-    ensures other { value_in (threads_with (codes "--each") (codes "7")) (codes "turns") ≡ Some (codes "10000") }
-{}
-
-/// The bounds of the options.
-#[tactic(auto, unfolding(clap::proofs::OnLiterals::clap_on_literals))]
-pub fn option_bounds()
-    ensures clients { map (λ n. faults_of (threads_with (codes "--clients") n)) (codes "0" ∷ codes "1" ∷ codes "16" ∷ codes "17" ∷ []) ≡ (ValueValidation ∷ []) ∷ [] ∷ [] ∷ (ValueValidation ∷ []) ∷ [] }
-    ensures engines { map (λ n. faults_of (threads_with (codes "--engines") n)) (codes "0" ∷ codes "1" ∷ codes "8" ∷ codes "9" ∷ []) ≡ (ValueValidation ∷ []) ∷ [] ∷ [] ∷ (ValueValidation ∷ []) ∷ [] }
-    ensures each { map (λ n. faults_of (threads_with (codes "--each") n)) (codes "0" ∷ codes "1" ∷ codes "1000" ∷ codes "1001" ∷ []) ≡ (ValueValidation ∷ []) ∷ [] ∷ [] ∷ (ValueValidation ∷ []) ∷ [] }
-    ensures turns { map (λ n. faults_of (threads_with (codes "--turns") n)) (codes "0" ∷ codes "1" ∷ codes "40000" ∷ codes "40001" ∷ []) ≡ (ValueValidation ∷ []) ∷ [] ∷ [] ∷ (ValueValidation ∷ []) ∷ [] }
-    ensures no_numbers { map (λ n. faults_of (threads_with (codes "--clients") n)) (codes "" ∷ codes "two" ∷ codes "1.0" ∷ []) ≡ (ValueValidation ∷ []) ∷ (ValueValidation ∷ []) ∷ (ValueValidation ∷ []) ∷ [] }
-{}
-
-/// What the workers share.
-pub fn threads_device()
-    ensures caps { caps_for 3 ≡ record { queues = 1; groups = 1; engines = 3; total_size = 16; read_buffers = 32; slots = 4; max_batch_shift = 3; max_xfer_shift = 20 } }
-    ensures capacity { capacity_for (load 2 3 5 7) ≡ 46 }
-    ensures queue { queue_config ≡ record { size = 16; threshold = 8; dedicated = false; priority = 1; pasid = 0; max_batch_shift = 3; max_xfer_shift = 20 } }
-    ensures group { group_config 1 ≡ record { queues = 1; engines = 1; reserved = 0; allowed = 32 } }
-    ensures engines { (group_config 8).engines ≡ 255 }
-    ensures setup { setup_events 3 ≡ WriteQueue 0 queue_config ∷ WriteGroup 0 (group_config 3) ∷ Issue EnableDevice ∷ Issue (EnableWq 0) ∷ [] }
-{}
-
-/// What the workers do.
-pub fn threads_workers()
-    ensures moved { move ≡ record { pasid = 0; flags = 0; op = 3; size = 4096 } }
-    ensures first { submission_of 0 ≡ Submit 0 0 Limited (Enqcmd 1) move }
-    ensures last { submission_of 15 ≡ Submit 15 0 Limited (Enqcmd 16) move }
-    ensures engine { engine_script ≡ record { member = record { pasid = 0; flags = 0; op = 0; size = 0 }; outcome = Success } }
-{}
-
-/// The totals, each in a line of its own.
-#[tactic(auto, unfolding(crate::specs::Worked::digits_on_literals))]
-pub fn total_lines()
-    ensures { totals_text (record { accepted = 1; fetched = 2; retried = 3; done = 4; lost = 5; held = 6; steps = 7 }) ≡ codes "accepted 1\nfetched 2\nretried 3\ndone 4\nlost 5\nheld 6\nbalanced\n" }
-{}
-
 /// A document without a fault, and with the greatest capacity.
 #[tactic(auto, unfolding(serde_json::proofs::OnLiterals::serde_json_on_literals))]
 pub fn documents_that_run()
@@ -362,41 +299,5 @@ pub fn faults_that_are_not_told()
 /// A run of a submission from its set-up to its end, with a refused word and an answer that is not stored.
 #[tactic(auto, unfolding(crate::specs::Worked::digits_on_literals))]
 pub fn a_run()
-    ensures { AreLinesOf (caps_for 1) 7 actions_of_a_run lines_of_a_run }
-{}
-
-/// The bounds of what may be asked for.
-pub fn loads()
-    ensures least { IsInRange (load 1 1 1 1) }
-    ensures most { IsInRange (load 16 8 1_000 40_000) }
-    ensures no_client { ¬ IsInRange (load 0 1 1 1) }
-    ensures many_clients { ¬ IsInRange (load 17 1 1 1) }
-    ensures no_engine { ¬ IsInRange (load 1 0 1 1) }
-    ensures many_engines { ¬ IsInRange (load 1 9 1 1) }
-    ensures nothing_each { ¬ IsInRange (load 1 1 0 1) }
-    ensures much_each { ¬ IsInRange (load 1 1 1_001 1) }
-    ensures no_turn { ¬ IsInRange (load 1 1 1 0) }
-    ensures many_turns { ¬ IsInRange (load 1 1 1 40_001) }
-{}
-
-/// What a client submits.
-pub fn submissions()
-    ensures { Submits 3 (record { queue = 0; portal = Limited; kind = Enqcmd 3; bytes = move_bytes }) }
-{}
-
-/// The totals of such a run, with room for no step more.
-#[tactic(auto, unfolding(dsa_store::specs::Content::held))]
-pub fn totals_of_a_run()
-    ensures { AreTotalsOf (load 1 1 1 1) (record { accepted = 1; fetched = 0; retried = 0; done = 1; lost = 0; held = 0; steps = 7 }) }
-{}
-
-/// What the words ask for, and which are mistaken.
-#[tactic(auto, unfolding(clap::proofs::OnLiterals::clap_on_literals))]
-pub fn asked()
-    ensures scenario { AsksFor [] Scenario }
-    ensures no_scenario { ¬ AsksFor (codes "threads" ∷ []) Scenario }
-    ensures threads { AsksFor (threads_with (codes "--engines") (codes "3")) (Threads (load 2 3 100 10_000)) }
-    ensures mistaken { IsMistaken (codes "scenario" ∷ []) }
-    ensures help { ¬ IsMistaken (codes "--help" ∷ []) }
-    ensures none { ¬ IsMistaken [] }
+    ensures { AreLinesOf caps_of_a_run 7 actions_of_a_run lines_of_a_run }
 {}

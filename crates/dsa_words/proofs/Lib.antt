@@ -1,0 +1,6 @@
+pub mod Accepted
+pub mod FaultCauses
+pub mod OptionNumbers
+pub mod Pushes
+pub mod Submissions
+pub mod ThreadTotals

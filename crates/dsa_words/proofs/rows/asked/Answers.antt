@@ -1,0 +1,46 @@
+use Rattle.dsa_words.proofs.rows.asked.Goals as goal
+use Rattle.std.proofs.Common.{ℕ, [], Option, unwrap_or, inl, inr, refl, ap}
+use Rattle.std.specs.Str.Parse.{digits_value, without_leading_plus}
+use Rattle.clap.specs.{Walk.{Text}, declared.error.kind.ErrorKind.TheVariants.{UnknownArgument}}
+use Rattle.clap.proofs.OnLiterals.{clap_on_literals}
+
+-- the number that a text says
+abbrev number_in : Option Text → ℕ
+number_in o = digits_value 10 (without_leading_plus (unwrap_or o []))
+
+pub returns-clause-scenario : goal.returns-clause-scenario
+unfolding clap_on_literals
+returns-clause-scenario c same = cc
+
+pub returns-clause-no_scenario : goal.returns-clause-no_scenario
+unfolding clap_on_literals
+returns-clause-no_scenario c other = other refl
+
+pub returns-clause-threads : goal.returns-clause-threads
+unfolding clap_on_literals
+returns-clause-threads c = (
+  _,
+  (refl, refl),
+  record {
+    clients = λ text has numeral least most. ap number_in has;
+    engines = λ text has numeral least most. ap number_in has;
+    each = λ text has numeral least most. ap number_in has;
+    turns = λ text has numeral least most. ap number_in has;
+  },
+)
+
+pub returns-clause-mistaken : goal.returns-clause-mistaken
+unfolding clap_on_literals
+returns-clause-mistaken c = (UnknownArgument, inl refl, (λ same. cc), (λ same. cc))
+
+pub returns-clause-help : goal.returns-clause-help
+unfolding clap_on_literals
+returns-clause-help c mistake =
+    elim mistake.1 [
+      | inl help ↦ mistake.2 help
+      | inr none ↦ none
+    ]
+
+pub returns-clause-none : goal.returns-clause-none
+unfolding clap_on_literals
+returns-clause-none c mistake = mistake.1

@@ -1,0 +1,149 @@
+-- The threads mode: what it sets up, what its workers are to do, and what it prints.
+use Rattle.std.specs.Prelude.{◌≡◌, ◌≤◌, ◌<◌, ℕ, ◌+◌, ◌-◌, ◌*◌, ◌^◌, true, false, List, [], ◌∷◌, ◌++◌, All, length}
+use Rattle.std.specs.Prelude.{replicate, vec_len, slice_index_or, codes, decimal, Option, Some, ⊤}
+use Rattle.std.specs.Global.{Vec}
+use Rattle.dsa_desc.specs.{declared.{Descriptor.{Descriptor}, Outcome.TheVariants.{Success}}, Descriptor.{read}}
+use Rattle.dsa_regs.specs.declared.{Caps.{Caps}, QueueConfig.{QueueConfig}, GroupConfig.{GroupConfig}}
+use Rattle.dsa_regs.specs.declared.Command.TheVariants.{EnableDevice, EnableWq}
+use Rattle.dsa_store.specs.Content.{held_count}
+use Rattle.dsa_book.specs.declared.answer.Reply.{Reply}
+use Rattle.dsa_book.specs.declared.event.Actor.TheVariants.{Client, Admin}
+use Rattle.dsa_book.specs.declared.event.Event.{Event, TheVariants.{Submit, Issue, WriteQueue, WriteGroup}}
+use Rattle.dsa_book.specs.declared.event.{Kind.TheVariants.{Enqcmd}, Portal.TheVariants.{Limited}, Step.{Step}}
+use Rattle.dsa_book.specs.{State.{State}, Machine.{is_legal, replay}, Totals.{steps_of, total_accepted}}
+use Rattle.dsa_shared.specs.{declared.settle.Totals.{Totals}, Seat.{SeatLog, with_step}, Totals.{totals_of}}
+use Rattle.dsa_workers.specs.declared.scripts.{ClientStep.{ClientStep}, EngineScript.{EngineScript}}
+use Rattle.dsa_workers.specs.declared.scripts.Scripts.{Scripts}
+use Rattle.dsa_workers.specs.Workers.{receipts_in}
+use Rattle.dsa_words.specs.declared.options.{Workload.{Workload}, Asked.{Asked, TheVariants.{Scenario, Threads}}}
+use Rattle.dsa_scenario.specs.Lines.{line_of}
+
+-- ---- what is asked
+
+-- each number is one that may be asked for (profile)
+pub record IsInRange (load : Workload) : Type 0 where
+  pub clients : (1 ≤ load.clients) × (load.clients ≤ 16)
+  pub engines : (1 ≤ load.engines) × (load.engines ≤ 8)
+  pub each : (1 ≤ load.each) × (load.each ≤ 1_000)
+  pub turns : (1 ≤ load.turns) × (load.turns ≤ 40_000)
+
+abbrev pub IsAskedInRange : Asked → Type 0
+IsAskedInRange Scenario = ⊤
+IsAskedInRange (Threads load) = IsInRange load
+
+-- ---- the device (profile)
+
+abbrev pub caps_for : ℕ → Caps
+caps_for engines = record {
+  queues = 1;
+  groups = 1;
+  engines = engines;
+  total_size = 16;
+  read_buffers = 32;
+  slots = 4;
+  max_batch_shift = 3;
+  max_xfer_shift = 20;
+}
+
+-- room for a step at each turn of each worker, and for those that set the device up (profile)
+abbrev pub capacity_for : Workload → ℕ
+capacity_for load = (load.clients + load.engines + 1) * load.turns + 4
+
+abbrev pub queue_config : QueueConfig
+queue_config = record {
+  size = 16;
+  threshold = 8;
+  dedicated = false;
+  priority = 1;
+  pasid = 0;
+  max_batch_shift = 3;
+  max_xfer_shift = 20;
+}
+
+-- the group of queue 0 and all engines
+abbrev pub group_config : ℕ → GroupConfig
+group_config engines = record { queues = 1; engines = 2 ^ engines - 1; reserved = 0; allowed = 32 }
+
+-- the events that set the device up (profile)
+abbrev pub setup_events : ℕ → List Event
+setup_events engines =
+    WriteQueue 0 queue_config ∷ WriteGroup 0 (group_config engines) ∷ Issue EnableDevice ∷ Issue (EnableWq 0) ∷ []
+
+-- the receipts after these events, each with some answer
+abbrev pub Follows : List Event → List Step → List Step → Type 0
+Follows [] old new = new ≡ old
+Follows (event ∷ events) old new = (reply : Reply) × Follows events (with_step old event reply) new
+
+-- ---- the workers (profile)
+
+abbrev pub move : Descriptor
+move = record { pasid = 0; flags = 0; op = 0x03; size = 4096 }
+
+-- a Move of 4096 bytes under this PASID, by ENQCMD to the limited portal of queue 0
+pub record Submits (pasid : ℕ) (step : ClientStep) : Type 0 where
+  pub queue : step.queue ≡ 0
+  pub portal : step.portal ≡ Limited
+  pub kind : step.kind ≡ Enqcmd pasid
+  pub bytes : read step.bytes ≡ move
+
+-- so many such Moves
+pub record IsClientScript (pasid each : ℕ) (script : Vec ClientStep) : Type 0 where
+  pub len : length script.items ≡ each
+  pub moves : All (Submits pasid) script.items
+
+abbrev pub engine_script : EngineScript
+engine_script = record { member = record { pasid = 0; flags = 0; op = 0x00; size = 0 }; outcome = Success }
+
+-- client c submits under PASID c + 1; the administrator has nothing to do
+pub record AreScriptsOf (load : Workload) (scripts : Scripts) : Type 0 where
+  pub count : vec_len scripts.clients ≡ load.clients
+  pub clients : (c : ℕ) (d : Vec ClientStep) → c < load.clients
+      → IsClientScript (c + 1) load.each (slice_index_or scripts.clients.items c d)
+  pub engines : scripts.engines.items ≡ replicate load.engines engine_script
+  pub admin : scripts.admin.items ≡ []
+
+-- what client c submits, each time
+abbrev pub submission_of : ℕ → Event
+submission_of c = Submit c 0 Limited (Enqcmd (c + 1)) move
+
+-- what the seats have after the run: no client was accepted more often than it submits, and no
+-- worker made more steps than turns
+pub record HaveWorked (load : Workload) (clients engines : List SeatLog) (admin : Option (List Step)) : Type 0 where
+  pub client_count : length clients ≡ load.clients
+  pub engine_count : length engines ≡ load.engines
+  pub accepted : All (λ seat. total_accepted seat.receipts ≤ load.each) clients
+  pub client_steps : All (λ seat. length seat.receipts ≤ load.turns) clients
+  pub engine_steps : All (λ seat. length seat.receipts ≤ load.turns) engines
+  pub numbers : (c : ℕ) (d : SeatLog) → c < load.clients → (slice_index_or clients c d).number ≡ c
+  pub submitted : (c : ℕ) (d : SeatLog) → c < load.clients
+      → All (λ step. step.event ≡ submission_of c) (slice_index_or clients c d).receipts
+  pub setup : Follows (setup_events load.engines) [] (receipts_in admin)
+
+-- ---- the totals (profile)
+
+abbrev pub total_line : List ℕ → ℕ → List ℕ
+total_line name total = line_of (name ++ codes " " ++ decimal total)
+
+abbrev pub totals_text : Totals → List ℕ
+totals_text t =
+    total_line (codes "accepted") t.accepted
+    ++ total_line (codes "fetched") t.fetched
+    ++ total_line (codes "retried") t.retried
+    ++ total_line (codes "done") t.done
+    ++ total_line (codes "lost") t.lost
+    ++ total_line (codes "held") t.held
+    ++ line_of (codes "balanced")
+
+-- the totals are those of a history of the device that is set up and to which each client submits
+-- what it is to, as often as it is to at most; and they balance
+pub record AreTotalsOf (load : Workload) (totals : Totals) : Type 0 where
+  pub history : List Step
+  pub last : State
+  pub legal : is_legal (caps_for load.engines) history ≡ true
+  pub replayed : replay (caps_for load.engines) history ≡ Some last
+  pub within : length history ≤ capacity_for load
+  pub setup : Follows (setup_events load.engines) [] (steps_of history Admin)
+  pub submitted : (c : ℕ) → c < load.clients → All (λ step. step.event ≡ submission_of c) (steps_of history (Client c))
+  pub counted : totals ≡ totals_of history (held_count last.work.content)
+  pub balanced : totals.accepted + totals.fetched ≡ totals.done + totals.lost + totals.held
+  pub accepted : totals.accepted ≤ load.clients * load.each

@@ -1,0 +1,153 @@
+//! The words of the command line, read with `clap`.
+
+ghost use Rattle.std.specs.Prelude.{◌≡◌, ◌≤◌, false, IfOk, map, string_bytes};
+ghost use Rattle.clap.specs.Words.{app_of, rule_of, found_of, rows_of, FailsBy};
+ghost use Rattle.clap.specs.declared.builder.command.Command.TheViews.{out-Command as fields_of};
+ghost use Rattle.dsa_words.specs.Threads.{IsAskedInRange};
+ghost use Rattle.dsa_words.specs.Words.{number_rule, threads_app, program_app, IsNumberOf, AsksFor, faults_of};
+
+use clap::{Arg, ArgMatches, Command, Error, value_parser};
+use std::alloc::{AllocError, Global};
+
+/// How many workers run in threads, and how long.
+#[derive(Clone, Copy, Debug, PartialEq, Eq)]
+pub struct Workload {
+    /// 1 to 16.
+    pub clients: u16,
+    /// 1 to 8.
+    pub engines: u16,
+    /// How many descriptors each client submits, 1 to 1,000.
+    pub each: u32,
+    /// How many turns each worker has at most, 1 to 40,000.
+    pub turns: u32,
+}
+
+/// What the words ask for.
+#[derive(Clone, Copy, Debug, PartialEq, Eq)]
+pub enum Asked {
+    /// A scenario from standard input.
+    Scenario,
+    /// Workers in threads.
+    Threads(Workload),
+}
+
+const MOST_CLIENTS: u32 = 16;
+
+const MOST_ENGINES: u32 = 8;
+
+const MOST_EACH: u32 = 1_000;
+
+const MOST_TURNS: u32 = 40_000;
+
+const SCENARIO_HELP: &str = "\
+Without a command: reads one scenario, a JSON document, from standard input, runs its
+steps on a model of a device, and writes a line for each step and for each descriptor
+that ended.
+
+Exit status: 0 done, 1 a fault (its line goes to standard error), 2 these words are not
+understood.";
+
+const THREADS_HELP: &str = "\
+Reads nothing. Clients, engines and an administrator share one device, each in a thread
+of its own. Each client submits Moves of 4096 bytes to one queue, the engines take and
+end them, and the administrator sets the device up. Then all of them are settled, and
+seven lines are written: accepted, fetched, retried, done, lost and held, each with its
+number, and balanced, since accepted + fetched = done + lost + held.
+
+Exit status: 0 done, 1 a fault (its line goes to standard error), 2 these words are not
+understood.";
+
+// An option that takes a number from 1 to `most`.
+fn number_option<'a>(
+    alloc: Global,
+    name: &'a str,
+    most: u32,
+    default: &'a str,
+    help: &'a str,
+) -> Arg<'a>
+    requires { most ≤ 40_000 }
+    ensures rule { rule_of result ≡ number_rule name.entry.now most default.entry.now }
+    ensures local { result.global ≡ false }
+{
+    Arg::new(alloc, name)
+        .long(name)
+        .value_name("NUMBER")
+        .value_parser(value_parser!(u32).range(1..=i64::from(most)))
+        .default_value(default)
+        .help(help)
+}
+
+fn threads_command<'a>(alloc: Global) -> Result<Command<'a>, AllocError>
+    ensures app { IfOk result (λ c. app_of c ≡ threads_app) }
+    ensures local { IfOk result (λ c. (fields_of c).has_globals ≡ false) }
+{
+    Command::new(alloc, "threads")
+        .about("Runs clients and engines in threads on one shared device, and writes totals")
+        .after_help(THREADS_HELP)
+        .arg(number_option(
+            alloc,
+            "clients",
+            MOST_CLIENTS,
+            "2",
+            "How many clients submit, 1 to 16",
+        ))?
+        .arg(number_option(
+            alloc,
+            "engines",
+            MOST_ENGINES,
+            "2",
+            "How many engines work, 1 to 8",
+        ))?
+        .arg(number_option(
+            alloc,
+            "each",
+            MOST_EACH,
+            "100",
+            "How many descriptors each client submits, 1 to 1000",
+        ))?
+        .arg(number_option(
+            alloc,
+            "turns",
+            MOST_TURNS,
+            "10000",
+            "How many turns each worker has at most, 1 to 40000",
+        ))
+}
+
+fn command_line<'a>(alloc: Global) -> Result<Command<'a>, AllocError>
+    ensures { IfOk result (λ c. app_of c ≡ program_app) }
+{
+    Command::new(alloc, "dsa_run")
+        .about("Runs a model of the shared part of an Intel Data Streaming Accelerator")
+        .after_help(SCENARIO_HELP)
+        .bin_name("dsa_run")?
+        .no_binary_name(true)
+        .subcommand(threads_command(alloc)?)
+}
+
+// The number of an option, which the parser has checked.
+fn number_of(matches: &ArgMatches<'_>, name: &str, most: u32) -> u32
+    requires { 1 ≤ most }
+    ensures range { (1 ≤ result) × (result ≤ most) }
+    ensures number { IsNumberOf (rows_of (found_of matches.now)) name.now most result }
+{
+    matches.get_one::<u32>(name).unwrap_or(1).clamp(1, most)
+}
+
+/// What the words ask for, or what `clap` has to say.
+pub fn read_words<'a>(alloc: Global, words: &'a [String]) -> Result<Asked, Error>
+    ensures range { IfOk result (λ asked. IsAskedInRange asked) }
+    ensures asked { IfOk result (AsksFor (map string_bytes words.now)) }
+    ensures faults { FailsBy (faults_of (map string_bytes words.now)) result }
+{
+    let matches = command_line(alloc)?.try_get_matches_from(words)?;
+    match matches.subcommand_matches("threads") {
+        Some(given) => Ok(Asked::Threads(Workload {
+            clients: number_of(given, "clients", MOST_CLIENTS) as u16,
+            engines: number_of(given, "engines", MOST_ENGINES) as u16,
+            each: number_of(given, "each", MOST_EACH),
+            turns: number_of(given, "turns", MOST_TURNS),
+        })),
+        None => Ok(Asked::Scenario),
+    }
+}

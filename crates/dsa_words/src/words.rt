@@ -1,0 +1,214 @@
+//! What the words of the command line make the program do.
+
+ghost use Rattle.std.specs.Prelude.{◌≡◌, ◌≢◌, ◌⊎◌, ◌≤◌, ◌<◌, ◌++◌, false, ℕ, List, length, take, codes, map, string_bytes, IfSome};
+ghost use Rattle.std.specs.Io.KnownBytes.{Appends};
+ghost use Rattle.clap.specs.Words.{Row, kind_of};
+ghost use Rattle.dsa_shared.specs.declared.settle.Totals.{Totals};
+ghost use Rattle.dsa_words.specs.declared.options.Workload.{Workload};
+ghost use Rattle.dsa_scenario.specs.declared.faults.ScenarioFault.{ScenarioFault};
+ghost use Rattle.dsa_scenario.specs.Faults.{fault_line};
+ghost use Rattle.dsa_scenario.specs.Scenario.{IsWhole, IsRenderingOf, HasFault, IsCutShort};
+ghost use Rattle.dsa_words.specs.Threads.{IsInRange, AreTotalsOf, totals_text};
+ghost use Rattle.dsa_scenario.specs.Watched.{watched_contents, has_refused, IsSameWriter};
+ghost use Rattle.dsa_words.specs.Words.{IsMistaken, NameThreads, AreTotalsWritten, AreTotalsCutShort};
+
+use crate::options::{Asked, Workload, read_words};
+use crate::threads::run_workload;
+use clap::Error;
+use clap::error::ErrorKind;
+use dsa_scenario::{ScenarioFault, WatchedWriter, run_scenario};
+use std::alloc::Global;
+use std::fmt::Display;
+use std::io::{Read, Write};
+use std::marker::Sync;
+use std::sync::Wait;
+use std::thread::Threads;
+
+/// The exit status of a run that was done.
+const DONE: u8 = 0;
+
+/// The exit status of a fault.
+const FAILED: u8 = 1;
+
+/// The exit status of words that are not understood.
+const REFUSED: u8 = 2;
+
+// Writes the line of a fault, and gives the exit status.
+fn tell_watched<E: Write, F: Display>(err: &mut WatchedWriter<'_, E>, fault: &F) -> u8
+    ensures status { result ≡ 1 }
+    ensures same_writer { IsSameWriter err.old err.new }
+    ensures line { has_refused err.new ≡ false → IfSome (F.output fault.now) (λ text. Appends
+        (watched_contents E.contents err.old) (watched_contents E.contents err.new) (codes "dsa_run: " ++ text ++ codes "\n")) }
+{
+    let _ = err.print(format_args!("dsa_run: {fault}\n"));
+    FAILED
+}
+
+/// Writes the line of a fault, and gives the exit status. A line that `err` does not take changes nothing.
+pub fn tell<E: Write, F: Display>(err: &mut E, fault: &F) -> u8
+    ensures { result ≡ 1 }
+{
+    tell_watched(&mut WatchedWriter::new(err), fault)
+}
+
+// Runs the scenario that the reader gives.
+fn run_input<R: Read, O: Write, E: Write>(
+    alloc: Global,
+    reader: &mut R,
+    out: &mut O,
+    err: &mut WatchedWriter<'_, E>,
+) -> u8
+    ensures same_writer { IsSameWriter err.old err.new }
+    ensures done { result ≡ 0 → (bytes : List ℕ) × (lines : List ℕ)
+        × IsWhole (R.remaining reader.old) (R.remaining reader.new) bytes
+        × IsRenderingOf bytes lines
+        × Appends (O.contents out.old) (O.contents out.new) lines }
+    ensures failed { result ≡ 1 → (fault : ScenarioFault)
+        × HasFault (R.remaining reader.old) (R.remaining reader.new) fault
+        × (fault ≢ ScenarioFault.Write → out.new ≡ out.old)
+        × (fault ≡ ScenarioFault.Write → IsCutShort (R.remaining reader.old) (R.remaining reader.new)
+        (O.contents out.old) (O.contents out.new))
+        × (has_refused err.new ≡ false → Appends (watched_contents E.contents err.old)
+        (watched_contents E.contents err.new) (fault_line fault)) }
+    ensures quiet { result ≡ 0 → err.new ≡ err.old }
+    ensures statuses { (result ≡ 0) ⊎ (result ≡ 1) }
+{
+    match run_scenario(alloc, reader, out) {
+        Ok(()) => DONE,
+        Err(fault) => tell_watched(err, &fault),
+    }
+}
+
+// Runs workers in threads, and writes their totals.
+fn run_workers<T: Threads + Wait + Sync, O: Write, E: Write>(
+    rt: &T,
+    alloc: Global,
+    load: &Workload,
+    out: &mut O,
+    err: &mut WatchedWriter<'_, E>,
+) -> u8
+    requires { IsInRange load.now }
+    ensures same_writer { IsSameWriter err.old err.new }
+    ensures done { result ≡ 0 → (totals : Totals) × AreTotalsOf load.now totals
+        × Appends (O.contents out.old) (O.contents out.new) (totals_text totals) }
+    ensures failed { result ≡ 1 → (out.new ≡ out.old)
+        ⊎ ((totals : Totals) × (count : ℕ) × AreTotalsOf load.now totals
+        × (count < length (totals_text totals))
+        × Appends (O.contents out.old) (O.contents out.new) (take count (totals_text totals))) }
+    ensures quiet { result ≡ 0 → err.new ≡ err.old }
+    ensures statuses { (result ≡ 0) ⊎ (result ≡ 1) }
+{
+    match run_workload(rt, alloc, load, out) {
+        Ok(()) => DONE,
+        Err(fault) => tell_watched(err, &fault),
+    }
+}
+
+// Shows what `clap` has to say, and gives the exit status: help goes to `out`, all else to `err`.
+fn show<O: Write, E: Write>(out: &mut O, err: &mut WatchedWriter<'_, E>, error: &Error) -> u8
+    ensures same_writer { IsSameWriter err.old err.new }
+    ensures refused { result ≡ 2 → out.new ≡ out.old }
+    ensures mistake { result ≡ 2 → (kind_of error.now ≢ ErrorKind.OutOfMemory)
+        × (kind_of error.now ≢ ErrorKind.DisplayHelp) × (kind_of error.now ≢ ErrorKind.DisplayVersion) }
+    ensures memory { kind_of error.now ≡ ErrorKind.OutOfMemory → (result ≡ 1) × (out.new ≡ out.old) }
+    ensures quiet { result ≡ 0 → err.new ≡ err.old }
+    ensures statuses { result ≤ 2 }
+{
+    if error.kind() == ErrorKind::OutOfMemory {
+        return tell_watched(err, &ScenarioFault::OutOfMemory);
+    }
+    if error.use_stderr() {
+        let _ = err.print(error);
+        return REFUSED;
+    }
+    match write!(out, "{error}") {
+        Ok(()) => DONE,
+        Err(_) => tell_watched(err, &ScenarioFault::Write),
+    }
+}
+
+/// Does what the words after the program's name ask, and gives the exit status.
+///
+/// Without words it reads a document from `reader` and writes its lines to `out`. With the word `threads` it
+/// runs workers in threads on one shared device, and writes their totals to `out`. Help goes to `out`.
+///
+/// The status is 0 where all of it was written, and 1 on a fault, whose line goes to `err`. It is 2 where the
+/// words are not understood, and `err` gets what `clap` says of them.
+pub fn answer_words<T: Threads + Wait + Sync, R: Read, O: Write, E: Write>(
+    rt: &T,
+    alloc: Global,
+    words: &[String],
+    reader: &mut R,
+    out: &mut O,
+    err: &mut WatchedWriter<'_, E>,
+) -> u8
+    ensures same_writer { IsSameWriter err.old err.new }
+    ensures done { length words.now ≡ 0 → result ≡ 0 → (bytes : List ℕ) × (lines : List ℕ)
+        × IsWhole (R.remaining reader.old) (R.remaining reader.new) bytes
+        × IsRenderingOf bytes lines
+        × Appends (O.contents out.old) (O.contents out.new) lines }
+    ensures threads { result ≡ 0 → (rows : List Row) → NameThreads (map string_bytes words.now) rows
+        → AreTotalsWritten rows (O.contents out.old) (O.contents out.new) }
+
+    // Where it fails, the output is as it was, or has the first of the lines.
+    ensures failed { length words.now ≡ 0 → result ≡ 1 → (fault : ScenarioFault)
+        × HasFault (R.remaining reader.old) (R.remaining reader.new) fault
+        × (fault ≢ ScenarioFault.Write → out.new ≡ out.old)
+        × (fault ≡ ScenarioFault.Write → IsCutShort (R.remaining reader.old) (R.remaining reader.new)
+        (O.contents out.old) (O.contents out.new))
+        × (has_refused err.new ≡ false → Appends (watched_contents E.contents err.old)
+        (watched_contents E.contents err.new) (fault_line fault)) }
+    ensures threads_failed { result ≡ 1 → (rows : List Row) → NameThreads (map string_bytes words.now) rows
+        → (out.new ≡ out.old) ⊎ AreTotalsCutShort rows (O.contents out.old) (O.contents out.new) }
+
+    // Words that are not understood.
+    ensures refused { result ≡ 2 → (out.new ≡ out.old) × (reader.new ≡ reader.old) }
+    ensures mistake { result ≡ 2 → IsMistaken (map string_bytes words.now) }
+    ensures quiet { result ≡ 0 → err.new ≡ err.old }
+    ensures statuses { (result ≡ 0) ⊎ (result ≡ 1) ⊎ ((result ≡ 2) × (1 ≤ length words.now)) }
+{
+    if words.is_empty() {
+        return run_input(alloc, reader, out, err);
+    }
+    match read_words(alloc, words) {
+        Ok(Asked::Scenario) => run_input(alloc, reader, out, err),
+        Ok(Asked::Threads(load)) => run_workers(rt, alloc, &load, out, err),
+        Err(error) => show(out, err, &error),
+    }
+}
+
+/// Does what the words after the program's name ask, and gives the exit status.
+///
+/// All of it is the work of [`answer_words`], which is lent `err` as a writer that is watched.
+pub fn run_words<T: Threads + Wait + Sync, R: Read, O: Write, E: Write>(
+    rt: &T,
+    alloc: Global,
+    words: &[String],
+    reader: &mut R,
+    out: &mut O,
+    err: &mut E,
+) -> u8
+    ensures done { length words.now ≡ 0 → result ≡ 0 → (bytes : List ℕ) × (lines : List ℕ)
+        × IsWhole (R.remaining reader.old) (R.remaining reader.new) bytes
+        × IsRenderingOf bytes lines
+        × Appends (O.contents out.old) (O.contents out.new) lines }
+    ensures threads { result ≡ 0 → (rows : List Row) → NameThreads (map string_bytes words.now) rows
+        → AreTotalsWritten rows (O.contents out.old) (O.contents out.new) }
+
+    // Where it fails, the output is as it was, or has the first of the lines.
+    ensures failed { length words.now ≡ 0 → result ≡ 1 → (fault : ScenarioFault)
+        × HasFault (R.remaining reader.old) (R.remaining reader.new) fault
+        × (fault ≢ ScenarioFault.Write → out.new ≡ out.old)
+        × (fault ≡ ScenarioFault.Write → IsCutShort (R.remaining reader.old) (R.remaining reader.new)
+        (O.contents out.old) (O.contents out.new)) }
+    ensures threads_failed { result ≡ 1 → (rows : List Row) → NameThreads (map string_bytes words.now) rows
+        → (out.new ≡ out.old) ⊎ AreTotalsCutShort rows (O.contents out.old) (O.contents out.new) }
+
+    // Words that are not understood.
+    ensures refused { result ≡ 2 → (out.new ≡ out.old) × (reader.new ≡ reader.old) }
+    ensures mistake { result ≡ 2 → IsMistaken (map string_bytes words.now) }
+    ensures quiet { result ≡ 0 → err.new ≡ err.old }
+    ensures statuses { (result ≡ 0) ⊎ (result ≡ 1) ⊎ ((result ≡ 2) × (1 ≤ length words.now)) }
+{
+    answer_words(rt, alloc, words, reader, out, &mut WatchedWriter::new(err))
+}
