@@ -24,6 +24,10 @@ is_counting _ = true
 abbrev pub is_waited_for : ActiveCommand → Entry → Bool
 is_waited_for active entry = is_awaited (deed_of active.command) (scope_of active.command) active.mark entry
 
+-- whether the command that is active, if there is one, waits for the entry (profile)
+abbrev pub is_awaited_by : Option ActiveCommand → Entry → Bool
+is_awaited_by active entry = passes (λ active. is_waited_for active entry) active
+
 -- whether a scope is one of queues: the device with all of them, or those that it names (profile)
 abbrev pub names_queues : Scope → Bool
 names_queues (Pasid pasid) = false

@@ -12,12 +12,12 @@ ghost use Rattle.dsa_book.specs.State.{State};
 ghost use Rattle.dsa_book.specs.Commands.{issue, poll, refusal_or, command_done_of, wait_of, after_stop, after_enable, may_come};
 ghost use Rattle.dsa_engines.specs.Engines.{Gear, IsInStep};
 ghost use Rattle.dsa_queues.specs.Queues.{IsCounted};
-ghost use Rattle.dsa_admin.specs.Admin.{IsAwaiting, IsUnrefused, is_counted_by, is_waited_for, state};
+ghost use Rattle.dsa_admin.specs.Admin.{IsAwaiting, IsUnrefused, is_awaited_by, is_counted_by, is_waited_for, state};
 
 use crate::abort::{abort_alone, reset};
 use crate::ends::{count_awaited, count_watched, is_at_end};
 use crate::refusals::{check, is_bad_queues, may_come};
-use crate::scope::is_watched;
+use crate::scope::{is_waited_for, is_watched};
 use dsa_book::{ActiveCommand, Book, IssueAnswer, PollAnswer};
 use dsa_engines::Engines;
 use dsa_queues::Queues;
@@ -105,6 +105,16 @@ impl Admin {
     {
         let active = self.active?;
         Some(count_awaited(queues, &active, self.awaited))
+    }
+
+    /// Whether the active command waits for the entry. It does for none where no command is active.
+    pub fn awaits(&self, entry: &Entry) -> bool
+        ensures { result ≡ is_awaited_by self.now.active entry.now }
+    {
+        match &self.active {
+            Some(active) => is_waited_for(active, entry),
+            None => false,
+        }
     }
 
     // The first refusal that stands.

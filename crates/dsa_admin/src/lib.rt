@@ -10,3 +10,4 @@ mod scope;
 mod withdrawal;
 
 pub use admin::Admin;
+pub use scope::is_in_scope;

@@ -9,7 +9,7 @@ use dsa_regs::{Deed, Scope};
 use dsa_store::Entry;
 
 /// Whether the entry is of the scope: all are, those of the named queues, or those of one PASID.
-pub(crate) fn is_in_scope(scope: &Scope, entry: &Entry) -> bool
+pub fn is_in_scope(scope: &Scope, entry: &Entry) -> bool
     ensures { result ≡ is_in_scope scope.now entry.now }
 {
     match scope {

@@ -8,6 +8,7 @@ ghost use Rattle.dsa_base.specs.Rows.{when};
 ghost use Rattle.dsa_store.specs.Content.{held_count};
 ghost use Rattle.dsa_book.specs.State.{occupancy, phase_at};
 ghost use Rattle.dsa_book.specs.Work.{used, note_at};
+ghost use Rattle.dsa_admin.specs.Admin.{is_awaited_by};
 ghost use Rattle.dsa_laws.specs.WellFormed.{IsWellFormed};
 ghost use Rattle.dsa_device.specs.Running.{IsReplay};
 ghost use Rattle.dsa_device.specs.Reads.{awaited, is_held};
@@ -15,7 +16,7 @@ ghost use Rattle.dsa_device.specs.Reads.{awaited, is_held};
 use super::Device;
 use dsa_book::{BatchNote, Fate, FateRow, NotedError, Step, Ticket};
 use dsa_regs::{Caps, Command, GroupConfig, Phase, QueueConfig};
-use dsa_store::EntryStore;
+use dsa_store::{Entry, EntryStore};
 
 impl<S: EntryStore> Device<S> {
     /// What the device has, as it was made.
@@ -57,6 +58,20 @@ impl<S: EntryStore> Device<S> {
             return None;
         }
         Some(self.queues.queue(queue))
+    }
+
+    /// The configurations of all queues, by number.
+    pub fn queue_configs(&self) -> &[QueueConfig]
+        ensures { result.now ≡ self.now.state.work.setup.configs }
+    {
+        self.queues.configs()
+    }
+
+    /// The configurations of all groups, by number.
+    pub fn group_configs(&self) -> &[GroupConfig]
+        ensures { result.now ≡ self.now.state.work.setup.groups }
+    {
+        self.queues.groups()
     }
 
     /// The configuration of the group. `None` exactly when the device has no such group.
@@ -130,6 +145,13 @@ impl<S: EntryStore> Device<S> {
     {
         let awaited = self.admin.awaited(&self.queues)?;
         Some(awaited as u32)
+    }
+
+    /// Whether the active command still waits for the entry. It does for none where no command is active.
+    pub fn awaits(&self, entry: &Entry) -> bool
+        ensures { result ≡ is_awaited_by self.now.state.active entry.now }
+    {
+        self.admin.awaits(entry)
     }
 
     /// The number of entries that the device holds, in all queues and engines.
