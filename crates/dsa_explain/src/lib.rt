@@ -4,6 +4,11 @@
 //! Each function reads the device before the step, and takes no memory.
 #![tactic(auto)]
 
+mod held;
 mod submission;
 
+pub use held::{
+    Held, aborted_at, aborted_entries_get_rows, all_entries_are_told, awaited_entry,
+    commands_wait_for_what_is_told,
+};
 pub use submission::{SubmitReason, submissions_follow_reasons, submit_reason};

@@ -1,0 +1,10 @@
+use Rattle.dsa_explain.proofs.held.awaited_entry.Given as goal
+use Rattle.std.proofs.Common.{◌≡◌, find, drop}
+use Rattle.dsa_admin.specs.Admin.{is_awaited_by}
+use Rattle.dsa_explain.specs.{declared.held.Held.{Held}, Held.{held_from, awaited_entry}}
+
+-- none of the lists before has one
+abbrev pub invariant-loop-number : goal.invariant-loop-number
+invariant-loop-number g l =
+    awaited_entry l.device.state ≡ find (λ (h : Held). is_awaited_by l.device.state.active h.entry)
+    (held_from l.device.state.work.setup.caps l.number (drop l.number l.device.state.work.content))

@@ -1,0 +1,130 @@
+//! The entries that a device holds, list by list: the first that the active command waits for, and those that an abort
+//! ends.
+
+ghost use Rattle.std.specs.Prelude.{◌≡◌, ◌+◌, ◌++◌, ◌↔◌, None, Some, true, map, filter, find, length, slice_get, IfOk, IfErr};
+ghost use Rattle.dsa_regs.specs.declared.Command.{Command};
+ghost use Rattle.dsa_regs.specs.Caps.{HasList, list_number};
+ghost use Rattle.dsa_regs.specs.Command.{number_of, scope_of};
+ghost use Rattle.dsa_store.specs.Content.{all_held, chain};
+ghost use Rattle.dsa_book.specs.declared.note.ActiveCommand.{ActiveCommand};
+ghost use Rattle.dsa_book.specs.State.{State};
+ghost use Rattle.dsa_book.specs.Commands.{after_abort, is_at_end, is_in_scope};
+ghost use Rattle.dsa_admin.specs.Admin.{is_awaited_by};
+ghost use Rattle.dsa_explain.specs.Held.{held_in, slot_of, all_entries, awaited_entry, aborted_entries, abort_row};
+
+use dsa_admin::is_in_scope;
+use dsa_device::Device;
+use dsa_regs::{Command, ListUse, list_count};
+use dsa_store::{Cell, Entry, EntryStore, Walk};
+
+/// An entry that the device holds, with what its list is for: a queue, what is in progress on an engine, or the members of
+/// the batch that an engine works on.
+#[derive(Clone, Copy, Debug, PartialEq, Eq)]
+pub struct Held {
+    pub list: ListUse,
+    pub cell: Cell,
+    pub entry: Entry,
+}
+
+// The slots of the list, the front first.
+fn slots_of<S: EntryStore>(device: &Device<S>, list: ListUse) -> Walk<'_, S>
+    requires { HasList device.now.caps list }
+    ensures { result ≡ chain device.now.state.work.content (list_number device.now.caps list) }
+{
+    device.state_is_replay();
+    let slots = match list {
+        ListUse::Queue(queue) => device.waiting(queue),
+        ListUse::Progress(engine) => device.in_progress(engine),
+        ListUse::Members(engine) => device.members(engine),
+    };
+    match slots {
+        Some(slots) => slots,
+        None => unreachable!(),
+    }
+}
+
+// The first entry of the list that the active command waits for.
+fn awaited_in<S: EntryStore>(device: &Device<S>, list: ListUse) -> Option<Held>
+    requires { HasList device.now.caps list }
+    ensures { result ≡ find (λ held. is_awaited_by device.now.state.active held.entry) (map (held_in list) (chain device.now.state.work.content (list_number device.now.caps list))) }
+{
+    let mut slots = slots_of(device, list);
+    let (cell, entry) = slots.find(|slot| device.awaits(&slot.1))?;
+    Some(Held { list, cell, entry })
+}
+
+/// The first held entry that the active command waits for, list by list and the front first. `None` exactly where no
+/// command is active, or the active one is at its end.
+pub fn awaited_entry<S: EntryStore>(device: &Device<S>) -> Option<Held>
+    ensures { result ≡ awaited_entry device.now.state }
+{
+    device.state_is_replay();
+    let caps = device.caps();
+    for number in 0..list_count(&caps) {
+        let held = awaited_in(device, caps.list_use(number));
+        if held.is_some() {
+            return held;
+        }
+    }
+    None
+}
+
+// The entry of this index among those of the list that the command ends, or by how many the list has too few.
+fn aborted_in<S: EntryStore>(
+    device: &Device<S>,
+    command: &Command,
+    list: ListUse,
+    index: usize,
+) -> Result<Held, usize>
+    requires { HasList device.now.caps list }
+    ensures found { IfOk result (λ held. slice_get (filter (λ held. is_in_scope (scope_of command.now) held.entry) (map (held_in list) (chain device.now.state.work.content (list_number device.now.caps list)))) index ≡ Some held) }
+    ensures left { IfErr result (λ left. left + length (filter (λ held. is_in_scope (scope_of command.now) held.entry) (map (held_in list) (chain device.now.state.work.content (list_number device.now.caps list)))) ≡ index) }
+{
+    let scope = command.scope();
+    let mut left = index;
+    for (cell, entry) in slots_of(device, list) {
+        if is_in_scope(&scope, &entry) {
+            if left == 0 {
+                return Ok(Held { list, cell, entry });
+            }
+            left -= 1;
+        }
+    }
+    Err(left)
+}
+
+/// The entry of this index among those that the command ends where it is an abort or a reset, list by list and the front
+/// first, as their fates are written down. `None` exactly where there are no more than `index` of them.
+pub fn aborted_at<S: EntryStore>(
+    device: &Device<S>,
+    command: &Command,
+    index: usize,
+) -> Option<Held>
+    ensures { result ≡ slice_get (aborted_entries device.now.state command.now) index }
+{
+    device.state_is_replay();
+    let caps = device.caps();
+    let mut left = index;
+    for number in 0..list_count(&caps) {
+        match aborted_in(device, command, caps.list_use(number), left) {
+            Ok(held) => return Some(held),
+            Err(rest) => left = rest,
+        }
+    }
+    None
+}
+
+/// The entries with their places are all that are held, in their order.
+pub fn all_entries_are_told()
+    ensures { (s : State) → map slot_of (all_entries s) ≡ all_held s.work.content }
+{}
+
+/// The machine writes down a row for each entry that is told of an abort, in the order in which they are told, and no other.
+pub fn aborted_entries_get_rows()
+    ensures { (s : State) (command : Command) → (after_abort (number_of command) (scope_of command) s.work).fates ≡ s.work.fates ++ map (abort_row command) (aborted_entries s command) }
+{}
+
+/// An active command is at its end exactly where no entry is told that it waits for.
+pub fn commands_wait_for_what_is_told()
+    ensures { (s : State) (active : ActiveCommand) → s.active ≡ Some active → (awaited_entry s ≡ None) ↔ (is_at_end active s.work.content ≡ true) }
+{}
