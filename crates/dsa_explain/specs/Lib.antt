@@ -1,3 +1,4 @@
 pub mod Reasons
 pub mod Submission
 pub mod Held
+pub mod Command

@@ -4,9 +4,14 @@
 //! Each function reads the device before the step, and takes no memory.
 #![tactic(auto)]
 
+mod command;
 mod held;
 mod submission;
 
+pub use command::{
+    IssueReason, PollReason, commands_follow_reasons, issue_reason, poll_reason,
+    polls_follow_reasons,
+};
 pub use held::{
     Held, aborted_at, aborted_entries_get_rows, all_entries_are_told, awaited_entry,
     commands_wait_for_what_is_told,
