@@ -2,3 +2,4 @@ pub mod Reasons
 pub mod Submission
 pub mod Held
 pub mod Command
+pub mod Write

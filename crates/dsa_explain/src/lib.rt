@@ -7,6 +7,7 @@
 mod command;
 mod held;
 mod submission;
+mod write;
 
 pub use command::{
     IssueReason, PollReason, commands_follow_reasons, issue_reason, poll_reason,
@@ -17,3 +18,7 @@ pub use held::{
     commands_wait_for_what_is_told,
 };
 pub use submission::{SubmitReason, submissions_follow_reasons, submit_reason};
+pub use write::{
+    ClearReason, WriteReason, clear_reason, write_group_reason, write_queue_reason,
+    writes_follow_reasons,
+};
