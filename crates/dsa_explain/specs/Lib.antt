@@ -3,3 +3,4 @@ pub mod Submission
 pub mod Held
 pub mod Command
 pub mod Write
+pub mod Check

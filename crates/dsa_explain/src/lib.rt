@@ -4,11 +4,15 @@
 //! Each function reads the device before the step, and takes no memory.
 #![tactic(auto)]
 
+mod check;
 mod command;
 mod held;
 mod submission;
 mod write;
 
+pub use check::{
+    CheckReason, check_device_reason, check_queue_reason, queue_checks_follow_reasons,
+};
 pub use command::{
     IssueReason, PollReason, commands_follow_reasons, issue_reason, poll_reason,
     polls_follow_reasons,
