@@ -10,6 +10,7 @@ ghost use Rattle.dsa_device.specs.Made.{is_store_of, opening_table, make_fault, 
 ghost use Rattle.dsa_device.specs.Running.{running_at_first, after_answer, watched_in, awaited_end};
 
 mod entries;
+mod lookups;
 mod reads;
 mod runs;
 
