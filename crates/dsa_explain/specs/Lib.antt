@@ -4,3 +4,5 @@ pub mod Held
 pub mod Command
 pub mod Write
 pub mod Check
+pub mod Buffers
+pub mod Dispatch

@@ -4,18 +4,24 @@
 //! Each function reads the device before the step, and takes no memory.
 #![tactic(auto)]
 
+mod buffers;
 mod check;
 mod command;
+mod dispatch;
 mod held;
 mod submission;
 mod write;
 
+pub use buffers::{BufferWant, kept_for};
 pub use check::{
     CheckReason, check_device_reason, check_queue_reason, queue_checks_follow_reasons,
 };
 pub use command::{
     IssueReason, PollReason, commands_follow_reasons, issue_reason, poll_reason,
     polls_follow_reasons,
+};
+pub use dispatch::{
+    EngineReason, QueueReason, engine_reason, idle_engines_have_reasons, queue_reason,
 };
 pub use held::{
     Held, aborted_at, aborted_entries_get_rows, all_entries_are_told, awaited_entry,

@@ -1,0 +1,17 @@
+use Rattle.dsa_explain.proofs.buffers.kept_from.Goals as goal
+use Rattle.std.proofs.Common.{◌==◌, cond, arith}
+use Rattle.dsa_explain.specs.Buffers.{kept_for}
+use Rattle.dsa_explain.proofs.Wanting.{sum-next}
+
+pub loop-other-preserved : goal.loop-other-preserved
+loop-other-preserved g c =
+    let w = c.args.device.now.state.work in
+    record {
+      value = omega (
+        arith,
+        sum-next (λ other. cond (other == c.args.group) 0 (kept_for w other)) c.loop-other.other,
+        c.loop-other.invariant.value,
+        c.kept_for_other.ensures,
+      );
+      few = omega (arith, c.loop-other.invariant.few, c.kept_for_other.ensures, c.ranges);
+    }
