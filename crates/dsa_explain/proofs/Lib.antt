@@ -4,3 +4,4 @@ pub mod Checking
 pub mod Wanting
 pub mod Rows
 pub mod Taking
+pub mod Starting

@@ -6,3 +6,4 @@ pub mod Write
 pub mod Check
 pub mod Buffers
 pub mod Dispatch
+pub mod Batch

@@ -4,6 +4,7 @@
 //! Each function reads the device before the step, and takes no memory.
 #![tactic(auto)]
 
+mod batch;
 mod buffers;
 mod check;
 mod command;
@@ -12,6 +13,7 @@ mod held;
 mod submission;
 mod write;
 
+pub use batch::{FetchReason, StartReason, fetch_reason, start_reason};
 pub use buffers::{BufferWant, kept_for};
 pub use check::{
     CheckReason, check_device_reason, check_queue_reason, queue_checks_follow_reasons,

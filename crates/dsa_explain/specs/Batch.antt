@@ -1,0 +1,71 @@
+-- Why an engine fetches no member of its batch, and why it starts none.
+use Rattle.std.specs.Prelude.{ℕ, Bool, true, false, cond, nat_lt, List, [], ◌∷◌, length, slice_get, Option, Some, None}
+use Rattle.std.specs.{Prelude.{is_none, unwrap_or}, Option.{option_map_or}}
+use Rattle.dsa_base.specs.Rows.{first_row, when}
+use Rattle.dsa_store.specs.{declared.entry.Entry.{Entry}, Content.{Slot}}
+use Rattle.dsa_book.specs.declared.answer.FetchAnswer.{FetchAnswer, TheVariants.{Fetched}}
+use Rattle.dsa_book.specs.declared.{answer.StartAnswer.{StartAnswer, TheVariants.{Started}}, note.BatchNote.{BatchNote}}
+use Rattle.dsa_book.specs.State.{Work, need_of}
+use Rattle.dsa_book.specs.Work.{note_at, batch_on, is_all_fetched, members, first_waiting, start_table, group_of}
+use Rattle.dsa_explain.specs.declared.batch.FetchReason.{FetchReason, TheVariants.{NoEngine, NoBatch, AllFetched}}
+use Rattle.dsa_explain.specs.declared.batch.StartReason.{StartReason}
+use Rattle.dsa_explain.specs.declared.batch.StartReason.TheVariants.{Nothing, Fence, Failed, NoBuffers, NoGroup}
+use Rattle.dsa_explain.specs.{Reasons.{with_reasons}, Buffers.{want_of}}
+
+-- ---- fetch
+
+-- of the batch that the note is of: its numbers, where no member is to be fetched
+abbrev pub fetch_reason_of : BatchNote → Option Slot → Option FetchReason
+fetch_reason_of note None = Some NoBatch
+fetch_reason_of note (Some batch) = when (is_all_fetched note) (AllFetched note.count note.fetched note.closed)
+
+-- of the engine's note
+abbrev pub fetch_reason_for : Work → ℕ → Option BatchNote → Option FetchReason
+fetch_reason_for w e None = Some NoBatch
+fetch_reason_for w e (Some note) = fetch_reason_of note (batch_on w e note)
+
+-- why the engine fetches no member
+abbrev pub fetch_reason : Work → ℕ → Option FetchReason
+fetch_reason w e = cond (nat_lt e w.setup.caps.engines) (fetch_reason_for w e (note_at w e)) (Some NoEngine)
+
+-- whether a member is fetched
+abbrev pub is_fetched : FetchAnswer → Bool
+is_fetched (Fetched ticket) = true
+is_fetched answer = false
+
+-- ---- start
+
+-- the name of an entry that is there
+abbrev pub name_of : Option Slot → ℕ
+name_of slot = option_map_or (λ (slot : Slot). slot.1.name) slot 0
+
+-- the first of the engine's members that have not ended
+abbrev pub first_member : Work → ℕ → Option Slot
+first_member w e = slice_get (members w e) 0
+
+-- the read buffers that the member lacks; those of a group, where the engine is of one
+abbrev pub want_reason : Work → ℕ → Entry → StartReason
+want_reason w e member = cond (is_none (group_of w e)) NoGroup
+    (NoBuffers (want_of w (unwrap_or (group_of w e) 0) (need_of w.setup member)))
+
+-- a reason for each row of what keeps a member from starting: the member with the fence and the first
+-- that it waits for, the same member and how many are abandoned with it, and the read buffers
+abbrev pub start_reasons : Work → ℕ → Slot → List StartReason
+start_reasons w e slot =
+    Fence slot.1.name (name_of (first_member w e)) ∷
+    Failed slot.1.name (length (members w e)) ∷
+    want_reason w e slot.1 ∷ []
+
+-- of the first member that waits: the first row that stands
+abbrev pub start_reason_of : Work → ℕ → Option Slot → Option StartReason
+start_reason_of w e None = Some Nothing
+start_reason_of w e (Some slot) = first_row (with_reasons (start_table w e slot) (start_reasons w e slot))
+
+-- why the engine starts no member
+abbrev pub start_reason : Work → ℕ → Option StartReason
+start_reason w e = start_reason_of w e (first_waiting w e)
+
+-- whether a member is started
+abbrev pub is_started : StartAnswer → Bool
+is_started (Started ticket) = true
+is_started answer = false
