@@ -5,3 +5,5 @@ pub mod Wanting
 pub mod Rows
 pub mod Taking
 pub mod Starting
+pub mod Waiting
+pub mod Ending

@@ -1,8 +1,8 @@
 -- Rows of tables and what they tell, one at a time.
-use Rattle.std.proofs.Common.{◌≡◌, Bool, true, false, List, [], ◌∷◌, None, refl, arith}
-use Rattle.std.proofs.lemmas.{Grind.{common_steps}}
-use Rattle.std.specs.{Prelude.{is_some}, List.{find, list_any}}
-use Rattle.dsa_base.specs.Rows.{when}
+use Rattle.std.proofs.Common.{◌≡◌, Bool, true, false, cond, List, [], ◌∷◌, ◌++◌, Option, Some, None, refl, arith}
+use Rattle.std.proofs.lemmas.Grind.{common_steps}
+use Rattle.std.specs.{Prelude.{is_some}, List.{find, list_any}, Option.{option_or}}
+use Rattle.dsa_base.specs.Rows.{when, first_row}
 
 -- a row that tells nothing does not stand
 pub when-none : {X : Type 0} (b : Bool) (x : X) → when b x ≡ None → b ≡ false
@@ -17,3 +17,24 @@ is_some-when false x = refl
 pub find-any : {X : Type 0} (p : X → Bool) (xs : List X) → list_any p xs ≡ is_some (find p xs)
 find-any p [] = refl
 find-any p (x ∷ xs) = grind (arith, common_steps, find-any p xs)
+
+-- the first row of two tables is that of the first, or that of the second
+pub row-append : {X : Type 0} (a b : List (Bool × X)) → first_row (a ++ b) ≡ option_or (first_row a) (first_row b)
+row-append [] b = refl
+row-append {X} (row ∷ a) b = go row.0 (row-append a b)
+  where
+    go : {rest : Option X} (t : Bool) → rest ≡ option_or (first_row a) (first_row b)
+        → cond t (Some row.1) rest ≡ option_or (cond t (Some row.1) (first_row a)) (first_row b)
+    go true is = refl
+    go false is = is
+
+-- so where the first tells something, and where it tells nothing
+pub row-before : {X : Type 0} (a b : List (Bool × X)) (reason : Option X) → reason ≡ first_row a → is_some reason ≡ true
+    → reason ≡ first_row (a ++ b)
+row-before a b None is some = absurd cc
+row-before a b (Some x) is some = rw (row-append a b, ← is) refl
+
+pub row-behind : {X : Type 0} (a b : List (Bool × X)) (none reason : Option X) → none ≡ first_row a
+    → is_some none ≡ false → reason ≡ first_row b → reason ≡ first_row (a ++ b)
+row-behind a b None reason is off told = rw (row-append a b, ← is) told
+row-behind a b (Some x) reason is off told = absurd cc

@@ -7,3 +7,4 @@ pub mod Check
 pub mod Buffers
 pub mod Dispatch
 pub mod Batch
+pub mod Finish

@@ -58,7 +58,7 @@ fn batch_on<S: EntryStore>(
 }
 
 // Whether no member of the batch is to be fetched any more.
-fn is_all_fetched(note: &BatchNote) -> bool
+pub(crate) fn is_all_fetched(note: &BatchNote) -> bool
     ensures { result ≡ is_all_fetched note.now }
 {
     note.closed || note.count <= note.fetched

@@ -9,6 +9,7 @@ mod buffers;
 mod check;
 mod command;
 mod dispatch;
+mod finish;
 mod held;
 mod submission;
 mod write;
@@ -25,6 +26,7 @@ pub use command::{
 pub use dispatch::{
     EngineReason, QueueReason, engine_reason, idle_engines_have_reasons, queue_reason,
 };
+pub use finish::{FinishReason, finish_reason};
 pub use held::{
     Held, aborted_at, aborted_entries_get_rows, all_entries_are_told, awaited_entry,
     commands_wait_for_what_is_told,

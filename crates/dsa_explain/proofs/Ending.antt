@@ -1,0 +1,107 @@
+-- What keeps an engine from ending an entry, and which answer that is.
+use Rattle.std.proofs.Common.{◌≡◌, ℕ, ◌+◌, ◌<◌, ◌≤◌, ◌==◌, Bool, true, false, not, cond, ◌&&◌, ◌||◌, nat_lt, List, [], ◌∷◌, ◌++◌}
+use Rattle.std.proofs.Common.{length, Option, Some, None, refl, sym, ap, ◌∙◌, arith, inl, inr}
+use Rattle.std.proofs.lemmas.{Grind.{common_steps}, Bool.{cases_lt, cases_Bool, lt-ltb, ltb-false}}
+use Rattle.std.specs.{Prelude.{find}, Option.{option_map}}
+use Rattle.dsa_base.specs.Rows.{first_row, first_row_or, when, passes}
+use Rattle.dsa_desc.specs.declared.Outcome.{Outcome}
+use Rattle.dsa_regs.specs.{declared.{Caps.{Caps}, layout.ListUse.{ListUse}}, Caps.{list_use, list_number}}
+use Rattle.dsa_store.specs.{declared.entry.Entry.{Entry}, Content.{Slot, Content, all_held, use_count, list_of, entry_of}}
+use Rattle.dsa_book.specs.declared.answer.{Ticket.{Ticket}, FinishAnswer.{FinishAnswer, TheVariants.{Done, NotReady, Gone}}}
+use Rattle.dsa_book.specs.State.{Work, is_batch_of, is_drain_of, is_ticket}
+use Rattle.dsa_book.specs.Work.{waits_for, waits, members, note_at, is_all_fetched, must_wait, progress_list, member_list}
+use Rattle.dsa_book.specs.Work.{running_on, finish, finish_of, last_status, after_end}
+use Rattle.dsa_engines.proofs.Finding.{meant_in, found}
+use Rattle.dsa_explain.specs.declared.finish.FinishReason.{FinishReason, TheVariants.{OtherName, Elsewhere, NotStarted}}
+use Rattle.dsa_explain.specs.declared.finish.FinishReason.TheVariants.{MembersLeft, StillToFetch, DrainWaits}
+use Rattle.dsa_explain.specs.Finish.{first_waited, drain_table, batch_table, wait_table, gone_table, is_list_of}
+use Rattle.dsa_explain.specs.Batch.{name_of}
+use Rattle.dsa_explain.specs.Finish.{fetched_count, member_total, entry_reason, finish_reason, finish_answer, unended}
+use Rattle.dsa_explain.proofs.Rows.{find-any}
+
+-- where nothing is waited for no Drain waits
+pub no-wait : (w : Work) (drain : Entry) → first_waited w drain ≡ None → None ≡ first_row (drain_table w drain)
+no-wait w drain h =
+    let none = find-any (λ (slot : Slot). waits_for drain slot.1) (all_held w.content) in
+    grind (arith, common_steps, none, h)
+
+-- and where something is, a Drain waits for the first
+pub one-wait : (w : Work) (drain : Entry) (slot : Slot) → is_drain_of w.setup drain ≡ true
+    → first_waited w drain ≡ Some slot → Some (DrainWaits slot.1.name) ≡ first_row (drain_table w drain)
+one-wait w drain slot is h =
+    let some = find-any (λ (slot : Slot). waits_for drain slot.1) (all_held w.content) in
+    grind (arith, common_steps, some, is, h)
+
+-- a list is the engine's where its number is
+mine : (caps : Caps) (e i : ℕ) → e < caps.engines
+    → (i == caps.queues + e || i == caps.queues + caps.engines + e) ≡ is_list_of e (list_use caps i)
+mine caps e i h = elim (cases_lt i caps.queues) [
+  | inl low ↦ grind (arith, common_steps, low, h)
+  | inr past ↦ elim (cases_lt i (caps.queues + caps.engines)) [
+    | inl low ↦ grind (arith, common_steps, low, past, h)
+    | inr high ↦ grind (arith, common_steps, high, past, h)
+  ]
+]
+
+-- what has to wait has a reason, and no other
+must : (w : Work) (e : ℕ) (entry : Entry)
+    → option_map finish_answer (first_row (wait_table w e entry)) ≡ when (must_wait w e entry) NotReady
+must w e entry = go (is_batch_of w.setup entry) (nat_lt 0 (length (members w e)))
+    (passes (λ note. not (is_all_fetched note)) (note_at w e)) (is_drain_of w.setup entry && waits w entry)
+    (length (members w e)) (fetched_count w e) (member_total w e) (name_of (first_waited w entry))
+  where
+    go : (a b c d : Bool) (left fetched count first : ℕ)
+        → option_map finish_answer (first_row ((a && b, MembersLeft left) ∷ (a && c, StillToFetch fetched count) ∷ (d, DrainWaits first) ∷ []))
+        ≡ when (a && (b || c) || d) NotReady
+    go true true c d left fetched count first = refl
+    go true false true d left fetched count first = refl
+    go true false false true left fetched count first = refl
+    go true false false false left fetched count first = refl
+    go false b c true left fetched count first = refl
+    go false b c false left fetched count first = refl
+
+-- the rest of the answer
+ready : (w after : Work) (status : ℕ) (m : Bool)
+    → when m NotReady
+    ≡ unended (first_row_or {X = FinishAnswer × Work} ((m, (NotReady, w)) ∷ []) (Done status, after)).0
+ready w after status true = refl
+ready w after status false = refl
+
+-- of what the cell holds and in which list
+of_entry : (w : Work) (e : ℕ) (t : Ticket) (outcome : Outcome) → e < w.setup.caps.engines
+    → (list : Option ℕ) (entry : Option Entry)
+    → option_map finish_answer (entry_reason w e t.name entry (option_map (list_use w.setup.caps) list))
+    ≡ unended (finish_of w e outcome (meant_in w.setup e t list entry)).0
+of_entry w e t outcome h None None = refl
+of_entry w e t outcome h None (Some entry) = refl
+of_entry w e t outcome h (Some i) None = refl
+of_entry w e t outcome h (Some i) (Some entry) = rw (mine w.setup.caps e i h)
+    (go (entry.name == t.name) (is_list_of e (list_use w.setup.caps i)) entry.running)
+  where
+    go : (a b c : Bool)
+        → option_map finish_answer (first_row ((not a, OtherName entry.name) ∷ (not b, Elsewhere (list_use w.setup.caps i)) ∷ (not c, NotStarted) ∷ wait_table w e entry))
+        ≡ unended (finish_of w e outcome (when (b && (c && a)) (t.cell, entry))).0
+    go false false c = refl
+    go false true false = refl
+    go false true true = refl
+    go true false c = refl
+    go true true false = refl
+    go true true true =
+        must w e entry
+        ∙ ready w (after_end w e (t.cell, entry) outcome) (last_status w e (t.cell, entry) outcome) (must_wait w e entry)
+
+-- the reason is one for the answer
+pub ended-told : (w : Work) (e : ℕ) (t : Ticket) (outcome : Outcome) → use_count w.content t.cell ≤ 1
+    → option_map finish_answer (finish_reason w e t) ≡ unended (finish w e t outcome).0
+ended-told w e t outcome once = elim (cases_lt e w.setup.caps.engines) [
+  | inl here ↦
+      let there = found w.setup w.content e t once here in
+      let reason : finish_reason w e t ≡ entry_reason w e t.name (entry_of w.content t.cell)
+      (option_map (list_use w.setup.caps) (list_of w.content t.cell)) = rw (lt-ltb e w.setup.caps.engines here) refl in
+      ap (option_map finish_answer) reason
+      ∙ of_entry w e t outcome here (list_of w.content t.cell) (entry_of w.content t.cell)
+      ∙ ap (λ (slot : Option Slot). unended (finish_of w e outcome slot).0) (sym there)
+  | inr past ↦
+      let off : nat_lt e w.setup.caps.engines ≡ false = grind (arith, common_steps, past) in
+      rw off refl
+]
