@@ -1,20 +1,20 @@
 -- What keeps an engine from ending an entry, and which answer that is.
-use Rattle.std.proofs.Common.{◌≡◌, ℕ, ◌+◌, ◌<◌, ◌≤◌, ◌==◌, Bool, true, false, not, cond, ◌&&◌, ◌||◌, nat_lt, List, [], ◌∷◌, ◌++◌}
+use Rattle.std.proofs.Common.{◌≡◌, ℕ, ◌+◌, ◌<◌, ◌≤◌, ◌==◌, Bool, true, false, not, ◌&&◌, ◌||◌, nat_lt, [], ◌∷◌}
 use Rattle.std.proofs.Common.{length, Option, Some, None, refl, sym, ap, ◌∙◌, arith, inl, inr}
-use Rattle.std.proofs.lemmas.{Grind.{common_steps}, Bool.{cases_lt, cases_Bool, lt-ltb, ltb-false}}
-use Rattle.std.specs.{Prelude.{find}, Option.{option_map}}
+use Rattle.std.proofs.lemmas.{Grind.{common_steps}, Bool.{cases_lt, lt-ltb}}
+use Rattle.std.specs.{Option.{option_map}}
 use Rattle.dsa_base.specs.Rows.{first_row, first_row_or, when, passes}
 use Rattle.dsa_desc.specs.declared.Outcome.{Outcome}
-use Rattle.dsa_regs.specs.{declared.{Caps.{Caps}, layout.ListUse.{ListUse}}, Caps.{list_use, list_number}}
-use Rattle.dsa_store.specs.{declared.entry.Entry.{Entry}, Content.{Slot, Content, all_held, use_count, list_of, entry_of}}
-use Rattle.dsa_book.specs.declared.answer.{Ticket.{Ticket}, FinishAnswer.{FinishAnswer, TheVariants.{Done, NotReady, Gone}}}
-use Rattle.dsa_book.specs.State.{Work, is_batch_of, is_drain_of, is_ticket}
-use Rattle.dsa_book.specs.Work.{waits_for, waits, members, note_at, is_all_fetched, must_wait, progress_list, member_list}
-use Rattle.dsa_book.specs.Work.{running_on, finish, finish_of, last_status, after_end}
+use Rattle.dsa_regs.specs.{declared.{Caps.{Caps}}, Caps.{list_use}}
+use Rattle.dsa_store.specs.{declared.entry.Entry.{Entry}, Content.{Slot, all_held, use_count, list_of, entry_of}}
+use Rattle.dsa_book.specs.declared.answer.{Ticket.{Ticket}, FinishAnswer.{FinishAnswer, TheVariants.{Done, NotReady}}}
+use Rattle.dsa_book.specs.State.{Work, is_batch_of, is_drain_of}
+use Rattle.dsa_book.specs.Work.{waits_for, waits, members, note_at, is_all_fetched, must_wait}
+use Rattle.dsa_book.specs.Work.{finish, finish_of, last_status, after_end}
 use Rattle.dsa_engines.proofs.Finding.{meant_in, found}
-use Rattle.dsa_explain.specs.declared.finish.FinishReason.{FinishReason, TheVariants.{OtherName, Elsewhere, NotStarted}}
+use Rattle.dsa_explain.specs.declared.finish.FinishReason.{TheVariants.{OtherName, Elsewhere, NotStarted}}
 use Rattle.dsa_explain.specs.declared.finish.FinishReason.TheVariants.{MembersLeft, StillToFetch, DrainWaits}
-use Rattle.dsa_explain.specs.Finish.{first_waited, drain_table, batch_table, wait_table, gone_table, is_list_of}
+use Rattle.dsa_explain.specs.Finish.{first_waited, drain_table, wait_table, is_list_of}
 use Rattle.dsa_explain.specs.Batch.{name_of}
 use Rattle.dsa_explain.specs.Finish.{fetched_count, member_total, entry_reason, finish_reason, finish_answer, unended}
 use Rattle.dsa_explain.proofs.Rows.{find-any}

@@ -1,12 +1,11 @@
 -- What keeps an engine from starting a member, and whether it starts one.
-use Rattle.std.proofs.Common.{◌≡◌, ℕ, Bool, true, false, Option, Some, None, refl, ap, ◌∙◌, arith}
+use Rattle.std.proofs.Common.{◌≡◌, ℕ, Option, Some, arith}
 use Rattle.std.proofs.lemmas.Grind.{common_steps}
-use Rattle.std.specs.Prelude.{is_none, not, ◌&&◌}
+use Rattle.std.specs.Prelude.{is_none}
 use Rattle.dsa_base.specs.Rows.{first_row}
-use Rattle.dsa_desc.specs.Descriptor.{is_fenced}
 use Rattle.dsa_store.specs.Content.{Slot}
-use Rattle.dsa_book.specs.State.{Work, need_of}
-use Rattle.dsa_book.specs.Work.{first_waiting, start_table, start_of, start, is_front, has_failed, has_room}
+use Rattle.dsa_book.specs.State.{Work}
+use Rattle.dsa_book.specs.Work.{first_waiting, start_table, start_of, start}
 use Rattle.dsa_explain.specs.declared.batch.StartReason.{StartReason}
 use Rattle.dsa_explain.specs.{Reasons.{with_reasons}, Batch.{start_reasons, start_reason_of, is_started}}
 
