@@ -6,8 +6,8 @@ use dsa_book::{
     SubmitAnswer, Ticket, WriteAnswer,
 };
 use dsa_desc::Outcome;
-use dsa_fixtures::{ENQCMD, NO_OP};
-use dsa_regs::{Command, Fault, GroupConfig, QueueConfig};
+use dsa_fixtures::{ENQCMD, FIRST_GROUP, NO_OP, SHARED_QUEUE};
+use dsa_regs::{Command, Fault};
 use dsa_store::Cell;
 use std::test::Fail;
 
@@ -22,13 +22,9 @@ const NOTED: NotedError = NotedError {
     overflow: false,
 };
 
-fn row(name: u32, parent: Option<u32>, fate: Fate) -> FateRow {
-    FateRow { name, parent, fate }
-}
-
 #[test]
 fn zero_flags(rt: HostRuntime) {
-    let table = [
+    const TABLE: [(SubmitAnswer, Kind, Option<bool>); 8] = [
         (SubmitAnswer::Accepted(TICKET), ENQCMD, Some(false)),
         (SubmitAnswer::Accepted(TICKET), Kind::Movdir64b, None),
         (SubmitAnswer::Retry(Cause::AtLimit), ENQCMD, Some(true)),
@@ -38,14 +34,14 @@ fn zero_flags(rt: HostRuntime) {
         (SubmitAnswer::Full, ENQCMD, None),
         (SubmitAnswer::Full, Kind::Movdir64b, None),
     ];
-    for (answer, kind, flag) in table {
-        assert_eq!(rt; answer.zf(kind), flag);
+    for &(answer, kind, flag) in &TABLE {
+        assert!(rt; answer.zf(kind) == flag);
     }
 }
 
 #[test]
 fn stored_replies(rt: HostRuntime) {
-    let stored = [
+    const STORED: [Reply; 13] = [
         Reply::Submit(SubmitAnswer::Accepted(TICKET)),
         Reply::Submit(SubmitAnswer::Retry(Cause::AtLimit)),
         Reply::Submit(SubmitAnswer::Dropped(Cause::WrongKind)),
@@ -63,14 +59,14 @@ fn stored_replies(rt: HostRuntime) {
         Reply::Write(WriteAnswer::Written),
         Reply::Clear(ClearAnswer::Cleared(NOTED)),
     ];
-    for reply in stored {
-        assert_eq!(rt; reply.is_stored(), true);
+    for reply in &STORED {
+        assert!(rt; reply.is_stored());
     }
 }
 
 #[test]
 fn replies_that_are_not_stored(rt: HostRuntime) {
-    let unstored = [
+    const UNSTORED: [Reply; 22] = [
         Reply::Submit(SubmitAnswer::Full),
         Reply::Dispatch(DispatchAnswer::Idle),
         Reply::Dispatch(DispatchAnswer::Full),
@@ -94,27 +90,27 @@ fn replies_that_are_not_stored(rt: HostRuntime) {
         Reply::Clear(ClearAnswer::Nothing),
         Reply::Clear(ClearAnswer::Full),
     ];
-    for reply in unstored {
-        assert_eq!(rt; reply.is_stored(), false);
+    for reply in &UNSTORED {
+        assert!(rt; !reply.is_stored());
     }
 }
 
 #[test]
 fn actors(rt: HostRuntime) {
-    let submit = Event::Submit {
+    const SUBMIT: Event = Event::Submit {
         client: 2,
         queue: 1,
         portal: Portal::Limited,
         kind: Kind::Movdir64b,
         desc: NO_OP,
     };
-    let finish = Event::Finish {
+    const FINISH: Event = Event::Finish {
         engine: 4,
         ticket: TICKET,
         outcome: Outcome::Success,
     };
-    let table = [
-        (submit, Actor::Client(2)),
+    const TABLE: [(Event, Actor); 10] = [
+        (SUBMIT, Actor::Client(2)),
         (Event::Dispatch { engine: 1 }, Actor::Engine(1)),
         (
             Event::Fetch {
@@ -124,7 +120,7 @@ fn actors(rt: HostRuntime) {
             Actor::Engine(2),
         ),
         (Event::Start { engine: 3 }, Actor::Engine(3)),
-        (finish, Actor::Engine(4)),
+        (FINISH, Actor::Engine(4)),
         (
             Event::Issue {
                 command: Command::DrainAll,
@@ -135,21 +131,21 @@ fn actors(rt: HostRuntime) {
         (
             Event::WriteQueue {
                 queue: 0,
-                config: QueueConfig::default(),
+                config: SHARED_QUEUE,
             },
             Actor::Admin,
         ),
         (
             Event::WriteGroup {
                 group: 0,
-                config: GroupConfig::default(),
+                config: FIRST_GROUP,
             },
             Actor::Admin,
         ),
         (Event::ClearError, Actor::Admin),
     ];
-    for (event, actor) in table {
-        assert_eq!(rt; event.actor(), actor);
+    for &(event, actor) in &TABLE {
+        assert!(rt; event.actor() == actor);
     }
 }
 
@@ -180,25 +176,35 @@ fn a_book_keeps_steps_and_rows(rt: HostRuntime) -> Result<(), Fail> {
     assert!(rt; book.history().len() < book.capacity());
     book.add_step(RETRY);
     assert!(rt; book.is_full());
-    assert_eq!(rt; book.history(), STEPS.as_slice());
+    assert!(rt; book.history() == STEPS.as_slice());
     Ok(())
 }
 
 #[test]
 fn a_book_gives_the_first_row_of_a_name(rt: HostRuntime) -> Result<(), Fail> {
+    const FIRST: FateRow = FateRow {
+        name: 4,
+        parent: None,
+        fate: Fate::Completed(0x01),
+    };
+    const OTHER: FateRow = FateRow {
+        name: 1,
+        parent: Some(4),
+        fate: Fate::Abandoned,
+    };
+    const AGAIN: FateRow = FateRow {
+        name: 4,
+        parent: None,
+        fate: Fate::Aborted(12),
+    };
+    const ROWS: [FateRow; 3] = [FIRST, OTHER, AGAIN];
+    const FOUND: [Option<FateRow>; 3] = [Some(FIRST), Some(OTHER), None];
     let mut book = Book::new(rt.alloc(), 3)?;
-    let rows = [
-        row(4, None, Fate::Completed(0x01)),
-        row(1, Some(4), Fate::Abandoned),
-        row(4, None, Fate::Aborted(12)),
-    ];
-    for fate in rows {
+    for row in &ROWS {
         assert!(rt; book.fates().len() < book.capacity());
-        book.add_row(fate);
+        book.add_row(*row);
     }
-    assert_eq!(rt; book.fates(), rows.as_slice());
-    assert_eq!(rt; book.fate(4), Some(rows[0]));
-    assert_eq!(rt; book.fate(1), Some(rows[1]));
-    assert_eq!(rt; book.fate(0), None);
+    assert!(rt; book.fates() == ROWS.as_slice());
+    assert!(rt; [book.fate(4), book.fate(1), book.fate(0)] == FOUND);
     Ok(())
 }

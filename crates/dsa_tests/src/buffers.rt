@@ -16,8 +16,8 @@ fn reserved_buffers_are_left_to_their_group(rt: HostRuntime) {
     assert!(rt; !buffers.fits(1, 4));
     assert!(rt; buffers.fits(2, 4));
     assert!(rt; !buffers.fits(0, 1));
-    assert_eq!(rt; buffers.used(0), 8);
+    assert!(rt; buffers.used(0) == 8);
     buffers.give(0, 4);
-    assert_eq!(rt; buffers.used(0), 4);
+    assert!(rt; buffers.used(0) == 4);
     assert!(rt; buffers.fits(1, 4));
 }

@@ -6,7 +6,7 @@ ghost use Rattle.dsa_queues.specs.Queues.{IsCounted};
 ghost use Rattle.dsa_tests.specs.Parts.{Agree, AllAgree};
 
 use crate::engines::{fetch, see_places, start_one};
-use crate::setup::{numbers, written};
+use crate::setup::{book, numbers, store, written};
 use dsa_admin::Admin;
 use dsa_book::{
     Book, DispatchAnswer, Fate, FateRow, FetchAnswer, FinishAnswer, IssueAnswer, PollAnswer,
@@ -14,12 +14,11 @@ use dsa_book::{
 };
 use dsa_desc::{Descriptor, Outcome};
 use dsa_engines::Engines;
-use dsa_fixtures::{CELLS, FIRST_GROUP, FIRST_QUEUE, LISTS, MOVE, SECOND_GROUP, batch_of};
+use dsa_fixtures::{FIRST_GROUP, FIRST_QUEUE, LISTS, MOVE, SECOND_GROUP, batch_of};
 use dsa_queues::Queues;
 use dsa_regs::{Command, Fault, GroupConfig, Phase, QueueMask, cell_count, list_count};
-use dsa_store::{Entry, EntryStore, ListId, PlainStore};
+use dsa_store::{Entry, EntryStore, ListId};
 use std::process::Abort;
-use std::test::Fail;
 
 // A group with a queue that no engine serves.
 const WITHOUT_ENGINE: GroupConfig = GroupConfig {
@@ -109,7 +108,7 @@ fn issue_each<S: EntryStore>(rt: &impl Abort, parts: &mut Parts<S>, rows: &[(Com
     ensures { AllAgree parts.new.queues parts.new.engines parts.new.admin (S.cells parts.new.store) (S.content parts.new.store) }
 {
     for (command, answer) in rows {
-        assert_eq!(rt; issue(rt, parts, *command), *answer, "{}", command.name());
+        assert!(rt; issue(rt, parts, *command) == *answer);
     }
 }
 
@@ -137,7 +136,7 @@ fn push<S: EntryStore>(
         panic!(rt; "no cell is free")
     };
     parts.queues.entered(queue);
-    assert_eq!(rt; parts.store.list_of(cell), Some(ListId(queue)));
+    assert!(rt; parts.store.list_of(cell) == Some(ListId(queue)));
     Ticket {
         cell,
         name: entry.name,
@@ -181,10 +180,8 @@ fn refused<S: EntryStore>(rt: &impl Abort, store: S, book: Book) {
 }
 
 #[test]
-fn the_first_cause_refuses(rt: HostRuntime) -> Result<(), Fail> {
-    let store = PlainStore::new(rt.alloc(), LISTS, CELLS)?;
-    refused(&rt, store, Book::new(rt.alloc(), 100)?);
-    Ok(())
+fn the_first_cause_refuses(rt: HostRuntime) {
+    refused(&rt, store(&rt, rt.alloc()), book(&rt, rt.alloc(), 100));
 }
 
 // The commands are issued in turn: how many entries each aborts, and the numbers of the queues after it.
@@ -198,8 +195,8 @@ fn abort_each<S: EntryStore>(
 {
     for (command, aborted, left) in rows {
         let answer = IssueAnswer::Ended { aborted: *aborted };
-        assert_eq!(rt; issue(rt, parts, *command), answer, "{}", command.name());
-        assert_eq!(rt; numbers(rt, &parts.queues), *left, "{}", command.name());
+        assert!(rt; issue(rt, parts, *command) == answer);
+        assert!(rt; numbers(rt, &parts.queues) == *left);
     }
 }
 
@@ -220,7 +217,7 @@ fn aborted<S: EntryStore>(rt: &impl Abort, store: S, book: Book) {
     let mut parts = parts_of(rt, [FIRST_GROUP, SECOND_GROUP], store, book);
     issue_each(rt, &mut parts, &ENABLES);
     push_each(rt, &mut parts, &ENTRIES);
-    assert_eq!(rt; numbers(rt, &parts.queues), [3, 2]);
+    assert!(rt; numbers(rt, &parts.queues) == [3, 2]);
     abort_each(rt, &mut parts, &ABORTS);
     were_aborted(rt, &parts.book);
     sizes_are_kept(rt, &parts.queues);
@@ -237,21 +234,19 @@ fn sizes_are_kept(rt: &impl Abort, queues: &Queues) {
 // Each entry has the number of the command that took it out.
 fn were_aborted(rt: &impl Abort, book: &Book) {
     const ROWS: [(u32, u8); 5] = [(0, 12), (2, 12), (3, 12), (1, 9), (4, 10)];
-    for (name, number) in ROWS {
+    for &(name, number) in &ROWS {
         let row = FateRow {
             name,
             parent: None,
             fate: Fate::Aborted(number),
         };
-        assert_eq!(rt; book.fate(name), Some(row));
+        assert!(rt; book.fate(name) == Some(row));
     }
 }
 
 #[test]
-fn aborts_take_out_their_scope(rt: HostRuntime) -> Result<(), Fail> {
-    let store = PlainStore::new(rt.alloc(), LISTS, CELLS)?;
-    aborted(&rt, store, Book::new(rt.alloc(), 100)?);
-    Ok(())
+fn aborts_take_out_their_scope(rt: HostRuntime) {
+    aborted(&rt, store(&rt, rt.alloc()), book(&rt, rt.alloc(), 100));
 }
 
 // The answer to a poll.
@@ -276,7 +271,7 @@ fn take<S: EntryStore>(rt: &impl Abort, parts: &mut Parts<S>, ticket: Ticket)
     } = parts;
     assert!(rt; admin.active().is_none());
     let taken = DispatchAnswer::Taken { ticket, queue: 0 };
-    assert_eq!(rt; engines.dispatch(queues, store, 0), taken);
+    assert!(rt; engines.dispatch(queues, store, 0) == taken);
 }
 
 // A member of its batch runs on the first engine, while no command is active.
@@ -296,7 +291,7 @@ fn run_member<S: EntryStore>(rt: &impl Abort, parts: &mut Parts<S>) -> Ticket
         panic!(rt; "nothing was fetched");
     };
     let answer = start_one(rt, queues, engines, store, book);
-    assert_eq!(rt; answer, StartAnswer::Started(member));
+    assert!(rt; answer == StartAnswer::Started(member));
     member
 }
 
@@ -337,7 +332,7 @@ fn drained<S: EntryStore>(rt: &impl Abort, store: S, book: Book) {
         (Command::AbortAll, IssueAnswer::Refused(Fault::Busy)),
     ];
     let mut parts = parts_of(rt, [FIRST_GROUP, SECOND_GROUP], store, book);
-    assert_eq!(rt; poll(&mut parts), PollAnswer::Nothing);
+    assert!(rt; poll(&mut parts) == PollAnswer::Nothing);
     issue_each(rt, &mut parts, &ENABLES);
     let batch = push(rt, &mut parts, 0, batch_of(2).with_pasid(5));
     take(rt, &mut parts, batch);
@@ -345,20 +340,18 @@ fn drained<S: EntryStore>(rt: &impl Abort, store: S, book: Book) {
     end(rt, &mut parts, first);
     let member = run_member(rt, &mut parts);
     issue_each(rt, &mut parts, &DRAINS);
-    assert_eq!(rt; poll(&mut parts), PollAnswer::Active);
+    assert!(rt; poll(&mut parts) == PollAnswer::Active);
     push(rt, &mut parts, 0, MOVE.with_pasid(5));
     end(rt, &mut parts, member);
-    assert_eq!(rt; poll(&mut parts), PollAnswer::Active);
+    assert!(rt; poll(&mut parts) == PollAnswer::Active);
     end(rt, &mut parts, batch);
-    assert_eq!(rt; poll(&mut parts), PollAnswer::Finished);
+    assert!(rt; poll(&mut parts) == PollAnswer::Finished);
     assert!(rt; parts.admin.active().is_none() && numbers(rt, &parts.queues) == [1, 0]);
 }
 
 #[test]
-fn drains_wait_for_what_came_before(rt: HostRuntime) -> Result<(), Fail> {
-    let store = PlainStore::new(rt.alloc(), LISTS, CELLS)?;
-    drained(&rt, store, Book::new(rt.alloc(), 100)?);
-    Ok(())
+fn drains_wait_for_what_came_before(rt: HostRuntime) {
+    drained(&rt, store(&rt, rt.alloc()), book(&rt, rt.alloc(), 100));
 }
 
 // A disable waits for all that its queue holds.
@@ -371,7 +364,7 @@ fn disabled<S: EntryStore>(rt: &impl Abort, store: S, book: Book) {
     issue_each(rt, &mut parts, &ENABLES);
     push(rt, &mut parts, 0, MOVE);
     issue_each(rt, &mut parts, &DISABLE);
-    assert_eq!(rt; poll(&mut parts), PollAnswer::Active);
+    assert!(rt; poll(&mut parts) == PollAnswer::Active);
     assert!(rt; parts.queues.phase(0) == Phase::Stopping);
     front_leaves(rt, &mut parts);
 }
@@ -390,8 +383,6 @@ fn front_leaves<S: EntryStore>(rt: &impl Abort, parts: &mut Parts<S>) {
 }
 
 #[test]
-fn disables_wait_for_all_of_their_queue(rt: HostRuntime) -> Result<(), Fail> {
-    let store = PlainStore::new(rt.alloc(), LISTS, CELLS)?;
-    disabled(&rt, store, Book::new(rt.alloc(), 100)?);
-    Ok(())
+fn disables_wait_for_all_of_their_queue(rt: HostRuntime) {
+    disabled(&rt, store(&rt, rt.alloc()), book(&rt, rt.alloc(), 100));
 }

@@ -92,14 +92,14 @@ fn reads_fields(rt: HostRuntime) {
             8,
         ),
     ];
-    for (head, size, pasid, flags, op, number) in ROWS {
+    for &(head, size, pasid, flags, op, number) in &ROWS {
         let want = Descriptor {
             pasid,
             flags,
             op,
             size: number,
         };
-        assert_eq!(rt; Descriptor::parse(&drivers_bytes(head, size)), want);
+        assert!(rt; Descriptor::parse(&drivers_bytes(head, size)) == want);
     }
 }
 
@@ -113,14 +113,11 @@ fn accepts_drivers_descriptors(rt: HostRuntime) {
         ([0x01, 0, 0, 0, 0x0e, 0, 0, 0x05], [0, 0x10, 0, 0]),
         ([0x01, 0, 0, 0, 0x0c, 0, 0, 0x01], [8, 0, 0, 0]),
     ];
-    for (head, size) in ROWS {
+    for &(head, size) in &ROWS {
         let descriptor = Descriptor::parse(&drivers_bytes(head, size));
-        assert!(rt; descriptor.is_well_formed(&LIMITS, false), "{descriptor}");
-        assert_eq!(rt;
-            descriptor.status(&LIMITS, false, Outcome::Success),
-            DSA_COMP_SUCCESS,
-            "{descriptor}"
-        );
+        let status = descriptor.status(&LIMITS, false, Outcome::Success);
+        let found = (descriptor.is_well_formed(&LIMITS, false), status);
+        assert!(rt; found == (true, DSA_COMP_SUCCESS));
     }
 }
 
@@ -132,12 +129,12 @@ fn writes_images(rt: HostRuntime) {
         (0xf_ffff, [0xff, 0xff, 0x0f, 0, 0x0c, 0, 0, 0x03]),
         (0xffff_ffff, [0xff, 0xff, 0x0f, 0, 0x0c, 0, 0, 0x03]),
     ];
-    for (pasid, head) in ROWS {
+    for &(pasid, head) in &ROWS {
         let want = drivers_bytes(head, [0, 0x10, 0, 0]);
         let image = enqcmd_image(&source, pasid);
-        assert_eq!(rt; image, want, "PASID {pasid}");
+        assert!(rt; image == want);
         let descriptor = Descriptor::parse(&source).with_pasid(pasid);
-        assert!(rt; Descriptor::parse(&image) == descriptor, "PASID {pasid}");
+        assert!(rt; Descriptor::parse(&image) == descriptor);
     }
     assert!(rt; Descriptor::parse(&enqcmd_image(&source, 5)).pasid == 5);
 }
@@ -169,15 +166,11 @@ fn checks(rt: HostRuntime) {
         (DSA_OPCODE_BATCH, 0, 8, false, DSA_COMP_NONE),
         (DSA_OPCODE_BATCH, 0, 9, false, DSA_COMP_DESC_CNT_ERANGE),
     ];
-    for (op, flags, size, member, want) in ROWS {
+    for &(op, flags, size, member, want) in &ROWS {
         let descriptor = submitted(op, flags, size);
-        assert_eq!(rt; descriptor.check(&LIMITS, member), want, "{descriptor}");
-        assert_eq!(rt;
-            descriptor.is_well_formed(&LIMITS, member),
-            want == 0,
-            "{descriptor}"
-        );
-        assert_eq!(rt; descriptor.is_fenced(), flags == 1, "{descriptor}");
+        let status = descriptor.check(&LIMITS, member);
+        let formed = descriptor.is_well_formed(&LIMITS, member);
+        assert!(rt; (status, formed, descriptor.is_fenced()) == (want, want == 0, flags == 1));
     }
 }
 
@@ -196,12 +189,8 @@ fn needs_read_buffers(rt: HostRuntime) {
         (DSA_OPCODE_BATCH, 8, 0),
         (DSA_OPCODE_NOOP, 4096, 0),
     ];
-    for (op, size, want) in ROWS {
-        assert_eq!(rt;
-            submitted(op, 0, size).need(&LIMITS, false),
-            want,
-            "code {op}, size {size}"
-        );
+    for &(op, size, want) in &ROWS {
+        assert!(rt; submitted(op, 0, size).need(&LIMITS, false) == want);
     }
 }
 
@@ -226,12 +215,8 @@ fn completes(rt: HostRuntime) {
         (DSA_OPCODE_DRAIN, 0, Outcome::Success, DSA_COMP_SUCCESS),
         (DSA_OPCODE_DRAIN, 0, Outcome::PageFault, DSA_COMP_SUCCESS),
     ];
-    for (op, size, outcome, want) in ROWS {
-        assert_eq!(rt;
-            submitted(op, 0, size).status(&LIMITS, false, outcome),
-            want,
-            "code {op}, size {size}"
-        );
+    for &(op, size, outcome, want) in &ROWS {
+        assert!(rt; submitted(op, 0, size).status(&LIMITS, false, outcome) == want);
     }
 }
 
@@ -246,11 +231,11 @@ fn sorts_operations(rt: HostRuntime) {
         (DSA_OPCODE_COMPARE, false, false, true),
         (0x06, false, false, false),
     ];
-    for (op, is_batch, is_drain, is_transfer) in ROWS {
+    for &(op, is_batch, is_drain, is_transfer) in &ROWS {
         let descriptor = submitted(op, 0, 2);
-        assert!(rt; descriptor.is_batch() == is_batch, "code {op}");
-        assert!(rt; descriptor.is_drain() == is_drain, "code {op}");
-        assert!(rt; descriptor.is_transfer() == is_transfer, "code {op}");
+        let (batch, drain) = (descriptor.is_batch(), descriptor.is_drain());
+        let found = (batch, drain, descriptor.is_transfer());
+        assert!(rt; found == (is_batch, is_drain, is_transfer));
     }
 }
 
@@ -264,16 +249,11 @@ fn sorts_lawful_operations(rt: HostRuntime) {
         (DSA_OPCODE_DRAIN, 0, true, false, false),
         (DSA_OPCODE_DRAIN, 1, false, false, false),
     ];
-    for (op, flags, member, is_batch, is_drain) in ROWS {
+    for &(op, flags, member, is_batch, is_drain) in &ROWS {
         let descriptor = submitted(op, flags, 2);
-        assert!(rt;
-            descriptor.is_lawful_batch(&LIMITS, member) == is_batch,
-            "code {op}"
-        );
-        assert!(rt;
-            descriptor.is_lawful_drain(&LIMITS, member) == is_drain,
-            "code {op}"
-        );
+        let batch = descriptor.is_lawful_batch(&LIMITS, member);
+        let drain = descriptor.is_lawful_drain(&LIMITS, member);
+        assert!(rt; (batch, drain) == (is_batch, is_drain));
     }
 }
 
@@ -288,16 +268,12 @@ fn takes_any_shift(rt: HostRuntime) {
         (255, u32::MAX, DSA_COMP_NONE),
         (255, 0, DSA_COMP_XFER_ERANGE),
     ];
-    for (shift, size, want) in ROWS {
+    for &(shift, size, want) in &ROWS {
         let limits = QueueLimits {
             max_batch_shift: 0,
             max_xfer_shift: shift,
         };
-        assert_eq!(rt;
-            submitted(DSA_OPCODE_MEMMOVE, 0, size).check(&limits, false),
-            want,
-            "shift {shift}, size {size}"
-        );
+        assert!(rt; submitted(DSA_OPCODE_MEMMOVE, 0, size).check(&limits, false) == want);
     }
 }
 
@@ -320,11 +296,11 @@ fn names_flags(rt: HostRuntime) {
         ("DRDBK", 0x4000),
         ("DSTS", 0x8000),
     ];
-    for (name, bits) in ROWS {
+    for &(name, bits) in &ROWS {
         let flag = DescriptorFlags::from_name(name);
-        assert!(rt; flag.map(|flag| flag.bits()) == Some(bits), "{name}");
+        assert!(rt; flag.map(|flag| flag.bits()) == Some(bits));
         let flags = submitted(DSA_OPCODE_NOOP, bits, 0).flags();
-        assert!(rt; flags.bits() == bits, "{name}");
+        assert!(rt; flags.bits() == bits);
     }
     let flags = submitted(DSA_OPCODE_NOOP, 0x0c, 0).flags();
     assert!(rt; flags.contains(DescriptorFlags::CRAV | DescriptorFlags::RCR));
@@ -391,12 +367,12 @@ fn prints_one_line(rt: HostRuntime) -> Result<(), Fail> {
             "Operation 0xff, PASID 5, flags 0x000000, size 0",
         ),
     ];
-    for (op, flags, size, pasid, want) in ROWS {
+    for &(op, flags, size, pasid, want) in &ROWS {
         let descriptor = submitted(op, flags, size).with_pasid(pasid);
         let line = format!(in rt.alloc(); "{descriptor}")?;
-        assert_eq!(rt; line.as_str(), want);
+        assert!(rt; line.as_str() == want);
     }
     let flags = format!(in rt.alloc(); "{}", DescriptorFlags::FENCE)?;
-    assert_eq!(rt; flags.as_str(), "0x000001");
+    assert!(rt; flags.as_str() == "0x000001");
     Ok(())
 }

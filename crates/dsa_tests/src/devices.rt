@@ -1,5 +1,6 @@
 //! Each call of a device over a store of vectors: queue 0 is shared, with its group and its engine, and queue 1 is left Off.
 
+use crate::setup::store;
 use dsa_book::{
     BatchNote, Cause, ClearAnswer, DispatchAnswer, Event, Fate, FetchAnswer, FinishAnswer,
     IssueAnswer, Kind, NotedError, PollAnswer, Portal, Reply, StartAnswer, Step, SubmitAnswer,
@@ -13,14 +14,14 @@ use dsa_fixtures::{
 };
 use dsa_regs::{Caps, Command, Fault, Phase, QueueConfig};
 use dsa_store::{Cell, Entry, EntryStore, ListId, PlainStore, Walk};
+use std::alloc::Global;
 use std::process::Abort;
 use std::test::Fail;
 
-fn device(rt: &HostRuntime, capacity: u64) -> Result<Device<PlainStore>, Fail> {
-    let store = PlainStore::new(rt.alloc(), LISTS, CELLS)?;
-    match Device::new(rt.alloc(), store, CAPS, capacity) {
-        Ok(device) => Ok(device),
-        Err(_) => Err("the device was not made")?,
+fn device(rt: &impl Abort, alloc: Global, capacity: u64) -> Device<PlainStore> {
+    match Device::new(alloc, store(rt, alloc), CAPS, capacity) {
+        Ok(device) => device,
+        Err(_) => panic!(rt; "the device was not made"),
     }
 }
 
@@ -59,11 +60,8 @@ fn faults_in_their_order(rt: HostRuntime) -> Result<(), Fail> {
         (CAPS, 1_048_576, LISTS, CELLS - 1, MakeFault::BadStore),
         (CAPS, 8, LISTS + 1, CELLS, MakeFault::BadStore),
     ];
-    for (caps, capacity, lists, cells, fault) in CASES {
-        assert_eq!(rt;
-            refusal(&rt, caps, capacity, (lists, cells))?,
-            (fault, lists, cells, cells)
-        );
+    for &(caps, capacity, lists, cells, fault) in &CASES {
+        assert!(rt; refusal(&rt, caps, capacity, (lists, cells))? == (fault, lists, cells, cells));
     }
     Ok(())
 }
@@ -85,9 +83,9 @@ fn sentences_of_faults(rt: HostRuntime) -> Result<(), Fail> {
         ),
         (MakeFault::OutOfMemory, "out of memory"),
     ];
-    for (fault, sentence) in SENTENCES {
+    for &(fault, sentence) in &SENTENCES {
         let text = format!(in rt.alloc(); "{fault}")?;
-        assert_eq!(rt; text.as_str(), sentence);
+        assert!(rt; text.as_str() == sentence);
     }
     Ok(())
 }
@@ -102,7 +100,7 @@ fn store_with_an_entry_comes_back(rt: HostRuntime) -> Result<(), Fail> {
         running: false,
     };
     let mut store = PlainStore::new(rt.alloc(), LISTS, CELLS)?;
-    assert_eq!(rt; store.lists(), LISTS);
+    assert!(rt; store.lists() == LISTS);
     let Some(cell) = store.push_back(ListId(0), ENTRY) else {
         return Err("no cell is free")?;
     };
@@ -125,14 +123,13 @@ fn counts(device: &Device<PlainStore>) -> (Option<u16>, Option<u16>, u32) {
 }
 
 #[test]
-fn new_device(rt: HostRuntime) -> Result<(), Fail> {
-    let device = device(&rt, 8)?;
+fn new_device(rt: HostRuntime) {
+    let device = device(&rt, rt.alloc(), 8);
     device.state_is_replay();
     is_unused(&rt, &device);
     assert!(rt; counts(&device) == (Some(0), Some(0), 0));
     assert!(rt; device.occupancy(2).is_none() && device.used(2).is_none());
     assert!(rt; device.caps() == CAPS && device.capacity() == 8);
-    Ok(())
 }
 
 // The step of an event by the call for such events.
@@ -164,7 +161,7 @@ fn call(device: &mut Device<PlainStore>, event: Event) -> Reply {
 // The events come in turn, each with its reply.
 fn replies(rt: &impl Abort, device: &mut Device<PlainStore>, rows: &[(Event, Reply)]) {
     for (event, reply) in rows {
-        assert_eq!(rt; call(device, *event), *reply, "{event:?}");
+        assert!(rt; call(device, *event) == *reply);
     }
 }
 
@@ -206,7 +203,7 @@ const FINISH: Event = Event::Finish {
 };
 
 #[test]
-fn steps_while_off(rt: HostRuntime) -> Result<(), Fail> {
+fn steps_while_off(rt: HostRuntime) {
     const NOTED: NotedError = NotedError {
         queue: 0,
         cause: Cause::NotEnabled,
@@ -257,16 +254,15 @@ fn steps_while_off(rt: HostRuntime) -> Result<(), Fail> {
             Reply::Issue(IssueAnswer::Refused(Fault::WrongState)),
         ),
     ];
-    let mut device = device(&rt, 8)?;
+    let mut device = device(&rt, rt.alloc(), 8);
     replies(&rt, &mut device, &SUBMITTED);
-    assert_eq!(rt; device.noted(), Some(NOTED));
+    assert!(rt; device.noted() == Some(NOTED));
     replies(&rt, &mut device, &STEPS);
-    assert_eq!(rt; device.history().len(), 5);
-    Ok(())
+    assert!(rt; device.history().len() == 5);
 }
 
 #[test]
-fn no_room_for_any_step(rt: HostRuntime) -> Result<(), Fail> {
+fn no_room_for_any_step(rt: HostRuntime) {
     const STEPS: [(Event, Reply); 10] = [
         (ZEROS, Reply::Submit(SubmitAnswer::Full)),
         (DISPATCH, Reply::Dispatch(DispatchAnswer::Full)),
@@ -284,10 +280,9 @@ fn no_room_for_any_step(rt: HostRuntime) -> Result<(), Fail> {
         (WRITE_GROUP, Reply::Write(WriteAnswer::Full)),
         (Event::ClearError, Reply::Clear(ClearAnswer::Full)),
     ];
-    let mut device = device(&rt, 0)?;
+    let mut device = device(&rt, rt.alloc(), 0);
     replies(&rt, &mut device, &STEPS);
-    assert_eq!(rt; device.history().len(), 0);
-    Ok(())
+    assert!(rt; device.history().len() == 0);
 }
 
 // A Memory Move of two pages.
@@ -303,11 +298,11 @@ fn submission(desc: Descriptor) -> Event {
     }
 }
 
-fn enabled(rt: &HostRuntime, capacity: u64) -> Result<Device<PlainStore>, Fail> {
-    let mut device = device(rt, capacity)?;
-    let mut steps = Vec::new(rt.alloc());
-    device.run(&ENABLED, &mut steps)?;
-    Ok(device)
+fn enabled(rt: &impl Abort, alloc: Global, capacity: u64) -> Device<PlainStore> {
+    let mut device = device(rt, alloc, capacity);
+    let mut steps = Vec::new(alloc);
+    assert!(rt; device.run(&ENABLED, &mut steps).is_ok());
+    device
 }
 
 // The ticket of a descriptor that is accepted.
@@ -335,15 +330,14 @@ fn is_ended(ticket: Ticket, outcome: Outcome, answer: FinishAnswer) -> (Event, R
 }
 
 #[test]
-fn move_from_submission_to_fate(rt: HostRuntime) -> Result<(), Fail> {
-    let mut device = enabled(&rt, 7)?;
+fn move_from_submission_to_fate(rt: HostRuntime) {
+    let mut device = enabled(&rt, rt.alloc(), 7);
     let ticket = accepted(&rt, &mut device, MOVE);
     assert!(rt; ticket.name == 0 && counts(&device) == (Some(1), Some(0), 1));
     let idle = (DISPATCH, Reply::Dispatch(DispatchAnswer::Idle));
     replies(&rt, &mut device, &[is_taken(ticket), idle]);
     assert!(rt; counts(&device) == (Some(0), Some(2), 1));
     ends_in_the_last_place(&rt, &mut device, ticket);
-    Ok(())
 }
 
 // The entry ends by a page fault, whose step takes the last of the places.
@@ -358,9 +352,9 @@ fn ends_in_the_last_place(rt: &impl Abort, device: &mut Device<PlainStore>, tick
 
 // A Drain ends after what was submitted before it, whatever the outcome.
 #[test]
-fn drain_waits_for_an_entry(rt: HostRuntime) -> Result<(), Fail> {
+fn drain_waits_for_an_entry(rt: HostRuntime) {
     const DONE: FinishAnswer = FinishAnswer::Done(0x01);
-    let mut device = enabled(&rt, 64)?;
+    let mut device = enabled(&rt, rt.alloc(), 64);
     let first = accepted(&rt, &mut device, NO_OP);
     let drain = accepted(&rt, &mut device, DRAIN);
     let steps = [
@@ -372,27 +366,25 @@ fn drain_waits_for_an_entry(rt: HostRuntime) -> Result<(), Fail> {
     ];
     replies(&rt, &mut device, &steps);
     assert!(rt; device.fates().len() == 2 && device.held() == 0);
-    Ok(())
 }
 
 #[test]
-fn drain_ends_with_its_batch(rt: HostRuntime) -> Result<(), Fail> {
+fn drain_ends_with_its_batch(rt: HostRuntime) {
     const DRAIN_ALL: (Event, Reply) = (
         Event::Issue {
             command: Command::DrainAll,
         },
         Reply::Issue(IssueAnswer::Active),
     );
-    let mut device = enabled(&rt, 64)?;
+    let mut device = enabled(&rt, rt.alloc(), 64);
     let ticket = accepted(&rt, &mut device, batch_of(2));
     replies(&rt, &mut device, &[is_taken(ticket), DRAIN_ALL]);
-    assert_eq!(rt; device.active(), Some(Command::DrainAll));
+    assert!(rt; device.active() == Some(Command::DrainAll));
     for _ in 0..2 {
         member_ends(&rt, &mut device, ticket);
     }
     batch_ends(&rt, &mut device, ticket);
-    assert_eq!(rt; device.active(), None);
-    Ok(())
+    assert!(rt; device.active().is_none());
 }
 
 // The engine works on a batch, of which it fetched one member, while a No-op waits in the queue. The tickets are those of
@@ -427,41 +419,59 @@ fn ticket_of((cell, entry): (Cell, Entry)) -> Ticket {
 }
 
 #[test]
-fn readers_of_what_is_configured(rt: HostRuntime) -> Result<(), Fail> {
-    let mut device = enabled(&rt, 64)?;
+fn readers_of_what_is_configured(rt: HostRuntime) {
+    let mut device = enabled(&rt, rt.alloc(), 64);
     let _ = works(&rt, &mut device);
     let disable = Command::DisableWq(FIRST_QUEUE);
     assert!(rt; device.issue(disable) == IssueAnswer::Active);
-    assert!(rt; device.phase() == Phase::On && !device.is_full());
-    assert!(rt; device.queue_phase(0) == Some(Phase::Stopping));
-    assert!(rt; device.queue_phase(1) == Some(Phase::Off) && device.queue_phase(2).is_none());
-    assert!(rt; device.queue_config(0) == Some(QUEUE) && device.queue_config(2).is_none());
-    assert!(rt; device.queue_config(1) == Some(QueueConfig::default()));
-    assert!(rt; device.group_config(0) == Some(GROUP) && device.group_config(2).is_none());
-    assert!(rt; device.awaited() == Some(3));
-    Ok(())
+    let whole = (device.phase(), device.is_full(), device.awaited());
+    assert!(rt; whole == (Phase::On, false, Some(3)));
+    let phases = [
+        device.queue_phase(0),
+        device.queue_phase(1),
+        device.queue_phase(2),
+    ];
+    assert!(rt; phases == [Some(Phase::Stopping), Some(Phase::Off), None]);
+    let queues = [
+        device.queue_config(0),
+        device.queue_config(1),
+        device.queue_config(2),
+    ];
+    assert!(rt; queues == [Some(QUEUE), Some(QueueConfig::default()), None]);
+    assert!(rt; [device.group_config(0), device.group_config(2)] == [Some(GROUP), None]);
 }
 
 #[test]
-fn readers_of_entries(rt: HostRuntime) -> Result<(), Fail> {
-    let mut device = enabled(&rt, 64)?;
+fn readers_of_entries(rt: HostRuntime) {
+    let mut device = enabled(&rt, rt.alloc(), 64);
     let [batch, member, no_op] = works(&rt, &mut device);
     assert!(rt; device.awaited().is_none());
     assert!(rt; device.issue(Command::DrainAll) == IssueAnswer::Active);
     assert!(rt; device.awaited() == Some(2));
-    assert!(rt; tickets(&rt, device.in_progress(0)) == (Some(batch), None));
-    assert!(rt; tickets(&rt, device.members(0)) == (Some(member), None));
-    assert!(rt; tickets(&rt, device.waiting(0)) == (Some(no_op), None));
-    assert!(rt; tickets(&rt, device.in_progress(1)) == (None, None));
-    assert!(rt; device.in_progress(2).is_none() && device.members(2).is_none());
-    assert!(rt; device.waiting(2).is_none());
-    assert!(rt; device.in_progress_count(0) == Some(1) && device.member_count(0) == Some(1));
-    assert!(rt; device.in_progress_count(2).is_none() && device.member_count(2).is_none());
-    Ok(())
+    let found = [
+        tickets(&rt, device.in_progress(0)),
+        tickets(&rt, device.members(0)),
+        tickets(&rt, device.waiting(0)),
+        tickets(&rt, device.in_progress(1)),
+    ];
+    assert!(rt;
+        found
+            == [
+                (Some(batch), None),
+                (Some(member), None),
+                (Some(no_op), None),
+                (None, None)
+            ]
+    );
+    let walks = (device.in_progress(2), device.members(2), device.waiting(2));
+    assert!(rt; matches!(walks, (None, None, None)));
+    let running = [device.in_progress_count(0), device.in_progress_count(2)];
+    assert!(rt; running == [Some(1), None]);
+    assert!(rt; [device.member_count(0), device.member_count(2)] == [Some(1), None]);
 }
 
 #[test]
-fn readers_by_place_and_ticket(rt: HostRuntime) -> Result<(), Fail> {
+fn readers_by_place_and_ticket(rt: HostRuntime) {
     const NOTE: BatchNote = BatchNote {
         batch: 0,
         count: 2,
@@ -469,16 +479,23 @@ fn readers_by_place_and_ticket(rt: HostRuntime) -> Result<(), Fail> {
         failed: false,
         closed: false,
     };
-    let mut device = enabled(&rt, 64)?;
+    let mut device = enabled(&rt, rt.alloc(), 64);
     let [batch, member, no_op] = works(&rt, &mut device);
-    assert!(rt; device.in_progress_at(0, 0).map(ticket_of) == Some(batch));
-    assert!(rt; device.member_at(0, 0).map(ticket_of) == Some(member));
-    assert!(rt; device.waiting_at(0, 0).map(ticket_of) == Some(no_op));
-    assert!(rt; device.in_progress_at(0, 1).is_none() && device.in_progress_at(2, 0).is_none());
-    assert!(rt; device.member_at(0, 1).is_none() && device.waiting_at(0, 1).is_none());
-    assert!(rt; device.batch(0) == Some(NOTE) && device.batch(1).is_none());
-    assert!(rt; device.holds(member) && !device.holds(Ticket { name: 7, ..member }));
-    Ok(())
+    let found = [
+        device.in_progress_at(0, 0).map(ticket_of),
+        device.member_at(0, 0).map(ticket_of),
+        device.waiting_at(0, 0).map(ticket_of),
+    ];
+    assert!(rt; found == [Some(batch), Some(member), Some(no_op)]);
+    let past = [
+        device.in_progress_at(0, 1),
+        device.member_at(0, 1),
+        device.waiting_at(0, 1),
+    ];
+    assert!(rt; past == [None; 3] && device.in_progress_at(2, 0).is_none());
+    assert!(rt; [device.batch(0), device.batch(1)] == [Some(NOTE), None]);
+    let other = Ticket { name: 7, ..member };
+    assert!(rt; [device.holds(member), device.holds(other)] == [true, false]);
 }
 
 // A member is fetched, started and ended, and its batch cannot end before it.
@@ -514,18 +531,17 @@ fn second_is_accepted(rt: &impl Abort, steps: &[Step], event: Event) {
     ];
     assert!(rt; steps.len() == 5);
     assert!(rt; matches!(steps[1].reply, Reply::Submit(SubmitAnswer::Accepted(_))));
-    for (k, reply) in REPLIES {
-        assert_eq!(rt; steps.get(k), Some(&Step { event, reply }));
+    for &(k, reply) in &REPLIES {
+        assert!(rt; steps.get(k) == Some(&Step { event, reply }));
     }
 }
 
 #[test]
-fn run_of_events(rt: HostRuntime) -> Result<(), Fail> {
-    let mut device = enabled(&rt, 7)?;
+fn run_of_events(rt: HostRuntime) {
+    let mut device = enabled(&rt, rt.alloc(), 7);
     let mut steps = Vec::new(rt.alloc());
     let event = submission(MOVE);
-    device.run(&[event; 5], &mut steps)?;
+    assert!(rt; device.run(&[event; 5], &mut steps).is_ok());
     second_is_accepted(&rt, &steps, event);
     assert!(rt; device.history().len() == 7);
-    Ok(())
 }

@@ -7,18 +7,17 @@ ghost use Rattle.dsa_queues.specs.Queues.{IsCounted, IsStoreFor};
 ghost use Rattle.dsa_engines.specs.Engines.{IsInPlace};
 ghost use Rattle.dsa_tests.specs.Parts.{Agree};
 
-use crate::setup::{enabled, numbers};
+use crate::setup::{book, enabled, numbers, store};
 use dsa_book::{
     Book, DispatchAnswer, Fate, FateRow, FetchAnswer, FinishAnswer, StartAnswer, Ticket,
 };
 use dsa_desc::{Descriptor, Outcome};
 use dsa_engines::Engines;
-use dsa_fixtures::{CELLS, DRAIN, FENCED_MOVE, LARGE_MOVE, LISTS, MOVE, batch_of};
+use dsa_fixtures::{DRAIN, FENCED_MOVE, LARGE_MOVE, MOVE, batch_of};
 use dsa_queues::Queues;
 use dsa_regs::{GroupConfig, Phase, cell_count, check_device, list_count};
-use dsa_store::{Cell, Entry, EntryStore, ListId, PlainStore, slots};
+use dsa_store::{Cell, Entry, EntryStore, ListId, slots};
 use std::process::Abort;
-use std::test::Fail;
 
 // Both queues in the first group, which has four read buffers, and nothing in the second.
 const GROUPS: [GroupConfig; 2] = [
@@ -169,20 +168,20 @@ pub fn fetch<S: EntryStore>(
 fn one_runs_at_a_time<S: EntryStore>(rt: &impl Abort, store: &mut S, book: &mut Book) {
     let mut queues = enabled(rt, GROUPS);
     let mut engines = enabled_engines(rt, &queues, store);
-    assert_eq!(rt; engines.dispatch(&queues, store, 0), DispatchAnswer::Idle);
+    assert!(rt; engines.dispatch(&queues, store, 0) == DispatchAnswer::Idle);
     let cell = put(rt, &mut queues, &engines, store, entry(10, 1, LARGE_MOVE));
     let second = put(rt, &mut queues, &engines, store, entry(11, 0, MOVE));
     let ticket = Ticket { cell, name: 10 };
     let taken = DispatchAnswer::Taken { ticket, queue: 1 };
-    assert_eq!(rt; engines.dispatch(&queues, store, 0), taken);
-    assert_eq!(rt; engines.dispatch(&queues, store, 0), DispatchAnswer::Idle);
+    assert!(rt; engines.dispatch(&queues, store, 0) == taken);
+    assert!(rt; engines.dispatch(&queues, store, 0) == DispatchAnswer::Idle);
     first_ends(rt, &mut queues, &mut engines, store, book, ticket);
     let ticket = Ticket {
         cell: second,
         name: 11,
     };
     let taken = DispatchAnswer::Taken { ticket, queue: 0 };
-    assert_eq!(rt; engines.dispatch(&queues, store, 0), taken);
+    assert!(rt; engines.dispatch(&queues, store, 0) == taken);
 }
 
 // The entry of that cell and no other name ends, and has a row.
@@ -211,11 +210,12 @@ fn first_ends<S: EntryStore>(
 }
 
 #[test]
-fn buffers_of_a_group(rt: HostRuntime) -> Result<(), Fail> {
-    let mut store = PlainStore::new(rt.alloc(), LISTS, CELLS)?;
-    let mut book = Book::new(rt.alloc(), 2)?;
-    one_runs_at_a_time(&rt, &mut store, &mut book);
-    Ok(())
+fn buffers_of_a_group(rt: HostRuntime) {
+    one_runs_at_a_time(
+        &rt,
+        &mut store(&rt, rt.alloc()),
+        &mut book(&rt, rt.alloc(), 2),
+    );
 }
 
 // A member is fetched and started, and fails; its batch cannot end before it.
@@ -234,25 +234,22 @@ fn member_fails<S: EntryStore>(
         panic!(rt; "nothing was fetched");
     };
     let answer = start_one(rt, queues, engines, store, book);
-    assert_eq!(rt; answer, StartAnswer::Started(member));
+    assert!(rt; answer == StartAnswer::Started(member));
     let early = end(rt, queues, engines, store, book, ticket, Outcome::PageFault);
-    assert_eq!(rt; early, FinishAnswer::NotReady);
+    assert!(rt; early == FinishAnswer::NotReady);
     let failed = end(rt, queues, engines, store, book, member, Outcome::PageFault);
-    assert_eq!(rt; failed, FinishAnswer::Done(0x03));
+    assert!(rt; failed == FinishAnswer::Done(0x03));
 }
 
 // A batch of two: it ends after its members, and as failed where one of them failed.
 fn batch_ends_last<S: EntryStore>(rt: &impl Abort, store: &mut S, book: &mut Book) {
     let mut queues = enabled(rt, GROUPS);
     let mut engines = enabled_engines(rt, &queues, store);
-    assert_eq!(rt;
-        fetch(rt, &mut queues, &mut engines, store, MOVE),
-        FetchAnswer::NoBatch
-    );
+    assert!(rt; fetch(rt, &mut queues, &mut engines, store, MOVE) == FetchAnswer::NoBatch);
     let cell = put(rt, &mut queues, &engines, store, entry(20, 0, batch_of(2)));
     let ticket = Ticket { cell, name: 20 };
     let taken = DispatchAnswer::Taken { ticket, queue: 0 };
-    assert_eq!(rt; engines.dispatch(&queues, store, 0), taken);
+    assert!(rt; engines.dispatch(&queues, store, 0) == taken);
     for _ in 0..2 {
         member_fails(rt, &mut queues, &mut engines, store, book, ticket);
     }
@@ -279,11 +276,12 @@ fn batch_fails<S: EntryStore>(
 }
 
 #[test]
-fn members_of_a_batch(rt: HostRuntime) -> Result<(), Fail> {
-    let mut store = PlainStore::new(rt.alloc(), LISTS, CELLS)?;
-    let mut book = Book::new(rt.alloc(), 4)?;
-    batch_ends_last(&rt, &mut store, &mut book);
-    Ok(())
+fn members_of_a_batch(rt: HostRuntime) {
+    batch_ends_last(
+        &rt,
+        &mut store(&rt, rt.alloc()),
+        &mut book(&rt, rt.alloc(), 4),
+    );
 }
 
 // The engine takes the entry of the ticket from the queue.
@@ -299,7 +297,7 @@ fn take<S: EntryStore>(
     ensures { Agree queues.now engines.new (S.cells store.new) (S.content store.new) }
 {
     let taken = DispatchAnswer::Taken { ticket, queue };
-    assert_eq!(rt; engines.dispatch(queues, store, 0), taken);
+    assert!(rt; engines.dispatch(queues, store, 0) == taken);
 }
 
 // The Drain ends after the first entry, and no second one is taken before that.
@@ -325,11 +323,12 @@ fn drain_waits<S: EntryStore>(
 }
 
 #[test]
-fn drains_of_an_engine(rt: HostRuntime) -> Result<(), Fail> {
-    let mut store = PlainStore::new(rt.alloc(), LISTS, CELLS)?;
-    let mut book = Book::new(rt.alloc(), 4)?;
-    drains_end_in_turn(&rt, &mut store, &mut book);
-    Ok(())
+fn drains_of_an_engine(rt: HostRuntime) {
+    drains_end_in_turn(
+        &rt,
+        &mut store(&rt, rt.alloc()),
+        &mut book(&rt, rt.alloc(), 4),
+    );
 }
 
 // A Move and two Drains: the second Drain is taken when the first has ended.
@@ -387,9 +386,10 @@ fn abandoned_members<S: EntryStore>(rt: &impl Abort, store: &mut S, book: &mut B
 }
 
 #[test]
-fn members_count_until_they_end(rt: HostRuntime) -> Result<(), Fail> {
-    let mut store = PlainStore::new(rt.alloc(), LISTS, CELLS)?;
-    let mut book = Book::new(rt.alloc(), 4)?;
-    abandoned_members(&rt, &mut store, &mut book);
-    Ok(())
+fn members_count_until_they_end(rt: HostRuntime) {
+    abandoned_members(
+        &rt,
+        &mut store(&rt, rt.alloc()),
+        &mut book(&rt, rt.alloc(), 4),
+    );
 }

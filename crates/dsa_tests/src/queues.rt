@@ -3,7 +3,7 @@
 ghost use Rattle.std.specs.Prelude.{◌≡◌};
 ghost use Rattle.dsa_queues.specs.Queues.{IsCounted};
 
-use crate::setup::{enabled, numbers};
+use crate::setup::{enabled, numbers, store};
 use dsa_book::{Cause, ClearAnswer, Kind, NotedError, Portal, SubmitAnswer, Ticket, WriteAnswer};
 use dsa_desc::Outcome;
 use dsa_fixtures::{
@@ -12,9 +12,8 @@ use dsa_fixtures::{
 };
 use dsa_queues::Queues;
 use dsa_regs::{Fault, GroupConfig, Phase, QueueConfig, Scope, cell_count, list_count};
-use dsa_store::{EntryStore, ListId, PlainStore, front_slot};
+use dsa_store::{EntryStore, ListId, front_slot};
 use std::process::Abort;
-use std::test::Fail;
 
 // The queues of the enabled device, over an empty store.
 fn enabled_over<S: EntryStore>(rt: &impl Abort, store: &S) -> Queues
@@ -60,7 +59,7 @@ fn submit_each<S: EntryStore>(rt: &impl Abort, queues: &mut Queues, store: &mut 
 {
     for (queue, portal, kind, named) in rows {
         let answer = submit(rt, queues, store, *queue, *portal, *kind);
-        assert_eq!(rt; name_of(answer), *named);
+        assert!(rt; name_of(answer) == *named);
     }
 }
 
@@ -87,10 +86,8 @@ fn both_portals<S: EntryStore>(rt: &impl Abort, store: &mut S) {
 }
 
 #[test]
-fn threshold_bounds_the_limited_portal(rt: HostRuntime) -> Result<(), Fail> {
-    let mut store = PlainStore::new(rt.alloc(), LISTS, CELLS)?;
-    both_portals(&rt, &mut store);
-    Ok(())
+fn threshold_bounds_the_limited_portal(rt: HostRuntime) {
+    both_portals(&rt, &mut store(&rt, rt.alloc()));
 }
 
 fn dropped_twice<S: EntryStore>(rt: &impl Abort, store: &mut S) {
@@ -126,10 +123,8 @@ fn dropped_twice<S: EntryStore>(rt: &impl Abort, store: &mut S) {
 }
 
 #[test]
-fn dropped_descriptors_are_noted(rt: HostRuntime) -> Result<(), Fail> {
-    let mut store = PlainStore::new(rt.alloc(), LISTS, CELLS)?;
-    dropped_twice(&rt, &mut store);
-    Ok(())
+fn dropped_descriptors_are_noted(rt: HostRuntime) {
+    dropped_twice(&rt, &mut store(&rt, rt.alloc()));
 }
 
 fn turned_away<S: EntryStore>(rt: &impl Abort, store: &mut S) {
@@ -167,10 +162,8 @@ fn turned_away<S: EntryStore>(rt: &impl Abort, store: &mut S) {
 }
 
 #[test]
-fn causes_come_in_order(rt: HostRuntime) -> Result<(), Fail> {
-    let mut store = PlainStore::new(rt.alloc(), LISTS, CELLS)?;
-    turned_away(&rt, &mut store);
-    Ok(())
+fn causes_come_in_order(rt: HostRuntime) {
+    turned_away(&rt, &mut store(&rt, rt.alloc()));
 }
 
 // The entries that wait in queue 0, in queue 1, and in a queue that the device does not have.
@@ -202,10 +195,8 @@ fn entries<S: EntryStore>(rt: &impl Abort, store: &mut S) {
 }
 
 #[test]
-fn entry_is_asked_about(rt: HostRuntime) -> Result<(), Fail> {
-    let mut store = PlainStore::new(rt.alloc(), LISTS, CELLS)?;
-    entries(&rt, &mut store);
-    Ok(())
+fn entry_is_asked_about(rt: HostRuntime) {
+    entries(&rt, &mut store(&rt, rt.alloc()));
 }
 
 #[test]
@@ -294,10 +285,8 @@ fn counted<S: EntryStore>(rt: &impl Abort, store: &mut S) {
 }
 
 #[test]
-fn numbers_of_accepted_submissions(rt: HostRuntime) -> Result<(), Fail> {
-    let mut store = PlainStore::new(rt.alloc(), LISTS, CELLS)?;
-    counted(&rt, &mut store);
-    Ok(())
+fn numbers_of_accepted_submissions(rt: HostRuntime) {
+    counted(&rt, &mut store(&rt, rt.alloc()));
 }
 
 // One more entry names queue 1, once it is seen that there is room for it.

@@ -13,133 +13,124 @@ use std::fmt::InlineText;
 use std::test::Fail;
 
 #[test]
-fn faults_have_numbers(rt: HostRuntime) {
-    const FAULTS: [(Fault, u8); 20] = [
-        (Fault::SizesTooLarge, 1),
-        (Fault::TwoGroups, 2),
-        (Fault::ReservedTooMany, 3),
-        (Fault::AllowedOutOfRange, 4),
-        (Fault::GroupWithoutEngine, 5),
-        (Fault::GroupWithoutQueue, 6),
-        (Fault::SizeZero, 7),
-        (Fault::PriorityZero, 8),
-        (Fault::ThresholdZero, 9),
-        (Fault::ThresholdAboveSize, 10),
-        (Fault::BatchTooLarge, 11),
-        (Fault::NoGroup, 12),
-        (Fault::BadCommand, 13),
-        (Fault::BadQueue, 14),
-        (Fault::Locked, 15),
-        (Fault::WrongState, 16),
-        (Fault::Busy, 17),
-        (Fault::PriorityTooLarge, 18),
-        (Fault::TransferTooLarge, 19),
-        (Fault::BadIndex, 20),
-    ];
-    for (fault, number) in FAULTS {
-        assert_eq!(rt; fault.number(), number);
-    }
-}
-
-#[test]
-fn faults_have_names(rt: HostRuntime) {
-    const FAULTS: [(Fault, &str); 20] = [
-        (Fault::SizesTooLarge, "SizesTooLarge"),
-        (Fault::TwoGroups, "TwoGroups"),
-        (Fault::ReservedTooMany, "ReservedTooMany"),
-        (Fault::AllowedOutOfRange, "AllowedOutOfRange"),
-        (Fault::GroupWithoutEngine, "GroupWithoutEngine"),
-        (Fault::GroupWithoutQueue, "GroupWithoutQueue"),
-        (Fault::SizeZero, "SizeZero"),
-        (Fault::PriorityZero, "PriorityZero"),
-        (Fault::ThresholdZero, "ThresholdZero"),
-        (Fault::ThresholdAboveSize, "ThresholdAboveSize"),
-        (Fault::BatchTooLarge, "BatchTooLarge"),
-        (Fault::NoGroup, "NoGroup"),
-        (Fault::BadCommand, "BadCommand"),
-        (Fault::BadQueue, "BadQueue"),
-        (Fault::Locked, "Locked"),
-        (Fault::WrongState, "WrongState"),
-        (Fault::Busy, "Busy"),
-        (Fault::PriorityTooLarge, "PriorityTooLarge"),
-        (Fault::TransferTooLarge, "TransferTooLarge"),
-        (Fault::BadIndex, "BadIndex"),
-    ];
-    for (fault, name) in FAULTS {
-        let said = fault.name();
-        assert_eq!(rt; said, name);
-    }
-}
-
-#[test]
-fn faults_print_as_sentences(rt: HostRuntime) {
-    const FAULTS: [(Fault, &str); 20] = [
+fn faults_have_numbers_names_and_sentences(rt: HostRuntime) {
+    const FAULTS: [(Fault, u8, &str, &str); 20] = [
         (
             Fault::SizesTooLarge,
+            1,
+            "SizesTooLarge",
             "the sizes of all queues add up to more than the device has",
         ),
-        (Fault::TwoGroups, "a queue or an engine is in two groups"),
+        (
+            Fault::TwoGroups,
+            2,
+            "TwoGroups",
+            "a queue or an engine is in two groups",
+        ),
         (
             Fault::ReservedTooMany,
+            3,
+            "ReservedTooMany",
             "the groups reserve more read buffers than the device has",
         ),
         (
             Fault::AllowedOutOfRange,
+            4,
+            "AllowedOutOfRange",
             "a group may use fewer read buffers than it needs or more than the others leave",
         ),
         (
             Fault::GroupWithoutEngine,
+            5,
+            "GroupWithoutEngine",
             "a group has a queue and no engine",
         ),
         (
             Fault::GroupWithoutQueue,
+            6,
+            "GroupWithoutQueue",
             "a group has an engine and no queue",
         ),
-        (Fault::SizeZero, "the size of the queue is zero"),
-        (Fault::PriorityZero, "the priority of the queue is zero"),
+        (
+            Fault::SizeZero,
+            7,
+            "SizeZero",
+            "the size of the queue is zero",
+        ),
+        (
+            Fault::PriorityZero,
+            8,
+            "PriorityZero",
+            "the priority of the queue is zero",
+        ),
         (
             Fault::ThresholdZero,
+            9,
+            "ThresholdZero",
             "the threshold of the shared queue is zero",
         ),
         (
             Fault::ThresholdAboveSize,
+            10,
+            "ThresholdAboveSize",
             "the threshold of the shared queue is above its size",
         ),
         (
             Fault::BatchTooLarge,
+            11,
+            "BatchTooLarge",
             "the queue allows larger batches than the device",
         ),
-        (Fault::NoGroup, "the queue is in no group"),
-        (Fault::BadCommand, "the word is no command"),
+        (Fault::NoGroup, 12, "NoGroup", "the queue is in no group"),
+        (
+            Fault::BadCommand,
+            13,
+            "BadCommand",
+            "the word is no command",
+        ),
         (
             Fault::BadQueue,
+            14,
+            "BadQueue",
             "the command names no queue, or one that the device does not have",
         ),
         (
             Fault::Locked,
+            15,
+            "Locked",
             "the configuration cannot be written while it is in use",
         ),
         (
             Fault::WrongState,
+            16,
+            "WrongState",
             "the device or a named queue is in the wrong state for the command",
         ),
-        (Fault::Busy, "another command is active"),
+        (Fault::Busy, 17, "Busy", "another command is active"),
         (
             Fault::PriorityTooLarge,
+            18,
+            "PriorityTooLarge",
             "the priority of the queue is above 15",
         ),
         (
             Fault::TransferTooLarge,
+            19,
+            "TransferTooLarge",
             "the queue allows larger transfers than the device",
         ),
         (
             Fault::BadIndex,
+            20,
+            "BadIndex",
             "a queue, engine or group is named that the device does not have",
         ),
     ];
-    for (fault, sentence) in FAULTS {
+    for &(fault, number, name, sentence) in &FAULTS {
+        assert!(rt; fault.number() == number);
+        assert!(rt; fault.name() == name);
         let said = InlineText::<96>::of(fault);
-        assert_eq!(rt; said.as_str(), sentence);
+        assert!(rt; said.as_str() == sentence);
     }
 }
 
@@ -210,8 +201,8 @@ fn devices_past_a_limit(rt: HostRuntime) {
             ..LARGEST
         },
     ];
-    for caps in ROWS {
-        assert!(rt; !check_caps(&caps), "{caps:?}");
+    for caps in &ROWS {
+        assert!(rt; !check_caps(caps));
     }
 }
 
@@ -292,11 +283,8 @@ fn enabling_the_device(rt: HostRuntime) {
             Some(Fault::GroupWithoutQueue),
         ),
     ];
-    for (queue, first, second, fault) in CASES {
-        assert_eq!(rt;
-            check_device(&CAPS, &[SHARED, queue], &[first, second]),
-            fault
-        );
+    for &(queue, first, second, fault) in &CASES {
+        assert!(rt; check_device(&CAPS, &[SHARED, queue], &[first, second]) == fault);
     }
 }
 
@@ -373,24 +361,29 @@ fn enabling_a_queue(rt: HostRuntime) {
         ),
         (2, SHARED, Some(Fault::NoGroup)),
     ];
-    for (queue, config, fault) in CASES {
-        assert_eq!(rt; check_queue(&CAPS, &GROUPS, queue, &config), fault);
+    for &(queue, config, fault) in &CASES {
+        assert!(rt; check_queue(&CAPS, &GROUPS, queue, &config) == fault);
     }
 }
 
 #[test]
 fn configurations_speak(rt: HostRuntime) {
     let limits = SHARED.limits();
-    assert_eq!(rt; (limits.max_batch_shift, limits.max_xfer_shift), (3, 20));
+    assert!(rt; (limits.max_batch_shift, limits.max_xfer_shift) == (3, 20));
     let group = GroupConfig {
         queues: 1 << 63 | 1,
         engines: 2,
         ..FIRST
     };
-    assert!(rt; group.has_queue(0) && group.has_queue(63));
-    assert!(rt; !group.has_queue(1) && !group.has_queue(64));
-    assert!(rt; group.has_engine(1) && !group.has_engine(0));
-    assert_eq!(rt; Phase::default(), Phase::Off);
+    let queues = [
+        group.has_queue(0),
+        group.has_queue(63),
+        group.has_queue(1),
+        group.has_queue(64),
+    ];
+    assert!(rt; queues == [true, true, false, false]);
+    assert!(rt; [group.has_engine(1), group.has_engine(0)] == [true, false]);
+    assert!(rt; Phase::default() == Phase::Off);
 }
 
 #[test]
@@ -425,8 +418,8 @@ fn words_are_commands(rt: HostRuntime) {
         (0x80b0_0005, Ok(Command::DrainPasid(5))),
         (0x00c0_0005, Ok(Command::AbortPasid(5))),
     ];
-    for (word, command) in WORDS {
-        assert_eq!(rt; CommandWord::parse(word), command, "at {word}");
+    for &(word, command) in &WORDS {
+        assert!(rt; CommandWord::parse(word) == command);
     }
 }
 
@@ -446,12 +439,9 @@ fn commands_have_numbers_and_names(rt: HostRuntime) -> Result<(), Fail> {
         (0x00b0_0000, 11, "Drain PASID"),
         (0x00c0_0000, 12, "Abort PASID"),
     ];
-    for (word, number, name) in COMMANDS {
+    for &(word, number, name) in &COMMANDS {
         let command = CommandWord::parse(word)?;
-        assert!(rt;
-            command.number() == number && command.name() == name,
-            "at {word}"
-        );
+        assert!(rt; (command.number(), command.name()) == (number, name));
     }
     Ok(())
 }
@@ -464,15 +454,20 @@ fn commands_name_queues(rt: HostRuntime) {
     };
     const NUMBERS: [u32; 3] = [16, 18, 31];
     assert!(rt; MASK.queues().as_slice() == NUMBERS.as_slice());
-    assert!(rt; MASK.contains(16) && MASK.contains(18) && MASK.contains(31));
-    assert!(rt; !MASK.contains(0) && !MASK.contains(17) && !MASK.contains(32));
+    let named = [MASK.contains(16), MASK.contains(18), MASK.contains(31)];
+    let others = [MASK.contains(0), MASK.contains(17), MASK.contains(32)];
+    assert!(rt; (named, others) == ([true; 3], [false; 3]));
     assert!(rt; Command::DrainWq(MASK).queues().as_slice() == NUMBERS.as_slice());
     assert!(rt; Command::EnableWq(2).queues().as_slice() == [2].as_slice());
     assert!(rt; Command::DrainAll.queues().is_empty());
     assert!(rt; QueueMask { group: 1, mask: 0 }.queues().is_empty());
-    assert!(rt; Scope::Queues(MASK).contains(18) && !Scope::Queues(MASK).contains(17));
-    assert!(rt; Scope::Queue(17).contains(17) && !Scope::Queue(17).contains(1));
-    assert!(rt; !Scope::Device.contains(0) && !Scope::Pasid(0).contains(0));
+    let masked = [
+        Scope::Queues(MASK).contains(18),
+        Scope::Queues(MASK).contains(17),
+    ];
+    let one = [Scope::Queue(17).contains(17), Scope::Queue(17).contains(1)];
+    let none = [Scope::Device.contains(0), Scope::Pasid(0).contains(0)];
+    assert!(rt; [masked, one, none] == [[true, false], [true, false], [false, false]]);
 }
 
 #[test]
@@ -482,6 +477,11 @@ fn last_group_of_sixteen(rt: HostRuntime) {
         mask: 0x8001,
     };
     assert!(rt; ENDS.queues().as_slice() == [48, 63].as_slice());
-    assert!(rt; ENDS.contains(48) && ENDS.contains(63));
-    assert!(rt; !ENDS.contains(15) && !ENDS.contains(64));
+    let found = [
+        ENDS.contains(48),
+        ENDS.contains(63),
+        ENDS.contains(15),
+        ENDS.contains(64),
+    ];
+    assert!(rt; found == [true, true, false, false]);
 }

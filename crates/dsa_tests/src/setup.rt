@@ -4,11 +4,23 @@ ghost use Rattle.std.specs.Prelude.{◌≡◌};
 ghost use Rattle.dsa_store.specs.Content.{Content, held_count};
 ghost use Rattle.dsa_queues.specs.Queues.{IsCounted};
 
-use dsa_book::WriteAnswer;
-use dsa_fixtures::{CAPS, DEDICATED_QUEUE, SHARED_QUEUE};
+use dsa_book::{Book, WriteAnswer};
+use dsa_fixtures::{CAPS, CELLS, DEDICATED_QUEUE, LISTS, SHARED_QUEUE};
 use dsa_queues::Queues;
 use dsa_regs::{GroupConfig, Phase, check_caps};
+use dsa_store::PlainStore;
+use std::alloc::Global;
 use std::process::Abort;
+
+/// An empty store for the small device.
+pub fn store(rt: &impl Abort, alloc: Global) -> PlainStore {
+    PlainStore::new(alloc, LISTS, CELLS).expect(rt, "memory for a store")
+}
+
+/// A book with room for so many steps.
+pub fn book(rt: &impl Abort, alloc: Global, capacity: usize) -> Book {
+    Book::new(alloc, capacity).expect(rt, "memory for a book")
+}
 
 /// The queues of a device that is Off, with both queues and both groups written.
 pub fn written(rt: &impl Abort, groups: [GroupConfig; 2]) -> Queues
