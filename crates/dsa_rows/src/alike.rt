@@ -98,16 +98,18 @@ fn lists_are_alike<S: EntryStore, T: EntryStore>(
 ) {
     assert!(rt; list.0 < one.lists() && list.0 < other.lists());
     let length = one.len(list);
-    assert_eq!(rt; other.len(list), length);
+    assert!(rt; other.len(list) == length);
     for place in 0..length {
         let cell = cell_at(rt, one, list, place).expect(rt, "a cell");
         let twin = cell_at(rt, other, list, place).expect(rt, "its twin");
-        assert_eq!(rt; one.get(cell), other.get(twin));
-        assert_eq!(rt; one.list_of(cell), Some(list));
-        assert_eq!(rt; other.list_of(twin), Some(list));
+        assert!(rt; one.get(cell) == other.get(twin));
+        assert!(rt; [one.list_of(cell), other.list_of(twin)] == [Some(list); 2]);
     }
-    assert_eq!(rt; cell_at(rt, one, list, length), None);
-    assert_eq!(rt; cell_at(rt, other, list, length), None);
+    let past = [
+        cell_at(rt, one, list, length),
+        cell_at(rt, other, list, length),
+    ];
+    assert!(rt; past == [None; 2]);
 }
 
 fn calls_are_alike<S: EntryStore, T: EntryStore>(rt: &impl Abort, one: &mut S, other: &mut T) {
@@ -116,8 +118,8 @@ fn calls_are_alike<S: EntryStore, T: EntryStore>(rt: &impl Abort, one: &mut S, o
         number = number.wrapping_mul(1664525).wrapping_add(1013904223);
         let call = call_of(number, name);
         let said = answer_to(rt, one, call);
-        assert_eq!(rt; said, answer_to(rt, other, call), "at call {name}");
-        assert_eq!(rt; one.free(), other.free(), "after call {name}");
+        assert!(rt; said == answer_to(rt, other, call));
+        assert!(rt; one.free() == other.free());
         for list in 0..LISTS {
             lists_are_alike(rt, one, other, ListId(list));
         }

@@ -1,4 +1,4 @@
-//! Rows and tests that cross crates.
+//! Rows and tests of stores and of devices over them, that cross crates.
 #![tactic(auto)]
 
 #[cfg(test)]
@@ -6,14 +6,8 @@ mod alike;
 #[cfg(test)]
 mod both;
 #[cfg(test)]
-mod documents;
-#[cfg(test)]
 mod memory;
 #[cfg(test)]
 mod stores;
 #[cfg(test)]
-mod streams;
-#[cfg(test)]
 mod tickets;
-#[cfg(test)]
-mod words;

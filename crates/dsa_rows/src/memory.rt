@@ -16,7 +16,7 @@ fn takes_no_more<S: EntryStore>(rt: &impl Abort, heap: &LocalHeap, made: Result<
     if let Ok(mut store) = made {
         let used = heap.used();
         middle_is_taken(rt, &mut store);
-        assert_eq!(rt; heap.used(), used);
+        assert!(rt; heap.used() == used);
     }
 }
 
@@ -28,9 +28,9 @@ fn plain_store_is_refused_memory(rt: HostRuntime) -> Result<(), Fail> {
     for blocks in 1..32 {
         let heap = LocalHeap::new(rt.alloc(), 16 * blocks)?;
         let made = PlainStore::new(&heap, 2, 3);
-        assert_eq!(rt; made.is_ok(), blocks >= 19, "with {blocks} blocks");
+        assert!(rt; made.is_ok() == (blocks >= 19));
         takes_no_more(&rt, &heap, made);
-        assert_eq!(rt; heap.used(), 0);
+        assert!(rt; heap.used() == 0);
     }
     Ok(())
 }
@@ -42,9 +42,9 @@ fn linked_store_is_refused_memory(rt: HostRuntime) -> Result<(), Fail> {
     for blocks in 1..32 {
         let heap = LocalHeap::new(rt.alloc(), 16 * blocks)?;
         let made = LinkedStore::new(&heap, 2, 3);
-        assert_eq!(rt; made.is_ok(), blocks >= 14, "with {blocks} blocks");
+        assert!(rt; made.is_ok() == (blocks >= 14));
         takes_no_more(&rt, &heap, made);
-        assert_eq!(rt; heap.used(), 0);
+        assert!(rt; heap.used() == 0);
     }
     Ok(())
 }
@@ -59,11 +59,8 @@ fn device_over<S: EntryStore>(
         Ok(device) => return Ok(device),
         Err(refused) => refused,
     };
-    assert_eq!(rt; fault, MakeFault::OutOfMemory);
-    assert_eq!(rt;
-        (store.lists(), store.cells(), store.free()),
-        (LISTS, CELLS, CELLS)
-    );
+    assert!(rt; fault == MakeFault::OutOfMemory);
+    assert!(rt; (store.lists(), store.cells(), store.free()) == (LISTS, CELLS, CELLS));
     match Device::new(alloc, store, CAPS, 16) {
         Ok(device) => Ok(device),
         Err((fault, _)) => Err(fault),
@@ -80,7 +77,7 @@ fn run_over<S: EntryStore>(
     if device.run(&ENABLED, steps).is_ok() {
         return Ok(());
     }
-    assert_eq!(rt; (device.history().len(), steps.len()), (stored, listed));
+    assert!(rt; (device.history().len(), steps.len()) == (stored, listed));
     assert!(rt; device.next_name() == 0 && device.held() == 0 && device.fates().is_empty());
     device.run(&ENABLED, steps)
 }
@@ -95,8 +92,8 @@ fn device_runs<S: EntryStore>(rt: &impl Abort, alloc: Global, store: S) -> Resul
     for _ in 0..3 {
         run_over(rt, &mut device, &mut steps)?;
     }
-    assert_eq!(rt; steps.len(), 3 * ENABLED.len());
-    assert_eq!(rt; device.history().len(), 4);
+    assert!(rt; steps.len() == 3 * ENABLED.len());
+    assert!(rt; device.history().len() == 4);
     Ok(())
 }
 

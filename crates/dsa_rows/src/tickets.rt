@@ -80,17 +80,16 @@ impl<S: EntryStore> Pair<S> {
     // What the device keeps and tells is that of the one that was spared.
     fn is_alike(&self, rt: &impl Abort) {
         let (tried, spared) = (&self.tried, &self.spared);
-        assert!(rt; tried.history() == spared.history());
-        assert!(rt; tried.fates() == spared.fates());
-        assert_eq!(rt; tried.held(), spared.held());
-        assert_eq!(rt; tried.occupancy(0), spared.occupancy(0));
-        assert_eq!(rt; tried.next_name(), spared.next_name());
+        let told = (tried.history(), tried.fates());
+        assert!(rt; told == (spared.history(), spared.fates()));
+        let kept = (tried.held(), tried.occupancy(0), tried.next_name());
+        assert!(rt; kept == (spared.held(), spared.occupancy(0), spared.next_name()));
     }
 
     // Both devices make the step, with the same reply.
     fn step(&mut self, rt: &impl Abort, event: Event) -> Reply {
         let reply = self.tried.step(event);
-        assert_eq!(rt; self.spared.step(event), reply);
+        assert!(rt; self.spared.step(event) == reply);
         self.is_alike(rt);
         reply
     }
@@ -104,13 +103,13 @@ impl<S: EntryStore> Pair<S> {
     // The entry ends well.
     fn end(&mut self, rt: &impl Abort, ticket: Ticket) {
         let reply = self.step(rt, finish(ticket));
-        assert_eq!(rt; reply, Reply::Finish(FinishAnswer::Done(0x01)));
+        assert!(rt; reply == Reply::Finish(FinishAnswer::Done(0x01)));
     }
 
     // The engine runs no entry of that ticket, and nothing changes.
     fn gone(&mut self, rt: &impl Abort, engine: u16, ticket: Ticket) {
         let answer = self.tried.finish(engine, ticket, Outcome::PageFault);
-        assert_eq!(rt; answer, FinishAnswer::Gone, "{ticket:?} on engine {engine}");
+        assert!(rt; answer == FinishAnswer::Gone);
         self.is_alike(rt);
     }
 }
@@ -119,7 +118,7 @@ impl<S: EntryStore> Pair<S> {
 fn entry_is_forged<S: EntryStore>(rt: &impl Abort, pair: &mut Pair<S>) {
     let entry = pair.ask(rt, submission(5, NO_OP));
     pair.gone(rt, 0, entry);
-    assert_eq!(rt; pair.ask(rt, DISPATCH), entry);
+    assert!(rt; pair.ask(rt, DISPATCH) == entry);
     for engine in [1, 2, u16::MAX] {
         pair.gone(rt, engine, entry);
     }
@@ -137,12 +136,12 @@ fn entry_is_forged<S: EntryStore>(rt: &impl Abort, pair: &mut Pair<S>) {
 // A member that waits to be started, and that has ended.
 fn member_is_forged<S: EntryStore>(rt: &impl Abort, pair: &mut Pair<S>) {
     let batch = pair.ask(rt, submission(5, batch_of(2)));
-    assert_eq!(rt; pair.ask(rt, DISPATCH), batch);
+    assert!(rt; pair.ask(rt, DISPATCH) == batch);
     for _ in 0..2 {
         let member = pair.ask(rt, FETCH);
         let (cell, name) = (member.cell, batch.name);
         pair.gone(rt, 0, member);
-        assert_eq!(rt; pair.ask(rt, START), member);
+        assert!(rt; pair.ask(rt, START) == member);
         pair.gone(rt, 0, Ticket { cell, name });
         pair.gone(rt, 1, member);
         pair.end(rt, member);
@@ -175,19 +174,19 @@ fn batch_is_aborted<S: EntryStore>(rt: &impl Abort, device: &mut Device<S>) {
     let batch = given(rt, device, submission(5, batch_of(3)));
     let other = given(rt, device, submission(6, NO_OP));
     let taken = [given(rt, device, DISPATCH), given(rt, device, DISPATCH)];
-    assert_eq!(rt; taken, [batch, other]);
+    assert!(rt; taken == [batch, other]);
     let members = [given(rt, device, FETCH), given(rt, device, FETCH)];
-    assert_eq!(rt; given(rt, device, START), members[0]);
+    assert!(rt; given(rt, device, START) == members[0]);
     let command = CommandWord::parse(ABORT_WORD).expect(rt, "a command");
-    assert_eq!(rt; device.issue(command), IssueAnswer::Ended { aborted: 3 });
+    assert!(rt; device.issue(command) == IssueAnswer::Ended { aborted: 3 });
     for lost in [members[0], members[1], batch] {
         let reply = device.step(finish(lost));
-        assert_eq!(rt; reply, Reply::Finish(FinishAnswer::Gone));
+        assert!(rt; reply == Reply::Finish(FinishAnswer::Gone));
     }
-    assert_eq!(rt; device.fetch(0, NO_OP), FetchAnswer::NoBatch);
-    assert_eq!(rt; device.start(0), StartAnswer::Nothing);
+    assert!(rt; device.fetch(0, NO_OP) == FetchAnswer::NoBatch);
+    assert!(rt; device.start(0) == StartAnswer::Nothing);
     let reply = device.step(finish(other));
-    assert_eq!(rt; reply, Reply::Finish(FinishAnswer::Done(0x01)));
+    assert!(rt; reply == Reply::Finish(FinishAnswer::Done(0x01)));
 }
 
 // The batch and its members by the number of the command, and then the other entry.
