@@ -27,7 +27,7 @@ pub batch-named : {cells : ℕ} {k : Kept} {gear : Gear} {content : Content} {e 
     → has_queue k.setup batch.1.queue ≡ true
 batch-named {k = k} {content = content} {i = i} {batch = batch} name s c he ie found =
     let at : In batch (chain content i) =
-        (In-find (λ (slot : Slot). slot.1.name == name) batch (chain content i) found).0
+    (In-find (λ (slot : Slot). slot.1.name == name) batch (chain content i) found).0
     in
     named-in k content i batch (omega (arith, s.store.lists, he, ie)) at c
 

@@ -51,7 +51,8 @@ must w e entry = go (is_batch_of w.setup entry) (nat_lt 0 (length (members w e))
     (length (members w e)) (fetched_count w e) (member_total w e) (name_of (first_waited w entry))
   where
     go : (a b c d : Bool) (left fetched count first : ℕ)
-        → option_map finish_answer (first_row ((a && b, MembersLeft left) ∷ (a && c, StillToFetch fetched count) ∷ (d, DrainWaits first) ∷ []))
+        → option_map finish_answer (first_row ((a && b, MembersLeft left) ∷ (a && c, StillToFetch fetched count) ∷
+        (d, DrainWaits first) ∷ []))
         ≡ when (a && (b || c) || d) NotReady
     go true true c d left fetched count first = refl
     go true false true d left fetched count first = refl
@@ -79,7 +80,8 @@ of_entry w e t outcome h (Some i) (Some entry) = rw (mine w.setup.caps e i h)
     (go (entry.name == t.name) (is_list_of e (list_use w.setup.caps i)) entry.running)
   where
     go : (a b c : Bool)
-        → option_map finish_answer (first_row ((not a, OtherName entry.name) ∷ (not b, Elsewhere (list_use w.setup.caps i)) ∷ (not c, NotStarted) ∷ wait_table w e entry))
+        → option_map finish_answer (first_row ((not a, OtherName entry.name) ∷
+        (not b, Elsewhere (list_use w.setup.caps i)) ∷ (not c, NotStarted) ∷ wait_table w e entry))
         ≡ unended (finish_of w e outcome (when (b && (c && a)) (t.cell, entry))).0
     go false false c = refl
     go false true false = refl
@@ -88,7 +90,8 @@ of_entry w e t outcome h (Some i) (Some entry) = rw (mine w.setup.caps e i h)
     go true true false = refl
     go true true true =
         must w e entry
-        ∙ ready w (after_end w e (t.cell, entry) outcome) (last_status w e (t.cell, entry) outcome) (must_wait w e entry)
+        ∙ ready w (after_end w e (t.cell, entry) outcome) (last_status w e (t.cell, entry) outcome)
+        (must_wait w e entry)
 
 -- the reason is one for the answer
 pub ended-told : (w : Work) (e : ℕ) (t : Ticket) (outcome : Outcome) → use_count w.content t.cell ≤ 1

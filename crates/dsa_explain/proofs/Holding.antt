@@ -2,7 +2,8 @@
 use Rattle.std.proofs.Common.{◌≡◌, ℕ, zero, suc, ◌+◌, ◌<◌, Bool, true, false, List, [], ◌∷◌, ◌++◌, map, filter, find}
 use Rattle.std.proofs.Common.{length, drop, Option, Some, None, is_some, refl, ◌∙◌, arith, inl, inr, cond}
 use Rattle.std.proofs.Common.{drop-cons}
-use Rattle.std.proofs.lemmas.{Bool.{cases_Bool}, Grind.{common_steps}, List.{map-append, Elements.{filter-append}, Folds.{find-append}}}
+use Rattle.std.proofs.lemmas.{Bool.{cases_Bool}, Grind.{common_steps}}
+use Rattle.std.proofs.lemmas.List.{map-append, Elements.{filter-append}, Folds.{find-append}}
 use Rattle.std.specs.{List.{list_any, slice_get}, Option.{option_map, option_or}}
 use Rattle.dsa_regs.specs.{declared.{Caps.{Caps}, layout.ListUse.{ListUse}}, Caps.{list_use, list_count, list_number}}
 use Rattle.dsa_book.specs.State.{State}

@@ -1,5 +1,6 @@
 -- The queues that a command names, the rows before its effect, and the end of the active one.
-use Rattle.std.proofs.Common.{◌≡◌, ℕ, zero, suc, ◌==◌, ◌&&◌, Bool, true, false, not, cond, List, [], ◌∷◌, find, length, Option}
+use Rattle.std.proofs.Common.{◌≡◌, ℕ, zero, suc, ◌==◌, ◌&&◌, Bool, true, false, not, cond, List, [], ◌∷◌, find}
+use Rattle.std.proofs.Common.{length, Option}
 use Rattle.std.proofs.Common.{Some, None, is_none, is_some, refl, sym, arith, option_map, nat_le, inl, inr}
 use Rattle.std.proofs.lemmas.{Bool.{cases_Bool}}
 use Rattle.std.specs.List.{list_all}

@@ -8,7 +8,8 @@ use Rattle.dsa_regs.specs.declared.{Caps.{Caps}, GroupConfig.{GroupConfig}}
 use Rattle.dsa_regs.specs.{Config.{group_at}}
 use Rattle.dsa_store.specs.{declared.entry.Entry.{Entry}, Content.{Slot, chain}}
 use Rattle.dsa_book.specs.State.{Work, has_queue, need_of, is_batch_of, is_drain_of}
-use Rattle.dsa_book.specs.Work.{group_of, has_room, in_progress, note_at, serves, front_of, qualifies, is_draining, used, may_leave}
+use Rattle.dsa_book.specs.Work.{group_of, has_room, in_progress, note_at, serves, front_of, qualifies, is_draining}
+use Rattle.dsa_book.specs.Work.{used, may_leave}
 use Rattle.dsa_book.specs.Work.{may_take}
 use Rattle.dsa_laws.specs.WellFormed.{HasShape}
 use Rattle.dsa_device.specs.Reads.{slot_at}
@@ -99,7 +100,8 @@ offered true home g h = refl
 offered false home g h = absurd cc
 
 -- so of a front that was read
-pub reason-read : (w : Work) (e q g : ℕ) (b : Bool) (front : Slot) → cond (is_offered w e q) (group_of w e) None ≡ Some g
+pub reason-read : (w : Work) (e q g : ℕ) (b : Bool) (front : Slot) → cond (is_offered w e q) (group_of w e) None ≡
+    Some g
     → slot_at (when b (chain w.content q)) 0 ≡ Some front
     → is_some (first_row (take_table w e front)) ≡ (is_offered w e q && not (qualifies w e q))
 reason-read w e q g b front home h =
@@ -124,7 +126,8 @@ idle-reasons w e = go (numbers_below w.setup.caps.queues)
         ≡ list_all (λ q. not (is_offered w e q) || is_some (queue_reason w e q)) qs
     go [] = refl
     go (q ∷ qs) =
-        let here = one (is_offered w e q) (qualifies w e q) (is_some (queue_reason w e q)) (reason-some w e q) (takes q) in
+        let here = one (is_offered w e q) (qualifies w e q) (is_some (queue_reason w e q)) (reason-some w e q)
+        (takes q) in
         both (qualifies w e q) (list_any (qualifies w e) qs) here (go qs)
       where
         both : (a b : Bool) {c d : Bool} → not a ≡ c → not b ≡ d → not (a || b) ≡ (c && d)

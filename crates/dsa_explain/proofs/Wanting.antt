@@ -4,7 +4,8 @@ use Rattle.std.proofs.Common.{nat_lt, List, [], ◌∷◌, length, map, get_or, 
 use Rattle.std.proofs.lemmas.{Grind.{common_steps}, Bool.{lt-ltb}, List.Sums.{sum_by_push, sum_by-cons}}
 use Rattle.std.specs.Prelude.{sum_by}
 use Rattle.dsa_base.specs.Numbers.{numbers_below}
-use Rattle.dsa_base.proofs.{NumberLists.{get_or-each, length-each}, NumberSums.{sum-split_numbers, sum-plus, sum-numbers-le}}
+use Rattle.dsa_base.proofs.NumberLists.{get_or-each, length-each}
+use Rattle.dsa_base.proofs.NumberSums.{sum-split_numbers, sum-plus, sum-numbers-le}
 use Rattle.dsa_base.proofs.NumberSums.{sum-equal}
 use Rattle.dsa_regs.specs.{declared.GroupConfig.{GroupConfig}, Config.{group_at}, Buffers.{covered_count, fits}}
 use Rattle.dsa_buffers.proofs.Covering.{covered-set}

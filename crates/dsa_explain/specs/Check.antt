@@ -32,7 +32,8 @@ queue_reasons caps q queue =
 
 -- the reason of the first row that stands
 abbrev pub queue_reason : Caps → List GroupConfig → ℕ → QueueConfig → Option CheckReason
-queue_reason caps groups q queue = first_row (with_reasons (queue_table caps groups q queue) (queue_reasons caps q queue))
+queue_reason caps groups q queue = first_row (with_reasons (queue_table caps groups q queue)
+    (queue_reasons caps q queue))
 
 -- ---- the device as a whole
 

@@ -9,7 +9,8 @@ use Rattle.dsa_book.specs.State.{Work, has_queue, need_of, is_batch_of, is_drain
 use Rattle.dsa_book.specs.Work.{group_of, has_room, in_progress, note_at, serves, front_of, is_draining}
 use Rattle.dsa_explain.specs.declared.dispatch.EngineReason.{EngineReason, TheVariants.{NoEngine, NoGroup}}
 use Rattle.dsa_explain.specs.declared.dispatch.QueueReason.{QueueReason}
-use Rattle.dsa_explain.specs.declared.dispatch.QueueReason.TheVariants.{Empty, NoSlot, NoBuffers, OtherBatch, OtherDrain}
+use Rattle.dsa_explain.specs.declared.dispatch.QueueReason.TheVariants.{Empty, NoSlot, NoBuffers, OtherBatch}
+use Rattle.dsa_explain.specs.declared.dispatch.QueueReason.TheVariants.{OtherDrain}
 use Rattle.dsa_explain.specs.Buffers.{want_of}
 
 -- ---- the engine
@@ -40,8 +41,10 @@ drain_name w e =
 -- what keeps the engine from taking this front: what it has to meet and does not, in that order
 abbrev pub take_table : Work → ℕ → Slot → List (Bool × QueueReason)
 take_table w e front =
-    (not (nat_lt (length (in_progress w e)) w.setup.caps.slots), NoSlot (length (in_progress w e)) w.setup.caps.slots) ∷
-    (not (has_room w e (need_of w.setup front.1)), NoBuffers (want_of w (unwrap_or (group_of w e) 0) (need_of w.setup front.1))) ∷
+    let in_use = length (in_progress w e) in
+    let need = need_of w.setup front.1 in
+    (not (nat_lt in_use w.setup.caps.slots), NoSlot in_use w.setup.caps.slots) ∷
+    (not (has_room w e need), NoBuffers (want_of w (unwrap_or (group_of w e) 0) need)) ∷
     (not (is_none (note_at w e) || not (is_batch_of w.setup front.1)), OtherBatch (batch_name w e)) ∷
     (is_drain_of w.setup front.1 && is_draining w e, OtherDrain (drain_name w e)) ∷ []
 

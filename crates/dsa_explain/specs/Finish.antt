@@ -1,5 +1,6 @@
 -- Why an engine does not end an entry.
-use Rattle.std.specs.Prelude.{ℕ, Bool, not, cond, ◌&&◌, ◌==◌, nat_lt, List, [], ◌∷◌, ◌++◌, length, map, find, Option, Some, None}
+use Rattle.std.specs.Prelude.{ℕ, Bool, not, cond, ◌&&◌, ◌==◌, nat_lt, List, [], ◌∷◌, ◌++◌, length, map, find}
+use Rattle.std.specs.Prelude.{Option, Some, None}
 use Rattle.std.specs.Option.{option_map, option_map_or}
 use Rattle.dsa_base.specs.Rows.{first_row, passes}
 use Rattle.dsa_regs.specs.{declared.layout.ListUse.{ListUse}, Caps.{engine_of, list_use}}
@@ -9,7 +10,8 @@ use Rattle.dsa_book.specs.declared.answer.FinishAnswer.{FinishAnswer, TheVariant
 use Rattle.dsa_book.specs.State.{Work, is_batch_of, is_drain_of}
 use Rattle.dsa_book.specs.Work.{members, note_at, is_all_fetched, waits_for, waits}
 use Rattle.dsa_explain.specs.declared.finish.FinishReason.{FinishReason}
-use Rattle.dsa_explain.specs.declared.finish.FinishReason.TheVariants.{NoEngine, NoEntry, OtherName, Elsewhere, NotStarted}
+use Rattle.dsa_explain.specs.declared.finish.FinishReason.TheVariants.{NoEngine, NoEntry, OtherName, Elsewhere}
+use Rattle.dsa_explain.specs.declared.finish.FinishReason.TheVariants.{NotStarted}
 use Rattle.dsa_explain.specs.declared.finish.FinishReason.TheVariants.{MembersLeft, StillToFetch, DrainWaits}
 use Rattle.dsa_explain.specs.Batch.{name_of}
 

@@ -16,7 +16,8 @@ use Rattle.dsa_book.specs.declared.answer.{Ticket.{Ticket}, Reply.{Reply}, Submi
 use Rattle.dsa_book.specs.declared.answer.{DispatchAnswer.TheVariants.{Taken}, FetchAnswer.TheVariants.{Fetched}}
 use Rattle.dsa_book.specs.declared.answer.{FinishAnswer.TheVariants.{Done}, IssueAnswer.TheVariants.{Ended}}
 use Rattle.dsa_book.specs.declared.answer.{PollAnswer.TheVariants.{Full}, WriteAnswer.TheVariants.{Written}}
-use Rattle.dsa_book.specs.declared.event.{Event.{Event}, Kind.TheVariants.{Enqcmd, Movdir64b}, Portal.TheVariants.{Limited}}
+use Rattle.dsa_book.specs.declared.event.{Event.{Event}, Kind.TheVariants.{Enqcmd, Movdir64b}}
+use Rattle.dsa_book.specs.declared.event.Portal.TheVariants.{Limited}
 use Rattle.dsa_book.specs.declared.fate.{Fate.{Fate}, FateRow.{FateRow}}
 use Rattle.dsa_scenario.specs.declared.actions.Action.{Action, TheVariants.{Ask, Finish, Refuse}}
 use Rattle.dsa_scenario.specs.declared.run.Record.{Record, TheVariants.{Stepped, Refused}}

@@ -331,7 +331,7 @@ asks_more script old mid new turn at after asks e reply was answer is room below
     record {
       so_far = so_far_more (NextCommand script) (length script) old mid new turn at after call was.so_far
           (answer, admin_next script at asks e was.so_far.calls was.waits was.so_far.steps_done below) is room
-              below moved;
+          below moved;
       waits = waits_more was.so_far.calls call;
     }
 

@@ -24,7 +24,7 @@ loop-queue-preserved c =
             counts = λ content counted.
                 let hit = sym c.names.ensures ∙ w.if-names.true in
                 let more = rw hit at (more-below c.args.scope.now c.requires q c.args.queues.now content there
-                    counted) in
+                counted) in
                 omega (
                   arith,
                   w.count-is,
@@ -41,7 +41,7 @@ loop-queue-preserved c =
             counts = λ content counted.
                 let miss = sym c.names.ensures ∙ w.if-names.false in
                 let more = rw miss at (more-below c.args.scope.now c.requires q c.args.queues.now content there
-                    counted) in
+                counted) in
                 omega (arith, w.count-is, c.loop-queue.invariant.counts content counted, more);
           }
     ]

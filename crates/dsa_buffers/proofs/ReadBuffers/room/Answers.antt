@@ -11,6 +11,15 @@ overflow_add-spare c =
 pub returns-clause-room : goal.returns-clause-room
 returns-clause-room c = λ h n.
     let is = room-is _ c.self.inside.covered c.args.group c.self.invariant
-        (subst (λ (b : Buffers). c.args.group < length b.groups) (sym c.self.view_is) h) n in
-    rw (← c.self.view_is) (grind (arith, common_steps, is, c.min.ensures, c.max.ensures, c.from-g.ensures,
-        c.deref.ensures, c.deref-2.ensures, c.deref-3.ensures))
+    (subst (λ (b : Buffers). c.args.group < length b.groups) (sym c.self.view_is) h) n in
+    rw (← c.self.view_is) (grind (
+      arith,
+      common_steps,
+      is,
+      c.min.ensures,
+      c.max.ensures,
+      c.from-g.ensures,
+      c.deref.ensures,
+      c.deref-2.ensures,
+      c.deref-3.ensures,
+    ))

@@ -7,5 +7,5 @@ use borrow.Author.Tests.{tests}
 pub returns : goal.returns
 returns g c =
     rw (← c.list-progress.ensures) (any_from_yields_List
-        (λ (slot : Slot). is_drain_of c.args.queues.now.setup slot.1) _ _
+    (λ (slot : Slot). is_drain_of c.args.queues.now.setup slot.1) _ _
     c.any.result c.any.ensures.ran (walked c.slots.ensures) (λ x b q k. search (rules, tests)))

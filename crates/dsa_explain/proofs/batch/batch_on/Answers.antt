@@ -9,4 +9,5 @@ pub returns : goal.returns
 returns g c =
     sym (option_map_id c.find.result)
     ∙ find_from_yields_List (λ (slot : Slot). slot.1.name == c.args.note.now.batch) _ _ c.find.result c.find.ensures.ran
-    (walked (sym (when-some _ _ _ (sym c.in_progress.ensures ∙ c.in_ok-slots.was)).1)) (λ x b q k. search (rules, tests))
+    (walked (sym (when-some _ _ _ (sym c.in_progress.ensures ∙ c.in_ok-slots.was)).1))
+    (λ x b q k. search (rules, tests))

@@ -21,4 +21,5 @@ returns g c =
     let w = c.args.device.now.state.work in
     sym (option_map_id c.find.result)
     ∙ find_from_yields_List (λ (slot : Slot). is_drain_of w.setup slot.1) _ _ c.find.result c.find.ensures.ran
-    (walked (sym (when-some _ _ _ (sym c.in_progress.ensures ∙ c.in_ok-slots.was)).1)) (λ x b q k. search (rules, tests))
+    (walked (sym (when-some _ _ _ (sym c.in_progress.ensures ∙ c.in_ok-slots.was)).1))
+    (λ x b q k. search (rules, tests))

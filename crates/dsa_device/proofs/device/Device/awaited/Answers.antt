@@ -10,7 +10,7 @@ overflow_cast-result g c =
       arith,
       awaited-few c.self.inside.admin.active (g.S.EntryStore.content c.self.inside.store) c.in_ok-awaited.awaited _
           (sym c.in_ok-awaited.was ∙ c.awaited.ensures (g.S.EntryStore.content c.self.inside.store) i.counted
-              i.awaiting)
+          i.awaiting)
           (g.met.S.EntryStore.sound c.self.inside.store).room,
       cells-are _ _ _ i.whole,
       cell_count-bound c.self.inside.caps i.whole.replay.caps,

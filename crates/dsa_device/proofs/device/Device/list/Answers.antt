@@ -7,7 +7,7 @@ use Rattle.dsa_device.proofs.Known.{well_formed, has-list}
 pub list-requires : goal.list-requires
 list-requires g c =
     subst (λ (caps : Caps). HasList caps c.args.list)
-        (sym (well_formed _ c.self.invariant.whole.replay).shape.same_caps)
+    (sym (well_formed _ c.self.invariant.whole.replay).shape.same_caps)
     (subst (λ (d : Running). HasList d.caps c.args.list) (sym c.self.view_is) c.requires)
 
 pub returns-clause-number : goal.returns-clause-number

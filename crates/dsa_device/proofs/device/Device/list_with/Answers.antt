@@ -5,4 +5,5 @@ use Rattle.dsa_device.proofs.Known.{well_formed}
 
 pub returns : goal.returns
 returns g c = rw (← c.self.view_is, ← c.in_ok-list.ensures) (ap Some (c.list_use.ensures.use_of
-    ∙ ap (λ (caps : Caps). list_use caps c.in_ok-list.list.0) (well_formed _ c.self.invariant.whole.replay).shape.same_caps))
+    ∙ ap (λ (caps : Caps). list_use caps c.in_ok-list.list.0)
+    (well_formed _ c.self.invariant.whole.replay).shape.same_caps))

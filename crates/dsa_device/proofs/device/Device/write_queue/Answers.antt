@@ -17,7 +17,7 @@ returns g c =
 pub invariant_of-self : goal.invariant_of-self
 invariant_of-self g c =
     set-up-running _ _ _ _ _ _ _ _ _ (event.WriteQueue c.args.queue c.args.config)
-        (reply.Write c.write_queue-answer.result)
+    (reply.Write c.write_queue-answer.result)
     c.self.invariant c.self.view_is (returns g c) refl refl
     (λ on. write_queue-keeps _ _ c.args.queue c.args.config _ _
     (well_formed _ c.self.invariant.whole.replay).entries c.write_queue-answer.ensures.answer)

@@ -42,7 +42,7 @@ pub entered-requires-clause-there : goal.entered-requires-clause-there
 entered-requires-clause-there g c =
     rw c.give_name-fetched.ensures.after
     (batch-named c.in-Some.note.batch c.requires.in_step c.requires.counted
-        (has-engine c.caps-caps.ensures.value c.if-engine-caps.false)
+    (has-engine c.caps-caps.ensures.value c.if-engine-caps.false)
     c.list-progress.ensures (sym c.find_named.ensures ∙ c.in-Some-find_named.is))
 
 pub entered-requires-clause-room : goal.entered-requires-clause-room

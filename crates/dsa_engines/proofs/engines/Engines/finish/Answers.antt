@@ -12,17 +12,17 @@ pub returns-clause-step : goal.returns-clause-step
 returns-clause-step g c =
     let content = g.S.EntryStore.content c.args.store.now in
     rw c.left.ensures (finish-done c.args.self.now content c.args.book.now.fates c.args.engine c.need.result
-        c.home.result c.args.ticket
+    c.home.result c.args.ticket
     c.args.outcome c.in-Some.ensures (sym c.must_wait.ensures ∙ c.if-must_wait.false)
     (c.last_status-status.ensures content c.args.ticket.cell) c.give_back.ensures
     (c.write_note_after.ensures content c.args.ticket.cell) c.unlink.ensures.after
-        (ap (λ (b : Records). b.fates) c.add_row.ensures))
+    (ap (λ (b : Records). b.fates) c.add_row.ensures))
 
 pub returns-clause-in_step : goal.returns-clause-in_step
 returns-clause-in_step g c =
     let once = (g.met.S.EntryStore.sound c.args.store.now).once c.args.ticket.cell in
     rw c.left.ensures (in_step-ended c.requires.in_step once (running-place _ _ _ _ _ once c.in-Some.ensures)
-        c.home.ensures
+    c.home.ensures
     c.need.ensures _ c.unlink.ensures.cells c.give_back.ensures
     (c.write_note_after.ensures (g.S.EntryStore.content c.args.store.now) c.args.ticket.cell) c.unlink.ensures.after)
 

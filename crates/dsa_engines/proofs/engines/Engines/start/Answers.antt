@@ -7,7 +7,7 @@ use Rattle.dsa_engines.proofs.Members.{start-refused, start-done}
 pub returns-then-fails_at_fence-clause-in_step : goal.returns-then-fails_at_fence-clause-in_step
 returns-then-fails_at_fence-clause-in_step g c =
     rw c.abandon_all.ensures.setup (in_step-abandoned c.requires.in_step
-        (g.met.S.EntryStore.sound c.args.store.now).once
+    (g.met.S.EntryStore.sound c.args.store.now).once
     (has-engine c.caps-caps.ensures.value c.if-engine-caps.false) c.list-list.ensures
     (sym c.first_waiting.ensures ∙ c.in-Some.is) c.if-waits_at_fence.ensures _ _ c.give_back.ensures.cells
     c.requires.order c.if-fails_at_fence.ensures c.close_note.ensures c.give_back.ensures.after)

@@ -6,6 +6,6 @@ use Rattle.std.proofs.lemmas.Bool.{lt-ltb}
 pub overflow_cast-result : goal.overflow_cast-result
 overflow_cast-result g c =
     let has = lt-ltb c.args.queue c.args.self.now.setup.caps.queues
-        (rw (← c.caps.ensures.value) c.if-queue-caps.true) in
+    (rw (← c.caps.ensures.value) c.if-queue-caps.true) in
     let short = c.requires.short has in
     omega (arith, short, c.len.ensures)

@@ -8,7 +8,7 @@ use Rattle.dsa_queues.proofs.queues.Queues.set_phases.Goals.{then-contains, else
 pub loop-queue-preserved : goal.loop-queue-preserved
 loop-queue-preserved c =
     let f : ℕ → Phase = λ q. cond (is_among (queues_in c.args.named.now) q) c.args.phase
-        (phase_at c.args.self.now.setup q) in
+    (phase_at c.args.self.now.setup q) in
     let within : c.loop-queue.queue < length c.args.self.now.setup.phases =
     grind (arith, c.loop-queue-test.true, c.caps-queue-end.ensures) in
     elim c.if-contains.branch [

@@ -10,6 +10,6 @@ invariant-loop-queue l =
       setup = record l.fn.self.setup {
         phases =
             renewed (λ q. cond (is_among (queues_in l.named) q) l.phase (phase_at l.fn.self.setup q)) l.queue
-                l.fn.self.setup.phases;
+            l.fn.self.setup.phases;
       };
     }

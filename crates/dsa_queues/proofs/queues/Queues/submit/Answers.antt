@@ -13,7 +13,7 @@ pub entered-requires-clause-room : goal.entered-requires-clause-room
 entered-requires-clause-room g c =
     let there = c.phase.ensures.known (grind (arith, c.if-ne.false, c.ne.ensures)) in
     let pushed = counted-pushed c.args.self.now _ _ c.args.queue _ _ c.in-Some.ensures.some
-        (omega (arith, ltb-true _ _ there, c.requires.store.lists)) there c.requires.counted in
+    (omega (arith, ltb-true _ _ there, c.requires.store.lists)) there c.requires.counted in
     rw c.give_name.ensures.after (omega (
       arith,
       pushed.0,
@@ -26,6 +26,6 @@ pub returns-clause-counted : goal.returns-clause-counted
 returns-clause-counted g c =
     let there = c.phase.ensures.known (grind (arith, c.if-ne.false, c.ne.ensures)) in
     let pushed = counted-pushed c.args.self.now _ _ c.args.queue _ _ c.in-Some.ensures.some
-        (omega (arith, ltb-true _ _ there, c.requires.store.lists)) there c.requires.counted in
+    (omega (arith, ltb-true _ _ there, c.requires.store.lists)) there c.requires.counted in
     rw (c.entered.ensures, c.give_name.ensures.after)
     (counted-setup _ _ _ refl refl pushed.1)
