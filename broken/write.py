@@ -2,8 +2,9 @@
 """Writes the documents of this folder, each with what the program has to print.
 
 NAME.json is a document. NAME.out has the lines that it prints, and the exit status is 0. Where there is a NAME.err
-instead, the document has a fault: that line goes to standard error, and the exit status is 1. What is expected stands here
-by hand, from docs/SCENARIO.md and docs/MODEL.md; nothing is taken from the program. ./corpus runs them."""
+instead, the document has a fault: that line goes to standard error, and the exit status is 1. NAME.check, where there is one,
+has the lines of its check. What is expected stands here by hand, from docs/SCENARIO.md and docs/MODEL.md; nothing is taken
+from the program. ./corpus runs them."""
 import json
 import pathlib
 import shutil
@@ -470,6 +471,142 @@ def put_nesting():
     put("json/nested-too-deep-in-a-step", document([{"do": "poll", "note": Raw(nested(125).decode())}]), NOT_JSON)
 
 
+# ---- what a check tells, in whole: a document, the fault of its run or the lines, and the lines of the check
+
+CHECKED_CAPS = '"caps":{"queues":1,"groups":1,"engines":1,"total_size":4,"read_buffers":4,"slots":1,' \
+    '"max_batch_shift":1,"max_xfer_shift":0}'
+CHECKED_HEAD = '{' + CHECKED_CAPS + ',"capacity":100,'
+WIDE_CAPS = CHECKED_CAPS.replace('"max_batch_shift":1', '"max_batch_shift":11')
+DISPATCH, CLEAR = '{"do":"dispatch","engine":0}', '{"do":"clear"}'
+
+
+def put_checked(name, text, expected, told):
+    put(f"check/{name}", text, expected)
+    path = (FOLDER / "check" / name).with_suffix(".check")
+    path.write_bytes("".join(f"{line}\n" for line in told).encode())
+
+
+def checked_step(step):
+    return CHECKED_HEAD + f'"steps":[{step}]}}'
+
+
+def put_checked_steps():
+    """One step that is none, and what its line says."""
+    rows = {
+        "missing": ('{"do":"dispatch"}', '(dispatch): "engine" is missing'),
+        "misspelled": ('{"do":"movdir","client":0,"queue":0,"limitd":true,"desc":""}',
+                       '(movdir): "limited" is missing, and "limitd" is no key here'),
+        "plural": ('{"do":"start","engines":1}', '(start): "engine" is missing, and "engines" is no key here'),
+        "far": ('{"do":"start","note":1}', '(start): "engine" is missing'),
+        "large": ('{"do":"command","word":4294967296}',
+                  '(command): "word" is 4294967296, a whole number from 0 to 4294967295 is wanted'),
+        "signed": ('{"do":"dispatch","engine":-1}',
+                   '(dispatch): "engine" is a number of another form, a whole number from 0 to 65535 is wanted'),
+        "no-truth": ('{"do":"finish","engine":0,"name":0,"fault":0}', '(finish): "fault" is 0, true or false is wanted'),
+        "odd": ('{"do":"fetch","engine":0,"desc":"000"}', '(fetch): "desc" has 3 digits, an even number is wanted'),
+        "many": ('{"do":"fetch","engine":0,"desc":"' + "0" * 130 + '"}',
+                 '(fetch): "desc" has 130 digits, at most 128 are wanted'),
+        "letter": ('{"do":"fetch","engine":0,"desc":"0g"}',
+                   '(fetch): "desc" has a character that is no hexadecimal digit'),
+        "no-text": ('{"do":"fetch","engine":0,"desc":[]}',
+                    '(fetch): "desc" is an array, a text of hexadecimal digits is wanted'),
+    }
+    for name, (step, told) in rows.items():
+        put_checked(f"step-{name}", checked_step(step), "bad step 0", [f"line 1, step 0 {told}"])
+    kinds = {
+        "unknown-kind": ('{"do":"submit"}', '"do" is "submit", which is no kind of step'),
+        "odd-kind": ('{"do":"a\\nb"}', '"do" names no kind of step'),
+        "no-kind": ('{"client":0}', '"do" is missing'),
+        "kind-is-null": ('{"do":null}', '"do" is null, a text is wanted'),
+        "no-object": ("7", "7 stands here, an object is wanted"),
+    }
+    for name, (step, told) in kinds.items():
+        put_checked(f"step-{name}", checked_step(step), "bad step 0", [f"line 1, step 0: {told}"])
+
+
+def put_checked_lines():
+    """Each step has the line where it begins, each fault its own line, and of steps that come twice the last count."""
+    put_checked("each-key", checked_step('{"do":"finish","name":4294967296}'), "bad step 0", [
+        'line 1, step 0 (finish): "engine" is missing',
+        'line 1, step 0 (finish): "name" is 4294967296, a whole number from 0 to 4294967295 is wanted',
+        'line 1, step 0 (finish): "fault" is missing'])
+    put_checked("each-step", CHECKED_HEAD + '\n"steps": [\n{"do":"poll"},\n {"do":\n"fly"}, [],\n\n{"do":"start"}\n]}',
+                "bad step 1", [
+                    'line 4, step 1: "do" is "fly", which is no kind of step',
+                    "line 5, step 2: an array stands here, an object is wanted",
+                    'line 7, step 3 (start): "engine" is missing'])
+    put_checked("texts-and-lines", CHECKED_HEAD + '\n"note":"steps\\":[{","steps":[\n{"do":"poll","note":"]},{"},\n{}]}',
+                "bad step 1", ['line 4, step 1: "do" is missing'])
+    put_checked("steps-twice", CHECKED_HEAD + '"steps":[{},\n{}],\n"steps":[\n{}]}', "bad step 0",
+                ['line 4, step 0: "do" is missing'])
+    put_checked("escaped-key", CHECKED_HEAD + r'"st\u0065ps":[{}]}', "bad step 0", ['step 0: "do" is missing'])
+
+
+# the example of docs/SCENARIO.md
+CHECKED_EXAMPLE = """{"caps": {"queues": 1, "groups": 1, "engines": 1, "total_size": 4, "read_buffers": 4, "slots": 1,
+          "max_batch_shift": 11, "max_xfer_shift": 20}, "capacity": 100,
+ "steps": [
+  {"do": "queue", "queue": 0, "size": 4, "threshold": 1, "dedicated": false, "priority": 256,
+   "pasid": 0, "batch": 1, "xfer": 20},
+  {"do": "movdir", "client": 0, "queue": 0, "limitd": true, "desc": "000"}]}
+"""
+
+
+def put_checked_example():
+    put_checked("example", CHECKED_EXAMPLE, "bad step 0", [
+        'line 4, step 0 (queue): "priority" is 256, a whole number from 0 to 255 is wanted',
+        'line 6, step 1 (movdir): "limited" is missing, and "limitd" is no key here',
+        'line 6, step 1 (movdir): "desc" has 3 digits, an even number is wanted',
+        'caps: "max_batch_shift" is 11, a whole number from 1 to 10 is wanted'])
+
+
+def put_checked_heads():
+    """Faults of the three keys, and faults that come together."""
+    put_checked("right", CHECKED_HEAD + f'"steps":[{CLEAR},{DISPATCH}]}}', ["nothing", "idle"], [])
+    put_checked("no-document", "[]", BAD_DOCUMENT, ["document: an array stands here, an object is wanted"])
+    put_checked("no-key", '{"cap":{}}', BAD_DOCUMENT, [
+        'document: "caps" is missing, and "cap" is no key here',
+        'document: "capacity" is missing',
+        'document: "steps" is missing'])
+    put_checked("key-of-caps", checked_step(CLEAR).replace('"slots":1', '"slot":1').replace('"groups":1', '"groups":"1"'),
+                BAD_DOCUMENT, [
+                    'document: "groups" of "caps" is a text, a whole number from 0 to 65535 is wanted',
+                    'document: "slots" of "caps" is missing, and "slot" is no key here'])
+    put_checked("caps", checked_step(CLEAR).replace(CHECKED_CAPS, WIDE_CAPS), BAD_CAPS,
+                ['caps: "max_batch_shift" is 11, a whole number from 1 to 10 is wanted'])
+    put_checked("capacity", checked_step(CLEAR).replace("100", "1048577"), BAD_CAPACITY,
+                ['capacity: "capacity" is 1048577, a whole number from 0 to 1048576 is wanted'])
+    put_checked("all-together", checked_step("0").replace(CHECKED_CAPS, WIDE_CAPS).replace("100", "1048577"), "bad step 0", [
+        "line 1, step 0: 0 stands here, an object is wanted",
+        'caps: "max_batch_shift" is 11, a whole number from 1 to 10 is wanted',
+        'capacity: "capacity" is 1048577, a whole number from 0 to 1048576 is wanted'])
+    put_checked("document-and-step", '{"capacity":1048577,"steps":[{"do":"fly"}]}', BAD_DOCUMENT, [
+        'document: "caps" is missing',
+        'line 1, step 0: "do" is "fly", which is no kind of step',
+        'capacity: "capacity" is 1048577, a whole number from 0 to 1048576 is wanted'])
+
+
+def put_checked_texts():
+    """What is no JSON, with its place and what stands there."""
+    rows = {
+        "comma": ('{"steps":[],\n"capacity":1,}', "line 2, column 14", "a comma before }"),
+        "comma-in-steps": ('{"steps":[\n{"do":"poll"},\n]}', "line 3, column 1", "a comma before ]"),
+        "no-comma": ('{"steps":[{} {}]}', "line 1, column 14", "{ after a value, a comma or a colon may be missing"),
+        "no-colon": ('{"steps" []}', "line 1, column 10", "[ after a value, a comma or a colon may be missing"),
+        "cut": ('{"steps":[', "line 1, column 10", "the text ends too soon"),
+        "no-bytes": ("", "line 1, column 0", "the text ends too soon"),
+        "no-quotes": ("{steps:[]}", "line 1, column 2", "a key without double quotes"),
+        "zeros": ('{"capacity":007}', "line 1, column 13", "a number of this form may not stand here"),
+        "word": ('{"capacity":no}', "line 1, column 13", "a word may not stand here without double quotes"),
+        "comment": ("// steps\n{}", "line 1, column 1", "a comment, of which JSON has none"),
+        "bracket": ('{"steps":[}', "line 1, column 11", "} may not stand here"),
+        "deep": ("[" * 128 + "]" * 128, "line 1, column 128", "nested more than 127 deep"),
+        "no-utf-8": (b'{"\xff":0}', "line 1, column 3", "the bytes are no UTF-8"),
+    }
+    for name, (text, place, told) in rows.items():
+        put_checked(f"json-{name}", text, NOT_JSON, [f"{place}: not JSON: {told}"])
+
+
 def main():
     for folder in FOLDER.iterdir():
         if folder.is_dir():
@@ -490,6 +627,11 @@ def main():
     put_marks()
     put_texts()
     put_nesting()
+    put_checked_steps()
+    put_checked_lines()
+    put_checked_example()
+    put_checked_heads()
+    put_checked_texts()
 
 
 if __name__ == "__main__":

@@ -6,6 +6,7 @@ ghost use Rattle.dsa_c.specs.Calls.{limits_of, outcome_of, status_of};
 
 use crate::steps::{Bytes, outcome_of};
 use dsa_desc::{Descriptor, QueueLimits, enqcmd_image};
+use dsa_release::VERSION;
 
 /// The limits of a queue, as C says them.
 #[repr(C)]
@@ -65,5 +66,5 @@ pub extern "C" fn dsa_image(bytes: &Bytes, pasid: u32, image: &mut Bytes)
 pub extern "C" fn dsa_version() -> u32
     ensures { result ≡ 1 }
 {
-    1
+    VERSION
 }

@@ -19,7 +19,7 @@ use Rattle.dsa_scenario.specs.Run.{IsTable, IsRunTo, AreLinesOf}
 use Rattle.dsa_scenario.proofs.{Names.{IsNamed, gives-in_turn}, Tickets.{IsTable-noted}}
 
 -- one action more, with its record
-AreOf-push : (before : List Record) (actions : List Action) (done : List Record) (a : Action) (r : Record)
+pub AreOf-push : (before : List Record) (actions : List Action) (done : List Record) (a : Action) (r : Record)
     → AreOf before actions done → answered_by r ≡ event_of (before ++ done) a
     → AreOf before (actions ++ a ∷ []) (done ++ r ∷ [])
 AreOf-push before [] [] a r h fits =
@@ -31,7 +31,7 @@ AreOf-push before (b ∷ bs) (x ∷ xs) a r h fits =
     (h.0, AreOf-push (before ++ x ∷ []) bs xs a r h.1 (rw append_assoc fits))
 
 -- the name that a record gives, where it gives one, and the name that comes next
-gives : (now new : Running) (entry : Record) → Leads now entry new
+pub gives : (now new : Running) (entry : Record) → Leads now entry new
     → IsNamed (name_of now.state) (given_by entry) × (name_of new.state
     ≡ name_of now.state + length (filter_map given_by (entry ∷ [])))
 gives now new (Stepped step) leads =
@@ -50,7 +50,7 @@ pub record Goes (first now : Running) (records : List Record) : Type 0 where
   pub replay : IsReplay now
 
 -- with one record more
-goes_on : (first now new : Running) (records : List Record) (entry : Record) → Goes first now records
+pub goes_on : (first now new : Running) (records : List Record) (entry : Record) → Goes first now records
     → Leads now entry new → Goes first new (records ++ entry ∷ [])
 goes_on first now new records (Stepped step) h leads = record {
   run = IsRunOf-push _ _ _ _ _ _ _ _ _ _ h.replay h.run leads

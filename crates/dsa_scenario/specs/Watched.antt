@@ -10,6 +10,10 @@ watched_contents contents watched = contents watched.writer.now
 abbrev pub has_refused : {W : Type 0} → WatchedWriter W → Bool
 has_refused watched = watched.refused
 
+-- whether an error said that nobody reads what is written
+abbrev pub is_closed : {W : Type 0} → WatchedWriter W → Bool
+is_closed watched = watched.closed
+
 -- both watch the same writer
 abbrev pub IsSameWriter : {W : Type 0} → WatchedWriter W → WatchedWriter W → Type 0
 IsSameWriter old new = new.writer.ghost_name ≡ old.writer.ghost_name

@@ -12,18 +12,25 @@ mod fields;
 mod lines;
 mod metered;
 mod reading;
+mod rendering;
 pub mod rows;
 mod run;
 mod scenario;
 mod watched;
 mod writing;
 
-pub use actions::{Action, parse_action};
-pub use document::{Document, check_document, parse_document};
+pub use actions::{Action, parse_action, parse_caps};
+pub use document::{
+    Document, Head, check_document, check_head, parse_actions, parse_document, parse_head,
+    parse_json,
+};
 pub use faults::ScenarioFault;
+pub use fields::{bytes_of_hex, u64_field};
+pub use lines::{add_answer, add_record, add_rows};
 pub use metered::MeteredReader;
 pub use reading::MAX_READS;
-pub use run::{Record, run_document};
-pub use scenario::{render_document, run_metered, run_scenario};
+pub use rendering::{Render, Rendering, render_input, render_metered};
+pub use run::{Record, ask, event_for, note_ticket, run_action, run_document};
+pub use scenario::{PlainRun, render_document, run_metered, run_scenario};
 pub use watched::WatchedWriter;
 pub use writing::write_text;

@@ -195,15 +195,23 @@ fn add_reply(text: &mut String, reply: Reply) -> Result<(), AllocError>
     }
 }
 
+/// Adds what a record answers: its line without the line's end.
+#[inline(always)]
+pub fn add_answer(text: &mut String, entry: &Record) -> Result<(), AllocError>
+    ensures { OnOk result (string_bytes text.new ≡ string_bytes text.old ++ record_text entry.now) }
+{
+    match entry {
+        Record::Stepped(step) => add_reply(text, step.reply),
+        Record::Refused(fault) => add_refusal(text, *fault),
+    }
+}
+
 /// Adds the line of a record.
 #[inline(always)]
 pub fn add_record(text: &mut String, entry: &Record) -> Result<(), AllocError>
     ensures { OnOk result (string_bytes text.new ≡ string_bytes text.old ++ line_of (record_text entry.now)) }
 {
-    match entry {
-        Record::Stepped(step) => add_reply(text, step.reply)?,
-        Record::Refused(fault) => add_refusal(text, *fault)?,
-    }
+    add_answer(text, entry)?;
     text.push_str("\n")
 }
 

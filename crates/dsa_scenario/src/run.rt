@@ -51,9 +51,9 @@ fn ticket_for(tickets: &[Ticket], name: u32) -> Ticket
     tickets.get(name as usize).copied().unwrap_or(unknown)
 }
 
-// Notes the ticket that this record gives.
+/// Notes the ticket that this record gives.
 #[inline(always)]
-fn note_ticket(tickets: &mut Vec<Ticket>, entry: &Record) -> Result<(), AllocError>
+pub fn note_ticket(tickets: &mut Vec<Ticket>, entry: &Record) -> Result<(), AllocError>
     ensures { OnOk result (tickets.new.items ≡ tickets.old.items ++ filter_map given_by (entry.now ∷ [])) }
 {
     if let Some(ticket) = ticket_given(entry) {
@@ -62,9 +62,9 @@ fn note_ticket(tickets: &mut Vec<Ticket>, entry: &Record) -> Result<(), AllocErr
     Ok(())
 }
 
-// The event that the action asks for.
+/// The event that the action asks for, or the refusal of its word. The tickets stand at the places of their names.
 #[inline(always)]
-fn event_for(tickets: &[Ticket], action: Action) -> Result<Event, Fault>
+pub fn event_for(tickets: &[Ticket], action: Action) -> Result<Event, Fault>
     ensures { (before : _) → IsTable (slice_get tickets.now) before → result ≡ event_of before action }
 {
     match action {
@@ -82,9 +82,9 @@ fn event_for(tickets: &[Ticket], action: Action) -> Result<Event, Fault>
     }
 }
 
-// Asks the device for what the action says.
+/// Asks the device for what the action says.
 #[inline(always)]
-fn ask<S: EntryStore>(device: &mut Device<S>, tickets: &[Ticket], action: Action) -> Record
+pub fn ask<S: EntryStore>(device: &mut Device<S>, tickets: &[Ticket], action: Action) -> Record
     ensures answers { (before : _) → IsTable (slice_get tickets.now) before → answered_by result ≡ event_of before action }
     ensures leads { Leads device.old result device.new }
 {

@@ -17,25 +17,16 @@ use crate::document::{Head, check_head, parse_actions, parse_head, parse_json};
 use crate::faults::ScenarioFault;
 use crate::lines::add_rows;
 use crate::metered::MeteredReader;
-use crate::reading::{MAX_READS, read_document};
+use crate::reading::MAX_READS;
+use crate::rendering::{Render, Rendering, render_input, render_metered};
 use crate::run::run_action;
 use crate::watched::WatchedWriter;
-use crate::writing::write_text;
 use dsa_cells::LinkedStore;
 use dsa_device::Device;
 use dsa_regs::{cell_count, list_count};
 use dsa_store::EntryStore;
-use serde_json::Value;
 use std::alloc::Global;
 use std::io::{Read, Write};
-
-// The lines of a document, and its JSON value, which is let go after them: where a large block comes back, an allocator
-// looks at all small ones that are free, and the value is of many.
-#[derive(Drop)]
-struct Rendering {
-    text: String,
-    _document: Value,
-}
 
 // The lines of a run of the step objects on a new device over this store. Each is run as soon as it is read.
 fn run_steps<S: EntryStore>(
@@ -69,7 +60,7 @@ fn run_steps<S: EntryStore>(
 //
 // A step object that is none comes before a fault of the device, so all of them are read before that is told.
 fn render(alloc: Global, bytes: &[u8]) -> Result<Rendering, ScenarioFault>
-    ensures ok { IfOk result (λ r. IsRenderingOf bytes.now (string_bytes r.text)) }
+    ensures ok { IfOk result (λ r. (r.fault ≡ None) × IsRenderingOf bytes.now (string_bytes r.text)) }
     ensures err { IfErr result (λ e. (e ≡ ScenarioFault.OutOfMemory) ⊎ IsFaultOf bytes.now e) }
 {
     let value = parse_json(alloc, bytes)?;
@@ -85,8 +76,21 @@ fn render(alloc: Global, bytes: &[u8]) -> Result<Rendering, ScenarioFault>
     let text = run_steps(alloc, store, &head)?;
     Ok(Rendering {
         text,
-        _document: value,
+        fault: None,
+        document: Some(value),
     })
+}
+
+/// The lines of a document's run, as a way to make a text of it.
+#[derive(Clone, Copy, Debug, PartialEq, Eq)]
+pub struct PlainRun;
+
+impl Render for PlainRun {
+    ghost is_rendering = { λ plain bytes fault text. (fault ≡ None) × IsRenderingOf bytes text };
+
+    fn render(&self, alloc: Global, bytes: &[u8]) -> Result<Rendering, ScenarioFault> {
+        render(alloc, bytes)
+    }
 }
 
 /// The lines of the document in these bytes.
@@ -146,15 +150,13 @@ pub fn run_metered<R: Read, W: Write>(
     ensures well { OnOk result (has_failed reader.new ≡ has_failed reader.old) }
     ensures other { IfErr result (λ e. e ≢ ScenarioFault.Read → has_failed reader.new ≡ has_failed reader.old) }
 {
-    let bytes = read_document(alloc, reader)?;
-    let rendering = render(alloc, &bytes)?;
-    write_text(writer, rendering.text.as_bytes())
+    render_metered(alloc, &PlainRun, reader, writer)?;
+    Ok(())
 }
 
 /// Reads one document to the end of input, runs it and writes its lines.
 ///
-/// All of it is the work of [`run_metered`], which is lent the reader with a budget of [`MAX_READS`], and the writer as one
-/// that is watched.
+/// All of it is the work of [`render_input`].
 pub fn run_scenario<R: Read, W: Write>(
     alloc: Global,
     reader: &mut R,
@@ -184,7 +186,6 @@ pub fn run_scenario<R: Read, W: Write>(
     ensures read { IsErrOf result ScenarioFault.Read → (bytes : List ℕ)
         × Consumes (R.remaining reader.old) (R.remaining reader.new) bytes × (length bytes ≤ 2 ^ 20) }
 {
-    let mut reader = MeteredReader::new(reader, MAX_READS);
-    let mut writer = WatchedWriter::new(writer);
-    run_metered(alloc, &mut reader, &mut writer)
+    render_input(alloc, &PlainRun, reader, writer)?;
+    Ok(())
 }

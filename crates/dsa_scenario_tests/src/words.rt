@@ -82,9 +82,12 @@ fn totals_in(text: &str) -> Option<Totals> {
 
 #[test]
 fn refused_words(rt: HostRuntime) -> Result<(), Fail> {
-    let refused: [&[&str]; 14] = [
+    let refused: [&[&str]; 17] = [
         &["fly"],
-        &["--version"],
+        &["--json"],
+        &["check", "extra"],
+        &["draw", "--json"],
+        &["trace", "--clients", "1"],
         &["threads", "extra"],
         &["threads", "--fly", "1"],
         &["threads", "--clients"],
@@ -109,9 +112,11 @@ fn refused_words(rt: HostRuntime) -> Result<(), Fail> {
 
 #[test]
 fn help(rt: HostRuntime) -> Result<(), Fail> {
-    let asked: [&[&str]; 4] = [
+    let asked: [&[&str]; 6] = [
         &["--help"],
         &["help"],
+        &["check", "--help"],
+        &["help", "trace"],
         &["threads", "--help"],
         &["help", "threads"],
     ];
@@ -120,6 +125,17 @@ fn help(rt: HostRuntime) -> Result<(), Fail> {
         assert_eq!(rt; answer.status, 0);
         assert!(rt; answer.out.contains("Usage: dsa_run"));
         assert!(rt; answer.out.contains("Exit status: 0"));
+        assert_eq!(rt; answer.err.as_str(), "");
+    }
+    Ok(())
+}
+
+#[test]
+fn version(rt: HostRuntime) -> Result<(), Fail> {
+    for word in ["--version", "-V"] {
+        let answer = run(&rt, rt.alloc(), &[word])?;
+        assert_eq!(rt; answer.status, 0);
+        assert_eq!(rt; answer.out.as_str(), "dsa_run 1\n");
         assert_eq!(rt; answer.err.as_str(), "");
     }
     Ok(())

@@ -1,3 +1,4 @@
+pub mod Reports
 pub mod Threads
 pub mod Words
 pub mod Worked

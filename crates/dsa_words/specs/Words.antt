@@ -1,13 +1,20 @@
 -- The words of the command line, by clap's own definitions of what words say.
-use Rattle.std.specs.Prelude.{◌≡◌, ◌≢◌, ◌<◌, ◌≤◌, ℕ, pos, true, List, [], ◌∷◌, length, take, codes, Option, Some}
+use Rattle.dsa_words.specs.declared.reports.Report.TheVariants as report
+use Rattle.dsa_words.specs.declared.options.Asked.TheVariants as asked
+use Rattle.std.specs.Prelude.{◌≡◌, ◌≢◌, ◌⊎◌, ◌<◌, ◌≤◌, ℕ, pos, true, List, [], ◌∷◌, length, take, codes, Option, Some}
 use Rattle.std.specs.Prelude.{option_map}
 use Rattle.std.specs.Io.KnownBytes.{Appends}
 use Rattle.std.specs.Str.Parse.{IsNumeral, digits_value, without_leading_plus}
+use Rattle.clap.specs.declared.builder.action.ArgAction.TheVariants.{SetTrue}
 use Rattle.clap.specs.declared.builder.value_parser.ValueParser.TheVariants.{Signed}
 use Rattle.clap.specs.declared.error.kind.ErrorKind.{ErrorKind, TheVariants.{DisplayHelp, DisplayVersion}}
 use Rattle.clap.specs.{Walk.{Row, Rule, Text, one_of}, Faults.{fault_of}, Kinds.{Kinds, IsAmong}}
 use Rattle.clap.specs.Simple.{App, new_app, new_rule, on_top, subcommand_of, with_rule, with_subcommand}
 use Rattle.dsa_shared.specs.declared.settle.Totals.{Totals}
+use Rattle.dsa_scenario.specs.declared.faults.ScenarioFault.{ScenarioFault}
+use Rattle.dsa_trace.specs.declared.form.Trace.{Trace, TheVariants.{Table, Json}}
+use Rattle.dsa_words.specs.Reports.{IsReported, IsReportCutShort}
+use Rattle.dsa_words.specs.declared.reports.Report.{Report}
 use Rattle.dsa_words.specs.Threads.{IsInRange, AreTotalsOf, totals_text}
 use Rattle.dsa_words.specs.declared.options.{Workload.{Workload}, Asked.{Asked, TheVariants.{Scenario, Threads}}}
 
@@ -29,10 +36,23 @@ threads_app =
     (number_rule (codes "each") 1_000 (codes "100")))
     (number_rule (codes "turns") 40_000 (codes "10000"))
 
--- the program, whose one command is `threads`, by the words after its name (profile)
+-- the option `--name`, which has no value
+abbrev pub flag_rule : Text → Rule
+flag_rule name = record (new_rule name) { long = Some name; action = Some SetTrue }
+
+-- `trace`, with its option (profile)
+abbrev pub trace_app : App
+trace_app = with_rule (new_app (codes "trace")) (flag_rule (codes "json"))
+
+-- the program, by the words after its name; it has a version (profile)
+abbrev pub top_app : App
+top_app = on_top (λ top. record top { no_binary_name = true; has_version = true }) (new_app (codes "dsa_run"))
+
+-- the program with its commands (profile)
 abbrev pub program_app : App
-program_app =
-    with_subcommand (on_top (λ top. record top { no_binary_name = true }) (new_app (codes "dsa_run"))) threads_app.top
+program_app = with_subcommand (with_subcommand (with_subcommand (with_subcommand (with_subcommand top_app
+    (new_app (codes "check")).top) (new_app (codes "explain")).top) trace_app.top) (new_app (codes "draw")).top)
+    threads_app.top
 
 -- what is wrong with the words, if anything; to ask for help counts too
 abbrev pub faults_of : List Text → Kinds
@@ -70,7 +90,52 @@ AreTotalsCutShort rows old new = (load : Workload) × (totals : Totals) × (coun
     × IsInRange load × AreTotalsOf load totals × (count < length (totals_text totals))
     × Appends old new (take count (totals_text totals))
 
--- what the words ask for: workers where they name the command `threads`, and else a scenario
+-- ---- reports
+
+-- the form of a trace is the one that the option `--json` asks for
+pub record IsFormOf (rows : List Row) (form : Trace) : Type 0 where
+  pub json : one_of (codes "json") rows ≡ Some (codes "true") → form ≡ Json
+  pub table : one_of (codes "json") rows ≡ Some (codes "false") → form ≡ Table
+
+-- the command with these matches asks for the report (profile)
+abbrev pub IsAskedBy : Text × List Row → Report → Type 0
+IsAskedBy found report.Check = found.0 ≡ codes "check"
+IsAskedBy found report.Explain = found.0 ≡ codes "explain"
+IsAskedBy found (report.Trace form) = (found.0 ≡ codes "trace") × IsFormOf found.1 form
+IsAskedBy found report.Draw = found.0 ≡ codes "draw"
+
+-- the command is one that asks for a report
+abbrev pub IsReportName : Text → Type 0
+IsReportName name =
+    (name ≡ codes "check") ⊎ (name ≡ codes "explain") ⊎ (name ≡ codes "trace") ⊎ (name ≡ codes "draw")
+
+-- the words name a command that asks for a report, with these matches, and nothing is wrong with them
+abbrev pub NameReport : List Text → Text × List Row → Type 0
+NameReport words found =
+    (faults_of words ≡ []) × (subcommand_of program_app words ≡ Some found) × IsReportName found.0
+
+-- all of the report that the command asks for was written; then this fault is told
+abbrev pub IsReportWritten : Text × List Row → Option ScenarioFault → Option (List ℕ) → Option (List ℕ)
+    → Option (List ℕ) → Option (List ℕ) → Type 0
+IsReportWritten found fault had left held holds =
+    (report : Report) × IsAskedBy found report × IsReported report fault had left held holds
+
+-- only the first bytes of it were written
+abbrev pub IsReportCut : Text × List Row → Option (List ℕ) → Option (List ℕ) → Option (List ℕ) → Option (List ℕ)
+    → Type 0
+IsReportCut found had left held holds =
+    (report : Report) × IsAskedBy found report × IsReportCutShort report had left held holds
+
+-- ---- what is asked
+
+-- the command that the words name
+abbrev pub command_in : List Text → Option Text
+command_in words = option_map (λ found. found.0) (subcommand_of program_app words)
+
+-- what the words ask for: workers, a report, or else a scenario
 abbrev pub AsksFor : List Text → Asked → Type 0
-AsksFor words Scenario = option_map (λ found. found.0) (subcommand_of program_app words) ≢ Some (codes "threads")
+AsksFor words Scenario = (command_in words ≢ Some (codes "check")) × (command_in words ≢ Some (codes "explain"))
+    × (command_in words ≢ Some (codes "trace")) × (command_in words ≢ Some (codes "draw"))
+    × (command_in words ≢ Some (codes "threads"))
+AsksFor words (asked.Report report) = (found : Text × List Row) × NameReport words found × IsAskedBy found report
 AsksFor words (Threads load) = (rows : List Row) × NameThreads words rows × AreNumbersOf rows load

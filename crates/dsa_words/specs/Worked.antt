@@ -16,9 +16,9 @@ load clients engines each turns = record { clients = clients; engines = engines;
 abbrev pub threads_with : Text → Text → List Text
 threads_with option value = codes "threads" ∷ option ∷ value ∷ []
 
--- the command that the words name
-abbrev pub command_in : List Text → Option Text
-command_in words = option_map (λ found. found.0) (subcommand_of program_app words)
+-- the command `trace` with its option
+abbrev pub json_trace : List Text
+json_trace = codes "trace" ∷ codes "--json" ∷ []
 
 -- the text that the option has by these words
 abbrev pub value_in : List Text → Text → Option Text

@@ -5,12 +5,14 @@
 #![tactic(auto)]
 
 mod options;
+mod reports;
 pub mod rows;
 mod threads;
 mod totals;
 mod words;
 
 pub use options::{Asked, Workload, read_words};
+pub use reports::Report;
 pub use threads::{ThreadsFault, run_workload};
 pub use totals::render_totals;
 pub use words::{answer_words, run_words, tell};

@@ -1,12 +1,16 @@
 //! The words of the command line, read with `clap`.
 
-ghost use Rattle.std.specs.Prelude.{◌≡◌, ◌≤◌, false, IfOk, map, string_bytes};
-ghost use Rattle.clap.specs.Words.{app_of, rule_of, found_of, rows_of, FailsBy};
+ghost use Rattle.std.specs.Prelude.{◌≡◌, ◌≢◌, ◌≤◌, true, false, List, Some, IfOk, codes, map, option_map, string_bytes};
+ghost use Rattle.clap.specs.Words.{Row, app_of, rule_of, found_of, rows_of, FailsBy};
+ghost use Rattle.clap.specs.Simple.{new_app, subcommand_rows_of};
 ghost use Rattle.clap.specs.declared.builder.command.Command.TheViews.{out-Command as fields_of};
-ghost use Rattle.dsa_words.specs.Threads.{IsAskedInRange};
-ghost use Rattle.dsa_words.specs.Words.{number_rule, threads_app, program_app, IsNumberOf, AsksFor, faults_of};
+ghost use Rattle.dsa_words.specs.Threads.{IsInRange, IsAskedInRange};
+ghost use Rattle.dsa_words.specs.Words.{number_rule, flag_rule, threads_app, trace_app, top_app, program_app, IsNumberOf, AreNumbersOf, IsFormOf, AsksFor, faults_of};
 
-use clap::{Arg, ArgMatches, Command, Error, value_parser};
+use crate::reports::Report;
+use clap::{Arg, ArgAction, ArgMatches, Command, Error, value_parser};
+use dsa_release::version_text;
+use dsa_trace::Trace;
 use std::alloc::{AllocError, Global};
 
 /// How many workers run in threads, and how long.
@@ -27,6 +31,8 @@ pub struct Workload {
 pub enum Asked {
     /// A scenario from standard input.
     Scenario,
+    /// A report on the scenario from standard input.
+    Report(Report),
     /// Workers in threads.
     Threads(Workload),
 }
@@ -43,6 +49,36 @@ const SCENARIO_HELP: &str = "\
 Without a command: reads one scenario, a JSON document, from standard input, runs its
 steps on a model of a device, and writes a line for each step and for each descriptor
 that ended.
+
+Exit status: 0 done, 1 a fault (its line goes to standard error), 2 these words are not
+understood.";
+
+const TRACE_HELP: &str = "\
+Reads one scenario, a JSON document, from standard input, runs its steps on a model of a
+device, and writes a line for each step: its number, what was asked, what was answered,
+and what the device shows after it. Then come the descriptors that are still held.
+
+Exit status: 0 done, 1 a fault (its line goes to standard error), 2 these words are not
+understood.";
+
+const CHECK_HELP: &str = "\
+Reads one scenario, a JSON document, from standard input, and writes a line for each
+fault of it, with its place; no step is run. The fault that a run would tell goes to
+standard error.
+
+Exit status: 0 no fault, 1 a fault, 2 these words are not understood.";
+
+const EXPLAIN_HELP: &str = "\
+Reads one scenario, a JSON document, from standard input, runs its steps on a model of a
+device, and writes a line for each step: its number, what was asked, what was answered,
+and why, where that was not the plain success.
+
+Exit status: 0 done, 1 a fault (its line goes to standard error), 2 these words are not
+understood.";
+
+const DRAW_HELP: &str = "\
+Reads one scenario, a JSON document, from standard input, runs its steps on a model of a
+device, and writes a drawing of the run, as SVG.
 
 Exit status: 0 done, 1 a fault (its line goes to standard error), 2 these words are not
 understood.";
@@ -114,14 +150,87 @@ fn threads_command<'a>(alloc: Global) -> Result<Command<'a>, AllocError>
         ))
 }
 
+// An option that takes no value.
+fn flag<'a>(alloc: Global, name: &'a str, help: &'a str) -> Arg<'a>
+    ensures rule { rule_of result ≡ flag_rule name.entry.now }
+    ensures local { result.global ≡ false }
+{
+    Arg::new(alloc, name)
+        .long(name)
+        .action(ArgAction::SetTrue)
+        .help(help)
+}
+
+fn trace_command<'a>(alloc: Global) -> Result<Command<'a>, AllocError>
+    ensures app { IfOk result (λ c. app_of c ≡ trace_app) }
+    ensures local { IfOk result (λ c. (fields_of c).has_globals ≡ false) }
+{
+    Command::new(alloc, "trace")
+        .about("Runs a scenario, and writes what the device shows after each step")
+        .after_help(TRACE_HELP)
+        .arg(flag(alloc, "json", "Write a JSON object in each line"))
+}
+
+// A command that takes no options.
+fn plain_command<'a>(
+    alloc: Global,
+    name: &'a str,
+    about: &'a str,
+    after_help: &'a str,
+) -> Command<'a>
+    ensures app { app_of result ≡ new_app name.entry.now }
+    ensures local { (fields_of result).has_globals ≡ false }
+{
+    Command::new(alloc, name)
+        .about(about)
+        .after_help(after_help)
+}
+
+fn check_command<'a>(alloc: Global) -> Command<'a>
+    ensures app { app_of result ≡ new_app (codes "check") }
+    ensures local { (fields_of result).has_globals ≡ false }
+{
+    let about = "Judges a scenario without running it, and writes each fault with its place";
+    plain_command(alloc, "check", about, CHECK_HELP)
+}
+
+fn explain_command<'a>(alloc: Global) -> Command<'a>
+    ensures app { app_of result ≡ new_app (codes "explain") }
+    ensures local { (fields_of result).has_globals ≡ false }
+{
+    let about = "Runs a scenario, and writes why each step was answered as it was";
+    plain_command(alloc, "explain", about, EXPLAIN_HELP)
+}
+
+fn draw_command<'a>(alloc: Global) -> Command<'a>
+    ensures app { app_of result ≡ new_app (codes "draw") }
+    ensures local { (fields_of result).has_globals ≡ false }
+{
+    let about = "Runs a scenario, and writes a drawing of the run";
+    plain_command(alloc, "draw", about, DRAW_HELP)
+}
+
+// The program without its commands.
+fn top_command<'a>(alloc: Global) -> Result<Command<'a>, AllocError>
+    ensures { IfOk result (λ c. app_of c ≡ top_app) }
+{
+    let command = Command::new(alloc, "dsa_run")
+        .about("Runs a model of the shared part of an Intel Data Streaming Accelerator")
+        .after_help(SCENARIO_HELP)
+        .version(version_text())
+        .bin_name("dsa_run")?
+        .no_binary_name(true);
+    Ok(command)
+}
+
 fn command_line<'a>(alloc: Global) -> Result<Command<'a>, AllocError>
     ensures { IfOk result (λ c. app_of c ≡ program_app) }
 {
-    Command::new(alloc, "dsa_run")
-        .about("Runs a model of the shared part of an Intel Data Streaming Accelerator")
-        .after_help(SCENARIO_HELP)
-        .bin_name("dsa_run")?
-        .no_binary_name(true)
+    top_command(alloc)?
+        .subcommand(check_command(alloc))?
+        .subcommand(explain_command(alloc))?
+        .subcommand(trace_command(alloc)?)?
+        .subcommand(draw_command(alloc))?
         .subcommand(threads_command(alloc)?)
 }
 
@@ -134,6 +243,38 @@ fn number_of(matches: &ArgMatches<'_>, name: &str, most: u32) -> u32
     matches.get_one::<u32>(name).unwrap_or(1).clamp(1, most)
 }
 
+// The numbers of the options of `threads`.
+fn workload_of(given: &ArgMatches<'_>) -> Workload
+    ensures range { IsInRange result }
+    ensures numbers { AreNumbersOf (rows_of (found_of given.now)) result }
+{
+    Workload {
+        clients: number_of(given, "clients", MOST_CLIENTS) as u16,
+        engines: number_of(given, "engines", MOST_ENGINES) as u16,
+        each: number_of(given, "each", MOST_EACH),
+        turns: number_of(given, "turns", MOST_TURNS),
+    }
+}
+
+// The form that the option of `trace` asks for.
+fn form_of(given: &ArgMatches<'_>) -> Trace
+    ensures { IsFormOf (rows_of (found_of given.now)) result }
+{
+    if given.get_flag("json") {
+        Trace::Json
+    } else {
+        Trace::Table
+    }
+}
+
+// Whether the words name this command.
+fn is_named(matches: &ArgMatches<'_>, name: &str) -> bool
+    ensures named { result ≡ true → (rows : List Row) × (subcommand_rows_of matches.now ≡ Some (name.now, rows)) }
+    ensures other { result ≡ false → option_map (λ found. found.0) (subcommand_rows_of matches.now) ≢ Some name.now }
+{
+    matches.subcommand_matches(name).is_some()
+}
+
 /// What the words ask for, or what `clap` has to say.
 pub fn read_words<'a>(alloc: Global, words: &'a [String]) -> Result<Asked, Error>
     ensures range { IfOk result (λ asked. IsAskedInRange asked) }
@@ -141,13 +282,20 @@ pub fn read_words<'a>(alloc: Global, words: &'a [String]) -> Result<Asked, Error
     ensures faults { FailsBy (faults_of (map string_bytes words.now)) result }
 {
     let matches = command_line(alloc)?.try_get_matches_from(words)?;
-    match matches.subcommand_matches("threads") {
-        Some(given) => Ok(Asked::Threads(Workload {
-            clients: number_of(given, "clients", MOST_CLIENTS) as u16,
-            engines: number_of(given, "engines", MOST_ENGINES) as u16,
-            each: number_of(given, "each", MOST_EACH),
-            turns: number_of(given, "turns", MOST_TURNS),
-        })),
-        None => Ok(Asked::Scenario),
+    if let Some(given) = matches.subcommand_matches("threads") {
+        return Ok(Asked::Threads(workload_of(given)));
     }
+    if let Some(given) = matches.subcommand_matches("trace") {
+        return Ok(Asked::Report(Report::Trace(form_of(given))));
+    }
+    if is_named(&matches, "check") {
+        return Ok(Asked::Report(Report::Check));
+    }
+    if is_named(&matches, "explain") {
+        return Ok(Asked::Report(Report::Explain));
+    }
+    if is_named(&matches, "draw") {
+        return Ok(Asked::Report(Report::Draw));
+    }
+    Ok(Asked::Scenario)
 }

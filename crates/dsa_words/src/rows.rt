@@ -6,11 +6,13 @@ ghost use Rattle.dsa_regs.specs.declared.Command.TheVariants.{EnableDevice, Enab
 ghost use Rattle.dsa_book.specs.declared.event.Event.TheVariants.{Submit, Issue, WriteQueue, WriteGroup};
 ghost use Rattle.dsa_book.specs.declared.event.Kind.TheVariants.{Enqcmd};
 ghost use Rattle.dsa_book.specs.declared.event.Portal.TheVariants.{Limited};
-ghost use Rattle.dsa_words.specs.declared.options.Asked.TheVariants.{Scenario, Threads};
-ghost use Rattle.clap.specs.declared.error.kind.ErrorKind.TheVariants.{UnknownArgument, InvalidSubcommand, ValueValidation, DisplayHelp};
+ghost use Rattle.dsa_words.specs.declared.options.Asked.TheVariants.{Scenario, Report, Threads};
+ghost use Rattle.clap.specs.declared.error.kind.ErrorKind.TheVariants.{UnknownArgument, InvalidSubcommand, ValueValidation, DisplayHelp, DisplayVersion};
+ghost use Rattle.dsa_words.specs.declared.reports.Report.TheVariants.{Check, Explain, Trace, Draw};
+ghost use Rattle.dsa_trace.specs.declared.form.Trace.TheVariants.{Table, Json};
 ghost use Rattle.dsa_words.specs.Threads.{AreTotalsOf, IsInRange, Submits, caps_for, capacity_for, engine_script, group_config, move, queue_config, setup_events, submission_of, totals_text};
-ghost use Rattle.dsa_words.specs.Words.{AsksFor, IsMistaken, faults_of};
-ghost use Rattle.dsa_words.specs.Worked.{move_bytes, load, threads_with, value_in, command_in};
+ghost use Rattle.dsa_words.specs.Words.{AsksFor, IsMistaken, command_in, faults_of};
+ghost use Rattle.dsa_words.specs.Worked.{move_bytes, load, threads_with, value_in, json_trace};
 
 /// What the words may be: none, or the command `threads` with its options.
 #[tactic(auto, unfolding(clap::proofs::OnLiterals::clap_on_literals))]
@@ -19,11 +21,24 @@ pub fn words_understood()
     ensures scenario { command_in [] ≡ None }
     ensures threads { faults_of (codes "threads" ∷ []) ≡ [] }
     ensures workers { command_in (codes "threads" ∷ []) ≡ Some (codes "threads") }
+    ensures trace { faults_of (codes "trace" ∷ []) ≡ [] }
+    ensures traces { command_in (codes "trace" ∷ []) ≡ Some (codes "trace") }
+    ensures json_trace { faults_of json_trace ≡ [] }
+    ensures json_alone { faults_of (codes "--json" ∷ []) ≡ UnknownArgument ∷ [] }
+    ensures check { faults_of (codes "check" ∷ []) ≡ [] }
+    ensures checks { command_in (codes "check" ∷ []) ≡ Some (codes "check") }
+    ensures explain { faults_of (codes "explain" ∷ []) ≡ [] }
+    ensures explains { command_in (codes "explain" ∷ []) ≡ Some (codes "explain") }
+    ensures draw { faults_of (codes "draw" ∷ []) ≡ [] }
+    ensures drawing { command_in (codes "draw" ∷ []) ≡ Some (codes "draw") }
+    ensures draw_with_option { faults_of (codes "draw" ∷ codes "--clients" ∷ codes "2" ∷ []) ≡ UnknownArgument ∷ [] }
     ensures other_word { faults_of (codes "scenario" ∷ []) ≡ UnknownArgument ∷ InvalidSubcommand ∷ [] }
     ensures option_alone { faults_of (codes "--clients" ∷ codes "2" ∷ []) ≡ UnknownArgument ∷ [] }
     ensures other_option { faults_of (threads_with (codes "--queues") (codes "2")) ≡ UnknownArgument ∷ [] }
     ensures help { faults_of (codes "--help" ∷ []) ≡ DisplayHelp ∷ [] }
-    ensures version { faults_of (codes "--version" ∷ []) ≡ UnknownArgument ∷ [] }
+    ensures version { faults_of (codes "--version" ∷ []) ≡ DisplayVersion ∷ [] }
+    ensures short_version { faults_of (codes "-V" ∷ []) ≡ DisplayVersion ∷ [] }
+    ensures version_of_threads { faults_of (codes "threads" ∷ codes "--version" ∷ []) ≡ UnknownArgument ∷ [] }
 {}
 
 /// The numbers of the options, where they are not given and where they are.
@@ -102,6 +117,12 @@ pub fn asked()
     ensures scenario { AsksFor [] Scenario }
     ensures no_scenario { ¬ AsksFor (codes "threads" ∷ []) Scenario }
     ensures threads { AsksFor (threads_with (codes "--engines") (codes "3")) (Threads (load 2 3 100 10_000)) }
+    ensures trace { AsksFor (codes "trace" ∷ []) (Report (Trace Table)) }
+    ensures json { AsksFor json_trace (Report (Trace Json)) }
+    ensures check { AsksFor (codes "check" ∷ []) (Report Check) }
+    ensures explain { AsksFor (codes "explain" ∷ []) (Report Explain) }
+    ensures draw { AsksFor (codes "draw" ∷ []) (Report Draw) }
+    ensures draw_is_no_scenario { ¬ AsksFor (codes "draw" ∷ []) Scenario }
     ensures mistaken { IsMistaken (codes "scenario" ∷ []) }
     ensures help { ¬ IsMistaken (codes "--help" ∷ []) }
     ensures none { ¬ IsMistaken [] }

@@ -5,6 +5,7 @@ ghost use Rattle.std.specs.Io.KnownBytes.{Appends};
 ghost use Rattle.dsa_shared.specs.declared.settle.Totals.{Totals};
 ghost use Rattle.dsa_shared.specs.Seat.{AllFresh};
 ghost use Rattle.dsa_device.specs.Running.{running_at_first};
+ghost use Rattle.dsa_scenario.specs.Watched.{watched_contents, IsSameWriter};
 ghost use Rattle.dsa_words.specs.Threads.{IsInRange, AreTotalsOf, AreScriptsOf, HaveWorked, IsClientScript, Submits, Follows, caps_for, capacity_for, setup_events, engine_script, totals_text};
 
 use crate::options::Workload;
@@ -228,17 +229,18 @@ pub fn run_workload<R: Threads + Wait + Sync, W: Write>(
     rt: &R,
     alloc: Global,
     load: &Workload,
-    writer: &mut W,
+    writer: &mut WatchedWriter<'_, W>,
 ) -> Result<(), ThreadsFault>
     requires { IsInRange load.now }
+    ensures same_writer { IsSameWriter writer.old writer.new }
     ensures ok { OnOk result ((totals : Totals) × AreTotalsOf load.now totals
-        × Appends (W.contents writer.old) (W.contents writer.new) (totals_text totals)) }
+        × Appends (watched_contents W.contents writer.old) (watched_contents W.contents writer.new) (totals_text totals)) }
     ensures nothing { IfErr result (λ e. e ≢ ThreadsFault.Write → writer.new ≡ writer.old) }
     ensures prefix { IsErrOf result ThreadsFault.Write → (totals : Totals) × (count : ℕ) × AreTotalsOf load.now totals
         × (count < length (totals_text totals))
-        × Appends (W.contents writer.old) (W.contents writer.new) (take count (totals_text totals)) }
+        × Appends (watched_contents W.contents writer.old) (watched_contents W.contents writer.new)
+        (take count (totals_text totals)) }
 {
-    let mut writer = WatchedWriter::new(writer);
     let caps = caps_for(load.engines);
     let store = LinkedStore::new(alloc, list_count(&caps), cell_count(&caps))?;
     let Ok(device) = Device::new(alloc, store, caps, capacity_for(load)) else {
@@ -246,7 +248,7 @@ pub fn run_workload<R: Threads + Wait + Sync, W: Write>(
     };
     let totals = run_shared::<LinkedStore, Brand, R>(rt, alloc, device, Blanks::new(), load)?;
     let text = render_totals(alloc, &totals)?;
-    match write_text(&mut writer, text.as_bytes()) {
+    match write_text(writer, text.as_bytes()) {
         Ok(()) => Ok(()),
         Err(_) => Err(ThreadsFault::Write),
     }

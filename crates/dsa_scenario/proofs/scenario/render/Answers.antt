@@ -1,5 +1,5 @@
 use Rattle.dsa_scenario.proofs.scenario.render.Goals as goal
-use Rattle.std.proofs.lemmas.Result.{err_from_is_err_and}
+use Rattle.std.proofs.{Common.{refl}, lemmas.Result.{err_from_is_err_and}}
 use Rattle.dsa_device.proofs.NewStore.{new-make_fault}
 use Rattle.dsa_scenario.proofs.Whole.{has_head, first_bad, bad_head}
 
@@ -27,16 +27,19 @@ returns-in_err-text-clause-err c =
     c.in_err-text.ensures.bad)
 
 pub returns-clause-ok : goal.returns-clause-ok
-returns-clause-ok c = record {
-  caps = _;
-  capacity = _;
-  actions = c.in_ok-text.ensures.ok.0;
-  document = record {
-    steps = _;
-    head = has_head _ _ _ _ _ c.in_ok-value.ensures.ok c.in-Some.ensures;
-    asked = c.in_ok-text.ensures.ok.1;
-  };
-  good = c.in_default-check_head.ensures.caps;
-  small = c.in_default-check_head.ensures.capacity;
-  lines_of_run = c.in_ok-text.ensures.ok.2;
-}
+returns-clause-ok c = (
+  refl,
+  record {
+    caps = _;
+    capacity = _;
+    actions = c.in_ok-text.ensures.ok.0;
+    document = record {
+      steps = _;
+      head = has_head _ _ _ _ _ c.in_ok-value.ensures.ok c.in-Some.ensures;
+      asked = c.in_ok-text.ensures.ok.1;
+    };
+    good = c.in_default-check_head.ensures.caps;
+    small = c.in_default-check_head.ensures.capacity;
+    lines_of_run = c.in_ok-text.ensures.ok.2;
+  },
+)

@@ -10,11 +10,11 @@ number_in o = digits_value 10 (without_leading_plus (unwrap_or o []))
 
 pub returns-clause-scenario : goal.returns-clause-scenario
 unfolding clap_on_literals
-returns-clause-scenario c same = cc
+returns-clause-scenario c = (λ same. cc, λ same. cc, λ same. cc, λ same. cc, λ same. cc)
 
 pub returns-clause-no_scenario : goal.returns-clause-no_scenario
 unfolding clap_on_literals
-returns-clause-no_scenario c other = other refl
+returns-clause-no_scenario c other = other.4 refl
 
 pub returns-clause-threads : goal.returns-clause-threads
 unfolding clap_on_literals
@@ -28,6 +28,30 @@ returns-clause-threads c = (
     turns = λ text has numeral least most. ap number_in has;
   },
 )
+
+pub returns-clause-check : goal.returns-clause-check
+unfolding clap_on_literals
+returns-clause-check c = (_, (refl, refl, inl refl), refl)
+
+pub returns-clause-explain : goal.returns-clause-explain
+unfolding clap_on_literals
+returns-clause-explain c = (_, (refl, refl, inr (inl refl)), refl)
+
+pub returns-clause-draw : goal.returns-clause-draw
+unfolding clap_on_literals
+returns-clause-draw c = (_, (refl, refl, inr (inr (inr refl))), refl)
+
+pub returns-clause-draw_is_no_scenario : goal.returns-clause-draw_is_no_scenario
+unfolding clap_on_literals
+returns-clause-draw_is_no_scenario c other = other.3 refl
+
+pub returns-clause-trace : goal.returns-clause-trace
+unfolding clap_on_literals
+returns-clause-trace c = (_, (refl, refl, inr (inr (inl refl))), (refl, record { json = λ has. absurd cc; table = λ has. refl }))
+
+pub returns-clause-json : goal.returns-clause-json
+unfolding clap_on_literals
+returns-clause-json c = (_, (refl, refl, inr (inr (inl refl))), (refl, record { json = λ has. refl; table = λ has. absurd cc }))
 
 pub returns-clause-mistaken : goal.returns-clause-mistaken
 unfolding clap_on_literals

@@ -1,6 +1,9 @@
 use Rattle.dsa_words.proofs.words.answer_words.Goals as goal
-use Rattle.std.proofs.Common.{inl, inr, rules}
-use Rattle.clap.specs.Values.{kind_of}
+use Rattle.dsa_words.specs.declared.options.Asked.TheVariants as asked
+use Rattle.std.proofs.Common.{◌≡◌, inl, inr, rules, subst, map, string_bytes}
+use Rattle.clap.specs.{Values.{kind_of}, Kinds.{IsAmong}}
+use Rattle.dsa_scenario.specs.declared.faults.ScenarioFault.TheVariants.{OutOfMemory}
+use Rattle.dsa_words.{specs.Words.{AsksFor, IsAskedBy}, proofs.ReportCommands.{same_found}}
 
 pub returns-in-Err-clause-mistake : goal.returns-in-Err-clause-mistake
 returns-in-Err-clause-mistake g c two =
@@ -25,3 +28,28 @@ pub returns-in-Ok-Threads-clause-threads_failed : goal.returns-in-Ok-Threads-cla
 returns-in-Ok-Threads-clause-threads_failed g c one rows named =
     let failed = c.run_workers.ensures.failed one in
     search (rules, failed, named)
+
+pub returns-in-Ok-Report-clause-reports_failed : goal.returns-in-Ok-Report-clause-reports_failed
+returns-in-Ok-Report-clause-reports_failed g c one found named =
+    let told_of : AsksFor (map string_bytes c.args.words.now) (asked.Report c.in-Ok-Report.report) =
+    subst (λ a. AsksFor (map string_bytes c.args.words.now) a) c.in-Ok-Report.field-0-is c.in-Ok-Report.ensures.asked in
+    let same : told_of.0 ≡ found = same_found _ _ _ told_of.1 named in
+    let by : IsAskedBy found c.in-Ok-Report.report =
+    subst (λ f. IsAskedBy f c.in-Ok-Report.report) same told_of.2 in
+    let told = c.report_input.ensures.failed one in (
+      told.0,
+      elim told.1 [
+        | inl all ↦ inl (c.in-Ok-Report.report, by, all)
+        | inr none ↦ inr (none.0, none.1, λ e. (c.in-Ok-Report.report, by, none.2 e))
+      ],
+      told.2,
+    )
+
+pub returns-in-Err-clause-reports_failed : goal.returns-in-Err-clause-reports_failed
+returns-in-Err-clause-reports_failed g c one found named =
+    elim c.in-Err.ensures.faults [
+      | inl memory ↦
+          let kept = c.show.ensures.memory memory in
+          (OutOfMemory, inr (tt, λ other. kept.1, λ e. absurd cc), c.show.ensures.told memory)
+      | inr among ↦ absurd (subst (λ faults. IsAmong (kind_of c.in-Err.error) faults) named.0 among)
+    ]

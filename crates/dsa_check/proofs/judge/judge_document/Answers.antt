@@ -1,0 +1,16 @@
+use Rattle.dsa_check.proofs.judge.judge_document.Goals as goal
+use Rattle.std.proofs.Common.{◌≡◌}
+use Rattle.std.proofs.lemmas.Result.{IfOk-weaker}
+use Rattle.serde_json.specs.View.{view}
+use Rattle.dsa_scenario.specs.Document.{IsJson}
+use Rattle.dsa_check.specs.Judgement.{faults_told, faults_of, IsJudged}
+use Rattle.dsa_check.proofs.Firsts.{judged}
+
+pub returns-in-Ok-clause-first : goal.returns-in-Ok-clause-first
+returns-in-Ok-clause-first c =
+    let bytes = c.args.bytes.now in
+    let document = view c.in-Ok.document in
+    let json : IsJson bytes document = record { utf8 = c.in-Ok.ensures.ok.0; value = c.in-Ok.ensures.ok.1 } in
+    IfOk-weaker c.judge_value.result (λ findings. faults_told findings.items ≡ faults_of document)
+    (λ findings. IsJudged bytes (faults_told findings.items)) (λ findings told. rw told (judged bytes document json))
+    c.judge_value.ensures

@@ -1,0 +1,8 @@
+use Rattle.dsa_check.proofs.judge.judge_items.Given as goal
+use Rattle.std.proofs.Common.{◌≡◌, ◌++◌, map, take}
+use Rattle.serde_json.specs.View.{view}
+use Rattle.dsa_check.specs.Judgement.{faults_told, bad_steps}
+
+abbrev pub invariant-loop-i : goal.invariant-loop-i
+invariant-loop-i l = faults_told l.findings.items
+    ≡ faults_told l.initial.findings.items ++ bad_steps 0 (take l.i (map view l.steps))

@@ -1,0 +1,68 @@
+//! What is told of a document.
+
+use crate::fields::{Form, Found, Key};
+use crate::kinds::StepKind;
+use crate::syntax::Syntax;
+use dsa_scenario::ScenarioFault;
+
+/// A fault of a document, with all that is known of it.
+#[derive(Drop)]
+pub struct Finding {
+    /// The fault, as a run tells it where no other comes before it.
+    pub fault: ScenarioFault,
+    pub place: Place,
+    /// What is wrong there. It may be empty.
+    pub reasons: Vec<Reason>,
+}
+
+/// Where a fault is, as far as that is known: a line and a column, counted from 1, and the kind of the step.
+#[derive(Clone, Copy)]
+pub struct Place {
+    pub line: Option<usize>,
+    pub column: Option<usize>,
+    pub kind: Option<StepKind>,
+}
+
+/// What is wrong with an object, or with a text that is no JSON.
+#[derive(Drop)]
+pub enum Reason {
+    /// The key is missing.
+    Missing {
+        key: Key,
+    },
+    /// The key is missing, and one stands there that nobody asks for and that is spelled nearly so.
+    Misspelled {
+        key: Key,
+        found: String,
+    },
+    /// What stands at the key is of another form.
+    Unfit {
+        key: Key,
+        found: Found,
+        wanted: Form,
+    },
+    /// The number of digits is odd.
+    OddDigits {
+        key: Key,
+        count: usize,
+    },
+    /// There are more than 128 digits.
+    ManyDigits {
+        key: Key,
+        count: usize,
+    },
+    /// What stands there has a character that is no hexadecimal digit.
+    NoDigit {
+        key: Key,
+    },
+    /// It is no object.
+    NoObject {
+        found: Found,
+    },
+    /// The text `do` names no kind of step; it is told where it is short and plain.
+    UnknownKind {
+        found: Option<String>,
+    },
+    /// The text is no JSON.
+    Syntax(Syntax),
+}

@@ -1,0 +1,195 @@
+//! The faults of a document.
+
+ghost use Rattle.std.specs.Prelude.{◌≡◌, ◌++◌, [], ◌∷◌, map, IfOk, OnOk};
+ghost use Rattle.serde_json.specs.View.{view};
+ghost use Rattle.dsa_scenario.specs.Actions.{action_of};
+ghost use Rattle.dsa_check.specs.Judgement.{faults_told, AreFaultsOf, IsJudged, head_faults, steps_of, caps_at, capacity_at, fault_of_step, bad_steps, caps_faults, capacity_faults, faults_of};
+
+use crate::finding::{Finding, Place, Reason};
+use crate::kinds::MAX_CAPACITY;
+use crate::places::find_steps;
+use crate::reasons::{capacity_reasons, caps_reasons, document_reasons, kind_of, step_reasons};
+use crate::syntax::{column_of, syntax_at};
+use dsa_regs::check_caps;
+use dsa_scenario::{ScenarioFault, parse_action, parse_caps, parse_head, u64_field};
+use serde_json::{Error, Value};
+use std::alloc::{AllocError, Global};
+
+const NOWHERE: Place = Place {
+    line: None,
+    column: None,
+    kind: None,
+};
+
+// A fault of the whole document.
+fn whole(fault: ScenarioFault, reasons: Vec<Reason>) -> Finding
+    ensures { result.fault ≡ fault }
+{
+    Finding {
+        fault,
+        place: NOWHERE,
+        reasons,
+    }
+}
+
+// What is wrong with bytes that are no JSON.
+fn no_json(alloc: Global, bytes: &[u8], error: &Error) -> Result<Vec<Finding>, AllocError>
+    ensures { IfOk result (λ findings. faults_told findings.items ≡ ScenarioFault.NotJson ∷ []) }
+{
+    let syntax = syntax_at(error, bytes);
+    let place = Place {
+        line: Some(error.line()),
+        column: Some(column_of(error, syntax)),
+        kind: None,
+    };
+    let reasons = vec![in alloc; Reason::Syntax(syntax)]?;
+    let finding = Finding {
+        fault: ScenarioFault::NotJson,
+        place,
+        reasons,
+    };
+    Ok(vec![in alloc; finding]?)
+}
+
+// The caps, the capacity and the steps of a document, where one of them is missing or of another form.
+fn judge_head(
+    alloc: Global,
+    document: &Value,
+    findings: &mut Vec<Finding>,
+) -> Result<(), AllocError>
+    ensures { OnOk result (faults_told findings.new.items ≡ faults_told findings.old.items ++ head_faults (view document.now)) }
+{
+    if parse_head(document).is_none() {
+        let reasons = document_reasons(alloc, document)?;
+        findings.push(whole(ScenarioFault::BadDocument, reasons))?;
+    }
+    Ok(())
+}
+
+// A step that is no step object.
+fn bad_step(alloc: Global, lines: &[usize], i: usize, step: &Value) -> Result<Finding, AllocError>
+    ensures { IfOk result (λ finding. finding.fault ≡ ScenarioFault.BadStep i) }
+{
+    let place = Place {
+        line: lines.get(i).copied(),
+        column: None,
+        kind: kind_of(step),
+    };
+    Ok(Finding {
+        fault: ScenarioFault::BadStep(i as u64),
+        place,
+        reasons: step_reasons(alloc, step)?,
+    })
+}
+
+// One item, where it is no step object.
+fn judge_item(
+    alloc: Global,
+    lines: &[usize],
+    i: usize,
+    step: &Value,
+    findings: &mut Vec<Finding>,
+) -> Result<(), AllocError>
+    ensures { OnOk result (faults_told findings.new.items ≡ faults_told findings.old.items ++ fault_of_step i (action_of (view step.now))) }
+{
+    if parse_action(step).is_none() {
+        findings.push(bad_step(alloc, lines, i, step)?)?;
+    }
+    Ok(())
+}
+
+// The items that are no step objects.
+fn judge_items(
+    alloc: Global,
+    lines: &[usize],
+    steps: &[Value],
+    findings: &mut Vec<Finding>,
+) -> Result<(), AllocError>
+    ensures { OnOk result (faults_told findings.new.items ≡ faults_told findings.old.items ++ bad_steps 0 (map view steps.now)) }
+{
+    for (i, step) in steps.iter().enumerate() {
+        judge_item(alloc, lines, i, step, findings)?;
+    }
+    Ok(())
+}
+
+// The steps of a document that has some, also where its head is none.
+fn judge_steps(
+    alloc: Global,
+    bytes: &[u8],
+    document: &Value,
+    findings: &mut Vec<Finding>,
+) -> Result<(), AllocError>
+    ensures { OnOk result (faults_told findings.new.items ≡ faults_told findings.old.items ++ bad_steps 0 (steps_of (view document.now))) }
+{
+    let Some(value) = document.get("steps") else {
+        return Ok(());
+    };
+    let Some(steps) = value.as_array() else {
+        return Ok(());
+    };
+    let lines = find_steps(alloc, bytes)?;
+    judge_items(alloc, lines.as_slice(), steps.as_slice(), findings)
+}
+
+// The caps, where they are read, and no device has them.
+fn judge_caps(
+    alloc: Global,
+    document: &Value,
+    findings: &mut Vec<Finding>,
+) -> Result<(), AllocError>
+    ensures { OnOk result (faults_told findings.new.items ≡ faults_told findings.old.items ++ caps_faults (caps_at (view document.now))) }
+{
+    let Some(object) = document.get("caps") else {
+        return Ok(());
+    };
+    match parse_caps(object) {
+        Some(caps) if !check_caps(&caps) => {
+            let reasons = caps_reasons(alloc, document)?;
+            Ok(findings.push(whole(ScenarioFault::BadCaps, reasons))?)
+        }
+        _ => Ok(()),
+    }
+}
+
+// The capacity, where it is read, and no history has it.
+fn judge_capacity(
+    alloc: Global,
+    document: &Value,
+    findings: &mut Vec<Finding>,
+) -> Result<(), AllocError>
+    ensures { OnOk result (faults_told findings.new.items ≡ faults_told findings.old.items ++ capacity_faults (capacity_at (view document.now))) }
+{
+    if let Some(capacity) = u64_field(document, "capacity") {
+        if capacity > MAX_CAPACITY {
+            let reasons = capacity_reasons(alloc, document)?;
+            findings.push(whole(ScenarioFault::BadCapacity, reasons))?;
+        }
+    }
+    Ok(())
+}
+
+// All faults of a JSON value.
+fn judge_value(alloc: Global, bytes: &[u8], document: &Value) -> Result<Vec<Finding>, AllocError>
+    ensures { IfOk result (λ findings. faults_told findings.items ≡ faults_of (view document.now)) }
+{
+    let mut findings = Vec::new(alloc);
+    judge_head(alloc, document, &mut findings)?;
+    judge_steps(alloc, bytes, document, &mut findings)?;
+    judge_caps(alloc, document, &mut findings)?;
+    judge_capacity(alloc, document, &mut findings)?;
+    Ok(findings)
+}
+
+/// All faults of the document in these bytes, in the order in which a run would tell each where no other came before it. There
+/// is none exactly where the document is right.
+pub fn judge_document(alloc: Global, bytes: &[u8]) -> Result<Vec<Finding>, AllocError>
+    ensures all { IfOk result (λ findings. AreFaultsOf bytes.now (faults_told findings.items)) }
+    ensures first { IfOk result (λ findings. IsJudged bytes.now (faults_told findings.items)) }
+{
+    match Value::from_slice(alloc, bytes) {
+        Ok(document) => judge_value(alloc, bytes, &document),
+        Err(error) if error.is_memory() => Err(AllocError),
+        Err(error) => no_json(alloc, bytes, &error),
+    }
+}

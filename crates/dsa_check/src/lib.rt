@@ -1,0 +1,23 @@
+//! What is wrong with a scenario document, all of it, without a run.
+//!
+//! [`judge_document`] finds the faults of a document in the order in which a run would tell them, each with its place and its
+//! reasons. `docs/SCENARIO.md` describes the lines that are told of them.
+#![tactic(auto)]
+
+mod checking;
+mod fields;
+mod finding;
+mod judge;
+mod kinds;
+mod places;
+mod reasons;
+mod report;
+pub mod rows;
+mod syntax;
+
+pub use checking::Check;
+pub use fields::{Field, Form, Found, Key};
+pub use finding::{Finding, Place, Reason};
+pub use judge::judge_document;
+pub use kinds::StepKind;
+pub use report::report_lines;

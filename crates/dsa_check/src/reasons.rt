@@ -1,0 +1,212 @@
+//! What is wrong with an object.
+
+ghost use Rattle.std.specs.Prelude.{◌≡◌, ◌+◌, length, cond, count_by, is_some, Some, IfOk, OnOk, IfSome};
+ghost use Rattle.serde_json.specs.View.{view};
+ghost use Rattle.serde_json.specs.Find.{get};
+ghost use Rattle.dsa_check.specs.declared.fields.Key.{Key};
+ghost use Rattle.dsa_check.specs.Reasons.{IsReasonOf, IsDigitsReason, fits, is_unfit};
+
+use crate::fields::{Field, Form, Key, found_in, is_of};
+use crate::finding::Reason;
+use crate::kinds::{CAPACITY_OF_A_HISTORY, CAPS, CAPS_OF_A_DEVICE, DOCUMENT, StepKind, fields_of};
+use serde_json::Value;
+use std::alloc::{AllocError, Global};
+use strsim::osa_distance;
+
+/// The most bytes of a text that is told as it stands.
+const MOST_TOLD: usize = 40;
+
+const MOST_DIGITS: usize = 128;
+
+// Whether a text can be told as it stands.
+fn is_plain(text: &str) -> bool {
+    text.len() <= MOST_TOLD && text.bytes().all(|byte| byte >= b' ' && byte <= b'~')
+}
+
+// Whether one name is spelled nearly as the other.
+fn is_near(alloc: Global, name: &str, other: &str) -> Result<bool, AllocError> {
+    let most = if name.len() < 5 { 1 } else { 2 };
+    if other.len().abs_diff(name.len()) > most || !is_plain(other) {
+        return Ok(false);
+    }
+    Ok(osa_distance(alloc, name, other)? <= most)
+}
+
+fn is_asked(fields: &[Field], name: &str) -> bool {
+    name == "do" || fields.iter().any(|field| field.name == name)
+}
+
+// A key of the object that nobody asks for, and that is spelled nearly so.
+fn near_key(
+    alloc: Global,
+    object: &Value,
+    fields: &[Field],
+    name: &str,
+) -> Result<Option<String>, AllocError> {
+    let Some(members) = object.as_object() else {
+        return Ok(None);
+    };
+    for other in members.keys() {
+        let other = other.as_str();
+        if !is_asked(fields, other) && is_near(alloc, name, other)? {
+            return Ok(Some(String::from_str(alloc, other)?));
+        }
+    }
+    Ok(None)
+}
+
+// What is wrong with a text that is not the bytes of a descriptor.
+fn digits_reason(key: Key, text: &str) -> Reason
+    ensures { IsDigitsReason key text.now result }
+{
+    let count = text.len();
+    if !text.bytes().all(|byte| byte.is_ascii_hexdigit()) {
+        Reason::NoDigit { key }
+    } else if count > MOST_DIGITS {
+        Reason::ManyDigits { key, count }
+    } else if count % 2 == 1 {
+        Reason::OddDigits { key, count }
+    } else {
+        Reason::NoDigit { key }
+    }
+}
+
+// What is wrong with a value that may not stand there.
+fn unfit_reason(key: Key, wanted: Form, value: &Value) -> Reason
+    ensures { IsReasonOf key wanted (Some (view value.now)) result }
+{
+    match value.as_str() {
+        Some(text) if wanted == Form::Digits => digits_reason(key, text),
+        _ => Reason::Unfit {
+            key,
+            found: found_in(value),
+            wanted,
+        },
+    }
+}
+
+// What is wrong at a key of the object, if anything is.
+fn field_reason(
+    alloc: Global,
+    object: &Value,
+    fields: &[Field],
+    field: Field,
+    in_caps: bool,
+) -> Result<Option<Reason>, AllocError>
+    ensures told { IfOk result (λ told. is_some told ≡ is_unfit (view object.now) field) }
+    ensures so { IfOk result (λ told. IfSome told (IsReasonOf (record { name = field.name; in_caps = in_caps }) field.form
+        (get field.name.now (view object.now)))) }
+{
+    let name = field.name;
+    let key = Key { name, in_caps };
+    match object.get(name) {
+        Some(value) if is_of(field.form, value) => Ok(None),
+        Some(value) => Ok(Some(unfit_reason(key, field.form, value))),
+        None => match near_key(alloc, object, fields, name)? {
+            Some(found) => Ok(Some(Reason::Misspelled { key, found })),
+            None => Ok(Some(Reason::Missing { key })),
+        },
+    }
+}
+
+// Adds what is wrong at a key of the object, if anything is.
+fn add_reason(
+    alloc: Global,
+    object: &Value,
+    fields: &[Field],
+    field: Field,
+    in_caps: bool,
+    reasons: &mut Vec<Reason>,
+) -> Result<(), AllocError>
+    ensures { OnOk result (length reasons.new.items ≡ length reasons.old.items + cond (is_unfit (view object.now) field) 1 0) }
+{
+    if let Some(reason) = field_reason(alloc, object, fields, field, in_caps)? {
+        reasons.push(reason)?;
+    }
+    Ok(())
+}
+
+/// Adds what is wrong at these keys of the object: a reason for each that is missing, or where something else stands.
+pub fn add_reasons(
+    alloc: Global,
+    object: &Value,
+    fields: &[Field],
+    in_caps: bool,
+    reasons: &mut Vec<Reason>,
+) -> Result<(), AllocError>
+    ensures { OnOk result (length reasons.new.items ≡ length reasons.old.items + count_by (is_unfit (view object.now)) fields.now) }
+{
+    for field in fields {
+        add_reason(alloc, object, fields, *field, in_caps, reasons)?;
+    }
+    Ok(())
+}
+
+/// The kind of a step object.
+pub fn kind_of(step: &Value) -> Option<StepKind> {
+    StepKind::parse(step.get("do")?.as_str()?)
+}
+
+// What is wrong with what the object says of its kind, where it names none.
+fn kind_reason(alloc: Global, step: &Value) -> Result<Reason, AllocError> {
+    let key = Key {
+        name: "do",
+        in_caps: false,
+    };
+    match step.get("do") {
+        None => Ok(Reason::Missing { key }),
+        Some(Value::String(name)) if is_plain(name.as_str()) => Ok(Reason::UnknownKind {
+            found: Some(String::from_str(alloc, name.as_str())?),
+        }),
+        Some(Value::String(_)) => Ok(Reason::UnknownKind { found: None }),
+        Some(value) => Ok(unfit_reason(key, Form::Text, value)),
+    }
+}
+
+/// What is wrong with an item of the steps.
+pub fn step_reasons(alloc: Global, step: &Value) -> Result<Vec<Reason>, AllocError> {
+    let mut reasons = Vec::new(alloc);
+    if step.as_object().is_none() {
+        let found = found_in(step);
+        reasons.push(Reason::NoObject { found })?;
+    } else {
+        match kind_of(step) {
+            Some(kind) => add_reasons(alloc, step, fields_of(kind), false, &mut reasons)?,
+            None => reasons.push(kind_reason(alloc, step)?)?,
+        }
+    }
+    Ok(reasons)
+}
+
+/// What is wrong with the keys of a document and of its caps.
+pub fn document_reasons(alloc: Global, document: &Value) -> Result<Vec<Reason>, AllocError> {
+    let mut reasons = Vec::new(alloc);
+    if document.as_object().is_none() {
+        let found = found_in(document);
+        reasons.push(Reason::NoObject { found })?;
+        return Ok(reasons);
+    }
+    add_reasons(alloc, document, &DOCUMENT, false, &mut reasons)?;
+    if let Some(caps) = document.get("caps") {
+        if caps.as_object().is_some() {
+            add_reasons(alloc, caps, &CAPS, true, &mut reasons)?;
+        }
+    }
+    Ok(reasons)
+}
+
+/// Which of these capabilities no device has.
+pub fn caps_reasons(alloc: Global, document: &Value) -> Result<Vec<Reason>, AllocError> {
+    let mut reasons = Vec::new(alloc);
+    if let Some(caps) = document.get("caps") {
+        add_reasons(alloc, caps, &CAPS_OF_A_DEVICE, false, &mut reasons)?;
+    }
+    Ok(reasons)
+}
+
+/// That no history has such a capacity.
+pub fn capacity_reasons(alloc: Global, document: &Value) -> Result<Vec<Reason>, AllocError> {
+    let mut reasons = Vec::new(alloc);
+    add_reasons(alloc, document, &CAPACITY_OF_A_HISTORY, false, &mut reasons)?;
+    Ok(reasons)
+}

@@ -1,0 +1,72 @@
+-- Lines of a band, a moment at a time.
+use Rattle.std.proofs.Common.{◌≡◌, ◌<◌, ◌≤◌, ◌+◌, ℕ, List, [], ◌∷◌, ◌++◌, cond, map, length, drop, get_or, sym, ap}
+use Rattle.std.proofs.Common.{◌∙◌, append_assoc, append-nil}
+use Rattle.std.proofs.lemmas.List.{drop_more, drop_all, length-map}
+use Rattle.std.proofs.Math.ListN.{get_or-map}
+use Rattle.std.specs.Prelude.{◌==◌}
+use Rattle.dsa_draw.specs.declared.{bands.Band.{Band}, moment.Moment.{Moment}}
+use Rattle.dsa_draw.specs.Bands.{level_in, highest, highest_of, next_step, turn_text, turns}
+use Rattle.dsa_draw.specs.Bands.{part_text, next_top, bands_text}
+
+-- what is left of a list, from one of its moments on
+left : (ms : List Moment) (i : ℕ) (m : Moment) → i < length ms → m ≡ get_or ms i m → drop i ms ≡ m ∷ drop (i + 1) ms
+left ms i m inside is = drop_more ms i m inside ∙ ap (λ x. x ∷ drop (i + 1) ms) (sym is)
+
+-- and of what these have
+left_of : (V : Moment → ℕ) (ms : List Moment) (i : ℕ) (m : Moment) → i < length ms → m ≡ get_or ms i m
+    → drop i (map V ms) ≡ V m ∷ drop (i + 1) (map V ms)
+left_of V ms i m inside is = drop_more (map V ms) i (V m) (rw (length-map ms V) inside)
+    ∙ ap (λ x. x ∷ drop (i + 1) (map V ms)) (get_or-map V ms i m ∙ ap V (sym is))
+
+-- one moment more
+pub higher : (band : Band) (ms : List Moment) (i : ℕ) (m : Moment) (most n : ℕ) → i < length ms → m ≡ get_or ms i m
+    → highest_of band most (drop i ms) ≡ n
+    → highest_of band (highest most (level_in band m)) (drop (i + 1) ms) ≡ n
+higher band ms i m most n inside is h =
+    let h' : highest_of band most (m ∷ drop (i + 1) ms) ≡ n = rw (left ms i m inside is) at h in
+    h'
+
+-- no moment more
+pub highest_at_end : (band : Band) (ms : List Moment) (i : ℕ) (most n : ℕ) → length ms ≤ i
+    → highest_of band most (drop i ms) ≡ n → most ≡ n
+highest_at_end band ms i most n past h =
+    let h' : highest_of band most [] ≡ n = rw (drop_all i ms past) at h in
+    h'
+
+-- one level more
+pub turned : (V : Moment → ℕ) (ms : List Moment) (i : ℕ) (m : Moment) (bottom most step before : ℕ)
+    (text longer whole : List ℕ) → i < length ms → m ≡ get_or ms i m
+    → longer ≡ text ++ cond (V m == before) [] (turn_text bottom most step (V m))
+    → text ++ turns bottom most step before (drop i (map V ms)) ≡ whole
+    → longer ++ turns bottom most (next_step step) (V m) (drop (i + 1) (map V ms)) ≡ whole
+turned V ms i m bottom most step before text longer whole inside is added h =
+    let h' : text ++ turns bottom most step before (V m ∷ drop (i + 1) (map V ms)) ≡ whole =
+    rw (left_of V ms i m inside is) at h in
+    rw (added, append_assoc) h'
+
+-- no level more
+pub turned_at_end : (V : Moment → ℕ) (ms : List Moment) (i bottom most step before : ℕ) (text longer whole : List ℕ)
+    → length ms ≤ i → longer ≡ text ++ turns 0 0 step 0 []
+    → text ++ turns bottom most step before (drop i (map V ms)) ≡ whole → longer ≡ whole
+turned_at_end V ms i bottom most step before text longer whole past added h =
+    let h' : text ++ turns bottom most step before [] ≡ whole =
+    rw (drop_all i (map V ms) (rw (length-map ms V) past)) at h in
+    added ∙ h'
+
+-- one band more
+pub banded : (bands : List Band) (i : ℕ) (d : Band) (steps top next : ℕ) (moments : List Moment)
+    (text longer whole : List ℕ) → i < length bands → longer ≡ text ++ part_text steps top (get_or bands i d) moments
+    → next ≡ next_top top (get_or bands i d) moments → text ++ bands_text steps top (drop i bands) moments ≡ whole
+    → longer ++ bands_text steps next (drop (i + 1) bands) moments ≡ whole
+banded bands i d steps top next moments text longer whole inside added is h =
+    let h' : text ++ bands_text steps top (get_or bands i d ∷ drop (i + 1) bands) moments ≡ whole =
+    rw (drop_more bands i d inside) at h in
+    rw (added, is, append_assoc) h'
+
+-- no band more
+pub banded_at_end : (bands : List Band) (i : ℕ) (steps top : ℕ) (moments : List Moment) (text whole : List ℕ)
+    → length bands ≤ i → text ++ bands_text steps top (drop i bands) moments ≡ whole → text ≡ whole
+banded_at_end bands i steps top moments text whole past h =
+    let h' : text ++ bands_text steps top [] moments ≡ whole = rw (drop_all i bands past) at h in
+    let h'' : text ≡ whole = rw (append-nil text) at h' in
+    h''

@@ -1,0 +1,134 @@
+-- What the bands of a drawing are, as text.
+use Rattle.std.specs.Prelude.{◌≡◌, ℕ, ◌+◌, ◌-◌, ◌*◌, ◌/◌, ◌^◌, ◌==◌, cond, min, max, List, [], ◌∷◌, ◌++◌, map, codes, decimal}
+use Rattle.std.specs.Prelude.{slice_get, unwrap_or}
+use Rattle.std.specs.List.{range_with_len}
+use Rattle.dsa_regs.specs.declared.Caps.{Caps}
+use Rattle.dsa_draw.specs.declared.bands.{Band.{Band, TheVariants.{Queue, Group}}}
+use Rattle.dsa_draw.specs.declared.bands.{Line.{Line, TheVariants.{Filled, Mark, Limit}}}
+use Rattle.dsa_draw.specs.declared.moment.{Level.{Level}, Moment.{Moment}}
+
+-- ---- levels
+
+-- what a band has at a moment; all is 0 where the device has no such queue or group
+abbrev pub level_in : Band → Moment → Level
+level_in (Queue queue) moment =
+    unwrap_or (slice_get moment.queues.items queue) (record { filled = 0; mark = 0; limit = 0 })
+level_in (Group group) moment =
+    unwrap_or (slice_get moment.groups.items group) (record { filled = 0; mark = 0; limit = 0 })
+
+-- what a line of it has
+abbrev pub value_of : Line → Level → ℕ
+value_of Filled level = level.filled
+value_of Mark level = level.mark
+value_of Limit level = level.limit
+
+-- the highest of a level and of these
+abbrev pub highest : ℕ → Level → ℕ
+highest most level = max (max (max most level.limit) level.mark) level.filled
+
+-- the highest of a level and of all of a band
+abbrev pub highest_of : Band → ℕ → List Moment → ℕ
+highest_of band most [] = most
+highest_of band most (moment ∷ moments) = highest_of band (highest most (level_in band moment)) moments
+
+-- ---- lines
+
+-- the step after a step; the numbers of steps have 32 bits
+abbrev pub next_step : ℕ → ℕ
+next_step step = min (step + 1) (2 ^ 32 - 1)
+
+-- to the column of a step, and there to the height of a level
+abbrev pub turn_text : ℕ → ℕ → ℕ → ℕ → List ℕ
+turn_text bottom most step level =
+    codes "H" ++ decimal (112 + 14 * step) ++ codes "V" ++ decimal (bottom - 48 * min level most / max most 1)
+
+-- a line turns where its level is another than before, and goes on to the end of the last column
+abbrev pub turns : ℕ → ℕ → ℕ → ℕ → List ℕ → List ℕ
+turns bottom most step before [] = codes "H" ++ decimal (112 + 14 * step)
+turns bottom most step before (level ∷ levels) =
+    cond (level == before) [] (turn_text bottom most step level) ++ turns bottom most (next_step step) level levels
+
+-- the levels of a line, one for each step
+abbrev pub levels_of : Band → Line → List Moment → List ℕ
+levels_of band line moments = map (λ moment. value_of line (level_in band moment)) moments
+
+-- a line from its first step on
+abbrev pub path_text : ℕ → ℕ → List ℕ → List ℕ
+path_text bottom most levels = codes "M112 " ++ decimal bottom ++ turns bottom most 0 0 levels
+
+-- ---- bands
+
+abbrev pub class_text : Line → List ℕ
+class_text Filled = codes "filled"
+class_text Mark = codes "mark"
+class_text Limit = codes "limit"
+
+-- what is filled goes down to the lower end
+abbrev pub close_text : ℕ → Line → List ℕ
+close_text bottom Filled = codes "V" ++ decimal bottom ++ codes "Z"
+close_text bottom _ = []
+
+-- one line of a band that ends at `bottom` and is full at `most`
+abbrev pub line_text : ℕ → ℕ → Band → Line → List Moment → List ℕ
+line_text bottom most band line moments =
+    codes "<path class=\"" ++ class_text line ++ codes "\" d=\"" ++ path_text bottom most (levels_of band line moments)
+    ++ close_text bottom line ++ codes "\"/>\n"
+
+-- its lines
+unfoldable pub lines_text : ℕ → ℕ → Band → List Moment → List ℕ
+lines_text bottom most band moments =
+    line_text bottom most band Filled moments ++ line_text bottom most band Mark moments
+    ++ line_text bottom most band Limit moments
+
+-- the frame of a band, from the first column on to before that of this step
+unfoldable pub frame_text : ℕ → ℕ → List ℕ
+frame_text steps top =
+    codes "<path class=\"frame\" d=\"M112 " ++ decimal top ++ codes "H" ++ decimal (112 + 14 * steps) ++ codes "V"
+    ++ decimal (top + 48) ++ codes "H112Z\"/>\n"
+
+-- a row's name with a number
+abbrev pub numbered_text : List ℕ → ℕ → ℕ → List ℕ
+numbered_text name number top =
+    codes "<text x=\"4\" y=\"" ++ decimal (top + 11) ++ codes "\">" ++ name ++ codes " " ++ decimal number
+    ++ codes "</text>\n"
+
+unfoldable pub name_text : Band → ℕ → List ℕ
+name_text (Queue queue) top = numbered_text (codes "queue") queue top
+name_text (Group group) top = numbered_text (codes "buffers") group top
+
+-- from which level to which the band goes
+unfoldable pub range_text : ℕ → ℕ → List ℕ
+range_text most top =
+    codes "<text x=\"4\" y=\"" ++ decimal (top + 24) ++ codes "\">0 to " ++ decimal most ++ codes "</text>\n"
+
+-- the lower end of what begins at `top` and is so high; places have 32 bits
+abbrev pub below : ℕ → ℕ → ℕ
+below top high = min (top + high) (2 ^ 32 - 1)
+
+-- a band that begins at `top` and is full at `most`: its frame, its lines and its names
+unfoldable pub band_text : ℕ → ℕ → ℕ → Band → List Moment → List ℕ
+band_text steps top most band moments =
+    frame_text steps top ++ lines_text (below top 48) most band moments ++ name_text band top ++ range_text most top
+
+-- of a band of which nothing was configured there is no text, and the next one stands in its place
+abbrev pub part_text : ℕ → ℕ → Band → List Moment → List ℕ
+part_text steps top band moments =
+    cond (highest_of band 0 moments == 0) [] (band_text steps top (highest_of band 0 moments) band moments)
+
+abbrev pub next_top : ℕ → Band → List Moment → ℕ
+next_top top band moments = cond (highest_of band 0 moments == 0) top (below top 56)
+
+-- bands below one another
+abbrev pub bands_text : ℕ → ℕ → List Band → List Moment → List ℕ
+bands_text steps top [] moments = []
+bands_text steps top (band ∷ bands) moments =
+    part_text steps top band moments ++ bands_text steps (next_top top band moments) bands moments
+
+-- the bands of a device: its queues, and then its groups
+abbrev pub bands_of : Caps → List Band
+bands_of caps = map Queue (range_with_len 0 caps.queues) ++ map Group (range_with_len 0 caps.groups)
+
+-- the text has the bands of the device over so many steps, one below the other
+abbrev pub HasBands : Caps → ℕ → List Moment → List ℕ → Type 0
+HasBands caps steps moments text =
+    (front : List ℕ) × (back : List ℕ) × (text ≡ front ++ bands_text steps 152 (bands_of caps) moments ++ back)

@@ -1,0 +1,4 @@
+pub mod Bands
+pub mod Drawings
+pub mod Marks
+pub mod Moments

@@ -1,0 +1,43 @@
+-- What is read of a device after a step.
+use Rattle.std.specs.Prelude.{◌≡◌, ℕ, length, map, Option, None, option_map}
+use Rattle.std.specs.List.{range_with_len}
+use Rattle.dsa_regs.specs.Config.{queue_at, group_at}
+use Rattle.dsa_book.specs.declared.event.{Actor.{Actor, TheVariants.{Engine}}}
+use Rattle.dsa_book.specs.{State.{occupancy}, Work.{used, note_at}, Totals.{actor_of}}
+use Rattle.dsa_device.specs.Running.{Running}
+use Rattle.dsa_scenario.specs.declared.run.Record.{Record, TheVariants.{Stepped, Refused}}
+use Rattle.dsa_draw.specs.declared.moment.{Level.{Level}, Moment.{Moment}}
+
+-- the occupancy of a queue, its threshold and its size
+abbrev pub queue_level_of : Running → ℕ → Level
+queue_level_of d queue = record {
+  filled = occupancy d.state.work.content queue;
+  mark = (queue_at d.state.work.setup.configs queue).threshold;
+  limit = (queue_at d.state.work.setup.configs queue).size;
+}
+
+-- the read buffers of a group that are used, reserved and allowed
+abbrev pub group_level_of : Running → ℕ → Level
+group_level_of d group = record {
+  filled = used d.state.work group;
+  mark = (group_at d.state.work.setup.groups group).reserved;
+  limit = (group_at d.state.work.setup.groups group).allowed;
+}
+
+-- the batch on the engine of this actor
+abbrev pub batch_of_actor : Running → Actor → Option ℕ
+batch_of_actor d (Engine engine) = option_map (λ note. note.batch) (note_at d.state.work engine)
+batch_of_actor d _ = None
+
+-- the batch that the engine works on whose step this was
+abbrev pub batch_after : Running → Record → Option ℕ
+batch_after d (Stepped step) = batch_of_actor d (actor_of step.event)
+batch_after d (Refused fault) = None
+
+-- the moment has what a device says of itself, and the record of the step before
+pub record IsMomentOf (d : Running) (entry : Record) (moment : Moment) : Type 0 where
+  pub of_entry : moment.entry ≡ entry
+  pub queues : moment.queues.items ≡ map (queue_level_of d) (range_with_len 0 d.caps.queues)
+  pub groups : moment.groups.items ≡ map (group_level_of d) (range_with_len 0 d.caps.groups)
+  pub batch : moment.batch ≡ batch_after d entry
+  pub ended : moment.ended ≡ length d.state.work.fates

@@ -1,0 +1,313 @@
+//! Bands: how full a queue is, or a group's read buffers, step by step.
+
+ghost use Rattle.std.specs.Prelude.{◌≡◌, ◌++◌, ◌==◌, [], cond, map, IfOk, OnOk, string_bytes};
+ghost use Rattle.std.specs.List.{range_with_len};
+ghost use Rattle.dsa_draw.specs.Bands.{level_in, value_of, highest_of, turn_text, turns, levels_of, path_text, class_text, close_text, line_text, lines_text, frame_text, name_text, range_text, band_text, part_text, next_top, bands_text, bands_of};
+
+use crate::geometry::{column_left, level_high};
+use crate::moment::{Level, Moment};
+use crate::page::add_numbered;
+use dsa_regs::Caps;
+use std::alloc::{AllocError, Global};
+use std::fmt::Write;
+
+/// What a band is of.
+#[derive(Clone, Copy)]
+pub enum Band {
+    Queue(u16),
+    Group(u16),
+}
+
+/// The lines of a band.
+#[derive(Clone, Copy)]
+enum Line {
+    Filled,
+    Mark,
+    Limit,
+}
+
+/// Where a band stands: its lower end, and the level at its upper one.
+#[derive(Clone, Copy)]
+struct Scale {
+    bottom: u32,
+    most: u16,
+}
+
+// What the band has at a moment; all is 0 where the device has no such queue or group.
+fn level_in(band: Band, moment: &Moment) -> Level
+    ensures { result ≡ level_in band moment.now }
+{
+    let level = match band {
+        Band::Queue(queue) => moment.queues.get(usize::from(queue)),
+        Band::Group(group) => moment.groups.get(usize::from(group)),
+    };
+    level.copied().unwrap_or(Level {
+        filled: 0,
+        mark: 0,
+        limit: 0,
+    })
+}
+
+// The highest level of the run; 0 where nothing was configured.
+fn highest_of(band: Band, moments: &[Moment]) -> u16
+    ensures { result ≡ highest_of band 0 moments.now }
+{
+    let mut most = 0u16;
+    for moment in moments {
+        let level = level_in(band, moment);
+        most = most.max(level.limit).max(level.mark).max(level.filled);
+    }
+    most
+}
+
+impl Line {
+    fn value_of(self, level: Level) -> u16
+        ensures { result ≡ value_of self level }
+    {
+        match self {
+            Line::Filled => level.filled,
+            Line::Mark => level.mark,
+            Line::Limit => level.limit,
+        }
+    }
+
+    fn class(self) -> &'static str
+        ensures { result.now ≡ class_text self }
+    {
+        match self {
+            Line::Filled => "filled",
+            Line::Mark => "mark",
+            Line::Limit => "limit",
+        }
+    }
+}
+
+// A line goes to the column of a step, and there to the height of a level.
+fn add_turn(text: &mut String, step: u32, level: u16, scale: Scale) -> Result<(), AllocError>
+    ensures { OnOk result (string_bytes text.new ≡ string_bytes text.old ++ turn_text scale.bottom scale.most step level) }
+{
+    let x = column_left(step);
+    let y = u64::from(scale.bottom).saturating_sub(level_high(level, scale.most));
+    write!(text, "H{x}V{y}")
+}
+
+// So it does where the level is another than before.
+fn add_level(
+    text: &mut String,
+    step: u32,
+    before: u16,
+    level: u16,
+    scale: Scale,
+) -> Result<(), AllocError>
+    ensures { OnOk result (string_bytes text.new ≡ string_bytes text.old
+        ++ cond (level == before) [] (turn_text scale.bottom scale.most step level)) }
+{
+    if level == before {
+        return Ok(());
+    }
+    add_turn(text, step, level, scale)
+}
+
+fn add_right_end(text: &mut String, step: u32) -> Result<(), AllocError>
+    ensures { OnOk result (string_bytes text.new ≡ string_bytes text.old ++ turns 0 0 step 0 []) }
+{
+    let x = column_left(step);
+    write!(text, "H{x}")
+}
+
+// The turns of a line over all steps.
+fn add_turns(
+    text: &mut String,
+    moments: &[Moment],
+    band: Band,
+    line: Line,
+    scale: Scale,
+) -> Result<(), AllocError>
+    ensures { OnOk result (string_bytes text.new ≡ string_bytes text.old
+        ++ turns scale.bottom scale.most 0 0 (levels_of band line moments.now)) }
+{
+    let mut step = 0u32;
+    let mut before = 0;
+    for moment in moments {
+        let level = line.value_of(level_in(band, moment));
+        add_level(text, step, before, level, scale)?;
+        before = level;
+        step = step.saturating_add(1);
+    }
+    add_right_end(text, step)
+}
+
+// A line from its first step on.
+fn add_path(
+    text: &mut String,
+    moments: &[Moment],
+    band: Band,
+    line: Line,
+    scale: Scale,
+) -> Result<(), AllocError>
+    ensures { OnOk result (string_bytes text.new ≡ string_bytes text.old
+        ++ path_text scale.bottom scale.most (levels_of band line moments.now)) }
+{
+    let bottom = scale.bottom;
+    write!(text, "M112 {bottom}")?;
+    add_turns(text, moments, band, line, scale)
+}
+
+// What is filled goes down to the lower end.
+fn add_close(text: &mut String, line: Line, bottom: u32) -> Result<(), AllocError>
+    ensures { OnOk result (string_bytes text.new ≡ string_bytes text.old ++ close_text bottom line) }
+{
+    match line {
+        Line::Filled => write!(text, "V{bottom}Z"),
+        Line::Mark | Line::Limit => Ok(()),
+    }
+}
+
+// One line of a band over all steps.
+fn add_line(
+    text: &mut String,
+    moments: &[Moment],
+    band: Band,
+    line: Line,
+    scale: Scale,
+) -> Result<(), AllocError>
+    ensures { OnOk result (string_bytes text.new ≡ string_bytes text.old
+        ++ line_text scale.bottom scale.most band line moments.now) }
+{
+    let class = line.class();
+    write!(text, "<path class=\"{class}\" d=\"")?;
+    add_path(text, moments, band, line, scale)?;
+    add_close(text, line, scale.bottom)?;
+    text.push_str("\"/>\n")
+}
+
+#[tactic(auto, unfolding(crate::specs::Bands::frame_text))]
+fn add_frame(text: &mut String, steps: u32, top: u32) -> Result<(), AllocError>
+    ensures { OnOk result (string_bytes text.new ≡ string_bytes text.old ++ frame_text steps top) }
+{
+    let right = column_left(steps);
+    let bottom = u64::from(top) + 48;
+    write!(
+        text,
+        "<path class=\"frame\" d=\"M112 {top}H{right}V{bottom}H112Z\"/>\n"
+    )
+}
+
+#[tactic(auto, unfolding(crate::specs::Bands::name_text))]
+fn add_band_name(text: &mut String, band: Band, top: u32) -> Result<(), AllocError>
+    ensures { OnOk result (string_bytes text.new ≡ string_bytes text.old ++ name_text band top) }
+{
+    match band {
+        Band::Queue(queue) => add_numbered(text, "queue", queue, top),
+        Band::Group(group) => add_numbered(text, "buffers", group, top),
+    }
+}
+
+#[tactic(auto, unfolding(crate::specs::Bands::range_text))]
+fn add_range(text: &mut String, most: u16, top: u32) -> Result<(), AllocError>
+    ensures { OnOk result (string_bytes text.new ≡ string_bytes text.old ++ range_text most top) }
+{
+    let base = u64::from(top) + 24;
+    write!(text, "<text x=\"4\" y=\"{base}\">0 to {most}</text>\n")
+}
+
+#[tactic(auto, unfolding(crate::specs::Bands::lines_text))]
+fn add_lines(
+    text: &mut String,
+    moments: &[Moment],
+    band: Band,
+    scale: Scale,
+) -> Result<(), AllocError>
+    ensures { OnOk result (string_bytes text.new ≡ string_bytes text.old
+        ++ lines_text scale.bottom scale.most band moments.now) }
+{
+    add_line(text, moments, band, Line::Filled, scale)?;
+    add_line(text, moments, band, Line::Mark, scale)?;
+    add_line(text, moments, band, Line::Limit, scale)
+}
+
+// Draws the band that begins at `top` and is full at `most`.
+#[tactic(auto, unfolding(crate::specs::Bands::band_text))]
+fn draw_band(
+    text: &mut String,
+    moments: &[Moment],
+    steps: u32,
+    band: Band,
+    most: u16,
+    top: u32,
+) -> Result<(), AllocError>
+    ensures { OnOk result (string_bytes text.new ≡ string_bytes text.old ++ band_text steps top most band moments.now) }
+{
+    let scale = Scale {
+        bottom: top.saturating_add(48),
+        most,
+    };
+    add_frame(text, steps, top)?;
+    add_lines(text, moments, band, scale)?;
+    add_band_name(text, band, top)?;
+    add_range(text, most, top)
+}
+
+// Draws the band, where there is anything to draw, and says where the next one begins.
+fn add_band(
+    text: &mut String,
+    moments: &[Moment],
+    steps: u32,
+    band: Band,
+    top: u32,
+) -> Result<u32, AllocError>
+    ensures text { OnOk result (string_bytes text.new ≡ string_bytes text.old ++ part_text steps top band moments.now) }
+    ensures next { IfOk result (λ next. next ≡ next_top top band moments.now) }
+{
+    let most = highest_of(band, moments);
+    if most == 0 {
+        return Ok(top);
+    }
+    draw_band(text, moments, steps, band, most, top)?;
+    Ok(top.saturating_add(56))
+}
+
+/// Draws bands one below the other, the first one at `top`, and says where what follows begins.
+pub fn add_bands(
+    text: &mut String,
+    moments: &[Moment],
+    steps: u32,
+    bands: &[Band],
+    top: u32,
+) -> Result<u32, AllocError>
+    ensures { OnOk result (string_bytes text.new ≡ string_bytes text.old ++ bands_text steps top bands.now moments.now) }
+{
+    let mut top = top;
+    for band in bands {
+        top = add_band(text, moments, steps, *band, top)?;
+    }
+    Ok(top)
+}
+
+fn push_queues(bands: &mut Vec<Band>, queues: u16) -> Result<(), AllocError>
+    ensures { OnOk result (bands.new.items ≡ bands.old.items ++ map Band.Queue (range_with_len 0 queues)) }
+{
+    for queue in 0..queues {
+        bands.push(Band::Queue(queue))?;
+    }
+    Ok(())
+}
+
+fn push_groups(bands: &mut Vec<Band>, groups: u16) -> Result<(), AllocError>
+    ensures { OnOk result (bands.new.items ≡ bands.old.items ++ map Band.Group (range_with_len 0 groups)) }
+{
+    for group in 0..groups {
+        bands.push(Band::Group(group))?;
+    }
+    Ok(())
+}
+
+/// The bands of a device: its queues, and then its groups.
+pub fn bands_of(alloc: Global, caps: &Caps) -> Result<Vec<Band>, AllocError>
+    ensures { IfOk result (λ bands. bands.items ≡ bands_of caps.now) }
+{
+    let mut bands = Vec::new(alloc);
+    push_queues(&mut bands, caps.queues)?;
+    push_groups(&mut bands, caps.groups)?;
+    Ok(bands)
+}

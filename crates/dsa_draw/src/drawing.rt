@@ -1,0 +1,245 @@
+//! The whole drawing.
+
+ghost use Rattle.std.specs.Prelude.{◌≡◌, ◌++◌, IfOk, OnOk, string_bytes};
+ghost use Rattle.dsa_draw.specs.Drawings.{IsTextOf};
+
+use crate::bands::{add_bands, bands_of};
+use crate::bars::{bars_of, rows_between};
+use crate::engines::add_engine;
+use crate::geometry::column_left;
+use crate::marks::{Mark, mark_of};
+use crate::moment::Moment;
+use crate::page::{add_foot, add_head, add_mark, add_name, add_rule};
+use crate::run::Story;
+use dsa_book::{Actor, Event, Fate, FateRow, Kind};
+use dsa_scenario::{Record, add_answer, add_rows};
+use std::alloc::{AllocError, Global};
+use std::fmt::Write;
+
+// The rows above the bands.
+const LABELS: u32 = 76;
+
+const NUMBERS: u32 = 80;
+
+const CLIENTS: u32 = 96;
+
+const ADMINISTRATOR: u32 = 112;
+
+const FATES: u32 = 128;
+
+const BANDS: u32 = 152;
+
+// ---- columns
+
+fn add_submission(
+    text: &mut String,
+    client: u16,
+    queue: u16,
+    kind: Kind,
+) -> Result<(), AllocError> {
+    let instruction = match kind {
+        Kind::Enqcmd { .. } => "enqcmd",
+        Kind::Movdir64b => "movdir",
+    };
+    write!(text, "{instruction} of client {client} to queue {queue}")
+}
+
+fn add_event(text: &mut String, event: &Event) -> Result<(), AllocError> {
+    match event {
+        Event::Submit {
+            client,
+            queue,
+            kind,
+            ..
+        } => add_submission(text, *client, *queue, *kind),
+        Event::Dispatch { engine } => write!(text, "dispatch of engine {engine}"),
+        Event::Fetch { engine, .. } => write!(text, "fetch of engine {engine}"),
+        Event::Start { engine } => write!(text, "start of engine {engine}"),
+        Event::Finish { engine, ticket, .. } => {
+            let name = ticket.name;
+            write!(text, "finish of {name} on engine {engine}")
+        }
+        Event::Issue { command } => text.push_str(command.name()),
+        Event::Poll => text.push_str("poll"),
+        Event::WriteQueue { queue, .. } => write!(text, "queue {queue}"),
+        Event::WriteGroup { group, .. } => write!(text, "group {group}"),
+        Event::ClearError => text.push_str("clear"),
+    }
+}
+
+fn add_asked(text: &mut String, entry: &Record) -> Result<(), AllocError> {
+    match entry {
+        Record::Stepped(step) => add_event(text, &step.event),
+        Record::Refused(_) => text.push_str("command"),
+    }
+}
+
+// A column has the step as its title.
+fn add_column(text: &mut String, entry: &Record, step: u32, height: u32) -> Result<(), AllocError> {
+    let x = column_left(step);
+    let high = height.saturating_sub(NUMBERS);
+    write!(
+        text,
+        "<rect class=\"column\" x=\"{x}\" y=\"{NUMBERS}\" width=\"14\" height=\"{high}\">"
+    )?;
+    write!(text, "<title>step {step}: ")?;
+    add_asked(text, entry)?;
+    text.push_str(": ")?;
+    add_answer(text, entry)?;
+    text.push_str("</title></rect>\n")
+}
+
+// The number of every fifth step, and a line.
+fn add_number(text: &mut String, step: u32, height: u32) -> Result<(), AllocError> {
+    let x = column_left(step);
+    let high = height.saturating_sub(NUMBERS);
+    writeln!(text, "<path class=\"grid\" d=\"M{x} {NUMBERS}v{high}\"/>")?;
+    let x = x + 2;
+    writeln!(text, "<text x=\"{x}\" y=\"91\">{step}</text>")
+}
+
+fn add_columns(text: &mut String, moments: &[Moment], height: u32) -> Result<(), AllocError> {
+    let mut step = 0u32;
+    for moment in moments {
+        if step % 5 == 0 {
+            add_number(text, step, height)?;
+        }
+        add_column(text, &moment.entry, step, height)?;
+        step = step.saturating_add(1);
+    }
+    Ok(())
+}
+
+// ---- the rows above the bands
+
+// The name of a command stands above its column.
+fn add_label(text: &mut String, entry: &Record, step: u32) -> Result<(), AllocError> {
+    let Record::Stepped(made) = entry else {
+        return Ok(());
+    };
+    let Event::Issue { command } = made.event else {
+        return Ok(());
+    };
+    let x = column_left(step) + 10;
+    let name = command.name();
+    writeln!(
+        text,
+        "<text transform=\"translate({x} {LABELS}) rotate(-60)\">{name}</text>"
+    )
+}
+
+fn add_asker(text: &mut String, entry: &Record, step: u32) -> Result<(), AllocError> {
+    let actor = match entry {
+        Record::Stepped(made) => made.event.actor(),
+        Record::Refused(_) => Actor::Admin,
+    };
+    match actor {
+        Actor::Client(_) => add_mark(text, mark_of(entry), step, CLIENTS),
+        Actor::Admin => add_mark(text, mark_of(entry), step, ADMINISTRATOR),
+        Actor::Engine(_) => Ok(()),
+    }
+}
+
+fn fate_mark(fate: Fate) -> Mark {
+    match fate {
+        Fate::Completed(0x01) => Mark::Done,
+        _ => Mark::Failed,
+    }
+}
+
+// A mark for the last entry that ended in this step, and how many did where it was not alone.
+fn add_fates(text: &mut String, rows: &[FateRow], step: u32) -> Result<(), AllocError> {
+    let Some(row) = rows.last() else {
+        return Ok(());
+    };
+    let x = column_left(step);
+    write!(text, "<g><title>step {step}\n")?;
+    add_rows(text, rows)?;
+    write!(
+        text,
+        "</title><rect class=\"column\" x=\"{x}\" y=\"{FATES}\" width=\"14\" height=\"16\"/>"
+    )?;
+    if rows.len() > 1 {
+        let x = x + 2;
+        let count = rows.len();
+        write!(
+            text,
+            "<text class=\"label\" x=\"{x}\" y=\"151\">{count}</text>"
+        )?;
+    }
+    add_mark(text, fate_mark(row.fate), step, FATES)?;
+    text.push_str("</g>\n")
+}
+
+fn add_marks(text: &mut String, story: &Story) -> Result<(), AllocError> {
+    let mut step = 0u32;
+    let mut ended = 0;
+    for moment in &story.moments {
+        add_label(text, &moment.entry, step)?;
+        add_asker(text, &moment.entry, step)?;
+        add_fates(text, rows_between(&story.fates, ended, moment.ended), step)?;
+        ended = moment.ended;
+        step = step.saturating_add(1);
+    }
+    Ok(())
+}
+
+fn add_rows_above(text: &mut String, story: &Story, steps: u32) -> Result<(), AllocError> {
+    add_name(text, "step", NUMBERS)?;
+    add_name(text, "clients", CLIENTS)?;
+    add_name(text, "administrator", ADMINISTRATOR)?;
+    add_name(text, "fates", FATES)?;
+    add_rule(text, steps, CLIENTS)?;
+    add_rule(text, steps, ADMINISTRATOR)?;
+    add_rule(text, steps, FATES)?;
+    add_marks(text, story)
+}
+
+// ---- bands and engines
+
+fn add_engines(
+    alloc: Global,
+    text: &mut String,
+    story: &Story,
+    steps: u32,
+    top: u32,
+) -> Result<u32, AllocError> {
+    let mut bars = bars_of(alloc, &story.moments, &story.fates)?;
+    let mut top = top;
+    for engine in 0..story.caps.engines {
+        top = add_engine(alloc, text, &story.moments, &mut bars, engine, steps, top)?;
+    }
+    Ok(top)
+}
+
+fn count_of(moments: &[Moment]) -> u32 {
+    u32::try_from(moments.len()).unwrap_or(u32::MAX)
+}
+
+fn add_parts(text: &mut String, above: &str, bands: &str, below: &str) -> Result<(), AllocError>
+    ensures { OnOk result (string_bytes text.new ≡ (string_bytes text.old ++ above.now) ++ bands.now ++ below.now) }
+{
+    text.push_str(above)?;
+    text.push_str(bands)?;
+    text.push_str(below)
+}
+
+/// The drawing of a story.
+pub fn draw(alloc: Global, story: &Story) -> Result<String, AllocError>
+    ensures { IfOk result (λ text. IsTextOf story.now (string_bytes text)) }
+{
+    let steps = count_of(&story.moments);
+    let mut above = String::new(alloc);
+    add_rows_above(&mut above, story, steps)?;
+    let list = bands_of(alloc, &story.caps)?;
+    let mut bands = String::new(alloc);
+    let top = add_bands(&mut bands, &story.moments, steps, &list, BANDS)?;
+    let mut below = String::new(alloc);
+    let height = add_engines(alloc, &mut below, story, steps, top)?;
+    add_foot(&mut below)?;
+    let mut text = String::new(alloc);
+    add_head(&mut text, steps, height)?;
+    add_columns(&mut text, &story.moments, height)?;
+    add_parts(&mut text, above.as_str(), bands.as_str(), below.as_str())?;
+    Ok(text)
+}

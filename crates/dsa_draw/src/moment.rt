@@ -1,0 +1,130 @@
+//! What is read of a device after a step.
+
+ghost use Rattle.std.specs.Prelude.{◌≡◌, ◌<◌, IfOk, map, option_map};
+ghost use Rattle.std.specs.List.{range_with_len};
+ghost use Rattle.dsa_draw.specs.Moments.{queue_level_of, group_level_of, batch_after, IsMomentOf};
+
+use dsa_book::{Actor, BatchNote};
+use dsa_device::Device;
+use dsa_scenario::Record;
+use dsa_store::EntryStore;
+use std::alloc::{AllocError, Global};
+
+/// How full something is: of a queue its occupancy, its threshold and its size, of a group the read buffers that are used,
+/// reserved and allowed.
+#[derive(Clone, Copy)]
+pub struct Level {
+    pub filled: u16,
+    pub mark: u16,
+    pub limit: u16,
+}
+
+/// What a step was, and what the device says of itself after it.
+#[derive(Drop)]
+pub struct Moment {
+    pub entry: Record,
+    /// Of each queue, by number.
+    pub queues: Vec<Level>,
+    /// Of each group, by number.
+    pub groups: Vec<Level>,
+    /// The batch that the engine works on whose step this was.
+    pub batch: Option<u32>,
+    /// How many entries have ended.
+    pub ended: usize,
+}
+
+/// The level of a queue of the device.
+pub fn queue_level<S: EntryStore>(device: &Device<S>, queue: u16) -> Level
+    requires { queue < device.now.caps.queues }
+    ensures { result ≡ queue_level_of device.now queue }
+{
+    let filled = device.occupancy(queue).unwrap_or(0);
+    match device.queue_config(queue) {
+        Some(config) => Level {
+            filled,
+            mark: config.threshold,
+            limit: config.size,
+        },
+        None => Level {
+            filled: 0,
+            mark: 0,
+            limit: 0,
+        },
+    }
+}
+
+/// The level of a group of the device.
+pub fn group_level<S: EntryStore>(device: &Device<S>, group: u16) -> Level
+    requires { group < device.now.caps.groups }
+    ensures { result ≡ group_level_of device.now group }
+{
+    let filled = device.used(group).unwrap_or(0);
+    match device.group_config(group) {
+        Some(config) => Level {
+            filled,
+            mark: config.reserved,
+            limit: config.allowed,
+        },
+        None => Level {
+            filled: 0,
+            mark: 0,
+            limit: 0,
+        },
+    }
+}
+
+fn queue_levels<S: EntryStore>(alloc: Global, device: &Device<S>) -> Result<Vec<Level>, AllocError>
+    ensures { IfOk result (λ levels. levels.items ≡ map (queue_level_of device.now) (range_with_len 0 device.now.caps.queues)) }
+{
+    let mut levels = Vec::new(alloc);
+    for queue in 0..device.caps().queues {
+        levels.push(queue_level(device, queue))?;
+    }
+    Ok(levels)
+}
+
+fn group_levels<S: EntryStore>(alloc: Global, device: &Device<S>) -> Result<Vec<Level>, AllocError>
+    ensures { IfOk result (λ levels. levels.items ≡ map (group_level_of device.now) (range_with_len 0 device.now.caps.groups)) }
+{
+    let mut levels = Vec::new(alloc);
+    for group in 0..device.caps().groups {
+        levels.push(group_level(device, group))?;
+    }
+    Ok(levels)
+}
+
+fn name_of(note: Option<BatchNote>) -> Option<u32>
+    ensures { result ≡ option_map (λ note. note.batch) note }
+{
+    Some(note?.batch)
+}
+
+// The batch of the engine whose step it was.
+fn batch_after<S: EntryStore>(device: &Device<S>, entry: &Record) -> Option<u32>
+    ensures { result ≡ batch_after device.now entry.now }
+{
+    match entry {
+        Record::Stepped(step) => match step.event.actor() {
+            Actor::Engine(engine) => name_of(device.batch(engine)),
+            _ => None,
+        },
+        Record::Refused(_) => None,
+    }
+}
+
+/// What there is to draw of a step, read from the device after it.
+pub fn take_moment<S: EntryStore>(
+    alloc: Global,
+    device: &Device<S>,
+    entry: Record,
+) -> Result<Moment, AllocError>
+    ensures { IfOk result (λ moment. IsMomentOf device.now entry moment) }
+{
+    Ok(Moment {
+        entry,
+        queues: queue_levels(alloc, device)?,
+        groups: group_levels(alloc, device)?,
+        batch: batch_after(device, &entry),
+        ended: device.fates().len(),
+    })
+}

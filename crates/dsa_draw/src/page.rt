@@ -1,0 +1,89 @@
+//! Pieces of a page: its head and foot, its style, names, lines and marks.
+
+ghost use Rattle.std.specs.Prelude.{◌≡◌, ◌++◌, OnOk, string_bytes};
+ghost use Rattle.dsa_draw.specs.Bands.{numbered_text};
+
+use crate::geometry::{column_left, columns_wide};
+use crate::marks::Mark;
+use std::alloc::AllocError;
+use std::fmt::Write;
+
+// Colours for light and for dark. Titles are those of columns and bars, so marks let the pointer through.
+const STYLE: &str = "<style>
+text{font:10px ui-monospace,monospace;fill:#1f2328}
+.sheet{fill:#ffffff}.column{fill:#ffffff;fill-opacity:0}.grid{stroke:#d8dee4}.frame{fill:none;stroke:#d8dee4}
+.filled{fill:#9ec9f5}.mark{fill:none;stroke:#bf8700;stroke-dasharray:4 2}.limit{fill:none;stroke:#6e7781}
+.done{fill:#1a7f37}.wait{fill:none;stroke:#9a6700}.failed{fill:none;stroke:#cf222e;stroke-width:1.5}
+.done,.wait,.failed,.label{pointer-events:none}
+.waits{fill:#eaeef2;stroke:#6e7781;stroke-dasharray:2 2}.batch{fill:#fff8c5;fill-opacity:.6;stroke:#bf8700}
+.held{fill:#b6d7fb;stroke:#0969da}.success{fill:#aceebb;stroke:#1a7f37}.failure{fill:#ffcecb;stroke:#cf222e}
+.lost{fill:#d0d7de;stroke:#57606a}
+@media (prefers-color-scheme:dark){text{fill:#e6edf3}.sheet{fill:#0d1117}.grid,.frame{stroke:#30363d}
+.filled{fill:#1f4a7a}.mark{stroke:#d29922}.limit{stroke:#8b949e}.done{fill:#3fb950}.wait{stroke:#d29922}
+.failed{stroke:#f85149}.waits{fill:#21262d;stroke:#8b949e}.batch{fill:#3b2e00;stroke:#d29922}
+.held{fill:#14386b;stroke:#58a6ff}.success{fill:#12391f;stroke:#3fb950}.failure{fill:#5c1a1b;stroke:#f85149}
+.lost{fill:#343b43;stroke:#8b949e}}
+</style>
+";
+
+/// Begins a page for so many steps, so high.
+pub fn add_head(text: &mut String, steps: u32, height: u32) -> Result<(), AllocError> {
+    let width = column_left(steps).saturating_add(56);
+    text.push_str("<svg xmlns=\"http://www.w3.org/2000/svg\"")?;
+    write!(text, " width=\"{width}\" height=\"{height}\"")?;
+    writeln!(text, " viewBox=\"0 0 {width} {height}\">")?;
+    text.push_str(STYLE)?;
+    writeln!(
+        text,
+        "<rect class=\"sheet\" width=\"{width}\" height=\"{height}\"/>"
+    )
+}
+
+/// Ends a page.
+pub fn add_foot(text: &mut String) -> Result<(), AllocError> {
+    text.push_str("</svg>\n")
+}
+
+/// The name of a row, at the left.
+pub fn add_name(text: &mut String, name: &str, top: u32) -> Result<(), AllocError> {
+    let base = u64::from(top) + 11;
+    writeln!(text, "<text x=\"4\" y=\"{base}\">{name}</text>")
+}
+
+/// The same with a number.
+pub fn add_numbered(text: &mut String, name: &str, number: u16, top: u32) -> Result<(), AllocError>
+    ensures { OnOk result (string_bytes text.new ≡ string_bytes text.old ++ numbered_text name.now number top) }
+{
+    let base = u64::from(top) + 11;
+    write!(text, "<text x=\"4\" y=\"{base}\">{name} {number}</text>\n")
+}
+
+/// A line below a row, over all columns.
+pub fn add_rule(text: &mut String, steps: u32, y: u32) -> Result<(), AllocError> {
+    let wide = columns_wide(0, steps);
+    writeln!(text, "<path class=\"grid\" d=\"M112 {y}h{wide}\"/>")
+}
+
+/// A mark in the column of a step, in a row that begins at `top`.
+pub fn add_mark(text: &mut String, mark: Mark, step: u32, top: u32) -> Result<(), AllocError> {
+    let x = column_left(step) + 7;
+    let y = u64::from(top) + 8;
+    match mark {
+        Mark::Done => writeln!(
+            text,
+            "<circle class=\"done\" cx=\"{x}\" cy=\"{y}\" r=\"3\"/>"
+        ),
+        Mark::Wait => writeln!(
+            text,
+            "<circle class=\"wait\" cx=\"{x}\" cy=\"{y}\" r=\"3\"/>"
+        ),
+        Mark::Failed => {
+            let left = column_left(step) + 4;
+            let upper = u64::from(top) + 5;
+            writeln!(
+                text,
+                "<path class=\"failed\" d=\"M{left} {upper}l6 6m0-6l-6 6\"/>"
+            )
+        }
+    }
+}

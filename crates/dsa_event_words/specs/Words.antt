@@ -1,0 +1,101 @@
+-- An event in words.
+use Rattle.dsa_book.specs.declared.event.Event.TheVariants as event
+use Rattle.std.specs.Prelude.{ℕ, false, ◌==◌, if◌then◌else◌, List, [], ◌∷◌, ◌++◌, Option, unwrap_or, codes, decimal}
+use Rattle.std.specs.Fmt.{digits}
+use Rattle.dsa_base.specs.Rows.{first_row}
+use Rattle.dsa_desc.specs.declared.{Descriptor.{Descriptor}, Outcome.{Outcome, TheVariants.{Success, PageFault}}}
+use Rattle.dsa_desc.specs.Descriptor.{is_batch, is_transfer, is_fenced}
+use Rattle.dsa_regs.specs.declared.Command.{Command}
+use Rattle.dsa_regs.specs.declared.Command.TheVariants.{EnableDevice, DisableDevice, DrainAll, AbortAll, ResetDevice}
+use Rattle.dsa_regs.specs.declared.Command.TheVariants.{EnableWq, DisableWq, DrainWq, AbortWq, ResetWq, DrainPasid}
+use Rattle.dsa_regs.specs.declared.Command.TheVariants.{AbortPasid}
+use Rattle.dsa_regs.specs.declared.Scope.{Scope, TheVariants.{Device, Queue, Queues, Pasid}}
+use Rattle.dsa_regs.specs.Command.{scope_of, operand_of}
+use Rattle.dsa_book.specs.declared.event.{Event.{Event}, Portal.{Portal, TheVariants.{Limited, Unlimited}}}
+use Rattle.dsa_book.specs.declared.event.Kind.{Kind, TheVariants.{Enqcmd, Movdir64b}}
+
+-- ---- descriptors (profile)
+
+-- the word of an operation code
+abbrev pub operation_word : ℕ → Option (List ℕ)
+operation_word op = first_row (
+    (op == 0x00, codes "no-op") ∷
+    (op == 0x01, codes "batch") ∷
+    (op == 0x02, codes "drain") ∷
+    (op == 0x03, codes "move") ∷
+    (op == 0x04, codes "fill") ∷
+    (op == 0x05, codes "compare") ∷ [])
+
+-- that word, or the code where it has none
+abbrev pub operation_words : ℕ → List ℕ
+operation_words op = unwrap_or (operation_word op) (codes "operation 0x" ++ digits 16 false op)
+
+-- what a batch or a transfer says of its size
+abbrev pub size_words : Descriptor → List ℕ
+size_words d =
+    if is_batch d then codes " of " ++ decimal d.size
+    else (if is_transfer d then codes " " ++ decimal d.size ++ codes " bytes" else [])
+
+-- a mark on a descriptor with a fence
+abbrev pub fence_words : Descriptor → List ℕ
+fence_words d = if is_fenced d then codes " fence" else []
+
+abbrev pub descriptor_words : Descriptor → List ℕ
+descriptor_words d = operation_words d.op ++ size_words d ++ fence_words d
+
+-- ---- commands (profile)
+
+abbrev pub command_word : Command → List ℕ
+command_word EnableDevice = codes "enable-device"
+command_word DisableDevice = codes "disable-device"
+command_word DrainAll = codes "drain-all"
+command_word AbortAll = codes "abort-all"
+command_word ResetDevice = codes "reset-device"
+command_word (EnableWq queue) = codes "enable-wq"
+command_word (DisableWq queues) = codes "disable-wq"
+command_word (DrainWq queues) = codes "drain-wq"
+command_word (AbortWq queues) = codes "abort-wq"
+command_word (ResetWq queues) = codes "reset-wq"
+command_word (DrainPasid pasid) = codes "drain-pasid"
+command_word (AbortPasid pasid) = codes "abort-pasid"
+
+-- the operand, where there is one: of a mask in hexadecimal
+abbrev pub scope_words : Scope → List ℕ
+scope_words Device = []
+scope_words (Queue queue) = codes " " ++ decimal queue
+scope_words (Queues queues) = codes " 0x" ++ digits 16 false (operand_of (Queues queues))
+scope_words (Pasid pasid) = codes " " ++ decimal pasid
+
+abbrev pub command_words : Command → List ℕ
+command_words command = command_word command ++ scope_words (scope_of command)
+
+-- ---- events (profile)
+
+abbrev pub portal_word : Portal → List ℕ
+portal_word Limited = codes "limited"
+portal_word Unlimited = codes "unlimited"
+
+-- the instruction, with the PASID that ENQCMD brings
+abbrev pub kind_words : Kind → List ℕ
+kind_words (Enqcmd pasid) = codes "enqcmd pasid " ++ decimal pasid
+kind_words Movdir64b = codes "movdir"
+
+abbrev pub outcome_word : Outcome → List ℕ
+outcome_word Success = codes "success"
+outcome_word PageFault = codes "page-fault"
+
+-- what is asked of the device, in one line without its end
+abbrev pub event_words : Event → List ℕ
+event_words (event.Submit client queue portal kind desc) =
+    codes "submit q" ++ decimal queue ++ codes " " ++ portal_word portal ++ codes " " ++ kind_words kind
+    ++ codes " client " ++ decimal client ++ codes " " ++ descriptor_words desc
+event_words (event.Dispatch engine) = codes "dispatch e" ++ decimal engine
+event_words (event.Fetch engine desc) = codes "fetch e" ++ decimal engine ++ codes " " ++ descriptor_words desc
+event_words (event.Start engine) = codes "start e" ++ decimal engine
+event_words (event.Finish engine ticket outcome) =
+    codes "finish e" ++ decimal engine ++ codes " name " ++ decimal ticket.name ++ codes " " ++ outcome_word outcome
+event_words (event.Issue command) = codes "command " ++ command_words command
+event_words event.Poll = codes "poll"
+event_words (event.WriteQueue queue config) = codes "write queue " ++ decimal queue
+event_words (event.WriteGroup group config) = codes "write group " ++ decimal group
+event_words event.ClearError = codes "clear"

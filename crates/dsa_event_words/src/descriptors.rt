@@ -1,0 +1,67 @@
+//! Descriptors in words.
+
+ghost use Rattle.std.specs.Prelude.{◌≡◌, ◌++◌, OnOk, option_map, string_bytes};
+ghost use Rattle.dsa_event_words.specs.Words.{descriptor_words, fence_words, operation_word, operation_words, size_words};
+
+use crate::numbers::add_number;
+use dsa_desc::Descriptor;
+use dsa_desc::opcode::{
+    DSA_OPCODE_BATCH, DSA_OPCODE_COMPARE, DSA_OPCODE_DRAIN, DSA_OPCODE_MEMFILL, DSA_OPCODE_MEMMOVE,
+    DSA_OPCODE_NOOP,
+};
+use std::alloc::AllocError;
+use std::fmt::Write;
+
+fn operation_word(op: u8) -> Option<&'static str>
+    ensures { option_map (λ word. word.now) result ≡ operation_word op }
+{
+    match op {
+        DSA_OPCODE_NOOP => Some("no-op"),
+        DSA_OPCODE_BATCH => Some("batch"),
+        DSA_OPCODE_DRAIN => Some("drain"),
+        DSA_OPCODE_MEMMOVE => Some("move"),
+        DSA_OPCODE_MEMFILL => Some("fill"),
+        DSA_OPCODE_COMPARE => Some("compare"),
+        _ => None,
+    }
+}
+
+fn add_operation(text: &mut String, op: u8) -> Result<(), AllocError>
+    ensures { OnOk result (string_bytes text.new ≡ string_bytes text.old ++ operation_words op) }
+{
+    match operation_word(op) {
+        Some(word) => text.push_str(word),
+        None => write!(text, "operation 0x{op:x}"),
+    }
+}
+
+fn add_size(text: &mut String, desc: &Descriptor) -> Result<(), AllocError>
+    ensures { OnOk result (string_bytes text.new ≡ string_bytes text.old ++ size_words desc.now) }
+{
+    if desc.is_batch() {
+        return add_number(text, " of ", desc.size);
+    }
+    if desc.is_transfer() {
+        add_number(text, " ", desc.size)?;
+        text.push_str(" bytes")?;
+    }
+    Ok(())
+}
+
+fn add_fence(text: &mut String, desc: &Descriptor) -> Result<(), AllocError>
+    ensures { OnOk result (string_bytes text.new ≡ string_bytes text.old ++ fence_words desc.now) }
+{
+    if desc.is_fenced() {
+        text.push_str(" fence")?;
+    }
+    Ok(())
+}
+
+/// Adds the words of a descriptor.
+pub fn add_descriptor(text: &mut String, desc: &Descriptor) -> Result<(), AllocError>
+    ensures { OnOk result (string_bytes text.new ≡ string_bytes text.old ++ descriptor_words desc.now) }
+{
+    add_operation(text, desc.op)?;
+    add_size(text, desc)?;
+    add_fence(text, desc)
+}

@@ -1,0 +1,57 @@
+//! Worked events: what the definitions say of chosen ones, by computation.
+
+ghost use Rattle.std.specs.Prelude.{◌≡◌, [], ◌∷◌, codes, map};
+ghost use Rattle.dsa_desc.specs.declared.Outcome.TheVariants.{Success, PageFault};
+ghost use Rattle.dsa_regs.specs.declared.Command.TheVariants.{EnableDevice, DisableDevice, DrainAll, AbortAll, ResetDevice, EnableWq, DisableWq, DrainWq, AbortWq, ResetWq, DrainPasid, AbortPasid};
+ghost use Rattle.dsa_regs.specs.Config.{zero_queue, zero_group};
+ghost use Rattle.dsa_book.specs.declared.event.Event.TheVariants.{Submit, Dispatch, Fetch, Start, Finish, Issue, Poll, WriteQueue, WriteGroup, ClearError};
+ghost use Rattle.dsa_book.specs.declared.event.Kind.TheVariants.{Enqcmd, Movdir64b};
+ghost use Rattle.dsa_book.specs.declared.event.Portal.TheVariants.{Limited, Unlimited};
+ghost use Rattle.dsa_event_words.specs.Words.{command_words, descriptor_words, event_words};
+ghost use Rattle.dsa_event_words.specs.Worked.{desc, mask, move, ticket};
+
+/// Descriptors: the operation, the size where it counts, and the fence.
+#[tactic(auto, unfolding(crate::specs::Worked::digits_on_literals))]
+pub fn descriptors()
+    ensures no_op { descriptor_words (desc 0 0 7) ≡ codes "no-op" }
+    ensures batch { descriptor_words (desc 0 1 8) ≡ codes "batch of 8" }
+    ensures drain { descriptor_words (desc 0 2 7) ≡ codes "drain" }
+    ensures transfers { map descriptor_words (move ∷ desc 0 4 1 ∷ desc 0 5 0 ∷ []) ≡ codes "move 4096 bytes" ∷ codes "fill 1 bytes" ∷ codes "compare 0 bytes" ∷ [] }
+    ensures other { map descriptor_words (desc 0 6 7 ∷ desc 0 0xab 7 ∷ []) ≡ codes "operation 0x6" ∷ codes "operation 0xab" ∷ [] }
+    ensures fence { map descriptor_words (desc 1 3 16 ∷ desc 3 0 0 ∷ desc 2 0 0 ∷ []) ≡ codes "move 16 bytes fence" ∷ codes "no-op fence" ∷ codes "no-op" ∷ [] }
+{}
+
+/// Commands: those of the device have no operand, a queue and a PASID are decimal, and a mask is hexadecimal.
+#[tactic(auto, unfolding(crate::specs::Worked::digits_on_literals))]
+pub fn commands()
+    ensures device { map command_words (EnableDevice ∷ DisableDevice ∷ DrainAll ∷ AbortAll ∷ ResetDevice ∷ []) ≡ codes "enable-device" ∷ codes "disable-device" ∷ codes "drain-all" ∷ codes "abort-all" ∷ codes "reset-device" ∷ [] }
+    ensures queue { command_words (EnableWq 63) ≡ codes "enable-wq 63" }
+    ensures masks { map command_words (DisableWq (mask 0 3) ∷ DrainWq (mask 0 0xa1) ∷ AbortWq (mask 1 5) ∷ ResetWq (mask 3 0x8000) ∷ []) ≡ codes "disable-wq 0x3" ∷ codes "drain-wq 0xa1" ∷ codes "abort-wq 0x10005" ∷ codes "reset-wq 0x38000" ∷ [] }
+    ensures pasid { map command_words (DrainPasid 5 ∷ AbortPasid 1048575 ∷ []) ≡ codes "drain-pasid 5" ∷ codes "abort-pasid 1048575" ∷ [] }
+{}
+
+/// Submissions by each instruction, on each portal.
+#[tactic(auto, unfolding(crate::specs::Worked::digits_on_literals))]
+pub fn submissions()
+    ensures enqcmd { event_words (Submit 3 0 Limited (Enqcmd 5) move) ≡ codes "submit q0 limited enqcmd pasid 5 client 3 move 4096 bytes" }
+    ensures movdir { event_words (Submit 0 12 Unlimited Movdir64b (desc 0 2 0)) ≡ codes "submit q12 unlimited movdir client 0 drain" }
+{}
+
+/// What engines are asked.
+#[tactic(auto, unfolding(crate::specs::Worked::digits_on_literals))]
+pub fn engine_events()
+    ensures dispatch { event_words (Dispatch 10) ≡ codes "dispatch e10" }
+    ensures fetch { event_words (Fetch 1 (desc 1 0 0)) ≡ codes "fetch e1 no-op fence" }
+    ensures start { event_words (Start 63) ≡ codes "start e63" }
+    ensures finish { map event_words (Finish 1 (ticket 4 7) Success ∷ Finish 2 (ticket 7 4) PageFault ∷ []) ≡ codes "finish e1 name 7 success" ∷ codes "finish e2 name 4 page-fault" ∷ [] }
+{}
+
+/// What the administrator asks.
+#[tactic(auto, unfolding(crate::specs::Worked::digits_on_literals))]
+pub fn admin_events()
+    ensures command { event_words (Issue (DrainWq (mask 0 1))) ≡ codes "command drain-wq 0x1" }
+    ensures poll { event_words Poll ≡ codes "poll" }
+    ensures queue { event_words (WriteQueue 12 zero_queue) ≡ codes "write queue 12" }
+    ensures group { event_words (WriteGroup 7 zero_group) ≡ codes "write group 7" }
+    ensures clear { event_words ClearError ≡ codes "clear" }
+{}

@@ -1,0 +1,22 @@
+use Rattle.dsa_explain_lines.proofs.dispatch.joint.Goals as goal
+use Rattle.std.proofs.Common.{◌≡◌, ◌∙◌, sym, ap, true, Option, refl}
+use Rattle.std.specs.Prelude.{is_some}
+use Rattle.dsa_base.proofs.NumberLemmas.{numbers_below-hit}
+use Rattle.dsa_explain.specs.{declared.dispatch.QueueReason.{QueueReason}, Dispatch.{queue_reason}}
+use Rattle.dsa_explain_lines.proofs.Joining.{none-next}
+
+pub returns-then-is_some : goal.returns-then-is_some
+returns-then-is_some g c =
+    let w = c.args.device.now.state.work in
+    let here : is_some (queue_reason w c.args.engine c.loop-other.other) ≡ true =
+    ap (λ (o : Option QueueReason). is_some o) (sym c.queue_reason.ensures.reason) ∙ sym c.is_some.ensures
+    ∙ c.if-is_some.true in
+    rw (numbers_below-hit (λ q. is_some (queue_reason w c.args.engine q)) c.args.queue c.loop-other.other
+    c.loop-other-test.true here) refl
+
+pub loop-other-preserved : goal.loop-other-preserved
+loop-other-preserved g c =
+    let w = c.args.device.now.state.work in
+    none-next (λ q. is_some (queue_reason w c.args.engine q)) c.loop-other.other c.loop-other.invariant
+    (ap (λ (o : Option QueueReason). is_some o) (sym c.queue_reason.ensures.reason) ∙ sym c.is_some.ensures
+    ∙ c.if-is_some.false)

@@ -1,0 +1,4 @@
+pub mod Sentences
+pub mod Parts
+pub mod Lines
+pub mod Run

@@ -1,0 +1,98 @@
+-- What a line tells behind an answer.
+use Rattle.dsa_book.specs.declared.event.Event.TheVariants as event
+use Rattle.std.specs.Prelude.{ℕ, ◌==◌, cond, List, [], ◌++◌, Option, Some, None, is_some, codes}
+use Rattle.std.specs.Prelude.{length, Result, Ok, Err}
+use Rattle.std.specs.Prelude.{flat_map}
+use Rattle.std.specs.List.{list_any}
+use Rattle.dsa_base.specs.Numbers.{numbers_below}
+use Rattle.dsa_device.specs.Running.{Running}
+use Rattle.dsa_regs.specs.declared.Fault.{Fault}
+use Rattle.dsa_regs.specs.declared.{Command.{Command}, Scope.{Scope}}
+use Rattle.dsa_regs.specs.declared.Scope.TheVariants.{Device, Queue}
+use Rattle.dsa_regs.specs.{Command.{scope_of}, Config.{queue_at, total_size}}
+use Rattle.dsa_book.specs.{declared.event.Event.{Event}, State.{Setup, Work, State, has_queue}, Work.{front_of}}
+use Rattle.dsa_explain.specs.declared.{check.CheckReason.{CheckReason}}
+use Rattle.dsa_explain.specs.declared.{dispatch.{EngineReason.{EngineReason}, QueueReason.{QueueReason}}}
+use Rattle.dsa_explain.specs.{Submission.{submit_reason}, Dispatch.{engine_reason, queue_reason}}
+use Rattle.dsa_explain.specs.Batch.{name_of, fetch_reason, start_reason}
+use Rattle.dsa_explain.specs.{Finish.{finish_reason}, Command.{issue_reason, poll_reason}, Held.{awaited_entry}}
+use Rattle.dsa_explain.specs.Check as checks
+use Rattle.dsa_explain.specs.Write.{write_queue_reason, write_group_reason, clear_reason}
+use Rattle.dsa_explain_lines.specs.Sentences.{submit_sentence, engine_sentence, queue_sentence, fetch_sentence}
+use Rattle.dsa_explain_lines.specs.Sentences.{start_sentence, finish_sentence, issue_sentence, poll_sentence}
+use Rattle.dsa_explain_lines.specs.Sentences.{write_sentence, clear_sentence, counted}
+
+-- the sentence of a reason, behind its mark; nothing where there is no reason
+abbrev pub told_of : {R : Type 0} → (R → List ℕ) → Option R → List ℕ
+told_of sentence None = []
+told_of sentence (Some reason) = codes ": " ++ sentence reason
+
+-- ---- an idle engine
+
+-- what stands before a queue's reason: the mark, or what joins it to one before
+abbrev pub joint : Work → ℕ → ℕ → List ℕ
+joint w e q = cond (list_any (λ other. is_some (queue_reason w e other)) (numbers_below q)) (codes "; ") (codes ": ")
+
+abbrev pub queue_part_of : Work → ℕ → ℕ → Option QueueReason → List ℕ
+queue_part_of w e q None = []
+queue_part_of w e q (Some reason) = joint w e q ++ queue_sentence q (name_of (front_of w q)) reason
+
+-- the reason of a queue of the engine's group
+abbrev pub queue_part : Work → ℕ → ℕ → List ℕ
+queue_part w e q = queue_part_of w e q (queue_reason w e q)
+
+abbrev pub dispatch_part_of : Work → ℕ → Option EngineReason → List ℕ
+dispatch_part_of w e (Some reason) = codes ": " ++ engine_sentence e reason
+dispatch_part_of w e None = flat_map (queue_part w e) (numbers_below w.setup.caps.queues)
+
+-- the reason of the engine, or that of each queue of its group
+abbrev pub dispatch_part : Work → ℕ → List ℕ
+dispatch_part w e = dispatch_part_of w e (engine_reason w e)
+
+-- ---- commands
+
+-- what the check of an enable finds, of the device or of a queue
+abbrev pub check_reason : Setup → Scope → Option CheckReason
+check_reason setup Device = checks.groups_reason setup.caps (total_size setup.configs) setup.groups
+check_reason setup (Queue q) =
+    cond (has_queue setup q) (checks.queue_reason setup.caps setup.groups q (queue_at setup.configs q)) None
+check_reason setup _ = None
+
+abbrev pub issue_part : State → Command → List ℕ
+issue_part s command =
+    told_of (issue_sentence (check_reason s.work.setup (scope_of command))) (issue_reason s command)
+
+-- ---- any event
+
+-- why the event is answered as it is in this state
+abbrev pub event_part : State → Event → List ℕ
+event_part s (event.Submit client queue portal kind desc) =
+    told_of (submit_sentence queue) (submit_reason s queue portal kind)
+event_part s (event.Dispatch engine) = dispatch_part s.work engine
+event_part s (event.Fetch engine desc) = told_of (fetch_sentence engine) (fetch_reason s.work engine)
+event_part s (event.Start engine) = told_of (start_sentence engine) (start_reason s.work engine)
+event_part s (event.Finish engine ticket outcome) =
+    told_of (finish_sentence engine) (finish_reason s.work engine ticket)
+event_part s (event.Issue command) = issue_part s command
+event_part s event.Poll = told_of (poll_sentence (awaited_entry s)) (poll_reason s)
+event_part s (event.WriteQueue queue config) =
+    told_of (write_sentence (codes "queues")) (write_queue_reason s.work.setup queue config)
+event_part s (event.WriteGroup group config) =
+    told_of (write_sentence (codes "groups")) (write_group_reason s.work.setup group)
+event_part s event.ClearError = told_of clear_sentence (clear_reason s.work.setup.noted)
+
+-- ---- what is asked of a device
+
+-- what a history without room says
+abbrev pub room_part : ℕ → List ℕ
+room_part capacity = counted (codes ": the history has room for ") capacity (codes " steps")
+
+-- what is said of a word that is no command
+abbrev pub word_part : List ℕ
+word_part = codes ": no command has the number of the word, or one of its bits 30:25 is set"
+
+-- why a device that stands so answers the event as it does, or why the word is refused (profile)
+abbrev pub part_of : Running → Result Event Fault → List ℕ
+part_of now (Err fault) = word_part
+part_of now (Ok event) =
+    cond (length now.history == now.capacity) (room_part now.capacity) (event_part now.state event)

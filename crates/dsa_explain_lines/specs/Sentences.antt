@@ -1,0 +1,240 @@
+-- The sentence of each reason.
+use Rattle.dsa_explain.specs.declared.submission.SubmitReason.TheVariants as submit
+use Rattle.dsa_explain.specs.declared.dispatch.EngineReason.TheVariants as engine
+use Rattle.dsa_explain.specs.declared.dispatch.QueueReason.TheVariants as queue
+use Rattle.dsa_explain.specs.declared.batch.FetchReason.TheVariants as fetch
+use Rattle.dsa_explain.specs.declared.batch.StartReason.TheVariants as start
+use Rattle.dsa_explain.specs.declared.finish.FinishReason.TheVariants as finish
+use Rattle.dsa_explain.specs.declared.command.IssueReason.TheVariants as issue
+use Rattle.dsa_explain.specs.declared.command.PollReason.TheVariants as poll
+use Rattle.dsa_explain.specs.declared.check.CheckReason.TheVariants as check
+use Rattle.dsa_explain.specs.declared.write.WriteReason.TheVariants as write
+use Rattle.dsa_explain.specs.declared.write.ClearReason.TheVariants as clear
+use Rattle.std.specs.Prelude.{ℕ, Bool, true, false, List, [], ◌++◌, Option, Some, None, codes, decimal}
+use Rattle.dsa_regs.specs.declared.{Command.{Command}, Phase.{Phase, TheVariants.{Off, On, Stopping}}, layout.ListUse.{ListUse}}
+use Rattle.dsa_regs.specs.declared.layout.ListUse.TheVariants.{Queue, Progress, Members}
+use Rattle.dsa_book.specs.declared.event.{Portal.{Portal}}
+use Rattle.dsa_event_words.specs.Words.{command_words, portal_word}
+use Rattle.dsa_explain.specs.declared.submission.SubmitReason.{SubmitReason}
+use Rattle.dsa_explain.specs.declared.dispatch.{EngineReason.{EngineReason}, QueueReason.{QueueReason}}
+use Rattle.dsa_explain.specs.declared.batch.{FetchReason.{FetchReason}, StartReason.{StartReason}}
+use Rattle.dsa_explain.specs.declared.{finish.FinishReason.{FinishReason}, buffers.BufferWant.{BufferWant}}
+use Rattle.dsa_explain.specs.declared.command.{IssueReason.{IssueReason}, PollReason.{PollReason}}
+use Rattle.dsa_explain.specs.declared.{check.CheckReason.{CheckReason}, held.Held.{Held}}
+use Rattle.dsa_explain.specs.declared.write.{WriteReason.{WriteReason}, ClearReason.{ClearReason}}
+
+-- ---- what several sentences have
+
+-- a text with a number in it
+abbrev pub counted : List ℕ → ℕ → List ℕ → List ℕ
+counted before n after = before ++ decimal n ++ after
+
+-- a text with two numbers in it
+abbrev pub counted_twice : List ℕ → ℕ → List ℕ → ℕ → List ℕ → List ℕ
+counted_twice before m between n after = before ++ decimal m ++ (between ++ decimal n ++ after)
+
+abbrev pub phase_word : Phase → List ℕ
+phase_word Off = codes "off"
+phase_word On = codes "on"
+phase_word Stopping = codes "stopping"
+
+-- a text and a phase
+abbrev pub phased : List ℕ → Phase → List ℕ
+phased before phase = before ++ phase_word phase
+
+-- a list of the device
+abbrev pub list_words : ListUse → List ℕ
+list_words (Queue q) = codes "q" ++ decimal q
+list_words (Progress e) = codes "e" ++ decimal e
+list_words (Members e) = codes "the batch of e" ++ decimal e
+
+abbrev pub no_engine : ℕ → List ℕ
+no_engine e = codes "the device has no e" ++ decimal e
+
+abbrev pub no_group : ℕ → List ℕ
+no_group e = counted (codes "e") e (codes " is of no group")
+
+-- the numbers by which read buffers do not fit a group
+abbrev pub want_words : BufferWant → List ℕ
+want_words want =
+    counted_twice (codes "needs ") want.asked (codes " read buffers, group ") want.group (codes "")
+    ++ counted_twice (codes " uses ") want.used (codes " of ") want.allowed (codes "")
+    ++ counted_twice (codes ", all groups use ") want.in_use (codes " of ") want.buffers (codes "")
+    ++ counted (codes ", and ") want.kept (codes " are kept")
+
+-- ---- submissions
+
+abbrev pub mode_words : Bool → List ℕ
+mode_words true = codes " is dedicated, and takes movdir"
+mode_words false = codes " is shared, and takes enqcmd"
+
+-- of a device in this phase with the queue in that one, where it has the queue
+abbrev pub enabled_words : ℕ → Phase → Option Phase → List ℕ
+enabled_words q device None = codes "the device has no q" ++ decimal q
+enabled_words q device (Some phase) =
+    phased (codes "the device is ") device ++ (codes ", and q" ++ decimal q) ++ phased (codes " is ") phase
+
+-- of a queue that holds so many, through the portal with that limit
+abbrev pub at_limit_words : ℕ → ℕ → ℕ → Portal → List ℕ
+at_limit_words q occupancy limit portal =
+    counted_twice (codes "q") q (codes " holds ") occupancy (codes " entries, and the ")
+    ++ portal_word portal ++ (codes " portal goes up to " ++ decimal limit)
+
+-- of the queue
+abbrev pub submit_sentence : ℕ → SubmitReason → List ℕ
+submit_sentence q (submit.NotEnabled device phase) = enabled_words q device phase
+submit_sentence q (submit.WrongKind dedicated) = counted (codes "q") q (mode_words dedicated)
+submit_sentence q (submit.AtLimit occupancy limit portal) = at_limit_words q occupancy limit portal
+
+-- ---- engines
+
+-- of the engine
+abbrev pub engine_sentence : ℕ → EngineReason → List ℕ
+engine_sentence e engine.NoEngine = no_engine e
+engine_sentence e engine.NoGroup = no_group e
+
+-- the front of a queue, by its name, and what it is
+abbrev pub front_words : ℕ → ℕ → List ℕ → List ℕ
+front_words q name after = counted_twice (codes "q") q (codes "'s front ") name after
+
+-- of the queue and the name at its front
+abbrev pub queue_sentence : ℕ → ℕ → QueueReason → List ℕ
+queue_sentence q name queue.Empty = counted (codes "q") q (codes " is empty")
+queue_sentence q name (queue.NoSlot used slots) =
+    front_words q name (codes " waits for a slot, of which ")
+    ++ counted_twice (codes "") used (codes " of ") slots (codes " are in use")
+queue_sentence q name (queue.NoBuffers want) = front_words q name (codes " ") ++ want_words want
+queue_sentence q name (queue.OtherBatch batch) =
+    front_words q name (codes " is a batch") ++ counted (codes ", and the engine works on batch ") batch (codes "")
+queue_sentence q name (queue.OtherDrain drain) =
+    front_words q name (codes " is a drain")
+    ++ counted (codes ", and drain ") drain (codes " is in progress on the engine")
+
+abbrev pub closed_words : Bool → List ℕ
+closed_words true = codes ", and the rest is abandoned"
+closed_words false = []
+
+-- of the engine
+abbrev pub fetch_sentence : ℕ → FetchReason → List ℕ
+fetch_sentence e fetch.NoEngine = no_engine e
+fetch_sentence e fetch.NoBatch = counted (codes "e") e (codes " works on no batch")
+fetch_sentence e (fetch.AllFetched count fetched closed) =
+    counted_twice (codes "") fetched (codes " of ") count (codes " members are fetched") ++ closed_words closed
+
+-- of the engine
+abbrev pub start_sentence : ℕ → StartReason → List ℕ
+start_sentence e start.Nothing = counted (codes "no member waits on e") e (codes "")
+start_sentence e (start.Fence member waits_for) =
+    counted_twice (codes "member ") member (codes " has a fence, and waits for ") waits_for (codes "")
+start_sentence e (start.Failed member left) =
+    counted_twice (codes "member ") member (codes " has a fence, one before it failed, and ") left
+    (codes " end unstarted")
+start_sentence e (start.NoBuffers want) = codes "the member " ++ want_words want
+start_sentence e start.NoGroup = no_group e
+
+-- of the engine
+abbrev pub finish_sentence : ℕ → FinishReason → List ℕ
+finish_sentence e finish.NoEngine = no_engine e
+finish_sentence e finish.NoEntry = codes "the cell of the ticket holds no entry"
+finish_sentence e (finish.OtherName name) = counted (codes "the cell of the ticket holds ") name (codes " by now")
+finish_sentence e (finish.Elsewhere list) = codes "the entry stands in " ++ list_words list
+finish_sentence e finish.NotStarted = codes "the member has not started"
+finish_sentence e (finish.MembersLeft left) = counted (codes "") left (codes " members have not ended")
+finish_sentence e (finish.StillToFetch fetched count) =
+    counted_twice (codes "") fetched (codes " of ") count (codes " members are fetched")
+finish_sentence e (finish.DrainWaits first) = counted (codes "the drain waits for ") first (codes "")
+
+-- ---- commands
+
+-- a field of a queue is above what it may be
+abbrev pub above_words : List ℕ → ℕ → ℕ → List ℕ → ℕ → List ℕ
+above_words field q value bound most =
+    field ++ decimal q ++ counted_twice (codes " is ") value bound most (codes "")
+
+-- of a queue
+abbrev pub queue_check_words : CheckReason → List ℕ
+queue_check_words (check.SizeZero q) = counted (codes "the size of q") q (codes " is 0")
+queue_check_words (check.PriorityZero q) = counted (codes "the priority of q") q (codes " is 0")
+queue_check_words (check.PriorityTooLarge q priority) =
+    above_words (codes "the priority of q") q priority (codes ", above ") 15
+queue_check_words (check.ThresholdZero q) = counted (codes "the threshold of q") q (codes " is 0")
+queue_check_words (check.ThresholdAboveSize q threshold size) =
+    above_words (codes "the threshold of q") q threshold (codes ", above its size of ") size
+queue_check_words (check.BatchTooLarge q asked most) =
+    above_words (codes "the batch shift of q") q asked (codes ", above the device's ") most
+queue_check_words (check.TransferTooLarge q asked most) =
+    above_words (codes "the transfer shift of q") q asked (codes ", above the device's ") most
+queue_check_words (check.NoGroup q) = counted (codes "no group has q") q (codes "")
+queue_check_words _ = []
+
+-- of the device, of a group, or of a queue
+abbrev pub check_sentence : CheckReason → List ℕ
+check_sentence check.NamesMissing = codes "a group names a queue or an engine that the device does not have"
+check_sentence (check.SizesTooLarge sizes total) =
+    counted_twice (codes "the sizes of the queues are ") sizes (codes ", of ") total (codes "")
+check_sentence check.TwoGroups = codes "a queue or an engine is in two groups"
+check_sentence (check.ReservedTooMany reserved total) =
+    counted_twice (codes "the groups reserve ") reserved (codes " read buffers, of ") total (codes "")
+check_sentence check.AllowedOutOfRange =
+    codes "a group may use too few read buffers, or more than others leave"
+check_sentence (check.GroupWithoutEngine group) = counted (codes "group ") group (codes " has a queue and no engine")
+check_sentence (check.GroupWithoutQueue group) = counted (codes "group ") group (codes " has an engine and no queue")
+check_sentence reason = queue_check_words reason
+
+-- what the check found, where it did
+abbrev pub found_words : Option CheckReason → List ℕ
+found_words None = []
+found_words (Some reason) = check_sentence reason
+
+-- the queue that is named, or none
+abbrev pub named_words : Option ℕ → List ℕ
+named_words None = codes "no queue is named"
+named_words (Some q) = codes "the device has no q" ++ decimal q
+
+-- whose phase it is: of a queue, or of the device
+abbrev pub whose_words : Option ℕ → List ℕ
+whose_words None = codes "the device"
+whose_words (Some q) = codes "q" ++ decimal q
+
+-- the active command, and how many entries it waits for
+abbrev pub busy_words : Command → ℕ → List ℕ
+busy_words active awaited =
+    command_words active ++ counted (codes " is active, and waits for ") awaited (codes " entries")
+
+-- with what the check of an enable found
+abbrev pub issue_sentence : Option CheckReason → IssueReason → List ℕ
+issue_sentence found (issue.Busy active awaited) = busy_words active awaited
+issue_sentence found (issue.NoQueue q) = named_words q
+issue_sentence found (issue.WrongPhase q phase) = whose_words q ++ phased (codes " is ") phase
+issue_sentence found (issue.Check fault) = found_words found
+
+-- an entry, by its name and its list
+abbrev pub held_words : Held → List ℕ
+held_words held = counted (codes "") held.entry.name (codes " in ") ++ list_words held.list
+
+-- the first that is awaited
+abbrev pub first_words : Option Held → List ℕ
+first_words None = []
+first_words (Some held) = codes ", first for " ++ held_words held
+
+-- with the first entry that is awaited
+abbrev pub poll_sentence : Option Held → PollReason → List ℕ
+poll_sentence first poll.Nothing = codes "no command is active"
+poll_sentence first (poll.Waits awaited) =
+    counted (codes "the command waits for ") awaited (codes " entries") ++ first_words first
+
+-- ---- configurations
+
+abbrev pub device_words : Phase → List ℕ
+device_words phase = phased (codes "the device is ") phase
+
+-- what is written: queues or groups
+abbrev pub write_sentence : List ℕ → WriteReason → List ℕ
+write_sentence what (write.BadIndex count) = counted (codes "the device has ") count (codes " ") ++ what
+write_sentence what (write.LockedQueue phase) = phased (codes "the queue is ") phase
+write_sentence what (write.LockedSize phase size) =
+    device_words phase ++ counted (codes ", and the size stays ") size (codes "")
+write_sentence what (write.LockedGroup phase) = device_words phase
+
+abbrev pub clear_sentence : ClearReason → List ℕ
+clear_sentence clear.NothingNoted = codes "no error is noted"

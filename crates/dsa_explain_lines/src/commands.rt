@@ -1,0 +1,101 @@
+//! Commands that are refused, and one that is not over.
+
+ghost use Rattle.std.specs.Prelude.{◌≡◌, ◌++◌, OnOk, string_bytes};
+ghost use Rattle.dsa_explain_lines.specs.Sentences.{busy_words, first_words, found_words, held_words, issue_sentence, named_words, poll_sentence, whose_words};
+
+use crate::checks::add_check_reason;
+use crate::words::{add_counted, add_list, add_phase};
+use dsa_event_words::{add_command, add_number};
+use dsa_explain::{CheckReason, Held, IssueReason, PollReason};
+use dsa_regs::Command;
+use std::alloc::AllocError;
+
+fn add_busy(text: &mut String, active: &Command, awaited: u32) -> Result<(), AllocError>
+    ensures { OnOk result (string_bytes text.new ≡ string_bytes text.old ++ busy_words active.now awaited) }
+{
+    add_command(text, active)?;
+    add_counted(text, " is active, and waits for ", awaited, " entries")
+}
+
+// The queue that is missing, where one is named.
+fn add_named(text: &mut String, queue: Option<u32>) -> Result<(), AllocError>
+    ensures { OnOk result (string_bytes text.new ≡ string_bytes text.old ++ named_words queue) }
+{
+    match queue {
+        Some(queue) => add_number(text, "the device has no q", queue),
+        None => text.push_str("no queue is named"),
+    }
+}
+
+// A queue, or the device.
+fn add_whose(text: &mut String, queue: Option<u32>) -> Result<(), AllocError>
+    ensures { OnOk result (string_bytes text.new ≡ string_bytes text.old ++ whose_words queue) }
+{
+    match queue {
+        Some(queue) => add_number(text, "q", queue),
+        None => text.push_str("the device"),
+    }
+}
+
+fn add_found(text: &mut String, found: &Option<CheckReason>) -> Result<(), AllocError>
+    ensures { OnOk result (string_bytes text.new ≡ string_bytes text.old ++ found_words found.now) }
+{
+    match found {
+        Some(reason) => add_check_reason(text, reason),
+        None => Ok(()),
+    }
+}
+
+/// Adds the sentence of why a command is refused, with what the check of an enable found.
+pub fn add_issue_reason(
+    text: &mut String,
+    found: &Option<CheckReason>,
+    reason: &IssueReason,
+) -> Result<(), AllocError>
+    ensures { OnOk result (string_bytes text.new ≡ string_bytes text.old ++ issue_sentence found.now reason.now) }
+{
+    match reason {
+        IssueReason::Busy { active, awaited } => add_busy(text, active, *awaited),
+        IssueReason::NoQueue { queue } => add_named(text, *queue),
+        IssueReason::WrongPhase { queue, phase } => {
+            add_whose(text, *queue)?;
+            add_phase(text, " is ", *phase)
+        }
+        IssueReason::Check(_) => add_found(text, found),
+    }
+}
+
+/// Adds the name of an entry, and its list.
+pub fn add_held(text: &mut String, held: &Held) -> Result<(), AllocError>
+    ensures { OnOk result (string_bytes text.new ≡ string_bytes text.old ++ held_words held.now) }
+{
+    add_counted(text, "", held.entry.name, " in ")?;
+    add_list(text, held.list)
+}
+
+fn add_first(text: &mut String, first: &Option<Held>) -> Result<(), AllocError>
+    ensures { OnOk result (string_bytes text.new ≡ string_bytes text.old ++ first_words first.now) }
+{
+    let Some(held) = first else {
+        return Ok(());
+    };
+    text.push_str(", first for ")?;
+    add_held(text, held)
+}
+
+/// Adds the sentence of why the active command is not over, with the first entry that it waits for.
+pub fn add_poll_reason(
+    text: &mut String,
+    first: &Option<Held>,
+    reason: &PollReason,
+) -> Result<(), AllocError>
+    ensures { OnOk result (string_bytes text.new ≡ string_bytes text.old ++ poll_sentence first.now reason.now) }
+{
+    match *reason {
+        PollReason::Nothing => text.push_str("no command is active"),
+        PollReason::Waits { awaited } => {
+            add_counted(text, "the command waits for ", awaited, " entries")?;
+            add_first(text, first)
+        }
+    }
+}

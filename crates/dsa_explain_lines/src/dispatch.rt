@@ -1,0 +1,143 @@
+//! Idle engines.
+
+ghost use Rattle.std.specs.Prelude.{◌≡◌, ◌<◌, ◌++◌, OnOk, cond, codes, flat_map, is_some, string_bytes};
+ghost use Rattle.std.specs.List.{list_any};
+ghost use Rattle.dsa_base.specs.Numbers.{numbers_below};
+ghost use Rattle.dsa_book.specs.Work.{front_of};
+ghost use Rattle.dsa_explain.specs.Batch.{name_of};
+ghost use Rattle.dsa_explain.specs.Dispatch.{queue_reason};
+ghost use Rattle.dsa_explain_lines.specs.Parts.{dispatch_part, joint, queue_part};
+ghost use Rattle.dsa_explain_lines.specs.Sentences.{engine_sentence, front_words, queue_sentence};
+
+use crate::words::{add_counted, add_counted_twice, add_no_engine, add_no_group, add_want};
+use dsa_device::Device;
+use dsa_explain::{EngineReason, QueueReason, engine_reason, queue_reason};
+use dsa_store::EntryStore;
+use std::alloc::AllocError;
+
+/// Adds the sentence of why no queue is looked at for the engine.
+pub fn add_engine_reason(
+    text: &mut String,
+    engine: u16,
+    reason: &EngineReason,
+) -> Result<(), AllocError>
+    ensures { OnOk result (string_bytes text.new ≡ string_bytes text.old ++ engine_sentence engine reason.now) }
+{
+    match *reason {
+        EngineReason::NoEngine => add_no_engine(text, engine),
+        EngineReason::NoGroup => add_no_group(text, engine),
+    }
+}
+
+// The front of a queue, by its name, and what it is.
+fn add_front(text: &mut String, queue: u16, name: u32, after: &str) -> Result<(), AllocError>
+    ensures { OnOk result (string_bytes text.new ≡ string_bytes text.old ++ front_words queue name after.now) }
+{
+    add_counted_twice(text, "q", u32::from(queue), "'s front ", name, after)
+}
+
+/// Adds the sentence of why an engine does not take the front of the queue, which has this name.
+pub fn add_queue_reason(
+    text: &mut String,
+    queue: u16,
+    name: u32,
+    reason: &QueueReason,
+) -> Result<(), AllocError>
+    ensures { OnOk result (string_bytes text.new ≡ string_bytes text.old ++ queue_sentence queue name reason.now) }
+{
+    match reason {
+        QueueReason::Empty => add_counted(text, "q", u32::from(queue), " is empty"),
+        QueueReason::NoSlot { used, slots } => {
+            add_front(text, queue, name, " waits for a slot, of which ")?;
+            add_counted_twice(text, "", *used, " of ", u32::from(*slots), " are in use")
+        }
+        QueueReason::NoBuffers(want) => {
+            add_front(text, queue, name, " ")?;
+            add_want(text, want)
+        }
+        QueueReason::OtherBatch { batch } => {
+            add_front(text, queue, name, " is a batch")?;
+            add_counted(text, ", and the engine works on batch ", *batch, "")
+        }
+        QueueReason::OtherDrain { drain } => {
+            add_front(text, queue, name, " is a drain")?;
+            add_counted(
+                text,
+                ", and drain ",
+                *drain,
+                " is in progress on the engine",
+            )
+        }
+    }
+}
+
+// The name of the front of the queue.
+fn front_name<S: EntryStore>(device: &Device<S>, queue: u16) -> u32
+    requires { queue < device.now.caps.queues }
+    ensures { result ≡ name_of (front_of device.now.state.work queue) }
+{
+    device.state_is_replay();
+    match device.waiting_at(queue, 0) {
+        Some((_, entry)) => entry.name,
+        None => 0,
+    }
+}
+
+// What stands before the queue's reason: the mark, or what joins it to one before.
+fn joint<S: EntryStore>(device: &Device<S>, engine: u16, queue: u16) -> &'static str
+    ensures { result.now ≡ joint device.now.state.work engine queue }
+{
+    for other in 0..queue {
+        if queue_reason(device, engine, other).is_some() {
+            return "; ";
+        }
+    }
+    ": "
+}
+
+// The reason of the queue, where it has one.
+fn add_queue<S: EntryStore>(
+    text: &mut String,
+    device: &Device<S>,
+    engine: u16,
+    queue: u16,
+) -> Result<(), AllocError>
+    requires { queue < device.now.caps.queues }
+    ensures { OnOk result (string_bytes text.new ≡ string_bytes text.old ++ queue_part device.now.state.work engine queue) }
+{
+    let Some(reason) = queue_reason(device, engine, queue) else {
+        return Ok(());
+    };
+    text.push_str(joint(device, engine, queue))?;
+    add_queue_reason(text, queue, front_name(device, queue), &reason)
+}
+
+// The reason of each queue of the engine's group.
+fn add_queues<S: EntryStore>(
+    text: &mut String,
+    device: &Device<S>,
+    engine: u16,
+) -> Result<(), AllocError>
+    ensures { OnOk result (string_bytes text.new ≡ string_bytes text.old ++ flat_map (queue_part device.now.state.work engine) (numbers_below device.now.caps.queues)) }
+{
+    for queue in 0..device.caps().queues {
+        add_queue(text, device, engine, queue)?;
+    }
+    Ok(())
+}
+
+/// Adds why the engine takes nothing: its own reason, or that of each queue of its group.
+pub fn add_dispatch_part<S: EntryStore>(
+    text: &mut String,
+    device: &Device<S>,
+    engine: u16,
+) -> Result<(), AllocError>
+    ensures { OnOk result (string_bytes text.new ≡ string_bytes text.old ++ dispatch_part device.now.state.work engine) }
+{
+    device.state_is_replay();
+    let Some(reason) = engine_reason(device, engine) else {
+        return add_queues(text, device, engine);
+    };
+    text.push_str(": ")?;
+    add_engine_reason(text, engine, &reason)
+}

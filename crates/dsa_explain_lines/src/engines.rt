@@ -1,0 +1,97 @@
+//! What engines do not do with members and with entries in progress.
+
+ghost use Rattle.std.specs.Prelude.{◌≡◌, ◌++◌, OnOk, string_bytes};
+ghost use Rattle.dsa_explain_lines.specs.Sentences.{closed_words, fetch_sentence, finish_sentence, start_sentence};
+
+use crate::words::{
+    add_counted, add_counted_twice, add_list, add_no_engine, add_no_group, add_want,
+};
+use dsa_explain::{FetchReason, FinishReason, StartReason};
+use std::alloc::AllocError;
+
+fn closed_words(closed: bool) -> &'static str
+    ensures { result.now ≡ closed_words closed }
+{
+    if closed {
+        ", and the rest is abandoned"
+    } else {
+        ""
+    }
+}
+
+/// Adds the sentence of why the engine fetches no member.
+pub fn add_fetch_reason(
+    text: &mut String,
+    engine: u16,
+    reason: &FetchReason,
+) -> Result<(), AllocError>
+    ensures { OnOk result (string_bytes text.new ≡ string_bytes text.old ++ fetch_sentence engine reason.now) }
+{
+    match *reason {
+        FetchReason::NoEngine => add_no_engine(text, engine),
+        FetchReason::NoBatch => add_counted(text, "e", u32::from(engine), " works on no batch"),
+        FetchReason::AllFetched {
+            count,
+            fetched,
+            closed,
+        } => {
+            add_counted_twice(text, "", fetched, " of ", count, " members are fetched")?;
+            text.push_str(closed_words(closed))
+        }
+    }
+}
+
+/// Adds the sentence of why the engine starts no member.
+pub fn add_start_reason(
+    text: &mut String,
+    engine: u16,
+    reason: &StartReason,
+) -> Result<(), AllocError>
+    ensures { OnOk result (string_bytes text.new ≡ string_bytes text.old ++ start_sentence engine reason.now) }
+{
+    match reason {
+        StartReason::Nothing => add_counted(text, "no member waits on e", u32::from(engine), ""),
+        StartReason::Fence { member, waits_for } => {
+            let between = " has a fence, and waits for ";
+            add_counted_twice(text, "member ", *member, between, *waits_for, "")
+        }
+        StartReason::Failed { member, left } => {
+            let between = " has a fence, one before it failed, and ";
+            add_counted_twice(text, "member ", *member, between, *left, " end unstarted")
+        }
+        StartReason::NoBuffers(want) => {
+            text.push_str("the member ")?;
+            add_want(text, want)
+        }
+        StartReason::NoGroup => add_no_group(text, engine),
+    }
+}
+
+/// Adds the sentence of why the engine does not end the entry.
+pub fn add_finish_reason(
+    text: &mut String,
+    engine: u16,
+    reason: &FinishReason,
+) -> Result<(), AllocError>
+    ensures { OnOk result (string_bytes text.new ≡ string_bytes text.old ++ finish_sentence engine reason.now) }
+{
+    match *reason {
+        FinishReason::NoEngine => add_no_engine(text, engine),
+        FinishReason::NoEntry => text.push_str("the cell of the ticket holds no entry"),
+        FinishReason::OtherName { name } => {
+            add_counted(text, "the cell of the ticket holds ", name, " by now")
+        }
+        FinishReason::Elsewhere { list } => {
+            text.push_str("the entry stands in ")?;
+            add_list(text, list)
+        }
+        FinishReason::NotStarted => text.push_str("the member has not started"),
+        FinishReason::MembersLeft { left } => {
+            add_counted(text, "", left, " members have not ended")
+        }
+        FinishReason::StillToFetch { fetched, count } => {
+            add_counted_twice(text, "", fetched, " of ", count, " members are fetched")
+        }
+        FinishReason::DrainWaits { first } => add_counted(text, "the drain waits for ", first, ""),
+    }
+}

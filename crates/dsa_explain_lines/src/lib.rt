@@ -1,0 +1,27 @@
+//! Why each step of a document's run was answered as it was: a line a step, with its number, its event in words, its answer,
+//! and the reason where it was not the plain success.
+//!
+//! [`Explanation`] makes the text of a document. A reason is read from the device before the step, and told in a sentence.
+#![tactic(auto)]
+
+mod checks;
+mod commands;
+mod dispatch;
+mod engines;
+mod lines;
+mod parts;
+mod rendering;
+mod run;
+mod submissions;
+mod words;
+mod writes;
+
+pub use checks::add_check_reason;
+pub use commands::{add_issue_reason, add_poll_reason};
+pub use dispatch::{add_engine_reason, add_queue_reason};
+pub use engines::{add_fetch_reason, add_finish_reason, add_start_reason};
+pub use lines::add_line;
+pub use parts::{add_event_part, add_part};
+pub use rendering::Explanation;
+pub use submissions::add_submit_reason;
+pub use writes::{add_clear_reason, add_write_reason};

@@ -1,0 +1,65 @@
+//! The line of a step.
+
+ghost use Rattle.std.specs.Prelude.{◌≡◌, ◌++◌, OnOk, codes, decimal, string_bytes};
+ghost use Rattle.dsa_explain_lines.specs.Lines.{asked_words, is_taken, line_with, shown};
+
+use dsa_book::{DispatchAnswer, Reply};
+use dsa_event_words::add_event;
+use dsa_scenario::{Record, add_answer};
+use itoa::Buffer;
+use std::alloc::AllocError;
+
+fn add_place(text: &mut String, number: usize) -> Result<(), AllocError>
+    ensures { OnOk result (string_bytes text.new ≡ string_bytes text.old ++ (decimal number ++ codes " ")) }
+{
+    let mut buffer = Buffer::new();
+    text.push_str(buffer.format(number))?;
+    text.push_str(" ")
+}
+
+fn add_asked(text: &mut String, entry: &Record) -> Result<(), AllocError>
+    ensures { OnOk result (string_bytes text.new ≡ string_bytes text.old ++ asked_words entry.now) }
+{
+    match entry {
+        Record::Stepped(step) => add_event(text, &step.event),
+        Record::Refused(_) => text.push_str("command"),
+    }
+}
+
+fn is_taken(entry: &Record) -> bool
+    ensures { result ≡ is_taken entry.now }
+{
+    match entry {
+        Record::Stepped(step) => matches!(
+            step.reply,
+            Reply::Dispatch(DispatchAnswer::Taken { .. })
+        ),
+        Record::Refused(_) => false,
+    }
+}
+
+// What is told of the record, and the line's end.
+fn add_shown(text: &mut String, entry: &Record, part: &str) -> Result<(), AllocError>
+    ensures { OnOk result (string_bytes text.new ≡ string_bytes text.old ++ (shown part.now entry.now ++ codes "\n")) }
+{
+    if !is_taken(entry) {
+        text.push_str(part)?;
+    }
+    text.push_str("\n")
+}
+
+/// Adds the line of a step, with this part behind the answer where no entry was taken.
+pub fn add_line(
+    text: &mut String,
+    number: usize,
+    entry: &Record,
+    part: &str,
+) -> Result<(), AllocError>
+    ensures { OnOk result (string_bytes text.new ≡ string_bytes text.old ++ line_with part.now number entry.now) }
+{
+    add_place(text, number)?;
+    add_asked(text, entry)?;
+    text.push_str(" -> ")?;
+    add_answer(text, entry)?;
+    add_shown(text, entry, part)
+}

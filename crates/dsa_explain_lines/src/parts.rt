@@ -1,0 +1,213 @@
+//! What a line tells behind an answer.
+
+ghost use Rattle.std.specs.Prelude.{◌≡◌, ◌++◌, OnOk, string_bytes};
+ghost use Rattle.dsa_explain.specs.Batch.{fetch_reason, start_reason};
+ghost use Rattle.dsa_explain.specs.Finish.{finish_reason};
+ghost use Rattle.dsa_explain.specs.Submission.{submit_reason};
+ghost use Rattle.dsa_explain.specs.Command.{poll_reason};
+ghost use Rattle.dsa_explain.specs.Held.{awaited_entry};
+ghost use Rattle.dsa_explain.specs.Write.{clear_reason, write_group_reason, write_queue_reason};
+ghost use Rattle.dsa_explain_lines.specs.Sentences.{clear_sentence, counted, fetch_sentence, finish_sentence, poll_sentence, start_sentence, submit_sentence, write_sentence};
+ghost use Rattle.dsa_explain_lines.specs.Parts.{check_reason, event_part, issue_part, part_of, told_of};
+
+use crate::commands::{add_issue_reason, add_poll_reason};
+use crate::dispatch::add_dispatch_part;
+use crate::engines::{add_fetch_reason, add_finish_reason, add_start_reason};
+use crate::submissions::add_submit_reason;
+use crate::writes::{add_clear_reason, add_write_reason};
+use dsa_book::{Event, Kind, Portal, Ticket};
+use dsa_device::Device;
+use dsa_explain::{
+    CheckReason, WriteReason, awaited_entry, check_device_reason, check_queue_reason, clear_reason,
+    fetch_reason, finish_reason, issue_reason, poll_reason, start_reason, submit_reason,
+    write_group_reason, write_queue_reason,
+};
+use dsa_regs::{Command, Fault, Scope};
+use dsa_store::EntryStore;
+use itoa::Buffer;
+use std::alloc::AllocError;
+
+fn add_submit_part<S: EntryStore>(
+    text: &mut String,
+    device: &Device<S>,
+    queue: u16,
+    portal: Portal,
+    kind: Kind,
+) -> Result<(), AllocError>
+    ensures { OnOk result (string_bytes text.new ≡ string_bytes text.old ++ told_of (submit_sentence queue) (submit_reason device.now.state queue portal kind)) }
+{
+    let Some(reason) = submit_reason(device, queue, portal, kind) else {
+        return Ok(());
+    };
+    text.push_str(": ")?;
+    add_submit_reason(text, queue, &reason)
+}
+
+fn add_fetch_part<S: EntryStore>(
+    text: &mut String,
+    device: &Device<S>,
+    engine: u16,
+) -> Result<(), AllocError>
+    ensures { OnOk result (string_bytes text.new ≡ string_bytes text.old ++ told_of (fetch_sentence engine) (fetch_reason device.now.state.work engine)) }
+{
+    let Some(reason) = fetch_reason(device, engine) else {
+        return Ok(());
+    };
+    text.push_str(": ")?;
+    add_fetch_reason(text, engine, &reason)
+}
+
+fn add_start_part<S: EntryStore>(
+    text: &mut String,
+    device: &Device<S>,
+    engine: u16,
+) -> Result<(), AllocError>
+    ensures { OnOk result (string_bytes text.new ≡ string_bytes text.old ++ told_of (start_sentence engine) (start_reason device.now.state.work engine)) }
+{
+    let Some(reason) = start_reason(device, engine) else {
+        return Ok(());
+    };
+    text.push_str(": ")?;
+    add_start_reason(text, engine, &reason)
+}
+
+fn add_finish_part<S: EntryStore>(
+    text: &mut String,
+    device: &Device<S>,
+    engine: u16,
+    ticket: Ticket,
+) -> Result<(), AllocError>
+    ensures { OnOk result (string_bytes text.new ≡ string_bytes text.old ++ told_of (finish_sentence engine) (finish_reason device.now.state.work engine ticket)) }
+{
+    let Some(reason) = finish_reason(device, engine, ticket) else {
+        return Ok(());
+    };
+    text.push_str(": ")?;
+    add_finish_reason(text, engine, &reason)
+}
+
+// What the check of an enable finds, of the device or of a queue.
+fn check_reason<S: EntryStore>(device: &Device<S>, scope: Scope) -> Option<CheckReason>
+    ensures { result ≡ check_reason device.now.state.work.setup scope }
+{
+    device.state_is_replay();
+    let queues = u32::from(device.caps().queues);
+    match scope {
+        Scope::Device => check_device_reason(device),
+        Scope::Queue(queue) if queue < queues => check_queue_reason(device, queue as u16),
+        _ => None,
+    }
+}
+
+fn add_issue_part<S: EntryStore>(
+    text: &mut String,
+    device: &Device<S>,
+    command: Command,
+) -> Result<(), AllocError>
+    ensures { OnOk result (string_bytes text.new ≡ string_bytes text.old ++ issue_part device.now.state command) }
+{
+    let Some(reason) = issue_reason(device, command) else {
+        return Ok(());
+    };
+    text.push_str(": ")?;
+    add_issue_reason(text, &check_reason(device, command.scope()), &reason)
+}
+
+fn add_poll_part<S: EntryStore>(text: &mut String, device: &Device<S>) -> Result<(), AllocError>
+    ensures { OnOk result (string_bytes text.new ≡ string_bytes text.old ++ told_of (poll_sentence (awaited_entry device.now.state)) (poll_reason device.now.state)) }
+{
+    let Some(reason) = poll_reason(device) else {
+        return Ok(());
+    };
+    text.push_str(": ")?;
+    add_poll_reason(text, &awaited_entry(device), &reason)
+}
+
+// Why a configuration is refused, where it is.
+fn add_write_part(
+    text: &mut String,
+    what: &str,
+    reason: &Option<WriteReason>,
+) -> Result<(), AllocError>
+    ensures { OnOk result (string_bytes text.new ≡ string_bytes text.old ++ told_of (write_sentence what.now) reason.now) }
+{
+    let Some(reason) = reason else {
+        return Ok(());
+    };
+    text.push_str(": ")?;
+    add_write_reason(text, what, reason)
+}
+
+fn add_clear_part<S: EntryStore>(text: &mut String, device: &Device<S>) -> Result<(), AllocError>
+    ensures { OnOk result (string_bytes text.new ≡ string_bytes text.old ++ told_of clear_sentence (clear_reason device.now.state.work.setup.noted)) }
+{
+    let Some(reason) = clear_reason(device) else {
+        return Ok(());
+    };
+    text.push_str(": ")?;
+    add_clear_reason(text, &reason)
+}
+
+/// Adds why the device answers the event as it does. Nothing is added where it has no reason to turn it down.
+pub fn add_event_part<S: EntryStore>(
+    text: &mut String,
+    device: &Device<S>,
+    event: &Event,
+) -> Result<(), AllocError>
+    ensures { OnOk result (string_bytes text.new ≡ string_bytes text.old ++ event_part device.now.state event.now) }
+{
+    match *event {
+        Event::Submit {
+            queue,
+            portal,
+            kind,
+            ..
+        } => add_submit_part(text, device, queue, portal, kind),
+        Event::Dispatch { engine } => add_dispatch_part(text, device, engine),
+        Event::Fetch { engine, .. } => add_fetch_part(text, device, engine),
+        Event::Start { engine } => add_start_part(text, device, engine),
+        Event::Finish { engine, ticket, .. } => add_finish_part(text, device, engine, ticket),
+        Event::Issue { command } => add_issue_part(text, device, command),
+        Event::Poll => add_poll_part(text, device),
+        Event::WriteQueue { queue, config } => {
+            add_write_part(text, "queues", &write_queue_reason(device, queue, &config))
+        }
+        Event::WriteGroup { group, .. } => {
+            add_write_part(text, "groups", &write_group_reason(device, group))
+        }
+        Event::ClearError => add_clear_part(text, device),
+    }
+}
+
+fn add_large(text: &mut String, before: &str, number: u64, after: &str) -> Result<(), AllocError>
+    ensures { OnOk result (string_bytes text.new ≡ string_bytes text.old ++ counted before.now number after.now) }
+{
+    let mut buffer = Buffer::new();
+    text.push_str(before)?;
+    text.push_str(buffer.format(number))?;
+    text.push_str(after)
+}
+
+/// Adds why the device answers the event as it does, or why the word is refused.
+pub fn add_part<S: EntryStore>(
+    text: &mut String,
+    device: &Device<S>,
+    asked: &Result<Event, Fault>,
+) -> Result<(), AllocError>
+    ensures { OnOk result (string_bytes text.new ≡ string_bytes text.old ++ part_of device.now asked.now) }
+{
+    let Ok(event) = asked else {
+        return text.push_str(
+            ": no command has the number of the word, or one of its bits 30:25 is set",
+        );
+    };
+    if device.is_full() {
+        return add_large(
+            text,
+            ": the history has room for ",
+            device.capacity(),
+            " steps",
+        );
+    }
+    add_event_part(text, device, event)
+}

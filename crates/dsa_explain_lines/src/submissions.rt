@@ -1,0 +1,78 @@
+//! Submissions that are turned away.
+
+ghost use Rattle.std.specs.Prelude.{◌≡◌, ◌++◌, OnOk, string_bytes};
+ghost use Rattle.dsa_explain_lines.specs.Sentences.{at_limit_words, enabled_words, mode_words, submit_sentence};
+
+use crate::words::{add_counted, add_counted_twice, add_phase};
+use dsa_book::Portal;
+use dsa_event_words::{add_number, portal_word};
+use dsa_explain::SubmitReason;
+use dsa_regs::Phase;
+use std::alloc::AllocError;
+
+fn mode_words(dedicated: bool) -> &'static str
+    ensures { result.now ≡ mode_words dedicated }
+{
+    if dedicated {
+        " is dedicated, and takes movdir"
+    } else {
+        " is shared, and takes enqcmd"
+    }
+}
+
+// The phases of the device and of the queue, where it has the queue.
+fn add_phases(
+    text: &mut String,
+    queue: u16,
+    device: Phase,
+    phase: Option<Phase>,
+) -> Result<(), AllocError>
+    ensures { OnOk result (string_bytes text.new ≡ string_bytes text.old ++ enabled_words queue device phase) }
+{
+    let Some(phase) = phase else {
+        return add_number(text, "the device has no q", u32::from(queue));
+    };
+    add_phase(text, "the device is ", device)?;
+    add_number(text, ", and q", u32::from(queue))?;
+    add_phase(text, " is ", phase)
+}
+
+// What the queue holds, and the limit of the portal.
+fn add_limit(
+    text: &mut String,
+    queue: u16,
+    occupancy: u16,
+    limit: u16,
+    portal: Portal,
+) -> Result<(), AllocError>
+    ensures { OnOk result (string_bytes text.new ≡ string_bytes text.old ++ at_limit_words queue occupancy limit portal) }
+{
+    let (place, held) = (u32::from(queue), u32::from(occupancy));
+    add_counted_twice(text, "q", place, " holds ", held, " entries, and the ")?;
+    text.push_str(portal_word(portal))?;
+    add_number(text, " portal goes up to ", u32::from(limit))
+}
+
+/// Adds the sentence of why a submission to the queue is turned away.
+pub fn add_submit_reason(
+    text: &mut String,
+    queue: u16,
+    reason: &SubmitReason,
+) -> Result<(), AllocError>
+    ensures { OnOk result (string_bytes text.new ≡ string_bytes text.old ++ submit_sentence queue reason.now) }
+{
+    match *reason {
+        SubmitReason::NotEnabled {
+            device,
+            queue: phase,
+        } => add_phases(text, queue, device, phase),
+        SubmitReason::WrongKind { dedicated } => {
+            add_counted(text, "q", u32::from(queue), mode_words(dedicated))
+        }
+        SubmitReason::AtLimit {
+            occupancy,
+            limit,
+            portal,
+        } => add_limit(text, queue, occupancy, limit, portal),
+    }
+}

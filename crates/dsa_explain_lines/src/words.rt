@@ -1,0 +1,94 @@
+//! What the sentences of several reasons have.
+
+ghost use Rattle.std.specs.Prelude.{◌≡◌, ◌++◌, OnOk, string_bytes};
+ghost use Rattle.dsa_explain_lines.specs.Sentences.{counted, counted_twice, list_words, no_engine, no_group, phase_word, phased, want_words};
+
+use dsa_event_words::add_number;
+use dsa_explain::BufferWant;
+use dsa_regs::{ListUse, Phase};
+use std::alloc::AllocError;
+
+/// Adds a text with a number in it.
+pub fn add_counted(
+    text: &mut String,
+    before: &str,
+    number: u32,
+    after: &str,
+) -> Result<(), AllocError>
+    ensures { OnOk result (string_bytes text.new ≡ string_bytes text.old ++ counted before.now number after.now) }
+{
+    add_number(text, before, number)?;
+    text.push_str(after)
+}
+
+/// Adds a text with two numbers in it.
+pub fn add_counted_twice(
+    text: &mut String,
+    before: &str,
+    first: u32,
+    between: &str,
+    second: u32,
+    after: &str,
+) -> Result<(), AllocError>
+    ensures { OnOk result (string_bytes text.new ≡ string_bytes text.old ++ counted_twice before.now first between.now second after.now) }
+{
+    add_number(text, before, first)?;
+    add_number(text, between, second)?;
+    text.push_str(after)
+}
+
+fn phase_word(phase: Phase) -> &'static str
+    ensures { result.now ≡ phase_word phase }
+{
+    match phase {
+        Phase::Off => "off",
+        Phase::On => "on",
+        Phase::Stopping => "stopping",
+    }
+}
+
+/// Adds a text and a phase.
+pub fn add_phase(text: &mut String, before: &str, phase: Phase) -> Result<(), AllocError>
+    ensures { OnOk result (string_bytes text.new ≡ string_bytes text.old ++ phased before.now phase) }
+{
+    text.push_str(before)?;
+    text.push_str(phase_word(phase))
+}
+
+/// Adds the words of a list.
+pub fn add_list(text: &mut String, list: ListUse) -> Result<(), AllocError>
+    ensures { OnOk result (string_bytes text.new ≡ string_bytes text.old ++ list_words list) }
+{
+    match list {
+        ListUse::Queue(queue) => add_number(text, "q", u32::from(queue)),
+        ListUse::Progress(engine) => add_number(text, "e", u32::from(engine)),
+        ListUse::Members(engine) => add_number(text, "the batch of e", u32::from(engine)),
+    }
+}
+
+/// Says that there is no such engine.
+pub fn add_no_engine(text: &mut String, engine: u16) -> Result<(), AllocError>
+    ensures { OnOk result (string_bytes text.new ≡ string_bytes text.old ++ no_engine engine) }
+{
+    add_number(text, "the device has no e", u32::from(engine))
+}
+
+/// Says that the engine is of no group.
+pub fn add_no_group(text: &mut String, engine: u16) -> Result<(), AllocError>
+    ensures { OnOk result (string_bytes text.new ≡ string_bytes text.old ++ no_group engine) }
+{
+    add_counted(text, "e", u32::from(engine), " is of no group")
+}
+
+/// Adds the numbers by which read buffers do not fit a group.
+pub fn add_want(text: &mut String, want: &BufferWant) -> Result<(), AllocError>
+    ensures { OnOk result (string_bytes text.new ≡ string_bytes text.old ++ want_words want.now) }
+{
+    let (asked, group) = (u32::from(want.asked), u32::from(want.group));
+    let (used, allowed) = (u32::from(want.used), u32::from(want.allowed));
+    let buffers = u32::from(want.buffers);
+    add_counted_twice(text, "needs ", asked, " read buffers, group ", group, "")?;
+    add_counted_twice(text, " uses ", used, " of ", allowed, "")?;
+    add_counted_twice(text, ", all groups use ", want.in_use, " of ", buffers, "")?;
+    add_counted(text, ", and ", want.kept, " are kept")
+}

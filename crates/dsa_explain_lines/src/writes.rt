@@ -1,0 +1,46 @@
+//! Configurations that are not written, and errors that are not cleared.
+
+ghost use Rattle.std.specs.Prelude.{◌≡◌, ◌++◌, OnOk, string_bytes};
+ghost use Rattle.dsa_explain_lines.specs.Sentences.{clear_sentence, device_words, write_sentence};
+
+use crate::words::{add_counted, add_phase};
+use dsa_explain::{ClearReason, WriteReason};
+use dsa_regs::Phase;
+use std::alloc::AllocError;
+
+fn add_device(text: &mut String, phase: Phase) -> Result<(), AllocError>
+    ensures { OnOk result (string_bytes text.new ≡ string_bytes text.old ++ device_words phase) }
+{
+    add_phase(text, "the device is ", phase)
+}
+
+/// Adds the sentence of why a configuration is refused: of `queues`, or of `groups`.
+pub fn add_write_reason(
+    text: &mut String,
+    what: &str,
+    reason: &WriteReason,
+) -> Result<(), AllocError>
+    ensures { OnOk result (string_bytes text.new ≡ string_bytes text.old ++ write_sentence what.now reason.now) }
+{
+    match *reason {
+        WriteReason::BadIndex { count } => {
+            add_counted(text, "the device has ", u32::from(count), " ")?;
+            text.push_str(what)
+        }
+        WriteReason::LockedQueue { phase } => add_phase(text, "the queue is ", phase),
+        WriteReason::LockedSize { phase, size } => {
+            add_device(text, phase)?;
+            add_counted(text, ", and the size stays ", u32::from(size), "")
+        }
+        WriteReason::LockedGroup { phase } => add_device(text, phase),
+    }
+}
+
+/// Adds the sentence of why no error is cleared.
+pub fn add_clear_reason(text: &mut String, reason: &ClearReason) -> Result<(), AllocError>
+    ensures { OnOk result (string_bytes text.new ≡ string_bytes text.old ++ clear_sentence reason.now) }
+{
+    match reason {
+        ClearReason::NothingNoted => text.push_str("no error is noted"),
+    }
+}

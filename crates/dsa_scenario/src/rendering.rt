@@ -1,0 +1,139 @@
+//! Ways to make a text of a document, and what reads the document and writes the text around each of them.
+
+ghost use Rattle.std.specs.Prelude.{◌≡◌, ◌≢◌, ◌⊎◌, ◌≤◌, ◌<◌, ◌+◌, ◌^◌, true, ℕ, List, Option, length, take, OnOk, IfOk, IfErr, IsErrOf, string_bytes};
+ghost use Rattle.std.specs.Io.KnownBytes.{Consumes, Appends};
+ghost use Rattle.dsa_scenario.specs.declared.faults.ScenarioFault.{ScenarioFault};
+ghost use Rattle.dsa_scenario.specs.Document.{IsFaultOf};
+ghost use Rattle.dsa_scenario.specs.Metered.{metered_remaining, budget_of, has_failed, IsSameReader};
+ghost use Rattle.dsa_scenario.specs.Scenario.{IsWhole};
+ghost use Rattle.dsa_scenario.specs.Watched.{watched_contents, has_refused, IsSameWriter};
+
+use crate::faults::ScenarioFault;
+use crate::metered::MeteredReader;
+use crate::reading::{MAX_READS, read_document};
+use crate::watched::WatchedWriter;
+use crate::writing::write_text;
+use serde_json::Value;
+use std::alloc::Global;
+use std::io::{Read, Write};
+
+/// What a document came to.
+///
+/// The JSON value is let go after the text: where a large block comes back, an allocator looks at all small ones that are
+/// free, and the value is of many.
+#[derive(Drop)]
+pub struct Rendering {
+    pub text: String,
+    /// The fault that is told after the text.
+    pub fault: Option<ScenarioFault>,
+    /// The value of the document, where it is still held.
+    pub document: Option<Value>,
+}
+
+/// A way to make a text of a document.
+pub trait Render: Drop {
+    // the text, and the fault told after it, are what this makes of the bytes
+    ghost is_rendering: { Self → List ℕ → Option ScenarioFault → List ℕ → Type 0 };
+
+    /// The text of the document in these bytes, or the document's fault.
+    fn render(&self, alloc: Global, bytes: &[u8]) -> Result<Rendering, ScenarioFault>
+        ensures ok { IfOk result (λ r. is_rendering self.now bytes.now r.fault (string_bytes r.text)) }
+        ensures err { IfErr result (λ e. (e ≡ ScenarioFault.OutOfMemory) ⊎ IsFaultOf bytes.now e) };
+}
+
+/// Reads one document to the end of input and writes what `what` makes of it, by at most [`MAX_READS`] reads. It gives the
+/// fault that is told after the text.
+///
+/// The whole text is made before the first byte is written. The faults come in the order of [`ScenarioFault`]; want of
+/// memory comes where it is refused. On `Write` the writer has got a proper prefix of the text, on any other fault it was not
+/// asked for anything.
+pub fn render_metered<D: Render, R: Read, W: Write>(
+    alloc: Global,
+    what: &D,
+    reader: &mut MeteredReader<'_, R>,
+    writer: &mut WatchedWriter<'_, W>,
+) -> Result<Option<ScenarioFault>, ScenarioFault>
+    requires { MAX_READS ≤ budget_of reader.old }
+    ensures same_reader { IsSameReader reader.old reader.new }
+    ensures same_writer { IsSameWriter writer.old writer.new }
+    ensures reads { budget_of reader.old ≤ budget_of reader.new + MAX_READS }
+    ensures ok { IfOk result (λ fault. (bytes : List ℕ) × (text : List ℕ)
+        × IsWhole (metered_remaining R.remaining reader.old) (metered_remaining R.remaining reader.new) bytes
+        × D.is_rendering what.now bytes fault text
+        × Appends (watched_contents W.contents writer.old) (watched_contents W.contents writer.new) text) }
+
+    // Only `Write` may have written, and then some of such a text.
+    ensures nothing { IfErr result (λ e. e ≢ ScenarioFault.Write → writer.new ≡ writer.old) }
+    ensures prefix { IsErrOf result ScenarioFault.Write → (bytes : List ℕ) × (text : List ℕ) × (fault : Option ScenarioFault)
+        × (count : ℕ)
+        × IsWhole (metered_remaining R.remaining reader.old) (metered_remaining R.remaining reader.new) bytes
+        × D.is_rendering what.now bytes fault text
+        × (count < length text)
+        × Appends (watched_contents W.contents writer.old) (watched_contents W.contents writer.new) (take count text) }
+
+    ensures refused { IsErrOf result ScenarioFault.Write → has_refused writer.new ≡ true }
+    ensures taken { OnOk result (has_refused writer.new ≡ has_refused writer.old) }
+
+    // A fault of the document is the first that stands.
+    ensures document { IfErr result (λ e. (e ≡ ScenarioFault.Read) ⊎ (e ≡ ScenarioFault.TooLong)
+        ⊎ (e ≡ ScenarioFault.Write) ⊎ (e ≡ ScenarioFault.OutOfMemory)
+        ⊎ ((bytes : List ℕ)
+        × IsWhole (metered_remaining R.remaining reader.old) (metered_remaining R.remaining reader.new) bytes
+        × IsFaultOf bytes e)) }
+
+    // `TooLong` is told of more bytes than a document has, and `Read` of an error that came before.
+    ensures too_long { IsErrOf result ScenarioFault.TooLong → (bytes : List ℕ)
+        × Consumes (metered_remaining R.remaining reader.old) (metered_remaining R.remaining reader.new) bytes
+        × (2 ^ 20 < length bytes) }
+    ensures read { IsErrOf result ScenarioFault.Read → (bytes : List ℕ)
+        × Consumes (metered_remaining R.remaining reader.old) (metered_remaining R.remaining reader.new) bytes
+        × (length bytes ≤ 2 ^ 20) }
+    ensures failed { IsErrOf result ScenarioFault.Read → has_failed reader.new ≡ true }
+    ensures well { OnOk result (has_failed reader.new ≡ has_failed reader.old) }
+    ensures other { IfErr result (λ e. e ≢ ScenarioFault.Read → has_failed reader.new ≡ has_failed reader.old) }
+{
+    let bytes = read_document(alloc, reader)?;
+    let rendering = what.render(alloc, &bytes)?;
+    write_text(writer, rendering.text.as_bytes())?;
+    Ok(rendering.fault)
+}
+
+/// Reads one document to the end of input and writes what `what` makes of it. It gives the fault that is told after the text.
+///
+/// All of it is the work of [`render_metered`], which is lent the reader with a budget of [`MAX_READS`], and the writer as
+/// one that is watched.
+pub fn render_input<D: Render, R: Read, W: Write>(
+    alloc: Global,
+    what: &D,
+    reader: &mut R,
+    writer: &mut W,
+) -> Result<Option<ScenarioFault>, ScenarioFault>
+    ensures ok { IfOk result (λ fault. (bytes : List ℕ) × (text : List ℕ)
+        × IsWhole (R.remaining reader.old) (R.remaining reader.new) bytes
+        × D.is_rendering what.now bytes fault text
+        × Appends (W.contents writer.old) (W.contents writer.new) text) }
+
+    // Only `Write` may have written, and then some of such a text.
+    ensures nothing { IfErr result (λ e. e ≢ ScenarioFault.Write → writer.new ≡ writer.old) }
+    ensures prefix { IsErrOf result ScenarioFault.Write → (bytes : List ℕ) × (text : List ℕ) × (fault : Option ScenarioFault)
+        × (count : ℕ)
+        × IsWhole (R.remaining reader.old) (R.remaining reader.new) bytes
+        × D.is_rendering what.now bytes fault text
+        × (count < length text)
+        × Appends (W.contents writer.old) (W.contents writer.new) (take count text) }
+
+    // A fault of the document is the first that stands.
+    ensures document { IfErr result (λ e. (e ≡ ScenarioFault.Read) ⊎ (e ≡ ScenarioFault.TooLong)
+        ⊎ (e ≡ ScenarioFault.Write) ⊎ (e ≡ ScenarioFault.OutOfMemory)
+        ⊎ ((bytes : List ℕ)
+        × IsWhole (R.remaining reader.old) (R.remaining reader.new) bytes
+        × IsFaultOf bytes e)) }
+    ensures too_long { IsErrOf result ScenarioFault.TooLong → (bytes : List ℕ)
+        × Consumes (R.remaining reader.old) (R.remaining reader.new) bytes × (2 ^ 20 < length bytes) }
+    ensures read { IsErrOf result ScenarioFault.Read → (bytes : List ℕ)
+        × Consumes (R.remaining reader.old) (R.remaining reader.new) bytes × (length bytes ≤ 2 ^ 20) }
+{
+    let mut reader = MeteredReader::new(reader, MAX_READS);
+    let mut writer = WatchedWriter::new(writer);
+    render_metered(alloc, what, &mut reader, &mut writer)
+}

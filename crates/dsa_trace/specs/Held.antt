@@ -1,0 +1,35 @@
+-- What is told of the entries that are held when the steps are over.
+use Rattle.std.specs.Prelude.{ℕ, List, ◌++◌, codes, decimal, flat_map}
+use Rattle.dsa_base.specs.Numbers.{numbers_below}
+use Rattle.dsa_regs.specs.declared.{Caps.{Caps}, layout.ListUse.{ListUse, TheVariants.{Queue, Progress, Members}}}
+use Rattle.dsa_store.specs.Content.{Slot, chain}
+use Rattle.dsa_book.specs.{State.{State}, Work.{in_progress, members}}
+use Rattle.dsa_trace.specs.declared.form.{Trace.{Trace}, Part.TheVariants.{Held, InList, HeldEnd}}
+use Rattle.dsa_trace.specs.{Marks.{mark}, Columns.{marked}}
+
+-- a list in words (profile)
+abbrev pub list_words : ListUse → List ℕ
+list_words (Queue queue) = codes "q" ++ decimal queue
+list_words (Progress engine) = codes "e" ++ decimal engine
+list_words (Members engine) = codes "batch of e" ++ decimal engine
+
+-- the name of an entry, and the list that it stands in (profile)
+abbrev pub held_line : Trace → ListUse → Slot → List ℕ
+held_line form list slot =
+    marked form Held slot.1.name ++ (mark form InList ++ list_words list) ++ mark form HeldEnd
+
+-- the entries of a list (profile)
+abbrev pub slots_of : State → ListUse → List Slot
+slots_of s (Queue q) = chain s.work.content q
+slots_of s (Progress e) = in_progress s.work e
+slots_of s (Members e) = members s.work e
+
+abbrev pub held_in : Trace → State → ListUse → List ℕ
+held_in form s list = flat_map (held_line form list) (slots_of s list)
+
+-- a line for each entry that is held: in the queues, in progress on the engines, in their batches (profile)
+abbrev pub held_lines : Trace → Caps → State → List ℕ
+held_lines form caps s =
+    flat_map (λ q. held_in form s (Queue q)) (numbers_below caps.queues)
+    ++ flat_map (λ e. held_in form s (Progress e)) (numbers_below caps.engines)
+    ++ flat_map (λ e. held_in form s (Members e)) (numbers_below caps.engines)

@@ -1,0 +1,124 @@
+//! The entries that a device holds.
+
+ghost use Rattle.std.specs.Prelude.{◌≡◌, ◌++◌, List, OnOk, flat_map, string_bytes};
+ghost use Rattle.dsa_base.specs.Numbers.{numbers_below};
+ghost use Rattle.dsa_regs.specs.declared.layout.ListUse.TheVariants as list;
+ghost use Rattle.dsa_regs.specs.Caps.{HasList};
+ghost use Rattle.dsa_store.specs.Content.{Slot};
+ghost use Rattle.dsa_trace.specs.Held.{held_in, held_line, held_lines, list_words, slots_of};
+
+use crate::form::{Part, Trace, add_mark, add_marked};
+use dsa_device::Device;
+use dsa_event_words::add_number;
+use dsa_regs::ListUse;
+use dsa_store::{Cell, Entry, EntryStore, Walk};
+use std::alloc::AllocError;
+
+fn add_list(text: &mut String, list: ListUse) -> Result<(), AllocError>
+    ensures { OnOk result (string_bytes text.new ≡ string_bytes text.old ++ list_words list) }
+{
+    match list {
+        ListUse::Queue(queue) => add_number(text, "q", u32::from(queue)),
+        ListUse::Progress(engine) => add_number(text, "e", u32::from(engine)),
+        ListUse::Members(engine) => add_number(text, "batch of e", u32::from(engine)),
+    }
+}
+
+fn add_slot(
+    text: &mut String,
+    form: Trace,
+    list: ListUse,
+    slot: (Cell, Entry),
+) -> Result<(), AllocError>
+    ensures { OnOk result (string_bytes text.new ≡ string_bytes text.old ++ held_line form list slot) }
+{
+    let (_cell, entry) = slot;
+    add_marked(text, form, Part::Held, entry.name)?;
+    add_mark(text, form, Part::InList)?;
+    add_list(text, list)?;
+    add_mark(text, form, Part::HeldEnd)
+}
+
+// The slots of the list, the front first.
+fn slots_of<S: EntryStore>(device: &Device<S>, list: ListUse) -> Walk<'_, S>
+    requires { HasList device.now.caps list }
+    ensures { result ≡ slots_of device.now.state list }
+{
+    let slots = match list {
+        ListUse::Queue(queue) => device.waiting(queue),
+        ListUse::Progress(engine) => device.in_progress(engine),
+        ListUse::Members(engine) => device.members(engine),
+    };
+    match slots {
+        Some(slots) => slots,
+        None => unreachable!(),
+    }
+}
+
+// A line for each entry of the list.
+fn add_slots<S: EntryStore>(
+    text: &mut String,
+    form: Trace,
+    device: &Device<S>,
+    list: ListUse,
+) -> Result<(), AllocError>
+    requires { HasList device.now.caps list }
+    ensures { OnOk result (string_bytes text.new ≡ string_bytes text.old ++ held_in form device.now.state list) }
+{
+    for slot in slots_of(device, list) {
+        add_slot(text, form, list, slot)?;
+    }
+    Ok(())
+}
+
+fn add_waiting<S: EntryStore>(
+    text: &mut String,
+    form: Trace,
+    device: &Device<S>,
+) -> Result<(), AllocError>
+    ensures { OnOk result (string_bytes text.new ≡ string_bytes text.old ++ flat_map (λ q. held_in form device.now.state (list.Queue q)) (numbers_below device.now.caps.queues)) }
+{
+    for queue in 0..device.caps().queues {
+        add_slots(text, form, device, ListUse::Queue(queue))?;
+    }
+    Ok(())
+}
+
+fn add_in_progress<S: EntryStore>(
+    text: &mut String,
+    form: Trace,
+    device: &Device<S>,
+) -> Result<(), AllocError>
+    ensures { OnOk result (string_bytes text.new ≡ string_bytes text.old ++ flat_map (λ e. held_in form device.now.state (list.Progress e)) (numbers_below device.now.caps.engines)) }
+{
+    for engine in 0..device.caps().engines {
+        add_slots(text, form, device, ListUse::Progress(engine))?;
+    }
+    Ok(())
+}
+
+fn add_members<S: EntryStore>(
+    text: &mut String,
+    form: Trace,
+    device: &Device<S>,
+) -> Result<(), AllocError>
+    ensures { OnOk result (string_bytes text.new ≡ string_bytes text.old ++ flat_map (λ e. held_in form device.now.state (list.Members e)) (numbers_below device.now.caps.engines)) }
+{
+    for engine in 0..device.caps().engines {
+        add_slots(text, form, device, ListUse::Members(engine))?;
+    }
+    Ok(())
+}
+
+/// Adds a line for each entry that the device holds.
+pub fn add_held<S: EntryStore>(
+    text: &mut String,
+    form: Trace,
+    device: &Device<S>,
+) -> Result<(), AllocError>
+    ensures { OnOk result (string_bytes text.new ≡ string_bytes text.old ++ held_lines form device.now.caps device.now.state) }
+{
+    add_waiting(text, form, device)?;
+    add_in_progress(text, form, device)?;
+    add_members(text, form, device)
+}

@@ -1,0 +1,66 @@
+//! A run of step objects, with the lines of its trace.
+
+ghost use Rattle.std.specs.Prelude.{◌≡◌, ◌⊎◌, ◌+◌, ◌++◌, [], ◌∷◌, ℕ, List, None, Some, IfErr, IfOk, OnOk, map, string_bytes};
+ghost use Rattle.serde_json.specs.View.{view};
+ghost use Rattle.dsa_regs.specs.declared.Caps.{Caps};
+ghost use Rattle.dsa_device.specs.Made.{make_fault};
+ghost use Rattle.dsa_scenario.specs.declared.actions.Action.{Action};
+ghost use Rattle.dsa_scenario.specs.Actions.{action_of};
+ghost use Rattle.dsa_scenario.specs.Document.{IsFirstBad};
+ghost use Rattle.dsa_trace.specs.Run.{IsTraceOf, IsTraceTo};
+
+use crate::form::Trace;
+use crate::held::add_held;
+use crate::lines::add_step;
+use dsa_book::Ticket;
+use dsa_device::Device;
+use dsa_scenario::{Action, Head, ScenarioFault, ask, note_ticket, parse_action};
+use dsa_store::EntryStore;
+use std::alloc::{AllocError, Global};
+
+// Runs one action more, notes the ticket that it is given, and adds its line.
+fn trace_action<S: EntryStore>(
+    form: Trace,
+    device: &mut Device<S>,
+    tickets: &mut Vec<Ticket>,
+    text: &mut String,
+    number: usize,
+    action: Action,
+) -> Result<(), AllocError>
+    ensures { OnOk result ((caps : Caps) → (capacity : ℕ) → (done : List Action)
+        → IsTraceTo form caps capacity done number device.old tickets.old.items (string_bytes text.old)
+        → IsTraceTo form caps capacity (done ++ action ∷ []) (number + 1) device.new tickets.new.items (string_bytes text.new)) }
+{
+    let entry = ask(device, tickets, action);
+    note_ticket(tickets, &entry)?;
+    add_step(text, form, number, &entry, device)
+}
+
+/// The trace of a run of the step objects on a new device over this store. Each is run as soon as it is read.
+pub fn trace_steps<S: EntryStore>(
+    alloc: Global,
+    form: Trace,
+    store: S,
+    head: &Head<'_>,
+) -> Result<String, ScenarioFault>
+    requires { make_fault head.now.caps head.now.capacity (S.cells store) (S.content store) ≡ None }
+    ensures ok { IfOk result (λ text. (actions : List Action) × (map action_of (map view head.now.steps.now) ≡ map Some actions)
+        × IsTraceOf form head.now.caps head.now.capacity actions (string_bytes text)) }
+    ensures bad { IfErr result (λ e. (e ≡ ScenarioFault.OutOfMemory) ⊎ IsFirstBad (map view head.now.steps.now) e) }
+{
+    let made = Device::new(alloc, store, head.caps, head.capacity);
+    let Ok(mut device) = made else {
+        return Err(ScenarioFault::OutOfMemory);
+    };
+    device.state_is_replay();
+    let mut tickets = Vec::new(alloc);
+    let mut text = String::new(alloc);
+    for (i, step) in head.steps.iter().enumerate() {
+        match parse_action(step) {
+            Some(action) => trace_action(form, &mut device, &mut tickets, &mut text, i, action)?,
+            None => return Err(ScenarioFault::BadStep(i as u64)),
+        }
+    }
+    add_held(&mut text, form, &device)?;
+    Ok(text)
+}
