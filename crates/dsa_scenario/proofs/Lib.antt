@@ -4,4 +4,5 @@ pub mod Names
 pub mod Records
 pub mod StepObjects
 pub mod Tickets
+pub mod Walks
 pub mod Whole

@@ -6,5 +6,6 @@ pub mod Lines
 pub mod Metered
 pub mod Run
 pub mod Scenario
+pub mod Steps
 pub mod Watched
 pub mod Worked

@@ -16,6 +16,7 @@ mod rendering;
 pub mod rows;
 mod run;
 mod scenario;
+mod steps;
 mod watched;
 mod writing;
 
@@ -32,5 +33,6 @@ pub use reading::MAX_READS;
 pub use rendering::{Render, Rendering, render_input, render_metered};
 pub use run::{Record, ask, event_for, note_ticket, run_action, run_document};
 pub use scenario::{PlainRun, render_document, run_metered, run_scenario};
+pub use steps::{RenderSteps, render_run, render_steps};
 pub use watched::WatchedWriter;
 pub use writing::write_text;

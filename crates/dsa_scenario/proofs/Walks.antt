@@ -1,0 +1,124 @@
+-- One step more of a walk, and its end.
+use Rattle.std.proofs.Common.{◌≡◌, ℕ, List, [], ◌∷◌, ◌++◌, Result, refl, ap, ◌∙◌, sym, ◌+◌, length, map, arith, subst}
+use Rattle.std.proofs.Common.{append_assoc, append-nil, filter_map, length-append}
+use Rattle.std.specs.Prelude.{slice_get}
+use Rattle.dsa_regs.specs.declared.{Caps.{Caps}, Fault.{Fault}}
+use Rattle.dsa_book.specs.declared.{answer.Ticket.{Ticket}, event.Event.{Event}}
+use Rattle.dsa_book.specs.{Machine.{replay, stored_steps}}
+use Rattle.dsa_device.specs.{Running.{Running, running_at_first, IsReplay}, Runs.{IsRunOf}}
+use Rattle.dsa_scenario.specs.declared.{actions.Action.{Action}, run.Record.{Record}}
+use Rattle.dsa_scenario.specs.Run.{given_by, event_of, answered_by, steps_of, Leads, IsTable}
+use Rattle.dsa_scenario.specs.Steps.{standing, Visit, visit, visits, IsWalkTo, IsTextOfRun}
+use Rattle.dsa_scenario.proofs.{Records.{AreOf-push, gives, goes_on}, Tickets.{IsTable-noted}}
+
+-- the step of a record behind those before
+abbrev visit_behind : Caps → ℕ → List Record → Record → Visit
+visit_behind caps capacity before entry =
+    visit (length before) (standing caps capacity before) entry (standing caps capacity (before ++ entry ∷ []))
+
+-- the steps of these records and of one more
+visits-push : (caps : Caps) (capacity : ℕ) (before records : List Record) (entry : Record)
+    → visits caps capacity before (records ++ entry ∷ [])
+    ≡ visits caps capacity before records ++ visit_behind caps capacity (before ++ records) entry ∷ []
+visits-push caps capacity before [] entry =
+    ap (λ r. visit_behind caps capacity r entry ∷ []) (sym (append-nil before))
+visits-push caps capacity before (r ∷ records) entry =
+    let here = visit_behind caps capacity before r in
+    ap (λ l. here ∷ l) (visits-push caps capacity (before ++ r ∷ []) records entry)
+    ∙ ap (λ rs. here ∷ visits caps capacity (before ++ r ∷ []) records ++ visit_behind caps capacity rs entry ∷ [])
+    (append_assoc before (r ∷ []) records)
+
+-- a device that has come by these records stands as they say
+pub stands : (caps : Caps) (capacity : ℕ) (records : List Record) (now : Running)
+    → IsRunOf (running_at_first caps capacity) (map (λ step. step.event) (steps_of records)) [] (steps_of records) now
+    → standing caps capacity records ≡ now
+stands caps capacity records now run =
+    let history : now.history ≡ stored_steps (steps_of records) = rw run.added run.history in
+    let replayed = rw history at run.replayed in
+    rw (replayed, ← history, ← run.same_caps, ← run.same_capacity) refl
+
+-- a walk with one action more, its ticket and its step
+pub one_more : {Page : Type 0} (is_page : List Visit → Page → Type 0) (told_before : Running → Result Event Fault → List ℕ)
+    (caps : Caps) (capacity : ℕ) (now new : Running) (actions : List Action) (a : Action) (number : ℕ)
+    (tickets more : List Ticket) (page longer : Page) (told : List ℕ) (entry : Record) (asked : Result Event Fault)
+    → ((before : List Record) → IsTable (slice_get tickets) before → asked ≡ event_of before a)
+    → ((before : List Record) → IsTable (slice_get tickets) before → answered_by entry ≡ event_of before a)
+    → Leads now entry new → more ≡ tickets ++ filter_map given_by (entry ∷ [])
+    → told ≡ told_before now asked
+    → ((steps : List Visit) → (before : Running) → told ≡ told_before before (answered_by entry) → is_page steps page
+    → is_page (steps ++ visit number before entry new ∷ []) longer)
+    → IsWalkTo is_page caps capacity actions number now tickets page
+    → IsWalkTo is_page caps capacity (actions ++ a ∷ []) (number + 1) new more longer
+one_more is_page told_before caps capacity now new actions a number tickets more page longer told entry asked asks
+    answers leads noted tells adds h =
+    let table : IsTable (slice_get tickets) h.records = h.table in
+    let named = gives now new entry leads in
+    let on = goes_on (running_at_first caps capacity) now new h.records entry
+    (record { run = h.run; replay = h.replay }) leads in
+    let same : asked ≡ answered_by entry = asks h.records table ∙ sym (answers h.records table) in
+    let before : standing caps capacity h.records ≡ now = stands caps capacity h.records now h.run in
+    let after : standing caps capacity (h.records ++ entry ∷ []) ≡ new =
+    stands caps capacity (h.records ++ entry ∷ []) new on.run in
+    let here : visit_behind caps capacity h.records entry ≡ visit number now entry new =
+    rw (before, after, h.count) refl in
+    let steps = visits caps capacity [] h.records in
+    let added : is_page (steps ++ visit number now entry new ∷ []) longer =
+    adds steps now (tells ∙ ap (λ q. told_before now q) same) h.made in
+    let all : visits caps capacity [] (h.records ++ entry ∷ []) ≡ steps ++ visit number now entry new ∷ [] =
+    visits-push caps capacity [] h.records entry ∙ ap (λ v. steps ++ v ∷ []) here in
+    record {
+      records = h.records ++ entry ∷ [];
+      of_actions = AreOf-push [] actions h.records a entry h.of_actions (answers h.records table);
+      count = length-append h.records (entry ∷ []) ∙ ap (λ n. n + 1) h.count;
+      run = on.run;
+      replay = on.replay;
+      table = IsTable-noted tickets more h.records entry h.table (rw h.in_turn named.0) noted;
+      in_turn = ap length noted ∙ length-append tickets (filter_map given_by (entry ∷ []))
+          ∙ omega (arith, h.in_turn, named.1);
+      made = subst (λ v. is_page v longer) (sym all) added;
+    }
+
+-- a new device has run nothing
+pub opened : {Page : Type 0} (is_page : List Visit → Page → Type 0) (caps : Caps) (capacity : ℕ) (now : Running)
+    (tickets : List Ticket) (page : Page) → now ≡ running_at_first caps capacity → IsReplay now → tickets ≡ []
+    → is_page [] page → IsWalkTo is_page caps capacity [] 0 now tickets page
+opened is_page caps capacity now tickets page is replay none blank =
+    let replay : IsReplay (running_at_first caps capacity) = rw is at replay in
+    rw (is, none) (record {
+      records = [];
+      of_actions = tt;
+      count = refl;
+      run = record {
+        steps = [];
+        added = refl;
+        events_are = refl;
+        allowed = refl;
+        same_caps = refl;
+        same_capacity = refl;
+        history = refl;
+        replayed = replay.replayed;
+      };
+      replay = replay;
+      table = λ name. refl;
+      in_turn = refl;
+      made = blank;
+    })
+
+-- the text of a walk on a new device
+pub text_of_run : {Page : Type 0} (is_page : List Visit → Page → Type 0)
+    (is_text : List Visit → Running → List ℕ → Type 0) (caps : Caps) (capacity : ℕ) (actions : List Action)
+    (number : ℕ) (now : Running) (tickets : List Ticket) (page : Page) (text : List ℕ)
+    → IsWalkTo is_page caps capacity actions number now tickets page
+    → ((steps : List Visit) → is_page steps page → is_text steps now text)
+    → IsTextOfRun is_text caps capacity actions text
+text_of_run is_page is_text caps capacity actions number now tickets page text h ends =
+    let steps = visits caps capacity [] h.records in
+    record {
+      records = h.records;
+      last = now.state;
+      of_actions = h.of_actions;
+      run = rw h.run.added h.run.allowed;
+      replayed = rw h.run.added (rw h.run.history at h.run.replayed);
+      rendered = subst (λ d. is_text steps d text) (sym (stands caps capacity h.records now h.run))
+          (ends steps h.made);
+    }
