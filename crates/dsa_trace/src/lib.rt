@@ -9,7 +9,6 @@ mod form;
 mod held;
 mod lines;
 mod rendering;
-mod run;
 
 pub use form::Trace;
 pub use rendering::render_trace;

@@ -1,48 +1,71 @@
 //! A document in, the trace of its run out.
 
-ghost use Rattle.std.specs.Prelude.{◌≡◌, ◌⊎◌, None, IfErr, IfOk, string_bytes};
+ghost use Rattle.std.specs.Prelude.{◌≡◌, ◌⊎◌, [], None, IfErr, IfOk, flat_map, string_bytes};
 ghost use Rattle.dsa_scenario.specs.Document.{IsFaultOf};
-ghost use Rattle.dsa_trace.specs.Run.{IsTrace};
+ghost use Rattle.dsa_trace.specs.Lines.{line_of_step};
+ghost use Rattle.dsa_trace.specs.Run.{IsTrace, IsTraceOf};
 
 use crate::form::Trace;
-use crate::run::trace_steps;
-use dsa_cells::LinkedStore;
-use dsa_regs::{cell_count, list_count};
-use dsa_scenario::{
-    Render, Rendering, ScenarioFault, check_head, parse_actions, parse_head, parse_json,
-};
-use std::alloc::Global;
+use crate::held::add_held;
+use crate::lines::add_step;
+use dsa_book::Event;
+use dsa_device::Device;
+use dsa_regs::Fault;
+use dsa_scenario::{Record, Render, RenderSteps, Rendering, ScenarioFault, render_steps};
+use dsa_store::EntryStore;
+use std::alloc::{AllocError, Global};
 
-// The trace of the document in these bytes.
-//
-// A step object that is none comes before a fault of the device, so all of them are read before that is told.
-fn render(alloc: Global, form: Trace, bytes: &[u8]) -> Result<Rendering, ScenarioFault>
-    ensures ok { IfOk result (λ r. (r.fault ≡ None) × IsTrace form bytes.now (string_bytes r.text)) }
-    ensures err { IfErr result (λ e. (e ≡ ScenarioFault.OutOfMemory) ⊎ IsFaultOf bytes.now e) }
-{
-    let value = parse_json(alloc, bytes)?;
-    let Some(head) = parse_head(&value) else {
-        return Err(ScenarioFault::BadDocument);
-    };
-    if let Err(fault) = check_head(&head.caps, head.capacity) {
-        parse_actions(alloc, head.steps)?;
-        return Err(fault);
+impl RenderSteps for Trace {
+    type Page = String;
+
+    ghost told_before = { λ form now asked. [] };
+
+    ghost is_page = { λ form steps page. string_bytes page ≡ flat_map (line_of_step form) steps };
+
+    ghost is_text = { λ form steps last text. IsTraceOf form steps last text };
+
+    fn open(&self, alloc: Global) -> String {
+        String::new(alloc)
     }
-    let lists = list_count(&head.caps);
-    let store = LinkedStore::new(alloc, lists, cell_count(&head.caps))?;
-    let text = trace_steps(alloc, form, store, &head)?;
-    Ok(Rendering {
-        text,
-        fault: None,
-        document: Some(value),
-    })
+
+    fn look<S: EntryStore>(
+        &self,
+        alloc: Global,
+        _device: &Device<S>,
+        _asked: &Result<Event, Fault>,
+    ) -> Result<String, AllocError> {
+        Ok(String::new(alloc))
+    }
+
+    fn add_step<S: EntryStore>(
+        &self,
+        _alloc: Global,
+        page: &mut String,
+        number: usize,
+        _told: &str,
+        entry: &Record,
+        device: &Device<S>,
+    ) -> Result<(), AllocError> {
+        add_step(page, *self, number, entry, device)
+    }
+
+    fn finish<S: EntryStore>(
+        &self,
+        _alloc: Global,
+        page: String,
+        device: &Device<S>,
+    ) -> Result<String, AllocError> {
+        let mut text = page;
+        add_held(&mut text, *self, device)?;
+        Ok(text)
+    }
 }
 
 impl Render for Trace {
     ghost is_rendering = { λ form bytes fault text. (fault ≡ None) × IsTrace form bytes text };
 
     fn render(&self, alloc: Global, bytes: &[u8]) -> Result<Rendering, ScenarioFault> {
-        render(alloc, *self, bytes)
+        render_steps(alloc, self, bytes)
     }
 }
 
@@ -51,6 +74,6 @@ pub fn render_trace(alloc: Global, form: Trace, bytes: &[u8]) -> Result<String, 
     ensures ok { IfOk result (λ text. IsTrace form bytes.now (string_bytes text)) }
     ensures err { IfErr result (λ e. (e ≡ ScenarioFault.OutOfMemory) ⊎ IsFaultOf bytes.now e) }
 {
-    let rendering = render(alloc, form, bytes)?;
+    let rendering = render_steps(alloc, &form, bytes)?;
     Ok(rendering.text)
 }
