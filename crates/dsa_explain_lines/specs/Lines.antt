@@ -1,13 +1,11 @@
 -- The lines of an explanation.
 use Rattle.dsa_book.specs.declared.answer.Reply.TheVariants as reply
-use Rattle.std.specs.Prelude.{ℕ, cond, Bool, true, false, List, [], ◌∷◌, ◌++◌, length, unwrap_or, codes, decimal}
-use Rattle.dsa_regs.specs.declared.Caps.{Caps}
+use Rattle.std.specs.Prelude.{ℕ, cond, Bool, true, false, List, [], ◌++◌, codes, decimal}
 use Rattle.dsa_book.specs.declared.{answer.{Reply.{Reply}, DispatchAnswer.TheVariants.{Taken}}}
-use Rattle.dsa_book.specs.{State.{opening}, Machine.{replay, stored_steps}}
 use Rattle.dsa_device.specs.Running.{Running}
 use Rattle.dsa_event_words.specs.Words.{event_words}
 use Rattle.dsa_scenario.specs.declared.run.Record.{Record, TheVariants.{Stepped, Refused}}
-use Rattle.dsa_scenario.specs.{Lines.{record_text}, Run.{steps_of, answered_by}}
+use Rattle.dsa_scenario.specs.{Lines.{record_text}, Run.{answered_by}, Steps.{Visit}}
 use Rattle.dsa_explain_lines.specs.Parts.{part_of}
 
 -- what was asked; a word that is no command is no event (profile)
@@ -38,20 +36,6 @@ line_with part number entry =
 abbrev pub explained_line : Running → ℕ → Record → List ℕ
 explained_line now number entry = line_with (part_of now (answered_by entry)) number entry
 
--- how a device stands that has come by these records
-abbrev pub standing : Caps → ℕ → List Record → Running
-standing caps capacity records =
-    let history = stored_steps (steps_of records) in
-    record {
-      caps = caps;
-      capacity = capacity;
-      history = history;
-      state = unwrap_or (replay caps history) (opening caps);
-    }
-
--- behind those before, a line for each record, by how the device stood before it (profile)
-abbrev pub explained_lines : Caps → ℕ → List Record → List Record → List ℕ
-explained_lines caps capacity before [] = []
-explained_lines caps capacity before (entry ∷ entries) =
-    explained_line (standing caps capacity before) (length before) entry
-    ++ explained_lines caps capacity (before ++ entry ∷ []) entries
+-- the line of a step of a run (profile)
+abbrev pub line_of_step : Visit → List ℕ
+line_of_step step = explained_line step.before step.number step.entry

@@ -11,7 +11,6 @@ mod engines;
 mod lines;
 mod parts;
 mod rendering;
-mod run;
 mod submissions;
 mod words;
 mod writes;

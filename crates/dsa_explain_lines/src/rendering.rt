@@ -1,50 +1,74 @@
 //! A document in, the explanation of its run out.
 
-ghost use Rattle.std.specs.Prelude.{◌≡◌, ◌⊎◌, None, IfErr, IfOk, string_bytes};
-ghost use Rattle.dsa_scenario.specs.Document.{IsFaultOf};
-ghost use Rattle.dsa_explain_lines.specs.Run.{IsExplanation};
+ghost use Rattle.std.specs.Prelude.{◌≡◌, None, flat_map, string_bytes};
+ghost use Rattle.dsa_explain_lines.specs.Lines.{line_of_step};
+ghost use Rattle.dsa_explain_lines.specs.Parts.{part_of};
+ghost use Rattle.dsa_explain_lines.specs.Run.{IsExplanation, IsExplanationOf};
 
-use crate::run::explain_steps;
-use dsa_cells::LinkedStore;
-use dsa_regs::{cell_count, list_count};
-use dsa_scenario::{
-    Render, Rendering, ScenarioFault, check_head, parse_actions, parse_head, parse_json,
-};
-use std::alloc::Global;
-
-// The lines of the document of this value.
-//
-// A step object that is none comes before a fault of the device, so all of them are read before that is told.
-fn render(alloc: Global, bytes: &[u8]) -> Result<Rendering, ScenarioFault>
-    ensures ok { IfOk result (λ r. (r.fault ≡ None) × IsExplanation bytes.now (string_bytes r.text)) }
-    ensures err { IfErr result (λ e. (e ≡ ScenarioFault.OutOfMemory) ⊎ IsFaultOf bytes.now e) }
-{
-    let value = parse_json(alloc, bytes)?;
-    let Some(head) = parse_head(&value) else {
-        return Err(ScenarioFault::BadDocument);
-    };
-    if let Err(fault) = check_head(&head.caps, head.capacity) {
-        parse_actions(alloc, head.steps)?;
-        return Err(fault);
-    }
-    let lists = list_count(&head.caps);
-    let store = LinkedStore::new(alloc, lists, cell_count(&head.caps))?;
-    let text = explain_steps(alloc, store, &head)?;
-    Ok(Rendering {
-        text,
-        fault: None,
-        document: Some(value),
-    })
-}
+use crate::lines::add_line;
+use crate::parts::add_part;
+use dsa_book::Event;
+use dsa_device::Device;
+use dsa_regs::Fault;
+use dsa_scenario::{Record, Render, RenderSteps, Rendering, ScenarioFault, render_steps};
+use dsa_store::EntryStore;
+use std::alloc::{AllocError, Global};
 
 /// Why each step of a document's run was answered as it was, as a way to make a text of it.
 #[derive(Clone, Copy, Debug, PartialEq, Eq)]
 pub struct Explanation;
 
+// What is told behind an answer is read of the device as it stands before the step.
+impl RenderSteps for Explanation {
+    type Page = String;
+
+    ghost told_before = { λ explanation now asked. part_of now asked };
+
+    ghost is_page = { λ explanation steps page. string_bytes page ≡ flat_map line_of_step steps };
+
+    ghost is_text = { λ explanation steps last text. IsExplanationOf steps last text };
+
+    fn open(&self, alloc: Global) -> String {
+        String::new(alloc)
+    }
+
+    fn look<S: EntryStore>(
+        &self,
+        alloc: Global,
+        device: &Device<S>,
+        asked: &Result<Event, Fault>,
+    ) -> Result<String, AllocError> {
+        let mut part = String::new(alloc);
+        add_part(&mut part, device, asked)?;
+        Ok(part)
+    }
+
+    fn add_step<S: EntryStore>(
+        &self,
+        _alloc: Global,
+        page: &mut String,
+        number: usize,
+        told: &str,
+        entry: &Record,
+        _device: &Device<S>,
+    ) -> Result<(), AllocError> {
+        add_line(page, number, entry, told)
+    }
+
+    fn finish<S: EntryStore>(
+        &self,
+        _alloc: Global,
+        page: String,
+        _device: &Device<S>,
+    ) -> Result<String, AllocError> {
+        Ok(page)
+    }
+}
+
 impl Render for Explanation {
     ghost is_rendering = { λ explanation bytes fault text. (fault ≡ None) × IsExplanation bytes text };
 
     fn render(&self, alloc: Global, bytes: &[u8]) -> Result<Rendering, ScenarioFault> {
-        render(alloc, bytes)
+        render_steps(alloc, self, bytes)
     }
 }
