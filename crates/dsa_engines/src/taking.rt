@@ -1,14 +1,15 @@
 //! Dispatch: an engine takes an entry from a queue of its group.
 
-ghost use Rattle.std.specs.Prelude.{◌≡◌, ℕ, List, ◌<◌, ◌≢◌, nat_le, ◌&&◌, ◌||◌, not, is_none, true, false, Some, None, [], length, get_or, slice_get, slice_index, slice_set, cond, IfSome, IfNone, MatchOption};
+ghost use Rattle.std.specs.Prelude.{◌≡◌, ℕ, List, ◌<◌, ◌≢◌, nat_le, ◌&&◌, ◌||◌, not, is_none, true, false, Some, None, [], length, get_or, slice_get, slice_index, slice_set, cond, is_some, IfSome, IfNone, MatchOption};
 ghost use Rattle.dsa_base.specs.Numbers.{has};
 ghost use Rattle.dsa_buffers.specs.Buffers.{IsRoom};
 ghost use Rattle.dsa_regs.specs.Config.{group_at};
 ghost use Rattle.dsa_store.specs.Content.{chain, after_push, without_front};
 ghost use Rattle.dsa_book.specs.declared.fate.FateRow.{FateRow};
 ghost use Rattle.dsa_book.specs.State.{any_in, is_off, need_of, is_batch_of, is_drain_of};
+ghost use Rattle.dsa_book.specs.declared.answer.DispatchAnswer.TheVariants.{Taken};
 ghost use Rattle.dsa_book.specs.declared.answer.Reply.TheVariants as reply;
-ghost use Rattle.dsa_book.specs.Choice.{choice_of};
+ghost use Rattle.dsa_book.specs.Choice.{choice_of, from_queue};
 ghost use Rattle.dsa_book.specs.Work.{qualifies, may_leave, dispatch, progress_list, as_running, opened_note, with_note};
 ghost use Rattle.dsa_queues.specs.Queues.{IsCounted, IsStoreFor};
 ghost use Rattle.dsa_engines.specs.Engines.{work, IsInStep, IsOpen};
@@ -207,6 +208,65 @@ impl Engines {
         }
     }
 
+    // The engine's group, where the engine may take the front of the queue.
+    #[inline(always)]
+    fn taking_group<S: EntryStore>(
+        &self,
+        queues: &Queues,
+        store: &S,
+        engine: u16,
+        queue: u16,
+    ) -> Option<u16>
+        requires in_step { IsInStep queues.now.setup self.now (S.cells store.now) (S.content store.now) }
+        ensures qualifies { is_some result ≡ qualifies (work queues.now.setup self.now (S.content store.now) []) engine queue }
+        ensures open { IfSome result (λ group. is_off queues.now.setup.device ≡ false → IsOpen queues.now.setup (S.content store.now) engine group) }
+    {
+        let group = self.open_group(queues, store, engine)?;
+        if !queues.group(group).has_queue(queue) {
+            return None;
+        }
+        let share = Share {
+            group,
+            room: self.room(group),
+        };
+        if !self.qualifies(queues, store, engine, share, queue) {
+            return None;
+        }
+        Some(group)
+    }
+
+    // The engine takes the front of the queue, which qualifies, and it runs.
+    #[inline(always)]
+    fn take_front<S: EntryStore>(
+        &mut self,
+        queues: &Queues,
+        store: &mut S,
+        engine: u16,
+        group: u16,
+        queue: u16,
+    ) -> Ticket
+        requires in_step { IsInStep queues.now.setup self.old (S.cells store.old) (S.content store.old) }
+        requires counted { IsCounted queues.now (S.content store.old) }
+        requires group { is_off queues.now.setup.device ≡ false → IsOpen queues.now.setup (S.content store.old) engine group }
+        requires qualifies { qualifies (work queues.now.setup self.old (S.content store.old) []) engine queue ≡ true }
+        ensures step { (fates : List FateRow)
+            → dispatch (work queues.now.setup self.old (S.content store.old) fates) engine (from_queue queue)
+            ≡ (Taken result queue, work queues.now.setup self.new (S.content store.new) fates) }
+        ensures in_step { IsInStep queues.now.setup self.new (S.cells store.new) (S.content store.new) }
+        ensures counted { IsCounted queues.now (S.content store.new) }
+    {
+        let Some((cell, entry)) = front_slot(store, ListId(queue)) else {
+            unreachable!();
+        };
+        let progress = queues.list(ListUse::Progress(engine));
+        run_front(store, ListId(queue), progress, (cell, entry));
+        self.take(group, queues.need(&entry));
+        self.open_note(queues, engine, &entry);
+        self.set_turn(group, queue + 1);
+        let name = entry.name;
+        Ticket { cell, name }
+    }
+
     /// The engine takes the front of a queue of its group, and it runs: it goes to the end of those in progress, and a
     /// well-formed Batch opens the engine's note (profile).
     ///
@@ -241,18 +301,51 @@ impl Engines {
         let Some(queue) = self.choose(queues, store, engine, share) else {
             return DispatchAnswer::Idle;
         };
-        let Some((cell, entry)) = front_slot(store, ListId(queue)) else {
-            unreachable!();
-        };
-        let progress = queues.list(ListUse::Progress(engine));
-        run_front(store, ListId(queue), progress, (cell, entry));
-        self.take(group, queues.need(&entry));
-        self.open_note(queues, engine, &entry);
-        self.set_turn(group, queue + 1);
+        let ticket = self.take_front(queues, store, engine, group, queue);
+        DispatchAnswer::Taken { ticket, queue }
+    }
+
+    /// The ticket of the queue's front, where the engine may take it. `None` exactly where the queue does not qualify.
+    pub fn offered<S: EntryStore>(
+        &self,
+        queues: &Queues,
+        store: &S,
+        engine: u16,
+        queue: u16,
+    ) -> Option<Ticket>
+        requires in_step { IsInStep queues.now.setup self.now (S.cells store.now) (S.content store.now) }
+        ensures { MatchOption result
+            (qualifies (work queues.now.setup self.now (S.content store.now) []) engine queue ≡ false)
+            (λ ticket. (qualifies (work queues.now.setup self.now (S.content store.now) []) engine queue ≡ true)
+            × ((dispatch (work queues.now.setup self.now (S.content store.now) []) engine (from_queue queue)).0 ≡ Taken ticket queue)) }
+    {
+        self.taking_group(queues, store, engine, queue)?;
+        let (cell, entry) = front_slot(store, ListId(queue))?;
         let name = entry.name;
-        DispatchAnswer::Taken {
-            ticket: Ticket { cell, name },
-            queue,
-        }
+        Some(Ticket { cell, name })
+    }
+
+    /// The engine takes the front of this queue, as `dispatch` does of one that it chooses, and the ticket is told. `None`,
+    /// and nothing changed, exactly where the queue does not qualify.
+    #[inline(always)]
+    pub fn dispatch_from<S: EntryStore>(
+        &mut self,
+        queues: &Queues,
+        store: &mut S,
+        engine: u16,
+        queue: u16,
+    ) -> Option<Ticket>
+        requires in_step { IsInStep queues.now.setup self.old (S.cells store.old) (S.content store.old) }
+        requires counted { IsCounted queues.now (S.content store.old) }
+        ensures qualifies { is_some result ≡ qualifies (work queues.now.setup self.old (S.content store.old) []) engine queue }
+        ensures none { IfNone result ((self.new ≡ self.old) × (S.content store.new ≡ S.content store.old)) }
+        ensures step { IfSome result (λ ticket. (fates : List FateRow)
+            → dispatch (work queues.now.setup self.old (S.content store.old) fates) engine (from_queue queue)
+            ≡ (Taken ticket queue, work queues.now.setup self.new (S.content store.new) fates)) }
+        ensures in_step { IsInStep queues.now.setup self.new (S.cells store.new) (S.content store.new) }
+        ensures counted { IsCounted queues.now (S.content store.new) }
+    {
+        let group = self.taking_group(queues, store, engine, queue)?;
+        Some(self.take_front(queues, store, engine, group, queue))
     }
 }

@@ -1,10 +1,8 @@
 use Rattle.dsa_engines.proofs.engines.Engines.dispatch.Goals as goal
-use Rattle.std.proofs.Common.{◌∙◌, [], refl, sym, arith}
+use Rattle.std.proofs.Common.{[], refl}
 use Rattle.dsa_book.specs.Work.{qualifies}
 use Rattle.dsa_engines.specs.Engines.{work}
-use Rattle.dsa_queues.proofs.Counts.{counted-moved}
-use Rattle.dsa_engines.proofs.Dispatching.{none-below, qualifying-queue, within-groups, fits-taken, in_step-after}
-use Rattle.dsa_engines.proofs.Dispatching.{taking-engine}
+use Rattle.dsa_engines.proofs.Dispatching.{none-below}
 
 pub returns-in_default-clause-free : goal.returns-in_default-clause-free
 returns-in_default-clause-free g c =
@@ -19,42 +17,3 @@ returns-in_default-choose-clause-free g c =
     (g.S.EntryStore.content c.args.store.now) []) c.args.engine) c.args.queues.now.setup.caps.queues
     c.in_default-choose.ensures in
     rw none refl
-
-pub front_slot-requires : goal.front_slot-requires
-front_slot-requires g c =
-    let queue = qualifying-queue c.args.queues.now.setup c.args.self.now
-    (g.S.EntryStore.content c.args.store.now) c.args.engine c.in-Some-choose.queue c.in-Some-choose.ensures in
-    omega (arith, c.requires.in_step.store.lists, queue)
-
-pub take-requires-clause-group : goal.take-requires-clause-group
-take-requires-clause-group g c =
-    within-groups c.requires.in_step c.in-Some.ensures.some (qualifying-queue c.args.queues.now.setup c.args.self.now
-    (g.S.EntryStore.content c.args.store.now) c.args.engine c.in-Some-choose.queue c.in-Some-choose.ensures)
-    (sym c.front_slot.ensures ∙ c.in-Some-front_slot.is)
-
-pub take-requires-clause-fits : goal.take-requires-clause-fits
-take-requires-clause-fits g c =
-    fits-taken c.requires.in_step c.in-Some.ensures.some (qualifying-queue c.args.queues.now.setup c.args.self.now
-    (g.S.EntryStore.content c.args.store.now) c.args.engine c.in-Some-choose.queue c.in-Some-choose.ensures)
-    (sym c.front_slot.ensures ∙ c.in-Some-front_slot.is) c.need.ensures c.in-Some-choose.ensures
-
-pub returns-clause-in_step : goal.returns-clause-in_step
-returns-clause-in_step g c =
-    in_step-after c.requires.in_step c.in-Some.ensures.some (qualifying-queue c.args.queues.now.setup c.args.self.now
-    (g.S.EntryStore.content c.args.store.now) c.args.engine c.in-Some-choose.queue c.in-Some-choose.ensures)
-    (sym c.front_slot.ensures ∙ c.in-Some-front_slot.is) c.list-progress.ensures c.run_front.ensures.after
-    c.run_front.ensures.cells c.need.ensures c.take.ensures c.open_note.ensures c.set_turn.ensures
-
-pub returns-clause-counted : goal.returns-clause-counted
-returns-clause-counted g c =
-    let queue = qualifying-queue c.args.queues.now.setup c.args.self.now (g.S.EntryStore.content c.args.store.now)
-    c.args.engine c.in-Some-choose.queue c.in-Some-choose.ensures in
-    rw c.run_front.ensures.after (counted-moved c.args.queues.now (g.S.EntryStore.content c.args.store.now)
-    c.in-Some-choose.queue c.list-progress.result.0 _ _ (omega (arith, c.requires.in_step.store.lists, queue))
-    (omega (
-      arith,
-      c.requires.in_step.store.lists,
-      c.list-progress.ensures,
-      taking-engine c.requires.in_step c.in-Some.ensures.some queue
-          (sym c.front_slot.ensures ∙ c.in-Some-front_slot.is),
-    )) (sym c.front_slot.ensures ∙ c.in-Some-front_slot.is) refl c.requires.counted)
