@@ -1,10 +1,13 @@
 //! A device: how it is made, and its steps.
 
-ghost use Rattle.std.specs.Prelude.{◌≡◌, ◌≤◌, ◌-◌, IsTrue, None, Some, IfOk, IfErr};
+ghost use Rattle.std.specs.Prelude.{◌≡◌, ◌≢◌, ◌≤◌, ◌-◌, IsTrue, false, None, Some, length, IfOk, IfErr, IfSome, IfNone};
 ghost use Rattle.dsa_desc.specs.Descriptor.{read};
 ghost use Rattle.dsa_regs.specs.Caps.{check_caps};
 ghost use Rattle.dsa_book.specs.declared.event.Event.TheVariants as event;
+ghost use Rattle.dsa_book.specs.declared.answer.DispatchAnswer.TheVariants.{Full};
 ghost use Rattle.dsa_book.specs.declared.answer.Reply.TheVariants as reply;
+ghost use Rattle.dsa_book.specs.Choice.{choice_of, from_queue};
+ghost use Rattle.dsa_book.specs.Work.{qualifies};
 ghost use Rattle.dsa_base.specs.Rows.{first_row};
 ghost use Rattle.dsa_device.specs.Made.{is_store_of, opening_table, make_fault, fault_or_memory};
 ghost use Rattle.dsa_device.specs.Running.{running_at_first, after_answer, watched_in, awaited_end};
@@ -193,6 +196,28 @@ impl<S: EntryStore> Device<S> {
         self.book
             .record(Event::Dispatch { engine }, Reply::Dispatch(answer));
         answer
+    }
+
+    /// An engine takes the front of this queue, as `dispatch` does of one that the device chooses: `None`, and nothing
+    /// changed, where the queue does not qualify. A history without room is answered `Full` whether it does or not.
+    #[inline(always)]
+    pub fn dispatch_from(&mut self, engine: u16, queue: u16) -> Option<DispatchAnswer>
+        ensures some { IfSome result (λ answer. after_answer self.old (event.Dispatch engine) (reply.Dispatch answer) ≡ Some self.new) }
+        ensures queue { IfSome result (λ answer. answer ≢ Full → choice_of (reply.Dispatch answer) ≡ from_queue queue) }
+        ensures none { IfNone result (self.new ≡ self.old) }
+        ensures unqualified { IfNone result (qualifies self.old.state.work engine queue ≡ false) }
+        ensures room { IfNone result (length self.old.history ≢ self.old.capacity) }
+    {
+        if self.book.is_full() {
+            return Some(DispatchAnswer::Full);
+        }
+        let ticket = self
+            .engines
+            .dispatch_from(&self.queues, &mut self.store, engine, queue)?;
+        let answer = DispatchAnswer::Taken { ticket, queue };
+        self.book
+            .record(Event::Dispatch { engine }, Reply::Dispatch(answer));
+        Some(answer)
     }
 
     /// An engine hands in the next member of its batch.

@@ -1,13 +1,16 @@
 //! What a device tells of one engine, of one cell and of one entry.
 
-ghost use Rattle.std.specs.Prelude.{◌≡◌};
+ghost use Rattle.std.specs.Prelude.{◌≡◌, true, false, MatchOption};
 ghost use Rattle.std.specs.Option.{option_map};
 ghost use Rattle.dsa_regs.specs.Caps.{list_use};
 ghost use Rattle.dsa_store.specs.Content.{entry_of, list_of};
 ghost use Rattle.dsa_book.specs.State.{need_of, is_batch_of, is_drain_of};
-ghost use Rattle.dsa_book.specs.Work.{group_of};
+ghost use Rattle.dsa_book.specs.declared.answer.DispatchAnswer.TheVariants.{Taken};
+ghost use Rattle.dsa_book.specs.Choice.{from_queue};
+ghost use Rattle.dsa_book.specs.Work.{group_of, qualifies, dispatch};
 
 use super::Device;
+use dsa_book::Ticket;
 use dsa_regs::ListUse;
 use dsa_store::{Cell, Entry, EntryStore};
 
@@ -17,6 +20,17 @@ impl<S: EntryStore> Device<S> {
         ensures { result ≡ group_of self.now.state.work engine }
     {
         self.queues.group_of(engine)
+    }
+
+    /// The ticket of the queue's front, where the engine may take it: what `dispatch_from` takes, once the history has room.
+    /// `None` exactly where the queue does not qualify.
+    pub fn offered(&self, engine: u16, queue: u16) -> Option<Ticket>
+        ensures { MatchOption result (qualifies self.now.state.work engine queue ≡ false)
+            (λ ticket. (qualifies self.now.state.work engine queue ≡ true)
+            × ((dispatch self.now.state.work engine (from_queue queue)).0 ≡ Taken ticket queue)) }
+    {
+        self.engines
+            .offered(&self.queues, &self.store, engine, queue)
     }
 
     /// The entry that the cell holds. `None` exactly where it holds none.
