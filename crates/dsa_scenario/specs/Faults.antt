@@ -2,7 +2,7 @@
 use Rattle.std.specs.Prelude.{ℕ, List, ◌++◌, codes, decimal}
 use Rattle.dsa_scenario.specs.declared.faults.ScenarioFault.{ScenarioFault, TheVariants.{Read, TooLong, NotJson}}
 use Rattle.dsa_scenario.specs.declared.faults.ScenarioFault.TheVariants.{BadDocument, BadStep, BadCaps, BadCapacity}
-use Rattle.dsa_scenario.specs.declared.faults.ScenarioFault.TheVariants.{Write, OutOfMemory}
+use Rattle.dsa_scenario.specs.declared.faults.ScenarioFault.TheVariants.{Differs, Write, OutOfMemory}
 
 -- the sentence of a fault (profile)
 abbrev pub fault_text : ScenarioFault → List ℕ
@@ -13,6 +13,7 @@ fault_text BadDocument = codes "bad document"
 fault_text (BadStep i) = codes "bad step " ++ decimal i
 fault_text BadCaps = codes "bad caps"
 fault_text BadCapacity = codes "bad capacity"
+fault_text (Differs i) = codes "step " ++ decimal i ++ codes " differs"
 fault_text Write = codes "write failed"
 fault_text OutOfMemory = codes "out of memory"
 

@@ -21,7 +21,7 @@ ghost use Rattle.dsa_book.specs.declared.event.Kind.TheVariants.{Enqcmd, Movdir6
 ghost use Rattle.dsa_book.specs.declared.event.Portal.TheVariants.{Limited, Unlimited};
 ghost use Rattle.dsa_book.specs.declared.fate.Fate.TheVariants.{Completed, Aborted, Abandoned};
 ghost use Rattle.dsa_scenario.specs.declared.actions.Action.TheVariants.{Ask, Finish, Refuse};
-ghost use Rattle.dsa_scenario.specs.declared.faults.ScenarioFault.TheVariants.{NotJson, BadDocument, BadStep, BadCaps, BadCapacity};
+ghost use Rattle.dsa_scenario.specs.declared.faults.ScenarioFault.TheVariants.{NotJson, BadDocument, BadStep, BadCaps, BadCapacity, Differs};
 ghost use Rattle.dsa_scenario.specs.declared.run.Record.TheVariants.{Refused};
 ghost use Rattle.dsa_scenario.specs.Fields.{whole_of, truth_of, text_of, hex_bytes_of};
 ghost use Rattle.dsa_scenario.specs.Actions.{caps_of, action_of};
@@ -294,6 +294,7 @@ pub fn faults_that_are_not_told()
     ensures step_before_caps { ¬ IsFaultOf (document_text no_caps_text (codes "9") (codes "1")) BadCaps }
     ensures caps_before_capacity { ¬ IsFaultOf (document_text no_caps_text (codes "1048577") []) BadCapacity }
     ensures capacity { ¬ IsFaultOf (document_text smallest_caps_text (codes "1048576") []) BadCapacity }
+    ensures difference { ¬ IsFaultOf (document_text smallest_caps_text (codes "9") (codes "{\"do\":\"poll\"}")) (Differs 0) }
 {}
 
 /// A run of a submission from its set-up to its end, with a refused word and an answer that is not stored.
