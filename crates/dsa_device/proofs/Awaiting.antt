@@ -5,8 +5,8 @@ use Rattle.std.proofs.Common.{◌≡◌, ℕ, ◌+◌, ◌-◌, ◌≤◌, true,
 use Rattle.dsa_desc.specs.declared.Outcome.{Outcome}
 use Rattle.dsa_regs.specs.{declared.Caps.{Caps}, Command.{deed_of, scope_of}}
 use Rattle.dsa_store.specs.{declared.entry.Entry.{Entry}, Content.{Content, count_where}}
-use Rattle.dsa_book.specs.declared.answer.{Ticket.{Ticket}, Reply.{Reply}}
-use Rattle.dsa_book.specs.declared.answer.{DispatchAnswer.{DispatchAnswer}, FinishAnswer.{FinishAnswer, TheVariants.{Done}}}
+use Rattle.dsa_book.specs.declared.answer.{Ticket.{Ticket}, Reply.{Reply}, DispatchAnswer.{DispatchAnswer}}
+use Rattle.dsa_book.specs.declared.answer.FinishAnswer.{FinishAnswer, TheVariants.{Done}}
 use Rattle.dsa_book.specs.declared.{event.Event.{Event}, note.ActiveCommand.{ActiveCommand}}
 use Rattle.dsa_book.specs.{State.{Setup, Work, is_off}, Choice.{choice_of}, Work.{may_leave, dispatch, finish}}
 use Rattle.dsa_queues.{specs.Queues.{Kept, IsCounted}, proofs.Counts.{counted-setup}}
@@ -15,7 +15,8 @@ use Rattle.dsa_admin.specs.Admin.{Watch, IsAwaiting, is_watched, is_waited_for, 
 use Rattle.dsa_laws.specs.WellFormed.{CellsOnce}
 use Rattle.dsa_laws.proofs.Awaits.{IsOfEarlier, guarded, awaited-earlier, ended_of, dispatch-counts, finish-counts}
 use Rattle.dsa_laws.proofs.{Changes.{next-change}, Flows.{flow-change}}
-use Rattle.dsa_device.proofs.{Known.{well_formed}, Steps.{answered_by_cases, same-queues, whole_after, whole_after_queues}}
+use Rattle.dsa_device.proofs.Known.{well_formed}
+use Rattle.dsa_device.proofs.Steps.{answered_by_cases, same-queues, whole_after, whole_after_queues}
 use Rattle.dsa_device.specs.Running.{Running, IsReplay, IsRunning, after_answer, watched_in, awaited_end}
 
 -- what a command counts was submitted before it
@@ -77,15 +78,16 @@ set-up-running cells more kept after gear watch d now t e r i is a notes count k
     queues_of setup = setup.caps.queues
 
 -- a dispatch, which leaves as many that a command counts
-pub dispatch-running : (cells more : ℕ) (kept : Kept) (gear after : Gear) (watch : Watch) (d now t : Running) (engine : ℕ)
-    (answer : DispatchAnswer) → IsRunning cells kept gear watch d → d ≡ now
+pub dispatch-running : (cells more : ℕ) (kept : Kept) (gear after : Gear) (watch : Watch) (d now t : Running)
+    (engine : ℕ) (answer : DispatchAnswer) → IsRunning cells kept gear watch d → d ≡ now
     → after_answer now (event.Dispatch engine) (reply.Dispatch answer) ≡ Some t
     → may_leave d.state.work engine (choice_of (reply.Dispatch answer)) ≡ true
     → dispatch d.state.work engine (choice_of (reply.Dispatch answer)) ≡ (answer, t.state.work)
     → IsInStep t.state.work.setup after more t.state.work.content → IsCounted kept t.state.work.content
     → IsRunning more kept after watch t
 dispatch-running cells more kept gear after watch d now t engine answer i is a may step in_step counted = record {
-  whole = whole_after cells more gear after d now t (event.Dispatch engine) (reply.Dispatch answer) i.whole is a in_step;
+  whole = whole_after cells more gear after d now t (event.Dispatch engine) (reply.Dispatch answer) i.whole is a
+      in_step;
   counted = counted;
   awaiting = awaiting-kept watch d.state.work.setup.next_name t.state.work.setup.next_name
       d.state.work.content t.state.work.content
