@@ -1,6 +1,7 @@
 pub mod Bytes
 pub mod Hex
 pub mod Names
+pub mod Plain
 pub mod Records
 pub mod StepObjects
 pub mod Tickets

@@ -1,6 +1,7 @@
 -- One step more of a walk, and its end.
 use Rattle.std.proofs.Common.{◌≡◌, ℕ, List, [], ◌∷◌, ◌++◌, Result, refl, ap, ◌∙◌, sym, ◌+◌, length, map, arith, subst}
-use Rattle.std.proofs.Common.{append_assoc, append-nil, filter_map, length-append}
+use Rattle.std.proofs.Common.{append_assoc, append-nil, filter_map, length-append, ◌<◌, ◌≤◌, take, get_or}
+use Rattle.std.proofs.lemmas.List.{take_more, take_all}
 use Rattle.std.specs.Prelude.{slice_get}
 use Rattle.dsa_regs.specs.declared.{Caps.{Caps}, Fault.{Fault}}
 use Rattle.dsa_book.specs.declared.{answer.Ticket.{Ticket}, event.Event.{Event}}
@@ -122,3 +123,23 @@ text_of_run is_page is_text caps capacity actions number now tickets page text h
       rendered = subst (λ d. is_text steps d text) (sym (stands caps capacity h.records now h.run))
           (ends steps h.made);
     }
+
+-- the actions so far, and one more
+pub taken : {Page : Type 0} (is_page : List Visit → Page → Type 0) (caps : Caps) (capacity : ℕ) (now : Running)
+    (actions seen : List Action) (i : ℕ) (d : Action) (tickets : List Ticket) (page : Page) → seen ≡ actions
+    → i < length seen
+    → IsWalkTo is_page caps capacity (take i actions ++ get_or seen i d ∷ []) (i + 1) now tickets page
+    → IsWalkTo is_page caps capacity (take (i + 1) actions) (i + 1) now tickets page
+taken is_page caps capacity now actions seen i d tickets page same inside h =
+    let inside : i < length actions = rw same at inside in
+    let h : IsWalkTo is_page caps capacity (take i actions ++ get_or actions i d ∷ []) (i + 1) now tickets page =
+    rw same at h in
+    rw (take_more actions i d inside) h
+
+-- and all of them
+pub all_taken : {Page : Type 0} (is_page : List Visit → Page → Type 0) (caps : Caps) (capacity : ℕ) (now : Running)
+    (actions seen : List Action) (i : ℕ) (tickets : List Ticket) (page : Page) → seen ≡ actions → length seen ≤ i
+    → IsWalkTo is_page caps capacity (take i actions) i now tickets page
+    → IsWalkTo is_page caps capacity actions i now tickets page
+all_taken is_page caps capacity now actions seen i tickets page same past h =
+    rw (take_all i actions (rw same at past)) at h

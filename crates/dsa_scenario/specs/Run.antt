@@ -2,7 +2,7 @@
 use Rattle.dsa_book.specs.declared.answer.Reply.TheVariants as reply
 use Rattle.dsa_book.specs.declared.event.Event.TheVariants as event
 use Rattle.std.specs.Prelude.{◌≡◌, ℕ, ◌==◌, true, List, [], ◌∷◌, ◌++◌, Option, Some, None, Result, Ok, Err, find}
-use Rattle.std.specs.Prelude.{filter_map, flat_map, map, length, slice_get, unwrap_or, ⊤}
+use Rattle.std.specs.Prelude.{filter_map, unwrap_or, ⊤}
 use Rattle.dsa_regs.specs.declared.{Caps.{Caps}, Fault.{Fault}}
 use Rattle.dsa_book.specs.declared.answer.{Ticket.{Ticket}, SubmitAnswer.TheVariants.{Accepted}}
 use Rattle.dsa_book.specs.declared.answer.{FetchAnswer.TheVariants.{Fetched}, Reply.{Reply}}
@@ -10,8 +10,8 @@ use Rattle.dsa_book.specs.declared.event.{Event.{Event}, Step.{Step}}
 use Rattle.dsa_book.specs.{State.{State}, Machine.{is_run, replay, stored_steps}}
 use Rattle.dsa_scenario.specs.declared.actions.Action.{Action, TheVariants.{Ask, Finish, Refuse}}
 use Rattle.dsa_scenario.specs.declared.run.Record.{Record, TheVariants.{Stepped, Refused}}
-use Rattle.dsa_device.specs.{Running.{Running, after_answer, IsReplay}, Runs.{IsRunOf}}
-use Rattle.dsa_scenario.specs.Lines.{record_text, line_of, lines_of}
+use Rattle.dsa_device.specs.{Running.{Running, after_answer}}
+use Rattle.dsa_scenario.specs.Lines.{lines_of}
 
 -- ---- tickets
 
@@ -73,17 +73,6 @@ steps_of records = filter_map step_of records
 abbrev pub Leads : Running → Record → Running → Type 0
 Leads now (Stepped step) after = after_answer now step.event step.reply ≡ Some after
 Leads now (Refused fault) after = after ≡ now
-
--- so far a device has come by these actions, with these tickets by name and these lines (profile)
-pub record IsRunTo (first : Running) (actions : List Action) (now : Running) (tickets : List Ticket) (lines : List ℕ)
-    : Type 0 where
-  pub records : List Record
-  pub of_actions : AreOf [] actions records
-  pub run : IsRunOf first (map (λ step. step.event) (steps_of records)) [] (steps_of records) now
-  pub replay : IsReplay now
-  pub table : IsTable (slice_get tickets) records
-  pub in_turn : length tickets ≡ now.state.work.setup.next_name
-  pub rendered : lines ≡ flat_map (λ entry. line_of (record_text entry)) records
 
 -- the lines are those of a run of these actions on a new device of these caps and this capacity,
 -- with the fates that its history leads to (profile)

@@ -1,5 +1,5 @@
 -- What is read of a document, and what is written.
-use Rattle.std.specs.Prelude.{◌≡◌, ◌≤◌, ◌<◌, ℕ, ◌^◌, true, List, length, take, Option, ⊤}
+use Rattle.std.specs.Prelude.{◌≡◌, ◌⊎◌, ◌≤◌, ◌<◌, ℕ, ◌^◌, true, List, length, take, Option, ⊤}
 use Rattle.std.specs.Io.KnownBytes.{Consumes, IsAtEnd, Appends}
 use Rattle.dsa_regs.specs.{declared.Caps.{Caps}, Caps.{check_caps}}
 use Rattle.dsa_scenario.specs.{declared.actions.Action.{Action}, Document.{IsDocument, IsFaultOf}, Run.{AreLinesOf}}
@@ -27,6 +27,24 @@ HasFault had left TooLong = (bytes : List ℕ) × Consumes had left bytes × (2 
 HasFault had left Write = ⊤
 HasFault had left OutOfMemory = ⊤
 HasFault had left fault = (bytes : List ℕ) × IsWhole had left bytes × IsFaultOf bytes fault
+
+-- the fault is of reading, of length, of writing or of memory, or the first that stands of all that the reader gave
+abbrev pub IsFirstOf : Option (List ℕ) → Option (List ℕ) → ScenarioFault → Type 0
+IsFirstOf had left fault = (fault ≡ Read) ⊎ (fault ≡ TooLong) ⊎ (fault ≡ Write) ⊎ (fault ≡ OutOfMemory)
+    ⊎ ((bytes : List ℕ) × IsWhole had left bytes × IsFaultOf bytes fault)
+
+-- the reader gave a document, and the writer, which held and holds these bytes, took all of a text that is of it
+abbrev pub IsWritten : (List ℕ → List ℕ → Type 0) → Option (List ℕ) → Option (List ℕ) → Option (List ℕ)
+    → Option (List ℕ) → Type 0
+IsWritten is_of had left held holds = (bytes : List ℕ) × (text : List ℕ) × IsWhole had left bytes × is_of bytes text
+    × Appends held holds text
+
+-- the writer has taken the first bytes of a text of the document, after which a fault is told or none, and not all of them
+abbrev pub IsTextCutShort : (List ℕ → Option ScenarioFault → List ℕ → Type 0) → Option (List ℕ) → Option (List ℕ)
+    → Option (List ℕ) → Option (List ℕ) → Type 0
+IsTextCutShort is_of had left held holds = (bytes : List ℕ) × (text : List ℕ) × (fault : Option ScenarioFault)
+    × (count : ℕ) × IsWhole had left bytes × is_of bytes fault text × (count < length text)
+    × Appends held holds (take count text)
 
 -- the writer, which held and holds these bytes, has taken the first lines of a run of the document, and not all of them
 abbrev pub IsCutShort : Option (List ℕ) → Option (List ℕ) → Option (List ℕ) → Option (List ℕ) → Type 0

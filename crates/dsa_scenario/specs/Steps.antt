@@ -1,11 +1,13 @@
 -- What is made of a run, step by step.
-use Rattle.std.specs.Prelude.{◌≡◌, ℕ, ◌≤◌, ◌^◌, true, List, [], ◌∷◌, ◌++◌, length, map, slice_get, unwrap_or, Some}
+use Rattle.std.specs.Prelude.{◌≡◌, ℕ, ◌≤◌, ◌^◌, true, List, [], ◌∷◌, ◌++◌, length, map, slice_get, unwrap_or}
+use Rattle.std.specs.Prelude.{Some, flat_map}
 use Rattle.dsa_regs.specs.{declared.Caps.{Caps}, Caps.{check_caps}}
 use Rattle.dsa_book.specs.declared.answer.Ticket.{Ticket}
 use Rattle.dsa_book.specs.{State.{State, opening}, Machine.{is_run, replay, stored_steps}}
 use Rattle.dsa_device.specs.{Running.{Running, running_at_first, IsReplay}, Runs.{IsRunOf}}
 use Rattle.dsa_scenario.specs.declared.{actions.Action.{Action}, run.Record.{Record}}
-use Rattle.dsa_scenario.specs.{Document.{IsDocument}, Run.{steps_of, AreOf, IsTable}}
+use Rattle.dsa_scenario.specs.{Document.{IsDocument}, Lines.{line_of, record_text, row_text}}
+use Rattle.dsa_scenario.specs.Run.{steps_of, AreOf, IsTable}
 
 -- how a device stands that has come by these records
 abbrev pub standing : Caps → ℕ → List Record → Running
@@ -70,3 +72,12 @@ pub record IsTextOfDocument (is_text : List Visit → Running → List ℕ → T
   pub good : check_caps caps ≡ true
   pub small : capacity ≤ 2 ^ 20
   pub of_run : IsTextOfRun is_text caps capacity actions text
+
+-- the line of a step of a run (profile)
+abbrev pub line_of_step : Visit → List ℕ
+line_of_step step = line_of (record_text step.entry)
+
+-- the text has a line for each of these steps, and one for each fate that the device tells at last (profile)
+abbrev pub AreLinesOfSteps : List Visit → Running → List ℕ → Type 0
+AreLinesOfSteps steps last text =
+    text ≡ flat_map line_of_step steps ++ flat_map (λ row. line_of (row_text row)) last.state.work.fates

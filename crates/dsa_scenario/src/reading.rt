@@ -1,8 +1,8 @@
 //! Reading a document.
 
-ghost use Rattle.std.specs.Prelude.{◌≡◌, ◌≢◌, ◌<◌, ◌≤◌, ◌+◌, ◌⊎◌, true, ℕ, List, length, vec_len, IfOk, OnOk, IfErr, IsErrOf};
+ghost use Rattle.std.specs.Prelude.{◌≡◌, ◌<◌, ◌≤◌, ◌+◌, ◌⊎◌, ℕ, List, length, vec_len, IfOk, IfErr, IsErrOf};
 ghost use Rattle.std.specs.Io.KnownBytes.{Consumes, IsAtEnd};
-ghost use Rattle.dsa_scenario.specs.Metered.{metered_remaining, budget_of, has_failed, IsSameReader};
+ghost use Rattle.dsa_scenario.specs.Metered.{metered_remaining, budget_of, IsSameReader, IsFailureNoted};
 
 use crate::faults::ScenarioFault;
 use crate::metered::MeteredReader;
@@ -39,9 +39,7 @@ pub fn read_document<R: Read>(
     ensures read { IsErrOf result ScenarioFault.Read → (bytes : List ℕ)
         × Consumes (metered_remaining R.remaining reader.old) (metered_remaining R.remaining reader.new) bytes
         × (length bytes ≤ MAX_DOCUMENT) }
-    ensures failed { IsErrOf result ScenarioFault.Read → has_failed reader.new ≡ true }
-    ensures well { OnOk result (has_failed reader.new ≡ has_failed reader.old) }
-    ensures other { IfErr result (λ e. e ≢ ScenarioFault.Read → has_failed reader.new ≡ has_failed reader.old) }
+    ensures failed { IsFailureNoted result reader.old reader.new }
     ensures faults { IfErr result (λ e. (e ≡ ScenarioFault.Read) ⊎ (e ≡ ScenarioFault.TooLong) ⊎ (e ≡ ScenarioFault.OutOfMemory)) }
 {
     let mut bytes = Vec::new(alloc);

@@ -1,12 +1,11 @@
 //! Ways to make a text of a document, and what reads the document and writes the text around each of them.
 
-ghost use Rattle.std.specs.Prelude.{◌≡◌, ◌≢◌, ◌⊎◌, ◌≤◌, ◌<◌, ◌+◌, ◌^◌, true, ℕ, List, Option, length, take, OnOk, IfOk, IfErr, IsErrOf, string_bytes};
-ghost use Rattle.std.specs.Io.KnownBytes.{Consumes, Appends};
+ghost use Rattle.std.specs.Prelude.{◌≡◌, ◌≢◌, ◌⊎◌, ◌≤◌, ◌+◌, List, Option, ℕ, IfOk, IfErr, IsErrOf, string_bytes};
 ghost use Rattle.dsa_scenario.specs.declared.faults.ScenarioFault.{ScenarioFault};
 ghost use Rattle.dsa_scenario.specs.Document.{IsFaultOf};
-ghost use Rattle.dsa_scenario.specs.Metered.{metered_remaining, budget_of, has_failed, IsSameReader};
-ghost use Rattle.dsa_scenario.specs.Scenario.{IsWhole};
-ghost use Rattle.dsa_scenario.specs.Watched.{watched_contents, has_refused, IsSameWriter};
+ghost use Rattle.dsa_scenario.specs.Metered.{metered_remaining, budget_of, IsSameReader, IsFailureNoted};
+ghost use Rattle.dsa_scenario.specs.Scenario.{HasFault, IsFirstOf, IsWritten, IsTextCutShort};
+ghost use Rattle.dsa_scenario.specs.Watched.{watched_contents, IsSameWriter, IsRefusalNoted};
 
 use crate::faults::ScenarioFault;
 use crate::metered::MeteredReader;
@@ -57,40 +56,26 @@ pub fn render_metered<D: Render, R: Read, W: Write>(
     ensures same_reader { IsSameReader reader.old reader.new }
     ensures same_writer { IsSameWriter writer.old writer.new }
     ensures reads { budget_of reader.old ≤ budget_of reader.new + MAX_READS }
-    ensures ok { IfOk result (λ fault. (bytes : List ℕ) × (text : List ℕ)
-        × IsWhole (metered_remaining R.remaining reader.old) (metered_remaining R.remaining reader.new) bytes
-        × D.is_rendering what.now bytes fault text
-        × Appends (watched_contents W.contents writer.old) (watched_contents W.contents writer.new) text) }
+    ensures ok { IfOk result (λ fault. IsWritten (λ bytes text. D.is_rendering what.now bytes fault text)
+        (metered_remaining R.remaining reader.old) (metered_remaining R.remaining reader.new)
+        (watched_contents W.contents writer.old) (watched_contents W.contents writer.new)) }
 
     // Only `Write` may have written, and then some of such a text.
     ensures nothing { IfErr result (λ e. e ≢ ScenarioFault.Write → writer.new ≡ writer.old) }
-    ensures prefix { IsErrOf result ScenarioFault.Write → (bytes : List ℕ) × (text : List ℕ) × (fault : Option ScenarioFault)
-        × (count : ℕ)
-        × IsWhole (metered_remaining R.remaining reader.old) (metered_remaining R.remaining reader.new) bytes
-        × D.is_rendering what.now bytes fault text
-        × (count < length text)
-        × Appends (watched_contents W.contents writer.old) (watched_contents W.contents writer.new) (take count text) }
-
-    ensures refused { IsErrOf result ScenarioFault.Write → has_refused writer.new ≡ true }
-    ensures taken { OnOk result (has_refused writer.new ≡ has_refused writer.old) }
+    ensures prefix { IsErrOf result ScenarioFault.Write → IsTextCutShort (D.is_rendering what.now)
+        (metered_remaining R.remaining reader.old) (metered_remaining R.remaining reader.new)
+        (watched_contents W.contents writer.old) (watched_contents W.contents writer.new) }
+    ensures refused { IsRefusalNoted result writer.old writer.new }
 
     // A fault of the document is the first that stands.
-    ensures document { IfErr result (λ e. (e ≡ ScenarioFault.Read) ⊎ (e ≡ ScenarioFault.TooLong)
-        ⊎ (e ≡ ScenarioFault.Write) ⊎ (e ≡ ScenarioFault.OutOfMemory)
-        ⊎ ((bytes : List ℕ)
-        × IsWhole (metered_remaining R.remaining reader.old) (metered_remaining R.remaining reader.new) bytes
-        × IsFaultOf bytes e)) }
+    ensures document { IfErr result (λ e. IsFirstOf (metered_remaining R.remaining reader.old) (metered_remaining R.remaining reader.new) e) }
 
     // `TooLong` is told of more bytes than a document has, and `Read` of an error that came before.
-    ensures too_long { IsErrOf result ScenarioFault.TooLong → (bytes : List ℕ)
-        × Consumes (metered_remaining R.remaining reader.old) (metered_remaining R.remaining reader.new) bytes
-        × (2 ^ 20 < length bytes) }
-    ensures read { IsErrOf result ScenarioFault.Read → (bytes : List ℕ)
-        × Consumes (metered_remaining R.remaining reader.old) (metered_remaining R.remaining reader.new) bytes
-        × (length bytes ≤ 2 ^ 20) }
-    ensures failed { IsErrOf result ScenarioFault.Read → has_failed reader.new ≡ true }
-    ensures well { OnOk result (has_failed reader.new ≡ has_failed reader.old) }
-    ensures other { IfErr result (λ e. e ≢ ScenarioFault.Read → has_failed reader.new ≡ has_failed reader.old) }
+    ensures too_long { IsErrOf result ScenarioFault.TooLong
+        → HasFault (metered_remaining R.remaining reader.old) (metered_remaining R.remaining reader.new) ScenarioFault.TooLong }
+    ensures read { IsErrOf result ScenarioFault.Read
+        → HasFault (metered_remaining R.remaining reader.old) (metered_remaining R.remaining reader.new) ScenarioFault.Read }
+    ensures failed { IsFailureNoted result reader.old reader.new }
 {
     let bytes = read_document(alloc, reader)?;
     let rendering = what.render(alloc, &bytes)?;
@@ -108,30 +93,24 @@ pub fn render_input<D: Render, R: Read, W: Write>(
     reader: &mut R,
     writer: &mut W,
 ) -> Result<Option<ScenarioFault>, ScenarioFault>
-    ensures ok { IfOk result (λ fault. (bytes : List ℕ) × (text : List ℕ)
-        × IsWhole (R.remaining reader.old) (R.remaining reader.new) bytes
-        × D.is_rendering what.now bytes fault text
-        × Appends (W.contents writer.old) (W.contents writer.new) text) }
+    ensures ok { IfOk result (λ fault. IsWritten (λ bytes text. D.is_rendering what.now bytes fault text)
+        (R.remaining reader.old) (R.remaining reader.new)
+        (W.contents writer.old) (W.contents writer.new)) }
 
     // Only `Write` may have written, and then some of such a text.
     ensures nothing { IfErr result (λ e. e ≢ ScenarioFault.Write → writer.new ≡ writer.old) }
-    ensures prefix { IsErrOf result ScenarioFault.Write → (bytes : List ℕ) × (text : List ℕ) × (fault : Option ScenarioFault)
-        × (count : ℕ)
-        × IsWhole (R.remaining reader.old) (R.remaining reader.new) bytes
-        × D.is_rendering what.now bytes fault text
-        × (count < length text)
-        × Appends (W.contents writer.old) (W.contents writer.new) (take count text) }
+    ensures prefix { IsErrOf result ScenarioFault.Write → IsTextCutShort (D.is_rendering what.now)
+        (R.remaining reader.old) (R.remaining reader.new)
+        (W.contents writer.old) (W.contents writer.new) }
 
     // A fault of the document is the first that stands.
-    ensures document { IfErr result (λ e. (e ≡ ScenarioFault.Read) ⊎ (e ≡ ScenarioFault.TooLong)
-        ⊎ (e ≡ ScenarioFault.Write) ⊎ (e ≡ ScenarioFault.OutOfMemory)
-        ⊎ ((bytes : List ℕ)
-        × IsWhole (R.remaining reader.old) (R.remaining reader.new) bytes
-        × IsFaultOf bytes e)) }
-    ensures too_long { IsErrOf result ScenarioFault.TooLong → (bytes : List ℕ)
-        × Consumes (R.remaining reader.old) (R.remaining reader.new) bytes × (2 ^ 20 < length bytes) }
-    ensures read { IsErrOf result ScenarioFault.Read → (bytes : List ℕ)
-        × Consumes (R.remaining reader.old) (R.remaining reader.new) bytes × (length bytes ≤ 2 ^ 20) }
+    ensures document { IfErr result (λ e. IsFirstOf (R.remaining reader.old) (R.remaining reader.new) e) }
+
+    // `TooLong` is told of more bytes than a document has, and `Read` of an error that came before.
+    ensures too_long { IsErrOf result ScenarioFault.TooLong
+        → HasFault (R.remaining reader.old) (R.remaining reader.new) ScenarioFault.TooLong }
+    ensures read { IsErrOf result ScenarioFault.Read
+        → HasFault (R.remaining reader.old) (R.remaining reader.new) ScenarioFault.Read }
 {
     let mut reader = MeteredReader::new(reader, MAX_READS);
     let mut writer = WatchedWriter::new(writer);

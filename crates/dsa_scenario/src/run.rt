@@ -1,20 +1,14 @@
-//! A run of a document's actions on a device, with the lines of each as it is made.
+//! What a document's actions come to on a device.
 
-ghost use Rattle.std.specs.Prelude.{◌≡◌, ◌++◌, [], ◌∷◌, List, Some, None, IfOk, OnOk, slice_get, filter_map, string_bytes};
-ghost use Rattle.dsa_device.specs.Made.{make_fault};
-ghost use Rattle.dsa_device.specs.Running.{Running};
-ghost use Rattle.dsa_scenario.specs.declared.actions.Action.{Action};
-ghost use Rattle.dsa_scenario.specs.declared.run.Record.{Record};
-ghost use Rattle.dsa_scenario.specs.Run.{given_by, ticket_of, event_of, answered_by, IsTable, Leads, IsRunTo, AreLinesOf};
+ghost use Rattle.std.specs.Prelude.{◌≡◌, ◌++◌, [], ◌∷◌, OnOk, slice_get, filter_map};
+ghost use Rattle.dsa_scenario.specs.Run.{given_by, ticket_of, event_of, answered_by, IsTable, Leads};
 
 use crate::actions::Action;
-use crate::document::Document;
-use crate::lines::{add_record, add_rows};
 use dsa_book::{Event, FetchAnswer, Reply, Step, SubmitAnswer, Ticket};
 use dsa_device::Device;
 use dsa_regs::Fault;
 use dsa_store::{Cell, EntryStore};
-use std::alloc::{AllocError, Global};
+use std::alloc::AllocError;
 
 /// What became of one step object.
 #[derive(Clone, Copy, Debug, PartialEq, Eq)]
@@ -95,47 +89,4 @@ pub fn ask<S: EntryStore>(device: &mut Device<S>, tickets: &[Ticket], action: Ac
         }
         Err(fault) => Record::Refused(fault),
     }
-}
-
-/// Runs one action more, notes the ticket that it is given, and adds its line.
-///
-/// A ticket is found at the place of its name, so an action takes the same time however many came before.
-#[inline(always)]
-pub fn run_action<S: EntryStore>(
-    device: &mut Device<S>,
-    tickets: &mut Vec<Ticket>,
-    text: &mut String,
-    action: Action,
-) -> Result<(), AllocError>
-    ensures { OnOk result ((first : Running) → (done : List Action)
-        → IsRunTo first done device.old tickets.old.items (string_bytes text.old)
-        → IsRunTo first (done ++ action ∷ []) device.new tickets.new.items (string_bytes text.new)) }
-{
-    let entry = ask(device, tickets, action);
-    note_ticket(tickets, &entry)?;
-    add_record(text, &entry)
-}
-
-/// The lines of a run of the document on a new device over this store, which is to be an empty one with the lists and the
-/// cells of such a device.
-pub fn run_document<S: EntryStore>(
-    alloc: Global,
-    store: S,
-    document: &Document,
-) -> Result<String, AllocError>
-    requires { make_fault document.now.caps document.now.capacity (S.cells store) (S.content store) ≡ None }
-    ensures { IfOk result (λ text. AreLinesOf document.now.caps document.now.capacity document.now.actions.items (string_bytes text)) }
-{
-    let made = Device::new(alloc, store, document.caps, document.capacity);
-    let Ok(mut device) = made else {
-        return Err(AllocError);
-    };
-    device.state_is_replay();
-    let mut tickets = Vec::new(alloc);
-    let mut text = String::new(alloc);
-    for action in &document.actions {
-        run_action(&mut device, &mut tickets, &mut text, *action)?;
-    }
-    add_rows(&mut text, device.fates())?;
-    Ok(text)
 }

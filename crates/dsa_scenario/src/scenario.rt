@@ -1,95 +1,89 @@
 //! A document in, its lines out.
 
-ghost use Rattle.std.specs.Prelude.{◌≡◌, ◌≢◌, ◌⊎◌, ◌≤◌, ◌<◌, ◌+◌, ◌^◌, true, ℕ, List, map, Some, None, length, take, OnOk, IfOk, IfErr, IsErrOf, string_bytes};
-ghost use Rattle.std.specs.Io.KnownBytes.{Consumes, Appends};
-ghost use Rattle.serde_json.specs.View.{view};
+ghost use Rattle.std.specs.Prelude.{◌≡◌, ◌≢◌, ◌⊎◌, ◌≤◌, ◌+◌, [], None, OnOk, IfOk, IfErr, IsErrOf, flat_map, string_bytes};
 ghost use Rattle.dsa_device.specs.Made.{make_fault};
-ghost use Rattle.dsa_scenario.specs.declared.actions.Action.{Action};
-ghost use Rattle.dsa_scenario.specs.Actions.{action_of};
-ghost use Rattle.dsa_scenario.specs.Document.{IsFirstBad, IsFaultOf};
-ghost use Rattle.dsa_scenario.specs.Metered.{metered_remaining, budget_of, has_failed, IsSameReader};
+ghost use Rattle.dsa_scenario.specs.Document.{IsFaultOf};
+ghost use Rattle.dsa_scenario.specs.Metered.{metered_remaining, budget_of, IsSameReader, IsFailureNoted};
 ghost use Rattle.dsa_scenario.specs.Run.{AreLinesOf};
-ghost use Rattle.dsa_scenario.specs.Scenario.{IsWhole, IsRenderingOf};
-ghost use Rattle.dsa_scenario.specs.Watched.{watched_contents, has_refused, IsSameWriter};
+ghost use Rattle.dsa_scenario.specs.Scenario.{HasFault, IsCutShort, IsFirstOf, IsRenderingOf, IsWritten};
+ghost use Rattle.dsa_scenario.specs.Steps.{line_of_step, AreLinesOfSteps};
+ghost use Rattle.dsa_scenario.specs.Watched.{watched_contents, IsSameWriter, IsRefusalNoted};
 
-use crate::actions::parse_action;
-use crate::document::{Head, check_head, parse_actions, parse_head, parse_json};
+use crate::document::Document;
 use crate::faults::ScenarioFault;
-use crate::lines::add_rows;
+use crate::lines::{add_record, add_rows};
 use crate::metered::MeteredReader;
 use crate::reading::MAX_READS;
 use crate::rendering::{Render, Rendering, render_input, render_metered};
-use crate::run::run_action;
+use crate::run::Record;
+use crate::steps::{RenderSteps, render_steps, walk_action};
 use crate::watched::WatchedWriter;
-use dsa_cells::LinkedStore;
+use dsa_book::Event;
 use dsa_device::Device;
-use dsa_regs::{cell_count, list_count};
+use dsa_regs::Fault;
 use dsa_store::EntryStore;
-use std::alloc::Global;
+use std::alloc::{AllocError, Global};
 use std::io::{Read, Write};
-
-// The lines of a run of the step objects on a new device over this store. Each is run as soon as it is read.
-fn run_steps<S: EntryStore>(
-    alloc: Global,
-    store: S,
-    head: &Head<'_>,
-) -> Result<String, ScenarioFault>
-    requires { make_fault head.now.caps head.now.capacity (S.cells store) (S.content store) ≡ None }
-    ensures ok { IfOk result (λ text. (actions : List Action) × (map action_of (map view head.now.steps.now) ≡ map Some actions)
-        × AreLinesOf head.now.caps head.now.capacity actions (string_bytes text)) }
-    ensures bad { IfErr result (λ e. (e ≡ ScenarioFault.OutOfMemory) ⊎ IsFirstBad (map view head.now.steps.now) e) }
-{
-    let made = Device::new(alloc, store, head.caps, head.capacity);
-    let Ok(mut device) = made else {
-        return Err(ScenarioFault::OutOfMemory);
-    };
-    device.state_is_replay();
-    let mut tickets = Vec::new(alloc);
-    let mut text = String::new(alloc);
-    for (i, step) in head.steps.iter().enumerate() {
-        match parse_action(step) {
-            Some(action) => run_action(&mut device, &mut tickets, &mut text, action)?,
-            None => return Err(ScenarioFault::BadStep(i as u64)),
-        }
-    }
-    add_rows(&mut text, device.fates())?;
-    Ok(text)
-}
-
-// The lines of the document in these bytes.
-//
-// A step object that is none comes before a fault of the device, so all of them are read before that is told.
-fn render(alloc: Global, bytes: &[u8]) -> Result<Rendering, ScenarioFault>
-    ensures ok { IfOk result (λ r. (r.fault ≡ None) × IsRenderingOf bytes.now (string_bytes r.text)) }
-    ensures err { IfErr result (λ e. (e ≡ ScenarioFault.OutOfMemory) ⊎ IsFaultOf bytes.now e) }
-{
-    let value = parse_json(alloc, bytes)?;
-    let Some(head) = parse_head(&value) else {
-        return Err(ScenarioFault::BadDocument);
-    };
-    if let Err(fault) = check_head(&head.caps, head.capacity) {
-        parse_actions(alloc, head.steps)?;
-        return Err(fault);
-    }
-    let lists = list_count(&head.caps);
-    let store = LinkedStore::new(alloc, lists, cell_count(&head.caps))?;
-    let text = run_steps(alloc, store, &head)?;
-    Ok(Rendering {
-        text,
-        fault: None,
-        document: Some(value),
-    })
-}
 
 /// The lines of a document's run, as a way to make a text of it.
 #[derive(Clone, Copy, Debug, PartialEq, Eq)]
 pub struct PlainRun;
 
+impl RenderSteps for PlainRun {
+    type Page = String;
+
+    ghost told_before = { λ plain now asked. [] };
+
+    ghost is_page = { λ plain steps page. string_bytes page ≡ flat_map line_of_step steps };
+
+    ghost is_text = { λ plain steps last text. AreLinesOfSteps steps last text };
+
+    #[inline(always)]
+    fn open(&self, alloc: Global) -> String {
+        String::new(alloc)
+    }
+
+    #[inline(always)]
+    fn look<S: EntryStore>(
+        &self,
+        alloc: Global,
+        _device: &Device<S>,
+        _asked: &Result<Event, Fault>,
+    ) -> Result<String, AllocError> {
+        Ok(String::new(alloc))
+    }
+
+    #[inline(always)]
+    fn add_step<S: EntryStore>(
+        &self,
+        _alloc: Global,
+        page: &mut String,
+        _number: usize,
+        _told: &str,
+        entry: &Record,
+        _device: &Device<S>,
+    ) -> Result<(), AllocError> {
+        add_record(page, entry)
+    }
+
+    #[inline(always)]
+    fn finish<S: EntryStore>(
+        &self,
+        _alloc: Global,
+        page: String,
+        device: &Device<S>,
+    ) -> Result<String, AllocError> {
+        let mut text = page;
+        add_rows(&mut text, device.fates())?;
+        Ok(text)
+    }
+}
+
 impl Render for PlainRun {
     ghost is_rendering = { λ plain bytes fault text. (fault ≡ None) × IsRenderingOf bytes text };
 
     fn render(&self, alloc: Global, bytes: &[u8]) -> Result<Rendering, ScenarioFault> {
-        render(alloc, bytes)
+        render_steps(alloc, self, bytes)
     }
 }
 
@@ -98,8 +92,40 @@ pub fn render_document(alloc: Global, bytes: &[u8]) -> Result<String, ScenarioFa
     ensures ok { IfOk result (λ text. IsRenderingOf bytes.now (string_bytes text)) }
     ensures err { IfErr result (λ e. (e ≡ ScenarioFault.OutOfMemory) ⊎ IsFaultOf bytes.now e) }
 {
-    let rendering = render(alloc, bytes)?;
+    let rendering = render_steps(alloc, &PlainRun, bytes)?;
     Ok(rendering.text)
+}
+
+/// The lines of a run of the document on a new device over this store, which is to be an empty one with the lists and the
+/// cells of such a device.
+pub fn run_document<S: EntryStore>(
+    alloc: Global,
+    store: S,
+    document: &Document,
+) -> Result<String, AllocError>
+    requires { make_fault document.now.caps document.now.capacity (S.cells store) (S.content store) ≡ None }
+    ensures { IfOk result (λ text. AreLinesOf document.now.caps document.now.capacity document.now.actions.items (string_bytes text)) }
+{
+    let made = Device::new(alloc, store, document.caps, document.capacity);
+    let Ok(mut device) = made else {
+        return Err(AllocError);
+    };
+    device.state_is_replay();
+    let mut tickets = Vec::new(alloc);
+    let mut page = PlainRun.open(alloc);
+    for (i, action) in document.actions.iter().enumerate() {
+        walk_action(
+            alloc,
+            &PlainRun,
+            &mut device,
+            &mut tickets,
+            &mut page,
+            i,
+            *action,
+        )?;
+    }
+    let text = PlainRun.finish(alloc, page, &device)?;
+    Ok(text)
 }
 
 /// Reads one document to the end of input, runs it and writes its lines, by at most [`MAX_READS`] reads.
@@ -116,39 +142,26 @@ pub fn run_metered<R: Read, W: Write>(
     ensures same_reader { IsSameReader reader.old reader.new }
     ensures same_writer { IsSameWriter writer.old writer.new }
     ensures reads { budget_of reader.old ≤ budget_of reader.new + MAX_READS }
-    ensures ok { OnOk result ((bytes : List ℕ) × (lines : List ℕ)
-        × IsWhole (metered_remaining R.remaining reader.old) (metered_remaining R.remaining reader.new) bytes
-        × IsRenderingOf bytes lines
-        × Appends (watched_contents W.contents writer.old) (watched_contents W.contents writer.new) lines) }
+    ensures ok { OnOk result (IsWritten IsRenderingOf
+        (metered_remaining R.remaining reader.old) (metered_remaining R.remaining reader.new)
+        (watched_contents W.contents writer.old) (watched_contents W.contents writer.new)) }
 
     // Only `Write` may have written, and then some of such lines.
     ensures nothing { IfErr result (λ e. e ≢ ScenarioFault.Write → writer.new ≡ writer.old) }
-    ensures prefix { IsErrOf result ScenarioFault.Write → (bytes : List ℕ) × (lines : List ℕ) × (count : ℕ)
-        × IsWhole (metered_remaining R.remaining reader.old) (metered_remaining R.remaining reader.new) bytes
-        × IsRenderingOf bytes lines
-        × (count < length lines)
-        × Appends (watched_contents W.contents writer.old) (watched_contents W.contents writer.new) (take count lines) }
-
-    ensures refused { IsErrOf result ScenarioFault.Write → has_refused writer.new ≡ true }
-    ensures taken { OnOk result (has_refused writer.new ≡ has_refused writer.old) }
+    ensures prefix { IsErrOf result ScenarioFault.Write → IsCutShort
+        (metered_remaining R.remaining reader.old) (metered_remaining R.remaining reader.new)
+        (watched_contents W.contents writer.old) (watched_contents W.contents writer.new) }
+    ensures refused { IsRefusalNoted result writer.old writer.new }
 
     // A fault of the document is the first that stands.
-    ensures document { IfErr result (λ e. (e ≡ ScenarioFault.Read) ⊎ (e ≡ ScenarioFault.TooLong)
-        ⊎ (e ≡ ScenarioFault.Write) ⊎ (e ≡ ScenarioFault.OutOfMemory)
-        ⊎ ((bytes : List ℕ)
-        × IsWhole (metered_remaining R.remaining reader.old) (metered_remaining R.remaining reader.new) bytes
-        × IsFaultOf bytes e)) }
+    ensures document { IfErr result (λ e. IsFirstOf (metered_remaining R.remaining reader.old) (metered_remaining R.remaining reader.new) e) }
 
     // `TooLong` is told of more bytes than a document has, and `Read` of an error that came before.
-    ensures too_long { IsErrOf result ScenarioFault.TooLong → (bytes : List ℕ)
-        × Consumes (metered_remaining R.remaining reader.old) (metered_remaining R.remaining reader.new) bytes
-        × (2 ^ 20 < length bytes) }
-    ensures read { IsErrOf result ScenarioFault.Read → (bytes : List ℕ)
-        × Consumes (metered_remaining R.remaining reader.old) (metered_remaining R.remaining reader.new) bytes
-        × (length bytes ≤ 2 ^ 20) }
-    ensures failed { IsErrOf result ScenarioFault.Read → has_failed reader.new ≡ true }
-    ensures well { OnOk result (has_failed reader.new ≡ has_failed reader.old) }
-    ensures other { IfErr result (λ e. e ≢ ScenarioFault.Read → has_failed reader.new ≡ has_failed reader.old) }
+    ensures too_long { IsErrOf result ScenarioFault.TooLong
+        → HasFault (metered_remaining R.remaining reader.old) (metered_remaining R.remaining reader.new) ScenarioFault.TooLong }
+    ensures read { IsErrOf result ScenarioFault.Read
+        → HasFault (metered_remaining R.remaining reader.old) (metered_remaining R.remaining reader.new) ScenarioFault.Read }
+    ensures failed { IsFailureNoted result reader.old reader.new }
 {
     render_metered(alloc, &PlainRun, reader, writer)?;
     Ok(())
@@ -162,29 +175,24 @@ pub fn run_scenario<R: Read, W: Write>(
     reader: &mut R,
     writer: &mut W,
 ) -> Result<(), ScenarioFault>
-    ensures ok { OnOk result ((bytes : List ℕ) × (lines : List ℕ)
-        × IsWhole (R.remaining reader.old) (R.remaining reader.new) bytes
-        × IsRenderingOf bytes lines
-        × Appends (W.contents writer.old) (W.contents writer.new) lines) }
+    ensures ok { OnOk result (IsWritten IsRenderingOf
+        (R.remaining reader.old) (R.remaining reader.new)
+        (W.contents writer.old) (W.contents writer.new)) }
 
     // Only `Write` may have written, and then some of such lines.
     ensures nothing { IfErr result (λ e. e ≢ ScenarioFault.Write → writer.new ≡ writer.old) }
-    ensures prefix { IsErrOf result ScenarioFault.Write → (bytes : List ℕ) × (lines : List ℕ) × (count : ℕ)
-        × IsWhole (R.remaining reader.old) (R.remaining reader.new) bytes
-        × IsRenderingOf bytes lines
-        × (count < length lines)
-        × Appends (W.contents writer.old) (W.contents writer.new) (take count lines) }
+    ensures prefix { IsErrOf result ScenarioFault.Write → IsCutShort
+        (R.remaining reader.old) (R.remaining reader.new)
+        (W.contents writer.old) (W.contents writer.new) }
 
     // A fault of the document is the first that stands.
-    ensures document { IfErr result (λ e. (e ≡ ScenarioFault.Read) ⊎ (e ≡ ScenarioFault.TooLong)
-        ⊎ (e ≡ ScenarioFault.Write) ⊎ (e ≡ ScenarioFault.OutOfMemory)
-        ⊎ ((bytes : List ℕ)
-        × IsWhole (R.remaining reader.old) (R.remaining reader.new) bytes
-        × IsFaultOf bytes e)) }
-    ensures too_long { IsErrOf result ScenarioFault.TooLong → (bytes : List ℕ)
-        × Consumes (R.remaining reader.old) (R.remaining reader.new) bytes × (2 ^ 20 < length bytes) }
-    ensures read { IsErrOf result ScenarioFault.Read → (bytes : List ℕ)
-        × Consumes (R.remaining reader.old) (R.remaining reader.new) bytes × (length bytes ≤ 2 ^ 20) }
+    ensures document { IfErr result (λ e. IsFirstOf (R.remaining reader.old) (R.remaining reader.new) e) }
+
+    // `TooLong` is told of more bytes than a document has, and `Read` of an error that came before.
+    ensures too_long { IsErrOf result ScenarioFault.TooLong
+        → HasFault (R.remaining reader.old) (R.remaining reader.new) ScenarioFault.TooLong }
+    ensures read { IsErrOf result ScenarioFault.Read
+        → HasFault (R.remaining reader.old) (R.remaining reader.new) ScenarioFault.Read }
 {
     render_input(alloc, &PlainRun, reader, writer)?;
     Ok(())

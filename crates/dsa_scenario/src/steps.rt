@@ -76,9 +76,11 @@ pub trait RenderSteps: Drop {
             → is_text self.now steps device.now (string_bytes text)) };
 }
 
-// Runs one action more, notes the ticket that it is given, and adds its step to the page.
+/// Runs one action more, notes the ticket that it is given, and adds its step to the page.
+///
+/// A ticket is found at the place of its name, so an action takes the same time however many came before.
 #[inline(always)]
-fn walk_action<D: RenderSteps, S: EntryStore>(
+pub fn walk_action<D: RenderSteps, S: EntryStore>(
     alloc: Global,
     what: &D,
     device: &mut Device<S>,

@@ -1,0 +1,8 @@
+use Rattle.dsa_scenario.proofs.scenario.PlainRunRender.render.Goals as goal
+use Rattle.std.proofs.Common.{string_bytes}
+use Rattle.std.proofs.lemmas.Result.{IfOk-weaker}
+use Rattle.dsa_scenario.proofs.Plain.{lines_of_document}
+
+pub returns-clause-ok : goal.returns-clause-ok
+returns-clause-ok c = IfOk-weaker c.render_steps.result _ _
+    (λ r h. (h.0, lines_of_document c.args.bytes.now (string_bytes r.text) h.1)) c.render_steps.ensures.ok
