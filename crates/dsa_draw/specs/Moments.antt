@@ -1,5 +1,5 @@
 -- What is read of a device after a step.
-use Rattle.std.specs.Prelude.{◌≡◌, ℕ, length, map, Option, None, option_map}
+use Rattle.std.specs.Prelude.{◌≡◌, ℕ, length, map, Option, None, option_map, unwrap_or}
 use Rattle.std.specs.List.{range_with_len}
 use Rattle.dsa_regs.specs.Config.{queue_at, group_at}
 use Rattle.dsa_book.specs.declared.event.{Actor.{Actor, TheVariants.{Engine}}}
@@ -7,6 +7,10 @@ use Rattle.dsa_book.specs.{State.{occupancy}, Work.{used, note_at}, Totals.{acto
 use Rattle.dsa_device.specs.Running.{Running}
 use Rattle.dsa_scenario.specs.declared.run.Record.{Record, TheVariants.{Stepped, Refused}}
 use Rattle.dsa_draw.specs.declared.moment.{Level.{Level}, Moment.{Moment}}
+
+-- so much is filled, or nothing where that is not known, of what has this mark and this limit
+abbrev pub level_with : Option ℕ → ℕ → ℕ → Level
+level_with filled mark limit = record { filled = unwrap_or filled 0; mark = mark; limit = limit }
 
 -- the occupancy of a queue, its threshold and its size
 abbrev pub queue_level_of : Running → ℕ → Level

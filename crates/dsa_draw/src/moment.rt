@@ -2,7 +2,7 @@
 
 ghost use Rattle.std.specs.Prelude.{◌≡◌, ◌<◌, IfOk, map, option_map};
 ghost use Rattle.std.specs.List.{range_with_len};
-ghost use Rattle.dsa_draw.specs.Moments.{queue_level_of, group_level_of, batch_after, IsMomentOf};
+ghost use Rattle.dsa_draw.specs.Moments.{level_with, queue_level_of, group_level_of, batch_after, IsMomentOf};
 
 use dsa_book::{Actor, BatchNote};
 use dsa_device::Device;
@@ -33,23 +33,24 @@ pub struct Moment {
     pub ended: usize,
 }
 
+fn level_with(filled: Option<u16>, mark: u16, limit: u16) -> Level
+    ensures { result ≡ level_with filled mark limit }
+{
+    Level {
+        filled: filled.unwrap_or(0),
+        mark,
+        limit,
+    }
+}
+
 /// The level of a queue of the device.
 pub fn queue_level<S: EntryStore>(device: &Device<S>, queue: u16) -> Level
     requires { queue < device.now.caps.queues }
     ensures { result ≡ queue_level_of device.now queue }
 {
-    let filled = device.occupancy(queue).unwrap_or(0);
     match device.queue_config(queue) {
-        Some(config) => Level {
-            filled,
-            mark: config.threshold,
-            limit: config.size,
-        },
-        None => Level {
-            filled: 0,
-            mark: 0,
-            limit: 0,
-        },
+        Some(config) => level_with(device.occupancy(queue), config.threshold, config.size),
+        None => level_with(None, 0, 0),
     }
 }
 
@@ -58,18 +59,9 @@ pub fn group_level<S: EntryStore>(device: &Device<S>, group: u16) -> Level
     requires { group < device.now.caps.groups }
     ensures { result ≡ group_level_of device.now group }
 {
-    let filled = device.used(group).unwrap_or(0);
     match device.group_config(group) {
-        Some(config) => Level {
-            filled,
-            mark: config.reserved,
-            limit: config.allowed,
-        },
-        None => Level {
-            filled: 0,
-            mark: 0,
-            limit: 0,
-        },
+        Some(config) => level_with(device.used(group), config.reserved, config.allowed),
+        None => level_with(None, 0, 0),
     }
 }
 
