@@ -1,16 +1,14 @@
 -- An event in words.
 use Rattle.dsa_book.specs.declared.event.Event.TheVariants as event
-use Rattle.std.specs.Prelude.{ℕ, false, ◌==◌, if◌then◌else◌, List, [], ◌∷◌, ◌++◌, Option, unwrap_or, codes, decimal}
+use Rattle.std.specs.Prelude.{ℕ, ◌+◌, false, ◌==◌, ◌&&◌, nat_lt, if◌then◌else◌, List, [], ◌∷◌, ◌++◌, map, Option, unwrap_or}
+use Rattle.std.specs.Prelude.{codes, decimal}
 use Rattle.std.specs.Fmt.{digits}
 use Rattle.dsa_base.specs.Rows.{first_row}
 use Rattle.dsa_desc.specs.declared.{Descriptor.{Descriptor}, Outcome.{Outcome, TheVariants.{Success, PageFault}}}
 use Rattle.dsa_desc.specs.Descriptor.{is_batch, is_transfer, is_fenced}
 use Rattle.dsa_regs.specs.declared.Command.{Command}
-use Rattle.dsa_regs.specs.declared.Command.TheVariants.{EnableDevice, DisableDevice, DrainAll, AbortAll, ResetDevice}
-use Rattle.dsa_regs.specs.declared.Command.TheVariants.{EnableWq, DisableWq, DrainWq, AbortWq, ResetWq, DrainPasid}
-use Rattle.dsa_regs.specs.declared.Command.TheVariants.{AbortPasid}
 use Rattle.dsa_regs.specs.declared.Scope.{Scope, TheVariants.{Device, Queue, Queues, Pasid}}
-use Rattle.dsa_regs.specs.Command.{scope_of, operand_of}
+use Rattle.dsa_regs.specs.Command.{command_name, scope_of, operand_of}
 use Rattle.dsa_book.specs.declared.event.{Event.{Event}, Portal.{Portal, TheVariants.{Limited, Unlimited}}}
 use Rattle.dsa_book.specs.declared.event.Kind.{Kind, TheVariants.{Enqcmd, Movdir64b}}
 
@@ -45,19 +43,13 @@ descriptor_words d = operation_words d.op ++ size_words d ++ fence_words d
 
 -- ---- commands (profile)
 
+-- a capital letter as the small one, and a space as a hyphen
+abbrev pub word_letter : ℕ → ℕ
+word_letter c = if c == 32 then 45 else (if nat_lt 64 c && nat_lt c 91 then c + 32 else c)
+
+-- the name of the command, as one word
 abbrev pub command_word : Command → List ℕ
-command_word EnableDevice = codes "enable-device"
-command_word DisableDevice = codes "disable-device"
-command_word DrainAll = codes "drain-all"
-command_word AbortAll = codes "abort-all"
-command_word ResetDevice = codes "reset-device"
-command_word (EnableWq queue) = codes "enable-wq"
-command_word (DisableWq queues) = codes "disable-wq"
-command_word (DrainWq queues) = codes "drain-wq"
-command_word (AbortWq queues) = codes "abort-wq"
-command_word (ResetWq queues) = codes "reset-wq"
-command_word (DrainPasid pasid) = codes "drain-pasid"
-command_word (AbortPasid pasid) = codes "abort-pasid"
+command_word command = map word_letter (command_name command)
 
 -- the operand, where there is one: of a mask in hexadecimal
 abbrev pub scope_words : Scope → List ℕ
