@@ -76,8 +76,8 @@ def document(steps, caps=SMALL, capacity=100):
     return text_of({"caps": caps, "capacity": capacity, "steps": steps})
 
 
-def put(name, text, expected):
-    """Writes a document and what is expected of it: a fault, or the lines."""
+def put(name, text, expected, told=None):
+    """Writes a document and what is expected of it: a fault, or the lines; and the lines of its check, where they are given."""
     path = FOLDER / name
     path.parent.mkdir(exist_ok=True)
     assert not path.with_suffix(".json").exists(), f"{name} comes twice"
@@ -86,6 +86,8 @@ def put(name, text, expected):
         path.with_suffix(".err").write_bytes(f"dsa_run: {expected}\n".encode())
     else:
         path.with_suffix(".out").write_bytes("".join(f"{line}\n" for line in expected).encode())
+    if told is not None:
+        path.with_suffix(".check").write_bytes("".join(f"{line}\n" for line in told).encode())
 
 
 def without(members, key):
@@ -127,16 +129,44 @@ def wrong_values(kind, key, form):
     return {**wrong_numbers(form), **(WRONG_NUMBERS if (kind, key) in TRIED_WHOLE else {})}
 
 
+def found(value):
+    """What a check says stands there."""
+    if value is None or isinstance(value, bool):
+        return json.dumps(value)
+    if isinstance(value, Raw) or isinstance(value, int) and not 0 <= value < 1 << 64:
+        return "a number of another form"
+    if isinstance(value, int):
+        return str(value)
+    return {str: "a text", list: "an array", dict: "an object"}[type(value)]
+
+
+def unfit(value, form):
+    """What a check says of a value that does not fit: of digits that they are too many or odd, or have another character."""
+    if form == HEX and isinstance(value, str):
+        count = len(value.encode())
+        if count > 128:
+            return f"has {count} digits, at most 128 are wanted"
+        if count % 2:
+            return f"has {count} digits, an even number is wanted"
+        return "has a character that is no hexadecimal digit"
+    wanted = {TRUTH: "true or false", HEX: "a text of hexadecimal digits"}
+    whole = "" if form in wanted else f"a whole number from 0 to {(1 << form) - 1}"
+    return f"is {found(value)}, {wanted.get(form, whole)} is wanted"
+
+
 def put_step_keys():
     """Each key of each kind of step: it is missing, of another type, or a number that does not fit."""
     for kind, keys in KEYS.items():
         good = first_step(kind)
         put(f"steps/{kind}", document([good, POLL]), [FIRST_LINE[kind], "nothing"])
-        put(f"steps/{kind}-without-do", document([POLL, without(good, "do")]), "bad step 1")
+        told = ['line 1, step 1: "do" is missing']
+        put(f"steps/{kind}-without-do", document([POLL, without(good, "do")]), "bad step 1", told)
         for key, form in keys.items():
-            put(f"steps/{kind}-without-{key}", document([POLL, without(good, key)]), "bad step 1")
+            place = f'line 1, step 1 ({kind}): "{key}"'
+            put(f"steps/{kind}-without-{key}", document([POLL, without(good, key)]), "bad step 1", [f"{place} is missing"])
             for what, value in wrong_values(kind, key, form).items():
-                put(f"steps/{kind}-{key}-{what}", document([POLL, {**good, key: value}]), "bad step 1")
+                told = [f"{place} {unfit(value, form)}"]
+                put(f"steps/{kind}-{key}-{what}", document([POLL, {**good, key: value}]), "bad step 1", told)
 
 
 def put_greatest_numbers():
@@ -481,9 +511,7 @@ DISPATCH, CLEAR = '{"do":"dispatch","engine":0}', '{"do":"clear"}'
 
 
 def put_checked(name, text, expected, told):
-    put(f"check/{name}", text, expected)
-    path = (FOLDER / "check" / name).with_suffix(".check")
-    path.write_bytes("".join(f"{line}\n" for line in told).encode())
+    put(f"check/{name}", text, expected, told)
 
 
 def checked_step(step):
