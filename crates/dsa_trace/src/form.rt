@@ -2,7 +2,7 @@
 
 ghost use Rattle.std.specs.Prelude.{◌≡◌, ◌++◌, OnOk, string_bytes};
 ghost use Rattle.dsa_trace.specs.Columns.{marked};
-ghost use Rattle.dsa_trace.specs.Marks.{comma, json_mark, mark, table_mark};
+ghost use Rattle.dsa_trace.specs.Marks.{comma, mark, marks};
 
 use dsa_event_words::add_number;
 use std::alloc::AllocError;
@@ -47,69 +47,39 @@ pub enum Part {
     HeldEnd,
 }
 
-fn table_mark(part: Part) -> &'static str
-    ensures { result.now ≡ table_mark part }
+// What stands before the part of a row of the table, and before that of an object.
+#[inline(always)]
+fn marks(part: Part) -> (&'static str, &'static str)
+    ensures table { result.0.now ≡ (marks part).0 }
+    ensures json { result.1.now ≡ (marks part).1 }
 {
     match part {
-        Part::Step => "",
-        Part::Event => " ",
-        Part::Answer => " -> ",
-        Part::Queues => " |",
-        Part::Engines => " |",
-        Part::Groups => " |",
-        Part::NoCommand => "",
-        Part::Active => " | ",
-        Part::Awaited => " awaits ",
-        Part::CommandEnd => "",
-        Part::LineEnd => "\n",
-        Part::Queue => " q",
-        Part::Occupancy => " ",
-        Part::Threshold => "/",
-        Part::Size => "/",
-        Part::Engine => " e",
-        Part::InProgress => " ",
-        Part::Slots => "/",
-        Part::Members => " m",
-        Part::Group => " g",
-        Part::Used => " ",
-        Part::Allowed => "/",
-        Part::ColumnEnd => "",
-        Part::Held => "held ",
-        Part::InList => " in ",
-        Part::HeldEnd => "\n",
-    }
-}
-
-fn json_mark(part: Part) -> &'static str
-    ensures { result.now ≡ json_mark part }
-{
-    match part {
-        Part::Step => "{\"step\":",
-        Part::Event => ",\"event\":\"",
-        Part::Answer => "\",\"answer\":\"",
-        Part::Queues => "\",\"queues\":[",
-        Part::Engines => "],\"engines\":[",
-        Part::Groups => "],\"groups\":[",
-        Part::NoCommand => "],\"active\":null",
-        Part::Active => "],\"active\":{\"command\":\"",
-        Part::Awaited => "\",\"awaited\":",
-        Part::CommandEnd => "}",
-        Part::LineEnd => "}\n",
-        Part::Queue => "{\"queue\":",
-        Part::Occupancy => ",\"occupancy\":",
-        Part::Threshold => ",\"threshold\":",
-        Part::Size => ",\"size\":",
-        Part::Engine => "{\"engine\":",
-        Part::InProgress => ",\"in_progress\":",
-        Part::Slots => ",\"slots\":",
-        Part::Members => ",\"members\":",
-        Part::Group => "{\"group\":",
-        Part::Used => ",\"used\":",
-        Part::Allowed => ",\"allowed\":",
-        Part::ColumnEnd => "}",
-        Part::Held => "{\"held\":",
-        Part::InList => ",\"list\":\"",
-        Part::HeldEnd => "\"}\n",
+        Part::Step => ("", "{\"step\":"),
+        Part::Event => (" ", ",\"event\":\""),
+        Part::Answer => (" -> ", "\",\"answer\":\""),
+        Part::Queues => (" |", "\",\"queues\":["),
+        Part::Engines => (" |", "],\"engines\":["),
+        Part::Groups => (" |", "],\"groups\":["),
+        Part::NoCommand => ("", "],\"active\":null"),
+        Part::Active => (" | ", "],\"active\":{\"command\":\""),
+        Part::Awaited => (" awaits ", "\",\"awaited\":"),
+        Part::CommandEnd => ("", "}"),
+        Part::LineEnd => ("\n", "}\n"),
+        Part::Queue => (" q", "{\"queue\":"),
+        Part::Occupancy => (" ", ",\"occupancy\":"),
+        Part::Threshold => ("/", ",\"threshold\":"),
+        Part::Size => ("/", ",\"size\":"),
+        Part::Engine => (" e", "{\"engine\":"),
+        Part::InProgress => (" ", ",\"in_progress\":"),
+        Part::Slots => ("/", ",\"slots\":"),
+        Part::Members => (" m", ",\"members\":"),
+        Part::Group => (" g", "{\"group\":"),
+        Part::Used => (" ", ",\"used\":"),
+        Part::Allowed => ("/", ",\"allowed\":"),
+        Part::ColumnEnd => ("", "}"),
+        Part::Held => ("held ", "{\"held\":"),
+        Part::InList => (" in ", ",\"list\":\""),
+        Part::HeldEnd => ("\n", "\"}\n"),
     }
 }
 
@@ -119,9 +89,10 @@ impl Trace {
     pub fn mark(self, part: Part) -> &'static str
         ensures { result.now ≡ mark self part }
     {
+        let (table, json) = marks(part);
         match self {
-            Trace::Table => table_mark(part),
-            Trace::Json => json_mark(part),
+            Trace::Table => table,
+            Trace::Json => json,
         }
     }
 }

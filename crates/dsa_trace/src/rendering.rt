@@ -28,6 +28,7 @@ impl RenderSteps for Trace {
         String::new(alloc)
     }
 
+    #[inline(always)]
     fn look<S: EntryStore>(
         &self,
         alloc: Global,
