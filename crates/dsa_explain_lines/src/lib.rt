@@ -19,7 +19,7 @@ pub use checks::add_check_reason;
 pub use commands::{add_issue_reason, add_poll_reason};
 pub use dispatch::{add_engine_reason, add_queue_reason};
 pub use engines::{add_fetch_reason, add_finish_reason, add_start_reason};
-pub use lines::add_line;
+pub use lines::{add_asked, add_line, add_shown};
 pub use parts::{add_event_part, add_part};
 pub use rendering::Explanation;
 pub use submissions::add_submit_reason;

@@ -17,7 +17,8 @@ fn add_place(text: &mut String, number: usize) -> Result<(), AllocError>
     text.push_str(" ")
 }
 
-fn add_asked(text: &mut String, entry: &Record) -> Result<(), AllocError>
+/// Adds what a record answers, in words: the event, or `command` of a word that is none.
+pub fn add_asked(text: &mut String, entry: &Record) -> Result<(), AllocError>
     ensures { OnOk result (string_bytes text.new ≡ string_bytes text.old ++ asked_words entry.now) }
 {
     match entry {
@@ -38,8 +39,8 @@ fn is_taken(entry: &Record) -> bool
     }
 }
 
-// What is told of the record, and the line's end.
-fn add_shown(text: &mut String, entry: &Record, part: &str) -> Result<(), AllocError>
+/// Adds this part where no entry was taken, and the line's end.
+pub fn add_shown(text: &mut String, entry: &Record, part: &str) -> Result<(), AllocError>
     ensures { OnOk result (string_bytes text.new ≡ string_bytes text.old ++ (shown part.now entry.now ++ codes "\n")) }
 {
     if !is_taken(entry) {
