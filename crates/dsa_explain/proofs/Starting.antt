@@ -1,21 +1,40 @@
--- What keeps an engine from starting a member, and whether it starts one.
-use Rattle.std.proofs.Common.{◌≡◌, ℕ, Option, Some, arith}
-use Rattle.std.proofs.lemmas.Grind.{common_steps}
-use Rattle.std.specs.Prelude.{is_none}
-use Rattle.dsa_base.specs.Rows.{first_row}
+-- What keeps an engine from starting a member, and which answer that is.
+use Rattle.dsa_book.specs.declared.answer.StartAnswer.TheVariants as answer
+use Rattle.std.proofs.Common.{◌≡◌, ℕ, Bool, true, false, not, cond, ◌&&◌, [], ◌∷◌, length, Option, Some, refl}
+use Rattle.std.specs.{Prelude.{is_none, unwrap_or}, Option.{option_map}}
+use Rattle.dsa_base.specs.Rows.{first_row, first_row_or}
+use Rattle.dsa_desc.specs.Descriptor.{is_fenced}
 use Rattle.dsa_store.specs.Content.{Slot}
-use Rattle.dsa_book.specs.State.{Work}
-use Rattle.dsa_book.specs.Work.{first_waiting, start_table, start_of, start}
-use Rattle.dsa_explain.specs.declared.batch.StartReason.{StartReason}
-use Rattle.dsa_explain.specs.{Reasons.{with_reasons}, Batch.{start_reasons, start_reason_of, is_started}}
+use Rattle.dsa_book.specs.declared.{answer.{StartAnswer.{StartAnswer}, Ticket.{Ticket}}}
+use Rattle.dsa_book.specs.State.{Work, need_of, ticket_of}
+use Rattle.dsa_book.specs.Work.{first_waiting, start_table, start_of, start, is_front, has_failed, has_room, group_of}
+use Rattle.dsa_book.specs.Work.{members, after_abandon, after_start}
+use Rattle.dsa_explain.specs.declared.batch.StartReason.{StartReason, TheVariants.{Fence, Failed, NoBuffers, NoGroup}}
+use Rattle.dsa_explain.specs.declared.buffers.BufferWant.{BufferWant}
+use Rattle.dsa_explain.specs.{Reasons.{with_reasons}, Buffers.{want_of}}
+use Rattle.dsa_explain.specs.Batch.{start_reasons, start_reason_of, start_answer, unstarted, name_of, first_member}
 
--- a member that waits has a reason exactly where it is not started
+-- a member that waits has a reason for the answer, and none where it starts
 started : (w : Work) (e : ℕ) (slot : Slot)
-    → is_none (start_reason_of w e (Some slot)) ≡ is_started (start_of w e (Some slot)).0
-started w e slot = grind (arith, common_steps)
+    → option_map start_answer (start_reason_of w e (Some slot)) ≡ unstarted (start_of w e (Some slot)).0
+started w e slot = go (is_fenced slot.1.desc && not (is_front w e slot)) (is_fenced slot.1.desc && has_failed w e)
+    (not (has_room w e (need_of w.setup slot.1))) (is_none (group_of w e)) slot.1.name (name_of (first_member w e))
+    (length (members w e)) (want_of w (unwrap_or (group_of w e) 0) (need_of w.setup slot.1))
+    (after_abandon w e) (after_start w e) (ticket_of slot)
+  where
+    go : (fence failed full alone : Bool) (member first left : ℕ) (want : BufferWant) (abandoned after : Work) (t : Ticket)
+        → option_map start_answer (first_row ((fence, Fence member first) ∷ (failed, Failed member left) ∷
+        (full, cond alone NoGroup (NoBuffers want)) ∷ []))
+        ≡ unstarted (first_row_or {X = StartAnswer × Work} ((fence, (answer.FenceWait, w)) ∷
+        (failed, (answer.Abandoned left, abandoned)) ∷ (full, (answer.NoBuffers, w)) ∷ []) (answer.Started t, after)).0
+    go true failed full alone member first left want abandoned after t = refl
+    go false true full alone member first left want abandoned after t = refl
+    go false false true true member first left want abandoned after t = refl
+    go false false true false member first left want abandoned after t = refl
+    go false false false alone member first left want abandoned after t = refl
 
 -- so of the reason that is told
 pub started-told : (w : Work) (e : ℕ) (slot : Slot) (reason : Option StartReason) → first_waiting w e ≡ Some slot
     → reason ≡ first_row (with_reasons (start_table w e slot) (start_reasons w e slot))
-    → is_none reason ≡ is_started (start w e).0
+    → option_map start_answer reason ≡ unstarted (start w e).0
 started-told w e slot reason first is = rw (is, first) (started w e slot)

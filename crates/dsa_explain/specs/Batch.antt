@@ -1,10 +1,12 @@
 -- Why an engine fetches no member of its batch, and why it starts none.
-use Rattle.std.specs.Prelude.{ℕ, Bool, true, false, cond, nat_lt, List, [], ◌∷◌, length, slice_get, Option, Some, None}
+use Rattle.dsa_book.specs.declared.answer.FetchAnswer.TheVariants as fetch
+use Rattle.dsa_book.specs.declared.answer.StartAnswer.TheVariants as start
+use Rattle.std.specs.Prelude.{ℕ, cond, nat_lt, List, [], ◌∷◌, length, slice_get, Option, Some, None}
 use Rattle.std.specs.{Prelude.{is_none, unwrap_or}, Option.{option_map_or}}
 use Rattle.dsa_base.specs.Rows.{first_row, when}
 use Rattle.dsa_store.specs.{declared.entry.Entry.{Entry}, Content.{Slot}}
-use Rattle.dsa_book.specs.declared.answer.FetchAnswer.{FetchAnswer, TheVariants.{Fetched}}
-use Rattle.dsa_book.specs.declared.{answer.StartAnswer.{StartAnswer, TheVariants.{Started}}, note.BatchNote.{BatchNote}}
+use Rattle.dsa_book.specs.declared.answer.FetchAnswer.{FetchAnswer}
+use Rattle.dsa_book.specs.declared.{answer.StartAnswer.{StartAnswer}, note.BatchNote.{BatchNote}}
 use Rattle.dsa_book.specs.State.{Work, need_of}
 use Rattle.dsa_book.specs.Work.{note_at, batch_on, is_all_fetched, members, first_waiting, start_table, group_of}
 use Rattle.dsa_explain.specs.declared.batch.FetchReason.{FetchReason, TheVariants.{NoEngine, NoBatch, AllFetched}}
@@ -28,10 +30,15 @@ fetch_reason_for w e (Some note) = fetch_reason_of note (batch_on w e note)
 abbrev pub fetch_reason : Work → ℕ → Option FetchReason
 fetch_reason w e = cond (nat_lt e w.setup.caps.engines) (fetch_reason_for w e (note_at w e)) (Some NoEngine)
 
--- whether a member is fetched
-abbrev pub is_fetched : FetchAnswer → Bool
-is_fetched (Fetched ticket) = true
-is_fetched answer = false
+-- the answer that the reason is one for
+abbrev pub fetch_answer : FetchReason → FetchAnswer
+fetch_answer (AllFetched count fetched closed) = fetch.AllFetched
+fetch_answer reason = fetch.NoBatch
+
+-- an answer by which no member is fetched
+abbrev pub unfetched : FetchAnswer → Option FetchAnswer
+unfetched (fetch.Fetched ticket) = None
+unfetched answer = Some answer
 
 -- ---- start
 
@@ -65,7 +72,14 @@ start_reason_of w e (Some slot) = first_row (with_reasons (start_table w e slot)
 abbrev pub start_reason : Work → ℕ → Option StartReason
 start_reason w e = start_reason_of w e (first_waiting w e)
 
--- whether a member is started
-abbrev pub is_started : StartAnswer → Bool
-is_started (Started ticket) = true
-is_started answer = false
+-- the answer that the reason is one for
+abbrev pub start_answer : StartReason → StartAnswer
+start_answer Nothing = start.Nothing
+start_answer (Fence member waits_for) = start.FenceWait
+start_answer (Failed member left) = start.Abandoned left
+start_answer reason = start.NoBuffers
+
+-- an answer by which no member starts
+abbrev pub unstarted : StartAnswer → Option StartAnswer
+unstarted (start.Started ticket) = None
+unstarted answer = Some answer

@@ -1,13 +1,14 @@
 //! Fetch and start: why an engine takes up no member of its batch.
 
-ghost use Rattle.std.specs.Prelude.{◌≡◌, ◌<◌, ◌==◌, not, true, None, Some, is_none, find};
+ghost use Rattle.std.specs.Prelude.{◌≡◌, ◌<◌, ◌==◌, not, true, None, Some, find};
+ghost use Rattle.std.specs.Option.{option_map};
 ghost use Rattle.dsa_base.specs.Rows.{first_row, passes, when};
 ghost use Rattle.dsa_desc.specs.declared.Descriptor.{Descriptor};
 ghost use Rattle.dsa_store.specs.Content.{is_cell};
 ghost use Rattle.dsa_book.specs.State.{need_of};
 ghost use Rattle.dsa_book.specs.Work.{batch_on, is_all_fetched, first_waiting, has_failed, has_room, start_table, fetch, start};
 ghost use Rattle.dsa_explain.specs.Reasons.{with_reasons};
-ghost use Rattle.dsa_explain.specs.Batch.{fetch_reason, is_fetched, first_member, name_of, want_reason, start_reasons, start_reason, is_started};
+ghost use Rattle.dsa_explain.specs.Batch.{fetch_reason, fetch_answer, unfetched, first_member, name_of, want_reason, start_reasons, start_reason, start_answer, unstarted};
 
 use crate::buffers::{BufferWant, lacking};
 use dsa_book::BatchNote;
@@ -64,10 +65,11 @@ pub(crate) fn is_all_fetched(note: &BatchNote) -> bool
     note.closed || note.count <= note.fetched
 }
 
-/// Why the engine fetches no member, the first cause that stands. `None` exactly where it fetches one.
+/// Why the engine fetches no member, the first cause that stands. `None` exactly where it fetches one, and any other answer is
+/// the one that the reason is for.
 pub fn fetch_reason<S: EntryStore>(device: &Device<S>, engine: u16) -> Option<FetchReason>
     ensures reason { result ≡ fetch_reason device.now.state.work engine }
-    ensures none { (desc : Descriptor) (cell : Cell) → is_none result ≡ is_fetched (fetch device.now.state.work engine desc cell).0 }
+    ensures answer { (desc : Descriptor) (cell : Cell) → option_map fetch_answer result ≡ unfetched (fetch device.now.state.work engine desc cell).0 }
 {
     device.state_is_replay();
     if engine >= device.caps().engines {
@@ -178,10 +180,11 @@ fn waiting_reason<S: EntryStore>(
     want_reason(device, engine, &entry)
 }
 
-/// Why the engine starts no member, the first cause that stands. `None` exactly where it starts one.
+/// Why the engine starts no member, the first cause that stands. `None` exactly where it starts one, and any other answer is the
+/// one that the reason is for.
 pub fn start_reason<S: EntryStore>(device: &Device<S>, engine: u16) -> Option<StartReason>
     ensures reason { result ≡ start_reason device.now.state.work engine }
-    ensures none { is_none result ≡ is_started (start device.now.state.work engine).0 }
+    ensures answer { option_map start_answer result ≡ unstarted (start device.now.state.work engine).0 }
 {
     device.state_is_replay();
     if engine >= device.caps().engines {
