@@ -9,7 +9,7 @@ use dsa_book::{DispatchAnswer, FinishAnswer, IssueAnswer, PollAnswer, Portal};
 use dsa_cells::LinkedStore;
 use dsa_desc::Outcome;
 use dsa_device::Device;
-use dsa_fixtures::{ENQCMD, MOVE, bytes_of};
+use dsa_fixtures::{ENQCMD, FIRST_GROUP, MOVE, SHARED_QUEUE, bytes_of};
 use dsa_regs::{
     Caps, Command, GroupConfig, QueueConfig, QueueMask, cell_count, check_caps, list_count,
 };
@@ -17,44 +17,26 @@ use dsa_store::EntryStore;
 use std::env;
 
 const CAPS: Caps = Caps {
-    queues: 2,
-    groups: 2,
-    engines: 2,
     total_size: 4096,
-    read_buffers: 16,
-    slots: 2,
-    max_batch_shift: 3,
-    max_xfer_shift: 20,
+    ..dsa_fixtures::CAPS
 };
 
 const LONG_QUEUE: QueueConfig = QueueConfig {
     size: 4088,
     threshold: 4088,
-    dedicated: false,
-    priority: 1,
-    pasid: 0,
-    max_batch_shift: 3,
-    max_xfer_shift: 20,
+    ..SHARED_QUEUE
 };
 
 const SHORT_QUEUE: QueueConfig = QueueConfig {
     size: 8,
     threshold: 8,
-    ..LONG_QUEUE
-};
-
-const FIRST_GROUP: GroupConfig = GroupConfig {
-    queues: 1,
-    engines: 1,
-    reserved: 4,
-    allowed: 8,
+    ..SHARED_QUEUE
 };
 
 const SECOND_GROUP: GroupConfig = GroupConfig {
     queues: 2,
     engines: 2,
-    reserved: 4,
-    allowed: 8,
+    ..FIRST_GROUP
 };
 
 const SECOND_QUEUE: QueueMask = QueueMask { group: 0, mask: 2 };
