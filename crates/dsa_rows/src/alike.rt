@@ -2,11 +2,9 @@
 //!
 //! Which free cell a push takes is open. So cells are named here by their places, and told apart by their entries.
 
-use crate::stores::entry;
-use dsa_cells::LinkedStore;
-use dsa_store::{Cell, Entry, EntryStore, ListId, PlainStore};
+use crate::calls::{cell_at, entry, give_back, len, linked, move_front, plain, push_back};
+use dsa_store::{Cell, Entry, EntryStore, ListId};
 use std::process::Abort;
-use std::test::Fail;
 
 const LISTS: u16 = 3;
 
@@ -29,40 +27,20 @@ enum Answer {
     Count(u32),
 }
 
-fn cell_at<S: EntryStore>(rt: &impl Abort, store: &S, list: ListId, place: u32) -> Option<Cell> {
-    assert!(rt; list.0 < store.lists());
-    let mut cell = store.front(list)?;
-    for _ in 0..place {
-        cell = store.next(cell)?;
-    }
-    Some(cell)
-}
-
 fn entry_of<S: EntryStore>(store: &S, cell: Option<Cell>) -> Option<Entry> {
     store.get(cell?)
 }
 
-fn push_back<S: EntryStore>(rt: &impl Abort, store: &mut S, list: ListId, entry: Entry) -> Answer {
-    assert!(rt; list.0 < store.lists());
-    let cell = store.push_back(list, entry);
-    Answer::Cell(entry_of(store, cell))
-}
-
-fn move_front<S: EntryStore>(rt: &impl Abort, store: &mut S, from: ListId, to: ListId) -> Answer {
-    assert!(rt; from.0 < store.lists() && to.0 < store.lists() && from.0 != to.0);
-    let cell = store.move_front(from, to);
-    Answer::Cell(entry_of(store, cell))
-}
-
-fn give_back<S: EntryStore>(rt: &impl Abort, store: &mut S, list: ListId) -> Answer {
-    assert!(rt; list.0 < store.lists());
-    Answer::Count(store.give_back(list))
-}
-
 fn answer_to<S: EntryStore>(rt: &impl Abort, store: &mut S, call: Call) -> Answer {
     match call {
-        Call::PushBack(list, entry) => push_back(rt, store, list, entry),
-        Call::MoveFront(from, to) => move_front(rt, store, from, to),
+        Call::PushBack(list, entry) => {
+            let cell = push_back(rt, store, list, entry);
+            Answer::Cell(entry_of(store, cell))
+        }
+        Call::MoveFront(from, to) => {
+            let cell = move_front(rt, store, from, to);
+            Answer::Cell(entry_of(store, cell))
+        }
         Call::Unlink(list, place) => match cell_at(rt, store, list, place) {
             Some(cell) => Answer::Taken(store.unlink(cell)),
             None => Answer::Taken(None),
@@ -71,7 +49,7 @@ fn answer_to<S: EntryStore>(rt: &impl Abort, store: &mut S, call: Call) -> Answe
             Some(cell) => Answer::IsSet(store.set(cell, entry)),
             None => Answer::IsSet(false),
         },
-        Call::GiveBack(list) => give_back(rt, store, list),
+        Call::GiveBack(list) => Answer::Count(give_back(rt, store, list)),
     }
 }
 
@@ -89,6 +67,21 @@ fn call_of(number: u32, name: u32) -> Call {
     }
 }
 
+// The cells at a place of the list in each store hold the same entry, and stand in that list.
+fn places_are_alike<S: EntryStore, T: EntryStore>(
+    rt: &impl Abort,
+    one: &S,
+    other: &T,
+    list: ListId,
+    place: u32,
+) {
+    let cell = cell_at(rt, one, list, place).expect(rt, "a cell");
+    let twin = cell_at(rt, other, list, place).expect(rt, "its twin");
+    claim!(rt; one.get(cell) == other.get(twin));
+    claim!(rt; one.list_of(cell) == Some(list));
+    claim!(rt; other.list_of(twin) == Some(list));
+}
+
 // One list of the two stores, cell by cell.
 fn lists_are_alike<S: EntryStore, T: EntryStore>(
     rt: &impl Abort,
@@ -96,40 +89,41 @@ fn lists_are_alike<S: EntryStore, T: EntryStore>(
     other: &T,
     list: ListId,
 ) {
-    assert!(rt; list.0 < one.lists() && list.0 < other.lists());
-    let length = one.len(list);
-    assert!(rt; other.len(list) == length);
+    let length = len(rt, one, list);
+    claim!(rt; len(rt, other, list) == length);
     for place in 0..length {
-        let cell = cell_at(rt, one, list, place).expect(rt, "a cell");
-        let twin = cell_at(rt, other, list, place).expect(rt, "its twin");
-        assert!(rt; one.get(cell) == other.get(twin));
-        assert!(rt; [one.list_of(cell), other.list_of(twin)] == [Some(list); 2]);
+        places_are_alike(rt, one, other, list, place);
     }
-    let past = [
-        cell_at(rt, one, list, length),
-        cell_at(rt, other, list, length),
-    ];
-    assert!(rt; past == [None; 2]);
+    claim!(rt; cell_at(rt, one, list, length).is_none());
+    claim!(rt; cell_at(rt, other, list, length).is_none());
+}
+
+// A call of each store, whose answers are the same.
+fn call_is_alike<S: EntryStore, T: EntryStore>(
+    rt: &impl Abort,
+    one: &mut S,
+    other: &mut T,
+    call: Call,
+) {
+    let said = answer_to(rt, one, call);
+    claim!(rt; said == answer_to(rt, other, call));
+    claim!(rt; one.free() == other.free());
+    for list in 0..LISTS {
+        lists_are_alike(rt, one, other, ListId(list));
+    }
 }
 
 fn calls_are_alike<S: EntryStore, T: EntryStore>(rt: &impl Abort, one: &mut S, other: &mut T) {
     let mut number: u32 = 1;
     for name in 0..2000 {
         number = number.wrapping_mul(1664525).wrapping_add(1013904223);
-        let call = call_of(number, name);
-        let said = answer_to(rt, one, call);
-        assert!(rt; said == answer_to(rt, other, call));
-        assert!(rt; one.free() == other.free());
-        for list in 0..LISTS {
-            lists_are_alike(rt, one, other, ListId(list));
-        }
+        call_is_alike(rt, one, other, call_of(number, name));
     }
 }
 
 #[test]
-fn both_stores(rt: HostRuntime) -> Result<(), Fail> {
-    let mut plain = PlainStore::new(rt.alloc(), LISTS, 7)?;
-    let mut linked = LinkedStore::new(rt.alloc(), LISTS, 7)?;
+fn both_stores(rt: HostRuntime) {
+    let mut plain = plain(&rt, rt.alloc(), LISTS, 7);
+    let mut linked = linked(&rt, rt.alloc(), LISTS, 7);
     calls_are_alike(&rt, &mut plain, &mut linked);
-    Ok(())
 }

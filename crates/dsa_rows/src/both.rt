@@ -1,36 +1,64 @@
 //! The rows of each kind of store, over vectors and over linked cells.
 
+use crate::calls::{linked, plain};
 use crate::stores::{cell_is_written, list_is_given_back, middle_is_taken, one_is_left};
-use dsa_cells::LinkedStore;
-use dsa_store::PlainStore;
-use std::test::Fail;
+use dsa_store::EntryStore;
+use std::alloc::Global;
+use std::process::Abort;
 
-#[test]
-fn middle(rt: HostRuntime) -> Result<(), Fail> {
-    middle_is_taken(&rt, &mut PlainStore::new(rt.alloc(), 2, 3)?);
-    let mut linked = LinkedStore::new(rt.alloc(), 2, 3)?;
-    middle_is_taken(&rt, &mut linked);
+#[derive(Clone, Copy)]
+enum Row {
+    Middle,
+    Left,
+    GivenBack,
+    Written,
+}
+
+impl Row {
+    // How many cells its store has, in two lists.
+    fn cells(self) -> u32 {
+        match self {
+            Row::Middle | Row::GivenBack => 3,
+            Row::Left => 4,
+            Row::Written => 2,
+        }
+    }
+}
+
+fn pass<S: EntryStore>(rt: &impl Abort, row: Row, store: &mut S) {
+    match row {
+        Row::Middle => middle_is_taken(rt, store),
+        Row::Left => one_is_left(rt, store),
+        Row::GivenBack => list_is_given_back(rt, store),
+        Row::Written => cell_is_written(rt, store),
+    }
+}
+
+// Both kinds of store pass the row.
+fn both_pass(rt: &impl Abort, alloc: Global, row: Row) {
+    let cells = row.cells();
+    pass(rt, row, &mut plain(rt, alloc, 2, cells));
+    let mut linked = linked(rt, alloc, 2, cells);
+    pass(rt, row, &mut linked);
     linked.each_cell_stands_once();
-    Ok(())
 }
 
 #[test]
-fn left(rt: HostRuntime) -> Result<(), Fail> {
-    one_is_left(&rt, &mut PlainStore::new(rt.alloc(), 2, 4)?);
-    one_is_left(&rt, &mut LinkedStore::new(rt.alloc(), 2, 4)?);
-    Ok(())
+fn middle(rt: HostRuntime) {
+    both_pass(&rt, rt.alloc(), Row::Middle);
 }
 
 #[test]
-fn given_back(rt: HostRuntime) -> Result<(), Fail> {
-    list_is_given_back(&rt, &mut PlainStore::new(rt.alloc(), 2, 3)?);
-    list_is_given_back(&rt, &mut LinkedStore::new(rt.alloc(), 2, 3)?);
-    Ok(())
+fn left(rt: HostRuntime) {
+    both_pass(&rt, rt.alloc(), Row::Left);
 }
 
 #[test]
-fn written(rt: HostRuntime) -> Result<(), Fail> {
-    cell_is_written(&rt, &mut PlainStore::new(rt.alloc(), 2, 2)?);
-    cell_is_written(&rt, &mut LinkedStore::new(rt.alloc(), 2, 2)?);
-    Ok(())
+fn given_back(rt: HostRuntime) {
+    both_pass(&rt, rt.alloc(), Row::GivenBack);
+}
+
+#[test]
+fn written(rt: HostRuntime) {
+    both_pass(&rt, rt.alloc(), Row::Written);
 }

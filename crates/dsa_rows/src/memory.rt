@@ -12,11 +12,31 @@ use std::process::Abort;
 use std::test::Fail;
 
 // A store in a heap that has room for all of it: no call takes or gives back memory until the store is dropped.
-fn takes_no_more<S: EntryStore>(rt: &impl Abort, heap: &LocalHeap, made: Result<S, AllocError>) {
-    if let Ok(mut store) = made {
-        let used = heap.used();
-        middle_is_taken(rt, &mut store);
-        assert!(rt; heap.used() == used);
+fn takes_no_more<S: EntryStore>(rt: &impl Abort, heap: &LocalHeap, store: S) {
+    let mut store = store;
+    let used = heap.used();
+    middle_is_taken(rt, &mut store);
+    claim!(rt; heap.used() == used);
+}
+
+// A heap of so many of its smallest blocks.
+fn heap_of(rt: &impl Abort, alloc: Global, blocks: usize) -> LocalHeap {
+    assert!(rt; blocks < 32);
+    LocalHeap::new(alloc, 16 * blocks).expect(rt, "memory for a heap")
+}
+
+// Whether the store was made, which then takes no more.
+fn is_served<S: EntryStore>(
+    rt: &impl Abort,
+    heap: &LocalHeap,
+    made: Result<S, AllocError>,
+) -> bool {
+    match made {
+        Ok(store) => {
+            takes_no_more(rt, heap, store);
+            true
+        }
+        Err(_) => false,
     }
 }
 
@@ -24,29 +44,25 @@ fn takes_no_more<S: EntryStore>(rt: &impl Abort, heap: &LocalHeap, made: Result<
 // Each heap is one block larger than the one before, so each of the four requests is refused by some heap that met those before it.
 // What had been taken is given back.
 #[test]
-fn plain_store_is_refused_memory(rt: HostRuntime) -> Result<(), Fail> {
+fn plain_store_is_refused_memory(rt: HostRuntime) {
     for blocks in 1..32 {
-        let heap = LocalHeap::new(rt.alloc(), 16 * blocks)?;
-        let made = PlainStore::new(&heap, 2, 3);
-        assert!(rt; made.is_ok() == (blocks >= 19));
-        takes_no_more(&rt, &heap, made);
-        assert!(rt; heap.used() == 0);
+        let heap = heap_of(&rt, rt.alloc(), blocks);
+        let is_made = is_served(&rt, &heap, PlainStore::new(&heap, 2, 3));
+        claim!(&rt; is_made == (blocks >= 19));
+        claim!(&rt; heap.used() == 0);
     }
-    Ok(())
 }
 
 // `new` asks for 10 and 4 of the heap's smallest blocks: the array of the cells, and the headers of the lists and of the free cells.
 // As above, each of the two requests is refused by some heap that met those before it.
 #[test]
-fn linked_store_is_refused_memory(rt: HostRuntime) -> Result<(), Fail> {
+fn linked_store_is_refused_memory(rt: HostRuntime) {
     for blocks in 1..32 {
-        let heap = LocalHeap::new(rt.alloc(), 16 * blocks)?;
-        let made = LinkedStore::new(&heap, 2, 3);
-        assert!(rt; made.is_ok() == (blocks >= 14));
-        takes_no_more(&rt, &heap, made);
-        assert!(rt; heap.used() == 0);
+        let heap = heap_of(&rt, rt.alloc(), blocks);
+        let is_made = is_served(&rt, &heap, LinkedStore::new(&heap, 2, 3));
+        claim!(&rt; is_made == (blocks >= 14));
+        claim!(&rt; heap.used() == 0);
     }
-    Ok(())
 }
 
 // A device over the store. Where it is refused memory the store comes back as it was, and serves the next time.
@@ -59,8 +75,8 @@ fn device_over<S: EntryStore>(
         Ok(device) => return Ok(device),
         Err(refused) => refused,
     };
-    assert!(rt; fault == MakeFault::OutOfMemory);
-    assert!(rt; (store.lists(), store.cells(), store.free()) == (LISTS, CELLS, CELLS));
+    claim!(rt; fault == MakeFault::OutOfMemory);
+    claim!(rt; (store.lists(), store.cells(), store.free()) == (LISTS, CELLS, CELLS));
     match Device::new(alloc, store, CAPS, 16) {
         Ok(device) => Ok(device),
         Err((fault, _)) => Err(fault),
@@ -77,23 +93,30 @@ fn run_over<S: EntryStore>(
     if device.run(&ENABLED, steps).is_ok() {
         return Ok(());
     }
-    assert!(rt; (device.history().len(), steps.len()) == (stored, listed));
-    assert!(rt; device.next_name() == 0 && device.held() == 0 && device.fates().is_empty());
+    claim!(rt; (device.history().len(), steps.len()) == (stored, listed));
+    claim!(rt; (device.next_name(), device.held(), device.fates().len()) == (0, 0, 0));
     device.run(&ENABLED, steps)
+}
+
+// Runs the events three times. The history has the steps of the first time alone.
+fn runs_over<S: EntryStore>(
+    rt: &impl Abort,
+    device: &mut Device<S>,
+    steps: &mut Vec<Step>,
+) -> Result<(), AllocError> {
+    for _ in 0..3 {
+        run_over(rt, device, steps)?;
+    }
+    claim!(rt; steps.len() == 3 * ENABLED.len());
+    claim!(rt; device.history().len() == 4);
+    Ok(())
 }
 
 // These calls take the global allocator, which no test can replace: docs/GATE.md says how each request was refused.
 fn device_runs<S: EntryStore>(rt: &impl Abort, alloc: Global, store: S) -> Result<(), Fail> {
-    let mut device = match device_over(rt, alloc, store) {
-        Ok(device) => device,
-        Err(fault) => return Err(fault)?,
-    };
+    let mut device = device_over(rt, alloc, store)?;
     let mut steps = Vec::new(alloc);
-    for _ in 0..3 {
-        run_over(rt, &mut device, &mut steps)?;
-    }
-    assert!(rt; steps.len() == 3 * ENABLED.len());
-    assert!(rt; device.history().len() == 4);
+    runs_over(rt, &mut device, &mut steps)?;
     Ok(())
 }
 

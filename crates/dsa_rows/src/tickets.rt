@@ -1,5 +1,6 @@
 //! Tickets of no running entry, and an abort against a batch that runs, over both stores.
 
+use crate::calls::{linked, plain};
 use dsa_book::{
     DispatchAnswer, Event, Fate, FateRow, FetchAnswer, FinishAnswer, IssueAnswer, Kind, Portal,
     Reply, StartAnswer, SubmitAnswer, Ticket,
@@ -10,8 +11,8 @@ use dsa_device::Device;
 use dsa_fixtures::{CAPS, CELLS, ENABLED, LISTS, NO_OP, batch_of};
 use dsa_regs::CommandWord;
 use dsa_store::{Cell, EntryStore, PlainStore};
+use std::alloc::Global;
 use std::process::Abort;
-use std::test::Fail;
 
 const DISPATCH: Event = Event::Dispatch { engine: 0 };
 
@@ -43,14 +44,27 @@ fn finish(ticket: Ticket) -> Event {
     }
 }
 
+fn made<S: EntryStore>(rt: &impl Abort, alloc: Global, store: S) -> Device<S> {
+    match Device::new(alloc, store, CAPS, 64) {
+        Ok(device) => device,
+        Err(_) => panic!(rt; "the device was not made"),
+    }
+}
+
 // The small device with its shared queue enabled.
-fn enabled<S: EntryStore>(rt: &HostRuntime, store: S) -> Result<Device<S>, Fail> {
-    let Ok(mut device) = Device::new(rt.alloc(), store, CAPS, 64) else {
-        return Err("the device was not made")?;
-    };
-    let mut steps = Vec::new(rt.alloc());
-    device.run(&ENABLED, &mut steps)?;
-    Ok(device)
+fn enabled<S: EntryStore>(rt: &impl Abort, alloc: Global, store: S) -> Device<S> {
+    let mut device = made(rt, alloc, store);
+    let mut steps = Vec::new(alloc);
+    claim!(rt; device.run(&ENABLED, &mut steps).is_ok());
+    device
+}
+
+fn plain_store(rt: &impl Abort, alloc: Global) -> PlainStore {
+    plain(rt, alloc, LISTS, CELLS)
+}
+
+fn linked_store(rt: &impl Abort, alloc: Global) -> LinkedStore {
+    linked(rt, alloc, LISTS, CELLS)
 }
 
 // The ticket that a reply names.
@@ -80,16 +94,17 @@ impl<S: EntryStore> Pair<S> {
     // What the device keeps and tells is that of the one that was spared.
     fn is_alike(&self, rt: &impl Abort) {
         let (tried, spared) = (&self.tried, &self.spared);
-        let told = (tried.history(), tried.fates());
-        assert!(rt; told == (spared.history(), spared.fates()));
-        let kept = (tried.held(), tried.occupancy(0), tried.next_name());
-        assert!(rt; kept == (spared.held(), spared.occupancy(0), spared.next_name()));
+        claim!(rt; tried.history() == spared.history());
+        claim!(rt; tried.fates() == spared.fates());
+        claim!(rt; tried.held() == spared.held());
+        claim!(rt; tried.occupancy(0) == spared.occupancy(0));
+        claim!(rt; tried.next_name() == spared.next_name());
     }
 
     // Both devices make the step, with the same reply.
     fn step(&mut self, rt: &impl Abort, event: Event) -> Reply {
         let reply = self.tried.step(event);
-        assert!(rt; self.spared.step(event) == reply);
+        claim!(rt; self.spared.step(event) == reply);
         self.is_alike(rt);
         reply
     }
@@ -103,14 +118,36 @@ impl<S: EntryStore> Pair<S> {
     // The entry ends well.
     fn end(&mut self, rt: &impl Abort, ticket: Ticket) {
         let reply = self.step(rt, finish(ticket));
-        assert!(rt; reply == Reply::Finish(FinishAnswer::Done(0x01)));
+        claim!(rt; reply == Reply::Finish(FinishAnswer::Done(0x01)));
     }
 
     // The engine runs no entry of that ticket, and nothing changes.
     fn gone(&mut self, rt: &impl Abort, engine: u16, ticket: Ticket) {
         let answer = self.tried.finish(engine, ticket, Outcome::PageFault);
-        assert!(rt; answer == FinishAnswer::Gone);
+        claim!(rt; answer == FinishAnswer::Gone);
         self.is_alike(rt);
+    }
+}
+
+// Engines that do not run the entry.
+fn engine_is_forged<S: EntryStore>(rt: &impl Abort, pair: &mut Pair<S>, entry: Ticket) {
+    for engine in [1, 2, u16::MAX] {
+        pair.gone(rt, engine, entry);
+    }
+}
+
+// Cells that do not hold it.
+fn cell_is_forged<S: EntryStore>(rt: &impl Abort, pair: &mut Pair<S>, entry: Ticket) {
+    for cell in [entry.cell.0 ^ 1, CELLS, 65_535, u32::MAX] {
+        let cell = Cell(cell);
+        pair.gone(rt, 0, Ticket { cell, ..entry });
+    }
+}
+
+// Names that it does not have.
+fn name_is_forged<S: EntryStore>(rt: &impl Abort, pair: &mut Pair<S>, entry: Ticket) {
+    for name in [1, 7, u32::MAX] {
+        pair.gone(rt, 0, Ticket { name, ..entry });
     }
 }
 
@@ -118,75 +155,106 @@ impl<S: EntryStore> Pair<S> {
 fn entry_is_forged<S: EntryStore>(rt: &impl Abort, pair: &mut Pair<S>) {
     let entry = pair.ask(rt, submission(5, NO_OP));
     pair.gone(rt, 0, entry);
-    assert!(rt; pair.ask(rt, DISPATCH) == entry);
-    for engine in [1, 2, u16::MAX] {
-        pair.gone(rt, engine, entry);
-    }
-    for cell in [entry.cell.0 ^ 1, CELLS, 65_535, u32::MAX] {
-        let cell = Cell(cell);
-        pair.gone(rt, 0, Ticket { cell, ..entry });
-    }
-    for name in [1, 7, u32::MAX] {
-        pair.gone(rt, 0, Ticket { name, ..entry });
-    }
+    claim!(rt; pair.ask(rt, DISPATCH) == entry);
+    engine_is_forged(rt, pair, entry);
+    cell_is_forged(rt, pair, entry);
+    name_is_forged(rt, pair, entry);
     pair.end(rt, entry);
     pair.gone(rt, 0, entry);
 }
 
 // A member that waits to be started, and that has ended.
-fn member_is_forged<S: EntryStore>(rt: &impl Abort, pair: &mut Pair<S>) {
+fn member_is_forged<S: EntryStore>(rt: &impl Abort, pair: &mut Pair<S>, batch: u32) {
+    let member = pair.ask(rt, FETCH);
+    let other = Ticket {
+        name: batch,
+        ..member
+    };
+    pair.gone(rt, 0, member);
+    claim!(rt; pair.ask(rt, START) == member);
+    pair.gone(rt, 0, other);
+    pair.gone(rt, 1, member);
+    pair.end(rt, member);
+    pair.gone(rt, 0, member);
+}
+
+// A batch with two such members.
+fn batch_is_forged<S: EntryStore>(rt: &impl Abort, pair: &mut Pair<S>) {
     let batch = pair.ask(rt, submission(5, batch_of(2)));
-    assert!(rt; pair.ask(rt, DISPATCH) == batch);
-    for _ in 0..2 {
-        let member = pair.ask(rt, FETCH);
-        let (cell, name) = (member.cell, batch.name);
-        pair.gone(rt, 0, member);
-        assert!(rt; pair.ask(rt, START) == member);
-        pair.gone(rt, 0, Ticket { cell, name });
-        pair.gone(rt, 1, member);
-        pair.end(rt, member);
-        pair.gone(rt, 0, member);
-    }
+    claim!(rt; pair.ask(rt, DISPATCH) == batch);
+    member_is_forged(rt, pair, batch.name);
+    member_is_forged(rt, pair, batch.name);
     pair.end(rt, batch);
     pair.gone(rt, 0, batch);
 }
 
+// Devices over two such stores, of which the first is handed forged tickets.
+fn all_are_forged<S: EntryStore>(rt: &impl Abort, alloc: Global, first: S, second: S) {
+    let mut pair = Pair {
+        tried: enabled(rt, alloc, first),
+        spared: enabled(rt, alloc, second),
+    };
+    entry_is_forged(rt, &mut pair);
+    batch_is_forged(rt, &mut pair);
+}
+
 #[test]
-fn forged_tickets(rt: HostRuntime) -> Result<(), Fail> {
-    let mut plain = Pair {
-        tried: enabled(&rt, PlainStore::new(rt.alloc(), LISTS, CELLS)?)?,
-        spared: enabled(&rt, PlainStore::new(rt.alloc(), LISTS, CELLS)?)?,
-    };
-    entry_is_forged(&rt, &mut plain);
-    member_is_forged(&rt, &mut plain);
-    let mut linked = Pair {
-        tried: enabled(&rt, LinkedStore::new(rt.alloc(), LISTS, CELLS)?)?,
-        spared: enabled(&rt, LinkedStore::new(rt.alloc(), LISTS, CELLS)?)?,
-    };
-    entry_is_forged(&rt, &mut linked);
-    member_is_forged(&rt, &mut linked);
-    Ok(())
+fn forged_tickets(rt: HostRuntime) {
+    let alloc = rt.alloc();
+    let (first, second) = (plain_store(&rt, alloc), plain_store(&rt, alloc));
+    all_are_forged(&rt, alloc, first, second);
+    let (first, second) = (linked_store(&rt, alloc), linked_store(&rt, alloc));
+    all_are_forged(&rt, alloc, first, second);
+}
+
+// An engine takes the two entries, and two of three members are fetched, of which one is started. The tickets are those of
+// the members.
+fn batch_runs<S: EntryStore>(
+    rt: &impl Abort,
+    device: &mut Device<S>,
+    batch: Ticket,
+    other: Ticket,
+) -> [Ticket; 2] {
+    claim!(rt; given(rt, device, DISPATCH) == batch);
+    claim!(rt; given(rt, device, DISPATCH) == other);
+    let first = given(rt, device, FETCH);
+    let second = given(rt, device, FETCH);
+    claim!(rt; given(rt, device, START) == first);
+    [first, second]
+}
+
+// The entry ends with that answer.
+fn ends<S: EntryStore>(
+    rt: &impl Abort,
+    device: &mut Device<S>,
+    ticket: Ticket,
+    answer: FinishAnswer,
+) {
+    claim!(rt; device.step(finish(ticket)) == Reply::Finish(answer));
+}
+
+// The abort of PASID 5 takes the batch and its two members.
+fn abort<S: EntryStore>(rt: &impl Abort, device: &mut Device<S>) {
+    let command = CommandWord::parse(ABORT_WORD).expect(rt, "a command");
+    claim!(rt; device.issue(command) == IssueAnswer::Ended { aborted: 3 });
 }
 
 // Of two entries on an engine the first is a batch: two of its three members were fetched, and one runs. The abort of its
 // PASID takes all three, and the other entry goes on.
-fn batch_is_aborted<S: EntryStore>(rt: &impl Abort, device: &mut Device<S>) {
-    let batch = given(rt, device, submission(5, batch_of(3)));
-    let other = given(rt, device, submission(6, NO_OP));
-    let taken = [given(rt, device, DISPATCH), given(rt, device, DISPATCH)];
-    assert!(rt; taken == [batch, other]);
-    let members = [given(rt, device, FETCH), given(rt, device, FETCH)];
-    assert!(rt; given(rt, device, START) == members[0]);
-    let command = CommandWord::parse(ABORT_WORD).expect(rt, "a command");
-    assert!(rt; device.issue(command) == IssueAnswer::Ended { aborted: 3 });
-    for lost in [members[0], members[1], batch] {
-        let reply = device.step(finish(lost));
-        assert!(rt; reply == Reply::Finish(FinishAnswer::Gone));
-    }
-    assert!(rt; device.fetch(0, NO_OP) == FetchAnswer::NoBatch);
-    assert!(rt; device.start(0) == StartAnswer::Nothing);
-    let reply = device.step(finish(other));
-    assert!(rt; reply == Reply::Finish(FinishAnswer::Done(0x01)));
+fn batch_is_aborted<S: EntryStore>(rt: &impl Abort, alloc: Global, store: S) {
+    let mut device = enabled(rt, alloc, store);
+    let batch = given(rt, &mut device, submission(5, batch_of(3)));
+    let other = given(rt, &mut device, submission(6, NO_OP));
+    let [first, second] = batch_runs(rt, &mut device, batch, other);
+    abort(rt, &mut device);
+    ends(rt, &mut device, first, FinishAnswer::Gone);
+    ends(rt, &mut device, second, FinishAnswer::Gone);
+    ends(rt, &mut device, batch, FinishAnswer::Gone);
+    claim!(rt; device.fetch(0, NO_OP) == FetchAnswer::NoBatch);
+    claim!(rt; device.start(0) == StartAnswer::Nothing);
+    ends(rt, &mut device, other, FinishAnswer::Done(0x01));
+    claim!(rt; device.fates() == FATES.as_slice());
+    claim!(rt; device.held() == 0);
 }
 
 // The batch and its members by the number of the command, and then the other entry.
@@ -214,12 +282,8 @@ const FATES: [FateRow; 4] = [
 ];
 
 #[test]
-fn abort_of_a_batch_that_runs(rt: HostRuntime) -> Result<(), Fail> {
-    let mut plain = enabled(&rt, PlainStore::new(rt.alloc(), LISTS, CELLS)?)?;
-    batch_is_aborted(&rt, &mut plain);
-    assert!(rt; plain.fates() == FATES.as_slice() && plain.held() == 0);
-    let mut linked = enabled(&rt, LinkedStore::new(rt.alloc(), LISTS, CELLS)?)?;
-    batch_is_aborted(&rt, &mut linked);
-    assert!(rt; linked.fates() == FATES.as_slice() && linked.held() == 0);
-    Ok(())
+fn abort_of_a_batch_that_runs(rt: HostRuntime) {
+    let alloc = rt.alloc();
+    batch_is_aborted(&rt, alloc, plain_store(&rt, alloc));
+    batch_is_aborted(&rt, alloc, linked_store(&rt, alloc));
 }
