@@ -1,0 +1,5 @@
+pub mod Alike
+pub mod Choices
+pub mod Objects
+pub mod Steps
+pub mod Walks

@@ -1,0 +1,112 @@
+-- The step objects of a document, one after the other.
+use Rattle.std.proofs.Common.{◌≡◌, ◌<◌, ◌≤◌, ℕ, ◌+◌, List, [], ◌∷◌, ◌++◌, Option, Some, None, refl, sym, ap, ◌∙◌, map, length}
+use Rattle.std.proofs.Common.{take, get_or, option_map, subst, arith}
+use Rattle.std.proofs.lemmas.List.{take_more, take_all, length-map, map-append}
+use Rattle.std.proofs.lemmas.Option.{slice_get-map, slice_get_read, get_or_from_slice_get, same_Some}
+use Rattle.std.proofs.Math.ListN.{get_or-map}
+use Rattle.std.specs.Prelude.{slice_get, is_none, false, option_and_then}
+use Rattle.dsa_scenario.specs.Actions.{action_of}
+use Rattle.serde_json.specs.{View.{view}, Data.{Data}, declared.value.Value.{Value}}
+use Rattle.dsa_scenario.specs.declared.actions.Action.{Action}
+use Rattle.dsa_conform.specs.{Seen.{Seen, seen_of, observation_of}, Run.{AreRead, IsUnreadAt}}
+
+-- the item is that of the list, as JSON
+item_at : (vs : List Value) (i : ℕ) (v : Value) → i < length vs → v ≡ get_or vs i v
+    → slice_get (map view vs) i ≡ Some (view v)
+item_at vs i v inside is = rw (slice_get-map view vs i, slice_get_read vs (length vs) i v refl inside is) refl
+
+-- one step object more that is read
+pub read_more : (vs : List Value) (i : ℕ) (v : Value) (here : Action × Seen) (done : List (Action × Seen)) → i < length vs
+    → v ≡ get_or vs i v → observation_of (view v) ≡ Some here → AreRead (take i (map view vs)) done
+    → AreRead (take (i + 1) (map view vs)) (done ++ here ∷ [])
+read_more vs i v here done inside is reads h =
+    let inside' : i < length (map view vs) = rw (length-map vs view) inside in
+    let item : get_or (map view vs) i (view v) ≡ view v = get_or-map view vs i v ∙ ap view (sym is) in
+    rw (take_more (map view vs) i (view v) inside', map-append, map-append, h, item, reads) refl
+
+-- the first that is none
+pub unread_here : (vs : List Value) (i : ℕ) (v : Value) (done : List (Action × Seen)) → i < length vs
+    → v ≡ get_or vs i v → observation_of (view v) ≡ None → AreRead (take i (map view vs)) done
+    → IsUnreadAt (map view vs) i
+unread_here vs i v done inside is reads h =
+    record { done = done; before = h; here = rw (item_at vs i v inside is, reads) refl }
+
+-- all are read
+pub all_read : (vs : List Value) (i : ℕ) (done : List (Action × Seen)) → length vs ≤ i
+    → AreRead (take i (map view vs)) done → AreRead (map view vs) done
+all_read vs i done past h =
+    let all : take i (map view vs) ≡ map view vs = take_all i (map view vs) (rw (length-map vs view) past) in
+    rw all at h
+
+-- there are as many observations as step objects
+pub count_read : (vs : List Value) (observed : List (Action × Seen)) → AreRead (map view vs) observed
+    → length observed ≡ length vs
+count_read vs observed h =
+    sym (length-map observed (λ (o : Action × Seen). Some o)) ∙ ap length (sym h) ∙ length-map (map view vs) observation_of
+    ∙ length-map vs view
+
+-- what is read of an item
+pub record IsReadAt (observed : List (Action × Seen)) (i : ℕ) (v : Value) : Type 0 where
+  pub here : Action × Seen
+  pub reads : observation_of (view v) ≡ Some here
+  pub at : slice_get observed i ≡ Some here
+  pub more : take (i + 1) observed ≡ take i observed ++ here ∷ []
+
+pub read_at : (vs : List Value) (observed : List (Action × Seen)) (i : ℕ) (v : Value) → AreRead (map view vs) observed
+    → i < length vs → v ≡ get_or vs i v → IsReadAt observed i v
+read_at vs observed i v h inside is = found (slice_get observed i) refl (sym left ∙ ap (λ xs. slice_get xs i) h ∙ right)
+  where
+    left : slice_get (map observation_of (map view vs)) i ≡ Some (observation_of (view v))
+    left = slice_get-map observation_of (map view vs) i ∙ ap (option_map observation_of) (item_at vs i v inside is)
+
+    right : slice_get (map (λ (o : Action × Seen). Some o) observed) i
+        ≡ option_map (λ (o : Action × Seen). Some o) (slice_get observed i)
+    right = slice_get-map (λ (o : Action × Seen). Some o) observed i
+
+    found : (o : Option (Action × Seen)) → slice_get observed i ≡ o
+        → Some (observation_of (view v)) ≡ option_map (λ (o : Action × Seen). Some o) o → IsReadAt observed i v
+    found None at same = absurd cc
+    found (Some here) at same = record {
+      here = here;
+      reads = same_Some (observation_of (view v)) (Some here) same;
+      at = at;
+      more = take_more observed i here (rw (count_read vs observed h) inside)
+          ∙ ap (λ o. take i observed ++ o ∷ []) (get_or_from_slice_get observed i here here at);
+    }
+
+-- one item more that was read
+pub read_next : {B : Type 0} (f : B → Action × Seen) (vs : List Value) (i : ℕ) (v : Value) (o : Option B) → i < length vs
+    → v ≡ get_or vs i v → option_map f o ≡ observation_of (view v) → is_none o ≡ false
+    → (done : List (Action × Seen)) × AreRead (take i (map view vs)) done
+    → (done : List (Action × Seen)) × AreRead (take (i + 1) (map view vs)) done
+read_next f vs i v None inside is reads some h = absurd cc
+read_next f vs i v (Some b) inside is reads some h =
+    (h.0 ++ f b ∷ [], read_more vs i v (f b) h.0 inside is (sym reads) h.1)
+
+-- what an object asks, where it is read
+action-read : (d : Data) (o : Action × Seen) → observation_of d ≡ Some o → action_of d ≡ Some o.0
+action-read d o h = at (action_of d) refl (seen_of d) h
+  where
+    at : (a : Option Action) → action_of d ≡ a → (s : Option Seen)
+        → option_and_then (λ action. option_and_then (λ seen. Some (action, seen)) s) a ≡ Some o → a ≡ Some o.0
+    at None is s h = absurd cc
+    at (Some action) is None h = absurd cc
+    at (Some action) is (Some seen) h = ap (λ (p : Action × Seen). Some p.0) (same_Some (action, seen) o h)
+
+abbrev first : {X : Type 0} → X → List X → X
+first x [] = x
+first x (y ∷ ys) = y
+
+abbrev rest : {X : Type 0} → List X → List X
+rest [] = []
+rest (y ∷ ys) = ys
+
+-- what the objects ask, where they are read
+pub asked_of : (steps : List Data) (observed : List (Action × Seen)) → AreRead steps observed
+    → map action_of steps ≡ map Some (map (λ o. o.0) observed)
+asked_of [] [] h = refl
+asked_of [] (o ∷ os) h = absurd cc
+asked_of (d ∷ ds) [] h = absurd cc
+asked_of (d ∷ ds) (o ∷ os) h =
+    let here = action-read d o (ap (first (observation_of d)) h) in
+    rw here (ap (λ actions. Some o.0 ∷ actions) (asked_of ds os (ap rest h)))

@@ -1,0 +1,32 @@
+use Rattle.dsa_conform.proofs.following.follow_dispatch.Goals as goal
+use Rattle.std.proofs.Common.{◌≡◌, ◌∙◌, sym, ap, subst, [], true}
+use Rattle.std.proofs.lemmas.Option.{same_Some}
+use Rattle.dsa_scenario.specs.declared.run.Record.{Record}
+use Rattle.dsa_scenario.specs.Run.{answered_by}
+use Rattle.dsa_conform.specs.{Allowed.{offer, offers}, Seen.{seen_as, shows}}
+use Rattle.dsa_conform.proofs.Choices.{is_offer, all_offers, none_shows, idle_answer, empty_list, filled_list}
+
+pub returns-in-Some : goal.returns-in-Some
+returns-in-Some g c =
+    let w = c.args.device.now.state.work in
+    let found = rw c.in-Some.is at c.in_ok-queue.ensures in
+    let same = same_Some found.0 c.take.result (sym found.1 ∙ c.take.ensures.offered) in (
+      ap answered_by (is_offer w c.args.engine c.in-Some.queue c.take.result c.take.ensures.offered).is,
+      c.take.ensures.leads,
+      subst (λ (e : Record). shows (seen_as c.args.seen.now) e ≡ true) same found.2,
+    )
+
+pub follow_only-requires : goal.follow_only-requires
+follow_only-requires g c =
+    idle_answer c.args.device.now c.args.engine
+    (sym c.in_ok-found.ensures ∙ empty_list c.in_ok-found.found.items
+    (rw c.as_slice.ensures.value at (sym c.is_empty.ensures ∙ c.if-is_empty.true)))
+
+pub returns : goal.returns
+returns g c =
+    let some : offers c.args.device.now.state.work c.args.engine ≡ [] → ⊥ = λ none. filled_list c.in_ok-found.found.items
+    (rw c.as_slice.ensures.value at (sym c.is_empty.ensures ∙ c.if-is_empty.false)) (c.in_ok-found.ensures ∙ none) in (
+      rw c.in_ok-found.ensures (all_offers c.args.device.now c.args.engine c.requires some),
+      none_shows c.args.device.now c.args.engine (seen_as c.args.seen.now) c.requires some
+          (rw c.in_default.is at c.in_ok-queue.ensures),
+    )

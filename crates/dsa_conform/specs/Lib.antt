@@ -1,0 +1,5 @@
+pub mod Seen
+pub mod Allowed
+pub mod Lines
+pub mod Run
+pub mod Worked

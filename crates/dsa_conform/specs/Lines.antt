@@ -1,0 +1,54 @@
+-- What is told of a document whose steps say what was seen.
+use Rattle.std.specs.Prelude.{ℕ, Bool, true, false, List, [], ◌∷◌, ◌++◌, length, count_by, flat_map, codes, decimal}
+use Rattle.std.specs.Prelude.{Option, Some, None}
+use Rattle.dsa_scenario.specs.declared.{actions.Action.{Action}, run.Record.{Record}}
+use Rattle.dsa_scenario.specs.Lines.{record_text}
+use Rattle.dsa_explain_lines.specs.Lines.{asked_words, shown}
+use Rattle.dsa_conform.specs.declared.following.Followed.{Followed, TheVariants.{Shown, Differs}}
+use Rattle.dsa_conform.specs.Seen.{Seen, is_seen}
+
+-- how many steps there are, and of how many something was seen (profile)
+abbrev pub conforms_text : ℕ → ℕ → List ℕ
+conforms_text steps seen =
+    codes "conforms: " ++ decimal steps ++ codes " steps, " ++ decimal seen ++ codes " answers seen\n"
+
+abbrev pub seen_count : List (Action × Seen) → ℕ
+seen_count observed = count_by (λ o. is_seen o.1) observed
+
+abbrev pub flag_text : Bool → List ℕ
+flag_text true = codes "zf true"
+flag_text false = codes "zf false"
+
+-- what was seen: the answer, then the zero flag (profile)
+abbrev pub seen_words : Option (List ℕ) → Option Bool → List ℕ
+seen_words (Some text) (Some flag) = text ++ codes ", " ++ flag_text flag
+seen_words (Some text) None = text
+seen_words None (Some flag) = flag_text flag
+seen_words None None = []
+
+abbrev pub seen_line : Seen → List ℕ
+seen_line seen = codes "seen: " ++ seen_words seen.answer seen.zf ++ codes "\n"
+
+-- an answer that is allowed, and why it comes, where no entry is taken (profile)
+abbrev pub allowed_line : List ℕ → Record → List ℕ
+allowed_line told entry = codes "allowed: " ++ record_text entry ++ (shown told entry ++ codes "\n")
+
+-- the step of this number, by what one of its answers tells of it
+abbrev pub step_line : ℕ → Record → List ℕ
+step_line number entry = codes "step " ++ decimal number ++ codes ": " ++ asked_words entry ++ codes "\n"
+
+-- the step, what was seen of it, and what was allowed (profile)
+abbrev pub difference_text : ℕ → Seen → List ℕ → List Record → List ℕ
+difference_text number seen told [] = []
+difference_text number seen told (entry ∷ entries) =
+    step_line number entry ++ seen_line seen ++ flat_map (allowed_line told) (entry ∷ entries)
+
+-- what is told of a step that does not go on
+abbrev pub difference_of : ℕ → Seen → List ℕ → Followed → Option (List ℕ)
+difference_of number seen told (Shown entry) = None
+difference_of number seen told (Differs allowed) = Some (difference_text number seen told allowed.items)
+
+-- the answer of a step that goes on
+abbrev pub records_of : Followed → List Record
+records_of (Shown entry) = entry ∷ []
+records_of (Differs allowed) = []

@@ -1,0 +1,112 @@
+-- What it is that a document conforms, and where it does not.
+use Rattle.std.specs.Prelude.{◌≡◌, ℕ, ◌+◌, ◌≤◌, ◌^◌, true, List, [], ◌∷◌, ◌++◌, length, map, take, slice_get, option_map}
+use Rattle.std.specs.Prelude.{Option, Some, None, Result}
+use Rattle.serde_json.specs.Data.{Data}
+use Rattle.dsa_regs.specs.{declared.Caps.{Caps}, declared.Fault.{Fault}, Caps.{check_caps}}
+use Rattle.dsa_book.specs.{declared.{answer.Ticket.{Ticket}, event.Event.{Event}}, Machine.{is_run}}
+use Rattle.dsa_device.specs.Running.{Running}
+use Rattle.dsa_scenario.specs.declared.{actions.Action.{Action}, run.Record.{Record}}
+use Rattle.dsa_scenario.specs.declared.faults.ScenarioFault.{ScenarioFault, TheVariants.{BadStep, Differs}}
+use Rattle.dsa_scenario.specs.{Document.{HasHead}, Run.{event_of, steps_of, AreOf}, Steps.{standing, IsWalkTo}}
+use Rattle.dsa_explain_lines.specs.Parts.{part_of}
+use Rattle.dsa_conform.specs.Allowed.{AreAllowed, NoneShows}
+use Rattle.dsa_conform.specs.Lines.{conforms_text, seen_count, difference_text}
+use Rattle.dsa_conform.specs.Seen.{Seen, observation_of, AreShown}
+
+-- ---- runs
+
+-- these are the answers of a run of the machine with what the steps ask, and they show what was seen (profile)
+pub record IsShownRun (caps : Caps) (capacity : ℕ) (observed : List (Action × Seen)) (records : List Record)
+    : Type 0 where
+  pub of_actions : AreOf [] (map (λ o. o.0) observed) records
+  pub run : is_run caps capacity (steps_of records) ≡ true
+  pub shown : AreShown (map (λ o. o.1) observed) records
+
+-- none of the answers that are allowed where the device stands so shows what was seen, and the text tells of them
+-- with their reasons (profile)
+pub record IsRefusal (now : Running) (number : ℕ) (asked : Result Event Fault) (seen : Seen) (text : List ℕ)
+    : Type 0 where
+  pub allowed : List Record
+  pub all : AreAllowed now asked allowed
+  pub none : NoneShows now asked seen
+  pub told : text ≡ difference_text number seen (part_of now asked) allowed
+
+-- a run shows what was seen before, and where it leads to no answer shows what was seen of this step (profile)
+pub record IsDifference (caps : Caps) (capacity : ℕ) (before : List (Action × Seen)) (here : Action × Seen)
+    (number : ℕ) (text : List ℕ) : Type 0 where
+  pub records : List Record
+  pub run : IsShownRun caps capacity before records
+  pub refused : IsRefusal (standing caps capacity records) number (event_of records here.0) here.1 text
+
+-- ---- the steps of a document
+
+-- each object is a step object with what was seen
+abbrev pub AreRead : List Data → List (Action × Seen) → Type 0
+AreRead steps observed = map observation_of steps ≡ map Some observed
+
+-- object i is none, and all before it are (profile)
+pub record IsUnreadAt (steps : List Data) (i : ℕ) : Type 0 where
+  pub done : List (Action × Seen)
+  pub before : AreRead (take i steps) done
+  pub here : option_map observation_of (slice_get steps i) ≡ Some None
+
+-- a device has a run whose answers show all that was seen (profile)
+pub record IsConforming (caps : Caps) (capacity : ℕ) (steps : List Data) (text : List ℕ) : Type 0 where
+  pub observed : List (Action × Seen)
+  pub read : AreRead steps observed
+  pub records : List Record
+  pub run : IsShownRun caps capacity observed records
+  pub told : text ≡ conforms_text (length observed) (seen_count observed)
+
+-- a device has a run whose answers show what was seen before step i, and then none (profile)
+pub record IsDiffering (caps : Caps) (capacity : ℕ) (steps : List Data) (i : ℕ) (text : List ℕ) : Type 0 where
+  pub observed : List (Action × Seen)
+  pub read : AreRead steps observed
+  pub here : Action × Seen
+  pub at : slice_get observed i ≡ Some here
+  pub differs : IsDifference caps capacity (take i observed) here i text
+
+-- what is told of the step objects: that they conform, or of the first step that does not
+abbrev pub IsVerdict : Caps → ℕ → List Data → Option ScenarioFault → List ℕ → Type 0
+IsVerdict caps capacity steps None text = IsConforming caps capacity steps text
+IsVerdict caps capacity steps (Some (Differs i)) text = IsDiffering caps capacity steps i text
+IsVerdict caps capacity steps _ text = ⊥
+
+-- a document that a device can be made for, and what is told of its steps (profile)
+pub record IsJudged (bytes : List ℕ) (fault : Option ScenarioFault) (text : List ℕ) : Type 0 where
+  pub caps : Caps
+  pub capacity : ℕ
+  pub steps : List Data
+  pub head : HasHead bytes caps capacity steps
+  pub good : check_caps caps ≡ true
+  pub small : capacity ≤ 2 ^ 20
+  pub verdict : IsVerdict caps capacity steps fault text
+
+-- a document whose object i is the first that is no step object with what was seen (profile)
+pub record IsUnread (bytes : List ℕ) (i : ℕ) : Type 0 where
+  pub caps : Caps
+  pub capacity : ℕ
+  pub steps : List Data
+  pub head : HasHead bytes caps capacity steps
+  pub bad : IsUnreadAt steps i
+
+-- the text, and the fault that is told after it, are what is made of a document (profile)
+abbrev pub IsConformance : List ℕ → Option ScenarioFault → List ℕ → Type 0
+IsConformance bytes (Some (BadStep i)) text = IsUnread bytes i × (text ≡ [])
+IsConformance bytes fault text = IsJudged bytes fault text
+
+-- ---- a walk
+
+-- so far a device has come by what these steps ask, and its answers show what was seen of them
+abbrev pub IsFollowedTo : Caps → ℕ → List (Action × Seen) → ℕ → Running → List Ticket → Type 0
+IsFollowedTo caps capacity done number now tickets =
+    IsWalkTo (λ steps seens. AreShown seens (map (λ step. step.entry) steps)) caps capacity (map (λ o. o.0) done)
+    number now tickets (map (λ o. o.1) done)
+
+-- after one step more: it has come by that too, or the text tells of the difference
+abbrev pub IsStepped : Caps → ℕ → List (Action × Seen) → Action × Seen → ℕ → Running → List Ticket
+    → Option (List ℕ) → Type 0
+IsStepped caps capacity done here number now tickets None =
+    IsFollowedTo caps capacity (done ++ here ∷ []) (number + 1) now tickets
+IsStepped caps capacity done here number now tickets (Some text) =
+    IsDifference caps capacity done here number text

@@ -1,0 +1,88 @@
+//! What is told of a step that differs.
+
+ghost use Rattle.std.specs.Prelude.{◌≡◌, ◌++◌, OnOk, IfOk, flat_map, string_bytes};
+ghost use Rattle.dsa_conform.specs.Lines.{flag_text, seen_words, seen_line, allowed_line, step_line, difference_text};
+ghost use Rattle.dsa_conform.specs.Seen.{seen_as};
+
+use crate::observed::Observed;
+use dsa_explain_lines::{add_asked, add_shown};
+use dsa_scenario::{Record, add_answer};
+use itoa::Buffer;
+use std::alloc::{AllocError, Global};
+
+// The number of the step, and what was asked.
+fn add_step(text: &mut String, number: usize, entry: &Record) -> Result<(), AllocError>
+    ensures { OnOk result (string_bytes text.new ≡ string_bytes text.old ++ step_line number entry.now) }
+{
+    let mut buffer = Buffer::new();
+    text.push_str("step ")?;
+    text.push_str(buffer.format(number))?;
+    text.push_str(": ")?;
+    add_asked(text, entry)?;
+    text.push_str("\n")
+}
+
+fn flag_text(flag: bool) -> &'static str
+    ensures { result.now ≡ flag_text flag }
+{
+    if flag { "zf true" } else { "zf false" }
+}
+
+fn add_seen_words(text: &mut String, seen: &Observed<'_>) -> Result<(), AllocError>
+    ensures { OnOk result (string_bytes text.new ≡ string_bytes text.old ++ seen_words (seen_as seen.now).answer (seen_as seen.now).zf) }
+{
+    match (seen.answer, seen.zf) {
+        (Some(answer), Some(flag)) => {
+            text.push_str(answer)?;
+            text.push_str(", ")?;
+            text.push_str(flag_text(flag))
+        }
+        (Some(answer), None) => text.push_str(answer),
+        (None, Some(flag)) => text.push_str(flag_text(flag)),
+        (None, None) => Ok(()),
+    }
+}
+
+fn add_seen(text: &mut String, seen: &Observed<'_>) -> Result<(), AllocError>
+    ensures { OnOk result (string_bytes text.new ≡ string_bytes text.old ++ seen_line (seen_as seen.now)) }
+{
+    text.push_str("seen: ")?;
+    add_seen_words(text, seen)?;
+    text.push_str("\n")
+}
+
+fn add_allowed(text: &mut String, told: &str, entry: &Record) -> Result<(), AllocError>
+    ensures { OnOk result (string_bytes text.new ≡ string_bytes text.old ++ allowed_line told.now entry.now) }
+{
+    text.push_str("allowed: ")?;
+    add_answer(text, entry)?;
+    add_shown(text, entry, told)
+}
+
+fn add_all(text: &mut String, told: &str, allowed: &[Record]) -> Result<(), AllocError>
+    ensures { OnOk result (string_bytes text.new ≡ string_bytes text.old ++ flat_map (allowed_line told.now) allowed.now) }
+{
+    for entry in allowed {
+        add_allowed(text, told, entry)?;
+    }
+    Ok(())
+}
+
+/// The step of this number, what was seen of it, and the answers that were allowed, with why they come.
+pub fn difference_text(
+    alloc: Global,
+    number: usize,
+    seen: &Observed<'_>,
+    told: &str,
+    allowed: &[Record],
+) -> Result<String, AllocError>
+    ensures { IfOk result (λ text. string_bytes text ≡ difference_text number (seen_as seen.now) told.now allowed.now) }
+{
+    let mut text = String::new(alloc);
+    if let Some(first) = allowed.first() {
+        add_step(&mut text, number, first)?;
+        add_seen(&mut text, seen)?;
+        add_all(&mut text, told, allowed)?;
+    }
+    Ok(text)
+}

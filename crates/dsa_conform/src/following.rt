@@ -1,0 +1,135 @@
+//! One step by what was seen of it.
+
+ghost use Rattle.std.specs.Prelude.{◌≡◌, ◌==◌, true, false, Some, Ok, IfOk, MatchOption, length};
+ghost use Rattle.dsa_book.specs.declared.event.Event.TheVariants as event;
+ghost use Rattle.dsa_book.specs.Work.{qualifies};
+ghost use Rattle.dsa_scenario.specs.Run.{answered_by, Leads};
+ghost use Rattle.dsa_conform.specs.Seen.{seen_as};
+ghost use Rattle.dsa_conform.specs.Allowed.{HasOneAnswer, IsFollowed, IsNoDispatch, offer};
+
+use crate::observed::Observed;
+use crate::offering::{find_shown, offers};
+use crate::shown::is_shown;
+use dsa_book::{Event, Reply, Step};
+use dsa_device::Device;
+use dsa_regs::Fault;
+use dsa_scenario::Record;
+use dsa_store::EntryStore;
+use std::alloc::{AllocError, Global};
+
+/// What became of a step of which something was seen.
+#[derive(Drop)]
+pub enum Followed {
+    /// The device answered so, and that shows what was seen.
+    Shown(Record),
+    /// None of the answers that are allowed shows what was seen: these are all, but for the cell of an entry that comes in.
+    Differs(Vec<Record>),
+}
+
+// The device's own answer.
+#[inline(always)]
+fn answer<S: EntryStore>(device: &mut Device<S>, asked: &Result<Event, Fault>) -> Record
+    ensures answers { answered_by result ≡ asked.now }
+    ensures leads { Leads device.old result device.new }
+{
+    match *asked {
+        Ok(event) => {
+            let reply = device.step(event);
+            Record::Stepped(Step { event, reply })
+        }
+        Err(fault) => Record::Refused(fault),
+    }
+}
+
+// A step that has one answer, but for the cell of an entry that comes in.
+fn follow_only<S: EntryStore>(
+    alloc: Global,
+    device: &mut Device<S>,
+    asked: &Result<Event, Fault>,
+    seen: &Observed<'_>,
+) -> Result<Followed, AllocError>
+    requires { HasOneAnswer device.old asked.now }
+    ensures { IfOk result (λ followed. IsFollowed device.old asked.now (seen_as seen.now) device.new followed) }
+{
+    let entry = answer(device, asked);
+    if is_shown(alloc, seen, &entry)? {
+        return Ok(Followed::Shown(entry));
+    }
+    Ok(Followed::Differs(vec![in alloc; entry]?))
+}
+
+// The engine takes from the queue.
+fn take<S: EntryStore>(device: &mut Device<S>, engine: u16, queue: u16) -> Record
+    requires room { (length device.old.history == device.old.capacity) ≡ false }
+    requires qualifies { qualifies device.old.state.work engine queue ≡ true }
+    ensures offered { offer device.old.state.work engine queue ≡ Some result }
+    ensures leads { Leads device.old result device.new }
+{
+    let Some(answer) = device.dispatch_from(engine, queue) else {
+        unreachable!();
+    };
+    Record::Stepped(Step {
+        event: Event::Dispatch { engine },
+        reply: Reply::Dispatch(answer),
+    })
+}
+
+// A dispatch: the engine takes from the first queue where that shows what was seen.
+fn follow_dispatch<S: EntryStore>(
+    alloc: Global,
+    device: &mut Device<S>,
+    engine: u16,
+    seen: &Observed<'_>,
+) -> Result<Followed, AllocError>
+    requires { (length device.old.history == device.old.capacity) ≡ false }
+    ensures { IfOk result (λ followed. IsFollowed device.old (Ok (event.Dispatch engine)) (seen_as seen.now) device.new followed) }
+{
+    if let Some(queue) = find_shown(alloc, device, engine, seen)? {
+        return Ok(Followed::Shown(take(device, engine, queue)));
+    }
+    let found = offers(alloc, device, engine)?;
+    if found.as_slice().is_empty() {
+        return follow_only(alloc, device, &Ok(Event::Dispatch { engine }), seen);
+    }
+    Ok(Followed::Differs(found))
+}
+
+// The same, where the history may be full.
+fn follow_engine<S: EntryStore>(
+    alloc: Global,
+    device: &mut Device<S>,
+    engine: u16,
+    seen: &Observed<'_>,
+) -> Result<Followed, AllocError>
+    ensures { IfOk result (λ followed. IsFollowed device.old (Ok (event.Dispatch engine)) (seen_as seen.now) device.new followed) }
+{
+    if device.is_full() {
+        return follow_only(alloc, device, &Ok(Event::Dispatch { engine }), seen);
+    }
+    follow_dispatch(alloc, device, engine, seen)
+}
+
+// The engine that is asked to take an entry.
+fn asked_engine(asked: &Result<Event, Fault>) -> Option<u16>
+    ensures { MatchOption result (IsNoDispatch asked.now) (λ engine. asked.now ≡ Ok (event.Dispatch engine)) }
+{
+    match *asked {
+        Ok(Event::Dispatch { engine }) => Some(engine),
+        _ => None,
+    }
+}
+
+/// Goes on by an answer that is allowed and shows what was seen, or tells all that are allowed where none does.
+pub fn follow<S: EntryStore>(
+    alloc: Global,
+    device: &mut Device<S>,
+    asked: &Result<Event, Fault>,
+    seen: &Observed<'_>,
+) -> Result<Followed, AllocError>
+    ensures { IfOk result (λ followed. IsFollowed device.old asked.now (seen_as seen.now) device.new followed) }
+{
+    let Some(engine) = asked_engine(asked) else {
+        return follow_only(alloc, device, asked, seen);
+    };
+    follow_engine(alloc, device, engine, seen)
+}

@@ -1,0 +1,19 @@
+//! Whether a document's steps may be answered as another device, driver or simulator was seen to answer them.
+//!
+//! [`Conformance`] makes the text of a document. A device goes on where an answer that is allowed shows what was seen; at the
+//! first step where none does, the text tells the step, what was seen, and each answer that was allowed, with its reason.
+#![tactic(auto)]
+
+mod difference;
+mod following;
+mod observed;
+mod offering;
+mod rendering;
+pub mod rows;
+mod shown;
+mod walk;
+
+pub use following::{Followed, follow};
+pub use observed::{Observed, parse_observed, parse_step};
+pub use rendering::{Conformance, render_conformance};
+pub use shown::is_shown;

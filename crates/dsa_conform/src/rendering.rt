@@ -1,0 +1,51 @@
+//! A document in, whether it conforms out.
+
+ghost use Rattle.std.specs.Prelude.{◌≡◌, ◌⊎◌, IfErr, IfOk, string_bytes};
+ghost use Rattle.dsa_scenario.specs.Document.{IsFaultOf};
+ghost use Rattle.dsa_conform.specs.Run.{IsConformance};
+
+use crate::observed::first_unread;
+use crate::walk::walk_steps;
+use dsa_cells::LinkedStore;
+use dsa_regs::{cell_count, list_count};
+use dsa_scenario::{Render, Rendering, ScenarioFault, check_head, parse_head, parse_json};
+use std::alloc::Global;
+
+/// Whether a document's steps may be answered as was seen, as a way to make a text of it.
+#[derive(Clone, Copy, Debug, PartialEq, Eq)]
+pub struct Conformance;
+
+impl Render for Conformance {
+    ghost is_rendering = { λ conformance bytes fault text. IsConformance bytes fault text };
+
+    fn render(&self, alloc: Global, bytes: &[u8]) -> Result<Rendering, ScenarioFault> {
+        render_conformance(alloc, bytes)
+    }
+}
+
+/// Whether the steps of the document in these bytes may be answered as was seen.
+pub fn render_conformance(alloc: Global, bytes: &[u8]) -> Result<Rendering, ScenarioFault>
+    ensures ok { IfOk result (λ r. IsConformance bytes.now r.fault (string_bytes r.text)) }
+    ensures err { IfErr result (λ e. (e ≡ ScenarioFault.OutOfMemory) ⊎ IsFaultOf bytes.now e) }
+{
+    let value = parse_json(alloc, bytes)?;
+    let Some(head) = parse_head(&value) else {
+        return Err(ScenarioFault::BadDocument);
+    };
+    if let Some(i) = first_unread(head.steps) {
+        return Ok(Rendering {
+            text: String::new(alloc),
+            fault: Some(ScenarioFault::BadStep(i as u64)),
+            document: None,
+        });
+    }
+    check_head(&head.caps, head.capacity)?;
+    let lists = list_count(&head.caps);
+    let store = LinkedStore::new(alloc, lists, cell_count(&head.caps))?;
+    let verdict = walk_steps(alloc, store, &head)?;
+    Ok(Rendering {
+        text: verdict.text,
+        fault: verdict.fault,
+        document: Some(value),
+    })
+}
