@@ -1,6 +1,7 @@
 -- Answers that may come to one event look alike, but for the queue that an entry is taken from.
 use Rattle.dsa_book.specs.declared.event.Event.TheVariants as event
-use Rattle.std.proofs.Common.{◌≡◌, ◌≢◌, ◌==◌, ℕ, Bool, true, false, List, [], ◌∷◌, ◌++◌, Option, Some, None, Result, Ok, Err}
+use Rattle.std.proofs.Common.{◌≡◌, ◌≢◌, ◌==◌, ℕ, Bool, true, false, List}
+use Rattle.std.proofs.Common.{[], ◌∷◌, ◌++◌, Option, Some, None, Result, Ok, Err}
 use Rattle.std.proofs.Common.{refl, sym, ap, subst, length, ◌∙◌}
 use Rattle.std.specs.Prelude.{codes, decimal, is_ok, ◌&&◌, ◌||◌, bytes_eq}
 use Rattle.dsa_base.{specs.Rows.{passes}, proofs.Tables.{not-both}}

@@ -1,8 +1,10 @@
 -- The answers to a dispatch: one for each queue that qualifies.
 use Rattle.std.proofs.Common.{◌≡◌, ◌⊎◌, inl, inr, ◌<◌, ◌+◌, ◌==◌, ℕ, zero, suc, Bool, true, false, List, [], ◌∷◌, ◌++◌}
-use Rattle.std.proofs.Common.{Option, Some, None, option_map, Result, Ok, Err, refl, sym, ap, subst, length, map, filter_map, ◌∙◌, arith, cond}
+use Rattle.std.proofs.Common.{Option, Some, None, option_map, Result, Ok, Err, refl}
+use Rattle.std.proofs.Common.{sym, ap, subst, length, map, filter_map, ◌∙◌, arith, cond}
 use Rattle.std.proofs.Common.{append-nil, add-one}
-use Rattle.std.proofs.lemmas.{Bool.{and_parts, ltb-true, not-true, eqb-true, eqb-false}, Option.{same_Some}, List.{length-map}}
+use Rattle.std.proofs.lemmas.Bool.{and_parts, ltb-true, not-true, eqb-true, eqb-false}
+use Rattle.std.proofs.lemmas.{Option.{same_Some}, List.{length-map}}
 use Rattle.std.proofs.lemmas.List.Elements.{All-nil, All-cons, All-head, All-tail, All-append, All-push, All-contains}
 use Rattle.std.proofs.lemmas.List.Elements.{All-weaker, Contains-append_left, Contains-append_right, Contains-push}
 use Rattle.std.proofs.lemmas.List.Elements.{filter_map-append}
@@ -99,7 +101,13 @@ is_offer w e q entry h = at (qualifies w e q) refl (front_of w q) refl h
     at false unfit o is h = absurd cc
     at true may None is h = absurd cc
     at true may (Some front) is h =
-        record { front = front; may = may; stands = is; is = sym (same_Some (taken_from e q (ticket_of front)) entry h) }
+        record {
+          front = front;
+          may = may;
+          stands = is;
+          is = sym (same_Some (taken_from e q (ticket_of front))
+              entry h);
+        }
 
 -- a device with room may answer so
 pub offered_is_allowed : (now : Running) (e q : ℕ) (entry : Record) → (length now.history == now.capacity) ≡ false
@@ -137,7 +145,8 @@ is_offered s s' e reply h = next-each (λ r t. IsOffered s e r) s s' (Dispatch e
         → choice_of (reply_of s (Dispatch e) choice).0 ≡ choice → IsOffered s e (reply_of s (Dispatch e) choice).0
     at (from_queue q) may same =
         let found = taken-offer s.work e q (front_of s.work q) refl may in
-        inl (rw found.2 (given (offer s.work e) s.work.setup.caps.queues q found.0 (below_queues s.work e q may) found.1))
+        inl (rw found.2 (given (offer s.work e) s.work.setup.caps.queues q found.0 (below_queues s.work e q may)
+        found.1))
     at nothing may same =
         let empty : list_any (qualifies s.work e) (numbers_below s.work.setup.caps.queues) ≡ false = not-true _ may in
         inr (
@@ -268,7 +277,8 @@ other_answer now asked h = one_answer now asked (λ e is room t q s n.
     let other : is_dispatch (reply_of now.state e (from_queue q)).0 ≡ false =
     answered_otherwise now.state e (from_queue q) (subst (λ a. IsNoDispatch a) is h) in
     let p = next-is now.state s e (Dispatch (Taken t q)) n in
-    not-both (is_dispatch (reply_of now.state e (from_queue q)).0) (ap (λ (r : Reply × State). is_dispatch r.0) p.1) other)
+    not-both (is_dispatch (reply_of now.state e (from_queue q)).0) (ap (λ (r : Reply × State). is_dispatch r.0)
+    p.1) other)
 
 -- no offer of the queues below shows what was seen, nor one of one more
 pub none_more : (w : Work) (e n : ℕ) (seen : Seen)

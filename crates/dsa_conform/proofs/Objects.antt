@@ -1,5 +1,6 @@
 -- The step objects of a document, one after the other.
-use Rattle.std.proofs.Common.{◌≡◌, ◌<◌, ◌≤◌, ℕ, ◌+◌, List, [], ◌∷◌, ◌++◌, Option, Some, None, refl, sym, ap, ◌∙◌, map, length}
+use Rattle.std.proofs.Common.{◌≡◌, ◌<◌, ◌≤◌, ℕ, ◌+◌, List, [], ◌∷◌, ◌++◌}
+use Rattle.std.proofs.Common.{Option, Some, None, refl, sym, ap, ◌∙◌, map, length}
 use Rattle.std.proofs.Common.{take, get_or, option_map, subst, arith}
 use Rattle.std.proofs.lemmas.List.{take_more, take_all, length-map, map-append}
 use Rattle.std.proofs.lemmas.Option.{slice_get-map, slice_get_read, get_or_from_slice_get, same_Some}
@@ -16,7 +17,8 @@ item_at : (vs : List Value) (i : ℕ) (v : Value) → i < length vs → v ≡ ge
 item_at vs i v inside is = rw (slice_get-map view vs i, slice_get_read vs (length vs) i v refl inside is) refl
 
 -- one step object more that is read
-pub read_more : (vs : List Value) (i : ℕ) (v : Value) (here : Action × Seen) (done : List (Action × Seen)) → i < length vs
+pub read_more : (vs : List Value) (i : ℕ) (v : Value) (here : Action × Seen) (done : List (Action × Seen))
+    → i < length vs
     → v ≡ get_or vs i v → observation_of (view v) ≡ Some here → AreRead (take i (map view vs)) done
     → AreRead (take (i + 1) (map view vs)) (done ++ here ∷ [])
 read_more vs i v here done inside is reads h =
@@ -42,7 +44,8 @@ all_read vs i done past h =
 pub count_read : (vs : List Value) (observed : List (Action × Seen)) → AreRead (map view vs) observed
     → length observed ≡ length vs
 count_read vs observed h =
-    sym (length-map observed (λ (o : Action × Seen). Some o)) ∙ ap length (sym h) ∙ length-map (map view vs) observation_of
+    sym (length-map observed (λ (o : Action × Seen). Some o)) ∙ ap length (sym h) ∙ length-map (map view vs)
+    observation_of
     ∙ length-map vs view
 
 -- what is read of an item
@@ -75,7 +78,8 @@ read_at vs observed i v h inside is = found (slice_get observed i) refl (sym lef
     }
 
 -- one item more that was read
-pub read_next : {B : Type 0} (f : B → Action × Seen) (vs : List Value) (i : ℕ) (v : Value) (o : Option B) → i < length vs
+pub read_next : {B : Type 0} (f : B → Action × Seen) (vs : List Value) (i : ℕ) (v : Value) (o : Option B)
+    → i < length vs
     → v ≡ get_or vs i v → option_map f o ≡ observation_of (view v) → is_none o ≡ false
     → (done : List (Action × Seen)) × AreRead (take i (map view vs)) done
     → (done : List (Action × Seen)) × AreRead (take (i + 1) (map view vs)) done

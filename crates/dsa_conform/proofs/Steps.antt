@@ -1,5 +1,6 @@
 -- The steps of a document, followed one after the other.
-use Rattle.std.proofs.Common.{◌≡◌, ◌<◌, ◌≤◌, ℕ, ◌+◌, List, [], ◌∷◌, ◌++◌, Option, Some, None, refl, sym, ap, ◌∙◌, subst, map}
+use Rattle.std.proofs.Common.{◌≡◌, ◌<◌, ◌≤◌, ℕ, ◌+◌, List, [], ◌∷◌, ◌++◌}
+use Rattle.std.proofs.Common.{Option, Some, None, refl, sym, ap, ◌∙◌, subst, map}
 use Rattle.std.proofs.Common.{take, length, cond, get_or, arith}
 use Rattle.std.proofs.lemmas.{Option.{same_Some}, List.{take_all, length-map, Sums.{sum_by_push}}}
 use Rattle.serde_json.specs.{View.{view}, declared.value.Value.{Value}}
@@ -129,7 +130,8 @@ stepped_on caps capacity now new done here number tickets more asked told (Shown
     says h =
     rw says (followed_more caps capacity now new done here number tickets more entry
     (λ before t. goes.0 ∙ asks before t) goes.1 noted goes.2 h)
-stepped_on caps capacity now new done here number tickets more asked told (Differs allowed) differing asks goes why noted
+stepped_on caps capacity now new done here number tickets more asked told (Differs allowed) differing asks goes why
+    noted
     says h =
     rw says (goes_no_further caps capacity now done here number tickets asked allowed.items
     (difference_text number here.1 told allowed.items) asks goes.0 goes.1

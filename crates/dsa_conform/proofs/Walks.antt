@@ -1,5 +1,6 @@
 -- One step more of a walk by what was seen, and where it ends.
-use Rattle.std.proofs.Common.{◌≡◌, ℕ, ◌+◌, Bool, true, false, List, [], ◌∷◌, ◌++◌, Option, Some, None, Result, refl, sym, ap}
+use Rattle.std.proofs.Common.{◌≡◌, ℕ, ◌+◌, Bool, true, false, List, []}
+use Rattle.std.proofs.Common.{◌∷◌, ◌++◌, Option, Some, None, Result, refl, sym, ap}
 use Rattle.std.proofs.Common.{◌∙◌, subst, map, filter_map}
 use Rattle.std.proofs.lemmas.List.{map-append}
 use Rattle.std.specs.Prelude.{slice_get, is_some, ◌&&◌, ◌||◌}
@@ -45,7 +46,8 @@ abbrev ShowAll : List Visit → List Seen → Type 0
 ShowAll steps seens = AreShown seens (map (λ step. step.entry) steps)
 
 -- a walk with one step more
-pub followed_more : (caps : Caps) (capacity : ℕ) (now new : Running) (done : List (Action × Seen)) (here : Action × Seen)
+pub followed_more : (caps : Caps) (capacity : ℕ) (now new : Running) (done : List (Action × Seen)) (here : Action ×
+    Seen)
     (number : ℕ) (tickets more : List Ticket) (entry : Record)
     → ((before : List Record) → IsTable (slice_get tickets) before → answered_by entry ≡ event_of before here.0)
     → Leads now entry new → more ≡ tickets ++ filter_map given_by (entry ∷ []) → shows here.1 entry ≡ true

@@ -1,5 +1,6 @@
 -- What it is that a document conforms, and where it does not.
-use Rattle.std.specs.Prelude.{◌≡◌, ℕ, ◌+◌, ◌≤◌, ◌^◌, true, List, [], ◌∷◌, ◌++◌, length, map, take, slice_get, option_map}
+use Rattle.std.specs.Prelude.{◌≡◌, ℕ, ◌+◌, ◌≤◌, ◌^◌, true, List}
+use Rattle.std.specs.Prelude.{[], ◌∷◌, ◌++◌, length, map, take, slice_get, option_map}
 use Rattle.std.specs.Prelude.{Option, Some, None, Result}
 use Rattle.serde_json.specs.Data.{Data}
 use Rattle.dsa_regs.specs.{declared.Caps.{Caps}, declared.Fault.{Fault}, Caps.{check_caps}}

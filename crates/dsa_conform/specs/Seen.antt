@@ -5,7 +5,8 @@ use Rattle.std.specs.Prelude.{ℕ, Bool, true, false, not, ◌&&◌, ◌||◌, L
 use Rattle.std.specs.Prelude.{Option, Some, None, option_map, is_some, ⊤, ◌≡◌}
 use Rattle.serde_json.specs.{Data.{Data}, Find.{get, as_bool, as_str}}
 use Rattle.dsa_base.specs.Rows.{passes}
-use Rattle.dsa_book.specs.declared.{event.Event.{Event}, answer.Reply.{Reply}, answer.SubmitAnswer.TheVariants.{Accepted}}
+use Rattle.dsa_book.specs.declared.{event.Event.{Event}, answer.Reply.{Reply}}
+use Rattle.dsa_book.specs.declared.answer.SubmitAnswer.TheVariants.{Accepted}
 use Rattle.dsa_book.specs.declared.answer.{DispatchAnswer.TheVariants.{Taken}, FetchAnswer.TheVariants.{Fetched}}
 use Rattle.dsa_book.specs.declared.answer.StartAnswer.TheVariants.{Started}
 use Rattle.dsa_book.specs.Submit.{zf}
@@ -29,7 +30,8 @@ abbrev pub perhaps : {A : Type 0} → (Data → Option A) → Option Data → Op
 perhaps read None = Some None
 perhaps read (Some value) = option_map Some (read value)
 
--- what a step object says was seen: a text at `answer` and a truth value at `zf`, where these keys stand there (profile)
+-- what a step object says was seen: a text at `answer` and a truth value at `zf`, where these keys stand there
+-- (profile)
 abbrev pub seen_of : Data → Option Seen
 seen_of d = do
   answer ← perhaps as_str (get (codes "answer") d)

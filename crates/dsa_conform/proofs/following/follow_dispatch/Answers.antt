@@ -24,7 +24,8 @@ follow_only-requires g c =
 
 pub returns : goal.returns
 returns g c =
-    let some : offers c.args.device.now.state.work c.args.engine ≡ [] → ⊥ = λ none. filled_list c.in_ok-found.found.items
+    let some : offers c.args.device.now.state.work c.args.engine ≡ []
+    → ⊥ = λ none. filled_list c.in_ok-found.found.items
     (rw c.as_slice.ensures.value at (sym c.is_empty.ensures ∙ c.if-is_empty.false)) (c.in_ok-found.ensures ∙ none) in (
       rw c.in_ok-found.ensures (all_offers c.args.device.now c.args.engine c.requires some),
       none_shows c.args.device.now c.args.engine (seen_as c.args.seen.now) c.requires some

@@ -24,7 +24,8 @@ returns-in_err-check_head-clause-err g c =
 
 pub walk_steps-requires-clause-fits : goal.walk_steps-requires-clause-fits
 walk_steps-requires-clause-fits g c = new-make_fault c.in-Some.head.caps c.in-Some.head.capacity
-    c.list_count-lists.result c.cell_count.result _ _ c.in_ok-check_head.ensures.caps c.in_ok-check_head.ensures.capacity
+    c.list_count-lists.result c.cell_count.result _ _ c.in_ok-check_head.ensures.caps
+    c.in_ok-check_head.ensures.capacity
     c.list_count-lists.ensures c.cell_count.ensures.number c.in_ok-store.ensures.empty c.in_ok-store.ensures.cells
 
 pub returns-clause-ok : goal.returns-clause-ok
