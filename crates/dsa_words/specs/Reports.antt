@@ -3,10 +3,11 @@ use Rattle.std.specs.Prelude.{◌≡◌, ◌<◌, ℕ, List, length, take, Optio
 use Rattle.std.specs.Io.KnownBytes.{Appends}
 use Rattle.dsa_scenario.specs.{declared.faults.ScenarioFault.{ScenarioFault}, Scenario.{IsWhole}}
 use Rattle.dsa_check.specs.Check.{IsReportOf as IsCheckOf}
+use Rattle.dsa_conform.specs.Run.{IsConformance}
 use Rattle.dsa_explain_lines.specs.Run.{IsExplanation}
 use Rattle.dsa_trace.specs.Run.{IsTrace}
 use Rattle.dsa_draw.specs.Drawings.{IsDrawingOf}
-use Rattle.dsa_words.specs.declared.reports.Report.{Report, TheVariants.{Check, Explain, Trace, Draw}}
+use Rattle.dsa_words.specs.declared.reports.Report.{Report, TheVariants.{Check, Explain, Trace, Draw, Conform}}
 
 -- the text, and the fault that is told after it, are this report on a document (profile)
 abbrev pub IsReportOf : Report → List ℕ → Option ScenarioFault → List ℕ → Type 0
@@ -14,6 +15,7 @@ IsReportOf Check bytes fault text = IsCheckOf bytes fault text
 IsReportOf Explain bytes fault text = (fault ≡ None) × IsExplanation bytes text
 IsReportOf (Trace form) bytes fault text = (fault ≡ None) × IsTrace form bytes text
 IsReportOf Draw bytes fault text = (fault ≡ None) × IsDrawingOf bytes text
+IsReportOf Conform bytes fault text = IsConformance bytes fault text
 
 -- the reader gave a document, and all of the report on it was written; then this fault is told
 abbrev pub IsReported : Report → Option ScenarioFault → Option (List ℕ) → Option (List ℕ) → Option (List ℕ)

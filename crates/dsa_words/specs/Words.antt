@@ -50,9 +50,10 @@ top_app = on_top (λ top. record top { no_binary_name = true; has_version = true
 
 -- the program with its commands (profile)
 abbrev pub program_app : App
-program_app = with_subcommand (with_subcommand (with_subcommand (with_subcommand (with_subcommand top_app
+program_app =
+    with_subcommand (with_subcommand (with_subcommand (with_subcommand (with_subcommand (with_subcommand top_app
     (new_app (codes "check")).top) (new_app (codes "explain")).top) trace_app.top) (new_app (codes "draw")).top)
-    threads_app.top
+    (new_app (codes "conform")).top) threads_app.top
 
 -- what is wrong with the words, if anything; to ask for help counts too
 abbrev pub faults_of : List Text → Kinds
@@ -103,11 +104,13 @@ IsAskedBy found report.Check = found.0 ≡ codes "check"
 IsAskedBy found report.Explain = found.0 ≡ codes "explain"
 IsAskedBy found (report.Trace form) = (found.0 ≡ codes "trace") × IsFormOf found.1 form
 IsAskedBy found report.Draw = found.0 ≡ codes "draw"
+IsAskedBy found report.Conform = found.0 ≡ codes "conform"
 
 -- the command is one that asks for a report
 abbrev pub IsReportName : Text → Type 0
 IsReportName name =
     (name ≡ codes "check") ⊎ (name ≡ codes "explain") ⊎ (name ≡ codes "trace") ⊎ (name ≡ codes "draw")
+    ⊎ (name ≡ codes "conform")
 
 -- the words name a command that asks for a report, with these matches, and nothing is wrong with them
 abbrev pub NameReport : List Text → Text × List Row → Type 0
@@ -134,8 +137,6 @@ command_in words = option_map (λ found. found.0) (subcommand_of program_app wor
 
 -- what the words ask for: workers, a report, or else a scenario
 abbrev pub AsksFor : List Text → Asked → Type 0
-AsksFor words Scenario = (command_in words ≢ Some (codes "check")) × (command_in words ≢ Some (codes "explain"))
-    × (command_in words ≢ Some (codes "trace")) × (command_in words ≢ Some (codes "draw"))
-    × (command_in words ≢ Some (codes "threads"))
+AsksFor words Scenario = (name : Text) → IsReportName name ⊎ (name ≡ codes "threads") → command_in words ≢ Some name
 AsksFor words (asked.Report report) = (found : Text × List Row) × NameReport words found × IsAskedBy found report
 AsksFor words (Threads load) = (rows : List Row) × NameThreads words rows × AreNumbersOf rows load

@@ -1,11 +1,11 @@
 //! The words of the command line, read with `clap`.
 
-ghost use Rattle.std.specs.Prelude.{◌≡◌, ◌≢◌, ◌≤◌, true, false, List, Some, IfOk, codes, map, option_map, string_bytes};
-ghost use Rattle.clap.specs.Words.{Row, app_of, rule_of, found_of, rows_of, FailsBy};
+ghost use Rattle.std.specs.Prelude.{◌≡◌, ◌≢◌, ◌≤◌, true, false, List, Some, IfSome, IfNone, IfOk, codes, map, option_map, string_bytes};
+ghost use Rattle.clap.specs.Words.{Row, Text, app_of, rule_of, found_of, rows_of, FailsBy};
 ghost use Rattle.clap.specs.Simple.{new_app, subcommand_rows_of};
 ghost use Rattle.clap.specs.declared.builder.command.Command.TheViews.{out-Command as fields_of};
 ghost use Rattle.dsa_words.specs.Threads.{IsInRange, IsAskedInRange};
-ghost use Rattle.dsa_words.specs.Words.{number_rule, flag_rule, threads_app, trace_app, top_app, program_app, IsNumberOf, AreNumbersOf, IsFormOf, AsksFor, faults_of};
+ghost use Rattle.dsa_words.specs.Words.{number_rule, flag_rule, threads_app, trace_app, top_app, program_app, IsNumberOf, AreNumbersOf, IsFormOf, IsReportName, IsAskedBy, AsksFor, faults_of};
 
 use crate::reports::Report;
 use clap::{Arg, ArgAction, ArgMatches, Command, Error, value_parser};
@@ -82,6 +82,15 @@ device, and writes a drawing of the run, as SVG.
 
 Exit status: 0 done, 1 a fault (its line goes to standard error), 2 these words are not
 understood.";
+
+const CONFORM_HELP: &str = "\
+Reads one scenario, a JSON document, from standard input, whose steps also have what
+another device was seen to answer: the text \"answer\", as the line of the step with or
+without its name, or \"zf\", the zero flag that ENQCMD left. The model follows where that
+is allowed. Where it is not, the step is told, with all answers that are allowed.
+
+Exit status: 0 all of it is allowed, 1 it is not, or a fault (its line goes to standard
+error), 2 these words are not understood.";
 
 const THREADS_HELP: &str = "\
 Reads nothing. Clients, engines and an administrator share one device, each in a thread
@@ -210,6 +219,14 @@ fn draw_command<'a>(alloc: Global) -> Command<'a>
     plain_command(alloc, "draw", about, DRAW_HELP)
 }
 
+fn conform_command<'a>(alloc: Global) -> Command<'a>
+    ensures app { app_of result ≡ new_app (codes "conform") }
+    ensures local { (fields_of result).has_globals ≡ false }
+{
+    let about = "Says whether what another device was seen to answer is allowed";
+    plain_command(alloc, "conform", about, CONFORM_HELP)
+}
+
 // The program without its commands.
 fn top_command<'a>(alloc: Global) -> Result<Command<'a>, AllocError>
     ensures { IfOk result (λ c. app_of c ≡ top_app) }
@@ -231,6 +248,7 @@ fn command_line<'a>(alloc: Global) -> Result<Command<'a>, AllocError>
         .subcommand(explain_command(alloc))?
         .subcommand(trace_command(alloc)?)?
         .subcommand(draw_command(alloc))?
+        .subcommand(conform_command(alloc))?
         .subcommand(threads_command(alloc)?)
 }
 
@@ -275,6 +293,28 @@ fn is_named(matches: &ArgMatches<'_>, name: &str) -> bool
     matches.subcommand_matches(name).is_some()
 }
 
+// The report that the words name.
+fn report_of(matches: &ArgMatches<'_>) -> Option<Report>
+    ensures some { IfSome result (λ report. (found : Text × List Row) × (subcommand_rows_of matches.now ≡ Some found)
+        × IsReportName found.0 × IsAskedBy found report) }
+    ensures none { IfNone result ((name : Text) → IsReportName name
+        → option_map (λ found. found.0) (subcommand_rows_of matches.now) ≢ Some name) }
+{
+    if let Some(given) = matches.subcommand_matches("trace") {
+        return Some(Report::Trace(form_of(given)));
+    }
+    if is_named(matches, "check") {
+        return Some(Report::Check);
+    }
+    if is_named(matches, "explain") {
+        return Some(Report::Explain);
+    }
+    if is_named(matches, "draw") {
+        return Some(Report::Draw);
+    }
+    is_named(matches, "conform").then_some(Report::Conform)
+}
+
 /// What the words ask for, or what `clap` has to say.
 pub fn read_words<'a>(alloc: Global, words: &'a [String]) -> Result<Asked, Error>
     ensures range { IfOk result (λ asked. IsAskedInRange asked) }
@@ -285,17 +325,8 @@ pub fn read_words<'a>(alloc: Global, words: &'a [String]) -> Result<Asked, Error
     if let Some(given) = matches.subcommand_matches("threads") {
         return Ok(Asked::Threads(workload_of(given)));
     }
-    if let Some(given) = matches.subcommand_matches("trace") {
-        return Ok(Asked::Report(Report::Trace(form_of(given))));
-    }
-    if is_named(&matches, "check") {
-        return Ok(Asked::Report(Report::Check));
-    }
-    if is_named(&matches, "explain") {
-        return Ok(Asked::Report(Report::Explain));
-    }
-    if is_named(&matches, "draw") {
-        return Ok(Asked::Report(Report::Draw));
+    if let Some(report) = report_of(&matches) {
+        return Ok(Asked::Report(report));
     }
     Ok(Asked::Scenario)
 }

@@ -3,6 +3,7 @@
 ghost use Rattle.dsa_words.specs.Reports.{IsReportOf};
 
 use dsa_check::Check;
+use dsa_conform::Conformance;
 use dsa_draw::Drawing;
 use dsa_explain_lines::Explanation;
 use dsa_scenario::{Render, Rendering, ScenarioFault};
@@ -20,6 +21,8 @@ pub enum Report {
     Trace(Trace),
     /// A drawing of its run.
     Draw,
+    /// Whether what its steps say that another device answered is allowed.
+    Conform,
 }
 
 impl Render for Report {
@@ -31,6 +34,7 @@ impl Render for Report {
             Report::Explain => Explanation.render(alloc, bytes),
             Report::Trace(form) => form.render(alloc, bytes),
             Report::Draw => Drawing.render(alloc, bytes),
+            Report::Conform => Conformance.render(alloc, bytes),
         }
     }
 }

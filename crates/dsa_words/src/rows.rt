@@ -8,7 +8,7 @@ ghost use Rattle.dsa_book.specs.declared.event.Kind.TheVariants.{Enqcmd};
 ghost use Rattle.dsa_book.specs.declared.event.Portal.TheVariants.{Limited};
 ghost use Rattle.dsa_words.specs.declared.options.Asked.TheVariants.{Scenario, Report, Threads};
 ghost use Rattle.clap.specs.declared.error.kind.ErrorKind.TheVariants.{UnknownArgument, InvalidSubcommand, ValueValidation, DisplayHelp, DisplayVersion};
-ghost use Rattle.dsa_words.specs.declared.reports.Report.TheVariants.{Check, Explain, Trace, Draw};
+ghost use Rattle.dsa_words.specs.declared.reports.Report.TheVariants.{Check, Explain, Trace, Draw, Conform};
 ghost use Rattle.dsa_trace.specs.declared.form.Trace.TheVariants.{Table, Json};
 ghost use Rattle.dsa_words.specs.Threads.{AreTotalsOf, IsInRange, Submits, caps_for, capacity_for, engine_script, group_config, move, queue_config, setup_events, submission_of, totals_text};
 ghost use Rattle.dsa_words.specs.Words.{AsksFor, IsMistaken, command_in, faults_of};
@@ -31,6 +31,8 @@ pub fn words_understood()
     ensures explains { command_in (codes "explain" ∷ []) ≡ Some (codes "explain") }
     ensures draw { faults_of (codes "draw" ∷ []) ≡ [] }
     ensures drawing { command_in (codes "draw" ∷ []) ≡ Some (codes "draw") }
+    ensures conform { faults_of (codes "conform" ∷ []) ≡ [] }
+    ensures conforms { command_in (codes "conform" ∷ []) ≡ Some (codes "conform") }
     ensures draw_with_option { faults_of (codes "draw" ∷ codes "--clients" ∷ codes "2" ∷ []) ≡ UnknownArgument ∷ [] }
     ensures other_word { faults_of (codes "scenario" ∷ []) ≡ UnknownArgument ∷ InvalidSubcommand ∷ [] }
     ensures option_alone { faults_of (codes "--clients" ∷ codes "2" ∷ []) ≡ UnknownArgument ∷ [] }
@@ -122,6 +124,7 @@ pub fn asked()
     ensures check { AsksFor (codes "check" ∷ []) (Report Check) }
     ensures explain { AsksFor (codes "explain" ∷ []) (Report Explain) }
     ensures draw { AsksFor (codes "draw" ∷ []) (Report Draw) }
+    ensures conform { AsksFor (codes "conform" ∷ []) (Report Conform) }
     ensures draw_is_no_scenario { ¬ AsksFor (codes "draw" ∷ []) Scenario }
     ensures mistaken { IsMistaken (codes "scenario" ∷ []) }
     ensures help { ¬ IsMistaken (codes "--help" ∷ []) }

@@ -13,5 +13,7 @@ returns c =
     ∙ ap₂ with_subcommand two (ap top c.in_ok-trace_command.ensures.app) in
     let four = c.in_ok-subcommand-4.ensures.shape c.draw_command.ensures.local
     ∙ ap₂ with_subcommand three (ap top c.draw_command.ensures.app) in
-    IfOk-weaker c.subcommand-5.result _ _ (λ command h. h.shape c.in_ok-threads_command.ensures.local
-    ∙ ap₂ with_subcommand four (ap top c.in_ok-threads_command.ensures.app)) c.subcommand-5.ensures
+    let five = c.in_ok-subcommand-5.ensures.shape c.conform_command.ensures.local
+    ∙ ap₂ with_subcommand four (ap top c.conform_command.ensures.app) in
+    IfOk-weaker c.subcommand-6.result _ _ (λ command h. h.shape c.in_ok-threads_command.ensures.local
+    ∙ ap₂ with_subcommand five (ap top c.in_ok-threads_command.ensures.app)) c.subcommand-6.ensures

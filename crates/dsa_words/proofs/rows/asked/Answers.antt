@@ -1,5 +1,5 @@
 use Rattle.dsa_words.proofs.rows.asked.Goals as goal
-use Rattle.std.proofs.Common.{ℕ, [], Option, unwrap_or, inl, inr, refl, ap}
+use Rattle.std.proofs.Common.{ℕ, [], codes, Option, unwrap_or, inl, inr, refl, ap}
 use Rattle.std.specs.Str.Parse.{digits_value, without_leading_plus}
 use Rattle.clap.specs.{Walk.{Text}, declared.error.kind.ErrorKind.TheVariants.{UnknownArgument}}
 use Rattle.clap.proofs.OnLiterals.{clap_on_literals}
@@ -10,11 +10,11 @@ number_in o = digits_value 10 (without_leading_plus (unwrap_or o []))
 
 pub returns-clause-scenario : goal.returns-clause-scenario
 unfolding clap_on_literals
-returns-clause-scenario c = (λ same. cc, λ same. cc, λ same. cc, λ same. cc, λ same. cc)
+returns-clause-scenario c name is same = cc
 
 pub returns-clause-no_scenario : goal.returns-clause-no_scenario
 unfolding clap_on_literals
-returns-clause-no_scenario c other = other.4 refl
+returns-clause-no_scenario c other = other (codes "threads") (inr refl) refl
 
 pub returns-clause-threads : goal.returns-clause-threads
 unfolding clap_on_literals
@@ -39,11 +39,15 @@ returns-clause-explain c = (_, (refl, refl, inr (inl refl)), refl)
 
 pub returns-clause-draw : goal.returns-clause-draw
 unfolding clap_on_literals
-returns-clause-draw c = (_, (refl, refl, inr (inr (inr refl))), refl)
+returns-clause-draw c = (_, (refl, refl, inr (inr (inr (inl refl)))), refl)
+
+pub returns-clause-conform : goal.returns-clause-conform
+unfolding clap_on_literals
+returns-clause-conform c = (_, (refl, refl, inr (inr (inr (inr refl)))), refl)
 
 pub returns-clause-draw_is_no_scenario : goal.returns-clause-draw_is_no_scenario
 unfolding clap_on_literals
-returns-clause-draw_is_no_scenario c other = other.3 refl
+returns-clause-draw_is_no_scenario c other = other (codes "draw") (inl (inr (inr (inr (inl refl))))) refl
 
 pub returns-clause-trace : goal.returns-clause-trace
 unfolding clap_on_literals
