@@ -5,7 +5,7 @@ use Rattle.dsa_scenario.proofs.Whole.{has_head, bad_head}
 use Rattle.dsa_conform.proofs.{Objects.{asked_of}, Steps.{conformance_of}}
 
 pub returns-in-Some-first_unread-clause-ok : goal.returns-in-Some-first_unread-clause-ok
-returns-in-Some-first_unread-clause-ok g c = (
+returns-in-Some-first_unread-clause-ok c = (
   record {
     caps = _;
     capacity = _;
@@ -17,18 +17,18 @@ returns-in-Some-first_unread-clause-ok g c = (
 )
 
 pub returns-in_err-check_head-clause-err : goal.returns-in_err-check_head-clause-err
-returns-in_err-check_head-clause-err g c =
+returns-in_err-check_head-clause-err c =
     let p = err_from_is_err_and c.from_residual-in_err-check_head.result c.from_residual-in_err-check_head.ensures.1 in
     rw (p.1, p.2) (bad_head _ _ _ _ _ _ (has_head _ _ _ _ _ c.in_ok-value.ensures.ok c.in-Some.ensures)
     (asked_of _ _ c.in_default-first_unread.ensures.1) c.in_err-check_head.ensures.bad)
 
 pub walk_steps-requires-clause-fits : goal.walk_steps-requires-clause-fits
-walk_steps-requires-clause-fits g c = new-make_fault c.in-Some.head.caps c.in-Some.head.capacity
+walk_steps-requires-clause-fits c = new-make_fault c.in-Some.head.caps c.in-Some.head.capacity
     c.list_count-lists.result c.cell_count.result _ _ c.in_ok-check_head.ensures.caps
     c.in_ok-check_head.ensures.capacity
     c.list_count-lists.ensures c.cell_count.ensures.number c.in_ok-store.ensures.empty c.in_ok-store.ensures.cells
 
 pub returns-clause-ok : goal.returns-clause-ok
-returns-clause-ok g c =
+returns-clause-ok c =
     conformance_of _ _ _ _ _ _ (has_head _ _ _ _ _ c.in_ok-value.ensures.ok c.in-Some.ensures)
     c.in_ok-check_head.ensures.caps c.in_ok-check_head.ensures.capacity c.in_ok-verdict.ensures
