@@ -1,5 +1,6 @@
 //! Replies, actors, and the book that keeps them.
 
+use crate::setup::book;
 use dsa_book::{
     Actor, Book, Cause, ClearAnswer, DispatchAnswer, Event, Fate, FateRow, FetchAnswer,
     FinishAnswer, IssueAnswer, Kind, NotedError, PollAnswer, Portal, Reply, StartAnswer, Step,
@@ -9,7 +10,7 @@ use dsa_desc::Outcome;
 use dsa_fixtures::{ENQCMD, FIRST_GROUP, NO_OP, SHARED_QUEUE};
 use dsa_regs::{Command, Fault};
 use dsa_store::Cell;
-use std::test::Fail;
+use std::process::Abort;
 
 const TICKET: Ticket = Ticket {
     cell: Cell(3),
@@ -35,7 +36,7 @@ fn zero_flags(rt: HostRuntime) {
         (SubmitAnswer::Full, Kind::Movdir64b, None),
     ];
     for &(answer, kind, flag) in &TABLE {
-        assert!(rt; answer.zf(kind) == flag);
+        claim!(&rt; answer.zf(kind) == flag);
     }
 }
 
@@ -60,7 +61,7 @@ fn stored_replies(rt: HostRuntime) {
         Reply::Clear(ClearAnswer::Cleared(NOTED)),
     ];
     for reply in &STORED {
-        assert!(rt; reply.is_stored());
+        claim!(&rt; reply.is_stored());
     }
 }
 
@@ -91,7 +92,7 @@ fn replies_that_are_not_stored(rt: HostRuntime) {
         Reply::Clear(ClearAnswer::Full),
     ];
     for reply in &UNSTORED {
-        assert!(rt; !reply.is_stored());
+        claim!(&rt; !reply.is_stored());
     }
 }
 
@@ -145,12 +146,28 @@ fn actors(rt: HostRuntime) {
         (Event::ClearError, Actor::Admin),
     ];
     for &(event, actor) in &TABLE {
-        assert!(rt; event.actor() == actor);
+        claim!(&rt; event.actor() == actor);
     }
 }
 
+// The step, once it is seen that the book has room.
+fn record(rt: &impl Abort, book: &mut Book, event: Event, reply: Reply) {
+    assert!(rt; book.history().len() < book.capacity());
+    book.record(event, reply);
+}
+
+fn add_step(rt: &impl Abort, book: &mut Book, step: Step) {
+    assert!(rt; book.history().len() < book.capacity());
+    book.add_step(step);
+}
+
+fn add_row(rt: &impl Abort, book: &mut Book, row: FateRow) {
+    assert!(rt; book.fates().len() < book.capacity());
+    book.add_row(row);
+}
+
 #[test]
-fn a_book_keeps_steps_and_rows(rt: HostRuntime) -> Result<(), Fail> {
+fn a_book_keeps_steps_and_rows(rt: HostRuntime) {
     const EVENT: Event = Event::Dispatch { engine: 0 };
     const IDLE: Reply = Reply::Dispatch(DispatchAnswer::Idle);
     const TAKEN: Step = Step {
@@ -165,23 +182,19 @@ fn a_book_keeps_steps_and_rows(rt: HostRuntime) -> Result<(), Fail> {
         reply: Reply::Submit(SubmitAnswer::Retry(Cause::AtLimit)),
     };
     const STEPS: [Step; 2] = [TAKEN, RETRY];
-    let mut book = Book::new(rt.alloc(), 2)?;
-    assert!(rt; book.capacity() == 2 && !book.is_full());
-    assert!(rt; book.history().is_empty() && book.fates().is_empty());
-    assert!(rt; book.history().len() < book.capacity());
-    book.record(EVENT, IDLE);
-    assert!(rt; book.history().is_empty());
-    assert!(rt; book.history().len() < book.capacity());
-    book.record(EVENT, TAKEN.reply);
-    assert!(rt; book.history().len() < book.capacity());
-    book.add_step(RETRY);
-    assert!(rt; book.is_full());
-    assert!(rt; book.history() == STEPS.as_slice());
-    Ok(())
+    let mut book = book(&rt, rt.alloc(), 2);
+    claim!(&rt; (book.capacity(), book.is_full()) == (2, false));
+    claim!(&rt; (book.history().len(), book.fates().len()) == (0, 0));
+    record(&rt, &mut book, EVENT, IDLE);
+    claim!(&rt; book.history().is_empty());
+    record(&rt, &mut book, EVENT, TAKEN.reply);
+    add_step(&rt, &mut book, RETRY);
+    claim!(&rt; book.is_full());
+    claim!(&rt; book.history() == STEPS.as_slice());
 }
 
 #[test]
-fn a_book_gives_the_first_row_of_a_name(rt: HostRuntime) -> Result<(), Fail> {
+fn a_book_gives_the_first_row_of_a_name(rt: HostRuntime) {
     const FIRST: FateRow = FateRow {
         name: 4,
         parent: None,
@@ -199,12 +212,10 @@ fn a_book_gives_the_first_row_of_a_name(rt: HostRuntime) -> Result<(), Fail> {
     };
     const ROWS: [FateRow; 3] = [FIRST, OTHER, AGAIN];
     const FOUND: [Option<FateRow>; 3] = [Some(FIRST), Some(OTHER), None];
-    let mut book = Book::new(rt.alloc(), 3)?;
+    let mut book = book(&rt, rt.alloc(), 3);
     for row in &ROWS {
-        assert!(rt; book.fates().len() < book.capacity());
-        book.add_row(*row);
+        add_row(&rt, &mut book, *row);
     }
-    assert!(rt; book.fates() == ROWS.as_slice());
-    assert!(rt; [book.fate(4), book.fate(1), book.fate(0)] == FOUND);
-    Ok(())
+    claim!(&rt; book.fates() == ROWS.as_slice());
+    claim!(&rt; [book.fate(4), book.fate(1), book.fate(0)] == FOUND);
 }

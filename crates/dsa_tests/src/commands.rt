@@ -6,11 +6,10 @@ ghost use Rattle.dsa_queues.specs.Queues.{IsCounted};
 ghost use Rattle.dsa_tests.specs.Parts.{Agree, AllAgree};
 
 use crate::engines::{fetch, see_places, start_one};
-use crate::setup::{book, numbers, store, written};
+use crate::setup::{book, fetched, leave, numbers, store, written};
 use dsa_admin::Admin;
 use dsa_book::{
-    Book, DispatchAnswer, Fate, FateRow, FetchAnswer, FinishAnswer, IssueAnswer, PollAnswer,
-    StartAnswer, Ticket,
+    Book, DispatchAnswer, Fate, FateRow, FinishAnswer, IssueAnswer, PollAnswer, StartAnswer, Ticket,
 };
 use dsa_desc::{Descriptor, Outcome};
 use dsa_engines::Engines;
@@ -108,7 +107,7 @@ fn issue_each<S: EntryStore>(rt: &impl Abort, parts: &mut Parts<S>, rows: &[(Com
     ensures { AllAgree parts.new.queues parts.new.engines parts.new.admin (S.cells parts.new.store) (S.content parts.new.store) }
 {
     for (command, answer) in rows {
-        assert!(rt; issue(rt, parts, *command) == *answer);
+        claim!(rt; issue(rt, parts, *command) == *answer);
     }
 }
 
@@ -136,7 +135,7 @@ fn push<S: EntryStore>(
         panic!(rt; "no cell is free")
     };
     parts.queues.entered(queue);
-    assert!(rt; parts.store.list_of(cell) == Some(ListId(queue)));
+    claim!(rt; parts.store.list_of(cell) == Some(ListId(queue)));
     Ticket {
         cell,
         name: entry.name,
@@ -176,7 +175,7 @@ fn refused<S: EntryStore>(rt: &impl Abort, store: S, book: Book) {
     ];
     let mut parts = parts_of(rt, [WITHOUT_ENGINE, SECOND_GROUP], store, book);
     issue_each(rt, &mut parts, &COMMANDS);
-    assert!(rt; parts.admin.active().is_none());
+    claim!(rt; parts.admin.active().is_none());
 }
 
 #[test]
@@ -195,8 +194,8 @@ fn abort_each<S: EntryStore>(
 {
     for (command, aborted, left) in rows {
         let answer = IssueAnswer::Ended { aborted: *aborted };
-        assert!(rt; issue(rt, parts, *command) == answer);
-        assert!(rt; numbers(rt, &parts.queues) == *left);
+        claim!(rt; issue(rt, parts, *command) == answer);
+        claim!(rt; numbers(rt, &parts.queues) == *left);
     }
 }
 
@@ -217,18 +216,20 @@ fn aborted<S: EntryStore>(rt: &impl Abort, store: S, book: Book) {
     let mut parts = parts_of(rt, [FIRST_GROUP, SECOND_GROUP], store, book);
     issue_each(rt, &mut parts, &ENABLES);
     push_each(rt, &mut parts, &ENTRIES);
-    assert!(rt; numbers(rt, &parts.queues) == [3, 2]);
+    claim!(rt; numbers(rt, &parts.queues) == [3, 2]);
     abort_each(rt, &mut parts, &ABORTS);
     were_aborted(rt, &parts.book);
     sizes_are_kept(rt, &parts.queues);
     issue_each(rt, &mut parts, &RESET);
-    assert!(rt; parts.queues.device() == Phase::Off && parts.queues.next_name() == 5);
+    claim!(rt; parts.queues.device() == Phase::Off);
+    claim!(rt; parts.queues.next_name() == 5);
 }
 
 // A reset of queues keeps their sizes alone.
 fn sizes_are_kept(rt: &impl Abort, queues: &Queues) {
-    assert!(rt; queues.queue(0).size == 4 && queues.queue(0).priority == 0);
-    assert!(rt; queues.phase(1) == Phase::Off);
+    claim!(rt; queues.queue(0).size == 4);
+    claim!(rt; queues.queue(0).priority == 0);
+    claim!(rt; queues.phase(1) == Phase::Off);
 }
 
 // Each entry has the number of the command that took it out.
@@ -240,7 +241,7 @@ fn were_aborted(rt: &impl Abort, book: &Book) {
             parent: None,
             fate: Fate::Aborted(number),
         };
-        assert!(rt; book.fate(name) == Some(row));
+        claim!(rt; book.fate(name) == Some(row));
     }
 }
 
@@ -271,7 +272,7 @@ fn take<S: EntryStore>(rt: &impl Abort, parts: &mut Parts<S>, ticket: Ticket)
     } = parts;
     assert!(rt; admin.active().is_none());
     let taken = DispatchAnswer::Taken { ticket, queue: 0 };
-    assert!(rt; engines.dispatch(queues, store, 0) == taken);
+    claim!(rt; engines.dispatch(queues, store, 0) == taken);
 }
 
 // A member of its batch runs on the first engine, while no command is active.
@@ -287,11 +288,9 @@ fn run_member<S: EntryStore>(rt: &impl Abort, parts: &mut Parts<S>) -> Ticket
         book,
     } = parts;
     assert!(rt; admin.active().is_none());
-    let FetchAnswer::Fetched(member) = fetch(rt, queues, engines, store, MOVE) else {
-        panic!(rt; "nothing was fetched");
-    };
+    let member = fetched(rt, fetch(rt, queues, engines, store, MOVE));
     let answer = start_one(rt, queues, engines, store, book);
-    assert!(rt; answer == StartAnswer::Started(member));
+    claim!(rt; answer == StartAnswer::Started(member));
     member
 }
 
@@ -332,7 +331,7 @@ fn drained<S: EntryStore>(rt: &impl Abort, store: S, book: Book) {
         (Command::AbortAll, IssueAnswer::Refused(Fault::Busy)),
     ];
     let mut parts = parts_of(rt, [FIRST_GROUP, SECOND_GROUP], store, book);
-    assert!(rt; poll(&mut parts) == PollAnswer::Nothing);
+    claim!(rt; poll(&mut parts) == PollAnswer::Nothing);
     issue_each(rt, &mut parts, &ENABLES);
     let batch = push(rt, &mut parts, 0, batch_of(2).with_pasid(5));
     take(rt, &mut parts, batch);
@@ -340,13 +339,14 @@ fn drained<S: EntryStore>(rt: &impl Abort, store: S, book: Book) {
     end(rt, &mut parts, first);
     let member = run_member(rt, &mut parts);
     issue_each(rt, &mut parts, &DRAINS);
-    assert!(rt; poll(&mut parts) == PollAnswer::Active);
+    claim!(rt; poll(&mut parts) == PollAnswer::Active);
     push(rt, &mut parts, 0, MOVE.with_pasid(5));
     end(rt, &mut parts, member);
-    assert!(rt; poll(&mut parts) == PollAnswer::Active);
+    claim!(rt; poll(&mut parts) == PollAnswer::Active);
     end(rt, &mut parts, batch);
-    assert!(rt; poll(&mut parts) == PollAnswer::Finished);
-    assert!(rt; parts.admin.active().is_none() && numbers(rt, &parts.queues) == [1, 0]);
+    claim!(rt; poll(&mut parts) == PollAnswer::Finished);
+    claim!(rt; parts.admin.active().is_none());
+    claim!(rt; numbers(rt, &parts.queues) == [1, 0]);
 }
 
 #[test]
@@ -364,22 +364,25 @@ fn disabled<S: EntryStore>(rt: &impl Abort, store: S, book: Book) {
     issue_each(rt, &mut parts, &ENABLES);
     push(rt, &mut parts, 0, MOVE);
     issue_each(rt, &mut parts, &DISABLE);
-    assert!(rt; poll(&mut parts) == PollAnswer::Active);
-    assert!(rt; parts.queues.phase(0) == Phase::Stopping);
+    claim!(rt; poll(&mut parts) == PollAnswer::Active);
+    claim!(rt; parts.queues.phase(0) == Phase::Stopping);
     front_leaves(rt, &mut parts);
 }
 
 // The disable is over once the number of its queue is 0.
 fn front_leaves<S: EntryStore>(rt: &impl Abort, parts: &mut Parts<S>) {
-    assert!(rt; parts.store.lists() == LISTS);
-    let front = parts.store.front(ListId(0));
-    assert!(rt; front.is_some_and(|cell| parts.store.unlink(cell).is_some()));
-    assert!(rt; numbers(rt, &parts.queues) == [1, 0]);
-    assert!(rt; parts.queues.has_queue(0));
-    assert!(rt; parts.queues.held_of(0) > 0);
-    parts.queues.left(0);
-    assert!(rt; parts.admin.poll(&mut parts.queues) == PollAnswer::Finished);
-    assert!(rt; parts.queues.phase(0) == Phase::Off);
+    unlink_front(rt, &mut parts.store);
+    claim!(rt; numbers(rt, &parts.queues) == [1, 0]);
+    leave(rt, &mut parts.queues, 0);
+    claim!(rt; parts.admin.poll(&mut parts.queues) == PollAnswer::Finished);
+    claim!(rt; parts.queues.phase(0) == Phase::Off);
+}
+
+// What waits in front of the first queue is taken out.
+fn unlink_front<S: EntryStore>(rt: &impl Abort, store: &mut S) {
+    assert!(rt; store.lists() == LISTS);
+    let front = store.front(ListId(0)).expect(rt, "an entry that waits");
+    claim!(rt; store.unlink(front).is_some());
 }
 
 #[test]

@@ -12,7 +12,7 @@ use dsa_desc::opcode::{
 };
 use dsa_desc::{Descriptor, DescriptorFlags, Outcome, QueueLimits, enqcmd_image};
 use dsa_fixtures::LIMITS;
-use std::test::Fail;
+use std::fmt::InlineText;
 
 /// 64 bytes with these first eight and this size, the addresses and all after the size as a driver
 /// may leave them.
@@ -99,7 +99,7 @@ fn reads_fields(rt: HostRuntime) {
             op,
             size: number,
         };
-        assert!(rt; Descriptor::parse(&drivers_bytes(head, size)) == want);
+        claim!(&rt; Descriptor::parse(&drivers_bytes(head, size)) == want);
     }
 }
 
@@ -117,7 +117,7 @@ fn accepts_drivers_descriptors(rt: HostRuntime) {
         let descriptor = Descriptor::parse(&drivers_bytes(head, size));
         let status = descriptor.status(&LIMITS, false, Outcome::Success);
         let found = (descriptor.is_well_formed(&LIMITS, false), status);
-        assert!(rt; found == (true, DSA_COMP_SUCCESS));
+        claim!(&rt; found == (true, DSA_COMP_SUCCESS));
     }
 }
 
@@ -132,11 +132,11 @@ fn writes_images(rt: HostRuntime) {
     for &(pasid, head) in &ROWS {
         let want = drivers_bytes(head, [0, 0x10, 0, 0]);
         let image = enqcmd_image(&source, pasid);
-        assert!(rt; image == want);
+        claim!(&rt; image == want);
         let descriptor = Descriptor::parse(&source).with_pasid(pasid);
-        assert!(rt; Descriptor::parse(&image) == descriptor);
+        claim!(&rt; Descriptor::parse(&image) == descriptor);
     }
-    assert!(rt; Descriptor::parse(&enqcmd_image(&source, 5)).pasid == 5);
+    claim!(&rt; Descriptor::parse(&enqcmd_image(&source, 5)).pasid == 5);
 }
 
 #[test]
@@ -170,7 +170,7 @@ fn checks(rt: HostRuntime) {
         let descriptor = submitted(op, flags, size);
         let status = descriptor.check(&LIMITS, member);
         let formed = descriptor.is_well_formed(&LIMITS, member);
-        assert!(rt; (status, formed, descriptor.is_fenced()) == (want, want == 0, flags == 1));
+        claim!(&rt; (status, formed, descriptor.is_fenced()) == (want, want == 0, flags == 1));
     }
 }
 
@@ -190,7 +190,7 @@ fn needs_read_buffers(rt: HostRuntime) {
         (DSA_OPCODE_NOOP, 4096, 0),
     ];
     for &(op, size, want) in &ROWS {
-        assert!(rt; submitted(op, 0, size).need(&LIMITS, false) == want);
+        claim!(&rt; submitted(op, 0, size).need(&LIMITS, false) == want);
     }
 }
 
@@ -216,7 +216,7 @@ fn completes(rt: HostRuntime) {
         (DSA_OPCODE_DRAIN, 0, Outcome::PageFault, DSA_COMP_SUCCESS),
     ];
     for &(op, size, outcome, want) in &ROWS {
-        assert!(rt; submitted(op, 0, size).status(&LIMITS, false, outcome) == want);
+        claim!(&rt; submitted(op, 0, size).status(&LIMITS, false, outcome) == want);
     }
 }
 
@@ -235,7 +235,7 @@ fn sorts_operations(rt: HostRuntime) {
         let descriptor = submitted(op, 0, 2);
         let (batch, drain) = (descriptor.is_batch(), descriptor.is_drain());
         let found = (batch, drain, descriptor.is_transfer());
-        assert!(rt; found == (is_batch, is_drain, is_transfer));
+        claim!(&rt; found == (is_batch, is_drain, is_transfer));
     }
 }
 
@@ -253,7 +253,7 @@ fn sorts_lawful_operations(rt: HostRuntime) {
         let descriptor = submitted(op, flags, 2);
         let batch = descriptor.is_lawful_batch(&LIMITS, member);
         let drain = descriptor.is_lawful_drain(&LIMITS, member);
-        assert!(rt; (batch, drain) == (is_batch, is_drain));
+        claim!(&rt; (batch, drain) == (is_batch, is_drain));
     }
 }
 
@@ -273,7 +273,7 @@ fn takes_any_shift(rt: HostRuntime) {
             max_batch_shift: 0,
             max_xfer_shift: shift,
         };
-        assert!(rt; submitted(DSA_OPCODE_MEMMOVE, 0, size).check(&limits, false) == want);
+        claim!(&rt; submitted(DSA_OPCODE_MEMMOVE, 0, size).check(&limits, false) == want);
     }
 }
 
@@ -298,17 +298,17 @@ fn names_flags(rt: HostRuntime) {
     ];
     for &(name, bits) in &ROWS {
         let flag = DescriptorFlags::from_name(name);
-        assert!(rt; flag.map(|flag| flag.bits()) == Some(bits));
+        claim!(&rt; flag.map(|flag| flag.bits()) == Some(bits));
         let flags = submitted(DSA_OPCODE_NOOP, bits, 0).flags();
-        assert!(rt; flags.bits() == bits);
+        claim!(&rt; flags.bits() == bits);
     }
     let flags = submitted(DSA_OPCODE_NOOP, 0x0c, 0).flags();
-    assert!(rt; flags.contains(DescriptorFlags::CRAV | DescriptorFlags::RCR));
-    assert!(rt; !flags.intersects(DescriptorFlags::FENCE | DescriptorFlags::BOF));
+    claim!(&rt; flags.contains(DescriptorFlags::CRAV | DescriptorFlags::RCR));
+    claim!(&rt; !flags.intersects(DescriptorFlags::FENCE | DescriptorFlags::BOF));
 }
 
 #[test]
-fn prints_one_line(rt: HostRuntime) -> Result<(), Fail> {
+fn prints_one_line(rt: HostRuntime) {
     const ROWS: [(u8, u32, u32, u32, &str); 8] = [
         (
             DSA_OPCODE_MEMMOVE,
@@ -369,10 +369,9 @@ fn prints_one_line(rt: HostRuntime) -> Result<(), Fail> {
     ];
     for &(op, flags, size, pasid, want) in &ROWS {
         let descriptor = submitted(op, flags, size).with_pasid(pasid);
-        let line = format!(in rt.alloc(); "{descriptor}")?;
-        assert!(rt; line.as_str() == want);
+        let line = InlineText::<96>::of(descriptor);
+        claim!(&rt; line.as_str() == want);
     }
-    let flags = format!(in rt.alloc(); "{}", DescriptorFlags::FENCE)?;
-    assert!(rt; flags.as_str() == "0x000001");
-    Ok(())
+    let flags = InlineText::<8>::of(DescriptorFlags::FENCE);
+    claim!(&rt; flags.as_str() == "0x000001");
 }

@@ -1,6 +1,6 @@
 //! Each call of a device over a store of vectors: queue 0 is shared, with its group and its engine, and queue 1 is left Off.
 
-use crate::setup::store;
+use crate::setup::{fetched, store};
 use dsa_book::{
     BatchNote, Cause, ClearAnswer, DispatchAnswer, Event, Fate, FetchAnswer, FinishAnswer,
     IssueAnswer, Kind, NotedError, PollAnswer, Portal, Reply, StartAnswer, Step, SubmitAnswer,
@@ -15,8 +15,8 @@ use dsa_fixtures::{
 use dsa_regs::{Caps, Command, Fault, Phase, QueueConfig};
 use dsa_store::{Cell, Entry, EntryStore, ListId, PlainStore, Walk};
 use std::alloc::Global;
+use std::fmt::InlineText;
 use std::process::Abort;
-use std::test::Fail;
 
 fn device(rt: &impl Abort, alloc: Global, capacity: u64) -> Device<PlainStore> {
     match Device::new(alloc, store(rt, alloc), CAPS, capacity) {
@@ -27,32 +27,34 @@ fn device(rt: &impl Abort, alloc: Global, capacity: u64) -> Device<PlainStore> {
 
 // The fault that comes over a store, and the store as it came back.
 fn refused(
-    rt: &HostRuntime,
+    rt: &impl Abort,
+    alloc: Global,
     caps: Caps,
     capacity: u64,
     store: PlainStore,
-) -> Result<(MakeFault, PlainStore), Fail> {
-    match Device::new(rt.alloc(), store, caps, capacity) {
-        Ok(_) => Err("the device was made")?,
-        Err(refused) => Ok(refused),
+) -> (MakeFault, PlainStore) {
+    match Device::new(alloc, store, caps, capacity) {
+        Ok(_) => panic!(rt; "the device was made"),
+        Err(refused) => refused,
     }
 }
 
 // The fault that comes over an empty store of so many lists and cells, and what the store has as it came back: its lists,
 // its cells and those that are free.
 fn refusal(
-    rt: &HostRuntime,
+    rt: &impl Abort,
+    alloc: Global,
     caps: Caps,
     capacity: u64,
     (lists, cells): (u16, u32),
-) -> Result<(MakeFault, u16, u32, u32), Fail> {
-    let store = PlainStore::new(rt.alloc(), lists, cells)?;
-    let (fault, back) = refused(rt, caps, capacity, store)?;
-    Ok((fault, back.lists(), back.cells(), back.free()))
+) -> (MakeFault, u16, u32, u32) {
+    let store = PlainStore::new(alloc, lists, cells).expect(rt, "memory for a store");
+    let (fault, back) = refused(rt, alloc, caps, capacity, store);
+    (fault, back.lists(), back.cells(), back.free())
 }
 
 #[test]
-fn faults_in_their_order(rt: HostRuntime) -> Result<(), Fail> {
+fn faults_in_their_order(rt: HostRuntime) {
     const NONE: Caps = Caps { queues: 0, ..CAPS };
     const CASES: [(Caps, u64, u16, u32, MakeFault); 4] = [
         (NONE, 1_048_577, LISTS, CELLS - 1, MakeFault::BadCaps),
@@ -61,13 +63,13 @@ fn faults_in_their_order(rt: HostRuntime) -> Result<(), Fail> {
         (CAPS, 8, LISTS + 1, CELLS, MakeFault::BadStore),
     ];
     for &(caps, capacity, lists, cells, fault) in &CASES {
-        assert!(rt; refusal(&rt, caps, capacity, (lists, cells))? == (fault, lists, cells, cells));
+        let found = refusal(&rt, rt.alloc(), caps, capacity, (lists, cells));
+        claim!(&rt; found == (fault, lists, cells, cells));
     }
-    Ok(())
 }
 
 #[test]
-fn sentences_of_faults(rt: HostRuntime) -> Result<(), Fail> {
+fn sentences_of_faults(rt: HostRuntime) {
     const SENTENCES: [(MakeFault, &str); 4] = [
         (
             MakeFault::BadCaps,
@@ -84,14 +86,19 @@ fn sentences_of_faults(rt: HostRuntime) -> Result<(), Fail> {
         (MakeFault::OutOfMemory, "out of memory"),
     ];
     for &(fault, sentence) in &SENTENCES {
-        let text = format!(in rt.alloc(); "{fault}")?;
-        assert!(rt; text.as_str() == sentence);
+        let text = InlineText::<96>::of(fault);
+        claim!(&rt; text.as_str() == sentence);
     }
-    Ok(())
+}
+
+// The entry in the first list of the store.
+fn push(rt: &impl Abort, store: &mut PlainStore, entry: Entry) -> Cell {
+    assert!(rt; store.lists() == LISTS);
+    store.push_back(ListId(0), entry).expect(rt, "a free cell")
 }
 
 #[test]
-fn store_with_an_entry_comes_back(rt: HostRuntime) -> Result<(), Fail> {
+fn store_with_an_entry_comes_back(rt: HostRuntime) {
     const ENTRY: Entry = Entry {
         name: 7,
         parent: None,
@@ -99,22 +106,22 @@ fn store_with_an_entry_comes_back(rt: HostRuntime) -> Result<(), Fail> {
         queue: 0,
         running: false,
     };
-    let mut store = PlainStore::new(rt.alloc(), LISTS, CELLS)?;
-    assert!(rt; store.lists() == LISTS);
-    let Some(cell) = store.push_back(ListId(0), ENTRY) else {
-        return Err("no cell is free")?;
-    };
-    let (found, back) = refused(&rt, CAPS, 8, store)?;
-    assert!(rt; found == MakeFault::BadStore);
-    assert!(rt; back.get(cell) == Some(ENTRY) && back.free() == CELLS - 1);
-    Ok(())
+    let mut store = store(&rt, rt.alloc());
+    let cell = push(&rt, &mut store, ENTRY);
+    let (found, back) = refused(&rt, rt.alloc(), CAPS, 8, store);
+    claim!(&rt; found == MakeFault::BadStore);
+    claim!(&rt; back.get(cell) == Some(ENTRY));
+    claim!(&rt; back.free() == CELLS - 1);
 }
 
 // Nothing has happened to the device.
 fn is_unused(rt: &impl Abort, device: &Device<PlainStore>) {
-    assert!(rt; device.noted().is_none() && device.active().is_none());
-    assert!(rt; device.next_name() == 0 && device.fate(0).is_none());
-    assert!(rt; device.history().is_empty() && device.fates().is_empty());
+    claim!(rt; device.noted().is_none());
+    claim!(rt; device.active().is_none());
+    claim!(rt; device.next_name() == 0);
+    claim!(rt; device.fate(0).is_none());
+    claim!(rt; device.history().is_empty());
+    claim!(rt; device.fates().is_empty());
 }
 
 // What waits in queue 0, the read buffers that the first group uses, and all that is held.
@@ -127,9 +134,11 @@ fn new_device(rt: HostRuntime) {
     let device = device(&rt, rt.alloc(), 8);
     device.state_is_replay();
     is_unused(&rt, &device);
-    assert!(rt; counts(&device) == (Some(0), Some(0), 0));
-    assert!(rt; device.occupancy(2).is_none() && device.used(2).is_none());
-    assert!(rt; device.caps() == CAPS && device.capacity() == 8);
+    claim!(&rt; counts(&device) == (Some(0), Some(0), 0));
+    claim!(&rt; device.occupancy(2).is_none());
+    claim!(&rt; device.used(2).is_none());
+    claim!(&rt; device.caps() == CAPS);
+    claim!(&rt; device.capacity() == 8);
 }
 
 // The step of an event by the call for such events.
@@ -161,7 +170,7 @@ fn call(device: &mut Device<PlainStore>, event: Event) -> Reply {
 // The events come in turn, each with its reply.
 fn replies(rt: &impl Abort, device: &mut Device<PlainStore>, rows: &[(Event, Reply)]) {
     for (event, reply) in rows {
-        assert!(rt; call(device, *event) == *reply);
+        claim!(rt; call(device, *event) == *reply);
     }
 }
 
@@ -256,9 +265,9 @@ fn steps_while_off(rt: HostRuntime) {
     ];
     let mut device = device(&rt, rt.alloc(), 8);
     replies(&rt, &mut device, &SUBMITTED);
-    assert!(rt; device.noted() == Some(NOTED));
+    claim!(&rt; device.noted() == Some(NOTED));
     replies(&rt, &mut device, &STEPS);
-    assert!(rt; device.history().len() == 5);
+    claim!(&rt; device.history().len() == 5);
 }
 
 #[test]
@@ -282,7 +291,7 @@ fn no_room_for_any_step(rt: HostRuntime) {
     ];
     let mut device = device(&rt, rt.alloc(), 0);
     replies(&rt, &mut device, &STEPS);
-    assert!(rt; device.history().len() == 0);
+    claim!(&rt; device.history().len() == 0);
 }
 
 // A Memory Move of two pages.
@@ -301,7 +310,7 @@ fn submission(desc: Descriptor) -> Event {
 fn enabled(rt: &impl Abort, alloc: Global, capacity: u64) -> Device<PlainStore> {
     let mut device = device(rt, alloc, capacity);
     let mut steps = Vec::new(alloc);
-    assert!(rt; device.run(&ENABLED, &mut steps).is_ok());
+    claim!(rt; device.run(&ENABLED, &mut steps).is_ok());
     device
 }
 
@@ -333,10 +342,11 @@ fn is_ended(ticket: Ticket, outcome: Outcome, answer: FinishAnswer) -> (Event, R
 fn move_from_submission_to_fate(rt: HostRuntime) {
     let mut device = enabled(&rt, rt.alloc(), 7);
     let ticket = accepted(&rt, &mut device, MOVE);
-    assert!(rt; ticket.name == 0 && counts(&device) == (Some(1), Some(0), 1));
+    claim!(&rt; ticket.name == 0);
+    claim!(&rt; counts(&device) == (Some(1), Some(0), 1));
     let idle = (DISPATCH, Reply::Dispatch(DispatchAnswer::Idle));
     replies(&rt, &mut device, &[is_taken(ticket), idle]);
-    assert!(rt; counts(&device) == (Some(0), Some(2), 1));
+    claim!(&rt; counts(&device) == (Some(0), Some(2), 1));
     ends_in_the_last_place(&rt, &mut device, ticket);
 }
 
@@ -346,8 +356,10 @@ fn ends_in_the_last_place(rt: &impl Abort, device: &mut Device<PlainStore>, tick
     let full = is_ended(ticket, Outcome::Success, FinishAnswer::Full);
     let last = (Event::Poll, Reply::Poll(PollAnswer::Full));
     replies(rt, device, &[done, full, last]);
-    assert!(rt; counts(device) == (Some(0), Some(0), 0) && device.next_name() == 1);
-    assert!(rt; device.fates().len() == 1 && device.fate(0) == Some(Fate::Completed(0x03)));
+    claim!(rt; counts(device) == (Some(0), Some(0), 0));
+    claim!(rt; device.next_name() == 1);
+    claim!(rt; device.fates().len() == 1);
+    claim!(rt; device.fate(0) == Some(Fate::Completed(0x03)));
 }
 
 // A Drain ends after what was submitted before it, whatever the outcome.
@@ -365,7 +377,8 @@ fn drain_waits_for_an_entry(rt: HostRuntime) {
         is_ended(drain, Outcome::PageFault, DONE),
     ];
     replies(&rt, &mut device, &steps);
-    assert!(rt; device.fates().len() == 2 && device.held() == 0);
+    claim!(&rt; device.fates().len() == 2);
+    claim!(&rt; device.held() == 0);
 }
 
 #[test]
@@ -379,12 +392,12 @@ fn drain_ends_with_its_batch(rt: HostRuntime) {
     let mut device = enabled(&rt, rt.alloc(), 64);
     let ticket = accepted(&rt, &mut device, batch_of(2));
     replies(&rt, &mut device, &[is_taken(ticket), DRAIN_ALL]);
-    assert!(rt; device.active() == Some(Command::DrainAll));
+    claim!(&rt; device.active() == Some(Command::DrainAll));
     for _ in 0..2 {
         member_ends(&rt, &mut device, ticket);
     }
     batch_ends(&rt, &mut device, ticket);
-    assert!(rt; device.active().is_none());
+    claim!(&rt; device.active().is_none());
 }
 
 // The engine works on a batch, of which it fetched one member, while a No-op waits in the queue. The tickets are those of
@@ -393,9 +406,7 @@ fn works(rt: &impl Abort, device: &mut Device<PlainStore>) -> [Ticket; 3] {
     let batch = accepted(rt, device, batch_of(2));
     replies(rt, device, &[is_taken(batch)]);
     let no_op = accepted(rt, device, NO_OP);
-    let FetchAnswer::Fetched(member) = device.fetch(0, MOVE) else {
-        panic!(rt; "nothing was fetched");
-    };
+    let member = fetched(rt, device.fetch(0, MOVE));
     [batch, member, no_op]
 }
 
@@ -423,38 +434,38 @@ fn readers_of_what_is_configured(rt: HostRuntime) {
     let mut device = enabled(&rt, rt.alloc(), 64);
     let _ = works(&rt, &mut device);
     let disable = Command::DisableWq(FIRST_QUEUE);
-    assert!(rt; device.issue(disable) == IssueAnswer::Active);
+    claim!(&rt; device.issue(disable) == IssueAnswer::Active);
     let whole = (device.phase(), device.is_full(), device.awaited());
-    assert!(rt; whole == (Phase::On, false, Some(3)));
+    claim!(&rt; whole == (Phase::On, false, Some(3)));
     let phases = [
         device.queue_phase(0),
         device.queue_phase(1),
         device.queue_phase(2),
     ];
-    assert!(rt; phases == [Some(Phase::Stopping), Some(Phase::Off), None]);
+    claim!(&rt; phases == [Some(Phase::Stopping), Some(Phase::Off), None]);
     let queues = [
         device.queue_config(0),
         device.queue_config(1),
         device.queue_config(2),
     ];
-    assert!(rt; queues == [Some(QUEUE), Some(QueueConfig::default()), None]);
-    assert!(rt; [device.group_config(0), device.group_config(2)] == [Some(GROUP), None]);
+    claim!(&rt; queues == [Some(QUEUE), Some(QueueConfig::default()), None]);
+    claim!(&rt; [device.group_config(0), device.group_config(2)] == [Some(GROUP), None]);
 }
 
 #[test]
 fn readers_of_entries(rt: HostRuntime) {
     let mut device = enabled(&rt, rt.alloc(), 64);
     let [batch, member, no_op] = works(&rt, &mut device);
-    assert!(rt; device.awaited().is_none());
-    assert!(rt; device.issue(Command::DrainAll) == IssueAnswer::Active);
-    assert!(rt; device.awaited() == Some(2));
+    claim!(&rt; device.awaited().is_none());
+    claim!(&rt; device.issue(Command::DrainAll) == IssueAnswer::Active);
+    claim!(&rt; device.awaited() == Some(2));
     let found = [
         tickets(&rt, device.in_progress(0)),
         tickets(&rt, device.members(0)),
         tickets(&rt, device.waiting(0)),
         tickets(&rt, device.in_progress(1)),
     ];
-    assert!(rt;
+    claim!(&rt;
         found
             == [
                 (Some(batch), None),
@@ -464,10 +475,10 @@ fn readers_of_entries(rt: HostRuntime) {
             ]
     );
     let walks = (device.in_progress(2), device.members(2), device.waiting(2));
-    assert!(rt; matches!(walks, (None, None, None)));
+    claim!(&rt; matches!(walks, (None, None, None)));
     let running = [device.in_progress_count(0), device.in_progress_count(2)];
-    assert!(rt; running == [Some(1), None]);
-    assert!(rt; [device.member_count(0), device.member_count(2)] == [Some(1), None]);
+    claim!(&rt; running == [Some(1), None]);
+    claim!(&rt; [device.member_count(0), device.member_count(2)] == [Some(1), None]);
 }
 
 #[test]
@@ -486,23 +497,22 @@ fn readers_by_place_and_ticket(rt: HostRuntime) {
         device.member_at(0, 0).map(ticket_of),
         device.waiting_at(0, 0).map(ticket_of),
     ];
-    assert!(rt; found == [Some(batch), Some(member), Some(no_op)]);
+    claim!(&rt; found == [Some(batch), Some(member), Some(no_op)]);
     let past = [
         device.in_progress_at(0, 1),
         device.member_at(0, 1),
         device.waiting_at(0, 1),
     ];
-    assert!(rt; past == [None; 3] && device.in_progress_at(2, 0).is_none());
-    assert!(rt; [device.batch(0), device.batch(1)] == [Some(NOTE), None]);
+    claim!(&rt; past == [None; 3]);
+    claim!(&rt; device.in_progress_at(2, 0).is_none());
+    claim!(&rt; [device.batch(0), device.batch(1)] == [Some(NOTE), None]);
     let other = Ticket { name: 7, ..member };
-    assert!(rt; [device.holds(member), device.holds(other)] == [true, false]);
+    claim!(&rt; [device.holds(member), device.holds(other)] == [true, false]);
 }
 
 // A member is fetched, started and ended, and its batch cannot end before it.
 fn member_ends(rt: &impl Abort, device: &mut Device<PlainStore>, ticket: Ticket) {
-    let FetchAnswer::Fetched(member) = device.fetch(0, MOVE) else {
-        panic!(rt; "nothing was fetched");
-    };
+    let member = fetched(rt, device.fetch(0, MOVE));
     let started = (START, Reply::Start(StartAnswer::Started(member)));
     let early = is_ended(ticket, Outcome::Success, FinishAnswer::NotReady);
     let done = is_ended(member, Outcome::Success, FinishAnswer::Done(0x01));
@@ -530,9 +540,10 @@ fn second_is_accepted(rt: &impl Abort, steps: &[Step], event: Event) {
         (4, Reply::Submit(SubmitAnswer::Full)),
     ];
     assert!(rt; steps.len() == 5);
-    assert!(rt; matches!(steps[1].reply, Reply::Submit(SubmitAnswer::Accepted(_))));
+    claim!(rt; matches!(steps[1].reply, Reply::Submit(SubmitAnswer::Accepted(_))));
     for &(k, reply) in &REPLIES {
-        assert!(rt; steps.get(k) == Some(&Step { event, reply }));
+        let step = Step { event, reply };
+        claim!(rt; steps.get(k) == Some(&step));
     }
 }
 
@@ -541,7 +552,7 @@ fn run_of_events(rt: HostRuntime) {
     let mut device = enabled(&rt, rt.alloc(), 7);
     let mut steps = Vec::new(rt.alloc());
     let event = submission(MOVE);
-    assert!(rt; device.run(&[event; 5], &mut steps).is_ok());
+    claim!(&rt; device.run(&[event; 5], &mut steps).is_ok());
     second_is_accepted(&rt, &steps, event);
-    assert!(rt; device.history().len() == 7);
+    claim!(&rt; device.history().len() == 7);
 }

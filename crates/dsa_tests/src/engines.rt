@@ -7,7 +7,7 @@ ghost use Rattle.dsa_queues.specs.Queues.{IsCounted, IsStoreFor};
 ghost use Rattle.dsa_engines.specs.Engines.{IsInPlace};
 ghost use Rattle.dsa_tests.specs.Parts.{Agree};
 
-use crate::setup::{book, enabled, numbers, store};
+use crate::setup::{book, enabled, fetched, numbers, store};
 use dsa_book::{
     Book, DispatchAnswer, Fate, FateRow, FetchAnswer, FinishAnswer, StartAnswer, Ticket,
 };
@@ -168,20 +168,20 @@ pub fn fetch<S: EntryStore>(
 fn one_runs_at_a_time<S: EntryStore>(rt: &impl Abort, store: &mut S, book: &mut Book) {
     let mut queues = enabled(rt, GROUPS);
     let mut engines = enabled_engines(rt, &queues, store);
-    assert!(rt; engines.dispatch(&queues, store, 0) == DispatchAnswer::Idle);
+    claim!(rt; engines.dispatch(&queues, store, 0) == DispatchAnswer::Idle);
     let cell = put(rt, &mut queues, &engines, store, entry(10, 1, LARGE_MOVE));
     let second = put(rt, &mut queues, &engines, store, entry(11, 0, MOVE));
     let ticket = Ticket { cell, name: 10 };
     let taken = DispatchAnswer::Taken { ticket, queue: 1 };
-    assert!(rt; engines.dispatch(&queues, store, 0) == taken);
-    assert!(rt; engines.dispatch(&queues, store, 0) == DispatchAnswer::Idle);
+    claim!(rt; engines.dispatch(&queues, store, 0) == taken);
+    claim!(rt; engines.dispatch(&queues, store, 0) == DispatchAnswer::Idle);
     first_ends(rt, &mut queues, &mut engines, store, book, ticket);
     let ticket = Ticket {
         cell: second,
         name: 11,
     };
     let taken = DispatchAnswer::Taken { ticket, queue: 0 };
-    assert!(rt; engines.dispatch(&queues, store, 0) == taken);
+    claim!(rt; engines.dispatch(&queues, store, 0) == taken);
 }
 
 // The entry of that cell and no other name ends, and has a row.
@@ -203,10 +203,10 @@ fn first_ends<S: EntryStore>(
     };
     let other = Ticket { name: 11, ..ticket };
     let gone = end(rt, queues, engines, store, book, other, Outcome::Success);
-    assert!(rt; gone == FinishAnswer::Gone);
+    claim!(rt; gone == FinishAnswer::Gone);
     let done = end(rt, queues, engines, store, book, ticket, Outcome::PageFault);
-    assert!(rt; done == FinishAnswer::Done(0x03));
-    assert!(rt; book.fate(10) == Some(ROW));
+    claim!(rt; done == FinishAnswer::Done(0x03));
+    claim!(rt; book.fate(10) == Some(ROW));
 }
 
 #[test]
@@ -230,26 +230,24 @@ fn member_fails<S: EntryStore>(
     requires { Agree queues.old engines.old (S.cells store.old) (S.content store.old) }
     ensures { Agree queues.new engines.new (S.cells store.new) (S.content store.new) }
 {
-    let FetchAnswer::Fetched(member) = fetch(rt, queues, engines, store, MOVE) else {
-        panic!(rt; "nothing was fetched");
-    };
+    let member = fetched(rt, fetch(rt, queues, engines, store, MOVE));
     let answer = start_one(rt, queues, engines, store, book);
-    assert!(rt; answer == StartAnswer::Started(member));
+    claim!(rt; answer == StartAnswer::Started(member));
     let early = end(rt, queues, engines, store, book, ticket, Outcome::PageFault);
-    assert!(rt; early == FinishAnswer::NotReady);
+    claim!(rt; early == FinishAnswer::NotReady);
     let failed = end(rt, queues, engines, store, book, member, Outcome::PageFault);
-    assert!(rt; failed == FinishAnswer::Done(0x03));
+    claim!(rt; failed == FinishAnswer::Done(0x03));
 }
 
 // A batch of two: it ends after its members, and as failed where one of them failed.
 fn batch_ends_last<S: EntryStore>(rt: &impl Abort, store: &mut S, book: &mut Book) {
     let mut queues = enabled(rt, GROUPS);
     let mut engines = enabled_engines(rt, &queues, store);
-    assert!(rt; fetch(rt, &mut queues, &mut engines, store, MOVE) == FetchAnswer::NoBatch);
+    claim!(rt; fetch(rt, &mut queues, &mut engines, store, MOVE) == FetchAnswer::NoBatch);
     let cell = put(rt, &mut queues, &engines, store, entry(20, 0, batch_of(2)));
     let ticket = Ticket { cell, name: 20 };
     let taken = DispatchAnswer::Taken { ticket, queue: 0 };
-    assert!(rt; engines.dispatch(&queues, store, 0) == taken);
+    claim!(rt; engines.dispatch(&queues, store, 0) == taken);
     for _ in 0..2 {
         member_fails(rt, &mut queues, &mut engines, store, book, ticket);
     }
@@ -268,11 +266,11 @@ fn batch_fails<S: EntryStore>(
     requires { Agree queues.old engines.old (S.cells store.old) (S.content store.old) }
 {
     let answer = fetch(rt, queues, engines, store, MOVE);
-    assert!(rt; answer == FetchAnswer::AllFetched);
+    claim!(rt; answer == FetchAnswer::AllFetched);
     let answer = start_one(rt, queues, engines, store, book);
-    assert!(rt; answer == StartAnswer::Nothing);
+    claim!(rt; answer == StartAnswer::Nothing);
     let last = end(rt, queues, engines, store, book, ticket, Outcome::PageFault);
-    assert!(rt; last == FinishAnswer::Done(0x05));
+    claim!(rt; last == FinishAnswer::Done(0x05));
 }
 
 #[test]
@@ -297,7 +295,7 @@ fn take<S: EntryStore>(
     ensures { Agree queues.now engines.new (S.cells store.new) (S.content store.new) }
 {
     let taken = DispatchAnswer::Taken { ticket, queue };
-    assert!(rt; engines.dispatch(queues, store, 0) == taken);
+    claim!(rt; engines.dispatch(queues, store, 0) == taken);
 }
 
 // The Drain ends after the first entry, and no second one is taken before that.
@@ -314,12 +312,12 @@ fn drain_waits<S: EntryStore>(
     ensures { Agree queues.new engines.new (S.cells store.new) (S.content store.new) }
 {
     let early = end(rt, queues, engines, store, book, drain, Outcome::Success);
-    assert!(rt; early == FinishAnswer::NotReady);
+    claim!(rt; early == FinishAnswer::NotReady);
     let done = end(rt, queues, engines, store, book, first, Outcome::Success);
-    assert!(rt; done == FinishAnswer::Done(0x01));
-    assert!(rt; engines.dispatch(queues, store, 0) == DispatchAnswer::Idle);
+    claim!(rt; done == FinishAnswer::Done(0x01));
+    claim!(rt; engines.dispatch(queues, store, 0) == DispatchAnswer::Idle);
     let done = end(rt, queues, engines, store, book, drain, Outcome::PageFault);
-    assert!(rt; done == FinishAnswer::Done(0x01));
+    claim!(rt; done == FinishAnswer::Done(0x01));
 }
 
 #[test]
@@ -358,14 +356,14 @@ fn member_is_counted<S: EntryStore>(
     requires { Agree queues.old engines.old (S.cells store.old) (S.content store.old) }
     ensures { Agree queues.new engines.new (S.cells store.new) (S.content store.new) }
 {
-    let FetchAnswer::Fetched(member) = fetch(rt, queues, engines, store, MOVE) else {
-        panic!(rt; "nothing was fetched");
-    };
-    assert!(rt; numbers(rt, queues) == [0, 2]);
+    let member = fetched(rt, fetch(rt, queues, engines, store, MOVE));
+    claim!(rt; numbers(rt, queues) == [0, 2]);
     let answer = start_one(rt, queues, engines, store, book);
-    assert!(rt; answer == StartAnswer::Started(member) && numbers(rt, queues) == [0, 2]);
+    claim!(rt; answer == StartAnswer::Started(member));
+    claim!(rt; numbers(rt, queues) == [0, 2]);
     let done = end(rt, queues, engines, store, book, member, Outcome::PageFault);
-    assert!(rt; done == FinishAnswer::Done(0x03) && numbers(rt, queues) == [0, 1]);
+    claim!(rt; done == FinishAnswer::Done(0x03));
+    claim!(rt; numbers(rt, queues) == [0, 1]);
 }
 
 // A batch of two of queue 1: the second member stands at a fence behind the first, which failed, and is abandoned.
@@ -375,14 +373,16 @@ fn abandoned_members<S: EntryStore>(rt: &impl Abort, store: &mut S, book: &mut B
     let cell = put(rt, &mut queues, &engines, store, entry(40, 1, batch_of(2)));
     let ticket = Ticket { cell, name: 40 };
     take(rt, &queues, &mut engines, store, ticket, 1);
-    assert!(rt; numbers(rt, &queues) == [0, 1]);
+    claim!(rt; numbers(rt, &queues) == [0, 1]);
     member_is_counted(rt, &mut queues, &mut engines, store, book);
     let answer = fetch(rt, &mut queues, &mut engines, store, FENCED_MOVE);
-    assert!(rt; matches!(answer, FetchAnswer::Fetched(_)) && numbers(rt, &queues) == [0, 2]);
+    claim!(rt; matches!(answer, FetchAnswer::Fetched(_)));
+    claim!(rt; numbers(rt, &queues) == [0, 2]);
     let answer = start_one(rt, &mut queues, &mut engines, store, book);
-    assert!(rt; answer == StartAnswer::Abandoned(1) && numbers(rt, &queues) == [0, 1]);
+    claim!(rt; answer == StartAnswer::Abandoned(1));
+    claim!(rt; numbers(rt, &queues) == [0, 1]);
     batch_fails(rt, &mut queues, &mut engines, store, book, ticket);
-    assert!(rt; numbers(rt, &queues) == [0, 0]);
+    claim!(rt; numbers(rt, &queues) == [0, 0]);
 }
 
 #[test]

@@ -3,7 +3,7 @@
 ghost use Rattle.std.specs.Prelude.{◌≡◌};
 ghost use Rattle.dsa_queues.specs.Queues.{IsCounted};
 
-use crate::setup::{enabled, numbers, store};
+use crate::setup::{enabled, leave, numbers, store};
 use dsa_book::{Cause, ClearAnswer, Kind, NotedError, Portal, SubmitAnswer, Ticket, WriteAnswer};
 use dsa_desc::Outcome;
 use dsa_fixtures::{
@@ -59,7 +59,7 @@ fn submit_each<S: EntryStore>(rt: &impl Abort, queues: &mut Queues, store: &mut 
 {
     for (queue, portal, kind, named) in rows {
         let answer = submit(rt, queues, store, *queue, *portal, *kind);
-        assert!(rt; name_of(answer) == *named);
+        claim!(rt; name_of(answer) == *named);
     }
 }
 
@@ -81,7 +81,7 @@ fn both_portals<S: EntryStore>(rt: &impl Abort, store: &mut S) {
     submit_each(rt, &mut queues, store, &BEFORE);
     // An engine takes the front, which the portals count no more.
     assert!(rt; store.lists() == 6);
-    assert!(rt; store.move_front(ListId(0), ListId(2)).is_some());
+    claim!(rt; store.move_front(ListId(0), ListId(2)).is_some());
     submit_each(rt, &mut queues, store, &AFTER);
 }
 
@@ -111,15 +111,15 @@ fn dropped_twice<S: EntryStore>(rt: &impl Abort, store: &mut S) {
     };
     let mut queues = enabled_over(rt, store);
     submit_each(rt, &mut queues, store, &TWICE);
-    assert!(rt; queues.noted() == Some(SECOND));
-    assert!(rt; queues.clear_error() == ClearAnswer::Cleared(SECOND));
-    assert!(rt; queues.clear_error() == ClearAnswer::Nothing);
+    claim!(rt; queues.noted() == Some(SECOND));
+    claim!(rt; queues.clear_error() == ClearAnswer::Cleared(SECOND));
+    claim!(rt; queues.clear_error() == ClearAnswer::Nothing);
     submit_each(rt, &mut queues, store, &ONCE);
-    assert!(rt; queues.clear_error() == ClearAnswer::Cleared(FIRST));
+    claim!(rt; queues.clear_error() == ClearAnswer::Cleared(FIRST));
     // The descriptor has the PASID of the queue.
     assert!(rt; store.lists() == 6);
-    let front = front_slot(store, ListId(1)).map(|slot| slot.1.desc.pasid);
-    assert!(rt; front == Some(7));
+    let (_, front) = front_slot(store, ListId(1)).expect(rt, "an entry that waits");
+    claim!(rt; front.desc.pasid == 7);
 }
 
 #[test]
@@ -158,7 +158,8 @@ fn turned_away<S: EntryStore>(rt: &impl Abort, store: &mut S) {
     submit_each(rt, &mut queues, store, &WRONG_KIND);
     queues.set_phases(&Scope::Queue(0), Phase::Stopping);
     submit_each(rt, &mut queues, store, &NOT_ENABLED);
-    assert!(rt; queues.noted() == Some(NOTED) && queues.next_name() == 0);
+    claim!(rt; queues.noted() == Some(NOTED));
+    claim!(rt; queues.next_name() == 0);
 }
 
 #[test]
@@ -185,13 +186,13 @@ fn entries<S: EntryStore>(rt: &impl Abort, store: &mut S) {
     let mut queues = enabled_over(rt, store);
     submit_each(rt, &mut queues, store, &ONE);
     assert!(rt; store.lists() == 6);
-    let Some((_, entry)) = front_slot(store, ListId(0)) else {
-        panic!(rt; "nothing waits");
-    };
-    assert!(rt; entry.desc.pasid == 5 && queues.need(&entry) == 1 && !queues.is_batch(&entry));
-    assert!(rt; queues.status(&entry, Outcome::PageFault) == 3);
-    assert!(rt; occupancies(rt, &queues, store) == [Some(1), Some(0), None]);
-    assert!(rt; !queues.has_queue(2));
+    let (_, entry) = front_slot(store, ListId(0)).expect(rt, "an entry that waits");
+    claim!(rt; entry.desc.pasid == 5);
+    claim!(rt; queues.need(&entry) == 1);
+    claim!(rt; !queues.is_batch(&entry));
+    claim!(rt; queues.status(&entry, Outcome::PageFault) == 3);
+    claim!(rt; occupancies(rt, &queues, store) == [Some(1), Some(0), None]);
+    claim!(rt; !queues.has_queue(2));
 }
 
 #[test]
@@ -202,13 +203,20 @@ fn entry_is_asked_about(rt: HostRuntime) {
 #[test]
 fn parts_are_read(rt: HostRuntime) {
     let queues = enabled(&rt, [FIRST_GROUP, SECOND_GROUP]);
-    assert!(rt; queues.caps() == CAPS && queues.device() == Phase::On);
-    assert!(rt; queues.phase(1) == Phase::On && queues.phase(2) == Phase::Off);
-    assert!(rt; queues.queue(1) == DEDICATED && queues.queue(2) == QueueConfig::default());
-    assert!(rt; queues.group(0) == FIRST_GROUP && queues.group(2) == GroupConfig::default());
-    assert!(rt; queues.group_of(1) == Some(1) && queues.group_of(2).is_none());
-    assert!(rt; queues.has_queue_in(1, 1) && !queues.has_queue_in(1, 0));
-    assert!(rt; queues.priority(1) == 2 && queues.limits(0) == LIMITS);
+    claim!(&rt; queues.caps() == CAPS);
+    claim!(&rt; queues.device() == Phase::On);
+    claim!(&rt; queues.phase(1) == Phase::On);
+    claim!(&rt; queues.phase(2) == Phase::Off);
+    claim!(&rt; queues.queue(1) == DEDICATED);
+    claim!(&rt; queues.queue(2) == QueueConfig::default());
+    claim!(&rt; queues.group(0) == FIRST_GROUP);
+    claim!(&rt; queues.group(2) == GroupConfig::default());
+    claim!(&rt; queues.group_of(1) == Some(1));
+    claim!(&rt; queues.group_of(2).is_none());
+    claim!(&rt; queues.has_queue_in(1, 1));
+    claim!(&rt; !queues.has_queue_in(1, 0));
+    claim!(&rt; queues.priority(1) == 2);
+    claim!(&rt; queues.limits(0) == LIMITS);
 }
 
 #[test]
@@ -216,10 +224,10 @@ fn writes_are_refused(rt: HostRuntime) {
     const LOCKED: WriteAnswer = WriteAnswer::Refused(Fault::Locked);
     const UNKNOWN: WriteAnswer = WriteAnswer::Refused(Fault::BadIndex);
     let mut queues = enabled(&rt, [FIRST_GROUP, SECOND_GROUP]);
-    assert!(rt; queues.write_queue(0, SHARED) == LOCKED);
-    assert!(rt; queues.write_queue(2, SHARED) == UNKNOWN);
-    assert!(rt; queues.write_group(0, FIRST_GROUP) == LOCKED);
-    assert!(rt; queues.write_group(2, FIRST_GROUP) == UNKNOWN);
+    claim!(&rt; queues.write_queue(0, SHARED) == LOCKED);
+    claim!(&rt; queues.write_queue(2, SHARED) == UNKNOWN);
+    claim!(&rt; queues.write_group(0, FIRST_GROUP) == LOCKED);
+    claim!(&rt; queues.write_group(2, FIRST_GROUP) == UNKNOWN);
     assert!(rt; queues.has_queue(0));
     queues.set_phase(0, Phase::Off);
     written_while_on(&rt, &mut queues);
@@ -232,9 +240,9 @@ fn written_while_on(rt: &impl Abort, queues: &mut Queues) {
         threshold: 4,
         ..SHARED
     };
-    assert!(rt; queues.write_queue(0, SIZE) == WriteAnswer::Refused(Fault::Locked));
-    assert!(rt; queues.write_queue(0, THRESHOLD) == WriteAnswer::Written);
-    assert!(rt; queues.queue(0) == THRESHOLD);
+    claim!(rt; queues.write_queue(0, SIZE) == WriteAnswer::Refused(Fault::Locked));
+    claim!(rt; queues.write_queue(0, THRESHOLD) == WriteAnswer::Written);
+    claim!(rt; queues.queue(0) == THRESHOLD);
 }
 
 #[test]
@@ -242,29 +250,34 @@ fn commands_change_phases_and_configurations(rt: HostRuntime) {
     let mut queues = enabled(&rt, [FIRST_GROUP, SECOND_GROUP]);
     queues.set_phases(&Scope::Queue(1), Phase::Off);
     queues.set_live_phases(Phase::Stopping);
-    assert!(rt; queues.phase(0) == Phase::Stopping && queues.phase(1) == Phase::Off);
+    claim!(&rt; queues.phase(0) == Phase::Stopping);
+    claim!(&rt; queues.phase(1) == Phase::Off);
     queues.keep_sizes(&Scope::Queues(FIRST_QUEUE));
     let size = QueueConfig {
         size: 4,
         ..QueueConfig::default()
     };
-    assert!(rt; queues.queue(0) == size && queues.queue(1) == DEDICATED);
+    claim!(&rt; queues.queue(0) == size);
+    claim!(&rt; queues.queue(1) == DEDICATED);
     queues_are_reset(&rt, &mut queues);
 }
 
 // A reset keeps the next name alone of what was set.
 fn queues_are_reset(rt: &impl Abort, queues: &mut Queues) {
     assert!(rt; queues.next_name() == 0);
-    assert!(rt; queues.give_name() == 0);
+    claim!(rt; queues.give_name() == 0);
     queues.note_error(1, Cause::WrongKind);
-    assert!(rt; queues.has_queue(1) && queues.caps().groups == 2);
+    assert!(rt; queues.has_queue(1));
+    assert!(rt; queues.caps().groups == 2);
     queues.set_queue(1, SHARED);
     queues.set_group(1, FIRST_GROUP);
     queues.reset();
-    assert!(rt; queues.next_name() == 1 && queues.noted().is_none());
-    assert!(rt; queues.device() == Phase::Off && queues.phase(0) == Phase::Off);
-    assert!(rt; queues.queue(1) == QueueConfig::default());
-    assert!(rt; queues.group(1) == GroupConfig::default());
+    claim!(rt; queues.next_name() == 1);
+    claim!(rt; queues.noted().is_none());
+    claim!(rt; queues.device() == Phase::Off);
+    claim!(rt; queues.phase(0) == Phase::Off);
+    claim!(rt; queues.queue(1) == QueueConfig::default());
+    claim!(rt; queues.group(1) == GroupConfig::default());
 }
 
 // Each submission that is accepted is counted, and none that is turned away.
@@ -279,9 +292,9 @@ fn counted<S: EntryStore>(rt: &impl Abort, store: &mut S) {
         (1, Portal::Limited, ENQCMD, Err(WRONG)),
     ];
     let mut queues = enabled_over(rt, store);
-    assert!(rt; numbers(rt, &queues) == [0, 0]);
+    claim!(rt; numbers(rt, &queues) == [0, 0]);
     submit_each(rt, &mut queues, store, &ROWS);
-    assert!(rt; numbers(rt, &queues) == [2, 1]);
+    claim!(rt; numbers(rt, &queues) == [2, 1]);
 }
 
 #[test]
@@ -302,10 +315,9 @@ fn numbers_of_what_enters_and_leaves(rt: HostRuntime) {
     let mut queues = enabled(&rt, [FIRST_GROUP, SECOND_GROUP]);
     enter(&rt, &mut queues);
     enter(&rt, &mut queues);
-    assert!(rt; numbers(&rt, &queues) == [0, 2]);
-    assert!(rt; queues.has_queue(1) && queues.held_of(1) > 0);
-    queues.left(1);
-    assert!(rt; numbers(&rt, &queues) == [0, 1]);
+    claim!(&rt; numbers(&rt, &queues) == [0, 2]);
+    leave(&rt, &mut queues, 1);
+    claim!(&rt; numbers(&rt, &queues) == [0, 1]);
     queues.reset();
-    assert!(rt; numbers(&rt, &queues) == [0, 1]);
+    claim!(&rt; numbers(&rt, &queues) == [0, 1]);
 }

@@ -10,7 +10,6 @@ use dsa_regs::{
     zero_groups, zero_queues,
 };
 use std::fmt::InlineText;
-use std::test::Fail;
 
 #[test]
 fn faults_have_numbers_names_and_sentences(rt: HostRuntime) {
@@ -127,22 +126,22 @@ fn faults_have_numbers_names_and_sentences(rt: HostRuntime) {
         ),
     ];
     for &(fault, number, name, sentence) in &FAULTS {
-        assert!(rt; fault.number() == number);
-        assert!(rt; fault.name() == name);
+        claim!(&rt; fault.number() == number);
+        claim!(&rt; fault.name() == name);
         let said = InlineText::<96>::of(fault);
-        assert!(rt; said.as_str() == sentence);
+        claim!(&rt; said.as_str() == sentence);
     }
 }
 
 #[test]
 fn devices_within_limits(rt: HostRuntime) {
     assert!(rt; check_caps(&CAPS));
-    assert!(rt; cell_count(&CAPS) == 28 && list_count(&CAPS) == 6);
+    claim!(&rt; (cell_count(&CAPS), list_count(&CAPS)) == (28, 6));
     let queues = zero_queues(&CAPS);
-    assert!(rt; queues.as_slice() == [QueueConfig::default(); 2].as_slice());
+    claim!(&rt; queues.as_slice() == [QueueConfig::default(); 2].as_slice());
     let groups = zero_groups(&CAPS);
-    assert!(rt; groups.as_slice() == [GroupConfig::default(); 2].as_slice());
-    assert!(rt; off_phases(&CAPS).as_slice() == [Phase::Off; 2].as_slice());
+    claim!(&rt; groups.as_slice() == [GroupConfig::default(); 2].as_slice());
+    claim!(&rt; off_phases(&CAPS).as_slice() == [Phase::Off; 2].as_slice());
 }
 
 const LARGEST: Caps = Caps {
@@ -159,10 +158,10 @@ const LARGEST: Caps = Caps {
 #[test]
 fn largest_device(rt: HostRuntime) {
     assert!(rt; check_caps(&LARGEST));
-    assert!(rt; cell_count(&LARGEST) == 70_656 && list_count(&LARGEST) == 192);
-    assert!(rt; zero_queues(&LARGEST).len() == MAX_QUEUES);
-    assert!(rt; zero_groups(&LARGEST).len() == MAX_GROUPS);
-    assert!(rt; off_phases(&LARGEST).len() == MAX_QUEUES);
+    claim!(&rt; (cell_count(&LARGEST), list_count(&LARGEST)) == (70_656, 192));
+    claim!(&rt; zero_queues(&LARGEST).len() == MAX_QUEUES);
+    claim!(&rt; zero_groups(&LARGEST).len() == MAX_GROUPS);
+    claim!(&rt; off_phases(&LARGEST).len() == MAX_QUEUES);
 }
 
 #[test]
@@ -202,7 +201,7 @@ fn devices_past_a_limit(rt: HostRuntime) {
         },
     ];
     for caps in &ROWS {
-        assert!(rt; !check_caps(caps));
+        claim!(&rt; !check_caps(caps));
     }
 }
 
@@ -284,7 +283,7 @@ fn enabling_the_device(rt: HostRuntime) {
         ),
     ];
     for &(queue, first, second, fault) in &CASES {
-        assert!(rt; check_device(&CAPS, &[SHARED, queue], &[first, second]) == fault);
+        claim!(&rt; check_device(&CAPS, &[SHARED, queue], &[first, second]) == fault);
     }
 }
 
@@ -362,14 +361,14 @@ fn enabling_a_queue(rt: HostRuntime) {
         (2, SHARED, Some(Fault::NoGroup)),
     ];
     for &(queue, config, fault) in &CASES {
-        assert!(rt; check_queue(&CAPS, &GROUPS, queue, &config) == fault);
+        claim!(&rt; check_queue(&CAPS, &GROUPS, queue, &config) == fault);
     }
 }
 
 #[test]
 fn configurations_speak(rt: HostRuntime) {
     let limits = SHARED.limits();
-    assert!(rt; (limits.max_batch_shift, limits.max_xfer_shift) == (3, 20));
+    claim!(&rt; (limits.max_batch_shift, limits.max_xfer_shift) == (3, 20));
     let group = GroupConfig {
         queues: 1 << 63 | 1,
         engines: 2,
@@ -381,9 +380,9 @@ fn configurations_speak(rt: HostRuntime) {
         group.has_queue(1),
         group.has_queue(64),
     ];
-    assert!(rt; queues == [true, true, false, false]);
-    assert!(rt; [group.has_engine(1), group.has_engine(0)] == [true, false]);
-    assert!(rt; Phase::default() == Phase::Off);
+    claim!(&rt; queues == [true, true, false, false]);
+    claim!(&rt; [group.has_engine(1), group.has_engine(0)] == [true, false]);
+    claim!(&rt; Phase::default() == Phase::Off);
 }
 
 #[test]
@@ -419,12 +418,12 @@ fn words_are_commands(rt: HostRuntime) {
         (0x00c0_0005, Ok(Command::AbortPasid(5))),
     ];
     for &(word, command) in &WORDS {
-        assert!(rt; CommandWord::parse(word) == command);
+        claim!(&rt; CommandWord::parse(word) == command);
     }
 }
 
 #[test]
-fn commands_have_numbers_and_names(rt: HostRuntime) -> Result<(), Fail> {
+fn commands_have_numbers_and_names(rt: HostRuntime) {
     const COMMANDS: [(u32, u8, &str); 12] = [
         (0x0010_0000, 1, "Enable Device"),
         (0x0020_0000, 2, "Disable Device"),
@@ -440,10 +439,9 @@ fn commands_have_numbers_and_names(rt: HostRuntime) -> Result<(), Fail> {
         (0x00c0_0000, 12, "Abort PASID"),
     ];
     for &(word, number, name) in &COMMANDS {
-        let command = CommandWord::parse(word)?;
-        assert!(rt; (command.number(), command.name()) == (number, name));
+        let command = CommandWord::parse(word).expect(&rt, "a command");
+        claim!(&rt; (command.number(), command.name()) == (number, name));
     }
-    Ok(())
 }
 
 #[test]
@@ -453,21 +451,21 @@ fn commands_name_queues(rt: HostRuntime) {
         mask: 0x8005,
     };
     const NUMBERS: [u32; 3] = [16, 18, 31];
-    assert!(rt; MASK.queues().as_slice() == NUMBERS.as_slice());
+    claim!(&rt; MASK.queues().as_slice() == NUMBERS.as_slice());
     let named = [MASK.contains(16), MASK.contains(18), MASK.contains(31)];
     let others = [MASK.contains(0), MASK.contains(17), MASK.contains(32)];
-    assert!(rt; (named, others) == ([true; 3], [false; 3]));
-    assert!(rt; Command::DrainWq(MASK).queues().as_slice() == NUMBERS.as_slice());
-    assert!(rt; Command::EnableWq(2).queues().as_slice() == [2].as_slice());
-    assert!(rt; Command::DrainAll.queues().is_empty());
-    assert!(rt; QueueMask { group: 1, mask: 0 }.queues().is_empty());
+    claim!(&rt; (named, others) == ([true; 3], [false; 3]));
+    claim!(&rt; Command::DrainWq(MASK).queues().as_slice() == NUMBERS.as_slice());
+    claim!(&rt; Command::EnableWq(2).queues().as_slice() == [2].as_slice());
+    claim!(&rt; Command::DrainAll.queues().is_empty());
+    claim!(&rt; QueueMask { group: 1, mask: 0 }.queues().is_empty());
     let masked = [
         Scope::Queues(MASK).contains(18),
         Scope::Queues(MASK).contains(17),
     ];
     let one = [Scope::Queue(17).contains(17), Scope::Queue(17).contains(1)];
     let none = [Scope::Device.contains(0), Scope::Pasid(0).contains(0)];
-    assert!(rt; [masked, one, none] == [[true, false], [true, false], [false, false]]);
+    claim!(&rt; [masked, one, none] == [[true, false], [true, false], [false, false]]);
 }
 
 #[test]
@@ -476,12 +474,12 @@ fn last_group_of_sixteen(rt: HostRuntime) {
         group: 3,
         mask: 0x8001,
     };
-    assert!(rt; ENDS.queues().as_slice() == [48, 63].as_slice());
+    claim!(&rt; ENDS.queues().as_slice() == [48, 63].as_slice());
     let found = [
         ENDS.contains(48),
         ENDS.contains(63),
         ENDS.contains(15),
         ENDS.contains(64),
     ];
-    assert!(rt; found == [true, true, false, false]);
+    claim!(&rt; found == [true, true, false, false]);
 }
