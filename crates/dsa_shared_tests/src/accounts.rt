@@ -6,25 +6,20 @@ use dsa_shared::Settled;
 use dsa_store::EntryStore;
 use std::alloc::Global;
 use std::process::Abort;
-use std::test::Fail;
 
 /// What was accepted and fetched is done, lost or held, as the history and the fates say.
-pub fn add_up<S: EntryStore, R: Abort>(
-    rt: &R,
-    alloc: Global,
-    settled: &Settled<S>,
-) -> Result<(), Fail> {
+pub fn add_up<S: EntryStore, R: Abort>(rt: &R, alloc: Global, settled: &Settled<S>) {
     let device = &settled.device;
     let totals = settled.totals;
     let named = totals.accepted.saturating_add(totals.fetched);
     let ended = totals.done.saturating_add(totals.lost);
-    assert_eq!(rt; named, ended.saturating_add(totals.held));
-    assert_eq!(rt; named, u64::from(device.next_name()));
-    assert_eq!(rt; ended, device.fates().len() as u64);
-    assert_eq!(rt; totals.held, u64::from(device.held()));
-    assert_eq!(rt; totals.steps, device.history().len() as u64);
-    assert_eq!(rt; totals.accepted, accepted_in(device.history()));
-    names_are_told(rt, alloc, device)
+    same!(rt; named, ended.saturating_add(totals.held));
+    same!(rt; named, u64::from(device.next_name()));
+    same!(rt; ended, device.fates().len() as u64);
+    same!(rt; totals.held, u64::from(device.held()));
+    same!(rt; totals.steps, device.history().len() as u64);
+    same!(rt; totals.accepted, accepted_in(device.history()));
+    names_are_told(rt, alloc, device);
 }
 
 fn accepted_in(history: &[Step]) -> u64 {
@@ -39,18 +34,19 @@ fn is_accepted(reply: Reply) -> bool {
 }
 
 // Each name that was given has one fate or is held.
-fn names_are_told<S: EntryStore, R: Abort>(
-    rt: &R,
-    alloc: Global,
-    device: &Device<S>,
-) -> Result<(), Fail> {
-    let mut told = Vec::from_elem(alloc, false, device.next_name() as usize)?;
+fn names_are_told<S: EntryStore, R: Abort>(rt: &R, alloc: Global, device: &Device<S>) {
+    let names = device.next_name() as usize;
+    let mut told = Vec::from_elem(alloc, false, names).expect(rt, "memory for marks");
     for row in device.fates() {
-        let at = row.name as usize;
-        assert!(rt; at < told.len() && !told[at]);
-        told[at] = true;
+        tell(rt, &mut told, row.name as usize);
     }
     let left = told.iter().filter(|one| !**one).count();
-    assert_eq!(rt; left as u64, u64::from(device.held()));
-    Ok(())
+    same!(rt; left as u64, u64::from(device.held()));
+}
+
+// Marks a name that was given, and that had no fate before.
+fn tell<R: Abort>(rt: &R, told: &mut [bool], name: usize) {
+    assert!(rt; name < told.len());
+    claim!(rt; !told[name]);
+    told[name] = true;
 }

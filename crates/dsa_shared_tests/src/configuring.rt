@@ -6,7 +6,7 @@ use crate::stores::{Trial, over_both_stores};
 use dsa_book::{IssueAnswer, Step, WriteAnswer};
 use dsa_fixtures::{DEDICATED_QUEUE, FIRST_GROUP, FIRST_QUEUE, SECOND_GROUP, SHARED_QUEUE};
 use dsa_regs::{Command, Fault, GroupConfig, QueueConfig};
-use std::test::Fail;
+use std::process::Abort;
 
 const WRITTEN: WriteAnswer = WriteAnswer::Written;
 
@@ -51,34 +51,40 @@ fn changes() -> [(usize, Step, Fault); 5] {
     ]
 }
 
+// The four writes with another one at this place.
+fn changed(rt: &impl Abort, place: usize, write: Step) -> [Step; 4] {
+    let mut writes = writes();
+    assert!(rt; place < writes.len());
+    writes[place] = write;
+    writes
+}
+
 #[test]
-fn device_is_not_enabled(rt: HostRuntime) -> Result<(), Fail> {
+fn device_is_not_enabled(rt: HostRuntime) {
     for (place, write, fault) in changes() {
-        let mut writes = writes();
-        assert!(rt; place < writes.len());
-        writes[place] = write;
-        let [a, b, c, d] = writes;
+        let [a, b, c, d] = changed(&rt, place, write);
         let play = Play {
             capacity: 100,
             steps: &[a, b, c, d, refused(Command::EnableDevice, fault)],
             fates: &[],
             totals: totals(0, 0, 0, 0, 0, 0, 4),
         };
-        over_both_stores(&rt, rt.alloc(), Trial::Play(play))?;
+        over_both_stores(&rt, rt.alloc(), Trial::Play(play));
     }
-    Ok(())
+}
+
+// The shared queue is written with this threshold.
+fn threshold(threshold: u16) -> Step {
+    let config = QueueConfig {
+        threshold,
+        ..SHARED_QUEUE
+    };
+    queue_written(0, config, WRITTEN)
 }
 
 #[test]
-fn queue_is_not_enabled(rt: HostRuntime) -> Result<(), Fail> {
+fn queue_is_not_enabled(rt: HostRuntime) {
     let enable = Command::EnableWq(0);
-    let threshold = |threshold| {
-        let config = QueueConfig {
-            threshold,
-            ..SHARED_QUEUE
-        };
-        queue_written(0, config, WRITTEN)
-    };
     let play = Play {
         capacity: 100,
         steps: &[
@@ -96,5 +102,5 @@ fn queue_is_not_enabled(rt: HostRuntime) -> Result<(), Fail> {
         fates: &[],
         totals: totals(0, 0, 0, 0, 0, 0, 12),
     };
-    over_both_stores(&rt, rt.alloc(), Trial::PlayEnabled(play))
+    over_both_stores(&rt, rt.alloc(), Trial::PlayEnabled(play));
 }

@@ -43,21 +43,19 @@ impl Passes {
     /// No worker has passed.
     pub fn are_none(&self, rt: &impl Abort) {
         for count in &self.counts {
-            assert_eq!(rt; count.load(Ordering::SeqCst), 0);
+            same!(rt; count.load(Ordering::SeqCst), 0);
         }
-        assert_eq!(rt; self.misplaced.load(Ordering::SeqCst), 0);
+        same!(rt; self.misplaced.load(Ordering::SeqCst), 0);
     }
 
     /// Each worker has passed with the turns 0, 1 and so on up to the number of turns that the report
     /// gives it.
     pub fn are_those_of(&self, rt: &impl Abort, report: &RunReport) {
-        assert_eq!(rt; self.misplaced.load(Ordering::SeqCst), 0);
-        assert_eq!(rt; self.counts.len(), report.turns.len());
+        same!(rt; self.misplaced.load(Ordering::SeqCst), 0);
+        same!(rt; self.counts.len(), report.turns.len());
         for (count, turns) in self.counts.iter().zip(&report.turns) {
-            assert_eq!(rt;
-                u64::from(count.load(Ordering::SeqCst)),
-                u64::from(*turns) + 1
-            );
+            let passed = u64::from(count.load(Ordering::SeqCst));
+            same!(rt; passed, u64::from(*turns) + 1);
         }
     }
 }
@@ -98,9 +96,9 @@ impl<'a, R: Clock + Abort> Meeting<'a, R> {
 
     /// Each has come once, and none waited in vain.
     pub fn was_kept(&self, rt: &R) {
-        assert_eq!(rt; self.first_has_come.load(Ordering::SeqCst), 1);
-        assert_eq!(rt; self.second_has_come.load(Ordering::SeqCst), 1);
-        assert_eq!(rt; self.missed.load(Ordering::SeqCst), 0);
+        same!(rt; self.first_has_come.load(Ordering::SeqCst), 1);
+        same!(rt; self.second_has_come.load(Ordering::SeqCst), 1);
+        same!(rt; self.missed.load(Ordering::SeqCst), 0);
     }
 }
 

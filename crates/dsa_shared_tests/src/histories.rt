@@ -21,7 +21,6 @@ use std::alloc::Global;
 use std::marker::Sync;
 use std::process::Abort;
 use std::sync::Wait;
-use std::test::Fail;
 use std::thread::Threads;
 use std::time::Clock;
 
@@ -39,14 +38,14 @@ fn play_within<R: Threads + Wait + Clock + Abort + Sync>(
     steps: &[Step],
     fates: &[FateRow],
     totals: Totals,
-) -> Result<(), Fail> {
+) {
     let play = Play {
         capacity,
         steps,
         fates,
         totals,
     };
-    over_both_stores(rt, alloc, Trial::PlayEnabled(play))
+    over_both_stores(rt, alloc, Trial::PlayEnabled(play));
 }
 
 fn play<R: Threads + Wait + Clock + Abort + Sync>(
@@ -55,20 +54,20 @@ fn play<R: Threads + Wait + Clock + Abort + Sync>(
     steps: &[Step],
     fates: &[FateRow],
     totals: Totals,
-) -> Result<(), Fail> {
-    play_within(rt, alloc, 100, steps, fates, totals)
+) {
+    play_within(rt, alloc, 100, steps, fates, totals);
 }
 
 #[test]
-fn one_move(rt: HostRuntime) -> Result<(), Fail> {
+fn one_move(rt: HostRuntime) {
     let steps = [limited(MOVE, accepted(0)), taken(0, 0), done(0, 0x01)];
     let fates = [row(0, None, COMPLETED)];
     let totals = totals(1, 0, 0, 1, 0, 0, 10);
-    play(&rt, rt.alloc(), &steps, &fates, totals)
+    play(&rt, rt.alloc(), &steps, &fates, totals);
 }
 
 #[test]
-fn limits_of_two_portals(rt: HostRuntime) -> Result<(), Fail> {
+fn limits_of_two_portals(rt: HostRuntime) {
     let steps = [
         limited(NO_OP, accepted(0)),
         limited(NO_OP, accepted(1)),
@@ -81,11 +80,11 @@ fn limits_of_two_portals(rt: HostRuntime) -> Result<(), Fail> {
         unlimited(5, accepted(4)),
     ];
     let totals = totals(5, 0, 3, 0, 0, 5, 16);
-    play(&rt, rt.alloc(), &steps, &[], totals)
+    play(&rt, rt.alloc(), &steps, &[], totals);
 }
 
 #[test]
-fn noted_error(rt: HostRuntime) -> Result<(), Fail> {
+fn noted_error(rt: HostRuntime) {
     let noted = NotedError {
         queue: 1,
         cause: Cause::AtLimit,
@@ -106,11 +105,11 @@ fn noted_error(rt: HostRuntime) -> Result<(), Fail> {
         cleared(ClearAnswer::Cleared(noted)),
     ];
     let totals = totals(2, 0, 0, 0, 0, 2, 14);
-    play(&rt, rt.alloc(), &steps, &[], totals)
+    play(&rt, rt.alloc(), &steps, &[], totals);
 }
 
 #[test]
-fn causes_of_refused_submissions(rt: HostRuntime) -> Result<(), Fail> {
+fn causes_of_refused_submissions(rt: HostRuntime) {
     let not_enabled = SubmitAnswer::Retry(Cause::NotEnabled);
     let steps = [
         written_to(1, ENQCMD, NO_OP, SubmitAnswer::Retry(Cause::WrongKind)),
@@ -125,11 +124,11 @@ fn causes_of_refused_submissions(rt: HostRuntime) -> Result<(), Fail> {
         written_to(9, ENQCMD, NO_OP, not_enabled),
     ];
     let totals = totals(0, 0, 0, 0, 0, 0, 12);
-    play(&rt, rt.alloc(), &steps, &[], totals)
+    play(&rt, rt.alloc(), &steps, &[], totals);
 }
 
 #[test]
-fn read_buffers_of_two_groups(rt: HostRuntime) -> Result<(), Fail> {
+fn read_buffers_of_two_groups(rt: HostRuntime) {
     let steps = [
         limited(LARGE_MOVE, accepted(0)),
         limited(LARGE_MOVE, accepted(1)),
@@ -150,11 +149,11 @@ fn read_buffers_of_two_groups(rt: HostRuntime) -> Result<(), Fail> {
     ];
     let fates = [row(0, None, COMPLETED)];
     let totals = totals(4, 3, 0, 1, 0, 6, 21);
-    play(&rt, rt.alloc(), &steps, &fates, totals)
+    play(&rt, rt.alloc(), &steps, &fates, totals);
 }
 
 #[test]
-fn fence_waits(rt: HostRuntime) -> Result<(), Fail> {
+fn fence_waits(rt: HostRuntime) {
     let steps = [
         limited(batch_of(3), accepted(0)),
         taken(0, 0),
@@ -180,11 +179,11 @@ fn fence_waits(rt: HostRuntime) -> Result<(), Fail> {
         row(0, None, COMPLETED),
     ];
     let totals = totals(1, 3, 0, 4, 0, 0, 19);
-    play(&rt, rt.alloc(), &steps, &fates, totals)
+    play(&rt, rt.alloc(), &steps, &fates, totals);
 }
 
 #[test]
-fn fence_abandons(rt: HostRuntime) -> Result<(), Fail> {
+fn fence_abandons(rt: HostRuntime) {
     let steps = [
         limited(batch_of(3), accepted(0)),
         taken(0, 0),
@@ -203,11 +202,11 @@ fn fence_abandons(rt: HostRuntime) -> Result<(), Fail> {
         row(0, None, Fate::Completed(0x05)),
     ];
     let totals = totals(1, 2, 0, 2, 1, 0, 15);
-    play(&rt, rt.alloc(), &steps, &fates, totals)
+    play(&rt, rt.alloc(), &steps, &fates, totals);
 }
 
 #[test]
-fn batches_of_too_few_and_too_many(rt: HostRuntime) -> Result<(), Fail> {
+fn batches_of_too_few_and_too_many(rt: HostRuntime) {
     let steps = [
         limited(batch_of(1), accepted(0)),
         taken(0, 0),
@@ -223,11 +222,11 @@ fn batches_of_too_few_and_too_many(rt: HostRuntime) -> Result<(), Fail> {
     let refused = Fate::Completed(0x14);
     let fates = [row(0, None, refused), row(1, None, refused)];
     let totals = totals(3, 1, 0, 2, 0, 2, 16);
-    play(&rt, rt.alloc(), &steps, &fates, totals)
+    play(&rt, rt.alloc(), &steps, &fates, totals);
 }
 
 #[test]
-fn drain_of_a_queue(rt: HostRuntime) -> Result<(), Fail> {
+fn drain_of_a_queue(rt: HostRuntime) {
     let steps = [
         limited(NO_OP, accepted(0)),
         issued(Command::DrainWq(FIRST_QUEUE), IssueAnswer::Active),
@@ -241,11 +240,11 @@ fn drain_of_a_queue(rt: HostRuntime) -> Result<(), Fail> {
     ];
     let fates = [row(0, None, COMPLETED)];
     let totals = totals(2, 0, 0, 1, 0, 1, 13);
-    play(&rt, rt.alloc(), &steps, &fates, totals)
+    play(&rt, rt.alloc(), &steps, &fates, totals);
 }
 
 #[test]
-fn drains_of_two_programs(rt: HostRuntime) -> Result<(), Fail> {
+fn drains_of_two_programs(rt: HostRuntime) {
     let steps = [
         unlimited(5, accepted(0)),
         unlimited(6, accepted(1)),
@@ -270,11 +269,11 @@ fn drains_of_two_programs(rt: HostRuntime) -> Result<(), Fail> {
         row(3, None, COMPLETED),
     ];
     let totals = totals(4, 0, 0, 4, 0, 0, 19);
-    play(&rt, rt.alloc(), &steps, &fates, totals)
+    play(&rt, rt.alloc(), &steps, &fates, totals);
 }
 
 #[test]
-fn abort_of_a_pasid(rt: HostRuntime) -> Result<(), Fail> {
+fn abort_of_a_pasid(rt: HostRuntime) {
     let steps = [
         unlimited(5, accepted(0)),
         unlimited(6, accepted(1)),
@@ -289,11 +288,11 @@ fn abort_of_a_pasid(rt: HostRuntime) -> Result<(), Fail> {
         row(2, None, Fate::Aborted(12)),
     ];
     let totals = totals(4, 0, 0, 0, 2, 2, 14);
-    play(&rt, rt.alloc(), &steps, &fates, totals)
+    play(&rt, rt.alloc(), &steps, &fates, totals);
 }
 
 #[test]
-fn tickets_after_an_abort(rt: HostRuntime) -> Result<(), Fail> {
+fn tickets_after_an_abort(rt: HostRuntime) {
     let forged = Ticket {
         cell: Cell(1),
         name: 0,
@@ -310,12 +309,12 @@ fn tickets_after_an_abort(rt: HostRuntime) -> Result<(), Fail> {
     ];
     let fates = [row(0, None, Fate::Aborted(4)), row(1, None, COMPLETED)];
     let totals = totals(2, 0, 0, 1, 1, 0, 13);
-    play(&rt, rt.alloc(), &steps, &fates, totals)
+    play(&rt, rt.alloc(), &steps, &fates, totals);
 }
 
 // Every kind of step is refused, and by each kind of seat.
 #[test]
-fn full_history(rt: HostRuntime) -> Result<(), Fail> {
+fn full_history(rt: HostRuntime) {
     let [write, _, group, _] = writes();
     let steps = [
         unlimited(5, accepted(0)),
@@ -339,5 +338,5 @@ fn full_history(rt: HostRuntime) -> Result<(), Fail> {
         cleared(ClearAnswer::Full),
     ];
     let totals = totals(3, 0, 0, 0, 0, 3, 10);
-    play_within(&rt, rt.alloc(), 10, &steps, &[], totals)
+    play_within(&rt, rt.alloc(), 10, &steps, &[], totals);
 }

@@ -2,7 +2,7 @@
 
 use crate::gates::Passes;
 use crate::refusing::Refusing;
-use crate::sharing::{has_steps, over_cells, over_vectors, tried};
+use crate::sharing::{Attempt, has_steps, over_cells, over_vectors, tried};
 use crate::stage::Stage;
 use crate::stores::{Trial, over_both_stores};
 use crate::working::scripts_for;
@@ -14,7 +14,6 @@ use std::alloc::Global;
 use std::marker::{Send, Sync};
 use std::process::Abort;
 use std::sync::Wait;
-use std::test::Fail;
 use std::thread::Threads;
 
 // What sharing with two clients and two engines asks for: for each kind the seats, a list of rooms for
@@ -33,27 +32,32 @@ where
 {
     /// Each request of a run is refused in turn. Then no worker has passed the gate, and the seats have
     /// no receipts.
-    pub fn run_without_memory(self) -> Result<(), Fail> {
+    pub fn run_without_memory(self) {
         let mut stage = self;
         let rt = stage.rt;
-        stage.run_with_each()?;
-        let totals = stage.totals()?;
-        assert_eq!(rt; totals.accepted, 0);
-        Ok(())
+        stage.run_with_each();
+        let totals = stage.totals();
+        same!(rt; totals.accepted, 0);
     }
 
-    fn run_with_each(&mut self) -> Result<(), Fail> {
-        let scripts = scripts_for(self.alloc, 2, 2)?;
-        let gate = Passes::new(self.alloc, 5)?;
-        for granted in 0..=REQUESTS_OF_A_RUN {
-            let heap = Refusing::new(self.alloc, granted);
-            let fault = self.run_on(&heap, &scripts, &gate);
-            is_refused(self.rt, granted, fault, heap.asked());
-            if granted < REQUESTS_OF_A_RUN {
-                gate.are_none(self.rt);
-            }
+    fn run_with_each(&mut self) {
+        let scripts = scripts_for(self.rt, self.alloc, 2, 2);
+        let gate = Passes::new(self.alloc, 5).expect(self.rt, "memory for a gate");
+        for granted in 0..REQUESTS_OF_A_RUN {
+            let fault = self.run_with(granted, &scripts, &gate);
+            same!(self.rt; fault, Some(RunFault::OutOfMemory), granted);
+            gate.are_none(self.rt);
         }
-        Ok(())
+        let fault = self.run_with(REQUESTS_OF_A_RUN, &scripts, &gate);
+        same!(self.rt; fault, None);
+    }
+
+    // A run with so many requests granted, which has to ask once more where it has a fault.
+    fn run_with(&mut self, granted: u32, scripts: &Scripts, gate: &Passes) -> Option<RunFault> {
+        let heap = Refusing::new(self.alloc, granted);
+        let fault = self.run_on(&heap, scripts, gate);
+        same!(self.rt; heap.asked(), asked(granted, fault.is_some()), granted);
+        fault
     }
 
     fn run_on(
@@ -67,64 +71,50 @@ where
     }
 }
 
-// A run with so many requests granted has asked so often. It has a fault where one more was refused.
-fn is_refused<R: Abort>(rt: &R, granted: u32, fault: Option<RunFault>, asked: u32) {
-    if granted == REQUESTS_OF_A_RUN {
-        assert_eq!(rt; fault, None);
-        assert_eq!(rt; asked, granted);
+// So many requests were granted, and one more was refused where there is a fault.
+fn asked(granted: u32, is_refused: bool) -> u32 {
+    if is_refused {
+        granted.saturating_add(1)
     } else {
-        let expected = Some(RunFault::OutOfMemory);
-        assert_eq!(rt; fault, expected, "with {granted} requests granted");
-        assert_eq!(rt; asked, granted.saturating_add(1));
+        granted
     }
 }
 
 #[test]
-fn runs(rt: HostRuntime) -> Result<(), Fail> {
-    over_both_stores(&rt, rt.alloc(), Trial::RunWithoutMemory)
+fn runs(rt: HostRuntime) {
+    over_both_stores(&rt, rt.alloc(), Trial::RunWithoutMemory);
+}
+
+// What comes of sharing with so many requests granted, which has to ask once more where it is refused.
+fn shared_with<S: EntryStore, R: Abort>(
+    rt: &R,
+    alloc: Global,
+    granted: u32,
+    (device, blanks): (Device<S>, Blanks),
+) -> Attempt<S> {
+    let heap = Refusing::new(alloc, granted);
+    let (found, back) = tried(&heap, device, blanks, 2);
+    same!(rt; heap.asked(), asked(granted, found.is_err()), granted);
+    has_steps(rt, &back, 0);
+    (found, back)
 }
 
 // Each request is refused in turn, and the next attempt is made with what came back.
-fn shared_without_memory<S: EntryStore, R: Abort>(
-    rt: &R,
-    alloc: Global,
-    device: Device<S>,
-) -> Result<(), Fail> {
-    let mut rest = Some((device, Blanks::new()));
-    for granted in 0..=REQUESTS_OF_SHARING {
-        let Some((device, blanks)) = rest else {
-            return Err("shared with a request refused")?;
-        };
-        let heap = Refusing::new(alloc, granted);
-        let (found, back) = tried(&heap, device, blanks, 2);
-        is_shared(rt, granted, found, heap.asked());
-        has_steps(rt, &back, 0);
-        rest = back;
+fn shared_without_memory<S: EntryStore, R: Abort>(rt: &R, alloc: Global, device: Device<S>) {
+    let mut rest = (device, Blanks::new());
+    for granted in 0..REQUESTS_OF_SHARING {
+        let (found, back) = shared_with(rt, alloc, granted, rest);
+        same!(rt; found, Err(ShareFault::OutOfMemory), granted);
+        rest = back.expect(rt, "a device that came back");
     }
-    assert!(rt; rest.is_none());
-    Ok(())
-}
-
-// Sharing with so many requests granted has asked so often. It has a fault where one more was refused.
-fn is_shared<R: Abort>(
-    rt: &R,
-    granted: u32,
-    found: Result<(usize, usize), ShareFault>,
-    asked: u32,
-) {
-    if granted == REQUESTS_OF_SHARING {
-        assert_eq!(rt; found, Ok((2, 2)));
-        assert_eq!(rt; asked, granted);
-    } else {
-        let expected = Err(ShareFault::OutOfMemory);
-        assert_eq!(rt; found, expected, "with {granted} requests granted");
-        assert_eq!(rt; asked, granted.saturating_add(1));
-    }
+    let (found, back) = shared_with(rt, alloc, REQUESTS_OF_SHARING, rest);
+    same!(rt; found, Ok((2, 2)));
+    claim!(rt; back.is_none());
 }
 
 #[test]
-fn sharing(rt: HostRuntime) -> Result<(), Fail> {
+fn sharing(rt: HostRuntime) {
     let alloc = rt.alloc();
-    shared_without_memory(&rt, alloc, over_vectors(&rt, alloc)?)?;
-    shared_without_memory(&rt, alloc, over_cells(&rt, alloc)?)
+    shared_without_memory(&rt, alloc, over_vectors(&rt, alloc));
+    shared_without_memory(&rt, alloc, over_cells(&rt, alloc));
 }

@@ -6,7 +6,6 @@ use dsa_shared::{Settled, Sharing, Totals};
 use dsa_store::EntryStore;
 use std::process::Abort;
 use std::sync::Wait;
-use std::test::Fail;
 
 /// Steps with the answers that they have to get, the fates that come of them, and the totals.
 #[derive(Clone, Copy)]
@@ -19,26 +18,25 @@ pub struct Play<'a> {
 
 impl<'a> Play<'a> {
     fn was_settled<S: EntryStore, R: Abort>(self, rt: &R, settled: &Settled<S>) {
-        assert_eq!(rt; settled.device.fates(), self.fates);
-        assert_eq!(rt; settled.totals, self.totals);
+        same!(rt; settled.device.fates(), self.fates);
+        same!(rt; settled.totals, self.totals);
     }
 }
 
 impl<'a, S: EntryStore, L: Sharing, R: Wait + Abort> Stage<'a, S, L, R> {
     /// Makes the steps of the play, and settles.
-    pub fn played(self, play: Play) -> Result<(), Fail> {
+    pub fn played(self, play: Play) {
         let mut stage = self;
         let rt = stage.rt;
-        stage.make(play.steps)?;
-        let settled = stage.settled_as_told()?;
+        stage.make(play.steps);
+        let settled = stage.settled_as_told();
         play.was_settled(rt, &settled);
-        Ok(())
     }
 
     /// The same on an enabled device.
-    pub fn played_enabled(self, play: Play) -> Result<(), Fail> {
+    pub fn played_enabled(self, play: Play) {
         let mut stage = self;
-        stage.set_up()?;
-        stage.played(play)
+        stage.set_up();
+        stage.played(play);
     }
 }

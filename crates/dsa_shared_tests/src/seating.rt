@@ -12,7 +12,6 @@ use std::alloc::{AllocError, Global};
 use std::marker::{Send, Sync};
 use std::process::Abort;
 use std::sync::Wait;
-use std::test::Fail;
 use std::thread::{Threads, join};
 
 #[test]
@@ -41,9 +40,9 @@ fn receipts_against_a_history(rt: HostRuntime) {
         (1, &history[1..2], None),
         (2, &both[..0], None),
     ];
-    for (client, receipts, at) in table {
+    for (row, (client, receipts, at)) in table.into_iter().enumerate() {
         let found = compare_receipts(&history, Actor::Client(client), receipts);
-        assert_eq!(rt; found, at, "of client {client}");
+        same!(&rt; (client, found), (client, at), row);
     }
 }
 
@@ -55,28 +54,28 @@ fn finds<L: Sharing, R: Abort>(
     fault: Option<SettleFault>,
 ) {
     let steps = history.len();
-    assert_eq!(rt; check(history, seats, 2, 2), fault, "of {steps} steps");
+    same!(rt; (steps, check(history, seats, 2, 2)), (steps, fault));
 }
 
 fn numbers_are_checked<L: Sharing, R: Abort>(rt: &R, kept: &[Step], seats: &Seats<L>) {
     let missing = Some(SettleFault::SeatMissing);
     for (clients, engines) in [(1, 2), (3, 2), (2, 1), (2, 3)] {
         let found = check(kept, seats, clients, engines);
-        assert_eq!(rt; found, missing, "for {clients} clients");
+        same!(rt; (clients, engines, found), (clients, engines, missing));
     }
 }
 
+// A part of the history is another one for the first seat.
+fn part_is_checked<L: Sharing, R: Abort>(rt: &R, seats: &Seats<L>, part: Option<&[Step]>) {
+    let history = part.expect(rt, "nothing was submitted");
+    finds(rt, seats, history, Some(SettleFault::ReceiptMismatch(0)));
+}
+
 // Steps at the end or at the beginning are missing.
-fn parts_are_checked<L: Sharing, R: Abort>(
-    rt: &R,
-    kept: &[Step],
-    seats: &Seats<L>,
-) -> Result<(), Fail> {
-    for part in [kept.get(..7), kept.get(..8), kept.get(1..)] {
-        let history = part.ok_or("nothing was submitted")?;
-        finds(rt, seats, history, Some(SettleFault::ReceiptMismatch(0)));
-    }
-    Ok(())
+fn parts_are_checked<L: Sharing, R: Abort>(rt: &R, kept: &[Step], seats: &Seats<L>) {
+    part_is_checked(rt, seats, kept.get(..7));
+    part_is_checked(rt, seats, kept.get(..8));
+    part_is_checked(rt, seats, kept.get(1..));
 }
 
 // The seats differ at this place from a history with further steps.
@@ -87,27 +86,21 @@ fn differ_at<L: Sharing, R: Abort>(
     place: u64,
     history: Option<&[Step]>,
     steps: Option<&[Step]>,
-) -> Result<(), Fail> {
-    let history = history.ok_or("nothing was set up")?;
-    let steps = steps.ok_or("nothing was submitted")?;
-    let all = with(alloc, history, steps)?;
+) {
+    let history = history.expect(rt, "nothing was set up");
+    let steps = steps.expect(rt, "nothing was submitted");
+    let all = with(alloc, history, steps).expect(rt, "memory for steps");
     finds(rt, seats, &all, Some(SettleFault::ReceiptMismatch(place)));
-    Ok(())
 }
 
 // The seats against the history that they made, against others, and for other numbers of seats.
-fn are_checked<L: Sharing, R: Abort>(
-    rt: &R,
-    alloc: Global,
-    kept: &[Step],
-    seats: &Seats<L>,
-) -> Result<(), Fail> {
+fn are_checked<L: Sharing, R: Abort>(rt: &R, alloc: Global, kept: &[Step], seats: &Seats<L>) {
     finds(rt, seats, kept, None);
     numbers_are_checked(rt, kept, seats);
-    parts_are_checked(rt, kept, seats)?;
-    differ_at(rt, alloc, seats, 6, kept.get(..6), kept.get(7..))?;
-    differ_at(rt, alloc, seats, 0, kept.get(..7), Some(&exchanged()))?;
-    differ_at(rt, alloc, seats, 0, Some(kept), Some(&[taken(1, 0)]))
+    parts_are_checked(rt, kept, seats);
+    differ_at(rt, alloc, seats, 6, kept.get(..6), kept.get(7..));
+    differ_at(rt, alloc, seats, 0, kept.get(..7), Some(&exchanged()));
+    differ_at(rt, alloc, seats, 0, Some(kept), Some(&[taken(1, 0)]));
 }
 
 // Two submissions, each with the name of the other.
@@ -130,36 +123,41 @@ fn with(alloc: Global, history: &[Step], steps: &[Step]) -> Result<Vec<Step>, Al
 fn are_counted<L: Sharing, R: Abort>(rt: &R, seats: &Seats<L>) {
     clients_are_counted(rt, &seats.clients);
     engines_are_counted(rt, &seats.engines);
-    let admin = seats.admin.as_ref().map(|seat| (seat.steps(), seat.lost()));
-    assert_eq!(rt; admin, Some((7, 0)));
+    let admin = seats.admin.as_ref().expect(rt, "an administrator");
+    same!(rt; (admin.steps(), admin.lost()), (7, 0));
 }
 
 fn clients_are_counted<L: Sharing, R: Abort>(rt: &R, seats: &[ClientSeat<L>]) {
-    assert_eq!(rt; seats.len(), 2);
+    same!(rt; seats.len(), 2);
     for seat in seats {
-        let counts = (seat.accepted(), seat.retried(), seat.steps());
-        let made = if seat.number() == 0 { 1 } else { 0 };
-        assert_eq!(rt; counts, (made, 0, made), "of client {}", seat.number());
+        client_is_counted(rt, seat);
     }
 }
 
+// The first client made one step.
+fn client_is_counted<L: Sharing, R: Abort>(rt: &R, seat: &ClientSeat<L>) {
+    let counts = (seat.accepted(), seat.retried(), seat.steps());
+    let made = if seat.number() == 0 { 1 } else { 0 };
+    same!(rt; counts, (made, 0, made), seat.number());
+}
+
 fn engines_are_counted<L: Sharing, R: Abort>(rt: &R, seats: &[EngineSeat<L>]) {
-    assert_eq!(rt; seats.len(), 2);
+    same!(rt; seats.len(), 2);
     for seat in seats {
-        let counts = (seat.fetched(), seat.done(), seat.lost(), seat.steps());
-        let ended = if seat.number() == 0 { 1 } else { 0 };
-        assert_eq!(rt;
-            counts,
-            (0, ended, 0, 2 * ended),
-            "of engine {}",
-            seat.number()
-        );
+        engine_is_counted(rt, seat);
     }
+}
+
+// The first engine took an entry and ended it.
+fn engine_is_counted<L: Sharing, R: Abort>(rt: &R, seat: &EngineSeat<L>) {
+    let counts = (seat.fetched(), seat.done(), seat.lost(), seat.steps());
+    let ended = if seat.number() == 0 { 1 } else { 0 };
+    same!(rt; counts, (0, ended, 0, 2 * ended), seat.number());
 }
 
 impl<'a, S: EntryStore, L: Sharing, R: Wait + Abort> Stage<'a, S, L, R> {
     // Settling is refused for a seat that is missing, and all comes back.
-    fn not_settled(self) -> Result<Self, Fail> {
+    fn not_settled(self) -> Self {
         let Stage {
             rt,
             alloc,
@@ -167,66 +165,69 @@ impl<'a, S: EntryStore, L: Sharing, R: Wait + Abort> Stage<'a, S, L, R> {
             seats,
             record,
         } = self;
-        let Err(refused) = shared.settle(seats) else {
-            return Err("settled without a seat")?;
+        let refused = match shared.settle(seats) {
+            Ok(_) => panic!(rt; "settled without a seat"),
+            Err(refused) => refused,
         };
-        assert_eq!(rt; refused.fault, SettleFault::SeatMissing);
-        Ok(Stage {
+        same!(rt; refused.fault, SettleFault::SeatMissing);
+        Stage {
             rt,
             alloc,
             shared: refused.device,
             seats: refused.seats,
             record,
-        })
+        }
     }
 
-    fn without_administrator(self) -> Result<Self, Fail> {
+    fn without_administrator(self) -> Self {
         let mut stage = self;
         let admin = stage.seats.admin.take();
-        let mut stage = stage.not_settled()?;
-        assert!(stage.rt; stage.seats.admin.is_none());
+        let mut stage = stage.not_settled();
+        claim!(stage.rt; stage.seats.admin.is_none());
         let seats = &mut stage.seats;
         seats.admin = admin;
-        Ok(stage)
+        stage
     }
 
     // The client comes back in front of the others.
-    fn without_client(self) -> Result<Self, Fail> {
+    fn without_client(self) -> Self {
         let mut stage = self;
-        let client = stage.seats.clients.pop().ok_or("there is no client")?;
-        let mut stage = stage.not_settled()?;
-        assert_eq!(stage.rt; stage.seats.clients.len(), 1);
-        stage.seats.clients.insert(0, client)?;
-        Ok(stage)
+        let rt = stage.rt;
+        let client = stage.seats.clients.pop().expect(rt, "a client");
+        let mut stage = stage.not_settled();
+        same!(rt; stage.seats.clients.len(), 1);
+        stage.seats.clients.insert(0, client).expect(rt, "room");
+        stage
     }
 
     // The engine comes back in front of the others.
-    fn without_engine(self) -> Result<Self, Fail> {
+    fn without_engine(self) -> Self {
         let mut stage = self;
-        let engine = stage.seats.engines.pop().ok_or("there is no engine")?;
-        let mut stage = stage.not_settled()?;
-        assert_eq!(stage.rt; stage.seats.engines.len(), 1);
-        stage.seats.engines.insert(0, engine)?;
-        Ok(stage)
+        let rt = stage.rt;
+        let engine = stage.seats.engines.pop().expect(rt, "an engine");
+        let mut stage = stage.not_settled();
+        same!(rt; stage.seats.engines.len(), 1);
+        stage.seats.engines.insert(0, engine).expect(rt, "room");
+        stage
     }
 
     // One No-op of each client.
-    fn post_two(&mut self) -> Result<(), Fail> {
+    fn post_two(&mut self) {
         self.make(&[
             limited(NO_OP, accepted(0)),
             written_to(0, ENQCMD, NO_OP, accepted(1)),
-        ])
+        ]);
     }
 
     /// One No-op of each client, and then settling: with a seat missing, and with seats in another order.
-    pub fn seats_withheld(self) -> Result<(), Fail> {
+    pub fn seats_withheld(self) {
         let mut stage = self;
-        stage.set_up()?;
-        stage.post_two()?;
-        are_checked(stage.rt, stage.alloc, &stage.record.kept, &stage.seats)?;
-        let stage = stage.without_administrator()?;
-        let stage = stage.without_client()?.without_engine()?;
-        stage.settles_with(totals(2, 0, 0, 0, 0, 2, 9))
+        stage.set_up();
+        stage.post_two();
+        are_checked(stage.rt, stage.alloc, &stage.record.kept, &stage.seats);
+        let stage = stage.without_administrator();
+        let stage = stage.without_client().without_engine();
+        stage.settles_with(totals(2, 0, 0, 0, 0, 2, 9));
     }
 }
 
@@ -237,33 +238,31 @@ where
     R: Threads + Wait + Abort + Sync,
 {
     /// One No-op from its submission to its fate, which threads read that were started after it.
-    pub fn fate_is_read(self) -> Result<(), Fail> {
+    pub fn fate_is_read(self) {
         let mut stage = self;
-        stage.set_up()?;
-        stage.submit_and_read()?;
-        stage.finish_and_read()?;
-        stage.settles_with(totals(1, 0, 0, 1, 0, 0, 10))
+        stage.set_up();
+        stage.submit_and_read();
+        stage.finish_and_read();
+        stage.settles_with(totals(1, 0, 0, 1, 0, 0, 10));
     }
 
-    fn submit_and_read(&mut self) -> Result<(), Fail> {
-        self.make(&[limited(NO_OP, accepted(0))])?;
+    fn submit_and_read(&mut self) {
+        self.make(&[limited(NO_OP, accepted(0))]);
         self.tells(0, None, 1);
-        Ok(())
     }
 
-    fn finish_and_read(&mut self) -> Result<(), Fail> {
-        self.make(&[taken(0, 0), done(0, 0x01)])?;
+    fn finish_and_read(&mut self) {
+        self.make(&[taken(0, 0), done(0, 0x01)]);
         let completed = Some(Fate::Completed(0x01));
-        assert_eq!(self.rt; self.fate_by_two(), (completed, completed));
+        same!(self.rt; self.fate_by_two(), (completed, completed));
         self.tells(1, None, 0);
         are_counted(self.rt, &self.seats);
-        Ok(())
     }
 
     // What became of an entry, and how many are held.
     fn tells(&self, name: u32, fate: Option<Fate>, held: u32) {
-        assert_eq!(self.rt; self.shared.fate(self.rt, name), fate);
-        assert_eq!(self.rt; self.shared.held(self.rt), held);
+        same!(self.rt; self.shared.fate(self.rt, name), fate);
+        same!(self.rt; self.shared.held(self.rt), held);
     }
 
     // What became of the first entry, read by two threads that are started here.
@@ -274,11 +273,11 @@ where
 }
 
 #[test]
-fn settling_without_a_seat(rt: HostRuntime) -> Result<(), Fail> {
-    over_both_stores(&rt, rt.alloc(), Trial::SeatsWithheld)
+fn settling_without_a_seat(rt: HostRuntime) {
+    over_both_stores(&rt, rt.alloc(), Trial::SeatsWithheld);
 }
 
 #[test]
-fn fate_in_other_threads(rt: HostRuntime) -> Result<(), Fail> {
-    over_both_stores(&rt, rt.alloc(), Trial::FateIsRead)
+fn fate_in_other_threads(rt: HostRuntime) {
+    over_both_stores(&rt, rt.alloc(), Trial::FateIsRead);
 }

@@ -5,14 +5,12 @@ ghost use Rattle.std.specs.Prelude.{◌≡◌};
 use dsa_book::WriteAnswer;
 use dsa_cells::LinkedStore;
 use dsa_device::Device;
-use dsa_fixtures::{CAPS, SHARED_QUEUE};
-use dsa_regs::{cell_count, check_caps, list_count};
+use dsa_fixtures::{CAPS, CELLS, LISTS, SHARED_QUEUE};
 use dsa_shared::{Blanks, ShareFault, SharedDevice, Sharing};
 use dsa_store::{EntryStore, PlainStore};
 use std::alloc::{Allocator, Global};
 use std::marker::Brand;
 use std::process::Abort;
-use std::test::Fail;
 
 // How many seats clients have and how many engines, once the device is shared and settled.
 fn seats_of<S: EntryStore, L: Sharing, A: Allocator + Copy>(
@@ -60,7 +58,7 @@ pub fn has_steps<S: EntryStore, R: Abort>(
     steps: usize,
 ) {
     if let Some((device, _)) = rest {
-        assert_eq!(rt; device.history().len(), steps);
+        same!(rt; device.history().len(), steps);
     }
 }
 
@@ -70,63 +68,62 @@ fn are_refused<S: EntryStore, R: Abort>(
     alloc: Global,
     device: Device<S>,
     table: &[(u16, Result<(usize, usize), ShareFault>)],
-) -> Result<(), Fail> {
+) {
     let steps = device.history().len();
     let mut rest = Some((device, Blanks::new()));
     for (clients, expected) in table {
-        let Some((device, blanks)) = rest else {
-            return Err("the device is gone")?;
-        };
+        let (device, blanks) = rest.expect(rt, "a device that came back");
         let (found, back) = tried(alloc, device, blanks, *clients);
-        assert_eq!(rt; found, *expected, "for {clients} clients");
+        same!(rt; found, *expected, *clients);
         has_steps(rt, &back, steps);
         rest = back;
     }
-    Ok(())
 }
 
-fn fresh<S: EntryStore>(alloc: Global, store: S) -> Result<Device<S>, Fail> {
-    let Ok(device) = Device::new(alloc, store, CAPS, 100) else {
-        return Err("the device was not made")?;
-    };
-    Ok(device)
+fn fresh<S: EntryStore, R: Abort>(rt: &R, alloc: Global, store: S) -> Device<S> {
+    match Device::new(alloc, store, CAPS, 100) {
+        Ok(device) => device,
+        Err(_) => panic!(rt; "the device was not made"),
+    }
 }
 
 /// A device over a store of vectors that has made no step.
-pub fn over_vectors<R: Abort>(rt: &R, alloc: Global) -> Result<Device<PlainStore>, Fail> {
-    assert!(rt; check_caps(&CAPS));
-    let store = PlainStore::new(alloc, list_count(&CAPS), cell_count(&CAPS))?;
-    fresh(alloc, store)
+pub fn over_vectors<R: Abort>(rt: &R, alloc: Global) -> Device<PlainStore> {
+    let store = PlainStore::new(alloc, LISTS, CELLS).expect(rt, "memory for a store");
+    fresh(rt, alloc, store)
 }
 
 /// The same over linked cells.
-pub fn over_cells<R: Abort>(rt: &R, alloc: Global) -> Result<Device<LinkedStore>, Fail> {
-    assert!(rt; check_caps(&CAPS));
-    let store = LinkedStore::new(alloc, list_count(&CAPS), cell_count(&CAPS))?;
-    fresh(alloc, store)
+pub fn over_cells<R: Abort>(rt: &R, alloc: Global) -> Device<LinkedStore> {
+    let store = LinkedStore::new(alloc, LISTS, CELLS).expect(rt, "memory for a store");
+    fresh(rt, alloc, store)
 }
 
-#[test]
-fn numbers_of_clients(rt: HostRuntime) -> Result<(), Fail> {
-    let alloc = rt.alloc();
+// No client, and more than there are, and then so many.
+fn most_are_shared<S: EntryStore, R: Abort>(rt: &R, alloc: Global, device: Device<S>, most: u16) {
     let none = Err(ShareFault::BadClients);
-    for most in [1u16, 64] {
-        let table = [(0, none), (65, none), (most, Ok((usize::from(most), 2)))];
-        are_refused(&rt, alloc, over_vectors(&rt, alloc)?, &table)?;
-        are_refused(&rt, alloc, over_cells(&rt, alloc)?, &table)?;
-    }
-    Ok(())
+    let table = [(0, none), (65, none), (most, Ok((usize::from(most), 2)))];
+    are_refused(rt, alloc, device, &table);
 }
 
 #[test]
-fn device_with_a_step(rt: HostRuntime) -> Result<(), Fail> {
+fn numbers_of_clients(rt: HostRuntime) {
     let alloc = rt.alloc();
-    let mut device = over_cells(&rt, alloc)?;
-    assert_eq!(rt; device.write_queue(0, SHARED_QUEUE), WriteAnswer::Written);
+    for most in [1u16, 64] {
+        most_are_shared(&rt, alloc, over_vectors(&rt, alloc), most);
+        most_are_shared(&rt, alloc, over_cells(&rt, alloc), most);
+    }
+}
+
+#[test]
+fn device_with_a_step(rt: HostRuntime) {
+    let alloc = rt.alloc();
+    let mut device = over_cells(&rt, alloc);
+    same!(&rt; device.write_queue(0, SHARED_QUEUE), WriteAnswer::Written);
     let table = [
         (0, Err(ShareFault::BadClients)),
         (65, Err(ShareFault::BadClients)),
         (1, Err(ShareFault::NotFresh)),
     ];
-    are_refused(&rt, alloc, device, &table)
+    are_refused(&rt, alloc, device, &table);
 }

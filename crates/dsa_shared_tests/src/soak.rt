@@ -11,11 +11,10 @@ use dsa_regs::{Caps, Command, GroupConfig, QueueConfig, QueueMask};
 use dsa_shared::{ClientSeat, Sharing};
 use dsa_store::EntryStore;
 use dsa_workers::{ClientStep, EngineScript, Scripts};
-use std::alloc::{AllocError, Global};
+use std::alloc::Global;
 use std::marker::{Send, Sync};
 use std::process::Abort;
 use std::sync::Wait;
-use std::test::Fail;
 use std::thread::Threads;
 use std::time::Clock;
 
@@ -98,68 +97,89 @@ fn desc_at(place: usize) -> Descriptor {
     }
 }
 
-// A client's submissions, to the dedicated queue where its number says so.
-fn script_of(alloc: Global, client: u16) -> Result<Vec<ClientStep>, AllocError> {
-    let queue = client % 4;
-    let kind = if queue == 3 {
+// By MOVDIR64B to the dedicated queue, and else by ENQCMD.
+fn kind_of(client: u16) -> Kind {
+    if client % 4 == 3 {
         Kind::Movdir64b
     } else {
         Kind::Enqcmd {
             pasid: u32::from(client),
         }
-    };
-    let portal = if client < 8 {
+    }
+}
+
+fn portal_of(client: u16) -> Portal {
+    if client < 8 {
         Portal::Limited
     } else {
         Portal::Unlimited
-    };
-    let mut script = Vec::with_capacity(alloc, EACH)?;
+    }
+}
+
+// A client's submissions, to the dedicated queue where its number says so.
+fn script_of(rt: &impl Abort, alloc: Global, client: u16) -> Vec<ClientStep> {
+    let (queue, kind, portal) = (client % 4, kind_of(client), portal_of(client));
+    let mut script = Vec::new(alloc);
     for place in 0..EACH {
         let bytes = bytes_of(desc_at(place));
-        script.push(ClientStep {
+        let step = ClientStep {
             queue,
             portal,
             kind,
             bytes,
-        })?;
+        };
+        script.push(step).expect(rt, "memory for a script");
     }
-    Ok(script)
+    script
 }
 
-fn client_scripts(alloc: Global) -> Result<Vec<Vec<ClientStep>>, AllocError> {
+fn client_scripts(rt: &impl Abort, alloc: Global) -> Vec<Vec<ClientStep>> {
     let mut scripts = Vec::new(alloc);
     for client in 0..SOAKING_CLIENTS {
-        scripts.push(script_of(alloc, client)?)?;
+        let script = script_of(rt, alloc, client);
+        scripts.push(script).expect(rt, "memory for scripts");
     }
-    Ok(scripts)
+    scripts
 }
 
 // Some engines hand in members with fences, and some of these tell of page faults.
-fn engine_scripts(alloc: Global) -> Result<Vec<EngineScript>, AllocError> {
-    let mut scripts = Vec::new(alloc);
-    for engine in 0..ENGINES {
-        let (member, outcome) = match engine % 4 {
-            0 => (FENCED_NO_OP, Outcome::Success),
-            1 => (FENCED_MOVE, Outcome::PageFault),
-            _ => (MOVE, Outcome::Success),
-        };
-        scripts.push(EngineScript { member, outcome })?;
-    }
-    Ok(scripts)
+fn engine_script(engine: u16) -> EngineScript {
+    let (member, outcome) = match engine % 4 {
+        0 => (FENCED_NO_OP, Outcome::Success),
+        1 => (FENCED_MOVE, Outcome::PageFault),
+        _ => (MOVE, Outcome::Success),
+    };
+    EngineScript { member, outcome }
 }
 
-fn admin_script(alloc: Global) -> Result<Vec<Command>, AllocError> {
+fn engine_scripts(rt: &impl Abort, alloc: Global) -> Vec<EngineScript> {
+    let mut scripts = Vec::new(alloc);
+    for engine in 0..ENGINES {
+        let script = engine_script(engine);
+        scripts.push(script).expect(rt, "memory for scripts");
+    }
+    scripts
+}
+
+fn admin_script(rt: &impl Abort, alloc: Global) -> Vec<Command> {
     let mut script = Vec::new(alloc);
     for _again in 0..50 {
-        script.extend_from_slice(&commands())?;
+        let more = script.extend_from_slice(&commands());
+        more.expect(rt, "memory for a script");
     }
-    Ok(script)
+    script
+}
+
+fn queue(number: u16) -> Step {
+    queue_written(number, queue_config(number), WriteAnswer::Written)
+}
+
+fn group(number: u16) -> Step {
+    group_written(number, group_config(number), WriteAnswer::Written)
 }
 
 // What configures four queues and their groups.
 fn configured() -> [Step; 8] {
-    let queue = |number| queue_written(number, queue_config(number), WriteAnswer::Written);
-    let group = |number| group_written(number, group_config(number), WriteAnswer::Written);
     [
         queue(0),
         group(0),
@@ -183,22 +203,29 @@ fn enabled() -> [Step; 5] {
     ]
 }
 
-fn scripts(alloc: Global) -> Result<Scripts, AllocError> {
-    Ok(Scripts {
-        clients: client_scripts(alloc)?,
-        engines: engine_scripts(alloc)?,
-        admin: admin_script(alloc)?,
-    })
+fn scripts(rt: &impl Abort, alloc: Global) -> Scripts {
+    Scripts {
+        clients: client_scripts(rt, alloc),
+        engines: engine_scripts(rt, alloc),
+        admin: admin_script(rt, alloc),
+    }
 }
 
 // How many submissions of the clients were accepted.
 fn accepted_of<L: Sharing, R: Abort>(rt: &R, seats: &[ClientSeat<L>]) -> u64 {
     let mut accepted = 0u64;
     for seat in seats {
-        assert!(rt; seat.accepted() <= EACH as u64);
+        claim!(rt; seat.accepted() <= EACH as u64);
         accepted = accepted.saturating_add(seat.accepted());
     }
     accepted
+}
+
+// No worker had more turns than there are.
+fn had_no_more<R: Abort>(rt: &R, turns: &[u32]) {
+    for had in turns {
+        claim!(rt; *had <= TURNS);
+    }
 }
 
 impl<'a, S, L, R> Stage<'a, S, L, R>
@@ -208,37 +235,38 @@ where
     R: Threads + Wait + Clock + Abort + Sync,
 {
     /// Runs the workers, and adds up what they did.
-    pub fn soaked(self) -> Result<(), Fail> {
+    pub fn soaked(self) {
         let mut stage = self;
         let rt = stage.rt;
-        stage.enable_four()?;
-        let accepted = stage.soak()?;
-        let totals = stage.totals()?;
-        assert_eq!(rt; totals.accepted, accepted);
-        Ok(())
+        stage.enable_four();
+        let accepted = stage.soak();
+        let totals = stage.totals();
+        same!(rt; totals.accepted, accepted);
     }
 
     // Configures and enables the device and its queues.
-    fn enable_four(&mut self) -> Result<(), Fail> {
-        self.make(&configured())?;
-        self.make(&enabled())
+    fn enable_four(&mut self) {
+        self.make(&configured());
+        self.make(&enabled());
     }
 
     // How many submissions of the clients are accepted in a run.
-    fn soak(&mut self) -> Result<u64, Fail> {
+    fn soak(&mut self) -> u64 {
+        let rt = self.rt;
         let gate = Yielding {
             clients: usize::from(SOAKING_CLIENTS),
         };
-        let report = self.run(&scripts(self.alloc)?, &gate, TURNS)?;
-        assert!(self.rt; report.turns.iter().all(|turns| *turns <= TURNS));
-        Ok(accepted_of(self.rt, &self.seats.clients))
+        let scripts = scripts(rt, self.alloc);
+        let ran = self.run(&scripts, &gate, TURNS);
+        let report = ran.expect(rt, "a run");
+        had_no_more(rt, &report.turns);
+        accepted_of(rt, &self.seats.clients)
     }
 }
 
 #[test]
-fn many_rounds(rt: HostRuntime) -> Result<(), Fail> {
+fn many_rounds(rt: HostRuntime) {
     for _round in 0..ROUNDS {
-        over_both_stores(&rt, rt.alloc(), Trial::Soak)?;
+        over_both_stores(&rt, rt.alloc(), Trial::Soak);
     }
-    Ok(())
 }

@@ -15,7 +15,6 @@ use std::alloc::Global;
 use std::marker::{Send, Sync};
 use std::process::Abort;
 use std::sync::Wait;
-use std::test::Fail;
 use std::thread::Threads;
 
 /// A shared device and its seats.
@@ -176,62 +175,63 @@ impl<'a, S: EntryStore, L: Sharing, R: Wait + Abort> Stage<'a, S, L, R> {
     }
 
     /// Makes the steps by their seats, each with its answer.
-    pub fn make(&mut self, steps: &[Step]) -> Result<(), Fail> {
+    pub fn make(&mut self, steps: &[Step]) {
         for (at, step) in steps.iter().enumerate() {
-            let event = meant_by(step.event, &self.record.tickets);
-            let Some(reply) = self.answer_to(event) else {
-                return Err("there is no such seat")?;
-            };
-            self.record
-                .note(self.rt, Step { event, reply }, step.reply, at)?;
+            self.make_one(*step, at);
         }
-        Ok(())
+    }
+
+    // Makes the step at this place of a table.
+    fn make_one(&mut self, step: Step, at: usize) {
+        let event = meant_by(step.event, &self.record.tickets);
+        let reply = self.answer_to(event).expect(self.rt, "such a seat");
+        self.record
+            .note(self.rt, Step { event, reply }, step.reply, at);
     }
 
     /// Enables the device and both its queues.
-    pub fn set_up(&mut self) -> Result<(), Fail> {
-        self.make(&writes())?;
-        self.make(&enables())
+    pub fn set_up(&mut self) {
+        self.make(&writes());
+        self.make(&enables());
     }
 
     /// Settles.
-    pub fn settled(self) -> Result<(Settled<S>, Record), Fail> {
+    pub fn settled(self) -> (Settled<S>, Record) {
         let Stage {
-            rt: _,
+            rt,
             alloc: _,
             shared,
             seats,
             record,
         } = self;
         match shared.settle(seats) {
-            Ok(settled) => Ok((settled, record)),
-            Err(_) => Err("settling was refused")?,
+            Ok(settled) => (settled, record),
+            Err(_) => panic!(rt; "settling was refused"),
         }
     }
 
     /// Settles, where what was done adds up.
-    pub fn totals(self) -> Result<Totals, Fail> {
+    pub fn totals(self) -> Totals {
         let (rt, alloc) = (self.rt, self.alloc);
-        let (settled, _) = self.settled()?;
-        add_up(rt, alloc, &settled)?;
-        Ok(settled.totals)
+        let (settled, _) = self.settled();
+        add_up(rt, alloc, &settled);
+        settled.totals
     }
 
     /// Settles, where each step stands in the record, with these totals.
-    pub fn settles_with(self, totals: Totals) -> Result<(), Fail> {
+    pub fn settles_with(self, totals: Totals) {
         let rt = self.rt;
-        let settled = self.settled_as_told()?;
-        assert_eq!(rt; settled.totals, totals);
-        Ok(())
+        let settled = self.settled_as_told();
+        same!(rt; settled.totals, totals);
     }
 
     /// Settles, where each step stands in the record.
-    pub fn settled_as_told(self) -> Result<Settled<S>, Fail> {
+    pub fn settled_as_told(self) -> Settled<S> {
         let rt = self.rt;
         self.record.is_told_by(rt, &self.seats);
-        let (settled, record) = self.settled()?;
-        assert_eq!(rt; settled.device.history(), record.kept.as_slice());
-        Ok(settled)
+        let (settled, record) = self.settled();
+        same!(rt; settled.device.history(), record.kept.as_slice());
+        settled
     }
 }
 
@@ -263,16 +263,18 @@ where
 
 impl Record {
     // A step with the reply that it had, which has to be the one that the table means.
-    fn note<R: Abort>(&mut self, rt: &R, made: Step, reply: Reply, at: usize) -> Result<(), Fail> {
+    fn note<R: Abort>(&mut self, rt: &R, made: Step, reply: Reply, at: usize) {
         if let Some(given) = given_by(made.reply) {
-            self.tickets.push(given)?;
+            self.tickets.push(given).expect(rt, "memory for a ticket");
         }
-        let meant = reply_meant_by(reply, &self.tickets);
-        assert_eq!(rt; made.reply, meant, "at step {at}");
+        same!(rt; made.reply, reply_meant_by(reply, &self.tickets), at);
+        self.keep(rt, made);
+    }
+
+    fn keep<R: Abort>(&mut self, rt: &R, made: Step) {
         if made.reply.is_stored() {
-            self.kept.push(made)?;
+            self.kept.push(made).expect(rt, "memory for a step");
         }
-        Ok(())
     }
 
     /// Each seat has the steps that it made as its receipts.
@@ -297,10 +299,7 @@ impl Record {
     }
 
     fn is_told<R: Abort>(&self, rt: &R, actor: Actor, receipts: &[Step]) {
-        assert_eq!(rt;
-            compare_receipts(&self.kept, actor, receipts),
-            None,
-            "of {actor:?}"
-        );
+        let differ_at = compare_receipts(&self.kept, actor, receipts);
+        same!(rt; (actor, differ_at), (actor, None));
     }
 }

@@ -15,7 +15,6 @@ use std::alloc::Global;
 use std::marker::{Brand, Send, Sync};
 use std::process::Abort;
 use std::sync::Wait;
-use std::test::Fail;
 use std::thread::Threads;
 use std::time::Clock;
 
@@ -53,7 +52,7 @@ where
     L: Sharing + Send + Sync,
     R: Threads + Wait + Clock + Abort + Sync,
 {
-    fn try_on(self, trial: Trial) -> Result<(), Fail> {
+    fn try_on(self, trial: Trial) {
         match trial {
             Trial::Play(play) => self.played(play),
             Trial::PlayEnabled(play) => self.played_enabled(play),
@@ -70,27 +69,40 @@ where
 }
 
 /// Makes the trial over a store of vectors and over one of linked cells.
-pub fn over_both_stores<R>(rt: &R, alloc: Global, trial: Trial) -> Result<(), Fail>
+pub fn over_both_stores<R>(rt: &R, alloc: Global, trial: Trial)
 where
     R: Threads + Wait + Clock + Abort + Sync,
 {
     let (caps, _, _) = trial.shape();
-    assert!(rt; check_caps(&caps));
-    let (lists, cells) = (list_count(&caps), cell_count(&caps));
-    over_store(rt, alloc, trial, PlainStore::new(alloc, lists, cells)?)?;
-    over_store(rt, alloc, trial, LinkedStore::new(alloc, lists, cells)?)
+    let (lists, cells) = counts(rt, &caps);
+    let plain = PlainStore::new(alloc, lists, cells).expect(rt, "memory for a store");
+    over_store(rt, alloc, trial, plain);
+    let linked = LinkedStore::new(alloc, lists, cells).expect(rt, "memory for a store");
+    over_store(rt, alloc, trial, linked);
 }
 
-fn over_store<S, R>(rt: &R, alloc: Global, trial: Trial, store: S) -> Result<(), Fail>
+// How many lists and cells the device asks of a store.
+fn counts(rt: &impl Abort, caps: &Caps) -> (u16, u32) {
+    assert!(rt; check_caps(caps));
+    (list_count(caps), cell_count(caps))
+}
+
+fn device_of<S: EntryStore>(rt: &impl Abort, alloc: Global, trial: Trial, store: S) -> Device<S> {
+    let (caps, capacity, _) = trial.shape();
+    match Device::new(alloc, store, caps, capacity) {
+        Ok(device) => device,
+        Err(_) => panic!(rt; "the device was not made"),
+    }
+}
+
+fn over_store<S, R>(rt: &R, alloc: Global, trial: Trial, store: S)
 where
     S: EntryStore + Send,
     R: Threads + Wait + Clock + Abort + Sync,
 {
-    let (caps, capacity, clients) = trial.shape();
-    let Ok(device) = Device::new(alloc, store, caps, capacity) else {
-        return Err("the device was not made")?;
-    };
-    over_device::<S, Brand, R>(rt, alloc, trial, device, Blanks::new(), clients)
+    let (_, _, clients) = trial.shape();
+    let device = device_of(rt, alloc, trial, store);
+    over_device::<S, Brand, R>(rt, alloc, trial, device, Blanks::new(), clients);
 }
 
 fn over_device<S, L, R>(
@@ -100,7 +112,7 @@ fn over_device<S, L, R>(
     device: Device<S>,
     blanks: Blanks,
     clients: u16,
-) -> Result<(), Fail>
+)
 where
     S: EntryStore + Send,
     L: Sharing + Send + Sync,
@@ -109,8 +121,8 @@ where
     requires device { (L.caps ≡ device.caps) × (L.capacity ≡ device.capacity) }
     requires clients { L.clients ≡ clients }
 {
-    let Ok((shared, seats)) = SharedDevice::<S, L>::new(alloc, device, blanks, clients) else {
-        return Err("the device was not shared")?;
-    };
-    Stage::new(rt, alloc, shared, seats).try_on(trial)
+    match SharedDevice::<S, L>::new(alloc, device, blanks, clients) {
+        Ok((shared, seats)) => Stage::new(rt, alloc, shared, seats).try_on(trial),
+        Err(_) => panic!(rt; "the device was not shared"),
+    }
 }

@@ -10,11 +10,10 @@ use dsa_regs::Command;
 use dsa_shared::{ClientSeat, Sharing};
 use dsa_store::EntryStore;
 use dsa_workers::{ClientStep, EngineScript, Gate, RunFault, RunReport, Scripts, WorkerEnd};
-use std::alloc::{AllocError, Global};
+use std::alloc::Global;
 use std::marker::{Send, Sync};
 use std::process::Abort;
 use std::sync::Wait;
-use std::test::Fail;
 use std::thread::Threads;
 use std::time::Clock;
 
@@ -33,60 +32,71 @@ fn submission(queue: u16, kind: Kind, desc: Descriptor) -> ClientStep {
     }
 }
 
+// So often to the queue.
+fn often(rt: &impl Abort, alloc: Global, step: ClientStep, count: usize) -> Vec<ClientStep> {
+    Vec::from_elem(alloc, step, count).expect(rt, "memory for a script")
+}
+
 // So often by ENQCMD to the shared queue.
-fn enqueued(alloc: Global, desc: Descriptor, count: usize) -> Result<Vec<ClientStep>, AllocError> {
-    Vec::from_elem(alloc, submission(0, ENQCMD, desc), count)
+fn enqueued(rt: &impl Abort, alloc: Global, desc: Descriptor, count: usize) -> Vec<ClientStep> {
+    often(rt, alloc, submission(0, ENQCMD, desc), count)
 }
 
 // So often by MOVDIR64B to the dedicated queue.
-fn posted(alloc: Global, count: usize) -> Result<Vec<ClientStep>, AllocError> {
-    Vec::from_elem(alloc, submission(1, Kind::Movdir64b, NO_OP), count)
+fn posted(rt: &impl Abort, alloc: Global, count: usize) -> Vec<ClientStep> {
+    often(rt, alloc, submission(1, Kind::Movdir64b, NO_OP), count)
+}
+
+fn engines(rt: &impl Abort, alloc: Global, count: usize) -> Vec<EngineScript> {
+    Vec::from_elem(alloc, ENGINE, count).expect(rt, "memory for scripts")
 }
 
 // The scripts of two clients, of two engines and of an administrator.
 fn scripts_of(
+    rt: &impl Abort,
     alloc: Global,
     first: Vec<ClientStep>,
     second: Vec<ClientStep>,
     commands: &[Command],
-) -> Result<Scripts, AllocError> {
+) -> Scripts {
     let mut clients = Vec::new(alloc);
-    clients.push(first)?;
-    clients.push(second)?;
-    let engines = Vec::from_elem(alloc, ENGINE, 2)?;
+    clients.push(first).expect(rt, "memory for scripts");
+    clients.push(second).expect(rt, "memory for scripts");
     let mut admin = Vec::new(alloc);
-    admin.extend_from_slice(commands)?;
-    Ok(Scripts {
+    let more = admin.extend_from_slice(commands);
+    more.expect(rt, "memory for a script");
+    Scripts {
         clients,
-        engines,
+        engines: engines(rt, alloc, 2),
         admin,
-    })
+    }
 }
 
 // Twenty submissions to each queue, a drain and an abort.
-fn busy(alloc: Global) -> Result<Scripts, AllocError> {
+fn busy(rt: &impl Abort, alloc: Global) -> Scripts {
     let commands = [Command::DrainAll, Command::AbortPasid(5)];
-    let moves = enqueued(alloc, MOVE, 20)?;
-    scripts_of(alloc, moves, posted(alloc, 20)?, &commands)
+    let moves = enqueued(rt, alloc, MOVE, 20);
+    scripts_of(rt, alloc, moves, posted(rt, alloc, 20), &commands)
 }
 
 // One No-op of each of two clients.
-fn one_each(alloc: Global) -> Result<Scripts, AllocError> {
-    let first = enqueued(alloc, NO_OP, 1)?;
-    scripts_of(alloc, first, enqueued(alloc, NO_OP, 1)?, &[])
+fn one_each(rt: &impl Abort, alloc: Global) -> Scripts {
+    let first = enqueued(rt, alloc, NO_OP, 1);
+    scripts_of(rt, alloc, first, enqueued(rt, alloc, NO_OP, 1), &[])
 }
 
 /// Scripts for some numbers of seats, each of one step.
-pub fn scripts_for(alloc: Global, clients: usize, engines: usize) -> Result<Scripts, AllocError> {
+pub fn scripts_for(rt: &impl Abort, alloc: Global, clients: usize, count: usize) -> Scripts {
     let mut scripts = Vec::new(alloc);
     for _client in 0..clients {
-        scripts.push(enqueued(alloc, NO_OP, 1)?)?;
+        let script = enqueued(rt, alloc, NO_OP, 1);
+        scripts.push(script).expect(rt, "memory for scripts");
     }
-    Ok(Scripts {
+    Scripts {
         clients: scripts,
-        engines: Vec::from_elem(alloc, ENGINE, engines)?,
-        admin: Vec::from_elem(alloc, Command::DrainAll, 1)?,
-    })
+        engines: engines(rt, alloc, count),
+        admin: Vec::from_elem(alloc, Command::DrainAll, 1).expect(rt, "memory for a script"),
+    }
 }
 
 // How many turns each of five workers had, and how it ended.
@@ -94,8 +104,8 @@ type Five = [(u32, WorkerEnd); 5];
 
 // What five workers did.
 fn five(rt: &impl Abort, report: &RunReport) -> Five {
-    assert_eq!(rt; report.turns.len(), 5);
-    assert_eq!(rt; report.ended.len(), 5);
+    assert!(rt; report.turns.len() == 5);
+    assert!(rt; report.ended.len() == 5);
     let mut items = [(0, WorkerEnd::TurnsOut); 5];
     for k in 0..5usize {
         items[k] = (report.turns[k], report.ended[k]);
@@ -110,24 +120,31 @@ fn accept_no_more<L: Sharing>(
     scripts: &[Vec<ClientStep>],
 ) {
     for (seat, script) in seats.iter().zip(scripts) {
-        assert!(rt; seat.accepted() <= script.len() as u64);
+        claim!(rt; seat.accepted() <= script.len() as u64);
     }
 }
 
 fn were_busy(rt: &impl Abort, five: Five) {
     let [client, poster, engine, other, admin] = five;
-    assert_ne!(rt; client.1, WorkerEnd::HistoryFull);
-    assert_eq!(rt; poster, (20, WorkerEnd::ScriptDone));
-    assert_eq!(rt; engine, (2_000, WorkerEnd::TurnsOut));
-    assert_eq!(rt; other, (2_000, WorkerEnd::TurnsOut));
-    assert_ne!(rt; admin.1, WorkerEnd::HistoryFull);
+    claim!(rt; client.1 != WorkerEnd::HistoryFull);
+    same!(rt; poster, (20, WorkerEnd::ScriptDone));
+    same!(rt; engine, (2_000, WorkerEnd::TurnsOut));
+    same!(rt; other, (2_000, WorkerEnd::TurnsOut));
+    claim!(rt; admin.1 != WorkerEnd::HistoryFull);
 }
 
 fn have_met(rt: &impl Abort, five: Five) {
     let [first, second, _, _, admin] = five;
-    assert_eq!(rt; first, (1, WorkerEnd::ScriptDone));
-    assert_eq!(rt; second, (1, WorkerEnd::ScriptDone));
-    assert_eq!(rt; admin, (0, WorkerEnd::ScriptDone));
+    same!(rt; first, (1, WorkerEnd::ScriptDone));
+    same!(rt; second, (1, WorkerEnd::ScriptDone));
+    same!(rt; admin, (0, WorkerEnd::ScriptDone));
+}
+
+// No worker had more than so many turns.
+fn had_no_more(rt: &impl Abort, five: &Five, turns: u32) {
+    for (had, _) in five {
+        claim!(rt; *had <= turns);
+    }
 }
 
 impl<'a, S, L, R> Stage<'a, S, L, R>
@@ -143,10 +160,11 @@ where
         gate: &G,
         passes: &Passes,
         turns: u32,
-    ) -> Result<Five, Fail> {
-        let report = self.run(scripts, gate, turns)?;
-        passes.are_those_of(self.rt, &report);
-        Ok(five(self.rt, &report))
+    ) -> Five {
+        let rt = self.rt;
+        let report = self.run(scripts, gate, turns).expect(rt, "a run");
+        passes.are_those_of(rt, &report);
+        five(rt, &report)
     }
 
     // The same once the device and its queues are enabled.
@@ -156,151 +174,140 @@ where
         gate: &G,
         passes: &Passes,
         turns: u32,
-    ) -> Result<Five, Fail> {
-        self.set_up()?;
-        let five = self.five(scripts, gate, passes, turns)?;
+    ) -> Five {
+        self.set_up();
+        let five = self.five(scripts, gate, passes, turns);
         accept_no_more(self.rt, &self.seats.clients, &scripts.clients);
-        assert!(self.rt; five.iter().all(|(had, _)| *had <= turns));
-        Ok(five)
+        had_no_more(self.rt, &five, turns);
+        five
+    }
+
+    fn passes(&self) -> Passes {
+        Passes::new(self.alloc, 5).expect(self.rt, "memory for a gate")
     }
 
     // The same with the busy scripts.
-    fn work_busily(&mut self) -> Result<Five, Fail> {
-        let gate = Passes::new(self.alloc, 5)?;
-        let scripts = busy(self.alloc)?;
+    fn work_busily(&mut self) -> Five {
+        let gate = self.passes();
+        let scripts = busy(self.rt, self.alloc);
         self.work(&scripts, &gate, &gate, 2_000)
     }
 
     /// Two clients, two engines and an administrator.
-    pub fn busy_run(self) -> Result<(), Fail> {
+    pub fn busy_run(self) {
         let mut stage = self;
         let rt = stage.rt;
-        let five = stage.work_busily()?;
-        let totals = stage.totals()?;
-        assert_eq!(rt; totals.fetched, 0);
+        let five = stage.work_busily();
+        let totals = stage.totals();
+        same!(rt; totals.fetched, 0);
         were_busy(rt, five);
-        Ok(())
     }
 
     /// The same with a history that fills while they run: the clients alone have more steps to make than
     /// it has room for.
-    pub fn history_fills(self) -> Result<(), Fail> {
+    pub fn history_fills(self) {
         let mut stage = self;
         let rt = stage.rt;
-        let [client, poster, _, _, _] = stage.work_busily()?;
-        let totals = stage.totals()?;
-        assert_eq!(rt; totals.steps, 40);
-        assert!(rt; client.1 == WorkerEnd::HistoryFull || poster.1 == WorkerEnd::HistoryFull);
-        Ok(())
+        let [client, poster, _, _, _] = stage.work_busily();
+        let totals = stage.totals();
+        same!(rt; totals.steps, 40);
+        claim!(rt; client.1 == WorkerEnd::HistoryFull || poster.1 == WorkerEnd::HistoryFull);
     }
 
     /// One No-op of each of two clients, neither of which submits before the other has come.
-    pub fn clients_meet(self) -> Result<(), Fail> {
+    pub fn clients_meet(self) {
         let mut stage = self;
         let rt = stage.rt;
-        let five = stage.work_to_meet()?;
+        let five = stage.work_to_meet();
         have_met(rt, five);
-        let totals = stage.totals()?;
-        assert_eq!(rt; totals.accepted, 2);
-        Ok(())
+        let totals = stage.totals();
+        same!(rt; totals.accepted, 2);
     }
 
-    fn work_to_meet(&mut self) -> Result<Five, Fail> {
+    fn work_to_meet(&mut self) -> Five {
         let rt = self.rt;
-        let scripts = one_each(self.alloc)?;
-        let gate = Meeting::new(rt, self.alloc)?;
-        let five = self.work(&scripts, &gate, &gate.passes, 100)?;
+        let scripts = one_each(rt, self.alloc);
+        let gate = Meeting::new(rt, self.alloc).expect(rt, "memory for a gate");
+        let five = self.work(&scripts, &gate, &gate.passes, 100);
         gate.was_kept(rt);
-        Ok(five)
+        five
     }
 
     // The run of these scripts is refused, for their number.
-    fn do_not_fit(
-        &mut self,
-        gate: &Passes,
-        clients: usize,
-        engines: usize,
-        of: &str,
-    ) -> Result<(), Fail> {
-        let scripts = scripts_for(self.alloc, clients, engines)?;
-        let ran = self.run(&scripts, gate, 10);
-        assert_eq!(self.rt;
-            ran.err(),
-            Some(RunFault::ScriptCount),
-            "for {clients} clients and {engines} engines{of}"
-        );
-        Ok(())
+    fn do_not_fit(&mut self, gate: &Passes, clients: usize, engines: usize) {
+        let scripts = scripts_for(self.rt, self.alloc, clients, engines);
+        let fault = self.run(&scripts, gate, 10).err();
+        let found = (clients, engines, fault);
+        same!(self.rt; found, (clients, engines, Some(RunFault::ScriptCount)));
     }
 
-    // Too few or too many scripts for the clients or the engines, and then no administrator's seat.
-    fn none_fits(&mut self) -> Result<(), Fail> {
-        let gate = Passes::new(self.alloc, 5)?;
+    // Too few or too many scripts for the clients or the engines.
+    fn none_fits(&mut self, gate: &Passes) {
         for (clients, engines) in [(1, 2), (3, 2), (0, 2), (2, 1), (2, 3), (2, 0)] {
-            self.do_not_fit(&gate, clients, engines, "")?;
+            self.do_not_fit(gate, clients, engines);
         }
+    }
+
+    // None fits, and then there is no administrator's seat.
+    fn are_refused(&mut self) {
+        let gate = self.passes();
+        self.none_fits(&gate);
         let admin = self.seats.admin.take();
-        self.do_not_fit(&gate, 2, 2, " without an administrator")?;
+        self.do_not_fit(&gate, 2, 2);
         self.seats.admin = admin;
         gate.are_none(self.rt);
-        Ok(())
     }
 
     // Five workers with these scripts and so many turns do this.
-    fn do_this(&mut self, scripts: &Scripts, turns: u32, expected: Five) -> Result<(), Fail> {
-        let gate = Passes::new(self.alloc, 5)?;
-        let five = self.five(scripts, &gate, &gate, turns)?;
-        assert_eq!(self.rt; five, expected);
-        Ok(())
+    fn do_this(&mut self, scripts: &Scripts, turns: u32, expected: Five) {
+        let gate = self.passes();
+        let five = self.five(scripts, &gate, &gate, turns);
+        same!(self.rt; five, expected);
     }
 
     // Scripts without turns for them.
-    fn have_no_turns(&mut self) -> Result<(), Fail> {
-        let scripts = scripts_for(self.alloc, 2, 2)?;
-        self.do_this(&scripts, 0, [(0, WorkerEnd::TurnsOut); 5])
+    fn have_no_turns(&mut self) {
+        let scripts = scripts_for(self.rt, self.alloc, 2, 2);
+        self.do_this(&scripts, 0, [(0, WorkerEnd::TurnsOut); 5]);
     }
 
     // Empty scripts.
-    fn have_no_steps(&mut self) -> Result<(), Fail> {
+    fn have_no_steps(&mut self) {
         let alloc = self.alloc;
-        let scripts = scripts_of(alloc, Vec::new(alloc), Vec::new(alloc), &[])?;
+        let scripts = scripts_of(self.rt, alloc, Vec::new(alloc), Vec::new(alloc), &[]);
         let done = (0, WorkerEnd::ScriptDone);
         let served = (10, WorkerEnd::TurnsOut);
-        self.do_this(&scripts, 10, [done, done, served, served, done])
-    }
-
-    fn do_nothing(&mut self) -> Result<(), Fail> {
-        self.none_fits()?;
-        self.have_no_turns()?;
-        self.have_no_steps()
+        self.do_this(&scripts, 10, [done, done, served, served, done]);
     }
 
     /// Scripts that do not fit the seats, then scripts without turns for them, and then empty ones.
-    pub fn nothing_is_done(self) -> Result<(), Fail> {
+    pub fn nothing_is_done(self) {
         let mut stage = self;
         let rt = stage.rt;
-        stage.do_nothing()?;
-        let totals = stage.totals()?;
-        assert_eq!(rt; totals.steps, 0);
-        Ok(())
+        stage.are_refused();
+        stage.have_no_turns();
+        stage.have_no_steps();
+        let totals = stage.totals();
+        same!(rt; totals.steps, 0);
     }
 }
 
 #[test]
-fn busy_workers(rt: HostRuntime) -> Result<(), Fail> {
-    over_both_stores(&rt, rt.alloc(), Trial::BusyRun)
+fn busy_workers(rt: HostRuntime) {
+    over_both_stores(&rt, rt.alloc(), Trial::BusyRun);
 }
 
 #[test]
-fn history_fills_meanwhile(rt: HostRuntime) -> Result<(), Fail> {
-    over_both_stores(&rt, rt.alloc(), Trial::HistoryFills)
+fn history_fills_meanwhile(rt: HostRuntime) {
+    over_both_stores(&rt, rt.alloc(), Trial::HistoryFills);
 }
 
 #[test]
-fn clients_at_the_same_time(rt: HostRuntime) -> Result<(), Fail> {
-    over_both_stores(&rt, rt.alloc(), Trial::ClientsMeet)
+fn clients_at_the_same_time(rt: HostRuntime) {
+    over_both_stores(&rt, rt.alloc(), Trial::ClientsMeet);
 }
 
 #[test]
-fn scripts_with_nothing_to_do(rt: HostRuntime) -> Result<(), Fail> {
-    over_both_stores(&rt, rt.alloc(), Trial::NothingIsDone)
+fn scripts_with_nothing_to_do(rt: HostRuntime) {
+    over_both_stores(&rt, rt.alloc(), Trial::NothingIsDone);
 }
