@@ -3,8 +3,8 @@
 use crate::words::{Answer, run_on};
 use std::alloc::Global;
 use std::marker::Sync;
+use std::process::Abort;
 use std::sync::Wait;
-use std::test::Fail;
 use std::thread::Threads;
 
 // A shared queue in a group with one engine, enabled.
@@ -35,18 +35,23 @@ const FINISH_OTHER: &str = r#",{"do":"finish","engine":0,"name":1,"fault":false}
 const FINISH_DRAIN: &str = r#",{"do":"finish","engine":0,"name":2,"fault":true}"#;
 
 // The document with these steps behind its set-up, by the program.
-fn run<R: Threads + Wait + Sync>(
+fn run<R: Threads + Wait + Abort + Sync>(
     rt: &R,
     alloc: Global,
     set_up: &str,
     steps: &[&str],
-) -> Result<Answer, Fail> {
-    let mut document = String::from_str(alloc, set_up)?;
-    for step in steps {
-        document.push_str(step)?;
-    }
-    document.push_str("]}")?;
+) -> Answer {
+    let document = document_of(rt, alloc, set_up, steps);
     run_on(rt, alloc, &[], document.as_bytes())
+}
+
+fn document_of(rt: &impl Abort, alloc: Global, set_up: &str, steps: &[&str]) -> String {
+    let mut document = String::from_str(alloc, set_up).expect(rt, "memory for a document");
+    for step in steps {
+        document.push_str(step).expect(rt, "memory for a step");
+    }
+    document.push_str("]}").expect(rt, "memory for the end");
+    document
 }
 
 // What stands behind the lines of the set-up.
@@ -56,7 +61,7 @@ fn lines(answer: &Answer) -> Option<&str> {
 
 // One program's Drain waits for that program's entry, and the other's is taken behind it.
 #[test]
-fn drains_of_two_programs(rt: HostRuntime) -> Result<(), Fail> {
+fn drains_of_two_programs(rt: HostRuntime) {
     const ENTRIES: &str = r#",
 {"do":"enqcmd","client":0,"queue":0,"limited":false,"pasid":5,"desc":""},
 {"do":"enqcmd","client":1,"queue":0,"limited":false,"pasid":6,"desc":""},
@@ -81,15 +86,14 @@ fn drains_of_two_programs(rt: HostRuntime) -> Result<(), Fail> {
         "accepted 0\naccepted 1\naccepted 2\naccepted 3\ntaken 0 from 0\ntaken 1 from 0\ndone 01\n\
         taken 2 from 0\nnot-ready\nidle\ndone 01\nidle\ndone 01\ntaken 3 from 0\ndone 01\n\
         fate 1 - completed 01\nfate 0 - completed 01\nfate 2 - completed 01\nfate 3 - completed 01\n";
-    let answer = run(&rt, rt.alloc(), SMALL, &STEPS)?;
-    assert_eq!(rt; answer.status, 0);
-    assert_eq!(rt; lines(&answer), Some(WANT));
-    Ok(())
+    let answer = run(&rt, rt.alloc(), SMALL, &STEPS);
+    same!(&rt; answer.status, 0);
+    same!(&rt; lines(&answer), Some(WANT));
 }
 
 // A Drain in a batch is not supported, and one with a fence is not well formed.
 #[test]
-fn no_drains(rt: HostRuntime) -> Result<(), Fail> {
+fn no_drains(rt: HostRuntime) {
     const STEPS: &str = r#",
 {"do":"enqcmd","client":0,"queue":0,"limited":true,"pasid":5,"desc":"0000000001000002"},
 {"do":"enqcmd","client":0,"queue":0,"limited":true,"pasid":5,
@@ -103,10 +107,9 @@ fn no_drains(rt: HostRuntime) -> Result<(), Fail> {
     const WANT: &str =
         "accepted 0\naccepted 1\ntaken 0 from 0\ndone 11\ntaken 1 from 0\nfetched 2\nstarted 2\ndone 10\n\
         fate 0 - completed 11\nfate 2 1 completed 10\n";
-    let answer = run(&rt, rt.alloc(), SMALL, &[STEPS])?;
-    assert_eq!(rt; answer.status, 0);
-    assert_eq!(rt; lines(&answer), Some(WANT));
-    Ok(())
+    let answer = run(&rt, rt.alloc(), SMALL, &[STEPS]);
+    same!(&rt; answer.status, 0);
+    same!(&rt; lines(&answer), Some(WANT));
 }
 
 // What is done with the last queue and engine, and a batch of so many.
@@ -122,29 +125,27 @@ const END: &str = r#",{"do":"dispatch","engine":63},{"do":"command","word":75694
 {"do":"finish","engine":63,"name":0,"fault":false}"#;
 
 #[test]
-fn sixty_four_queues(rt: HostRuntime) -> Result<(), Fail> {
+fn sixty_four_queues(rt: HostRuntime) {
     const ROWS: [(&str, &str); 2] = [
         (LARGEST_BATCH, "not-ready\n"),
         (LARGER_BATCH, "done 14\nfate 0 - completed 14\n"),
     ];
     const BEFORE: &str = "refused 14 BadQueue\naccepted 0\ntaken 0 from 63\nactive\n";
-    for (batch, last) in ROWS {
-        let answer = run(&rt, rt.alloc(), LARGE, &[MASK_PAST_THE_LAST, batch, END])?;
-        assert_eq!(rt; answer.status, 0);
-        let end = lines(&answer).and_then(|lines| lines.strip_prefix(BEFORE));
-        assert_eq!(rt; end, Some(last));
+    for (row, (batch, last)) in ROWS.into_iter().enumerate() {
+        let answer = run(&rt, rt.alloc(), LARGE, &[MASK_PAST_THE_LAST, batch, END]);
+        same!(&rt; answer.status, 0, row);
+        let end = lines(&answer).expect(&rt, "the lines of the set-up");
+        same!(&rt; end.strip_prefix(BEFORE), Some(last), row);
     }
-    Ok(())
 }
 
 #[test]
-fn sixty_five_queues(rt: HostRuntime) -> Result<(), Fail> {
+fn sixty_five_queues(rt: HostRuntime) {
     const CAPS: &str =
         r#"{"caps":{"queues":65,"groups":1,"engines":64,"total_size":4096,"read_buffers":255,
 "slots":16,"max_batch_shift":10,"max_xfer_shift":31},"capacity":100,"steps":["#;
-    let answer = run(&rt, rt.alloc(), CAPS, &[])?;
-    assert_eq!(rt; answer.status, 1);
-    assert_eq!(rt; answer.out.as_str(), "");
-    assert_eq!(rt; answer.err.as_str(), "dsa_run: bad caps\n");
-    Ok(())
+    let answer = run(&rt, rt.alloc(), CAPS, &[]);
+    same!(&rt; answer.status, 1);
+    same!(&rt; answer.out.as_str(), "");
+    same!(&rt; answer.err.as_str(), "dsa_run: bad caps\n");
 }

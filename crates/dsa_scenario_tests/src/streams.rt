@@ -4,7 +4,7 @@ use dsa_scenario::{ScenarioFault, run_scenario};
 use std::alloc::Global;
 use std::io;
 use std::io::{ErrorKind, Read, Write};
-use std::test::Fail;
+use std::process::Abort;
 
 // Gives at most `step` bytes a call, and fails when `left` were given.
 #[derive(Drop)]
@@ -102,8 +102,17 @@ const READ: Result<(), ScenarioFault> = Err(ScenarioFault::Read);
 
 const WRITE: Result<(), ScenarioFault> = Err(ScenarioFault::Write);
 
+// What the reader gives and the writer takes, and what comes of it, as that row says.
+fn is_run(rt: &impl Abort, alloc: Global, number: usize, (given, taken, answer, lines): Row) {
+    let mut reader = Trickle::new(DOCUMENT.as_bytes(), given);
+    let mut writer = Narrow::new(alloc, taken);
+    let result = run_scenario(alloc, &mut reader, &mut writer);
+    same!(rt; result, answer, number);
+    same!(rt; writer.taken.as_slice(), lines.as_bytes(), number);
+}
+
 #[test]
-fn little_by_little(rt: HostRuntime) -> Result<(), Fail> {
+fn little_by_little(rt: HostRuntime) {
     // A reader that has given the last byte may still fail, in place of the end of input.
     let length = DOCUMENT.len();
     let rows: [Row; 10] = [
@@ -118,25 +127,19 @@ fn little_by_little(rt: HostRuntime) -> Result<(), Fail> {
         ((1, ALL), (1, 5), WRITE, "writt"),
         ((ALL, ALL), (0, ALL), WRITE, ""),
     ];
-    for (number, (given, taken, answer, lines)) in rows.into_iter().enumerate() {
-        let mut reader = Trickle::new(DOCUMENT.as_bytes(), given);
-        let mut writer = Narrow::new(rt.alloc(), taken);
-        let result = run_scenario(rt.alloc(), &mut reader, &mut writer);
-        assert_eq!(rt; result, answer, "row {number}");
-        assert_eq!(rt; writer.taken.as_slice(), lines.as_bytes(), "row {number}");
+    for (number, row) in rows.into_iter().enumerate() {
+        is_run(&rt, rt.alloc(), number, row);
     }
-    Ok(())
 }
 
 // A reader of one byte a call is asked once for each byte up to the first that is too many.
 #[test]
-fn too_long(rt: HostRuntime) -> Result<(), Fail> {
-    let spaces = vec![in rt.alloc(); b' '; 1_048_600]?;
+fn too_long(rt: HostRuntime) {
+    let spaces = Vec::from_elem(rt.alloc(), b' ', 1_048_600).expect(&rt, "memory for spaces");
     let mut reader = Trickle::new(&spaces, (1, ALL));
     let mut written = Vec::new(rt.alloc());
     let result = run_scenario(rt.alloc(), &mut reader, &mut written);
-    assert_eq!(rt; result, Err(ScenarioFault::TooLong));
-    assert_eq!(rt; reader.reads, 1_048_577);
-    assert!(rt; written.is_empty());
-    Ok(())
+    same!(&rt; result, Err(ScenarioFault::TooLong));
+    same!(&rt; reader.reads, 1_048_577);
+    claim!(&rt; written.is_empty());
 }
