@@ -1,0 +1,39 @@
+-- What a line asks, by what is kept of it.
+use Rattle.std.proofs.Common.{◌≡◌, ◌≤◌, ◌<◌, ◌+◌, ◌^◌, ℕ, List, [], ◌∷◌, ◌++◌, length, take, ◌∙◌, arith}
+use Rattle.std.proofs.Common.{length-take, subst}
+use Rattle.std.proofs.lemmas.List.{take_all}
+use Rattle.dsa_serve.specs.declared.requests.LineFault.{TheVariants.{NotJson, NoStep, TooLong}}
+use Rattle.dsa_serve.specs.declared.requests.Request.{Request, TheVariants.{Step, Explain, Fault}}
+use Rattle.dsa_serve.specs.Requests.{Asks, AreAsked}
+
+-- a line that is short when cut is whole
+whole : (line : List ℕ) → length (take (2 ^ 20 + 1) line) ≤ 2 ^ 20 → take (2 ^ 20 + 1) line ≡ line
+whole line short = take_all (2 ^ 20 + 1) line (omega (arith, length-take (2 ^ 20 + 1) line, short))
+
+-- one byte more than a line has shows what the line asks
+pub Asks-kept : (line kept : List ℕ) (request : Request) → kept ≡ take (2 ^ 20 + 1) line → Asks kept request
+    → Asks line request
+Asks-kept line kept (Fault TooLong) is long =
+    let long : 2 ^ 20 < length (take (2 ^ 20 + 1) line) = rw is at long in
+    omega (arith, length-take (2 ^ 20 + 1) line, long)
+Asks-kept line kept (Fault NotJson) is h =
+    let short : length (take (2 ^ 20 + 1) line) ≤ 2 ^ 20 = rw is at h.0 in
+    subst (λ l. Asks l (Fault NotJson)) (is ∙ whole line short) h
+Asks-kept line kept (Fault NoStep) is h =
+    let short : length (take (2 ^ 20 + 1) line) ≤ 2 ^ 20 = rw is at h.0 in
+    subst (λ l. Asks l (Fault NoStep)) (is ∙ whole line short) h
+Asks-kept line kept (Step action) is h =
+    let short : length (take (2 ^ 20 + 1) line) ≤ 2 ^ 20 = rw is at h.0 in
+    subst (λ l. Asks l (Step action)) (is ∙ whole line short) h
+Asks-kept line kept (Explain action) is h =
+    let short : length (take (2 ^ 20 + 1) line) ≤ 2 ^ 20 = rw is at h.0 in
+    subst (λ l. Asks l (Explain action)) (is ∙ whole line short) h
+
+-- one line more
+pub AreAsked-more : (lines : List (List ℕ)) (requests : List Request) (line : List ℕ) (request : Request)
+    → AreAsked lines requests → Asks line request → AreAsked (lines ++ line ∷ []) (requests ++ request ∷ [])
+AreAsked-more [] [] line request h asks = (asks, tt)
+AreAsked-more [] (r ∷ requests) line request h asks = absurd h
+AreAsked-more (l ∷ lines) [] line request h asks = absurd h
+AreAsked-more (l ∷ lines) (r ∷ requests) line request h asks =
+    (h.0, AreAsked-more lines requests line request h.1 asks)

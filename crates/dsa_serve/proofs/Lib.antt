@@ -1,0 +1,5 @@
+pub mod Asking
+pub mod Sessions
+pub mod Lines
+pub mod Courses
+pub mod Stops

@@ -1,0 +1,228 @@
+-- A dialogue after one read more, and where a fault ends it.
+use Rattle.std.proofs.Common.{◌≡◌, ◌≢◌, ◌⊎◌, ◌<◌, ◌+◌, ℕ, false, Bool, List, [], ◌++◌, Option, length, take, refl, ap}
+use Rattle.std.proofs.Common.{◌∙◌, arith, Result, Ok, Err, IfErr}
+use Rattle.std.proofs.Common.{append_assoc, append-nil, length-append, inl, inr}
+use Rattle.std.proofs.{Math.Seq.{take-append-add}, lemmas.List.Elements.{All-nil}}
+use Rattle.std.specs.Io.KnownBytes.{Consumes, Appends, Keeps}
+use Rattle.std.proofs.KnownBytes.{Consumes-trans, Consumes-kept, Appends-nil, Appends-trans}
+use Rattle.dsa_book.specs.declared.answer.Ticket.{Ticket}
+use Rattle.dsa_device.specs.Running.{Running}
+use Rattle.dsa_scenario.specs.Lines.{line_of}
+use Rattle.dsa_scenario.specs.declared.faults.ScenarioFault.{ScenarioFault, TheVariants.{Read, Write, OutOfMemory}}
+use Rattle.dsa_scenario.specs.declared.faults.ScenarioFault.TheVariants.{TooLong, NotJson, BadDocument, BadStep}
+use Rattle.dsa_scenario.specs.declared.faults.ScenarioFault.TheVariants.{Differs}
+use Rattle.dsa_scenario.specs.declared.faults.ScenarioFault.TheVariants.{BadCaps, BadCapacity}
+use Rattle.dsa_scenario.specs.Document.{IsFaultOf}
+use Rattle.dsa_serve.specs.Input.{IsLine, IsFront}
+use Rattle.dsa_serve.specs.Dialogue.{IsEnded, AnswersWhole, AnswersAll, IsServing, IsInCourse, IsLate, IsStopped}
+use Rattle.dsa_serve.proofs.Courses.{whole_answered}
+
+-- a first part and the front of a second are a front of both
+cut_short : (held holds holds' : Option (List ℕ)) (output text : List ℕ) (count : ℕ) → Appends held holds output
+    → count < length text → Appends holds holds' (take count text)
+    → (length output + count < length (output ++ text))
+    × Appends held holds' (take (length output + count) (output ++ text))
+cut_short held holds holds' output text count first less second = (
+  omega (arith, less, length-append output text),
+  rw (take-append-add output text count) (Appends-trans held holds holds' output (take count text) first second),
+)
+
+-- more of what comes behind a first line
+front_more : (input first behind bytes : List ℕ) → IsFront false input first behind
+    → IsFront false (input ++ bytes) first (behind ++ bytes)
+front_more input first behind bytes front =
+    ap (λ l. l ++ bytes) front ∙ append_assoc (line_of first) behind bytes
+
+-- what a read and its answers make of a session
+abbrev pub Advances : List ℕ → List ℕ → ℕ → Running → List Ticket → List ℕ → ℕ → Running → List Ticket → List ℕ → Type 0
+Advances bytes text number now tickets kept number' now' tickets' kept' =
+    (first : List ℕ) (behind : List ℕ) (output : List ℕ) → IsServing first behind output number now tickets kept
+    → IsServing first (behind ++ bytes) (output ++ text) number' now' tickets' kept'
+
+-- one read more, and what is answered
+pub course_on : (had left left' held holds holds' : Option (List ℕ)) (bytes text : List ℕ)
+    (number : ℕ) (now : Running) (tickets : List Ticket) (kept : List ℕ)
+    (number' : ℕ) (now' : Running) (tickets' : List Ticket) (kept' : List ℕ) → Consumes left left' bytes
+    → Appends holds holds' text → Advances bytes text number now tickets kept number' now' tickets' kept'
+    → IsInCourse false had left held holds number now tickets kept
+    → IsInCourse false had left' held holds' number' now' tickets' kept'
+course_on had left left' held holds holds' bytes text number now tickets kept number' now' tickets' kept' reads writes
+    on h = record {
+      input = h.input ++ bytes;
+      first = h.first;
+      behind = h.behind ++ bytes;
+      output = h.output ++ text;
+      read = Consumes-trans had left left' h.input bytes h.read reads;
+      written = Appends-trans held holds holds' h.output text h.written writes;
+      line = h.line;
+      front = front_more h.input h.first h.behind bytes h.front;
+      serving = on h.first h.behind h.output h.serving;
+    }
+
+-- what is answered in its course
+pub course_answered : (ended : Bool) (had left held holds : Option (List ℕ)) (number : ℕ) (now : Running)
+    (tickets : List Ticket) (kept : List ℕ) → (h : IsInCourse ended had left held holds number now tickets kept)
+    → AnswersWhole h.input h.output
+course_answered ended had left held holds number now tickets kept h =
+    whole_answered h.first h.behind h.output number now tickets kept ended h.input h.line h.front h.serving
+
+-- an error of the reader
+pub read_stops : (ended : Bool) (had left left' held holds : Option (List ℕ)) (number : ℕ) (now : Running)
+    (tickets : List Ticket) (kept : List ℕ) → Keeps left left'
+    → IsInCourse ended had left held holds number now tickets kept → IsStopped Read had left' held holds
+read_stops ended had left left' held holds number now tickets kept keeps h = (
+  h.input,
+  h.output,
+  Consumes-kept had left left' h.input h.read keeps,
+  inr (course_answered ended had left held holds number now tickets kept h),
+  h.written,
+)
+
+-- want of memory
+pub memory_stops : (ended : Bool) (had left left' held holds : Option (List ℕ)) (bytes : List ℕ) (number : ℕ)
+    (now : Running) (tickets : List Ticket) (kept : List ℕ) → Consumes left left' bytes
+    → IsInCourse ended had left held holds number now tickets kept → IsStopped OutOfMemory had left' held holds
+memory_stops ended had left left' held holds bytes number now tickets kept reads h = (
+  h.input,
+  bytes,
+  h.output,
+  Consumes-trans had left left' h.input bytes h.read reads,
+  inr (course_answered ended had left held holds number now tickets kept h),
+  h.written,
+)
+
+-- a write that is refused in a turn
+pub write_stops : (had left left' held holds holds' : Option (List ℕ)) (bytes text : List ℕ) (count : ℕ)
+    (number : ℕ) (now : Running) (tickets : List Ticket) (kept : List ℕ)
+    (number' : ℕ) (now' : Running) (tickets' : List Ticket) (kept' : List ℕ) → Consumes left left' bytes
+    → count < length text → Appends holds holds' (take count text)
+    → Advances bytes text number now tickets kept number' now' tickets' kept'
+    → IsInCourse false had left held holds number now tickets kept → IsStopped Write had left' held holds'
+write_stops had left left' held holds holds' bytes text count number now tickets kept number' now' tickets' kept' reads
+    less writes on h =
+    let cut = cut_short held holds holds' h.output text count h.written less writes in (
+      h.input ++ bytes,
+      h.output ++ text,
+      length h.output + count,
+      Consumes-trans had left left' h.input bytes h.read reads,
+      inl (whole_answered h.first (h.behind ++ bytes) (h.output ++ text) number' now' tickets' kept' false
+          (h.input ++ bytes) h.line (front_more h.input h.first h.behind bytes h.front)
+          (on h.first h.behind h.output h.serving)),
+      cut.0,
+      cut.1,
+    )
+
+-- what the end of a dialogue adds
+abbrev pub Ends : List ℕ → ℕ → Running → List Ticket → List ℕ → Type 0
+Ends text number now tickets kept =
+    (first : List ℕ) (behind : List ℕ) (output : List ℕ) → IsServing first behind output number now tickets kept
+    → IsEnded first behind (output ++ text)
+
+-- all of a dialogue
+pub all_answered : (ended : Bool) (had left held holds holds' : Option (List ℕ)) (text : List ℕ) (number : ℕ)
+    (now : Running) (tickets : List Ticket) (kept : List ℕ) → Ends text number now tickets kept
+    → Appends holds holds' text → IsInCourse ended had left held holds number now tickets kept
+    → (input : List ℕ) × (output : List ℕ) × Consumes had left input × AnswersAll input output
+    × Appends held holds' output
+all_answered ended had left held holds holds' text number now tickets kept ends writes h = (
+  h.input,
+  h.output ++ text,
+  h.read,
+  record {
+    first = h.first;
+    behind = h.behind;
+    split = record { ended = ended; line = h.line; front = h.front };
+    ended = ends h.first h.behind h.output h.serving;
+  },
+  Appends-trans held holds holds' h.output text h.written writes,
+)
+
+-- a write that is refused at the end
+pub end_stops : (ended : Bool) (had left held holds holds' : Option (List ℕ)) (text : List ℕ) (count : ℕ) (number : ℕ)
+    (now : Running) (tickets : List Ticket) (kept : List ℕ) → Ends text number now tickets kept
+    → count < length text → Appends holds holds' (take count text)
+    → IsInCourse ended had left held holds number now tickets kept → IsStopped Write had left held holds'
+end_stops ended had left held holds holds' text count number now tickets kept ends less writes h =
+    let cut = cut_short held holds holds' h.output text count h.written less writes in (
+      h.input,
+      h.output ++ text,
+      length h.output + count,
+      h.read,
+      inr (record {
+        first = h.first;
+        behind = h.behind;
+        split = record { ended = ended; line = h.line; front = h.front };
+        ended = ends h.first h.behind h.output h.serving;
+      }),
+      cut.0,
+      cut.1,
+    )
+
+-- what a feed makes of a session, behind a text that was blank
+pub from_blank : (bytes old text seen : List ℕ) (number : ℕ) (now : Running) (tickets : List Ticket) (kept : List ℕ)
+    (number' : ℕ) (now' : Running) (tickets' : List Ticket) (kept' : List ℕ) → old ≡ [] → seen ≡ text
+    → ((first : List ℕ) (behind : List ℕ) (written : List ℕ)
+    → IsServing first behind (written ++ old) number now tickets kept
+    → IsServing first (behind ++ bytes) (written ++ text) number' now' tickets' kept')
+    → Advances bytes seen number now tickets kept number' now' tickets' kept'
+from_blank bytes old text seen number now tickets kept number' now' tickets' kept' blank same on first behind output h =
+    rw same (on first behind output (rw (blank, append-nil output) h))
+
+-- and what the end adds to one
+pub ends_blank : (old text seen : List ℕ) (number : ℕ) (now : Running) (tickets : List Ticket) (kept : List ℕ)
+    → old ≡ [] → seen ≡ text
+    → ((first : List ℕ) (behind : List ℕ) (written : List ℕ)
+    → IsServing first behind (written ++ old) number now tickets kept → IsEnded first behind (written ++ text))
+    → Ends seen number now tickets kept
+ends_blank old text seen number now tickets kept blank same on first behind output h =
+    rw same (on first behind output (rw (blank, append-nil output) h))
+
+-- a first line that is no document, or want of memory before one is
+pub opening_stops : (had left held : Option (List ℕ)) (input first behind : List ℕ) (ended : Bool) (e : ScenarioFault)
+    → Consumes had left input → IsLine first → IsFront ended input first behind
+    → (e ≡ OutOfMemory) ⊎ IsFaultOf first e → IsStopped e had left held held
+opening_stops had left held input first behind ended e reads line front (inl h) =
+    rw h ([], input, [], reads, inl (All-nil (λ b. b ≢ 10), refl), Appends-nil held)
+opening_stops had left held input first behind ended Read reads line front (inr h) = absurd h
+opening_stops had left held input first behind ended TooLong reads line front (inr h) = absurd h
+opening_stops had left held input first behind ended Write reads line front (inr h) = absurd h
+opening_stops had left held input first behind ended (Differs i) reads line front (inr h) = absurd h
+opening_stops had left held input first behind ended OutOfMemory reads line front (inr h) = absurd h
+opening_stops had left held input first behind ended NotJson reads line front (inr h) =
+    (input, first, behind, reads, record { ended = ended; line = line; front = front }, h)
+opening_stops had left held input first behind ended BadDocument reads line front (inr h) =
+    (input, first, behind, reads, record { ended = ended; line = line; front = front }, h)
+opening_stops had left held input first behind ended (BadStep i) reads line front (inr h) =
+    (input, first, behind, reads, record { ended = ended; line = line; front = front }, h)
+opening_stops had left held input first behind ended BadCaps reads line front (inr h) =
+    (input, first, behind, reads, record { ended = ended; line = line; front = front }, h)
+opening_stops had left held input first behind ended BadCapacity reads line front (inr h) =
+    (input, first, behind, reads, record { ended = ended; line = line; front = front }, h)
+
+-- want of memory before the first line is read
+pub memory_before : (had left held : Option (List ℕ)) (bytes : List ℕ) → Consumes had left bytes
+    → IsStopped OutOfMemory had left held held
+memory_before had left held bytes reads = ([], bytes, [], reads, inl (All-nil (λ b. b ≢ 10), refl), Appends-nil held)
+
+-- a write that is refused of the answers to the first line and to the lines that came with it
+pub first_write_stops : (had left held holds : Option (List ℕ)) (ended : Bool) (input first behind text seen : List ℕ)
+    (count number : ℕ) (now : Running) (tickets : List Ticket) (kept : List ℕ) → Consumes had left input → IsLine first
+    → IsFront ended input first behind → seen ≡ text → IsServing first behind text number now tickets kept
+    → count < length seen → Appends held holds (take count seen) → IsStopped Write had left held holds
+first_write_stops had left held holds ended input first behind text seen count number now tickets kept reads line front
+    same serving less writes =
+    let whole : AnswersWhole input seen =
+    rw same (whole_answered first behind text number now tickets kept ended input line front serving) in
+    (input, seen, count, reads, inl whole, less, writes)
+
+-- a late fault is one of three
+pub late_is : {A : Type 0} (e : ScenarioFault) → IsLate e → e ≢ Read → e ≢ Write → e ≢ OutOfMemory → A
+late_is e (inl h) read write memory = absurd (read h)
+late_is e (inr (inl h)) read write memory = absurd (write h)
+late_is e (inr (inr h)) read write memory = absurd (memory h)
+
+-- two things that are told of an error
+pub of_both : {T E : Type 0} (r : Result T E) (P Q R : E → Type 0) → ((e : E) → P e → Q e → R e) → IfErr r P → IfErr r Q
+    → IfErr r R
+of_both (Ok x) P Q R f p q = tt
+of_both (Err e) P Q R f p q = f e p q

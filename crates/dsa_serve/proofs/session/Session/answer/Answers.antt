@@ -1,0 +1,14 @@
+use Rattle.dsa_serve.proofs.session.Session.answer.Goals as goal
+use Rattle.std.proofs.lemmas.Result.{on_ok_weaker}
+use Rattle.dsa_serve.specs.declared.requests.Request.TheVariants.{Fault}
+use Rattle.dsa_serve.proofs.Sessions.{missed}
+
+pub returns-in-Fault : goal.returns-in-Fault
+returns-in-Fault g c =
+    on_ok_weaker c.add_fault.result
+    (λ adds caps capacity requests written h. (
+      Fault c.in-Fault.fault,
+      rw c.in-Fault.is at c.in_ok-action.ensures,
+      missed caps capacity requests c.in-Fault.fault _ _ _ written _ _ adds h,
+    ))
+    c.add_fault.ensures

@@ -1,0 +1,129 @@
+-- A dialogue: what is answered to an input, and how far that is written.
+use Rattle.std.specs.Prelude.{◌≡◌, ◌⊎◌, ◌≤◌, ◌<◌, ◌+◌, ℕ, ◌^◌, Bool, true, List, [], ◌++◌, flat_map}
+use Rattle.std.specs.Prelude.{length, map, take, Option, Some}
+use Rattle.std.specs.Io.KnownBytes.{Consumes, Appends}
+use Rattle.dsa_regs.specs.{declared.Caps.{Caps}, Caps.{check_caps}}
+use Rattle.dsa_book.specs.{declared.answer.Ticket.{Ticket}, State.{State}, Machine.{is_run, replay, stored_steps}}
+use Rattle.dsa_device.specs.Running.{Running}
+use Rattle.dsa_scenario.specs.declared.{actions.Action.{Action}, run.Record.{Record}}
+use Rattle.dsa_scenario.specs.declared.faults.ScenarioFault.{ScenarioFault}
+use Rattle.dsa_scenario.specs.declared.faults.ScenarioFault.TheVariants.{Read, TooLong, Write, OutOfMemory}
+use Rattle.dsa_scenario.specs.{Document.{IsDocument, IsFaultOf}, Lines.{line_of, row_text}}
+use Rattle.dsa_scenario.specs.{Run.{steps_of, AreOf}, Steps.{visits}}
+use Rattle.dsa_serve.specs.declared.requests.Request.{Request, TheVariants.{Step}}
+use Rattle.dsa_serve.specs.Requests.{AreAsked, actions_of}
+use Rattle.dsa_serve.specs.Answers.{answers, IsSessionTo}
+use Rattle.dsa_serve.specs.Input.{IsLine, AreLines, with_rest, IsFront, HasFirst}
+
+-- the steps of a document, and then what lines ask
+abbrev pub from_document : List Action → List Request → List Request
+from_document actions requests = map Step actions ++ requests
+
+-- the first line is a document without a fault, and the output answers its steps and these lines: of those
+-- that are steps the records are a run of a new device, which comes to this state (profile)
+pub record IsDialogue (first : List ℕ) (lines : List (List ℕ)) (last : State) (output : List ℕ) : Type 0 where
+  pub caps : Caps
+  pub capacity : ℕ
+  pub actions : List Action
+  pub requests : List Request
+  pub records : List Record
+  pub document : IsDocument first caps capacity actions
+  pub good : check_caps caps ≡ true
+  pub small : capacity ≤ 2 ^ 20
+  pub asked : AreAsked lines requests
+  pub of_actions : AreOf [] (actions_of (from_document actions requests)) records
+  pub run : is_run caps capacity (steps_of records) ≡ true
+  pub replayed : replay caps (stored_steps (steps_of records)) ≡ Some last
+  pub answered : output ≡ answers (from_document actions requests) (visits caps capacity [] records)
+
+-- the output answers all whole lines of the input, and no more (profile)
+pub record AnswersWhole (input output : List ℕ) : Type 0 where
+  pub first : List ℕ
+  pub behind : List ℕ
+  pub lines : List (List ℕ)
+  pub rest : List ℕ
+  pub last : State
+  pub split : HasFirst input first behind
+  pub lines_are : AreLines behind lines rest
+  pub dialogue : IsDialogue first lines last output
+
+-- the output answers this first line and all lines behind it, and ends with the fates that their run leads to (profile)
+pub record IsEnded (first behind output : List ℕ) : Type 0 where
+  pub lines : List (List ℕ)
+  pub rest : List ℕ
+  pub last : State
+  pub answered : List ℕ
+  pub lines_are : AreLines behind lines rest
+  pub dialogue : IsDialogue first (with_rest lines rest) last answered
+  pub with_fates : output ≡ answered ++ flat_map (λ row. line_of (row_text row)) last.work.fates
+
+-- the output answers all lines of the input, and ends with the fates (profile)
+pub record AnswersAll (input output : List ℕ) : Type 0 where
+  pub first : List ℕ
+  pub behind : List ℕ
+  pub split : HasFirst input first behind
+  pub ended : IsEnded first behind output
+
+-- nothing is written before the first line is whole, and then what answers the whole lines (profile)
+abbrev pub AnswersSoFar : List ℕ → List ℕ → Type 0
+AnswersSoFar input output = (IsLine input × (output ≡ [])) ⊎ AnswersWhole input output
+
+-- ---- a dialogue in its course
+
+-- so far a session that began with this line has read these bytes behind it and answered their whole
+-- lines; of the rest of a line it keeps as much as shows whether it is too long (profile)
+pub record IsServing (first behind output : List ℕ) (number : ℕ) (now : Running) (tickets : List Ticket)
+    (kept : List ℕ) : Type 0 where
+  pub lines : List (List ℕ)
+  pub rest : List ℕ
+  pub caps : Caps
+  pub capacity : ℕ
+  pub actions : List Action
+  pub requests : List Request
+  pub lines_are : AreLines behind lines rest
+  pub keeps : kept ≡ take (2 ^ 20 + 1) rest
+  pub document : IsDocument first caps capacity actions
+  pub good : check_caps caps ≡ true
+  pub small : capacity ≤ 2 ^ 20
+  pub asked : AreAsked lines requests
+  pub session : IsSessionTo caps capacity (from_document actions requests) number now tickets output
+
+-- since the reader had these bytes and the writer held those, a session has answered the whole lines of what the
+-- reader gave, and the writer has taken the answers; the first line ended with its line feed, or with the input
+-- (profile)
+pub record IsInCourse (ended : Bool) (had left held holds : Option (List ℕ)) (number : ℕ) (now : Running)
+    (tickets : List Ticket) (kept : List ℕ) : Type 0 where
+  pub input : List ℕ
+  pub first : List ℕ
+  pub behind : List ℕ
+  pub output : List ℕ
+  pub read : Consumes had left input
+  pub written : Appends held holds output
+  pub line : IsLine first
+  pub front : IsFront ended input first behind
+  pub serving : IsServing first behind output number now tickets kept
+
+-- ---- where it stopped
+
+-- a fault that comes behind the first line
+abbrev pub IsLate : ScenarioFault → Type 0
+IsLate fault = (fault ≡ Read) ⊎ (fault ≡ Write) ⊎ (fault ≡ OutOfMemory)
+
+-- what the reader gave, by the bytes that it had and has left, and what the writer took, by those that it held and
+-- holds, where this fault ended the dialogue (profile)
+abbrev pub IsStopped : ScenarioFault → Option (List ℕ) → Option (List ℕ) → Option (List ℕ) → Option (List ℕ) → Type 0
+IsStopped Read had left held holds =
+    (input : List ℕ) × (output : List ℕ) × Consumes had left input × AnswersSoFar input output
+    × Appends held holds output
+IsStopped TooLong had left held holds =
+    (first : List ℕ) × (more : List ℕ) × Consumes had left (first ++ more) × IsLine first × (2 ^ 20 < length first)
+IsStopped Write had left held holds =
+    (input : List ℕ) × (output : List ℕ) × (count : ℕ) × Consumes had left input
+    × (AnswersWhole input output ⊎ AnswersAll input output) × (count < length output)
+    × Appends held holds (take count output)
+IsStopped OutOfMemory had left held holds =
+    (input : List ℕ) × (more : List ℕ) × (output : List ℕ) × Consumes had left (input ++ more)
+    × AnswersSoFar input output × Appends held holds output
+IsStopped fault had left held holds =
+    (input : List ℕ) × (first : List ℕ) × (behind : List ℕ) × Consumes had left input × HasFirst input first behind
+    × IsFaultOf first fault

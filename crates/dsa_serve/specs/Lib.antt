@@ -1,0 +1,5 @@
+pub mod Requests
+pub mod Answers
+pub mod Input
+pub mod Dialogue
+pub mod Worked

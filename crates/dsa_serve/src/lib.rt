@@ -1,0 +1,19 @@
+//! A dialogue: a document in the first line, and a step a line behind it, each answered before more is read.
+//!
+//! `docs/SCENARIO.md` describes lines and answers.
+#![tactic(auto)]
+
+mod dialogue;
+mod front;
+mod opening;
+mod requests;
+pub mod rows;
+mod serving;
+mod session;
+
+pub use dialogue::Dialogue;
+pub use front::{Front, read_front};
+pub use opening::begin;
+pub use requests::{LineFault, MAX_LINE, Request, parse_request};
+pub use serving::{serve, serve_watched};
+pub use session::{Session, open};
