@@ -15,7 +15,7 @@ use Rattle.dsa_shared.specs.{declared.settle.Totals.{Totals}, Seat.{SeatLog, wit
 use Rattle.dsa_workers.specs.declared.scripts.{ClientStep.{ClientStep}, EngineScript.{EngineScript}}
 use Rattle.dsa_workers.specs.declared.scripts.Scripts.{Scripts}
 use Rattle.dsa_workers.specs.Workers.{receipts_in}
-use Rattle.dsa_words.specs.declared.options.{Workload.{Workload}, Asked.{Asked, TheVariants.{Scenario, Report, Threads}}}
+use Rattle.dsa_words.specs.declared.options.{Workload.{Workload}, Asked.{Asked, TheVariants.{Scenario, Report, Serve, Threads}}}
 use Rattle.dsa_scenario.specs.Lines.{line_of}
 
 -- ---- what is asked
@@ -30,6 +30,7 @@ pub record IsInRange (load : Workload) : Type 0 where
 abbrev pub IsAskedInRange : Asked → Type 0
 IsAskedInRange Scenario = ⊤
 IsAskedInRange (Report report) = ⊤
+IsAskedInRange Serve = ⊤
 IsAskedInRange (Threads load) = IsInRange load
 
 -- ---- the device (profile)

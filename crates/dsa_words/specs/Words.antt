@@ -3,7 +3,7 @@ use Rattle.dsa_words.specs.declared.reports.Report.TheVariants as report
 use Rattle.dsa_words.specs.declared.options.Asked.TheVariants as asked
 use Rattle.std.specs.Prelude.{◌≡◌, ◌≢◌, ◌⊎◌, ◌<◌, ◌≤◌, ℕ, pos, true, List, [], ◌∷◌, length, take, codes, Option, Some}
 use Rattle.std.specs.Prelude.{option_map}
-use Rattle.std.specs.Io.KnownBytes.{Appends}
+use Rattle.std.specs.Io.KnownBytes.{Consumes, IsAtEnd, Appends}
 use Rattle.std.specs.Str.Parse.{IsNumeral, digits_value, without_leading_plus}
 use Rattle.clap.specs.declared.builder.action.ArgAction.TheVariants.{SetTrue}
 use Rattle.clap.specs.declared.builder.value_parser.ValueParser.TheVariants.{Signed}
@@ -13,10 +13,11 @@ use Rattle.clap.specs.Simple.{App, new_app, new_rule, on_top, subcommand_of, wit
 use Rattle.dsa_shared.specs.declared.settle.Totals.{Totals}
 use Rattle.dsa_scenario.specs.declared.faults.ScenarioFault.{ScenarioFault}
 use Rattle.dsa_trace.specs.declared.form.Trace.{Trace, TheVariants.{Table, Json}}
+use Rattle.dsa_serve.specs.Dialogue.{AnswersAll}
 use Rattle.dsa_words.specs.Reports.{IsReported, IsReportCutShort}
 use Rattle.dsa_words.specs.declared.reports.Report.{Report}
 use Rattle.dsa_words.specs.Threads.{IsInRange, AreTotalsOf, totals_text}
-use Rattle.dsa_words.specs.declared.options.{Workload.{Workload}, Asked.{Asked, TheVariants.{Scenario, Threads}}}
+use Rattle.dsa_words.specs.declared.options.{Workload.{Workload}, Asked.{Asked, TheVariants.{Scenario, Serve, Threads}}}
 
 -- the option `--name`, whose value is a number from 1 to `most`, and `default` where it is not given
 abbrev pub number_rule : Text → ℕ → Text → Rule
@@ -51,9 +52,9 @@ top_app = on_top (λ top. record top { no_binary_name = true; has_version = true
 -- the program with its commands (profile)
 abbrev pub program_app : App
 program_app =
-    with_subcommand (with_subcommand (with_subcommand (with_subcommand (with_subcommand (with_subcommand top_app
-    (new_app (codes "check")).top) (new_app (codes "explain")).top) trace_app.top) (new_app (codes "draw")).top)
-    (new_app (codes "conform")).top) threads_app.top
+    with_subcommand (with_subcommand (with_subcommand (with_subcommand (with_subcommand (with_subcommand (with_subcommand
+    top_app (new_app (codes "check")).top) (new_app (codes "explain")).top) trace_app.top) (new_app (codes "draw")).top)
+    (new_app (codes "conform")).top) (new_app (codes "serve")).top) threads_app.top
 
 -- what is wrong with the words, if anything; to ask for help counts too
 abbrev pub faults_of : List Text → Kinds
@@ -135,8 +136,19 @@ IsReportCut found had left held holds =
 abbrev pub command_in : List Text → Option Text
 command_in words = option_map (λ found. found.0) (subcommand_of program_app words)
 
--- what the words ask for: workers, a report, or else a scenario
+-- the words name the command `serve`, and nothing is wrong with them
+abbrev pub NameServe : List Text → Type 0
+NameServe words = (faults_of words ≡ []) × (command_in words ≡ Some (codes "serve"))
+
+-- the reader gave all of a dialogue, and all answers to it were written
+abbrev pub IsServed : Option (List ℕ) → Option (List ℕ) → Option (List ℕ) → Option (List ℕ) → Type 0
+IsServed had left held holds = (input : List ℕ) × (output : List ℕ) × Consumes had left input × IsAtEnd left
+    × AnswersAll input output × Appends held holds output
+
+-- what the words ask for: workers, a report, a dialogue, or else a scenario
 abbrev pub AsksFor : List Text → Asked → Type 0
-AsksFor words Scenario = (name : Text) → IsReportName name ⊎ (name ≡ codes "threads") → command_in words ≢ Some name
+AsksFor words Scenario = (name : Text) → IsReportName name ⊎ (name ≡ codes "serve") ⊎ (name ≡ codes "threads")
+    → command_in words ≢ Some name
 AsksFor words (asked.Report report) = (found : Text × List Row) × NameReport words found × IsAskedBy found report
+AsksFor words Serve = NameServe words
 AsksFor words (Threads load) = (rows : List Row) × NameThreads words rows × AreNumbersOf rows load

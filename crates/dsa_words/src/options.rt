@@ -33,6 +33,8 @@ pub enum Asked {
     Scenario,
     /// A report on the scenario from standard input.
     Report(Report),
+    /// A dialogue: a scenario in the first line of standard input, and then a step in each line.
+    Serve,
     /// Workers in threads.
     Threads(Workload),
 }
@@ -91,6 +93,16 @@ is allowed. Where it is not, the step is told, with all answers that are allowed
 
 Exit status: 0 all of it is allowed, 1 it is not, or a fault (its line goes to standard
 error), 2 these words are not understood.";
+
+const SERVE_HELP: &str = "\
+Reads one scenario from the first line of standard input, a JSON document in one line,
+and then a step in each line. Each is run as it comes, on one model of a device, and
+answered with its line before the next is read. A line that is no step is answered with
+its fault, and changes nothing. At the end of input a line follows for each descriptor
+that ended.
+
+Exit status: 0 done, 1 a fault (its line goes to standard error), 2 these words are not
+understood.";
 
 const THREADS_HELP: &str = "\
 Reads nothing. Clients, engines and an administrator share one device, each in a thread
@@ -227,6 +239,14 @@ fn conform_command<'a>(alloc: Global) -> Command<'a>
     plain_command(alloc, "conform", about, CONFORM_HELP)
 }
 
+fn serve_command<'a>(alloc: Global) -> Command<'a>
+    ensures app { app_of result ≡ new_app (codes "serve") }
+    ensures local { (fields_of result).has_globals ≡ false }
+{
+    let about = "Runs a scenario and then a step a line, each answered as it comes";
+    plain_command(alloc, "serve", about, SERVE_HELP)
+}
+
 // The program without its commands.
 fn top_command<'a>(alloc: Global) -> Result<Command<'a>, AllocError>
     ensures { IfOk result (λ c. app_of c ≡ top_app) }
@@ -249,6 +269,7 @@ fn command_line<'a>(alloc: Global) -> Result<Command<'a>, AllocError>
         .subcommand(trace_command(alloc)?)?
         .subcommand(draw_command(alloc))?
         .subcommand(conform_command(alloc))?
+        .subcommand(serve_command(alloc))?
         .subcommand(threads_command(alloc)?)
 }
 
@@ -327,6 +348,9 @@ pub fn read_words<'a>(alloc: Global, words: &'a [String]) -> Result<Asked, Error
     }
     if let Some(report) = report_of(&matches) {
         return Ok(Asked::Report(report));
+    }
+    if is_named(&matches, "serve") {
+        return Ok(Asked::Serve);
     }
     Ok(Asked::Scenario)
 }

@@ -6,7 +6,7 @@ ghost use Rattle.dsa_regs.specs.declared.Command.TheVariants.{EnableDevice, Enab
 ghost use Rattle.dsa_book.specs.declared.event.Event.TheVariants.{Submit, Issue, WriteQueue, WriteGroup};
 ghost use Rattle.dsa_book.specs.declared.event.Kind.TheVariants.{Enqcmd};
 ghost use Rattle.dsa_book.specs.declared.event.Portal.TheVariants.{Limited};
-ghost use Rattle.dsa_words.specs.declared.options.Asked.TheVariants.{Scenario, Report, Threads};
+ghost use Rattle.dsa_words.specs.declared.options.Asked.TheVariants.{Scenario, Report, Serve, Threads};
 ghost use Rattle.clap.specs.declared.error.kind.ErrorKind.TheVariants.{UnknownArgument, InvalidSubcommand, ValueValidation, DisplayHelp, DisplayVersion};
 ghost use Rattle.dsa_words.specs.declared.reports.Report.TheVariants.{Check, Explain, Trace, Draw, Conform};
 ghost use Rattle.dsa_trace.specs.declared.form.Trace.TheVariants.{Table, Json};
@@ -33,6 +33,9 @@ pub fn words_understood()
     ensures drawing { command_in (codes "draw" ∷ []) ≡ Some (codes "draw") }
     ensures conform { faults_of (codes "conform" ∷ []) ≡ [] }
     ensures conforms { command_in (codes "conform" ∷ []) ≡ Some (codes "conform") }
+    ensures serve { faults_of (codes "serve" ∷ []) ≡ [] }
+    ensures serves { command_in (codes "serve" ∷ []) ≡ Some (codes "serve") }
+    ensures serve_with_option { faults_of (codes "serve" ∷ codes "--json" ∷ []) ≡ UnknownArgument ∷ [] }
     ensures draw_with_option { faults_of (codes "draw" ∷ codes "--clients" ∷ codes "2" ∷ []) ≡ UnknownArgument ∷ [] }
     ensures other_word { faults_of (codes "scenario" ∷ []) ≡ UnknownArgument ∷ InvalidSubcommand ∷ [] }
     ensures option_alone { faults_of (codes "--clients" ∷ codes "2" ∷ []) ≡ UnknownArgument ∷ [] }
@@ -125,7 +128,9 @@ pub fn asked()
     ensures explain { AsksFor (codes "explain" ∷ []) (Report Explain) }
     ensures draw { AsksFor (codes "draw" ∷ []) (Report Draw) }
     ensures conform { AsksFor (codes "conform" ∷ []) (Report Conform) }
+    ensures serve { AsksFor (codes "serve" ∷ []) Serve }
     ensures draw_is_no_scenario { ¬ AsksFor (codes "draw" ∷ []) Scenario }
+    ensures serve_is_no_scenario { ¬ AsksFor (codes "serve" ∷ []) Scenario }
     ensures mistaken { IsMistaken (codes "scenario" ∷ []) }
     ensures help { ¬ IsMistaken (codes "--help" ∷ []) }
     ensures none { ¬ IsMistaken [] }

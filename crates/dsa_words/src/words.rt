@@ -9,10 +9,11 @@ ghost use Rattle.dsa_scenario.specs.declared.faults.ScenarioFault.{ScenarioFault
 ghost use Rattle.dsa_scenario.specs.Document.{IsFaultOf};
 ghost use Rattle.dsa_scenario.specs.Faults.{fault_line};
 ghost use Rattle.dsa_scenario.specs.Scenario.{IsWhole, IsRenderingOf, HasFault, IsCutShort};
+ghost use Rattle.dsa_serve.specs.Dialogue.{IsStopped};
 ghost use Rattle.dsa_words.specs.Threads.{IsInRange, AreTotalsOf, totals_text};
 ghost use Rattle.dsa_scenario.specs.Watched.{watched_contents, has_refused, is_closed, IsSameWriter};
 ghost use Rattle.dsa_words.specs.Reports.{IsReported, IsReportCutShort};
-ghost use Rattle.dsa_words.specs.Words.{IsMistaken, NameThreads, NameReport, IsReportWritten, IsReportCut, AreTotalsWritten, AreTotalsCutShort};
+ghost use Rattle.dsa_words.specs.Words.{IsMistaken, IsServed, NameThreads, NameReport, NameServe, IsReportWritten, IsReportCut, AreTotalsWritten, AreTotalsCutShort};
 
 use crate::options::{Asked, Workload, read_words};
 use crate::reports::Report;
@@ -22,6 +23,7 @@ use clap::error::ErrorKind;
 use dsa_scenario::{
     MAX_READS, MeteredReader, PlainRun, Render, ScenarioFault, WatchedWriter, render_metered,
 };
+use dsa_serve::serve_watched;
 use std::alloc::Global;
 use std::fmt::Display;
 use std::io::{Read, Write};
@@ -169,6 +171,32 @@ fn report_input<R: Read, O: Write, E: Write>(
     }
 }
 
+// Answers the dialogue that the reader gives.
+fn serve_input<R: Read, O: Write, E: Write>(
+    alloc: Global,
+    reader: &mut R,
+    out: &mut WatchedWriter<'_, O>,
+    err: &mut WatchedWriter<'_, E>,
+) -> u8
+    ensures same_output { IsSameWriter out.old out.new }
+    ensures same_writer { IsSameWriter err.old err.new }
+    ensures done { result ≡ 0 → IsServed (R.remaining reader.old) (R.remaining reader.new)
+        (watched_contents O.contents out.old) (watched_contents O.contents out.new) }
+    ensures failed { result ≡ 1 → (fault : ScenarioFault)
+        × IsStopped fault (R.remaining reader.old) (R.remaining reader.new)
+        (watched_contents O.contents out.old) (watched_contents O.contents out.new)
+        × (is_closed out.new ≡ false → has_refused err.new ≡ false → Appends (watched_contents E.contents err.old)
+        (watched_contents E.contents err.new) (fault_line fault)) }
+    ensures quiet { result ≡ 0 → err.new ≡ err.old }
+    ensures silent { result ≡ 1 → is_closed out.new ≡ true → err.new ≡ err.old }
+    ensures statuses { (result ≡ 0) ⊎ (result ≡ 1) }
+{
+    match serve_watched(alloc, reader, out) {
+        Ok(()) => DONE,
+        Err(fault) => tell_reader(out, err, &fault),
+    }
+}
+
 // Runs workers in threads, and writes their totals.
 fn run_workers<T: Threads + Wait + Sync, O: Write, E: Write>(
     rt: &T,
@@ -231,7 +259,8 @@ fn show<O: Write, E: Write>(
 ///
 /// Without words it reads a document from `reader` and writes its lines to `out`. With the word `threads` it
 /// runs workers in threads on one shared device, and writes their totals to `out`. With the word of a report it reads a
-/// document, and writes that to `out`. Help goes to `out`.
+/// document, and writes that to `out`. With the word `serve` it reads a document in one line and then a step in each line,
+/// and answers each before it reads on. Help goes to `out`.
 ///
 /// The status is 0 where all of it was written, and 1 on a fault, whose line goes to `err` unless nobody reads `out` any
 /// more. It is 2 where the words are not understood, and `err` gets what `clap` says of them.
@@ -253,6 +282,8 @@ pub fn answer_words<T: Threads + Wait + Sync, R: Read, O: Write, E: Write>(
         → AreTotalsWritten rows (watched_contents O.contents out.old) (watched_contents O.contents out.new) }
     ensures reports { result ≡ 0 → (found : Text × List Row) → NameReport (map string_bytes words.now) found
         → IsReportWritten found None (R.remaining reader.old) (R.remaining reader.new) (watched_contents O.contents out.old) (watched_contents O.contents out.new) }
+    ensures serves { result ≡ 0 → NameServe (map string_bytes words.now) → IsServed (R.remaining reader.old) (R.remaining reader.new)
+        (watched_contents O.contents out.old) (watched_contents O.contents out.new) }
 
     // Where it fails, the output is as it was, or has the first of the lines.
     ensures failed { length words.now ≡ 0 → result ≡ 1 → (fault : ScenarioFault)
@@ -273,6 +304,12 @@ pub fn answer_words<T: Threads + Wait + Sync, R: Read, O: Write, E: Write>(
         (watched_contents O.contents out.old) (watched_contents O.contents out.new))))
         × (is_closed out.new ≡ false → has_refused err.new ≡ false → Appends (watched_contents E.contents err.old)
         (watched_contents E.contents err.new) (fault_line fault)) }
+    ensures serve_failed { result ≡ 1 → NameServe (map string_bytes words.now) → (fault : ScenarioFault)
+        × ((fault ≡ ScenarioFault.OutOfMemory) × (out.new ≡ out.old)
+        ⊎ IsStopped fault (R.remaining reader.old) (R.remaining reader.new)
+        (watched_contents O.contents out.old) (watched_contents O.contents out.new))
+        × (is_closed out.new ≡ false → has_refused err.new ≡ false → Appends (watched_contents E.contents err.old)
+        (watched_contents E.contents err.new) (fault_line fault)) }
 
     // Words that are not understood.
     ensures refused { result ≡ 2 → (out.new ≡ out.old) × (reader.new ≡ reader.old) }
@@ -287,6 +324,7 @@ pub fn answer_words<T: Threads + Wait + Sync, R: Read, O: Write, E: Write>(
     match read_words(alloc, words) {
         Ok(Asked::Scenario) => run_input(alloc, reader, out, err),
         Ok(Asked::Report(report)) => report_input(alloc, &report, reader, out, err),
+        Ok(Asked::Serve) => serve_input(alloc, reader, out, err),
         Ok(Asked::Threads(load)) => run_workers(rt, alloc, &load, out, err),
         Err(error) => show(out, err, &error),
     }
@@ -311,6 +349,8 @@ pub fn run_words<T: Threads + Wait + Sync, R: Read, O: Write, E: Write>(
         → AreTotalsWritten rows (O.contents out.old) (O.contents out.new) }
     ensures reports { result ≡ 0 → (found : Text × List Row) → NameReport (map string_bytes words.now) found
         → IsReportWritten found None (R.remaining reader.old) (R.remaining reader.new) (O.contents out.old) (O.contents out.new) }
+    ensures serves { result ≡ 0 → NameServe (map string_bytes words.now)
+        → IsServed (R.remaining reader.old) (R.remaining reader.new) (O.contents out.old) (O.contents out.new) }
 
     // Where it fails, the output is as it was, or has the first of the lines.
     ensures failed { length words.now ≡ 0 → result ≡ 1 → (fault : ScenarioFault)
@@ -327,6 +367,9 @@ pub fn run_words<T: Threads + Wait + Sync, R: Read, O: Write, E: Write>(
         × (fault ≢ ScenarioFault.Write → out.new ≡ out.old)
         × (fault ≡ ScenarioFault.Write → IsReportCut found (R.remaining reader.old) (R.remaining reader.new)
         (O.contents out.old) (O.contents out.new)))) }
+    ensures serve_failed { result ≡ 1 → NameServe (map string_bytes words.now) → (fault : ScenarioFault)
+        × ((fault ≡ ScenarioFault.OutOfMemory) × (out.new ≡ out.old)
+        ⊎ IsStopped fault (R.remaining reader.old) (R.remaining reader.new) (O.contents out.old) (O.contents out.new)) }
 
     // Words that are not understood.
     ensures refused { result ≡ 2 → (out.new ≡ out.old) × (reader.new ≡ reader.old) }

@@ -15,5 +15,7 @@ returns c =
     ∙ ap₂ with_subcommand three (ap top c.draw_command.ensures.app) in
     let five = c.in_ok-subcommand-5.ensures.shape c.conform_command.ensures.local
     ∙ ap₂ with_subcommand four (ap top c.conform_command.ensures.app) in
-    IfOk-weaker c.subcommand-6.result _ _ (λ command h. h.shape c.in_ok-threads_command.ensures.local
-    ∙ ap₂ with_subcommand five (ap top c.in_ok-threads_command.ensures.app)) c.subcommand-6.ensures
+    let six = c.in_ok-subcommand-6.ensures.shape c.serve_command.ensures.local
+    ∙ ap₂ with_subcommand five (ap top c.serve_command.ensures.app) in
+    IfOk-weaker c.subcommand-7.result _ _ (λ command h. h.shape c.in_ok-threads_command.ensures.local
+    ∙ ap₂ with_subcommand six (ap top c.in_ok-threads_command.ensures.app)) c.subcommand-7.ensures

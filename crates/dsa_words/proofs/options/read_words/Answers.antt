@@ -46,6 +46,17 @@ returns-in-Some-report_of-clause-asked c =
     let named = c.in-Some-report_of.ensures.some in
     (named.0, (returns-in-Some-report_of-clause-faults c, sym met ∙ named.1, named.2), named.3)
 
+pub returns-then-is_named-clause-faults : goal.returns-then-is_named-clause-faults
+returns-then-is_named-clause-faults c = well _ _ c.in_ok-command_line.ensures c.in_ok-matches.ensures.kinds
+
+pub returns-then-is_named-clause-asked : goal.returns-then-is_named-clause-asked
+returns-then-is_named-clause-asked c =
+    let app = c.in_ok-command_line.ensures in
+    let met = (c.in_ok-matches.ensures.matches (ap is_simple app ∙ simple)).1
+    ∙ ap (λ (a : App). subcommand_of a (map string_bytes c.args.words.now)) app in
+    let found = c.is_named.ensures.named c.if-is_named.true in
+    (returns-then-is_named-clause-faults c, ap (option_map (λ found. found.0)) (sym met ∙ found.1))
+
 pub returns-clause-faults : goal.returns-clause-faults
 returns-clause-faults c = well _ _ c.in_ok-command_line.ensures c.in_ok-matches.ensures.kinds
 
@@ -65,8 +76,12 @@ returns-clause-asked c name is named =
     let found = ap (option_map (λ found. found.0)) met ∙ named in
     elim is [
       | inl report ↦ c.in_default-report_of.ensures.none name report found
-      | inr threads ↦
-          let none : false ≡ true =
-          c.in_default.ensures.found.1 (sym (name-rows c.in_ok-matches.matches) ∙ found ∙ ap Some threads) in
-          absurd cc
+      | inr other ↦
+          elim other [
+            | inl serve ↦ c.is_named.ensures.other c.if-is_named.false (found ∙ ap Some serve)
+            | inr threads ↦
+                let none : false ≡ true =
+                c.in_default.ensures.found.1 (sym (name-rows c.in_ok-matches.matches) ∙ found ∙ ap Some threads) in
+                absurd cc
+          ]
     ]

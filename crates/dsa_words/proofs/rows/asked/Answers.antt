@@ -14,7 +14,7 @@ returns-clause-scenario c name is same = cc
 
 pub returns-clause-no_scenario : goal.returns-clause-no_scenario
 unfolding clap_on_literals
-returns-clause-no_scenario c other = other (codes "threads") (inr refl) refl
+returns-clause-no_scenario c other = other (codes "threads") (inr (inr refl)) refl
 
 pub returns-clause-threads : goal.returns-clause-threads
 unfolding clap_on_literals
@@ -44,6 +44,14 @@ returns-clause-draw c = (_, (refl, refl, inr (inr (inr (inl refl)))), refl)
 pub returns-clause-conform : goal.returns-clause-conform
 unfolding clap_on_literals
 returns-clause-conform c = (_, (refl, refl, inr (inr (inr (inr refl)))), refl)
+
+pub returns-clause-serve : goal.returns-clause-serve
+unfolding clap_on_literals
+returns-clause-serve c = (refl, refl)
+
+pub returns-clause-serve_is_no_scenario : goal.returns-clause-serve_is_no_scenario
+unfolding clap_on_literals
+returns-clause-serve_is_no_scenario c other = other (codes "serve") (inr (inl refl)) refl
 
 pub returns-clause-draw_is_no_scenario : goal.returns-clause-draw_is_no_scenario
 unfolding clap_on_literals

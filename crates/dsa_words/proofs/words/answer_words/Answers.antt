@@ -1,6 +1,6 @@
 use Rattle.dsa_words.proofs.words.answer_words.Goals as goal
 use Rattle.dsa_words.specs.declared.options.Asked.TheVariants as asked
-use Rattle.std.proofs.Common.{◌≡◌, inl, inr, rules, subst, map, string_bytes}
+use Rattle.std.proofs.Common.{◌≡◌, refl, inl, inr, rules, subst, map, string_bytes}
 use Rattle.clap.specs.{Values.{kind_of}, Kinds.{IsAmong}}
 use Rattle.dsa_scenario.specs.declared.faults.ScenarioFault.TheVariants.{OutOfMemory}
 use Rattle.dsa_words.{specs.Words.{AsksFor, IsAskedBy}, proofs.ReportCommands.{same_found}}
@@ -51,5 +51,19 @@ returns-in-Err-clause-reports_failed g c one found named =
       | inl memory ↦
           let kept = c.show.ensures.memory memory in
           (OutOfMemory, inr (tt, λ other. kept.1, λ e. absurd cc), c.show.ensures.told memory)
+      | inr among ↦ absurd (subst (λ faults. IsAmong (kind_of c.in-Err.error) faults) named.0 among)
+    ]
+
+pub returns-in-Ok-Serve-clause-serve_failed : goal.returns-in-Ok-Serve-clause-serve_failed
+returns-in-Ok-Serve-clause-serve_failed g c one named =
+    let told = c.serve_input.ensures.failed one in
+    (told.0, inr told.1, told.2)
+
+pub returns-in-Err-clause-serve_failed : goal.returns-in-Err-clause-serve_failed
+returns-in-Err-clause-serve_failed g c one named =
+    elim c.in-Err.ensures.faults [
+      | inl memory ↦
+          let kept = c.show.ensures.memory memory in
+          (OutOfMemory, inl (refl, kept.1), c.show.ensures.told memory)
       | inr among ↦ absurd (subst (λ faults. IsAmong (kind_of c.in-Err.error) faults) named.0 among)
     ]

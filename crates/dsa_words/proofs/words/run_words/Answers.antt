@@ -80,3 +80,21 @@ returns-clause-reports_failed g c one found named =
             )
       ],
     )
+
+pub returns-clause-serves : goal.returns-clause-serves
+returns-clause-serves g c zero named =
+    let done = c.answer_words.ensures.serves zero named in
+    search (rules, done)
+
+pub returns-clause-serve_failed : goal.returns-clause-serve_failed
+returns-clause-serve_failed g c one named =
+    let told = c.answer_words.ensures.serve_failed one named in (
+      told.0,
+      elim told.1 [
+        | inl kept ↦
+            let same : c.answer_words.new.out.writer.now ≡ c.args.out.now =
+            ap (λ watched. watched.writer.now) kept.1 ∙ c.new-out.ensures.writer in
+            inl (kept.0, search rules)
+        | inr stopped ↦ inr (search (rules, stopped))
+      ],
+    )
