@@ -1,0 +1,19 @@
+//! Reads a scenario document from standard input, and writes its lines to standard output: what `dsa_run` does without
+//! words, as a program that needs neither the words nor the other texts, so that the toolchain's quick way begins sooner.
+#![tactic(auto)]
+
+use dsa_scenario::run_scenario;
+use std::alloc::Global;
+use std::process::ExitCode;
+
+fn main(rt: HostRuntime) -> ExitCode {
+    let alloc: Global = rt.alloc();
+    let (mut reader, mut out, mut err) = (rt.stdin(), rt.stdout(), rt.stderr());
+    match run_scenario(alloc, &mut reader, &mut out) {
+        Ok(()) => ExitCode::SUCCESS,
+        Err(fault) => {
+            let _ = err.print(format_args!("dsa_run: {fault}\n"));
+            ExitCode::FAILURE
+        }
+    }
+}
