@@ -111,3 +111,10 @@ IsStepped caps capacity done here number now tickets None =
     IsFollowedTo caps capacity (done ++ here ∷ []) (number + 1) now tickets
 IsStepped caps capacity done here number now tickets (Some text) =
     IsDifference caps capacity done here number text
+
+-- by one step more a device comes from where some steps have led to one of the two
+abbrev pub IsNextStep : Action × Seen → ℕ → Running → List Ticket → Running → List Ticket → Option (List ℕ) → Type 0
+IsNextStep here number now tickets new more differs =
+    (caps : Caps) → (capacity : ℕ) → (done : List (Action × Seen))
+    → IsFollowedTo caps capacity done number now tickets
+    → IsStepped caps capacity done here number new more differs

@@ -9,7 +9,7 @@ ghost use Rattle.dsa_scenario.specs.declared.actions.Action.{Action};
 ghost use Rattle.dsa_conform.specs.Seen.{Seen, seen_as, is_seen};
 ghost use Rattle.dsa_explain_lines.specs.Parts.{part_of};
 ghost use Rattle.dsa_conform.specs.Lines.{conforms_text, difference_of, records_of};
-ghost use Rattle.dsa_conform.specs.Run.{AreRead, IsVerdict, IsFollowedTo, IsStepped};
+ghost use Rattle.dsa_conform.specs.Run.{AreRead, IsVerdict, IsFollowedTo, IsNextStep};
 
 use crate::difference::difference_text;
 use crate::following::{Followed, follow};
@@ -98,9 +98,7 @@ fn walk_seen<S: EntryStore>(
     action: Action,
     seen: &Observed<'_>,
 ) -> Result<Option<String>, AllocError>
-    ensures { IfOk result (λ differs. (caps : Caps) → (capacity : ℕ) → (done : List (Action × Seen))
-        → IsFollowedTo caps capacity done number device.old tickets.old.items
-        → IsStepped caps capacity done (action, seen_as seen.now) number device.new tickets.new.items (option_map string_bytes differs)) }
+    ensures { IfOk result (λ differs. IsNextStep (action, seen_as seen.now) number device.old tickets.old.items device.new tickets.new.items (option_map string_bytes differs)) }
 {
     let asked = event_for(tickets, action);
     let told = reason_of(alloc, device, &asked)?;
@@ -119,9 +117,7 @@ fn walk_step<S: EntryStore>(
     action: Action,
     seen: &Observed<'_>,
 ) -> Result<Option<String>, AllocError>
-    ensures { IfOk result (λ differs. (caps : Caps) → (capacity : ℕ) → (done : List (Action × Seen))
-        → IsFollowedTo caps capacity done number device.old tickets.old.items
-        → IsStepped caps capacity done (action, seen_as seen.now) number device.new tickets.new.items (option_map string_bytes differs)) }
+    ensures { IfOk result (λ differs. IsNextStep (action, seen_as seen.now) number device.old tickets.old.items device.new tickets.new.items (option_map string_bytes differs)) }
 {
     if seen.is_seen() {
         return walk_seen(alloc, device, tickets, number, action, seen);
