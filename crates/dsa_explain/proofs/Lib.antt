@@ -1,6 +1,8 @@
 pub mod Holding
 pub mod Naming
 pub mod Checking
+pub mod Grouping
+pub mod Faulting
 pub mod Wanting
 pub mod Rows
 pub mod Taking

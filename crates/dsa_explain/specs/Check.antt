@@ -9,6 +9,7 @@ use Rattle.dsa_regs.specs.declared.Fault.TheVariants.{BatchTooLarge, TransferToo
 use Rattle.dsa_regs.specs.Config.{total_reserved, groups_table, queue_table}
 use Rattle.dsa_regs.specs.Config.{is_without_engine, is_without_queue}
 use Rattle.dsa_explain.specs.{declared.check.CheckReason.{CheckReason}, Reasons.{with_reasons}}
+use Rattle.dsa_explain.specs.Groups.{missing_reason, shared_reason, outside_reason}
 use Rattle.dsa_explain.specs.declared.check.CheckReason.TheVariants.{NamesMissing, SizesTooLarge, TwoGroups}
 use Rattle.dsa_explain.specs.declared.check.CheckReason.TheVariants.{ReservedTooMany, AllowedOutOfRange}
 use Rattle.dsa_explain.specs.declared.check.CheckReason.TheVariants.{GroupWithoutEngine, GroupWithoutQueue}
@@ -45,11 +46,11 @@ at_most_a_word n = min n (2 ^ 32 - 1)
 -- so much; the group is the first such, and there is one where the row stands
 abbrev pub groups_reasons : Caps → ℕ → List GroupConfig → List (Option CheckReason)
 groups_reasons caps sizes groups =
-    Some NamesMissing ∷
+    missing_reason caps groups ∷
     Some (SizesTooLarge (at_most_a_word sizes) caps.total_size) ∷
-    Some TwoGroups ∷
+    shared_reason caps groups ∷
     Some (ReservedTooMany (at_most_a_word (total_reserved groups)) caps.read_buffers) ∷
-    Some AllowedOutOfRange ∷
+    outside_reason caps groups ∷
     option_map GroupWithoutEngine (position is_without_engine groups) ∷
     option_map GroupWithoutQueue (position is_without_queue groups) ∷ []
 
@@ -60,22 +61,22 @@ groups_reason caps sizes groups =
 
 -- the reason of a fault of that table
 abbrev pub reason_for : Caps → ℕ → List GroupConfig → Fault → Option CheckReason
-reason_for caps sizes groups BadIndex = Some NamesMissing
+reason_for caps sizes groups BadIndex = missing_reason caps groups
 reason_for caps sizes groups SizesTooLarge = Some (SizesTooLarge (at_most_a_word sizes) caps.total_size)
-reason_for caps sizes groups TwoGroups = Some TwoGroups
+reason_for caps sizes groups TwoGroups = shared_reason caps groups
 reason_for caps sizes groups ReservedTooMany =
     Some (ReservedTooMany (at_most_a_word (total_reserved groups)) caps.read_buffers)
-reason_for caps sizes groups AllowedOutOfRange = Some AllowedOutOfRange
+reason_for caps sizes groups AllowedOutOfRange = outside_reason caps groups
 reason_for caps sizes groups GroupWithoutEngine = option_map GroupWithoutEngine (position is_without_engine groups)
 reason_for caps sizes groups _ = option_map GroupWithoutQueue (position is_without_queue groups)
 
 -- the fault that is answered for the reason
 abbrev pub fault_of : CheckReason → Fault
-fault_of NamesMissing = BadIndex
+fault_of (NamesMissing group named count) = BadIndex
 fault_of (SizesTooLarge sizes total) = SizesTooLarge
-fault_of TwoGroups = TwoGroups
+fault_of (TwoGroups named first second) = TwoGroups
 fault_of (ReservedTooMany reserved total) = ReservedTooMany
-fault_of AllowedOutOfRange = AllowedOutOfRange
+fault_of (AllowedOutOfRange group allowed bound) = AllowedOutOfRange
 fault_of (GroupWithoutEngine group) = GroupWithoutEngine
 fault_of (GroupWithoutQueue group) = GroupWithoutQueue
 fault_of (SizeZero queue) = SizeZero

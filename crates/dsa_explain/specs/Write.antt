@@ -1,7 +1,7 @@
 -- Why a configuration is not written, and no error cleared.
-use Rattle.std.specs.Prelude.{ℕ, List, [], ◌∷◌, slice_set, Option, Some, None}
+use Rattle.std.specs.Prelude.{ℕ, List, [], ◌∷◌, Option, Some, None}
 use Rattle.dsa_base.specs.Rows.{first_row}
-use Rattle.dsa_regs.specs.declared.{QueueConfig.{QueueConfig}, GroupConfig.{GroupConfig}, Fault.{Fault}}
+use Rattle.dsa_regs.specs.declared.{QueueConfig.{QueueConfig}, Fault.{Fault}}
 use Rattle.dsa_regs.specs.declared.Fault.TheVariants.{Locked, BadIndex}
 use Rattle.dsa_regs.specs.Config.{queue_at}
 use Rattle.dsa_book.specs.{State.{Setup, phase_at}, Commands.{write_queue_table, write_group_table}}

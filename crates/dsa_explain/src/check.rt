@@ -1,15 +1,17 @@
 //! What the check of an enable has against the configuration.
 
 ghost use Rattle.std.specs.Prelude.{◌≡◌, ℕ, ◌<◌, ◌^◌, cond, List, None, length, position, option_map};
-ghost use Rattle.std.specs.List.{list_any};
+ghost use Rattle.std.specs.List.{list_any, All};
 ghost use Rattle.dsa_base.specs.Numbers.{has};
 ghost use Rattle.dsa_regs.specs.declared.Caps.{Caps};
 ghost use Rattle.dsa_regs.specs.declared.QueueConfig.{QueueConfig};
 ghost use Rattle.dsa_regs.specs.declared.GroupConfig.{GroupConfig};
-ghost use Rattle.dsa_regs.specs.Config.{queue_at, total_size, total_reserved, is_without_engine, is_without_queue, check_queue};
+ghost use Rattle.dsa_regs.specs.Config.{queue_at, total_size, total_reserved, is_without_engine, is_without_queue, check_groups, check_queue};
 ghost use Rattle.dsa_book.specs.State.{has_queue};
+ghost use Rattle.dsa_explain.specs.Groups.{IsGroup};
 ghost use Rattle.dsa_explain.specs.Check.{queue_reason, groups_reason, reason_for, at_most_a_word, fault_of};
 
+use crate::groups::{Bound, Named, missing_reason, outside_reason, shared_reason};
 use dsa_device::Device;
 use dsa_regs::{Caps, Fault, GroupConfig, MAX_PRIORITY, QueueConfig, check_device};
 use dsa_store::EntryStore;
@@ -17,22 +19,35 @@ use dsa_store::EntryStore;
 /// What the check of an enable finds first: of the device as a whole, or of the queue that is enabled.
 #[derive(Clone, Copy, Debug, PartialEq, Eq)]
 pub enum CheckReason {
-    /// A group names a queue or an engine that the device does not have.
-    NamesMissing,
+    /// The group, the first such, names a queue or an engine that the device does not have: the first such queue, or else
+    /// the first such engine, of which the device has so many.
+    NamesMissing {
+        group: u16,
+        named: Named,
+        count: u16,
+    },
     /// The sizes of all queues together, or the most that a u32 holds, are more than the device has.
     SizesTooLarge {
         sizes: u32,
         total: u16,
     },
-    /// A queue or an engine is in two groups.
-    TwoGroups,
+    /// The queue, the first such, or else the engine, is in two groups, the first two by number.
+    TwoGroups {
+        named: Named,
+        first: u16,
+        second: u16,
+    },
     /// The read buffers that all groups have reserved together, or the most that a u32 holds, are more than the device has.
     ReservedTooMany {
         reserved: u32,
         total: u16,
     },
-    /// A group may use fewer read buffers than it reserved or needs, or more than the others leave.
-    AllowedOutOfRange,
+    /// The group, the first such, may use a number of read buffers that breaks this bound, the first such.
+    AllowedOutOfRange {
+        group: u16,
+        allowed: u16,
+        bound: Bound,
+    },
     /// The group, the first such, has a queue and no engine.
     GroupWithoutEngine {
         group: u16,
@@ -139,7 +154,7 @@ fn total_size(queues: &[QueueConfig]) -> u32
 }
 
 // The read buffers that all groups have reserved together, or the most that a u32 holds.
-fn total_reserved(groups: &[GroupConfig]) -> u32
+pub(crate) fn total_reserved(groups: &[GroupConfig]) -> u32
     ensures { result ≡ at_most_a_word (total_reserved groups.now) }
 {
     let mut total: u32 = 0;
@@ -178,17 +193,17 @@ fn reason_for(
     ensures { result ≡ reason_for caps.now (total_size queues.now) groups.now fault }
 {
     match fault {
-        Fault::BadIndex => Some(CheckReason::NamesMissing),
+        Fault::BadIndex => missing_reason(caps, groups),
         Fault::SizesTooLarge => Some(CheckReason::SizesTooLarge {
             sizes: total_size(queues),
             total: caps.total_size,
         }),
-        Fault::TwoGroups => Some(CheckReason::TwoGroups),
+        Fault::TwoGroups => shared_reason(caps, groups),
         Fault::ReservedTooMany => Some(CheckReason::ReservedTooMany {
             reserved: total_reserved(groups),
             total: caps.read_buffers,
         }),
-        Fault::AllowedOutOfRange => Some(CheckReason::AllowedOutOfRange),
+        Fault::AllowedOutOfRange => outside_reason(caps, groups),
         Fault::GroupWithoutEngine => {
             let group = without_engine(groups)? as u16;
             Some(CheckReason::GroupWithoutEngine { group })
@@ -227,4 +242,10 @@ pub fn check_queue_reason<S: EntryStore>(device: &Device<S>, queue: u16) -> Opti
 pub fn queue_checks_follow_reasons()
     ensures { (caps : Caps) (groups : List GroupConfig) (queue : ℕ) (config : QueueConfig) → check_queue caps groups queue config
         ≡ option_map fault_of (queue_reason caps groups queue config) }
+{}
+
+/// The check of Enable Device answers the fault of its reason, and nothing exactly where there is none.
+pub fn device_checks_follow_reasons()
+    ensures { (caps : Caps) (sizes : ℕ) (groups : List GroupConfig) → All IsGroup groups → check_groups caps sizes groups
+        ≡ option_map fault_of (groups_reason caps sizes groups) }
 {}

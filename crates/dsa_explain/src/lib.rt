@@ -10,6 +10,7 @@ mod check;
 mod command;
 mod dispatch;
 mod finish;
+mod groups;
 mod held;
 mod submission;
 mod write;
@@ -17,7 +18,8 @@ mod write;
 pub use batch::{FetchReason, StartReason, fetch_reason, start_reason};
 pub use buffers::{BufferWant, kept_for};
 pub use check::{
-    CheckReason, check_device_reason, check_queue_reason, queue_checks_follow_reasons,
+    CheckReason, check_device_reason, check_queue_reason, device_checks_follow_reasons,
+    queue_checks_follow_reasons,
 };
 pub use command::{
     IssueReason, PollReason, commands_follow_reasons, issue_reason, poll_reason,
@@ -27,6 +29,7 @@ pub use dispatch::{
     EngineReason, QueueReason, engine_reason, idle_engines_have_reasons, queue_reason,
 };
 pub use finish::{FinishReason, finish_reason};
+pub use groups::{Bound, Named};
 pub use held::{
     Held, aborted_at, aborted_entries_get_rows, all_entries_are_told, awaited_entry,
     commands_wait_for_what_is_told,

@@ -8,6 +8,8 @@ use Rattle.dsa_explain.specs.declared.finish.FinishReason.TheVariants as finish
 use Rattle.dsa_explain.specs.declared.command.IssueReason.TheVariants as issue
 use Rattle.dsa_explain.specs.declared.command.PollReason.TheVariants as poll
 use Rattle.dsa_explain.specs.declared.check.CheckReason.TheVariants as check
+use Rattle.dsa_explain.specs.declared.groups.Named.TheVariants as named
+use Rattle.dsa_explain.specs.declared.groups.Bound.TheVariants as bound
 use Rattle.dsa_explain.specs.declared.write.WriteReason.TheVariants as write
 use Rattle.dsa_explain.specs.declared.write.ClearReason.TheVariants as clear
 use Rattle.std.specs.Prelude.{ℕ, Bool, true, false, List, [], ◌++◌, Option, Some, None, codes, decimal}
@@ -21,6 +23,7 @@ use Rattle.dsa_explain.specs.declared.batch.{FetchReason.{FetchReason}, StartRea
 use Rattle.dsa_explain.specs.declared.{finish.FinishReason.{FinishReason}, buffers.BufferWant.{BufferWant}}
 use Rattle.dsa_explain.specs.declared.command.{IssueReason.{IssueReason}, PollReason.{PollReason}}
 use Rattle.dsa_explain.specs.declared.{check.CheckReason.{CheckReason}, held.Held.{Held}}
+use Rattle.dsa_explain.specs.declared.groups.{Named.{Named}, Bound.{Bound}}
 use Rattle.dsa_explain.specs.declared.write.{WriteReason.{WriteReason}, ClearReason.{ClearReason}}
 
 -- ---- what several sentences have
@@ -167,16 +170,47 @@ queue_check_words (check.TransferTooLarge q asked most) =
 queue_check_words (check.NoGroup q) = counted (codes "no group has q") q (codes "")
 queue_check_words _ = []
 
+-- a queue or an engine
+abbrev pub name_words : Named → List ℕ
+name_words (named.Queue q) = codes "q" ++ decimal q
+name_words (named.Engine e) = codes "e" ++ decimal e
+
+-- what of it there are so many
+abbrev pub names_words : Named → List ℕ
+names_words (named.Queue q) = codes " queues"
+names_words (named.Engine e) = codes " engines"
+
+-- the group names it, and the device has so many
+abbrev pub missing_words : ℕ → Named → ℕ → List ℕ
+missing_words group name count =
+    counted (codes "group ") group (codes " names ") ++ name_words name
+    ++ counted (codes ", and the device has ") count (names_words name)
+
+-- both groups name it
+abbrev pub shared_words : Named → ℕ → ℕ → List ℕ
+shared_words name first second =
+    name_words name ++ counted_twice (codes " is in group ") first (codes " and in group ") second (codes "")
+
+-- the bound that a number of read buffers breaks
+abbrev pub bound_words : Bound → List ℕ
+bound_words (bound.Reserved reserved) = counted (codes "below the ") reserved (codes " that it reserves")
+bound_words (bound.Unreserved left) = counted (codes "above the ") left (codes " that others leave")
+bound_words bound.Need = codes "below the 4 that a descriptor may need"
+
+-- the group may use so many read buffers, which breaks the bound
+abbrev pub outside_words : ℕ → ℕ → Bound → List ℕ
+outside_words group allowed broken =
+    counted_twice (codes "group ") group (codes " may use ") allowed (codes " read buffers, ") ++ bound_words broken
+
 -- of the device, of a group, or of a queue
 abbrev pub check_sentence : CheckReason → List ℕ
-check_sentence check.NamesMissing = codes "a group names a queue or an engine that the device does not have"
+check_sentence (check.NamesMissing group named count) = missing_words group named count
 check_sentence (check.SizesTooLarge sizes total) =
     counted_twice (codes "the sizes of the queues are ") sizes (codes ", of ") total (codes "")
-check_sentence check.TwoGroups = codes "a queue or an engine is in two groups"
+check_sentence (check.TwoGroups named first second) = shared_words named first second
 check_sentence (check.ReservedTooMany reserved total) =
     counted_twice (codes "the groups reserve ") reserved (codes " read buffers, of ") total (codes "")
-check_sentence check.AllowedOutOfRange =
-    codes "a group may use too few read buffers, or more than others leave"
+check_sentence (check.AllowedOutOfRange group allowed bound) = outside_words group allowed bound
 check_sentence (check.GroupWithoutEngine group) = counted (codes "group ") group (codes " has a queue and no engine")
 check_sentence (check.GroupWithoutQueue group) = counted (codes "group ") group (codes " has an engine and no queue")
 check_sentence reason = queue_check_words reason

@@ -3,6 +3,7 @@
 ghost use Rattle.std.specs.Prelude.{◌≡◌, ◌++◌, OnOk, codes, string_bytes};
 ghost use Rattle.dsa_explain_lines.specs.Sentences.{above_words, check_sentence, counted, queue_check_words};
 
+use crate::groups::{add_missing, add_outside, add_shared};
 use crate::words::{add_counted, add_counted_twice};
 use dsa_event_words::add_number;
 use dsa_explain::CheckReason;
@@ -89,14 +90,20 @@ pub fn add_check_reason(text: &mut String, reason: &CheckReason) -> Result<(), A
     ensures { OnOk result (string_bytes text.new ≡ string_bytes text.old ++ check_sentence reason.now) }
 {
     match *reason {
-        CheckReason::NamesMissing => {
-            text.push_str("a group names a queue or an engine that the device does not have")
-        }
+        CheckReason::NamesMissing {
+            group,
+            named,
+            count,
+        } => add_missing(text, group, named, count),
         CheckReason::SizesTooLarge { sizes, total } => {
             let before = "the sizes of the queues are ";
             add_counted_twice(text, before, sizes, ", of ", u32::from(total), "")
         }
-        CheckReason::TwoGroups => text.push_str("a queue or an engine is in two groups"),
+        CheckReason::TwoGroups {
+            named,
+            first,
+            second,
+        } => add_shared(text, named, first, second),
         CheckReason::ReservedTooMany { reserved, total } => {
             let between = " read buffers, of ";
             add_counted_twice(
@@ -108,9 +115,11 @@ pub fn add_check_reason(text: &mut String, reason: &CheckReason) -> Result<(), A
                 "",
             )
         }
-        CheckReason::AllowedOutOfRange => text.push_str(
-            "a group may use too few read buffers, or more than others leave",
-        ),
+        CheckReason::AllowedOutOfRange {
+            group,
+            allowed,
+            bound,
+        } => add_outside(text, group, allowed, bound),
         CheckReason::GroupWithoutEngine { group } => {
             add_field(text, "group ", group, " has a queue and no engine")
         }

@@ -8,6 +8,7 @@ mod checks;
 mod commands;
 mod dispatch;
 mod engines;
+mod groups;
 mod lines;
 mod parts;
 mod rendering;

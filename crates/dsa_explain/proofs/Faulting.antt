@@ -1,0 +1,136 @@
+-- The reason of each row of the check of Enable Device is there where the row stands, and has its fault.
+use Rattle.std.proofs.Common.{◌≡◌, ℕ, Bool, true, false, ◌||◌, nat_lt, List, [], ◌∷◌, length, position}
+use Rattle.std.proofs.Common.{Option, Some, None, is_some, option_map, refl, sym, ap, ◌∙◌, arith}
+use Rattle.std.proofs.lemmas.{Grind.{common_steps}, List.Elements.{All-get_or}}
+use Rattle.std.specs.{Prelude.{⊤, count_by}, List.{list_any, position_or_len, All}, Option.{option_and_then, option_or}}
+use Rattle.dsa_base.{specs.{Rows.{first_row, first_row_or}, Numbers.{has}}, proofs.FirstPlaces.{hit-at}}
+use Rattle.dsa_regs.specs.declared.{Caps.{Caps}, GroupConfig.{GroupConfig}, Fault.{Fault}}
+use Rattle.dsa_regs.specs.declared.Fault.TheVariants.{BadIndex, TwoGroups, AllowedOutOfRange}
+use Rattle.dsa_regs.specs.Config.{groups_table, check_groups, group_at, zero_group, names_missing, is_in_two}
+use Rattle.dsa_regs.specs.Config.{is_allowed_wrong, is_without_engine, is_without_queue}
+use Rattle.dsa_explain.specs.declared.check.CheckReason.{CheckReason}
+use Rattle.dsa_explain.specs.declared.groups.Named.{Named, TheVariants.{Queue, Engine}}
+use Rattle.dsa_explain.specs.Groups.{IsGroup, missing_name, missing_reason, names, shared_by, shared_reason}
+use Rattle.dsa_explain.specs.Groups.{first_past, first_two, first_in_two, naming_groups}
+use Rattle.dsa_explain.specs.{Reasons.{with_reasons}, Check.{fault_of, groups_reason, groups_reasons}}
+use Rattle.dsa_explain.proofs.Grouping.{past-there, shared-counted, first-counted, first-some}
+
+-- ---- a table and its reasons
+
+-- where a row stands, its reason is there and has what the row leads to
+abbrev Told : {A R : Type 0} → (R → A) → List (Bool × A) → List (Option R) → Type 0
+Told f [] reasons = ⊤
+Told f (row ∷ rows) [] = ⊥
+Told f (row ∷ rows) (reason ∷ reasons) = (row.0 ≡ true → option_map f reason ≡ Some row.1) × Told f rows reasons
+
+told : {A R : Type 0} (f : R → A) (rows : List (Bool × A)) (reasons : List (Option R)) → Told f rows reasons
+    → first_row rows ≡ option_map f (first_row_or (with_reasons rows reasons) None)
+told f [] reasons a = refl
+told f (row ∷ rows) [] a = absurd a
+told f ((true, x) ∷ rows) (reason ∷ reasons) a = sym (a.0 refl)
+told f ((false, x) ∷ rows) (reason ∷ reasons) a = told f rows reasons a.1
+
+-- one that passes has a place
+any-place : {X : Type 0} (p : X → Bool) (xs : List X) → list_any p xs ≡ nat_lt (position_or_len p xs) (length xs)
+any-place p [] = refl
+any-place p (x ∷ xs) = grind (arith, common_steps, any-place p xs)
+
+placed : {X : Type 0} (p : X → Bool) (xs : List X) → list_any p xs ≡ true → (k : ℕ) × (position p xs ≡ Some k)
+placed p xs h = (position_or_len p xs, grind (arith, common_steps, any-place p xs, h))
+
+-- what is there is told with its fault
+map-told : {X : Type 0} (f : X → CheckReason) (fault : Fault) (o : Option X) → ((x : X) → fault_of (f x) ≡ fault)
+    → is_some o ≡ true → option_map fault_of (option_map f o) ≡ Some fault
+map-told f fault None same h = absurd cc
+map-told f fault (Some x) same h = ap Some (same x)
+
+-- ---- a group names what the device does not have
+
+either-some : (a b : Option ℕ)
+    → is_some (option_or (option_map Queue a) (option_map Engine b)) ≡ (is_some a || is_some b)
+either-some None None = refl
+either-some None (Some b) = refl
+either-some (Some a) b = refl
+
+pub name-there : (caps : Caps) (g : GroupConfig) → IsGroup g → is_some (missing_name caps g) ≡ names_missing caps g
+name-there caps g sets =
+    either-some (first_past caps.queues g.queues) (first_past caps.engines g.engines)
+    ∙ rw (past-there caps.queues g.queues sets.0, past-there caps.engines g.engines sets.1) refl
+
+missing-told : (caps : Caps) (groups : List GroupConfig) → All IsGroup groups
+    → list_any (names_missing caps) groups ≡ true → option_map fault_of (missing_reason caps groups) ≡ Some BadIndex
+missing-told caps groups sets h =
+    let place = placed (names_missing caps) groups h in
+    let hit = hit-at (names_missing caps) groups zero_group place.0 place.1 in
+    let of_group = All-get_or IsGroup groups place.0 zero_group hit.0 sets in
+    rw place.1 (map-told _ BadIndex (missing_name caps (group_at groups place.0)) (λ n. refl)
+    (name-there caps (group_at groups place.0) of_group ∙ hit.1))
+
+-- ---- two groups name the same
+
+two-told : (named : Named) (l : List ℕ) → is_some (first_two named l) ≡ true
+    → option_map fault_of (first_two named l) ≡ Some TwoGroups
+two-told named [] h = absurd cc
+two-told named (a ∷ []) h = absurd cc
+two-told named (a ∷ b ∷ l) h = refl
+
+-- the number that is found is told
+found-told : (members : GroupConfig → ℕ) (which : ℕ → Named) (groups : List GroupConfig) (n : ℕ)
+    → ((k : ℕ) → count_by (names (which k)) groups ≡ count_by (λ g. has (members g) k) groups)
+    → (o : Option ℕ) → first_in_two members groups n ≡ o
+    → option_map fault_of (option_and_then (λ k. shared_by groups (which k)) o) ≡ option_map (λ k. TwoGroups) o
+found-told members which groups n same None is = refl
+found-told members which groups n same (Some k) is =
+    two-told (which k) (naming_groups groups (which k))
+    (shared-counted groups (which k) ∙ ap (nat_lt 1) (same k) ∙ first-counted members groups n k is)
+
+or-told : (a b : Option CheckReason) (oa ob : Option ℕ) → option_map fault_of a ≡ option_map (λ k. TwoGroups) oa
+    → option_map fault_of b ≡ option_map (λ k. TwoGroups) ob → (is_some oa || is_some ob) ≡ true
+    → option_map fault_of (option_or a b) ≡ Some TwoGroups
+or-told (Some x) b (Some k) ob ha hb h = ha
+or-told (Some x) b None ob ha hb h = absurd cc
+or-told None b (Some k) ob ha hb h = absurd cc
+or-told None (Some y) None (Some j) ha hb h = hb
+or-told None (Some y) None None ha hb h = absurd cc
+or-told None None None (Some j) ha hb h = absurd cc
+or-told None None None None ha hb h = absurd cc
+
+shared-told : (caps : Caps) (groups : List GroupConfig)
+    → (is_in_two (λ g. g.queues) groups caps.queues || is_in_two (λ g. g.engines) groups caps.engines) ≡ true
+    → option_map fault_of (shared_reason caps groups) ≡ Some TwoGroups
+shared-told caps groups h =
+    or-told _ _ _ _ (found-told (λ g. g.queues) Queue groups caps.queues (λ k. refl) _ refl)
+    (found-told (λ g. g.engines) Engine groups caps.engines (λ k. refl) _ refl)
+    (rw (first-some (λ g. g.queues) groups caps.queues, first-some (λ g. g.engines) groups caps.engines) h)
+
+-- ---- the table of the device
+
+placed-told : {X : Type 0} (p : X → Bool) (xs : List X) (reason : ℕ → CheckReason) (fault : Fault)
+    → ((k : ℕ) → fault_of (reason k) ≡ fault) → list_any p xs ≡ true
+    → option_map fault_of (option_map reason (position p xs)) ≡ Some fault
+placed-told p xs reason fault same h =
+    let place = placed p xs h in
+    rw (place.1, same place.0) refl
+
+pub device-follows : (caps : Caps) (sizes : ℕ) (groups : List GroupConfig) → All IsGroup groups
+    → check_groups caps sizes groups ≡ option_map fault_of (groups_reason caps sizes groups)
+device-follows caps sizes groups sets =
+    told fault_of (groups_table caps sizes groups) (groups_reasons caps sizes groups) (
+      missing-told caps groups sets,
+      (
+        λ h. refl,
+        (
+          shared-told caps groups,
+          (
+            λ h. refl,
+            (
+              placed-told (is_allowed_wrong caps.read_buffers groups) groups _ AllowedOutOfRange (λ k. refl),
+              (
+                placed-told is_without_engine groups _ _ (λ k. refl),
+                (placed-told is_without_queue groups _ _ (λ k. refl), tt),
+              ),
+            ),
+          ),
+        ),
+      ),
+    )

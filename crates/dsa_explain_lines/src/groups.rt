@@ -1,0 +1,88 @@
+//! What the check of Enable Device finds of groups.
+
+ghost use Rattle.std.specs.Prelude.{◌≡◌, ◌++◌, OnOk, string_bytes};
+ghost use Rattle.dsa_explain_lines.specs.Sentences.{bound_words, missing_words, name_words, names_words, outside_words, shared_words};
+
+use crate::words::{add_counted, add_counted_twice};
+use dsa_event_words::add_number;
+use dsa_explain::{Bound, Named};
+use std::alloc::AllocError;
+
+// A queue or an engine.
+fn add_name(text: &mut String, named: Named) -> Result<(), AllocError>
+    ensures { OnOk result (string_bytes text.new ≡ string_bytes text.old ++ name_words named) }
+{
+    match named {
+        Named::Queue(queue) => add_number(text, "q", u32::from(queue)),
+        Named::Engine(engine) => add_number(text, "e", u32::from(engine)),
+    }
+}
+
+// What of it there are so many.
+fn names_words(named: Named) -> &'static str
+    ensures { result.now ≡ names_words named }
+{
+    match named {
+        Named::Queue(_) => " queues",
+        Named::Engine(_) => " engines",
+    }
+}
+
+/// Adds that the group names what the device does not have.
+pub fn add_missing(
+    text: &mut String,
+    group: u16,
+    named: Named,
+    count: u16,
+) -> Result<(), AllocError>
+    ensures { OnOk result (string_bytes text.new ≡ string_bytes text.old ++ missing_words group named count) }
+{
+    add_counted(text, "group ", u32::from(group), " names ")?;
+    add_name(text, named)?;
+    let count = u32::from(count);
+    add_counted(text, ", and the device has ", count, names_words(named))
+}
+
+/// Adds that two groups name it.
+pub fn add_shared(
+    text: &mut String,
+    named: Named,
+    first: u16,
+    second: u16,
+) -> Result<(), AllocError>
+    ensures { OnOk result (string_bytes text.new ≡ string_bytes text.old ++ shared_words named first second) }
+{
+    let (first, second) = (u32::from(first), u32::from(second));
+    add_name(text, named)?;
+    add_counted_twice(text, " is in group ", first, " and in group ", second, "")
+}
+
+// The bound that is broken.
+fn add_bound(text: &mut String, bound: Bound) -> Result<(), AllocError>
+    ensures { OnOk result (string_bytes text.new ≡ string_bytes text.old ++ bound_words bound) }
+{
+    match bound {
+        Bound::Reserved(reserved) => {
+            add_counted(text, "below the ", u32::from(reserved), " that it reserves")
+        }
+        Bound::Unreserved(left) => {
+            add_counted(text, "above the ", u32::from(left), " that others leave")
+        }
+        Bound::Need => text.push_str("below the 4 that a descriptor may need"),
+    }
+}
+
+/// Adds that the group may use so many read buffers, and the bound that this breaks.
+pub fn add_outside(
+    text: &mut String,
+    group: u16,
+    allowed: u16,
+    bound: Bound,
+) -> Result<(), AllocError>
+    ensures { OnOk result (string_bytes text.new ≡ string_bytes text.old ++ outside_words group allowed bound) }
+{
+    let (group, allowed) = (u32::from(group), u32::from(allowed));
+    let after = " read buffers, ";
+    add_counted_twice(text, "group ", group, " may use ", allowed, after)?;
+    add_bound(text, bound)
+}
