@@ -1,15 +1,17 @@
 -- The entries of all lists, as a walk finds them list by list.
 use Rattle.std.proofs.Common.{◌≡◌, ℕ, zero, suc, ◌+◌, ◌<◌, Bool, true, false, List, [], ◌∷◌, ◌++◌, map, filter, find}
-use Rattle.std.proofs.Common.{length, drop, Option, Some, None, is_some, refl, ◌∙◌, arith, inl, inr, cond}
+use Rattle.std.proofs.Common.{length, drop, Option, Some, None, is_some, refl, ◌∙◌, arith, inl, inr, cond, flat_map}
 use Rattle.std.proofs.Common.{drop-cons}
 use Rattle.std.proofs.lemmas.{Bool.{cases_Bool}, Grind.{common_steps}}
 use Rattle.std.proofs.lemmas.List.{map-append, Elements.{filter-append}, Folds.{find-append}}
 use Rattle.std.specs.{List.{list_any, slice_get}, Option.{option_map, option_or}}
 use Rattle.dsa_regs.specs.{declared.{Caps.{Caps}, layout.ListUse.{ListUse}}, Caps.{list_use, list_count, list_number}}
-use Rattle.dsa_book.specs.State.{State}
+use Rattle.dsa_regs.specs.{declared.Command.{Command}, Command.{scope_of}}
+use Rattle.dsa_book.specs.{State.{State}, Commands.{is_in_scope}}
 use Rattle.dsa_laws.specs.WellFormed.{HasShape}
 use Rattle.dsa_store.specs.{declared.entry.Entry.{Entry}, Content.{Slot, Content, chain, all_held}}
-use Rattle.dsa_explain.specs.{declared.held.Held.{Held}, Held.{held_in, held_from, slot_of}}
+use Rattle.dsa_explain.specs.declared.held.Held.{Held}
+use Rattle.dsa_explain.specs.Held.{held_in, held_from, slot_of, Loss, removed_names, loss_of, losses_from}
 
 -- ---- one list
 
@@ -96,6 +98,40 @@ pub map-map : {X Y Z : Type 0} (g : Y → Z) (f : X → Y) (xs : List X) → map
 map-map g f [] = refl
 map-map g f (x ∷ xs) = grind (arith, map-map g f xs)
 
+-- ---- the names that lists lose
+
+-- a list that loses nothing has no names
+lost-names : (list : ListUse) (names : List ℕ) (more : List Loss)
+    → flat_map (λ (loss : Loss). loss.1) (loss_of list names ++ more)
+    ≡ names ++ flat_map (λ (loss : Loss). loss.1) more
+lost-names list [] more = refl
+lost-names list (name ∷ names) more = refl
+
+named-told : (list : ListUse) (l : List Slot)
+    → map (λ (h : Held). h.entry.name) (map (held_in list) l) ≡ map (λ (s : Slot). s.1.name) l
+named-told list l = map-map (λ (h : Held). h.entry.name) (held_in list) l
+
+pub all-lost : (caps : Caps) (command : Command) (n : ℕ) (content : Content)
+    → flat_map (λ (loss : Loss). loss.1) (losses_from caps command n content)
+    ≡ map (λ (h : Held). h.entry.name)
+    (filter (λ (h : Held). is_in_scope (scope_of command) h.entry) (held_from caps n content))
+all-lost caps command n [] = refl
+all-lost caps command n (l ∷ ls) =
+    lost-names (list_use caps n) (removed_names command l) (losses_from caps command (suc n) ls)
+    ∙ rw (
+      all-lost caps command (suc n) ls,
+      filter-append,
+      filter-told (λ (e : Entry). is_in_scope (scope_of command) e) (list_use caps n) l,
+      map-append,
+      named-told,
+    ) refl
+
+losses-step : (caps : Caps) (command : Command) (n : ℕ) (content : Content) → n < length content
+    → losses_from caps command n (drop n content)
+    ≡ loss_of (list_use caps n) (removed_names command (chain content n))
+    ++ losses_from caps command (suc n) (drop (suc n) content)
+losses-step caps command n content h = rw (drop-cons content n [] h) refl
+
 -- ---- what a list has, and what the lists after it
 
 or-some : (o r : Option Held) → is_some o ≡ true → option_or o r ≡ o
@@ -116,6 +152,22 @@ module _ (s : State) (device told : Caps) (shape : HasShape device s.work) (same
       let there : n < length s.work.content = rw (shape.lists, ← same) within in
       let more : n + 1 ≡ suc n = omega arith in
       rw (more, held-step s.work.setup.caps n s.work.content there, shape.same_caps, ← same, number, ← found) refl
+
+  -- what it loses comes first
+  pub loss-step : (command : Command) → losses_from s.work.setup.caps command n (drop n s.work.content)
+      ≡ loss_of list (removed_names command (chain s.work.content (list_number device list)))
+      ++ losses_from s.work.setup.caps command (n + 1) (drop (n + 1) s.work.content)
+  loss-step command =
+      let there : n < length s.work.content = rw (shape.lists, ← same) within in
+      let more : n + 1 ≡ suc n = omega arith in
+      rw (
+        more,
+        losses-step s.work.setup.caps command n s.work.content there,
+        shape.same_caps,
+        ← same,
+        number,
+        ← found,
+      ) refl
 
   -- the first that passes is one of the list, or of those after it
   pub found-here : (p : Held → Bool) (o : Option Held)

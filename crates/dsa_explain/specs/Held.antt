@@ -36,3 +36,28 @@ aborted_entries s command = filter (λ held. is_in_scope (scope_of command) held
 -- the row that an entry gets which the command ends
 abbrev pub abort_row : Command → Held → FateRow
 abort_row command held = fate_row (Aborted (number_of command)) (slot_of held)
+
+-- ---- what an abort or a reset removes
+
+-- the names of those that the command ends in a list, the front first
+abbrev pub removed_names : Command → List Slot → List ℕ
+removed_names command slots = map (λ slot. slot.1.name) (filter (λ slot. is_in_scope (scope_of command) slot.1) slots)
+
+-- a list, and the names of what it loses
+abbrev pub Loss : Type 0
+Loss = ListUse × List ℕ
+
+-- the list with these names, where there are any
+abbrev pub loss_of : ListUse → List ℕ → List Loss
+loss_of list [] = []
+loss_of list (name ∷ names) = (list, name ∷ names) ∷ []
+
+-- the lists that lose something, where the first of all has that number
+abbrev pub losses_from : Caps → Command → ℕ → Content → List Loss
+losses_from caps command number [] = []
+losses_from caps command number (slots ∷ lists) =
+    loss_of (list_use caps number) (removed_names command slots) ++ losses_from caps command (suc number) lists
+
+-- the lists that lose something, in the order of the rows of an abort, each with the names that it loses
+abbrev pub losses : State → Command → List Loss
+losses s command = losses_from s.work.setup.caps command 0 s.work.content

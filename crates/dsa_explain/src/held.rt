@@ -1,7 +1,7 @@
 //! The entries that a device holds, list by list: the first that the active command waits for, and those that an abort
 //! ends.
 
-ghost use Rattle.std.specs.Prelude.{◌≡◌, ◌+◌, ◌++◌, ◌↔◌, None, Some, true, map, filter, find, length, slice_get, IfOk, IfErr};
+ghost use Rattle.std.specs.Prelude.{◌≡◌, ◌+◌, ◌++◌, ◌↔◌, None, Some, true, map, filter, find, flat_map, length, slice_get, IfOk, IfErr};
 ghost use Rattle.dsa_regs.specs.declared.Command.{Command};
 ghost use Rattle.dsa_regs.specs.Caps.{HasList, list_number};
 ghost use Rattle.dsa_regs.specs.Command.{number_of, scope_of};
@@ -10,7 +10,7 @@ ghost use Rattle.dsa_book.specs.declared.note.ActiveCommand.{ActiveCommand};
 ghost use Rattle.dsa_book.specs.State.{State};
 ghost use Rattle.dsa_book.specs.Commands.{after_abort, is_at_end, is_in_scope};
 ghost use Rattle.dsa_admin.specs.Admin.{is_awaited_by};
-ghost use Rattle.dsa_explain.specs.Held.{held_in, slot_of, all_entries, awaited_entry, aborted_entries, abort_row};
+ghost use Rattle.dsa_explain.specs.Held.{held_in, slot_of, all_entries, awaited_entry, aborted_entries, abort_row, losses};
 
 use dsa_admin::is_in_scope;
 use dsa_device::Device;
@@ -26,8 +26,8 @@ pub struct Held {
     pub entry: Entry,
 }
 
-// The slots of the list, the front first.
-fn slots_of<S: EntryStore>(device: &Device<S>, list: ListUse) -> Walk<'_, S>
+/// The cells of the list with their entries, the front first.
+pub fn slots_of<S: EntryStore>(device: &Device<S>, list: ListUse) -> Walk<'_, S>
     requires { HasList device.now.caps list }
     ensures { result ≡ chain device.now.state.work.content (list_number device.now.caps list) }
 {
@@ -114,6 +114,13 @@ pub fn aborted_at<S: EntryStore>(
     None
 }
 
+/// Whether the command ends the entry, where it is an abort or a reset.
+pub fn is_removed(command: &Command, entry: &Entry) -> bool
+    ensures { result ≡ is_in_scope (scope_of command.now) entry.now }
+{
+    is_in_scope(&command.scope(), entry)
+}
+
 /// The entries with their places are all that are held, in their order.
 pub fn all_entries_are_told()
     ensures { (s : State) → map slot_of (all_entries s) ≡ all_held s.work.content }
@@ -122,6 +129,12 @@ pub fn all_entries_are_told()
 /// The machine writes down a row for each entry that is told of an abort, in the order in which they are told, and no other.
 pub fn aborted_entries_get_rows()
     ensures { (s : State) (command : Command) → (after_abort (number_of command) (scope_of command) s.work).fates ≡ s.work.fates ++ map (abort_row command) (aborted_entries s command) }
+{}
+
+/// The lists that are told of an abort, each with the names that it loses, are those of the rows that the machine writes
+/// down, in their order, and no other.
+pub fn removed_names_get_rows()
+    ensures { (s : State) (command : Command) → flat_map (λ loss. loss.1) (losses s command) ≡ map (λ held. held.entry.name) (aborted_entries s command) }
 {}
 
 /// An active command is at its end exactly where no entry is told that it waits for.

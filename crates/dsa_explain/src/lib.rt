@@ -32,7 +32,7 @@ pub use finish::{FinishReason, finish_reason};
 pub use groups::{Bound, Named};
 pub use held::{
     Held, aborted_at, aborted_entries_get_rows, all_entries_are_told, awaited_entry,
-    commands_wait_for_what_is_told,
+    commands_wait_for_what_is_told, is_removed, removed_names_get_rows, slots_of,
 };
 pub use submission::{SubmitReason, submissions_follow_reasons, submit_reason};
 pub use write::{

@@ -1,6 +1,6 @@
 -- What a line tells behind an answer.
 use Rattle.dsa_book.specs.declared.event.Event.TheVariants as event
-use Rattle.std.specs.Prelude.{ℕ, ◌==◌, cond, List, [], ◌++◌, Option, Some, None, is_some, codes}
+use Rattle.std.specs.Prelude.{ℕ, ◌==◌, cond, List, [], ◌∷◌, ◌++◌, Option, Some, None, is_some, codes}
 use Rattle.std.specs.Prelude.{length, Result, Ok, Err}
 use Rattle.std.specs.Prelude.{flat_map}
 use Rattle.std.specs.List.{list_any}
@@ -9,17 +9,18 @@ use Rattle.dsa_device.specs.Running.{Running}
 use Rattle.dsa_regs.specs.declared.Fault.{Fault}
 use Rattle.dsa_regs.specs.declared.{Command.{Command}, Scope.{Scope}}
 use Rattle.dsa_regs.specs.declared.Scope.TheVariants.{Device, Queue}
-use Rattle.dsa_regs.specs.{Command.{scope_of}, Config.{queue_at, total_size}}
+use Rattle.dsa_regs.specs.declared.Deed.{Deed, TheVariants.{Abort, Reset}}
+use Rattle.dsa_regs.specs.{Command.{scope_of, deed_of}, Config.{queue_at, total_size}}
 use Rattle.dsa_book.specs.{declared.event.Event.{Event}, State.{Setup, Work, State, has_queue}, Work.{front_of}}
-use Rattle.dsa_explain.specs.declared.{check.CheckReason.{CheckReason}}
+use Rattle.dsa_explain.specs.declared.{check.CheckReason.{CheckReason}, command.IssueReason.{IssueReason}}
 use Rattle.dsa_explain.specs.declared.{dispatch.{EngineReason.{EngineReason}, QueueReason.{QueueReason}}}
 use Rattle.dsa_explain.specs.{Submission.{submit_reason}, Dispatch.{engine_reason, queue_reason}}
 use Rattle.dsa_explain.specs.Batch.{name_of, fetch_reason, start_reason}
-use Rattle.dsa_explain.specs.{Finish.{finish_reason}, Command.{issue_reason, poll_reason}, Held.{awaited_entry}}
+use Rattle.dsa_explain.specs.{Finish.{finish_reason}, Command.{issue_reason, poll_reason}, Held.{awaited_entry, Loss, losses}}
 use Rattle.dsa_explain.specs.Check as checks
 use Rattle.dsa_explain.specs.Write.{write_queue_reason, write_group_reason, clear_reason}
 use Rattle.dsa_explain_lines.specs.Sentences.{submit_sentence, engine_sentence, queue_sentence, fetch_sentence}
-use Rattle.dsa_explain_lines.specs.Sentences.{start_sentence, finish_sentence, issue_sentence, poll_sentence}
+use Rattle.dsa_explain_lines.specs.Sentences.{start_sentence, finish_sentence, issue_sentence, poll_sentence, loss_words}
 use Rattle.dsa_explain_lines.specs.Sentences.{write_sentence, clear_sentence, counted}
 
 -- the sentence of a reason, behind its mark; nothing where there is no reason
@@ -58,9 +59,25 @@ check_reason setup (Queue q) =
     cond (has_queue setup q) (checks.queue_reason setup.caps setup.groups q (queue_at setup.configs q)) None
 check_reason setup _ = None
 
+-- the lists that lose something, the first behind this mark
+abbrev pub losses_part : List ℕ → List Loss → List ℕ
+losses_part mark [] = []
+losses_part mark (loss ∷ more) = loss_words mark loss.0 loss.1 ++ losses_part (codes "; ") more
+
+-- what a command removes that is carried out: an abort and a reset name it, list by list
+abbrev pub removal_part : State → Command → Deed → List ℕ
+removal_part s command Abort = losses_part (codes ": ") (losses s command)
+removal_part s command Reset = losses_part (codes ": ") (losses s command)
+removal_part s command _ = []
+
+abbrev pub issue_part_of : State → Command → Option IssueReason → List ℕ
+issue_part_of s command None = removal_part s command (deed_of command)
+issue_part_of s command (Some reason) =
+    codes ": " ++ issue_sentence (check_reason s.work.setup (scope_of command)) reason
+
+-- why a command is refused, or what it removes
 abbrev pub issue_part : State → Command → List ℕ
-issue_part s command =
-    told_of (issue_sentence (check_reason s.work.setup (scope_of command))) (issue_reason s command)
+issue_part s command = issue_part_of s command (issue_reason s command)
 
 -- ---- any event
 

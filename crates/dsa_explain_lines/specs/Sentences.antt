@@ -12,7 +12,7 @@ use Rattle.dsa_explain.specs.declared.groups.Named.TheVariants as named
 use Rattle.dsa_explain.specs.declared.groups.Bound.TheVariants as bound
 use Rattle.dsa_explain.specs.declared.write.WriteReason.TheVariants as write
 use Rattle.dsa_explain.specs.declared.write.ClearReason.TheVariants as clear
-use Rattle.std.specs.Prelude.{ℕ, Bool, true, false, List, [], ◌++◌, Option, Some, None, codes, decimal}
+use Rattle.std.specs.Prelude.{ℕ, Bool, true, false, List, [], ◌∷◌, ◌++◌, flat_map, Option, Some, None, codes, decimal}
 use Rattle.dsa_regs.specs.declared.{Command.{Command}, Phase.{Phase, TheVariants.{Off, On, Stopping}}, layout.ListUse.{ListUse}}
 use Rattle.dsa_regs.specs.declared.layout.ListUse.TheVariants.{Queue, Progress, Members}
 use Rattle.dsa_book.specs.declared.event.{Portal.{Portal}}
@@ -256,6 +256,18 @@ abbrev pub poll_sentence : Option Held → PollReason → List ℕ
 poll_sentence first poll.Nothing = codes "no command is active"
 poll_sentence first (poll.Waits awaited) =
     counted (codes "the command waits for ") awaited (codes " entries") ++ first_words first
+
+-- ---- what a command removes
+
+-- what stands before the first name that a list loses
+abbrev pub loss_head : List ℕ → ListUse → List ℕ
+loss_head mark list = mark ++ (list_words list ++ codes " loses ")
+
+-- the names that a list loses, the first behind the mark and the list; nothing where there are none
+abbrev pub loss_words : List ℕ → ListUse → List ℕ → List ℕ
+loss_words mark list [] = []
+loss_words mark list (first ∷ others) =
+    (loss_head mark list ++ decimal first) ++ flat_map (λ name. codes ", " ++ decimal name) others
 
 -- ---- configurations
 

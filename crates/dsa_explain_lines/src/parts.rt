@@ -13,6 +13,7 @@ ghost use Rattle.dsa_explain_lines.specs.Parts.{check_reason, event_part, issue_
 use crate::commands::{add_issue_reason, add_poll_reason};
 use crate::dispatch::add_dispatch_part;
 use crate::engines::{add_fetch_reason, add_finish_reason, add_start_reason};
+use crate::removals::add_removal_part;
 use crate::submissions::add_submit_reason;
 use crate::writes::{add_clear_reason, add_write_reason};
 use dsa_book::{Event, Kind, Portal, Ticket};
@@ -107,7 +108,7 @@ fn add_issue_part<S: EntryStore>(
     ensures { OnOk result (string_bytes text.new ≡ string_bytes text.old ++ issue_part device.now.state command) }
 {
     let Some(reason) = issue_reason(device, command) else {
-        return Ok(());
+        return add_removal_part(text, device, &command);
     };
     text.push_str(": ")?;
     add_issue_reason(text, &check_reason(device, command.scope()), &reason)

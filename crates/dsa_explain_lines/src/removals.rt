@@ -1,0 +1,98 @@
+//! What a command removes that is carried out.
+
+ghost use Rattle.std.specs.Prelude.{◌≡◌, ◌<◌, ◌++◌, OnOk, IfOk, codes, cond, decimal, length, nat_lt, string_bytes};
+ghost use Rattle.dsa_regs.specs.Caps.{HasList, list_number};
+ghost use Rattle.dsa_regs.specs.Command.{deed_of};
+ghost use Rattle.dsa_store.specs.Content.{chain};
+ghost use Rattle.dsa_explain.specs.Held.{losses, removed_names};
+ghost use Rattle.dsa_explain_lines.specs.Sentences.{loss_head, loss_words};
+ghost use Rattle.dsa_explain_lines.specs.Parts.{losses_part, removal_part};
+
+use crate::words::add_list;
+use dsa_device::Device;
+use dsa_event_words::add_number;
+use dsa_explain::{is_removed, slots_of};
+use dsa_regs::{Command, Deed, ListUse, list_count};
+use dsa_store::EntryStore;
+use std::alloc::AllocError;
+
+// A name that the list loses, the first behind the mark and the list.
+fn add_lost(
+    text: &mut String,
+    mark: &str,
+    list: ListUse,
+    is_first: bool,
+    name: u32,
+) -> Result<(), AllocError>
+    ensures { OnOk result (string_bytes text.new ≡ string_bytes text.old ++ (cond is_first (loss_head mark.now list) (codes ", ") ++ decimal name)) }
+{
+    if !is_first {
+        return add_number(text, ", ", name);
+    }
+    text.push_str(mark)?;
+    add_list(text, list)?;
+    add_number(text, " loses ", name)
+}
+
+// The names that the list loses, behind the mark. Whether there are any.
+fn add_loss<S: EntryStore>(
+    text: &mut String,
+    mark: &str,
+    device: &Device<S>,
+    command: &Command,
+    list: ListUse,
+) -> Result<bool, AllocError>
+    requires { HasList device.now.caps list }
+    ensures text { OnOk result (string_bytes text.new ≡ string_bytes text.old ++ loss_words mark.now list (removed_names command.now (chain device.now.state.work.content (list_number device.now.caps list)))) }
+    ensures told { IfOk result (λ told. told ≡ nat_lt 0 (length (removed_names command.now (chain device.now.state.work.content (list_number device.now.caps list))))) }
+{
+    let mut is_told = false;
+    for (_cell, entry) in slots_of(device, list) {
+        if is_removed(command, &entry) {
+            add_lost(text, mark, list, !is_told, entry.name)?;
+            is_told = true;
+        }
+    }
+    Ok(is_told)
+}
+
+// What stands before a list, behind others of which something is told or behind none.
+fn mark(is_told: bool) -> &'static str
+    ensures { result.now ≡ cond is_told (codes "; ") (codes ": ") }
+{
+    if is_told { "; " } else { ": " }
+}
+
+// The lists that lose something, each with the names that it loses.
+fn add_losses<S: EntryStore>(
+    text: &mut String,
+    device: &Device<S>,
+    command: &Command,
+) -> Result<(), AllocError>
+    ensures { OnOk result (string_bytes text.new ≡ string_bytes text.old ++ losses_part (codes ": ") (losses device.now.state command.now)) }
+{
+    device.state_is_replay();
+    let caps = device.caps();
+    let mut is_told = false;
+    for number in 0..list_count(&caps) {
+        let list = caps.list_use(number);
+        let loses = add_loss(text, mark(is_told), device, command, list)?;
+        is_told = is_told || loses;
+    }
+    Ok(())
+}
+
+/// Adds what the command removes where it is carried out: an abort and a reset name it, list by list.
+pub fn add_removal_part<S: EntryStore>(
+    text: &mut String,
+    device: &Device<S>,
+    command: &Command,
+) -> Result<(), AllocError>
+    ensures { OnOk result (string_bytes text.new ≡ string_bytes text.old ++ removal_part device.now.state command.now (deed_of command.now)) }
+{
+    match command.deed() {
+        Deed::Abort => add_losses(text, device, command),
+        Deed::Reset => add_losses(text, device, command),
+        _ => Ok(()),
+    }
+}
