@@ -129,15 +129,33 @@ def wrong_values(kind, key, form):
     return {**wrong_numbers(form), **(WRONG_NUMBERS if (kind, key) in TRIED_WHOLE else {})}
 
 
+def is_whole(value):
+    """Whether a value is a whole number of 64 bits, which a check tells as it stands."""
+    return isinstance(value, int) and not isinstance(value, bool) and -(1 << 63) <= value < 1 << 64
+
+
 def found(value):
     """What a check says stands there."""
     if value is None or isinstance(value, bool):
         return json.dumps(value)
-    if isinstance(value, Raw) or isinstance(value, int) and not 0 <= value < 1 << 64:
-        return "a number of another form"
-    if isinstance(value, int):
+    if is_whole(value):
         return str(value)
+    if isinstance(value, (Raw, int)):
+        return "a number with a sign, a fraction, an exponent or past 64 bits"
     return {str: "a text", list: "an array", dict: "an object"}[type(value)]
+
+
+def wanted(value, least, most):
+    """What a check says may stand where a whole number is wanted."""
+    if is_whole(value):
+        return f"at most {most}" if value > most else f"at least {least}"
+    return f"a whole number from {least} to {most}"
+
+
+def no_cap(key, value):
+    """What a check says of a capability that does not fit its field."""
+    _, least, most = CAPS[key]
+    return f'document: "{key}" of "caps" is {found(value)}, {wanted(value, least, most)} is wanted'
 
 
 def unfit(value, form):
@@ -148,10 +166,10 @@ def unfit(value, form):
             return f"has {count} digits, at most 128 are wanted"
         if count % 2:
             return f"has {count} digits, an even number is wanted"
-        return "has a character that is no hexadecimal digit"
-    wanted = {TRUTH: "true or false", HEX: "a text of hexadecimal digits"}
-    whole = "" if form in wanted else f"a whole number from 0 to {(1 << form) - 1}"
-    return f"is {found(value)}, {wanted.get(form, whole)} is wanted"
+        at = next(at for at, digit in enumerate(value, 1) if digit not in "0123456789abcdefABCDEF")
+        return f"has no hexadecimal digit at character {at}"
+    forms = {TRUTH: "true or false", HEX: "a text of hexadecimal digits"}
+    return f"is {found(value)}, {forms[form] if form in forms else wanted(value, 0, (1 << form) - 1)} is wanted"
 
 
 def put_step_keys():
@@ -339,14 +357,16 @@ def put_caps():
     for key, (bits, least, greatest) in CAPS.items():
         steps, lines = zip(*AT_THE_LIMIT[key])
         put(f"caps/{key}-greatest", document(list(steps), {**SET_UP_CAPS, key: greatest}), lines)
-        if least > 0:
-            put(f"caps/{key}-one-below", document([POLL], {**SMALL, key: least - 1}), BAD_CAPS)
-        put(f"caps/{key}-one-above", document([POLL], {**SMALL, key: greatest + 1}), BAD_CAPS)
-        put(f"caps/{key}-all-bits", document([POLL], {**SMALL, key: (1 << bits) - 1}), BAD_CAPS)
-        put(f"caps/{key}-missing", document([POLL], without(SMALL, key)), BAD_DOCUMENT)
+        beside = {"one-below": least - 1, "one-above": greatest + 1, "all-bits": (1 << bits) - 1}
+        for what, value in beside.items():
+            if value >= 0:
+                told = [f'caps: "{key}" is {value}, {wanted(value, least, greatest)} is wanted']
+                put(f"caps/{key}-{what}", document([POLL], {**SMALL, key: value}), BAD_CAPS, told)
+        told = [f'document: "{key}" of "caps" is missing']
+        put(f"caps/{key}-missing", document([POLL], without(SMALL, key)), BAD_DOCUMENT, told)
         wrong = {**wrong_numbers(bits), **(WRONG_NUMBERS if key in ("queues", "max_batch_shift") else {})}
         for what, value in wrong.items():
-            put(f"caps/{key}-{what}", document([POLL], {**SMALL, key: value}), BAD_DOCUMENT)
+            put(f"caps/{key}-{what}", document([POLL], {**SMALL, key: value}), BAD_DOCUMENT, [no_cap(key, value)])
     for what, caps in {"null": None, "truth": True, "number": 1, "text": "caps", "array": [1] * 8, "empty": {}}.items():
         put(f"caps/{what}", document([POLL], caps), BAD_DOCUMENT)
     put("caps/key-capital", document([POLL], {**without(SMALL, "queues"), "Queues": 1}), BAD_DOCUMENT)
@@ -358,9 +378,11 @@ def put_capacity():
         lines = ["written" if capacity > before else "full" for before in range(2)]
         put(f"capacity/{capacity}", document([SET_UP[0]] * 2, capacity=capacity), lines)
     for capacity in ((1 << 20) + 1, 1 << 32, (1 << 64) - 1):
-        put(f"capacity/{capacity}", document([POLL], capacity=capacity), BAD_CAPACITY)
+        told = [f'capacity: "capacity" is {capacity}, at most 1048576 is wanted']
+        put(f"capacity/{capacity}", document([POLL], capacity=capacity), BAD_CAPACITY, told)
     for what, capacity in {**wrong_numbers(64), **WRONG_NUMBERS}.items():
-        put(f"capacity/{what}", document([POLL], capacity=capacity), BAD_DOCUMENT)
+        told = [f'document: "capacity" is {found(capacity)}, {wanted(capacity, 0, 1 << 20)} is wanted']
+        put(f"capacity/{what}", document([POLL], capacity=capacity), BAD_DOCUMENT, told)
 
 
 def put_shapes():
@@ -507,6 +529,7 @@ CHECKED_CAPS = '"caps":{"queues":1,"groups":1,"engines":1,"total_size":4,"read_b
     '"max_batch_shift":1,"max_xfer_shift":0}'
 CHECKED_HEAD = '{' + CHECKED_CAPS + ',"capacity":100,'
 WIDE_CAPS = CHECKED_CAPS.replace('"max_batch_shift":1', '"max_batch_shift":11')
+NO_KIND = f"none of {', '.join(list(KEYS)[:-1])} and {list(KEYS)[-1]}"
 DISPATCH, CLEAR = '{"do":"dispatch","engine":0}', '{"do":"clear"}'
 
 
@@ -527,22 +550,31 @@ def put_checked_steps():
         "plural": ('{"do":"start","engines":1}', '(start): "engine" is missing, and "engines" is no key here'),
         "far": ('{"do":"start","note":1}', '(start): "engine" is missing'),
         "large": ('{"do":"command","word":4294967296}',
-                  '(command): "word" is 4294967296, a whole number from 0 to 4294967295 is wanted'),
-        "signed": ('{"do":"dispatch","engine":-1}',
-                   '(dispatch): "engine" is a number of another form, a whole number from 0 to 65535 is wanted'),
+                  '(command): "word" is 4294967296, at most 4294967295 is wanted'),
+        "signed": ('{"do":"dispatch","engine":-1}', '(dispatch): "engine" is -1, at least 0 is wanted'),
+        "fraction": ('{"do":"dispatch","engine":1.5}',
+                     '(dispatch): "engine" is a number with a sign, a fraction, an exponent or past 64 bits, '
+                     'a whole number from 0 to 65535 is wanted'),
+        "nearest": ('{"do":"dispatch","engin":0,"egnin":1}', '(dispatch): "engine" is missing, and "engin" is no key here'),
+        "longer-key": ('{"do":"dispatch","engine_id":0}',
+                       '(dispatch): "engine" is missing, and "engine_id" is no key here'),
+        "capitals": ('{"do":"dispatch","ENGINE":0}', '(dispatch): "engine" is missing, and "ENGINE" is no key here'),
         "no-truth": ('{"do":"finish","engine":0,"name":0,"fault":0}', '(finish): "fault" is 0, true or false is wanted'),
         "odd": ('{"do":"fetch","engine":0,"desc":"000"}', '(fetch): "desc" has 3 digits, an even number is wanted'),
         "many": ('{"do":"fetch","engine":0,"desc":"' + "0" * 130 + '"}',
                  '(fetch): "desc" has 130 digits, at most 128 are wanted'),
         "letter": ('{"do":"fetch","engine":0,"desc":"0g"}',
-                   '(fetch): "desc" has a character that is no hexadecimal digit'),
+                   '(fetch): "desc" has no hexadecimal digit at character 2'),
         "no-text": ('{"do":"fetch","engine":0,"desc":[]}',
                     '(fetch): "desc" is an array, a text of hexadecimal digits is wanted'),
     }
     for name, (step, told) in rows.items():
         put_checked(f"step-{name}", checked_step(step), "bad step 0", [f"line 1, step 0 {told}"])
     kinds = {
-        "unknown-kind": ('{"do":"submit"}', '"do" is "submit", which is no kind of step'),
+        "unknown-kind": ('{"do":"submit"}', f'"do" is "submit", {NO_KIND}'),
+        "kind-misspelled": ('{"do":"dispach"}', '"do" is "dispach", which is no kind of step, but "dispatch" is'),
+        "kind-in-capitals": ('{"do":"Poll"}', '"do" is "Poll", which is no kind of step, but "poll" is'),
+        "do-misspelled": ('{"Do":"poll"}', '"do" is missing, and "Do" is no key here'),
         "odd-kind": ('{"do":"a\\nb"}', '"do" names no kind of step'),
         "no-kind": ('{"client":0}', '"do" is missing'),
         "kind-is-null": ('{"do":null}', '"do" is null, a text is wanted'),
@@ -556,11 +588,11 @@ def put_checked_lines():
     """Each step has the line where it begins, each fault its own line, and of steps that come twice the last count."""
     put_checked("each-key", checked_step('{"do":"finish","name":4294967296}'), "bad step 0", [
         'line 1, step 0 (finish): "engine" is missing',
-        'line 1, step 0 (finish): "name" is 4294967296, a whole number from 0 to 4294967295 is wanted',
+        'line 1, step 0 (finish): "name" is 4294967296, at most 4294967295 is wanted',
         'line 1, step 0 (finish): "fault" is missing'])
     put_checked("each-step", CHECKED_HEAD + '\n"steps": [\n{"do":"poll"},\n {"do":\n"fly"}, [],\n\n{"do":"start"}\n]}',
                 "bad step 1", [
-                    'line 4, step 1: "do" is "fly", which is no kind of step',
+                    f'line 4, step 1: "do" is "fly", {NO_KIND}',
                     "line 5, step 2: an array stands here, an object is wanted",
                     'line 7, step 3 (start): "engine" is missing'])
     put_checked("texts-and-lines", CHECKED_HEAD + '\n"note":"steps\\":[{","steps":[\n{"do":"poll","note":"]},{"},\n{}]}',
@@ -582,10 +614,10 @@ CHECKED_EXAMPLE = """{"caps": {"queues": 1, "groups": 1, "engines": 1, "total_si
 
 def put_checked_example():
     put_checked("example", CHECKED_EXAMPLE, "bad step 0", [
-        'line 4, step 0 (queue): "priority" is 256, a whole number from 0 to 255 is wanted',
+        'line 4, step 0 (queue): "priority" is 256, at most 255 is wanted',
         'line 6, step 1 (movdir): "limited" is missing, and "limitd" is no key here',
         'line 6, step 1 (movdir): "desc" has 3 digits, an even number is wanted',
-        'caps: "max_batch_shift" is 11, a whole number from 1 to 10 is wanted'])
+        'caps: "max_batch_shift" is 11, at most 10 is wanted'])
 
 
 def put_checked_heads():
@@ -596,43 +628,99 @@ def put_checked_heads():
         'document: "caps" is missing, and "cap" is no key here',
         'document: "capacity" is missing',
         'document: "steps" is missing'])
+    caps = CHECKED_CAPS.replace('"max_batch_shift"', '"maxBatchShift"')
+    put_checked("misspelled-keys", '{' + caps + ',"capasity":1,"step":[]}', BAD_DOCUMENT, [
+                    'document: "capacity" is missing, and "capasity" is no key here',
+                    'document: "steps" is missing, and "step" is no key here',
+                    'document: "max_batch_shift" of "caps" is missing, and "maxBatchShift" is no key here'])
     put_checked("key-of-caps", checked_step(CLEAR).replace('"slots":1', '"slot":1').replace('"groups":1', '"groups":"1"'),
                 BAD_DOCUMENT, [
-                    'document: "groups" of "caps" is a text, a whole number from 0 to 65535 is wanted',
+                    'document: "groups" of "caps" is a text, a whole number from 1 to 8 is wanted',
                     'document: "slots" of "caps" is missing, and "slot" is no key here'])
     put_checked("caps", checked_step(CLEAR).replace(CHECKED_CAPS, WIDE_CAPS), BAD_CAPS,
-                ['caps: "max_batch_shift" is 11, a whole number from 1 to 10 is wanted'])
+                ['caps: "max_batch_shift" is 11, at most 10 is wanted'])
     put_checked("capacity", checked_step(CLEAR).replace("100", "1048577"), BAD_CAPACITY,
-                ['capacity: "capacity" is 1048577, a whole number from 0 to 1048576 is wanted'])
+                ['capacity: "capacity" is 1048577, at most 1048576 is wanted'])
     put_checked("all-together", checked_step("0").replace(CHECKED_CAPS, WIDE_CAPS).replace("100", "1048577"), "bad step 0", [
         "line 1, step 0: 0 stands here, an object is wanted",
-        'caps: "max_batch_shift" is 11, a whole number from 1 to 10 is wanted',
-        'capacity: "capacity" is 1048577, a whole number from 0 to 1048576 is wanted'])
+        'caps: "max_batch_shift" is 11, at most 10 is wanted',
+        'capacity: "capacity" is 1048577, at most 1048576 is wanted'])
     put_checked("document-and-step", '{"capacity":1048577,"steps":[{"do":"fly"}]}', BAD_DOCUMENT, [
         'document: "caps" is missing',
-        'line 1, step 0: "do" is "fly", which is no kind of step',
-        'capacity: "capacity" is 1048577, a whole number from 0 to 1048576 is wanted'])
+        f'line 1, step 0: "do" is "fly", {NO_KIND}',
+        'capacity: "capacity" is 1048577, at most 1048576 is wanted'])
+
+
+# what stands where a text is no JSON, and what may: the text, the line and the column, and the words behind `not JSON: `
+CHECKED_SIGNS = {
+    "comma": ('{"steps":[],\n"capacity":1,}', 2, 14, "a comma before }"),
+    "comma-in-steps": ('{"steps":[\n{"do":"poll"},\n]}', 3, 1, "a comma before ]"),
+    "comma-first": ("[,1]", 1, 2, ", stands here, a value or ] is wanted"),
+    "comma-alone": ("{,}", 1, 2, ", stands here, a key in double quotes or } is wanted"),
+    "comma-twice": ('{"a":1,,"b":2}', 1, 8, ", stands here, a key in double quotes is wanted"),
+    "no-comma": ('{"steps":[{} {}]}', 1, 14, "{ stands here, a comma or ] is wanted"),
+    "no-comma-before-a-key": ('{"a":1\n "b":2}', 2, 2, '"b" stands here, a comma or } is wanted'),
+    "no-colon": ('{"steps" []}', 1, 10, "[ stands here, a colon is wanted"),
+    "no-value": ('{"steps":}', 1, 10, "} stands here, a value is wanted"),
+    "bracket": ('{"steps":[}', 1, 11, "} stands here, a value or ] is wanted"),
+    "brace-for-bracket": ('{"steps":[\n{"do":"poll"}}', 2, 14, "} stands here, a ] for the [ of line 1, column 10 is wanted"),
+    "bracket-for-brace": ('{"steps":[\n{"do":"poll"]', 2, 13, "] stands here, a } for the { of line 2, column 1 is wanted"),
+    "equals-sign": ('{"capacity"=1}', 1, 12, "= stands here, a colon is wanted"),
+    "behind": ('{"steps":[]} {}', 1, 14, "{ stands here, the end of the document is wanted"),
+    "comment": ("// steps\n{}", 1, 1, "a comment, of which JSON has none"),
+    "comment-behind-a-value": ('{"capacity":1 /* steps */}', 1, 15, "a comment, of which JSON has none"),
+    "hash-comment": ("# steps\n{}", 1, 1, "# stands here, an object is wanted"),
+    "form-feed": ("[\f1]", 1, 2, "a control character stands here, a value or ] is wanted"),
+    "no-break-space": ("[1,\u00a02]", 1, 4, "a character beyond ASCII stands here, a value is wanted"),
+    "byte-order-mark": ("\ufeff{}", 1, 1, "a byte order mark stands here, an object is wanted"),
+    "deep": ("[" * 128 + "]" * 128, 1, 128, "nested more than 127 deep"),
+    "no-utf-8": (b'{"\xff":0}', 1, 3, "the bytes are no UTF-8"),
+}
+CHECKED_ENDS = {
+    "no-bytes": ("", 1, 1, "the document ends here, an object is wanted"),
+    "cut": ('{"steps":[', 1, 11, "the document ends here, a value or ] is wanted"),
+    "cut-behind-a-step": ('{"steps":[\n{"do":"poll"}\n', 3, 1,
+                          "the document ends here, a ] for the [ of line 1, column 10 is wanted"),
+    "cut-behind-a-comma": ('{"steps":[1,', 1, 13, "the document ends here, a value is wanted"),
+    "cut-behind-a-key": ('{"steps"', 1, 9, "the document ends here, a colon is wanted"),
+    "cut-in-a-number": ('{"capacity":1.', 1, 15, "the document ends here, a digit is wanted"),
+    "cut-in-a-text": ('{\n"steps":"x', 2, 11,
+                      "the document ends here, a double quote for the text of line 2, column 9 is wanted"),
+    "cut-in-an-escape": (r'{"\u00', 1, 7, "the document ends here, a hexadecimal digit is wanted"),
+}
+CHECKED_WORDS = {
+    "no-quotes": ("{steps:[]}", 1, 2, "steps stands here, a key in double quotes or } is wanted"),
+    "number-as-key": ("{1: 2}", 1, 2, "1 stands here, a key in double quotes or } is wanted"),
+    "single-quote": ("{'steps':[]}", 1, 2, "' stands here, a double quote is wanted"),
+    "word": ('{"capacity":no}', 1, 13, "no stands here, true, false, null or a text in double quotes is wanted"),
+    "long-word": ("[" + "a" * 41 + "]", 1, 2, "a word stands here, true, false, null or a text in double quotes is wanted"),
+    "long-text": ('{"a":1 "' + "b" * 39 + '":2}', 1, 8, "a text stands here, a comma or } is wanted"),
+    "zeros": ('{"capacity":007}', 1, 13, "007 stands here, a number with no 0 before its other digits is wanted"),
+    "plus": ('{"capacity":+1}', 1, 13, "+1 stands here, a value is wanted"),
+    "two-signs": ("[--1]", 1, 3, "-1 stands here, a digit is wanted"),
+    "no-fraction": ("[1.]", 1, 4, "] stands here, a digit is wanted"),
+    "no-exponent": ("[1e+]", 1, 5, "] stands here, a digit is wanted"),
+    "hexadecimal": ("[0x10]", 1, 3, "x10 stands here, a comma or ] is wanted"),
+    "above-floats": ('{"capacity":1e999}', 1, 13, "1e999 stands here, a number that floats of 64 bits reach is wanted"),
+    "400-digits": ("[1,\n" + "9" * 400 + "]", 2, 1, "a number stands here, a number that floats of 64 bits reach is wanted"),
+}
+CHECKED_IN_TEXTS = {
+    "line-break": ('{"do":"poll,\n"engine":0}', 1, 13, "a line break stands here, a double quote or an escape is wanted"),
+    "tab": ('{"note":"a\tb"}', 1, 11, "a tab stands here, a double quote or an escape is wanted"),
+    "nul": ('{"note":"\0"}', 1, 10, "a control character stands here, a double quote or an escape is wanted"),
+    "other-escape": (r'{"note":"\x41"}', 1, 11, r'x stands here, one of " \ / b f n r t u is wanted'),
+    "no-hexadecimal": (r'{"note":"\u12g4"}', 1, 14, "g stands here, a hexadecimal digit is wanted"),
+    "high-surrogate": (r'{"note":"a\ud800"}', 1, 11, r"\ud800 stands here, a whole surrogate pair is wanted"),
+    "low-surrogate": (r'{"note":"\udc00"}', 1, 10, r"\udc00 stands here, a whole surrogate pair is wanted"),
+    "two-high-surrogates": (r'{"note":"\ud800\ud801"}', 1, 10, r"\ud800 stands here, a whole surrogate pair is wanted"),
+}
 
 
 def put_checked_texts():
     """What is no JSON, with its place and what stands there."""
-    rows = {
-        "comma": ('{"steps":[],\n"capacity":1,}', "line 2, column 14", "a comma before }"),
-        "comma-in-steps": ('{"steps":[\n{"do":"poll"},\n]}', "line 3, column 1", "a comma before ]"),
-        "no-comma": ('{"steps":[{} {}]}', "line 1, column 14", "{ after a value, a comma or a colon may be missing"),
-        "no-colon": ('{"steps" []}', "line 1, column 10", "[ after a value, a comma or a colon may be missing"),
-        "cut": ('{"steps":[', "line 1, column 10", "the text ends too soon"),
-        "no-bytes": ("", "line 1, column 0", "the text ends too soon"),
-        "no-quotes": ("{steps:[]}", "line 1, column 2", "a key without double quotes"),
-        "zeros": ('{"capacity":007}', "line 1, column 13", "a number of this form may not stand here"),
-        "word": ('{"capacity":no}', "line 1, column 13", "a word may not stand here without double quotes"),
-        "comment": ("// steps\n{}", "line 1, column 1", "a comment, of which JSON has none"),
-        "bracket": ('{"steps":[}', "line 1, column 11", "} may not stand here"),
-        "deep": ("[" * 128 + "]" * 128, "line 1, column 128", "nested more than 127 deep"),
-        "no-utf-8": (b'{"\xff":0}', "line 1, column 3", "the bytes are no UTF-8"),
-    }
-    for name, (text, place, told) in rows.items():
-        put_checked(f"json-{name}", text, NOT_JSON, [f"{place}: not JSON: {told}"])
+    for rows in CHECKED_SIGNS, CHECKED_ENDS, CHECKED_WORDS, CHECKED_IN_TEXTS:
+        for name, (text, line, column, told) in rows.items():
+            put_checked(f"json-{name}", text, NOT_JSON, [f"line {line}, column {column}: not JSON: {told}"])
 
 
 def main():

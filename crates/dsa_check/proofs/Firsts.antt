@@ -1,14 +1,14 @@
 -- The first fault that is told is the one that a run tells.
-use Rattle.std.proofs.Common.{◌≡◌, ◌<◌, ◌≤◌, ◌^◌, ◌+◌, ℕ, suc, Bool, true, false, cond, nat_lt, List, [], ◌∷◌, ◌++◌}
-use Rattle.std.proofs.Common.{Option, Some, None, map, length, take, refl, sym, arith}
-use Rattle.std.specs.Prelude.{slice_get, option_map}
+use Rattle.std.proofs.Common.{◌≡◌, ◌<◌, ◌≤◌, ◌^◌, ℕ, suc, Bool, true, false, nat_lt, List, [], ◌∷◌, ◌++◌}
+use Rattle.std.proofs.Common.{Option, Some, None, map, length, take, refl, arith}
+use Rattle.std.specs.Prelude.{slice_get}
 use Rattle.std.proofs.lemmas.{List.{append_assoc, map-append}, Bool.{Decides.{nat_tests}}}
 use Rattle.serde_json.specs.Data.{Data, Items}
 use Rattle.dsa_regs.specs.{declared.Caps.{Caps}, Caps.{check_caps}}
 use Rattle.dsa_scenario.specs.declared.{actions.Action.{Action}, faults.ScenarioFault.{ScenarioFault}}
 use Rattle.dsa_scenario.specs.Actions.{action_of}
 use Rattle.dsa_scenario.specs.Fields.{◌>>=◌}
-use Rattle.dsa_scenario.specs.Document.{head_of, list_of, IsJson, HasHead, IsBadAt, IsDocument}
+use Rattle.dsa_scenario.specs.Document.{head_of, list_of, IsJson, HasHead, IsDocument}
 use Rattle.dsa_check.specs.Judgement.{caps_at, capacity_at, items_at, listed, fault_of_head, fault_of_step, bad_steps}
 use Rattle.dsa_check.specs.Judgement.{caps_faults, capacity_faults, faults_of, IsJudged}
 

@@ -1,12 +1,12 @@
 -- All faults of a document, in the order in which a run would tell each where no other came before it.
-use Rattle.std.specs.Prelude.{◌≡◌, ◌⊎◌, ◌≤◌, ℕ, suc, ◌^◌, Bool, true, false, cond, nat_lt, List, [], ◌∷◌, ◌++◌, map, codes}
+use Rattle.std.specs.Prelude.{◌≡◌, ◌⊎◌, ◌≤◌, ℕ, suc, ◌^◌, true, cond, nat_lt, List, [], ◌∷◌, ◌++◌, map, codes}
 use Rattle.std.specs.Prelude.{Option, Some, None, option_and_then}
 use Rattle.serde_json.specs.{Data.{Data, Items}, Find.{get, as_array}}
 use Rattle.dsa_regs.specs.{declared.Caps.{Caps}, Caps.{check_caps}}
 use Rattle.dsa_scenario.specs.declared.actions.Action.{Action}
 use Rattle.dsa_scenario.specs.declared.faults.ScenarioFault.{ScenarioFault, TheVariants.{NotJson, BadDocument, BadStep}}
 use Rattle.dsa_scenario.specs.declared.faults.ScenarioFault.TheVariants.{BadCaps, BadCapacity}
-use Rattle.dsa_scenario.specs.{Fields.{◌>>=◌, whole_of}, Actions.{caps_of, action_of}}
+use Rattle.dsa_scenario.specs.{Fields.{whole_of}, Actions.{caps_of, action_of}}
 use Rattle.dsa_scenario.specs.Document.{head_of, list_of, IsJson, IsNoJson, IsDocument, IsFaultOf}
 use Rattle.dsa_check.specs.declared.finding.Finding.{Finding}
 

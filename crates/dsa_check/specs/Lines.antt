@@ -1,17 +1,21 @@
 -- The lines of the faults of a document.
+use Rattle.dsa_check.specs.declared.syntax.Wanted.TheVariants as wanted
 use Rattle.dsa_check.specs.declared.finding.Reason.TheVariants as reason
 use Rattle.dsa_check.specs.declared.fields.Form.TheVariants as form
 use Rattle.dsa_check.specs.declared.fields.Found.TheVariants as found
 use Rattle.std.specs.Prelude.{ℕ, Bool, true, false, List, [], ◌∷◌, ◌++◌, Option, Some, None, codes, decimal, flat_map}
+use Rattle.std.specs.Prelude.{nat_lt, if◌then◌else◌}
+use Rattle.std.specs.Fmt.{signed_decimal}
 use Rattle.std.specs.Prelude.{String, string_bytes}
 use Rattle.std.specs.declared.alloc.Global.{Global}
 use Rattle.dsa_scenario.specs.declared.faults.ScenarioFault.{ScenarioFault, TheVariants.{NotJson, BadDocument, BadStep}}
 use Rattle.dsa_scenario.specs.declared.faults.ScenarioFault.TheVariants.{BadCaps, BadCapacity}
 use Rattle.dsa_check.specs.declared.fields.{Key.{Key}, Form.{Form}, Found.{Found}}
 use Rattle.dsa_check.specs.declared.finding.{Finding.{Finding}, Reason.{Reason}}
-use Rattle.dsa_check.specs.declared.syntax.Syntax.{Syntax, TheVariants.{NotUtf8, CutShort, TooDeep, CommaBefore}}
-use Rattle.dsa_check.specs.declared.syntax.Syntax.TheVariants.{AfterValue, BadNumber, BadText, BadWord, NoQuotes}
-use Rattle.dsa_check.specs.declared.syntax.Syntax.TheVariants.{Comment, Stray}
+use Rattle.dsa_check.specs.declared.syntax.Syntax.{Syntax, TheVariants.{NotUtf8, TooDeep, CommaBefore, Comment, Unwanted}}
+use Rattle.dsa_check.specs.declared.syntax.Piece.{Piece, TheVariants.{End, LineBreak, Tab, Control, Character}}
+use Rattle.dsa_check.specs.declared.syntax.Piece.TheVariants.{ByteOrderMark, Told, Text, Number, Word}
+use Rattle.dsa_check.specs.declared.syntax.Wanted.{Wanted}
 use Rattle.dsa_check.specs.declared.kinds.StepKind.{StepKind, TheVariants.{Queue, Group, Enqcmd, Movdir, Dispatch}}
 use Rattle.dsa_check.specs.declared.kinds.StepKind.TheVariants.{Fetch, Start, Finish, Command, Poll, Clear}
 
@@ -39,8 +43,12 @@ holder_text false = []
 abbrev pub key_text : Key → List ℕ
 key_text key = codes "\"" ++ key.name.now ++ codes "\"" ++ holder_text key.in_caps
 
+abbrev pub range_text : ℕ → ℕ → List ℕ
+range_text least most = codes "a whole number from " ++ (decimal least ++ (codes " to " ++ decimal most))
+
 abbrev pub form_text : Form → List ℕ
-form_text (form.Whole least most) = codes "a whole number from " ++ (decimal least ++ (codes " to " ++ decimal most))
+form_text (form.Whole least most) = range_text least most
+form_text (form.Held field least most) = range_text least most
 form_text form.Truth = codes "true or false"
 form_text form.Text = codes "a text"
 form_text form.Digits = codes "a text of hexadecimal digits"
@@ -55,41 +63,99 @@ abbrev pub found_text : Found → List ℕ
 found_text found.Null = codes "null"
 found_text (found.Truth b) = truth_text b
 found_text (found.Whole n) = decimal n
-found_text found.Number = codes "a number of another form"
+found_text (found.Below z) = signed_decimal z
+found_text found.Number = codes "a number with a sign, a fraction, an exponent or past 64 bits"
 found_text found.Text = codes "a text"
 found_text found.Array = codes "an array"
 found_text found.Object = codes "an object"
 
+-- what may stand there, of a number that is too large or too small its bound
+abbrev pub bound_text : Found → ℕ → ℕ → List ℕ
+bound_text (found.Whole n) least most =
+    if nat_lt most n then codes "at most " ++ decimal most else codes "at least " ++ decimal least
+bound_text (found.Below z) least most = codes "at least " ++ decimal least
+bound_text found least most = range_text least most
+
+abbrev pub wanted_of : Found → Form → List ℕ
+wanted_of found (form.Whole least most) = bound_text found least most
+wanted_of found (form.Held field least most) = bound_text found least most
+wanted_of found form = form_text form
+
+-- what stands at a place of a text that is no JSON
+abbrev pub piece_text : Piece → List ℕ
+piece_text End = codes "the document ends here"
+piece_text LineBreak = codes "a line break stands here"
+piece_text Tab = codes "a tab stands here"
+piece_text Control = codes "a control character stands here"
+piece_text Character = codes "a character beyond ASCII stands here"
+piece_text ByteOrderMark = codes "a byte order mark stands here"
+piece_text (Told text) = string_bytes text ++ codes " stands here"
+piece_text Text = codes "a text stands here"
+piece_text Number = codes "a number stands here"
+piece_text Word = codes "a word stands here"
+
+abbrev pub closing_text : Bool → ℕ → ℕ → List ℕ
+closing_text true line column = codes "a ] for the [ of line " ++ (decimal line ++ (codes ", column " ++ decimal column))
+closing_text false line column = codes "a } for the { of line " ++ (decimal line ++ (codes ", column " ++ decimal column))
+
+-- what may stand there
+abbrev pub wanted_text : Wanted → List ℕ
+wanted_text wanted.Document = codes "an object"
+wanted_text wanted.Value = codes "a value"
+wanted_text wanted.Item = codes "a value"
+wanted_text wanted.FirstItem = codes "a value or ]"
+wanted_text wanted.FirstKey = codes "a key in double quotes or }"
+wanted_text wanted.Key = codes "a key in double quotes"
+wanted_text wanted.Colon = codes "a colon"
+wanted_text (wanted.More true) = codes "a comma or ]"
+wanted_text (wanted.More false) = codes "a comma or }"
+wanted_text (wanted.Closing is_array line column) = closing_text is_array line column
+wanted_text wanted.Nothing = codes "the end of the document"
+wanted_text wanted.Word = codes "true, false, null or a text in double quotes"
+wanted_text wanted.Digit = codes "a digit"
+wanted_text wanted.NoZero = codes "a number with no 0 before its other digits"
+wanted_text wanted.InRange = codes "a number that floats of 64 bits reach"
+wanted_text wanted.DoubleQuote = codes "a double quote"
+wanted_text (wanted.Quote line column) =
+    codes "a double quote for the text of line " ++ (decimal line ++ (codes ", column " ++ decimal column))
+wanted_text wanted.Escaped = codes "a double quote or an escape"
+wanted_text wanted.Escape = codes "one of \" \\ / b f n r t u"
+wanted_text wanted.HexDigit = codes "a hexadecimal digit"
+wanted_text wanted.Pair = codes "a whole surrogate pair"
+wanted_text wanted.Depth = codes "less nesting"
+
 abbrev pub syntax_text : Syntax → List ℕ
 syntax_text NotUtf8 = codes "the bytes are no UTF-8"
-syntax_text CutShort = codes "the text ends too soon"
 syntax_text TooDeep = codes "nested more than 127 deep"
 syntax_text (CommaBefore what) = codes "a comma before " ++ what.now
-syntax_text (AfterValue what) = what.now ++ codes " after a value, a comma or a colon may be missing"
-syntax_text BadNumber = codes "a number of this form may not stand here"
-syntax_text BadText = codes "a text that may not stand here, or has a wrong escape or a line break"
-syntax_text BadWord = codes "a word may not stand here without double quotes"
-syntax_text NoQuotes = codes "a key without double quotes"
 syntax_text Comment = codes "a comment, of which JSON has none"
-syntax_text (Stray what) = what.now ++ codes " may not stand here"
+syntax_text (Unwanted found wanted) = piece_text found ++ codes ", " ++ wanted_text wanted ++ codes " is wanted"
 
-abbrev pub no_kind_text : Option (String Global) → List ℕ
-no_kind_text (Some name) = codes "\"do\" is \"" ++ string_bytes name ++ codes "\", which is no kind of step"
-no_kind_text None = codes "\"do\" names no kind of step"
+-- a kind that is spelled nearly as the name
+abbrev pub near_kind_text : List ℕ → StepKind → List ℕ
+near_kind_text name kind =
+    codes "\"do\" is \"" ++ (name ++ (codes "\", which is no kind of step, but \"" ++ (kind_text kind ++ codes "\" is")))
+
+abbrev pub no_kind_text : Option (String Global) → Option StepKind → List ℕ
+no_kind_text (Some name) (Some kind) = near_kind_text (string_bytes name) kind
+no_kind_text (Some name) None =
+    codes "\"do\" is \"" ++ string_bytes name
+    ++ codes "\", none of queue, group, enqcmd, movdir, dispatch, fetch, start, finish, command, poll and clear"
+no_kind_text None near = codes "\"do\" names no kind of step"
 
 abbrev pub reason_text : Reason → List ℕ
 reason_text (reason.Missing key) = key_text key ++ codes " is missing"
 reason_text (reason.Misspelled key found) =
     key_text key ++ (codes " is missing, and \"" ++ (string_bytes found ++ codes "\" is no key here"))
 reason_text (reason.Unfit key found wanted) =
-    key_text key ++ codes " is " ++ found_text found ++ codes ", " ++ form_text wanted ++ codes " is wanted"
+    key_text key ++ codes " is " ++ found_text found ++ codes ", " ++ wanted_of found wanted ++ codes " is wanted"
 reason_text (reason.OddDigits key count) =
     key_text key ++ codes " has " ++ decimal count ++ codes " digits, " ++ codes "an even number is" ++ codes " wanted"
 reason_text (reason.ManyDigits key count) =
     key_text key ++ codes " has " ++ decimal count ++ codes " digits, " ++ codes "at most 128 are" ++ codes " wanted"
-reason_text (reason.NoDigit key) = key_text key ++ codes " has a character that is no hexadecimal digit"
+reason_text (reason.NoDigit key at) = key_text key ++ (codes " has no hexadecimal digit at character " ++ decimal at)
 reason_text (reason.NoObject found) = found_text found ++ codes " stands here, an object is wanted"
-reason_text (reason.UnknownKind name) = no_kind_text name
+reason_text (reason.UnknownKind name near) = no_kind_text name near
 reason_text (reason.Syntax syntax) = syntax_text syntax
 
 -- ---- where it is (profile)

@@ -20,6 +20,9 @@ pub struct Key {
 pub enum Form {
     /// A whole number without sign, from the least to the most.
     Whole { least: u64, most: u64 },
+    /// A whole number without sign that the document's field holds, of which a device may have those from the least to the
+    /// most.
+    Held { field: u64, least: u64, most: u64 },
     Truth,
     Text,
     /// A text of hexadecimal digits, which are the bytes of a descriptor.
@@ -42,6 +45,8 @@ pub enum Found {
     Truth(bool),
     /// A whole number of 64 bits without sign.
     Whole(u64),
+    /// A whole number below 0.
+    Below(i64),
     /// Any other number.
     Number,
     Text,
@@ -56,9 +61,10 @@ pub fn found_in(value: &Value) -> Found
     match value {
         Value::Null => Found::Null,
         Value::Bool(truth) => Found::Truth(*truth),
-        Value::Number(number) => match number.as_u64() {
-            Some(whole) => Found::Whole(whole),
-            None => Found::Number,
+        Value::Number(number) => match (number.as_u64(), number.as_i64()) {
+            (Some(whole), _) => Found::Whole(whole),
+            (None, Some(below)) => Found::Below(below),
+            (None, None) => Found::Number,
         },
         Value::String(_) => Found::Text,
         Value::Array(_) => Found::Array,
@@ -73,6 +79,10 @@ pub fn is_of(form: Form, value: &Value) -> bool
     match form {
         Form::Whole { least, most } => match value.as_u64() {
             Some(number) => least <= number && number <= most,
+            None => false,
+        },
+        Form::Held { field, .. } => match value.as_u64() {
+            Some(number) => number <= field,
             None => false,
         },
         Form::Truth => value.as_bool().is_some(),

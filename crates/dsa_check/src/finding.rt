@@ -51,17 +51,19 @@ pub enum Reason {
         key: Key,
         count: usize,
     },
-    /// What stands there has a character that is no hexadecimal digit.
+    /// What stands there has a character that is no hexadecimal digit, the first of which is this one, counted from 1.
     NoDigit {
         key: Key,
+        at: usize,
     },
     /// It is no object.
     NoObject {
         found: Found,
     },
-    /// The text `do` names no kind of step; it is told where it is short and plain.
+    /// The text `do` names no kind of step; it is told where it is short and plain, and the kind that is spelled nearly so.
     UnknownKind {
         found: Option<String>,
+        near: Option<StepKind>,
     },
     /// The text is no JSON.
     Syntax(Syntax),

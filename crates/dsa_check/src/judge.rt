@@ -9,11 +9,13 @@ use crate::finding::{Finding, Place, Reason};
 use crate::kinds::MAX_CAPACITY;
 use crate::places::find_steps;
 use crate::reasons::{capacity_reasons, caps_reasons, document_reasons, kind_of, step_reasons};
-use crate::syntax::{column_of, syntax_at};
+use crate::scan::first_flaw;
+use crate::syntax::{Syntax, syntax_of};
 use dsa_regs::check_caps;
 use dsa_scenario::{ScenarioFault, parse_action, parse_caps, parse_head, u64_field};
 use serde_json::{Error, Value};
 use std::alloc::{AllocError, Global};
+use std::str;
 
 const NOWHERE: Place = Place {
     line: None,
@@ -32,17 +34,43 @@ fn whole(fault: ScenarioFault, reasons: Vec<Reason>) -> Finding
     }
 }
 
+// Where bytes that are no JSON are none, and what is wrong there. Of bytes that are no UTF-8 their reader tells the place.
+fn flaw_of(
+    alloc: Global,
+    bytes: &[u8],
+    error: &Error,
+) -> Result<(usize, usize, Vec<Reason>), AllocError> {
+    let (line, column) = (error.line(), error.column());
+    if str::from_utf8(bytes).is_err() {
+        return Ok((
+            line,
+            column,
+            vec![in alloc; Reason::Syntax(Syntax::NotUtf8)]?,
+        ));
+    }
+    match first_flaw(alloc, bytes)? {
+        Some(flaw) => {
+            let syntax = syntax_of(alloc, bytes, flaw)?;
+            Ok((
+                flaw.line,
+                flaw.column,
+                vec![in alloc; Reason::Syntax(syntax)]?,
+            ))
+        }
+        None => Ok((line, column, Vec::new(alloc))),
+    }
+}
+
 // What is wrong with bytes that are no JSON.
 fn no_json(alloc: Global, bytes: &[u8], error: &Error) -> Result<Vec<Finding>, AllocError>
     ensures { IfOk result (λ findings. faults_told findings.items ≡ ScenarioFault.NotJson ∷ []) }
 {
-    let syntax = syntax_at(error, bytes);
+    let (line, column, reasons) = flaw_of(alloc, bytes, error)?;
     let place = Place {
-        line: Some(error.line()),
-        column: Some(column_of(error, syntax)),
+        line: Some(line),
+        column: Some(column),
         kind: None,
     };
-    let reasons = vec![in alloc; Reason::Syntax(syntax)]?;
     let finding = Finding {
         fault: ScenarioFault::NotJson,
         place,

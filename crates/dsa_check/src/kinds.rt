@@ -189,7 +189,11 @@ pub const DOCUMENT: [Field; 3] = [
     },
     Field {
         name: "capacity",
-        form: LONG,
+        form: Form::Held {
+            field: u64::MAX,
+            least: 0,
+            most: MAX_CAPACITY,
+        },
     },
     Field {
         name: "steps",
@@ -197,43 +201,75 @@ pub const DOCUMENT: [Field; 3] = [
     },
 ];
 
-/// The keys of its object `caps`.
+/// The keys of its object `caps`, with what a device may have (profile).
 pub const CAPS: [Field; 8] = [
     Field {
         name: "queues",
-        form: SHORT,
+        form: Form::Held {
+            field: 0xffff,
+            least: 1,
+            most: MAX_QUEUES as u64,
+        },
     },
     Field {
         name: "groups",
-        form: SHORT,
+        form: Form::Held {
+            field: 0xffff,
+            least: 1,
+            most: MAX_GROUPS as u64,
+        },
     },
     Field {
         name: "engines",
-        form: SHORT,
+        form: Form::Held {
+            field: 0xffff,
+            least: 1,
+            most: MAX_ENGINES as u64,
+        },
     },
     Field {
         name: "total_size",
-        form: SHORT,
+        form: Form::Held {
+            field: 0xffff,
+            least: 1,
+            most: MAX_TOTAL_SIZE as u64,
+        },
     },
     Field {
         name: "read_buffers",
-        form: SHORT,
+        form: Form::Held {
+            field: 0xffff,
+            least: 1,
+            most: MAX_READ_BUFFERS as u64,
+        },
     },
     Field {
         name: "slots",
-        form: SHORT,
+        form: Form::Held {
+            field: 0xffff,
+            least: 1,
+            most: MAX_SLOTS as u64,
+        },
     },
     Field {
         name: "max_batch_shift",
-        form: BYTE,
+        form: Form::Held {
+            field: 0xff,
+            least: 1,
+            most: MAX_BATCH_SHIFT as u64,
+        },
     },
     Field {
         name: "max_xfer_shift",
-        form: BYTE,
+        form: Form::Held {
+            field: 0xff,
+            least: 0,
+            most: MAX_TRANSFER_SHIFT as u64,
+        },
     },
 ];
 
-/// The same, with what a device may have (profile).
+/// The same, where other numbers than those of a device are no capabilities.
 pub const CAPS_OF_A_DEVICE: [Field; 8] = [
     Field {
         name: "queues",
@@ -304,6 +340,21 @@ pub const CAPACITY_OF_A_HISTORY: [Field; 1] = [Field {
         most: MAX_CAPACITY,
     },
 }];
+
+/// All kinds of steps.
+pub const KINDS: [StepKind; 11] = [
+    StepKind::Queue,
+    StepKind::Group,
+    StepKind::Enqcmd,
+    StepKind::Movdir,
+    StepKind::Dispatch,
+    StepKind::Fetch,
+    StepKind::Start,
+    StepKind::Finish,
+    StepKind::Command,
+    StepKind::Poll,
+    StepKind::Clear,
+];
 
 impl StepKind {
     /// The kind of this name.

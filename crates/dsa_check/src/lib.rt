@@ -13,6 +13,7 @@ mod places;
 mod reasons;
 mod report;
 pub mod rows;
+mod scan;
 mod syntax;
 
 pub use checking::Check;
@@ -21,3 +22,4 @@ pub use finding::{Finding, Place, Reason};
 pub use judge::judge_document;
 pub use kinds::StepKind;
 pub use report::report_lines;
+pub use syntax::{Piece, Syntax, Wanted};

@@ -8,35 +8,55 @@ ghost use Rattle.dsa_check.specs.Reasons.{IsReasonOf, IsDigitsReason, fits, is_u
 
 use crate::fields::{Field, Form, Key, found_in, is_of};
 use crate::finding::Reason;
-use crate::kinds::{CAPACITY_OF_A_HISTORY, CAPS, CAPS_OF_A_DEVICE, DOCUMENT, StepKind, fields_of};
+use crate::kinds::{
+    CAPACITY_OF_A_HISTORY, CAPS, CAPS_OF_A_DEVICE, DOCUMENT, KINDS, StepKind, fields_of,
+};
+use crate::syntax::is_plain;
 use serde_json::Value;
 use std::alloc::{AllocError, Global};
 use strsim::osa_distance;
 
-/// The most bytes of a text that is told as it stands.
-const MOST_TOLD: usize = 40;
-
 const MOST_DIGITS: usize = 128;
 
-// Whether a text can be told as it stands.
-fn is_plain(text: &str) -> bool {
-    text.len() <= MOST_TOLD && text.bytes().all(|byte| byte >= b' ' && byte <= b'~')
+// How far a longer name is from the one that it begins with: farther than one with an edit or two.
+const FAR: usize = 3;
+
+// Whether two names have the same letters and digits, in the same order, in either case.
+fn has_letters_of(name: &str, other: &str) -> bool {
+    let mut letters = other.bytes().filter(|byte| byte.is_ascii_alphanumeric());
+    for byte in name.bytes().filter(|byte| byte.is_ascii_alphanumeric()) {
+        match letters.next() {
+            Some(letter) if letter.eq_ignore_ascii_case(&byte) => {}
+            _ => return false,
+        }
+    }
+    letters.next().is_none()
 }
 
-// Whether one name is spelled nearly as the other.
-fn is_near(alloc: Global, name: &str, other: &str) -> Result<bool, AllocError> {
-    let most = if name.len() < 5 { 1 } else { 2 };
-    if other.len().abs_diff(name.len()) > most || !is_plain(other) {
-        return Ok(false);
+// How far the other name is from this one, where it is spelled nearly so.
+fn distance_of(alloc: Global, name: &str, other: &str) -> Result<Option<usize>, AllocError> {
+    if !is_plain(other) {
+        return Ok(None);
     }
-    Ok(osa_distance(alloc, name, other)? <= most)
+    if has_letters_of(name, other) {
+        return Ok(Some(0));
+    }
+    if name.len() > 3 && other.as_bytes().starts_with(name.as_bytes()) {
+        return Ok(Some(FAR));
+    }
+    let most = if name.len() < 5 { 1 } else { 2 };
+    if other.len().abs_diff(name.len()) > most {
+        return Ok(None);
+    }
+    let distance = osa_distance(alloc, name, other)?;
+    Ok(Some(distance).filter(|distance| *distance <= most))
 }
 
 fn is_asked(fields: &[Field], name: &str) -> bool {
     name == "do" || fields.iter().any(|field| field.name == name)
 }
 
-// A key of the object that nobody asks for, and that is spelled nearly so.
+// The key of the object that nobody asks for, and that is spelled nearly so, the nearest.
 fn near_key(
     alloc: Global,
     object: &Value,
@@ -46,13 +66,35 @@ fn near_key(
     let Some(members) = object.as_object() else {
         return Ok(None);
     };
+    let (mut nearest, mut least) = (None, usize::MAX);
     for other in members.keys() {
         let other = other.as_str();
-        if !is_asked(fields, other) && is_near(alloc, name, other)? {
-            return Ok(Some(String::from_str(alloc, other)?));
+        if !is_asked(fields, other)
+            && let Some(distance) = distance_of(alloc, name, other)?
+            && distance < least
+        {
+            nearest = Some(other);
+            least = distance;
         }
     }
-    Ok(None)
+    match nearest {
+        Some(other) => Ok(Some(String::from_str(alloc, other)?)),
+        None => Ok(None),
+    }
+}
+
+// The kind of step whose name is spelled nearly so, the nearest.
+fn near_kind(alloc: Global, name: &str) -> Result<Option<StepKind>, AllocError> {
+    let (mut nearest, mut least) = (None, usize::MAX);
+    for kind in KINDS {
+        if let Some(distance) = distance_of(alloc, kind.name(), name)?
+            && distance < least
+        {
+            nearest = Some(kind);
+            least = distance;
+        }
+    }
+    Ok(nearest)
 }
 
 // What is wrong with a text that is not the bytes of a descriptor.
@@ -60,14 +102,14 @@ fn digits_reason(key: Key, text: &str) -> Reason
     ensures { IsDigitsReason key text.now result }
 {
     let count = text.len();
-    if !text.bytes().all(|byte| byte.is_ascii_hexdigit()) {
-        Reason::NoDigit { key }
-    } else if count > MOST_DIGITS {
-        Reason::ManyDigits { key, count }
-    } else if count % 2 == 1 {
-        Reason::OddDigits { key, count }
-    } else {
-        Reason::NoDigit { key }
+    match text.bytes().position(|byte| !byte.is_ascii_hexdigit()) {
+        Some(before) => Reason::NoDigit {
+            key,
+            at: before.saturating_add(1),
+        },
+        None if count > MOST_DIGITS => Reason::ManyDigits { key, count },
+        None if count % 2 == 1 => Reason::OddDigits { key, count },
+        None => Reason::NoDigit { key, at: count },
     }
 }
 
@@ -154,11 +196,18 @@ fn kind_reason(alloc: Global, step: &Value) -> Result<Reason, AllocError> {
         in_caps: false,
     };
     match step.get("do") {
-        None => Ok(Reason::Missing { key }),
+        None => match near_key(alloc, step, &[], key.name)? {
+            Some(found) => Ok(Reason::Misspelled { key, found }),
+            None => Ok(Reason::Missing { key }),
+        },
         Some(Value::String(name)) if is_plain(name.as_str()) => Ok(Reason::UnknownKind {
             found: Some(String::from_str(alloc, name.as_str())?),
+            near: near_kind(alloc, name.as_str())?,
         }),
-        Some(Value::String(_)) => Ok(Reason::UnknownKind { found: None }),
+        Some(Value::String(_)) => Ok(Reason::UnknownKind {
+            found: None,
+            near: None,
+        }),
         Some(value) => Ok(unfit_reason(key, Form::Text, value)),
     }
 }

@@ -1,12 +1,12 @@
 //! The lines that are told of the faults of a document.
 
 ghost use Rattle.std.specs.Prelude.{◌≡◌, ◌++◌, IfOk, OnOk, codes, decimal, string_bytes, flat_map};
-ghost use Rattle.dsa_check.specs.Lines.{key_text, form_text, found_text, syntax_text, no_kind_text, reason_text, number_text, step_text, part_text, place_text, line_of, bare_line, finding_text, report_text};
+ghost use Rattle.dsa_check.specs.Lines.{key_text, range_text, form_text, found_text, bound_text, wanted_of, piece_text, closing_text, wanted_text, syntax_text, near_kind_text, no_kind_text, reason_text, number_text, step_text, part_text, place_text, line_of, bare_line, finding_text, report_text};
 
 use crate::fields::{Form, Found, Key};
 use crate::finding::{Finding, Reason};
 use crate::kinds::StepKind;
-use crate::syntax::Syntax;
+use crate::syntax::{Piece, Syntax, Wanted};
 use dsa_scenario::ScenarioFault;
 use std::alloc::{AllocError, Global};
 use std::fmt::Write;
@@ -18,11 +18,18 @@ fn add_key(text: &mut String, key: Key) -> Result<(), AllocError>
     write!(text, "\"{}\"{holder}", key.name)
 }
 
+fn add_range(text: &mut String, least: u64, most: u64) -> Result<(), AllocError>
+    ensures { OnOk result (string_bytes text.new ≡ string_bytes text.old ++ range_text least most) }
+{
+    write!(text, "a whole number from {least} to {most}")
+}
+
 fn add_form(text: &mut String, form: Form) -> Result<(), AllocError>
     ensures { OnOk result (string_bytes text.new ≡ string_bytes text.old ++ form_text form) }
 {
     match form {
-        Form::Whole { least, most } => write!(text, "a whole number from {least} to {most}"),
+        Form::Whole { least, most } => add_range(text, least, most),
+        Form::Held { least, most, .. } => add_range(text, least, most),
         Form::Truth => text.push_str("true or false"),
         Form::Text => text.push_str("a text"),
         Form::Digits => text.push_str("a text of hexadecimal digits"),
@@ -39,47 +46,138 @@ fn add_found(text: &mut String, found: Found) -> Result<(), AllocError>
         Found::Truth(true) => text.push_str("true"),
         Found::Truth(false) => text.push_str("false"),
         Found::Whole(number) => write!(text, "{number}"),
-        Found::Number => text.push_str("a number of another form"),
+        Found::Below(number) => write!(text, "{number}"),
+        Found::Number => {
+            text.push_str("a number with a sign, a fraction, an exponent or past 64 bits")
+        }
         Found::Text => text.push_str("a text"),
         Found::Array => text.push_str("an array"),
         Found::Object => text.push_str("an object"),
     }
 }
 
+// What may stand there, of a number that is too large or too small its bound.
+fn add_bound(text: &mut String, found: Found, least: u64, most: u64) -> Result<(), AllocError>
+    ensures { OnOk result (string_bytes text.new ≡ string_bytes text.old ++ bound_text found least most) }
+{
+    match found {
+        Found::Whole(number) if number > most => write!(text, "at most {most}"),
+        Found::Whole(_) | Found::Below(_) => write!(text, "at least {least}"),
+        _ => add_range(text, least, most),
+    }
+}
+
+fn add_wanted(text: &mut String, found: Found, form: Form) -> Result<(), AllocError>
+    ensures { OnOk result (string_bytes text.new ≡ string_bytes text.old ++ wanted_of found form) }
+{
+    match form {
+        Form::Whole { least, most } => add_bound(text, found, least, most),
+        Form::Held { least, most, .. } => add_bound(text, found, least, most),
+        _ => add_form(text, form),
+    }
+}
+
 fn add_unfit(text: &mut String, key: Key, found: Found, wanted: Form) -> Result<(), AllocError>
     ensures { OnOk result (string_bytes text.new ≡ string_bytes text.old
-        ++ (key_text key ++ codes " is " ++ found_text found ++ codes ", " ++ form_text wanted ++ codes " is wanted")) }
+        ++ (key_text key ++ codes " is " ++ found_text found ++ codes ", " ++ wanted_of found wanted ++ codes " is wanted")) }
 {
     add_key(text, key)?;
     text.push_str(" is ")?;
     add_found(text, found)?;
     text.push_str(", ")?;
-    add_form(text, wanted)?;
+    add_wanted(text, found, wanted)?;
     text.push_str(" is wanted")
 }
 
-fn add_syntax(text: &mut String, syntax: Syntax) -> Result<(), AllocError>
-    ensures { OnOk result (string_bytes text.new ≡ string_bytes text.old ++ syntax_text syntax) }
+fn add_piece(text: &mut String, piece: &Piece) -> Result<(), AllocError>
+    ensures { OnOk result (string_bytes text.new ≡ string_bytes text.old ++ piece_text piece.now) }
+{
+    match piece {
+        Piece::End => text.push_str("the document ends here"),
+        Piece::LineBreak => text.push_str("a line break stands here"),
+        Piece::Tab => text.push_str("a tab stands here"),
+        Piece::Control => text.push_str("a control character stands here"),
+        Piece::Character => text.push_str("a character beyond ASCII stands here"),
+        Piece::ByteOrderMark => text.push_str("a byte order mark stands here"),
+        Piece::Told(told) => write!(text, "{told} stands here"),
+        Piece::Text => text.push_str("a text stands here"),
+        Piece::Number => text.push_str("a number stands here"),
+        Piece::Word => text.push_str("a word stands here"),
+    }
+}
+
+// The end of an array or an object, and where that begins.
+fn add_closing(
+    text: &mut String,
+    is_array: bool,
+    line: usize,
+    column: usize,
+) -> Result<(), AllocError>
+    ensures { OnOk result (string_bytes text.new ≡ string_bytes text.old ++ closing_text is_array line column) }
+{
+    if is_array {
+        write!(text, "a ] for the [ of line {line}, column {column}")
+    } else {
+        write!(text, "a }} for the {{ of line {line}, column {column}")
+    }
+}
+
+fn add_syntax_wanted(text: &mut String, wanted: Wanted) -> Result<(), AllocError>
+    ensures { OnOk result (string_bytes text.new ≡ string_bytes text.old ++ wanted_text wanted) }
+{
+    match wanted {
+        Wanted::Document => text.push_str("an object"),
+        Wanted::Value | Wanted::Item => text.push_str("a value"),
+        Wanted::FirstItem => text.push_str("a value or ]"),
+        Wanted::FirstKey => text.push_str("a key in double quotes or }"),
+        Wanted::Key => text.push_str("a key in double quotes"),
+        Wanted::Colon => text.push_str("a colon"),
+        Wanted::More { in_array: true } => text.push_str("a comma or ]"),
+        Wanted::More { in_array: false } => text.push_str("a comma or }"),
+        Wanted::Closing {
+            is_array,
+            line,
+            column,
+        } => add_closing(text, is_array, line, column),
+        Wanted::Nothing => text.push_str("the end of the document"),
+        Wanted::Word => text.push_str("true, false, null or a text in double quotes"),
+        Wanted::Digit => text.push_str("a digit"),
+        Wanted::NoZero => text.push_str("a number with no 0 before its other digits"),
+        Wanted::InRange => text.push_str("a number that floats of 64 bits reach"),
+        Wanted::DoubleQuote => text.push_str("a double quote"),
+        Wanted::Quote { line, column } => {
+            write!(
+                text,
+                "a double quote for the text of line {line}, column {column}"
+            )
+        }
+        Wanted::Escaped => text.push_str("a double quote or an escape"),
+        Wanted::Escape => text.push_str("one of \" \\ / b f n r t u"),
+        Wanted::HexDigit => text.push_str("a hexadecimal digit"),
+        Wanted::Pair => text.push_str("a whole surrogate pair"),
+        Wanted::Depth => text.push_str("less nesting"),
+    }
+}
+
+fn add_unwanted(text: &mut String, found: &Piece, wanted: Wanted) -> Result<(), AllocError>
+    ensures { OnOk result (string_bytes text.new ≡ string_bytes text.old
+        ++ (piece_text found.now ++ codes ", " ++ wanted_text wanted ++ codes " is wanted")) }
+{
+    add_piece(text, found)?;
+    text.push_str(", ")?;
+    add_syntax_wanted(text, wanted)?;
+    text.push_str(" is wanted")
+}
+
+fn add_syntax(text: &mut String, syntax: &Syntax) -> Result<(), AllocError>
+    ensures { OnOk result (string_bytes text.new ≡ string_bytes text.old ++ syntax_text syntax.now) }
 {
     match syntax {
         Syntax::NotUtf8 => text.push_str("the bytes are no UTF-8"),
-        Syntax::CutShort => text.push_str("the text ends too soon"),
         Syntax::TooDeep => text.push_str("nested more than 127 deep"),
         Syntax::CommaBefore { what } => write!(text, "a comma before {what}"),
-        Syntax::AfterValue { what } => {
-            write!(
-                text,
-                "{what} after a value, a comma or a colon may be missing"
-            )
-        }
-        Syntax::BadNumber => text.push_str("a number of this form may not stand here"),
-        Syntax::BadText => text.push_str(
-            "a text that may not stand here, or has a wrong escape or a line break",
-        ),
-        Syntax::BadWord => text.push_str("a word may not stand here without double quotes"),
-        Syntax::NoQuotes => text.push_str("a key without double quotes"),
         Syntax::Comment => text.push_str("a comment, of which JSON has none"),
-        Syntax::Stray { what } => write!(text, "{what} may not stand here"),
+        Syntax::Unwanted { found, wanted } => add_unwanted(text, found, *wanted),
     }
 }
 
@@ -91,12 +189,30 @@ fn add_at_key(text: &mut String, key: Key, what: &str) -> Result<(), AllocError>
     text.push_str(what)
 }
 
-fn add_kind(text: &mut String, name: &Option<String>) -> Result<(), AllocError>
-    ensures { OnOk result (string_bytes text.new ≡ string_bytes text.old ++ no_kind_text name.now) }
+fn add_near_kind(text: &mut String, name: &str, near: StepKind) -> Result<(), AllocError>
+    ensures { OnOk result (string_bytes text.new ≡ string_bytes text.old ++ near_kind_text name.now near) }
 {
-    match name {
-        Some(name) => write!(text, "\"do\" is \"{name}\", which is no kind of step"),
-        None => text.push_str("\"do\" names no kind of step"),
+    write!(
+        text,
+        "\"do\" is \"{name}\", which is no kind of step, but \"{}\" is",
+        near.name()
+    )
+}
+
+fn add_kind(
+    text: &mut String,
+    name: &Option<String>,
+    near: Option<StepKind>,
+) -> Result<(), AllocError>
+    ensures { OnOk result (string_bytes text.new ≡ string_bytes text.old ++ no_kind_text name.now near) }
+{
+    match (name, near) {
+        (Some(name), Some(kind)) => add_near_kind(text, name.as_str(), kind),
+        (Some(name), None) => write!(
+            text,
+            "\"do\" is \"{name}\", none of queue, group, enqcmd, movdir, dispatch, fetch, start, finish, command, poll and clear"
+        ),
+        (None, _) => text.push_str("\"do\" names no kind of step"),
     }
 }
 
@@ -106,6 +222,14 @@ fn add_digits(text: &mut String, key: Key, count: usize, wanted: &str) -> Result
 {
     add_key(text, key)?;
     write!(text, " has {count} digits, {wanted} wanted")
+}
+
+fn add_no_digit(text: &mut String, key: Key, at: usize) -> Result<(), AllocError>
+    ensures { OnOk result (string_bytes text.new ≡ string_bytes text.old
+        ++ (key_text key ++ (codes " has no hexadecimal digit at character " ++ decimal at))) }
+{
+    add_key(text, key)?;
+    write!(text, " has no hexadecimal digit at character {at}")
 }
 
 fn add_misspelled(text: &mut String, key: Key, found: &str) -> Result<(), AllocError>
@@ -132,12 +256,10 @@ fn add_reason(text: &mut String, reason: &Reason) -> Result<(), AllocError>
         Reason::Unfit { key, found, wanted } => add_unfit(text, *key, *found, *wanted),
         Reason::OddDigits { key, count } => add_digits(text, *key, *count, "an even number is"),
         Reason::ManyDigits { key, count } => add_digits(text, *key, *count, "at most 128 are"),
-        Reason::NoDigit { key } => {
-            add_at_key(text, *key, " has a character that is no hexadecimal digit")
-        }
+        Reason::NoDigit { key, at } => add_no_digit(text, *key, *at),
         Reason::NoObject { found } => add_no_object(text, *found),
-        Reason::UnknownKind { found } => add_kind(text, found),
-        Reason::Syntax(syntax) => add_syntax(text, *syntax),
+        Reason::UnknownKind { found, near } => add_kind(text, found, *near),
+        Reason::Syntax(syntax) => add_syntax(text, syntax),
     }
 }
 

@@ -1,165 +1,197 @@
-//! Why a text is no JSON.
+//! What is wrong with a text that is no JSON.
 
-use serde_json::Error;
+use crate::scan::Flaw;
+use std::alloc::{AllocError, Global};
 use std::str;
 
-/// What is wrong at a place of a text that is no JSON, as far as the characters there tell.
-#[derive(Clone, Copy, PartialEq, Eq)]
+/// The most bytes of a text that is told as it stands.
+const MOST_TOLD: usize = 40;
+
+/// What is wrong at a place of a text that is no JSON.
+#[derive(Drop)]
 pub enum Syntax {
     NotUtf8,
-    /// The text ends before its value does.
-    CutShort,
     /// Arrays and objects are nested more than 127 deep.
     TooDeep,
     /// A comma stands before the end of an array or an object.
     CommaBefore { what: &'static str },
-    /// Something follows a value.
-    AfterValue { what: &'static str },
-    BadNumber,
-    BadText,
-    BadWord,
-    NoQuotes,
     Comment,
-    /// Nothing finer is known of what stands there.
-    Stray { what: &'static str },
+    /// Something else stands there than what may.
+    Unwanted { found: Piece, wanted: Wanted },
 }
 
-/// How deep a text may be nested.
-const MOST_NESTED: usize = 127;
-
-// A byte of a text, the last one before it that is no space, and how many arrays and objects it stands in.
-#[derive(Clone, Copy)]
-struct Around {
-    before: u8,
-    here: u8,
-    depth: usize,
+/// What stands at a place of a text that is no JSON.
+#[derive(Drop)]
+pub enum Piece {
+    /// The text ends there.
+    End,
+    LineBreak,
+    Tab,
+    /// Another control character.
+    Control,
+    /// A character beyond ASCII.
+    Character,
+    ByteOrderMark,
+    /// A text, a number, a word or a sign, which is short and plain.
+    Told(String),
+    /// One that is long or not plain.
+    Text,
+    Number,
+    Word,
 }
 
-// How deep the bytes are nested, those of texts left out.
-#[derive(Clone, Copy)]
-struct Nesting {
-    depth: usize,
-    in_text: bool,
-    escaped: bool,
+/// What may stand at a place of a JSON text.
+#[derive(Clone, Copy, PartialEq, Eq)]
+pub enum Wanted {
+    /// The object that a document is.
+    Document,
+    /// A value, behind a colon.
+    Value,
+    /// The first item of an array, or its end.
+    FirstItem,
+    /// An item, behind a comma.
+    Item,
+    /// The first key of an object, or its end.
+    FirstKey,
+    /// A key, behind a comma.
+    Key,
+    Colon,
+    /// What follows a value in an array or an object.
+    More {
+        in_array: bool,
+    },
+    /// The end of the array or the object that begins there.
+    Closing {
+        is_array: bool,
+        line: usize,
+        column: usize,
+    },
+    /// Nothing, since the document has ended.
+    Nothing,
+    /// One of three words.
+    Word,
+    Digit,
+    /// A number with no 0 before its other digits.
+    NoZero,
+    /// A number that the floats of 64 bits reach.
+    InRange,
+    DoubleQuote,
+    /// The end of the text that begins there.
+    Quote {
+        line: usize,
+        column: usize,
+    },
+    /// A character in a text.
+    Escaped,
+    /// What stands behind a backslash.
+    Escape,
+    HexDigit,
+    /// Both halves of a surrogate pair.
+    Pair,
+    /// At most 127 arrays and objects around a value.
+    Depth,
 }
 
-impl Nesting {
-    fn pass(&mut self, byte: u8) {
-        if self.in_text {
-            self.in_text = self.escaped || byte != b'"';
-            self.escaped = !self.escaped && byte == b'\\';
-            return;
+// Whether it may stand inside a text.
+fn is_in_text(wanted: Wanted) -> bool {
+    matches!(wanted, Wanted::Escaped | Wanted::Escape | Wanted::HexDigit)
+}
+
+// Whether it may stand between two values.
+fn is_between(wanted: Wanted) -> bool {
+    !is_in_text(wanted) && !matches!(wanted, Wanted::Pair | Wanted::Digit)
+}
+
+/// Whether a text can be told as it stands.
+pub fn is_plain(text: &str) -> bool {
+    text.len() <= MOST_TOLD && text.bytes().all(|byte| byte >= b' ' && byte <= b'~')
+}
+
+// How many bytes a text has that begins here, with both quotes.
+fn text_length(bytes: &[u8]) -> usize {
+    let mut is_escaped = false;
+    for (at, byte) in bytes.iter().enumerate().skip(1) {
+        if *byte == b'"' && !is_escaped {
+            return at.saturating_add(1);
         }
-        match byte {
-            b'"' => self.in_text = true,
-            b'[' | b'{' => self.depth = self.depth.saturating_add(1),
-            b']' | b'}' => self.depth = self.depth.saturating_sub(1),
-            _ => {}
-        }
+        is_escaped = *byte == b'\\' && !is_escaped;
+    }
+    bytes.len()
+}
+
+fn is_of_word(byte: u8) -> bool {
+    byte.is_ascii_alphanumeric() || matches!(byte, b'_' | b'+' | b'-' | b'.')
+}
+
+// How many bytes a number or a word has that begins here.
+fn word_length(bytes: &[u8]) -> usize {
+    match bytes.iter().position(|byte| !is_of_word(*byte)) {
+        Some(length) => length,
+        None => bytes.len(),
     }
 }
 
-// The bytes at a place, which is counted from 1.
-fn bytes_at(bytes: &[u8], line: usize, column: usize) -> Option<Around> {
-    let (mut at_line, mut at_column, mut before) = (1usize, 1usize, 0);
-    let mut nesting = Nesting {
-        depth: 0,
-        in_text: false,
-        escaped: false,
-    };
-    for byte in bytes {
-        let here = *byte;
-        if at_line == line && at_column == column {
-            let depth = nesting.depth;
-            return Some(Around {
-                before,
-                here,
-                depth,
-            });
-        }
-        nesting.pass(here);
-        if !here.is_ascii_whitespace() {
-            before = here;
-        }
-        if here == b'\n' {
-            at_line = at_line.saturating_add(1);
-            at_column = 1;
-        } else {
-            at_column = at_column.saturating_add(1);
-        }
-    }
-    None
-}
-
-// What a byte is called.
-fn name_of(byte: u8) -> &'static str {
-    match byte {
-        b'{' => "{",
-        b'}' => "}",
-        b'[' => "[",
-        b']' => "]",
-        b',' => ",",
-        b':' => ":",
-        b'=' => "=",
-        b';' => ";",
-        b'"' => "a text",
-        b'\'' => "a single quote",
-        b'0'..=b'9' => "a digit",
-        b'a'..=b'z' | b'A'..=b'Z' => "a letter",
-        _ => "this character",
+// How many of these bytes are told as one.
+fn piece_length(bytes: &[u8], first: u8, wanted: Wanted) -> usize {
+    if wanted == Wanted::Pair {
+        6
+    } else if is_in_text(wanted) {
+        1
+    } else if first == b'"' {
+        text_length(bytes)
+    } else if is_of_word(first) {
+        word_length(bytes)
+    } else {
+        1
     }
 }
 
-fn ends_value(byte: u8) -> bool {
-    matches!(byte, b'"' | b'}' | b']' | b'0'..=b'9' | b'a'..=b'z')
-}
-
-fn begins_value(byte: u8) -> bool {
-    matches!(byte, b'"' | b'{' | b'[' | b'-' | b'0'..=b'9' | b'a'..=b'z')
-}
-
-// What is wrong with a value that begins where one may begin.
-fn bad_value(here: u8) -> Syntax {
-    match here {
-        b'"' => Syntax::BadText,
-        b'+' | b'-' | b'.' | b'0'..=b'9' => Syntax::BadNumber,
-        b'a'..=b'z' | b'A'..=b'Z' => Syntax::BadWord,
-        _ => Syntax::Stray {
-            what: name_of(here),
+// The first of these bytes, as they are told.
+fn told_piece(alloc: Global, piece: &[u8], first: u8) -> Result<Piece, AllocError> {
+    match str::from_utf8(piece) {
+        Ok(text) if is_plain(text) => Ok(Piece::Told(String::from_str(alloc, text)?)),
+        _ => match first {
+            b'"' => Ok(Piece::Text),
+            b'-' | b'0'..=b'9' => Ok(Piece::Number),
+            _ => Ok(Piece::Word),
         },
     }
 }
 
-fn syntax_around(around: Around) -> Syntax {
-    let what = name_of(around.here);
-    match (around.before, around.here) {
-        (b'[' | b'{', _) if around.depth > MOST_NESTED => Syntax::TooDeep,
-        (_, b'/') => Syntax::Comment,
-        (b',', b'}' | b']') => Syntax::CommaBefore { what },
-        (b':' | b'[', here) => bad_value(here),
-        (b',' | b'{', b'"') => Syntax::BadText,
-        (b'{', b'a'..=b'z' | b'A'..=b'Z' | b'\'') => Syntax::NoQuotes,
-        (before, here) if ends_value(before) && begins_value(here) => Syntax::AfterValue { what },
-        _ => Syntax::Stray { what },
+// What stands at the begin of these bytes.
+fn piece_of(alloc: Global, bytes: &[u8], wanted: Wanted) -> Result<Piece, AllocError> {
+    let Some(first) = bytes.first().copied() else {
+        return Ok(Piece::End);
+    };
+    match first {
+        b'\n' | b'\r' => Ok(Piece::LineBreak),
+        b'\t' => Ok(Piece::Tab),
+        0..=0x1f | 0x7f => Ok(Piece::Control),
+        0xef if bytes.starts_with(b"\xef\xbb\xbf") => Ok(Piece::ByteOrderMark),
+        0x80..=0xff => Ok(Piece::Character),
+        _ => {
+            let length = piece_length(bytes, first, wanted).min(bytes.len());
+            told_piece(alloc, &bytes[..length], first)
+        }
     }
 }
 
-/// What is wrong at the place of this error.
-pub fn syntax_at(error: &Error, bytes: &[u8]) -> Syntax {
-    if str::from_utf8(bytes).is_err() {
-        return Syntax::NotUtf8;
-    }
-    match bytes_at(bytes, error.line(), error.column()) {
-        Some(around) if !error.is_eof() => syntax_around(around),
-        _ => Syntax::CutShort,
-    }
-}
-
-/// The column of this error. Where a text is nested too deep, the error stands behind the bracket that is one too many.
-pub fn column_of(error: &Error, syntax: Syntax) -> usize {
-    if syntax == Syntax::TooDeep {
-        error.column().saturating_sub(1)
-    } else {
-        error.column()
+/// What is wrong at this flaw of a text.
+pub fn syntax_of(alloc: Global, bytes: &[u8], flaw: Flaw) -> Result<Syntax, AllocError> {
+    let rest = bytes.get(flaw.at..).unwrap_or(&[]);
+    let wanted = flaw.wanted;
+    match (wanted, rest.first()) {
+        (Wanted::Depth, _) => Ok(Syntax::TooDeep),
+        (Wanted::Item | Wanted::Key, Some(b'}')) => Ok(Syntax::CommaBefore { what: "}" }),
+        (Wanted::Item | Wanted::Key, Some(b']')) => Ok(Syntax::CommaBefore { what: "]" }),
+        (_, Some(b'/')) if is_between(wanted) => Ok(Syntax::Comment),
+        (_, Some(b'\'')) if is_between(wanted) => Ok(Syntax::Unwanted {
+            found: piece_of(alloc, rest, wanted)?,
+            wanted: Wanted::DoubleQuote,
+        }),
+        _ => Ok(Syntax::Unwanted {
+            found: piece_of(alloc, rest, wanted)?,
+            wanted,
+        }),
     }
 }

@@ -3,7 +3,7 @@ use Rattle.std.proofs.Common.{codes, string_bytes}
 use Rattle.dsa_check.proofs.Texts.{pushed}
 
 pub returns-in-Whole : goal.returns-in-Whole
-returns-in-Whole c = rw c.in-Whole.is c.write.ensures.bytes
+returns-in-Whole c = rw c.in-Whole.is c.add_range.ensures
 
 pub returns-in-Truth : goal.returns-in-Truth
 returns-in-Truth c =
