@@ -23,12 +23,15 @@ use Rattle.dsa_check.specs.declared.kinds.StepKind.TheVariants.{Fetch, Start, Fi
 abbrev pub kind_text : StepKind → List ℕ
 kind_text Queue = codes "queue"
 kind_text Group = codes "group"
+-- of clients
 kind_text Enqcmd = codes "enqcmd"
 kind_text Movdir = codes "movdir"
+-- of engines
 kind_text Dispatch = codes "dispatch"
 kind_text Fetch = codes "fetch"
 kind_text Start = codes "start"
 kind_text Finish = codes "finish"
+-- of an administrator
 kind_text Command = codes "command"
 kind_text Poll = codes "poll"
 kind_text Clear = codes "clear"
