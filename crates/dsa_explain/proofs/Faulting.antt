@@ -7,13 +7,14 @@ use Rattle.dsa_base.{specs.{Rows.{first_row, first_row_or}, Numbers.{has}}, proo
 use Rattle.dsa_regs.specs.declared.{Caps.{Caps}, GroupConfig.{GroupConfig}, Fault.{Fault}}
 use Rattle.dsa_regs.specs.declared.Fault.TheVariants.{BadIndex, TwoGroups, AllowedOutOfRange}
 use Rattle.dsa_regs.specs.Config.{groups_table, check_groups, group_at, zero_group, names_missing, is_in_two}
-use Rattle.dsa_regs.specs.Config.{is_allowed_wrong, is_without_engine, is_without_queue}
-use Rattle.dsa_explain.specs.declared.check.CheckReason.{CheckReason}
+use Rattle.dsa_regs.specs.Config.{is_allowed_wrong, is_allowed_outside, unreserved, is_without_engine, is_without_queue}
+use Rattle.dsa_explain.specs.declared.check.CheckReason.{CheckReason, TheVariants.{AllowedOutOfRange}}
 use Rattle.dsa_explain.specs.declared.groups.Named.{Named, TheVariants.{Queue, Engine}}
-use Rattle.dsa_explain.specs.Groups.{IsGroup, missing_name, missing_reason, names, shared_by, shared_reason}
-use Rattle.dsa_explain.specs.Groups.{first_past, first_two, first_in_two, naming_groups}
+use Rattle.dsa_explain.specs.declared.groups.Kind.{Kind, TheVariants.{Queues, Engines}}
+use Rattle.dsa_explain.specs.Groups.{IsGroup, missing_name, missing_reason, shared_by, shared_reason, members, name_of}
+use Rattle.dsa_explain.specs.Groups.{first_past, first_two, first_in_two, naming_groups, bounds_table, outside_reason}
 use Rattle.dsa_explain.specs.{Reasons.{with_reasons}, Check.{fault_of, groups_reason, groups_reasons}}
-use Rattle.dsa_explain.proofs.Grouping.{past-there, shared-counted, first-counted, first-some}
+use Rattle.dsa_explain.proofs.Grouping.{past-there, kind-counted, first-counted, first-some}
 
 -- ---- a table and its reasons
 
@@ -75,14 +76,12 @@ two-told named (a ∷ []) h = absurd cc
 two-told named (a ∷ b ∷ l) h = refl
 
 -- the number that is found is told
-found-told : (members : GroupConfig → ℕ) (which : ℕ → Named) (groups : List GroupConfig) (n : ℕ)
-    → ((k : ℕ) → count_by (names (which k)) groups ≡ count_by (λ g. has (members g) k) groups)
-    → (o : Option ℕ) → first_in_two members groups n ≡ o
-    → option_map fault_of (option_and_then (λ k. shared_by groups (which k)) o) ≡ option_map (λ k. TwoGroups) o
-found-told members which groups n same None is = refl
-found-told members which groups n same (Some k) is =
-    two-told (which k) (naming_groups groups (which k))
-    (shared-counted groups (which k) ∙ ap (nat_lt 1) (same k) ∙ first-counted members groups n k is)
+found-told : (kind : Kind) (groups : List GroupConfig) (n : ℕ) (o : Option ℕ) → first_in_two (members kind) groups n ≡ o
+    → option_map fault_of (option_and_then (λ k. shared_by groups (name_of kind k)) o) ≡ option_map (λ k. TwoGroups) o
+found-told kind groups n None is = refl
+found-told kind groups n (Some k) is =
+    two-told (name_of kind k) (naming_groups groups (name_of kind k))
+    (kind-counted kind groups k ∙ first-counted (members kind) groups n k is)
 
 or-told : (a b : Option CheckReason) (oa ob : Option ℕ) → option_map fault_of a ≡ option_map (λ k. TwoGroups) oa
     → option_map fault_of b ≡ option_map (λ k. TwoGroups) ob → (is_some oa || is_some ob) ≡ true
@@ -99,9 +98,24 @@ shared-told : (caps : Caps) (groups : List GroupConfig)
     → (is_in_two (λ g. g.queues) groups caps.queues || is_in_two (λ g. g.engines) groups caps.engines) ≡ true
     → option_map fault_of (shared_reason caps groups) ≡ Some TwoGroups
 shared-told caps groups h =
-    or-told _ _ _ _ (found-told (λ g. g.queues) Queue groups caps.queues (λ k. refl) _ refl)
-    (found-told (λ g. g.engines) Engine groups caps.engines (λ k. refl) _ refl)
-    (rw (first-some (λ g. g.queues) groups caps.queues, first-some (λ g. g.engines) groups caps.engines) h)
+    or-told _ _ _ _ (found-told Queues groups caps.queues _ refl) (found-told Engines groups caps.engines _ refl)
+    (rw (first-some (members Queues) groups caps.queues, first-some (members Engines) groups caps.engines) h)
+
+-- ---- what a group may use is outside its bounds
+
+-- a bound is told exactly where the number is outside its bounds
+bound-there : (left : ℕ) (g : GroupConfig) → is_some (first_row (bounds_table left g)) ≡ is_allowed_outside left g
+bound-there left g = grind (arith, common_steps)
+
+outside-told : (caps : Caps) (groups : List GroupConfig) → list_any (is_allowed_wrong caps.read_buffers groups) groups ≡ true
+    → option_map fault_of (outside_reason caps groups) ≡ Some AllowedOutOfRange
+outside-told caps groups h =
+    let place = placed (is_allowed_wrong caps.read_buffers groups) groups h in
+    let hit = hit-at (is_allowed_wrong caps.read_buffers groups) groups zero_group place.0 place.1 in
+    let group = group_at groups place.0 in
+    let left = unreserved caps.read_buffers groups group in
+    rw place.1 (map-told (λ bound. AllowedOutOfRange place.0 group.allowed bound) AllowedOutOfRange
+    (first_row (bounds_table left group)) (λ b. refl) (bound-there left group ∙ hit.1))
 
 -- ---- the table of the device
 
@@ -124,7 +138,7 @@ device-follows caps sizes groups sets =
           (
             λ h. refl,
             (
-              placed-told (is_allowed_wrong caps.read_buffers groups) groups _ AllowedOutOfRange (λ k. refl),
+              outside-told caps groups,
               (
                 placed-told is_without_engine groups _ _ (λ k. refl),
                 (placed-told is_without_queue groups _ _ (λ k. refl), tt),

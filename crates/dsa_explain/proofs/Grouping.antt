@@ -10,9 +10,10 @@ use Rattle.dsa_base.specs.Numbers.{has, numbers_below}
 use Rattle.dsa_base.proofs.{NumberLemmas.{numbers_below-hit}, NumberSums.{sum-places}}
 use Rattle.dsa_base.proofs.Bits.{none-left, next-left, within-set}
 use Rattle.dsa_regs.specs.{declared.GroupConfig.{GroupConfig}, Config.{group_at, is_in_two, zero_group}}
-use Rattle.dsa_explain.specs.declared.groups.Named.{Named}
+use Rattle.dsa_explain.specs.declared.groups.{Named.{Named}, Kind.{Kind, TheVariants.{Queues, Engines}}}
 use Rattle.dsa_explain.specs.declared.check.CheckReason.TheVariants.{TwoGroups}
 use Rattle.dsa_explain.specs.Groups.{first_past, names, naming_groups, first_two, shared_by, first_in_two}
+use Rattle.dsa_explain.specs.Groups.{members, name_of}
 use Rattle.dsa_explain.proofs.Rows.{find-any}
 
 -- ---- the numbers below a bound, one after the other
@@ -112,12 +113,22 @@ two-counted named (a ∷ []) = grind (arith, common_steps)
 two-counted named (a ∷ b ∷ l) = grind (arith, common_steps)
 
 -- two groups are told exactly where two are counted
-pub shared-counted : (groups : List GroupConfig) (named : Named)
+shared-counted : (groups : List GroupConfig) (named : Named)
     → is_some (shared_by groups named) ≡ nat_lt 1 (count_by (names named) groups)
 shared-counted groups named =
     two-counted named (naming_groups groups named)
     ∙ ap (nat_lt 1) (length-filter (λ g. names named (group_at groups g)) (numbers_below (length groups))
     ∙ sum-places (λ g. cond (names named g) 1 0) groups zero_group)
+
+-- the groups that name a member of one kind are those that have its number
+pub names-kind : (kind : Kind) (groups : List GroupConfig) (n : ℕ)
+    → count_by (names (name_of kind n)) groups ≡ count_by (λ g. has (members kind g) n) groups
+names-kind Queues groups n = refl
+names-kind Engines groups n = refl
+
+pub kind-counted : (kind : Kind) (groups : List GroupConfig) (n : ℕ)
+    → is_some (shared_by groups (name_of kind n)) ≡ nat_lt 1 (count_by (λ g. has (members kind g) n) groups)
+kind-counted kind groups n = shared-counted groups (name_of kind n) ∙ ap (nat_lt 1) (names-kind kind groups n)
 
 -- ---- the first number that two groups have
 

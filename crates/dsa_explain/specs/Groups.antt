@@ -1,10 +1,12 @@
 -- What the check of Enable Device has against the groups: which group, and which number.
-use Rattle.std.specs.Prelude.{ℕ, suc, ◌-◌, ◌^◌, ◌<◌, Bool, ◌&&◌, nat_lt, nat_le, cond, List, ◌∷◌, length, filter, find}
+use Rattle.std.specs.Prelude.{ℕ, suc, ◌^◌, ◌<◌, Bool, ◌&&◌, nat_le, List, [], ◌∷◌, length, filter, find}
 use Rattle.std.specs.{Prelude.{position, Option, Some, None, option_map}, Option.{option_and_then, option_or}}
-use Rattle.dsa_base.specs.Numbers.{has, numbers_below}
+use Rattle.dsa_base.specs.{Rows.{first_row}, Numbers.{has, numbers_below}}
 use Rattle.dsa_regs.specs.declared.{Caps.{Caps}, GroupConfig.{GroupConfig}}
-use Rattle.dsa_regs.specs.Config.{group_at, names_missing, is_in_two, total_reserved, is_allowed_wrong}
+use Rattle.dsa_regs.specs.Config.{group_at, names_missing, is_in_two, is_allowed_wrong, unreserved}
+use Rattle.dsa_regs.specs.Config.{is_below_reserved, is_above_unreserved, is_below_need}
 use Rattle.dsa_explain.specs.declared.groups.{Named.{Named, TheVariants.{Queue, Engine}}}
+use Rattle.dsa_explain.specs.declared.groups.{Kind.{Kind, TheVariants.{Queues, Engines}}}
 use Rattle.dsa_explain.specs.declared.groups.{Bound.{Bound, TheVariants.{Reserved, Unreserved, Need}}}
 use Rattle.dsa_explain.specs.declared.check.CheckReason.{CheckReason}
 use Rattle.dsa_explain.specs.declared.check.CheckReason.TheVariants.{NamesMissing, TwoGroups, AllowedOutOfRange}
@@ -57,32 +59,43 @@ shared_by groups named = first_two named (naming_groups groups named)
 abbrev pub first_in_two : (GroupConfig → ℕ) → List GroupConfig → ℕ → Option ℕ
 first_in_two members groups n = find (λ k. is_in_two members groups (suc k)) (numbers_below n)
 
+-- the members of a group of one kind, and the name of the member of a number
+abbrev pub members : Kind → GroupConfig → ℕ
+members Queues g = g.queues
+members Engines g = g.engines
+
+abbrev pub name_of : Kind → ℕ → Named
+name_of Queues n = Queue n
+name_of Engines n = Engine n
+
+-- of the first of so many members that two groups name
+abbrev pub shared_of : Kind → List GroupConfig → ℕ → Option CheckReason
+shared_of kind groups count =
+    option_and_then (λ n. shared_by groups (name_of kind n)) (first_in_two (members kind) groups count)
+
 -- of the first queue that two groups name, or else of the first such engine
 abbrev pub shared_reason : Caps → List GroupConfig → Option CheckReason
-shared_reason caps groups =
-    option_or (option_and_then (λ q. shared_by groups (Queue q)) (first_in_two (λ g. g.queues) groups caps.queues))
-    (option_and_then (λ e. shared_by groups (Engine e)) (first_in_two (λ g. g.engines) groups caps.engines))
+shared_reason caps groups = option_or (shared_of Queues groups caps.queues) (shared_of Engines groups caps.engines)
 
 -- ---- what a group may use is outside its bounds
 
--- the read buffers that the groups beside this one leave unreserved
-abbrev pub unreserved : ℕ → List GroupConfig → GroupConfig → ℕ
-unreserved read_buffers groups g = read_buffers - (total_reserved groups - g.reserved)
-
--- the first bound that the number breaks, where so many are not reserved by others
-abbrev pub broken_bound : ℕ → GroupConfig → Bound
-broken_bound left g = cond (nat_lt g.allowed g.reserved) (Reserved g.reserved)
-    (cond (nat_lt left g.allowed) (Unreserved left) Need)
+-- what bounds the number that a group may use, where the others leave so many: the first bound that it breaks is told
+abbrev pub bounds_table : ℕ → GroupConfig → List (Bool × Bound)
+bounds_table left g =
+    (is_below_reserved g, Reserved g.reserved) ∷
+    (is_above_unreserved left g, Unreserved left) ∷
+    (is_below_need g, Need) ∷ []
 
 -- of group g
-abbrev pub outside_in : ℕ → List GroupConfig → ℕ → CheckReason
+abbrev pub outside_in : ℕ → List GroupConfig → ℕ → Option CheckReason
 outside_in read_buffers groups g =
     let group = group_at groups g in
-    AllowedOutOfRange g group.allowed (broken_bound (unreserved read_buffers groups group) group)
+    let left = unreserved read_buffers groups group in
+    option_map (λ bound. AllowedOutOfRange g group.allowed bound) (first_row (bounds_table left group))
 
 -- of the first group whose number is outside its bounds
 abbrev pub outside_reason : Caps → List GroupConfig → Option CheckReason
-outside_reason caps groups = option_map (outside_in caps.read_buffers groups)
+outside_reason caps groups = option_and_then (outside_in caps.read_buffers groups)
     (position (is_allowed_wrong caps.read_buffers groups) groups)
 
 -- ---- groups of a device

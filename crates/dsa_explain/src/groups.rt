@@ -1,11 +1,9 @@
 //! What the check of Enable Device has against the groups: which group, and which number.
 
 ghost use Rattle.std.specs.Prelude.{◌≡◌, ◌<◌, ◌^◌, ◌&&◌, nat_le, length, is_some, position};
-ghost use Rattle.std.specs.Option.{option_and_then};
-ghost use Rattle.dsa_base.specs.Numbers.{has};
-ghost use Rattle.dsa_regs.specs.Config.{names_missing, is_allowed_wrong};
-ghost use Rattle.dsa_explain.specs.declared.groups.Named.TheVariants.{Queue, Engine};
-ghost use Rattle.dsa_explain.specs.Groups.{first_past, missing_name, count_of, missing_reason, names, shared_by, first_in_two, shared_reason, unreserved, broken_bound, outside_reason};
+ghost use Rattle.dsa_base.specs.{Rows.{first_row}, Numbers.{has}};
+ghost use Rattle.dsa_regs.specs.Config.{names_missing, is_allowed_wrong, is_allowed_outside, unreserved};
+ghost use Rattle.dsa_explain.specs.Groups.{first_past, missing_name, count_of, missing_reason, names, shared_by, name_of, shared_of, shared_reason, bounds_table, outside_reason};
 
 use crate::check::{CheckReason, total_reserved};
 use dsa_regs::{Caps, GroupConfig, LEAST_ALLOWED};
@@ -15,6 +13,25 @@ use dsa_regs::{Caps, GroupConfig, LEAST_ALLOWED};
 pub enum Named {
     Queue(u16),
     Engine(u16),
+}
+
+// What a group names: queues or engines.
+#[derive(Clone, Copy)]
+enum Kind {
+    Queues,
+    Engines,
+}
+
+impl Kind {
+    // What is named by the number.
+    fn name_of(self, number: u16) -> Named
+        ensures { result ≡ name_of self number }
+    {
+        match self {
+            Kind::Queues => Named::Queue(number),
+            Kind::Engines => Named::Engine(number),
+        }
+    }
 }
 
 /// What bounds the number of read buffers that a group may use, in the order in which the bounds are tried.
@@ -126,27 +143,13 @@ fn shared_by(groups: &[GroupConfig], named: Named) -> Option<CheckReason>
     None
 }
 
-// The first of so many queues that two groups name.
-fn shared_queue(groups: &[GroupConfig], queues: u16) -> Option<CheckReason>
+// The first of so many queues, or of so many engines, that two groups name.
+fn shared_of(kind: Kind, groups: &[GroupConfig], count: u16) -> Option<CheckReason>
     requires { length groups.now < 2 ^ 16 }
-    ensures { result ≡ option_and_then (λ q. shared_by groups.now (Queue q)) (first_in_two (λ g. g.queues) groups.now queues) }
+    ensures { result ≡ shared_of kind groups.now count }
 {
-    for queue in 0..queues {
-        let reason = shared_by(groups, Named::Queue(queue));
-        if reason.is_some() {
-            return reason;
-        }
-    }
-    None
-}
-
-// The first of so many engines that two groups name.
-fn shared_engine(groups: &[GroupConfig], engines: u16) -> Option<CheckReason>
-    requires { length groups.now < 2 ^ 16 }
-    ensures { result ≡ option_and_then (λ e. shared_by groups.now (Engine e)) (first_in_two (λ g. g.engines) groups.now engines) }
-{
-    for engine in 0..engines {
-        let reason = shared_by(groups, Named::Engine(engine));
+    for number in 0..count {
+        let reason = shared_by(groups, kind.name_of(number));
         if reason.is_some() {
             return reason;
         }
@@ -159,11 +162,11 @@ pub(crate) fn shared_reason(caps: &Caps, groups: &[GroupConfig]) -> Option<Check
     requires { length groups.now < 2 ^ 16 }
     ensures { result ≡ shared_reason caps.now groups.now }
 {
-    let reason = shared_queue(groups, caps.queues);
+    let reason = shared_of(Kind::Queues, groups, caps.queues);
     if reason.is_some() {
         return reason;
     }
-    shared_engine(groups, caps.engines)
+    shared_of(Kind::Engines, groups, caps.engines)
 }
 
 // The read buffers that the groups beside this one leave unreserved.
@@ -174,26 +177,28 @@ fn unreserved(read_buffers: u16, groups: &[GroupConfig], group: &GroupConfig) ->
     u32::from(read_buffers).saturating_sub(others) as u16
 }
 
-// Whether the number that the group may use is outside its bounds.
-fn is_allowed_wrong(read_buffers: u16, groups: &[GroupConfig], group: &GroupConfig) -> bool
-    ensures { result ≡ is_allowed_wrong read_buffers groups.now group.now }
-{
-    group.allowed < group.reserved
-        || group.allowed > unreserved(read_buffers, groups, group)
-        || (group.allowed < LEAST_ALLOWED && group.engines != 0)
-}
-
-// The first bound that the number breaks, where so many are not reserved by others.
-fn broken_bound(left: u16, group: &GroupConfig) -> Bound
-    ensures { result ≡ broken_bound left group.now }
+// The first bound that the number breaks, where the others leave so many.
+fn broken_bound(left: u16, group: &GroupConfig) -> Option<Bound>
+    ensures bound { result ≡ first_row (bounds_table left group.now) }
+    ensures broken { is_some result ≡ is_allowed_outside left group.now }
 {
     if group.allowed < group.reserved {
-        Bound::Reserved(group.reserved)
+        Some(Bound::Reserved(group.reserved))
     } else if group.allowed > left {
-        Bound::Unreserved(left)
+        Some(Bound::Unreserved(left))
+    } else if group.allowed < LEAST_ALLOWED && group.engines != 0 {
+        Some(Bound::Need)
     } else {
-        Bound::Need
+        None
     }
+}
+
+// The first bound that the number breaks which the group may use, beside the groups.
+fn bound_of(read_buffers: u16, groups: &[GroupConfig], group: &GroupConfig) -> Option<Bound>
+    ensures bound { result ≡ first_row (bounds_table (unreserved read_buffers groups.now group.now) group.now) }
+    ensures broken { is_some result ≡ is_allowed_wrong read_buffers groups.now group.now }
+{
+    broken_bound(unreserved(read_buffers, groups, group), group)
 }
 
 // The first group whose number is outside its bounds.
@@ -202,7 +207,7 @@ fn first_outside(read_buffers: u16, groups: &[GroupConfig]) -> Option<usize>
 {
     groups
         .iter()
-        .position(|group| is_allowed_wrong(read_buffers, groups, group))
+        .position(|group| bound_of(read_buffers, groups, group).is_some())
 }
 
 /// The first group that may use a number of read buffers outside its bounds, with the first bound that it breaks.
@@ -211,11 +216,10 @@ pub(crate) fn outside_reason(caps: &Caps, groups: &[GroupConfig]) -> Option<Chec
     ensures { result ≡ outside_reason caps.now groups.now }
 {
     let group = first_outside(caps.read_buffers, groups)?;
-    let config = groups[group];
-    let left = unreserved(caps.read_buffers, groups, &config);
+    let bound = bound_of(caps.read_buffers, groups, &groups[group])?;
     Some(CheckReason::AllowedOutOfRange {
         group: group as u16,
-        allowed: config.allowed,
-        bound: broken_bound(left, &config),
+        allowed: groups[group].allowed,
+        bound,
     })
 }
