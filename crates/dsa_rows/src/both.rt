@@ -3,7 +3,6 @@
 use crate::calls::{linked, plain};
 use crate::stores::{cell_is_written, list_is_given_back, middle_is_taken, one_is_left};
 use dsa_store::EntryStore;
-use std::alloc::Global;
 use std::process::Abort;
 
 #[derive(Clone, Copy)]
@@ -35,7 +34,8 @@ fn pass<S: EntryStore>(rt: &impl Abort, row: Row, store: &mut S) {
 }
 
 // Both kinds of store pass the row.
-fn both_pass(rt: &impl Abort, alloc: Global, row: Row) {
+fn both_pass(rt: &HostRuntime, row: Row) {
+    let alloc = rt.alloc();
     let cells = row.cells();
     pass(rt, row, &mut plain(rt, alloc, 2, cells));
     let mut linked = linked(rt, alloc, 2, cells);
@@ -45,20 +45,20 @@ fn both_pass(rt: &impl Abort, alloc: Global, row: Row) {
 
 #[test]
 fn middle(rt: HostRuntime) {
-    both_pass(&rt, rt.alloc(), Row::Middle);
+    both_pass(&rt, Row::Middle);
 }
 
 #[test]
 fn left(rt: HostRuntime) {
-    both_pass(&rt, rt.alloc(), Row::Left);
+    both_pass(&rt, Row::Left);
 }
 
 #[test]
 fn given_back(rt: HostRuntime) {
-    both_pass(&rt, rt.alloc(), Row::GivenBack);
+    both_pass(&rt, Row::GivenBack);
 }
 
 #[test]
 fn written(rt: HostRuntime) {
-    both_pass(&rt, rt.alloc(), Row::Written);
+    both_pass(&rt, Row::Written);
 }
