@@ -2,8 +2,8 @@
 use Rattle.std.proofs.Common.{◌≡◌, ℕ, Bool, true, false, ◌||◌, nat_lt, List, [], ◌∷◌, length, position}
 use Rattle.std.proofs.Common.{Option, Some, None, is_some, option_map, refl, sym, ap, ◌∙◌, arith}
 use Rattle.std.proofs.lemmas.{Grind.{common_steps}, List.Elements.{All-get_or}}
-use Rattle.std.specs.{Prelude.{⊤, count_by}, List.{list_any, position_or_len, All}, Option.{option_and_then, option_or}}
-use Rattle.dsa_base.{specs.{Rows.{first_row, first_row_or}, Numbers.{has}}, proofs.FirstPlaces.{hit-at}}
+use Rattle.std.specs.{Prelude.{⊤}, List.{list_any, position_or_len, All}, Option.{option_and_then, option_or}}
+use Rattle.dsa_base.{specs.{Rows.{first_row, first_row_or}}, proofs.FirstPlaces.{hit-at}}
 use Rattle.dsa_regs.specs.declared.{Caps.{Caps}, GroupConfig.{GroupConfig}, Fault.{Fault}}
 use Rattle.dsa_regs.specs.declared.Fault.TheVariants.{BadIndex, TwoGroups, AllowedOutOfRange}
 use Rattle.dsa_regs.specs.Config.{groups_table, check_groups, group_at, zero_group, names_missing, is_in_two}
