@@ -4,6 +4,5 @@
 #![tactic(auto)]
 
 pub mod rows;
-
 #[cfg(test)]
 mod untold;

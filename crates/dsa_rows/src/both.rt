@@ -3,6 +3,7 @@
 use crate::calls::{linked, plain};
 use crate::stores::{cell_is_written, list_is_given_back, middle_is_taken, one_is_left};
 use dsa_store::EntryStore;
+use std::alloc::Global;
 use std::process::Abort;
 
 #[derive(Clone, Copy)]
@@ -22,43 +23,42 @@ impl Row {
             Row::Written => 2,
         }
     }
-}
 
-fn pass<S: EntryStore>(rt: &impl Abort, row: Row, store: &mut S) {
-    match row {
-        Row::Middle => middle_is_taken(rt, store),
-        Row::Left => one_is_left(rt, store),
-        Row::GivenBack => list_is_given_back(rt, store),
-        Row::Written => cell_is_written(rt, store),
+    fn pass<S: EntryStore>(self, rt: &impl Abort, store: &mut S) {
+        match self {
+            Row::Middle => middle_is_taken(rt, store),
+            Row::Left => one_is_left(rt, store),
+            Row::GivenBack => list_is_given_back(rt, store),
+            Row::Written => cell_is_written(rt, store),
+        }
     }
-}
 
-// Both kinds of store pass the row.
-fn both_pass(rt: &HostRuntime, row: Row) {
-    let alloc = rt.alloc();
-    let cells = row.cells();
-    pass(rt, row, &mut plain(rt, alloc, 2, cells));
-    let mut linked = linked(rt, alloc, 2, cells);
-    pass(rt, row, &mut linked);
-    linked.each_cell_stands_once();
+    // Both kinds of store pass the row.
+    fn both_pass(self, rt: &impl Abort, alloc: Global) {
+        let cells = self.cells();
+        self.pass(rt, &mut plain(rt, alloc, 2, cells));
+        let mut linked = linked(rt, alloc, 2, cells);
+        self.pass(rt, &mut linked);
+        linked.each_cell_stands_once();
+    }
 }
 
 #[test]
 fn middle(rt: HostRuntime) {
-    both_pass(&rt, Row::Middle);
+    Row::Middle.both_pass(&rt, rt.alloc());
 }
 
 #[test]
 fn left(rt: HostRuntime) {
-    both_pass(&rt, Row::Left);
+    Row::Left.both_pass(&rt, rt.alloc());
 }
 
 #[test]
 fn given_back(rt: HostRuntime) {
-    both_pass(&rt, Row::GivenBack);
+    Row::GivenBack.both_pass(&rt, rt.alloc());
 }
 
 #[test]
 fn written(rt: HostRuntime) {
-    both_pass(&rt, Row::Written);
+    Row::Written.both_pass(&rt, rt.alloc());
 }
