@@ -1,7 +1,7 @@
 -- The answers that the machine allows where a device stands.
 use Rattle.dsa_book.specs.declared.answer.Reply.TheVariants as reply
 use Rattle.dsa_book.specs.declared.event.Event.TheVariants as event
-use Rattle.std.specs.Prelude.{◌≡◌, ◌<◌, ℕ, false, true, cond, List, [], ◌∷◌, map, filter_map, Option, Some, None, ⊤}
+use Rattle.std.specs.Prelude.{◌≡◌, ◌<◌, ℕ, false, true, cond, List, [], ◌∷◌, map, filter_map, Option, None, ⊤}
 use Rattle.std.specs.Prelude.{option_map, Result, Ok, All, Contains}
 use Rattle.dsa_base.specs.Numbers.{numbers_below}
 use Rattle.dsa_regs.specs.declared.Fault.{Fault}

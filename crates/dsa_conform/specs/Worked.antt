@@ -1,14 +1,19 @@
 -- Observations and answers that the worked rows speak of.
 use Rattle.dsa_book.specs.declared.answer.Reply.TheVariants as reply
 use Rattle.dsa_book.specs.declared.event.Event.TheVariants as event
-use Rattle.std.specs.Prelude.{ℕ, Bool, false, List, [], ◌∷◌, Some, None, codes}
-use Rattle.dsa_book.specs.declared.answer.{SubmitAnswer.{SubmitAnswer}, DispatchAnswer.TheVariants.{Taken}}
+use Rattle.std.specs.Prelude.{ℕ, Bool, false, List, [], ◌∷◌, ◌++◌, take, Some, None, codes}
+use Rattle.dsa_book.specs.declared.answer.{Ticket.{Ticket}, DispatchAnswer.TheVariants.{Taken}}
+use Rattle.dsa_book.specs.declared.answer.{SubmitAnswer.{SubmitAnswer, TheVariants.{Accepted}}}
+use Rattle.dsa_book.specs.declared.answer.{IssueAnswer.TheVariants.{Ended}, WriteAnswer.TheVariants.{Written}}
 use Rattle.dsa_book.specs.declared.event.{Kind.TheVariants.{Enqcmd, Movdir64b}, Portal.TheVariants.{Limited}}
 use Rattle.dsa_desc.specs.declared.Outcome.TheVariants.{Success}
-use Rattle.dsa_regs.specs.declared.{Command.TheVariants.{EnableDevice, EnableWq}, Fault.TheVariants.{BadCommand}}
+use Rattle.dsa_device.specs.Running.{Running, running_at_first}
+use Rattle.dsa_regs.specs.declared.{Caps.{Caps}, QueueConfig.{QueueConfig}, Fault.TheVariants.{BadCommand}}
+use Rattle.dsa_regs.specs.declared.Command.TheVariants.{EnableDevice, EnableWq}
 use Rattle.dsa_scenario.specs.declared.actions.Action.{Action, TheVariants.{Ask, Finish, Refuse}}
 use Rattle.dsa_scenario.specs.declared.run.Record.{Record}
-use Rattle.dsa_scenario.specs.Worked.{ticket, stepped, fill, queue_of_a_run, group_of_a_run, submission_of_a_run}
+use Rattle.dsa_scenario.specs.{Steps.{standing}, Worked.{ticket, stepped, fill, caps_of_a_run, queue_of_a_run}}
+use Rattle.dsa_scenario.specs.Worked.{group_of_a_run, submission_of_a_run, smallest_caps, smallest_caps_text, document_text}
 use Rattle.dsa_conform.specs.Seen.{Seen}
 
 -- the text of an answer was seen
@@ -21,6 +26,10 @@ flagged flag = record { answer = None; zf = Some flag }
 
 abbrev pub nothing_seen : Seen
 nothing_seen = record { answer = None; zf = None }
+
+-- both were
+abbrev pub answered_with : List ℕ → Bool → Seen
+answered_with text flag = record { answer = Some text; zf = Some flag }
 
 -- answers to a submission
 abbrev pub by_enqcmd : SubmitAnswer → Record
@@ -49,3 +58,58 @@ observed_of_a_run =
     (Ask (event.Dispatch 0), answered (codes "taken from 0")) ∷
     (Finish 0 0 Success, answered (codes "done 01")) ∷
     (Ask event.Poll, answered (codes "full")) ∷ []
+
+-- ---- a device with an entry in each of two queues of one group
+
+abbrev pub caps_of_two_queues : Caps
+caps_of_two_queues = record caps_of_a_run { queues = 2 }
+
+abbrev pub half_queue : QueueConfig
+half_queue = record queue_of_a_run { size = 8 }
+
+-- a Move was accepted in the queue
+abbrev pub accepted_in : ℕ → Ticket → Record
+accepted_in queue ticket = stepped
+    (event.Submit 0 queue Limited (Enqcmd 1) (record { pasid = 0; flags = 0; op = 3; size = 4096 }))
+    (reply.Submit (Accepted ticket))
+
+abbrev pub records_of_two_queues : List Record
+records_of_two_queues =
+    stepped (event.WriteQueue 0 half_queue) (reply.Write Written) ∷
+    stepped (event.WriteQueue 1 half_queue) (reply.Write Written) ∷
+    stepped (event.WriteGroup 0 (record group_of_a_run { queues = 3 })) (reply.Write Written) ∷
+    stepped (event.Issue EnableDevice) (reply.Issue (Ended 0)) ∷
+    stepped (event.Issue (EnableWq 0)) (reply.Issue (Ended 0)) ∷
+    stepped (event.Issue (EnableWq 1)) (reply.Issue (Ended 0)) ∷
+    accepted_in 0 (ticket 3 0) ∷
+    accepted_in 1 (ticket 5 1) ∷ []
+
+-- engine 0 takes the entry of one or the other, or one that is not there
+abbrev pub from_first : Record
+from_first = stepped (event.Dispatch 0) (reply.Dispatch (Taken (ticket 3 0) 0))
+
+abbrev pub from_second : Record
+from_second = stepped (event.Dispatch 0) (reply.Dispatch (Taken (ticket 5 1) 1))
+
+abbrev pub from_third : Record
+from_third = stepped (event.Dispatch 0) (reply.Dispatch (Taken (ticket 7 2) 2))
+
+-- how the device stands after so many of these records, and after all
+abbrev pub after_some : ℕ → Running
+after_some count = standing caps_of_two_queues 9 (take count records_of_two_queues)
+
+abbrev pub after_all : Running
+after_all = standing caps_of_two_queues 9 records_of_two_queues
+
+-- ---- the smallest device
+
+abbrev pub at_first : Running
+at_first = running_at_first smallest_caps 9
+
+-- a document on the smallest device, with these steps
+abbrev pub document_of : List ℕ → List ℕ
+document_of steps = document_text smallest_caps_text (codes "9") steps
+
+-- a poll with a further key
+abbrev pub poll_with : List ℕ → List ℕ
+poll_with field = codes "{\"do\":\"poll\"," ++ field ++ codes "}"

@@ -1,23 +1,28 @@
 //! Worked answers: which of them show what was seen, and what is told, by computation.
 
-ghost use Rattle.std.specs.Prelude.{◌≡◌, ◌++◌, ◌∷◌, [], Some, None, true, false, codes};
+ghost use Rattle.std.specs.Prelude.{◌≡◌, ◌++◌, ◌∷◌, [], Some, None, Ok, Err, true, false, map, codes, replicate};
 ghost use Rattle.serde_json.specs.Data.{null, boolean, string};
 ghost use Rattle.dsa_book.specs.declared.answer.Cause.TheVariants.{AtLimit};
 ghost use Rattle.dsa_book.specs.declared.answer.SubmitAnswer.TheVariants.{Accepted, Retry, Dropped, Full};
 ghost use Rattle.dsa_book.specs.declared.answer.DispatchAnswer.TheVariants.{Taken, Idle};
 ghost use Rattle.dsa_book.specs.declared.answer.FetchAnswer.TheVariants.{Fetched};
 ghost use Rattle.dsa_book.specs.declared.answer.StartAnswer.TheVariants.{Started};
-ghost use Rattle.dsa_book.specs.declared.answer.PollAnswer.TheVariants.{Nothing};
+ghost use Rattle.dsa_book.specs.declared.answer.PollAnswer.TheVariants.{Active, Nothing};
 ghost use Rattle.dsa_book.specs.declared.answer.Reply.TheVariants as reply;
 ghost use Rattle.dsa_book.specs.declared.event.Event.TheVariants as event;
 ghost use Rattle.dsa_book.specs.declared.event.Kind.TheVariants.{Enqcmd, Movdir64b};
-ghost use Rattle.dsa_regs.specs.declared.Fault.TheVariants.{BadCommand};
+ghost use Rattle.dsa_regs.specs.declared.Fault.TheVariants.{BadCommand, Busy};
+ghost use Rattle.dsa_device.specs.Running.{running_at_first};
+ghost use Rattle.dsa_scenario.specs.declared.actions.Action.TheVariants.{Ask, Refuse};
+ghost use Rattle.dsa_scenario.specs.declared.faults.ScenarioFault.TheVariants.{BadStep, BadCaps, Differs};
 ghost use Rattle.dsa_scenario.specs.declared.run.Record.TheVariants.{Refused};
-ghost use Rattle.dsa_scenario.specs.Worked.{whole, object_of, poll_step, ticket, stepped, fill, caps_of_a_run, actions_of_a_run, records_of_a_run};
-ghost use Rattle.dsa_conform.specs.Seen.{seen_of, shows};
-ghost use Rattle.dsa_conform.specs.Lines.{conforms_text, difference_text};
-ghost use Rattle.dsa_conform.specs.Run.{IsShownRun};
-ghost use Rattle.dsa_conform.specs.Worked.{answered, flagged, nothing_seen, by_enqcmd, by_movdir, observed_of_a_run, taken, idle_words};
+ghost use Rattle.dsa_scenario.specs.Worked.{whole, object_of, poll_step, ticket, stepped, fill, smallest_caps, caps_of_a_run, records_of_a_run};
+ghost use Rattle.dsa_conform.specs.declared.following.Followed.TheVariants.{Shown};
+ghost use Rattle.dsa_conform.specs.Seen.{seen_of, observation_of, shows, is_seen, AreShown};
+ghost use Rattle.dsa_conform.specs.Allowed.{IsAllowed, AreAllowed, NoneShows, IsFollowed, offers, queue_taken};
+ghost use Rattle.dsa_conform.specs.Lines.{conforms_text, seen_count, seen_line, difference_text, difference_of, records_of};
+ghost use Rattle.dsa_conform.specs.Run.{IsShownRun, IsConformance};
+ghost use Rattle.dsa_conform.specs.Worked.{answered, flagged, answered_with, nothing_seen, by_enqcmd, by_movdir, observed_of_a_run, taken, idle_words, from_first, from_second, from_third, after_some, after_all, at_first, document_of, poll_with};
 
 /// What a step object says was seen.
 pub fn observations()
@@ -27,6 +32,16 @@ pub fn observations()
     ensures number { seen_of (object_of ((codes "answer", whole 1) ∷ poll_step)) ≡ None }
     ensures no_null { seen_of (object_of ((codes "answer", null) ∷ poll_step)) ≡ None }
     ensures no_flag { seen_of (object_of ((codes "zf", string (codes "true")) ∷ poll_step)) ≡ None }
+    ensures both { seen_of (object_of ((codes "answer", string (codes "full")) ∷ (codes "zf", boolean false) ∷ poll_step)) ≡ Some (answered_with (codes "full") false) }
+    ensures step { observation_of (object_of ((codes "zf", boolean false) ∷ poll_step)) ≡ Some (Ask event.Poll, flagged false) }
+    ensures no_step { observation_of (object_of ((codes "zf", boolean false) ∷ [])) ≡ None }
+    ensures unread { observation_of (object_of ((codes "zf", null) ∷ poll_step)) ≡ None }
+{}
+
+/// Steps of which nothing was seen are not counted.
+pub fn counts()
+    ensures seen { map is_seen (nothing_seen ∷ answered [] ∷ flagged false ∷ answered_with [] true ∷ []) ≡ false ∷ replicate 3 true }
+    ensures of_a_run { seen_count observed_of_a_run ≡ 7 }
 {}
 
 /// Lines, with and without names.
@@ -35,14 +50,17 @@ pub fn lines()
     ensures accepted { shows (answered (codes "accepted 12")) (by_enqcmd (Accepted (ticket 3 12))) ≡ true }
     ensures nameless { shows (answered (codes "accepted")) (by_enqcmd (Accepted (ticket 3 12))) ≡ true }
     ensures other_name { shows (answered (codes "accepted 13")) (by_enqcmd (Accepted (ticket 3 12))) ≡ false }
+    ensures more { shows (answered (codes "accepted 12 ")) (by_enqcmd (Accepted (ticket 3 12))) ≡ false }
     ensures other_kind { shows (answered (codes "retry at-limit")) (by_enqcmd (Accepted (ticket 3 12))) ≡ false }
     ensures half { shows (answered (codes "retry")) (by_enqcmd (Retry AtLimit)) ≡ false }
     ensures taken { shows (answered (codes "taken 7 from 1")) (taken 7 1) ≡ true }
     ensures taken_nameless { shows (answered (codes "taken from 1")) (taken 7 1) ≡ true }
     ensures other_queue { shows (answered (codes "taken from 0")) (taken 7 1) ≡ false }
+    ensures no_queue { shows (answered (codes "taken 7")) (taken 7 1) ≡ false }
     ensures fetched { shows (answered (codes "fetched")) (stepped (event.Fetch 0 fill) (reply.Fetch (Fetched (ticket 1 2)))) ≡ true }
     ensures started { shows (answered (codes "started")) (stepped (event.Start 0) (reply.Start (Started (ticket 1 2)))) ≡ true }
     ensures refused { shows (answered (codes "refused 13 BadCommand")) (Refused BadCommand) ≡ true }
+    ensures other_fault { shows (answered (codes "refused 13 BadCommand")) (Refused Busy) ≡ false }
     ensures anything { shows nothing_seen (taken 7 1) ≡ true }
 {}
 
@@ -56,21 +74,75 @@ pub fn flags()
     ensures posted { shows (flagged false) (by_movdir (Accepted (ticket 3 12))) ≡ false }
     ensures full { shows (flagged true) (by_enqcmd Full) ≡ false }
     ensures no_submission { shows (flagged true) (taken 7 1) ≡ false }
+    ensures with_its_line { shows (answered_with (codes "accepted") false) (by_enqcmd (Accepted (ticket 3 12))) ≡ true }
+    ensures with_another_line { shows (answered_with (codes "retry at-limit") false) (by_enqcmd (Accepted (ticket 3 12))) ≡ false }
+    ensures line_with_another { shows (answered_with (codes "accepted") true) (by_enqcmd (Accepted (ticket 3 12))) ≡ false }
 {}
 
-/// A run from set-up to its end conforms.
+/// An engine may take the front of each queue that qualifies, in ascending order.
+pub fn offered()
+    ensures both { offers after_all.state.work 0 ≡ from_first ∷ from_second ∷ [] }
+    ensures one { offers (after_some 7).state.work 0 ≡ from_first ∷ [] }
+    ensures none { offers (after_some 6).state.work 0 ≡ [] }
+    ensures queues { map queue_taken (from_second ∷ Refused BadCommand ∷ by_enqcmd Full ∷ []) ≡ 1 ∷ 0 ∷ 0 ∷ [] }
+{}
+
+/// What may be answered where an engine may take from either of two queues, and which lists tell all of it.
+#[tactic(auto, unfolding(dsa_scenario::specs::Worked::digits_on_literals))]
+pub fn allowed()
+    ensures first { IsAllowed after_all (Ok (event.Dispatch 0)) from_first }
+    ensures second { IsAllowed after_all (Ok (event.Dispatch 0)) from_second }
+    ensures idle { ¬ IsAllowed after_all (Ok (event.Dispatch 0)) (stepped (event.Dispatch 0) (reply.Dispatch Idle)) }
+    ensures other_event { ¬ IsAllowed after_all (Ok (event.Dispatch 0)) (stepped event.Poll (reply.Poll Nothing)) }
+    ensures left_out { ¬ AreAllowed after_all (Ok (event.Dispatch 0)) (from_first ∷ []) }
+    ensures order { ¬ AreAllowed after_all (Ok (event.Dispatch 0)) (from_second ∷ from_first ∷ []) }
+    ensures not_there { ¬ AreAllowed after_all (Ok (event.Dispatch 0)) (from_first ∷ from_second ∷ from_third ∷ []) }
+    ensures shown { ¬ NoneShows after_all (Ok (event.Dispatch 0)) (answered (codes "taken from 1")) }
+{}
+
+/// A device goes on by an answer to what was asked that shows what was seen.
+#[tactic(auto, unfolding(dsa_scenario::specs::Worked::digits_on_literals))]
+pub fn followed()
+    ensures step { IsFollowed at_first (Ok event.Poll) (answered (codes "nothing")) at_first (Shown (stepped event.Poll (reply.Poll Nothing))) }
+    ensures refused { IsFollowed at_first (Err BadCommand) (answered (codes "refused 13 BadCommand")) at_first (Shown (Refused BadCommand)) }
+    ensures not_seen { ¬ IsFollowed at_first (Err BadCommand) (answered (codes "nothing")) at_first (Shown (Refused BadCommand)) }
+    ensures not_asked { ¬ IsFollowed at_first (Ok event.Poll) (answered (codes "refused 13 BadCommand")) at_first (Shown (Refused BadCommand)) }
+    ensures not_allowed { ¬ IsFollowed at_first (Ok event.Poll) (answered (codes "active")) at_first (Shown (stepped event.Poll (reply.Poll Active))) }
+    ensures another_state { ¬ IsFollowed at_first (Err BadCommand) nothing_seen (running_at_first smallest_caps 8) (Shown (Refused BadCommand)) }
+{}
+
+/// A run from set-up to its end conforms. No other answers do, nor more or fewer than were seen.
 #[tactic(auto, unfolding(dsa_scenario::specs::Worked::digits_on_literals))]
 pub fn a_run()
-    ensures { IsShownRun caps_of_a_run 7 observed_of_a_run records_of_a_run }
+    ensures conforms { IsShownRun caps_of_a_run 7 observed_of_a_run records_of_a_run }
+    ensures fewer { ¬ AreShown (nothing_seen ∷ []) [] }
+    ensures more { ¬ AreShown [] (Refused BadCommand ∷ []) }
+    ensures not_shown { ¬ IsShownRun smallest_caps 9 ((Refuse BadCommand, answered (codes "nothing")) ∷ []) (Refused BadCommand ∷ []) }
+    ensures not_asked { ¬ IsShownRun smallest_caps 9 ((Ask event.Poll, nothing_seen) ∷ []) (Refused BadCommand ∷ []) }
+    ensures not_allowed { ¬ IsShownRun smallest_caps 9 ((Ask event.Poll, answered (codes "active")) ∷ []) (stepped event.Poll (reply.Poll Active) ∷ []) }
 {}
 
 /// What is told.
 #[tactic(auto, unfolding(dsa_scenario::specs::Worked::digits_on_literals))]
 pub fn texts()
     ensures conforms { conforms_text 9 4 ≡ codes "conforms: 9 steps, 4 answers seen\n" }
-    ensures idle { difference_text 17 (answered (codes "idle")) idle_words (taken 7 0 ∷ taken 9 2 ∷ [])
-        ≡ codes "step 17: dispatch e0\nseen: idle\nallowed: taken 7 from 0\nallowed: taken 9 from 2\n" }
-    ensures poll { difference_text 3 (answered (codes "active")) (codes ": no command is active") (stepped event.Poll (reply.Poll Nothing) ∷ [])
-        ≡ codes "step 3: poll\nseen: active\nallowed: nothing: no command is active\n" }
+    ensures idle { difference_text 17 (answered (codes "idle")) idle_words (taken 7 0 ∷ taken 9 2 ∷ []) ≡ codes "step 17: dispatch e0\nseen: idle\nallowed: taken 7 from 0\nallowed: taken 9 from 2\n" }
+    ensures poll { difference_text 3 (answered (codes "active")) (codes ": no command is active") (stepped event.Poll (reply.Poll Nothing) ∷ []) ≡ codes "step 3: poll\nseen: active\nallowed: nothing: no command is active\n" }
+    ensures both { seen_line (answered_with (codes "accepted 3") false) ≡ codes "seen: accepted 3, zf false\n" }
+    ensures none { difference_text 3 (answered (codes "active")) [] [] ≡ [] }
+    ensures goes_on { difference_of 3 nothing_seen [] (Shown (taken 7 0)) ≡ None }
+    ensures record { records_of (Shown (taken 7 0)) ≡ taken 7 0 ∷ [] }
     ensures flag { difference_text 0 (flagged true) [] (Refused BadCommand ∷ []) ≡ codes "step 0: command\nseen: zf true\nallowed: refused 13 BadCommand\n" }
+{}
+
+/// Documents, with what is told of each.
+#[tactic(auto, unfolding(serde_json::proofs::OnLiterals::serde_json_on_literals, dsa_scenario::specs::Worked::digits_on_literals))]
+pub fn documents()
+    ensures no_steps { IsConformance (document_of []) None (codes "conforms: 0 steps, 0 answers seen\n") }
+    ensures conforms { IsConformance (document_of (poll_with (codes "\"answer\":\"nothing\""))) None (codes "conforms: 1 steps, 1 answers seen\n") }
+    ensures differs { IsConformance (document_of (poll_with (codes "\"answer\":\"active\""))) (Some (Differs 0)) (codes "step 0: poll\nseen: active\nallowed: nothing: no command is active\n") }
+    ensures unread { IsConformance (document_of (poll_with (codes "\"zf\":true") ++ codes "," ++ poll_with (codes "\"zf\":1"))) (Some (BadStep 1)) [] }
+    ensures second { ¬ IsConformance (document_of (codes "1,2")) (Some (BadStep 1)) [] }
+    ensures unread_with_a_text { ¬ IsConformance (document_of (codes "1")) (Some (BadStep 0)) (codes "1") }
+    ensures other_fault { ¬ IsConformance (document_of []) (Some BadCaps) [] }
 {}

@@ -1,26 +1,47 @@
 //! Worked lines and answers: what the definitions say at chosen values, by computation.
 
-ghost use Rattle.std.specs.Prelude.{◌≡◌, [], ◌∷◌, codes};
+ghost use Rattle.std.specs.Prelude.{◌≡◌, ℕ, List, [], ◌∷◌, true, false, length, codes};
 ghost use Rattle.dsa_regs.specs.declared.Fault.TheVariants.{BadCommand};
 ghost use Rattle.dsa_book.specs.declared.event.Event.TheVariants.{Poll};
+ghost use Rattle.dsa_book.specs.State.{opening};
 ghost use Rattle.dsa_scenario.specs.declared.actions.Action.TheVariants.{Ask, Refuse};
 ghost use Rattle.dsa_scenario.specs.Steps.{visits};
 ghost use Rattle.dsa_scenario.specs.Worked.{object_of, poll_step, step_of_kind, whole, smallest_caps};
-ghost use Rattle.dsa_serve.specs.declared.requests.LineFault.TheVariants.{NotJson, NoStep};
+ghost use Rattle.dsa_serve.specs.declared.requests.LineFault.TheVariants.{NotJson, NoStep, TooLong};
 ghost use Rattle.dsa_serve.specs.declared.requests.Request.TheVariants.{Step, Explain, Fault};
-ghost use Rattle.dsa_serve.specs.Requests.{request_of, actions_of, Asks};
-ghost use Rattle.dsa_serve.specs.Answers.{answers};
-ghost use Rattle.dsa_serve.specs.Input.{with_rest};
-ghost use Rattle.dsa_serve.specs.Worked.{explain_around, requests_of_a_dialogue, records_of_a_dialogue, lines_of_a_dialogue};
+ghost use Rattle.dsa_serve.specs.Requests.{request_of, actions_of, Asks, AreAsked};
+ghost use Rattle.dsa_serve.specs.Answers.{answers, fault_text, IsAnswered};
+ghost use Rattle.dsa_serve.specs.Input.{IsLine, AreLines, with_rest, IsFront};
+ghost use Rattle.dsa_serve.specs.Dialogue.{IsDialogue};
+ghost use Rattle.dsa_serve.specs.Worked.{explain_around, requests_of_a_dialogue, records_of_a_dialogue, lines_of_a_dialogue, poll_line, explained_poll_line, first_line};
 
 /// A step object asks its step, and `explain` around one its explanation. Nothing else asks anything.
 pub fn requests()
     ensures step { request_of (object_of poll_step) ≡ Step (Ask Poll) }
     ensures explained { request_of (explain_around (object_of poll_step)) ≡ Explain (Ask Poll) }
     ensures twice { request_of (explain_around (explain_around (object_of poll_step))) ≡ Fault NoStep }
+    ensures other_word { request_of (object_of (step_of_kind (codes "explains") ((codes "step", object_of poll_step) ∷ []))) ≡ Fault NoStep }
     ensures around_nothing { request_of (object_of (step_of_kind (codes "explain") [])) ≡ Fault NoStep }
     ensures other_kind { request_of (object_of (step_of_kind (codes "submit") [])) ≡ Fault NoStep }
     ensures no_object { request_of (whole 1) ≡ Fault NoStep }
+{}
+
+/// What lines ask, and which fault a line has.
+#[tactic(auto, unfolding(serde_json::proofs::OnLiterals::serde_json_on_literals))]
+pub fn lines()
+    ensures step { Asks poll_line (Step (Ask Poll)) }
+    ensures explained { Asks explained_poll_line (Explain (Ask Poll)) }
+    ensures no_step { Asks (codes "{}") (Fault NoStep) }
+    ensures cut { Asks (codes "{") (Fault NotJson) }
+    ensures too_long { (line : List ℕ) → length line ≡ 1_048_577 → Asks line (Fault TooLong) }
+    ensures json { ¬ Asks (codes "{}") (Fault NotJson) }
+    ensures not_asked { ¬ Asks (codes "{}") (Step (Ask Poll)) }
+    ensures longest { (line : List ℕ) → length line ≡ 1_048_576 → ¬ Asks line (Fault TooLong) }
+    ensures too_long_for_a_step { (line : List ℕ) → length line ≡ 1_048_577 → ¬ Asks line (Step (Ask Poll)) }
+    ensures too_long_to_be_read { (line : List ℕ) → length line ≡ 1_048_577 → ¬ Asks line (Fault NotJson) }
+    ensures each { AreAsked (poll_line ∷ codes "{" ∷ []) (Step (Ask Poll) ∷ Fault NotJson ∷ []) }
+    ensures fewer { ¬ AreAsked (codes "{" ∷ []) [] }
+    ensures more { ¬ AreAsked [] (Fault NotJson ∷ []) }
 {}
 
 /// A step after a fault is the next one, and each line has its answer.
@@ -28,6 +49,31 @@ pub fn requests()
 pub fn a_dialogue()
     ensures steps { actions_of requests_of_a_dialogue ≡ Refuse BadCommand ∷ Ask Poll ∷ Ask Poll ∷ [] }
     ensures answers { answers requests_of_a_dialogue (visits smallest_caps 9 [] records_of_a_dialogue) ≡ lines_of_a_dialogue }
+    ensures too_long { fault_text TooLong ≡ codes "fault line too long" }
+    ensures answered { IsAnswered requests_of_a_dialogue (visits smallest_caps 9 [] records_of_a_dialogue) lines_of_a_dialogue }
+    ensures not_answered { ¬ IsAnswered (Fault NoStep ∷ []) [] [] }
+    ensures without_its_step { ¬ IsAnswered (Step (Ask Poll) ∷ []) [] [] }
+{}
+
+/// A first line, and those behind it. The steps of the document come before what the lines ask.
+#[tactic(auto, unfolding(serde_json::proofs::OnLiterals::serde_json_on_literals, dsa_scenario::specs::Worked::digits_on_literals))]
+pub fn dialogues()
+    ensures no_lines { IsDialogue (first_line []) [] (opening smallest_caps) [] }
+    ensures lines { IsDialogue (first_line poll_line) (codes "{" ∷ explained_poll_line ∷ []) (opening smallest_caps) (codes "nothing\nfault not JSON\n1 poll -> nothing: no command is active\n") }
+{}
+
+/// An input in lines, each with its line feed, and the rest of one.
+pub fn inputs()
+    ensures line { IsLine (codes "12") }
+    ensures two_lines { ¬ IsLine (codes "1\n2") }
+    ensures lines { AreLines (codes "1\n\n2") (codes "1" ∷ [] ∷ []) (codes "2") }
+    ensures without_line_feed { ¬ AreLines (codes "1") (codes "1" ∷ []) [] }
+    ensures line_feed_within { ¬ AreLines (codes "1\n2\n") (codes "1\n2" ∷ []) [] }
+    ensures line_feed_in_the_rest { ¬ AreLines (codes "1\n") [] (codes "1\n") }
+    ensures front { IsFront false (codes "1\n2") (codes "1") (codes "2") }
+    ensures front_alone { IsFront true (codes "1") (codes "1") [] }
+    ensures front_without_line_feed { ¬ IsFront false (codes "12") (codes "1") (codes "2") }
+    ensures front_is_all { ¬ IsFront true (codes "1\n2") (codes "1") (codes "2") }
 {}
 
 /// The rest of a line counts at the end of input if it has a byte.

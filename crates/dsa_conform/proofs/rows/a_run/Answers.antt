@@ -1,0 +1,28 @@
+use Rattle.dsa_conform.proofs.rows.a_run.Goals as goal
+use Rattle.std.{proofs.Common.{refl}, specs.Fmt.{digits}}
+
+pub returns-clause-conforms : goal.returns-clause-conforms
+unfolding digits
+returns-clause-conforms c = record {
+  of_actions = (refl, (refl, (refl, (refl, (refl, (refl, (refl, (refl, (refl, tt)))))))));
+  run = refl;
+  shown = (refl, (refl, (refl, (refl, (refl, (refl, (refl, (refl, (refl, tt)))))))));
+}
+
+pub returns-clause-not_shown : goal.returns-clause-not_shown
+unfolding digits
+returns-clause-not_shown c is =
+    let shown = is.shown.0 in
+    absurd cc
+
+pub returns-clause-not_asked : goal.returns-clause-not_asked
+unfolding digits
+returns-clause-not_asked c is =
+    let asked = is.of_actions.0 in
+    absurd cc
+
+pub returns-clause-not_allowed : goal.returns-clause-not_allowed
+unfolding digits
+returns-clause-not_allowed c is =
+    let run = is.run in
+    absurd cc

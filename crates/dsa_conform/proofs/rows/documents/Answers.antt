@@ -1,0 +1,179 @@
+use Rattle.dsa_conform.proofs.rows.documents.Goals as goal
+use Rattle.dsa_book.specs.declared.answer.Reply.TheVariants as reply
+use Rattle.dsa_book.specs.declared.event.Event.TheVariants as event
+use Rattle.dsa_book.specs.declared.answer.PollAnswer.TheVariants as poll
+use Rattle.std.proofs.Common.{◌≡◌, ◌∙◌, ◌++◌, ℕ, true, false, List, [], ◌∷◌, Some, None, Ok, map, take, codes, refl, ap}
+use Rattle.std.proofs.Common.{subst, arith, lit≤}
+use Rattle.std.specs.{Prelude.{Contains}, Fmt.{digits}, Option.{option_map_or}}
+use Rattle.std.proofs.lemmas.List.Elements.{All-nil, All-cons, Contains-push}
+use Rattle.serde_json.{specs.{Data.{Data, Items}, Read.{read}}, proofs.OnLiterals.{serde_json_on_literals}}
+use Rattle.dsa_regs.specs.declared.Caps.{Caps}
+use Rattle.dsa_book.specs.declared.{event.Event.{Event}, answer.Reply.{Reply}}
+use Rattle.dsa_answers.proofs.Choices.{replies-alike}
+use Rattle.dsa_device.{specs.Running.{Running, after_answer}, proofs.Steps.{answered_by_cases}}
+use Rattle.dsa_scenario.specs.declared.{actions.Action.{Action, TheVariants.{Ask}}, run.Record.{Record}}
+use Rattle.dsa_scenario.specs.declared.run.Record.TheVariants.{Stepped, Refused}
+use Rattle.dsa_scenario.specs.{Document.{HasHead, head_of, list_of}, Lines.{record_text}, Run.{answered_by}}
+use Rattle.dsa_scenario.specs.Worked.{smallest_caps, stepped}
+use Rattle.dsa_conform.specs.Allowed.{IsAllowed}
+use Rattle.dsa_conform.specs.Seen.{Seen, observation_of, shows}
+use Rattle.dsa_conform.specs.Worked.{answered, flagged, at_first, document_of, poll_with}
+
+-- a device before its first step answers a poll so, and in no other way
+abbrev nothing : Record
+nothing = stepped event.Poll (reply.Poll poll.Nothing)
+
+is_nothing : IsAllowed at_first (Ok event.Poll) nothing
+is_nothing = record { answers = refl; after = _; leads = refl }
+
+same_step : (e : Event) (answer : Reply) (after : Running) → answered_by (stepped e answer) ≡ Ok event.Poll
+    → after_answer at_first e answer ≡ Some after → nothing ≡ stepped e answer
+same_step event.Poll answer after asked leads =
+    answered_by_cases (λ d. nothing ≡ stepped event.Poll answer) at_first after event.Poll answer leads
+    (λ full first. absurd cc)
+    (λ s room follows. ap (stepped event.Poll)
+    (replies-alike at_first.state at_first.state s event.Poll (reply.Poll poll.Nothing) answer refl follows))
+same_step _ answer after asked leads = absurd cc
+
+only_nothing : (entry : Record) → IsAllowed at_first (Ok event.Poll) entry → nothing ≡ entry
+only_nothing (Refused fault) is = absurd (let other = is.answers in cc)
+only_nothing (Stepped step) is = same_step step.event step.reply is.after is.answers is.leads
+
+pub returns-clause-no_steps : goal.returns-clause-no_steps
+unfolding serde_json_on_literals digits
+returns-clause-no_steps c = record {
+  caps = smallest_caps;
+  capacity = _;
+  steps = [];
+  head = record {
+    document = _;
+    items = _;
+    json = record { utf8 = (document_of [], (refl, refl)); value = refl };
+    head = refl;
+    listed = refl;
+  };
+  good = refl;
+  small = lit≤ tt;
+  verdict = record {
+    observed = [];
+    read = refl;
+    records = [];
+    run = record { of_actions = tt; run = refl; shown = tt };
+    told = refl;
+  };
+}
+
+pub returns-clause-conforms : goal.returns-clause-conforms
+unfolding serde_json_on_literals digits
+returns-clause-conforms c = record {
+  caps = smallest_caps;
+  capacity = _;
+  steps = _;
+  head = record {
+    document = _;
+    items = _;
+    json = record { utf8 = (document_of (poll_with (codes "\"answer\":\"nothing\"")), (refl, refl)); value = refl };
+    head = refl;
+    listed = refl;
+  };
+  good = refl;
+  small = lit≤ tt;
+  verdict = record {
+    observed = (Ask event.Poll, answered (codes "nothing")) ∷ [];
+    read = refl;
+    records = nothing ∷ [];
+    run = record { of_actions = (refl, tt); run = refl; shown = (refl, tt) };
+    told = refl;
+  };
+}
+
+pub returns-clause-differs : goal.returns-clause-differs
+unfolding serde_json_on_literals digits
+returns-clause-differs c = record {
+  caps = smallest_caps;
+  capacity = _;
+  steps = _;
+  head = record {
+    document = _;
+    items = _;
+    json = record { utf8 = (document_of (poll_with (codes "\"answer\":\"active\"")), (refl, refl)); value = refl };
+    head = refl;
+    listed = refl;
+  };
+  good = refl;
+  small = lit≤ tt;
+  verdict = record {
+    observed = (Ask event.Poll, answered (codes "active")) ∷ [];
+    read = refl;
+    here = _;
+    at = refl;
+    differs = record {
+      records = [];
+      run = record { of_actions = tt; run = refl; shown = tt };
+      refused = record {
+        allowed = nothing ∷ [];
+        all = record {
+          each = All-cons (IsAllowed at_first (Ok event.Poll)) nothing [] is_nothing (All-nil (IsAllowed at_first (Ok event.Poll)));
+          all = λ entry is. subst (λ other. Contains (record_text nothing ∷ []) (record_text other)) (only_nothing entry is)
+              (Contains-push [] (record_text nothing));
+          order = (λ k d below. absurd (omega (arith, below)), tt);
+        };
+        none = λ entry is. subst (λ other. shows (answered (codes "active")) other ≡ false) (only_nothing entry is) refl;
+        told = refl;
+      };
+    };
+  };
+}
+
+pub returns-clause-unread : goal.returns-clause-unread
+unfolding serde_json_on_literals digits
+returns-clause-unread c =
+    let text = document_of (poll_with (codes "\"zf\":true") ++ codes "," ++ poll_with (codes "\"zf\":1")) in
+    let head : HasHead text smallest_caps 9 _ = record {
+      document = _;
+      items = _;
+      json = record { utf8 = (text, (refl, refl)); value = refl };
+      head = refl;
+      listed = refl;
+    } in (
+      record {
+        caps = smallest_caps;
+        capacity = _;
+        steps = _;
+        head = head;
+        bad = record { done = (Ask event.Poll, flagged true) ∷ []; before = refl; here = refl };
+      },
+      refl,
+    )
+
+-- what is read of a document
+abbrev Head : Type 0
+Head = Caps × ℕ × Items
+
+-- the head of a text is that of what it reads as
+same_head : (text : List ℕ) (d : Data) (caps : Caps) (capacity : ℕ) (steps : List Data) → read text ≡ Some d
+    → (has : HasHead text caps capacity steps) → head_of d ≡ Some (caps, capacity, has.items)
+same_head text d caps capacity steps e has =
+    let value = has.json.value in
+    let same : d ≡ has.document = cc in
+    ap head_of same ∙ has.head
+
+-- what is no observation is not read as one
+not_read : (done : List (Action × Seen)) → None ∷ [] ≡ map Some done → ⊥
+not_read [] e = absurd cc
+not_read (o ∷ done) e = absurd cc
+
+pub returns-clause-second : goal.returns-clause-second
+unfolding serde_json_on_literals digits
+returns-clause-second c is =
+    let head = same_head (document_of (codes "1,2")) _ _ _ _ refl is.0.head in
+    let steps = ap (λ o. option_map_or (λ (h : Head). list_of h.2) o []) head ∙ is.0.head.listed in
+    not_read is.0.bad.done (ap (λ (l : List Data). map observation_of (take 1 l)) steps ∙ is.0.bad.before)
+
+pub returns-clause-unread_with_a_text : goal.returns-clause-unread_with_a_text
+returns-clause-unread_with_a_text c is =
+    let text = is.1 in
+    absurd cc
+
+pub returns-clause-other_fault : goal.returns-clause-other_fault
+returns-clause-other_fault c is = is.verdict

@@ -1,0 +1,16 @@
+use Rattle.dsa_serve.proofs.rows.a_dialogue.Goals as goal
+use Rattle.std.{proofs.Common.{refl}, specs.Fmt.{digits}}
+
+pub returns-clause-answered : goal.returns-clause-answered
+unfolding digits
+returns-clause-answered c = record { count = refl; answered = refl }
+
+pub returns-clause-not_answered : goal.returns-clause-not_answered
+returns-clause-not_answered c is =
+    let answered = is.answered in
+    absurd cc
+
+pub returns-clause-without_its_step : goal.returns-clause-without_its_step
+returns-clause-without_its_step c is =
+    let count = is.count in
+    absurd cc
