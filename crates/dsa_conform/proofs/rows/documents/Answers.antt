@@ -2,9 +2,9 @@ use Rattle.dsa_conform.proofs.rows.documents.Goals as goal
 use Rattle.dsa_book.specs.declared.answer.Reply.TheVariants as reply
 use Rattle.dsa_book.specs.declared.event.Event.TheVariants as event
 use Rattle.dsa_book.specs.declared.answer.PollAnswer.TheVariants as poll
-use Rattle.std.proofs.Common.{◌≡◌, ◌∙◌, ◌++◌, ℕ, true, false, List, [], ◌∷◌, Some, None, Ok, map, take, codes, refl, ap}
+use Rattle.std.proofs.Common.{◌≡◌, ◌∙◌, ◌++◌, ℕ, true, false, List, [], ◌∷◌, Some, None, Ok, length, map, take, codes, refl, ap}
 use Rattle.std.proofs.Common.{subst, arith, lit≤}
-use Rattle.std.specs.{Prelude.{Contains}, Fmt.{digits}, Option.{option_map_or}}
+use Rattle.std.specs.{Prelude.{Contains, encode_utf8_all}, Str.{all_scalars}, Fmt.{digits}, Option.{option_map_or}}
 use Rattle.std.proofs.lemmas.List.Elements.{All-nil, All-cons, Contains-push}
 use Rattle.serde_json.{specs.{Data.{Data, Items}, Read.{read}}, proofs.OnLiterals.{serde_json_on_literals}}
 use Rattle.dsa_regs.specs.declared.Caps.{Caps}
@@ -17,6 +17,8 @@ use Rattle.dsa_scenario.specs.{Document.{HasHead, head_of, list_of}, Lines.{reco
 use Rattle.dsa_scenario.specs.Worked.{smallest_caps, stepped}
 use Rattle.dsa_conform.specs.Allowed.{IsAllowed}
 use Rattle.dsa_conform.specs.Seen.{Seen, observation_of, shows}
+use Rattle.dsa_conform.specs.Lines.{conforms_text, seen_count}
+use Rattle.dsa_conform.specs.Run.{AreRead, IsShownRun, IsConformance}
 use Rattle.dsa_conform.specs.Worked.{answered, flagged, at_first, document_of, poll_with}
 
 -- a device before its first step answers a poll so, and in no other way
@@ -39,53 +41,43 @@ only_nothing : (entry : Record) → IsAllowed at_first (Ok event.Poll) entry →
 only_nothing (Refused fault) is = absurd (let other = is.answers in cc)
 only_nothing (Stepped step) is = same_step step.event step.reply is.after is.answers is.leads
 
-pub returns-clause-no_steps : goal.returns-clause-no_steps
-unfolding serde_json_on_literals digits
-returns-clause-no_steps c = record {
+-- a document on the smallest device, by what its text reads as
+has_head : (text : List ℕ) (d : Data) (items : Items) → all_scalars text ≡ true → encode_utf8_all text ≡ text
+    → read text ≡ Some d → head_of d ≡ Some (smallest_caps, 9, items) → HasHead text smallest_caps 9 (list_of items)
+has_head text d items characters bytes value head = record {
+  document = d;
+  items = items;
+  json = record { utf8 = (text, (characters, bytes)); value = value };
+  head = head;
+  listed = refl;
+}
+
+-- and it conforms, by a run that shows what was seen
+conforming : (text : List ℕ) (steps : List Data) (observed : List (Action × Seen)) (records : List Record)
+    → HasHead text smallest_caps 9 steps → AreRead steps observed → IsShownRun smallest_caps 9 observed records
+    → IsConformance text None (conforms_text (length observed) (seen_count observed))
+conforming text steps observed records head read run = record {
   caps = smallest_caps;
-  capacity = _;
-  steps = [];
-  head = record {
-    document = _;
-    items = _;
-    json = record { utf8 = (document_of [], (refl, refl)); value = refl };
-    head = refl;
-    listed = refl;
-  };
+  capacity = 9;
+  steps = steps;
+  head = head;
   good = refl;
   small = lit≤ tt;
-  verdict = record {
-    observed = [];
-    read = refl;
-    records = [];
-    run = record { of_actions = tt; run = refl; shown = tt };
-    told = refl;
-  };
+  verdict = record { observed = observed; read = read; records = records; run = run; told = refl };
 }
+
+pub returns-clause-no_steps : goal.returns-clause-no_steps
+unfolding serde_json_on_literals digits
+returns-clause-no_steps c =
+    conforming (document_of []) [] [] [] (has_head (document_of []) _ _ refl refl refl refl) refl
+    (record { of_actions = tt; run = refl; shown = tt })
 
 pub returns-clause-conforms : goal.returns-clause-conforms
 unfolding serde_json_on_literals digits
-returns-clause-conforms c = record {
-  caps = smallest_caps;
-  capacity = _;
-  steps = _;
-  head = record {
-    document = _;
-    items = _;
-    json = record { utf8 = (document_of (poll_with (codes "\"answer\":\"nothing\"")), (refl, refl)); value = refl };
-    head = refl;
-    listed = refl;
-  };
-  good = refl;
-  small = lit≤ tt;
-  verdict = record {
-    observed = (Ask event.Poll, answered (codes "nothing")) ∷ [];
-    read = refl;
-    records = nothing ∷ [];
-    run = record { of_actions = (refl, tt); run = refl; shown = (refl, tt) };
-    told = refl;
-  };
-}
+returns-clause-conforms c =
+    let text = document_of (poll_with (codes "\"answer\":\"nothing\"")) in
+    conforming text _ ((Ask event.Poll, answered (codes "nothing")) ∷ []) (nothing ∷ [])
+    (has_head text _ _ refl refl refl refl) refl (record { of_actions = (refl, tt); run = refl; shown = (refl, tt) })
 
 pub returns-clause-differs : goal.returns-clause-differs
 unfolding serde_json_on_literals digits
@@ -93,13 +85,7 @@ returns-clause-differs c = record {
   caps = smallest_caps;
   capacity = _;
   steps = _;
-  head = record {
-    document = _;
-    items = _;
-    json = record { utf8 = (document_of (poll_with (codes "\"answer\":\"active\"")), (refl, refl)); value = refl };
-    head = refl;
-    listed = refl;
-  };
+  head = has_head (document_of (poll_with (codes "\"answer\":\"active\""))) _ _ refl refl refl refl;
   good = refl;
   small = lit≤ tt;
   verdict = record {
@@ -127,24 +113,17 @@ returns-clause-differs c = record {
 
 pub returns-clause-unread : goal.returns-clause-unread
 unfolding serde_json_on_literals digits
-returns-clause-unread c =
-    let text = document_of (poll_with (codes "\"zf\":true") ++ codes "," ++ poll_with (codes "\"zf\":1")) in
-    let head : HasHead text smallest_caps 9 _ = record {
-      document = _;
-      items = _;
-      json = record { utf8 = (text, (refl, refl)); value = refl };
-      head = refl;
-      listed = refl;
-    } in (
-      record {
-        caps = smallest_caps;
-        capacity = _;
-        steps = _;
-        head = head;
-        bad = record { done = (Ask event.Poll, flagged true) ∷ []; before = refl; here = refl };
-      },
-      refl,
-    )
+returns-clause-unread c = (
+  record {
+    caps = smallest_caps;
+    capacity = _;
+    steps = _;
+    head = has_head (document_of (poll_with (codes "\"zf\":true") ++ codes "," ++ poll_with (codes "\"zf\":1"))) _ _
+        refl refl refl refl;
+    bad = record { done = (Ask event.Poll, flagged true) ∷ []; before = refl; here = refl };
+  },
+  refl,
+)
 
 -- what is read of a document
 abbrev Head : Type 0
