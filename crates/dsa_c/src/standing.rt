@@ -3,7 +3,7 @@
 ghost use Rattle.std.specs.Prelude.{◌≡◌, ◌==◌, nat_lt, length};
 ghost use Rattle.dsa_base.specs.Rows.{when};
 ghost use Rattle.dsa_regs.specs.Config.{queue_at, group_at};
-ghost use Rattle.dsa_regs.specs.declared.layout.ListUse.TheVariants as list;
+ghost use Rattle.dsa_store.specs.Content.{chain};
 ghost use Rattle.dsa_book.specs.State.{phase_at};
 ghost use Rattle.dsa_book.specs.Work.{in_progress, members, note_at};
 ghost use Rattle.dsa_device.specs.Reads.{awaited, is_held, slot_at};
@@ -236,7 +236,7 @@ pub extern "C" fn dsa_waiting_at(
     place: u64,
     entry: &mut DeviceEntry,
 ) -> u32
-    ensures value { IsWritten entry_for_c (asked_for handle.old.place.machine (λ d. slot_at (listed d (list.Queue queue)) place)) result entry.old entry.new }
+    ensures value { IsWritten entry_for_c (asked_for handle.old.place.machine (λ d. slot_at (when (nat_lt queue d.caps.queues) (chain d.state.work.content queue)) place)) result entry.old entry.new }
     ensures same { handle.new.place.machine ≡ handle.old.place.machine }
 {
     write_entry(handle, ListUse::Queue(queue), place, entry)
@@ -250,7 +250,7 @@ pub extern "C" fn dsa_in_progress_at(
     place: u64,
     entry: &mut DeviceEntry,
 ) -> u32
-    ensures value { IsWritten entry_for_c (asked_for handle.old.place.machine (λ d. slot_at (listed d (list.Progress engine)) place)) result entry.old entry.new }
+    ensures value { IsWritten entry_for_c (asked_for handle.old.place.machine (λ d. slot_at (when (nat_lt engine d.caps.engines) (in_progress d.state.work engine)) place)) result entry.old entry.new }
     ensures same { handle.new.place.machine ≡ handle.old.place.machine }
 {
     write_entry(handle, ListUse::Progress(engine), place, entry)
@@ -264,7 +264,7 @@ pub extern "C" fn dsa_member_at(
     place: u64,
     entry: &mut DeviceEntry,
 ) -> u32
-    ensures value { IsWritten entry_for_c (asked_for handle.old.place.machine (λ d. slot_at (listed d (list.Members engine)) place)) result entry.old entry.new }
+    ensures value { IsWritten entry_for_c (asked_for handle.old.place.machine (λ d. slot_at (when (nat_lt engine d.caps.engines) (members d.state.work engine)) place)) result entry.old entry.new }
     ensures same { handle.new.place.machine ≡ handle.old.place.machine }
 {
     write_entry(handle, ListUse::Members(engine), place, entry)
