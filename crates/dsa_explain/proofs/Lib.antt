@@ -9,3 +9,4 @@ pub mod Taking
 pub mod Starting
 pub mod Waiting
 pub mod Ending
+pub mod Active

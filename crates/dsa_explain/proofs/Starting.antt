@@ -12,26 +12,26 @@ use Rattle.dsa_book.specs.Work.{members, after_abandon, after_start}
 use Rattle.dsa_explain.specs.declared.batch.StartReason.{StartReason, TheVariants.{Fence, Failed, NoBuffers, NoGroup}}
 use Rattle.dsa_explain.specs.declared.buffers.BufferWant.{BufferWant}
 use Rattle.dsa_explain.specs.{Reasons.{with_reasons}, Buffers.{want_of}}
-use Rattle.dsa_explain.specs.Batch.{start_reasons, start_reason_of, start_answer, unstarted, name_of, first_member}
+use Rattle.dsa_explain.specs.Batch.{start_reasons, start_reason_of, start_answer, unstarted, name_of, first_member, failed_member}
 
 -- a member that waits has a reason for the answer, and none where it starts
 started : (w : Work) (e : ℕ) (slot : Slot)
     → option_map start_answer (start_reason_of w e (Some slot)) ≡ unstarted (start_of w e (Some slot)).0
 started w e slot = go (is_fenced slot.1.desc && not (is_front w e slot)) (is_fenced slot.1.desc && has_failed w e)
     (not (has_room w e (need_of w.setup slot.1))) (is_none (group_of w e)) slot.1.name (name_of (first_member w e))
-    (length (members w e)) (want_of w (unwrap_or (group_of w e) 0) (need_of w.setup slot.1))
+    (failed_member w e) (length (members w e)) (want_of w (unwrap_or (group_of w e) 0) (need_of w.setup slot.1))
     (after_abandon w e) (after_start w e) (ticket_of slot)
   where
-    go : (fence failed full alone : Bool) (member first left : ℕ) (want : BufferWant) (abandoned after : Work) (t : Ticket)
-        → option_map start_answer (first_row ((fence, Fence member first) ∷ (failed, Failed member left) ∷
+    go : (fence failed full alone : Bool) (member first : ℕ) (one : Option ℕ) (left : ℕ) (want : BufferWant) (abandoned after : Work) (t : Ticket)
+        → option_map start_answer (first_row ((fence, Fence member first) ∷ (failed, Failed member one left) ∷
         (full, cond alone NoGroup (NoBuffers want)) ∷ []))
         ≡ unstarted (first_row_or {X = StartAnswer × Work} ((fence, (answer.FenceWait, w)) ∷
         (failed, (answer.Abandoned left, abandoned)) ∷ (full, (answer.NoBuffers, w)) ∷ []) (answer.Started t, after)).0
-    go true failed full alone member first left want abandoned after t = refl
-    go false true full alone member first left want abandoned after t = refl
-    go false false true true member first left want abandoned after t = refl
-    go false false true false member first left want abandoned after t = refl
-    go false false false alone member first left want abandoned after t = refl
+    go true failed full alone member first one left want abandoned after t = refl
+    go false true full alone member first one left want abandoned after t = refl
+    go false false true true member first one left want abandoned after t = refl
+    go false false true false member first one left want abandoned after t = refl
+    go false false false alone member first one left want abandoned after t = refl
 
 -- so of the reason that is told
 pub started-told : (w : Work) (e : ℕ) (slot : Slot) (reason : Option StartReason) → first_waiting w e ≡ Some slot

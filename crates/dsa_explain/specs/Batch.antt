@@ -1,12 +1,15 @@
 -- Why an engine fetches no member of its batch, and why it starts none.
 use Rattle.dsa_book.specs.declared.answer.FetchAnswer.TheVariants as fetch
 use Rattle.dsa_book.specs.declared.answer.StartAnswer.TheVariants as start
-use Rattle.std.specs.Prelude.{ℕ, cond, nat_lt, List, [], ◌∷◌, length, slice_get, Option, Some, None}
-use Rattle.std.specs.{Prelude.{is_none, unwrap_or}, Option.{option_map_or}}
-use Rattle.dsa_base.specs.Rows.{first_row, when}
+use Rattle.std.specs.Prelude.{ℕ, Bool, false, not, cond, ◌&&◌, ◌==◌, nat_lt, List, [], ◌∷◌, length, slice_get, find}
+use Rattle.std.specs.Prelude.{Option, Some, None, is_none, unwrap_or, option_map, option_and_then}
+use Rattle.std.specs.Option.{option_map_or}
+use Rattle.dsa_base.specs.Rows.{first_row, passes, when}
+use Rattle.dsa_desc.specs.Descriptor.{is_successful}
 use Rattle.dsa_store.specs.{declared.entry.Entry.{Entry}, Content.{Slot}}
 use Rattle.dsa_book.specs.declared.answer.FetchAnswer.{FetchAnswer}
 use Rattle.dsa_book.specs.declared.{answer.StartAnswer.{StartAnswer}, note.BatchNote.{BatchNote}}
+use Rattle.dsa_book.specs.declared.fate.{Fate.{Fate, TheVariants.{Completed}}, FateRow.{FateRow}}
 use Rattle.dsa_book.specs.State.{Work, need_of}
 use Rattle.dsa_book.specs.Work.{note_at, batch_on, is_all_fetched, members, first_waiting, start_table, group_of}
 use Rattle.dsa_explain.specs.declared.batch.FetchReason.{FetchReason, TheVariants.{NoEngine, NoBatch, AllFetched}}
@@ -50,17 +53,30 @@ name_of slot = option_map_or (λ (slot : Slot). slot.1.name) slot 0
 abbrev pub first_member : Work → ℕ → Option Slot
 first_member w e = slice_get (members w e) 0
 
+-- the row is of a member of that batch, which an engine ended with another status than success
+abbrev pub is_failure : Fate → Bool
+is_failure (Completed status) = not (is_successful status)
+is_failure fate = false
+
+abbrev pub is_failed_in : ℕ → FateRow → Bool
+is_failed_in batch row = passes (λ parent. parent == batch) row.parent && is_failure row.fate
+
+-- the first member of the engine's batch that was not successful, by its name
+abbrev pub failed_member : Work → ℕ → Option ℕ
+failed_member w e = option_and_then
+    (λ (note : BatchNote). option_map (λ (row : FateRow). row.name) (find (is_failed_in note.batch) w.fates)) (note_at w e)
+
 -- the read buffers that the member lacks; those of a group, where the engine is of one
 abbrev pub want_reason : Work → ℕ → Entry → StartReason
 want_reason w e member = cond (is_none (group_of w e)) NoGroup
     (NoBuffers (want_of w (unwrap_or (group_of w e) 0) (need_of w.setup member)))
 
 -- a reason for each row of what keeps a member from starting: the member with the fence and the first
--- that it waits for, the same member and how many are abandoned with it, and the read buffers
+-- that it waits for, the same member with the one that failed and how many are abandoned, and the read buffers
 abbrev pub start_reasons : Work → ℕ → Slot → List StartReason
 start_reasons w e slot =
     Fence slot.1.name (name_of (first_member w e)) ∷
-    Failed slot.1.name (length (members w e)) ∷
+    Failed slot.1.name (failed_member w e) (length (members w e)) ∷
     want_reason w e slot.1 ∷ []
 
 -- of the first member that waits: the first row that stands
@@ -76,7 +92,7 @@ start_reason w e = start_reason_of w e (first_waiting w e)
 abbrev pub start_answer : StartReason → StartAnswer
 start_answer Nothing = start.Nothing
 start_answer (Fence member waits_for) = start.FenceWait
-start_answer (Failed member left) = start.Abandoned left
+start_answer (Failed member failed left) = start.Abandoned left
 start_answer reason = start.NoBuffers
 
 -- an answer by which no member starts

@@ -1,7 +1,10 @@
 -- Why a command is refused, and why the active one is not over.
-use Rattle.std.specs.Prelude.{ℕ, not, cond, List, [], ◌∷◌, find, Option, Some, None, option_map}
+use Rattle.dsa_book.specs.declared.answer.IssueAnswer.TheVariants as issued
+use Rattle.dsa_explain.specs.declared.awaiting.Waiter.TheVariants as waiter
+use Rattle.std.specs.Prelude.{ℕ, Bool, true, false, not, cond, List, [], ◌∷◌, find}
+use Rattle.std.specs.Prelude.{Option, Some, None, option_map}
 use Rattle.dsa_base.specs.Rows.{first_row_or}
-use Rattle.dsa_regs.specs.declared.{Command.{Command}, Phase.{Phase}, Deed.{Deed}}
+use Rattle.dsa_regs.specs.declared.{Command.{Command}, Phase.{Phase}, Deed.{Deed, TheVariants.{Disable, Drain}}}
 use Rattle.dsa_regs.specs.declared.{Scope.{Scope, TheVariants.{Device}}, Fault.{Fault}}
 use Rattle.dsa_regs.specs.declared.Fault.TheVariants.{BadQueue, WrongState, Busy}
 use Rattle.dsa_regs.specs.Command.{scope_of, deed_of, queues_in}
@@ -10,11 +13,12 @@ use Rattle.dsa_book.specs.declared.answer.IssueAnswer.{IssueAnswer, TheVariants.
 use Rattle.dsa_book.specs.declared.answer.PollAnswer.{PollAnswer, TheVariants.{Finished, Active, Nothing}}
 use Rattle.dsa_book.specs.declared.note.ActiveCommand.{ActiveCommand}
 use Rattle.dsa_book.specs.State.{Setup, State, has_queue, is_on, phase_at}
-use Rattle.dsa_book.specs.Commands.{issue_table, suits, check_of, command_done_of, is_at_end}
-use Rattle.dsa_admin.specs.Admin.{is_waited_for}
+use Rattle.dsa_book.specs.Commands.{issue_table, suits, check_of, command_done_of, is_at_end, issue}
+use Rattle.dsa_admin.specs.Admin.{is_awaited_by, is_waited_for}
 use Rattle.dsa_explain.specs.declared.command.IssueReason.{IssueReason, TheVariants.{Busy, NoQueue, WrongPhase, Check}}
 use Rattle.dsa_explain.specs.declared.command.PollReason.{PollReason, TheVariants.{Nothing, Waits}}
-use Rattle.dsa_explain.specs.Reasons.{with_reasons}
+use Rattle.dsa_explain.specs.declared.awaiting.{WaitReason.{WaitReason}, Waiter.{Waiter}}
+use Rattle.dsa_explain.specs.{Reasons.{with_reasons}, Held.{first_awaited}}
 
 -- ---- issue
 
@@ -86,3 +90,37 @@ abbrev pub poll_answer_by : Option PollReason → PollAnswer
 poll_answer_by None = Finished
 poll_answer_by (Some Nothing) = Nothing
 poll_answer_by (Some (Waits awaited)) = Active
+
+-- ---- a command that is answered active
+
+-- what keeps a command that is noted so from its end: how many held entries it waits for, and the first
+abbrev pub wait_by : Option ActiveCommand → State → Option WaitReason
+wait_by noted s = option_map
+    (λ first. record { awaited = count_where (is_awaited_by noted) s.work.content; first = first }) (first_awaited noted s)
+
+-- what keeps the active command from its end
+abbrev pub wait_of_active : State → Option WaitReason
+wait_of_active s = wait_by s.active s
+
+-- who waits: the active command, if there is one, or one that is noted so
+abbrev pub noted_by : Option ActiveCommand → Waiter → Option ActiveCommand
+noted_by active waiter.Active = active
+noted_by active (waiter.Noted noted) = Some noted
+
+-- the command as it is noted where it is answered active: a drain waits for names that were given before
+abbrev pub noted_as : State → Command → ActiveCommand
+noted_as s command = record { command = command; mark = s.work.setup.next_name }
+
+-- a disable and a drain wait for what is held, where there is any
+abbrev pub is_waiting : Deed → Bool
+is_waiting Disable = true
+is_waiting Drain = true
+is_waiting deed = false
+
+abbrev pub is_active_answer : IssueAnswer → Bool
+is_active_answer issued.Active = true
+is_active_answer answer = false
+
+-- what the command waits for, where it is answered active
+abbrev pub wait_reason : State → Command → Option WaitReason
+wait_reason s command = cond (is_active_answer (issue s command).0) (wait_by (Some (noted_as s command)) s) None

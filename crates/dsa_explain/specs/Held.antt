@@ -5,6 +5,7 @@ use Rattle.dsa_regs.specs.{Caps.{list_use}, Command.{number_of, scope_of}}
 use Rattle.dsa_store.specs.Content.{Slot, Content}
 use Rattle.dsa_book.specs.{State.{State}, Work.{fate_row}, Commands.{is_in_scope}}
 use Rattle.dsa_book.specs.declared.fate.{Fate.TheVariants.{Aborted}, FateRow.{FateRow}}
+use Rattle.dsa_book.specs.declared.note.ActiveCommand.{ActiveCommand}
 use Rattle.dsa_admin.specs.Admin.{is_awaited_by}
 use Rattle.dsa_explain.specs.declared.held.Held.{Held}
 
@@ -25,9 +26,13 @@ held_from caps number (slots ∷ lists) = map (held_in (list_use caps number)) s
 abbrev pub all_entries : State → List Held
 all_entries s = held_from s.work.setup.caps 0 s.work.content
 
+-- the first that a command waits for which is noted so, if one is
+abbrev pub first_awaited : Option ActiveCommand → State → Option Held
+first_awaited noted s = find (λ held. is_awaited_by noted held.entry) (all_entries s)
+
 -- the first that the active command waits for
 abbrev pub awaited_entry : State → Option Held
-awaited_entry s = find (λ held. is_awaited_by s.active held.entry) (all_entries s)
+awaited_entry s = first_awaited s.active s
 
 -- those that an abort or a reset ends
 abbrev pub aborted_entries : State → Command → List Held

@@ -8,10 +8,11 @@ ghost use Rattle.dsa_store.specs.Content.{is_cell};
 ghost use Rattle.dsa_book.specs.State.{need_of};
 ghost use Rattle.dsa_book.specs.Work.{batch_on, is_all_fetched, first_waiting, has_failed, has_room, start_table, fetch, start};
 ghost use Rattle.dsa_explain.specs.Reasons.{with_reasons};
-ghost use Rattle.dsa_explain.specs.Batch.{fetch_reason, fetch_answer, unfetched, first_member, name_of, want_reason, start_reasons, start_reason, start_answer, unstarted};
+ghost use Rattle.dsa_explain.specs.Batch.{fetch_reason, fetch_answer, unfetched, first_member, name_of, want_reason, start_reasons, start_reason, start_answer, unstarted, is_failure, is_failed_in, failed_member};
 
 use crate::buffers::{BufferWant, lacking};
-use dsa_book::BatchNote;
+use dsa_book::{BatchNote, Fate, FateRow};
+use dsa_desc::completion::DSA_COMP_SUCCESS;
 use dsa_device::Device;
 use dsa_store::{Cell, Entry, EntryStore};
 
@@ -36,9 +37,16 @@ pub enum StartReason {
     /// No member waits.
     Nothing,
     /// The member of that name has a fence, and waits for all before it: the first of them is named.
-    Fence { member: u32, waits_for: u32 },
-    /// The member of that name has a fence, and one before it failed: all that are left end, so many.
-    Failed { member: u32, left: u32 },
+    Fence {
+        member: u32,
+        waits_for: u32,
+    },
+    /// The member of that name has a fence, and one before it failed, the first such named: all that are left end, so many.
+    Failed {
+        member: u32,
+        failed: Option<u32>,
+        left: u32,
+    },
     /// The read buffers that the member needs do not fit the group.
     NoBuffers(BufferWant),
     /// The engine is of no group, so that there are no read buffers for it.
@@ -138,6 +146,42 @@ fn has_failed<S: EntryStore>(device: &Device<S>, engine: u16) -> bool
     }
 }
 
+// Whether an engine ended the entry with another status than success.
+fn is_failure(fate: Fate) -> bool
+    ensures { result ≡ is_failure fate }
+{
+    match fate {
+        Fate::Completed(status) => status != DSA_COMP_SUCCESS,
+        _ => false,
+    }
+}
+
+// Whether the row is of a member of that batch which was not successful.
+fn is_failed_in(batch: u32, row: &FateRow) -> bool
+    ensures { result ≡ is_failed_in batch row.now }
+{
+    match row.parent {
+        Some(parent) => parent == batch && is_failure(row.fate),
+        None => false,
+    }
+}
+
+// The first row of a member of that batch which was not successful.
+fn first_failed(rows: &[FateRow], batch: u32) -> Option<FateRow>
+    ensures { result ≡ find (is_failed_in batch) rows.now }
+{
+    rows.iter().copied().find(|row| is_failed_in(batch, row))
+}
+
+// The first member of the engine's batch that was not successful, by its name.
+fn failed_member<S: EntryStore>(device: &Device<S>, engine: u16) -> Option<u32>
+    ensures { result ≡ failed_member device.now.state.work engine }
+{
+    let note = device.batch(engine)?;
+    let row = first_failed(device.fates(), note.batch)?;
+    Some(row.name)
+}
+
 // The read buffers that the member lacks.
 fn want_reason<S: EntryStore>(
     device: &Device<S>,
@@ -173,8 +217,13 @@ fn waiting_reason<S: EntryStore>(
             return Some(StartReason::Fence { member, waits_for });
         }
         if has_failed(device, engine) {
+            let failed = failed_member(device, engine);
             let left = device.member_count(engine)?;
-            return Some(StartReason::Failed { member, left });
+            return Some(StartReason::Failed {
+                member,
+                failed,
+                left,
+            });
         }
     }
     want_reason(device, engine, &entry)

@@ -1,16 +1,13 @@
-//! The entries that a device holds, list by list: the first that the active command waits for, and those that an abort
-//! ends.
+//! The entries that a device holds, list by list, and those that an abort ends.
 
-ghost use Rattle.std.specs.Prelude.{◌≡◌, ◌+◌, ◌++◌, ◌↔◌, None, Some, true, map, filter, find, flat_map, length, slice_get, IfOk, IfErr};
+ghost use Rattle.std.specs.Prelude.{◌≡◌, ◌+◌, ◌++◌, Some, map, filter, flat_map, length, slice_get, IfOk, IfErr};
 ghost use Rattle.dsa_regs.specs.declared.Command.{Command};
 ghost use Rattle.dsa_regs.specs.Caps.{HasList, list_number};
 ghost use Rattle.dsa_regs.specs.Command.{number_of, scope_of};
 ghost use Rattle.dsa_store.specs.Content.{all_held, chain};
-ghost use Rattle.dsa_book.specs.declared.note.ActiveCommand.{ActiveCommand};
 ghost use Rattle.dsa_book.specs.State.{State};
-ghost use Rattle.dsa_book.specs.Commands.{after_abort, is_at_end, is_in_scope};
-ghost use Rattle.dsa_admin.specs.Admin.{is_awaited_by};
-ghost use Rattle.dsa_explain.specs.Held.{held_in, slot_of, all_entries, awaited_entry, aborted_entries, abort_row, losses};
+ghost use Rattle.dsa_book.specs.Commands.{after_abort, is_in_scope};
+ghost use Rattle.dsa_explain.specs.Held.{held_in, slot_of, all_entries, aborted_entries, abort_row, losses};
 
 use dsa_admin::is_in_scope;
 use dsa_device::Device;
@@ -41,32 +38,6 @@ pub fn slots_of<S: EntryStore>(device: &Device<S>, list: ListUse) -> Walk<'_, S>
         Some(slots) => slots,
         None => unreachable!(),
     }
-}
-
-// The first entry of the list that the active command waits for.
-fn awaited_in<S: EntryStore>(device: &Device<S>, list: ListUse) -> Option<Held>
-    requires { HasList device.now.caps list }
-    ensures { result ≡ find (λ held. is_awaited_by device.now.state.active held.entry) (map (held_in list) (chain device.now.state.work.content (list_number device.now.caps list))) }
-{
-    let mut slots = slots_of(device, list);
-    let (cell, entry) = slots.find(|slot| device.awaits(&slot.1))?;
-    Some(Held { list, cell, entry })
-}
-
-/// The first held entry that the active command waits for, list by list and the front first. `None` exactly where no
-/// command is active, or the active one is at its end.
-pub fn awaited_entry<S: EntryStore>(device: &Device<S>) -> Option<Held>
-    ensures { result ≡ awaited_entry device.now.state }
-{
-    device.state_is_replay();
-    let caps = device.caps();
-    for number in 0..list_count(&caps) {
-        let held = awaited_in(device, caps.list_use(number));
-        if held.is_some() {
-            return held;
-        }
-    }
-    None
 }
 
 // The entry of this index among those of the list that the command ends, or by how many the list has too few.
@@ -135,9 +106,4 @@ pub fn aborted_entries_get_rows()
 /// down, in their order, and no other.
 pub fn removed_names_get_rows()
     ensures { (s : State) (command : Command) → flat_map (λ loss. loss.1) (losses s command) ≡ map (λ held. held.entry.name) (aborted_entries s command) }
-{}
-
-/// An active command is at its end exactly where no entry is told that it waits for.
-pub fn commands_wait_for_what_is_told()
-    ensures { (s : State) (active : ActiveCommand) → s.active ≡ Some active → (awaited_entry s ≡ None) ↔ (is_at_end active s.work.content ≡ true) }
 {}

@@ -4,6 +4,7 @@
 //! Each function reads the device before the step, and takes no memory.
 #![tactic(auto)]
 
+mod awaiting;
 mod batch;
 mod buffers;
 mod check;
@@ -15,6 +16,9 @@ mod held;
 mod submission;
 mod write;
 
+pub use awaiting::{
+    WaitReason, awaited_entry, commands_wait_for_what_is_told, wait_reason, waits_follow_reasons,
+};
 pub use batch::{FetchReason, StartReason, fetch_reason, start_reason};
 pub use buffers::{BufferWant, kept_for};
 pub use check::{
@@ -31,8 +35,8 @@ pub use dispatch::{
 pub use finish::{FinishReason, finish_reason};
 pub use groups::{Bound, Named};
 pub use held::{
-    Held, aborted_at, aborted_entries_get_rows, all_entries_are_told, awaited_entry,
-    commands_wait_for_what_is_told, is_removed, removed_names_get_rows, slots_of,
+    Held, aborted_at, aborted_entries_get_rows, all_entries_are_told, is_removed,
+    removed_names_get_rows, slots_of,
 };
 pub use submission::{SubmitReason, submissions_follow_reasons, submit_reason};
 pub use write::{

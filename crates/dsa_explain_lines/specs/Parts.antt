@@ -1,6 +1,8 @@
 -- What a line tells behind an answer.
 use Rattle.dsa_book.specs.declared.event.Event.TheVariants as event
-use Rattle.std.specs.Prelude.{ℕ, ◌==◌, cond, List, [], ◌∷◌, ◌++◌, Option, Some, None, is_some, codes}
+use Rattle.dsa_explain.specs.declared.dispatch.QueueReason.TheVariants as queue
+use Rattle.dsa_explain.specs.declared.batch.StartReason.TheVariants as start
+use Rattle.std.specs.Prelude.{ℕ, ◌==◌, ◌||◌, cond, List, [], ◌∷◌, ◌++◌, Option, Some, None, is_some, codes}
 use Rattle.std.specs.Prelude.{length, Result, Ok, Err}
 use Rattle.std.specs.Prelude.{flat_map}
 use Rattle.std.specs.List.{list_any}
@@ -13,20 +15,42 @@ use Rattle.dsa_regs.specs.declared.Deed.{Deed, TheVariants.{Abort, Reset}}
 use Rattle.dsa_regs.specs.{Command.{scope_of, deed_of}, Config.{queue_at, total_size}}
 use Rattle.dsa_book.specs.{declared.event.Event.{Event}, State.{Setup, Work, State, has_queue}, Work.{front_of}}
 use Rattle.dsa_explain.specs.declared.{check.CheckReason.{CheckReason}, command.IssueReason.{IssueReason}}
-use Rattle.dsa_explain.specs.declared.{dispatch.{EngineReason.{EngineReason}, QueueReason.{QueueReason}}}
+use Rattle.dsa_explain.specs.declared.dispatch.{EngineReason.{EngineReason}, QueueReason.{QueueReason}}
+use Rattle.dsa_explain.specs.declared.batch.StartReason.{StartReason}
 use Rattle.dsa_explain.specs.{Submission.{submit_reason}, Dispatch.{engine_reason, queue_reason}}
 use Rattle.dsa_explain.specs.Batch.{name_of, fetch_reason, start_reason}
-use Rattle.dsa_explain.specs.{Finish.{finish_reason}, Command.{issue_reason, poll_reason}, Held.{awaited_entry, Loss, losses}}
+use Rattle.dsa_explain.specs.{Finish.{finish_reason}, Command.{issue_reason, poll_reason, wait_reason}}
+use Rattle.dsa_explain.specs.{Held.{awaited_entry, Loss, losses}, Buffers.{kept_for}}
 use Rattle.dsa_explain.specs.Check as checks
 use Rattle.dsa_explain.specs.Write.{write_queue_reason, write_group_reason, clear_reason}
 use Rattle.dsa_explain_lines.specs.Sentences.{submit_sentence, engine_sentence, queue_sentence, fetch_sentence}
 use Rattle.dsa_explain_lines.specs.Sentences.{start_sentence, finish_sentence, issue_sentence, poll_sentence, loss_words}
-use Rattle.dsa_explain_lines.specs.Sentences.{write_sentence, clear_sentence, counted}
+use Rattle.dsa_explain_lines.specs.Sentences.{write_sentence, clear_sentence, counted, wait_sentence, kept_words}
 
 -- the sentence of a reason, behind its mark; nothing where there is no reason
 abbrev pub told_of : {R : Type 0} → (R → List ℕ) → Option R → List ℕ
 told_of sentence None = []
 told_of sentence (Some reason) = codes ": " ++ sentence reason
+
+-- ---- read buffers that are kept
+
+-- what is kept for another group, where anything is
+abbrev pub kept_part : Work → ℕ → ℕ → List ℕ
+kept_part w g other = cond (other == g || kept_for w other == 0) [] (kept_words (kept_for w other) other)
+
+-- for which groups but this one read buffers are kept
+abbrev pub keeping_part : Work → ℕ → List ℕ
+keeping_part w g = flat_map (kept_part w g) (numbers_below w.setup.caps.groups)
+
+-- the same behind the reason of a queue, where it is about read buffers
+abbrev pub queue_keeping : Work → QueueReason → List ℕ
+queue_keeping w (queue.NoBuffers want) = keeping_part w want.group
+queue_keeping w reason = []
+
+-- and behind that of a member
+abbrev pub start_keeping : Work → StartReason → List ℕ
+start_keeping w (start.NoBuffers want) = keeping_part w want.group
+start_keeping w reason = []
 
 -- ---- an idle engine
 
@@ -36,7 +60,8 @@ joint w e q = cond (list_any (λ other. is_some (queue_reason w e other)) (numbe
 
 abbrev pub queue_part_of : Work → ℕ → ℕ → Option QueueReason → List ℕ
 queue_part_of w e q None = []
-queue_part_of w e q (Some reason) = joint w e q ++ queue_sentence q (name_of (front_of w q)) reason
+queue_part_of w e q (Some reason) =
+    joint w e q ++ queue_sentence q (name_of (front_of w q)) reason ++ queue_keeping w reason
 
 -- the reason of a queue of the engine's group
 abbrev pub queue_part : Work → ℕ → ℕ → List ℕ
@@ -49,6 +74,16 @@ dispatch_part_of w e None = flat_map (queue_part w e) (numbers_below w.setup.cap
 -- the reason of the engine, or that of each queue of its group
 abbrev pub dispatch_part : Work → ℕ → List ℕ
 dispatch_part w e = dispatch_part_of w e (engine_reason w e)
+
+-- ---- a member that does not start
+
+abbrev pub start_part_of : Work → ℕ → Option StartReason → List ℕ
+start_part_of w e None = []
+start_part_of w e (Some reason) = codes ": " ++ (start_sentence e reason ++ start_keeping w reason)
+
+-- why the engine starts no member
+abbrev pub start_part : Work → ℕ → List ℕ
+start_part w e = start_part_of w e (start_reason w e)
 
 -- ---- commands
 
@@ -64,18 +99,19 @@ abbrev pub losses_part : List ℕ → List Loss → List ℕ
 losses_part mark [] = []
 losses_part mark (loss ∷ more) = loss_words mark loss.0 loss.1 ++ losses_part (codes "; ") more
 
--- what a command removes that is carried out: an abort and a reset name it, list by list
-abbrev pub removal_part : State → Command → Deed → List ℕ
-removal_part s command Abort = losses_part (codes ": ") (losses s command)
-removal_part s command Reset = losses_part (codes ": ") (losses s command)
-removal_part s command _ = []
+-- what is told of a command that is carried out: an abort and a reset name what they remove, list by list,
+-- and what is answered active waits for entries
+abbrev pub deed_part : State → Command → Deed → List ℕ
+deed_part s command Abort = losses_part (codes ": ") (losses s command)
+deed_part s command Reset = losses_part (codes ": ") (losses s command)
+deed_part s command _ = told_of wait_sentence (wait_reason s command)
 
 abbrev pub issue_part_of : State → Command → Option IssueReason → List ℕ
-issue_part_of s command None = removal_part s command (deed_of command)
+issue_part_of s command None = deed_part s command (deed_of command)
 issue_part_of s command (Some reason) =
-    codes ": " ++ issue_sentence (check_reason s.work.setup (scope_of command)) reason
+    codes ": " ++ issue_sentence (check_reason s.work.setup (scope_of command)) (awaited_entry s) reason
 
--- why a command is refused, or what it removes
+-- why a command is refused, or what it removes or waits for
 abbrev pub issue_part : State → Command → List ℕ
 issue_part s command = issue_part_of s command (issue_reason s command)
 
@@ -87,7 +123,7 @@ event_part s (event.Submit client queue portal kind desc) =
     told_of (submit_sentence queue) (submit_reason s queue portal kind)
 event_part s (event.Dispatch engine) = dispatch_part s.work engine
 event_part s (event.Fetch engine desc) = told_of (fetch_sentence engine) (fetch_reason s.work engine)
-event_part s (event.Start engine) = told_of (start_sentence engine) (start_reason s.work engine)
+event_part s (event.Start engine) = start_part s.work engine
 event_part s (event.Finish engine ticket outcome) =
     told_of (finish_sentence engine) (finish_reason s.work engine ticket)
 event_part s (event.Issue command) = issue_part s command

@@ -23,6 +23,7 @@ use Rattle.dsa_explain.specs.declared.batch.{FetchReason.{FetchReason}, StartRea
 use Rattle.dsa_explain.specs.declared.{finish.FinishReason.{FinishReason}, buffers.BufferWant.{BufferWant}}
 use Rattle.dsa_explain.specs.declared.command.{IssueReason.{IssueReason}, PollReason.{PollReason}}
 use Rattle.dsa_explain.specs.declared.{check.CheckReason.{CheckReason}, held.Held.{Held}}
+use Rattle.dsa_explain.specs.declared.awaiting.WaitReason.{WaitReason}
 use Rattle.dsa_explain.specs.declared.groups.{Named.{Named}, Bound.{Bound}}
 use Rattle.dsa_explain.specs.declared.write.{WriteReason.{WriteReason}, ClearReason.{ClearReason}}
 
@@ -64,6 +65,10 @@ want_words want =
     ++ counted_twice (codes " uses ") want.used (codes " of ") want.allowed (codes "")
     ++ counted_twice (codes ", all groups use ") want.in_use (codes " of ") want.buffers (codes "")
     ++ counted (codes ", and ") want.kept (codes " are kept")
+
+-- so many read buffers are kept for the group
+abbrev pub kept_words : ℕ → ℕ → List ℕ
+kept_words kept g = counted_twice (codes ", ") kept (codes " for group ") g (codes "")
 
 -- ---- submissions
 
@@ -124,14 +129,19 @@ fetch_sentence e fetch.NoBatch = counted (codes "e") e (codes " works on no batc
 fetch_sentence e (fetch.AllFetched count fetched closed) =
     counted_twice (codes "") fetched (codes " of ") count (codes " members are fetched") ++ closed_words closed
 
+-- the member that failed
+abbrev pub failed_words : Option ℕ → List ℕ
+failed_words None = codes "one"
+failed_words (Some name) = decimal name
+
 -- of the engine
 abbrev pub start_sentence : ℕ → StartReason → List ℕ
 start_sentence e start.Nothing = counted (codes "no member waits on e") e (codes "")
 start_sentence e (start.Fence member waits_for) =
     counted_twice (codes "member ") member (codes " has a fence, and waits for ") waits_for (codes "")
-start_sentence e (start.Failed member left) =
-    counted_twice (codes "member ") member (codes " has a fence, one before it failed, and ") left
-    (codes " end unstarted")
+start_sentence e (start.Failed member failed left) =
+    counted (codes "member ") member (codes " has a fence, ") ++ failed_words failed
+    ++ counted (codes " before it failed, and ") left (codes " end unstarted")
 start_sentence e (start.NoBuffers want) = codes "the member " ++ want_words want
 start_sentence e start.NoGroup = no_group e
 
@@ -230,18 +240,6 @@ abbrev pub whose_words : Option ℕ → List ℕ
 whose_words None = codes "the device"
 whose_words (Some q) = codes "q" ++ decimal q
 
--- the active command, and how many entries it waits for
-abbrev pub busy_words : Command → ℕ → List ℕ
-busy_words active awaited =
-    command_words active ++ counted (codes " is active, and waits for ") awaited (codes " entries")
-
--- with what the check of an enable found
-abbrev pub issue_sentence : Option CheckReason → IssueReason → List ℕ
-issue_sentence found (issue.Busy active awaited) = busy_words active awaited
-issue_sentence found (issue.NoQueue q) = named_words q
-issue_sentence found (issue.WrongPhase q phase) = whose_words q ++ phased (codes " is ") phase
-issue_sentence found (issue.Check fault) = found_words found
-
 -- an entry, by its name and its list
 abbrev pub held_words : Held → List ℕ
 held_words held = counted (codes "") held.entry.name (codes " in ") ++ list_words held.list
@@ -251,11 +249,32 @@ abbrev pub first_words : Option Held → List ℕ
 first_words None = []
 first_words (Some held) = codes ", first for " ++ held_words held
 
+-- the active command, how many entries it waits for, and the first of them
+abbrev pub busy_words : Command → ℕ → Option Held → List ℕ
+busy_words active awaited first =
+    command_words active ++ counted (codes " is active, and waits for ") awaited (codes " entries")
+    ++ first_words first
+
+-- with what the check of an enable found, and the first entry that is awaited
+abbrev pub issue_sentence : Option CheckReason → Option Held → IssueReason → List ℕ
+issue_sentence found first (issue.Busy active awaited) = busy_words active awaited first
+issue_sentence found first (issue.NoQueue q) = named_words q
+issue_sentence found first (issue.WrongPhase q phase) = whose_words q ++ phased (codes " is ") phase
+issue_sentence found first (issue.Check fault) = found_words found
+
+-- how many entries the command waits for, and the first of them
+abbrev pub wait_words : ℕ → Option Held → List ℕ
+wait_words awaited first =
+    counted (codes "the command waits for ") awaited (codes " entries") ++ first_words first
+
 -- with the first entry that is awaited
 abbrev pub poll_sentence : Option Held → PollReason → List ℕ
 poll_sentence first poll.Nothing = codes "no command is active"
-poll_sentence first (poll.Waits awaited) =
-    counted (codes "the command waits for ") awaited (codes " entries") ++ first_words first
+poll_sentence first (poll.Waits awaited) = wait_words awaited first
+
+-- of a command that is answered active
+abbrev pub wait_sentence : WaitReason → List ℕ
+wait_sentence reason = wait_words reason.awaited (Some reason.first)
 
 -- ---- what a command removes
 

@@ -1,20 +1,26 @@
 //! Commands that are refused, and one that is not over.
 
 ghost use Rattle.std.specs.Prelude.{◌≡◌, ◌++◌, OnOk, string_bytes};
-ghost use Rattle.dsa_explain_lines.specs.Sentences.{busy_words, first_words, found_words, held_words, issue_sentence, named_words, poll_sentence, whose_words};
+ghost use Rattle.dsa_explain_lines.specs.Sentences.{busy_words, first_words, found_words, held_words, issue_sentence, named_words, poll_sentence, wait_sentence, wait_words, whose_words};
 
 use crate::checks::add_check_reason;
 use crate::words::{add_counted, add_list, add_phase};
 use dsa_event_words::{add_command, add_number};
-use dsa_explain::{CheckReason, Held, IssueReason, PollReason};
+use dsa_explain::{CheckReason, Held, IssueReason, PollReason, WaitReason};
 use dsa_regs::Command;
 use std::alloc::AllocError;
 
-fn add_busy(text: &mut String, active: &Command, awaited: u32) -> Result<(), AllocError>
-    ensures { OnOk result (string_bytes text.new ≡ string_bytes text.old ++ busy_words active.now awaited) }
+fn add_busy(
+    text: &mut String,
+    active: &Command,
+    awaited: u32,
+    first: &Option<Held>,
+) -> Result<(), AllocError>
+    ensures { OnOk result (string_bytes text.new ≡ string_bytes text.old ++ busy_words active.now awaited first.now) }
 {
     add_command(text, active)?;
-    add_counted(text, " is active, and waits for ", awaited, " entries")
+    add_counted(text, " is active, and waits for ", awaited, " entries")?;
+    add_first(text, first)
 }
 
 // The queue that is missing, where one is named.
@@ -46,16 +52,18 @@ fn add_found(text: &mut String, found: &Option<CheckReason>) -> Result<(), Alloc
     }
 }
 
-/// Adds the sentence of why a command is refused, with what the check of an enable found.
+/// Adds the sentence of why a command is refused, with what the check of an enable found, and the first entry that the
+/// active command waits for.
 pub fn add_issue_reason(
     text: &mut String,
     found: &Option<CheckReason>,
+    first: &Option<Held>,
     reason: &IssueReason,
 ) -> Result<(), AllocError>
-    ensures { OnOk result (string_bytes text.new ≡ string_bytes text.old ++ issue_sentence found.now reason.now) }
+    ensures { OnOk result (string_bytes text.new ≡ string_bytes text.old ++ issue_sentence found.now first.now reason.now) }
 {
     match reason {
-        IssueReason::Busy { active, awaited } => add_busy(text, active, *awaited),
+        IssueReason::Busy { active, awaited } => add_busy(text, active, *awaited, first),
         IssueReason::NoQueue { queue } => add_named(text, *queue),
         IssueReason::WrongPhase { queue, phase } => {
             add_whose(text, *queue)?;
@@ -83,6 +91,21 @@ fn add_first(text: &mut String, first: &Option<Held>) -> Result<(), AllocError>
     add_held(text, held)
 }
 
+// How many entries a command waits for, and the first of them.
+fn add_wait(text: &mut String, awaited: u32, first: &Option<Held>) -> Result<(), AllocError>
+    ensures { OnOk result (string_bytes text.new ≡ string_bytes text.old ++ wait_words awaited first.now) }
+{
+    add_counted(text, "the command waits for ", awaited, " entries")?;
+    add_first(text, first)
+}
+
+/// Adds the sentence of what a command waits for that is answered active.
+pub fn add_wait_reason(text: &mut String, reason: &WaitReason) -> Result<(), AllocError>
+    ensures { OnOk result (string_bytes text.new ≡ string_bytes text.old ++ wait_sentence reason.now) }
+{
+    add_wait(text, reason.awaited, &Some(reason.first))
+}
+
 /// Adds the sentence of why the active command is not over, with the first entry that it waits for.
 pub fn add_poll_reason(
     text: &mut String,
@@ -93,9 +116,6 @@ pub fn add_poll_reason(
 {
     match *reason {
         PollReason::Nothing => text.push_str("no command is active"),
-        PollReason::Waits { awaited } => {
-            add_counted(text, "the command waits for ", awaited, " entries")?;
-            add_first(text, first)
-        }
+        PollReason::Waits { awaited } => add_wait(text, awaited, first),
     }
 }

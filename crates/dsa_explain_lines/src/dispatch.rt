@@ -9,6 +9,7 @@ ghost use Rattle.dsa_explain.specs.Dispatch.{queue_reason};
 ghost use Rattle.dsa_explain_lines.specs.Parts.{dispatch_part, joint, queue_part};
 ghost use Rattle.dsa_explain_lines.specs.Sentences.{engine_sentence, front_words, queue_sentence};
 
+use crate::keeping::add_queue_keeping;
 use crate::words::{add_counted, add_counted_twice, add_no_engine, add_no_group, add_want};
 use dsa_device::Device;
 use dsa_explain::{EngineReason, QueueReason, engine_reason, queue_reason};
@@ -109,7 +110,8 @@ fn add_queue<S: EntryStore>(
         return Ok(());
     };
     text.push_str(joint(device, engine, queue))?;
-    add_queue_reason(text, queue, front_name(device, queue), &reason)
+    add_queue_reason(text, queue, front_name(device, queue), &reason)?;
+    add_queue_keeping(text, device, &reason)
 }
 
 // The reason of each queue of the engine's group.

@@ -1,11 +1,12 @@
 //! What engines do not do with members and with entries in progress.
 
 ghost use Rattle.std.specs.Prelude.{◌≡◌, ◌++◌, OnOk, string_bytes};
-ghost use Rattle.dsa_explain_lines.specs.Sentences.{closed_words, fetch_sentence, finish_sentence, start_sentence};
+ghost use Rattle.dsa_explain_lines.specs.Sentences.{closed_words, failed_words, fetch_sentence, finish_sentence, start_sentence};
 
 use crate::words::{
     add_counted, add_counted_twice, add_list, add_no_engine, add_no_group, add_want,
 };
+use dsa_event_words::add_number;
 use dsa_explain::{FetchReason, FinishReason, StartReason};
 use std::alloc::AllocError;
 
@@ -41,6 +42,16 @@ pub fn add_fetch_reason(
     }
 }
 
+// The member that failed.
+fn add_failed(text: &mut String, failed: Option<u32>) -> Result<(), AllocError>
+    ensures { OnOk result (string_bytes text.new ≡ string_bytes text.old ++ failed_words failed) }
+{
+    match failed {
+        Some(name) => add_number(text, "", name),
+        None => text.push_str("one"),
+    }
+}
+
 /// Adds the sentence of why the engine starts no member.
 pub fn add_start_reason(
     text: &mut String,
@@ -55,9 +66,14 @@ pub fn add_start_reason(
             let between = " has a fence, and waits for ";
             add_counted_twice(text, "member ", *member, between, *waits_for, "")
         }
-        StartReason::Failed { member, left } => {
-            let between = " has a fence, one before it failed, and ";
-            add_counted_twice(text, "member ", *member, between, *left, " end unstarted")
+        StartReason::Failed {
+            member,
+            failed,
+            left,
+        } => {
+            add_counted(text, "member ", *member, " has a fence, ")?;
+            add_failed(text, *failed)?;
+            add_counted(text, " before it failed, and ", *left, " end unstarted")
         }
         StartReason::NoBuffers(want) => {
             text.push_str("the member ")?;

@@ -1,19 +1,20 @@
 //! What a line tells behind an answer.
 
 ghost use Rattle.std.specs.Prelude.{◌≡◌, ◌++◌, OnOk, string_bytes};
-ghost use Rattle.dsa_explain.specs.Batch.{fetch_reason, start_reason};
+ghost use Rattle.dsa_explain.specs.Batch.{fetch_reason};
 ghost use Rattle.dsa_explain.specs.Finish.{finish_reason};
 ghost use Rattle.dsa_explain.specs.Submission.{submit_reason};
 ghost use Rattle.dsa_explain.specs.Command.{poll_reason};
 ghost use Rattle.dsa_explain.specs.Held.{awaited_entry};
 ghost use Rattle.dsa_explain.specs.Write.{clear_reason, write_group_reason, write_queue_reason};
-ghost use Rattle.dsa_explain_lines.specs.Sentences.{clear_sentence, counted, fetch_sentence, finish_sentence, poll_sentence, start_sentence, submit_sentence, write_sentence};
-ghost use Rattle.dsa_explain_lines.specs.Parts.{check_reason, event_part, issue_part, part_of, told_of};
+ghost use Rattle.dsa_explain_lines.specs.Sentences.{clear_sentence, counted, fetch_sentence, finish_sentence, poll_sentence, submit_sentence, write_sentence};
+ghost use Rattle.dsa_explain_lines.specs.Parts.{check_reason, event_part, issue_part, part_of, start_part, told_of};
 
 use crate::commands::{add_issue_reason, add_poll_reason};
 use crate::dispatch::add_dispatch_part;
 use crate::engines::{add_fetch_reason, add_finish_reason, add_start_reason};
-use crate::removals::add_removal_part;
+use crate::keeping::add_start_keeping;
+use crate::removals::add_deed_part;
 use crate::submissions::add_submit_reason;
 use crate::writes::{add_clear_reason, add_write_reason};
 use dsa_book::{Event, Kind, Portal, Ticket};
@@ -63,13 +64,14 @@ fn add_start_part<S: EntryStore>(
     device: &Device<S>,
     engine: u16,
 ) -> Result<(), AllocError>
-    ensures { OnOk result (string_bytes text.new ≡ string_bytes text.old ++ told_of (start_sentence engine) (start_reason device.now.state.work engine)) }
+    ensures { OnOk result (string_bytes text.new ≡ string_bytes text.old ++ start_part device.now.state.work engine) }
 {
     let Some(reason) = start_reason(device, engine) else {
         return Ok(());
     };
     text.push_str(": ")?;
-    add_start_reason(text, engine, &reason)
+    add_start_reason(text, engine, &reason)?;
+    add_start_keeping(text, device, &reason)
 }
 
 fn add_finish_part<S: EntryStore>(
@@ -108,10 +110,11 @@ fn add_issue_part<S: EntryStore>(
     ensures { OnOk result (string_bytes text.new ≡ string_bytes text.old ++ issue_part device.now.state command) }
 {
     let Some(reason) = issue_reason(device, command) else {
-        return add_removal_part(text, device, &command);
+        return add_deed_part(text, device, &command);
     };
     text.push_str(": ")?;
-    add_issue_reason(text, &check_reason(device, command.scope()), &reason)
+    let found = check_reason(device, command.scope());
+    add_issue_reason(text, &found, &awaited_entry(device), &reason)
 }
 
 fn add_poll_part<S: EntryStore>(text: &mut String, device: &Device<S>) -> Result<(), AllocError>

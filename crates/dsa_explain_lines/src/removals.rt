@@ -1,17 +1,19 @@
-//! What a command removes that is carried out.
+//! What a command removes that is carried out, and what it waits for.
 
 ghost use Rattle.std.specs.Prelude.{◌≡◌, ◌<◌, ◌++◌, OnOk, IfOk, codes, cond, decimal, length, nat_lt, string_bytes};
 ghost use Rattle.dsa_regs.specs.Caps.{HasList, list_number};
 ghost use Rattle.dsa_regs.specs.Command.{deed_of};
 ghost use Rattle.dsa_store.specs.Content.{chain};
 ghost use Rattle.dsa_explain.specs.Held.{losses, removed_names};
-ghost use Rattle.dsa_explain_lines.specs.Sentences.{loss_head, loss_words};
-ghost use Rattle.dsa_explain_lines.specs.Parts.{losses_part, removal_part};
+ghost use Rattle.dsa_explain.specs.Command.{wait_reason};
+ghost use Rattle.dsa_explain_lines.specs.Sentences.{loss_head, loss_words, wait_sentence};
+ghost use Rattle.dsa_explain_lines.specs.Parts.{deed_part, losses_part, told_of};
 
+use crate::commands::add_wait_reason;
 use crate::words::add_list;
 use dsa_device::Device;
 use dsa_event_words::add_number;
-use dsa_explain::{is_removed, slots_of};
+use dsa_explain::{is_removed, slots_of, wait_reason};
 use dsa_regs::{Command, Deed, ListUse, list_count};
 use dsa_store::EntryStore;
 use std::alloc::AllocError;
@@ -82,17 +84,33 @@ fn add_losses<S: EntryStore>(
     Ok(())
 }
 
-/// Adds what the command removes where it is carried out: an abort and a reset name it, list by list.
-pub fn add_removal_part<S: EntryStore>(
+// What the command waits for, where it is answered active.
+fn add_wait_part<S: EntryStore>(
     text: &mut String,
     device: &Device<S>,
     command: &Command,
 ) -> Result<(), AllocError>
-    ensures { OnOk result (string_bytes text.new ≡ string_bytes text.old ++ removal_part device.now.state command.now (deed_of command.now)) }
+    ensures { OnOk result (string_bytes text.new ≡ string_bytes text.old ++ told_of wait_sentence (wait_reason device.now.state command.now)) }
+{
+    let Some(reason) = wait_reason(device, *command) else {
+        return Ok(());
+    };
+    text.push_str(": ")?;
+    add_wait_reason(text, &reason)
+}
+
+/// Adds what is told of the command where it is carried out: an abort and a reset name what they remove, list by list, and
+/// what is answered active waits for entries.
+pub fn add_deed_part<S: EntryStore>(
+    text: &mut String,
+    device: &Device<S>,
+    command: &Command,
+) -> Result<(), AllocError>
+    ensures { OnOk result (string_bytes text.new ≡ string_bytes text.old ++ deed_part device.now.state command.now (deed_of command.now)) }
 {
     match command.deed() {
         Deed::Abort => add_losses(text, device, command),
         Deed::Reset => add_losses(text, device, command),
-        _ => Ok(()),
+        _ => add_wait_part(text, device, command),
     }
 }

@@ -1,0 +1,19 @@
+use Rattle.dsa_explain.proofs.awaiting.count_in.Goals as goal
+use Rattle.std.proofs.Common.{arith, ap, length, length-append}
+use Rattle.std.proofs.lemmas.List.Sums.{count_by-le-length}
+use Rattle.dsa_regs.specs.Caps.{list_number}
+use Rattle.dsa_store.{specs.Content.{Slot}, proofs.Lists.{length-le-held}}
+use Rattle.dsa_admin.specs.Admin.{is_waited_for}
+
+pub overflow_add-count : goal.overflow_add-count
+overflow_add-count g c =
+    omega (
+      arith,
+      c.loop-cell.invariant.count,
+      count_by-le-length (λ (slot : Slot). is_waited_for c.args.noted.now slot.1) c.loop-cell.yielded,
+      ap length c.loop-cell.invariant.parts,
+      ap length c.in-Some.ensures.steps,
+      length-append c.loop-cell.yielded c.loop-cell._cell-iterator,
+      length-le-held c.args.device.now.state.work.content (list_number c.args.device.now.caps c.args.list),
+      c.requires.few,
+    )

@@ -1,0 +1,159 @@
+//! What a drain or a disable waits for: the active one, or one that would be answered active.
+
+ghost use Rattle.std.specs.Prelude.{◌≡◌, ◌<◌, ◌^◌, ◌↔◌, None, Some, true, find, is_some, map};
+ghost use Rattle.std.specs.List.{count_by};
+ghost use Rattle.dsa_regs.specs.declared.Command.{Command};
+ghost use Rattle.dsa_regs.specs.Caps.{HasList, list_number};
+ghost use Rattle.dsa_store.specs.Content.{chain, count_where, held_count};
+ghost use Rattle.dsa_book.specs.declared.note.ActiveCommand.{ActiveCommand};
+ghost use Rattle.dsa_book.specs.State.{State};
+ghost use Rattle.dsa_book.specs.Commands.{is_at_end, issue};
+ghost use Rattle.dsa_admin.specs.Admin.{is_awaited_by, is_waited_for};
+ghost use Rattle.dsa_explain.specs.Held.{awaited_entry, first_awaited, held_in};
+ghost use Rattle.dsa_explain.specs.Command.{is_active_answer, is_waiting, noted_by, wait_of_active, wait_reason};
+
+use crate::command::{commands_follow_reasons, issue_reason};
+use crate::held::{Held, slots_of};
+use dsa_admin::is_in_scope;
+use dsa_book::ActiveCommand;
+use dsa_device::Device;
+use dsa_regs::{Command, Deed, ListUse, list_count};
+use dsa_store::{Entry, EntryStore};
+
+/// What keeps a drain or a disable from its end: so many held entries, the first of them list by list and the front first.
+#[derive(Clone, Copy, Debug, PartialEq, Eq)]
+pub struct WaitReason {
+    pub awaited: u32,
+    pub first: Held,
+}
+
+// Who waits: the active command, or one that would be noted so.
+#[derive(Clone, Copy)]
+enum Waiter {
+    Active,
+    Noted(ActiveCommand),
+}
+
+// Whether a command that is noted so waits for the entry.
+fn is_waited_for(noted: &ActiveCommand, entry: &Entry) -> bool
+    ensures { result ≡ is_waited_for noted.now entry.now }
+{
+    let is_meant = is_in_scope(&noted.command.scope(), entry);
+    match noted.command.deed() {
+        Deed::Disable => is_meant,
+        _ => is_meant && entry.parent.is_none() && entry.name < noted.mark,
+    }
+}
+
+// Whether the entry is waited for.
+fn is_awaited<S: EntryStore>(device: &Device<S>, waiter: &Waiter, entry: &Entry) -> bool
+    ensures { result ≡ is_awaited_by (noted_by device.now.state.active waiter.now) entry.now }
+{
+    match waiter {
+        Waiter::Active => device.awaits(entry),
+        Waiter::Noted(noted) => is_waited_for(noted, entry),
+    }
+}
+
+// The first entry of the list that is waited for.
+fn first_in<S: EntryStore>(device: &Device<S>, waiter: &Waiter, list: ListUse) -> Option<Held>
+    requires { HasList device.now.caps list }
+    ensures { result ≡ find (λ held. is_awaited_by (noted_by device.now.state.active waiter.now) held.entry) (map (held_in list) (chain device.now.state.work.content (list_number device.now.caps list))) }
+{
+    let mut slots = slots_of(device, list);
+    let (cell, entry) = slots.find(|slot| is_awaited(device, waiter, &slot.1))?;
+    Some(Held { list, cell, entry })
+}
+
+// The first held entry that is waited for.
+fn first_awaited<S: EntryStore>(device: &Device<S>, waiter: &Waiter) -> Option<Held>
+    ensures { result ≡ first_awaited (noted_by device.now.state.active waiter.now) device.now.state }
+{
+    device.state_is_replay();
+    let caps = device.caps();
+    for number in 0..list_count(&caps) {
+        let held = first_in(device, waiter, caps.list_use(number));
+        if held.is_some() {
+            return held;
+        }
+    }
+    None
+}
+
+/// The first held entry that the active command waits for, list by list and the front first. `None` exactly where no
+/// command is active, or the active one is at its end.
+pub fn awaited_entry<S: EntryStore>(device: &Device<S>) -> Option<Held>
+    ensures { result ≡ awaited_entry device.now.state }
+{
+    first_awaited(device, &Waiter::Active)
+}
+
+// How many entries of the list a command waits for that is noted so.
+fn count_in<S: EntryStore>(device: &Device<S>, noted: &ActiveCommand, list: ListUse) -> u32
+    requires list { HasList device.now.caps list }
+    requires few { held_count device.now.state.work.content < 2 ^ 32 }
+    ensures { result ≡ count_by (λ slot. is_waited_for noted.now slot.1) (chain device.now.state.work.content (list_number device.now.caps list)) }
+{
+    let mut count = 0;
+    for (_cell, entry) in slots_of(device, list) {
+        if is_waited_for(noted, &entry) {
+            count += 1;
+        }
+    }
+    count
+}
+
+// How many held entries a command waits for that is noted so.
+fn count_awaited<S: EntryStore>(device: &Device<S>, noted: &ActiveCommand) -> u32
+    requires { held_count device.now.state.work.content < 2 ^ 32 }
+    ensures { result ≡ count_where (is_waited_for noted.now) device.now.state.work.content }
+{
+    device.state_is_replay();
+    let caps = device.caps();
+    let mut count = 0;
+    for number in 0..list_count(&caps) {
+        count += count_in(device, noted, caps.list_use(number));
+    }
+    count
+}
+
+// Whether the deed waits for what is held.
+fn is_waiting(deed: Deed) -> bool
+    ensures { result ≡ is_waiting deed }
+{
+    match deed {
+        Deed::Disable => true,
+        Deed::Drain => true,
+        _ => false,
+    }
+}
+
+/// What this command would wait for. `None` exactly where it would not be answered active: it would be refused, or over at once.
+pub fn wait_reason<S: EntryStore>(device: &Device<S>, command: Command) -> Option<WaitReason>
+    ensures { result ≡ wait_reason device.now.state command }
+{
+    device.state_is_replay();
+    commands_follow_reasons();
+    if issue_reason(device, command).is_some() || !is_waiting(command.deed()) {
+        return None;
+    }
+    let noted = ActiveCommand {
+        command,
+        mark: device.next_name(),
+    };
+    let first = first_awaited(device, &Waiter::Noted(noted))?;
+    let awaited = count_awaited(device, &noted);
+    Some(WaitReason { awaited, first })
+}
+
+/// An active command is at its end exactly where no entry is told that it waits for.
+pub fn commands_wait_for_what_is_told()
+    ensures { (s : State) (active : ActiveCommand) → s.active ≡ Some active → (awaited_entry s ≡ None) ↔ (is_at_end active s.work.content ≡ true) }
+{}
+
+/// A command is answered active exactly where it is told what it waits for, and then that is what the active command of the
+/// state after it waits for.
+pub fn waits_follow_reasons()
+    ensures told { (s : State) (command : Command) → is_active_answer (issue s command).0 ≡ is_some (wait_reason s command) }
+    ensures kept { (s : State) (command : Command) → is_active_answer (issue s command).0 ≡ true → wait_of_active (issue s command).1 ≡ wait_reason s command }
+{}
