@@ -1,4 +1,6 @@
 use Rattle.dsa_explain_lines.proofs.engines.add_start_reason.Goals as goal
+use Rattle.std.proofs.lemmas.Result.{on_ok_weaker}
+use Rattle.dsa_explain_lines.proofs.Joining.{behind_two}
 
 pub returns-in-Nothing : goal.returns-in-Nothing
 returns-in-Nothing c = rw (c.in-Nothing.is, ← c.from.ensures) c.add_counted.ensures
@@ -6,5 +8,7 @@ returns-in-Nothing c = rw (c.in-Nothing.is, ← c.from.ensures) c.add_counted.en
 pub returns-in-Fence : goal.returns-in-Fence
 returns-in-Fence c = rw c.in-Fence.is c.add_counted_twice.ensures
 
-pub returns-in-Failed : goal.returns-in-Failed
-returns-in-Failed c = rw c.in-Failed.is c.add_counted_twice-in-Failed.ensures
+pub returns-in_ok-add_failed-in-Failed : goal.returns-in_ok-add_failed-in-Failed
+returns-in_ok-add_failed-in-Failed c = rw c.in-Failed.is (on_ok_weaker c.add_counted-in-Failed-2.result
+    (λ e. behind_two _ _ _ _ _ _ _ c.in_ok-add_counted-in-Failed.ensures c.in_ok-add_failed-in-Failed.ensures e)
+    c.add_counted-in-Failed-2.ensures)
