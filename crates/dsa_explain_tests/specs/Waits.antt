@@ -1,0 +1,19 @@
+-- What is told of a wait.
+use Rattle.std.specs.Prelude.{ℕ, List, Option, option_map, option_and_then}
+use Rattle.dsa_regs.specs.declared.{Command.{Command}, layout.ListUse.{ListUse}}
+use Rattle.dsa_book.specs.declared.event.Step.{Step}
+use Rattle.dsa_worked.specs.Setup.{state_after}
+use Rattle.dsa_explain.specs.declared.awaiting.WaitReason.{WaitReason}
+use Rattle.dsa_explain.specs.Command.{wait_of_active, wait_reason}
+
+-- how many entries are waited for, and the first by its name and its list
+abbrev pub numbers : WaitReason → ℕ × ℕ × ListUse
+numbers wait = (wait.awaited, wait.first.entry.name, wait.first.list)
+
+-- what the command would wait for after these steps, if it would
+abbrev pub wait_after : List Step → Command → Option (ℕ × ℕ × ListUse)
+wait_after steps command = option_and_then (λ s. option_map numbers (wait_reason s command)) (state_after steps)
+
+-- and what the active one waits for
+abbrev pub active_after : List Step → Option (ℕ × ℕ × ListUse)
+active_after steps = option_and_then (λ s. option_map numbers (wait_of_active s)) (state_after steps)
