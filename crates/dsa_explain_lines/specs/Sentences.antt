@@ -132,7 +132,7 @@ fetch_sentence e (fetch.AllFetched count fetched closed) =
 -- the member that failed
 abbrev pub failed_words : Option ℕ → List ℕ
 failed_words None = codes "one"
-failed_words (Some name) = decimal name
+failed_words (Some name) = codes "member " ++ decimal name
 
 -- of the engine
 abbrev pub start_sentence : ℕ → StartReason → List ℕ

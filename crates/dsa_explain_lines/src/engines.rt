@@ -47,7 +47,7 @@ fn add_failed(text: &mut String, failed: Option<u32>) -> Result<(), AllocError>
     ensures { OnOk result (string_bytes text.new ≡ string_bytes text.old ++ failed_words failed) }
 {
     match failed {
-        Some(name) => add_number(text, "", name),
+        Some(name) => add_number(text, "member ", name),
         None => text.push_str("one"),
     }
 }
