@@ -130,7 +130,7 @@ taken-offer w e q None is may =
 taken-offer w e q (Some front) is may = (taken_from e q (ticket_of front), rw (may, is) refl, refl)
 
 -- a queue that qualifies is one of the device's
-below_queues : (w : Work) (e q : ℕ) → qualifies w e q ≡ true → q < w.setup.caps.queues
+pub below_queues : (w : Work) (e q : ℕ) → qualifies w e q ≡ true → q < w.setup.caps.queues
 below_queues w e q may = ltb-true q w.setup.caps.queues (and_parts _ _ (and_parts _ _ may).0).1
 
 -- what the machine answers is one of the offers, or there are none and it is idle

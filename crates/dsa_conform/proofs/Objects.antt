@@ -1,7 +1,7 @@
 -- The step objects of a document, one after the other.
 use Rattle.std.proofs.Common.{◌≡◌, ◌<◌, ◌≤◌, ℕ, ◌+◌, List, [], ◌∷◌, ◌++◌}
 use Rattle.std.proofs.Common.{Option, Some, None, refl, sym, ap, ◌∙◌, map, length}
-use Rattle.std.proofs.Common.{take, get_or, option_map, subst, arith}
+use Rattle.std.proofs.Common.{take, get_or, option_map}
 use Rattle.std.proofs.lemmas.List.{take_more, take_all, length-map, map-append}
 use Rattle.std.proofs.lemmas.Option.{slice_get-map, slice_get_read, get_or_from_slice_get, same_Some}
 use Rattle.std.proofs.Math.ListN.{get_or-map}
@@ -76,6 +76,23 @@ read_at vs observed i v h inside is = found (slice_get observed i) refl (sym lef
       more = take_more observed i here (rw (count_read vs observed h) inside)
           ∙ ap (λ o. take i observed ++ o ∷ []) (get_or_from_slice_get observed i here here at);
     }
+
+-- a list that is read has nothing in it that is not
+pub not_first : {X : Type 0} (rest : List (Option X)) (read : List X) → None ∷ rest ≡ map Some read → ⊥
+not_first rest [] e = absurd cc
+not_first rest (x ∷ xs) e = absurd cc
+
+pub not_second : {X : Type 0} (first : Option X) (rest : List (Option X)) (read : List X)
+    → first ∷ None ∷ rest ≡ map Some read → ⊥
+not_second first rest [] e = absurd cc
+not_second first rest (x ∷ []) e = absurd cc
+not_second first rest (x ∷ y ∷ ys) e = absurd cc
+
+-- and one of one item has that item
+pub one_read : {X : Type 0} (x : X) (read : List X) → Some x ∷ [] ≡ map Some read → read ≡ x ∷ []
+one_read x [] e = absurd cc
+one_read x (y ∷ []) e = cc
+one_read x (y ∷ z ∷ zs) e = absurd cc
 
 -- one item more that was read
 pub read_next : {B : Type 0} (f : B → Action × Seen) (vs : List Value) (i : ℕ) (v : Value) (o : Option B)

@@ -8,7 +8,8 @@ use Rattle.dsa_book.specs.{declared.{answer.Ticket.{Ticket}, event.Event.{Event}
 use Rattle.dsa_device.specs.Running.{Running}
 use Rattle.dsa_scenario.specs.declared.{actions.Action.{Action}, run.Record.{Record}}
 use Rattle.dsa_scenario.specs.declared.faults.ScenarioFault.{ScenarioFault, TheVariants.{BadStep, Differs}}
-use Rattle.dsa_scenario.specs.{Document.{HasHead}, Run.{event_of, steps_of, AreOf}, Steps.{standing, IsWalkTo}}
+use Rattle.dsa_scenario.specs.{Document.{HasHead, IsFaultOf}, Run.{event_of, steps_of, AreOf}}
+use Rattle.dsa_scenario.specs.Steps.{standing, IsWalkTo}
 use Rattle.dsa_explain_lines.specs.Parts.{part_of}
 use Rattle.dsa_conform.specs.Allowed.{AreAllowed, NoneShows}
 use Rattle.dsa_conform.specs.Lines.{conforms_text, seen_count, difference_text}
@@ -95,6 +96,10 @@ pub record IsUnread (bytes : List ℕ) (i : ℕ) : Type 0 where
 abbrev pub IsConformance : List ℕ → Option ScenarioFault → List ℕ → Type 0
 IsConformance bytes (Some (BadStep i)) text = IsUnread bytes i × (text ≡ [])
 IsConformance bytes fault text = IsJudged bytes fault text
+
+-- any other fault is that of the plain run, of a document that has no object to be told so (profile)
+abbrev pub IsOtherFault : List ℕ → ScenarioFault → Type 0
+IsOtherFault bytes fault = IsFaultOf bytes fault × ((i : ℕ) → ¬ IsUnread bytes i)
 
 -- ---- a walk
 

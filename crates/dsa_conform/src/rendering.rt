@@ -1,8 +1,7 @@
 //! A document in, whether it conforms out.
 
 ghost use Rattle.std.specs.Prelude.{◌≡◌, ◌⊎◌, IfErr, IfOk, string_bytes};
-ghost use Rattle.dsa_scenario.specs.Document.{IsFaultOf};
-ghost use Rattle.dsa_conform.specs.Run.{IsConformance};
+ghost use Rattle.dsa_conform.specs.Run.{IsConformance, IsOtherFault};
 
 use crate::observed::first_unread;
 use crate::walk::walk_steps;
@@ -24,9 +23,12 @@ impl Render for Conformance {
 }
 
 /// Whether the steps of the document in these bytes may be answered as was seen.
+///
+/// The first object that is no step object with what was seen is told in any case. No step is run before all objects are
+/// read, and of the other faults only those of what is no document come before.
 pub fn render_conformance(alloc: Global, bytes: &[u8]) -> Result<Rendering, ScenarioFault>
     ensures ok { IfOk result (λ r. IsConformance bytes.now r.fault (string_bytes r.text)) }
-    ensures err { IfErr result (λ e. (e ≡ ScenarioFault.OutOfMemory) ⊎ IsFaultOf bytes.now e) }
+    ensures err { IfErr result (λ e. (e ≡ ScenarioFault.OutOfMemory) ⊎ IsOtherFault bytes.now e) }
 {
     let value = parse_json(alloc, bytes)?;
     let Some(head) = parse_head(&value) else {

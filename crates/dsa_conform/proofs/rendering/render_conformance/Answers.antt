@@ -1,8 +1,8 @@
 use Rattle.dsa_conform.proofs.rendering.render_conformance.Goals as goal
 use Rattle.std.proofs.lemmas.Result.{err_from_is_err_and}
 use Rattle.dsa_device.proofs.NewStore.{new-make_fault}
-use Rattle.dsa_scenario.proofs.Whole.{has_head, bad_head}
-use Rattle.dsa_conform.proofs.{Objects.{asked_of}, Steps.{conformance_of}}
+use Rattle.dsa_scenario.proofs.Whole.{has_head}
+use Rattle.dsa_conform.proofs.{Faults.{bad_keys}, Steps.{conformance_of}}
 
 pub returns-in-Some-first_unread-clause-ok : goal.returns-in-Some-first_unread-clause-ok
 returns-in-Some-first_unread-clause-ok c = (
@@ -19,8 +19,8 @@ returns-in-Some-first_unread-clause-ok c = (
 pub returns-in_err-check_head-clause-err : goal.returns-in_err-check_head-clause-err
 returns-in_err-check_head-clause-err c =
     let p = err_from_is_err_and c.from_residual-in_err-check_head.result c.from_residual-in_err-check_head.ensures.1 in
-    rw (p.1, p.2) (bad_head _ _ _ _ _ _ (has_head _ _ _ _ _ c.in_ok-value.ensures.ok c.in-Some.ensures)
-    (asked_of _ _ c.in_default-first_unread.ensures.1) c.in_err-check_head.ensures.bad)
+    rw (p.1, p.2) (bad_keys _ _ _ _ _ _ (has_head _ _ _ _ _ c.in_ok-value.ensures.ok c.in-Some.ensures)
+    c.in_default-first_unread.ensures.1 c.in_err-check_head.ensures.bad)
 
 pub walk_steps-requires-clause-fits : goal.walk_steps-requires-clause-fits
 walk_steps-requires-clause-fits c = new-make_fault c.in-Some.head.caps c.in-Some.head.capacity

@@ -26,3 +26,9 @@ unfolding digits
 returns-clause-not_allowed c is =
     let run = is.run in
     absurd cc
+
+pub returns-clause-second_not_shown : goal.returns-clause-second_not_shown
+unfolding digits
+returns-clause-second_not_shown c are =
+    let shown = are.1.0 in
+    absurd cc

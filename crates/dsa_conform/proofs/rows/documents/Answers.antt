@@ -7,19 +7,20 @@ use Rattle.std.proofs.Common.{subst, arith, lit≤}
 use Rattle.std.specs.{Prelude.{Contains, encode_utf8_all}, Str.{all_scalars}, Fmt.{digits}, Option.{option_map_or}}
 use Rattle.std.proofs.lemmas.List.Elements.{All-nil, All-cons, Contains-push}
 use Rattle.serde_json.{specs.{Data.{Data, Items}, Read.{read}}, proofs.OnLiterals.{serde_json_on_literals}}
-use Rattle.dsa_regs.specs.declared.Caps.{Caps}
+use Rattle.dsa_regs.specs.{declared.Caps.{Caps}, Caps.{check_caps}}
 use Rattle.dsa_book.specs.declared.{event.Event.{Event}, answer.Reply.{Reply}}
 use Rattle.dsa_answers.proofs.Choices.{replies-alike}
 use Rattle.dsa_device.{specs.Running.{Running, after_answer}, proofs.Steps.{answered_by_cases}}
 use Rattle.dsa_scenario.specs.declared.{actions.Action.{Action, TheVariants.{Ask}}, run.Record.{Record}}
 use Rattle.dsa_scenario.specs.declared.run.Record.TheVariants.{Stepped, Refused}
 use Rattle.dsa_scenario.specs.{Document.{HasHead, head_of, list_of}, Lines.{record_text}, Run.{answered_by}}
-use Rattle.dsa_scenario.specs.Worked.{smallest_caps, stepped}
+use Rattle.dsa_scenario.specs.Worked.{smallest_caps, smallest_caps_text, no_caps_text, document_text, stepped}
 use Rattle.dsa_conform.specs.Allowed.{IsAllowed}
 use Rattle.dsa_conform.specs.Seen.{Seen, observation_of, shows}
 use Rattle.dsa_conform.specs.Lines.{conforms_text, seen_count}
 use Rattle.dsa_conform.specs.Run.{AreRead, IsShownRun, IsConformance}
 use Rattle.dsa_conform.specs.Worked.{answered, flagged, at_first, document_of, poll_with}
+use Rattle.dsa_conform.proofs.Objects.{not_first, not_second}
 
 -- a device before its first step answers a poll so, and in no other way
 abbrev nothing : Record
@@ -137,17 +138,12 @@ same_head text d caps capacity steps e has =
     let same : d ≡ has.document = cc in
     ap head_of same ∙ has.head
 
--- what is no observation is not read as one
-not_read : (done : List (Action × Seen)) → None ∷ [] ≡ map Some done → ⊥
-not_read [] e = absurd cc
-not_read (o ∷ done) e = absurd cc
-
 pub returns-clause-second : goal.returns-clause-second
 unfolding serde_json_on_literals digits
 returns-clause-second c is =
     let head = same_head (document_of (codes "1,2")) _ _ _ _ refl is.0.head in
     let steps = ap (λ o. option_map_or (λ (h : Head). list_of h.2) o []) head ∙ is.0.head.listed in
-    not_read is.0.bad.done (ap (λ (l : List Data). map observation_of (take 1 l)) steps ∙ is.0.bad.before)
+    not_first [] is.0.bad.done (ap (λ (l : List Data). map observation_of (take 1 l)) steps ∙ is.0.bad.before)
 
 pub returns-clause-unread_with_a_text : goal.returns-clause-unread_with_a_text
 returns-clause-unread_with_a_text c is =
@@ -156,3 +152,25 @@ returns-clause-unread_with_a_text c is =
 
 pub returns-clause-other_fault : goal.returns-clause-other_fault
 returns-clause-other_fault c is = is.verdict
+
+pub returns-clause-unread_behind : goal.returns-clause-unread_behind
+unfolding serde_json_on_literals digits
+returns-clause-unread_behind c is =
+    let text = document_of (poll_with (codes "\"answer\":\"active\"") ++ codes "," ++ poll_with (codes "\"zf\":1")) in
+    let head = same_head text _ _ _ _ refl is.head in
+    let steps = ap (λ o. option_map_or (λ (h : Head). list_of h.2) o []) head ∙ is.head.listed in
+    not_second _ [] is.verdict.observed (ap (map observation_of) steps ∙ is.verdict.read)
+
+pub returns-clause-no_caps : goal.returns-clause-no_caps
+unfolding serde_json_on_literals
+returns-clause-no_caps c is =
+    let head = same_head (document_text no_caps_text (codes "9") []) _ _ _ _ refl is.head in
+    let bad : false ≡ true = ap (λ o. option_map_or (λ (h : Head). check_caps h.0) o true) head ∙ is.good in
+    absurd cc
+
+pub returns-clause-no_capacity : goal.returns-clause-no_capacity
+unfolding serde_json_on_literals
+returns-clause-no_capacity c is =
+    let head = same_head (document_text smallest_caps_text (codes "1048577") []) _ _ _ _ refl is.head in
+    let capacity : 1_048_577 ≡ is.capacity = ap (λ o. option_map_or (λ (h : Head). h.1) o 0) head in
+    absurd (omega (arith, capacity, is.small))
