@@ -66,7 +66,9 @@ pub fn find_shown<S: EntryStore>(
         ((q : ℕ) → (entry : Record) → q < device.now.state.work.setup.caps.queues
         → offer device.now.state.work engine q ≡ Some entry → shows (seen_as seen.now) entry ≡ false)
         (λ q. (entry : Record) × (offer device.now.state.work engine q ≡ Some entry)
-        × (shows (seen_as seen.now) entry ≡ true))) }
+        × (shows (seen_as seen.now) entry ≡ true)
+        × ((p : ℕ) → (other : Record) → p < q → offer device.now.state.work engine p ≡ Some other
+        → shows (seen_as seen.now) other ≡ false))) }
 {
     device.state_is_replay();
     for queue in 0..device.caps().queues {

@@ -1,6 +1,6 @@
 //! Worked answers: which of them show what was seen, and what is told, by computation.
 
-ghost use Rattle.std.specs.Prelude.{◌≡◌, ◌++◌, ◌∷◌, [], Some, None, Ok, Err, true, false, map, codes, replicate};
+ghost use Rattle.std.specs.Prelude.{◌≡◌, ◌++◌, ◌∷◌, [], Some, None, Ok, Err, true, false, map, take, codes, replicate};
 ghost use Rattle.std.specs.declared.vec.Vec.{Vec};
 ghost use Rattle.std.specs.declared.alloc.Global.{Global};
 ghost use Rattle.serde_json.specs.Data.{null, boolean, string};
@@ -13,9 +13,10 @@ ghost use Rattle.dsa_book.specs.declared.answer.PollAnswer.TheVariants.{Active, 
 ghost use Rattle.dsa_book.specs.declared.answer.Reply.TheVariants as reply;
 ghost use Rattle.dsa_book.specs.declared.event.Event.TheVariants as event;
 ghost use Rattle.dsa_book.specs.declared.event.Kind.TheVariants.{Enqcmd, Movdir64b};
+ghost use Rattle.dsa_desc.specs.declared.Outcome.TheVariants.{Success};
 ghost use Rattle.dsa_regs.specs.declared.Fault.TheVariants.{BadCommand, Busy};
 ghost use Rattle.dsa_device.specs.Running.{running_at_first};
-ghost use Rattle.dsa_scenario.specs.declared.actions.Action.TheVariants.{Ask, Refuse};
+ghost use Rattle.dsa_scenario.specs.declared.actions.Action.TheVariants.{Ask, Finish, Refuse};
 ghost use Rattle.dsa_scenario.specs.declared.faults.ScenarioFault.TheVariants.{NotJson, BadStep, BadCaps, Differs};
 ghost use Rattle.dsa_scenario.specs.declared.run.Record.{Record, TheVariants.{Refused}};
 ghost use Rattle.dsa_scenario.specs.Worked.{whole, object_of, changed, command_step, poll_step, ticket, stepped, fill, smallest_caps, smallest_caps_text, no_caps_text, document_text, caps_of_a_run, group_of_a_run, records_of_a_run};
@@ -195,6 +196,7 @@ pub fn objects()
 #[tactic(auto, unfolding(dsa_scenario::specs::Worked::digits_on_literals))]
 pub fn verdicts()
     ensures after_one { IsDifference smallest_caps 1 ((Ask (event.WriteGroup 0 group_of_a_run), nothing_seen) ∷ []) (Ask event.Poll, answered (codes "nothing")) 1 (codes "step 1: poll\nseen: nothing\nallowed: full: the history has room for 1 steps\n") }
+    ensures after_seven { IsDifference caps_of_a_run 7 (take 7 observed_of_a_run) (Finish 0 0 Success, answered (codes "idle")) 7 (codes "step 7: finish e0 name 0 success\nseen: idle\nallowed: done 01\n") }
     ensures shown { ¬ IsRefusal at_first 0 (Ok event.Poll) (answered (codes "nothing")) (codes "step 0: poll\nseen: nothing\nallowed: nothing: no command is active\n") }
     ensures untold { ¬ IsRefusal at_first 0 (Ok event.Poll) (answered (codes "active")) [] }
     ensures earlier { ¬ IsDifference smallest_caps 9 ((Refuse BadCommand, answered (codes "nothing")) ∷ []) (Ask event.Poll, answered (codes "active")) 1 (codes "step 1: poll\nseen: active\nallowed: nothing: no command is active\n") }

@@ -6,20 +6,23 @@ use Rattle.std.proofs.Common.{◌≡◌, ℕ, true, false, List, [], ◌∷◌, 
 use Rattle.std.proofs.Common.{sym, ap, subst, arith}
 use Rattle.std.specs.{Prelude.{Contains, slice_get}, Fmt.{digits}}
 use Rattle.std.proofs.lemmas.List.Elements.{All-nil, All-cons, Contains-push}
+use Rattle.dsa_desc.specs.declared.Outcome.TheVariants.{Success}
 use Rattle.dsa_regs.specs.declared.Fault.TheVariants.{BadCommand}
 use Rattle.dsa_book.specs.declared.{answer.{Reply.{Reply}, WriteAnswer.TheVariants.{Written}}, event.Event.{Event}}
+use Rattle.dsa_book.specs.declared.answer.FinishAnswer.TheVariants.{Done}
 use Rattle.dsa_book.specs.Machine.{full_reply}
 use Rattle.dsa_book.proofs.EqualReplies.{equal-replies}
+use Rattle.dsa_answers.proofs.Choices.{replies-alike}
 use Rattle.dsa_device.{specs.Running.{Running, after_answer}, proofs.Steps.{answered_by_cases}}
 use Rattle.dsa_scenario.specs.declared.{actions.Action.{Action, TheVariants.{Ask, Refuse}}, run.Record.{Record}}
 use Rattle.dsa_scenario.specs.declared.run.Record.TheVariants.{Stepped, Refused}
 use Rattle.dsa_scenario.specs.{Lines.{record_text}, Run.{answered_by, event_of, AreOf}, Steps.{standing}}
-use Rattle.dsa_scenario.specs.Worked.{smallest_caps, stepped, group_of_a_run}
+use Rattle.dsa_scenario.specs.Worked.{smallest_caps, stepped, ticket, caps_of_a_run, group_of_a_run, records_of_a_run}
 use Rattle.dsa_conform.specs.Allowed.{IsAllowed}
 use Rattle.dsa_conform.specs.Lines.{conforms_text, seen_count, difference_text}
 use Rattle.dsa_conform.specs.Run.{IsShownRun, IsRefusal}
 use Rattle.dsa_conform.specs.{Seen.{Seen, shows, AreShown}, Worked.{answered, nothing_seen, at_first}}
-use Rattle.dsa_conform.proofs.Objects.{not_first, not_second, one_read}
+use Rattle.dsa_conform.proofs.{Alike.{event_in}, Objects.{not_first, not_second, one_read}}
 
 -- ---- a device whose history has no room
 
@@ -62,6 +65,57 @@ returns-clause-after_one c = record {
       order = (λ k d below. absurd (omega (arith, below)), tt);
     };
     none = λ entry is. subst (λ other. shows (answered (codes "nothing")) other ≡ false) (only_full entry is) refl;
+    told = refl;
+  };
+}
+
+-- ---- one whose engine has taken an entry
+
+abbrev holding : Running
+holding = standing caps_of_a_run 7 (take 7 records_of_a_run)
+
+-- it answers the end of that entry so, and in no other way
+abbrev ending : Event
+ending = event.Finish 0 (ticket 3 0) Success
+
+abbrev ended : Record
+ended = stepped ending (reply.Finish (Done 1))
+
+is_ended : IsAllowed holding (Ok ending) ended
+is_ended = record { answers = refl; after = _; leads = refl }
+
+ended_step : (answer : Reply) (after : Running) → after_answer holding ending answer ≡ Some after
+    → reply.Finish (Done 1) ≡ answer
+ended_step answer after leads =
+    answered_by_cases (λ d. reply.Finish (Done 1) ≡ answer) holding after ending answer leads
+    (λ full first. absurd cc)
+    (λ s room follows. replies-alike holding.state _ s ending (reply.Finish (Done 1)) answer refl follows)
+
+only_ended : (entry : Record) → IsAllowed holding (Ok ending) entry → ended ≡ entry
+only_ended (Refused fault) is = absurd (let other = is.answers in cc)
+only_ended (Stepped step) is =
+    let same : step.event ≡ ending = ap (event_in step.event) is.answers in
+    let leads = subst (λ e. after_answer holding e step.reply ≡ Some is.after) same is.leads in
+    subst (λ e. ended ≡ stepped e step.reply) (sym same) (ap (stepped ending) (ended_step step.reply is.after leads))
+
+pub returns-clause-after_seven : goal.returns-clause-after_seven
+unfolding digits
+returns-clause-after_seven c = record {
+  records = take 7 records_of_a_run;
+  run = record {
+    of_actions = (refl, (refl, (refl, (refl, (refl, (refl, (refl, tt)))))));
+    run = refl;
+    shown = (refl, (refl, (refl, (refl, (refl, (refl, (refl, tt)))))));
+  };
+  refused = record {
+    allowed = ended ∷ [];
+    all = record {
+      each = All-cons (IsAllowed holding (Ok ending)) ended [] is_ended (All-nil (IsAllowed holding (Ok ending)));
+      all = λ entry is. subst (λ other. Contains (record_text ended ∷ []) (record_text other)) (only_ended entry is)
+          (Contains-push [] (record_text ended));
+      order = (λ k d below. absurd (omega (arith, below)), tt);
+    };
+    none = λ entry is. subst (λ other. shows (answered (codes "idle")) other ≡ false) (only_ended entry is) refl;
     told = refl;
   };
 }
