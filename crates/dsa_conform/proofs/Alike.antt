@@ -1,7 +1,7 @@
 -- Answers that may come to one event look alike, but for the queue that an entry is taken from.
 use Rattle.dsa_book.specs.declared.event.Event.TheVariants as event
-use Rattle.std.proofs.Common.{◌≡◌, ◌≢◌, ◌==◌, ℕ, Bool, true, false, List}
-use Rattle.std.proofs.Common.{[], ◌∷◌, ◌++◌, Option, Some, None, Result, Ok, Err}
+use Rattle.std.proofs.Common.{◌≡◌, ◌≢◌, ◌==◌, ℕ, Bool, false, List}
+use Rattle.std.proofs.Common.{◌++◌, Option, Some, None, Result, Ok, Err}
 use Rattle.std.proofs.Common.{refl, sym, ap, subst, length, ◌∙◌}
 use Rattle.std.specs.Prelude.{codes, decimal, is_ok, ◌&&◌, ◌||◌, bytes_eq}
 use Rattle.dsa_base.{specs.Rows.{passes}, proofs.Tables.{not-both}}
@@ -9,16 +9,16 @@ use Rattle.dsa_regs.specs.declared.Fault.{Fault}
 use Rattle.dsa_book.specs.declared.answer.{Ticket.{Ticket}, SubmitAnswer.TheVariants.{Accepted}}
 use Rattle.dsa_book.specs.declared.answer.{DispatchAnswer.TheVariants.{Taken}, FetchAnswer.TheVariants.{Fetched}}
 use Rattle.dsa_book.specs.declared.answer.Reply.{Reply, TheVariants.{Submit, Dispatch, Fetch}}
-use Rattle.dsa_book.specs.declared.event.{Event.{Event}, Step.{Step}, Kind.TheVariants.{Enqcmd, Movdir64b}}
-use Rattle.dsa_book.specs.{State.{State}, Machine.{next, full_reply, is_full}}
+use Rattle.dsa_book.specs.declared.event.{Event.{Event}, Kind.TheVariants.{Enqcmd, Movdir64b}}
+use Rattle.dsa_book.specs.{State.{State}, Machine.{next, full_reply}}
 use Rattle.dsa_book.proofs.EqualReplies.{equal-replies}
 use Rattle.dsa_answers.specs.Choices.{AreAlike}
 use Rattle.dsa_answers.proofs.Choices.{replies-alike}
 use Rattle.dsa_device.{specs.Running.{Running, after_answer}, proofs.Steps.{answered_by_cases}}
 use Rattle.dsa_scenario.specs.declared.run.Record.{Record, TheVariants.{Stepped, Refused}}
-use Rattle.dsa_scenario.specs.{Lines.{record_text}, Run.{answered_by}}
-use Rattle.dsa_conform.specs.Seen.{nameless_text, answer_shown, zf_of, zf_of_step, zf_shown, is_flag, Seen}
-use Rattle.dsa_conform.specs.Allowed.{IsAllowed, AreSeenAlike, HasOneAnswer}
+use Rattle.dsa_scenario.specs.{Lines.{record_text}, Run.{answered_by, Leads}}
+use Rattle.dsa_conform.specs.Seen.{nameless_text, answer_shown, zf_of, zf_of_step, zf_shown, is_flag}
+use Rattle.dsa_conform.specs.Allowed.{AreSeenAlike, HasOneAnswer}
 
 -- the record of an event and its reply
 abbrev pub stepped : Event → Reply → Record
@@ -99,6 +99,21 @@ event_in d (Err fault) = d
 abbrev fault_in : Fault → Result Event Fault → Fault
 fault_in d (Ok e) = d
 fault_in d (Err fault) = fault
+
+-- where the answers that may come are alike only where they are the same, one that comes is the only one
+pub only_entry : (now t u : Running) (e : Event) (a : Reply) → (length now.history == now.capacity) ≡ false
+    → ((b : Reply) → AreAlike a b → a ≡ b) → after_answer now e a ≡ Some t
+    → (entry : Record) → answered_by entry ≡ Ok e → Leads now entry u → stepped e a ≡ entry
+only_entry now t u e a room same h (Refused fault) asked leads = absurd cc
+only_entry now t u e a room same h (Stepped x) asked leads =
+    let event : x.event ≡ e = ap (event_in x.event) asked in
+    let k : after_answer now e x.reply ≡ Some u = subst (λ q. after_answer now q x.reply ≡ Some u) event leads in
+    let P : Running → Type 0 = λ d. stepped e a ≡ stepped e x.reply in
+    subst (λ q. stepped e a ≡ stepped q x.reply) (sym event)
+    (answered_by_cases P now t e a h (λ full first. not-both (length now.history == now.capacity) full room)
+    (λ s free n. answered_by_cases P now u e x.reply k
+    (λ full second. not-both (length now.history == now.capacity) full room)
+    (λ s' free' n'. ap (stepped e) (same x.reply (replies-alike now.state s s' e a x.reply n n')))))
 
 -- where no entry is taken there is one answer
 pub one_answer : (now : Running) (asked : Result Event Fault) → ((e : Event) → asked ≡ Ok e → NoneTaken now e)

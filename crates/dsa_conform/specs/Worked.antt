@@ -59,10 +59,10 @@ observed_of_a_run =
     (Finish 0 0 Success, answered (codes "done 01")) ∷
     (Ask event.Poll, answered (codes "full")) ∷ []
 
--- ---- a device with an entry in each of two queues of one group
+-- ---- a device with a group of two engines and two queues, and an entry in each of these; the queue between is off
 
 abbrev pub caps_of_two_queues : Caps
-caps_of_two_queues = record caps_of_a_run { queues = 2 }
+caps_of_two_queues = record caps_of_a_run { queues = 3; engines = 2 }
 
 abbrev pub half_queue : QueueConfig
 half_queue = record queue_of_a_run { size = 8 }
@@ -76,23 +76,23 @@ accepted_in queue ticket = stepped
 abbrev pub records_of_two_queues : List Record
 records_of_two_queues =
     stepped (event.WriteQueue 0 half_queue) (reply.Write Written) ∷
-    stepped (event.WriteQueue 1 half_queue) (reply.Write Written) ∷
-    stepped (event.WriteGroup 0 (record group_of_a_run { queues = 3 })) (reply.Write Written) ∷
+    stepped (event.WriteQueue 2 half_queue) (reply.Write Written) ∷
+    stepped (event.WriteGroup 0 (record group_of_a_run { queues = 5; engines = 3 })) (reply.Write Written) ∷
     stepped (event.Issue EnableDevice) (reply.Issue (Ended 0)) ∷
     stepped (event.Issue (EnableWq 0)) (reply.Issue (Ended 0)) ∷
-    stepped (event.Issue (EnableWq 1)) (reply.Issue (Ended 0)) ∷
+    stepped (event.Issue (EnableWq 2)) (reply.Issue (Ended 0)) ∷
     accepted_in 0 (ticket 3 0) ∷
-    accepted_in 1 (ticket 5 1) ∷ []
+    accepted_in 2 (ticket 5 1) ∷ []
 
 -- engine 0 takes the entry of one or the other, or one that is not there
 abbrev pub from_first : Record
 from_first = stepped (event.Dispatch 0) (reply.Dispatch (Taken (ticket 3 0) 0))
 
 abbrev pub from_second : Record
-from_second = stepped (event.Dispatch 0) (reply.Dispatch (Taken (ticket 5 1) 1))
+from_second = stepped (event.Dispatch 0) (reply.Dispatch (Taken (ticket 5 1) 2))
 
 abbrev pub from_third : Record
-from_third = stepped (event.Dispatch 0) (reply.Dispatch (Taken (ticket 7 2) 2))
+from_third = stepped (event.Dispatch 0) (reply.Dispatch (Taken (ticket 7 2) 3))
 
 -- how the device stands after so many of these records, and after all
 abbrev pub after_some : ℕ → Running

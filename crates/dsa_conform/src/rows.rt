@@ -44,6 +44,7 @@ pub fn observations()
 
 /// What a value of the program says was seen.
 pub fn values()
+    ensures text { seen_as (record { answer = Some (record { ref_ptr = (0, 0); now = codes "full" }); zf = None }) ≡ answered (codes "full") }
     ensures nothing { seen_as (record { answer = None; zf = None }) ≡ nothing_seen }
     ensures flag { seen_as (record { answer = None; zf = Some false }) ≡ flagged false }
 {}
@@ -99,8 +100,9 @@ pub fn offered()
     ensures both { offers after_all.state.work 0 ≡ from_first ∷ from_second ∷ [] }
     ensures one { offers (after_some 7).state.work 0 ≡ from_first ∷ [] }
     ensures none { offers (after_some 6).state.work 0 ≡ [] }
-    ensures no_engine { offers after_all.state.work 1 ≡ [] }
-    ensures queues { map queue_taken (from_second ∷ Refused BadCommand ∷ by_enqcmd Full ∷ []) ≡ 1 ∷ 0 ∷ 0 ∷ [] }
+    ensures second_engine { offers after_all.state.work 1 ≡ stepped (event.Dispatch 1) (reply.Dispatch (Taken (ticket 3 0) 0)) ∷ stepped (event.Dispatch 1) (reply.Dispatch (Taken (ticket 5 1) 2)) ∷ [] }
+    ensures no_engine { offers after_all.state.work 2 ≡ [] }
+    ensures queues { map queue_taken (from_second ∷ Refused BadCommand ∷ by_enqcmd Full ∷ []) ≡ 2 ∷ 0 ∷ 0 ∷ [] }
 {}
 
 /// Taken entries are told in the order of their queues, each once.
@@ -136,7 +138,7 @@ pub fn allowed()
     ensures left_out { ¬ AreAllowed after_all (Ok (event.Dispatch 0)) (from_first ∷ []) }
     ensures order { ¬ AreAllowed after_all (Ok (event.Dispatch 0)) (from_second ∷ from_first ∷ []) }
     ensures not_there { ¬ AreAllowed after_all (Ok (event.Dispatch 0)) (from_first ∷ from_second ∷ from_third ∷ []) }
-    ensures shown { ¬ NoneShows after_all (Ok (event.Dispatch 0)) (answered (codes "taken from 1")) }
+    ensures shown { ¬ NoneShows after_all (Ok (event.Dispatch 0)) (answered (codes "taken from 2")) }
 {}
 
 /// A device goes on by an answer to what was asked that shows what was seen.
@@ -197,6 +199,7 @@ pub fn objects()
 pub fn verdicts()
     ensures after_one { IsDifference smallest_caps 1 ((Ask (event.WriteGroup 0 group_of_a_run), nothing_seen) ∷ []) (Ask event.Poll, answered (codes "nothing")) 1 (codes "step 1: poll\nseen: nothing\nallowed: full: the history has room for 1 steps\n") }
     ensures after_seven { IsDifference caps_of_a_run 7 (take 7 observed_of_a_run) (Finish 0 0 Success, answered (codes "idle")) 7 (codes "step 7: finish e0 name 0 success\nseen: idle\nallowed: done 01\n") }
+    ensures second { IsDiffering smallest_caps 9 (changed (codes "word") (whole 0) command_step ∷ object_of ((codes "answer", string (codes "active")) ∷ poll_step) ∷ []) 1 (codes "step 1: poll\nseen: active\nallowed: nothing: no command is active\n") }
     ensures shown { ¬ IsRefusal at_first 0 (Ok event.Poll) (answered (codes "nothing")) (codes "step 0: poll\nseen: nothing\nallowed: nothing: no command is active\n") }
     ensures untold { ¬ IsRefusal at_first 0 (Ok event.Poll) (answered (codes "active")) [] }
     ensures earlier { ¬ IsDifference smallest_caps 9 ((Refuse BadCommand, answered (codes "nothing")) ∷ []) (Ask event.Poll, answered (codes "active")) 1 (codes "step 1: poll\nseen: active\nallowed: nothing: no command is active\n") }
@@ -212,6 +215,7 @@ pub fn verdicts()
 #[tactic(auto, unfolding(serde_json::proofs::OnLiterals::serde_json_on_literals, dsa_scenario::specs::Worked::digits_on_literals))]
 pub fn documents()
     ensures no_steps { IsConformance (document_of []) None (codes "conforms: 0 steps, 0 answers seen\n") }
+    ensures greatest { IsConformance (document_text smallest_caps_text (codes "1048576") []) None (codes "conforms: 0 steps, 0 answers seen\n") }
     ensures conforms { IsConformance (document_of (poll_with (codes "\"answer\":\"nothing\""))) None (codes "conforms: 1 steps, 1 answers seen\n") }
     ensures differs { IsConformance (document_of (poll_with (codes "\"answer\":\"active\""))) (Some (Differs 0)) (codes "step 0: poll\nseen: active\nallowed: nothing: no command is active\n") }
     ensures unread { IsConformance (document_of (poll_with (codes "\"zf\":true") ++ codes "," ++ poll_with (codes "\"zf\":1"))) (Some (BadStep 1)) [] }

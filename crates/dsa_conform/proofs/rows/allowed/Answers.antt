@@ -27,9 +27,10 @@ taken_then reply s h = next-each (λ r t. IsEither (Dispatch 0) r) after_all.sta
         → choice_of (reply_of after_all.state (Dispatch 0) choice).0 ≡ choice
         → IsEither (Dispatch 0) (reply_of after_all.state (Dispatch 0) choice).0
     at (from_queue zero) may same = inl refl
-    at (from_queue (suc zero)) may same = inr refl
-    at (from_queue (suc (suc q))) may same =
-        let below : suc (suc q) < 2 = below_queues after_all.state.work 0 (suc (suc q)) may in
+    at (from_queue (suc zero)) may same = absurd cc
+    at (from_queue (suc (suc zero))) may same = inr refl
+    at (from_queue (suc (suc (suc q)))) may same =
+        let below : suc (suc (suc q)) < 3 = below_queues after_all.state.work 0 (suc (suc (suc q))) may in
         absurd (omega (arith, below))
     at nothing may same = absurd cc
     at (in_cell cell) may same = absurd cc
@@ -73,13 +74,13 @@ pub returns-clause-left_out : goal.returns-clause-left_out
 unfolding digits
 returns-clause-left_out c are =
     let second = are.all from_second (record { answers = refl; after = _; leads = refl }) in
-    let same = not_another (codes "taken 0 from 0") (codes "taken 1 from 1") second in
+    let same = not_another (codes "taken 0 from 0") (codes "taken 1 from 2") second in
     let none : true ≡ false = ap (bytes_eq (codes "taken 0 from 0")) same in
     absurd cc
 
 pub returns-clause-order : goal.returns-clause-order
 returns-clause-order c are =
-    let below : 1 < 0 = All-head (λ later. 1 < queue_taken later) from_first [] are.order.0 in
+    let below : 2 < 0 = All-head (λ later. 2 < queue_taken later) from_first [] are.order.0 in
     absurd (omega (arith, below))
 
 pub returns-clause-not_there : goal.returns-clause-not_there
@@ -110,11 +111,11 @@ returns-clause-all c =
     record {
       each = All-cons P from_first (from_second ∷ []) (record { answers = refl; after = _; leads = refl })
           (All-cons P from_second [] (record { answers = refl; after = _; leads = refl }) (All-nil P));
-      all = either_entry (λ entry. Contains (codes "taken 0 from 0" ∷ codes "taken 1 from 1" ∷ []) (record_text entry))
+      all = either_entry (λ entry. Contains (codes "taken 0 from 0" ∷ codes "taken 1 from 2" ∷ []) (record_text entry))
           (0, lit< tt, refl) (1, lit< tt, refl);
       order = (
         All-cons later from_second [] (lit< tt) (All-nil later),
-        (All-nil (λ entry. 1 < queue_taken entry), tt),
+        (All-nil (λ entry. 2 < queue_taken entry), tt),
       );
     }
 

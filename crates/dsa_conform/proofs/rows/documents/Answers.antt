@@ -2,25 +2,21 @@ use Rattle.dsa_conform.proofs.rows.documents.Goals as goal
 use Rattle.dsa_book.specs.declared.answer.Reply.TheVariants as reply
 use Rattle.dsa_book.specs.declared.event.Event.TheVariants as event
 use Rattle.dsa_book.specs.declared.answer.PollAnswer.TheVariants as poll
-use Rattle.std.proofs.Common.{◌≡◌, ◌∙◌, ◌++◌, ℕ, true, false, List, [], ◌∷◌, Some, None, Ok, length, map, take, codes, refl, ap}
-use Rattle.std.proofs.Common.{subst, arith, lit≤}
+use Rattle.std.proofs.Common.{◌≡◌, ◌∙◌, ◌++◌, ℕ, true, false, List, [], ◌∷◌, Some, None, Ok, length, map, take, codes}
+use Rattle.std.proofs.Common.{refl, ap, ◌≤◌, ◌^◌, subst, arith, lit≤}
 use Rattle.std.specs.{Prelude.{Contains, encode_utf8_all}, Str.{all_scalars}, Fmt.{digits}, Option.{option_map_or}}
 use Rattle.std.proofs.lemmas.List.Elements.{All-nil, All-cons, Contains-push}
 use Rattle.serde_json.{specs.{Data.{Data, Items}, Read.{read}}, proofs.OnLiterals.{serde_json_on_literals}}
 use Rattle.dsa_regs.specs.{declared.Caps.{Caps}, Caps.{check_caps}}
-use Rattle.dsa_book.specs.declared.{event.Event.{Event}, answer.Reply.{Reply}}
-use Rattle.dsa_answers.proofs.Choices.{replies-alike}
-use Rattle.dsa_device.{specs.Running.{Running, after_answer}, proofs.Steps.{answered_by_cases}}
 use Rattle.dsa_scenario.specs.declared.{actions.Action.{Action, TheVariants.{Ask}}, run.Record.{Record}}
-use Rattle.dsa_scenario.specs.declared.run.Record.TheVariants.{Stepped, Refused}
-use Rattle.dsa_scenario.specs.{Document.{HasHead, head_of, list_of}, Lines.{record_text}, Run.{answered_by}}
+use Rattle.dsa_scenario.specs.{Document.{HasHead, head_of, list_of}, Lines.{record_text}}
 use Rattle.dsa_scenario.specs.Worked.{smallest_caps, smallest_caps_text, no_caps_text, document_text, stepped}
 use Rattle.dsa_conform.specs.Allowed.{IsAllowed}
 use Rattle.dsa_conform.specs.Seen.{Seen, observation_of, shows}
 use Rattle.dsa_conform.specs.Lines.{conforms_text, seen_count}
 use Rattle.dsa_conform.specs.Run.{AreRead, IsShownRun, IsConformance}
 use Rattle.dsa_conform.specs.Worked.{answered, flagged, at_first, document_of, poll_with}
-use Rattle.dsa_conform.proofs.Objects.{not_first, not_second}
+use Rattle.dsa_conform.proofs.{Alike.{only_entry}, Objects.{not_first, not_second}}
 
 -- a device before its first step answers a poll so, and in no other way
 abbrev nothing : Record
@@ -29,23 +25,15 @@ nothing = stepped event.Poll (reply.Poll poll.Nothing)
 is_nothing : IsAllowed at_first (Ok event.Poll) nothing
 is_nothing = record { answers = refl; after = _; leads = refl }
 
-same_step : (e : Event) (answer : Reply) (after : Running) → answered_by (stepped e answer) ≡ Ok event.Poll
-    → after_answer at_first e answer ≡ Some after → nothing ≡ stepped e answer
-same_step event.Poll answer after asked leads =
-    answered_by_cases (λ d. nothing ≡ stepped event.Poll answer) at_first after event.Poll answer leads
-    (λ full first. absurd cc)
-    (λ s room follows. ap (stepped event.Poll)
-    (replies-alike at_first.state at_first.state s event.Poll (reply.Poll poll.Nothing) answer refl follows))
-same_step _ answer after asked leads = absurd cc
-
 only_nothing : (entry : Record) → IsAllowed at_first (Ok event.Poll) entry → nothing ≡ entry
-only_nothing (Refused fault) is = absurd (let other = is.answers in cc)
-only_nothing (Stepped step) is = same_step step.event step.reply is.after is.answers is.leads
+only_nothing entry is = only_entry at_first _ is.after event.Poll (reply.Poll poll.Nothing) refl (λ b same. same) refl
+    entry is.answers is.leads
 
 -- a document on the smallest device, by what its text reads as
-has_head : (text : List ℕ) (d : Data) (items : Items) → all_scalars text ≡ true → encode_utf8_all text ≡ text
-    → read text ≡ Some d → head_of d ≡ Some (smallest_caps, 9, items) → HasHead text smallest_caps 9 (list_of items)
-has_head text d items characters bytes value head = record {
+has_head : (text : List ℕ) (d : Data) (room : ℕ) (items : Items) → all_scalars text ≡ true
+    → encode_utf8_all text ≡ text → read text ≡ Some d → head_of d ≡ Some (smallest_caps, room, items)
+    → HasHead text smallest_caps room (list_of items)
+has_head text d room items characters bytes value head = record {
   document = d;
   items = items;
   json = record { utf8 = (text, (characters, bytes)); value = value };
@@ -54,31 +42,40 @@ has_head text d items characters bytes value head = record {
 }
 
 -- and it conforms, by a run that shows what was seen
-conforming : (text : List ℕ) (steps : List Data) (observed : List (Action × Seen)) (records : List Record)
-    → HasHead text smallest_caps 9 steps → AreRead steps observed → IsShownRun smallest_caps 9 observed records
+conforming : (text : List ℕ) (room : ℕ) (steps : List Data) (observed : List (Action × Seen)) (records : List Record)
+    → HasHead text smallest_caps room steps → room ≤ 2 ^ 20 → AreRead steps observed
+    → IsShownRun smallest_caps room observed records
     → IsConformance text None (conforms_text (length observed) (seen_count observed))
-conforming text steps observed records head read run = record {
+conforming text room steps observed records head small read run = record {
   caps = smallest_caps;
-  capacity = 9;
+  capacity = room;
   steps = steps;
   head = head;
   good = refl;
-  small = lit≤ tt;
+  small = small;
   verdict = record { observed = observed; read = read; records = records; run = run; told = refl };
 }
 
 pub returns-clause-no_steps : goal.returns-clause-no_steps
 unfolding serde_json_on_literals digits
 returns-clause-no_steps c =
-    conforming (document_of []) [] [] [] (has_head (document_of []) _ _ refl refl refl refl) refl
+    conforming (document_of []) 9 [] [] [] (has_head (document_of []) _ _ _ refl refl refl refl) (lit≤ tt) refl
+    (record { of_actions = tt; run = refl; shown = tt })
+
+pub returns-clause-greatest : goal.returns-clause-greatest
+unfolding serde_json_on_literals digits
+returns-clause-greatest c =
+    let text = document_text smallest_caps_text (codes "1048576") [] in
+    conforming text 1_048_576 [] [] [] (has_head text _ _ _ refl refl refl refl) (lit≤ tt) refl
     (record { of_actions = tt; run = refl; shown = tt })
 
 pub returns-clause-conforms : goal.returns-clause-conforms
 unfolding serde_json_on_literals digits
 returns-clause-conforms c =
     let text = document_of (poll_with (codes "\"answer\":\"nothing\"")) in
-    conforming text _ ((Ask event.Poll, answered (codes "nothing")) ∷ []) (nothing ∷ [])
-    (has_head text _ _ refl refl refl refl) refl (record { of_actions = (refl, tt); run = refl; shown = (refl, tt) })
+    conforming text 9 _ ((Ask event.Poll, answered (codes "nothing")) ∷ []) (nothing ∷ [])
+    (has_head text _ _ _ refl refl refl refl) (lit≤ tt) refl
+    (record { of_actions = (refl, tt); run = refl; shown = (refl, tt) })
 
 pub returns-clause-differs : goal.returns-clause-differs
 unfolding serde_json_on_literals digits
@@ -86,7 +83,7 @@ returns-clause-differs c = record {
   caps = smallest_caps;
   capacity = _;
   steps = _;
-  head = has_head (document_of (poll_with (codes "\"answer\":\"active\""))) _ _ refl refl refl refl;
+  head = has_head (document_of (poll_with (codes "\"answer\":\"active\""))) _ _ _ refl refl refl refl;
   good = refl;
   small = lit≤ tt;
   verdict = record {
@@ -119,7 +116,7 @@ returns-clause-unread c = (
     caps = smallest_caps;
     capacity = _;
     steps = _;
-    head = has_head (document_of (poll_with (codes "\"zf\":true") ++ codes "," ++ poll_with (codes "\"zf\":1"))) _ _
+    head = has_head (document_of (poll_with (codes "\"zf\":true") ++ codes "," ++ poll_with (codes "\"zf\":1"))) _ _ _
         refl refl refl refl;
     bad = record { done = (Ask event.Poll, flagged true) ∷ []; before = refl; here = refl };
   },

@@ -3,26 +3,35 @@ use Rattle.dsa_book.specs.declared.answer.Reply.TheVariants as reply
 use Rattle.dsa_book.specs.declared.event.Event.TheVariants as event
 use Rattle.dsa_book.specs.declared.answer.PollAnswer.TheVariants as poll
 use Rattle.std.proofs.Common.{◌≡◌, ℕ, true, false, List, [], ◌∷◌, Some, Ok, length, map, take, codes, bytes_eq, refl}
-use Rattle.std.proofs.Common.{sym, ap, subst, arith}
+use Rattle.std.proofs.Common.{Result, sym, ap, subst, arith}
 use Rattle.std.specs.{Prelude.{Contains, slice_get}, Fmt.{digits}}
 use Rattle.std.proofs.lemmas.List.Elements.{All-nil, All-cons, Contains-push}
 use Rattle.dsa_desc.specs.declared.Outcome.TheVariants.{Success}
-use Rattle.dsa_regs.specs.declared.Fault.TheVariants.{BadCommand}
+use Rattle.dsa_regs.specs.declared.Fault.{Fault, TheVariants.{BadCommand}}
 use Rattle.dsa_book.specs.declared.{answer.{Reply.{Reply}, WriteAnswer.TheVariants.{Written}}, event.Event.{Event}}
 use Rattle.dsa_book.specs.declared.answer.FinishAnswer.TheVariants.{Done}
 use Rattle.dsa_book.specs.Machine.{full_reply}
 use Rattle.dsa_book.proofs.EqualReplies.{equal-replies}
-use Rattle.dsa_answers.proofs.Choices.{replies-alike}
 use Rattle.dsa_device.{specs.Running.{Running, after_answer}, proofs.Steps.{answered_by_cases}}
 use Rattle.dsa_scenario.specs.declared.{actions.Action.{Action, TheVariants.{Ask, Refuse}}, run.Record.{Record}}
 use Rattle.dsa_scenario.specs.declared.run.Record.TheVariants.{Stepped, Refused}
 use Rattle.dsa_scenario.specs.{Lines.{record_text}, Run.{answered_by, event_of, AreOf}, Steps.{standing}}
 use Rattle.dsa_scenario.specs.Worked.{smallest_caps, stepped, ticket, caps_of_a_run, group_of_a_run, records_of_a_run}
-use Rattle.dsa_conform.specs.Allowed.{IsAllowed}
+use Rattle.dsa_conform.specs.Allowed.{IsAllowed, AreAllowed}
 use Rattle.dsa_conform.specs.Lines.{conforms_text, seen_count, difference_text}
 use Rattle.dsa_conform.specs.Run.{IsShownRun, IsRefusal}
 use Rattle.dsa_conform.specs.{Seen.{Seen, shows, AreShown}, Worked.{answered, nothing_seen, at_first}}
-use Rattle.dsa_conform.proofs.{Alike.{event_in}, Objects.{not_first, not_second, one_read}}
+use Rattle.dsa_conform.proofs.{Alike.{only_entry}, Objects.{not_first, not_second, one_read}}
+
+-- where one answer may come, it is all that is allowed
+only_allowed : (now : Running) (asked : Result Event Fault) (entry : Record) → IsAllowed now asked entry
+    → ((other : Record) → IsAllowed now asked other → entry ≡ other) → AreAllowed now asked (entry ∷ [])
+only_allowed now asked entry may only = record {
+  each = All-cons (IsAllowed now asked) entry [] may (All-nil (IsAllowed now asked));
+  all = λ other is. subst (λ found. Contains (record_text entry ∷ []) (record_text found)) (only other is)
+      (Contains-push [] (record_text entry));
+  order = (λ k d below. absurd (omega (arith, below)), tt);
+}
 
 -- ---- a device whose history has no room
 
@@ -58,12 +67,7 @@ returns-clause-after_one c = record {
   run = record { of_actions = (refl, tt); run = refl; shown = (refl, tt) };
   refused = record {
     allowed = full ∷ [];
-    all = record {
-      each = All-cons (IsAllowed filled (Ok event.Poll)) full [] is_full (All-nil (IsAllowed filled (Ok event.Poll)));
-      all = λ entry is. subst (λ other. Contains (record_text full ∷ []) (record_text other)) (only_full entry is)
-          (Contains-push [] (record_text full));
-      order = (λ k d below. absurd (omega (arith, below)), tt);
-    };
+    all = only_allowed filled (Ok event.Poll) full is_full only_full;
     none = λ entry is. subst (λ other. shows (answered (codes "nothing")) other ≡ false) (only_full entry is) refl;
     told = refl;
   };
@@ -84,19 +88,9 @@ ended = stepped ending (reply.Finish (Done 1))
 is_ended : IsAllowed holding (Ok ending) ended
 is_ended = record { answers = refl; after = _; leads = refl }
 
-ended_step : (answer : Reply) (after : Running) → after_answer holding ending answer ≡ Some after
-    → reply.Finish (Done 1) ≡ answer
-ended_step answer after leads =
-    answered_by_cases (λ d. reply.Finish (Done 1) ≡ answer) holding after ending answer leads
-    (λ full first. absurd cc)
-    (λ s room follows. replies-alike holding.state _ s ending (reply.Finish (Done 1)) answer refl follows)
-
 only_ended : (entry : Record) → IsAllowed holding (Ok ending) entry → ended ≡ entry
-only_ended (Refused fault) is = absurd (let other = is.answers in cc)
-only_ended (Stepped step) is =
-    let same : step.event ≡ ending = ap (event_in step.event) is.answers in
-    let leads = subst (λ e. after_answer holding e step.reply ≡ Some is.after) same is.leads in
-    subst (λ e. ended ≡ stepped e step.reply) (sym same) (ap (stepped ending) (ended_step step.reply is.after leads))
+only_ended entry is = only_entry holding _ is.after ending (reply.Finish (Done 1)) refl (λ b same. same) refl entry
+    is.answers is.leads
 
 pub returns-clause-after_seven : goal.returns-clause-after_seven
 unfolding digits
@@ -109,12 +103,7 @@ returns-clause-after_seven c = record {
   };
   refused = record {
     allowed = ended ∷ [];
-    all = record {
-      each = All-cons (IsAllowed holding (Ok ending)) ended [] is_ended (All-nil (IsAllowed holding (Ok ending)));
-      all = λ entry is. subst (λ other. Contains (record_text ended ∷ []) (record_text other)) (only_ended entry is)
-          (Contains-push [] (record_text ended));
-      order = (λ k d below. absurd (omega (arith, below)), tt);
-    };
+    all = only_allowed holding (Ok ending) ended is_ended only_ended;
     none = λ entry is. subst (λ other. shows (answered (codes "idle")) other ≡ false) (only_ended entry is) refl;
     told = refl;
   };
@@ -127,6 +116,29 @@ nothing = stepped event.Poll (reply.Poll poll.Nothing)
 
 is_nothing : IsAllowed at_first (Ok event.Poll) nothing
 is_nothing = record { answers = refl; after = _; leads = refl }
+
+only_nothing : (entry : Record) → IsAllowed at_first (Ok event.Poll) entry → nothing ≡ entry
+only_nothing entry is = only_entry at_first _ is.after event.Poll (reply.Poll poll.Nothing) refl (λ b same. same) refl
+    entry is.answers is.leads
+
+pub returns-clause-second : goal.returns-clause-second
+unfolding digits
+returns-clause-second c = record {
+  observed = (Refuse BadCommand, nothing_seen) ∷ (Ask event.Poll, answered (codes "active")) ∷ [];
+  read = refl;
+  here = _;
+  at = refl;
+  differs = record {
+    records = Refused BadCommand ∷ [];
+    run = record { of_actions = (refl, tt); run = refl; shown = (refl, tt) };
+    refused = record {
+      allowed = nothing ∷ [];
+      all = only_allowed at_first (Ok event.Poll) nothing is_nothing only_nothing;
+      none = λ entry is. subst (λ other. shows (answered (codes "active")) other ≡ false) (only_nothing entry is) refl;
+      told = refl;
+    };
+  };
+}
 
 pub returns-clause-shown : goal.returns-clause-shown
 unfolding digits
