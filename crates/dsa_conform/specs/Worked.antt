@@ -61,8 +61,8 @@ observed_of_a_run =
 
 -- ---- a device with a group of two engines and two queues, and an entry in each of these; the queue between is off
 
-abbrev pub caps_of_two_queues : Caps
-caps_of_two_queues = record caps_of_a_run { queues = 3; engines = 2 }
+abbrev pub caps_of_three_queues : Caps
+caps_of_three_queues = record caps_of_a_run { queues = 3; engines = 2 }
 
 abbrev pub half_queue : QueueConfig
 half_queue = record queue_of_a_run { size = 8 }
@@ -96,10 +96,10 @@ from_third = stepped (event.Dispatch 0) (reply.Dispatch (Taken (ticket 7 2) 3))
 
 -- how the device stands after so many of these records, and after all
 abbrev pub after_some : ℕ → Running
-after_some count = standing caps_of_two_queues 9 (take count records_of_two_queues)
+after_some count = standing caps_of_three_queues 9 (take count records_of_two_queues)
 
 abbrev pub after_all : Running
-after_all = standing caps_of_two_queues 9 records_of_two_queues
+after_all = standing caps_of_three_queues 9 records_of_two_queues
 
 -- ---- the smallest device
 
