@@ -1,5 +1,5 @@
 -- A dialogue in its course, with a line more, and at its end.
-use Rattle.std.proofs.Common.{◌≡◌, ◌<◌, ◌+◌, ◌^◌, ℕ, Bool, List, [], ◌∷◌, ◌++◌, length, take, map}
+use Rattle.std.proofs.Common.{◌≡◌, ◌<◌, ◌≤◌, ◌+◌, ◌^◌, ℕ, Bool, List, [], ◌∷◌, ◌++◌, length, take, map}
 use Rattle.std.proofs.Common.{refl, sym, ap, ◌∙◌, arith, append_assoc, flat_map, length-take, subst}
 use Rattle.dsa_regs.specs.declared.Caps.{Caps}
 use Rattle.dsa_book.specs.declared.{answer.Ticket.{Ticket}, fate.FateRow.{FateRow}}
@@ -101,15 +101,15 @@ dialogue_of first behind output number now tickets kept h =
 
 -- the answers to whole lines
 pub whole_answered : (first behind output : List ℕ) (number : ℕ) (now : Running) (tickets : List Ticket) (kept : List ℕ)
-    (ended : Bool) (input : List ℕ) → IsLine first → IsFront ended input first behind
+    (ended : Bool) (input : List ℕ) → IsLine first → length first ≤ 2 ^ 20 → IsFront ended input first behind
     → IsServing first behind output number now tickets kept → AnswersWhole input output
-whole_answered first behind output number now tickets kept ended input line front h = record {
+whole_answered first behind output number now tickets kept ended input line short front h = record {
   first = first;
   behind = behind;
   lines = h.lines;
   rest = h.rest;
   last = now.state;
-  split = record { ended = ended; line = line; front = front };
+  split = record { ended = ended; line = line; short = short; front = front };
   lines_are = h.lines_are;
   dialogue = dialogue_of first behind output number now tickets kept h;
 }

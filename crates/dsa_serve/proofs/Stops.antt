@@ -1,5 +1,5 @@
 -- A dialogue after one read more, and where a fault ends it.
-use Rattle.std.proofs.Common.{◌≡◌, ◌≢◌, ◌⊎◌, ◌<◌, ◌+◌, ℕ, false, Bool, List, [], ◌++◌, Option, length, take, refl, ap}
+use Rattle.std.proofs.Common.{◌≡◌, ◌≢◌, ◌⊎◌, ◌<◌, ◌≤◌, ◌+◌, ◌^◌, ℕ, false, Bool, List, [], ◌++◌, Option, length, take, refl, ap}
 use Rattle.std.proofs.Common.{◌∙◌, arith, Result, Ok, Err, IfErr}
 use Rattle.std.proofs.Common.{append_assoc, append-nil, length-append, inl, inr}
 use Rattle.std.proofs.{Math.Seq.{take-append-add}, lemmas.List.Elements.{All-nil}}
@@ -55,6 +55,7 @@ course_on had left left' held holds holds' bytes text number now tickets kept nu
       read = Consumes-trans had left left' h.input bytes h.read reads;
       written = Appends-trans held holds holds' h.output text h.written writes;
       line = h.line;
+      short = h.short;
       front = front_more h.input h.first h.behind bytes h.front;
       serving = on h.first h.behind h.output h.serving;
     }
@@ -64,7 +65,7 @@ pub course_answered : (ended : Bool) (had left held holds : Option (List ℕ)) (
     (tickets : List Ticket) (kept : List ℕ) → (h : IsInCourse ended had left held holds number now tickets kept)
     → AnswersWhole h.input h.output
 course_answered ended had left held holds number now tickets kept h =
-    whole_answered h.first h.behind h.output number now tickets kept ended h.input h.line h.front h.serving
+    whole_answered h.first h.behind h.output number now tickets kept ended h.input h.line h.short h.front h.serving
 
 -- an error of the reader
 pub read_stops : (ended : Bool) (had left left' held holds : Option (List ℕ)) (number : ℕ) (now : Running)
@@ -106,7 +107,7 @@ write_stops had left left' held holds holds' bytes text count number now tickets
       length h.output + count,
       Consumes-trans had left left' h.input bytes h.read reads,
       inl (whole_answered h.first (h.behind ++ bytes) (h.output ++ text) number' now' tickets' kept' false
-          (h.input ++ bytes) h.line (front_more h.input h.first h.behind bytes h.front)
+          (h.input ++ bytes) h.line h.short (front_more h.input h.first h.behind bytes h.front)
           (on h.first h.behind h.output h.serving)),
       cut.0,
       cut.1,
@@ -131,7 +132,7 @@ all_answered ended had left held holds holds' text number now tickets kept ends 
   record {
     first = h.first;
     behind = h.behind;
-    split = record { ended = ended; line = h.line; front = h.front };
+    split = record { ended = ended; line = h.line; short = h.short; front = h.front };
     ended = ends h.first h.behind h.output h.serving;
   },
   Appends-trans held holds holds' h.output text h.written writes,
@@ -151,7 +152,7 @@ end_stops ended had left held holds holds' text count number now tickets kept en
       inr (record {
         first = h.first;
         behind = h.behind;
-        split = record { ended = ended; line = h.line; front = h.front };
+        split = record { ended = ended; line = h.line; short = h.short; front = h.front };
         ended = ends h.first h.behind h.output h.serving;
       }),
       cut.0,
@@ -179,40 +180,42 @@ ends_blank old text seen number now tickets kept blank same on first behind outp
 
 -- a first line that is no document, or want of memory before one is
 pub opening_stops : (had left held : Option (List ℕ)) (input first behind : List ℕ) (ended : Bool) (e : ScenarioFault)
-    → Consumes had left input → IsLine first → IsFront ended input first behind
+    → Consumes had left input → IsLine first → length first ≤ 2 ^ 20 → IsFront ended input first behind
     → (e ≡ OutOfMemory) ⊎ IsFaultOf first e → IsStopped e had left held held
-opening_stops had left held input first behind ended e reads line front (inl h) =
-    rw h ([], input, [], reads, inl (All-nil (λ b. b ≢ 10), refl), Appends-nil held)
-opening_stops had left held input first behind ended Read reads line front (inr h) = absurd h
-opening_stops had left held input first behind ended TooLong reads line front (inr h) = absurd h
-opening_stops had left held input first behind ended Write reads line front (inr h) = absurd h
-opening_stops had left held input first behind ended (Differs i) reads line front (inr h) = absurd h
-opening_stops had left held input first behind ended OutOfMemory reads line front (inr h) = absurd h
-opening_stops had left held input first behind ended NotJson reads line front (inr h) =
-    (input, first, behind, reads, record { ended = ended; line = line; front = front }, h)
-opening_stops had left held input first behind ended BadDocument reads line front (inr h) =
-    (input, first, behind, reads, record { ended = ended; line = line; front = front }, h)
-opening_stops had left held input first behind ended (BadStep i) reads line front (inr h) =
-    (input, first, behind, reads, record { ended = ended; line = line; front = front }, h)
-opening_stops had left held input first behind ended BadCaps reads line front (inr h) =
-    (input, first, behind, reads, record { ended = ended; line = line; front = front }, h)
-opening_stops had left held input first behind ended BadCapacity reads line front (inr h) =
-    (input, first, behind, reads, record { ended = ended; line = line; front = front }, h)
+opening_stops had left held input first behind ended e reads line short front (inl h) =
+    rw h ([], input, [], reads, inl (All-nil (λ b. b ≢ 10), omega arith, refl), Appends-nil held)
+opening_stops had left held input first behind ended Read reads line short front (inr h) = absurd h
+opening_stops had left held input first behind ended TooLong reads line short front (inr h) = absurd h
+opening_stops had left held input first behind ended Write reads line short front (inr h) = absurd h
+opening_stops had left held input first behind ended (Differs i) reads line short front (inr h) = absurd h
+opening_stops had left held input first behind ended OutOfMemory reads line short front (inr h) = absurd h
+opening_stops had left held input first behind ended NotJson reads line short front (inr h) =
+    (input, first, behind, reads, record { ended = ended; line = line; short = short; front = front }, h)
+opening_stops had left held input first behind ended BadDocument reads line short front (inr h) =
+    (input, first, behind, reads, record { ended = ended; line = line; short = short; front = front }, h)
+opening_stops had left held input first behind ended (BadStep i) reads line short front (inr h) =
+    (input, first, behind, reads, record { ended = ended; line = line; short = short; front = front }, h)
+opening_stops had left held input first behind ended BadCaps reads line short front (inr h) =
+    (input, first, behind, reads, record { ended = ended; line = line; short = short; front = front }, h)
+opening_stops had left held input first behind ended BadCapacity reads line short front (inr h) =
+    (input, first, behind, reads, record { ended = ended; line = line; short = short; front = front }, h)
 
 -- want of memory before the first line is read
 pub memory_before : (had left held : Option (List ℕ)) (bytes : List ℕ) → Consumes had left bytes
     → IsStopped OutOfMemory had left held held
-memory_before had left held bytes reads = ([], bytes, [], reads, inl (All-nil (λ b. b ≢ 10), refl), Appends-nil held)
+memory_before had left held bytes reads =
+    ([], bytes, [], reads, inl (All-nil (λ b. b ≢ 10), omega arith, refl), Appends-nil held)
 
 -- a write that is refused of the answers to the first line and to the lines that came with it
 pub first_write_stops : (had left held holds : Option (List ℕ)) (ended : Bool) (input first behind text seen : List ℕ)
     (count number : ℕ) (now : Running) (tickets : List Ticket) (kept : List ℕ) → Consumes had left input → IsLine first
-    → IsFront ended input first behind → seen ≡ text → IsServing first behind text number now tickets kept
-    → count < length seen → Appends held holds (take count seen) → IsStopped Write had left held holds
-first_write_stops had left held holds ended input first behind text seen count number now tickets kept reads line front
-    same serving less writes =
+    → length first ≤ 2 ^ 20 → IsFront ended input first behind → seen ≡ text
+    → IsServing first behind text number now tickets kept → count < length seen
+    → Appends held holds (take count seen) → IsStopped Write had left held holds
+first_write_stops had left held holds ended input first behind text seen count number now tickets kept reads line short
+    front same serving less writes =
     let whole : AnswersWhole input seen =
-    rw same (whole_answered first behind text number now tickets kept ended input line front serving) in
+    rw same (whole_answered first behind text number now tickets kept ended input line short front serving) in
     (input, seen, count, reads, inl whole, less, writes)
 
 -- a late fault is one of three

@@ -64,9 +64,11 @@ pub record AnswersAll (input output : List ℕ) : Type 0 where
   pub split : HasFirst input first behind
   pub ended : IsEnded first behind output
 
--- nothing is written before the first line is whole, and then what answers the whole lines (profile)
+-- nothing is written before the first line is whole, which it is by 2^20 bytes, and then what answers the whole lines
+-- (profile)
 abbrev pub AnswersSoFar : List ℕ → List ℕ → Type 0
-AnswersSoFar input output = (IsLine input × (output ≡ [])) ⊎ AnswersWhole input output
+AnswersSoFar input output =
+    (IsLine input × (length input ≤ 2 ^ 20) × (output ≡ [])) ⊎ AnswersWhole input output
 
 -- ---- a dialogue in its course
 
@@ -100,6 +102,7 @@ pub record IsInCourse (ended : Bool) (had left held holds : Option (List ℕ)) (
   pub read : Consumes had left input
   pub written : Appends held holds output
   pub line : IsLine first
+  pub short : length first ≤ 2 ^ 20
   pub front : IsFront ended input first behind
   pub serving : IsServing first behind output number now tickets kept
 

@@ -1,5 +1,5 @@
 -- The lines of an input.
-use Rattle.std.specs.Prelude.{◌≡◌, ◌≢◌, ℕ, Bool, true, false, List, [], ◌∷◌, ◌++◌, All, flat_map}
+use Rattle.std.specs.Prelude.{◌≡◌, ◌≢◌, ◌≤◌, ℕ, ◌^◌, Bool, true, false, List, [], ◌∷◌, ◌++◌, All, flat_map, length}
 use Rattle.dsa_scenario.specs.Lines.{line_of}
 
 -- bytes without a line feed
@@ -23,7 +23,9 @@ abbrev pub IsFront : Bool → List ℕ → List ℕ → List ℕ → Type 0
 IsFront false input first behind = input ≡ line_of first ++ behind
 IsFront true input first behind = (input ≡ first) × (behind ≡ [])
 
+-- the input has this first line, which is no longer than a line may be, and this behind it (profile)
 pub record HasFirst (input first behind : List ℕ) : Type 0 where
   pub ended : Bool
   pub line : IsLine first
+  pub short : length first ≤ 2 ^ 20
   pub front : IsFront ended input first behind

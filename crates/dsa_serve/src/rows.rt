@@ -11,8 +11,8 @@ ghost use Rattle.dsa_serve.specs.declared.requests.LineFault.TheVariants.{NotJso
 ghost use Rattle.dsa_serve.specs.declared.requests.Request.TheVariants.{Step, Explain, Fault};
 ghost use Rattle.dsa_serve.specs.Requests.{request_of, actions_of, Asks, AreAsked};
 ghost use Rattle.dsa_serve.specs.Answers.{answers, fault_text, IsAnswered};
-ghost use Rattle.dsa_serve.specs.Input.{IsLine, AreLines, with_rest, IsFront};
-ghost use Rattle.dsa_serve.specs.Dialogue.{IsDialogue};
+ghost use Rattle.dsa_serve.specs.Input.{IsLine, AreLines, with_rest, IsFront, HasFirst};
+ghost use Rattle.dsa_serve.specs.Dialogue.{IsDialogue, AnswersSoFar};
 ghost use Rattle.dsa_serve.specs.Worked.{explain_around, requests_of_a_dialogue, records_of_a_dialogue, lines_of_a_dialogue, poll_line, explained_poll_line, first_line};
 
 /// A step object asks its step, and `explain` around one its explanation. Nothing else asks anything.
@@ -80,4 +80,16 @@ pub fn inputs()
 pub fn last_lines()
     ensures none { with_rest (codes "1" ∷ []) [] ≡ codes "1" ∷ [] }
     ensures one { with_rest (codes "1" ∷ []) (codes "2") ≡ codes "1" ∷ codes "2" ∷ [] }
+{}
+
+/// A first line ends with its line feed or with the input, and no more is taken for one than a line may have.
+pub fn first_lines()
+    ensures first { HasFirst (codes "1\n2") (codes "1") (codes "2") }
+    ensures alone { HasFirst (codes "1") (codes "1") [] }
+    ensures longest { (first : List ℕ) → IsLine first → length first ≡ 1_048_576 → HasFirst first first [] }
+    ensures too_long { (input : List ℕ) (first : List ℕ) (behind : List ℕ) → length first ≡ 1_048_577 → ¬ HasFirst input first behind }
+    ensures two_lines { ¬ HasFirst (codes "1\n2\n") (codes "1\n2") [] }
+    ensures what_is_behind_is_left_out { ¬ HasFirst (codes "1\n2") (codes "1") [] }
+    ensures nothing_yet { AnswersSoFar (codes "1") [] }
+    ensures too_long_so_far { (input : List ℕ) (output : List ℕ) → IsLine input → length input ≡ 1_048_577 → ¬ AnswersSoFar input output }
 {}

@@ -9,7 +9,7 @@ returns-in_default-clause-stopped g c held = (
   c.reads.first.items,
   [],
   Consumes-kept _ _ _ _ c.reads.invariant.taken c.in_default.ensures.bytes,
-  inl (c.reads.invariant.line, refl),
+  inl (c.reads.invariant.line, omega (arith, c.reads-test.true, c.len.ensures, c.reads.first.ok.0), refl),
   Appends-nil held,
 )
 
