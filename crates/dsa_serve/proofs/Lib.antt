@@ -3,3 +3,4 @@ pub mod Sessions
 pub mod Lines
 pub mod Courses
 pub mod Stops
+pub mod Counts

@@ -1,8 +1,8 @@
 -- The lines of an input, with more bytes.
 use Rattle.std.proofs.Common.{◌≡◌, ◌≢◌, ◌≤◌, ◌<◌, ◌+◌, ◌-◌, ℕ, true, false, Bool, List, [], ◌∷◌, ◌++◌, length, take}
 use Rattle.std.proofs.Common.{drop, get_or}
-use Rattle.std.proofs.Common.{refl, sym, ap, ◌∙◌, arith, append_assoc, append-nil, flat_map, length-append, length-take, length-drop}
-use Rattle.std.proofs.Common.{subst, min, inl, inr}
+use Rattle.std.proofs.Common.{refl, sym, ap, ◌∙◌, arith, append_assoc, append-nil, flat_map, length-append}
+use Rattle.std.proofs.Common.{length-take, length-drop, subst, min, inl, inr}
 use Rattle.std.proofs.Math.Seq.{take-append-add}
 use Rattle.std.proofs.lemmas.{Bool.{eqb-true, cases_lt}, Grind.{flat_map-append}}
 use Rattle.std.proofs.lemmas.List.{take_all, take_min, take_more, get_or-take, take-append-drop, take-append-le}

@@ -1,10 +1,12 @@
 -- A dialogue after one read more, and where a fault ends it.
-use Rattle.std.proofs.Common.{◌≡◌, ◌≢◌, ◌⊎◌, ◌<◌, ◌≤◌, ◌+◌, ◌^◌, ℕ, false, Bool, List, [], ◌++◌, Option, length, take, refl, ap}
-use Rattle.std.proofs.Common.{◌∙◌, arith, Result, Ok, Err, IfErr}
-use Rattle.std.proofs.Common.{append_assoc, append-nil, length-append, inl, inr}
+use Rattle.std.proofs.Common.{◌≡◌, ◌≢◌, ◌⊎◌, ◌<◌, ◌≤◌, ◌+◌, ◌^◌, ℕ, false, Bool, List, [], ◌++◌, Option, length, take}
+use Rattle.std.proofs.Common.{refl, ap, ◌∙◌, arith, Result, Ok, Err, IfErr}
+use Rattle.std.proofs.Common.{append_assoc, append-nil, length-append, length-take, drop, inl, inr}
 use Rattle.std.proofs.{Math.Seq.{take-append-add}, lemmas.List.Elements.{All-nil}}
+use Rattle.std.proofs.lemmas.List.{take-append-drop}
+use Rattle.memchr.specs.Find.{NoneBefore, Passes, is_byte}
 use Rattle.std.specs.Io.KnownBytes.{Consumes, Appends, Keeps}
-use Rattle.std.proofs.KnownBytes.{Consumes-trans, Consumes-kept, Appends-nil, Appends-trans}
+use Rattle.std.proofs.KnownBytes.{Consumes-nil, Consumes-trans, Consumes-kept, Appends-nil, Appends-trans}
 use Rattle.dsa_book.specs.declared.answer.Ticket.{Ticket}
 use Rattle.dsa_device.specs.Running.{Running}
 use Rattle.dsa_scenario.specs.Lines.{line_of}
@@ -15,7 +17,7 @@ use Rattle.dsa_scenario.specs.declared.faults.ScenarioFault.TheVariants.{BadCaps
 use Rattle.dsa_scenario.specs.Document.{IsFaultOf}
 use Rattle.dsa_serve.specs.Input.{IsLine, IsFront}
 use Rattle.dsa_serve.specs.Dialogue.{IsEnded, AnswersWhole, AnswersAll, IsServing, IsInCourse, IsLate, IsStopped}
-use Rattle.dsa_serve.proofs.Courses.{whole_answered}
+use Rattle.dsa_serve.proofs.{Courses.{whole_answered}, Lines.{front_cut}}
 
 -- a first part and the front of a second are a front of both
 cut_short : (held holds holds' : Option (List ℕ)) (output text : List ℕ) (count : ℕ) → Appends held holds output
@@ -91,6 +93,16 @@ memory_stops ended had left left' held holds bytes number now tickets kept reads
   inr (course_answered ended had left held holds number now tickets kept h),
   h.written,
 )
+
+-- an error of the reader, or want of memory before it is asked
+pub unread_stops : (had left left' held holds : Option (List ℕ)) (e : ScenarioFault) (number : ℕ) (now : Running)
+    (tickets : List Ticket) (kept : List ℕ) → Keeps left left' → (e ≡ Read) ⊎ (e ≡ OutOfMemory)
+    → IsInCourse false had left held holds number now tickets kept → IsStopped e had left' held holds
+unread_stops had left left' held holds e number now tickets kept keeps (inl is) h =
+    rw is (read_stops false had left left' held holds number now tickets kept keeps h)
+unread_stops had left left' held holds e number now tickets kept keeps (inr is) h =
+    let reads = Consumes-kept left left left' [] (Consumes-nil left) keeps in
+    rw is (memory_stops false had left left' held holds [] number now tickets kept reads h)
 
 -- a write that is refused in a turn
 pub write_stops : (had left left' held holds holds' : Option (List ℕ)) (bytes text : List ℕ) (count : ℕ)
@@ -205,6 +217,46 @@ pub memory_before : (had left held : Option (List ℕ)) (bytes : List ℕ) → C
     → IsStopped OutOfMemory had left held held
 memory_before had left held bytes reads =
     ([], bytes, [], reads, inl (All-nil (λ b. b ≢ 10), omega arith, refl), Appends-nil held)
+
+-- an error of the reader, or want of memory, where the first line is not whole
+pub first_read_stops : (had left left' held : Option (List ℕ)) (first : List ℕ) (e : ScenarioFault)
+    → Consumes had left first → IsLine first → length first ≤ 2 ^ 20 → Keeps left left'
+    → (e ≡ Read) ⊎ (e ≡ OutOfMemory) → IsStopped e had left' held held
+first_read_stops had left left' held first e reads line short keeps (inl h) = rw h (
+  first,
+  [],
+  Consumes-kept had left left' first reads keeps,
+  inl (line, short, refl),
+  Appends-nil held,
+)
+first_read_stops had left left' held first e reads line short keeps (inr h) = rw h (
+  first,
+  [],
+  [],
+  rw (append-nil first) (Consumes-kept had left left' first reads keeps),
+  inl (line, short, refl),
+  Appends-nil held,
+)
+
+-- want of memory, or more bytes than a line has, where the first line ends
+pub cut_stops : (had left held : Option (List ℕ)) (first piece : List ℕ) (at : ℕ) (e : ScenarioFault)
+    → NoneBefore (Passes (is_byte 10) piece) 0 (length piece) at × Passes (is_byte 10) piece at → IsLine first
+    → Consumes had left (first ++ piece) → (e ≡ OutOfMemory) ⊎ ((e ≡ TooLong) × (2 ^ 20 < length first + at))
+    → IsStopped e had left held held
+cut_stops had left held first piece at e found line reads (inl h) =
+    rw h (memory_before had left held (first ++ piece) reads)
+cut_stops had left held first piece at e found line reads (inr h) =
+    let short = take at piece in
+    let whole : (first ++ short) ++ drop at piece ≡ first ++ piece =
+    append_assoc first short (drop at piece) ∙ ap (λ l. first ++ l) (take-append-drop at piece) in
+    let inside : at < length piece = found.0.high in
+    rw h.0 (
+      first ++ short,
+      drop at piece,
+      rw whole reads,
+      (front_cut first piece at found line).0,
+      omega (arith, h.1, length-append first short, length-take at piece, inside),
+    )
 
 -- a write that is refused of the answers to the first line and to the lines that came with it
 pub first_write_stops : (had left held holds : Option (List ℕ)) (ended : Bool) (input first behind text seen : List ℕ)

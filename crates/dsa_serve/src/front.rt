@@ -1,14 +1,17 @@
 //! The first line of an input.
 
-ghost use Rattle.std.specs.Prelude.{◌≡◌, ◌<◌, ◌≤◌, ◌+◌, ◌++◌, [], true, false, ℕ, List, Option, length, take, drop, vec_len, IfOk, IfErr};
+ghost use Rattle.std.specs.Prelude.{◌≡◌, ◌⊎◌, ◌<◌, ◌≤◌, ◌+◌, ◌++◌, [], true, false, ℕ, List, Option, length, take, drop, vec_len, IfOk, IfErr};
 ghost use Rattle.std.specs.Io.KnownBytes.{Consumes, IsAtEnd};
+ghost use Rattle.dsa_scenario.specs.declared.faults.ScenarioFault.{ScenarioFault};
 ghost use Rattle.dsa_serve.specs.Input.{IsLine, IsFront};
 ghost use Rattle.dsa_serve.specs.Dialogue.{IsStopped};
+ghost use Rattle.dsa_serve.specs.Noted.{counted_remaining, given_by, IsSameReader, IsFailureNoted, IsAskedFor};
 
+use crate::counted::CountedReader;
 use crate::requests::MAX_LINE;
 use dsa_scenario::ScenarioFault;
 use memchr::memchr;
-use std::alloc::{AllocError, Global};
+use std::alloc::Global;
 use std::io::Read;
 
 /// The first line, and what was read behind it.
@@ -21,13 +24,19 @@ pub struct Front {
 }
 
 // The first line, which ends at this place of the piece, and the rest of the piece.
-fn cut(alloc: Global, mut first: Vec<u8>, piece: &[u8], at: usize) -> Result<Front, AllocError>
+fn cut(alloc: Global, mut first: Vec<u8>, piece: &[u8], at: usize) -> Result<Front, ScenarioFault>
     requires { at < length piece.now }
     ensures first { IfOk result (λ front. front.first.items ≡ first.items ++ take at piece.now) }
     ensures behind { IfOk result (λ front. front.behind.items ≡ drop (at + 1) piece.now) }
     ensures ended { IfOk result (λ front. front.ended ≡ false) }
+    ensures fits { IfOk result (λ front. vec_len front.first ≤ MAX_LINE) }
+    ensures faults { IfErr result (λ e. (e ≡ ScenarioFault.OutOfMemory)
+        ⊎ ((e ≡ ScenarioFault.TooLong) × (MAX_LINE < length first.items + at))) }
 {
     first.extend_from_slice(&piece[..at])?;
+    if first.len() > MAX_LINE {
+        return Err(ScenarioFault::TooLong);
+    }
     let behind = Vec::from_slice(alloc, &piece[at + 1..])?;
     Ok(Front {
         first,
@@ -36,24 +45,31 @@ fn cut(alloc: Global, mut first: Vec<u8>, piece: &[u8], at: usize) -> Result<Fro
     })
 }
 
-// Reads until a line feed or the end of input comes, or more bytes than a line has.
-fn read_line<R: Read>(
+/// Reads the first line, by as many reads as it takes: its line feed comes with the last of them.
+pub fn read_first<R: Read>(
     alloc: Global,
-    reader: &mut R,
+    reader: &mut CountedReader<'_, R>,
     chunk: &mut [u8],
 ) -> Result<Front, ScenarioFault>
     requires { 0 < length chunk.old }
-    ensures bytes { IfOk result (λ front. (input : List ℕ) × Consumes (R.remaining reader.old) (R.remaining reader.new) input
+    ensures same_reader { IsSameReader reader.old reader.new }
+    ensures failed { IsFailureNoted result reader.old reader.new }
+    ensures asked { IsAskedFor R.remaining reader.old reader.new 1 }
+    ensures asked_first { IfOk result (λ front. front.ended ≡ false → IsAskedFor R.remaining reader.old reader.new 0) }
+    ensures last_read { IfOk result (λ front. front.ended ≡ false → length front.behind.items < given_by reader.new) }
+    ensures room { IfOk result (λ front. front.ended ≡ false → given_by reader.new ≤ length chunk.old) }
+    ensures bytes { IfOk result (λ front. (input : List ℕ)
+        × Consumes (counted_remaining R.remaining reader.old) (counted_remaining R.remaining reader.new) input
         × IsLine front.first.items × IsFront front.ended input front.first.items front.behind.items) }
-    ensures end { IfOk result (λ front. front.ended ≡ true → IsAtEnd (R.remaining reader.new)) }
+    ensures end { IfOk result (λ front. front.ended ≡ true → IsAtEnd (counted_remaining R.remaining reader.new)) }
+    ensures fits { IfOk result (λ front. vec_len front.first ≤ MAX_LINE) }
+    ensures faults { IfErr result (λ e. (e ≡ ScenarioFault.Read) ⊎ (e ≡ ScenarioFault.TooLong) ⊎ (e ≡ ScenarioFault.OutOfMemory)) }
     ensures stopped { IfErr result (λ e. (held : Option (List ℕ))
-        → IsStopped e (R.remaining reader.old) (R.remaining reader.new) held held) }
+        → IsStopped e (counted_remaining R.remaining reader.old) (counted_remaining R.remaining reader.new) held held) }
 {
     let mut first = Vec::new(alloc);
     'reads: while first.len() <= MAX_LINE {
-        let Ok(count) = reader.read(chunk) else {
-            return Err(ScenarioFault::Read);
-        };
+        let count = reader.read_once(chunk)?;
         if count == 0 {
             return Ok(Front {
                 first,
@@ -71,6 +87,8 @@ fn read_line<R: Read>(
 }
 
 /// Reads the first line, by as many reads as it takes.
+///
+/// All of it is the work of [`read_first`], which is lent the reader as one that is counted.
 pub fn read_front<R: Read>(
     alloc: Global,
     reader: &mut R,
@@ -81,12 +99,12 @@ pub fn read_front<R: Read>(
         × IsLine front.first.items × IsFront front.ended input front.first.items front.behind.items) }
     ensures end { IfOk result (λ front. front.ended ≡ true → IsAtEnd (R.remaining reader.new)) }
     ensures fits { IfOk result (λ front. vec_len front.first ≤ MAX_LINE) }
+
+    // What came behind the line feed came with it, in one read.
+    ensures one_read { IfOk result (λ front. front.ended ≡ false → length front.behind.items < length chunk.old) }
     ensures stopped { IfErr result (λ e. (held : Option (List ℕ))
         → IsStopped e (R.remaining reader.old) (R.remaining reader.new) held held) }
 {
-    let front = read_line(alloc, reader, chunk)?;
-    if front.first.len() > MAX_LINE {
-        return Err(ScenarioFault::TooLong);
-    }
-    Ok(front)
+    let mut reader = CountedReader::new(reader);
+    read_first(alloc, &mut reader, chunk)
 }

@@ -3,6 +3,7 @@
 //! `docs/SCENARIO.md` describes lines and answers.
 #![tactic(auto)]
 
+mod counted;
 mod dialogue;
 mod front;
 mod opening;
@@ -11,9 +12,10 @@ pub mod rows;
 mod serving;
 mod session;
 
+pub use counted::CountedReader;
 pub use dialogue::Dialogue;
-pub use front::{Front, read_front};
+pub use front::{Front, read_first, read_front};
 pub use opening::begin;
 pub use requests::{LineFault, MAX_LINE, Request, parse_request};
-pub use serving::{serve, serve_watched};
+pub use serving::{serve, serve_counted, serve_watched};
 pub use session::{Session, open};

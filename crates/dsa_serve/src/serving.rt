@@ -1,17 +1,18 @@
 //! Lines in, answers out.
 
-ghost use Rattle.std.specs.Prelude.{◌≡◌, ◌≢◌, ◌<◌, true, false, ℕ, Bool, List, Option, Ok, length, OnOk, IfOk, IfErr};
+ghost use Rattle.std.specs.Prelude.{◌≡◌, ◌≢◌, ◌<◌, ◌≤◌, ◌+◌, ◌^◌, true, false, ℕ, Bool, List, Option, Ok, length, OnOk, IfOk, IfErr, IsErrOf};
 ghost use Rattle.std.specs.Io.KnownBytes.{Consumes, IsAtEnd, Appends};
 ghost use Rattle.dsa_scenario.specs.declared.faults.ScenarioFault.{ScenarioFault};
-ghost use Rattle.dsa_scenario.specs.Metered.{metered_remaining, budget_of, IsSameReader};
-ghost use Rattle.dsa_scenario.specs.Watched.{watched_contents, has_refused, IsSameWriter};
+ghost use Rattle.dsa_scenario.specs.Watched.{watched_contents, IsSameWriter};
+ghost use Rattle.dsa_serve.specs.Noted.{counted_remaining, asked_of, IsSameReader, IsFailureNoted, IsRefusalTold, IsAskedFor};
 ghost use Rattle.dsa_serve.specs.Dialogue.{AnswersAll, IsInCourse, IsLate, IsStopped};
 
 use crate::dialogue::Dialogue;
-use crate::front::read_front;
+use crate::counted::CountedReader;
+use crate::front::read_first;
 use crate::opening::begin;
 use dsa_cells::LinkedStore;
-use dsa_scenario::{MeteredReader, ScenarioFault, WatchedWriter, add_rows, write_text};
+use dsa_scenario::{ScenarioFault, WatchedWriter, write_text};
 use dsa_store::EntryStore;
 use std::alloc::Global;
 use std::io::{Read, Write};
@@ -29,21 +30,26 @@ struct Started {
 // Reads the first line, and writes the answers to the steps of its document.
 fn start<R: Read, W: Write>(
     alloc: Global,
-    reader: &mut R,
+    reader: &mut CountedReader<'_, R>,
     chunk: &mut [u8],
     writer: &mut WatchedWriter<'_, W>,
 ) -> Result<Started, ScenarioFault>
     requires { 0 < length chunk.old }
+    ensures same_reader { IsSameReader reader.old reader.new }
     ensures same_writer { IsSameWriter writer.old writer.new }
-    ensures ok { IfOk result (λ it. IsInCourse it.ended (R.remaining reader.old) (R.remaining reader.new)
+    ensures failed { IsFailureNoted result reader.old reader.new }
+    ensures refused { IsRefusalTold result writer.old writer.new }
+    ensures asked { IsAskedFor R.remaining reader.old reader.new 1 }
+    ensures asked_first { IfOk result (λ it. it.ended ≡ false → IsAskedFor R.remaining reader.old reader.new 0) }
+    ensures ok { IfOk result (λ it. IsInCourse it.ended (counted_remaining R.remaining reader.old) (counted_remaining R.remaining reader.new)
         (watched_contents W.contents writer.old) (watched_contents W.contents writer.new) it.dialogue.session.number it.dialogue.session.device
         it.dialogue.session.tickets.items it.dialogue.kept.items) }
-    ensures end { IfOk result (λ it. it.ended ≡ true → IsAtEnd (R.remaining reader.new)) }
+    ensures end { IfOk result (λ it. it.ended ≡ true → IsAtEnd (counted_remaining R.remaining reader.new)) }
     ensures nothing { IfErr result (λ e. e ≢ ScenarioFault.Write → writer.new ≡ writer.old) }
-    ensures stopped { IfErr result (λ e. IsStopped e (R.remaining reader.old) (R.remaining reader.new)
+    ensures stopped { IfErr result (λ e. IsStopped e (counted_remaining R.remaining reader.old) (counted_remaining R.remaining reader.new)
         (watched_contents W.contents writer.old) (watched_contents W.contents writer.new)) }
 {
-    let front = read_front(alloc, reader, chunk)?;
+    let front = read_first(alloc, reader, chunk)?;
     let mut text = String::new(alloc);
     let dialogue = begin(alloc, &mut text, &front)?;
     write_text(writer, text.as_bytes())?;
@@ -57,92 +63,69 @@ fn start<R: Read, W: Write>(
 fn turn<S: EntryStore, R: Read, W: Write>(
     alloc: Global,
     dialogue: &mut Dialogue<S>,
-    reader: &mut MeteredReader<'_, R>,
+    reader: &mut CountedReader<'_, R>,
     chunk: &mut [u8],
     text: &mut String,
     writer: &mut WatchedWriter<'_, W>,
 ) -> Result<bool, ScenarioFault>
-    requires one_read { budget_of reader.old ≡ 1 }
-    requires room { 0 < length chunk.old }
+    requires { 0 < length chunk.old }
     ensures same_reader { IsSameReader reader.old reader.new }
     ensures same_writer { IsSameWriter writer.old writer.new }
+    ensures failed { IsFailureNoted result reader.old reader.new }
+    ensures refused { IsRefusalTold result writer.old writer.new }
+    ensures one_read { asked_of reader.new ≤ asked_of reader.old + 1 }
+    ensures counted { OnOk result (asked_of reader.new ≡ asked_of reader.old + 1) }
+    ensures fits { asked_of reader.new < 2 ^ 64 }
+    ensures asked { IsAskedFor R.remaining reader.old reader.new 1 }
+    ensures asked_for_more { result ≡ Ok true → IsAskedFor R.remaining reader.old reader.new 0 }
     ensures ok { OnOk result ((had : Option (List ℕ)) (held : Option (List ℕ))
-        → IsInCourse false had (metered_remaining R.remaining reader.old) held (watched_contents W.contents writer.old)
+        → IsInCourse false had (counted_remaining R.remaining reader.old) held (watched_contents W.contents writer.old)
         dialogue.old.session.number dialogue.old.session.device dialogue.old.session.tickets.items dialogue.old.kept.items
-        → IsInCourse false had (metered_remaining R.remaining reader.new) held (watched_contents W.contents writer.new)
+        → IsInCourse false had (counted_remaining R.remaining reader.new) held (watched_contents W.contents writer.new)
         dialogue.new.session.number dialogue.new.session.device dialogue.new.session.tickets.items dialogue.new.kept.items) }
-    ensures end { result ≡ Ok false → IsAtEnd (metered_remaining R.remaining reader.new) }
+    ensures end { result ≡ Ok false → IsAtEnd (counted_remaining R.remaining reader.new) }
     ensures late { IfErr result IsLate }
     ensures stopped { IfErr result (λ e. (had : Option (List ℕ)) (held : Option (List ℕ))
-        → IsInCourse false had (metered_remaining R.remaining reader.old) held (watched_contents W.contents writer.old)
+        → IsInCourse false had (counted_remaining R.remaining reader.old) held (watched_contents W.contents writer.old)
         dialogue.old.session.number dialogue.old.session.device dialogue.old.session.tickets.items dialogue.old.kept.items
-        → IsStopped e had (metered_remaining R.remaining reader.new) held (watched_contents W.contents writer.new)) }
+        → IsStopped e had (counted_remaining R.remaining reader.new) held (watched_contents W.contents writer.new)) }
 {
-    let Ok(count) = reader.read(chunk) else {
-        return Err(ScenarioFault::Read);
-    };
+    let count = reader.read_once(chunk)?;
     text.clear();
     dialogue.feed(alloc, text, &chunk[..count])?;
     write_text(writer, text.as_bytes())?;
     Ok(count > 0)
 }
 
-// The same of a reader that is asked once.
-fn turn_once<S: EntryStore, R: Read, W: Write>(
-    alloc: Global,
-    dialogue: &mut Dialogue<S>,
-    reader: &mut R,
-    chunk: &mut [u8],
-    text: &mut String,
-    writer: &mut WatchedWriter<'_, W>,
-) -> Result<bool, ScenarioFault>
-    requires { 0 < length chunk.old }
-    ensures same_writer { IsSameWriter writer.old writer.new }
-    ensures ok { OnOk result ((had : Option (List ℕ)) (held : Option (List ℕ))
-        → IsInCourse false had (R.remaining reader.old) held (watched_contents W.contents writer.old)
-        dialogue.old.session.number dialogue.old.session.device dialogue.old.session.tickets.items dialogue.old.kept.items
-        → IsInCourse false had (R.remaining reader.new) held (watched_contents W.contents writer.new)
-        dialogue.new.session.number dialogue.new.session.device dialogue.new.session.tickets.items dialogue.new.kept.items) }
-    ensures end { result ≡ Ok false → IsAtEnd (R.remaining reader.new) }
-    ensures late { IfErr result IsLate }
-    ensures stopped { IfErr result (λ e. (had : Option (List ℕ)) (held : Option (List ℕ))
-        → IsInCourse false had (R.remaining reader.old) held (watched_contents W.contents writer.old)
-        dialogue.old.session.number dialogue.old.session.device dialogue.old.session.tickets.items dialogue.old.kept.items
-        → IsStopped e had (R.remaining reader.new) held (watched_contents W.contents writer.new)) }
-{
-    let mut once = MeteredReader::new(reader, 1);
-    turn(alloc, dialogue, &mut once, chunk, text, writer)
-}
-
 // Turns until the input ends.
 fn serve_lines<S: EntryStore, R: Read, W: Write>(
     alloc: Global,
     dialogue: &mut Dialogue<S>,
-    reader: &mut R,
+    reader: &mut CountedReader<'_, R>,
     chunk: &mut [u8],
     writer: &mut WatchedWriter<'_, W>,
 ) -> Result<(), ScenarioFault>
     requires { 0 < length chunk.old }
+    ensures same_reader { IsSameReader reader.old reader.new }
     ensures same_writer { IsSameWriter writer.old writer.new }
+    ensures failed { IsFailureNoted result reader.old reader.new }
+    ensures refused { IsRefusalTold result writer.old writer.new }
+    ensures asked { IsAskedFor R.remaining reader.old reader.new 1 }
     ensures ok { OnOk result ((had : Option (List ℕ)) (held : Option (List ℕ))
-        → IsInCourse false had (R.remaining reader.old) held (watched_contents W.contents writer.old)
+        → IsInCourse false had (counted_remaining R.remaining reader.old) held (watched_contents W.contents writer.old)
         dialogue.old.session.number dialogue.old.session.device dialogue.old.session.tickets.items dialogue.old.kept.items
-        → IsInCourse false had (R.remaining reader.new) held (watched_contents W.contents writer.new)
+        → IsInCourse false had (counted_remaining R.remaining reader.new) held (watched_contents W.contents writer.new)
         dialogue.new.session.number dialogue.new.session.device dialogue.new.session.tickets.items dialogue.new.kept.items) }
-    ensures end { OnOk result (IsAtEnd (R.remaining reader.new)) }
+    ensures end { OnOk result (IsAtEnd (counted_remaining R.remaining reader.new)) }
     ensures late { IfErr result IsLate }
     ensures stopped { IfErr result (λ e. (had : Option (List ℕ)) (held : Option (List ℕ))
-        → IsInCourse false had (R.remaining reader.old) held (watched_contents W.contents writer.old)
+        → IsInCourse false had (counted_remaining R.remaining reader.old) held (watched_contents W.contents writer.old)
         dialogue.old.session.number dialogue.old.session.device dialogue.old.session.tickets.items dialogue.old.kept.items
-        → IsStopped e had (R.remaining reader.new) held (watched_contents W.contents writer.new)) }
+        → IsStopped e had (counted_remaining R.remaining reader.new) held (watched_contents W.contents writer.new)) }
 {
     let mut text = String::new(alloc);
-    'turns: for _ in 0..u64::MAX {
-        if !turn_once(alloc, dialogue, reader, chunk, &mut text, writer)? {
-            return Ok(());
-        }
-    }
-    Err(ScenarioFault::Read)
+    'turns: while turn(alloc, dialogue, reader, chunk, &mut text, writer)? {}
+    Ok(())
 }
 
 // Answers a last line without a line feed, and writes the fates.
@@ -152,12 +135,14 @@ fn finish<S: EntryStore, W: Write>(
     writer: &mut WatchedWriter<'_, W>,
 ) -> Result<(), ScenarioFault>
     ensures same_writer { IsSameWriter writer.old writer.new }
+    ensures refused { IsRefusalTold result writer.old writer.new }
     ensures ok { OnOk result ((ended : Bool) (had : Option (List ℕ)) (left : Option (List ℕ)) (held : Option (List ℕ))
         → IsInCourse ended had left held (watched_contents W.contents writer.old)
         dialogue.old.session.number dialogue.old.session.device dialogue.old.session.tickets.items dialogue.old.kept.items
         → (input : List ℕ) × (output : List ℕ) × Consumes had left input × AnswersAll input output
         × Appends held (watched_contents W.contents writer.new) output) }
     ensures late { IfErr result IsLate }
+    ensures not_read { IfErr result (λ e. e ≢ ScenarioFault.Read) }
     ensures stopped { IfErr result (λ e. (ended : Bool) (had : Option (List ℕ)) (left : Option (List ℕ)) (held : Option (List ℕ))
         → IsInCourse ended had left held (watched_contents W.contents writer.old)
         dialogue.old.session.number dialogue.old.session.device dialogue.old.session.tickets.items dialogue.old.kept.items
@@ -174,19 +159,23 @@ fn finish<S: EntryStore, W: Write>(
 /// answered with its fault, and changes nothing. At the end of input come the fates, as at the end of a document's run.
 ///
 /// A fault of the document is the same as that of [`run_scenario`](dsa_scenario::run_scenario), and nothing is written then.
-/// On `Read` what was read is answered, on `OutOfMemory` what was read before the last read. On `Write` the writer
-/// has got a proper prefix of the answers.
-pub fn serve_watched<R: Read, W: Write>(
+/// On `Read` an answer of the reader was an error, and what was read is answered; on `OutOfMemory` what was read before the
+/// last read. On `Write` a write was refused, and the writer has got a proper prefix of the answers.
+pub fn serve_counted<R: Read, W: Write>(
     alloc: Global,
-    reader: &mut R,
+    reader: &mut CountedReader<'_, R>,
     writer: &mut WatchedWriter<'_, W>,
 ) -> Result<(), ScenarioFault>
+    ensures same_reader { IsSameReader reader.old reader.new }
     ensures same_writer { IsSameWriter writer.old writer.new }
+    ensures failed { IsFailureNoted result reader.old reader.new }
+    ensures refused { IsRefusalTold result writer.old writer.new }
+    ensures asked { IsAskedFor R.remaining reader.old reader.new 1 }
     ensures ok { OnOk result ((input : List ℕ) × (output : List ℕ)
-        × Consumes (R.remaining reader.old) (R.remaining reader.new) input × IsAtEnd (R.remaining reader.new)
-        × AnswersAll input output
+        × Consumes (counted_remaining R.remaining reader.old) (counted_remaining R.remaining reader.new) input
+        × IsAtEnd (counted_remaining R.remaining reader.new) × AnswersAll input output
         × Appends (watched_contents W.contents writer.old) (watched_contents W.contents writer.new) output) }
-    ensures stopped { IfErr result (λ e. IsStopped e (R.remaining reader.old) (R.remaining reader.new)
+    ensures stopped { IfErr result (λ e. IsStopped e (counted_remaining R.remaining reader.old) (counted_remaining R.remaining reader.new)
         (watched_contents W.contents writer.old) (watched_contents W.contents writer.new)) }
     ensures nothing { IfErr result (λ e. e ≢ ScenarioFault.Read → e ≢ ScenarioFault.Write → e ≢ ScenarioFault.OutOfMemory
         → writer.new ≡ writer.old) }
@@ -197,6 +186,29 @@ pub fn serve_watched<R: Read, W: Write>(
         serve_lines(alloc, &mut it.dialogue, reader, &mut chunk, writer)?;
     }
     finish(alloc, &mut it.dialogue, writer)
+}
+
+/// Reads a document in the first line and a step in each further one, and answers each line.
+///
+/// All of it is the work of [`serve_counted`], which is lent the reader as one that is counted.
+pub fn serve_watched<R: Read, W: Write>(
+    alloc: Global,
+    reader: &mut R,
+    writer: &mut WatchedWriter<'_, W>,
+) -> Result<(), ScenarioFault>
+    ensures same_writer { IsSameWriter writer.old writer.new }
+    ensures refused { IsRefusalTold result writer.old writer.new }
+    ensures ok { OnOk result ((input : List ℕ) × (output : List ℕ)
+        × Consumes (R.remaining reader.old) (R.remaining reader.new) input × IsAtEnd (R.remaining reader.new)
+        × AnswersAll input output
+        × Appends (watched_contents W.contents writer.old) (watched_contents W.contents writer.new) output) }
+    ensures stopped { IfErr result (λ e. IsStopped e (R.remaining reader.old) (R.remaining reader.new)
+        (watched_contents W.contents writer.old) (watched_contents W.contents writer.new)) }
+    ensures nothing { IfErr result (λ e. e ≢ ScenarioFault.Read → e ≢ ScenarioFault.Write → e ≢ ScenarioFault.OutOfMemory
+        → writer.new ≡ writer.old) }
+{
+    let mut reader = CountedReader::new(reader);
+    serve_counted(alloc, &mut reader, writer)
 }
 
 /// Reads a document in the first line and a step in each further one, and answers each line.

@@ -31,8 +31,8 @@ pub struct Session<S: EntryStore> {
     pub(crate) number: usize,
 }
 
-// The number of steps with one more.
-fn next(number: usize) -> Result<usize, AllocError>
+// The number of steps, or of reads, with one more.
+pub(crate) fn next(number: usize) -> Result<usize, AllocError>
     ensures { IfOk result (λ more. more ≡ number + 1) }
 {
     number.checked_add(1).ok_or(AllocError)

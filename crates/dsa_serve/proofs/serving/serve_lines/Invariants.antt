@@ -1,16 +1,25 @@
 use Rattle.dsa_serve.proofs.serving.serve_lines.Given as goal
-use Rattle.std.proofs.Common.{◌<◌, ℕ, List, Option, false, length}
-use Rattle.dsa_scenario.specs.Watched.{watched_contents, IsSameWriter}
+use Rattle.std.proofs.Common.{◌≡◌, ◌<◌, ◌-◌, ◌^◌, ℕ, List, Option, false, length}
+use Rattle.dsa_scenario.specs.Watched.{watched_contents, has_refused, IsSameWriter}
 use Rattle.dsa_serve.specs.Dialogue.{IsInCourse}
+use Rattle.dsa_serve.specs.Noted.{counted_remaining, asked_of, has_failed, IsSameReader, IsAskedFor}
 
 abbrev pub invariant-turns : goal.invariant-turns
 invariant-turns g l = record {
   room : 0 < length l.chunk;
+  same_reader : IsSameReader l.initial.reader l.reader;
   same_writer : IsSameWriter l.initial.writer l.writer;
+  well : has_failed l.reader ≡ has_failed l.initial.reader;
+  taken : has_refused l.writer ≡ has_refused l.initial.writer;
+  asked : IsAskedFor g.R.Read.remaining l.initial.reader l.reader 0;
   course : (had : Option (List ℕ)) → (held : Option (List ℕ))
-      → IsInCourse false had (g.R.Read.remaining l.initial.reader) held
+      → IsInCourse false had (counted_remaining g.R.Read.remaining l.initial.reader) held
       (watched_contents g.W.Write.contents l.initial.writer) l.initial.dialogue.session.number
       l.initial.dialogue.session.device l.initial.dialogue.session.tickets.items l.initial.dialogue.kept.items
-      → IsInCourse false had (g.R.Read.remaining l.reader) held (watched_contents g.W.Write.contents l.writer)
-      l.dialogue.session.number l.dialogue.session.device l.dialogue.session.tickets.items l.dialogue.kept.items;
+      → IsInCourse false had (counted_remaining g.R.Read.remaining l.reader) held
+      (watched_contents g.W.Write.contents l.writer) l.dialogue.session.number
+      l.dialogue.session.device l.dialogue.session.tickets.items l.dialogue.kept.items;
 }
+
+abbrev pub decreases-turns : goal.decreases-turns
+decreases-turns g l = 2 ^ 64 - asked_of l.reader

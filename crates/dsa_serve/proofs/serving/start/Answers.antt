@@ -1,6 +1,6 @@
 use Rattle.dsa_serve.proofs.serving.start.Goals as goal
 use Rattle.std.proofs.{Common.{◌≤◌, ◌^◌, length, arith}, lemmas.Result.{err_from_is_err_and}}
-use Rattle.dsa_serve.proofs.Stops.{opening_stops, first_write_stops}
+use Rattle.dsa_serve.proofs.{Counts.{not_written}, Stops.{opening_stops, first_write_stops}}
 
 pub returns-in_err-dialogue-clause-stopped : goal.returns-in_err-dialogue-clause-stopped
 returns-in_err-dialogue-clause-stopped g c =
@@ -19,4 +19,26 @@ returns-in_err-write_text-clause-stopped g c =
     omega (arith, c.in_ok-front.ensures.fits, c.in_ok-front.front.first.ok.0) in
     let cut = c.in_err-write_text.ensures.prefix in
     rw (p.1, p.2, c.in_err-write_text.ensures.fault) (first_write_stops _ _ _ _ _ bytes.0 _ _ _ _ cut.0 _ _ _ _
-    bytes.1 bytes.2 short bytes.3 c.as_bytes.ensures.value (c.in_ok-dialogue.ensures.ok c.new-text.ensures.bytes) cut.1 cut.2)
+    bytes.1 bytes.2 short bytes.3 c.as_bytes.ensures.value (c.in_ok-dialogue.ensures.ok c.new-text.ensures.bytes) cut.1
+    cut.2)
+
+pub returns-in_err-front-clause-refused : goal.returns-in_err-front-clause-refused
+returns-in_err-front-clause-refused g c =
+    let p = err_from_is_err_and c.from_residual.result c.from_residual.ensures.1 in
+    not_written c.from_residual.result c.args.writer.now (rw (p.1, p.2) c.in_err-front.ensures.faults)
+
+pub returns-clause-ok : goal.returns-clause-ok
+returns-clause-ok g c =
+    let bytes = c.in_ok-front.ensures.bytes in
+    record {
+      input = bytes.0;
+      first = c.in_ok-front.front.first.items;
+      behind = c.in_ok-front.front.behind.items;
+      output = c.as_bytes.result.now;
+      read = bytes.1;
+      written = c.in_ok-write_text.ensures.whole;
+      line = bytes.2;
+      short = omega (arith, c.in_ok-front.ensures.fits, c.in_ok-front.front.first.ok.0);
+      front = bytes.3;
+      serving = rw c.as_bytes.ensures.value (c.in_ok-dialogue.ensures.ok c.new-text.ensures.bytes);
+    }

@@ -1,0 +1,85 @@
+use Rattle.dsa_serve.proofs.front.read_first.Goals as goal
+use Rattle.std.proofs.Common.{◌≢◌, ◌++◌, take, arith, length-append, ◌∙◌}
+use Rattle.std.proofs.{KnownBytes.{Consumes-trans}, lemmas.Result.{err_from_is_err_and}}
+use Rattle.std.proofs.lemmas.List.Elements.{All-append}
+use Rattle.dsa_serve.proofs.{Lines.{no_feed, front_cut}, Stops.{memory_before, first_read_stops, cut_stops}}
+
+pub returns-in_err-count-clause-stopped : goal.returns-in_err-count-clause-stopped
+returns-in_err-count-clause-stopped g c =
+    let p = err_from_is_err_and c.from_residual.result c.from_residual.ensures.1 in
+    rw (p.1, p.2) (λ held. first_read_stops _ _ _ held c.reads.first.items _ c.reads.invariant.taken
+    c.reads.invariant.line (omega (arith, c.reads-test.true, c.len.ensures, c.reads.first.ok.0))
+    c.in_err-count.ensures.bytes c.in_err-count.ensures.faults)
+
+pub returns-in_err-cut-clause-stopped : goal.returns-in_err-cut-clause-stopped
+returns-in_err-cut-clause-stopped g c =
+    let p = err_from_is_err_and c.from_residual-in_err-cut.result c.from_residual-in_err-cut.ensures.1 in
+    rw (p.1, p.2) (λ held. cut_stops _ _ held c.reads.first.items (take c.in_ok-count.count c.read_once.new.chunk)
+    c.in-Some.at _ c.in-Some.ensures c.reads.invariant.line
+    (Consumes-trans _ _ _ _ _ c.reads.invariant.taken c.in_ok-count.ensures.bytes.0) c.in_err-cut.ensures.faults)
+
+pub returns-in-Some-clause-bytes : goal.returns-in-Some-clause-bytes
+returns-in-Some-clause-bytes g c =
+    let piece = take c.in_ok-count.count c.read_once.new.chunk in
+    let it = c.in_ok-cut.ensures in
+    let cut = front_cut c.reads.first.items piece c.in-Some.at c.in-Some.ensures c.reads.invariant.line in (
+      c.reads.first.items ++ piece,
+      Consumes-trans _ _ _ _ _ c.reads.invariant.taken c.in_ok-count.ensures.bytes.0,
+      rw it.first cut.0,
+      rw (it.ended, it.first, it.behind) cut.1,
+    )
+
+pub returns-in_err-extend_from_slice-clause-stopped : goal.returns-in_err-extend_from_slice-clause-stopped
+returns-in_err-extend_from_slice-clause-stopped g c =
+    let p = err_from_is_err_and c.from_residual-in_err-extend_from_slice.result
+    c.from_residual-in_err-extend_from_slice.ensures.1 in
+    rw (p.1, p.2) (λ held. memory_before _ _ held
+    (c.reads.first.items ++ take c.in_ok-count.count c.read_once.new.chunk)
+    (Consumes-trans _ _ _ _ _ c.reads.invariant.taken c.in_ok-count.ensures.bytes.0))
+
+pub returns-in_err-cut-clause-asked : goal.returns-in_err-cut-clause-asked
+returns-in_err-cut-clause-asked g c =
+    let piece = take c.in_ok-count.count c.read_once.new.chunk in (
+      c.reads.first.items ++ piece,
+      Consumes-trans _ _ _ _ _ c.reads.invariant.taken c.in_ok-count.ensures.bytes.0,
+      omega (arith, c.reads.invariant.asked, c.in_ok-count.ensures.counted, length-append c.reads.first.items piece),
+    )
+
+pub returns-in-Some-clause-asked : goal.returns-in-Some-clause-asked
+returns-in-Some-clause-asked g c =
+    let piece = take c.in_ok-count.count c.read_once.new.chunk in (
+      c.reads.first.items ++ piece,
+      Consumes-trans _ _ _ _ _ c.reads.invariant.taken c.in_ok-count.ensures.bytes.0,
+      omega (arith, c.reads.invariant.asked, c.in_ok-count.ensures.counted, length-append c.reads.first.items piece),
+    )
+
+pub returns-in_err-extend_from_slice-clause-asked : goal.returns-in_err-extend_from_slice-clause-asked
+returns-in_err-extend_from_slice-clause-asked g c =
+    let piece = take c.in_ok-count.count c.read_once.new.chunk in (
+      c.reads.first.items ++ piece,
+      Consumes-trans _ _ _ _ _ c.reads.invariant.taken c.in_ok-count.ensures.bytes.0,
+      omega (arith, c.reads.invariant.asked, c.in_ok-count.ensures.counted, length-append c.reads.first.items piece),
+    )
+
+pub returns-in-Some-clause-asked_first : goal.returns-in-Some-clause-asked_first
+returns-in-Some-clause-asked_first g c going =
+    let piece = take c.in_ok-count.count c.read_once.new.chunk in (
+      c.reads.first.items ++ piece,
+      Consumes-trans _ _ _ _ _ c.reads.invariant.taken c.in_ok-count.ensures.bytes.0,
+      omega (arith, c.reads.invariant.asked, c.in_ok-count.ensures.counted, c.if-count-eq0.false,
+          c.in_ok-count.ensures.bound.1, length-append c.reads.first.items piece),
+    )
+
+pub reads-preserved : goal.reads-preserved
+reads-preserved g c =
+    let items = c.in_ok-extend_from_slice.ensures.items in
+    let piece = take c.in_ok-count.count c.read_once.new.chunk in
+    record {
+      room = omega (arith, c.reads.invariant.room, c.read_once.auto.chunk);
+      same_reader = c.in_ok-count.ensures.same_reader ∙ c.reads.invariant.same_reader;
+      asked = rw items (omega (arith, c.reads.invariant.asked, c.in_ok-count.ensures.counted, c.if-count-eq0.false,
+          c.in_ok-count.ensures.bound.1, length-append c.reads.first.items piece));
+      well = c.in_ok-count.ensures.failed.1 ∙ c.reads.invariant.well;
+      taken = rw items (Consumes-trans _ _ _ _ _ c.reads.invariant.taken c.in_ok-count.ensures.bytes.0);
+      line = rw items (All-append (λ b. b ≢ 10) _ _ c.reads.invariant.line (no_feed _ c.in_default.ensures));
+    }
