@@ -1,18 +1,20 @@
 //! Worked lines and answers: what the definitions say at chosen values, by computation.
 
-ghost use Rattle.std.specs.Prelude.{◌≡◌, ℕ, List, [], ◌∷◌, true, false, length, codes};
+ghost use Rattle.std.specs.Prelude.{◌≡◌, ℕ, Option, Some, List, [], ◌∷◌, ◌++◌, true, false, length, codes};
 ghost use Rattle.dsa_regs.specs.declared.Fault.TheVariants.{BadCommand};
 ghost use Rattle.dsa_book.specs.declared.event.Event.TheVariants.{Poll};
-ghost use Rattle.dsa_book.specs.State.{opening};
+ghost use Rattle.dsa_book.specs.State.{State, opening};
 ghost use Rattle.dsa_scenario.specs.declared.actions.Action.TheVariants.{Ask, Refuse};
+ghost use Rattle.dsa_scenario.specs.declared.faults.ScenarioFault.{ScenarioFault};
+ghost use Rattle.dsa_scenario.specs.Document.{IsNoJson};
 ghost use Rattle.dsa_scenario.specs.Steps.{visits};
-ghost use Rattle.dsa_scenario.specs.Worked.{object_of, poll_step, step_of_kind, whole, smallest_caps};
+ghost use Rattle.dsa_scenario.specs.Worked.{object_of, poll_step, step_of_kind, whole, smallest_caps, smallest_caps_text, no_caps_text, document_text};
 ghost use Rattle.dsa_serve.specs.declared.requests.LineFault.TheVariants.{NotJson, NoStep, TooLong};
 ghost use Rattle.dsa_serve.specs.declared.requests.Request.TheVariants.{Step, Explain, Fault};
-ghost use Rattle.dsa_serve.specs.Requests.{request_of, actions_of, Asks, AreAsked};
+ghost use Rattle.dsa_serve.specs.Requests.{request_of, actions_of, IsRead, Asks, AreAsked};
 ghost use Rattle.dsa_serve.specs.Answers.{answers, fault_text, IsAnswered};
 ghost use Rattle.dsa_serve.specs.Input.{IsLine, AreLines, with_rest, IsFront, HasFirst};
-ghost use Rattle.dsa_serve.specs.Dialogue.{IsDialogue, AnswersSoFar};
+ghost use Rattle.dsa_serve.specs.Dialogue.{IsDialogue, AnswersWhole, AnswersAll, AnswersSoFar, IsStopped};
 ghost use Rattle.dsa_serve.specs.Worked.{explain_around, requests_of_a_dialogue, records_of_a_dialogue, lines_of_a_dialogue, poll_line, explained_poll_line, first_line};
 
 /// A step object asks its step, and `explain` around one its explanation. Nothing else asks anything.
@@ -40,6 +42,10 @@ pub fn lines()
     ensures too_long_for_a_step { (line : List ℕ) → length line ≡ 1_048_577 → ¬ Asks line (Step (Ask Poll)) }
     ensures too_long_to_be_read { (line : List ℕ) → length line ≡ 1_048_577 → ¬ Asks line (Fault NotJson) }
     ensures each { AreAsked (poll_line ∷ codes "{" ∷ []) (Step (Ask Poll) ∷ Fault NotJson ∷ []) }
+    ensures longest_that_is_no_json { (line : List ℕ) → length line ≡ 1_048_576 → IsNoJson line → Asks line (Fault NotJson) }
+    ensures longest_that_is_read { (line : List ℕ) → length line ≡ 1_048_576 → IsRead line (Fault NoStep) → Asks line (Fault NoStep) }
+    ensures other { ¬ AreAsked (codes "{}" ∷ []) (Fault NotJson ∷ []) }
+    ensures other_later { ¬ AreAsked (codes "{" ∷ codes "{}" ∷ []) (Fault NotJson ∷ Fault NotJson ∷ []) }
     ensures fewer { ¬ AreAsked (codes "{" ∷ []) [] }
     ensures more { ¬ AreAsked [] (Fault NotJson ∷ []) }
 {}
@@ -72,6 +78,7 @@ pub fn inputs()
     ensures line_feed_in_the_rest { ¬ AreLines (codes "1\n") [] (codes "1\n") }
     ensures front { IsFront false (codes "1\n2") (codes "1") (codes "2") }
     ensures front_alone { IsFront true (codes "1") (codes "1") [] }
+    ensures front_with_more { ¬ IsFront true (codes "1") (codes "1") (codes "2") }
     ensures front_without_line_feed { ¬ IsFront false (codes "12") (codes "1") (codes "2") }
     ensures front_is_all { ¬ IsFront true (codes "1\n2") (codes "1") (codes "2") }
 {}
@@ -92,4 +99,29 @@ pub fn first_lines()
     ensures what_is_behind_is_left_out { ¬ HasFirst (codes "1\n2") (codes "1") [] }
     ensures nothing_yet { AnswersSoFar (codes "1") [] }
     ensures too_long_so_far { (input : List ℕ) (output : List ℕ) → IsLine input → length input ≡ 1_048_577 → ¬ AnswersSoFar input output }
+{}
+
+/// What no dialogue begins with, and the one answer to a line, and the one state, that there is.
+#[tactic(auto, unfolding(serde_json::proofs::OnLiterals::serde_json_on_literals, dsa_scenario::specs::Worked::digits_on_literals))]
+pub fn one_dialogue()
+    ensures no_document { (last : State) (output : List ℕ) → ¬ IsDialogue (codes "{}") [] last output }
+    ensures bad_caps { (last : State) (output : List ℕ) → ¬ IsDialogue (document_text no_caps_text (codes "9") []) [] last output }
+    ensures large { (last : State) (output : List ℕ) → ¬ IsDialogue (document_text smallest_caps_text (codes "1048577") []) [] last output }
+    ensures no_record { (last : State) → ¬ IsDialogue (first_line poll_line) [] last [] }
+    ensures one_state { (last : State) (output : List ℕ) → IsDialogue (first_line []) [] last output → last ≡ opening smallest_caps }
+    ensures one_answer { (last : State) (output : List ℕ) → IsDialogue (first_line []) (codes "{" ∷ []) last output
+        → output ≡ codes "fault not JSON\n" }
+{}
+
+/// Where a dialogue stopped, by what the reader gave and what the writer took.
+#[tactic(auto, unfolding(serde_json::proofs::OnLiterals::serde_json_on_literals))]
+pub fn stops()
+    ensures read { IsStopped ScenarioFault.Read (Some (codes "1")) (Some []) (Some []) (Some []) }
+    ensures answered_too_early { ¬ IsStopped ScenarioFault.Read (Some (codes "1")) (Some []) (Some []) (Some (codes "2")) }
+    ensures too_long { (first : List ℕ) → IsLine first → length first ≡ 1_048_577 → IsStopped ScenarioFault.TooLong (Some first) (Some []) (Some []) (Some []) }
+    ensures longest { (first : List ℕ) → length first ≡ 1_048_576 → ¬ IsStopped ScenarioFault.TooLong (Some first) (Some []) (Some []) (Some []) }
+    ensures nothing_to_write { ¬ IsStopped ScenarioFault.Write (Some (codes "1")) (Some []) (Some []) (Some []) }
+    ensures memory { IsStopped ScenarioFault.OutOfMemory (Some (codes "1")) (Some []) (Some []) (Some []) }
+    ensures document { IsStopped ScenarioFault.BadDocument (Some (codes "1")) (Some []) (Some []) (Some []) }
+    ensures other_fault { ¬ IsStopped ScenarioFault.NotJson (Some (codes "1")) (Some []) (Some []) (Some []) }
 {}

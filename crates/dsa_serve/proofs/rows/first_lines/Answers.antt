@@ -1,11 +1,7 @@
 use Rattle.dsa_serve.proofs.rows.first_lines.Goals as goal
-use Rattle.std.proofs.Common.{◌≢◌, ◌≤◌, ◌^◌, ℕ, Bool, List, [], codes, refl, arith, length, true, false, inl, inr}
-use Rattle.std.{proofs.lemmas.List.Elements.{All-nil, All-cons}}
+use Rattle.std.proofs.Common.{◌≤◌, ◌^◌, ℕ, Bool, List, [], codes, refl, arith, length, true, false, inl, inr}
 use Rattle.dsa_serve.specs.{Input.{IsLine, IsFront}, Dialogue.{AnswersSoFar}}
-use Rattle.dsa_serve.proofs.Lines.{only_first}
-
-one : IsLine (codes "1")
-one = All-cons (λ byte. byte ≢ 10) 49 [] (λ same. absurd (omega (arith, same))) (All-nil (λ byte. byte ≢ 10))
+use Rattle.dsa_serve.proofs.Lines.{one, only_first}
 
 pub returns-clause-first : goal.returns-clause-first
 returns-clause-first c = record { ended = false; line = one; short = omega arith; front = refl }

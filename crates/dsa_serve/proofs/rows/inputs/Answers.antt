@@ -1,7 +1,7 @@
 use Rattle.dsa_serve.proofs.rows.inputs.Goals as goal
 use Rattle.std.proofs.Common.{◌≢◌, ℕ, List, [], ◌∷◌, codes, refl, arith}
 use Rattle.std.{proofs.lemmas.List.Elements.{All-nil, All-cons, All-head}}
-use Rattle.dsa_serve.specs.Input.{IsLine}
+use Rattle.dsa_serve.{specs.Input.{IsLine}, proofs.Lines.{one}}
 
 -- bytes that are no line feed
 no_bytes : IsLine []
@@ -9,9 +9,6 @@ no_bytes = All-nil (λ byte. byte ≢ 10)
 
 one_more : (byte : ℕ) (bytes : List ℕ) → byte ≢ 10 → IsLine bytes → IsLine (byte ∷ bytes)
 one_more byte bytes other line = All-cons (λ b. b ≢ 10) byte bytes other line
-
-one : IsLine (codes "1")
-one = one_more 49 [] (λ same. absurd (omega (arith, same))) no_bytes
 
 two : IsLine (codes "2")
 two = one_more 50 [] (λ same. absurd (omega (arith, same))) no_bytes
@@ -52,4 +49,9 @@ returns-clause-front_without_line_feed c is = absurd cc
 pub returns-clause-front_is_all : goal.returns-clause-front_is_all
 returns-clause-front_is_all c is =
     let all = is.0 in
+    absurd cc
+
+pub returns-clause-front_with_more : goal.returns-clause-front_with_more
+returns-clause-front_with_more c is =
+    let none = is.1 in
     absurd cc

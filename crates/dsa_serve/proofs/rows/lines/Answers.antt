@@ -84,3 +84,21 @@ returns-clause-fewer c = λ none. none
 
 pub returns-clause-more : goal.returns-clause-more
 returns-clause-more c = λ none. none
+
+pub returns-clause-longest_that_is_no_json : goal.returns-clause-longest_that_is_no_json
+returns-clause-longest_that_is_no_json c line long none = (omega (arith, long), none)
+
+pub returns-clause-longest_that_is_read : goal.returns-clause-longest_that_is_read
+returns-clause-longest_that_is_read c line long read = (omega (arith, long), read)
+
+pub returns-clause-other : goal.returns-clause-other
+unfolding serde_json_on_literals
+returns-clause-other c is =
+    let none = is.0.1 (codes "{}", (refl, refl)) in
+    absurd cc
+
+pub returns-clause-other_later : goal.returns-clause-other_later
+unfolding serde_json_on_literals
+returns-clause-other_later c is =
+    let none = is.1.0.1 (codes "{}", (refl, refl)) in
+    absurd cc
