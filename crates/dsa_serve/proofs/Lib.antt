@@ -4,4 +4,3 @@ pub mod Lines
 pub mod Courses
 pub mod Stops
 pub mod Counts
-pub mod Heads

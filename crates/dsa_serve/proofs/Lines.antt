@@ -1,12 +1,11 @@
 -- The lines of an input, with more bytes.
 use Rattle.std.proofs.Common.{◌≡◌, ◌≢◌, ◌≤◌, ◌<◌, ◌+◌, ◌-◌, ℕ, true, false, Bool, List, [], ◌∷◌, ◌++◌, length, take}
 use Rattle.std.proofs.Common.{drop, get_or}
-use Rattle.std.proofs.Common.{refl, sym, ap, ◌∙◌, arith, append_assoc, append-nil, flat_map, length-append}
-use Rattle.std.proofs.Common.{codes, length-take, length-drop, subst, min, inl, inr}
+use Rattle.std.proofs.Common.{refl, sym, ap, ◌∙◌, arith, append_assoc, append-nil, flat_map}
+use Rattle.std.proofs.Common.{length-take, length-drop, subst, min, inl, inr}
 use Rattle.std.proofs.Math.Seq.{take-append-add}
 use Rattle.std.proofs.lemmas.{Bool.{eqb-true, cases_lt}, Grind.{flat_map-append}}
 use Rattle.std.proofs.lemmas.List.{take_all, take_min, take_more, get_or-take, take-append-drop, take-append-le}
-use Rattle.std.proofs.Math.Seq.{get_or-append_seam}
 use Rattle.std.proofs.lemmas.List.Elements.{All-append, All-from_get_or, All-nil, All-cons}
 use Rattle.memchr.specs.Find.{Nowhere, NoneBefore, Passes, is_byte}
 use Rattle.dsa_scenario.specs.Lines.{line_of}
@@ -111,16 +110,3 @@ pub front_begins : (ended : Bool) (input first behind : List ℕ) → IsFront en
     → (more : List ℕ) × (input ≡ first ++ more)
 front_begins false input first behind front = (10 ∷ behind, front ∙ append_assoc first (10 ∷ []) behind)
 front_begins true input first behind front = ([], front.0 ∙ sym (append-nil first))
-
--- a line is all of its first line
-pub only_first : (ended : Bool) (input first behind : List ℕ) → IsLine input → IsFront ended input first behind
-    → input ≡ first
-only_first true input first behind line front = front.0
-only_first false input first behind line front =
-    let split : input ≡ first ++ 10 ∷ behind = front ∙ append_assoc first (10 ∷ []) behind in
-    let feed = (rw split at line) (length first) 0 (omega (arith, length-append first (10 ∷ behind))) in
-    absurd (feed (get_or-append_seam first 10 behind 0))
-
--- one byte that is no line feed
-pub one : IsLine (codes "1")
-one = All-cons (λ byte. byte ≢ 10) 49 [] (λ same. absurd (omega (arith, same))) (All-nil (λ byte. byte ≢ 10))

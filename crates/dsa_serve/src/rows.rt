@@ -7,6 +7,7 @@ ghost use Rattle.dsa_book.specs.State.{State, opening};
 ghost use Rattle.dsa_scenario.specs.declared.actions.Action.TheVariants.{Ask, Refuse};
 ghost use Rattle.dsa_scenario.specs.declared.faults.ScenarioFault.{ScenarioFault};
 ghost use Rattle.dsa_scenario.specs.Document.{IsNoJson};
+ghost use Rattle.dsa_scenario.specs.Lines.{line_of};
 ghost use Rattle.dsa_scenario.specs.Steps.{visits};
 ghost use Rattle.dsa_scenario.specs.Worked.{object_of, poll_step, step_of_kind, whole, smallest_caps, smallest_caps_text, no_caps_text, document_text};
 ghost use Rattle.dsa_serve.specs.declared.requests.LineFault.TheVariants.{NotJson, NoStep, TooLong};
@@ -65,6 +66,8 @@ pub fn a_dialogue()
 #[tactic(auto, unfolding(serde_json::proofs::OnLiterals::serde_json_on_literals, dsa_scenario::specs::Worked::digits_on_literals))]
 pub fn dialogues()
     ensures no_lines { IsDialogue (first_line []) [] (opening smallest_caps) [] }
+    ensures whole { AnswersWhole (line_of (first_line []) ++ codes "{\n{") (codes "fault not JSON\n") }
+    ensures all { AnswersAll (line_of (first_line []) ++ codes "{") (codes "fault not JSON\n") }
     ensures lines { IsDialogue (first_line poll_line) (codes "{" ∷ explained_poll_line ∷ []) (opening smallest_caps) (codes "nothing\nfault not JSON\n1 poll -> nothing: no command is active\n") }
 {}
 
@@ -81,24 +84,26 @@ pub fn inputs()
     ensures front_with_more { ¬ IsFront true (codes "1") (codes "1") (codes "2") }
     ensures front_without_line_feed { ¬ IsFront false (codes "12") (codes "1") (codes "2") }
     ensures front_is_all { ¬ IsFront true (codes "1\n2") (codes "1") (codes "2") }
+    ensures first { HasFirst (codes "1\n2") (codes "1") (codes "2") }
+    ensures first_alone { HasFirst (codes "1") (codes "1") [] }
+    ensures longest_first { (first : List ℕ) → IsLine first → length first ≡ 1_048_576 → HasFirst first first [] }
+    ensures too_long_first { (input : List ℕ) (first : List ℕ) (behind : List ℕ) → length first ≡ 1_048_577 → ¬ HasFirst input first behind }
+    ensures first_of_two_lines { ¬ HasFirst (codes "1\n2\n") (codes "1\n2") [] }
+    ensures first_without_the_rest { ¬ HasFirst (codes "1\n2") (codes "1") [] }
+{}
+
+/// An input has one first line, and bytes fall into lines in one way.
+pub fn one_division()
+    ensures first { (input : List ℕ) (first : List ℕ) (behind : List ℕ) (other : List ℕ) (more : List ℕ)
+        → HasFirst input first behind → HasFirst input other more → (first ≡ other) × (behind ≡ more) }
+    ensures lines { (bytes : List ℕ) (lines : List (List ℕ)) (rest : List ℕ) (others : List (List ℕ)) (other : List ℕ)
+        → AreLines bytes lines rest → AreLines bytes others other → (lines ≡ others) × (rest ≡ other) }
 {}
 
 /// The rest of a line counts at the end of input if it has a byte.
 pub fn last_lines()
     ensures none { with_rest (codes "1" ∷ []) [] ≡ codes "1" ∷ [] }
     ensures one { with_rest (codes "1" ∷ []) (codes "2") ≡ codes "1" ∷ codes "2" ∷ [] }
-{}
-
-/// A first line ends with its line feed or with the input, and no more is taken for one than a line may have.
-pub fn first_lines()
-    ensures first { HasFirst (codes "1\n2") (codes "1") (codes "2") }
-    ensures alone { HasFirst (codes "1") (codes "1") [] }
-    ensures longest { (first : List ℕ) → IsLine first → length first ≡ 1_048_576 → HasFirst first first [] }
-    ensures too_long { (input : List ℕ) (first : List ℕ) (behind : List ℕ) → length first ≡ 1_048_577 → ¬ HasFirst input first behind }
-    ensures two_lines { ¬ HasFirst (codes "1\n2\n") (codes "1\n2") [] }
-    ensures what_is_behind_is_left_out { ¬ HasFirst (codes "1\n2") (codes "1") [] }
-    ensures nothing_yet { AnswersSoFar (codes "1") [] }
-    ensures too_long_so_far { (input : List ℕ) (output : List ℕ) → IsLine input → length input ≡ 1_048_577 → ¬ AnswersSoFar input output }
 {}
 
 /// What no dialogue begins with, and the one answer to a line, and the one state, that there is.
@@ -117,6 +122,8 @@ pub fn one_dialogue()
 #[tactic(auto, unfolding(serde_json::proofs::OnLiterals::serde_json_on_literals))]
 pub fn stops()
     ensures read { IsStopped ScenarioFault.Read (Some (codes "1")) (Some []) (Some []) (Some []) }
+    ensures nothing_yet { AnswersSoFar (codes "1") [] }
+    ensures too_long_so_far { (input : List ℕ) (output : List ℕ) → IsLine input → length input ≡ 1_048_577 → ¬ AnswersSoFar input output }
     ensures answered_too_early { ¬ IsStopped ScenarioFault.Read (Some (codes "1")) (Some []) (Some []) (Some (codes "2")) }
     ensures too_long { (first : List ℕ) → IsLine first → length first ≡ 1_048_577 → IsStopped ScenarioFault.TooLong (Some first) (Some []) (Some []) (Some []) }
     ensures longest { (first : List ℕ) → length first ≡ 1_048_576 → ¬ IsStopped ScenarioFault.TooLong (Some first) (Some []) (Some []) (Some []) }

@@ -1,7 +1,7 @@
 use Rattle.dsa_serve.proofs.rows.inputs.Goals as goal
-use Rattle.std.proofs.Common.{◌≢◌, ℕ, List, [], ◌∷◌, codes, refl, arith}
+use Rattle.std.proofs.Common.{◌≢◌, ℕ, true, false, Bool, List, [], ◌∷◌, codes, refl, arith, lit≤}
 use Rattle.std.{proofs.lemmas.List.Elements.{All-nil, All-cons, All-head}}
-use Rattle.dsa_serve.{specs.Input.{IsLine}, proofs.Lines.{one}}
+use Rattle.dsa_serve.specs.Input.{IsLine, IsFront}
 
 -- bytes that are no line feed
 no_bytes : IsLine []
@@ -9,6 +9,9 @@ no_bytes = All-nil (λ byte. byte ≢ 10)
 
 one_more : (byte : ℕ) (bytes : List ℕ) → byte ≢ 10 → IsLine bytes → IsLine (byte ∷ bytes)
 one_more byte bytes other line = All-cons (λ b. b ≢ 10) byte bytes other line
+
+one : IsLine (codes "1")
+one = one_more 49 [] (λ same. absurd (omega (arith, same))) no_bytes
 
 two : IsLine (codes "2")
 two = one_more 50 [] (λ same. absurd (omega (arith, same))) no_bytes
@@ -55,3 +58,28 @@ pub returns-clause-front_with_more : goal.returns-clause-front_with_more
 returns-clause-front_with_more c is =
     let none = is.1 in
     absurd cc
+
+pub returns-clause-first : goal.returns-clause-first
+returns-clause-first c = record { ended = false; line = one; short = lit≤ tt; front = refl }
+
+pub returns-clause-first_alone : goal.returns-clause-first_alone
+returns-clause-first_alone c = record { ended = true; line = one; short = lit≤ tt; front = (refl, refl) }
+
+pub returns-clause-longest_first : goal.returns-clause-longest_first
+returns-clause-longest_first c first line long =
+    record { ended = true; line = line; short = omega (arith, long); front = (refl, refl) }
+
+pub returns-clause-too_long_first : goal.returns-clause-too_long_first
+returns-clause-too_long_first c input first behind long is = absurd (let short = is.short in omega (arith, long, short))
+
+pub returns-clause-first_of_two_lines : goal.returns-clause-first_of_two_lines
+returns-clause-first_of_two_lines c is = is.line 1 0 (omega arith) refl
+
+left_out : (ended : Bool) → ¬ IsFront ended (codes "1\n2") (codes "1") []
+left_out true front =
+    let all = front.0 in
+    absurd cc
+left_out false front = absurd cc
+
+pub returns-clause-first_without_the_rest : goal.returns-clause-first_without_the_rest
+returns-clause-first_without_the_rest c is = left_out is.ended is.front

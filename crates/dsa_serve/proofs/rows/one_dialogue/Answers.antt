@@ -2,23 +2,31 @@ use Rattle.dsa_serve.proofs.rows.one_dialogue.Goals as goal
 use Rattle.std.proofs.Common.{◌≡◌, ◌∙◌, ◌++◌, ℕ, true, false, List, [], ◌∷◌, Some, map, codes, refl, ap, arith}
 use Rattle.std.proofs.Common.{length, length-append}
 use Rattle.std.specs.{Option.{option_map_or}}
-use Rattle.serde_json.{specs.{Data.{Items}}, proofs.OnLiterals.{serde_json_on_literals}}
+use Rattle.serde_json.{specs.{Data.{Data, Items}, Read.{read}}, proofs.OnLiterals.{serde_json_on_literals}}
 use Rattle.dsa_regs.specs.{declared.Caps.{Caps}, Caps.{check_caps}}
 use Rattle.dsa_book.specs.{State.{State, opening}}
 use Rattle.dsa_book.specs.declared.event.Event.TheVariants.{Poll}
 use Rattle.dsa_scenario.specs.declared.{actions.Action.{Action, TheVariants.{Ask}}, run.Record.{Record}}
-use Rattle.dsa_scenario.specs.{Actions.{action_of}, Document.{list_of}, Lines.{record_text}}
+use Rattle.dsa_scenario.specs.{Actions.{action_of}, Document.{head_of, list_of}, Lines.{record_text}}
 use Rattle.dsa_scenario.specs.{Run.{AreOf}, Steps.{visits}}
 use Rattle.dsa_scenario.specs.Worked.{smallest_caps, smallest_caps_text, no_caps_text, document_text}
 use Rattle.dsa_serve.specs.declared.requests.LineFault.TheVariants.{NotJson, NoStep, TooLong}
 use Rattle.dsa_serve.specs.declared.requests.Request.{Request, TheVariants.{Step, Explain, Fault}}
 use Rattle.dsa_serve.specs.{Requests.{Asks, AreAsked, actions_of}, Answers.{answers}}
-use Rattle.dsa_serve.proofs.Heads.{head_is}
 use Rattle.dsa_serve.specs.{Dialogue.{from_document, IsDialogue}, Worked.{first_line, poll_line}}
 
 -- what is read of a document
 abbrev Head : Type 0
 Head = Caps × ℕ × Items
+
+-- a dialogue has the head of what its first line reads as
+head_is : (first : List ℕ) (lines : List (List ℕ)) (last : State) (output : List ℕ) (d : Data)
+    → read first ≡ Some d → (is : IsDialogue first lines last output)
+    → head_of d ≡ Some (is.caps, is.capacity, is.document.head.items)
+head_is first lines last output d e is =
+    let value = is.document.head.json.value in
+    let same : d ≡ is.document.head.document = cc in
+    ap head_of same ∙ is.document.head.head
 
 pub returns-clause-no_document : goal.returns-clause-no_document
 unfolding serde_json_on_literals

@@ -1,12 +1,26 @@
 use Rattle.dsa_serve.proofs.rows.stops.Goals as goal
-use Rattle.std.proofs.Common.{◌≡◌, ◌∙◌, ◌++◌, ℕ, true, List, [], None, codes, refl, sym, ap, arith, subst}
-use Rattle.std.proofs.Common.{length, length-append, append-nil, inl, inr}
+use Rattle.std.proofs.Common.{◌≡◌, ◌≢◌, ◌≤◌, ◌^◌, ◌∙◌, ◌++◌, ℕ, true, false, Bool, List, []}
+use Rattle.std.proofs.Common.{◌∷◌, None, codes, refl, sym, ap, arith, subst}
+use Rattle.std.proofs.Common.{length, length-append, append_assoc, append-nil, inl, inr}
 use Rattle.std.specs.Prelude.{IsUtf8}
+use Rattle.std.proofs.{Math.Seq.{get_or-append_seam}, lemmas.List.Elements.{All-nil, All-cons}}
+use Rattle.dsa_scenario.specs.{Document.{head_of}}
 use Rattle.dsa_book.specs.State.{State}
-use Rattle.serde_json.{specs.{Read.{read}}, proofs.OnLiterals.{serde_json_on_literals}}
-use Rattle.dsa_serve.specs.Input.{IsLine, HasFirst, with_rest}
+use Rattle.serde_json.{specs.{Data.{number, unsigned}, Read.{read}}, proofs.OnLiterals.{serde_json_on_literals}}
+use Rattle.dsa_serve.specs.Input.{IsLine, IsFront, HasFirst, with_rest}
 use Rattle.dsa_serve.specs.Dialogue.{IsDialogue, AnswersWhole, AnswersAll, AnswersSoFar}
-use Rattle.dsa_serve.proofs.{Heads.{head_is}, Lines.{one, only_first}}
+
+one : IsLine (codes "1")
+one = All-cons (λ byte. byte ≢ 10) 49 [] (λ same. absurd (omega (arith, same))) (All-nil (λ byte. byte ≢ 10))
+
+-- a line is all of its first line
+only_first : (ended : Bool) (input first behind : List ℕ) → IsLine input → IsFront ended input first behind
+    → input ≡ first
+only_first true input first behind line front = front.0
+only_first false input first behind line front =
+    let split : input ≡ first ++ 10 ∷ behind = front ∙ append_assoc first (10 ∷ []) behind in
+    let feed = (rw split at line) (length first) 0 (omega (arith, length-append first (10 ∷ behind))) in
+    absurd (feed (get_or-append_seam first 10 behind 0))
 
 pub returns-clause-read : goal.returns-clause-read
 returns-clause-read c = (codes "1", [], refl, inl (one, omega arith, refl), refl)
@@ -15,7 +29,9 @@ returns-clause-read c = (codes "1", [], refl, inl (one, omega arith, refl), refl
 no_dialogue : (lines : List (List ℕ)) (last : State) (output : List ℕ) → ¬ IsDialogue (codes "1") lines last output
 unfolding serde_json_on_literals
 no_dialogue lines last output is =
-    let head = head_is (codes "1") lines last output _ refl is in
+    let value = is.document.head.json.value in
+    let same : number (unsigned 1) ≡ is.document.head.document = cc in
+    let head = ap head_of same ∙ is.document.head.head in
     absurd cc
 
 -- so nothing is an answer to it
@@ -81,3 +97,16 @@ returns-clause-other_fault c is =
     let first = no_first is.0 is.1 is.2 (is.3 ∙ append-nil is.0) is.4 in
     let none = subst (λ f. IsUtf8 f → read f ≡ None) (sym first) is.5 (codes "1", (refl, refl)) in
     absurd cc
+
+pub returns-clause-nothing_yet : goal.returns-clause-nothing_yet
+returns-clause-nothing_yet c = inl (one, omega arith, refl)
+
+-- an answer so far is to a line that is not too long
+no_longer : (input output : List ℕ) → IsLine input → AnswersSoFar input output → length input ≤ 2 ^ 20
+no_longer input output line (inl h) = h.1
+no_longer input output line (inr h) =
+    rw (only_first h.split.ended input h.first h.behind line h.split.front) h.split.short
+
+pub returns-clause-too_long_so_far : goal.returns-clause-too_long_so_far
+returns-clause-too_long_so_far c input output line long is =
+    absurd (let short = no_longer input output line is in omega (arith, long, short))
