@@ -1,6 +1,6 @@
 //! Worked lines and answers: what the definitions say at chosen values, by computation.
 
-ghost use Rattle.std.specs.Prelude.{◌≡◌, ℕ, Option, Some, List, [], ◌∷◌, ◌++◌, true, false, length, codes};
+ghost use Rattle.std.specs.Prelude.{◌≡◌, ℕ, Option, Some, List, [], ◌∷◌, ◌++◌, ◌+◌, Ok, Err, true, false, length, codes};
 ghost use Rattle.dsa_regs.specs.declared.Fault.TheVariants.{BadCommand};
 ghost use Rattle.dsa_book.specs.declared.event.Event.TheVariants.{Poll};
 ghost use Rattle.dsa_book.specs.State.{State, opening};
@@ -16,6 +16,10 @@ ghost use Rattle.dsa_serve.specs.Requests.{request_of, actions_of, IsRead, Asks,
 ghost use Rattle.dsa_serve.specs.Answers.{answers, fault_text, IsAnswered};
 ghost use Rattle.dsa_serve.specs.Input.{IsLine, AreLines, with_rest, IsFront, HasFirst};
 ghost use Rattle.dsa_serve.specs.Dialogue.{IsDialogue, AnswersWhole, AnswersAll, AnswersSoFar, IsStopped};
+ghost use Rattle.dsa_scenario.specs.declared.watched.WatchedWriter.{WatchedWriter};
+ghost use Rattle.dsa_scenario.specs.Watched.{has_refused};
+ghost use Rattle.dsa_serve.specs.declared.counted.CountedReader.{CountedReader};
+ghost use Rattle.dsa_serve.specs.Noted.{counted_remaining, asked_of, has_failed, IsFailureNoted, IsAskedFor, IsRefusalTold};
 ghost use Rattle.dsa_serve.specs.Worked.{explain_around, requests_of_a_dialogue, records_of_a_dialogue, lines_of_a_dialogue, poll_line, explained_poll_line, first_line};
 
 /// A step object asks its step, and `explain` around one its explanation. Nothing else asks anything.
@@ -131,4 +135,26 @@ pub fn stops()
     ensures memory { IsStopped ScenarioFault.OutOfMemory (Some (codes "1")) (Some []) (Some []) (Some []) }
     ensures document { IsStopped ScenarioFault.BadDocument (Some (codes "1")) (Some []) (Some []) (Some []) }
     ensures other_fault { ¬ IsStopped ScenarioFault.NotJson (Some (codes "1")) (Some []) (Some []) (Some []) }
+{}
+
+/// How often a reader is asked, by the bytes that it had and has left, and which faults are told of what was noted.
+pub fn notes()
+    ensures asked_for_a_byte { (old : CountedReader (List ℕ)) (new : CountedReader (List ℕ)) → counted_remaining Some old ≡ Some (codes "12")
+        → counted_remaining Some new ≡ Some (codes "2") → asked_of new ≡ asked_of old + 1 → IsAskedFor Some old new 0 }
+    ensures asked_twice_for_it { (old : CountedReader (List ℕ)) (new : CountedReader (List ℕ)) → counted_remaining Some old ≡ Some (codes "12")
+        → counted_remaining Some new ≡ Some (codes "2") → asked_of new ≡ asked_of old + 2 → ¬ IsAskedFor Some old new 0 }
+    ensures asked_besides { (old : CountedReader (List ℕ)) (new : CountedReader (List ℕ)) → counted_remaining Some old ≡ Some (codes "12")
+        → counted_remaining Some new ≡ Some (codes "2") → asked_of new ≡ asked_of old + 2 → IsAskedFor Some old new 1 }
+    ensures read_without_an_error { (old : CountedReader (List ℕ)) (new : CountedReader (List ℕ)) → has_failed new ≡ false
+        → ¬ IsFailureNoted {T = ℕ} (Err ScenarioFault.Read) old new }
+    ensures error_untold { (old : CountedReader (List ℕ)) (new : CountedReader (List ℕ)) → has_failed old ≡ false → has_failed new ≡ true
+        → ¬ IsFailureNoted {T = ℕ} (Ok 0) old new }
+    ensures error_told_as_another { (old : CountedReader (List ℕ)) (new : CountedReader (List ℕ)) → has_failed old ≡ false
+        → has_failed new ≡ true → ¬ IsFailureNoted {T = ℕ} (Err ScenarioFault.OutOfMemory) old new }
+    ensures write_without_a_refusal { (old : WatchedWriter (List ℕ)) (new : WatchedWriter (List ℕ)) → has_refused new ≡ false
+        → ¬ IsRefusalTold {T = ℕ} (Err ScenarioFault.Write) old new }
+    ensures refusal_untold { (old : WatchedWriter (List ℕ)) (new : WatchedWriter (List ℕ)) → has_refused old ≡ false
+        → has_refused new ≡ true → ¬ IsRefusalTold {T = ℕ} (Ok 0) old new }
+    ensures refusal_told_as_another { (old : WatchedWriter (List ℕ)) (new : WatchedWriter (List ℕ)) → has_refused old ≡ false
+        → has_refused new ≡ true → ¬ IsRefusalTold {T = ℕ} (Err ScenarioFault.OutOfMemory) old new }
 {}
