@@ -1,3 +1,5 @@
 pub mod Firsts
+pub mod Keys
 pub mod Steps
 pub mod Texts
+pub mod Told

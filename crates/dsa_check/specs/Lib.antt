@@ -1,5 +1,7 @@
 pub mod Check
+pub mod Findings
 pub mod Judgement
 pub mod Lines
 pub mod Reasons
+pub mod Steps
 pub mod Worked

@@ -1,11 +1,15 @@
 -- What is wrong with an object, and that it is so.
-use Rattle.std.specs.Prelude.{◌≡◌, ◌<◌, ◌%◌, length, ℕ, ℤ, Bool, false, not, ◌&&◌, nat_le, is_some, List, Option, Some, None}
-use Rattle.std.specs.Prelude.{option_and_then}
+use Rattle.std.specs.Prelude.{◌≡◌, ◌<◌, ◌%◌, length, ℕ, ℤ, Bool, true, false, not, ◌&&◌, ◌||◌, nat_le, is_some}
+use Rattle.std.specs.Prelude.{List, [], ◌∷◌, Option, Some, None, option_and_then, MatchOption, IsSomeAnd, IfSome, filter}
+use Rattle.std.specs.Prelude.{codes, bytes_eq, string_bytes, String, ⊤}
+use Rattle.std.specs.List.{AllZip, list_any}
+use Rattle.std.specs.declared.alloc.Global.{Global}
 use Rattle.serde_json.specs.{Data.{Data, null, boolean, number, string, array, object}, Find.{get, as_u64, as_i64}}
 use Rattle.serde_json.specs.Find.{as_number, as_bool, as_str, as_array, as_object}
-use Rattle.dsa_scenario.specs.Fields.{hex_bytes_of}
-use Rattle.dsa_check.specs.declared.fields.{Form.{Form}, Field.{Field}, Found.{Found}, Key.{Key}}
-use Rattle.dsa_check.specs.declared.finding.Reason.{Reason}
+use Rattle.dsa_scenario.specs.Fields.{hex_bytes_of, text_of}
+use Rattle.dsa_check.specs.declared.fields.{Form.{Form}, Found.{Found}, Key.{Key}}
+use Rattle.dsa_check.specs.declared.{finding.Reason.{Reason}, kinds.StepKind.{StepKind}}
+use Rattle.dsa_check.specs.Steps.{Row, rows_of, kind_named, kind_of}
 use Rattle.dsa_check.specs.declared.fields.Form.TheVariants as form
 use Rattle.dsa_check.specs.declared.finding.Reason.TheVariants as reason
 use Rattle.dsa_check.specs.declared.fields.Found.TheVariants as found
@@ -45,9 +49,9 @@ abbrev pub fits : Form → Option Data → Bool
 fits form None = false
 fits form (Some d) = is_of form d
 
--- the object has no such value at the key of the field
-abbrev pub is_unfit : Data → Field → Bool
-is_unfit d field = not (fits field.form (get field.name.now d))
+-- the object has no such value at the key
+abbrev pub is_unfit : Data → Row → Bool
+is_unfit d row = not (fits row.1 (get row.0 d))
 
 -- the reason is so of a text that is not the bytes of a descriptor
 abbrev pub IsDigitsReason : Key → List ℕ → Reason → Type 0
@@ -68,3 +72,61 @@ IsReasonOf key wanted (Some d) r = IsTextReason key (as_str d) r
 IsReasonOf key wanted None (reason.Missing k) = k ≡ key
 IsReasonOf key wanted None (reason.Misspelled k found) = k ≡ key
 IsReasonOf key wanted _ _ = ⊥
+
+-- ---- the reasons of an object
+
+-- the key is asked for
+abbrev pub is_asked : List Row → List ℕ → Bool
+is_asked rows name = bytes_eq name (codes "do") || list_any (λ row. bytes_eq row.0 name) rows
+
+-- the key stands in the object, and nobody asks for it
+abbrev pub IsStrayKey : Data → List Row → List ℕ → Type 0
+IsStrayKey d rows name = (is_some (get name d) ≡ true) × (is_asked rows name ≡ false)
+
+-- a key that is told as the spelling of another is such a one
+abbrev pub HasStrayKey : Data → List Row → Reason → Type 0
+HasStrayKey d rows (reason.Misspelled key found) = IsStrayKey d rows (string_bytes found)
+HasStrayKey d rows _ = ⊤
+
+-- the reason says what is wrong at the key of a row; the key is told as one of `caps` or not
+pub record IsReasonAt (d : Data) (rows : List Row) (in_caps : Bool) (row : Row) (reason : Reason) : Type 0 where
+  pub key : Key
+  pub named : key.name.now ≡ row.0
+  pub holder : key.in_caps ≡ in_caps
+  pub so : IsReasonOf key row.1 (get row.0 d) reason
+  pub stray : HasStrayKey d rows reason
+
+-- there is a reason for each of these rows whose key is missing or has something else, and no other
+abbrev pub AreReasonsAt : Data → List Row → Bool → List Row → List Reason → Type 0
+AreReasonsAt d rows in_caps some reasons = AllZip (IsReasonAt d rows in_caps) (filter (is_unfit d) some) reasons
+
+-- and so of all rows of the object
+abbrev pub AreReasonsOf : Data → List Row → Bool → List Reason → Type 0
+AreReasonsOf d rows in_caps reasons = AreReasonsAt d rows in_caps rows reasons
+
+-- ---- the reasons of a step
+
+-- the key that says the kind
+abbrev pub kind_row : Row
+kind_row = (codes "do", form.Text)
+
+-- the text is told as it stands, or not at all, and it names no kind
+abbrev pub IsNoKind : Option (String Global) → List ℕ → Type 0
+IsNoKind told name = (kind_named name ≡ None) × IfSome told (λ text. string_bytes text ≡ name)
+
+-- the reason says why the step names no kind
+abbrev pub IsKindReason : Data → Reason → Type 0
+IsKindReason step (reason.UnknownKind told near) = IsSomeAnd (text_of (codes "do") step) (IsNoKind told)
+IsKindReason step reason = IsReasonAt step [] false kind_row reason
+
+-- the reasons of an object that is a step of this kind, or of none
+abbrev pub AreReasonsOfKind : Data → Option StepKind → List Reason → Type 0
+AreReasonsOfKind step (Some kind) reasons = AreReasonsOf step (rows_of kind) false reasons
+AreReasonsOfKind step None (reason ∷ []) = IsKindReason step reason
+AreReasonsOfKind step None _ = ⊥
+
+-- the reasons of an item of the steps
+abbrev pub AreStepReasons : Data → List Reason → Type 0
+AreStepReasons step reasons =
+    MatchOption (as_object step) (reasons ≡ reason.NoObject (found_of step) ∷ [])
+    (λ members. AreReasonsOfKind step (kind_of step) reasons)

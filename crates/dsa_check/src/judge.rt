@@ -2,7 +2,9 @@
 
 ghost use Rattle.std.specs.Prelude.{◌≡◌, ◌++◌, [], ◌∷◌, map, IfOk, OnOk};
 ghost use Rattle.serde_json.specs.View.{view};
+ghost use Rattle.std.specs.List.{AllByRecursion};
 ghost use Rattle.dsa_scenario.specs.Actions.{action_of};
+ghost use Rattle.dsa_check.specs.Findings.{AppendsAll, IsFounded, IsFindingOf, IsFindingIn, AreFounded};
 ghost use Rattle.dsa_check.specs.Judgement.{faults_told, AreFaultsOf, IsJudged, head_faults, steps_of, caps_at, capacity_at, fault_of_step, bad_steps, caps_faults, capacity_faults, faults_of};
 
 use crate::finding::{Finding, Place, Reason};
@@ -25,7 +27,8 @@ const NOWHERE: Place = Place {
 
 // A fault of the whole document.
 fn whole(fault: ScenarioFault, reasons: Vec<Reason>) -> Finding
-    ensures { result.fault ≡ fault }
+    ensures fault { result.fault ≡ fault }
+    ensures reasons { result.reasons ≡ reasons }
 {
     Finding {
         fault,
@@ -85,7 +88,8 @@ fn judge_head(
     document: &Value,
     findings: &mut Vec<Finding>,
 ) -> Result<(), AllocError>
-    ensures { OnOk result (faults_told findings.new.items ≡ faults_told findings.old.items ++ head_faults (view document.now)) }
+    ensures faults { OnOk result (faults_told findings.new.items ≡ faults_told findings.old.items ++ head_faults (view document.now)) }
+    ensures told { OnOk result (AppendsAll (IsFounded (view document.now)) findings.old.items findings.new.items) }
 {
     if parse_head(document).is_none() {
         let reasons = document_reasons(alloc, document)?;
@@ -96,7 +100,7 @@ fn judge_head(
 
 // A step that is no step object.
 fn bad_step(alloc: Global, lines: &[usize], i: usize, step: &Value) -> Result<Finding, AllocError>
-    ensures { IfOk result (λ finding. finding.fault ≡ ScenarioFault.BadStep i) }
+    ensures { IfOk result (IsFindingOf i (view step.now)) }
 {
     let place = Place {
         line: lines.get(i).copied(),
@@ -118,7 +122,8 @@ fn judge_item(
     step: &Value,
     findings: &mut Vec<Finding>,
 ) -> Result<(), AllocError>
-    ensures { OnOk result (faults_told findings.new.items ≡ faults_told findings.old.items ++ fault_of_step i (action_of (view step.now))) }
+    ensures faults { OnOk result (faults_told findings.new.items ≡ faults_told findings.old.items ++ fault_of_step i (action_of (view step.now))) }
+    ensures told { OnOk result (AppendsAll (IsFindingOf i (view step.now)) findings.old.items findings.new.items) }
 {
     if parse_action(step).is_none() {
         findings.push(bad_step(alloc, lines, i, step)?)?;
@@ -133,7 +138,8 @@ fn judge_items(
     steps: &[Value],
     findings: &mut Vec<Finding>,
 ) -> Result<(), AllocError>
-    ensures { OnOk result (faults_told findings.new.items ≡ faults_told findings.old.items ++ bad_steps 0 (map view steps.now)) }
+    ensures faults { OnOk result (faults_told findings.new.items ≡ faults_told findings.old.items ++ bad_steps 0 (map view steps.now)) }
+    ensures told { OnOk result (AppendsAll (IsFindingIn (map view steps.now)) findings.old.items findings.new.items) }
 {
     for (i, step) in steps.iter().enumerate() {
         judge_item(alloc, lines, i, step, findings)?;
@@ -148,7 +154,8 @@ fn judge_steps(
     document: &Value,
     findings: &mut Vec<Finding>,
 ) -> Result<(), AllocError>
-    ensures { OnOk result (faults_told findings.new.items ≡ faults_told findings.old.items ++ bad_steps 0 (steps_of (view document.now))) }
+    ensures faults { OnOk result (faults_told findings.new.items ≡ faults_told findings.old.items ++ bad_steps 0 (steps_of (view document.now))) }
+    ensures told { OnOk result (AppendsAll (IsFounded (view document.now)) findings.old.items findings.new.items) }
 {
     let Some(value) = document.get("steps") else {
         return Ok(());
@@ -166,7 +173,8 @@ fn judge_caps(
     document: &Value,
     findings: &mut Vec<Finding>,
 ) -> Result<(), AllocError>
-    ensures { OnOk result (faults_told findings.new.items ≡ faults_told findings.old.items ++ caps_faults (caps_at (view document.now))) }
+    ensures faults { OnOk result (faults_told findings.new.items ≡ faults_told findings.old.items ++ caps_faults (caps_at (view document.now))) }
+    ensures told { OnOk result (AppendsAll (IsFounded (view document.now)) findings.old.items findings.new.items) }
 {
     let Some(object) = document.get("caps") else {
         return Ok(());
@@ -186,7 +194,8 @@ fn judge_capacity(
     document: &Value,
     findings: &mut Vec<Finding>,
 ) -> Result<(), AllocError>
-    ensures { OnOk result (faults_told findings.new.items ≡ faults_told findings.old.items ++ capacity_faults (capacity_at (view document.now))) }
+    ensures faults { OnOk result (faults_told findings.new.items ≡ faults_told findings.old.items ++ capacity_faults (capacity_at (view document.now))) }
+    ensures told { OnOk result (AppendsAll (IsFounded (view document.now)) findings.old.items findings.new.items) }
 {
     if let Some(capacity) = u64_field(document, "capacity") {
         if capacity > MAX_CAPACITY {
@@ -199,7 +208,8 @@ fn judge_capacity(
 
 // All faults of a JSON value.
 fn judge_value(alloc: Global, bytes: &[u8], document: &Value) -> Result<Vec<Finding>, AllocError>
-    ensures { IfOk result (λ findings. faults_told findings.items ≡ faults_of (view document.now)) }
+    ensures faults { IfOk result (λ findings. faults_told findings.items ≡ faults_of (view document.now)) }
+    ensures told { IfOk result (λ findings. AllByRecursion (IsFounded (view document.now)) findings.items) }
 {
     let mut findings = Vec::new(alloc);
     judge_head(alloc, document, &mut findings)?;
@@ -214,6 +224,7 @@ fn judge_value(alloc: Global, bytes: &[u8], document: &Value) -> Result<Vec<Find
 pub fn judge_document(alloc: Global, bytes: &[u8]) -> Result<Vec<Finding>, AllocError>
     ensures all { IfOk result (λ findings. AreFaultsOf bytes.now (faults_told findings.items)) }
     ensures first { IfOk result (λ findings. IsJudged bytes.now (faults_told findings.items)) }
+    ensures told { IfOk result (λ findings. AreFounded bytes.now findings.items) }
 {
     match Value::from_slice(alloc, bytes) {
         Ok(document) => judge_value(alloc, bytes, &document),

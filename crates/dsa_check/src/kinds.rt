@@ -1,7 +1,8 @@
 //! The kinds of steps, and the keys of each.
 
-ghost use Rattle.std.specs.Prelude.{◌≡◌, IfSome};
+ghost use Rattle.std.specs.Prelude.{◌≡◌, map, IfSome};
 ghost use Rattle.dsa_check.specs.Lines.{kind_text};
+ghost use Rattle.dsa_check.specs.Steps.{row_of, rows_of, kind_named};
 
 use crate::fields::{Field, Form};
 use dsa_regs::{
@@ -359,7 +360,8 @@ pub const KINDS: [StepKind; 11] = [
 impl StepKind {
     /// The kind of this name.
     pub fn parse(name: &str) -> Option<StepKind>
-        ensures { IfSome result (λ kind. kind_text kind ≡ name.now) }
+        ensures found { IfSome result (λ kind. kind_text kind ≡ name.now) }
+        ensures named { result ≡ kind_named name.now }
     {
         match name {
             "queue" => Some(StepKind::Queue),
@@ -398,7 +400,9 @@ impl StepKind {
 }
 
 /// The keys of a step of this kind, beside `do`.
-pub fn fields_of(kind: StepKind) -> &'static [Field] {
+pub fn fields_of(kind: StepKind) -> &'static [Field]
+    ensures { map row_of result.now ≡ rows_of kind }
+{
     match kind {
         StepKind::Queue => &QUEUE,
         StepKind::Group => &GROUP,

@@ -1,10 +1,11 @@
 //! What is wrong with an object.
 
-ghost use Rattle.std.specs.Prelude.{◌≡◌, ◌+◌, length, cond, count_by, is_some, Some, IfOk, OnOk, IfSome};
+ghost use Rattle.std.specs.Prelude.{◌≡◌, [], ◌∷◌, map, codes, false, is_some, None, IfOk, OnOk, IfSome, string_bytes};
 ghost use Rattle.serde_json.specs.View.{view};
 ghost use Rattle.serde_json.specs.Find.{get};
-ghost use Rattle.dsa_check.specs.declared.fields.Key.{Key};
-ghost use Rattle.dsa_check.specs.Reasons.{IsReasonOf, IsDigitsReason, fits, is_unfit};
+ghost use Rattle.dsa_check.specs.Findings.{Appends, AreInCaps, AreDocumentReasons};
+ghost use Rattle.dsa_check.specs.Reasons.{IsReasonOf, IsDigitsReason, is_unfit, is_asked, IsStrayKey, IsReasonAt, AreReasonsAt, AreReasonsOf, IsKindReason, AreStepReasons};
+ghost use Rattle.dsa_check.specs.Steps.{row_of, kind_of, device_rows, history_rows};
 
 use crate::fields::{Field, Form, Key, found_in, is_of};
 use crate::finding::Reason;
@@ -52,7 +53,9 @@ fn distance_of(alloc: Global, name: &str, other: &str) -> Result<Option<usize>, 
     Ok(Some(distance).filter(|distance| *distance <= most))
 }
 
-fn is_asked(fields: &[Field], name: &str) -> bool {
+fn is_asked(fields: &[Field], name: &str) -> bool
+    ensures { result ≡ is_asked (map row_of fields.now) name.now }
+{
     name == "do" || fields.iter().any(|field| field.name == name)
 }
 
@@ -62,7 +65,9 @@ fn near_key(
     object: &Value,
     fields: &[Field],
     name: &str,
-) -> Result<Option<String>, AllocError> {
+) -> Result<Option<String>, AllocError>
+    ensures { IfOk result (λ found. IfSome found (λ key. IsStrayKey (view object.now) (map row_of fields.now) (string_bytes key))) }
+{
     let Some(members) = object.as_object() else {
         return Ok(None);
     };
@@ -135,9 +140,8 @@ fn field_reason(
     field: Field,
     in_caps: bool,
 ) -> Result<Option<Reason>, AllocError>
-    ensures told { IfOk result (λ told. is_some told ≡ is_unfit (view object.now) field) }
-    ensures so { IfOk result (λ told. IfSome told (IsReasonOf (record { name = field.name; in_caps = in_caps }) field.form
-        (get field.name.now (view object.now)))) }
+    ensures told { IfOk result (λ told. is_some told ≡ is_unfit (view object.now) (row_of field)) }
+    ensures so { IfOk result (λ told. IfSome told (IsReasonAt (view object.now) (map row_of fields.now) in_caps (row_of field))) }
 {
     let name = field.name;
     let key = Key { name, in_caps };
@@ -160,7 +164,8 @@ fn add_reason(
     in_caps: bool,
     reasons: &mut Vec<Reason>,
 ) -> Result<(), AllocError>
-    ensures { OnOk result (length reasons.new.items ≡ length reasons.old.items + cond (is_unfit (view object.now) field) 1 0) }
+    ensures { OnOk result (Appends (AreReasonsAt (view object.now) (map row_of fields.now) in_caps (row_of field ∷ []))
+        reasons.old.items reasons.new.items) }
 {
     if let Some(reason) = field_reason(alloc, object, fields, field, in_caps)? {
         reasons.push(reason)?;
@@ -176,7 +181,8 @@ pub fn add_reasons(
     in_caps: bool,
     reasons: &mut Vec<Reason>,
 ) -> Result<(), AllocError>
-    ensures { OnOk result (length reasons.new.items ≡ length reasons.old.items + count_by (is_unfit (view object.now)) fields.now) }
+    ensures { OnOk result (Appends (AreReasonsOf (view object.now) (map row_of fields.now) in_caps)
+        reasons.old.items reasons.new.items) }
 {
     for field in fields {
         add_reason(alloc, object, fields, *field, in_caps, reasons)?;
@@ -185,12 +191,16 @@ pub fn add_reasons(
 }
 
 /// The kind of a step object.
-pub fn kind_of(step: &Value) -> Option<StepKind> {
+pub fn kind_of(step: &Value) -> Option<StepKind>
+    ensures { result ≡ kind_of (view step.now) }
+{
     StepKind::parse(step.get("do")?.as_str()?)
 }
 
 // What is wrong with what the object says of its kind, where it names none.
-fn kind_reason(alloc: Global, step: &Value) -> Result<Reason, AllocError> {
+fn kind_reason(alloc: Global, step: &Value) -> Result<Reason, AllocError>
+    ensures { kind_of (view step.now) ≡ None → IfOk result (IsKindReason (view step.now)) }
+{
     let key = Key {
         name: "do",
         in_caps: false,
@@ -213,7 +223,9 @@ fn kind_reason(alloc: Global, step: &Value) -> Result<Reason, AllocError> {
 }
 
 /// What is wrong with an item of the steps.
-pub fn step_reasons(alloc: Global, step: &Value) -> Result<Vec<Reason>, AllocError> {
+pub fn step_reasons(alloc: Global, step: &Value) -> Result<Vec<Reason>, AllocError>
+    ensures { IfOk result (λ reasons. AreStepReasons (view step.now) reasons.items) }
+{
     let mut reasons = Vec::new(alloc);
     if step.as_object().is_none() {
         let found = found_in(step);
@@ -227,8 +239,24 @@ pub fn step_reasons(alloc: Global, step: &Value) -> Result<Vec<Reason>, AllocErr
     Ok(reasons)
 }
 
+// Adds what is wrong with the keys of the caps, where they are an object.
+fn add_caps_reasons(
+    alloc: Global,
+    document: &Value,
+    reasons: &mut Vec<Reason>,
+) -> Result<(), AllocError>
+    ensures { OnOk result (Appends (AreInCaps (get (codes "caps") (view document.now))) reasons.old.items reasons.new.items) }
+{
+    match document.get("caps") {
+        Some(caps) if caps.as_object().is_some() => add_reasons(alloc, caps, &CAPS, true, reasons),
+        _ => Ok(()),
+    }
+}
+
 /// What is wrong with the keys of a document and of its caps.
-pub fn document_reasons(alloc: Global, document: &Value) -> Result<Vec<Reason>, AllocError> {
+pub fn document_reasons(alloc: Global, document: &Value) -> Result<Vec<Reason>, AllocError>
+    ensures { IfOk result (λ reasons. AreDocumentReasons (view document.now) reasons.items) }
+{
     let mut reasons = Vec::new(alloc);
     if document.as_object().is_none() {
         let found = found_in(document);
@@ -236,25 +264,27 @@ pub fn document_reasons(alloc: Global, document: &Value) -> Result<Vec<Reason>, 
         return Ok(reasons);
     }
     add_reasons(alloc, document, &DOCUMENT, false, &mut reasons)?;
-    if let Some(caps) = document.get("caps") {
-        if caps.as_object().is_some() {
-            add_reasons(alloc, caps, &CAPS, true, &mut reasons)?;
-        }
-    }
+    add_caps_reasons(alloc, document, &mut reasons)?;
     Ok(reasons)
 }
 
 /// Which of these capabilities no device has.
-pub fn caps_reasons(alloc: Global, document: &Value) -> Result<Vec<Reason>, AllocError> {
+pub fn caps_reasons(alloc: Global, document: &Value) -> Result<Vec<Reason>, AllocError>
+    ensures { IfOk result (λ reasons. IfSome (get (codes "caps") (view document.now)) (λ caps.
+        AreReasonsOf caps device_rows false reasons.items)) }
+{
     let mut reasons = Vec::new(alloc);
-    if let Some(caps) = document.get("caps") {
-        add_reasons(alloc, caps, &CAPS_OF_A_DEVICE, false, &mut reasons)?;
-    }
+    let Some(caps) = document.get("caps") else {
+        return Ok(reasons);
+    };
+    add_reasons(alloc, caps, &CAPS_OF_A_DEVICE, false, &mut reasons)?;
     Ok(reasons)
 }
 
 /// That no history has such a capacity.
-pub fn capacity_reasons(alloc: Global, document: &Value) -> Result<Vec<Reason>, AllocError> {
+pub fn capacity_reasons(alloc: Global, document: &Value) -> Result<Vec<Reason>, AllocError>
+    ensures { IfOk result (λ reasons. AreReasonsOf (view document.now) history_rows false reasons.items) }
+{
     let mut reasons = Vec::new(alloc);
     add_reasons(alloc, document, &CAPACITY_OF_A_HISTORY, false, &mut reasons)?;
     Ok(reasons)

@@ -1,9 +1,11 @@
 use Rattle.dsa_check.proofs.reasons.add_reasons.Given as goal
-use Rattle.std.proofs.Common.{◌≡◌, ◌+◌, length, take}
-use Rattle.std.specs.Prelude.{count_by}
+use Rattle.std.proofs.Common.{map, take}
 use Rattle.serde_json.specs.View.{view}
-use Rattle.dsa_check.specs.Reasons.{is_unfit}
+use Rattle.dsa_check.specs.Findings.{Appends}
+use Rattle.dsa_check.specs.Reasons.{AreReasonsAt}
+use Rattle.dsa_check.specs.Steps.{row_of}
 
 abbrev pub invariant-loop-field : goal.invariant-loop-field
-invariant-loop-field l = length l.reasons.items
-    ≡ length l.initial.reasons.items + count_by (is_unfit (view l.object)) (take l.field-index l.fields)
+invariant-loop-field l =
+    Appends (AreReasonsAt (view l.object) (map row_of l.fields) l.in_caps (map row_of (take l.field-index l.fields)))
+    l.initial.reasons.items l.reasons.items

@@ -1,0 +1,134 @@
+-- What is added to a list, one part more.
+use Rattle.std.proofs.Common.{◌≡◌, ◌<◌, ◌+◌, ℕ, Bool, true, List, [], ◌∷◌, ◌++◌, map, length, take}
+use Rattle.std.proofs.Common.{get_or, refl, sym, ap, ◌∙◌}
+use Rattle.std.proofs.Math.ListN.{get_or-map}
+use Rattle.std.specs.Prelude.{filter, is_some, Some, None, String, string_bytes, Result, Ok, Err, OnOk}
+use Rattle.std.specs.declared.alloc.Global.{Global}
+use Rattle.std.specs.List.{AllZip, AllByRecursion}
+use Rattle.std.proofs.lemmas.List.{append_assoc, append-nil, take_more, map-append, length-map}
+use Rattle.std.proofs.lemmas.List.Elements.{filter-append}
+use Rattle.std.proofs.lemmas.Option.{slice_get-get_or}
+use Rattle.serde_json.specs.{Data.{Data, null, boolean, number, string, array, object}, Find.{get, as_object}}
+use Rattle.serde_json.specs.{View.{view}, declared.value.Value.{Value}}
+use Rattle.serde_json.specs.Read.{read}
+use Rattle.dsa_check.specs.declared.{fields.Field.{Field}, fields.Key.{Key}}
+use Rattle.dsa_check.specs.declared.finding.Reason.{Reason, TheVariants.{Missing, Misspelled}}
+use Rattle.dsa_check.specs.declared.finding.Finding.{Finding}
+use Rattle.dsa_check.specs.Findings.{Appends, AppendsAll, AreInCaps, IsFindingOf, IsFindingIn, IsFounded, AreFounded}
+use Rattle.dsa_check.specs.Judgement.{steps_of}
+use Rattle.dsa_check.specs.Reasons.{is_unfit, IsStrayKey, IsReasonAt, AreReasonsAt, AreReasonsOf}
+use Rattle.dsa_check.specs.Steps.{Row, row_of, caps_rows}
+
+-- ---- lists
+
+AllZip-append : {A B : Type 0} (R : A → B → Type 0) (xs : List A) (ys : List B) (us : List A) (vs : List B)
+    → AllZip R xs ys → AllZip R us vs → AllZip R (xs ++ us) (ys ++ vs)
+AllZip-append R [] [] us vs h k = k
+AllZip-append R [] (y ∷ ys) us vs h k = absurd h
+AllZip-append R (x ∷ xs) [] us vs h k = absurd h
+AllZip-append R (x ∷ xs) (y ∷ ys) us vs h k = (h.0, AllZip-append R xs ys us vs h.1 k)
+
+AllByRecursion-append : {X : Type 0} (P : X → Type 0) (xs ys : List X)
+    → AllByRecursion P xs → AllByRecursion P ys → AllByRecursion P (xs ++ ys)
+AllByRecursion-append P [] ys h k = k
+AllByRecursion-append P (x ∷ xs) ys h k = (h.0, AllByRecursion-append P xs ys h.1 k)
+
+AllByRecursion-weaker : {X : Type 0} (P Q : X → Type 0) → ((x : X) → P x → Q x) → (xs : List X)
+    → AllByRecursion P xs → AllByRecursion Q xs
+AllByRecursion-weaker P Q f [] h = tt
+AllByRecursion-weaker P Q f (x ∷ xs) h = (f x h.0, AllByRecursion-weaker P Q f xs h.1)
+
+-- ---- parts that are added
+
+pub appends_nothing : {X : Type 0} (P : List X → Type 0) (old : List X) → P [] → Appends P old old
+appends_nothing P old h = ([], sym (append-nil old), h)
+
+pub appends_more : {X : Type 0} (P Q R : List X → Type 0) → ((xs ys : List X) → P xs → Q ys → R (xs ++ ys))
+    → (old mid new : List X) → Appends P old mid → Appends Q mid new → Appends R old new
+appends_more P Q R f old mid new h k =
+    (h.0 ++ k.0, rw (k.1, h.1, append_assoc) refl, f h.0 k.0 h.2 k.2)
+
+pub appends_both : {X : Type 0} (P : X → Type 0) (old mid new : List X)
+    → AppendsAll P old mid → AppendsAll P mid new → AppendsAll P old new
+appends_both P old mid new h k =
+    appends_more (AllByRecursion P) (AllByRecursion P) (AllByRecursion P) (AllByRecursion-append P) old mid new h k
+
+pub appends_weaker : {X : Type 0} (P Q : X → Type 0) → ((x : X) → P x → Q x) → (old new : List X)
+    → AppendsAll P old new → AppendsAll Q old new
+appends_weaker P Q f old new h = (h.0, h.1, AllByRecursion-weaker P Q f h.0 h.2)
+
+pub appends_weaker_on : {X T E : Type 0} (r : Result T E) (P Q : X → Type 0) → ((x : X) → P x → Q x)
+    → (old new : List X) → OnOk r (AppendsAll P old new) → OnOk r (AppendsAll Q old new)
+appends_weaker_on (Ok t) P Q f old new h = appends_weaker P Q f old new h
+appends_weaker_on (Err e) P Q f old new h = tt
+
+-- what was added to nothing
+pub appended_first : {X : Type 0} (P : List X → Type 0) (old new : List X) → old ≡ [] → Appends P old new → P new
+appended_first P old new none h = rw (h.1, none) h.2
+
+-- and on the way, where more is so of it
+pub appends_weaker_to : {X T E : Type 0} (r : Result T E) (P Q : List X → Type 0) → ((xs : List X) → P xs → Q xs)
+    → (old new : List X) → OnOk r (Appends P old new) → OnOk r (Appends Q old new)
+appends_weaker_to (Ok t) P Q f old new h = (h.0, h.1, f h.0 h.2)
+appends_weaker_to (Err e) P Q f old new h = tt
+
+-- ---- findings
+
+-- the reasons of the caps, which are an object
+pub inside_caps : (caps : Data) → is_some (as_object caps) ≡ true → (reasons : List Reason)
+    → AreReasonsOf caps caps_rows true reasons → AreInCaps (Some caps) reasons
+inside_caps null e reasons h = cc
+inside_caps (boolean b) e reasons h = cc
+inside_caps (number n) e reasons h = cc
+inside_caps (string s) e reasons h = cc
+inside_caps (array ds) e reasons h = cc
+inside_caps (object ms) e reasons h = h
+
+-- a finding of an item is one of the items
+pub finding_in : (vs : List Value) (i : ℕ) (v : Value) → i < length vs → v ≡ get_or vs i v
+    → (finding : Finding) → IsFindingOf i (view v) finding → IsFindingIn (map view vs) finding
+finding_in vs i v inside is finding h =
+    let inside' : i < length (map view vs) = rw (length-map vs view) inside in
+    let item : get_or (map view vs) i (view v) ≡ view v = get_or-map view vs i v ∙ ap view (sym is) in
+    (i, h.0, rw (slice_get-get_or (map view vs) i (view v) inside', item) h.1)
+
+-- a finding of one of the items of a document
+pub founded_in : (d : Data) (finding : Finding) → IsFindingIn (steps_of d) finding → IsFounded d finding
+founded_in d finding h = rw h.1 h.2
+
+-- the bytes are no other value
+pub founded_as : (bytes : List ℕ) (d : Data) → read bytes ≡ Some d → (findings : List Finding)
+    → AllByRecursion (IsFounded d) findings → AreFounded bytes findings
+founded_as bytes d is findings h other json =
+    let same : Some d ≡ Some other = sym is ∙ json.value in
+    let d-is : d ≡ other = cc in
+    rw (← d-is) h
+
+-- ---- reasons
+
+module _ (d : Data) (rows : List Row) (in_caps : Bool) where
+  -- a key that is missing, and one that may be there under another name
+  pub missing_at : (row : Row) (key : Key) → key.name.now ≡ row.0 → key.in_caps ≡ in_caps → None ≡ get row.0 d
+      → IsReasonAt d rows in_caps row (Missing key)
+  missing_at row key named holder none =
+      record { key = key; named = named; holder = holder; so = rw (← none) refl; stray = tt }
+
+  pub misspelled_at : (row : Row) (key : Key) (found : String Global) → key.name.now ≡ row.0 → key.in_caps ≡ in_caps
+      → None ≡ get row.0 d → IsStrayKey d rows (string_bytes found)
+      → IsReasonAt d rows in_caps row (Misspelled key found)
+  misspelled_at row key found named holder none stray =
+      record { key = key; named = named; holder = holder; so = rw (← none) refl; stray = stray }
+
+  -- the rows of some fields, and one field more
+  pub reasons_more : (fields : List Field) (i : ℕ) (none : Field) (old mid new : List Reason) → i < length fields
+      → Appends (AreReasonsAt d rows in_caps (map row_of (take i fields))) old mid
+      → Appends (AreReasonsAt d rows in_caps (row_of (get_or fields i none) ∷ [])) mid new
+      → Appends (AreReasonsAt d rows in_caps (map row_of (take (i + 1) fields))) old new
+  reasons_more fields i none old mid new inside before here =
+      let front = map row_of (take i fields) in
+      let last = row_of (get_or fields i none) ∷ [] in
+      rw (take_more fields i none inside, map-append)
+      (appends_more (AreReasonsAt d rows in_caps front) (AreReasonsAt d rows in_caps last)
+      (AreReasonsAt d rows in_caps (front ++ last)) (λ xs ys h k. rw (filter-append (is_unfit d) front last)
+      (AllZip-append (IsReasonAt d rows in_caps) (filter (is_unfit d) front) xs (filter (is_unfit d) last) ys h k))
+      old mid new before here)

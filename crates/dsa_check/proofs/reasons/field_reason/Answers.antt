@@ -1,0 +1,10 @@
+use Rattle.dsa_check.proofs.reasons.field_reason.Goals as goal
+use Rattle.std.proofs.Common.{refl}
+use Rattle.dsa_check.proofs.Told.{missing_at, misspelled_at}
+
+pub returns-in-Some-3-clause-so : goal.returns-in-Some-3-clause-so
+returns-in-Some-3-clause-so c =
+    misspelled_at _ _ _ _ _ _ refl refl c.in-None.ensures (rw c.in-Some-3.is at c.in_ok-found-in-None.ensures)
+
+pub returns-in-None-2-clause-so : goal.returns-in-None-2-clause-so
+returns-in-None-2-clause-so c = missing_at _ _ _ _ _ refl refl c.in-None.ensures
