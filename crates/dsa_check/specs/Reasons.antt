@@ -1,8 +1,8 @@
 -- What is wrong with an object, and that it is so.
-use Rattle.std.specs.Prelude.{◌≡◌, ◌<◌, ◌%◌, length, ℕ, ℤ, Bool, true, false, not, ◌&&◌, ◌||◌, nat_le, is_some}
-use Rattle.std.specs.Prelude.{List, [], ◌∷◌, Option, Some, None, option_and_then, MatchOption, IsSomeAnd, IfSome, filter}
-use Rattle.std.specs.Prelude.{codes, bytes_eq, string_bytes, String, ⊤}
-use Rattle.std.specs.List.{AllZip, list_any}
+use Rattle.std.specs.Prelude.{◌≡◌, ◌<◌, ◌%◌, length, ℕ, suc, ℤ, Bool, true, false, not, ◌&&◌, ◌||◌, nat_le, is_some}
+use Rattle.std.specs.Prelude.{List, [], ◌∷◌, Option, Some, None, option_and_then, MatchOption, IsSomeAnd, IfSome}
+use Rattle.std.specs.Prelude.{filter, option_map, codes, bytes_eq, string_bytes, String, ⊤}
+use Rattle.std.specs.{List.{AllZip, list_any, list_all, position}, Char.{is_ascii_hexdigit}}
 use Rattle.std.specs.declared.alloc.Global.{Global}
 use Rattle.serde_json.specs.{Data.{Data, null, boolean, number, string, array, object}, Find.{get, as_u64, as_i64}}
 use Rattle.serde_json.specs.Find.{as_number, as_bool, as_str, as_array, as_object}
@@ -53,25 +53,41 @@ fits form (Some d) = is_of form d
 abbrev pub is_unfit : Data → Row → Bool
 is_unfit d row = not (fits row.1 (get row.0 d))
 
+-- the place of the first character that is no hexadecimal digit, counted from 0
+abbrev pub first_no_digit : List ℕ → Option ℕ
+first_no_digit text = position (λ byte. not (is_ascii_hexdigit byte)) text
+
 -- the reason is so of a text that is not the bytes of a descriptor
 abbrev pub IsDigitsReason : Key → List ℕ → Reason → Type 0
 IsDigitsReason key text (reason.OddDigits k count) = (k ≡ key) × (length text ≡ count) × (count % 2 ≡ 1)
 IsDigitsReason key text (reason.ManyDigits k count) = (k ≡ key) × (length text ≡ count) × (128 < count)
-IsDigitsReason key text (reason.NoDigit k at) = k ≡ key
+IsDigitsReason key text (reason.NoDigit k at) = (k ≡ key) × (option_map suc (first_no_digit text) ≡ Some at)
 IsDigitsReason key text _ = ⊥
 
--- the reason is so of a value that may not stand there
-abbrev pub IsTextReason : Key → Option (List ℕ) → Reason → Type 0
-IsTextReason key None reason = ⊥
-IsTextReason key (Some text) reason = IsDigitsReason key text reason
+-- the reason is so of a text where digits are wanted
+abbrev pub IsTextReason : Key → Form → Option (List ℕ) → Reason → Type 0
+IsTextReason key form.Digits (Some text) reason = IsDigitsReason key text reason
+IsTextReason key _ _ reason = ⊥
 
 -- the reason is so of an object that has this at the key, where the form is wanted
 abbrev pub IsReasonOf : Key → Form → Option Data → Reason → Type 0
 IsReasonOf key wanted (Some d) (reason.Unfit k f w) = (k ≡ key) × (f ≡ found_of d) × (w ≡ wanted)
-IsReasonOf key wanted (Some d) r = IsTextReason key (as_str d) r
+IsReasonOf key wanted (Some d) r = IsTextReason key wanted (as_str d) r
 IsReasonOf key wanted None (reason.Missing k) = k ≡ key
 IsReasonOf key wanted None (reason.Misspelled k found) = k ≡ key
 IsReasonOf key wanted _ _ = ⊥
+
+-- the object has such a value at each key
+abbrev pub has_rows : Data → List Row → Bool
+has_rows d rows = list_all (λ row. fits row.1 (get row.0 d)) rows
+
+-- the object is a step of this kind, or of none
+abbrev pub is_step_of : Data → Option StepKind → Bool
+is_step_of d None = false
+is_step_of d (Some kind) = has_rows d (rows_of kind)
+
+abbrev pub is_step : Data → Bool
+is_step d = is_step_of d (kind_of d)
 
 -- ---- the reasons of an object
 

@@ -15,6 +15,7 @@ mod report;
 pub mod rows;
 mod scan;
 mod syntax;
+pub mod tables;
 
 pub use checking::Check;
 pub use fields::{Field, Form, Found, Key};

@@ -1,10 +1,10 @@
 //! What is wrong with an object.
 
-ghost use Rattle.std.specs.Prelude.{◌≡◌, [], ◌∷◌, map, codes, false, is_some, None, IfOk, OnOk, IfSome, string_bytes};
+ghost use Rattle.std.specs.Prelude.{◌≡◌, [], ◌∷◌, map, codes, false, is_some, Some, None, IfOk, OnOk, IfSome, string_bytes};
 ghost use Rattle.serde_json.specs.View.{view};
-ghost use Rattle.serde_json.specs.Find.{get};
+ghost use Rattle.serde_json.specs.Find.{get, as_str};
 ghost use Rattle.dsa_check.specs.Findings.{Appends, AreInCaps, AreDocumentReasons};
-ghost use Rattle.dsa_check.specs.Reasons.{IsReasonOf, IsDigitsReason, is_unfit, is_asked, IsStrayKey, IsReasonAt, AreReasonsAt, AreReasonsOf, IsKindReason, AreStepReasons};
+ghost use Rattle.dsa_check.specs.Reasons.{IsReasonOf, IsDigitsReason, IsTextReason, is_unfit, is_asked, IsStrayKey, IsReasonAt, AreReasonsAt, AreReasonsOf, IsKindReason, AreStepReasons};
 ghost use Rattle.dsa_check.specs.Steps.{row_of, kind_of, device_rows, history_rows};
 
 use crate::fields::{Field, Form, Key, found_in, is_of};
@@ -103,18 +103,28 @@ fn near_kind(alloc: Global, name: &str) -> Result<Option<StepKind>, AllocError> 
 }
 
 // What is wrong with a text that is not the bytes of a descriptor.
-fn digits_reason(key: Key, text: &str) -> Reason
-    ensures { IsDigitsReason key text.now result }
+fn digits_reason(key: Key, text: &str) -> Option<Reason>
+    ensures { IfSome result (IsDigitsReason key text.now) }
 {
     let count = text.len();
     match text.bytes().position(|byte| !byte.is_ascii_hexdigit()) {
-        Some(before) => Reason::NoDigit {
+        Some(before) => Some(Reason::NoDigit {
             key,
             at: before.saturating_add(1),
-        },
-        None if count > MOST_DIGITS => Reason::ManyDigits { key, count },
-        None if count % 2 == 1 => Reason::OddDigits { key, count },
-        None => Reason::NoDigit { key, at: count },
+        }),
+        None if count > MOST_DIGITS => Some(Reason::ManyDigits { key, count }),
+        None if count % 2 == 1 => Some(Reason::OddDigits { key, count }),
+        None => None,
+    }
+}
+
+// What is wrong with the digits of a value, where digits are wanted and it is a text.
+fn text_reason(key: Key, wanted: Form, value: &Value) -> Option<Reason>
+    ensures { IfSome result (IsTextReason key wanted (as_str (view value.now))) }
+{
+    match value.as_str() {
+        Some(text) if wanted == Form::Digits => digits_reason(key, text),
+        _ => None,
     }
 }
 
@@ -122,9 +132,9 @@ fn digits_reason(key: Key, text: &str) -> Reason
 fn unfit_reason(key: Key, wanted: Form, value: &Value) -> Reason
     ensures { IsReasonOf key wanted (Some (view value.now)) result }
 {
-    match value.as_str() {
-        Some(text) if wanted == Form::Digits => digits_reason(key, text),
-        _ => Reason::Unfit {
+    match text_reason(key, wanted, value) {
+        Some(reason) => reason,
+        None => Reason::Unfit {
             key,
             found: found_in(value),
             wanted,
