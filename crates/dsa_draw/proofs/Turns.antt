@@ -1,12 +1,12 @@
 -- Lines of a band, a moment at a time.
 use Rattle.std.proofs.Common.{◌≡◌, ◌<◌, ◌≤◌, ◌+◌, ℕ, List, [], ◌∷◌, ◌++◌, cond, map, length, drop, get_or, sym, ap}
-use Rattle.std.proofs.Common.{◌∙◌, append_assoc, append-nil}
+use Rattle.std.proofs.Common.{◌∙◌, refl, append_assoc, append-nil}
 use Rattle.std.proofs.lemmas.List.{drop_more, drop_all, length-map}
 use Rattle.std.proofs.Math.ListN.{get_or-map}
 use Rattle.std.specs.Prelude.{◌==◌}
 use Rattle.dsa_draw.specs.declared.{bands.Band.{Band}, moment.Moment.{Moment}}
 use Rattle.dsa_draw.specs.Bands.{level_in, highest, highest_of, next_step, turn_text, turns}
-use Rattle.dsa_draw.specs.Bands.{part_text, next_top, bands_text}
+use Rattle.dsa_draw.specs.{Bands.{part_text, next_top, bands_text}, Columns.{fifth_text, column_text, columns_text}}
 
 -- what is left of a list, from one of its moments on
 left : (ms : List Moment) (i : ℕ) (m : Moment) → i < length ms → m ≡ get_or ms i m → drop i ms ≡ m ∷ drop (i + 1) ms
@@ -68,5 +68,24 @@ pub banded_at_end : (bands : List Band) (i : ℕ) (steps top : ℕ) (moments : L
     → length bands ≤ i → text ++ bands_text steps top (drop i bands) moments ≡ whole → text ≡ whole
 banded_at_end bands i steps top moments text whole past h =
     let h' : text ++ bands_text steps top [] moments ≡ whole = rw (drop_all i bands past) at h in
+    let h'' : text ≡ whole = rw (append-nil text) at h' in
+    h''
+
+-- one column more
+pub columned : (ms : List Moment) (i : ℕ) (m : Moment) (height step : ℕ) (text middle longer whole : List ℕ)
+    → i < length ms → m ≡ get_or ms i m → middle ≡ text ++ fifth_text height step
+    → longer ≡ middle ++ column_text height step m.entry → text ++ columns_text height step (drop i ms) ≡ whole
+    → longer ++ columns_text height (next_step step) (drop (i + 1) ms) ≡ whole
+columned ms i m height step text middle longer whole inside is first second h =
+    let h' : text ++ columns_text height step (m ∷ drop (i + 1) ms) ≡ whole = rw (left ms i m inside is) at h in
+    let both : longer ≡ text ++ (fifth_text height step ++ column_text height step m.entry) =
+    rw (second, first, append_assoc) refl in
+    rw (both, append_assoc) h'
+
+-- no column more
+pub columned_at_end : (ms : List Moment) (i height step : ℕ) (text whole : List ℕ) → length ms ≤ i
+    → text ++ columns_text height step (drop i ms) ≡ whole → text ≡ whole
+columned_at_end ms i height step text whole past h =
+    let h' : text ++ columns_text height step [] ≡ whole = rw (drop_all i ms past) at h in
     let h'' : text ≡ whole = rw (append-nil text) at h' in
     h''

@@ -1,5 +1,5 @@
 -- What the bands of a drawing are, as text.
-use Rattle.std.specs.Prelude.{◌≡◌, ℕ, ◌+◌, ◌-◌, ◌*◌, ◌/◌, ◌^◌, ◌==◌, cond, min, max, List, [], ◌∷◌, ◌++◌, map, codes, decimal}
+use Rattle.std.specs.Prelude.{ℕ, ◌+◌, ◌-◌, ◌*◌, ◌/◌, ◌^◌, ◌==◌, cond, min, max, List, [], ◌∷◌, ◌++◌, map, codes, decimal}
 use Rattle.std.specs.Prelude.{slice_get, unwrap_or}
 use Rattle.std.specs.List.{range_with_len}
 use Rattle.dsa_regs.specs.declared.Caps.{Caps}
@@ -127,8 +127,3 @@ bands_text steps top (band ∷ bands) moments =
 -- the bands of a device: its queues, and then its groups
 abbrev pub bands_of : Caps → List Band
 bands_of caps = map Queue (range_with_len 0 caps.queues) ++ map Group (range_with_len 0 caps.groups)
-
--- the text has the bands of the device over so many steps, one below the other
-abbrev pub HasBands : Caps → ℕ → List Moment → List ℕ → Type 0
-HasBands caps steps moments text =
-    (front : List ℕ) × (back : List ℕ) × (text ≡ front ++ bands_text steps 152 (bands_of caps) moments ++ back)

@@ -1,8 +1,8 @@
 -- A run, with what is drawn of it.
-use Rattle.std.specs.Prelude.{◌≡◌, ℕ, List, [], ◌∷◌, ⊤}
+use Rattle.std.specs.Prelude.{◌≡◌, ℕ, ◌-◌, ◌^◌, min, List, [], ◌∷◌, ◌++◌, length, ⊤}
 use Rattle.dsa_device.specs.Running.{Running}
 use Rattle.dsa_scenario.specs.Steps.{Visit, IsTextOfDocument}
-use Rattle.dsa_draw.specs.{Bands.{HasBands}, Moments.{IsMomentOf}}
+use Rattle.dsa_draw.specs.{Bands.{bands_text, bands_of}, Columns.{columns_text}, Moments.{IsMomentOf}}
 use Rattle.dsa_draw.specs.declared.{moment.Moment.{Moment}, run.Story.{Story}}
 
 -- there is a moment for each of these steps: of its record, and of how the device stands after it
@@ -18,9 +18,20 @@ pub record IsStoryOf (steps : List Visit) (last : Running) (story : Story) : Typ
   pub each : AreMoments steps story.moments.items
   pub fates : story.fates.items ≡ last.state.work.fates
 
--- the text has the bands of the story, over a number of steps
-abbrev pub IsTextOf : Story → List ℕ → Type 0
-IsTextOf story text = (steps : ℕ) × HasBands story.caps steps story.moments.items text
+-- so many steps; their numbers have 32 bits
+abbrev pub step_count : List Moment → ℕ
+step_count moments = min (length moments) (2 ^ 32 - 1)
+
+-- the text has a column for each moment of the story, and the bands of its device over as many steps, one below the
+-- other
+pub record IsTextOf (story : Story) (text : List ℕ) : Type 0 where
+  pub height : ℕ
+  pub head : List ℕ
+  pub above : List ℕ
+  pub below : List ℕ
+  pub parts : text
+      ≡ head ++ columns_text height 0 story.moments.items ++ above
+      ++ bands_text (step_count story.moments.items) 152 (bands_of story.caps) story.moments.items ++ below
 
 -- the text is drawn of these steps, and of how the device stands at last
 abbrev pub IsDrawnOf : List Visit → Running → List ℕ → Type 0

@@ -1,4 +1,5 @@
 pub mod Bands
+pub mod Columns
 pub mod Drawings
 pub mod Marks
 pub mod Moments

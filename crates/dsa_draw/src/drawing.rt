@@ -1,7 +1,8 @@
 //! The whole drawing.
 
 ghost use Rattle.std.specs.Prelude.{◌≡◌, ◌++◌, IfOk, OnOk, string_bytes};
-ghost use Rattle.dsa_draw.specs.Drawings.{IsTextOf};
+ghost use Rattle.dsa_draw.specs.Columns.{submission_text, of_engine_text, finish_text, event_text, asked_text, title_text, left_text, high_text, column_text, grid_text, label_text, number_text, fifth_text, columns_text};
+ghost use Rattle.dsa_draw.specs.Drawings.{step_count, IsTextOf};
 
 use crate::bands::{add_bands, bands_of};
 use crate::bars::{bars_of, rows_between};
@@ -31,12 +32,9 @@ const BANDS: u32 = 152;
 
 // ---- columns
 
-fn add_submission(
-    text: &mut String,
-    client: u16,
-    queue: u16,
-    kind: Kind,
-) -> Result<(), AllocError> {
+fn add_submission(text: &mut String, client: u16, queue: u16, kind: Kind) -> Result<(), AllocError>
+    ensures { OnOk result (string_bytes text.new ≡ string_bytes text.old ++ submission_text client queue kind) }
+{
     let instruction = match kind {
         Kind::Enqcmd { .. } => "enqcmd",
         Kind::Movdir64b => "movdir",
@@ -44,7 +42,21 @@ fn add_submission(
     write!(text, "{instruction} of client {client} to queue {queue}")
 }
 
-fn add_event(text: &mut String, event: &Event) -> Result<(), AllocError> {
+fn add_of_engine(text: &mut String, what: &str, engine: u16) -> Result<(), AllocError>
+    ensures { OnOk result (string_bytes text.new ≡ string_bytes text.old ++ of_engine_text what.now engine) }
+{
+    write!(text, "{what} of engine {engine}")
+}
+
+fn add_finish(text: &mut String, name: u32, engine: u16) -> Result<(), AllocError>
+    ensures { OnOk result (string_bytes text.new ≡ string_bytes text.old ++ finish_text name engine) }
+{
+    write!(text, "finish of {name} on engine {engine}")
+}
+
+fn add_event(text: &mut String, event: &Event) -> Result<(), AllocError>
+    ensures { OnOk result (string_bytes text.new ≡ string_bytes text.old ++ event_text event.now) }
+{
     match event {
         Event::Submit {
             client,
@@ -52,13 +64,10 @@ fn add_event(text: &mut String, event: &Event) -> Result<(), AllocError> {
             kind,
             ..
         } => add_submission(text, *client, *queue, *kind),
-        Event::Dispatch { engine } => write!(text, "dispatch of engine {engine}"),
-        Event::Fetch { engine, .. } => write!(text, "fetch of engine {engine}"),
-        Event::Start { engine } => write!(text, "start of engine {engine}"),
-        Event::Finish { engine, ticket, .. } => {
-            let name = ticket.name;
-            write!(text, "finish of {name} on engine {engine}")
-        }
+        Event::Dispatch { engine } => add_of_engine(text, "dispatch", *engine),
+        Event::Fetch { engine, .. } => add_of_engine(text, "fetch", *engine),
+        Event::Start { engine } => add_of_engine(text, "start", *engine),
+        Event::Finish { engine, ticket, .. } => add_finish(text, ticket.name, *engine),
         Event::Issue { command } => text.push_str(command.name()),
         Event::Poll => text.push_str("poll"),
         Event::WriteQueue { queue, .. } => write!(text, "queue {queue}"),
@@ -67,43 +76,94 @@ fn add_event(text: &mut String, event: &Event) -> Result<(), AllocError> {
     }
 }
 
-fn add_asked(text: &mut String, entry: &Record) -> Result<(), AllocError> {
+fn add_asked(text: &mut String, entry: &Record) -> Result<(), AllocError>
+    ensures { OnOk result (string_bytes text.new ≡ string_bytes text.old ++ asked_text entry.now) }
+{
     match entry {
         Record::Stepped(step) => add_event(text, &step.event),
         Record::Refused(_) => text.push_str("command"),
     }
 }
 
-// A column has the step as its title.
-fn add_column(text: &mut String, entry: &Record, step: u32, height: u32) -> Result<(), AllocError> {
-    let x = column_left(step);
-    let high = height.saturating_sub(NUMBERS);
-    write!(
-        text,
-        "<rect class=\"column\" x=\"{x}\" y=\"{NUMBERS}\" width=\"14\" height=\"{high}\">"
-    )?;
-    write!(text, "<title>step {step}: ")?;
+// The title of a column.
+#[tactic(auto, unfolding(crate::specs::Columns::title_text))]
+fn add_title(text: &mut String, entry: &Record, step: u32) -> Result<(), AllocError>
+    ensures { OnOk result (string_bytes text.new ≡ string_bytes text.old ++ title_text step entry.now) }
+{
+    write!(text, "step {step}: ")?;
     add_asked(text, entry)?;
     text.push_str(": ")?;
-    add_answer(text, entry)?;
-    text.push_str("</title></rect>\n")
+    add_answer(text, entry)
 }
 
-// The number of every fifth step, and a line.
-fn add_number(text: &mut String, step: u32, height: u32) -> Result<(), AllocError> {
+#[tactic(auto, unfolding(crate::specs::Columns::left_text))]
+fn add_left(text: &mut String, step: u32) -> Result<(), AllocError>
+    ensures { OnOk result (string_bytes text.new ≡ string_bytes text.old ++ left_text step) }
+{
+    let x = column_left(step);
+    write!(text, "<rect class=\"column\" x=\"{x}\"")
+}
+
+#[tactic(auto, unfolding(crate::specs::Columns::high_text))]
+fn add_high(text: &mut String, height: u32) -> Result<(), AllocError>
+    ensures { OnOk result (string_bytes text.new ≡ string_bytes text.old ++ high_text height) }
+{
+    let high = height.saturating_sub(NUMBERS);
+    write!(text, " y=\"80\" width=\"14\" height=\"{high}\"><title>")
+}
+
+// A column has the step as its title.
+fn add_column(text: &mut String, entry: &Record, step: u32, height: u32) -> Result<(), AllocError>
+    ensures { OnOk result (string_bytes text.new ≡ string_bytes text.old ++ column_text height step entry.now) }
+{
+    add_left(text, step)?;
+    add_high(text, height)?;
+    add_title(text, entry, step)?;
+    write!(text, "</title></rect>\n")
+}
+
+#[tactic(auto, unfolding(crate::specs::Columns::grid_text))]
+fn add_grid(text: &mut String, step: u32, height: u32) -> Result<(), AllocError>
+    ensures { OnOk result (string_bytes text.new ≡ string_bytes text.old ++ grid_text height step) }
+{
     let x = column_left(step);
     let high = height.saturating_sub(NUMBERS);
-    writeln!(text, "<path class=\"grid\" d=\"M{x} {NUMBERS}v{high}\"/>")?;
-    let x = x + 2;
-    writeln!(text, "<text x=\"{x}\" y=\"91\">{step}</text>")
+    write!(text, "<path class=\"grid\" d=\"M{x} 80v{high}\"/>\n")
 }
 
-fn add_columns(text: &mut String, moments: &[Moment], height: u32) -> Result<(), AllocError> {
+#[tactic(auto, unfolding(crate::specs::Columns::label_text))]
+fn add_step_label(text: &mut String, step: u32) -> Result<(), AllocError>
+    ensures { OnOk result (string_bytes text.new ≡ string_bytes text.old ++ label_text step) }
+{
+    let x = column_left(step) + 2;
+    write!(text, "<text x=\"{x}\" y=\"91\">{step}</text>\n")
+}
+
+// A line, and the number of the step.
+fn add_number(text: &mut String, step: u32, height: u32) -> Result<(), AllocError>
+    ensures { OnOk result (string_bytes text.new ≡ string_bytes text.old ++ number_text height step) }
+{
+    add_grid(text, step, height)?;
+    add_step_label(text, step)
+}
+
+// That of every fifth step.
+fn add_fifth(text: &mut String, step: u32, height: u32) -> Result<(), AllocError>
+    ensures { OnOk result (string_bytes text.new ≡ string_bytes text.old ++ fifth_text height step) }
+{
+    if step % 5 == 0 {
+        add_number(text, step, height)
+    } else {
+        Ok(())
+    }
+}
+
+fn add_columns(text: &mut String, moments: &[Moment], height: u32) -> Result<(), AllocError>
+    ensures { OnOk result (string_bytes text.new ≡ string_bytes text.old ++ columns_text height 0 moments.now) }
+{
     let mut step = 0u32;
     for moment in moments {
-        if step % 5 == 0 {
-            add_number(text, step, height)?;
-        }
+        add_fifth(text, step, height)?;
         add_column(text, &moment.entry, step, height)?;
         step = step.saturating_add(1);
     }
@@ -212,7 +272,9 @@ fn add_engines(
     Ok(top)
 }
 
-fn count_of(moments: &[Moment]) -> u32 {
+fn count_of(moments: &[Moment]) -> u32
+    ensures { result ≡ step_count moments.now }
+{
     u32::try_from(moments.len()).unwrap_or(u32::MAX)
 }
 
@@ -228,18 +290,19 @@ fn add_parts(text: &mut String, above: &str, bands: &str, below: &str) -> Result
 pub fn draw(alloc: Global, story: &Story) -> Result<String, AllocError>
     ensures { IfOk result (λ text. IsTextOf story.now (string_bytes text)) }
 {
-    let steps = count_of(&story.moments);
+    let moments = story.moments.as_slice();
+    let steps = count_of(moments);
     let mut above = String::new(alloc);
     add_rows_above(&mut above, story, steps)?;
     let list = bands_of(alloc, &story.caps)?;
     let mut bands = String::new(alloc);
-    let top = add_bands(&mut bands, &story.moments, steps, &list, BANDS)?;
+    let top = add_bands(&mut bands, moments, steps, &list, BANDS)?;
     let mut below = String::new(alloc);
     let height = add_engines(alloc, &mut below, story, steps, top)?;
     add_foot(&mut below)?;
     let mut text = String::new(alloc);
     add_head(&mut text, steps, height)?;
-    add_columns(&mut text, &story.moments, height)?;
+    add_columns(&mut text, moments, height)?;
     add_parts(&mut text, above.as_str(), bands.as_str(), below.as_str())?;
     Ok(text)
 }

@@ -1,0 +1,10 @@
+use Rattle.dsa_draw.proofs.drawing.add_column.Goals as goal
+use Rattle.std.proofs.Common.{◌∙◌, append_assoc}
+use Rattle.std.proofs.lemmas.Result.{on_ok_weaker}
+
+pub returns : goal.returns
+returns c =
+    on_ok_weaker c.write.result
+    (λ added. added
+    ∙ rw (c.in_ok-add_title.ensures, c.in_ok-add_high.ensures, c.in_ok-add_left.ensures) (simp append_assoc))
+    c.write.ensures.bytes

@@ -1,0 +1,80 @@
+-- The columns of a drawing, as text: one for each step, with what it was asked and what it answered.
+use Rattle.dsa_book.specs.declared.event.Event.TheVariants as event
+use Rattle.std.specs.Prelude.{ℕ, ◌+◌, ◌-◌, ◌*◌, ◌%◌, ◌==◌, cond, List, [], ◌∷◌, ◌++◌, codes, decimal}
+use Rattle.dsa_regs.specs.Command.{command_name}
+use Rattle.dsa_book.specs.declared.event.{Event.{Event}, Kind.{Kind, TheVariants.{Enqcmd, Movdir64b}}}
+use Rattle.dsa_scenario.specs.{declared.run.Record.{Record, TheVariants.{Stepped, Refused}}, Lines.{record_text}}
+use Rattle.dsa_draw.specs.{declared.moment.Moment.{Moment}, Bands.{next_step}}
+
+-- ---- what a step was asked (profile)
+
+abbrev pub instruction_text : Kind → List ℕ
+instruction_text (Enqcmd pasid) = codes "enqcmd"
+instruction_text Movdir64b = codes "movdir"
+
+abbrev pub submission_text : ℕ → ℕ → Kind → List ℕ
+submission_text client queue kind =
+    instruction_text kind ++ codes " of client " ++ decimal client ++ codes " to queue " ++ decimal queue
+
+abbrev pub of_engine_text : List ℕ → ℕ → List ℕ
+of_engine_text what engine = what ++ codes " of engine " ++ decimal engine
+
+abbrev pub finish_text : ℕ → ℕ → List ℕ
+finish_text name engine = codes "finish of " ++ (decimal name ++ (codes " on engine " ++ decimal engine))
+
+abbrev pub event_text : Event → List ℕ
+event_text (event.Submit client queue portal kind desc) = submission_text client queue kind
+event_text (event.Dispatch engine) = of_engine_text (codes "dispatch") engine
+event_text (event.Fetch engine desc) = of_engine_text (codes "fetch") engine
+event_text (event.Start engine) = of_engine_text (codes "start") engine
+event_text (event.Finish engine ticket outcome) = finish_text ticket.name engine
+event_text (event.Issue command) = command_name command
+event_text event.Poll = codes "poll"
+event_text (event.WriteQueue queue config) = codes "queue " ++ decimal queue
+event_text (event.WriteGroup group config) = codes "group " ++ decimal group
+event_text event.ClearError = codes "clear"
+
+abbrev pub asked_text : Record → List ℕ
+asked_text (Stepped step) = event_text step.event
+asked_text (Refused fault) = codes "command"
+
+-- ---- columns
+
+-- the title of a column: the step's number, what it was asked, and its line
+unfoldable pub title_text : ℕ → Record → List ℕ
+title_text step entry =
+    codes "step " ++ decimal step ++ codes ": " ++ asked_text entry ++ codes ": " ++ record_text entry
+
+-- where a column begins, and how high it is on a page that is so high
+unfoldable pub left_text : ℕ → List ℕ
+left_text step = codes "<rect class=\"column\" x=\"" ++ decimal (112 + 14 * step) ++ codes "\""
+
+unfoldable pub high_text : ℕ → List ℕ
+high_text height = codes " y=\"80\" width=\"14\" height=\"" ++ decimal (height - 80) ++ codes "\"><title>"
+
+abbrev pub column_text : ℕ → ℕ → Record → List ℕ
+column_text height step entry =
+    left_text step ++ high_text height ++ title_text step entry ++ codes "</title></rect>\n"
+
+-- a line, and the number of the step behind it
+unfoldable pub grid_text : ℕ → ℕ → List ℕ
+grid_text height step =
+    codes "<path class=\"grid\" d=\"M" ++ decimal (112 + 14 * step) ++ codes " 80v" ++ decimal (height - 80)
+    ++ codes "\"/>\n"
+
+unfoldable pub label_text : ℕ → List ℕ
+label_text step =
+    codes "<text x=\"" ++ decimal (112 + 14 * step + 2) ++ codes "\" y=\"91\">" ++ decimal step ++ codes "</text>\n"
+
+abbrev pub number_text : ℕ → ℕ → List ℕ
+number_text height step = grid_text height step ++ label_text step
+
+-- of every fifth step
+abbrev pub fifth_text : ℕ → ℕ → List ℕ
+fifth_text height step = cond (step % 5 == 0) (number_text height step) []
+
+-- a column for each moment, the first one's step of this number
+abbrev pub columns_text : ℕ → ℕ → List Moment → List ℕ
+columns_text height step [] = []
+columns_text height step (moment ∷ moments) =
+    fifth_text height step ++ column_text height step moment.entry ++ columns_text height (next_step step) moments
