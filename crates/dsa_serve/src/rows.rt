@@ -15,7 +15,7 @@ ghost use Rattle.dsa_serve.specs.declared.requests.Request.TheVariants.{Step, Ex
 ghost use Rattle.dsa_serve.specs.Requests.{request_of, actions_of, IsRead, Asks, AreAsked};
 ghost use Rattle.dsa_serve.specs.Answers.{answers, fault_text, IsAnswered};
 ghost use Rattle.dsa_serve.specs.Input.{IsLine, AreLines, with_rest, IsFront, HasFirst};
-ghost use Rattle.dsa_serve.specs.Dialogue.{IsDialogue, AnswersWhole, AnswersAll, AnswersSoFar, IsStopped};
+ghost use Rattle.dsa_serve.specs.Dialogue.{IsDialogue, IsEnded, AnswersWhole, AnswersAll, AnswersSoFar, IsStopped};
 ghost use Rattle.dsa_scenario.specs.declared.watched.WatchedWriter.{WatchedWriter};
 ghost use Rattle.dsa_scenario.specs.Watched.{has_refused};
 ghost use Rattle.dsa_serve.specs.declared.counted.CountedReader.{CountedReader};
@@ -118,6 +118,7 @@ pub fn one_dialogue()
     ensures large { (last : State) (output : List ℕ) → ¬ IsDialogue (document_text smallest_caps_text (codes "1048577") []) [] last output }
     ensures no_record { (last : State) → ¬ IsDialogue (first_line poll_line) [] last [] }
     ensures one_state { (last : State) (output : List ℕ) → IsDialogue (first_line []) [] last output → last ≡ opening smallest_caps }
+    ensures one_end { (output : List ℕ) → IsEnded (first_line []) [] output → output ≡ [] }
     ensures one_answer { (last : State) (output : List ℕ) → IsDialogue (first_line []) (codes "{" ∷ []) last output
         → output ≡ codes "fault not JSON\n" }
 {}

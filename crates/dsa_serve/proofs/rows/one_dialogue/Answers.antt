@@ -1,18 +1,19 @@
 use Rattle.dsa_serve.proofs.rows.one_dialogue.Goals as goal
 use Rattle.std.proofs.Common.{◌≡◌, ◌∙◌, ◌++◌, ℕ, true, false, List, [], ◌∷◌, Some, map, codes, refl, ap, arith}
-use Rattle.std.proofs.Common.{length, length-append}
+use Rattle.std.proofs.Common.{flat_map, length, length-append, subst, sym}
 use Rattle.std.specs.{Option.{option_map_or}}
 use Rattle.serde_json.{specs.{Data.{Data, Items}, Read.{read}}, proofs.OnLiterals.{serde_json_on_literals}}
 use Rattle.dsa_regs.specs.{declared.Caps.{Caps}, Caps.{check_caps}}
 use Rattle.dsa_book.specs.{State.{State, opening}}
 use Rattle.dsa_book.specs.declared.event.Event.TheVariants.{Poll}
 use Rattle.dsa_scenario.specs.declared.{actions.Action.{Action, TheVariants.{Ask}}, run.Record.{Record}}
-use Rattle.dsa_scenario.specs.{Actions.{action_of}, Document.{head_of, list_of}, Lines.{record_text}}
+use Rattle.dsa_scenario.specs.{Actions.{action_of}, Document.{head_of, list_of}, Lines.{record_text, line_of}}
 use Rattle.dsa_scenario.specs.{Run.{AreOf}, Steps.{visits}}
 use Rattle.dsa_scenario.specs.Worked.{smallest_caps, smallest_caps_text, no_caps_text, document_text}
 use Rattle.dsa_serve.specs.declared.requests.LineFault.TheVariants.{NotJson, NoStep, TooLong}
 use Rattle.dsa_serve.specs.declared.requests.Request.{Request, TheVariants.{Step, Explain, Fault}}
 use Rattle.dsa_serve.specs.{Requests.{Asks, AreAsked, actions_of}, Answers.{answers}}
+use Rattle.dsa_serve.specs.Input.{with_rest}
 use Rattle.dsa_serve.specs.{Dialogue.{from_document, IsDialogue}, Worked.{first_line, poll_line}}
 
 -- what is read of a document
@@ -77,14 +78,38 @@ no_records : (records : List Record) → AreOf [] [] records → records ≡ []
 no_records [] h = refl
 no_records (r ∷ records) h = absurd h
 
-pub returns-clause-one_state : goal.returns-clause-one_state
-returns-clause-one_state c last output is =
-    let requests : from_document is.actions is.requests ≡ [] =
-    rw (bare_actions [] last output is) (no_request is.requests is.asked) in
-    let records : is.records ≡ [] = no_records is.records (rw requests at is.of_actions) in
+-- and without lines
+bare_requests : (last : State) (output : List ℕ) → (is : IsDialogue (first_line []) [] last output)
+    → from_document is.actions is.requests ≡ []
+bare_requests last output is = rw (bare_actions [] last output is) (no_request is.requests is.asked)
+
+state_is : (last : State) (output : List ℕ) → IsDialogue (first_line []) [] last output → last ≡ opening smallest_caps
+state_is last output is =
+    let records : is.records ≡ [] = no_records is.records (rw (bare_requests last output is) at is.of_actions) in
     let opened : Some (opening is.caps) ≡ Some last = rw records at is.replayed in
     let caps = bare_caps [] last output is in
     cc
+
+output_is : (last : State) (output : List ℕ) → IsDialogue (first_line []) [] last output → output ≡ []
+output_is last output is =
+    is.answered ∙ ap (λ rs. answers rs (visits is.caps is.capacity [] is.records)) (bare_requests last output is)
+
+no_lines : (lines : List (List ℕ)) (rest : List ℕ) → [] ≡ flat_map line_of lines ++ rest
+    → (lines ≡ []) × (rest ≡ [])
+no_lines [] rest e = (refl, sym e)
+no_lines (l ∷ lines) rest e = absurd (omega (arith, ap length e,
+    length-append (flat_map line_of (l ∷ lines)) rest, length-append (line_of l) (flat_map line_of lines),
+    length-append l (10 ∷ [])))
+
+pub returns-clause-one_state : goal.returns-clause-one_state
+returns-clause-one_state c last output is = state_is last output is
+
+pub returns-clause-one_end : goal.returns-clause-one_end
+returns-clause-one_end c output h =
+    let parts = no_lines h.lines h.rest h.lines_are.joined in
+    let rest = subst (λ r. IsDialogue (first_line []) (with_rest h.lines r) h.last h.answered) parts.1 h.dialogue in
+    let whole = subst (λ ls. IsDialogue (first_line []) ls h.last h.answered) parts.0 rest in
+    rw (output_is h.last h.answered whole, state_is h.last h.answered whole) at h.with_fates
 
 -- what is no JSON asks nothing else
 asks_nothing : (request : Request) → Asks (codes "{") request → request ≡ Fault NotJson
