@@ -1,20 +1,23 @@
 -- The tables of keys say what the definitions of the objects say.
 use Rattle.dsa_check.specs.declared.fields.Form.TheVariants as form
-use Rattle.std.proofs.Common.{◌≡◌, ℕ, suc, ◌-◌, ◌^◌, Bool, true, false, ◌&&◌, cond, List, [], ◌∷◌, refl, ◌∙◌, arith}
+use Rattle.std.proofs.Common.{◌≡◌, ℕ, suc, ◌-◌, ◌^◌, Bool, true, false, ◌&&◌, cond, List, [], ◌∷◌, refl, sym}
+use Rattle.std.proofs.Common.{◌∙◌, arith}
 use Rattle.std.specs.Prelude.{if◌then◌else◌, Option, Some, None, is_some, option_and_then, bytes_eq, codes}
-use Rattle.std.specs.Prelude.{nat_le, nat_lt}
-use Rattle.std.proofs.Math.Bool.{and_assoc, and-true}
+use Rattle.std.specs.Prelude.{nat_le, nat_lt, IfSome}
+use Rattle.dsa_regs.specs.Caps.{check_caps}
+use Rattle.std.proofs.Math.Bool.{and_assoc, and-true, and-false}
 use Rattle.std.proofs.lemmas.Bool.{Decides.{nat_tests}}
-use Rattle.serde_json.specs.{Data.{Data}, Find.{get, as_u64, as_number, as_bool, as_str}}
+use Rattle.serde_json.specs.{Data.{Data, null, boolean, number, string, array, object}, Find.{get, as_u64}}
+use Rattle.serde_json.specs.Find.{as_number, as_bool, as_str, as_array}
 use Rattle.dsa_scenario.specs.declared.actions.Action.{Action}
 use Rattle.dsa_scenario.specs.Fields.{below, whole_of, wholes_of, truth_of, text_of, hex_bytes_of}
 use Rattle.dsa_scenario.specs.Actions.{action_of, action_by, queue_of, group_of, enqcmd_of, movdir_of}
 use Rattle.dsa_scenario.specs.Actions.{dispatch_of, fetch_of, start_of, finish_of, command_action_of, desc_of}
-use Rattle.dsa_scenario.specs.Actions.{queue_config_of, group_config_of}
+use Rattle.dsa_scenario.specs.{Actions.{queue_config_of, group_config_of, caps_of}, Document.{head_of}}
 use Rattle.dsa_check.specs.declared.kinds.StepKind.{StepKind, TheVariants.{Queue, Group, Enqcmd, Movdir, Dispatch}}
 use Rattle.dsa_check.specs.declared.kinds.StepKind.TheVariants.{Fetch, Start, Finish, Command, Poll, Clear}
-use Rattle.dsa_check.specs.Reasons.{fits, has_rows, is_step_of, is_step, is_between}
-use Rattle.dsa_check.specs.Steps.{bits, rows_of, kind_named}
+use Rattle.dsa_check.specs.Reasons.{fits, has_rows, is_step_of, is_step, has_caps, is_between}
+use Rattle.dsa_check.specs.Steps.{bits, held, rows_of, kind_named, caps_rows, device_rows, document_rows}
 
 -- what needs a value is there where that value is, and the rest
 needs : {A B : Type 0} (o : Option A) (f : A → Option B) (here rest : Bool) → is_some o ≡ here
@@ -40,6 +43,12 @@ at_whole : (limit most : ℕ) → limit ≡ suc most → (o : Option Data)
     ≡ fits (form.Whole 0 most) o
 at_whole limit most e None = refl
 at_whole limit most e (Some d) = at_number limit most e (option_and_then as_u64 (as_number d))
+
+at_held : (limit most least upto : ℕ) → limit ≡ suc most → (o : Option Data)
+    → is_some (option_and_then (below limit) (option_and_then as_u64 (option_and_then as_number o)))
+    ≡ fits (form.Held most least upto) o
+at_held limit most least upto e None = refl
+at_held limit most least upto e (Some d) = at_number limit most e (option_and_then as_u64 (as_number d))
 
 at_truth : (o : Option Data) → is_some (option_and_then as_bool o) ≡ fits form.Truth o
 at_truth None = refl
@@ -192,3 +201,106 @@ module _ (d : Data) where
 -- what asks something has the rows of its kind
 pub action_has : (d : Data) → is_some (action_of d) ≡ is_step d
 action_has d = by_text d (text_of (codes "do") d)
+
+-- ---- caps and documents
+
+module _ (d : Data) where
+  held_byte : (least upto : ℕ) (key : List ℕ) → is_some (whole_of (2 ^ 8) key d) ≡ fits (held 8 least upto) (get key d)
+  held_byte least upto key = at_held (2 ^ 8) (2 ^ 8 - 1) least upto refl (get key d)
+
+  held_short : (least upto : ℕ) (key : List ℕ)
+      → is_some (whole_of (2 ^ 16) key d) ≡ fits (held 16 least upto) (get key d)
+  held_short least upto key = at_held (2 ^ 16) (2 ^ 16 - 1) least upto refl (get key d)
+
+  pub caps_have : is_some (caps_of d) ≡ has_rows d caps_rows
+  caps_have =
+      needs _ _ _ _ (held_short 1 64 (codes "queues")) (λ queues.
+      needs _ _ _ _ (held_short 1 8 (codes "groups")) (λ groups.
+      needs _ _ _ _ (held_short 1 64 (codes "engines")) (λ engines.
+      needs _ _ _ _ (held_short 1 4096 (codes "total_size")) (λ total_size.
+      needs _ _ _ _ (held_short 1 255 (codes "read_buffers")) (λ read_buffers.
+      needs _ _ _ _ (held_short 1 16 (codes "slots")) (λ slots.
+      needs _ _ _ _ (held_byte 1 10 (codes "max_batch_shift")) (λ max_batch_shift.
+      needs _ _ _ true (held_byte 0 31 (codes "max_xfer_shift")) (λ max_xfer_shift. refl))))))))
+
+  capacity_has : is_some (whole_of (2 ^ 64) (codes "capacity") d) ≡ fits (held 64 0 (2 ^ 20)) (get (codes "capacity") d)
+  capacity_has = at_held (2 ^ 64) (2 ^ 64 - 1) 0 (2 ^ 20) refl (get (codes "capacity") d)
+
+-- caps are an object
+caps_in : (o : Option Data) → is_some (option_and_then caps_of o) ≡ (fits form.Object o && has_caps o)
+caps_in None = refl
+caps_in (Some null) = refl
+caps_in (Some (boolean b)) = refl
+caps_in (Some (number n)) = refl
+caps_in (Some (string s)) = refl
+caps_in (Some (array ds)) = refl
+caps_in (Some (object ms)) = caps_have (object ms)
+
+array_in : (o : Option Data) → is_some (option_and_then as_array o) ≡ fits form.Array o
+array_in None = refl
+array_in (Some d) = refl
+
+-- the same two in another order
+in_order : (a b c d : Bool) → ((a && b) && (c && (d && true))) ≡ ((a && (c && (d && true))) && b)
+in_order false b c d = refl
+in_order true false c d = sym (and-false (c && (d && true)))
+in_order true true c d = sym (and-true (c && (d && true)))
+
+pub head_has : (d : Data) → is_some (head_of d) ≡ (has_rows d document_rows && has_caps (get (codes "caps") d))
+head_has d =
+    needs _ _ _ _ (caps_in (get (codes "caps") d)) (λ caps. needs _ _ _ _ (capacity_has d) (λ capacity.
+    needs _ _ _ true (array_in (get (codes "steps") d)) (λ steps. refl)))
+    ∙ in_order (fits form.Object (get (codes "caps") d)) (has_caps (get (codes "caps") d))
+    (fits (held 64 0 (2 ^ 20)) (get (codes "capacity") d)) (fits form.Array (get (codes "steps") d))
+
+-- ---- devices and histories
+
+-- a number that was read lies between these exactly where one stands there that does
+lies_below : (limit least upto m n : ℕ) (b : Bool) → nat_lt m limit ≡ b → (if b then Some m else None) ≡ Some n
+    → is_between least upto (Some m) ≡ (nat_le least n && nat_le n upto)
+lies_below limit least upto m n true e h =
+    let same : m ≡ n = cc in
+    rw same refl
+lies_below limit least upto m n false e h = absurd cc
+
+lies_at : (limit least upto n : ℕ) (o : Option ℕ) → option_and_then (below limit) o ≡ Some n
+    → is_between least upto o ≡ (nat_le least n && nat_le n upto)
+lies_at limit least upto n None h = absurd cc
+lies_at limit least upto n (Some m) h = lies_below limit least upto m n (nat_lt m limit) refl h
+
+lies : (limit least upto n : ℕ) (o : Option Data)
+    → option_and_then (below limit) (option_and_then as_u64 (option_and_then as_number o)) ≡ Some n
+    → fits (form.Whole least upto) o ≡ (nat_le least n && nat_le n upto)
+lies limit least upto n None h = absurd cc
+lies limit least upto n (Some d) h = lies_at limit least upto n (option_and_then as_u64 (as_number d)) h
+
+-- what is so of all that a value leads to
+so_of : {A B : Type 0} (o : Option A) (f : A → Option B) (P : B → Type 0) → ((a : A) → o ≡ Some a → IfSome (f a) P)
+    → IfSome (option_and_then f o) P
+so_of None f P h = tt
+so_of (Some a) f P h = h a refl
+
+none_below : (n : ℕ) → nat_le 0 n ≡ true
+none_below n = grind (arith, nat_tests)
+
+pub device_has : (d : Data) → IfSome (caps_of d) (λ caps. check_caps caps ≡ has_rows d device_rows)
+device_has d =
+    so_of (whole_of (2 ^ 16) (codes "queues") d) _ _ (λ queues e1.
+    so_of (whole_of (2 ^ 16) (codes "groups") d) _ _ (λ groups e2.
+    so_of (whole_of (2 ^ 16) (codes "engines") d) _ _ (λ engines e3.
+    so_of (whole_of (2 ^ 16) (codes "total_size") d) _ _ (λ total_size e4.
+    so_of (whole_of (2 ^ 16) (codes "read_buffers") d) _ _ (λ read_buffers e5.
+    so_of (whole_of (2 ^ 16) (codes "slots") d) _ _ (λ slots e6.
+    so_of (whole_of (2 ^ 8) (codes "max_batch_shift") d) _ _ (λ max_batch_shift e7.
+    so_of (whole_of (2 ^ 8) (codes "max_xfer_shift") d) _ _ (λ max_xfer_shift e8.
+    rw (
+      lies (2 ^ 16) 1 64 queues (get (codes "queues") d) e1,
+      lies (2 ^ 16) 1 8 groups (get (codes "groups") d) e2,
+      lies (2 ^ 16) 1 64 engines (get (codes "engines") d) e3,
+      lies (2 ^ 16) 1 4096 total_size (get (codes "total_size") d) e4,
+      lies (2 ^ 16) 1 255 read_buffers (get (codes "read_buffers") d) e5,
+      lies (2 ^ 16) 1 16 slots (get (codes "slots") d) e6,
+      lies (2 ^ 8) 1 10 max_batch_shift (get (codes "max_batch_shift") d) e7,
+      lies (2 ^ 8) 0 31 max_xfer_shift (get (codes "max_xfer_shift") d) e8,
+      none_below max_xfer_shift,
+    ) (simp (and_assoc, and-true))))))))))

@@ -9,7 +9,7 @@ use Rattle.serde_json.specs.Find.{as_number, as_bool, as_str, as_array, as_objec
 use Rattle.dsa_scenario.specs.Fields.{hex_bytes_of, text_of}
 use Rattle.dsa_check.specs.declared.fields.{Form.{Form}, Found.{Found}, Key.{Key}}
 use Rattle.dsa_check.specs.declared.{finding.Reason.{Reason}, kinds.StepKind.{StepKind}}
-use Rattle.dsa_check.specs.Steps.{Row, rows_of, kind_named, kind_of}
+use Rattle.dsa_check.specs.Steps.{Row, rows_of, caps_rows, kind_named, kind_of}
 use Rattle.dsa_check.specs.declared.fields.Form.TheVariants as form
 use Rattle.dsa_check.specs.declared.finding.Reason.TheVariants as reason
 use Rattle.dsa_check.specs.declared.fields.Found.TheVariants as found
@@ -88,6 +88,11 @@ is_step_of d (Some kind) = has_rows d (rows_of kind)
 
 abbrev pub is_step : Data → Bool
 is_step d = is_step_of d (kind_of d)
+
+-- the value is there, and is caps
+abbrev pub has_caps : Option Data → Bool
+has_caps None = false
+has_caps (Some caps) = has_rows caps caps_rows
 
 -- ---- the reasons of an object
 
