@@ -1,1 +1,4 @@
 pub mod Waits
+pub mod After
+pub mod Wants
+pub mod Drains

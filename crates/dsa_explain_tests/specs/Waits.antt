@@ -3,8 +3,12 @@ use Rattle.std.specs.Prelude.{ℕ, List, Option, option_map, option_and_then}
 use Rattle.dsa_regs.specs.declared.{Command.{Command}, layout.ListUse.{ListUse}}
 use Rattle.dsa_book.specs.declared.event.Step.{Step}
 use Rattle.dsa_worked.specs.Setup.{state_after}
-use Rattle.dsa_explain.specs.declared.awaiting.WaitReason.{WaitReason}
+use Rattle.dsa_explain.specs.declared.{awaiting.WaitReason.{WaitReason}, held.Held.{Held}}
 use Rattle.dsa_explain.specs.Command.{wait_of_active, wait_reason}
+
+-- an entry by its name, and its list
+abbrev pub place : Held → ℕ × ListUse
+place held = (held.entry.name, held.list)
 
 -- how many entries are waited for, and the first by its name and its list
 abbrev pub numbers : WaitReason → ℕ × ℕ × ListUse

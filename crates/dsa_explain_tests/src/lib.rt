@@ -1,8 +1,11 @@
-//! Tests of reasons that no sentence of an explanation tells: the entries that an abort would end, the read buffers that are
-//! kept for a group, queues of which an engine is told nothing, and an engine of no group whose member does not start. The
-//! explanations of the examples have each other reason.
+//! Worked rows of the reasons, and of the sentences that tell them. Beside them tests of what no sentence of an explanation
+//! tells: the entries that an abort would end, the read buffers that are kept for a group, and queues of which an engine is told
+//! nothing. The explanations of the examples have each other reason.
 #![tactic(auto)]
 
-pub mod rows;
+pub mod commands;
+pub mod dispatch;
+pub mod members;
+pub mod submissions;
 #[cfg(test)]
 mod untold;
