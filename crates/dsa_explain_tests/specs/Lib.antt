@@ -2,3 +2,4 @@ pub mod Waits
 pub mod After
 pub mod Wants
 pub mod Drains
+pub mod Checks

@@ -3,6 +3,7 @@
 //! nothing. The explanations of the examples have each other reason.
 #![tactic(auto)]
 
+pub mod checks;
 pub mod commands;
 pub mod dispatch;
 pub mod members;

@@ -1,0 +1,17 @@
+-- Groups with one change to those of the set-up.
+use Rattle.std.specs.Prelude.{List, [], ◌∷◌}
+use Rattle.dsa_regs.specs.{declared.GroupConfig.{GroupConfig}, Worked.{first_group}}
+
+abbrev pub pair : GroupConfig → GroupConfig → List GroupConfig
+pair first second = first ∷ second ∷ []
+
+-- the first group as it is
+abbrev pub pair_with : GroupConfig → List GroupConfig
+pair_with second = pair first_group second
+
+-- three groups, each with the queue and the engine of its number
+abbrev pub trio_with : GroupConfig → List GroupConfig
+trio_with third = first_group ∷ record first_group { queues = 2; engines = 2 } ∷ third ∷ []
+
+abbrev pub three : List GroupConfig
+three = trio_with (record first_group { queues = 4; engines = 4 })
