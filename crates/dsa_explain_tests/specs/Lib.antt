@@ -3,3 +3,4 @@ pub mod After
 pub mod Wants
 pub mod Drains
 pub mod Checks
+pub mod Sentences

@@ -7,6 +7,7 @@ pub mod checks;
 pub mod commands;
 pub mod dispatch;
 pub mod members;
+pub mod sentences;
 pub mod submissions;
 #[cfg(test)]
 mod untold;
