@@ -4,3 +4,5 @@ pub mod Wants
 pub mod Drains
 pub mod Checks
 pub mod Sentences
+pub mod Parts
+pub mod Lines

@@ -6,7 +6,9 @@
 pub mod checks;
 pub mod commands;
 pub mod dispatch;
+pub mod lines;
 pub mod members;
+pub mod parts;
 pub mod sentences;
 pub mod submissions;
 #[cfg(test)]

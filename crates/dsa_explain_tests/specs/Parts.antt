@@ -1,0 +1,14 @@
+-- What is told behind an answer.
+use Rattle.std.specs.Prelude.{ℕ, List, Option, unwrap_or}
+use Rattle.dsa_regs.specs.Worked.{caps}
+use Rattle.dsa_book.specs.{declared.event.Step.{Step}, Machine.{replay}, State.{Setup, opening}}
+use Rattle.dsa_explain_lines.specs.Parts.{event_part}
+use Rattle.dsa_explain_tests.specs.After.{told_after}
+
+-- what is told of a step after these
+abbrev pub told : List Step → Step → Option (List ℕ)
+told before step = told_after (λ s. event_part s step.event) before
+
+-- what is configured after these steps alone
+abbrev pub setup_of : List Step → Setup
+setup_of steps = (unwrap_or (replay caps steps) (opening caps)).work.setup
