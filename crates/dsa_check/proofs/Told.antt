@@ -11,10 +11,12 @@ use Rattle.std.proofs.lemmas.Option.{slice_get-get_or}
 use Rattle.serde_json.specs.{Data.{Data, null, boolean, number, string, array, object}, Find.{get, as_object}}
 use Rattle.serde_json.specs.{View.{view}, declared.value.Value.{Value}}
 use Rattle.serde_json.specs.Read.{read}
+use Rattle.dsa_scenario.specs.Document.{IsJson}
 use Rattle.dsa_check.specs.declared.{fields.Field.{Field}, fields.Key.{Key}}
 use Rattle.dsa_check.specs.declared.finding.Reason.{Reason, TheVariants.{Missing, Misspelled}}
 use Rattle.dsa_check.specs.declared.finding.Finding.{Finding}
-use Rattle.dsa_check.specs.Findings.{Appends, AppendsAll, AreInCaps, IsFindingOf, IsFindingIn, IsFounded, AreFounded}
+use Rattle.dsa_check.specs.Findings.{Appends, AppendsAll, AreInCaps, IsFindingOf, IsFindingIn, IsFounded}
+use Rattle.dsa_check.specs.Findings.{AreFounded}
 use Rattle.dsa_check.specs.Judgement.{steps_of}
 use Rattle.dsa_check.specs.Reasons.{is_unfit, IsStrayKey, IsReasonAt, AreReasonsAt, AreReasonsOf}
 use Rattle.dsa_check.specs.Steps.{Row, row_of, caps_rows}
@@ -97,12 +99,15 @@ pub founded_in : (d : Data) (finding : Finding) → IsFindingIn (steps_of d) fin
 founded_in d finding h = rw h.1 h.2
 
 -- the bytes are no other value
-pub founded_as : (bytes : List ℕ) (d : Data) → read bytes ≡ Some d → (findings : List Finding)
+same_value : (bytes : List ℕ) (d other : Data) → read bytes ≡ Some d → read bytes ≡ Some other → d ≡ other
+same_value bytes d other is are = cc
+
+pub founded_as : (bytes : List ℕ) (d : Data) → IsJson bytes d → (findings : List Finding)
     → AllByRecursion (IsFounded d) findings → AreFounded bytes findings
-founded_as bytes d is findings h other json =
-    let same : Some d ≡ Some other = sym is ∙ json.value in
-    let d-is : d ≡ other = cc in
-    rw (← d-is) h
+founded_as bytes d is findings h = record {
+  json = λ other json. rw (← same_value bytes d other is.value json.value) h;
+  text = λ none. let no : Some d ≡ None = sym is.value ∙ none is.utf8 in absurd cc;
+}
 
 -- ---- reasons
 

@@ -1,12 +1,12 @@
 -- What a finding tells, and that it is so of the document.
 use Rattle.std.specs.Prelude.{◌≡◌, ℕ, ◌++◌, true, false, List, [], ◌∷◌, slice_get, codes, Option, Some, None}
-use Rattle.std.specs.Prelude.{IsSomeAnd, MatchOption}
+use Rattle.std.specs.Prelude.{IsSomeAnd, MatchOption, is_some, ⊤}
 use Rattle.std.specs.List.{AllByRecursion}
 use Rattle.serde_json.specs.{Data.{Data}, Find.{get, as_object}}
 use Rattle.dsa_scenario.specs.declared.faults.ScenarioFault.{ScenarioFault, TheVariants.{BadDocument, BadStep, BadCaps}}
 use Rattle.dsa_scenario.specs.declared.faults.ScenarioFault.TheVariants.{BadCapacity}
-use Rattle.dsa_scenario.specs.Document.{IsJson}
-use Rattle.dsa_check.specs.declared.finding.{Finding.{Finding}, Reason.{Reason, TheVariants.{NoObject}}}
+use Rattle.dsa_scenario.specs.Document.{IsJson, IsNoJson}
+use Rattle.dsa_check.specs.declared.finding.{Finding.{Finding}, Reason.{Reason, TheVariants.{NoObject, Syntax}}}
 use Rattle.dsa_check.specs.Judgement.{steps_of}
 use Rattle.dsa_check.specs.Reasons.{found_of, AreReasonsOf, AreStepReasons}
 use Rattle.dsa_check.specs.Steps.{kind_of, document_rows, caps_rows, device_rows, history_rows}
@@ -57,9 +57,21 @@ TellsWhy d finding _ = ⊥
 abbrev pub IsFounded : Data → Finding → Type 0
 IsFounded d finding = TellsWhy d finding finding.fault
 
--- where the bytes are JSON, each finding tells why
-abbrev pub AreFounded : List ℕ → List Finding → Type 0
-AreFounded bytes findings = (d : Data) → IsJson bytes d → AllByRecursion (IsFounded d) findings
+-- the reason is of a text that is no JSON
+abbrev pub IsOfText : Reason → Type 0
+IsOfText (Syntax syntax) = ⊤
+IsOfText _ = ⊥
+
+-- the finding has a place in a text, and reasons of that
+pub record IsInText (finding : Finding) : Type 0 where
+  pub line : is_some finding.place.line ≡ true
+  pub column : is_some finding.place.column ≡ true
+  pub reasons : AllByRecursion IsOfText finding.reasons.items
+
+-- each finding tells why: of the JSON value that the bytes are, or of bytes that are none
+pub record AreFounded (bytes : List ℕ) (findings : List Finding) : Type 0 where
+  pub json : (d : Data) → IsJson bytes d → AllByRecursion (IsFounded d) findings
+  pub text : IsNoJson bytes → AllByRecursion IsInText findings
 
 -- ---- what is added to a list
 

@@ -131,9 +131,15 @@ AreReasonsOf d rows in_caps reasons = AreReasonsAt d rows in_caps rows reasons
 abbrev pub kind_row : Row
 kind_row = (codes "do", form.Text)
 
--- the text is told as it stands, or not at all, and it names no kind
-abbrev pub IsNoKind : Option (String Global) → List ℕ → Type 0
-IsNoKind told name = (kind_named name ≡ None) × IfSome told (λ text. string_bytes text ≡ name)
+-- the text is short and of graphic ASCII and spaces (profile)
+abbrev pub is_plain : List ℕ → Bool
+is_plain text = nat_le (length text) 40 && list_all (λ byte. nat_le 32 byte && nat_le byte 126) text
+
+-- the text names no kind, and is told as it stands where it is plain
+pub record IsNoKind (told : Option (String Global)) (name : List ℕ) : Type 0 where
+  pub none : kind_named name ≡ None
+  pub plain : is_some told ≡ is_plain name
+  pub text : IfSome told (λ text. string_bytes text ≡ name)
 
 -- the reason says why the step names no kind
 abbrev pub IsKindReason : Data → Reason → Type 0

@@ -4,7 +4,7 @@ ghost use Rattle.std.specs.Prelude.{◌≡◌, ◌++◌, [], ◌∷◌, map, IfO
 ghost use Rattle.serde_json.specs.View.{view};
 ghost use Rattle.std.specs.List.{AllByRecursion};
 ghost use Rattle.dsa_scenario.specs.Actions.{action_of};
-ghost use Rattle.dsa_check.specs.Findings.{AppendsAll, IsFounded, IsFindingOf, IsFindingIn, AreFounded};
+ghost use Rattle.dsa_check.specs.Findings.{AppendsAll, IsFounded, IsOfText, IsInText, IsFindingOf, IsFindingIn, AreFounded};
 ghost use Rattle.dsa_check.specs.Judgement.{faults_told, AreFaultsOf, IsJudged, head_faults, steps_of, caps_at, capacity_at, fault_of_step, bad_steps, caps_faults, capacity_faults, faults_of};
 
 use crate::finding::{Finding, Place, Reason};
@@ -42,7 +42,9 @@ fn flaw_of(
     alloc: Global,
     bytes: &[u8],
     error: &Error,
-) -> Result<(usize, usize, Vec<Reason>), AllocError> {
+) -> Result<(usize, usize, Vec<Reason>), AllocError>
+    ensures { IfOk result (λ flaw. AllByRecursion IsOfText flaw.2.items) }
+{
     let (line, column) = (error.line(), error.column());
     if str::from_utf8(bytes).is_err() {
         return Ok((
@@ -66,7 +68,8 @@ fn flaw_of(
 
 // What is wrong with bytes that are no JSON.
 fn no_json(alloc: Global, bytes: &[u8], error: &Error) -> Result<Vec<Finding>, AllocError>
-    ensures { IfOk result (λ findings. faults_told findings.items ≡ ScenarioFault.NotJson ∷ []) }
+    ensures faults { IfOk result (λ findings. faults_told findings.items ≡ ScenarioFault.NotJson ∷ []) }
+    ensures told { IfOk result (λ findings. AllByRecursion IsInText findings.items) }
 {
     let (line, column, reasons) = flaw_of(alloc, bytes, error)?;
     let place = Place {

@@ -89,7 +89,7 @@ pub fn reasons_that_are_so()
     ensures odd { (key : Key) → IsReasonOf key form.Digits (Some (string (codes "000"))) (OddDigits key 3) }
     ensures letter { (key : Key) → IsReasonOf key form.Digits (Some (string (codes "0g"))) (NoDigit key 2) }
     ensures item { AreStepReasons null (NoObject found.Null ∷ []) }
-    ensures kind { IsKindReason (object_of (step_of_kind (codes "polls") [])) (UnknownKind None (Some Poll)) }
+    ensures kind { IsKindReason (object_of (step_of_kind (codes "poll\n") [])) (UnknownKind None None) }
 {}
 
 /// Reasons that are not.
@@ -106,5 +106,6 @@ pub fn reasons_that_are_not_so()
     ensures first { (key : Key) → AreReasonsOf (object_of []) (rows_of Finish) false (Missing key ∷ []) → ⊥ }
     ensures right { (key : Key) → AreReasonsOf (object_of finish_step) (rows_of Finish) false (Missing key ∷ []) → ⊥ }
     ensures silent { AreStepReasons null [] → ⊥ }
+    ensures untold { IsKindReason (object_of (step_of_kind (codes "polls") [])) (UnknownKind None (Some Poll)) → ⊥ }
     ensures known { IsKindReason (object_of poll_step) (UnknownKind None None) → ⊥ }
 {}

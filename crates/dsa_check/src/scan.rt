@@ -1,5 +1,8 @@
 //! Where a text is no JSON.
 
+ghost use Rattle.std.specs.Prelude.{◌≡◌, is_some};
+ghost use Rattle.std.specs.Char.{is_ascii_hexdigit};
+
 use crate::syntax::Wanted;
 use serde_json::Value;
 use std::alloc::{AllocError, Global};
@@ -78,7 +81,9 @@ fn is_in_range(alloc: Global, number: &[u8]) -> Result<bool, AllocError> {
     }
 }
 
-fn hex_value(byte: u8) -> Option<u32> {
+fn hex_value(byte: u8) -> Option<u32>
+    ensures { is_some result ≡ is_ascii_hexdigit byte }
+{
     match byte {
         b'0'..=b'9' => Some((byte - b'0') as u32),
         b'a'..=b'f' => Some((byte - b'a') as u32 + 10),

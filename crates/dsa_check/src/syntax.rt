@@ -1,5 +1,8 @@
 //! What is wrong with a text that is no JSON.
 
+ghost use Rattle.std.specs.Prelude.{◌≡◌};
+ghost use Rattle.dsa_check.specs.Reasons.{is_plain};
+
 use crate::scan::Flaw;
 use std::alloc::{AllocError, Global};
 use std::str;
@@ -103,7 +106,9 @@ fn is_between(wanted: Wanted) -> bool {
 }
 
 /// Whether a text can be told as it stands.
-pub fn is_plain(text: &str) -> bool {
+pub fn is_plain(text: &str) -> bool
+    ensures { result ≡ is_plain text.now }
+{
     text.len() <= MOST_TOLD && text.bytes().all(|byte| byte >= b' ' && byte <= b'~')
 }
 

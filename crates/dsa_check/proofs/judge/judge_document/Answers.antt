@@ -20,5 +20,5 @@ pub returns-in-Ok-clause-told : goal.returns-in-Ok-clause-told
 returns-in-Ok-clause-told c =
     IfOk-weaker c.judge_value.result (λ findings. AllByRecursion (IsFounded (view c.in-Ok.document)) findings.items)
     (λ findings. AreFounded c.args.bytes.now findings.items)
-    (λ findings h. founded_as c.args.bytes.now (view c.in-Ok.document) c.in-Ok.ensures.ok.1 findings.items h)
-    c.judge_value.ensures.told
+    (λ findings h. founded_as c.args.bytes.now (view c.in-Ok.document)
+    (record { utf8 = c.in-Ok.ensures.ok.0; value = c.in-Ok.ensures.ok.1 }) findings.items h) c.judge_value.ensures.told
