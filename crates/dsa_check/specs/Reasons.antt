@@ -100,9 +100,15 @@ has_caps (Some caps) = has_rows caps caps_rows
 abbrev pub is_asked : List Row → List ℕ → Bool
 is_asked rows name = bytes_eq name (codes "do") || list_any (λ row. bytes_eq row.0 name) rows
 
--- the key stands in the object, and nobody asks for it
-abbrev pub IsStrayKey : Data → List Row → List ℕ → Type 0
-IsStrayKey d rows name = (is_some (get name d) ≡ true) × (is_asked rows name ≡ false)
+-- the text is short and of graphic ASCII and spaces (profile)
+abbrev pub is_plain : List ℕ → Bool
+is_plain text = nat_le (length text) 40 && list_all (λ byte. nat_le 32 byte && nat_le byte 126) text
+
+-- the key stands in the object, nobody asks for it, and it can be told as it stands
+pub record IsStrayKey (d : Data) (rows : List Row) (name : List ℕ) : Type 0 where
+  pub inside : is_some (get name d) ≡ true
+  pub strange : is_asked rows name ≡ false
+  pub plain : is_plain name ≡ true
 
 -- a key that is told as the spelling of another is such a one
 abbrev pub HasStrayKey : Data → List Row → Reason → Type 0
@@ -130,10 +136,6 @@ AreReasonsOf d rows in_caps reasons = AreReasonsAt d rows in_caps rows reasons
 -- the key that says the kind
 abbrev pub kind_row : Row
 kind_row = (codes "do", form.Text)
-
--- the text is short and of graphic ASCII and spaces (profile)
-abbrev pub is_plain : List ℕ → Bool
-is_plain text = nat_le (length text) 40 && list_all (λ byte. nat_le 32 byte && nat_le byte 126) text
 
 -- the text names no kind, and is told as it stands where it is plain
 pub record IsNoKind (told : Option (String Global)) (name : List ℕ) : Type 0 where

@@ -1,10 +1,10 @@
 //! What is wrong with an object.
 
-ghost use Rattle.std.specs.Prelude.{◌≡◌, [], ◌∷◌, map, codes, false, is_some, Some, None, IfOk, OnOk, IfSome, string_bytes};
+ghost use Rattle.std.specs.Prelude.{◌≡◌, [], ◌∷◌, map, codes, true, false, is_some, Some, None, IfOk, OnOk, IfSome, string_bytes};
 ghost use Rattle.serde_json.specs.View.{view};
 ghost use Rattle.serde_json.specs.Find.{get, as_str};
 ghost use Rattle.dsa_check.specs.Findings.{Appends, AreInCaps, AreDocumentReasons};
-ghost use Rattle.dsa_check.specs.Reasons.{IsReasonOf, IsDigitsReason, IsTextReason, is_unfit, is_asked, IsStrayKey, IsReasonAt, AreReasonsAt, AreReasonsOf, IsKindReason, AreStepReasons};
+ghost use Rattle.dsa_check.specs.Reasons.{IsReasonOf, IsDigitsReason, IsTextReason, is_unfit, is_plain, is_asked, IsStrayKey, IsReasonAt, AreReasonsAt, AreReasonsOf, IsKindReason, AreStepReasons};
 ghost use Rattle.dsa_check.specs.Steps.{row_of, kind_of, device_rows, history_rows};
 
 use crate::fields::{Field, Form, Key, found_in, is_of};
@@ -35,7 +35,9 @@ fn has_letters_of(name: &str, other: &str) -> bool {
 }
 
 // How far the other name is from this one, where it is spelled nearly so.
-fn distance_of(alloc: Global, name: &str, other: &str) -> Result<Option<usize>, AllocError> {
+fn distance_of(alloc: Global, name: &str, other: &str) -> Result<Option<usize>, AllocError>
+    ensures { IfOk result (λ distance. IfSome distance (λ _. is_plain other.now ≡ true)) }
+{
     if !is_plain(other) {
         return Ok(None);
     }
