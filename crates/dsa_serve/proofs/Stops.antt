@@ -1,8 +1,8 @@
 -- A dialogue after one read more, and where a fault ends it.
-use Rattle.std.proofs.Common.{◌≡◌, ◌≢◌, ◌⊎◌, ◌<◌, ◌≤◌, ◌+◌, ◌^◌, ℕ, false, Bool, List, [], ◌++◌, Option, length, take}
-use Rattle.std.proofs.Common.{refl, ap, ◌∙◌, arith, Result, Ok, Err, IfErr}
+use Rattle.std.proofs.Common.{◌≡◌, ◌≢◌, ◌⊎◌, ◌<◌, ◌≤◌, ◌+◌, ◌^◌, ℕ, true, false, Bool, List, [], ◌∷◌, ◌++◌}
+use Rattle.std.proofs.Common.{Option, length, take, refl, ap, ◌∙◌, arith, Result, Ok, Err, IfErr}
 use Rattle.std.proofs.Common.{append_assoc, append-nil, length-append, length-take, drop, inl, inr}
-use Rattle.std.proofs.{Math.Seq.{take-append-add}, lemmas.List.Elements.{All-nil}}
+use Rattle.std.proofs.{Math.Seq.{take-append-add}}
 use Rattle.std.proofs.lemmas.List.{take-append-drop}
 use Rattle.memchr.specs.Find.{NoneBefore, Passes, is_byte}
 use Rattle.std.specs.Io.KnownBytes.{Consumes, Appends, Keeps}
@@ -16,7 +16,8 @@ use Rattle.dsa_scenario.specs.declared.faults.ScenarioFault.TheVariants.{Differs
 use Rattle.dsa_scenario.specs.declared.faults.ScenarioFault.TheVariants.{BadCaps, BadCapacity}
 use Rattle.dsa_scenario.specs.Document.{IsFaultOf}
 use Rattle.dsa_serve.specs.Input.{IsLine, IsFront}
-use Rattle.dsa_serve.specs.Dialogue.{IsEnded, AnswersWhole, AnswersAll, IsServing, IsInCourse, IsLate, IsStopped}
+use Rattle.dsa_serve.specs.Dialogue.{IsEnded, AnswersWhole, AnswersAll, IsServing, IsInCourse, IsLate}
+use Rattle.dsa_serve.specs.Dialogue.{IsStoppedWithin, IsStopped}
 use Rattle.dsa_serve.proofs.{Courses.{whole_answered}, Lines.{front_cut}}
 
 -- a first part and the front of a second are a front of both
@@ -82,27 +83,30 @@ read_stops ended had left left' held holds number now tickets kept keeps h = (
 )
 
 -- want of memory
-pub memory_stops : (ended : Bool) (had left left' held holds : Option (List ℕ)) (bytes : List ℕ) (number : ℕ)
-    (now : Running) (tickets : List Ticket) (kept : List ℕ) → Consumes left left' bytes
-    → IsInCourse ended had left held holds number now tickets kept → IsStopped OutOfMemory had left' held holds
-memory_stops ended had left left' held holds bytes number now tickets kept reads h = (
+pub memory_stops : (room : ℕ) (ended : Bool) (had left left' held holds : Option (List ℕ)) (bytes : List ℕ)
+    (number : ℕ) (now : Running) (tickets : List Ticket) (kept : List ℕ) → Consumes left left' bytes
+    → length bytes ≤ room → IsInCourse ended had left held holds number now tickets kept
+    → IsStoppedWithin room OutOfMemory had left' held holds
+memory_stops room ended had left left' held holds bytes number now tickets kept reads few h = (
   h.input,
   bytes,
   h.output,
   Consumes-trans had left left' h.input bytes h.read reads,
+  few,
   inr (course_answered ended had left held holds number now tickets kept h),
   h.written,
 )
 
 -- an error of the reader, or want of memory before it is asked
-pub unread_stops : (had left left' held holds : Option (List ℕ)) (e : ScenarioFault) (number : ℕ) (now : Running)
-    (tickets : List Ticket) (kept : List ℕ) → Keeps left left' → (e ≡ Read) ⊎ (e ≡ OutOfMemory)
-    → IsInCourse false had left held holds number now tickets kept → IsStopped e had left' held holds
-unread_stops had left left' held holds e number now tickets kept keeps (inl is) h =
+pub unread_stops : (room : ℕ) (had left left' held holds : Option (List ℕ)) (e : ScenarioFault)
+    (number : ℕ) (now : Running) (tickets : List Ticket) (kept : List ℕ) → Keeps left left'
+    → (e ≡ Read) ⊎ (e ≡ OutOfMemory) → IsInCourse false had left held holds number now tickets kept
+    → IsStoppedWithin room e had left' held holds
+unread_stops room had left left' held holds e number now tickets kept keeps (inl is) h =
     rw is (read_stops false had left left' held holds number now tickets kept keeps h)
-unread_stops had left left' held holds e number now tickets kept keeps (inr is) h =
+unread_stops room had left left' held holds e number now tickets kept keeps (inr is) h =
     let reads = Consumes-kept left left left' [] (Consumes-nil left) keeps in
-    rw is (memory_stops false had left left' held holds [] number now tickets kept reads h)
+    rw is (memory_stops room false had left left' held holds [] number now tickets kept reads (omega arith) h)
 
 -- a write that is refused in a turn
 pub write_stops : (had left left' held holds holds' : Option (List ℕ)) (bytes text : List ℕ) (count : ℕ)
@@ -190,62 +194,65 @@ pub ends_blank : (old text seen : List ℕ) (number : ℕ) (now : Running) (tick
 ends_blank old text seen number now tickets kept blank same on first behind output h =
     rw same (on first behind output (rw (blank, append-nil output) h))
 
--- a first line that is no document, or want of memory before one is
-pub opening_stops : (had left held : Option (List ℕ)) (input first behind : List ℕ) (ended : Bool) (e : ScenarioFault)
-    → Consumes had left input → IsLine first → length first ≤ 2 ^ 20 → IsFront ended input first behind
-    → (e ≡ OutOfMemory) ⊎ IsFaultOf first e → IsStopped e had left held held
-opening_stops had left held input first behind ended e reads line short front (inl h) =
-    rw h ([], input, [], reads, inl (All-nil (λ b. b ≢ 10), omega arith, refl), Appends-nil held)
-opening_stops had left held input first behind ended Read reads line short front (inr h) = absurd h
-opening_stops had left held input first behind ended TooLong reads line short front (inr h) = absurd h
-opening_stops had left held input first behind ended Write reads line short front (inr h) = absurd h
-opening_stops had left held input first behind ended (Differs i) reads line short front (inr h) = absurd h
-opening_stops had left held input first behind ended OutOfMemory reads line short front (inr h) = absurd h
-opening_stops had left held input first behind ended NotJson reads line short front (inr h) =
-    (input, first, behind, reads, record { ended = ended; line = line; short = short; front = front }, h)
-opening_stops had left held input first behind ended BadDocument reads line short front (inr h) =
-    (input, first, behind, reads, record { ended = ended; line = line; short = short; front = front }, h)
-opening_stops had left held input first behind ended (BadStep i) reads line short front (inr h) =
-    (input, first, behind, reads, record { ended = ended; line = line; short = short; front = front }, h)
-opening_stops had left held input first behind ended BadCaps reads line short front (inr h) =
-    (input, first, behind, reads, record { ended = ended; line = line; short = short; front = front }, h)
-opening_stops had left held input first behind ended BadCapacity reads line short front (inr h) =
-    (input, first, behind, reads, record { ended = ended; line = line; short = short; front = front }, h)
+-- want of memory before the first line is whole, and after a read more
+pub memory_before : (room : ℕ) (had left held : Option (List ℕ)) (first more : List ℕ)
+    → Consumes had left (first ++ more) → IsLine first → length first ≤ 2 ^ 20 → length more ≤ room
+    → IsStoppedWithin room OutOfMemory had left held held
+memory_before room had left held first more reads line short few =
+    (first, more, [], reads, few, inl (line, short, refl), Appends-nil held)
 
--- want of memory before the first line is read
-pub memory_before : (had left held : Option (List ℕ)) (bytes : List ℕ) → Consumes had left bytes
-    → IsStopped OutOfMemory had left held held
-memory_before had left held bytes reads =
-    ([], bytes, [], reads, inl (All-nil (λ b. b ≢ 10), omega arith, refl), Appends-nil held)
+-- a first line that is no document, or want of memory before one is
+pub opening_stops : (room : ℕ) (had left held : Option (List ℕ)) (input first behind : List ℕ) (ended : Bool)
+    (e : ScenarioFault)
+    → Consumes had left input → IsLine first → length first ≤ 2 ^ 20 → IsFront ended input first behind
+    → (ended ≡ false → length behind < room) → (e ≡ OutOfMemory) ⊎ IsFaultOf first e
+    → IsStoppedWithin room e had left held held
+opening_stops room had left held input first behind false e reads line short front few (inl h) =
+    let split : input ≡ first ++ 10 ∷ behind = front ∙ append_assoc first (10 ∷ []) behind in
+    rw h (memory_before room had left held first (10 ∷ behind) (rw split at reads) line short
+    (let some = few refl in omega (arith, some)))
+opening_stops room had left held input first behind true e reads line short front few (inl h) =
+    let all = rw (front.0, ← append-nil first) at reads in
+    rw h (memory_before room had left held first [] all line short (omega arith))
+opening_stops room had left held input first behind ended Read reads line short front few (inr h) = absurd h
+opening_stops room had left held input first behind ended TooLong reads line short front few (inr h) = absurd h
+opening_stops room had left held input first behind ended Write reads line short front few (inr h) = absurd h
+opening_stops room had left held input first behind ended (Differs i) reads line short front few (inr h) = absurd h
+opening_stops room had left held input first behind ended OutOfMemory reads line short front few (inr h) = absurd h
+opening_stops room had left held input first behind ended NotJson reads line short front few (inr h) =
+    (input, first, behind, reads, record { ended = ended; line = line; short = short; front = front }, h)
+opening_stops room had left held input first behind ended BadDocument reads line short front few (inr h) =
+    (input, first, behind, reads, record { ended = ended; line = line; short = short; front = front }, h)
+opening_stops room had left held input first behind ended (BadStep i) reads line short front few (inr h) =
+    (input, first, behind, reads, record { ended = ended; line = line; short = short; front = front }, h)
+opening_stops room had left held input first behind ended BadCaps reads line short front few (inr h) =
+    (input, first, behind, reads, record { ended = ended; line = line; short = short; front = front }, h)
+opening_stops room had left held input first behind ended BadCapacity reads line short front few (inr h) =
+    (input, first, behind, reads, record { ended = ended; line = line; short = short; front = front }, h)
 
 -- an error of the reader, or want of memory, where the first line is not whole
-pub first_read_stops : (had left left' held : Option (List ℕ)) (first : List ℕ) (e : ScenarioFault)
+pub first_read_stops : (room : ℕ) (had left left' held : Option (List ℕ)) (first : List ℕ) (e : ScenarioFault)
     → Consumes had left first → IsLine first → length first ≤ 2 ^ 20 → Keeps left left'
-    → (e ≡ Read) ⊎ (e ≡ OutOfMemory) → IsStopped e had left' held held
-first_read_stops had left left' held first e reads line short keeps (inl h) = rw h (
+    → (e ≡ Read) ⊎ (e ≡ OutOfMemory) → IsStoppedWithin room e had left' held held
+first_read_stops room had left left' held first e reads line short keeps (inl h) = rw h (
   first,
   [],
   Consumes-kept had left left' first reads keeps,
   inl (line, short, refl),
   Appends-nil held,
 )
-first_read_stops had left left' held first e reads line short keeps (inr h) = rw h (
-  first,
-  [],
-  [],
-  rw (append-nil first) (Consumes-kept had left left' first reads keeps),
-  inl (line, short, refl),
-  Appends-nil held,
-)
+first_read_stops room had left left' held first e reads line short keeps (inr h) =
+    let kept = Consumes-kept had left left' first reads keeps in
+    rw h (memory_before room had left' held first [] (rw (append-nil first) kept) line short (omega arith))
 
 -- want of memory, or more bytes than a line has, where the first line ends
-pub cut_stops : (had left held : Option (List ℕ)) (first piece : List ℕ) (at : ℕ) (e : ScenarioFault)
+pub cut_stops : (room : ℕ) (had left held : Option (List ℕ)) (first piece : List ℕ) (at : ℕ) (e : ScenarioFault)
     → NoneBefore (Passes (is_byte 10) piece) 0 (length piece) at × Passes (is_byte 10) piece at → IsLine first
-    → Consumes had left (first ++ piece) → (e ≡ OutOfMemory) ⊎ ((e ≡ TooLong) × (2 ^ 20 < length first + at))
-    → IsStopped e had left held held
-cut_stops had left held first piece at e found line reads (inl h) =
-    rw h (memory_before had left held (first ++ piece) reads)
-cut_stops had left held first piece at e found line reads (inr h) =
+    → length first ≤ 2 ^ 20 → length piece ≤ room → Consumes had left (first ++ piece)
+    → (e ≡ OutOfMemory) ⊎ ((e ≡ TooLong) × (2 ^ 20 < length first + at)) → IsStoppedWithin room e had left held held
+cut_stops room had left held first piece at e found line fits few reads (inl h) =
+    rw h (memory_before room had left held first piece reads line fits few)
+cut_stops room had left held first piece at e found line fits few reads (inr h) =
     let short = take at piece in
     let whole : (first ++ short) ++ drop at piece ≡ first ++ piece =
     append_assoc first short (drop at piece) ∙ ap (λ l. first ++ l) (take-append-drop at piece) in

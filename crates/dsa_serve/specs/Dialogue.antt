@@ -113,20 +113,25 @@ abbrev pub IsLate : ScenarioFault → Type 0
 IsLate fault = (fault ≡ Read) ⊎ (fault ≡ Write) ⊎ (fault ≡ OutOfMemory)
 
 -- what the reader gave, by the bytes that it had and has left, and what the writer took, by those that it held and
--- holds, where this fault ended the dialogue (profile)
-abbrev pub IsStopped : ScenarioFault → Option (List ℕ) → Option (List ℕ) → Option (List ℕ) → Option (List ℕ) → Type 0
-IsStopped Read had left held holds =
+-- holds, where this fault ended a dialogue whose reads give no more bytes than this (profile)
+abbrev pub IsStoppedWithin : ℕ → ScenarioFault → Option (List ℕ) → Option (List ℕ) → Option (List ℕ)
+    → Option (List ℕ) → Type 0
+IsStoppedWithin room Read had left held holds =
     (input : List ℕ) × (output : List ℕ) × Consumes had left input × AnswersSoFar input output
     × Appends held holds output
-IsStopped TooLong had left held holds =
+IsStoppedWithin room TooLong had left held holds =
     (first : List ℕ) × (more : List ℕ) × Consumes had left (first ++ more) × IsLine first × (2 ^ 20 < length first)
-IsStopped Write had left held holds =
+IsStoppedWithin room Write had left held holds =
     (input : List ℕ) × (output : List ℕ) × (count : ℕ) × Consumes had left input
     × (AnswersWhole input output ⊎ AnswersAll input output) × (count < length output)
     × Appends held holds (take count output)
-IsStopped OutOfMemory had left held holds =
+IsStoppedWithin room OutOfMemory had left held holds =
     (input : List ℕ) × (more : List ℕ) × (output : List ℕ) × Consumes had left (input ++ more)
-    × AnswersSoFar input output × Appends held holds output
-IsStopped fault had left held holds =
+    × (length more ≤ room) × AnswersSoFar input output × Appends held holds output
+IsStoppedWithin room fault had left held holds =
     (input : List ℕ) × (first : List ℕ) × (behind : List ℕ) × Consumes had left input × HasFirst input first behind
     × IsFaultOf first fault
+
+-- the same where a read gives at most 2^16 bytes (profile)
+abbrev pub IsStopped : ScenarioFault → Option (List ℕ) → Option (List ℕ) → Option (List ℕ) → Option (List ℕ) → Type 0
+IsStopped fault had left held holds = IsStoppedWithin (2 ^ 16) fault had left held holds

@@ -4,7 +4,7 @@ ghost use Rattle.std.specs.Prelude.{◌≡◌, ◌⊎◌, ◌<◌, ◌≤◌, �
 ghost use Rattle.std.specs.Io.KnownBytes.{Consumes, IsAtEnd};
 ghost use Rattle.dsa_scenario.specs.declared.faults.ScenarioFault.{ScenarioFault};
 ghost use Rattle.dsa_serve.specs.Input.{IsLine, IsFront};
-ghost use Rattle.dsa_serve.specs.Dialogue.{IsStopped};
+ghost use Rattle.dsa_serve.specs.Dialogue.{IsStoppedWithin};
 ghost use Rattle.dsa_serve.specs.Noted.{counted_remaining, given_by, IsSameReader, IsFailureNoted, IsAskedFor};
 
 use crate::counted::CountedReader;
@@ -65,7 +65,7 @@ pub fn read_first<R: Read>(
     ensures fits { IfOk result (λ front. vec_len front.first ≤ MAX_LINE) }
     ensures faults { IfErr result (λ e. (e ≡ ScenarioFault.Read) ⊎ (e ≡ ScenarioFault.TooLong) ⊎ (e ≡ ScenarioFault.OutOfMemory)) }
     ensures stopped { IfErr result (λ e. (held : Option (List ℕ))
-        → IsStopped e (counted_remaining R.remaining reader.old) (counted_remaining R.remaining reader.new) held held) }
+        → IsStoppedWithin (length chunk.old) e (counted_remaining R.remaining reader.old) (counted_remaining R.remaining reader.new) held held) }
 {
     let mut first = Vec::new(alloc);
     'reads: while first.len() <= MAX_LINE {
@@ -103,7 +103,7 @@ pub fn read_front<R: Read>(
     // What came behind the line feed came with it, in one read.
     ensures one_read { IfOk result (λ front. front.ended ≡ false → length front.behind.items < length chunk.old) }
     ensures stopped { IfErr result (λ e. (held : Option (List ℕ))
-        → IsStopped e (R.remaining reader.old) (R.remaining reader.new) held held) }
+        → IsStoppedWithin (length chunk.old) e (R.remaining reader.old) (R.remaining reader.new) held held) }
 {
     let mut reader = CountedReader::new(reader);
     read_first(alloc, &mut reader, chunk)

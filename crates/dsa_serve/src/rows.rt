@@ -134,6 +134,7 @@ pub fn stops()
     ensures longest { (first : List ℕ) → length first ≡ 1_048_576 → ¬ IsStopped ScenarioFault.TooLong (Some first) (Some []) (Some []) (Some []) }
     ensures nothing_to_write { ¬ IsStopped ScenarioFault.Write (Some (codes "1")) (Some []) (Some []) (Some []) }
     ensures memory { IsStopped ScenarioFault.OutOfMemory (Some (codes "1")) (Some []) (Some []) (Some []) }
+    ensures memory_after_a_long_line { (input : List ℕ) → IsLine input → length input ≡ 1_114_113 → ¬ IsStopped ScenarioFault.OutOfMemory (Some input) (Some []) (Some []) (Some []) }
     ensures document { IsStopped ScenarioFault.BadDocument (Some (codes "1")) (Some []) (Some []) (Some []) }
     ensures other_fault { ¬ IsStopped ScenarioFault.NotJson (Some (codes "1")) (Some []) (Some []) (Some []) }
 {}

@@ -5,7 +5,7 @@ ghost use Rattle.std.specs.Io.KnownBytes.{Consumes, IsAtEnd, Appends};
 ghost use Rattle.dsa_scenario.specs.declared.faults.ScenarioFault.{ScenarioFault};
 ghost use Rattle.dsa_scenario.specs.Watched.{watched_contents, IsSameWriter};
 ghost use Rattle.dsa_serve.specs.Noted.{counted_remaining, asked_of, IsSameReader, IsFailureNoted, IsRefusalTold, IsAskedFor};
-ghost use Rattle.dsa_serve.specs.Dialogue.{AnswersAll, IsInCourse, IsLate, IsStopped};
+ghost use Rattle.dsa_serve.specs.Dialogue.{AnswersAll, IsInCourse, IsLate, IsStoppedWithin, IsStopped};
 
 use crate::dialogue::Dialogue;
 use crate::counted::CountedReader;
@@ -46,7 +46,7 @@ fn start<R: Read, W: Write>(
         it.dialogue.session.tickets.items it.dialogue.kept.items) }
     ensures end { IfOk result (λ it. it.ended ≡ true → IsAtEnd (counted_remaining R.remaining reader.new)) }
     ensures nothing { IfErr result (λ e. e ≢ ScenarioFault.Write → writer.new ≡ writer.old) }
-    ensures stopped { IfErr result (λ e. IsStopped e (counted_remaining R.remaining reader.old) (counted_remaining R.remaining reader.new)
+    ensures stopped { IfErr result (λ e. IsStoppedWithin (length chunk.old) e (counted_remaining R.remaining reader.old) (counted_remaining R.remaining reader.new)
         (watched_contents W.contents writer.old) (watched_contents W.contents writer.new)) }
 {
     let front = read_first(alloc, reader, chunk)?;
@@ -88,7 +88,7 @@ fn turn<S: EntryStore, R: Read, W: Write>(
     ensures stopped { IfErr result (λ e. (had : Option (List ℕ)) (held : Option (List ℕ))
         → IsInCourse false had (counted_remaining R.remaining reader.old) held (watched_contents W.contents writer.old)
         dialogue.old.session.number dialogue.old.session.device dialogue.old.session.tickets.items dialogue.old.kept.items
-        → IsStopped e had (counted_remaining R.remaining reader.new) held (watched_contents W.contents writer.new)) }
+        → IsStoppedWithin (length chunk.old) e had (counted_remaining R.remaining reader.new) held (watched_contents W.contents writer.new)) }
 {
     let count = reader.read_once(chunk)?;
     text.clear();
@@ -121,7 +121,7 @@ fn serve_lines<S: EntryStore, R: Read, W: Write>(
     ensures stopped { IfErr result (λ e. (had : Option (List ℕ)) (held : Option (List ℕ))
         → IsInCourse false had (counted_remaining R.remaining reader.old) held (watched_contents W.contents writer.old)
         dialogue.old.session.number dialogue.old.session.device dialogue.old.session.tickets.items dialogue.old.kept.items
-        → IsStopped e had (counted_remaining R.remaining reader.new) held (watched_contents W.contents writer.new)) }
+        → IsStoppedWithin (length chunk.old) e had (counted_remaining R.remaining reader.new) held (watched_contents W.contents writer.new)) }
 {
     let mut text = String::new(alloc);
     'turns: while turn(alloc, dialogue, reader, chunk, &mut text, writer)? {}

@@ -7,15 +7,18 @@ use Rattle.dsa_serve.proofs.{Lines.{no_feed, front_cut}, Stops.{memory_before, f
 pub returns-in_err-count-clause-stopped : goal.returns-in_err-count-clause-stopped
 returns-in_err-count-clause-stopped g c =
     let p = err_from_is_err_and c.from_residual.result c.from_residual.ensures.1 in
-    rw (p.1, p.2) (λ held. first_read_stops _ _ _ held c.reads.first.items _ c.reads.invariant.taken
+    rw (p.1, p.2) (λ held. first_read_stops _ _ _ _ held c.reads.first.items _ c.reads.invariant.taken
     c.reads.invariant.line (omega (arith, c.reads-test.true, c.len.ensures, c.reads.first.ok.0))
     c.in_err-count.ensures.bytes c.in_err-count.ensures.faults)
 
 pub returns-in_err-cut-clause-stopped : goal.returns-in_err-cut-clause-stopped
 returns-in_err-cut-clause-stopped g c =
     let p = err_from_is_err_and c.from_residual-in_err-cut.result c.from_residual-in_err-cut.ensures.1 in
-    rw (p.1, p.2) (λ held. cut_stops _ _ held c.reads.first.items (take c.in_ok-count.count c.read_once.new.chunk)
+    rw (p.1, p.2) (λ held. cut_stops _ _ _ held c.reads.first.items (take c.in_ok-count.count c.read_once.new.chunk)
     c.in-Some.at _ c.in-Some.ensures c.reads.invariant.line
+    (omega (arith, c.reads-test.true, c.len.ensures, c.reads.first.ok.0))
+    (omega (arith, c.in_ok-count.ensures.bound.0, c.in_ok-count.ensures.bound.1, c.read_once.auto.chunk,
+    c.reads.auto.chunk))
     (Consumes-trans _ _ _ _ _ c.reads.invariant.taken c.in_ok-count.ensures.bytes.0) c.in_err-cut.ensures.faults)
 
 pub returns-in-Some-clause-bytes : goal.returns-in-Some-clause-bytes
@@ -33,9 +36,12 @@ pub returns-in_err-extend_from_slice-clause-stopped : goal.returns-in_err-extend
 returns-in_err-extend_from_slice-clause-stopped g c =
     let p = err_from_is_err_and c.from_residual-in_err-extend_from_slice.result
     c.from_residual-in_err-extend_from_slice.ensures.1 in
-    rw (p.1, p.2) (λ held. memory_before _ _ held
-    (c.reads.first.items ++ take c.in_ok-count.count c.read_once.new.chunk)
-    (Consumes-trans _ _ _ _ _ c.reads.invariant.taken c.in_ok-count.ensures.bytes.0))
+    rw (p.1, p.2) (λ held. memory_before _ _ _ held c.reads.first.items
+    (take c.in_ok-count.count c.read_once.new.chunk)
+    (Consumes-trans _ _ _ _ _ c.reads.invariant.taken c.in_ok-count.ensures.bytes.0) c.reads.invariant.line
+    (omega (arith, c.reads-test.true, c.len.ensures, c.reads.first.ok.0))
+    (omega (arith, c.in_ok-count.ensures.bound.0, c.in_ok-count.ensures.bound.1, c.read_once.auto.chunk,
+    c.reads.auto.chunk)))
 
 pub returns-in_err-cut-clause-asked : goal.returns-in_err-cut-clause-asked
 returns-in_err-cut-clause-asked g c =

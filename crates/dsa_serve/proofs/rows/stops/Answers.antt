@@ -3,7 +3,7 @@ use Rattle.std.proofs.Common.{◌≡◌, ◌≢◌, ◌≤◌, ◌^◌, ◌∙�
 use Rattle.std.proofs.Common.{◌∷◌, None, codes, refl, sym, ap, arith, subst}
 use Rattle.std.proofs.Common.{length, length-append, append_assoc, append-nil, inl, inr}
 use Rattle.std.specs.Prelude.{IsUtf8}
-use Rattle.std.proofs.{Math.Seq.{get_or-append_seam}, lemmas.List.Elements.{All-nil, All-cons}}
+use Rattle.std.proofs.{Math.{ListN.{get_or-append}, Seq.{get_or-append_seam}}, lemmas.List.Elements.{All-nil, All-cons}}
 use Rattle.dsa_scenario.specs.{Document.{head_of}}
 use Rattle.dsa_book.specs.State.{State}
 use Rattle.serde_json.{specs.{Data.{number, unsigned}, Read.{read}}, proofs.OnLiterals.{serde_json_on_literals}}
@@ -78,7 +78,7 @@ returns-clause-nothing_to_write c is =
     ]
 
 pub returns-clause-memory : goal.returns-clause-memory
-returns-clause-memory c = (codes "1", [], [], refl, inl (one, omega arith, refl), refl)
+returns-clause-memory c = (codes "1", [], [], refl, omega arith, inl (one, omega arith, refl), refl)
 
 pub returns-clause-document : goal.returns-clause-document
 unfolding serde_json_on_literals
@@ -110,3 +110,14 @@ no_longer input output line (inr h) =
 pub returns-clause-too_long_so_far : goal.returns-clause-too_long_so_far
 returns-clause-too_long_so_far c input output line long is =
     absurd (let short = no_longer input output line is in omega (arith, long, short))
+
+-- the front of a line
+front_line : (bytes more : List ℕ) → IsLine (bytes ++ more) → IsLine bytes
+front_line bytes more line k d inside feed =
+    line k d (omega (arith, inside, length-append bytes more)) (get_or-append bytes more d k inside ∙ feed)
+
+pub returns-clause-memory_after_a_long_line : goal.returns-clause-memory_after_a_long_line
+returns-clause-memory_after_a_long_line c input line long is =
+    let all : input ≡ is.0 ++ is.1 = is.3 ∙ append-nil (is.0 ++ is.1) in
+    let short = no_longer is.0 is.2 (front_line is.0 is.1 (rw all at line)) is.5 in
+    absurd (omega (arith, long, is.4, short, ap length all, length-append is.0 is.1))

@@ -1,11 +1,13 @@
 use Rattle.dsa_serve.proofs.serving.finish.Goals as goal
-use Rattle.std.proofs.{Common.{[]}, KnownBytes.{Consumes-nil}, lemmas.Result.{err_from_is_err_and, on_ok_weaker}}
+use Rattle.std.proofs.Common.{[], ◌^◌, arith}
+use Rattle.std.proofs.{KnownBytes.{Consumes-nil}, lemmas.Result.{err_from_is_err_and, on_ok_weaker}}
 use Rattle.dsa_serve.proofs.Stops.{memory_stops, end_stops, all_answered, ends_blank, of_both}
 
 pub returns-in_err-add_end-clause-stopped : goal.returns-in_err-add_end-clause-stopped
 returns-in_err-add_end-clause-stopped g c =
     let p = err_from_is_err_and c.from_residual.result c.from_residual.ensures.1 in
-    rw (p.1, p.2) (λ ended had left held h. memory_stops ended had left left held _ [] _ _ _ _ (Consumes-nil left) h)
+    rw (p.1, p.2) (λ ended had left held h. memory_stops (2 ^ 16) ended had left left held _ [] _ _ _ _
+    (Consumes-nil left) (omega arith) h)
 
 pub returns-clause-ok : goal.returns-clause-ok
 returns-clause-ok g c =

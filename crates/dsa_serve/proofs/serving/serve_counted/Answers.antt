@@ -1,5 +1,6 @@
 use Rattle.dsa_serve.proofs.serving.serve_counted.Goals as goal
-use Rattle.std.proofs.{Common.{true, false, ◌∙◌}, lemmas.Result.{err_from_is_err_and, on_ok_weaker, IfErr-weaker}}
+use Rattle.std.proofs.Common.{◌≡◌, ◌^◌, true, false, length, arith, ◌∙◌}
+use Rattle.std.proofs.lemmas.Result.{err_from_is_err_and, on_ok_weaker, IfErr-weaker}
 use Rattle.dsa_serve.proofs.Counts.{asked_on, not_failed}
 use Rattle.dsa_serve.proofs.serving.serve_counted.Goals.{then-not-it+in_ok-serve_lines, else-not-it}
 
@@ -7,7 +8,9 @@ pub returns-in_err-serve_lines-clause-stopped : goal.returns-in_err-serve_lines-
 returns-in_err-serve_lines-clause-stopped g c =
     let p = err_from_is_err_and c.from_residual-in_err-serve_lines.result
     c.from_residual-in_err-serve_lines.ensures.1 in
-    rw (p.1, p.2) (c.in_err-serve_lines.ensures.stopped _ _ (rw c.if-not-it.true at c.in_ok-it.ensures.ok))
+    let size : length c.start.new.chunk ≡ 2 ^ 16 = omega (arith, c.start.auto.chunk) in
+    rw (p.1, p.2) (rw size at (c.in_err-serve_lines.ensures.stopped _ _
+    (rw c.if-not-it.true at c.in_ok-it.ensures.ok)))
 
 pub returns-clause-ok : goal.returns-clause-ok
 returns-clause-ok g c =

@@ -8,7 +8,9 @@ returns-in_err-dialogue-clause-stopped g c =
     let bytes = c.in_ok-front.ensures.bytes in
     let short : length c.in_ok-front.front.first.items ≤ 2 ^ 20 =
     omega (arith, c.in_ok-front.ensures.fits, c.in_ok-front.front.first.ok.0) in
-    rw (p.1, p.2) (opening_stops _ _ _ bytes.0 _ _ _ _ bytes.1 bytes.2 short bytes.3 c.in_err-dialogue.ensures.err)
+    rw (p.1, p.2) (opening_stops _ _ _ _ bytes.0 _ _ _ _ bytes.1 bytes.2 short bytes.3
+    (λ going. let last = c.in_ok-front.ensures.last_read going in let room = c.in_ok-front.ensures.room going in
+    omega (arith, last, room)) c.in_err-dialogue.ensures.err)
 
 pub returns-in_err-write_text-clause-stopped : goal.returns-in_err-write_text-clause-stopped
 returns-in_err-write_text-clause-stopped g c =

@@ -1,18 +1,19 @@
 use Rattle.dsa_serve.proofs.serving.turn.Goals as goal
-use Rattle.std.proofs.{Common.{false, take}, lemmas.Result.{err_from_is_err_and}}
+use Rattle.std.proofs.{Common.{false, take, arith}, lemmas.Result.{err_from_is_err_and}}
 use Rattle.dsa_serve.proofs.Stops.{course_on, unread_stops, memory_stops, write_stops, from_blank}
 
 pub returns-in_err-count-clause-stopped : goal.returns-in_err-count-clause-stopped
 returns-in_err-count-clause-stopped g c =
     let p = err_from_is_err_and c.from_residual.result c.from_residual.ensures.1 in
-    rw (p.1, p.2) (λ had held h. unread_stops had _ _ held _ _ _ _ _ _ c.in_err-count.ensures.bytes
+    rw (p.1, p.2) (λ had held h. unread_stops _ had _ _ held _ _ _ _ _ _ c.in_err-count.ensures.bytes
     c.in_err-count.ensures.faults h)
 
 pub returns-in_err-feed-clause-stopped : goal.returns-in_err-feed-clause-stopped
 returns-in_err-feed-clause-stopped g c =
     let p = err_from_is_err_and c.from_residual-in_err-feed.result c.from_residual-in_err-feed.ensures.1 in
-    rw (p.1, p.2) (λ had held h. memory_stops false had _ _ held _
-    (take c.in_ok-count.count c.read_once.new.chunk) _ _ _ _ c.in_ok-count.ensures.bytes.0 h)
+    rw (p.1, p.2) (λ had held h. memory_stops _ false had _ _ held _
+    (take c.in_ok-count.count c.read_once.new.chunk) _ _ _ _ c.in_ok-count.ensures.bytes.0
+    (omega (arith, c.in_ok-count.ensures.bound.0, c.in_ok-count.ensures.bound.1, c.read_once.auto.chunk)) h)
 
 pub returns-in_err-write_text-clause-stopped : goal.returns-in_err-write_text-clause-stopped
 returns-in_err-write_text-clause-stopped g c =
