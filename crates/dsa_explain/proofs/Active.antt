@@ -1,9 +1,9 @@
 -- What is answered active waits for an entry, and what is not waits for none.
 use Rattle.dsa_book.specs.declared.answer.IssueAnswer.TheVariants as issued
-use Rattle.std.proofs.Common.{◌≡◌, ℕ, Bool, true, false, not, cond, List, [], ◌∷◌, Option, Some, None, refl, sym, ap, ◌∙◌}
+use Rattle.std.proofs.Common.{◌≡◌, Bool, true, false, not, cond, [], ◌∷◌, Option, Some, None, refl, sym, ap, ◌∙◌}
 use Rattle.std.proofs.Common.{arith, inl, inr}
 use Rattle.std.proofs.lemmas.{Bool.{cases_Bool}, Grind.{common_steps}}
-use Rattle.std.specs.{Prelude.{is_some}, List.{list_any}, Option.{option_map}}
+use Rattle.std.specs.{Prelude.{is_some}, List.{list_any}}
 use Rattle.dsa_base.specs.Rows.{first_row_or}
 use Rattle.dsa_regs.specs.declared.{Command.{Command}, Deed.{Deed, TheVariants.{Enable, Disable, Drain, Abort, Reset}}}
 use Rattle.dsa_regs.specs.declared.{Scope.{Scope}, Fault.{Fault, TheVariants.{BadQueue, WrongState, Busy}}}
@@ -11,14 +11,14 @@ use Rattle.dsa_regs.specs.{declared.Phase.TheVariants.{Stopping}, Command.{scope
 use Rattle.dsa_store.specs.{declared.entry.Entry.{Entry}, Content.{Slot, count_where}}
 use Rattle.dsa_book.specs.declared.{answer.IssueAnswer.{IssueAnswer}, note.ActiveCommand.{ActiveCommand}}
 use Rattle.dsa_book.specs.State.{State}
-use Rattle.dsa_book.specs.Commands.{issue, issue_table, refusal_or, check_of, command_done_of, deed_done_of, wait_of}
+use Rattle.dsa_book.specs.Commands.{issue, refusal_or, check_of, command_done_of, deed_done_of, wait_of}
 use Rattle.dsa_book.specs.Commands.{is_at_end, is_bad_queues, may_come}
 use Rattle.dsa_admin.{specs.Admin.{is_waited_for}, proofs.Counting.{stop-caps}}
 use Rattle.dsa_explain.specs.declared.{command.IssueReason.{IssueReason}, held.Held.{Held}}
 use Rattle.dsa_explain.specs.Command.{is_active_answer, is_waiting, noted_as, wait_by, wait_reason, wait_of_active}
-use Rattle.dsa_explain.specs.Command.{issue_by, issue_reason}
+use Rattle.dsa_explain.specs.Command.{issue_by}
 use Rattle.dsa_explain.specs.Held.{all_entries, first_awaited}
-use Rattle.dsa_explain.proofs.Holding.{all-told, find-any}
+use Rattle.dsa_explain.proofs.{Holding.{all-told, find-any}, Rows.{some-map}}
 
 -- a command is at its end exactly where the first entry that it waits for is none
 pub first-there : (s : State) (noted : ActiveCommand)
@@ -73,7 +73,8 @@ waits s c Disable scope h = refl
 waits s c Drain scope h = refl
 
 -- one that waits is answered active exactly where it is not at its end
-active-before : (s : State) (c : Command) → is_active_answer (wait_of s c).0 ≡ not (is_at_end (noted_as s c) s.work.content)
+active-before : (s : State) (c : Command)
+    → is_active_answer (wait_of s c).0 ≡ not (is_at_end (noted_as s c) s.work.content)
 active-before s c = go (is_at_end (noted_as s c) s.work.content) _ _
   where
     go : (b : Bool) (over on : State)
@@ -89,10 +90,6 @@ is-wait s c h =
 no-end : (s : State) (c : Command) → is_active_answer (issue s c).0 ≡ true
     → not (is_at_end (noted_as s c) s.work.content) ≡ true
 no-end s c h = sym (active-before s c) ∙ rw (← is-wait s c h) h
-
-some-map : {X Y : Type 0} (f : X → Y) (o : Option X) → is_some (option_map f o) ≡ is_some o
-some-map f None = refl
-some-map f (Some x) = refl
 
 -- where it is answered active there is an entry, and so it is told
 pub told : (s : State) (c : Command) → is_active_answer (issue s c).0 ≡ is_some (wait_reason s c)

@@ -7,6 +7,7 @@ pub mod Wanting
 pub mod Rows
 pub mod Taking
 pub mod Starting
+pub mod FailedMembers
 pub mod Waiting
 pub mod Ending
 pub mod Active

@@ -1,7 +1,7 @@
 -- Rows of tables and what they tell, one at a time.
 use Rattle.std.proofs.Common.{◌≡◌, Bool, true, false, cond, List, [], ◌∷◌, ◌++◌, Option, Some, None, refl, arith}
 use Rattle.std.proofs.lemmas.Grind.{common_steps}
-use Rattle.std.specs.{Prelude.{is_some}, List.{find, list_any}, Option.{option_or}}
+use Rattle.std.specs.{Prelude.{is_some}, List.{find, list_any}, Option.{option_map, option_or}}
 use Rattle.dsa_base.specs.Rows.{when, first_row}
 
 -- a row that tells nothing does not stand
@@ -12,6 +12,10 @@ when-none false x h = refl
 pub is_some-when : {X : Type 0} (b : Bool) (x : X) → is_some (when b x) ≡ b
 is_some-when true x = refl
 is_some-when false x = refl
+
+pub some-map : {X Y : Type 0} (f : X → Y) (o : Option X) → is_some (option_map f o) ≡ is_some o
+some-map f None = refl
+some-map f (Some x) = refl
 
 -- what is found is there
 pub find-any : {X : Type 0} (p : X → Bool) (xs : List X) → list_any p xs ≡ is_some (find p xs)

@@ -1,7 +1,7 @@
 -- What keeps an engine from starting a member, and which answer that is.
 use Rattle.dsa_book.specs.declared.answer.StartAnswer.TheVariants as answer
-use Rattle.std.proofs.Common.{◌≡◌, ℕ, Bool, true, false, not, cond, ◌&&◌, [], ◌∷◌, length, Option, Some, refl}
-use Rattle.std.specs.{Prelude.{is_none, unwrap_or}, Option.{option_map}}
+use Rattle.std.proofs.Common.{◌≡◌, ℕ, Bool, true, false, not, cond, ◌&&◌, [], ◌∷◌, length, Option, Some, refl, sym, ◌∙◌}
+use Rattle.std.specs.{Prelude.{is_none, is_some, unwrap_or}, Option.{option_map}}
 use Rattle.dsa_base.specs.Rows.{first_row, first_row_or}
 use Rattle.dsa_desc.specs.Descriptor.{is_fenced}
 use Rattle.dsa_store.specs.Content.{Slot}
@@ -12,7 +12,8 @@ use Rattle.dsa_book.specs.Work.{members, after_abandon, after_start}
 use Rattle.dsa_explain.specs.declared.batch.StartReason.{StartReason, TheVariants.{Fence, Failed, NoBuffers, NoGroup}}
 use Rattle.dsa_explain.specs.declared.buffers.BufferWant.{BufferWant}
 use Rattle.dsa_explain.specs.{Reasons.{with_reasons}, Buffers.{want_of}}
-use Rattle.dsa_explain.specs.Batch.{start_reasons, start_reason_of, start_answer, unstarted, name_of, first_member, failed_member}
+use Rattle.dsa_explain.specs.Batch.{start_reasons, start_reason_of, start_answer, unstarted, name_of, first_member}
+use Rattle.dsa_explain.specs.Batch.{failed_member}
 
 -- a member that waits has a reason for the answer, and none where it starts
 started : (w : Work) (e : ℕ) (slot : Slot)
@@ -22,7 +23,8 @@ started w e slot = go (is_fenced slot.1.desc && not (is_front w e slot)) (is_fen
     (failed_member w e) (length (members w e)) (want_of w (unwrap_or (group_of w e) 0) (need_of w.setup slot.1))
     (after_abandon w e) (after_start w e) (ticket_of slot)
   where
-    go : (fence failed full alone : Bool) (member first : ℕ) (one : Option ℕ) (left : ℕ) (want : BufferWant) (abandoned after : Work) (t : Ticket)
+    go : (fence failed full alone : Bool) (member first : ℕ) (one : Option ℕ) (left : ℕ)
+        (want : BufferWant) (abandoned after : Work) (t : Ticket)
         → option_map start_answer (first_row ((fence, Fence member first) ∷ (failed, Failed member one left) ∷
         (full, cond alone NoGroup (NoBuffers want)) ∷ []))
         ≡ unstarted (first_row_or {X = StartAnswer × Work} ((fence, (answer.FenceWait, w)) ∷
@@ -38,3 +40,27 @@ pub started-told : (w : Work) (e : ℕ) (slot : Slot) (reason : Option StartReas
     → reason ≡ first_row (with_reasons (start_table w e slot) (start_reasons w e slot))
     → option_map start_answer reason ≡ unstarted (start w e).0
 started-told w e slot reason first is = rw (is, first) (started w e slot)
+
+-- a failure that is told names a member, where one is there to name
+pub failure-named : (w : Work) (e : ℕ) (slot : Slot) (reason : Option StartReason) (member left : ℕ) (failed : Option ℕ)
+    → (has_failed w e ≡ true → is_some (failed_member w e) ≡ true)
+    → reason ≡ first_row (with_reasons (start_table w e slot) (start_reasons w e slot))
+    → reason ≡ Some (Failed member failed left) → is_some failed ≡ true
+failure-named w e slot reason member left failed h is told =
+    go (is_fenced slot.1.desc && not (is_front w e slot)) (is_fenced slot.1.desc) (has_failed w e)
+    (not (has_room w e (need_of w.setup slot.1))) (is_none (group_of w e)) slot.1.name (name_of (first_member w e))
+    (length (members w e)) (failed_member w e) (want_of w (unwrap_or (group_of w e) 0) (need_of w.setup slot.1))
+    h (sym is ∙ told)
+  where
+    go : (waits fenced fails full alone : Bool) (name first count : ℕ) (one : Option ℕ) (want : BufferWant)
+        → (fails ≡ true → is_some one ≡ true)
+        → first_row ((waits, Fence name first) ∷ (fenced && fails, Failed name one count) ∷
+        (full, cond alone NoGroup (NoBuffers want)) ∷ []) ≡ Some (Failed member failed left) → is_some failed ≡ true
+    go true fenced fails full alone name first count one want h r = absurd cc
+    go false true true full alone name first count one want h r = let is : one ≡ failed = cc in rw (← is) (h refl)
+    go false true false true true name first count one want h r = absurd cc
+    go false true false true false name first count one want h r = absurd cc
+    go false true false false alone name first count one want h r = absurd cc
+    go false false fails true true name first count one want h r = absurd cc
+    go false false fails true false name first count one want h r = absurd cc
+    go false false fails false alone name first count one want h r = absurd cc

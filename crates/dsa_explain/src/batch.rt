@@ -1,12 +1,13 @@
 //! Fetch and start: why an engine takes up no member of its batch.
 
-ghost use Rattle.std.specs.Prelude.{◌≡◌, ◌<◌, ◌==◌, not, true, None, Some, find};
+ghost use Rattle.std.specs.Prelude.{◌≡◌, ℕ, ◌<◌, ◌==◌, not, true, Option, None, Some, is_some, find};
 ghost use Rattle.std.specs.Option.{option_map};
 ghost use Rattle.dsa_base.specs.Rows.{first_row, passes, when};
 ghost use Rattle.dsa_desc.specs.declared.Descriptor.{Descriptor};
 ghost use Rattle.dsa_store.specs.Content.{is_cell};
 ghost use Rattle.dsa_book.specs.State.{need_of};
 ghost use Rattle.dsa_book.specs.Work.{batch_on, is_all_fetched, first_waiting, has_failed, has_room, start_table, fetch, start};
+ghost use Rattle.dsa_explain.specs.declared.batch.StartReason.TheVariants.{Failed};
 ghost use Rattle.dsa_explain.specs.Reasons.{with_reasons};
 ghost use Rattle.dsa_explain.specs.Batch.{fetch_reason, fetch_answer, unfetched, first_member, name_of, want_reason, start_reasons, start_reason, start_answer, unstarted, is_failure, is_failed_in, failed_member};
 
@@ -230,9 +231,10 @@ fn waiting_reason<S: EntryStore>(
 }
 
 /// Why the engine starts no member, the first cause that stands. `None` exactly where it starts one, and any other answer is the
-/// one that the reason is for.
+/// one that the reason is for. Where one before the fence failed its name is always told.
 pub fn start_reason<S: EntryStore>(device: &Device<S>, engine: u16) -> Option<StartReason>
     ensures reason { result ≡ start_reason device.now.state.work engine }
+    ensures named { (member left : ℕ) (failed : Option ℕ) → result ≡ Some (Failed member failed left) → is_some failed ≡ true }
     ensures answer { option_map start_answer result ≡ unstarted (start device.now.state.work engine).0 }
 {
     device.state_is_replay();

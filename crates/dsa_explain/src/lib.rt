@@ -10,6 +10,7 @@ mod buffers;
 mod check;
 mod command;
 mod dispatch;
+mod failing;
 mod finish;
 mod groups;
 mod held;
@@ -32,6 +33,7 @@ pub use command::{
 pub use dispatch::{
     EngineReason, QueueReason, engine_reason, idle_engines_have_reasons, queue_reason,
 };
+pub use failing::failed_members_are_named;
 pub use finish::{FinishReason, finish_reason};
 pub use groups::{Bound, Named};
 pub use held::{
