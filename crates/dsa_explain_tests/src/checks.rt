@@ -47,6 +47,8 @@ pub fn names_of_two_groups()
     ensures queue_before_engine { groups_reason caps 6 (pair_with (record second_group { queues = 3; engines = 3 })) ≡ Some (TwoGroups (Queue 0) 0 1) }
     ensures last_two { groups_reason three_groups 12 (trio_with (record first_group { queues = 6; engines = 4 })) ≡ Some (TwoGroups (Queue 1) 1 2) }
     ensures first_queue { groups_reason three_groups 12 (trio_with (record first_group { queues = 7; engines = 4 })) ≡ Some (TwoGroups (Queue 0) 0 2) }
+    ensures third_queue { groups_reason (record caps { queues = 3 }) 6 (pair (record first_group { queues = 5 }) (record second_group { queues = 6 })) ≡ Some (TwoGroups (Queue 2) 0 1) }
+    ensures third_engine { groups_reason (record caps { engines = 3 }) 6 (pair (record first_group { engines = 5 }) (record second_group { engines = 6 })) ≡ Some (TwoGroups (Engine 2) 0 1) }
     ensures before_the_reserve { groups_reason caps 6 (pair_with (record second_group { engines = 3; reserved = 13 })) ≡ Some (TwoGroups (Engine 0) 0 1) }
     ensures all_that_name { naming_groups (first_group ∷ first_group ∷ second_group ∷ first_group ∷ []) (Queue 0) ≡ 0 ∷ 1 ∷ 3 ∷ [] }
     ensures of_engines { naming_groups (first_group ∷ record second_group { queues = 1 } ∷ first_group ∷ []) (Engine 0) ≡ 0 ∷ 2 ∷ [] }

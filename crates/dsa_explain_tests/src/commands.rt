@@ -7,15 +7,16 @@ ghost use Rattle.dsa_regs.specs.declared.Deed.TheVariants as deed;
 ghost use Rattle.dsa_regs.specs.declared.Fault.TheVariants as fault;
 ghost use Rattle.dsa_regs.specs.declared.Phase.TheVariants.{Off, On};
 ghost use Rattle.dsa_regs.specs.declared.layout.ListUse.TheVariants.{Members, Progress, Queue};
+ghost use Rattle.dsa_book.specs.declared.answer.IssueAnswer.TheVariants.{Active, Ended, Refused};
 ghost use Rattle.dsa_book.specs.declared.answer.PollAnswer.TheVariants as polled;
 ghost use Rattle.dsa_book.specs.declared.fate.Fate.TheVariants.{Aborted};
 ghost use Rattle.dsa_worked.specs.Setup.{configured, masked, row};
-ghost use Rattle.dsa_worked.specs.Commands.{abort_of_a_pasid, drain_of_a_batch, drain_of_a_pasid, drain_of_a_queue, refused_enables_and_writes};
+ghost use Rattle.dsa_worked.specs.Commands.{abort_of_a_pasid, drain_of_a_batch, drain_of_a_pasid, drain_of_a_queue, old_ticket_is_gone, refused_enables_and_writes};
 ghost use Rattle.dsa_worked.specs.Members.{abort_of_all_lists};
 ghost use Rattle.dsa_worked.specs.Phases.{commands_of_a_queue_that_is_off, commands_while_off};
 ghost use Rattle.dsa_explain.specs.declared.command.IssueReason.TheVariants.{Busy, Check, NoQueue, WrongPhase};
 ghost use Rattle.dsa_explain.specs.declared.command.PollReason.TheVariants.{Nothing, Waits};
-ghost use Rattle.dsa_explain.specs.Command.{fault_of, is_waiting, issue_reason, poll_answer_by, poll_reason};
+ghost use Rattle.dsa_explain.specs.Command.{fault_of, is_waiting, issue_by, issue_reason, poll_answer_by, poll_reason};
 ghost use Rattle.dsa_explain.specs.Held.{abort_row, aborted_entries, awaited_entry, losses};
 ghost use Rattle.dsa_explain_tests.specs.After.{told_after, told_from_first};
 ghost use Rattle.dsa_explain_tests.specs.Waits.{active_after, place, wait_after};
@@ -67,6 +68,13 @@ pub fn checks()
     ensures faults { map fault_of (Busy DrainAll 1 ∷ NoQueue None ∷ WrongPhase None Off ∷ Check fault.NoGroup ∷ []) ≡ fault.Busy ∷ fault.BadQueue ∷ fault.WrongState ∷ fault.NoGroup ∷ [] }
 {}
 
+/// By a reason a command is refused for its fault, and without one it is carried out.
+pub fn commands_by_reasons()
+    ensures refused { told_after (λ s. (issue_by s DrainAll (Some (Busy AbortAll 1))).0) [] ≡ Some (Refused fault.Busy) }
+    ensures active { told_after (λ s. (issue_by s DrainAll None).0) (take 1 drain_of_a_queue) ≡ Some Active }
+    ensures ended { told_after (λ s. (issue_by s AbortAll None).0) (take 1 drain_of_a_queue) ≡ Some (Ended 1) }
+{}
+
 /// Why a poll does not find the active command over.
 pub fn polls()
     ensures nothing { told_after poll_reason [] ≡ Some (Some Nothing) }
@@ -101,6 +109,7 @@ pub fn removals()
     ensures all { told_after (λ s. losses s ResetDevice) (take 8 abort_of_all_lists) ≡ Some ((Queue 0, 5 ∷ []) ∷ (Queue 1, 4 ∷ []) ∷ (Progress 0, 0 ∷ []) ∷ (Progress 1, 2 ∷ []) ∷ (Members 0, 1 ∷ []) ∷ (Members 1, 3 ∷ []) ∷ []) }
     ensures of_a_queue { told_after (λ s. losses s (ResetWq (masked 2))) (take 8 abort_of_all_lists) ≡ Some ((Queue 1, 4 ∷ []) ∷ (Progress 1, 2 ∷ []) ∷ (Members 1, 3 ∷ []) ∷ []) }
     ensures some_of_a_list { told_after (λ s. losses s (AbortPasid 5)) (take 4 abort_of_a_pasid) ≡ Some ((Queue 0, 0 ∷ 2 ∷ []) ∷ []) }
+    ensures by_name { told_after (λ s. losses s AbortAll) (take 4 old_ticket_is_gone) ≡ Some ((Queue 0, 1 ∷ []) ∷ []) }
     ensures nothing { told_after (λ s. losses s (AbortPasid 7)) (take 4 abort_of_a_pasid) ≡ Some [] }
 {}
 

@@ -10,7 +10,7 @@ ghost use Rattle.dsa_worked.specs.Setup.{dispatched, issued, no_op, polled, take
 ghost use Rattle.dsa_scenario.specs.declared.run.Record.TheVariants.{Refused, Stepped};
 ghost use Rattle.dsa_explain_lines.specs.Lines.{asked_words, explained_line, is_taken, line_with, shown};
 ghost use Rattle.dsa_explain_lines.specs.Run.{IsExplanationOf};
-ghost use Rattle.dsa_explain_tests.specs.Lines.{at_last, at_first, steps_of_two, with_two_queues};
+ghost use Rattle.dsa_explain_tests.specs.Lines.{at_first, at_last, steps_of_three, with_two_queues};
 
 /// What was asked, where a word that is no command is told as one word.
 #[tactic(auto, unfolding(dsa_scenario::specs::Worked::digits_on_literals))]
@@ -50,5 +50,5 @@ pub fn explained()
 #[tactic(auto, unfolding(dsa_scenario::specs::Worked::digits_on_literals))]
 pub fn texts()
     ensures none { IsExplanationOf [] at_first [] }
-    ensures two { IsExplanationOf steps_of_two at_last (codes "0 poll -> nothing: no command is active\n1 command -> refused 13 BadCommand: no command has the number of the word, or one of its bits 30:25 is set\n") }
+    ensures three { IsExplanationOf steps_of_three at_last (codes "0 command enable-device -> ended 0\n1 poll -> nothing: no command is active\n2 command -> refused 13 BadCommand: no command has the number of the word, or one of its bits 30:25 is set\n") }
 {}

@@ -19,7 +19,7 @@ ghost use Rattle.dsa_worked.specs.Submissions.{forged_tickets};
 ghost use Rattle.dsa_explain.specs.declared.batch.FetchReason.TheVariants as fetch;
 ghost use Rattle.dsa_explain.specs.declared.batch.StartReason.TheVariants.{Failed, Fence, NoBuffers, NoGroup, Nothing};
 ghost use Rattle.dsa_explain.specs.declared.finish.FinishReason.TheVariants.{DrainWaits, Elsewhere, MembersLeft, NoEngine, NoEntry, NotStarted, OtherName, StillToFetch};
-ghost use Rattle.dsa_explain.specs.Batch.{failed_member, fetch_answer, fetch_reason, is_failed_in, name_of, start_answer, start_reason, unfetched, unstarted};
+ghost use Rattle.dsa_explain.specs.Batch.{failed_member, fetch_answer, fetch_reason, fetch_reason_of, is_failed_in, name_of, start_answer, start_reason, unfetched, unstarted};
 ghost use Rattle.dsa_explain.specs.Finish.{finish_answer, finish_reason, unended};
 ghost use Rattle.dsa_explain_tests.specs.After.{of_one_group, with_few_buffers};
 ghost use Rattle.dsa_explain_tests.specs.Drains.{drain_behind_two};
@@ -33,6 +33,7 @@ pub fn fetches()
     ensures closed { seen_after (λ w. fetch_reason w 0) (take 7 failure_abandons) ≡ Some (Some (fetch.AllFetched 3 2 true)) }
     ensures one_left { seen_after (λ w. fetch_reason w 0) (take 4 fence_waits) ≡ Some None }
     ensures failed_and_not_closed { seen_after (λ w. fetch_reason w 0) (take 6 failure_abandons) ≡ Some None }
+    ensures note_of_no_batch { fetch_reason_of (record { batch = 0; count = 3; fetched = 1; failed = false; closed = false }) None ≡ Some fetch.NoBatch }
     ensures ended { seen_after (λ w. fetch_reason w 0) fence_waits ≡ Some (Some fetch.NoBatch) }
     ensures answers { map fetch_answer (fetch.NoEngine ∷ fetch.NoBatch ∷ fetch.AllFetched 3 2 true ∷ []) ≡ fetched.NoBatch ∷ fetched.NoBatch ∷ fetched.AllFetched ∷ [] }
     ensures unfetched { map unfetched (fetched.Fetched (ticket 0 0) ∷ fetched.NoBatch ∷ []) ≡ None ∷ Some fetched.NoBatch ∷ [] }

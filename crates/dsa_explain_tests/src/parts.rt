@@ -23,7 +23,7 @@ ghost use Rattle.dsa_worked.specs.Answers.{one_of_two_queues_waits, slots_are_fu
 ghost use Rattle.dsa_worked.specs.Batches.{buffers_of_a_batch, buffers_reserved_for_another, fence_waits};
 ghost use Rattle.dsa_worked.specs.Commands.{abort_of_a_pasid, drain_of_a_queue, old_ticket_is_gone, refused_enables_and_writes};
 ghost use Rattle.dsa_worked.specs.Members.{abort_of_all_lists, fence_before_buffers, three_are_abandoned};
-ghost use Rattle.dsa_worked.specs.Submissions.{dedicated_queue_overflows, two_portals};
+ghost use Rattle.dsa_worked.specs.Submissions.{dedicated_queue_overflows, forged_tickets, two_portals};
 ghost use Rattle.dsa_explain.specs.declared.check.CheckReason.TheVariants as check;
 ghost use Rattle.dsa_explain_lines.specs.Parts.{check_reason, dispatch_part, issue_part, joint, keeping_part, losses_part, part_of, queue_part, room_part, start_part, told_of, word_part};
 ghost use Rattle.dsa_explain_tests.specs.After.{of_three_groups, of_two_queues, told_after, told_from_first, with_few_buffers};
@@ -119,6 +119,8 @@ pub fn events()
     ensures dropped { told (take 2 dedicated_queue_overflows) (movdir no_op (Dropped AtLimit)) ≡ Some (codes ": q1 holds 2 entries, and the limited portal goes up to 2") }
     ensures accepted { told [] (to_shared no_op 0 0) ≡ Some [] }
     ensures fetch { told (take 5 fence_waits) (fetched 0 no_op AllFetched) ≡ Some (codes ": 3 of 3 members are fetched") }
+    ensures fetch_on_the_other { told (take 5 fence_waits) (fetched 1 no_op AllFetched) ≡ Some (codes ": e1 works on no batch") }
+    ensures finish_on_the_other { told (take 3 forged_tickets) (finished 1 (ticket 0 0) Gone) ≡ Some (codes ": the entry stands in e0") }
     ensures finish { told (take 5 old_ticket_is_gone) (finished 0 (ticket 0 0) Gone) ≡ Some (codes ": the cell of the ticket holds 1 by now") }
     ensures poll { told (take 4 drain_of_a_queue) (polled poll.Active) ≡ Some (codes ": the command waits for 1 entries, first for 0 in q0") }
     ensures queue { told [] (queue_written 2 shared_queue (write.Refused BadIndex)) ≡ Some (codes ": the device has 2 queues") }

@@ -1,20 +1,24 @@
 //! Why a submission is turned away, why a configuration is not written, and no error cleared.
 
 ghost use Rattle.std.specs.Prelude.{◌≡◌, [], ◌∷◌, Some, None, true, false, map, take};
-ghost use Rattle.dsa_regs.specs.Worked.{shared_queue, dedicated_queue};
+ghost use Rattle.dsa_regs.specs.Worked.{caps, shared_queue, dedicated_queue};
 ghost use Rattle.dsa_regs.specs.declared.Fault.TheVariants as fault;
 ghost use Rattle.dsa_regs.specs.declared.Phase.TheVariants.{Off, On, Stopping};
 ghost use Rattle.dsa_book.specs.declared.answer.Cause.TheVariants as cause;
+ghost use Rattle.dsa_book.specs.declared.answer.SubmitAnswer.TheVariants.{Accepted, Dropped, Retry};
+ghost use Rattle.dsa_book.specs.declared.answer.WriteAnswer.TheVariants.{Refused, Written};
 ghost use Rattle.dsa_book.specs.declared.event.Kind.TheVariants.{Enqcmd, Movdir64b};
 ghost use Rattle.dsa_book.specs.declared.event.Portal.TheVariants.{Limited, Unlimited};
+ghost use Rattle.dsa_book.specs.{Machine.{intake_of}, State.{opening_setup}};
+ghost use Rattle.dsa_worked.specs.Setup.{no_op, ticket};
 ghost use Rattle.dsa_worked.specs.Submissions.{two_portals, dedicated_queue_overflows, causes_of_retry};
 ghost use Rattle.dsa_worked.specs.Commands.{disable_and_enable_again, abort_and_reset};
 ghost use Rattle.dsa_worked.specs.Phases.{disable_of_one_queue_of_two, disable_with_a_queue_that_is_off};
 ghost use Rattle.dsa_explain.specs.declared.submission.SubmitReason.TheVariants.{NotEnabled, WrongKind, AtLimit};
 ghost use Rattle.dsa_explain.specs.declared.write.WriteReason.TheVariants.{BadIndex, LockedQueue, LockedSize, LockedGroup};
 ghost use Rattle.dsa_explain.specs.declared.write.ClearReason.TheVariants.{NothingNoted};
-ghost use Rattle.dsa_explain.specs.Submission.{submit_reason, cause_of};
-ghost use Rattle.dsa_explain.specs.Write.{write_queue_reason, write_group_reason, clear_reason, fault_of};
+ghost use Rattle.dsa_explain.specs.Submission.{submit_reason, submit_by, cause_of};
+ghost use Rattle.dsa_explain.specs.Write.{write_queue_reason, write_group_reason, write_by, clear_reason, fault_of};
 ghost use Rattle.dsa_explain_tests.specs.After.{told_after};
 
 /// A queue is not on: the phases of the device and of the queue, where there is one.
@@ -55,6 +59,13 @@ pub fn accepted()
     ensures one_taken { told_after (λ s. submit_reason s 0 Unlimited (Enqcmd 5)) (take 7 two_portals) ≡ Some None }
 {}
 
+/// By a reason a submission is turned away for its cause, and without one it is accepted.
+pub fn submissions_by_reasons()
+    ensures retry { told_after (λ s. (submit_by (intake_of s) 0 (Enqcmd 5) no_op (record { 0 = 9 }) (Some (AtLimit 2 2 Limited))).0) [] ≡ Some (Retry cause.AtLimit) }
+    ensures dropped { told_after (λ s. (submit_by (intake_of s) 0 Movdir64b no_op (record { 0 = 9 }) (Some (WrongKind false))).0) [] ≡ Some (Dropped cause.WrongKind) }
+    ensures accepted { told_after (λ s. (submit_by (intake_of s) 0 (Enqcmd 5) no_op (record { 0 = 9 }) None).0) [] ≡ Some (Accepted (ticket 9 0)) }
+{}
+
 /// The causes that are answered.
 pub fn causes()
     ensures { map cause_of (NotEnabled On None ∷ WrongKind true ∷ AtLimit 2 2 Limited ∷ []) ≡ cause.NotEnabled ∷ cause.WrongKind ∷ cause.AtLimit ∷ [] }
@@ -65,6 +76,8 @@ pub fn writes_of_queues()
     ensures not_there { told_after (λ s. write_queue_reason s.work.setup 2 shared_queue) [] ≡ Some (Some (BadIndex 2)) }
     ensures on { told_after (λ s. write_queue_reason s.work.setup 0 shared_queue) [] ≡ Some (Some (LockedQueue On)) }
     ensures on_before_its_size { told_after (λ s. write_queue_reason s.work.setup 0 (record shared_queue { size = 3 })) [] ≡ Some (Some (LockedQueue On)) }
+    ensures of_the_queue { told_after (λ s. write_queue_reason s.work.setup 1 dedicated_queue) (take 3 disable_of_one_queue_of_two) ≡ Some (Some (LockedQueue Stopping)) }
+    ensures of_three { write_queue_reason (opening_setup (record caps { queues = 3 })) 3 shared_queue ≡ Some (BadIndex 3) }
     ensures stopping { told_after (λ s. write_queue_reason s.work.setup 0 shared_queue) (take 3 disable_with_a_queue_that_is_off) ≡ Some (Some (LockedQueue Stopping)) }
     ensures size { told_after (λ s. write_queue_reason s.work.setup 1 (record dedicated_queue { size = 1 })) (take 2 disable_with_a_queue_that_is_off) ≡ Some (Some (LockedSize On 2)) }
     ensures size_while_stopping { told_after (λ s. write_queue_reason s.work.setup 1 (record dedicated_queue { size = 1 })) (take 3 disable_with_a_queue_that_is_off) ≡ Some (Some (LockedSize Stopping 2)) }
@@ -79,7 +92,14 @@ pub fn writes_of_groups()
     ensures stopping { told_after (λ s. write_group_reason s.work.setup 0) (take 3 disable_with_a_queue_that_is_off) ≡ Some (Some (LockedGroup Stopping)) }
     ensures off { told_after (λ s. write_group_reason s.work.setup 0) (take 11 disable_with_a_queue_that_is_off) ≡ Some None }
     ensures not_there_while_off { told_after (λ s. write_group_reason s.work.setup 2) (take 11 disable_with_a_queue_that_is_off) ≡ Some (Some (BadIndex 2)) }
+    ensures of_three { write_group_reason (opening_setup (record caps { groups = 3 })) 3 ≡ Some (BadIndex 3) }
     ensures faults { map fault_of (BadIndex 2 ∷ LockedQueue On ∷ LockedSize On 2 ∷ LockedGroup On ∷ []) ≡ fault.BadIndex ∷ fault.Locked ∷ fault.Locked ∷ fault.Locked ∷ [] }
+{}
+
+/// By a reason a write is refused and changes nothing, and without one it is done.
+pub fn writes_by_reasons()
+    ensures refused { write_by (opening_setup caps) (record (opening_setup caps) { next_name = 7 }) (Some (LockedGroup On)) ≡ (Refused fault.Locked, opening_setup caps) }
+    ensures written { write_by (opening_setup caps) (record (opening_setup caps) { next_name = 7 }) None ≡ (Written, record (opening_setup caps) { next_name = 7 }) }
 {}
 
 /// An error is cleared where one is noted.
