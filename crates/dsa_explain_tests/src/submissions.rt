@@ -9,7 +9,8 @@ ghost use Rattle.dsa_book.specs.declared.answer.SubmitAnswer.TheVariants.{Accept
 ghost use Rattle.dsa_book.specs.declared.answer.WriteAnswer.TheVariants.{Refused, Written};
 ghost use Rattle.dsa_book.specs.declared.event.Kind.TheVariants.{Enqcmd, Movdir64b};
 ghost use Rattle.dsa_book.specs.declared.event.Portal.TheVariants.{Limited, Unlimited};
-ghost use Rattle.dsa_book.specs.{Machine.{intake_of}, State.{opening_setup}};
+ghost use Rattle.dsa_book.specs.Machine.{intake_of};
+ghost use Rattle.dsa_book.specs.State.{opening_setup};
 ghost use Rattle.dsa_worked.specs.Setup.{no_op, ticket};
 ghost use Rattle.dsa_worked.specs.Submissions.{two_portals, dedicated_queue_overflows, causes_of_retry};
 ghost use Rattle.dsa_worked.specs.Commands.{disable_and_enable_again, abort_and_reset};
