@@ -7,8 +7,8 @@ ghost use Rattle.dsa_scenario.specs.Watched.{watched_contents, IsSameWriter};
 ghost use Rattle.dsa_serve.specs.Noted.{counted_remaining, asked_of, IsSameReader, IsFailureNoted, IsRefusalTold, IsAskedFor};
 ghost use Rattle.dsa_serve.specs.Dialogue.{AnswersAll, IsInCourse, IsLate, IsStoppedWithin, IsStopped};
 
-use crate::dialogue::Dialogue;
 use crate::counted::CountedReader;
+use crate::dialogue::Dialogue;
 use crate::front::read_first;
 use crate::opening::begin;
 use dsa_cells::LinkedStore;

@@ -17,8 +17,13 @@ returns-in_err-cut-clause-stopped g c =
     rw (p.1, p.2) (λ held. cut_stops _ _ _ held c.reads.first.items (take c.in_ok-count.count c.read_once.new.chunk)
     c.in-Some.at _ c.in-Some.ensures c.reads.invariant.line
     (omega (arith, c.reads-test.true, c.len.ensures, c.reads.first.ok.0))
-    (omega (arith, c.in_ok-count.ensures.bound.0, c.in_ok-count.ensures.bound.1, c.read_once.auto.chunk,
-    c.reads.auto.chunk))
+    (omega (
+      arith,
+      c.in_ok-count.ensures.bound.0,
+      c.in_ok-count.ensures.bound.1,
+      c.read_once.auto.chunk,
+      c.reads.auto.chunk,
+    ))
     (Consumes-trans _ _ _ _ _ c.reads.invariant.taken c.in_ok-count.ensures.bytes.0) c.in_err-cut.ensures.faults)
 
 pub returns-in-Some-clause-bytes : goal.returns-in-Some-clause-bytes
@@ -40,8 +45,13 @@ returns-in_err-extend_from_slice-clause-stopped g c =
     (take c.in_ok-count.count c.read_once.new.chunk)
     (Consumes-trans _ _ _ _ _ c.reads.invariant.taken c.in_ok-count.ensures.bytes.0) c.reads.invariant.line
     (omega (arith, c.reads-test.true, c.len.ensures, c.reads.first.ok.0))
-    (omega (arith, c.in_ok-count.ensures.bound.0, c.in_ok-count.ensures.bound.1, c.read_once.auto.chunk,
-    c.reads.auto.chunk)))
+    (omega (
+      arith,
+      c.in_ok-count.ensures.bound.0,
+      c.in_ok-count.ensures.bound.1,
+      c.read_once.auto.chunk,
+      c.reads.auto.chunk,
+    )))
 
 pub returns-in_err-cut-clause-asked : goal.returns-in_err-cut-clause-asked
 returns-in_err-cut-clause-asked g c =
@@ -72,8 +82,14 @@ returns-in-Some-clause-asked_first g c going =
     let piece = take c.in_ok-count.count c.read_once.new.chunk in (
       c.reads.first.items ++ piece,
       Consumes-trans _ _ _ _ _ c.reads.invariant.taken c.in_ok-count.ensures.bytes.0,
-      omega (arith, c.reads.invariant.asked, c.in_ok-count.ensures.counted, c.if-count-eq0.false,
-          c.in_ok-count.ensures.bound.1, length-append c.reads.first.items piece),
+      omega (
+        arith,
+        c.reads.invariant.asked,
+        c.in_ok-count.ensures.counted,
+        c.if-count-eq0.false,
+        c.in_ok-count.ensures.bound.1,
+        length-append c.reads.first.items piece,
+      ),
     )
 
 pub reads-preserved : goal.reads-preserved
@@ -83,8 +99,14 @@ reads-preserved g c =
     record {
       room = omega (arith, c.reads.invariant.room, c.read_once.auto.chunk);
       same_reader = c.in_ok-count.ensures.same_reader ∙ c.reads.invariant.same_reader;
-      asked = rw items (omega (arith, c.reads.invariant.asked, c.in_ok-count.ensures.counted, c.if-count-eq0.false,
-          c.in_ok-count.ensures.bound.1, length-append c.reads.first.items piece));
+      asked = rw items (omega (
+        arith,
+        c.reads.invariant.asked,
+        c.in_ok-count.ensures.counted,
+        c.if-count-eq0.false,
+        c.in_ok-count.ensures.bound.1,
+        length-append c.reads.first.items piece,
+      ));
       well = c.in_ok-count.ensures.failed.1 ∙ c.reads.invariant.well;
       taken = rw items (Consumes-trans _ _ _ _ _ c.reads.invariant.taken c.in_ok-count.ensures.bytes.0);
       line = rw items (All-append (λ b. b ≢ 10) _ _ c.reads.invariant.line (no_feed _ c.in_default.ensures));

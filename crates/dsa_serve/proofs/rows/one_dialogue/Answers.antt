@@ -97,9 +97,13 @@ output_is last output is =
 no_lines : (lines : List (List ℕ)) (rest : List ℕ) → [] ≡ flat_map line_of lines ++ rest
     → (lines ≡ []) × (rest ≡ [])
 no_lines [] rest e = (refl, sym e)
-no_lines (l ∷ lines) rest e = absurd (omega (arith, ap length e,
-    length-append (flat_map line_of (l ∷ lines)) rest, length-append (line_of l) (flat_map line_of lines),
-    length-append l (10 ∷ [])))
+no_lines (l ∷ lines) rest e = absurd (omega (
+  arith,
+  ap length e,
+  length-append (flat_map line_of (l ∷ lines)) rest,
+  length-append (line_of l) (flat_map line_of lines),
+  length-append l (10 ∷ []),
+))
 
 pub returns-clause-one_state : goal.returns-clause-one_state
 returns-clause-one_state c last output is = state_is last output is
@@ -145,8 +149,12 @@ no_answer actions requests [] caps capacity is of_actions answered =
     rw is at of_actions
 no_answer actions requests (r ∷ records) caps capacity is of_actions answered =
     let lines = rw is at answered in
-    absurd (omega (arith, ap length lines, length-append (record_text r) (10 ∷ []),
-    length-append (record_text r ++ 10 ∷ []) (answers requests (visits caps capacity (r ∷ []) records))))
+    absurd (omega (
+      arith,
+      ap length lines,
+      length-append (record_text r) (10 ∷ []),
+      length-append (record_text r ++ 10 ∷ []) (answers requests (visits caps capacity (r ∷ []) records)),
+    ))
 
 one_action : (actions : List Action) → Some (Ask Poll) ∷ [] ≡ map Some actions → actions ≡ Ask Poll ∷ []
 one_action [] e = absurd cc

@@ -66,8 +66,14 @@ returns-clause-too_long c first line long =
     (first, [], sym (append-nil (first ++ []) ∙ append-nil first), line, omega (arith, long))
 
 pub returns-clause-longest : goal.returns-clause-longest
-returns-clause-longest c first long is = absurd (omega (arith, long, is.4, ap length is.2,
-    length-append (is.0 ++ is.1) [], length-append is.0 is.1))
+returns-clause-longest c first long is = absurd (omega (
+  arith,
+  long,
+  is.4,
+  ap length is.2,
+  length-append (is.0 ++ is.1) [],
+  length-append is.0 is.1,
+))
 
 pub returns-clause-nothing_to_write : goal.returns-clause-nothing_to_write
 returns-clause-nothing_to_write c is =
