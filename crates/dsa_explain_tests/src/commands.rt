@@ -10,7 +10,7 @@ ghost use Rattle.dsa_regs.specs.declared.layout.ListUse.TheVariants.{Members, Pr
 ghost use Rattle.dsa_book.specs.declared.answer.IssueAnswer.TheVariants.{Active, Ended, Refused};
 ghost use Rattle.dsa_book.specs.declared.answer.PollAnswer.TheVariants as polled;
 ghost use Rattle.dsa_book.specs.declared.fate.Fate.TheVariants.{Aborted};
-ghost use Rattle.dsa_worked.specs.Setup.{configured, masked, row};
+ghost use Rattle.dsa_worked.specs.Setup.{configured, masked, no_op, row, slot};
 ghost use Rattle.dsa_worked.specs.Commands.{abort_of_a_pasid, drain_of_a_batch, drain_of_a_pasid, drain_of_a_queue, old_ticket_is_gone, refused_enables_and_writes};
 ghost use Rattle.dsa_worked.specs.Members.{abort_of_all_lists};
 ghost use Rattle.dsa_worked.specs.Phases.{commands_of_a_queue_that_is_off, commands_while_off};
@@ -19,7 +19,7 @@ ghost use Rattle.dsa_explain.specs.declared.command.PollReason.TheVariants.{Noth
 ghost use Rattle.dsa_explain.specs.Command.{fault_of, is_waiting, issue_by, issue_reason, poll_answer_by, poll_reason};
 ghost use Rattle.dsa_explain.specs.Held.{abort_row, aborted_entries, awaited_entry, losses};
 ghost use Rattle.dsa_explain_tests.specs.After.{told_after, told_from_first};
-ghost use Rattle.dsa_explain_tests.specs.Waits.{active_after, place, wait_after};
+ghost use Rattle.dsa_explain_tests.specs.Waits.{active_after, held_as, place, wait_after};
 
 /// Another command is active: which, and for how many entries it waits; whatever else stands against the new one.
 pub fn busy()
@@ -101,6 +101,7 @@ pub fn aborts()
     ensures of_a_queue { told_after (λ s. map place (aborted_entries s (AbortWq (masked 2)))) (take 8 abort_of_all_lists) ≡ Some ((4, Queue 1) ∷ (2, Progress 1) ∷ (3, Members 1) ∷ []) }
     ensures of_a_pasid { told_after (λ s. map place (aborted_entries s (AbortPasid 5))) (take 8 abort_of_all_lists) ≡ Some ((5, Queue 0) ∷ (0, Progress 0) ∷ (1, Members 0) ∷ []) }
     ensures of_another_pasid { told_after (λ s. map place (aborted_entries s (AbortPasid 6))) (take 8 abort_of_all_lists) ≡ Some [] }
+    ensures entry { told_after (λ s. aborted_entries s AbortAll) (take 4 old_ticket_is_gone) ≡ Some (held_as (Queue 0) (slot 0 1 None (record no_op { pasid = 5 }) 0 false) ∷ []) }
     ensures rows { told_after (λ s. map (abort_row (AbortPasid 5)) (aborted_entries s (AbortPasid 5))) (take 8 abort_of_all_lists) ≡ Some (row 5 None (Aborted 12) ∷ row 0 None (Aborted 12) ∷ row 1 (Some 0) (Aborted 12) ∷ []) }
 {}
 

@@ -18,9 +18,17 @@ ghost use Rattle.dsa_worked.specs.Phases.{disable_of_one_queue_of_two, disable_w
 ghost use Rattle.dsa_explain.specs.declared.submission.SubmitReason.TheVariants.{NotEnabled, WrongKind, AtLimit};
 ghost use Rattle.dsa_explain.specs.declared.write.WriteReason.TheVariants.{BadIndex, LockedQueue, LockedSize, LockedGroup};
 ghost use Rattle.dsa_explain.specs.declared.write.ClearReason.TheVariants.{NothingNoted};
+ghost use Rattle.dsa_explain.specs.Reasons.{with_reasons};
 ghost use Rattle.dsa_explain.specs.Submission.{submit_reason, submit_by, cause_of};
 ghost use Rattle.dsa_explain.specs.Write.{write_queue_reason, write_group_reason, write_by, clear_reason, fault_of};
 ghost use Rattle.dsa_explain_tests.specs.After.{told_after};
+
+/// A reason comes in place of what its row leads to, and the conditions stay; as many as there are of both.
+pub fn rows_with_reasons()
+    ensures each { with_reasons ((true, cause.AtLimit) ∷ (false, cause.NotEnabled) ∷ []) (fault.Busy ∷ fault.Locked ∷ []) ≡ (true, fault.Busy) ∷ (false, fault.Locked) ∷ [] }
+    ensures fewer_reasons { with_reasons ((true, cause.AtLimit) ∷ (false, cause.NotEnabled) ∷ []) (fault.Busy ∷ []) ≡ (true, fault.Busy) ∷ [] }
+    ensures fewer_rows { with_reasons ((false, cause.AtLimit) ∷ []) (fault.Busy ∷ fault.Locked ∷ []) ≡ (false, fault.Busy) ∷ [] }
+{}
 
 /// A queue is not on: the phases of the device and of the queue, where there is one.
 pub fn queues_that_are_not_on()
