@@ -1,7 +1,7 @@
 pub mod Waits
 pub mod After
 pub mod Wants
-pub mod Drains
+pub mod Histories
 pub mod Checks
 pub mod Sentences
 pub mod Parts

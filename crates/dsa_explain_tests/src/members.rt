@@ -22,7 +22,7 @@ ghost use Rattle.dsa_explain.specs.declared.finish.FinishReason.TheVariants.{Dra
 ghost use Rattle.dsa_explain.specs.Batch.{failed_member, fetch_answer, fetch_reason, fetch_reason_of, is_failed_in, name_of, start_answer, start_reason, unfetched, unstarted};
 ghost use Rattle.dsa_explain.specs.Finish.{finish_answer, finish_reason, unended};
 ghost use Rattle.dsa_explain_tests.specs.After.{of_one_group, with_few_buffers};
-ghost use Rattle.dsa_explain_tests.specs.Drains.{drain_behind_two};
+ghost use Rattle.dsa_explain_tests.specs.Histories.{batch_of_the_second_group, drain_behind_two};
 ghost use Rattle.dsa_explain_tests.specs.Wants.{want_of_a_member, few_wanted};
 
 /// Why no member is fetched: no engine, no batch, or how many of how many were, and whether the rest is abandoned.
@@ -30,6 +30,7 @@ pub fn fetches()
     ensures no_engine { seen_after (λ w. fetch_reason w 2) [] ≡ Some (Some fetch.NoEngine) }
     ensures no_batch { seen_after (λ w. fetch_reason w 1) (take 5 fence_waits) ≡ Some (Some fetch.NoBatch) }
     ensures all { seen_after (λ w. fetch_reason w 0) (take 5 fence_waits) ≡ Some (Some (fetch.AllFetched 3 3 false)) }
+    ensures on_the_second { seen_after (λ w. fetch_reason w 1) batch_of_the_second_group ≡ Some (Some (fetch.AllFetched 4 4 false)) }
     ensures closed { seen_after (λ w. fetch_reason w 0) (take 7 failure_abandons) ≡ Some (Some (fetch.AllFetched 3 2 true)) }
     ensures one_left { seen_after (λ w. fetch_reason w 0) (take 4 fence_waits) ≡ Some None }
     ensures failed_and_not_closed { seen_after (λ w. fetch_reason w 0) (take 6 failure_abandons) ≡ Some None }
@@ -113,6 +114,8 @@ pub fn ends_of_batches()
     ensures done { seen_after (λ w. finish_reason w 0 (ticket 0 0)) (take 12 batch_is_not_ready) ≡ Some None }
     ensures three_left { seen_after (λ w. finish_reason w 0 (ticket 0 0)) (take 5 fence_waits) ≡ Some (Some (MembersLeft 3)) }
     ensures closed { seen_after (λ w. finish_reason w 0 (ticket 0 0)) (take 7 failure_abandons) ≡ Some None }
+    ensures none_fetched_on_the_second { seen_after (λ w. finish_reason w 1 (ticket 0 0)) (take 2 batch_of_the_second_group) ≡ Some (Some (StillToFetch 0 4)) }
+    ensures left_on_the_second { seen_after (λ w. finish_reason w 1 (ticket 0 0)) batch_of_the_second_group ≡ Some (Some (MembersLeft 4)) }
     ensures beside_a_batch { seen_after (λ w. finish_reason w 0 (ticket 0 0)) (take 5 drain_of_a_batch) ≡ Some None }
 {}
 

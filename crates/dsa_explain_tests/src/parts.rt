@@ -3,7 +3,7 @@
 ghost use Rattle.std.specs.Prelude.{◌≡◌, [], ◌∷◌, Some, None, Ok, Err, codes, decimal, map, take};
 ghost use Rattle.dsa_regs.specs.Worked.{caps, dedicated_queue, first_group, second_group, shared_queue};
 ghost use Rattle.dsa_regs.specs.declared.Command.TheVariants.{AbortAll, AbortPasid, DisableDevice, DrainAll, DrainWq, EnableDevice, EnableWq, ResetWq};
-ghost use Rattle.dsa_regs.specs.declared.Fault.TheVariants.{BadCommand, BadIndex, Busy};
+ghost use Rattle.dsa_regs.specs.declared.Fault.TheVariants.{BadCommand, BadIndex, Busy, Locked};
 ghost use Rattle.dsa_regs.specs.declared.Scope.TheVariants.{Device, Pasid, Queue};
 ghost use Rattle.dsa_regs.specs.declared.layout.ListUse.TheVariants as list;
 ghost use Rattle.dsa_book.specs.declared.answer.ClearAnswer.TheVariants as clear;
@@ -15,18 +15,22 @@ ghost use Rattle.dsa_book.specs.declared.answer.PollAnswer.TheVariants as poll;
 ghost use Rattle.dsa_book.specs.declared.answer.StartAnswer.TheVariants.{Abandoned, FenceWait};
 ghost use Rattle.dsa_book.specs.declared.answer.SubmitAnswer.TheVariants.{Dropped, Retry};
 ghost use Rattle.dsa_book.specs.declared.answer.WriteAnswer.TheVariants as write;
-ghost use Rattle.dsa_book.specs.declared.answer.Cause.TheVariants.{AtLimit};
+ghost use Rattle.dsa_book.specs.declared.answer.Cause.TheVariants.{AtLimit, WrongKind};
 ghost use Rattle.dsa_book.specs.declared.event.Event.TheVariants as event;
+ghost use Rattle.dsa_book.specs.declared.event.Kind.TheVariants.{Enqcmd};
+ghost use Rattle.dsa_book.specs.declared.event.Portal.TheVariants.{Limited};
 ghost use Rattle.dsa_device.specs.Running.{running_at_first};
-ghost use Rattle.dsa_worked.specs.Setup.{cleared, configured, dispatched, enqcmd, fetched, finished, group_written, issued, masked, movdir, no_op, polled, queue_written, started, ticket, to_shared};
+ghost use Rattle.dsa_worked.specs.Setup.{cleared, configured, dispatched, enqcmd, enqcmd_unlimited, fetched, finished, group_written, issued, masked, movdir, no_op, polled, queue_written, started, ticket, to_shared, written};
 ghost use Rattle.dsa_worked.specs.Answers.{one_of_two_queues_waits, slots_are_full};
 ghost use Rattle.dsa_worked.specs.Batches.{buffers_of_a_batch, buffers_reserved_for_another, fence_waits};
 ghost use Rattle.dsa_worked.specs.Commands.{abort_of_a_pasid, drain_of_a_queue, old_ticket_is_gone, refused_enables_and_writes};
 ghost use Rattle.dsa_worked.specs.Members.{abort_of_all_lists, fence_before_buffers, three_are_abandoned};
+ghost use Rattle.dsa_worked.specs.Phases.{disable_with_a_queue_that_is_off};
 ghost use Rattle.dsa_worked.specs.Submissions.{dedicated_queue_overflows, forged_tickets, two_portals};
 ghost use Rattle.dsa_explain.specs.declared.check.CheckReason.TheVariants as check;
 ghost use Rattle.dsa_explain_lines.specs.Parts.{check_reason, dispatch_part, issue_part, joint, keeping_part, losses_part, part_of, queue_part, room_part, start_part, told_of, word_part};
 ghost use Rattle.dsa_explain_tests.specs.After.{of_three_groups, of_two_queues, told_after, told_from_first, with_few_buffers};
+ghost use Rattle.dsa_explain_tests.specs.Histories.{batch_of_the_second_group};
 ghost use Rattle.dsa_explain_tests.specs.Parts.{setup_of, told};
 
 /// A reason stands behind its mark, and nothing where there is none.
@@ -58,6 +62,7 @@ pub fn dispatches()
     ensures joints { of_two_queues (λ w. map (joint w 0) (0 ∷ 1 ∷ [])) [] ≡ Some (codes ": " ∷ codes "; " ∷ []) }
     ensures no_joint { of_two_queues (λ w. map (joint w 0) (0 ∷ 1 ∷ [])) (take 1 one_of_two_queues_waits) ≡ Some (codes ": " ∷ codes ": " ∷ []) }
     ensures kept { of_three_groups (λ w. dispatch_part w 1) (take 8 buffers_reserved_for_another) ≡ Some (codes ": q1's front 3 needs 4 read buffers, group 1 uses 4 of 8, all groups use 12 of 16, and 4 are kept, 4 for group 2") }
+    ensures kept_for_the_first { told batch_of_the_second_group (dispatched 1 Idle) ≡ Some (codes ": q1's front 5 needs 4 read buffers, group 1 uses 12 of 12, all groups use 12 of 16, and 4 are kept, 4 for group 0") }
     ensures none_kept { told (take 15 buffers_of_a_batch) (dispatched 0 Idle) ≡ Some (codes ": q0's front 6 needs 4 read buffers, group 0 uses 4 of 8, all groups use 16 of 16, and 0 are kept") }
     ensures slots { told (take 6 slots_are_full) (dispatched 0 Idle) ≡ Some (codes ": q0's front 3 waits for a slot, of which 2 of 2 are in use") }
 {}
@@ -68,6 +73,8 @@ pub fn starts()
     ensures fence { told (take 8 fence_waits) (started 0 FenceWait) ≡ Some (codes ": member 3 has a fence, and waits for 1") }
     ensures abandoned { told (take 8 three_are_abandoned) (started 0 (Abandoned 3)) ≡ Some (codes ": member 2 has a fence, member 1 before it failed, and 3 end unstarted") }
     ensures kept { with_few_buffers (λ w. start_part w 0) (take 9 fence_before_buffers) ≡ Some (codes ": the member needs 4 read buffers, group 0 uses 4 of 4, all groups use 4 of 16, and 8 are kept, 8 for group 1") }
+    ensures kept_for_the_first { told batch_of_the_second_group (started 1 FenceWait) ≡ Some (codes ": the member needs 4 read buffers, group 1 uses 12 of 12, all groups use 12 of 16, and 4 are kept, 4 for group 0") }
+    ensures none_on_the_other { told (take 8 fence_waits) (started 1 FenceWait) ≡ Some (codes ": no member waits on e1") }
     ensures starts { told (take 12 fence_waits) (started 0 FenceWait) ≡ Some [] }
 {}
 
@@ -116,6 +123,8 @@ pub fn refusals()
 #[tactic(auto, unfolding(dsa_scenario::specs::Worked::digits_on_literals))]
 pub fn events()
     ensures submit { told (take 2 two_portals) (enqcmd no_op (Retry AtLimit)) ≡ Some (codes ": q0 holds 2 entries, and the limited portal goes up to 2") }
+    ensures unlimited { told (take 5 two_portals) (enqcmd_unlimited 5 no_op (Retry AtLimit)) ≡ Some (codes ": q0 holds 4 entries, and the unlimited portal goes up to 4") }
+    ensures kind { told [] (written 1 Limited (Enqcmd 5) no_op (Retry WrongKind)) ≡ Some (codes ": q1 is dedicated, and takes movdir") }
     ensures dropped { told (take 2 dedicated_queue_overflows) (movdir no_op (Dropped AtLimit)) ≡ Some (codes ": q1 holds 2 entries, and the limited portal goes up to 2") }
     ensures accepted { told [] (to_shared no_op 0 0) ≡ Some [] }
     ensures fetch { told (take 5 fence_waits) (fetched 0 no_op AllFetched) ≡ Some (codes ": 3 of 3 members are fetched") }
@@ -124,6 +133,9 @@ pub fn events()
     ensures finish { told (take 5 old_ticket_is_gone) (finished 0 (ticket 0 0) Gone) ≡ Some (codes ": the cell of the ticket holds 1 by now") }
     ensures poll { told (take 4 drain_of_a_queue) (polled poll.Active) ≡ Some (codes ": the command waits for 1 entries, first for 0 in q0") }
     ensures queue { told [] (queue_written 2 shared_queue (write.Refused BadIndex)) ≡ Some (codes ": the device has 2 queues") }
+    ensures size { told (take 2 disable_with_a_queue_that_is_off) (queue_written 1 (record dedicated_queue { size = 1 }) (write.Refused Locked)) ≡ Some (codes ": the device is on, and the size stays 2") }
+    ensures same_size { told (take 2 disable_with_a_queue_that_is_off) (queue_written 1 dedicated_queue write.Written) ≡ Some [] }
+    ensures locked_group { told [] (group_written 1 first_group (write.Refused Locked)) ≡ Some (codes ": the device is on") }
     ensures group { told [] (group_written 2 first_group (write.Refused BadIndex)) ≡ Some (codes ": the device has 2 groups") }
     ensures clear { told [] (cleared clear.Nothing) ≡ Some (codes ": no error is noted") }
     ensures issue { told (take 4 drain_of_a_queue) (issued DrainAll (issue.Refused Busy)) ≡ Some (codes ": drain-wq 0x1 is active, and waits for 1 entries, first for 0 in q0") }
