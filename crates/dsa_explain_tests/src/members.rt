@@ -115,6 +115,7 @@ pub fn ends_of_batches()
     ensures three_left { seen_after (λ w. finish_reason w 0 (ticket 0 0)) (take 5 fence_waits) ≡ Some (Some (MembersLeft 3)) }
     ensures closed { seen_after (λ w. finish_reason w 0 (ticket 0 0)) (take 7 failure_abandons) ≡ Some None }
     ensures none_fetched_on_the_second { seen_after (λ w. finish_reason w 1 (ticket 0 0)) (take 2 batch_of_the_second_group) ≡ Some (Some (StillToFetch 0 4)) }
+    ensures one_fetched_on_the_second { seen_after (λ w. finish_reason w 1 (ticket 2 2)) (take 10 failures_beside_a_batch) ≡ Some (Some (StillToFetch 1 2)) }
     ensures left_on_the_second { seen_after (λ w. finish_reason w 1 (ticket 0 0)) batch_of_the_second_group ≡ Some (Some (MembersLeft 4)) }
     ensures beside_a_batch { seen_after (λ w. finish_reason w 0 (ticket 0 0)) (take 5 drain_of_a_batch) ≡ Some None }
 {}
