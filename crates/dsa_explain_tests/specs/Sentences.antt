@@ -6,15 +6,7 @@ use Rattle.dsa_explain.specs.declared.{buffers.BufferWant.{BufferWant}, held.Hel
 
 -- a want with another number in each field
 abbrev pub some_want : BufferWant
-some_want = record {
-  group = 3;
-  asked = 4;
-  used = 8;
-  allowed = 10;
-  buffers = 16;
-  in_use = 12;
-  kept = 6;
-}
+some_want = record { group = 3; asked = 4; used = 8; allowed = 10; buffers = 16; in_use = 12; kept = 6 }
 
 -- an entry of this name in a list
 abbrev pub held_at : ListUse → ℕ → Held
