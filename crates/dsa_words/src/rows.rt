@@ -111,7 +111,7 @@ pub fn submissions()
 {}
 
 /// The totals of such a run, with room for no step more.
-#[tactic(auto, unfolding(dsa_store::specs::Content::held))]
+#[tactic(auto, unfolding(dsa_store::specs::Content::held_count))]
 pub fn totals_of_a_run()
     ensures { AreTotalsOf (load 1 1 1 1) (record { accepted = 1; fetched = 0; retried = 0; done = 1; lost = 0; held = 0; steps = 7 }) }
 {}
