@@ -1,6 +1,7 @@
 //! Ways to make a text of a document, and what reads the document and writes the text around each of them.
 
-ghost use Rattle.std.specs.Prelude.{◌≡◌, ◌≢◌, ◌⊎◌, ◌≤◌, ◌+◌, List, Option, ℕ, IfOk, IfErr, IsErrOf, string_bytes};
+ghost use Rattle.std.specs.Prelude.{◌≡◌, ◌≢◌, ◌⊎◌, ◌<◌, ◌≤◌, ◌+◌, List, Option, ℕ, length, take, IfOk, IfErr, IsErrOf, string_bytes};
+ghost use Rattle.std.specs.Io.KnownBytes.{Appends};
 ghost use Rattle.dsa_scenario.specs.declared.faults.ScenarioFault.{ScenarioFault};
 ghost use Rattle.dsa_scenario.specs.Document.{IsFaultOf};
 ghost use Rattle.dsa_scenario.specs.Metered.{metered_remaining, budget_of, IsSameReader, IsFailureNoted};
@@ -78,7 +79,31 @@ pub fn render_metered<D: Render, R: Read, W: Write>(
     ensures failed { IsFailureNoted result reader.old reader.new }
 {
     let bytes = read_document(alloc, reader)?;
-    let rendering = what.render(alloc, &bytes)?;
+    write_rendering(alloc, what, &bytes, writer)
+}
+
+// Writes what `what` makes of these bytes. It gives the fault that is told after the text.
+fn write_rendering<D: Render, W: Write>(
+    alloc: Global,
+    what: &D,
+    bytes: &[u8],
+    writer: &mut WatchedWriter<'_, W>,
+) -> Result<Option<ScenarioFault>, ScenarioFault>
+    ensures same_writer { IsSameWriter writer.old writer.new }
+    ensures ok { IfOk result (λ fault. (text : List ℕ) × D.is_rendering what.now bytes.now fault text
+        × Appends (watched_contents W.contents writer.old) (watched_contents W.contents writer.new) text) }
+
+    // Only `Write` may have written, and then some of such a text.
+    ensures nothing { IfErr result (λ e. e ≢ ScenarioFault.Write → writer.new ≡ writer.old) }
+    ensures prefix { IsErrOf result ScenarioFault.Write → (text : List ℕ) × (fault : Option ScenarioFault) × (count : ℕ)
+        × D.is_rendering what.now bytes.now fault text × (count < length text)
+        × Appends (watched_contents W.contents writer.old) (watched_contents W.contents writer.new) (take count text) }
+    ensures refused { IsRefusalNoted result writer.old writer.new }
+
+    // Any other fault than of writing and of memory is the document's.
+    ensures document { IfErr result (λ e. (e ≡ ScenarioFault.Write) ⊎ (e ≡ ScenarioFault.OutOfMemory) ⊎ IsFaultOf bytes.now e) }
+{
+    let rendering = what.render(alloc, bytes)?;
     write_text(writer, rendering.text.as_bytes())?;
     Ok(rendering.fault)
 }
