@@ -21,9 +21,9 @@ ghost use Rattle.dsa_explain.specs.declared.batch.StartReason.TheVariants.{Faile
 ghost use Rattle.dsa_explain.specs.declared.finish.FinishReason.TheVariants.{DrainWaits, Elsewhere, MembersLeft, NoEngine, NoEntry, NotStarted, OtherName, StillToFetch};
 ghost use Rattle.dsa_explain.specs.Batch.{failed_member, fetch_answer, fetch_reason, fetch_reason_of, is_failed_in, name_of, start_answer, start_reason, unfetched, unstarted};
 ghost use Rattle.dsa_explain.specs.Finish.{finish_answer, finish_reason, unended};
-ghost use Rattle.dsa_explain_tests.specs.After.{of_one_group, with_few_buffers};
-ghost use Rattle.dsa_explain_tests.specs.Histories.{batch_of_the_second_group, drain_behind_two};
-ghost use Rattle.dsa_explain_tests.specs.Wants.{want_of_a_member, few_wanted};
+ghost use Rattle.dsa_explain_rows.specs.After.{of_one_group, with_few_buffers};
+ghost use Rattle.dsa_explain_rows.specs.Histories.{batch_of_the_second_group, drain_behind_two};
+ghost use Rattle.dsa_explain_rows.specs.Wants.{want_of_a_member, few_wanted};
 
 /// Why no member is fetched: no engine, no batch, or how many of how many were, and whether the rest is abandoned.
 pub fn fetches()

@@ -18,8 +18,8 @@ ghost use Rattle.dsa_explain.specs.declared.command.IssueReason.TheVariants.{Bus
 ghost use Rattle.dsa_explain.specs.declared.command.PollReason.TheVariants.{Nothing, Waits};
 ghost use Rattle.dsa_explain.specs.Command.{fault_of, is_waiting, issue_by, issue_reason, poll_answer_by, poll_reason};
 ghost use Rattle.dsa_explain.specs.Held.{abort_row, aborted_entries, awaited_entry, losses};
-ghost use Rattle.dsa_explain_tests.specs.After.{told_after, told_from_first};
-ghost use Rattle.dsa_explain_tests.specs.Waits.{active_after, held_as, place, wait_after};
+ghost use Rattle.dsa_explain_rows.specs.After.{told_after, told_from_first};
+ghost use Rattle.dsa_explain_rows.specs.Waits.{active_after, held_as, place, wait_after};
 
 /// Another command is active: which, and for how many entries it waits; whatever else stands against the new one.
 pub fn busy()

@@ -21,7 +21,7 @@ ghost use Rattle.dsa_explain.specs.declared.write.ClearReason.TheVariants.{Nothi
 ghost use Rattle.dsa_explain.specs.Reasons.{with_reasons};
 ghost use Rattle.dsa_explain.specs.Submission.{submit_reason, submit_by, cause_of};
 ghost use Rattle.dsa_explain.specs.Write.{write_queue_reason, write_group_reason, write_by, clear_reason, fault_of};
-ghost use Rattle.dsa_explain_tests.specs.After.{told_after};
+ghost use Rattle.dsa_explain_rows.specs.After.{told_after};
 
 /// A reason comes in place of what its row leads to, and the conditions stay; as many as there are of both.
 pub fn rows_with_reasons()

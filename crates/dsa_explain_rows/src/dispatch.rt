@@ -12,8 +12,8 @@ ghost use Rattle.dsa_explain.specs.declared.dispatch.EngineReason.TheVariants.{N
 ghost use Rattle.dsa_explain.specs.declared.dispatch.QueueReason.TheVariants.{Empty, NoSlot, NoBuffers, OtherBatch, OtherDrain};
 ghost use Rattle.dsa_explain.specs.Dispatch.{all_have_reasons, batch_name, drain_name, engine_reason, is_offered, queue_reason};
 ghost use Rattle.dsa_explain.specs.Buffers.{in_use, is_met, kept_for, kept_from, lacking, want_of};
-ghost use Rattle.dsa_explain_tests.specs.After.{of_three_groups, of_two_queues};
-ghost use Rattle.dsa_explain_tests.specs.Wants.{want_of_the_first, want_of_the_second, kept_want};
+ghost use Rattle.dsa_explain_rows.specs.After.{of_three_groups, of_two_queues};
+ghost use Rattle.dsa_explain_rows.specs.Wants.{want_of_the_first, want_of_the_second, kept_want};
 
 /// An engine that is not there, and one of no group, take nothing whatever the queues hold.
 pub fn engines()

@@ -9,7 +9,7 @@ ghost use Rattle.dsa_explain.specs.declared.groups.Bound.TheVariants.{Need, Rese
 ghost use Rattle.dsa_explain.specs.declared.groups.Named.TheVariants.{Engine, Queue};
 ghost use Rattle.dsa_explain.specs.Check.{at_most_a_word, fault_of, groups_reason, queue_reason, reason_for};
 ghost use Rattle.dsa_explain.specs.Groups.{first_past, naming_groups};
-ghost use Rattle.dsa_explain_tests.specs.Checks.{pair, pair_with, three, trio_with};
+ghost use Rattle.dsa_explain_rows.specs.Checks.{pair, pair_with, three, trio_with};
 
 /// Nothing is against the groups of the set-up, with sizes up to what the device has.
 pub fn groups_without_a_fault()

@@ -3,7 +3,7 @@ use Rattle.std.specs.Prelude.{ℕ, List, Option, unwrap_or}
 use Rattle.dsa_regs.specs.Worked.{caps}
 use Rattle.dsa_book.specs.{declared.event.Step.{Step}, Machine.{replay}, State.{Setup, opening}}
 use Rattle.dsa_explain_lines.specs.Parts.{event_part}
-use Rattle.dsa_explain_tests.specs.After.{told_after}
+use Rattle.dsa_explain_rows.specs.After.{told_after}
 
 -- what is told of a step after these
 abbrev pub told : List Step → Step → Option (List ℕ)

@@ -20,7 +20,7 @@ ghost use Rattle.dsa_explain.specs.declared.groups.Bound.TheVariants as bound;
 ghost use Rattle.dsa_explain.specs.declared.write.WriteReason.TheVariants as write;
 ghost use Rattle.dsa_explain.specs.declared.write.ClearReason.TheVariants as clear;
 ghost use Rattle.dsa_explain_lines.specs.Sentences.{check_sentence, clear_sentence, engine_sentence, fetch_sentence, finish_sentence, issue_sentence, kept_words, list_words, loss_words, phase_word, poll_sentence, queue_check_words, queue_sentence, start_sentence, submit_sentence, wait_sentence, write_sentence};
-ghost use Rattle.dsa_explain_tests.specs.Sentences.{held_at, some_want};
+ghost use Rattle.dsa_explain_rows.specs.Sentences.{held_at, some_want};
 
 /// Of a submission.
 #[tactic(auto, unfolding(dsa_scenario::specs::Worked::digits_on_literals))]

@@ -10,7 +10,7 @@ ghost use Rattle.dsa_worked.specs.Setup.{dispatched, issued, no_op, polled, take
 ghost use Rattle.dsa_scenario.specs.declared.run.Record.TheVariants.{Refused, Stepped};
 ghost use Rattle.dsa_explain_lines.specs.Lines.{asked_words, explained_line, is_taken, line_with, shown};
 ghost use Rattle.dsa_explain_lines.specs.Run.{IsExplanationOf};
-ghost use Rattle.dsa_explain_tests.specs.Lines.{at_first, at_last, steps_of_three, with_two_queues};
+ghost use Rattle.dsa_explain_rows.specs.Lines.{at_first, at_last, steps_of_three, with_two_queues};
 
 /// What was asked, where a word that is no command is told as one word.
 #[tactic(auto, unfolding(dsa_scenario::specs::Worked::digits_on_literals))]
