@@ -1,6 +1,6 @@
 //! Documents with Drains and with 64 queues, by the program.
 
-use crate::words::{Answer, run_on};
+use crate::words::leaves;
 use std::alloc::Global;
 use std::marker::Sync;
 use std::process::Abort;
@@ -24,8 +24,6 @@ const LARGE: &str =
 {"do":"command","word":1048576},
 {"do":"command","word":6291519}"#;
 
-const ENABLED: &str = "written\nwritten\nended 0\nended 0\n";
-
 const DISPATCH: &str = r#",{"do":"dispatch","engine":0}"#;
 
 const FINISH_FIRST: &str = r#",{"do":"finish","engine":0,"name":0,"fault":false}"#;
@@ -34,15 +32,16 @@ const FINISH_OTHER: &str = r#",{"do":"finish","engine":0,"name":1,"fault":false}
 
 const FINISH_DRAIN: &str = r#",{"do":"finish","engine":0,"name":2,"fault":true}"#;
 
-// The document with these steps behind its set-up, by the program.
-fn run<R: Threads + Wait + Abort + Sync>(
+// The document with these steps behind its set-up has these lines, by the program.
+fn writes<R: Threads + Wait + Abort + Sync>(
     rt: &R,
     alloc: Global,
-    set_up: &str,
-    steps: &[&str],
-) -> Answer {
+    (set_up, steps): (&str, &[&str]),
+    lines: &str,
+    row: usize,
+) {
     let document = document_of(rt, alloc, set_up, steps);
-    run_on(rt, alloc, &[], document.as_bytes())
+    leaves(rt, alloc, (&[], document.as_bytes()), (0, lines, ""), row);
 }
 
 fn document_of(rt: &impl Abort, alloc: Global, set_up: &str, steps: &[&str]) -> String {
@@ -52,11 +51,6 @@ fn document_of(rt: &impl Abort, alloc: Global, set_up: &str, steps: &[&str]) -> 
     }
     document.push_str("]}").expect(rt, "memory for the end");
     document
-}
-
-// What stands behind the lines of the set-up.
-fn lines(answer: &Answer) -> Option<&str> {
-    answer.out.strip_prefix(ENABLED)
 }
 
 // One program's Drain waits for that program's entry, and the other's is taken behind it.
@@ -83,12 +77,11 @@ fn drains_of_two_programs(rt: HostRuntime) {
         LAST,
     ];
     const WANT: &str =
-        "accepted 0\naccepted 1\naccepted 2\naccepted 3\ntaken 0 from 0\ntaken 1 from 0\ndone 01\n\
-        taken 2 from 0\nnot-ready\nidle\ndone 01\nidle\ndone 01\ntaken 3 from 0\ndone 01\n\
+        "written\nwritten\nended 0\nended 0\naccepted 0\naccepted 1\naccepted 2\naccepted 3\n\
+        taken 0 from 0\ntaken 1 from 0\ndone 01\ntaken 2 from 0\nnot-ready\nidle\ndone 01\nidle\ndone 01\n\
+        taken 3 from 0\ndone 01\n\
         fate 1 - completed 01\nfate 0 - completed 01\nfate 2 - completed 01\nfate 3 - completed 01\n";
-    let answer = run(&rt, rt.alloc(), SMALL, &STEPS);
-    same!(&rt; answer.status, 0);
-    same!(&rt; lines(&answer), Some(WANT));
+    writes(&rt, rt.alloc(), (SMALL, &STEPS), WANT, 0);
 }
 
 // A Drain in a batch is not supported, and one with a fence is not well formed.
@@ -105,11 +98,10 @@ fn no_drains(rt: HostRuntime) {
 {"do":"start","engine":0},
 {"do":"finish","engine":0,"name":2,"fault":false}"#;
     const WANT: &str =
-        "accepted 0\naccepted 1\ntaken 0 from 0\ndone 11\ntaken 1 from 0\nfetched 2\nstarted 2\ndone 10\n\
+        "written\nwritten\nended 0\nended 0\naccepted 0\naccepted 1\ntaken 0 from 0\ndone 11\n\
+        taken 1 from 0\nfetched 2\nstarted 2\ndone 10\n\
         fate 0 - completed 11\nfate 2 1 completed 10\n";
-    let answer = run(&rt, rt.alloc(), SMALL, &[STEPS]);
-    same!(&rt; answer.status, 0);
-    same!(&rt; lines(&answer), Some(WANT));
+    writes(&rt, rt.alloc(), (SMALL, &[STEPS]), WANT, 0);
 }
 
 // What is done with the last queue and engine, and a batch of so many.
@@ -126,26 +118,28 @@ const END: &str = r#",{"do":"dispatch","engine":63},{"do":"command","word":75694
 
 #[test]
 fn sixty_four_queues(rt: HostRuntime) {
-    const ROWS: [(&str, &str); 2] = [
-        (LARGEST_BATCH, "not-ready\n"),
-        (LARGER_BATCH, "done 14\nfate 0 - completed 14\n"),
+    const ROWS: [([&str; 3], &str); 2] = [
+        (
+            [MASK_PAST_THE_LAST, LARGEST_BATCH, END],
+            "written\nwritten\nended 0\nended 0\nrefused 14 BadQueue\naccepted 0\ntaken 0 from 63\nactive\n\
+            not-ready\n",
+        ),
+        (
+            [MASK_PAST_THE_LAST, LARGER_BATCH, END],
+            "written\nwritten\nended 0\nended 0\nrefused 14 BadQueue\naccepted 0\ntaken 0 from 63\nactive\n\
+            done 14\nfate 0 - completed 14\n",
+        ),
     ];
-    const BEFORE: &str = "refused 14 BadQueue\naccepted 0\ntaken 0 from 63\nactive\n";
-    for (row, (batch, last)) in ROWS.into_iter().enumerate() {
-        let answer = run(&rt, rt.alloc(), LARGE, &[MASK_PAST_THE_LAST, batch, END]);
-        same!(&rt; answer.status, 0, row);
-        let end = lines(&answer).expect(&rt, "the lines of the set-up");
-        same!(&rt; end.strip_prefix(BEFORE), Some(last), row);
+    for (row, (steps, lines)) in ROWS.iter().enumerate() {
+        writes(&rt, rt.alloc(), (LARGE, steps), lines, row);
     }
 }
 
 #[test]
 fn sixty_five_queues(rt: HostRuntime) {
-    const CAPS: &str =
+    const DOCUMENT: &str =
         r#"{"caps":{"queues":65,"groups":1,"engines":64,"total_size":4096,"read_buffers":255,
-"slots":16,"max_batch_shift":10,"max_xfer_shift":31},"capacity":100,"steps":["#;
-    let answer = run(&rt, rt.alloc(), CAPS, &[]);
-    same!(&rt; answer.status, 1);
-    same!(&rt; answer.out.as_str(), "");
-    same!(&rt; answer.err.as_str(), "dsa_run: bad caps\n");
+"slots":16,"max_batch_shift":10,"max_xfer_shift":31},"capacity":100,"steps":[]}"#;
+    let asked: (&[&str], &[u8]) = (&[], DOCUMENT.as_bytes());
+    leaves(&rt, rt.alloc(), asked, (1, "", "dsa_run: bad caps\n"), 0);
 }

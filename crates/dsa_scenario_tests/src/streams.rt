@@ -103,7 +103,7 @@ const READ: Result<(), ScenarioFault> = Err(ScenarioFault::Read);
 const WRITE: Result<(), ScenarioFault> = Err(ScenarioFault::Write);
 
 // What the reader gives and the writer takes, and what comes of it, as that row says.
-fn is_run(rt: &impl Abort, alloc: Global, number: usize, (given, taken, answer, lines): Row) {
+fn is_run(rt: &impl Abort, alloc: Global, number: usize, &(given, taken, answer, lines): &Row) {
     let mut reader = Trickle::new(DOCUMENT.as_bytes(), given);
     let mut writer = Narrow::new(alloc, taken);
     let result = run_scenario(alloc, &mut reader, &mut writer);
@@ -114,20 +114,19 @@ fn is_run(rt: &impl Abort, alloc: Global, number: usize, (given, taken, answer, 
 #[test]
 fn little_by_little(rt: HostRuntime) {
     // A reader that has given the last byte may still fail, in place of the end of input.
-    let length = DOCUMENT.len();
-    let rows: [Row; 10] = [
+    const ROWS: [Row; 10] = [
         ((ALL, ALL), (ALL, ALL), Ok(()), LINES),
         ((1, ALL), (ALL, ALL), Ok(()), LINES),
         ((ALL, 10), (ALL, ALL), READ, ""),
         ((1, 10), (ALL, ALL), READ, ""),
-        ((1, length), (ALL, ALL), READ, ""),
+        ((1, DOCUMENT.len()), (ALL, ALL), READ, ""),
         ((ALL, 0), (ALL, 0), READ, ""),
         ((ALL, ALL), (1, ALL), Ok(()), LINES),
         ((ALL, ALL), (ALL, 5), WRITE, "writt"),
         ((1, ALL), (1, 5), WRITE, "writt"),
         ((ALL, ALL), (0, ALL), WRITE, ""),
     ];
-    for (number, row) in rows.into_iter().enumerate() {
+    for (number, row) in ROWS.iter().enumerate() {
         is_run(&rt, rt.alloc(), number, row);
     }
 }

@@ -3,18 +3,12 @@
 use crate::streams::Narrow;
 use dsa_words::run_words;
 use std::alloc::{AllocError, Global};
+use std::io::Write;
 use std::marker::Sync;
 use std::process::Abort;
+use std::str::Lines;
 use std::sync::Wait;
 use std::thread::Threads;
-
-// The exit status, and what was written.
-#[derive(Drop)]
-pub struct Answer {
-    pub status: u8,
-    pub out: String,
-    pub err: String,
-}
 
 #[derive(Clone, Copy)]
 struct Totals {
@@ -34,52 +28,57 @@ fn strings(alloc: Global, words: &[&str]) -> Result<Vec<String>, AllocError> {
     Ok(strings)
 }
 
-fn run<R: Threads + Wait + Abort + Sync>(rt: &R, alloc: Global, words: &[&str]) -> Answer {
-    run_on(rt, alloc, words, &[])
-}
-
-// What the program does with these words and this input.
-pub fn run_on<R: Threads + Wait + Abort + Sync>(
+// The exit status of the program with these words and this input, and its errors. What it writes goes to `out`.
+fn status_of<R: Threads + Wait + Abort + Sync, W: Write>(
     rt: &R,
     alloc: Global,
     words: &[&str],
     input: &[u8],
-) -> Answer {
+    out: &mut W,
+) -> (u8, String) {
     let words = strings(alloc, words).expect(rt, "memory for the words");
     let mut reader = input;
-    let mut out = Vec::new(alloc);
     let mut err = Vec::new(alloc);
-    let status = run_words(rt, alloc, &words, &mut reader, &mut out, &mut err);
-    Answer {
-        status,
-        out: text_of(rt, out),
-        err: text_of(rt, err),
-    }
+    let status = run_words(rt, alloc, &words, &mut reader, out, &mut err);
+    (status, text_of(rt, err))
+}
+
+// The program with these words and this input has this exit status, output and errors.
+pub fn leaves<R: Threads + Wait + Abort + Sync>(
+    rt: &R,
+    alloc: Global,
+    (words, input): (&[&str], &[u8]),
+    wanted: (u8, &str, &str),
+    row: usize,
+) {
+    let mut out = Vec::new(alloc);
+    let (status, err) = status_of(rt, alloc, words, input, &mut out);
+    same!(rt; status, wanted.0, row);
+    same!(rt; text_of(rt, out).as_str(), wanted.1, row);
+    same!(rt; err.as_str(), wanted.2, row);
 }
 
 fn text_of(rt: &impl Abort, bytes: Vec<u8>) -> String {
     String::from_utf8(bytes).expect(rt, "text")
 }
 
-// The number behind the name, on a line of their own.
-fn number_of(line: Option<&str>, name: &str) -> Option<u32> {
-    line?.strip_prefix(name)?.strip_prefix(" ")?.parse().ok()
-}
-
-fn total_in(rt: &impl Abort, line: Option<&str>, name: &str) -> u32 {
-    number_of(line, name).expect(rt, "a number behind its name")
+// The number behind the name, on the next line.
+fn next_total(rt: &impl Abort, lines: &mut Lines<'_>, name: &str) -> u32 {
+    let line = lines.next().expect(rt, "a line");
+    let number = line.strip_prefix(name).expect(rt, "the name");
+    number.parse().expect(rt, "a number")
 }
 
 // The numbers of seven lines.
 fn totals_in(rt: &impl Abort, text: &str) -> Totals {
     let mut lines = text.lines();
     let totals = Totals {
-        accepted: total_in(rt, lines.next(), "accepted"),
-        fetched: total_in(rt, lines.next(), "fetched"),
-        retried: total_in(rt, lines.next(), "retried"),
-        done: total_in(rt, lines.next(), "done"),
-        lost: total_in(rt, lines.next(), "lost"),
-        held: total_in(rt, lines.next(), "held"),
+        accepted: next_total(rt, &mut lines, "accepted "),
+        fetched: next_total(rt, &mut lines, "fetched "),
+        retried: next_total(rt, &mut lines, "retried "),
+        done: next_total(rt, &mut lines, "done "),
+        lost: next_total(rt, &mut lines, "lost "),
+        held: next_total(rt, &mut lines, "held "),
     };
     same!(rt; lines.next(), Some("balanced"));
     claim!(rt; lines.next().is_none());
@@ -88,7 +87,7 @@ fn totals_in(rt: &impl Abort, text: &str) -> Totals {
 
 #[test]
 fn refused_words(rt: HostRuntime) {
-    let refused: [&[&str]; 17] = [
+    const REFUSED: [&[&str]; 17] = [
         &["fly"],
         &["--json"],
         &["check", "extra"],
@@ -107,17 +106,22 @@ fn refused_words(rt: HostRuntime) {
         &["threads", "--turns", "40001"],
         &["threads", "--turns", "4294967296"],
     ];
-    for (i, words) in refused.into_iter().enumerate() {
-        let answer = run(&rt, rt.alloc(), words);
-        same!(&rt; answer.status, 2, i);
-        same!(&rt; answer.out.as_str(), "", i);
-        claim!(&rt; answer.err.starts_with("error: "), i);
+    for (row, words) in REFUSED.iter().enumerate() {
+        is_refused(&rt, rt.alloc(), words, row);
     }
+}
+
+fn is_refused<R: Threads + Wait + Abort + Sync>(rt: &R, alloc: Global, words: &[&str], row: usize) {
+    let mut out = Vec::new(alloc);
+    let (status, err) = status_of(rt, alloc, words, &[], &mut out);
+    same!(rt; status, 2, row);
+    same!(rt; text_of(rt, out).as_str(), "", row);
+    claim!(rt; err.starts_with("error: "), row);
 }
 
 #[test]
 fn help(rt: HostRuntime) {
-    let asked: [&[&str]; 6] = [
+    const ASKED: [&[&str]; 6] = [
         &["--help"],
         &["help"],
         &["check", "--help"],
@@ -125,29 +129,33 @@ fn help(rt: HostRuntime) {
         &["threads", "--help"],
         &["help", "threads"],
     ];
-    for (i, words) in asked.into_iter().enumerate() {
-        let answer = run(&rt, rt.alloc(), words);
-        same!(&rt; answer.status, 0, i);
-        claim!(&rt; answer.out.contains("Usage: dsa_run"), i);
-        claim!(&rt; answer.out.contains("Exit status: 0"), i);
-        same!(&rt; answer.err.as_str(), "", i);
+    for (row, words) in ASKED.iter().enumerate() {
+        is_helped(&rt, rt.alloc(), words, row);
     }
+}
+
+fn is_helped<R: Threads + Wait + Abort + Sync>(rt: &R, alloc: Global, words: &[&str], row: usize) {
+    let mut out = Vec::new(alloc);
+    let (status, err) = status_of(rt, alloc, words, &[], &mut out);
+    same!(rt; status, 0, row);
+    let help = text_of(rt, out);
+    claim!(rt; help.contains("Usage: dsa_run"), row);
+    claim!(rt; help.contains("Exit status: 0"), row);
+    same!(rt; err.as_str(), "", row);
 }
 
 #[test]
 fn version(rt: HostRuntime) {
-    for word in ["--version", "-V"] {
-        let answer = run(&rt, rt.alloc(), &[word]);
-        same!(&rt; answer.status, 0);
-        same!(&rt; answer.out.as_str(), "dsa_run 1\n");
-        same!(&rt; answer.err.as_str(), "");
+    const ASKED: [&[&str]; 2] = [&["--version"], &["-V"]];
+    for (row, words) in ASKED.iter().enumerate() {
+        leaves(&rt, rt.alloc(), (words, &[]), (0, "dsa_run 1\n", ""), row);
     }
 }
 
 // The numbers depend on the schedule, and these facts do not.
 #[test]
 fn totals_balance(rt: HostRuntime) {
-    let runs: [(&[&str], u32); 7] = [
+    const RUNS: [(&[&str], u32); 7] = [
         (
             &[
                 "threads",
@@ -169,12 +177,23 @@ fn totals_balance(rt: HostRuntime) {
         (&["threads", "--turns", "40000"], 200),
         (&["threads", "--engines=8", "--each=1", "--clients=16"], 16),
     ];
-    for (i, (words, most)) in runs.into_iter().enumerate() {
-        let answer = run(&rt, rt.alloc(), words);
-        same!(&rt; answer.status, 0, i);
-        same!(&rt; answer.err.as_str(), "", i);
-        balances(&rt, i, totals_in(&rt, &answer.out), most);
+    for (row, (words, most)) in RUNS.iter().enumerate() {
+        is_balanced(&rt, rt.alloc(), words, *most, row);
     }
+}
+
+fn is_balanced<R: Threads + Wait + Abort + Sync>(
+    rt: &R,
+    alloc: Global,
+    words: &[&str],
+    most: u32,
+    row: usize,
+) {
+    let mut out = Vec::new(alloc);
+    let (status, err) = status_of(rt, alloc, words, &[], &mut out);
+    same!(rt; status, 0, row);
+    same!(rt; err.as_str(), "", row);
+    balances(rt, row, totals_in(rt, &text_of(rt, out)), most);
 }
 
 // As many entries went as came. Some submissions were accepted, and no more than there are.
@@ -191,10 +210,8 @@ fn balances(rt: &impl Abort, i: usize, totals: Totals, most: u32) {
 #[test]
 fn few_are_all_accepted(rt: HostRuntime) {
     let words = ["threads", "--each", "3", "--turns", "3"];
-    let answer = run(&rt, rt.alloc(), &words);
-    same!(&rt; answer.status, 0);
     let all = "accepted 6\nfetched 0\nretried 0\ndone 0\nlost 0\nheld 6\nbalanced\n";
-    same!(&rt; answer.out.as_str(), all);
+    leaves(&rt, rt.alloc(), (&words, &[]), (0, all, ""), 0);
 }
 
 // In one turn a client submits once, and an engine ends nothing.
@@ -211,10 +228,8 @@ fn least(rt: HostRuntime) {
         "--turns",
         "1",
     ];
-    let answer = run(&rt, rt.alloc(), &words);
-    same!(&rt; answer.status, 0);
     let one = "accepted 1\nfetched 0\nretried 0\ndone 0\nlost 0\nheld 1\nbalanced\n";
-    same!(&rt; answer.out.as_str(), one);
+    leaves(&rt, rt.alloc(), (&words, &[]), (0, one, ""), 0);
 }
 
 // The program writes this to an output that takes no more.
@@ -224,23 +239,20 @@ fn output_is_cut<R: Threads + Wait + Abort + Sync>(
     words: &[&str],
     first: &[u8],
 ) {
-    let words = strings(alloc, words).expect(rt, "memory for the words");
-    let mut reader: &[u8] = &[];
     let mut out = Narrow::new(alloc, (usize::MAX, 5));
-    let mut err = Vec::new(alloc);
-    let status = run_words(rt, alloc, &words, &mut reader, &mut out, &mut err);
+    let (status, err) = status_of(rt, alloc, words, &[], &mut out);
     same!(rt; status, 1);
     same!(rt; out.taken.as_slice(), first);
-    same!(rt; text_of(rt, err).as_str(), "dsa_run: write failed\n");
+    same!(rt; err.as_str(), "dsa_run: write failed\n");
 }
 
 #[test]
 fn output_fails(rt: HostRuntime) {
-    let asked: [(&[&str], &[u8]); 2] = [
+    const ASKED: [(&[&str], &[u8]); 2] = [
         (&["threads", "--turns", "1"], b"accep"),
         (&["--help"], b"Runs "),
     ];
-    for (words, first) in asked {
+    for (words, first) in &ASKED {
         output_is_cut(&rt, rt.alloc(), words, first);
     }
 }
