@@ -43,6 +43,18 @@ fn status_of<R: Threads + Wait + Abort + Sync, W: Write>(
     (status, text_of(rt, err))
 }
 
+// The exit status, the output and the errors.
+fn answer_of<R: Threads + Wait + Abort + Sync>(
+    rt: &R,
+    alloc: Global,
+    words: &[&str],
+    input: &[u8],
+) -> (u8, String, String) {
+    let mut out = Vec::new(alloc);
+    let (status, err) = status_of(rt, alloc, words, input, &mut out);
+    (status, text_of(rt, out), err)
+}
+
 // The program with these words and this input has this exit status, output and errors.
 pub fn leaves<R: Threads + Wait + Abort + Sync>(
     rt: &R,
@@ -51,10 +63,9 @@ pub fn leaves<R: Threads + Wait + Abort + Sync>(
     wanted: (u8, &str, &str),
     row: usize,
 ) {
-    let mut out = Vec::new(alloc);
-    let (status, err) = status_of(rt, alloc, words, input, &mut out);
+    let (status, out, err) = answer_of(rt, alloc, words, input);
     same!(rt; status, wanted.0, row);
-    same!(rt; text_of(rt, out).as_str(), wanted.1, row);
+    same!(rt; out.as_str(), wanted.1, row);
     same!(rt; err.as_str(), wanted.2, row);
 }
 
@@ -112,10 +123,9 @@ fn refused_words(rt: HostRuntime) {
 }
 
 fn is_refused<R: Threads + Wait + Abort + Sync>(rt: &R, alloc: Global, words: &[&str], row: usize) {
-    let mut out = Vec::new(alloc);
-    let (status, err) = status_of(rt, alloc, words, &[], &mut out);
+    let (status, out, err) = answer_of(rt, alloc, words, &[]);
     same!(rt; status, 2, row);
-    same!(rt; text_of(rt, out).as_str(), "", row);
+    same!(rt; out.as_str(), "", row);
     claim!(rt; err.starts_with("error: "), row);
 }
 
@@ -135,12 +145,10 @@ fn help(rt: HostRuntime) {
 }
 
 fn is_helped<R: Threads + Wait + Abort + Sync>(rt: &R, alloc: Global, words: &[&str], row: usize) {
-    let mut out = Vec::new(alloc);
-    let (status, err) = status_of(rt, alloc, words, &[], &mut out);
+    let (status, out, err) = answer_of(rt, alloc, words, &[]);
     same!(rt; status, 0, row);
-    let help = text_of(rt, out);
-    claim!(rt; help.contains("Usage: dsa_run"), row);
-    claim!(rt; help.contains("Exit status: 0"), row);
+    claim!(rt; out.contains("Usage: dsa_run"), row);
+    claim!(rt; out.contains("Exit status: 0"), row);
     same!(rt; err.as_str(), "", row);
 }
 
@@ -189,11 +197,10 @@ fn is_balanced<R: Threads + Wait + Abort + Sync>(
     most: u32,
     row: usize,
 ) {
-    let mut out = Vec::new(alloc);
-    let (status, err) = status_of(rt, alloc, words, &[], &mut out);
+    let (status, out, err) = answer_of(rt, alloc, words, &[]);
     same!(rt; status, 0, row);
     same!(rt; err.as_str(), "", row);
-    balances(rt, row, totals_in(rt, &text_of(rt, out)), most);
+    balances(rt, row, totals_in(rt, &out), most);
 }
 
 // As many entries went as came. Some submissions were accepted, and no more than there are.
@@ -232,17 +239,21 @@ fn least(rt: HostRuntime) {
     leaves(&rt, rt.alloc(), (&words, &[]), (0, one, ""), 0);
 }
 
-// The program writes this to an output that takes no more.
-fn output_is_cut<R: Threads + Wait + Abort + Sync>(
+// The exit status, what the output took, and the errors, where the output takes five bytes and no more.
+fn cut_answer<R: Threads + Wait + Abort + Sync>(
     rt: &R,
     alloc: Global,
     words: &[&str],
-    first: &[u8],
-) {
+) -> (u8, Vec<u8>, String) {
     let mut out = Narrow::new(alloc, (usize::MAX, 5));
     let (status, err) = status_of(rt, alloc, words, &[], &mut out);
+    (status, out.taken, err)
+}
+
+fn is_cut<R: Threads + Wait + Abort + Sync>(rt: &R, alloc: Global, words: &[&str], first: &[u8]) {
+    let (status, taken, err) = cut_answer(rt, alloc, words);
     same!(rt; status, 1);
-    same!(rt; out.taken.as_slice(), first);
+    same!(rt; taken.as_slice(), first);
     same!(rt; err.as_str(), "dsa_run: write failed\n");
 }
 
@@ -253,6 +264,6 @@ fn output_fails(rt: HostRuntime) {
         (&["--help"], b"Runs "),
     ];
     for (words, first) in &ASKED {
-        output_is_cut(&rt, rt.alloc(), words, first);
+        is_cut(&rt, rt.alloc(), words, first);
     }
 }
