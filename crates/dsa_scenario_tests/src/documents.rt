@@ -140,6 +140,6 @@ fn sixty_five_queues(rt: HostRuntime) {
     const DOCUMENT: &str =
         r#"{"caps":{"queues":65,"groups":1,"engines":64,"total_size":4096,"read_buffers":255,
 "slots":16,"max_batch_shift":10,"max_xfer_shift":31},"capacity":100,"steps":[]}"#;
-    let asked: (&[&str], &[u8]) = (&[], DOCUMENT.as_bytes());
-    leaves(&rt, rt.alloc(), asked, (1, "", "dsa_run: bad caps\n"), 0);
+    const WANTED: (u8, &str, &str) = (1, "", "dsa_run: bad caps\n");
+    leaves(&rt, rt.alloc(), (&[], DOCUMENT.as_bytes()), WANTED, 0);
 }

@@ -216,15 +216,15 @@ fn balances(rt: &impl Abort, i: usize, totals: Totals, most: u32) {
 // Six submissions do not come to the threshold of 8, so all are accepted; in three turns no engine ends an entry.
 #[test]
 fn few_are_all_accepted(rt: HostRuntime) {
-    let words = ["threads", "--each", "3", "--turns", "3"];
+    const WORDS: &[&str] = &["threads", "--each", "3", "--turns", "3"];
     let all = "accepted 6\nfetched 0\nretried 0\ndone 0\nlost 0\nheld 6\nbalanced\n";
-    leaves(&rt, rt.alloc(), (&words, &[]), (0, all, ""), 0);
+    leaves(&rt, rt.alloc(), (WORDS, &[]), (0, all, ""), 0);
 }
 
 // In one turn a client submits once, and an engine ends nothing.
 #[test]
 fn least(rt: HostRuntime) {
-    let words = [
+    const WORDS: &[&str] = &[
         "threads",
         "--clients",
         "1",
@@ -236,7 +236,7 @@ fn least(rt: HostRuntime) {
         "1",
     ];
     let one = "accepted 1\nfetched 0\nretried 0\ndone 0\nlost 0\nheld 1\nbalanced\n";
-    leaves(&rt, rt.alloc(), (&words, &[]), (0, one, ""), 0);
+    leaves(&rt, rt.alloc(), (WORDS, &[]), (0, one, ""), 0);
 }
 
 // The exit status, what the output took, and the errors, where the output takes five bytes and no more.
