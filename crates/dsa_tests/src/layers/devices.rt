@@ -18,21 +18,21 @@ use std::alloc::Global;
 use std::fmt::InlineText;
 use std::process::Abort;
 
-fn device(rt: &impl Abort, alloc: Global, capacity: u64) -> Device<PlainStore> {
-    match Device::new(alloc, store(rt, alloc), CAPS, capacity) {
+fn device<S: EntryStore>(rt: &impl Abort, alloc: Global, store: S, capacity: u64) -> Device<S> {
+    match Device::new(alloc, store, CAPS, capacity) {
         Ok(device) => device,
         Err(_) => panic!(rt; "the device was not made"),
     }
 }
 
 // The fault that comes over a store, and the store as it came back.
-fn refused(
+fn refused<S: EntryStore>(
     rt: &impl Abort,
     alloc: Global,
     caps: Caps,
     capacity: u64,
-    store: PlainStore,
-) -> (MakeFault, PlainStore) {
+    store: S,
+) -> (MakeFault, S) {
     match Device::new(alloc, store, caps, capacity) {
         Ok(_) => panic!(rt; "the device was made"),
         Err(refused) => refused,
@@ -92,13 +92,12 @@ fn sentences_of_faults(rt: HostRuntime) {
 }
 
 // The entry in the first list of the store.
-fn push(rt: &impl Abort, store: &mut PlainStore, entry: Entry) -> Cell {
+fn push<S: EntryStore>(rt: &impl Abort, store: &mut S, entry: Entry) -> Cell {
     assert!(rt; store.lists() == LISTS);
     store.push_back(ListId(0), entry).expect(rt, "a free cell")
 }
 
-#[test]
-fn store_with_an_entry_comes_back(rt: HostRuntime) {
+fn comes_back<S: EntryStore>(rt: &impl Abort, alloc: Global, mut store: S) {
     const ENTRY: Entry = Entry {
         name: 7,
         parent: None,
@@ -106,16 +105,20 @@ fn store_with_an_entry_comes_back(rt: HostRuntime) {
         queue: 0,
         running: false,
     };
-    let mut store = store(&rt, rt.alloc());
-    let cell = push(&rt, &mut store, ENTRY);
-    let (found, back) = refused(&rt, rt.alloc(), CAPS, 8, store);
-    claim!(&rt; found == MakeFault::BadStore);
-    claim!(&rt; back.get(cell) == Some(ENTRY));
-    claim!(&rt; back.free() == CELLS - 1);
+    let cell = push(rt, &mut store, ENTRY);
+    let (found, back) = refused(rt, alloc, CAPS, 8, store);
+    claim!(rt; found == MakeFault::BadStore);
+    claim!(rt; back.get(cell) == Some(ENTRY));
+    claim!(rt; back.free() == CELLS - 1);
+}
+
+#[test]
+fn store_with_an_entry_comes_back(rt: HostRuntime) {
+    comes_back(&rt, rt.alloc(), store(&rt, rt.alloc()));
 }
 
 // Nothing has happened to the device.
-fn is_unused(rt: &impl Abort, device: &Device<PlainStore>) {
+fn is_unused<S: EntryStore>(rt: &impl Abort, device: &Device<S>) {
     claim!(rt; device.noted().is_none());
     claim!(rt; device.active().is_none());
     claim!(rt; device.next_name() == 0);
@@ -125,24 +128,28 @@ fn is_unused(rt: &impl Abort, device: &Device<PlainStore>) {
 }
 
 // What waits in queue 0, the read buffers that the first group uses, and all that is held.
-fn counts(device: &Device<PlainStore>) -> (Option<u16>, Option<u16>, u32) {
+fn counts<S: EntryStore>(device: &Device<S>) -> (Option<u16>, Option<u16>, u32) {
     (device.occupancy(0), device.used(0), device.held())
+}
+
+fn is_new<S: EntryStore>(rt: &impl Abort, alloc: Global, store: S) {
+    let device = device(rt, alloc, store, 8);
+    device.state_is_replay();
+    is_unused(rt, &device);
+    claim!(rt; counts(&device) == (Some(0), Some(0), 0));
+    claim!(rt; device.occupancy(2).is_none());
+    claim!(rt; device.used(2).is_none());
+    claim!(rt; device.caps() == CAPS);
+    claim!(rt; device.capacity() == 8);
 }
 
 #[test]
 fn new_device(rt: HostRuntime) {
-    let device = device(&rt, rt.alloc(), 8);
-    device.state_is_replay();
-    is_unused(&rt, &device);
-    claim!(&rt; counts(&device) == (Some(0), Some(0), 0));
-    claim!(&rt; device.occupancy(2).is_none());
-    claim!(&rt; device.used(2).is_none());
-    claim!(&rt; device.caps() == CAPS);
-    claim!(&rt; device.capacity() == 8);
+    is_new(&rt, rt.alloc(), store(&rt, rt.alloc()));
 }
 
 // The step of an event by the call for such events.
-fn call(device: &mut Device<PlainStore>, event: Event) -> Reply {
+fn call<S: EntryStore>(device: &mut Device<S>, event: Event) -> Reply {
     match event {
         Event::Submit {
             client,
@@ -168,7 +175,7 @@ fn call(device: &mut Device<PlainStore>, event: Event) -> Reply {
 }
 
 // The events come in turn, each with its reply.
-fn replies(rt: &impl Abort, device: &mut Device<PlainStore>, rows: &[(Event, Reply)]) {
+fn replies<S: EntryStore>(rt: &impl Abort, device: &mut Device<S>, rows: &[(Event, Reply)]) {
     for (event, reply) in rows {
         claim!(rt; call(device, *event) == *reply);
     }
@@ -211,8 +218,7 @@ const FINISH: Event = Event::Finish {
     outcome: Outcome::Success,
 };
 
-#[test]
-fn steps_while_off(rt: HostRuntime) {
+fn is_off<S: EntryStore>(rt: &impl Abort, alloc: Global, store: S) {
     const NOTED: NotedError = NotedError {
         queue: 0,
         cause: Cause::NotEnabled,
@@ -263,15 +269,19 @@ fn steps_while_off(rt: HostRuntime) {
             Reply::Issue(IssueAnswer::Refused(Fault::WrongState)),
         ),
     ];
-    let mut device = device(&rt, rt.alloc(), 8);
-    replies(&rt, &mut device, &SUBMITTED);
-    claim!(&rt; device.noted() == Some(NOTED));
-    replies(&rt, &mut device, &STEPS);
-    claim!(&rt; device.history().len() == 5);
+    let mut device = device(rt, alloc, store, 8);
+    replies(rt, &mut device, &SUBMITTED);
+    claim!(rt; device.noted() == Some(NOTED));
+    replies(rt, &mut device, &STEPS);
+    claim!(rt; device.history().len() == 5);
 }
 
 #[test]
-fn no_room_for_any_step(rt: HostRuntime) {
+fn steps_while_off(rt: HostRuntime) {
+    is_off(&rt, rt.alloc(), store(&rt, rt.alloc()));
+}
+
+fn is_full<S: EntryStore>(rt: &impl Abort, alloc: Global, store: S) {
     const STEPS: [(Event, Reply); 10] = [
         (ZEROS, Reply::Submit(SubmitAnswer::Full)),
         (DISPATCH, Reply::Dispatch(DispatchAnswer::Full)),
@@ -289,9 +299,14 @@ fn no_room_for_any_step(rt: HostRuntime) {
         (WRITE_GROUP, Reply::Write(WriteAnswer::Full)),
         (Event::ClearError, Reply::Clear(ClearAnswer::Full)),
     ];
-    let mut device = device(&rt, rt.alloc(), 0);
-    replies(&rt, &mut device, &STEPS);
-    claim!(&rt; device.history().len() == 0);
+    let mut device = device(rt, alloc, store, 0);
+    replies(rt, &mut device, &STEPS);
+    claim!(rt; device.history().len() == 0);
+}
+
+#[test]
+fn no_room_for_any_step(rt: HostRuntime) {
+    is_full(&rt, rt.alloc(), store(&rt, rt.alloc()));
 }
 
 // A Memory Move of two pages.
@@ -307,15 +322,15 @@ fn submission(desc: Descriptor) -> Event {
     }
 }
 
-fn enabled(rt: &impl Abort, alloc: Global, capacity: u64) -> Device<PlainStore> {
-    let mut device = device(rt, alloc, capacity);
+fn enabled<S: EntryStore>(rt: &impl Abort, alloc: Global, store: S, capacity: u64) -> Device<S> {
+    let mut device = device(rt, alloc, store, capacity);
     let mut steps = Vec::new(alloc);
     claim!(rt; device.run(&ENABLED, &mut steps).is_ok());
     device
 }
 
 // The ticket of a descriptor that is accepted.
-fn accepted(rt: &impl Abort, device: &mut Device<PlainStore>, desc: Descriptor) -> Ticket {
+fn accepted<S: EntryStore>(rt: &impl Abort, device: &mut Device<S>, desc: Descriptor) -> Ticket {
     let Reply::Submit(SubmitAnswer::Accepted(ticket)) = device.step(submission(desc)) else {
         panic!(rt; "not accepted");
     };
@@ -338,20 +353,24 @@ fn is_ended(ticket: Ticket, outcome: Outcome, answer: FinishAnswer) -> (Event, R
     (event, Reply::Finish(answer))
 }
 
+fn move_ends<S: EntryStore>(rt: &impl Abort, alloc: Global, store: S) {
+    let mut device = enabled(rt, alloc, store, 7);
+    let ticket = accepted(rt, &mut device, MOVE);
+    claim!(rt; ticket.name == 0);
+    claim!(rt; counts(&device) == (Some(1), Some(0), 1));
+    let idle = (DISPATCH, Reply::Dispatch(DispatchAnswer::Idle));
+    replies(rt, &mut device, &[is_taken(ticket), idle]);
+    claim!(rt; counts(&device) == (Some(0), Some(2), 1));
+    ends_in_the_last_place(rt, &mut device, ticket);
+}
+
 #[test]
 fn move_from_submission_to_fate(rt: HostRuntime) {
-    let mut device = enabled(&rt, rt.alloc(), 7);
-    let ticket = accepted(&rt, &mut device, MOVE);
-    claim!(&rt; ticket.name == 0);
-    claim!(&rt; counts(&device) == (Some(1), Some(0), 1));
-    let idle = (DISPATCH, Reply::Dispatch(DispatchAnswer::Idle));
-    replies(&rt, &mut device, &[is_taken(ticket), idle]);
-    claim!(&rt; counts(&device) == (Some(0), Some(2), 1));
-    ends_in_the_last_place(&rt, &mut device, ticket);
+    move_ends(&rt, rt.alloc(), store(&rt, rt.alloc()));
 }
 
 // The entry ends by a page fault, whose step takes the last of the places.
-fn ends_in_the_last_place(rt: &impl Abort, device: &mut Device<PlainStore>, ticket: Ticket) {
+fn ends_in_the_last_place<S: EntryStore>(rt: &impl Abort, device: &mut Device<S>, ticket: Ticket) {
     let done = is_ended(ticket, Outcome::PageFault, FinishAnswer::Done(0x03));
     let full = is_ended(ticket, Outcome::Success, FinishAnswer::Full);
     let last = (Event::Poll, Reply::Poll(PollAnswer::Full));
@@ -363,12 +382,11 @@ fn ends_in_the_last_place(rt: &impl Abort, device: &mut Device<PlainStore>, tick
 }
 
 // A Drain ends after what was submitted before it, whatever the outcome.
-#[test]
-fn drain_waits_for_an_entry(rt: HostRuntime) {
+fn drain_waits<S: EntryStore>(rt: &impl Abort, alloc: Global, store: S) {
     const DONE: FinishAnswer = FinishAnswer::Done(0x01);
-    let mut device = enabled(&rt, rt.alloc(), 64);
-    let first = accepted(&rt, &mut device, NO_OP);
-    let drain = accepted(&rt, &mut device, DRAIN);
+    let mut device = enabled(rt, alloc, store, 64);
+    let first = accepted(rt, &mut device, NO_OP);
+    let drain = accepted(rt, &mut device, DRAIN);
     let steps = [
         is_taken(first),
         is_taken(drain),
@@ -376,33 +394,42 @@ fn drain_waits_for_an_entry(rt: HostRuntime) {
         is_ended(first, Outcome::Success, DONE),
         is_ended(drain, Outcome::PageFault, DONE),
     ];
-    replies(&rt, &mut device, &steps);
-    claim!(&rt; device.fates().len() == 2);
-    claim!(&rt; device.held() == 0);
+    replies(rt, &mut device, &steps);
+    claim!(rt; device.fates().len() == 2);
+    claim!(rt; device.held() == 0);
 }
 
 #[test]
-fn drain_ends_with_its_batch(rt: HostRuntime) {
+fn drain_waits_for_an_entry(rt: HostRuntime) {
+    drain_waits(&rt, rt.alloc(), store(&rt, rt.alloc()));
+}
+
+fn drain_ends<S: EntryStore>(rt: &impl Abort, alloc: Global, store: S) {
     const DRAIN_ALL: (Event, Reply) = (
         Event::Issue {
             command: Command::DrainAll,
         },
         Reply::Issue(IssueAnswer::Active),
     );
-    let mut device = enabled(&rt, rt.alloc(), 64);
-    let ticket = accepted(&rt, &mut device, batch_of(2));
-    replies(&rt, &mut device, &[is_taken(ticket), DRAIN_ALL]);
-    claim!(&rt; device.active() == Some(Command::DrainAll));
+    let mut device = enabled(rt, alloc, store, 64);
+    let ticket = accepted(rt, &mut device, batch_of(2));
+    replies(rt, &mut device, &[is_taken(ticket), DRAIN_ALL]);
+    claim!(rt; device.active() == Some(Command::DrainAll));
     for _ in 0..2 {
-        member_ends(&rt, &mut device, ticket);
+        member_ends(rt, &mut device, ticket);
     }
-    batch_ends(&rt, &mut device, ticket);
-    claim!(&rt; device.active().is_none());
+    batch_ends(rt, &mut device, ticket);
+    claim!(rt; device.active().is_none());
+}
+
+#[test]
+fn drain_ends_with_its_batch(rt: HostRuntime) {
+    drain_ends(&rt, rt.alloc(), store(&rt, rt.alloc()));
 }
 
 // The engine works on a batch, of which it fetched one member, while a No-op waits in the queue. The tickets are those of
 // batch, member and No-op.
-fn works(rt: &impl Abort, device: &mut Device<PlainStore>) -> [Ticket; 3] {
+fn works<S: EntryStore>(rt: &impl Abort, device: &mut Device<S>) -> [Ticket; 3] {
     let batch = accepted(rt, device, batch_of(2));
     replies(rt, device, &[is_taken(batch)]);
     let no_op = accepted(rt, device, NO_OP);
@@ -411,9 +438,9 @@ fn works(rt: &impl Abort, device: &mut Device<PlainStore>) -> [Ticket; 3] {
 }
 
 // The tickets of the first two entries that the walk yields.
-fn tickets(
+fn tickets<S: EntryStore>(
     rt: &impl Abort,
-    slots: Option<Walk<'_, PlainStore>>,
+    slots: Option<Walk<'_, S>>,
 ) -> (Option<Ticket>, Option<Ticket>) {
     let Some(mut slots) = slots else {
         panic!(rt; "there is no such list");
@@ -429,43 +456,46 @@ fn ticket_of((cell, entry): (Cell, Entry)) -> Ticket {
     }
 }
 
-#[test]
-fn readers_of_what_is_configured(rt: HostRuntime) {
-    let mut device = enabled(&rt, rt.alloc(), 64);
-    let _ = works(&rt, &mut device);
+fn configured_is_read<S: EntryStore>(rt: &impl Abort, alloc: Global, store: S) {
+    let mut device = enabled(rt, alloc, store, 64);
+    let _ = works(rt, &mut device);
     let disable = Command::DisableWq(FIRST_QUEUE);
-    claim!(&rt; device.issue(disable) == IssueAnswer::Active);
+    claim!(rt; device.issue(disable) == IssueAnswer::Active);
     let whole = (device.phase(), device.is_full(), device.awaited());
-    claim!(&rt; whole == (Phase::On, false, Some(3)));
+    claim!(rt; whole == (Phase::On, false, Some(3)));
     let phases = [
         device.queue_phase(0),
         device.queue_phase(1),
         device.queue_phase(2),
     ];
-    claim!(&rt; phases == [Some(Phase::Stopping), Some(Phase::Off), None]);
+    claim!(rt; phases == [Some(Phase::Stopping), Some(Phase::Off), None]);
     let queues = [
         device.queue_config(0),
         device.queue_config(1),
         device.queue_config(2),
     ];
-    claim!(&rt; queues == [Some(QUEUE), Some(QueueConfig::default()), None]);
-    claim!(&rt; [device.group_config(0), device.group_config(2)] == [Some(GROUP), None]);
+    claim!(rt; queues == [Some(QUEUE), Some(QueueConfig::default()), None]);
+    claim!(rt; [device.group_config(0), device.group_config(2)] == [Some(GROUP), None]);
 }
 
 #[test]
-fn readers_of_entries(rt: HostRuntime) {
-    let mut device = enabled(&rt, rt.alloc(), 64);
-    let [batch, member, no_op] = works(&rt, &mut device);
-    claim!(&rt; device.awaited().is_none());
-    claim!(&rt; device.issue(Command::DrainAll) == IssueAnswer::Active);
-    claim!(&rt; device.awaited() == Some(2));
+fn readers_of_what_is_configured(rt: HostRuntime) {
+    configured_is_read(&rt, rt.alloc(), store(&rt, rt.alloc()));
+}
+
+fn entries_are_read<S: EntryStore>(rt: &impl Abort, alloc: Global, store: S) {
+    let mut device = enabled(rt, alloc, store, 64);
+    let [batch, member, no_op] = works(rt, &mut device);
+    claim!(rt; device.awaited().is_none());
+    claim!(rt; device.issue(Command::DrainAll) == IssueAnswer::Active);
+    claim!(rt; device.awaited() == Some(2));
     let found = [
-        tickets(&rt, device.in_progress(0)),
-        tickets(&rt, device.members(0)),
-        tickets(&rt, device.waiting(0)),
-        tickets(&rt, device.in_progress(1)),
+        tickets(rt, device.in_progress(0)),
+        tickets(rt, device.members(0)),
+        tickets(rt, device.waiting(0)),
+        tickets(rt, device.in_progress(1)),
     ];
-    claim!(&rt;
+    claim!(rt;
         found
             == [
                 (Some(batch), None),
@@ -475,14 +505,18 @@ fn readers_of_entries(rt: HostRuntime) {
             ]
     );
     let walks = (device.in_progress(2), device.members(2), device.waiting(2));
-    claim!(&rt; matches!(walks, (None, None, None)));
+    claim!(rt; matches!(walks, (None, None, None)));
     let running = [device.in_progress_count(0), device.in_progress_count(2)];
-    claim!(&rt; running == [Some(1), None]);
-    claim!(&rt; [device.member_count(0), device.member_count(2)] == [Some(1), None]);
+    claim!(rt; running == [Some(1), None]);
+    claim!(rt; [device.member_count(0), device.member_count(2)] == [Some(1), None]);
 }
 
 #[test]
-fn readers_by_place_and_ticket(rt: HostRuntime) {
+fn readers_of_entries(rt: HostRuntime) {
+    entries_are_read(&rt, rt.alloc(), store(&rt, rt.alloc()));
+}
+
+fn places_are_read<S: EntryStore>(rt: &impl Abort, alloc: Global, store: S) {
     const NOTE: BatchNote = BatchNote {
         batch: 0,
         count: 2,
@@ -490,28 +524,33 @@ fn readers_by_place_and_ticket(rt: HostRuntime) {
         failed: false,
         closed: false,
     };
-    let mut device = enabled(&rt, rt.alloc(), 64);
-    let [batch, member, no_op] = works(&rt, &mut device);
+    let mut device = enabled(rt, alloc, store, 64);
+    let [batch, member, no_op] = works(rt, &mut device);
     let found = [
         device.in_progress_at(0, 0).map(ticket_of),
         device.member_at(0, 0).map(ticket_of),
         device.waiting_at(0, 0).map(ticket_of),
     ];
-    claim!(&rt; found == [Some(batch), Some(member), Some(no_op)]);
+    claim!(rt; found == [Some(batch), Some(member), Some(no_op)]);
     let past = [
         device.in_progress_at(0, 1),
         device.member_at(0, 1),
         device.waiting_at(0, 1),
     ];
-    claim!(&rt; past == [None; 3]);
-    claim!(&rt; device.in_progress_at(2, 0).is_none());
-    claim!(&rt; [device.batch(0), device.batch(1)] == [Some(NOTE), None]);
+    claim!(rt; past == [None; 3]);
+    claim!(rt; device.in_progress_at(2, 0).is_none());
+    claim!(rt; [device.batch(0), device.batch(1)] == [Some(NOTE), None]);
     let other = Ticket { name: 7, ..member };
-    claim!(&rt; [device.holds(member), device.holds(other)] == [true, false]);
+    claim!(rt; [device.holds(member), device.holds(other)] == [true, false]);
+}
+
+#[test]
+fn readers_by_place_and_ticket(rt: HostRuntime) {
+    places_are_read(&rt, rt.alloc(), store(&rt, rt.alloc()));
 }
 
 // A member is fetched, started and ended, and its batch cannot end before it.
-fn member_ends(rt: &impl Abort, device: &mut Device<PlainStore>, ticket: Ticket) {
+fn member_ends<S: EntryStore>(rt: &impl Abort, device: &mut Device<S>, ticket: Ticket) {
     let member = fetched(rt, device.fetch(0, MOVE));
     let started = (START, Reply::Start(StartAnswer::Started(member)));
     let early = is_ended(ticket, Outcome::Success, FinishAnswer::NotReady);
@@ -520,7 +559,7 @@ fn member_ends(rt: &impl Abort, device: &mut Device<PlainStore>, ticket: Ticket)
 }
 
 // The batch ends, and with it the drain.
-fn batch_ends(rt: &impl Abort, device: &mut Device<PlainStore>, ticket: Ticket) {
+fn batch_ends<S: EntryStore>(rt: &impl Abort, device: &mut Device<S>, ticket: Ticket) {
     let fetch = Event::Fetch {
         engine: 0,
         desc: MOVE,
@@ -547,12 +586,16 @@ fn second_is_accepted(rt: &impl Abort, steps: &[Step], event: Event) {
     }
 }
 
+fn five_events_are_run<S: EntryStore>(rt: &impl Abort, alloc: Global, store: S) {
+    let mut device = enabled(rt, alloc, store, 7);
+    let mut steps = Vec::new(alloc);
+    let event = submission(MOVE);
+    claim!(rt; device.run(&[event; 5], &mut steps).is_ok());
+    second_is_accepted(rt, &steps, event);
+    claim!(rt; device.history().len() == 7);
+}
+
 #[test]
 fn run_of_events(rt: HostRuntime) {
-    let mut device = enabled(&rt, rt.alloc(), 7);
-    let mut steps = Vec::new(rt.alloc());
-    let event = submission(MOVE);
-    claim!(&rt; device.run(&[event; 5], &mut steps).is_ok());
-    second_is_accepted(&rt, &steps, event);
-    claim!(&rt; device.history().len() == 7);
+    five_events_are_run(&rt, rt.alloc(), store(&rt, rt.alloc()));
 }
