@@ -123,6 +123,11 @@ fn is_unused<S: EntryStore>(rt: &impl Abort, device: &Device<S>) {
     claim!(rt; device.active().is_none());
     claim!(rt; device.next_name() == 0);
     claim!(rt; device.fate(0).is_none());
+    has_no_rows(rt, device);
+}
+
+// Neither a step nor a fate is written down.
+fn has_no_rows<S: EntryStore>(rt: &impl Abort, device: &Device<S>) {
     claim!(rt; device.history().is_empty());
     claim!(rt; device.fates().is_empty());
 }
@@ -445,8 +450,12 @@ fn tickets<S: EntryStore>(
     let Some(mut slots) = slots else {
         panic!(rt; "there is no such list");
     };
-    let first = slots.next().map(ticket_of);
-    (first, slots.next().map(ticket_of))
+    let first = next_ticket(&mut slots);
+    (first, next_ticket(&mut slots))
+}
+
+fn next_ticket<S: EntryStore>(slots: &mut Walk<'_, S>) -> Option<Ticket> {
+    slots.next().map(ticket_of)
 }
 
 fn ticket_of((cell, entry): (Cell, Entry)) -> Ticket {
@@ -516,6 +525,15 @@ fn readers_of_entries(rt: HostRuntime) {
     entries_are_read(&rt, rt.alloc(), store(&rt, rt.alloc()));
 }
 
+// The tickets at a place of what is in progress, of the members and of what waits.
+fn tickets_at<S: EntryStore>(device: &Device<S>, place: usize) -> [Option<Ticket>; 3] {
+    [
+        device.in_progress_at(0, place).map(ticket_of),
+        device.member_at(0, place).map(ticket_of),
+        device.waiting_at(0, place).map(ticket_of),
+    ]
+}
+
 fn places_are_read<S: EntryStore>(rt: &impl Abort, alloc: Global, store: S) {
     const NOTE: BatchNote = BatchNote {
         batch: 0,
@@ -526,18 +544,9 @@ fn places_are_read<S: EntryStore>(rt: &impl Abort, alloc: Global, store: S) {
     };
     let mut device = enabled(rt, alloc, store, 64);
     let [batch, member, no_op] = works(rt, &mut device);
-    let found = [
-        device.in_progress_at(0, 0).map(ticket_of),
-        device.member_at(0, 0).map(ticket_of),
-        device.waiting_at(0, 0).map(ticket_of),
-    ];
-    claim!(rt; found == [Some(batch), Some(member), Some(no_op)]);
-    let past = [
-        device.in_progress_at(0, 1),
-        device.member_at(0, 1),
-        device.waiting_at(0, 1),
-    ];
-    claim!(rt; past == [None; 3]);
+    let found = [Some(batch), Some(member), Some(no_op)];
+    claim!(rt; tickets_at(&device, 0) == found);
+    claim!(rt; tickets_at(&device, 1) == [None; 3]);
     claim!(rt; device.in_progress_at(2, 0).is_none());
     claim!(rt; [device.batch(0), device.batch(1)] == [Some(NOTE), None]);
     let other = Ticket { name: 7, ..member };
