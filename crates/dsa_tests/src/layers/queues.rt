@@ -1,6 +1,7 @@
 //! Each call at a store of vectors, on two queues: queue 0 is shared, of size 4 and threshold 2, and queue 1 dedicated, of size 2.
 
 ghost use Rattle.std.specs.Prelude.{◌≡◌};
+ghost use Rattle.dsa_store.specs.Content.{Content};
 ghost use Rattle.dsa_queues.specs.Queues.{IsCounted};
 
 use crate::layers::setup::{enabled, leave, numbers, store};
@@ -12,7 +13,7 @@ use dsa_fixtures::{
 };
 use dsa_queues::Queues;
 use dsa_regs::{Fault, GroupConfig, Phase, QueueConfig, Scope, cell_count, list_count};
-use dsa_store::{EntryStore, ListId, front_slot};
+use dsa_store::{Entry, EntryStore, ListId, front_slot};
 use std::process::Abort;
 
 // The queues of the enabled device, over an empty store.
@@ -90,6 +91,20 @@ fn threshold_bounds_the_limited_portal(rt: HostRuntime) {
     both_portals(&rt, &mut store(&rt, rt.alloc()));
 }
 
+// What was noted is cleared with that answer.
+fn clear(rt: &impl Abort, queues: &mut Queues, answer: ClearAnswer)
+    ensures { (content : Content) → IsCounted queues.old content → IsCounted queues.new content }
+{
+    claim!(rt; queues.clear_error() == answer);
+}
+
+// The entry in front of the list.
+fn front<S: EntryStore>(rt: &impl Abort, store: &S, list: ListId) -> Entry {
+    assert!(rt; list.0 < store.lists());
+    let (_, entry) = front_slot(store, list).expect(rt, "an entry that waits");
+    entry
+}
+
 fn dropped_twice<S: EntryStore>(rt: &impl Abort, store: &mut S) {
     const WRITE: Kind = Kind::Movdir64b;
     const FULL: Result<u32, SubmitAnswer> = Err(SubmitAnswer::Dropped(Cause::AtLimit));
@@ -112,14 +127,13 @@ fn dropped_twice<S: EntryStore>(rt: &impl Abort, store: &mut S) {
     let mut queues = enabled_over(rt, store);
     submit_each(rt, &mut queues, store, &TWICE);
     claim!(rt; queues.noted() == Some(SECOND));
-    claim!(rt; queues.clear_error() == ClearAnswer::Cleared(SECOND));
-    claim!(rt; queues.clear_error() == ClearAnswer::Nothing);
+    clear(rt, &mut queues, ClearAnswer::Cleared(SECOND));
+    clear(rt, &mut queues, ClearAnswer::Nothing);
     submit_each(rt, &mut queues, store, &ONCE);
-    claim!(rt; queues.clear_error() == ClearAnswer::Cleared(FIRST));
+    clear(rt, &mut queues, ClearAnswer::Cleared(FIRST));
     // The descriptor has the PASID of the queue.
-    assert!(rt; store.lists() == 6);
-    let (_, front) = front_slot(store, ListId(1)).expect(rt, "an entry that waits");
-    claim!(rt; front.desc.pasid == 7);
+    claim!(rt; store.lists() == 6);
+    claim!(rt; front(rt, store, ListId(1)).desc.pasid == 7);
 }
 
 #[test]
@@ -167,17 +181,28 @@ fn causes_come_in_order(rt: HostRuntime) {
     turned_away(&rt, &mut store(&rt, rt.alloc()));
 }
 
+// The entries that wait in the queue, once it is seen that its number has room for them.
+fn occupancy<S: EntryStore>(
+    rt: &impl Abort,
+    queues: &Queues,
+    store: &S,
+    queue: u16,
+) -> Option<u16> {
+    let caps = queues.caps();
+    assert!(rt; store.lists() == list_count(&caps));
+    assert!(rt; store.cells() == cell_count(&caps));
+    assert!(rt; queue < store.lists());
+    assert!(rt; store.len(ListId(queue)) <= CELLS);
+    queues.occupancy(store, queue)
+}
+
 // The entries that wait in queue 0, in queue 1, and in a queue that the device does not have.
 fn occupancies<S: EntryStore>(rt: &impl Abort, queues: &Queues, store: &S) -> [Option<u16>; 3] {
-    let caps = queues.caps();
-    assert!(rt; store.lists() == list_count(&caps) && store.cells() == cell_count(&caps));
-    assert!(rt; store.lists() == LISTS);
-    assert!(rt; store.len(ListId(0)) <= CELLS && store.len(ListId(1)) <= CELLS);
-    assert!(rt; store.len(ListId(2)) <= CELLS);
+    claim!(rt; store.lists() == LISTS);
     [
-        queues.occupancy(store, 0),
-        queues.occupancy(store, 1),
-        queues.occupancy(store, 2),
+        occupancy(rt, queues, store, 0),
+        occupancy(rt, queues, store, 1),
+        occupancy(rt, queues, store, 2),
     ]
 }
 
@@ -185,8 +210,8 @@ fn entries<S: EntryStore>(rt: &impl Abort, store: &mut S) {
     const ONE: [Row; 1] = [(0, Portal::Limited, ENQCMD, Ok(0))];
     let mut queues = enabled_over(rt, store);
     submit_each(rt, &mut queues, store, &ONE);
-    assert!(rt; store.lists() == 6);
-    let (_, entry) = front_slot(store, ListId(0)).expect(rt, "an entry that waits");
+    claim!(rt; store.lists() == 6);
+    let entry = front(rt, store, ListId(0));
     claim!(rt; entry.desc.pasid == 5);
     claim!(rt; queues.need(&entry) == 1);
     claim!(rt; !queues.is_batch(&entry));
@@ -203,20 +228,32 @@ fn entry_is_asked_about(rt: HostRuntime) {
 #[test]
 fn parts_are_read(rt: HostRuntime) {
     let queues = enabled(&rt, [FIRST_GROUP, SECOND_GROUP]);
-    claim!(&rt; queues.caps() == CAPS);
-    claim!(&rt; queues.device() == Phase::On);
-    claim!(&rt; queues.phase(1) == Phase::On);
-    claim!(&rt; queues.phase(2) == Phase::Off);
-    claim!(&rt; queues.queue(1) == DEDICATED);
-    claim!(&rt; queues.queue(2) == QueueConfig::default());
-    claim!(&rt; queues.group(0) == FIRST_GROUP);
-    claim!(&rt; queues.group(2) == GroupConfig::default());
-    claim!(&rt; queues.group_of(1) == Some(1));
-    claim!(&rt; queues.group_of(2).is_none());
-    claim!(&rt; queues.has_queue_in(1, 1));
-    claim!(&rt; !queues.has_queue_in(1, 0));
-    claim!(&rt; queues.priority(1) == 2);
-    claim!(&rt; queues.limits(0) == LIMITS);
+    phases_are_read(&rt, &queues);
+    configurations_are_read(&rt, &queues);
+    groups_are_read(&rt, &queues);
+}
+
+fn phases_are_read(rt: &impl Abort, queues: &Queues) {
+    claim!(rt; queues.caps() == CAPS);
+    claim!(rt; queues.device() == Phase::On);
+    claim!(rt; queues.phase(1) == Phase::On);
+    claim!(rt; queues.phase(2) == Phase::Off);
+}
+
+fn configurations_are_read(rt: &impl Abort, queues: &Queues) {
+    claim!(rt; queues.queue(1) == DEDICATED);
+    claim!(rt; queues.queue(2) == QueueConfig::default());
+    claim!(rt; queues.group(0) == FIRST_GROUP);
+    claim!(rt; queues.group(2) == GroupConfig::default());
+}
+
+fn groups_are_read(rt: &impl Abort, queues: &Queues) {
+    claim!(rt; queues.group_of(1) == Some(1));
+    claim!(rt; queues.group_of(2).is_none());
+    claim!(rt; queues.has_queue_in(1, 1));
+    claim!(rt; !queues.has_queue_in(1, 0));
+    claim!(rt; queues.priority(1) == 2);
+    claim!(rt; queues.limits(0) == LIMITS);
 }
 
 #[test]
@@ -272,6 +309,10 @@ fn queues_are_reset(rt: &impl Abort, queues: &mut Queues) {
     queues.set_queue(1, SHARED);
     queues.set_group(1, FIRST_GROUP);
     queues.reset();
+    is_reset(rt, queues);
+}
+
+fn is_reset(rt: &impl Abort, queues: &Queues) {
     claim!(rt; queues.next_name() == 1);
     claim!(rt; queues.noted().is_none());
     claim!(rt; queues.device() == Phase::Off);
