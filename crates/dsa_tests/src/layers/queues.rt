@@ -277,9 +277,14 @@ fn written_while_on(rt: &impl Abort, queues: &mut Queues) {
         threshold: 4,
         ..SHARED
     };
-    claim!(rt; queues.write_queue(0, SIZE) == WriteAnswer::Refused(Fault::Locked));
-    claim!(rt; queues.write_queue(0, THRESHOLD) == WriteAnswer::Written);
+    write(rt, queues, SIZE, WriteAnswer::Refused(Fault::Locked));
+    write(rt, queues, THRESHOLD, WriteAnswer::Written);
     claim!(rt; queues.queue(0) == THRESHOLD);
+}
+
+// Queue 0 is written with that answer.
+fn write(rt: &impl Abort, queues: &mut Queues, config: QueueConfig, answer: WriteAnswer) {
+    claim!(rt; queues.write_queue(0, config) == answer);
 }
 
 #[test]

@@ -10,6 +10,7 @@ use dsa_regs::{
     zero_groups, zero_queues,
 };
 use std::fmt::InlineText;
+use std::process::Abort;
 
 #[test]
 fn faults_have_numbers_names_and_sentences(rt: HostRuntime) {
@@ -444,28 +445,49 @@ fn commands_have_numbers_and_names(rt: HostRuntime) {
     }
 }
 
+const MASK: QueueMask = QueueMask {
+    group: 1,
+    mask: 0x8005,
+};
+
 #[test]
 fn commands_name_queues(rt: HostRuntime) {
-    const MASK: QueueMask = QueueMask {
-        group: 1,
-        mask: 0x8005,
-    };
     const NUMBERS: [u32; 3] = [16, 18, 31];
     claim!(&rt; MASK.queues().as_slice() == NUMBERS.as_slice());
-    let named = [MASK.contains(16), MASK.contains(18), MASK.contains(31)];
-    let others = [MASK.contains(0), MASK.contains(17), MASK.contains(32)];
-    claim!(&rt; (named, others) == ([true; 3], [false; 3]));
     claim!(&rt; Command::DrainWq(MASK).queues().as_slice() == NUMBERS.as_slice());
     claim!(&rt; Command::EnableWq(2).queues().as_slice() == [2].as_slice());
     claim!(&rt; Command::DrainAll.queues().is_empty());
     claim!(&rt; QueueMask { group: 1, mask: 0 }.queues().is_empty());
-    let masked = [
-        Scope::Queues(MASK).contains(18),
-        Scope::Queues(MASK).contains(17),
+    masks_contain_queues(&rt);
+    scopes_contain_queues(&rt);
+}
+
+fn masks_contain_queues(rt: &impl Abort) {
+    const ROWS: [(u16, bool); 6] = [
+        (16, true),
+        (18, true),
+        (31, true),
+        (0, false),
+        (17, false),
+        (32, false),
     ];
-    let one = [Scope::Queue(17).contains(17), Scope::Queue(17).contains(1)];
-    let none = [Scope::Device.contains(0), Scope::Pasid(0).contains(0)];
-    claim!(&rt; [masked, one, none] == [[true, false], [true, false], [false, false]]);
+    for &(queue, holds) in &ROWS {
+        claim!(rt; MASK.contains(queue) == holds);
+    }
+}
+
+fn scopes_contain_queues(rt: &impl Abort) {
+    const ROWS: [(Scope, u16, bool); 6] = [
+        (Scope::Queues(MASK), 18, true),
+        (Scope::Queues(MASK), 17, false),
+        (Scope::Queue(17), 17, true),
+        (Scope::Queue(17), 1, false),
+        (Scope::Device, 0, false),
+        (Scope::Pasid(0), 0, false),
+    ];
+    for (scope, queue, holds) in &ROWS {
+        claim!(rt; scope.contains(*queue) == *holds);
+    }
 }
 
 #[test]
