@@ -1,9 +1,8 @@
-//! Rounds of submit, dispatch and finish on one thread, for measuring: `dsa_rounds unshared N` makes them by calls of a device,
-//! `shared N` through seats of a shared one, and `settled N` settles in the end. It prints how many entries ended.
-#![tactic(auto)]
+//! Rounds of submit, dispatch and finish on one thread: by calls of a device, or through seats of a shared one.
 
 ghost use Rattle.std.specs.Prelude.{◌≡◌, ◌≤◌, IfOk};
 
+use crate::make_device;
 use anyhow::{Result, bail};
 use dsa_book::{DispatchAnswer, FinishAnswer, Portal};
 use dsa_cells::LinkedStore;
@@ -11,13 +10,30 @@ use dsa_desc::Outcome;
 use dsa_device::Device;
 use dsa_fixtures::single::{CAPS, GROUP, QUEUE};
 use dsa_fixtures::{ENQCMD, MOVE, bytes_of};
-use dsa_regs::{Command, cell_count, check_caps, list_count};
+use dsa_regs::Command;
 use dsa_shared::{Blanks, Seats, SharedDevice, Sharing};
 use dsa_store::EntryStore;
 use std::alloc::Global;
-use std::env;
 use std::marker::Brand;
 use std::sync::Wait;
+
+/// How rounds are made.
+#[derive(Clone, Copy)]
+pub enum Mode {
+    /// By calls of a device.
+    Unshared,
+    /// Through seats of a shared one.
+    Shared,
+    /// The same, and the seats are settled in the end.
+    Settled,
+}
+
+/// The modes by their names.
+pub const MODES: [(&str, Mode); 3] = [
+    ("unshared", Mode::Unshared),
+    ("shared", Mode::Shared),
+    ("settled", Mode::Settled),
+];
 
 fn unshared<S: EntryStore>(device: Device<S>, rounds: u32) -> u32 {
     let mut device = device;
@@ -91,40 +107,13 @@ fn share<S: EntryStore, L: Sharing, R: Wait>(
     Ok(done)
 }
 
-fn main(rt: HostRuntime) -> Result<()> {
-    let words = env::args(&rt)?.collect::<Vec<String>>(rt.alloc())?;
-    let [_, mode, rounds] = words.as_slice() else {
-        bail!("usage: dsa_rounds unshared|shared|settled ROUNDS");
-    };
-    let rounds: u32 = rounds.parse()?;
-    if !check_caps(&CAPS) {
-        bail!("bad caps");
-    }
-    let store = LinkedStore::new(rt.alloc(), list_count(&CAPS), cell_count(&CAPS))?;
-    let Ok(device) = Device::new(rt.alloc(), store, CAPS, 1_000_000) else {
-        bail!("no device");
-    };
+/// Makes so many rounds on a new device. Answers how many entries ended.
+pub fn run<R: Wait>(rt: &R, alloc: Global, mode: Mode, rounds: u32) -> Result<u32> {
+    let device = make_device(alloc, &CAPS)?;
     let blanks = Blanks::new();
-    let done = match mode.as_str() {
-        "unshared" => unshared(device, rounds),
-        "shared" => share::<LinkedStore, Brand, HostRuntime>(
-            &rt,
-            rt.alloc(),
-            device,
-            blanks,
-            rounds,
-            false,
-        )?,
-        "settled" => share::<LinkedStore, Brand, HostRuntime>(
-            &rt,
-            rt.alloc(),
-            device,
-            blanks,
-            rounds,
-            true,
-        )?,
-        _ => bail!("usage: dsa_rounds unshared|shared|settled ROUNDS"),
-    };
-    println!(rt; "done {done}")?;
-    Ok(())
+    match mode {
+        Mode::Unshared => Ok(unshared(device, rounds)),
+        Mode::Shared => share::<LinkedStore, Brand, R>(rt, alloc, device, blanks, rounds, false),
+        Mode::Settled => share::<LinkedStore, Brand, R>(rt, alloc, device, blanks, rounds, true),
+    }
 }

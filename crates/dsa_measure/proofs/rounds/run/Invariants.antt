@@ -1,4 +1,4 @@
-use Rattle.dsa_rounds.proofs.main.Given as goal
+use Rattle.dsa_measure.proofs.rounds.run.Given as goal
 
 abbrev pub ghosts-share-L-Ledger : goal.ghosts-share-L-Ledger
 ghosts-share-L-Ledger g a = record { name = a.blanks; parts = 129 }

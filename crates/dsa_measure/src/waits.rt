@@ -1,20 +1,39 @@
-//! Steps of a device that holds many entries while a command waits for one that stands behind them, for measuring:
-//! `dsa_waits drain HELD COUNT` polls an active drain so often, `disable HELD COUNT` an active disable, and
-//! `rounds HELD COUNT` submits, dispatches and finishes other entries while the drain is active. It prints whether the
-//! command still waits, and how many entries ended.
-#![tactic(auto)]
+//! Steps of a device that holds many entries while a command waits for one that stands behind them.
 
+use crate::make_device;
 use anyhow::{Result, bail};
 use dsa_book::{DispatchAnswer, FinishAnswer, IssueAnswer, PollAnswer, Portal};
-use dsa_cells::LinkedStore;
 use dsa_desc::Outcome;
 use dsa_device::Device;
 use dsa_fixtures::{ENQCMD, FIRST_GROUP, MOVE, SHARED_QUEUE, bytes_of};
-use dsa_regs::{
-    Caps, Command, GroupConfig, QueueConfig, QueueMask, cell_count, check_caps, list_count,
-};
+use dsa_regs::{Caps, Command, GroupConfig, QueueConfig, QueueMask};
 use dsa_store::EntryStore;
-use std::env;
+use std::alloc::Global;
+
+/// What is done while the command waits.
+#[derive(Clone, Copy)]
+pub enum Mode {
+    /// Polls of an active drain.
+    Drain,
+    /// Polls of an active disable.
+    Disable,
+    /// Other entries come and end while a drain is active.
+    Waiting,
+}
+
+/// The modes by their names.
+pub const MODES: [(&str, Mode); 3] = [
+    ("drain", Mode::Drain),
+    ("disable", Mode::Disable),
+    ("waiting", Mode::Waiting),
+];
+
+/// What there is in the end: whether the command still waits, and how many entries ended.
+#[derive(Clone, Copy)]
+pub struct Seen {
+    pub waits: bool,
+    pub done: u32,
+}
 
 const CAPS: Caps = Caps {
     total_size: 4096,
@@ -79,36 +98,24 @@ fn polls<S: EntryStore>(device: &mut Device<S>, count: u32) {
     }
 }
 
-fn main(rt: HostRuntime) -> Result<()> {
-    let words = env::args(&rt)?.collect::<Vec<String>>(rt.alloc())?;
-    let [_, mode, held, count] = words.as_slice() else {
-        bail!("usage: dsa_waits drain|disable|rounds HELD COUNT");
-    };
-    let held: u32 = held.parse()?;
-    let count: u32 = count.parse()?;
-    if !check_caps(&CAPS) {
-        bail!("bad caps");
-    }
-    let store = LinkedStore::new(rt.alloc(), list_count(&CAPS), cell_count(&CAPS))?;
-    let Ok(mut device) = Device::new(rt.alloc(), store, CAPS, 1_000_000) else {
-        bail!("no device");
-    };
+/// Makes so many steps of a new device that holds so many entries.
+pub fn run(alloc: Global, mode: Mode, held: u32, count: u32) -> Result<Seen> {
+    let mut device = make_device(alloc, &CAPS)?;
     fill(&mut device, held);
-    let command = match mode.as_str() {
-        "disable" => Command::DisableWq(SECOND_QUEUE),
-        _ => Command::DrainWq(SECOND_QUEUE),
+    let command = match mode {
+        Mode::Disable => Command::DisableWq(SECOND_QUEUE),
+        Mode::Drain | Mode::Waiting => Command::DrainWq(SECOND_QUEUE),
     };
     if device.issue(command) != IssueAnswer::Active {
         bail!("the command does not wait");
     }
-    let done = match mode.as_str() {
-        "rounds" => rounds(&mut device, count),
-        _ => {
+    let done = match mode {
+        Mode::Waiting => rounds(&mut device, count),
+        Mode::Drain | Mode::Disable => {
             polls(&mut device, count);
             0
         }
     };
     let waits = device.poll() == PollAnswer::Active;
-    println!(rt; "waits {waits}, done {done}")?;
-    Ok(())
+    Ok(Seen { waits, done })
 }
