@@ -24,7 +24,7 @@ use std::io::Print;
 use std::sync::Wait;
 
 const USAGE: &str =
-    "usage: dsa_measure [unshared|shared|settled ROUNDS | drain|disable|waiting HELD COUNT]; without words a small run of each";
+    "usage: dsa_measure unshared|shared|settled ROUNDS, or drain|disable|waiting HELD COUNT, or no words for a run of each";
 
 // A device with nothing configured, over linked cells.
 fn make_device(alloc: Global, caps: &Caps) -> Result<Device<LinkedStore>> {
