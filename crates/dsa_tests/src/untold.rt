@@ -1,4 +1,6 @@
-//! On a small device over a store of vectors, with queue 0 shared and On, in a group with engine 0.
+//! What no sentence of an explanation tells: the entries that an abort would end, the read buffers that are kept for a group, and
+//! queues of which an engine is told nothing. The explanations of the examples have each other reason. All on a small device over
+//! a store of vectors, with queue 0 shared and On, in a group with engine 0.
 
 use dsa_book::{Event, Kind, Portal};
 use dsa_device::Device;

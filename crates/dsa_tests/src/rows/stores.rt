@@ -1,6 +1,6 @@
 //! Rows that each kind of store passes. Each takes an empty store of the numbers of lists and cells that it names.
 
-use crate::calls::{entry, front, give_back, is_cell, len, move_front, push, push_back};
+use crate::rows::calls::{entry, front, give_back, is_cell, len, move_front, push, push_back};
 use dsa_store::{Cell, EntryStore, ListId, cells_stand_once};
 use std::process::Abort;
 

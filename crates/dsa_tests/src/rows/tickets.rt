@@ -1,6 +1,6 @@
 //! Tickets of no running entry, and an abort against a batch that runs, over both stores.
 
-use crate::calls::{linked, plain};
+use crate::rows::calls::{linked, plain};
 use dsa_book::{
     DispatchAnswer, Event, Fate, FateRow, FetchAnswer, FinishAnswer, IssueAnswer, Kind, Portal,
     Reply, StartAnswer, SubmitAnswer, Ticket,

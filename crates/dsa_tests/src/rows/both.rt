@@ -1,7 +1,7 @@
 //! The rows of each kind of store, over vectors and over linked cells.
 
-use crate::calls::{linked, plain};
-use crate::stores::{cell_is_written, list_is_given_back, middle_is_taken, one_is_left};
+use crate::rows::calls::{linked, plain};
+use crate::rows::stores::{cell_is_written, list_is_given_back, middle_is_taken, one_is_left};
 use dsa_store::EntryStore;
 use std::alloc::Global;
 use std::process::Abort;

@@ -1,6 +1,6 @@
 //! What a store and a device do where memory is refused.
 
-use crate::stores::middle_is_taken;
+use crate::rows::stores::middle_is_taken;
 use dsa_book::Step;
 use dsa_cells::LinkedStore;
 use dsa_device::{Device, MakeFault};

@@ -2,7 +2,7 @@
 //!
 //! Which free cell a push takes is open. So cells are named here by their places, and told apart by their entries.
 
-use crate::calls::{cell_at, entry, give_back, len, linked, move_front, plain, push_back};
+use crate::rows::calls::{cell_at, entry, give_back, len, linked, move_front, plain, push_back};
 use dsa_store::{Cell, Entry, EntryStore, ListId};
 use std::process::Abort;
 

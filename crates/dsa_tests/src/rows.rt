@@ -1,0 +1,8 @@
+//! Rows and tests of stores and of devices over them: the same for each kind of store.
+
+mod alike;
+mod both;
+mod calls;
+mod memory;
+mod stores;
+mod tickets;
