@@ -1,15 +1,11 @@
 //! Runs examples: for each name on standard input, the document `NAME.json`. Its lines, over both stores, are to be those of
-//! `NAME.out`; where there is a file `NAME.err` instead, it has to be refused with that line.
+//! `NAME.out`; where there is a file `NAME.err` instead, both have to refuse it with that line.
 #![tactic(auto)]
 
 use dsa_regs::{cell_count, list_count};
 use dsa_scenario::{ScenarioFault, check_document, parse_document, run_document, run_scenario};
 use dsa_store::PlainStore;
-use dsa_words::run_words;
 use std::alloc::Global;
-use std::marker::Sync;
-use std::sync::Wait;
-use std::thread::Threads;
 use std::{fs, io};
 
 // The lines of the document in these bytes, over a store of vectors.
@@ -33,18 +29,18 @@ fn is_same(alloc: Global, document: &[u8], lines: &[u8]) -> bool {
     linked.is_ok() && written.as_slice() == lines && plain.as_bytes() == lines
 }
 
-// Whether the program ends with status 1, writes this line to standard error and nothing to standard output.
-fn is_refused<T: Threads + Wait + Sync>(
-    rt: &T,
-    alloc: Global,
-    document: &[u8],
-    line: &[u8],
-) -> bool {
+// Whether both stores come to one fault, which has this line, and nothing is written.
+fn is_refused(alloc: Global, document: &[u8], line: &[u8]) -> bool {
     let mut reader = document;
-    let mut out = Vec::new(alloc);
-    let mut err = Vec::new(alloc);
-    let status = run_words(rt, alloc, &[], &mut reader, &mut out, &mut err);
-    status == 1 && out.is_empty() && err.as_slice() == line
+    let mut written = Vec::new(alloc);
+    let linked = run_scenario(alloc, &mut reader, &mut written);
+    let (Err(fault), Err(plain)) = (linked, render_plain(alloc, document)) else {
+        return false;
+    };
+    let Ok(text) = format!(in alloc; "dsa_run: {fault}\n") else {
+        return false;
+    };
+    written.is_empty() && plain == fault && text.as_bytes() == line
 }
 
 fn main(rt: HostRuntime) -> io::Result<()> {
@@ -52,7 +48,7 @@ fn main(rt: HostRuntime) -> io::Result<()> {
         let name = line?;
         let document = fs::read(&rt, format!(in rt.alloc(); "{name}.json")?)?;
         let verdict = if let Ok(fault) = fs::read(&rt, format!(in rt.alloc(); "{name}.err")?) {
-            if is_refused(&rt, rt.alloc(), &document, &fault) {
+            if is_refused(rt.alloc(), &document, &fault) {
                 "refused as written"
             } else {
                 "not refused as written"

@@ -455,7 +455,8 @@ fn tickets<S: EntryStore>(
 }
 
 fn next_ticket<S: EntryStore>(slots: &mut Walk<'_, S>) -> Option<Ticket> {
-    slots.next().map(ticket_of)
+    let slot = slots.next()?;
+    Some(ticket_of(slot))
 }
 
 fn ticket_of((cell, entry): (Cell, Entry)) -> Ticket {

@@ -1,0 +1,42 @@
+//! Steps that are made by their seats, in the order of a table.
+
+use crate::shared::stage::Stage;
+use dsa_book::{FateRow, Step};
+use dsa_shared::{Settled, Sharing, Totals};
+use dsa_store::EntryStore;
+use std::process::Abort;
+use std::sync::Wait;
+
+/// Steps with the answers that they have to get, the fates that come of them, and the totals.
+#[derive(Clone, Copy)]
+pub struct Play<'a> {
+    pub capacity: u64,
+    pub steps: &'a [Step],
+    pub fates: &'a [FateRow],
+    pub totals: Totals,
+}
+
+impl<'a> Play<'a> {
+    fn was_settled<S: EntryStore, R: Abort>(self, rt: &R, settled: &Settled<S>) {
+        same!(rt; settled.device.fates(), self.fates);
+        same!(rt; settled.totals, self.totals);
+    }
+}
+
+impl<'a, S: EntryStore, L: Sharing, R: Wait + Abort> Stage<'a, S, L, R> {
+    /// Makes the steps of the play, and settles.
+    pub fn played(self, play: Play) {
+        let mut stage = self;
+        let rt = stage.rt;
+        stage.make(play.steps);
+        let settled = stage.settled_as_told();
+        play.was_settled(rt, &settled);
+    }
+
+    /// The same on an enabled device.
+    pub fn played_enabled(self, play: Play) {
+        let mut stage = self;
+        stage.set_up();
+        stage.played(play);
+    }
+}
