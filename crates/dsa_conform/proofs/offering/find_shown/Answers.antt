@@ -1,10 +1,11 @@
 use Rattle.dsa_conform.proofs.offering.find_shown.Goals as goal
 use Rattle.dsa_conform.proofs.offering.find_shown.Goals.{in-Some+in_ok-is_shown+else-branch, in_default}
-use Rattle.std.proofs.Common.{◌≡◌, ◌∙◌, sym, ap, subst, false, Some, None}
+use Rattle.std.proofs.Common.{◌≡◌, ◌∙◌, sym, ap, subst, false, Some, None, arith}
 use Rattle.std.proofs.lemmas.Option.{same_Some}
 use Rattle.dsa_scenario.specs.declared.run.Record.{Record}
 use Rattle.dsa_conform.specs.{Allowed.{offer}, Seen.{seen_as, shows}}
 use Rattle.dsa_conform.proofs.Choices.{none_more}
+use Rattle.std.proofs.lemmas.Grind.{common_steps}
 
 pub loop-queue-preserved : goal.loop-queue-preserved
 loop-queue-preserved g c =
@@ -19,3 +20,6 @@ loop-queue-preserved g c =
     ]
     in
     none_more w c.args.engine c.loop-queue.queue seen c.loop-queue.invariant here
+
+pub returns : goal.returns
+returns = grind (arith, common_steps)

@@ -3,6 +3,7 @@ use Rattle.std.proofs.Common.{refl, arith, option_map, string_bytes}
 use Rattle.dsa_conform.specs.Seen.{seen_as}
 use Rattle.dsa_conform.proofs.Steps.{step_followed, step_differs, count_more, reads_item, conforms, at_most}
 use Rattle.dsa_conform.proofs.Walks.{followed_none}
+use Rattle.std.proofs.lemmas.Grind.{common_steps}
 
 pub loop-i-init : goal.loop-i-init
 loop-i-init g c = (
@@ -43,3 +44,12 @@ pub returns : goal.returns
 returns g c =
     conforms c.args.head.now.steps.now c.loop-i.invariant.0 c.loop-i.i _ _ _ _ c.loop-i.answers _ c.loop-i.invariant.1
     c.loop-i-test.false c.loop-i.invariant.2 c.loop-i.invariant.3 c.in_ok-text.ensures
+
+pub returns-in_err-differs : goal.returns-in_err-differs
+returns-in_err-differs = grind (arith, common_steps)
+
+pub count_more-more-requires : goal.count_more-more-requires
+count_more-more-requires = grind (arith, common_steps)
+
+pub returns-in_err-text : goal.returns-in_err-text
+returns-in_err-text = grind (arith, common_steps)

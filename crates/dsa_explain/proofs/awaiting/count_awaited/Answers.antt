@@ -4,6 +4,7 @@ use Rattle.std.specs.List.{count_by}
 use Rattle.dsa_regs.specs.{declared.Caps.{Caps}, Caps.{list_number}}
 use Rattle.dsa_store.{specs.Content.{Slot, chain}, proofs.Sums.{held-counted}}
 use Rattle.dsa_admin.{specs.Admin.{is_waited_for}, proofs.Counting.{first-few, first-more}}
+use Rattle.std.proofs.lemmas.Grind.{common_steps}
 
 pub overflow_add-count : goal.overflow_add-count
 overflow_add-count g c =
@@ -25,3 +26,9 @@ overflow_add-count g c =
       held-counted content,
       c.requires,
     )
+
+pub loop-number-preserved : goal.loop-number-preserved
+loop-number-preserved = grind (arith, common_steps)
+
+pub returns : goal.returns
+returns = grind (arith, common_steps)

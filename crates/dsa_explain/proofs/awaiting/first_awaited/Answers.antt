@@ -2,6 +2,7 @@ use Rattle.dsa_explain.proofs.awaiting.first_awaited.Goals as goal
 use Rattle.std.proofs.Common.{◌∙◌, sym, arith}
 use Rattle.dsa_admin.specs.Admin.{is_awaited_by}
 use Rattle.dsa_explain.{specs.{declared.held.Held.{Held}, Command.{noted_by}}, proofs.Holding.{found-here, found-later}}
+use Rattle.std.proofs.lemmas.Grind.{common_steps}
 
 pub returns-then-is_some : goal.returns-then-is_some
 returns-then-is_some g c =
@@ -20,3 +21,6 @@ loop-number-preserved g c =
     (omega (arith, c.loop-number-test.true, c.list_count-number-end.ensures)) c.list_use.ensures.use_of
     c.list_use.ensures.number (λ (h : Held). is_awaited_by (noted_by c.args.device.now.state.active c.args.waiter.now) h.entry)
     c.first_in-held.result c.first_in-held.ensures (sym c.is_some.ensures ∙ c.if-is_some.false)
+
+pub returns : goal.returns
+returns = grind (arith, common_steps)

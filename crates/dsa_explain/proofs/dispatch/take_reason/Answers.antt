@@ -20,3 +20,6 @@ returns-in_err-drain g c = rw c.from_residual-in_err-drain.ensures
     (grind (arith, common_steps, c.if-used-from.false, c.from.ensures, c.caps-slots.ensures)))
     (rw (← c.need.ensures) (sym c.lacking.ensures ∙ c.in_default.is))
     (sym c.other_batch.ensures ∙ c.in_default-other_batch.is) (sym c.other_drain.ensures ∙ c.in_err-drain.was))
+
+pub lacking-requires : goal.lacking-requires
+lacking-requires = grind (arith, common_steps)

@@ -3,6 +3,7 @@ use Rattle.std.proofs.Common.{◌∙◌, sym, arith}
 use Rattle.dsa_regs.specs.Command.{scope_of}
 use Rattle.dsa_book.specs.Commands.{is_in_scope}
 use Rattle.dsa_explain.{specs.declared.held.Held.{Held}, proofs.Holding.{get-here, get-later}}
+use Rattle.std.proofs.lemmas.Grind.{common_steps}
 
 pub returns-in-Ok : goal.returns-in-Ok
 returns-in-Ok g c =
@@ -21,3 +22,6 @@ loop-number-preserved g c =
     (omega (arith, c.loop-number-test.true, c.list_count-number-end.ensures)) c.list_use.ensures.use_of
     c.list_use.ensures.number (λ (h : Held). is_in_scope (scope_of c.args.command.now) h.entry) c.loop-number.left
     c.in-Err.rest c.in-Err.ensures.left
+
+pub returns : goal.returns
+returns = grind (arith, common_steps)

@@ -5,6 +5,7 @@ use Rattle.dsa_regs.specs.Command.{scope_of}
 use Rattle.dsa_store.specs.{declared.entry.Entry.{Entry}, Content.{Slot}}
 use Rattle.dsa_book.specs.Commands.{is_in_scope}
 use Rattle.dsa_explain.proofs.Holding.{filter-hit, filter-count}
+use Rattle.std.proofs.lemmas.Grind.{common_steps}
 
 pub returns-then-left-eq0-clause-found : goal.returns-then-left-eq0-clause-found
 returns-then-left-eq0-clause-found g c =
@@ -22,3 +23,9 @@ returns-clause-left g c =
     let all = c.loop-cell.invariant.parts ∙ ap (λ l. c.loop-cell.yielded ++ l) c.in-None.ensures.steps.0
     ∙ append-nil c.loop-cell.yielded in
     rw (all, filter-count (λ (e : Entry). is_in_scope (scope_of c.args.command.now) e)) c.loop-cell.invariant.count
+
+pub loop-cell-preserved-then-is_in_scope : goal.loop-cell-preserved-then-is_in_scope
+loop-cell-preserved-then-is_in_scope = grind (arith, common_steps)
+
+pub loop-cell-preserved : goal.loop-cell-preserved
+loop-cell-preserved = grind (arith, common_steps)

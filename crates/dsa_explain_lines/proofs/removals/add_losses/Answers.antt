@@ -3,6 +3,7 @@ use Rattle.dsa_explain_lines.proofs.removals.add_losses.Goals.{then-is_told, els
 use Rattle.std.proofs.Common.{◌≡◌, ◌||◌, refl, arith}
 use Rattle.dsa_explain.proofs.Holding.{loss-step}
 use Rattle.dsa_explain_lines.proofs.Losing.{losses-next}
+use Rattle.std.proofs.lemmas.Grind.{common_steps}
 
 pub loop-number-preserved : goal.loop-number-preserved
 loop-number-preserved g c =
@@ -17,3 +18,6 @@ loop-number-preserved g c =
     c.list_use-list.ensures.number c.args.command.now in
     losses-next _ _ _ _ c.list_use-list.result _ _ _ c.loop-number.is_told c.in_ok-loses.loses c.if-is_told.is_told
     c.mark.ensures here c.in_ok-loses.ensures.told both c.loop-number.invariant c.in_ok-loses.ensures.text
+
+pub returns : goal.returns
+returns = grind (arith, common_steps)

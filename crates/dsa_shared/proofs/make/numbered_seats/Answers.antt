@@ -1,6 +1,7 @@
 use Rattle.dsa_shared.proofs.make.numbered_seats.Goals as goal
 use Rattle.std.proofs.{Common.{get_or, ap, sym, ◌∙◌, arith}, lemmas.Grind.{common_steps}}
 use Rattle.dsa_shared.{specs.Seat.{SeatLog}, proofs.Fresh.{one_more}}
+use Rattle.std.proofs.lemmas.Grind.{common_steps}
 
 pub loop-room-preserved : goal.loop-room-preserved
 loop-room-preserved g c = record {
@@ -14,3 +15,6 @@ loop-room-preserved g c = record {
       (ap (λ r. let s : SeatLog = record { number = c.loop-room.number; receipts = r.steps } in
       s) c.with-receipts.ensures) c.loop-room.invariant.fresh k d lt;
 }
+
+pub push_reserved-requires : goal.push_reserved-requires
+push_reserved-requires = grind (arith, common_steps)

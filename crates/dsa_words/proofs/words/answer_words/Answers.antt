@@ -1,9 +1,10 @@
 use Rattle.dsa_words.proofs.words.answer_words.Goals as goal
 use Rattle.dsa_words.specs.declared.options.Asked.TheVariants as asked
-use Rattle.std.proofs.Common.{◌≡◌, refl, inl, inr, rules, subst, map, string_bytes}
+use Rattle.std.proofs.Common.{◌≡◌, refl, inl, inr, rules, subst, map, string_bytes, arith}
 use Rattle.clap.specs.{Values.{kind_of}, Kinds.{IsAmong}}
 use Rattle.dsa_scenario.specs.declared.faults.ScenarioFault.TheVariants.{OutOfMemory}
 use Rattle.dsa_words.{specs.Words.{AsksFor, IsAskedBy}, proofs.ReportCommands.{same_found}}
+use Rattle.std.proofs.lemmas.Grind.{common_steps}
 
 pub returns-in-Err-clause-mistake : goal.returns-in-Err-clause-mistake
 returns-in-Err-clause-mistake g c two =
@@ -13,21 +14,24 @@ returns-in-Err-clause-mistake g c two =
       | inr among ↦ (kind_of c.in-Err.error, among, shown.1, shown.2)
     ]
 
-pub returns-then-is_empty-clause-done : goal.returns-then-is_empty-clause-done
-returns-then-is_empty-clause-done g c none zero = c.run_input.ensures.done zero
-
-pub returns-then-is_empty-clause-failed : goal.returns-then-is_empty-clause-failed
-returns-then-is_empty-clause-failed g c none one = c.run_input.ensures.failed one
+pub returns-then-is_empty-clause-threads : goal.returns-then-is_empty-clause-threads
+returns-then-is_empty-clause-threads = grind (arith, common_steps)
 
 pub returns-in-Ok-Threads-clause-threads : goal.returns-in-Ok-Threads-clause-threads
 returns-in-Ok-Threads-clause-threads g c zero rows named =
     let done = c.run_workers.ensures.done zero in
     search (rules, done, named)
 
+pub returns-then-is_empty-clause-threads_failed : goal.returns-then-is_empty-clause-threads_failed
+returns-then-is_empty-clause-threads_failed = grind (arith, common_steps)
+
 pub returns-in-Ok-Threads-clause-threads_failed : goal.returns-in-Ok-Threads-clause-threads_failed
 returns-in-Ok-Threads-clause-threads_failed g c one rows named =
     let failed = c.run_workers.ensures.failed one in
     search (rules, failed, named)
+
+pub returns-then-is_empty-clause-reports_failed : goal.returns-then-is_empty-clause-reports_failed
+returns-then-is_empty-clause-reports_failed = grind (arith, common_steps)
 
 pub returns-in-Ok-Report-clause-reports_failed : goal.returns-in-Ok-Report-clause-reports_failed
 returns-in-Ok-Report-clause-reports_failed g c one found named =
@@ -54,6 +58,9 @@ returns-in-Err-clause-reports_failed g c one found named =
       | inr among ↦ absurd (subst (λ faults. IsAmong (kind_of c.in-Err.error) faults) named.0 among)
     ]
 
+pub returns-then-is_empty-clause-serve_failed : goal.returns-then-is_empty-clause-serve_failed
+returns-then-is_empty-clause-serve_failed = grind (arith, common_steps)
+
 pub returns-in-Ok-Serve-clause-serve_failed : goal.returns-in-Ok-Serve-clause-serve_failed
 returns-in-Ok-Serve-clause-serve_failed g c one named =
     let told = c.serve_input.ensures.failed one in
@@ -67,3 +74,15 @@ returns-in-Err-clause-serve_failed g c one named =
           (OutOfMemory, inl (refl, kept.1), c.show.ensures.told memory)
       | inr among ↦ absurd (subst (λ faults. IsAmong (kind_of c.in-Err.error) faults) named.0 among)
     ]
+
+pub returns-then-is_empty-clause-done : goal.returns-then-is_empty-clause-done
+returns-then-is_empty-clause-done g c none zero = c.run_input.ensures.done zero
+
+pub returns-then-is_empty-clause-failed : goal.returns-then-is_empty-clause-failed
+returns-then-is_empty-clause-failed g c none one = c.run_input.ensures.failed one
+
+pub returns-then-is_empty-clause-reports : goal.returns-then-is_empty-clause-reports
+returns-then-is_empty-clause-reports = grind (arith, common_steps)
+
+pub returns-then-is_empty-clause-serves : goal.returns-then-is_empty-clause-serves
+returns-then-is_empty-clause-serves = grind (arith, common_steps)

@@ -3,6 +3,7 @@ use Rattle.std.proofs.Common.{ℕ, ◌≡◌, ◌∙◌, ◌+◌, ap, sym, subst
 use Rattle.dsa_workers.specs.Calls.{goes_on}
 use Rattle.dsa_workers.proofs.Calls.{AsksSoFar, asks_none, asks_more, asks_full, ends_done, ends_out, moved_by}
 use Rattle.dsa_workers.proofs.admin.issue_all.Goals.{then-goes_on, else-goes_on}
+use Rattle.std.proofs.lemmas.Grind.{common_steps}
 
 pub loop-turn-init : goal.loop-turn-init
 loop-turn-init g c = asks_none _ _
@@ -41,3 +42,6 @@ returns-then-at-script-2 g c =
 pub returns-else-at-script-2 : goal.returns-else-at-script-2
 returns-else-at-script-2 g c =
     ends_out _ _ _ _ _ c.loop-turn.turn c.loop-turn.at c.loop-turn.invariant.so_far (omega arith) (omega arith)
+
+pub bounds-script-at : goal.bounds-script-at
+bounds-script-at = grind (arith, common_steps)

@@ -5,6 +5,7 @@ use Rattle.dsa_workers.specs.Calls.{goes_on, submission}
 use Rattle.dsa_workers.proofs.Calls.{so_far_none, so_far_more, ends_full, ends_done, ends_out, moved_by, client_next}
 use Rattle.dsa_workers.proofs.Calls.{client_runs}
 use Rattle.dsa_workers.proofs.client.submit_all.Goals.{then-goes_on, else-goes_on}
+use Rattle.std.proofs.lemmas.Grind.{common_steps}
 
 pub loop-turn-init : goal.loop-turn-init
 loop-turn-init g c = record { number = refl; so_far = so_far_none _ _ _ }
@@ -65,3 +66,6 @@ returns-else-at-script-2 g c =
     let was = c.loop-turn.invariant in
     client_runs _ _ _ _ _ was.number (ends_out _ _ _ _ _ c.loop-turn.turn c.loop-turn.at was.so_far (omega arith)
     (omega arith))
+
+pub bounds-script-at : goal.bounds-script-at
+bounds-script-at = grind (arith, common_steps)

@@ -1,6 +1,7 @@
 use Rattle.dsa_workers.proofs.engine.run_engines.Goals as goal
-use Rattle.std.proofs.Common.{subst, get_or}
+use Rattle.std.proofs.Common.{subst, get_or, arith}
 use Rattle.dsa_workers.specs.Workers.{RunsEngine}
+use Rattle.std.proofs.lemmas.Grind.{common_steps}
 
 pub returns : goal.returns
 returns g c k d e lt =
@@ -9,3 +10,6 @@ returns g c k d e lt =
     (get_or c.args.lanes.now k d).seat new.seat new.stint) did.left
     (subst (λ old. RunsEngine (get_or c.args.scripts.now k e) c.args.run.now.turns old.seat did.after_call.now.seat
     did.after_call.now.stint) did.argument_is (did.call e))
+
+pub for_each_mut-requires-clause-accepts : goal.for_each_mut-requires-clause-accepts
+for_each_mut-requires-clause-accepts = grind (arith, common_steps)

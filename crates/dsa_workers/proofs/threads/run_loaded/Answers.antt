@@ -5,6 +5,7 @@ use Rattle.dsa_workers.specs.Workers.{RunsClient, RunsEngine, RunsAdmin, stint_a
 use Rattle.dsa_workers.specs.declared.scripts.WorkerEnd.TheVariants.{TurnsOut}
 use Rattle.dsa_workers.proofs.Lifts.{runs_back, in_three, get_last, lanes_left, stint_same, length_parts, turns_of}
 use Rattle.dsa_workers.proofs.{Lifts.{ends_of}, threads.run_loaded.Given.{Over}}
+use Rattle.std.proofs.lemmas.Grind.{common_steps}
 
 -- the report has the clients, the engines and then the administrator, and a lane came back for each seat
 record Reported (g : Over) (c : goal.After-drop-admin_lane g) : Type 0 where
@@ -62,3 +63,24 @@ returns-clause-items g c =
       sym last-2
           ∙ length_parts _ _ _ _ _ _ all.ends (length-map _ _ ∙ all.clients) (length-map _ _ ∙ all.engines),
     )
+
+pub run_all-requires-clause-scripts : goal.run_all-requires-clause-scripts
+run_all-requires-clause-scripts = grind (arith, common_steps)
+
+pub run_all-requires-clause-workers : goal.run_all-requires-clause-workers
+run_all-requires-clause-workers = grind (arith, common_steps)
+
+pub unload-requires-clause-seats : goal.unload-requires-clause-seats
+unload-requires-clause-seats = grind (arith, common_steps)
+
+pub unload-requires-clause-report : goal.unload-requires-clause-report
+unload-requires-clause-report = grind (arith, common_steps)
+
+pub unload-requires-2-clause-seats : goal.unload-requires-2-clause-seats
+unload-requires-2-clause-seats = grind (arith, common_steps)
+
+pub unload-requires-2-clause-report : goal.unload-requires-2-clause-report
+unload-requires-2-clause-report = grind (arith, common_steps)
+
+pub returns-clause-len : goal.returns-clause-len
+returns-clause-len = grind (arith, common_steps)

@@ -1,6 +1,8 @@
 use Rattle.dsa_shared.proofs.device.SharedDevice.settle.Goals as goal
 use Rattle.std.proofs.{Common.{◌∙◌, Some, sym, ap}, lemmas.Option.{same_Some}}
 use Rattle.dsa_shared.proofs.Sums.{complete_by}
+use Rattle.std.proofs.Common.{arith}
+use Rattle.std.proofs.lemmas.Grind.{common_steps}
 
 pub returns-in-Some-clause-mismatch : goal.returns-in-Some-clause-mismatch
 returns-in-Some-clause-mismatch g c other =
@@ -16,3 +18,9 @@ returns-in-Some-clause-missing g c =
           (complete_by _ _ _ _ _ _ _ (sym c.args.self.clients_are) (sym engines) all),
       λ no. same_Some _ _ (missing.1 (λ all. no (complete_by _ _ _ _ _ _ _ c.args.self.clients_are engines all))),
     )
+
+pub finish-requires-clause-complete : goal.finish-requires-clause-complete
+finish-requires-clause-complete = grind (arith, common_steps)
+
+pub returns-clause-complete : goal.returns-clause-complete
+returns-clause-complete = grind (arith, common_steps)

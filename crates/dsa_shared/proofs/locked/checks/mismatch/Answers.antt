@@ -1,9 +1,10 @@
 use Rattle.dsa_shared.proofs.locked.checks.mismatch.Goals as goal
-use Rattle.std.proofs.Common.{◌≡◌, ℕ, List, Option, Some, None, IfSome, inr, sym, subst}
+use Rattle.std.proofs.Common.{◌≡◌, ℕ, List, Option, Some, None, IfSome, inr, sym, subst, arith}
 use Rattle.std.specs.Option.{IsSomeAnd}
 use Rattle.dsa_book.specs.{declared.event.{Step.{Step}, Actor.TheVariants.{Admin}}, Totals.{steps_of}}
 use Rattle.dsa_shared.specs.{Compare.{DiffersFirstAt}, Seat.{SeatLog, client_of, engine_of, receipts_of}}
 use Rattle.dsa_shared.specs.Settle.{AllMatch, IsFirstMismatch}
+use Rattle.std.proofs.lemmas.Grind.{common_steps}
 
 -- where all numbered seats match, the administrator's mismatch is the first
 admin_first : (h : List Step) (clients engines : List SeatLog) (admin : Option (List Step)) (own : List Step)
@@ -26,3 +27,15 @@ returns-clause-some g c =
     (subst (AllMatch engine_of receipts_of history) c.deref-2.ensures.value c.in_default-first_mismatch-2.ensures.none)
     c.in-Some.is (subst (λ r. IfSome c.compare_receipts.result (DiffersFirstAt r (steps_of history Admin)))
     c.receipts.ensures c.compare_receipts.ensures.some)
+
+pub first_mismatch-requires-2 : goal.first_mismatch-requires-2
+first_mismatch-requires-2 = grind (arith, common_steps)
+
+pub unreachable-requires : goal.unreachable-requires
+unreachable-requires = grind (arith, common_steps)
+
+pub unreachable-unreachable : goal.unreachable-unreachable
+unreachable-unreachable = grind (arith, common_steps)
+
+pub first_mismatch-requires : goal.first_mismatch-requires
+first_mismatch-requires = grind (arith, common_steps)

@@ -3,6 +3,7 @@ use Rattle.std.proofs.Common.{Some, ◌∷◌, ◌++◌, [], ap, map, sym, subst
 use Rattle.std.proofs.lemmas.List.{map-append, Elements.{All-pop, All-push, All-same}}
 use Rattle.std.specs.Vec.Iter.{drain_items}
 use Rattle.dsa_workers.specs.Calls.{HasRoom}
+use Rattle.std.proofs.lemmas.Grind.{common_steps}
 
 pub loop-seat-preserved : goal.loop-seat-preserved
 loop-seat-preserved g c =
@@ -39,3 +40,9 @@ returns-clause-seats g c =
     let was = c.loop-seat.invariant in
     was.seats ∙ sym (append-nil c.loop-seat.yielded)
     ∙ ap (λ z. c.loop-seat.yielded ++ z) (sym c.in-None.ensures.steps.0) ∙ was.all
+
+pub loop-seat-init : goal.loop-seat-init
+loop-seat-init = grind (arith, common_steps)
+
+pub push_reserved-requires : goal.push_reserved-requires
+push_reserved-requires = grind (arith, common_steps)

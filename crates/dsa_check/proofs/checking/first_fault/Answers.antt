@@ -1,0 +1,9 @@
+use Rattle.dsa_check.proofs.checking.first_fault.Goals as goal
+use Rattle.std.proofs.Common.{arith}
+use Rattle.std.proofs.lemmas.Grind.{common_steps}
+
+pub returns-in-Some : goal.returns-in-Some
+returns-in-Some = grind (arith, common_steps)
+
+pub returns-in-None : goal.returns-in-None
+returns-in-None = grind (arith, common_steps)
