@@ -1,10 +1,13 @@
 -- What a line asks, by what is kept of it.
 use Rattle.std.proofs.Common.{◌≡◌, ◌≤◌, ◌<◌, ◌+◌, ◌^◌, ℕ, List, [], ◌∷◌, ◌++◌, length, take, ◌∙◌, arith}
-use Rattle.std.proofs.Common.{length-take, subst}
+use Rattle.std.proofs.Common.{length-take, subst, Option, Some, None, refl, sym}
 use Rattle.std.proofs.lemmas.List.{take_all}
+use Rattle.serde_json.specs.Data.{Data}
+use Rattle.dsa_scenario.specs.declared.actions.Action.{Action}
+use Rattle.dsa_scenario.specs.{Actions.{action_of}, Document.{IsJson}}
 use Rattle.dsa_serve.specs.declared.requests.LineFault.{TheVariants.{NotJson, NoStep, TooLong}}
 use Rattle.dsa_serve.specs.declared.requests.Request.{Request, TheVariants.{Step, Explain, Fault}}
-use Rattle.dsa_serve.specs.Requests.{Asks, AreAsked}
+use Rattle.dsa_serve.specs.Requests.{Asks, AreAsked, request_by, request_of, explained_of}
 
 -- a line that is short when cut is whole
 whole : (line : List ℕ) → length (take (2 ^ 20 + 1) line) ≤ 2 ^ 20 → take (2 ^ 20 + 1) line ≡ line
@@ -37,3 +40,17 @@ AreAsked-more [] (r ∷ requests) line request h asks = absurd h
 AreAsked-more (l ∷ lines) [] line request h asks = absurd h
 AreAsked-more (l ∷ lines) (r ∷ requests) line request h asks =
     (h.0, AreAsked-more lines requests line request h.1 asks)
+
+-- a short line with a JSON value asks what that asks
+read_by : (line : List ℕ) (document : Data) (action within : Option Action) → length line ≤ 2 ^ 20
+    → IsJson line document → request_by action within ≡ request_of document → Asks line (request_by action within)
+read_by line document (Some action) within short json is =
+    (short, record { document = document; json = json; asks = sym is })
+read_by line document None (Some action) short json is =
+    (short, record { document = document; json = json; asks = sym is })
+read_by line document None None short json is = (short, record { document = document; json = json; asks = sym is })
+
+pub Asks-read : (line : List ℕ) (document : Data) (request : Request) → length line ≤ 2 ^ 20 → IsJson line document
+    → request ≡ request_of document → Asks line request
+Asks-read line document request short json is =
+    rw is (read_by line document (action_of document) (explained_of document) short json refl)

@@ -1,11 +1,12 @@
 -- How often a reader is asked, and what is noted of it and of a writer.
 use Rattle.std.proofs.Common.{◌≡◌, ◌≢◌, ◌⊎◌, ◌+◌, ℕ, List, ◌++◌, Option, Result, Ok, Err, IfErr, arith}
-use Rattle.std.proofs.Common.{length-append, inl, inr, refl}
+use Rattle.std.proofs.Common.{length-append, inl, inr, refl, ◌∙◌}
 use Rattle.std.proofs.KnownBytes.{Consumes-trans}
 use Rattle.dsa_serve.specs.declared.counted.CountedReader.{CountedReader}
 use Rattle.dsa_scenario.specs.declared.faults.ScenarioFault.{ScenarioFault, TheVariants.{Read, TooLong, Write}}
 use Rattle.dsa_scenario.specs.declared.faults.ScenarioFault.{TheVariants.{OutOfMemory}}
 use Rattle.dsa_scenario.specs.declared.watched.WatchedWriter.{WatchedWriter}
+use Rattle.dsa_scenario.specs.Watched.{has_refused}
 use Rattle.dsa_serve.specs.Noted.{counted_remaining, has_failed, IsAskedFor, IsFailureNoted, IsRefusalTold}
 
 -- a reader that is asked, and then asked again
@@ -34,3 +35,9 @@ pub not_written : {T W : Type 0} (result : Result T ScenarioFault) (writer : Wat
     → IfErr result (λ e. (e ≡ Read) ⊎ (e ≡ TooLong) ⊎ (e ≡ OutOfMemory)) → IsRefusalTold result writer writer
 not_written (Ok x) writer fault = ((λ is. absurd cc, refl), tt)
 not_written (Err e) writer fault = ((λ is. absurd (of_no_write e fault cc), tt), λ _. refl)
+
+-- a writer that had taken all, and then told
+pub refused_on : {T W : Type 0} (result : Result T ScenarioFault) (old mid new : WatchedWriter W)
+    → has_refused mid ≡ has_refused old → IsRefusalTold result mid new → IsRefusalTold result old new
+refused_on (Ok x) old mid new taken told = ((told.0.0, told.0.1 ∙ taken), tt)
+refused_on (Err e) old mid new taken told = ((told.0.0, tt), λ other. told.1 other ∙ taken)

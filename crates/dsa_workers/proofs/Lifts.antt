@@ -1,7 +1,7 @@
 -- From lanes to the seats that come back and to the report.
 use Rattle.std.proofs.Common.{◌≡◌, sym, ap, subst, refl, ◌∙◌, ℕ, zero, suc, ◌+◌, ◌<◌, List, [], ◌∷◌, ◌++◌, length}
-use Rattle.std.proofs.Common.{map, get_or, arith}
-use Rattle.std.proofs.lemmas.List.{length-map, length-append, get_or-append-add}
+use Rattle.std.proofs.Common.{map, get_or, append-nil, arith}
+use Rattle.std.proofs.lemmas.List.{length-map, length-append, map-append, get_or-append-add}
 use Rattle.dsa_workers.specs.declared.scripts.{Stint.{Stint}, WorkerEnd.{WorkerEnd, TheVariants.{TurnsOut}}}
 use Rattle.dsa_workers.specs.declared.lanes.Lane.{Lane}
 use Rattle.dsa_workers.specs.Workers.{RunsAdmin}
@@ -114,3 +114,30 @@ pub stint_same : (script : List Command) (limit : ℕ) (old new : List Step) (st
     (ended : WorkerEnd) → turns ≡ stint.turns → ended ≡ stint.ended
     → RunsAdmin script limit old new stint → RunsAdmin script limit old new (record { turns = turns; ended = ended })
 stint_same script limit old new stint turns ended t u r = rw (t, u) r
+
+-- there are as many lanes as seats in them
+pub lent : {T Z : Type 0} (lanes : List (Lane T Z)) (seats : List T) (m n : ℕ) → m ≡ length lanes
+    → n ≡ length seats → map (λ l. l.seat) lanes ≡ seats → m ≡ n
+lent {T} {Z} lanes seats m n p q is =
+    p ∙ sym (length-map lanes (λ (l : Lane T Z). l.seat)) ∙ ap (λ z. length z) is ∙ sym q
+
+-- a part of the report has grown by an element for each lane
+pub noted : {T A : Type 0} (f : T → A) (new old : List A) (lanes : List T) (m n k : ℕ) → m ≡ length new
+    → n ≡ length old → k ≡ length lanes → new ≡ old ++ map f lanes → m ≡ n + k
+noted f new old lanes m n k p q r is =
+    let all = ap (λ z. length z) is ∙ length-append old (map f lanes) in
+    let many = length-map lanes f in
+    omega (arith, all, many, p, q, r)
+
+-- an iterator that is through has given all
+pub given_all : {A : Type 0} (given rest all : List A) (n : ℕ) → given ++ rest ≡ all → n ≡ length rest → n ≡ 0
+    → given ≡ all
+given_all given [] all n is len none = sym (append-nil given) ∙ is
+given_all given (x ∷ rest) all n is len none = absurd (omega (arith, len, none))
+
+-- a list that has an element for each given one, once another is given
+pub map_grown : {T A : Type 0} (f : T → A) (new now old : List A) (given : List T) (x : T) → new ≡ now ++ f x ∷ []
+    → now ≡ old ++ map f given → new ≡ old ++ map f (given ++ x ∷ [])
+map_grown f new now old given x pushed is =
+    pushed ∙ ap (λ z. z ++ f x ∷ []) is ∙ append_assoc old (map f given) (f x ∷ [])
+    ∙ ap (λ z. old ++ z) (sym (map-append f given (x ∷ [])))

@@ -1,7 +1,7 @@
 use Rattle.dsa_serve.proofs.serving.serve_counted.Goals as goal
 use Rattle.std.proofs.Common.{◌≡◌, ◌^◌, true, false, length, arith, ◌∙◌}
 use Rattle.std.proofs.lemmas.Result.{err_from_is_err_and, on_ok_weaker, IfErr-weaker}
-use Rattle.dsa_serve.proofs.Counts.{asked_on, not_failed}
+use Rattle.dsa_serve.proofs.{Counts.{asked_on, not_failed, refused_on}, Stops.{late_is}}
 use Rattle.dsa_serve.proofs.serving.serve_counted.Goals.{then-not-it+in_ok-serve_lines, else-not-it}
 
 pub returns-in_err-serve_lines-clause-stopped : goal.returns-in_err-serve_lines-clause-stopped
@@ -69,3 +69,82 @@ returns-clause-asked g c = elim c.if-not-it.branch [
       (c.in_ok-it.ensures.asked_first w.if-not-it.true) w.in_ok-serve_lines.ensures.asked)
   | else-not-it w ↦ rw w.reader-is c.in_ok-it.ensures.asked
 ]
+
+pub returns-in_err-it-clause-same_reader : goal.returns-in_err-it-clause-same_reader
+returns-in_err-it-clause-same_reader g c = c.in_err-it.ensures.same_reader
+
+pub returns-in_err-it-clause-same_writer : goal.returns-in_err-it-clause-same_writer
+returns-in_err-it-clause-same_writer g c = c.in_err-it.ensures.same_writer
+
+pub returns-in_err-it-clause-asked : goal.returns-in_err-it-clause-asked
+returns-in_err-it-clause-asked g c = c.in_err-it.ensures.asked
+
+pub returns-in_err-it-clause-ok : goal.returns-in_err-it-clause-ok
+returns-in_err-it-clause-ok g c =
+    let p = err_from_is_err_and c.from_residual.result c.from_residual.ensures.1 in rw p.1 tt
+
+pub returns-in_err-it-clause-nothing : goal.returns-in_err-it-clause-nothing
+returns-in_err-it-clause-nothing g c =
+    let p = err_from_is_err_and c.from_residual.result c.from_residual.ensures.1 in
+    rw (p.1, p.2) (λ _ write _. c.in_err-it.ensures.nothing write)
+
+pub returns-in_err-serve_lines-clause-same_reader : goal.returns-in_err-serve_lines-clause-same_reader
+returns-in_err-serve_lines-clause-same_reader g c =
+    c.in_err-serve_lines.ensures.same_reader ∙ c.in_ok-it.ensures.same_reader
+
+pub returns-in_err-serve_lines-clause-same_writer : goal.returns-in_err-serve_lines-clause-same_writer
+returns-in_err-serve_lines-clause-same_writer g c =
+    c.in_err-serve_lines.ensures.same_writer ∙ c.in_ok-it.ensures.same_writer
+
+pub returns-in_err-serve_lines-clause-failed : goal.returns-in_err-serve_lines-clause-failed
+returns-in_err-serve_lines-clause-failed g c =
+    let p = err_from_is_err_and c.from_residual-in_err-serve_lines.result
+    c.from_residual-in_err-serve_lines.ensures.1 in
+    let it = c.in_err-serve_lines.ensures.failed in
+    rw (p.1, p.2) (it.0, tt, λ other. it.2 other ∙ c.in_ok-it.ensures.failed.1)
+
+pub returns-in_err-serve_lines-clause-refused : goal.returns-in_err-serve_lines-clause-refused
+returns-in_err-serve_lines-clause-refused g c =
+    let p = err_from_is_err_and c.from_residual-in_err-serve_lines.result
+    c.from_residual-in_err-serve_lines.ensures.1 in
+    let it = c.in_err-serve_lines.ensures.refused in
+    rw (p.1, p.2) ((it.0.0, tt), λ other. it.1 other ∙ c.in_ok-it.ensures.refused.0.1)
+
+pub returns-in_err-serve_lines-clause-ok : goal.returns-in_err-serve_lines-clause-ok
+returns-in_err-serve_lines-clause-ok g c =
+    let p = err_from_is_err_and c.from_residual-in_err-serve_lines.result
+    c.from_residual-in_err-serve_lines.ensures.1 in rw p.1 tt
+
+pub returns-in_err-serve_lines-clause-nothing : goal.returns-in_err-serve_lines-clause-nothing
+returns-in_err-serve_lines-clause-nothing g c =
+    let p = err_from_is_err_and c.from_residual-in_err-serve_lines.result
+    c.from_residual-in_err-serve_lines.ensures.1 in
+    rw (p.1, p.2) (λ read write memory. late_is _ c.in_err-serve_lines.ensures.late read write memory)
+
+pub returns-clause-same_reader : goal.returns-clause-same_reader
+returns-clause-same_reader g c = elim c.if-not-it.branch [
+  | then-not-it+in_ok-serve_lines w ↦
+      rw w.reader-is (w.in_ok-serve_lines.ensures.same_reader ∙ c.in_ok-it.ensures.same_reader)
+  | else-not-it w ↦ rw w.reader-is c.in_ok-it.ensures.same_reader
+]
+
+pub returns-clause-same_writer : goal.returns-clause-same_writer
+returns-clause-same_writer g c = elim c.if-not-it.branch [
+  | then-not-it+in_ok-serve_lines w ↦
+      c.finish.ensures.same_writer ∙ rw w.writer-is (w.in_ok-serve_lines.ensures.same_writer
+      ∙ c.in_ok-it.ensures.same_writer)
+  | else-not-it w ↦ c.finish.ensures.same_writer ∙ rw w.writer-is c.in_ok-it.ensures.same_writer
+]
+
+pub returns-clause-refused : goal.returns-clause-refused
+returns-clause-refused g c =
+    refused_on c.finish.result c.args.writer.now c.if-not-it.writer c.finish.new.writer (elim c.if-not-it.branch [
+      | then-not-it+in_ok-serve_lines w ↦
+          rw w.writer-is (w.in_ok-serve_lines.ensures.refused.0.1 ∙ c.in_ok-it.ensures.refused.0.1)
+      | else-not-it w ↦ rw w.writer-is c.in_ok-it.ensures.refused.0.1
+    ]) c.finish.ensures.refused
+
+pub returns-clause-nothing : goal.returns-clause-nothing
+returns-clause-nothing g c =
+    IfErr-weaker c.finish.result _ _ (λ e late read write memory. late_is e late read write memory)
+    c.finish.ensures.late

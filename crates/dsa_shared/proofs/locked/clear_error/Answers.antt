@@ -1,6 +1,33 @@
+use Rattle.dsa_book.specs.declared.event.Event.TheVariants as event
+use Rattle.dsa_book.specs.declared.answer.Reply.TheVariants as reply
 use Rattle.dsa_shared.proofs.locked.clear_error.Goals as goal
-use Rattle.std.proofs.Common.{arith}
-use Rattle.std.proofs.lemmas.Grind.{common_steps}
+use Rattle.std.proofs.Common.{ap, ◌∙◌}
+use Rattle.dsa_shared.{specs.Seat.{with_step}, proofs.Steps.{within, gained}}
+use Rattle.dsa_device.proofs.Steps.{grows}
+
+pub note-requires-clause-capacity : goal.note-requires-clause-capacity
+note-requires-clause-capacity g c =
+    (grows c.locked.inside.device c.clear_error-answer.new.self event.ClearError
+    (reply.Clear c.clear_error-answer.result)
+    c.clear_error-answer.ensures).capacity ∙ c.locked.invariant.1
 
 pub note-requires-clause-grown : goal.note-requires-clause-grown
-note-requires-clause-grown = grind (arith, common_steps)
+note-requires-clause-grown g c =
+    within c.history-before.result.now c.locked.inside.device c.clear_error-answer.new.self
+    event.ClearError (reply.Clear c.clear_error-answer.result)
+    c.history-before.ensures c.clear_error-answer.ensures
+
+pub invariant_of-locked : goal.invariant_of-locked
+invariant_of-locked g c =
+    let s = grows c.locked.inside.device c.clear_error-answer.new.self event.ClearError
+    (reply.Clear c.clear_error-answer.result) c.clear_error-answer.ensures in
+    (c.note.ensures.total, s.capacity ∙ c.locked.invariant.1, s.caps ∙ c.locked.invariant.2)
+
+pub returns-clause-receipts : goal.returns-clause-receipts
+returns-clause-receipts g c =
+    let receipts = ap (λ r. r.steps) c.note.ensures.noted
+    ∙ gained c.seat.inside.receipts.steps c.history-before.result.now c.locked.inside.device c.clear_error-answer.new.self
+    event.ClearError (reply.Clear c.clear_error-answer.result)
+    c.history-before.ensures c.clear_error-answer.ensures in
+    receipts ∙ ap (λ steps. with_step steps event.ClearError
+    (reply.Clear c.clear_error-answer.result)) c.seat.view_is

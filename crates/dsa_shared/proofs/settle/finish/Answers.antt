@@ -6,7 +6,8 @@ use Rattle.dsa_accounts.proofs.{Totals.{replay-held}, Accounted.{replay-accepted
 use Rattle.dsa_accounts.proofs.Abandons.{replay-lawful}
 use Rattle.dsa_shared.specs.{Settle.{over_seats}, Totals.{totals_of, Balance}}
 use Rattle.dsa_shared.proofs.{Sums.{seats_sum, seats_len}, settle.finish.{Given.{Over}, Goals.{After-close}}}
-use Rattle.dsa_device.specs.Running.{Running}
+use Rattle.dsa_device.specs.Running.{Running, IsReplay}
+use Rattle.dsa_laws.specs.WellFormed.{IsWellFormed}
 
 pub close-requires-clause-all : goal.close-requires-clause-all
 close-requires-clause-all g c =
@@ -66,3 +67,23 @@ returns-clause-balance g c =
       fetched = ap (λ t. t.fetched) is ∙ replay-fetched d.caps d.history d.state replayed;
       members_alone = replay-lawful d.caps d.history d.state replayed;
     })
+
+pub close-requires-clause-steps : goal.close-requires-clause-steps
+close-requires-clause-steps g c = c.locked.invariant.0 ∙ sym (ap length c.history.ensures)
+    ∙ sym (ap (λ t. t.steps) c.count-totals.ensures)
+
+pub returns-clause-device : goal.returns-clause-device
+returns-clause-device g c = c.locked.view_is
+
+pub returns-clause-replay : goal.returns-clause-replay
+returns-clause-replay g c = subst IsReplay c.locked.view_is c.state_is_replay.ensures.replay
+
+pub returns-clause-well_formed : goal.returns-clause-well_formed
+returns-clause-well_formed g c =
+    subst (λ r. IsWellFormed r.caps r.state) c.locked.view_is c.state_is_replay.ensures.well_formed
+
+pub returns-clause-caps : goal.returns-clause-caps
+returns-clause-caps g c = ap (λ l. l.caps) (sym c.locked.view_is) ∙ c.locked.invariant.2
+
+pub returns-clause-capacity : goal.returns-clause-capacity
+returns-clause-capacity g c = ap (λ l. l.capacity) (sym c.locked.view_is) ∙ c.locked.invariant.1

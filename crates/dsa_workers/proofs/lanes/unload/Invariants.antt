@@ -1,9 +1,10 @@
 use Rattle.dsa_workers.proofs.lanes.unload.Given as goal
 use Rattle.std.proofs.Common.{◌≡◌, ◌+◌, ◌≤◌, ◌++◌, map, vec_len, vec_capacity, vec_items}
-use Rattle.std.specs.Vec.Iter.{into_iter_len}
+use Rattle.std.specs.Vec.Iter.{into_iter_len, into_iter_items}
 
 abbrev pub invariant-loop-lane : goal.invariant-loop-lane
 invariant-loop-lane g l = record {
+  all : l.yielded ++ into_iter_items l.lane-iterator ≡ vec_items l.fn.lanes;
   seats : vec_items l.seats ≡ map (λ x. x.seat) l.yielded;
   turns : vec_items l.report.turns ≡ vec_items l.initial.report.turns ++ map (λ x. x.stint.turns) l.yielded;
   ended : vec_items l.report.ended ≡ vec_items l.initial.report.ended ++ map (λ x. x.stint.ended) l.yielded;

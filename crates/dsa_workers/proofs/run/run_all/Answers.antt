@@ -1,6 +1,6 @@
 use Rattle.dsa_workers.proofs.run.run_all.Goals as goal
 use Rattle.std.proofs.Common.{◌<◌, subst, ap, get_or, length, arith}
-use Rattle.dsa_workers.specs.Workers.{RunsClient}
+use Rattle.dsa_workers.specs.Workers.{RunsClient, RunsEngine}
 
 pub returns-clause-clients : goal.returns-clause-clients
 returns-clause-clients g c k d e lt =
@@ -14,4 +14,24 @@ returns-clause-clients g c k d e lt =
     (subst (λ scripts. RunsClient (get_or scripts k e).items turns (get_or did.argument.now.items k d).seat
     (get_or did.after_call.now.items k d).seat
     (get_or did.after_call.now.items k d).stint) c.as_slice-client_scripts.ensures.value
+    (did.call.0 k d e below)))
+
+pub returns-clause-engines : goal.returns-clause-engines
+returns-clause-engines g c k d e lt =
+    let did = c.join_pair.ensures.second in
+    let turns = c.args.run.now.turns in
+    let below : k < length did.argument.now.engines.items = omega (
+      arith,
+      ap (λ r. length r.engines.items) did.argument_is,
+      lt,
+    ) in
+    subst (λ new. RunsEngine (get_or c.args.scripts.now.engines.items k e) turns
+    (get_or c.args.rest.now.engines.items k d).seat (get_or new.engines.items k d).seat
+    (get_or new.engines.items k d).stint) did.left
+    (subst (λ old. RunsEngine (get_or c.args.scripts.now.engines.items k e) turns
+    (get_or old.engines.items k d).seat (get_or did.after_call.now.engines.items k d).seat
+    (get_or did.after_call.now.engines.items k d).stint) did.argument_is
+    (subst (λ scripts. RunsEngine (get_or scripts k e) turns (get_or did.argument.now.engines.items k d).seat
+    (get_or did.after_call.now.engines.items k d).seat
+    (get_or did.after_call.now.engines.items k d).stint) c.as_slice-engine_scripts.ensures.value
     (did.call.0 k d e below)))
