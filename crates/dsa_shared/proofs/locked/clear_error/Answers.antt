@@ -26,7 +26,8 @@ invariant_of-locked g c =
 pub returns-clause-receipts : goal.returns-clause-receipts
 returns-clause-receipts g c =
     let receipts = ap (λ r. r.steps) c.note.ensures.noted
-    ∙ gained c.seat.inside.receipts.steps c.history-before.result.now c.locked.inside.device c.clear_error-answer.new.self
+    ∙ gained c.seat.inside.receipts.steps c.history-before.result.now c.locked.inside.device
+    c.clear_error-answer.new.self
     event.ClearError (reply.Clear c.clear_error-answer.result)
     c.history-before.ensures c.clear_error-answer.ensures in
     receipts ∙ ap (λ steps. with_step steps event.ClearError
