@@ -352,6 +352,64 @@ def put_abort():
     put("steps/abort", document(list(steps), {**SET_UP_CAPS, "slots": 2, "max_batch_shift": 2}), [*lines, *fates])
 
 
+DRAIN_QUEUE = [
+    {"do": "queue", "queue": 0, "size": 4, "threshold": 2, "dedicated": False, "priority": 1, "pasid": 0, "batch": 3, "xfer": 20},
+    {"do": "group", "group": 0, "queues": 1, "engines": 1, "reserved": 4, "allowed": 8},
+    {"do": "command", "word": 1 << 20}, {"do": "command", "word": 6 << 20},
+]
+DRAIN_CAPS = {"queues": 1, "groups": 1, "engines": 1, "total_size": 4, "read_buffers": 16, "slots": 2, "max_batch_shift": 3,
+              "max_xfer_shift": 20}
+
+
+def put_drains():
+    """One program's Drain waits for that program's entry, and the other's is taken behind it. A Drain in a batch is not supported,
+    and one with a fence is not well formed."""
+    def submitted(client, limited, desc):
+        return {"do": "enqcmd", "client": client, "queue": 0, "limited": limited, "pasid": 5 + client, "desc": desc}
+
+    def end(name, is_fault=False):
+        return {"do": "finish", "engine": 0, "name": name, "fault": is_fault}
+
+    dispatch, drain = {"do": "dispatch", "engine": 0}, "0000000000000002"
+    of_two = [
+        *[(submitted(client, False, desc), f"accepted {2 * at + client}") for at, desc in enumerate(("", drain)) for client in (0, 1)],
+        (dispatch, "taken 0 from 0"), (dispatch, "taken 1 from 0"), (end(1), "done 01"), (dispatch, "taken 2 from 0"),
+        (end(2, True), "not-ready"), (dispatch, "idle"), (end(0), "done 01"), (dispatch, "idle"), (end(2, True), "done 01"),
+        (dispatch, "taken 3 from 0"), (end(3), "done 01"),
+    ]
+    refused = [
+        (submitted(0, True, "0000000001000002"), "accepted 0"), (submitted(0, True, "0000000000000001" + "00" * 24 + "02000000"), "accepted 1"),
+        (dispatch, "taken 0 from 0"), (end(0), "done 11"), (dispatch, "taken 1 from 0"),
+        ({"do": "fetch", "engine": 0, "desc": drain}, "fetched 2"), ({"do": "start", "engine": 0}, "started 2"), (end(2), "done 10"),
+    ]
+    put_drain("of-two-programs", of_two, [f"fate {name} - completed 01" for name in (1, 0, 2, 3)])
+    put_drain("that-are-refused", refused, ["fate 0 - completed 11", "fate 2 1 completed 10"])
+
+
+def put_drain(name, rows, fates):
+    steps, lines = zip(*rows)
+    put(f"steps/drains-{name}", document([*DRAIN_QUEUE, *steps], DRAIN_CAPS), [*SET_UP_LINES, *lines, *fates])
+
+
+def put_largest_batches():
+    """In the last of 64 queues a batch of 1,024 descriptors, and one of one more, by the portal without a threshold."""
+    caps = {"queues": 64, "groups": 1, "engines": 64, "total_size": 4096, "read_buffers": 255, "slots": 16, "max_batch_shift": 10,
+            "max_xfer_shift": 31}
+    for what, count, ended in ("of-1024", "00040000", ["not-ready"]), ("of-1025", "01040000", ["done 14", "fate 0 - completed 14"]):
+        batch = "0000000000000001" + "00" * 24 + count
+        steps = [
+            {"do": "queue", "queue": 63, "size": 4096, "threshold": 4096, "dedicated": False, "priority": 15, "pasid": 0, "batch": 10,
+             "xfer": 31},
+            {"do": "group", "group": 0, "queues": 1 << 63, "engines": 1 << 63, "reserved": 0, "allowed": 4},
+            {"do": "command", "word": 1 << 20}, {"do": "command", "word": 6 << 20 | 63}, {"do": "command", "word": 7602177},
+            {"do": "enqcmd", "client": 0, "queue": 63, "limited": False, "pasid": 5, "desc": batch},
+            {"do": "dispatch", "engine": 63}, {"do": "command", "word": 7569408},
+            {"do": "finish", "engine": 63, "name": 0, "fault": False},
+        ]
+        lines = [*SET_UP_LINES, "refused 14 BadQueue", "accepted 0", "taken 0 from 63", "active", *ended]
+        put(f"steps/batch-{what}", document(steps, caps), lines)
+
+
 def put_caps():
     put("caps/least", document([POLL], LEAST), ["nothing"])
     for key, (bits, least, greatest) in CAPS.items():
@@ -735,6 +793,8 @@ def main():
     put_ignored_keys()
     put_tickets()
     put_abort()
+    put_drains()
+    put_largest_batches()
     put_caps()
     put_capacity()
     put_shapes()
