@@ -44,14 +44,14 @@ impl Read for Trickle<'_> {
 
 // Takes at most `step` bytes a call, and fails when `left` were taken.
 #[derive(Drop)]
-pub struct Narrow {
-    pub step: usize,
-    pub left: usize,
-    pub taken: Vec<u8>,
+struct Narrow {
+    step: usize,
+    left: usize,
+    taken: Vec<u8>,
 }
 
 impl Narrow {
-    pub fn new(alloc: Global, (step, left): (usize, usize)) -> Self {
+    fn new(alloc: Global, (step, left): (usize, usize)) -> Self {
         Narrow {
             step,
             left,

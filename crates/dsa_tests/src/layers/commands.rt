@@ -17,6 +17,7 @@ use dsa_fixtures::{FIRST_GROUP, FIRST_QUEUE, LISTS, MOVE, SECOND_GROUP, batch_of
 use dsa_queues::Queues;
 use dsa_regs::{Command, Fault, GroupConfig, Phase, QueueMask, cell_count, list_count};
 use dsa_store::{Entry, EntryStore, ListId};
+use std::alloc::Global;
 use std::process::Abort;
 
 // A group with a queue that no engine serves.
@@ -33,6 +34,30 @@ const NONE: QueueMask = QueueMask { group: 0, mask: 0 };
 
 // Queue 1, and queue 2 that the device does not have.
 const PAST: QueueMask = QueueMask { group: 0, mask: 6 };
+
+// What is tried with the commands of the small device.
+#[derive(Clone, Copy)]
+enum Trial {
+    Refused,
+    Aborted,
+    Drained,
+    Disabled,
+}
+
+impl Trial {
+    fn on<S: EntryStore>(self, rt: &impl Abort, store: S, book: Book) {
+        match self {
+            Trial::Refused => refused(rt, store, book),
+            Trial::Aborted => aborted(rt, store, book),
+            Trial::Drained => drained(rt, store, book),
+            Trial::Disabled => disabled(rt, store, book),
+        }
+    }
+}
+
+fn over_vectors(rt: &impl Abort, alloc: Global, trial: Trial) {
+    trial.on(rt, store(rt, alloc), book(rt, alloc, 100));
+}
 
 // The book has room for a row of each entry that is held.
 fn has_room<S: EntryStore>(store: &S, book: &Book) -> bool
@@ -180,7 +205,7 @@ fn refused<S: EntryStore>(rt: &impl Abort, store: S, book: Book) {
 
 #[test]
 fn the_first_cause_refuses(rt: HostRuntime) {
-    refused(&rt, store(&rt, rt.alloc()), book(&rt, rt.alloc(), 100));
+    over_vectors(&rt, rt.alloc(), Trial::Refused);
 }
 
 // The commands are issued in turn: how many entries each aborts, and the numbers of the queues after it.
@@ -247,7 +272,7 @@ fn were_aborted(rt: &impl Abort, book: &Book) {
 
 #[test]
 fn aborts_take_out_their_scope(rt: HostRuntime) {
-    aborted(&rt, store(&rt, rt.alloc()), book(&rt, rt.alloc(), 100));
+    over_vectors(&rt, rt.alloc(), Trial::Aborted);
 }
 
 // The answer to a poll.
@@ -323,6 +348,35 @@ const ENABLES: [(Command, IssueAnswer); 2] = [
     (Command::EnableWq(0), ENDED),
 ];
 
+// A batch of PASID 5 is taken, and the first of its two members has ended. The tickets are those of the batch and of the other.
+fn batch_runs<S: EntryStore>(rt: &impl Abort, parts: &mut Parts<S>) -> (Ticket, Ticket)
+    requires { AllAgree parts.old.queues parts.old.engines parts.old.admin (S.cells parts.old.store) (S.content parts.old.store) }
+    ensures { AllAgree parts.new.queues parts.new.engines parts.new.admin (S.cells parts.new.store) (S.content parts.new.store) }
+{
+    let batch = push(rt, parts, 0, batch_of(2).with_pasid(5));
+    take(rt, parts, batch);
+    let first = run_member(rt, parts);
+    end(rt, parts, first);
+    (batch, run_member(rt, parts))
+}
+
+// The drain is active until the batch has ended, and does not wait for a move that comes after it.
+fn batch_is_awaited<S: EntryStore>(
+    rt: &impl Abort,
+    parts: &mut Parts<S>,
+    batch: Ticket,
+    member: Ticket,
+)
+    requires { AllAgree parts.old.queues parts.old.engines parts.old.admin (S.cells parts.old.store) (S.content parts.old.store) }
+{
+    claim!(rt; poll(parts) == PollAnswer::Active);
+    push(rt, parts, 0, MOVE.with_pasid(5));
+    end(rt, parts, member);
+    claim!(rt; poll(parts) == PollAnswer::Active);
+    end(rt, parts, batch);
+    claim!(rt; poll(parts) == PollAnswer::Finished);
+}
+
 // A drain waits for the batch that came before it, and for neither its member nor what comes later.
 fn drained<S: EntryStore>(rt: &impl Abort, store: S, book: Book) {
     const DRAINS: [(Command, IssueAnswer); 3] = [
@@ -333,25 +387,16 @@ fn drained<S: EntryStore>(rt: &impl Abort, store: S, book: Book) {
     let mut parts = parts_of(rt, [FIRST_GROUP, SECOND_GROUP], store, book);
     claim!(rt; poll(&mut parts) == PollAnswer::Nothing);
     issue_each(rt, &mut parts, &ENABLES);
-    let batch = push(rt, &mut parts, 0, batch_of(2).with_pasid(5));
-    take(rt, &mut parts, batch);
-    let first = run_member(rt, &mut parts);
-    end(rt, &mut parts, first);
-    let member = run_member(rt, &mut parts);
+    let (batch, member) = batch_runs(rt, &mut parts);
     issue_each(rt, &mut parts, &DRAINS);
-    claim!(rt; poll(&mut parts) == PollAnswer::Active);
-    push(rt, &mut parts, 0, MOVE.with_pasid(5));
-    end(rt, &mut parts, member);
-    claim!(rt; poll(&mut parts) == PollAnswer::Active);
-    end(rt, &mut parts, batch);
-    claim!(rt; poll(&mut parts) == PollAnswer::Finished);
+    batch_is_awaited(rt, &mut parts, batch, member);
     claim!(rt; parts.admin.active().is_none());
     claim!(rt; numbers(rt, &parts.queues) == [1, 0]);
 }
 
 #[test]
 fn drains_wait_for_what_came_before(rt: HostRuntime) {
-    drained(&rt, store(&rt, rt.alloc()), book(&rt, rt.alloc(), 100));
+    over_vectors(&rt, rt.alloc(), Trial::Drained);
 }
 
 // A disable waits for all that its queue holds.
@@ -387,5 +432,5 @@ fn unlink_front<S: EntryStore>(rt: &impl Abort, store: &mut S) {
 
 #[test]
 fn disables_wait_for_all_of_their_queue(rt: HostRuntime) {
-    disabled(&rt, store(&rt, rt.alloc()), book(&rt, rt.alloc(), 100));
+    over_vectors(&rt, rt.alloc(), Trial::Disabled);
 }

@@ -18,6 +18,44 @@ use std::alloc::Global;
 use std::fmt::InlineText;
 use std::process::Abort;
 
+// What is tried on an empty store for the small device.
+#[derive(Clone, Copy)]
+enum Trial {
+    ComesBack,
+    New,
+    Off,
+    Full,
+    Move,
+    Waiting,
+    Drained,
+    Configured,
+    Entries,
+    Places,
+    Run,
+}
+
+impl Trial {
+    fn on<S: EntryStore>(self, rt: &impl Abort, alloc: Global, store: S) {
+        match self {
+            Trial::ComesBack => comes_back(rt, alloc, store),
+            Trial::New => is_new(rt, alloc, store),
+            Trial::Off => is_off(rt, alloc, store),
+            Trial::Full => is_full(rt, alloc, store),
+            Trial::Move => move_ends(rt, alloc, store),
+            Trial::Waiting => drain_waits(rt, alloc, store),
+            Trial::Drained => drain_ends(rt, alloc, store),
+            Trial::Configured => configured_is_read(rt, alloc, store),
+            Trial::Entries => entries_are_read(rt, alloc, store),
+            Trial::Places => places_are_read(rt, alloc, store),
+            Trial::Run => five_events_are_run(rt, alloc, store),
+        }
+    }
+}
+
+fn over_vectors(rt: &impl Abort, alloc: Global, trial: Trial) {
+    trial.on(rt, alloc, store(rt, alloc));
+}
+
 fn device<S: EntryStore>(rt: &impl Abort, alloc: Global, store: S, capacity: u64) -> Device<S> {
     match Device::new(alloc, store, CAPS, capacity) {
         Ok(device) => device,
@@ -114,7 +152,7 @@ fn comes_back<S: EntryStore>(rt: &impl Abort, alloc: Global, mut store: S) {
 
 #[test]
 fn store_with_an_entry_comes_back(rt: HostRuntime) {
-    comes_back(&rt, rt.alloc(), store(&rt, rt.alloc()));
+    over_vectors(&rt, rt.alloc(), Trial::ComesBack);
 }
 
 // Nothing has happened to the device.
@@ -150,7 +188,7 @@ fn is_new<S: EntryStore>(rt: &impl Abort, alloc: Global, store: S) {
 
 #[test]
 fn new_device(rt: HostRuntime) {
-    is_new(&rt, rt.alloc(), store(&rt, rt.alloc()));
+    over_vectors(&rt, rt.alloc(), Trial::New);
 }
 
 // The step of an event by the call for such events.
@@ -283,7 +321,7 @@ fn is_off<S: EntryStore>(rt: &impl Abort, alloc: Global, store: S) {
 
 #[test]
 fn steps_while_off(rt: HostRuntime) {
-    is_off(&rt, rt.alloc(), store(&rt, rt.alloc()));
+    over_vectors(&rt, rt.alloc(), Trial::Off);
 }
 
 fn is_full<S: EntryStore>(rt: &impl Abort, alloc: Global, store: S) {
@@ -311,7 +349,7 @@ fn is_full<S: EntryStore>(rt: &impl Abort, alloc: Global, store: S) {
 
 #[test]
 fn no_room_for_any_step(rt: HostRuntime) {
-    is_full(&rt, rt.alloc(), store(&rt, rt.alloc()));
+    over_vectors(&rt, rt.alloc(), Trial::Full);
 }
 
 // A Memory Move of two pages.
@@ -371,7 +409,7 @@ fn move_ends<S: EntryStore>(rt: &impl Abort, alloc: Global, store: S) {
 
 #[test]
 fn move_from_submission_to_fate(rt: HostRuntime) {
-    move_ends(&rt, rt.alloc(), store(&rt, rt.alloc()));
+    over_vectors(&rt, rt.alloc(), Trial::Move);
 }
 
 // The entry ends by a page fault, whose step takes the last of the places.
@@ -406,7 +444,7 @@ fn drain_waits<S: EntryStore>(rt: &impl Abort, alloc: Global, store: S) {
 
 #[test]
 fn drain_waits_for_an_entry(rt: HostRuntime) {
-    drain_waits(&rt, rt.alloc(), store(&rt, rt.alloc()));
+    over_vectors(&rt, rt.alloc(), Trial::Waiting);
 }
 
 fn drain_ends<S: EntryStore>(rt: &impl Abort, alloc: Global, store: S) {
@@ -429,7 +467,7 @@ fn drain_ends<S: EntryStore>(rt: &impl Abort, alloc: Global, store: S) {
 
 #[test]
 fn drain_ends_with_its_batch(rt: HostRuntime) {
-    drain_ends(&rt, rt.alloc(), store(&rt, rt.alloc()));
+    over_vectors(&rt, rt.alloc(), Trial::Drained);
 }
 
 // The engine works on a batch, of which it fetched one member, while a No-op waits in the queue. The tickets are those of
@@ -466,19 +504,18 @@ fn ticket_of((cell, entry): (Cell, Entry)) -> Ticket {
     }
 }
 
-fn configured_is_read<S: EntryStore>(rt: &impl Abort, alloc: Global, store: S) {
-    let mut device = enabled(rt, alloc, store, 64);
-    let _ = works(rt, &mut device);
-    let disable = Command::DisableWq(FIRST_QUEUE);
-    claim!(rt; device.issue(disable) == IssueAnswer::Active);
-    let whole = (device.phase(), device.is_full(), device.awaited());
-    claim!(rt; whole == (Phase::On, false, Some(3)));
+// Queue 0 is stopping, and the device has no queue 2.
+fn phases_are_read<S: EntryStore>(rt: &impl Abort, device: &Device<S>) {
     let phases = [
         device.queue_phase(0),
         device.queue_phase(1),
         device.queue_phase(2),
     ];
     claim!(rt; phases == [Some(Phase::Stopping), Some(Phase::Off), None]);
+}
+
+// Queue 0 and its group alone are configured.
+fn configurations_are_read<S: EntryStore>(rt: &impl Abort, device: &Device<S>) {
     let queues = [
         device.queue_config(0),
         device.queue_config(1),
@@ -488,42 +525,67 @@ fn configured_is_read<S: EntryStore>(rt: &impl Abort, alloc: Global, store: S) {
     claim!(rt; [device.group_config(0), device.group_config(2)] == [Some(GROUP), None]);
 }
 
-#[test]
-fn readers_of_what_is_configured(rt: HostRuntime) {
-    configured_is_read(&rt, rt.alloc(), store(&rt, rt.alloc()));
+fn configured_is_read<S: EntryStore>(rt: &impl Abort, alloc: Global, store: S) {
+    let mut device = enabled(rt, alloc, store, 64);
+    let _ = works(rt, &mut device);
+    let disable = Command::DisableWq(FIRST_QUEUE);
+    claim!(rt; device.issue(disable) == IssueAnswer::Active);
+    let whole = (device.phase(), device.is_full(), device.awaited());
+    claim!(rt; whole == (Phase::On, false, Some(3)));
+    phases_are_read(rt, &device);
+    configurations_are_read(rt, &device);
 }
 
-fn entries_are_read<S: EntryStore>(rt: &impl Abort, alloc: Global, store: S) {
-    let mut device = enabled(rt, alloc, store, 64);
-    let [batch, member, no_op] = works(rt, &mut device);
+#[test]
+fn readers_of_what_is_configured(rt: HostRuntime) {
+    over_vectors(&rt, rt.alloc(), Trial::Configured);
+}
+
+// A drain waits for the batch and for the No-op.
+fn drain_is_read<S: EntryStore>(rt: &impl Abort, device: &mut Device<S>) {
     claim!(rt; device.awaited().is_none());
     claim!(rt; device.issue(Command::DrainAll) == IssueAnswer::Active);
     claim!(rt; device.awaited() == Some(2));
-    let found = [
-        tickets(rt, device.in_progress(0)),
-        tickets(rt, device.members(0)),
-        tickets(rt, device.waiting(0)),
-        tickets(rt, device.in_progress(1)),
-    ];
-    claim!(rt;
-        found
-            == [
-                (Some(batch), None),
-                (Some(member), None),
-                (Some(no_op), None),
-                (None, None)
-            ]
-    );
-    let walks = (device.in_progress(2), device.members(2), device.waiting(2));
-    claim!(rt; matches!(walks, (None, None, None)));
+}
+
+fn entries_are_found<S: EntryStore>(
+    rt: &impl Abort,
+    device: &Device<S>,
+    batch: Ticket,
+    member: Ticket,
+    no_op: Ticket,
+) {
+    claim!(rt; tickets(rt, device.in_progress(0)) == (Some(batch), None));
+    claim!(rt; tickets(rt, device.members(0)) == (Some(member), None));
+    claim!(rt; tickets(rt, device.waiting(0)) == (Some(no_op), None));
+    claim!(rt; tickets(rt, device.in_progress(1)) == (None, None));
+}
+
+// The device has neither an engine 2 nor a queue 2.
+fn none_is_found<S: EntryStore>(rt: &impl Abort, device: &Device<S>) {
+    claim!(rt; device.in_progress(2).is_none());
+    claim!(rt; device.members(2).is_none());
+    claim!(rt; device.waiting(2).is_none());
+}
+
+fn entries_are_counted<S: EntryStore>(rt: &impl Abort, device: &Device<S>) {
     let running = [device.in_progress_count(0), device.in_progress_count(2)];
     claim!(rt; running == [Some(1), None]);
     claim!(rt; [device.member_count(0), device.member_count(2)] == [Some(1), None]);
 }
 
+fn entries_are_read<S: EntryStore>(rt: &impl Abort, alloc: Global, store: S) {
+    let mut device = enabled(rt, alloc, store, 64);
+    let [batch, member, no_op] = works(rt, &mut device);
+    drain_is_read(rt, &mut device);
+    entries_are_found(rt, &device, batch, member, no_op);
+    none_is_found(rt, &device);
+    entries_are_counted(rt, &device);
+}
+
 #[test]
 fn readers_of_entries(rt: HostRuntime) {
-    entries_are_read(&rt, rt.alloc(), store(&rt, rt.alloc()));
+    over_vectors(&rt, rt.alloc(), Trial::Entries);
 }
 
 // The tickets at a place of what is in progress, of the members and of what waits.
@@ -535,7 +597,8 @@ fn tickets_at<S: EntryStore>(device: &Device<S>, place: usize) -> [Option<Ticket
     ]
 }
 
-fn places_are_read<S: EntryStore>(rt: &impl Abort, alloc: Global, store: S) {
+// One of two members was fetched, which is held.
+fn batch_is_read<S: EntryStore>(rt: &impl Abort, device: &Device<S>, member: Ticket) {
     const NOTE: BatchNote = BatchNote {
         batch: 0,
         count: 2,
@@ -543,20 +606,24 @@ fn places_are_read<S: EntryStore>(rt: &impl Abort, alloc: Global, store: S) {
         failed: false,
         closed: false,
     };
+    claim!(rt; [device.batch(0), device.batch(1)] == [Some(NOTE), None]);
+    let other = Ticket { name: 7, ..member };
+    claim!(rt; [device.holds(member), device.holds(other)] == [true, false]);
+}
+
+fn places_are_read<S: EntryStore>(rt: &impl Abort, alloc: Global, store: S) {
     let mut device = enabled(rt, alloc, store, 64);
     let [batch, member, no_op] = works(rt, &mut device);
     let found = [Some(batch), Some(member), Some(no_op)];
     claim!(rt; tickets_at(&device, 0) == found);
     claim!(rt; tickets_at(&device, 1) == [None; 3]);
     claim!(rt; device.in_progress_at(2, 0).is_none());
-    claim!(rt; [device.batch(0), device.batch(1)] == [Some(NOTE), None]);
-    let other = Ticket { name: 7, ..member };
-    claim!(rt; [device.holds(member), device.holds(other)] == [true, false]);
+    batch_is_read(rt, &device, member);
 }
 
 #[test]
 fn readers_by_place_and_ticket(rt: HostRuntime) {
-    places_are_read(&rt, rt.alloc(), store(&rt, rt.alloc()));
+    over_vectors(&rt, rt.alloc(), Trial::Places);
 }
 
 // A member is fetched, started and ended, and its batch cannot end before it.
@@ -607,5 +674,5 @@ fn five_events_are_run<S: EntryStore>(rt: &impl Abort, alloc: Global, store: S) 
 
 #[test]
 fn run_of_events(rt: HostRuntime) {
-    five_events_are_run(&rt, rt.alloc(), store(&rt, rt.alloc()));
+    over_vectors(&rt, rt.alloc(), Trial::Run);
 }

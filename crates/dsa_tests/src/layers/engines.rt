@@ -17,6 +17,7 @@ use dsa_fixtures::{DRAIN, FENCED_MOVE, LARGE_MOVE, MOVE, batch_of};
 use dsa_queues::Queues;
 use dsa_regs::{GroupConfig, Phase, cell_count, check_device, list_count};
 use dsa_store::{Cell, Entry, EntryStore, ListId, slots};
+use std::alloc::Global;
 use std::process::Abort;
 
 // Both queues in the first group, which has four read buffers, and nothing in the second.
@@ -34,6 +35,39 @@ const GROUPS: [GroupConfig; 2] = [
         allowed: 0,
     },
 ];
+
+// What is tried on the engines of the small device.
+#[derive(Clone, Copy)]
+enum Trial {
+    Buffers,
+    Members,
+    Drains,
+    Counted,
+}
+
+impl Trial {
+    // How many rows its book has room for.
+    fn rows(self) -> usize {
+        match self {
+            Trial::Buffers => 2,
+            Trial::Members | Trial::Drains | Trial::Counted => 4,
+        }
+    }
+
+    fn on<S: EntryStore>(self, rt: &impl Abort, store: &mut S, book: &mut Book) {
+        match self {
+            Trial::Buffers => one_runs_at_a_time(rt, store, book),
+            Trial::Members => batch_ends_last(rt, store, book),
+            Trial::Drains => drains_end_in_turn(rt, store, book),
+            Trial::Counted => abandoned_members(rt, store, book),
+        }
+    }
+}
+
+fn over_vectors(rt: &impl Abort, alloc: Global, trial: Trial) {
+    let mut book = book(rt, alloc, trial.rows());
+    trial.on(rt, &mut store(rt, alloc), &mut book);
+}
 
 // An entry that was submitted.
 fn entry(name: u32, queue: u16, desc: Descriptor) -> Entry {
@@ -164,24 +198,43 @@ pub fn fetch<S: EntryStore>(
     engines.fetch(queues, store, 0, desc)
 }
 
+// The engine takes the entry of the ticket from the queue.
+fn take<S: EntryStore>(
+    rt: &impl Abort,
+    queues: &Queues,
+    engines: &mut Engines,
+    store: &mut S,
+    ticket: Ticket,
+    queue: u16,
+)
+    requires { Agree queues.now engines.old (S.cells store.old) (S.content store.old) }
+    ensures { Agree queues.now engines.new (S.cells store.new) (S.content store.new) }
+{
+    let taken = DispatchAnswer::Taken { ticket, queue };
+    claim!(rt; engines.dispatch(queues, store, 0) == taken);
+}
+
+// The engine finds nothing to take.
+fn idle<S: EntryStore>(rt: &impl Abort, queues: &Queues, engines: &mut Engines, store: &mut S)
+    requires { Agree queues.now engines.old (S.cells store.old) (S.content store.old) }
+    ensures { Agree queues.now engines.new (S.cells store.new) (S.content store.new) }
+{
+    claim!(rt; engines.dispatch(queues, store, 0) == DispatchAnswer::Idle);
+}
+
 // The first of two entries needs all buffers of the group: the second waits for its end.
 fn one_runs_at_a_time<S: EntryStore>(rt: &impl Abort, store: &mut S, book: &mut Book) {
     let mut queues = enabled(rt, GROUPS);
     let mut engines = enabled_engines(rt, &queues, store);
-    claim!(rt; engines.dispatch(&queues, store, 0) == DispatchAnswer::Idle);
+    idle(rt, &queues, &mut engines, store);
     let cell = put(rt, &mut queues, &engines, store, entry(10, 1, LARGE_MOVE));
-    let second = put(rt, &mut queues, &engines, store, entry(11, 0, MOVE));
-    let ticket = Ticket { cell, name: 10 };
-    let taken = DispatchAnswer::Taken { ticket, queue: 1 };
-    claim!(rt; engines.dispatch(&queues, store, 0) == taken);
-    claim!(rt; engines.dispatch(&queues, store, 0) == DispatchAnswer::Idle);
-    first_ends(rt, &mut queues, &mut engines, store, book, ticket);
-    let ticket = Ticket {
-        cell: second,
-        name: 11,
-    };
-    let taken = DispatchAnswer::Taken { ticket, queue: 0 };
-    claim!(rt; engines.dispatch(&queues, store, 0) == taken);
+    let first = Ticket { cell, name: 10 };
+    let cell = put(rt, &mut queues, &engines, store, entry(11, 0, MOVE));
+    let second = Ticket { cell, name: 11 };
+    take(rt, &queues, &mut engines, store, first, 1);
+    idle(rt, &queues, &mut engines, store);
+    first_ends(rt, &mut queues, &mut engines, store, book, first);
+    take(rt, &queues, &mut engines, store, second, 0);
 }
 
 // The entry of that cell and no other name ends, and has a row.
@@ -211,11 +264,7 @@ fn first_ends<S: EntryStore>(
 
 #[test]
 fn buffers_of_a_group(rt: HostRuntime) {
-    one_runs_at_a_time(
-        &rt,
-        &mut store(&rt, rt.alloc()),
-        &mut book(&rt, rt.alloc(), 2),
-    );
+    over_vectors(&rt, rt.alloc(), Trial::Buffers);
 }
 
 // A member is fetched and started, and fails; its batch cannot end before it.
@@ -246,8 +295,7 @@ fn batch_ends_last<S: EntryStore>(rt: &impl Abort, store: &mut S, book: &mut Boo
     claim!(rt; fetch(rt, &mut queues, &mut engines, store, MOVE) == FetchAnswer::NoBatch);
     let cell = put(rt, &mut queues, &engines, store, entry(20, 0, batch_of(2)));
     let ticket = Ticket { cell, name: 20 };
-    let taken = DispatchAnswer::Taken { ticket, queue: 0 };
-    claim!(rt; engines.dispatch(&queues, store, 0) == taken);
+    take(rt, &queues, &mut engines, store, ticket, 0);
     for _ in 0..2 {
         member_fails(rt, &mut queues, &mut engines, store, book, ticket);
     }
@@ -275,27 +323,7 @@ fn batch_fails<S: EntryStore>(
 
 #[test]
 fn members_of_a_batch(rt: HostRuntime) {
-    batch_ends_last(
-        &rt,
-        &mut store(&rt, rt.alloc()),
-        &mut book(&rt, rt.alloc(), 4),
-    );
-}
-
-// The engine takes the entry of the ticket from the queue.
-fn take<S: EntryStore>(
-    rt: &impl Abort,
-    queues: &Queues,
-    engines: &mut Engines,
-    store: &mut S,
-    ticket: Ticket,
-    queue: u16,
-)
-    requires { Agree queues.now engines.old (S.cells store.old) (S.content store.old) }
-    ensures { Agree queues.now engines.new (S.cells store.new) (S.content store.new) }
-{
-    let taken = DispatchAnswer::Taken { ticket, queue };
-    claim!(rt; engines.dispatch(queues, store, 0) == taken);
+    over_vectors(&rt, rt.alloc(), Trial::Members);
 }
 
 // The Drain ends after the first entry, and no second one is taken before that.
@@ -315,18 +343,14 @@ fn drain_waits<S: EntryStore>(
     claim!(rt; early == FinishAnswer::NotReady);
     let done = end(rt, queues, engines, store, book, first, Outcome::Success);
     claim!(rt; done == FinishAnswer::Done(0x01));
-    claim!(rt; engines.dispatch(queues, store, 0) == DispatchAnswer::Idle);
+    idle(rt, queues, engines, store);
     let done = end(rt, queues, engines, store, book, drain, Outcome::PageFault);
     claim!(rt; done == FinishAnswer::Done(0x01));
 }
 
 #[test]
 fn drains_of_an_engine(rt: HostRuntime) {
-    drains_end_in_turn(
-        &rt,
-        &mut store(&rt, rt.alloc()),
-        &mut book(&rt, rt.alloc(), 4),
-    );
+    over_vectors(&rt, rt.alloc(), Trial::Drains);
 }
 
 // A Move and two Drains: the second Drain is taken when the first has ended.
@@ -366,6 +390,25 @@ fn member_is_counted<S: EntryStore>(
     claim!(rt; numbers(rt, queues) == [0, 1]);
 }
 
+// A member that stands at a fence behind one that failed counts until it is abandoned.
+fn member_is_abandoned<S: EntryStore>(
+    rt: &impl Abort,
+    queues: &mut Queues,
+    engines: &mut Engines,
+    store: &mut S,
+    book: &mut Book,
+)
+    requires { Agree queues.old engines.old (S.cells store.old) (S.content store.old) }
+    ensures { Agree queues.new engines.new (S.cells store.new) (S.content store.new) }
+{
+    let answer = fetch(rt, queues, engines, store, FENCED_MOVE);
+    claim!(rt; matches!(answer, FetchAnswer::Fetched(_)));
+    claim!(rt; numbers(rt, queues) == [0, 2]);
+    let answer = start_one(rt, queues, engines, store, book);
+    claim!(rt; answer == StartAnswer::Abandoned(1));
+    claim!(rt; numbers(rt, queues) == [0, 1]);
+}
+
 // A batch of two of queue 1: the second member stands at a fence behind the first, which failed, and is abandoned.
 fn abandoned_members<S: EntryStore>(rt: &impl Abort, store: &mut S, book: &mut Book) {
     let mut queues = enabled(rt, GROUPS);
@@ -375,21 +418,12 @@ fn abandoned_members<S: EntryStore>(rt: &impl Abort, store: &mut S, book: &mut B
     take(rt, &queues, &mut engines, store, ticket, 1);
     claim!(rt; numbers(rt, &queues) == [0, 1]);
     member_is_counted(rt, &mut queues, &mut engines, store, book);
-    let answer = fetch(rt, &mut queues, &mut engines, store, FENCED_MOVE);
-    claim!(rt; matches!(answer, FetchAnswer::Fetched(_)));
-    claim!(rt; numbers(rt, &queues) == [0, 2]);
-    let answer = start_one(rt, &mut queues, &mut engines, store, book);
-    claim!(rt; answer == StartAnswer::Abandoned(1));
-    claim!(rt; numbers(rt, &queues) == [0, 1]);
+    member_is_abandoned(rt, &mut queues, &mut engines, store, book);
     batch_fails(rt, &mut queues, &mut engines, store, book, ticket);
     claim!(rt; numbers(rt, &queues) == [0, 0]);
 }
 
 #[test]
 fn members_count_until_they_end(rt: HostRuntime) {
-    abandoned_members(
-        &rt,
-        &mut store(&rt, rt.alloc()),
-        &mut book(&rt, rt.alloc(), 4),
-    );
+    over_vectors(&rt, rt.alloc(), Trial::Counted);
 }

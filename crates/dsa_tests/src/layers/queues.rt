@@ -14,7 +14,34 @@ use dsa_fixtures::{
 use dsa_queues::Queues;
 use dsa_regs::{Fault, GroupConfig, Phase, QueueConfig, Scope, cell_count, list_count};
 use dsa_store::{Entry, EntryStore, ListId, front_slot};
+use std::alloc::Global;
 use std::process::Abort;
+
+// What is tried on the queues of the small device.
+#[derive(Clone, Copy)]
+enum Trial {
+    Portals,
+    Dropped,
+    Causes,
+    Entry,
+    Counted,
+}
+
+impl Trial {
+    fn on<S: EntryStore>(self, rt: &impl Abort, store: &mut S) {
+        match self {
+            Trial::Portals => both_portals(rt, store),
+            Trial::Dropped => dropped_twice(rt, store),
+            Trial::Causes => turned_away(rt, store),
+            Trial::Entry => entries(rt, store),
+            Trial::Counted => counted(rt, store),
+        }
+    }
+}
+
+fn over_vectors(rt: &impl Abort, alloc: Global, trial: Trial) {
+    trial.on(rt, &mut store(rt, alloc));
+}
 
 // The queues of the enabled device, over an empty store.
 fn enabled_over<S: EntryStore>(rt: &impl Abort, store: &S) -> Queues
@@ -88,7 +115,7 @@ fn both_portals<S: EntryStore>(rt: &impl Abort, store: &mut S) {
 
 #[test]
 fn threshold_bounds_the_limited_portal(rt: HostRuntime) {
-    both_portals(&rt, &mut store(&rt, rt.alloc()));
+    over_vectors(&rt, rt.alloc(), Trial::Portals);
 }
 
 // What was noted is cleared with that answer.
@@ -138,7 +165,7 @@ fn dropped_twice<S: EntryStore>(rt: &impl Abort, store: &mut S) {
 
 #[test]
 fn dropped_descriptors_are_noted(rt: HostRuntime) {
-    dropped_twice(&rt, &mut store(&rt, rt.alloc()));
+    over_vectors(&rt, rt.alloc(), Trial::Dropped);
 }
 
 fn turned_away<S: EntryStore>(rt: &impl Abort, store: &mut S) {
@@ -178,7 +205,7 @@ fn turned_away<S: EntryStore>(rt: &impl Abort, store: &mut S) {
 
 #[test]
 fn causes_come_in_order(rt: HostRuntime) {
-    turned_away(&rt, &mut store(&rt, rt.alloc()));
+    over_vectors(&rt, rt.alloc(), Trial::Causes);
 }
 
 // The entries that wait in the queue, once it is seen that its number has room for them.
@@ -206,23 +233,27 @@ fn occupancies<S: EntryStore>(rt: &impl Abort, queues: &Queues, store: &S) -> [O
     ]
 }
 
+fn is_a_move(rt: &impl Abort, queues: &Queues, entry: &Entry) {
+    claim!(rt; entry.desc.pasid == 5);
+    claim!(rt; queues.need(entry) == 1);
+    claim!(rt; !queues.is_batch(entry));
+    claim!(rt; queues.status(entry, Outcome::PageFault) == 3);
+}
+
 fn entries<S: EntryStore>(rt: &impl Abort, store: &mut S) {
     const ONE: [Row; 1] = [(0, Portal::Limited, ENQCMD, Ok(0))];
     let mut queues = enabled_over(rt, store);
     submit_each(rt, &mut queues, store, &ONE);
     claim!(rt; store.lists() == 6);
     let entry = front(rt, store, ListId(0));
-    claim!(rt; entry.desc.pasid == 5);
-    claim!(rt; queues.need(&entry) == 1);
-    claim!(rt; !queues.is_batch(&entry));
-    claim!(rt; queues.status(&entry, Outcome::PageFault) == 3);
+    is_a_move(rt, &queues, &entry);
     claim!(rt; occupancies(rt, &queues, store) == [Some(1), Some(0), None]);
     claim!(rt; !queues.has_queue(2));
 }
 
 #[test]
 fn entry_is_asked_about(rt: HostRuntime) {
-    entries(&rt, &mut store(&rt, rt.alloc()));
+    over_vectors(&rt, rt.alloc(), Trial::Entry);
 }
 
 #[test]
@@ -345,7 +376,7 @@ fn counted<S: EntryStore>(rt: &impl Abort, store: &mut S) {
 
 #[test]
 fn numbers_of_accepted_submissions(rt: HostRuntime) {
-    counted(&rt, &mut store(&rt, rt.alloc()));
+    over_vectors(&rt, rt.alloc(), Trial::Counted);
 }
 
 // One more entry names queue 1, once it is seen that there is room for it.
