@@ -365,7 +365,13 @@ fn submission(desc: Descriptor) -> Event {
     }
 }
 
-fn enabled<S: EntryStore>(rt: &impl Abort, alloc: Global, store: S, capacity: u64) -> Device<S> {
+/// The small device over this store, with its shared queue enabled.
+pub fn enabled<S: EntryStore>(
+    rt: &impl Abort,
+    alloc: Global,
+    store: S,
+    capacity: u64,
+) -> Device<S> {
     let mut device = device(rt, alloc, store, capacity);
     let mut steps = Vec::new(alloc);
     claim!(rt; device.run(&ENABLED, &mut steps).is_ok());

@@ -1,5 +1,6 @@
 //! Tickets of no running entry, and an abort against a batch that runs, over both stores.
 
+use crate::layers::devices::enabled;
 use crate::rows::calls::{linked, plain};
 use dsa_book::{
     DispatchAnswer, Event, Fate, FateRow, FetchAnswer, FinishAnswer, IssueAnswer, Kind, Portal,
@@ -8,7 +9,7 @@ use dsa_book::{
 use dsa_cells::LinkedStore;
 use dsa_desc::{Descriptor, Outcome};
 use dsa_device::Device;
-use dsa_fixtures::{CAPS, CELLS, ENABLED, LISTS, NO_OP, batch_of};
+use dsa_fixtures::{CELLS, LISTS, NO_OP, batch_of};
 use dsa_regs::CommandWord;
 use dsa_store::{Cell, EntryStore, PlainStore};
 use std::alloc::Global;
@@ -42,21 +43,6 @@ fn finish(ticket: Ticket) -> Event {
         ticket,
         outcome: Outcome::Success,
     }
-}
-
-fn made<S: EntryStore>(rt: &impl Abort, alloc: Global, store: S) -> Device<S> {
-    match Device::new(alloc, store, CAPS, 64) {
-        Ok(device) => device,
-        Err(_) => panic!(rt; "the device was not made"),
-    }
-}
-
-// The small device with its shared queue enabled.
-fn enabled<S: EntryStore>(rt: &impl Abort, alloc: Global, store: S) -> Device<S> {
-    let mut device = made(rt, alloc, store);
-    let mut steps = Vec::new(alloc);
-    claim!(rt; device.run(&ENABLED, &mut steps).is_ok());
-    device
 }
 
 fn plain_store(rt: &impl Abort, alloc: Global) -> PlainStore {
@@ -191,8 +177,8 @@ fn batch_is_forged<S: EntryStore>(rt: &impl Abort, pair: &mut Pair<S>) {
 // Devices over two such stores, of which the first is handed forged tickets.
 fn all_are_forged<S: EntryStore>(rt: &impl Abort, alloc: Global, first: S, second: S) {
     let mut pair = Pair {
-        tried: enabled(rt, alloc, first),
-        spared: enabled(rt, alloc, second),
+        tried: enabled(rt, alloc, first, 64),
+        spared: enabled(rt, alloc, second, 64),
     };
     entry_is_forged(rt, &mut pair);
     batch_is_forged(rt, &mut pair);
@@ -239,19 +225,24 @@ fn abort<S: EntryStore>(rt: &impl Abort, device: &mut Device<S>) {
     claim!(rt; device.issue(command) == IssueAnswer::Ended { aborted: 3 });
 }
 
+// None of them is there to end, and no batch to fetch for or to start members of.
+fn batch_is_gone<S: EntryStore>(rt: &impl Abort, device: &mut Device<S>, tickets: [Ticket; 3]) {
+    for ticket in tickets {
+        ends(rt, device, ticket, FinishAnswer::Gone);
+    }
+    claim!(rt; device.fetch(0, NO_OP) == FetchAnswer::NoBatch);
+    claim!(rt; device.start(0) == StartAnswer::Nothing);
+}
+
 // Of two entries on an engine the first is a batch: two of its three members were fetched, and one runs. The abort of its
 // PASID takes all three, and the other entry goes on.
 fn batch_is_aborted<S: EntryStore>(rt: &impl Abort, alloc: Global, store: S) {
-    let mut device = enabled(rt, alloc, store);
+    let mut device = enabled(rt, alloc, store, 64);
     let batch = given(rt, &mut device, submission(5, batch_of(3)));
     let other = given(rt, &mut device, submission(6, NO_OP));
     let [first, second] = batch_runs(rt, &mut device, batch, other);
     abort(rt, &mut device);
-    ends(rt, &mut device, first, FinishAnswer::Gone);
-    ends(rt, &mut device, second, FinishAnswer::Gone);
-    ends(rt, &mut device, batch, FinishAnswer::Gone);
-    claim!(rt; device.fetch(0, NO_OP) == FetchAnswer::NoBatch);
-    claim!(rt; device.start(0) == StartAnswer::Nothing);
+    batch_is_gone(rt, &mut device, [first, second, batch]);
     ends(rt, &mut device, other, FinishAnswer::Done(0x01));
     claim!(rt; device.fates() == FATES.as_slice());
     claim!(rt; device.held() == 0);
