@@ -6,6 +6,7 @@ use dsa_book::{Cause, DispatchAnswer, Kind, Portal, SubmitAnswer};
 use dsa_desc::{Descriptor, Outcome};
 use dsa_machine::Machine;
 use dsa_regs::{Caps, Command, GroupConfig, QueueConfig};
+use std::io::Print;
 
 const CAPS: Caps = Caps {
     queues: 1,
@@ -44,6 +45,14 @@ const MOVE: Descriptor = Descriptor {
 
 const ENQCMD: Kind = Kind::Enqcmd { pasid: 5 };
 
+// The device and its queue are On.
+fn set_up(machine: &mut Machine) {
+    machine.device.write_queue(0, QUEUE);
+    machine.device.write_group(0, GROUP);
+    machine.device.issue(Command::EnableDevice);
+    machine.device.issue(Command::EnableWq(0));
+}
+
 // The engine takes and ends so many entries, or as many as wait.
 fn work(machine: &mut Machine, most: u32) {
     for _ in 0..most {
@@ -67,21 +76,24 @@ fn submit(machine: &mut Machine, bytes: &[u8; 64]) -> Option<u32> {
     None
 }
 
-fn main(rt: HostRuntime) -> Result<()> {
-    let Ok(mut machine) = Machine::new(rt.alloc(), CAPS, 1000) else {
-        bail!("no device was made");
-    };
-    machine.device.write_queue(0, QUEUE);
-    machine.device.write_group(0, GROUP);
-    machine.device.issue(Command::EnableDevice);
-    machine.device.issue(Command::EnableWq(0));
+// Eight submissions, one after the other.
+fn submit_all<R: Print>(rt: &R, machine: &mut Machine) -> Result<()> {
     let bytes = MOVE.to_bytes();
     for number in 0..8u32 {
-        let Some(retries) = submit(&mut machine, &bytes) else {
+        let Some(retries) = submit(machine, &bytes) else {
             bail!("submission {number} was not accepted");
         };
         println!(rt; "submission {number}: retries {retries}, accepted")?;
     }
+    Ok(())
+}
+
+fn main(rt: HostRuntime) -> Result<()> {
+    let Ok(mut machine) = Machine::new(rt.alloc(), CAPS, 1000) else {
+        bail!("no device was made");
+    };
+    set_up(&mut machine);
+    submit_all(&rt, &mut machine)?;
     work(&mut machine, 8);
     println!(rt;
         "{} ended, {} held",

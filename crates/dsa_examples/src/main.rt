@@ -43,24 +43,33 @@ fn is_refused(alloc: Global, document: &[u8], line: &[u8]) -> bool {
     written.is_empty() && plain == fault && text.as_bytes() == line
 }
 
+// The bytes of the file with that name and ending.
+fn read(rt: &HostRuntime, name: &str, ending: &str) -> io::Result<Vec<u8>> {
+    fs::read(rt, format!(in rt.alloc(); "{name}.{ending}")?)
+}
+
+// What the document of that name comes to.
+fn verdict_on(rt: &HostRuntime, name: &str) -> io::Result<&'static str> {
+    let document = read(rt, name, "json")?;
+    if let Ok(fault) = read(rt, name, "err") {
+        return Ok(if is_refused(rt.alloc(), &document, &fault) {
+            "refused as written"
+        } else {
+            "not refused as written"
+        });
+    }
+    let lines = read(rt, name, "out")?;
+    Ok(if is_same(rt.alloc(), &document, &lines) {
+        "as written"
+    } else {
+        "other lines"
+    })
+}
+
 fn main(rt: HostRuntime) -> io::Result<()> {
     for line in rt.lines(rt.alloc()) {
         let name = line?;
-        let document = fs::read(&rt, format!(in rt.alloc(); "{name}.json")?)?;
-        let verdict = if let Ok(fault) = fs::read(&rt, format!(in rt.alloc(); "{name}.err")?) {
-            if is_refused(rt.alloc(), &document, &fault) {
-                "refused as written"
-            } else {
-                "not refused as written"
-            }
-        } else {
-            let lines = fs::read(&rt, format!(in rt.alloc(); "{name}.out")?)?;
-            if is_same(rt.alloc(), &document, &lines) {
-                "as written"
-            } else {
-                "other lines"
-            }
-        };
+        let verdict = verdict_on(&rt, &name)?;
         println!(rt; "{name}: {verdict}")?;
     }
     Ok(())

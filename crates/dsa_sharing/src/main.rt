@@ -12,6 +12,7 @@ use dsa_regs::{Command, cell_count, check_caps, list_count};
 use dsa_shared::{AdminSeat, ClientSeat, EngineSeat, SharedDevice, Sharing};
 use dsa_store::EntryStore;
 use dsa_workers::{Program, run_program};
+use std::alloc::Global;
 use std::sync::Wait;
 
 // Each client submits one Move; the engine works until all have ended.
@@ -67,14 +68,20 @@ impl Program for Moves {
     }
 }
 
-fn main(rt: HostRuntime) -> Result<()> {
+// A device with nothing configured.
+fn device(alloc: Global) -> Result<Device<LinkedStore>> {
     if !check_caps(&CAPS) {
         bail!("no device has such capabilities");
     }
-    let store = LinkedStore::new(rt.alloc(), list_count(&CAPS), cell_count(&CAPS))?;
-    let Ok(device) = Device::new(rt.alloc(), store, CAPS, 100) else {
+    let store = LinkedStore::new(alloc, list_count(&CAPS), cell_count(&CAPS))?;
+    let Ok(device) = Device::new(alloc, store, CAPS, 100) else {
         bail!("no device was made");
     };
+    Ok(device)
+}
+
+fn main(rt: HostRuntime) -> Result<()> {
+    let device = device(rt.alloc())?;
     let moves = Moves { clients: 4 };
     let Ok(settled) = run_program(&rt, rt.alloc(), device, moves.clients, &moves) else {
         bail!("not settled");
