@@ -1,17 +1,47 @@
 //! Reads a scenario document from standard input, and writes its lines to standard output: what `dsa_run` does without
-//! words, as a program that needs neither the words nor the other texts, so that the toolchain's quick way begins sooner.
+//! words, over a store of vectors in place of linked cells. It needs neither the words nor the other texts, so that the
+//! toolchain's quick way begins sooner.
 #![tactic(auto)]
 
-use dsa_scenario::{WatchedWriter, run_scenario};
+ghost use Rattle.std.specs.Prelude.{◌≡◌, None};
+ghost use Rattle.dsa_scenario.specs.Scenario.{IsRenderingOf};
+
+use dsa_regs::{cell_count, list_count};
+use dsa_scenario::{
+    Render, Rendering, ScenarioFault, WatchedWriter, check_document, parse_document, render_input,
+    run_document,
+};
+use dsa_store::PlainStore;
 use std::alloc::Global;
 use std::process::ExitCode;
+
+// The lines of a document's run over a store of vectors, as a way to make a text of it.
+#[derive(Clone, Copy, Drop)]
+struct OverVectors;
+
+impl Render for OverVectors {
+    ghost is_rendering = { λ plain bytes fault text. (fault ≡ None) × IsRenderingOf bytes text };
+
+    fn render(&self, alloc: Global, bytes: &[u8]) -> Result<Rendering, ScenarioFault> {
+        let document = parse_document(alloc, bytes)?;
+        check_document(&document)?;
+        let lists = list_count(&document.caps);
+        let store = PlainStore::new(alloc, lists, cell_count(&document.caps))?;
+        let text = run_document(alloc, store, &document)?;
+        Ok(Rendering {
+            text,
+            fault: None,
+            document: None,
+        })
+    }
+}
 
 fn main(rt: HostRuntime) -> ExitCode {
     let alloc: Global = rt.alloc();
     let (mut reader, mut stdout, mut err) = (rt.stdin(), rt.stdout(), rt.stderr());
     let mut out = WatchedWriter::new(&mut stdout);
-    match run_scenario(alloc, &mut reader, &mut out) {
-        Ok(()) => ExitCode::SUCCESS,
+    match render_input(alloc, &OverVectors, &mut reader, &mut out) {
+        Ok(_) => ExitCode::SUCCESS,
         // A program whose reader went away has nobody to tell.
         Err(_) if out.is_closed() => ExitCode::FAILURE,
         Err(fault) => {

@@ -1,4 +1,4 @@
-use Rattle.dsa_examples.proofs.render_plain.Goals as goal
+use Rattle.dsa_lines.proofs.OverVectorsRender.render.Goals as goal
 use Rattle.dsa_device.proofs.NewStore.{new-make_fault}
 
 pub run_document-requires : goal.run_document-requires
