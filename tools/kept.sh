@@ -115,7 +115,8 @@ keep() { # KIND STAMP FOLDER
 keep_proved() { # COPY SOURCES-SUM IDENTITY
     local folder
     folder=$(mktemp -d)
-    cp "$1/crates/dsa_run/out/dsa_run" "$1/crates/dsa_run/out/dsa_run.o" "$folder/"
+    cp "$1/crates/dsa_run/out/dsa_run" "$folder/"
+    cp "$1/crates/dsa_run/out/dsa_run.o" "$folder/" 2>/dev/null || true # ./release asks for it
     echo "$2" >"$folder/sources"
     echo "$3" >"$folder/toolchain"
     keep proved "$(stamp_of "$2" "$3")" "$folder"
