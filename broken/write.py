@@ -660,24 +660,6 @@ def put_checked_lines():
     put_checked("escaped-key", CHECKED_HEAD + r'"st\u0065ps":[{}]}', "bad step 0", ['step 0: "do" is missing'])
 
 
-# the example of docs/SCENARIO.md
-CHECKED_EXAMPLE = """{"caps": {"queues": 1, "groups": 1, "engines": 1, "total_size": 4, "read_buffers": 4, "slots": 1,
-          "max_batch_shift": 11, "max_xfer_shift": 20}, "capacity": 100,
- "steps": [
-  {"do": "queue", "queue": 0, "size": 4, "threshold": 1, "dedicated": false, "priority": 256,
-   "pasid": 0, "batch": 1, "xfer": 20},
-  {"do": "movdir", "client": 0, "queue": 0, "limitd": true, "desc": "000"}]}
-"""
-
-
-def put_checked_example():
-    put_checked("example", CHECKED_EXAMPLE, "bad step 0", [
-        'line 4, step 0 (queue): "priority" is 256, at most 255 is wanted',
-        'line 6, step 1 (movdir): "limited" is missing, and "limitd" is no key here',
-        'line 6, step 1 (movdir): "desc" has 3 digits, an even number is wanted',
-        'caps: "max_batch_shift" is 11, at most 10 is wanted'])
-
-
 def put_checked_heads():
     """Faults of the three keys, and faults that come together."""
     put_checked("right", CHECKED_HEAD + f'"steps":[{CLEAR},{DISPATCH}]}}', ["nothing", "idle"], [])
@@ -805,7 +787,6 @@ def main():
     put_nesting()
     put_checked_steps()
     put_checked_lines()
-    put_checked_example()
     put_checked_heads()
     put_checked_texts()
 

@@ -1,7 +1,7 @@
 //! What is wrong with a scenario document, all of it, without a run.
 //!
 //! [`judge_document`] finds the faults of a document in the order in which a run would tell them, each with its place and its
-//! reasons. `docs/SCENARIO.md` describes the lines that are told of them.
+//! reasons. `docs/COMMANDS.md` describes the lines that are told of them.
 #![tactic(auto)]
 
 mod checking;

@@ -2,7 +2,7 @@
 //!
 //! [`render_drawing`] reads a document, runs its steps on a new device, and takes a [`Moment`] after each: what the device
 //! answered, and what it then says of itself. All that is drawn is of these moments and of the fates that the device tells at
-//! the end. `docs/SCENARIO.md` says how a drawing is read.
+//! the end. `docs/COMMANDS.md` says how a drawing is read.
 #![tactic(auto)]
 
 mod bands;

@@ -1,6 +1,6 @@
 //! A dialogue: a document in the first line, and a step a line behind it, each answered before more is read.
 //!
-//! `docs/SCENARIO.md` describes lines and answers.
+//! `docs/COMMANDS.md` describes lines and answers.
 #![tactic(auto)]
 
 mod counted;

@@ -1,7 +1,7 @@
 //! A run of a scenario document, step by step: what was asked and answered, and what the device shows after it.
 //!
 //! [`render_trace`] makes the text, a row of a table or a JSON object for each step, and then one for each entry that is held
-//! when the steps are over. `docs/SCENARIO.md` describes both forms.
+//! when the steps are over. `docs/COMMANDS.md` describes both forms.
 #![tactic(auto)]
 
 mod columns;

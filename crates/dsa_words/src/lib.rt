@@ -1,7 +1,7 @@
 //! The words of the command line: what they ask for, and what the program then does.
 //!
 //! Without words a scenario document is read and run. With the word `threads` clients, engines and an administrator work in
-//! threads of their own, on one shared device. [`run_words`] does all of it; `docs/SCENARIO.md` describes the words.
+//! threads of their own, on one shared device. [`run_words`] does all of it; `docs/COMMANDS.md` describes the words.
 #![tactic(auto)]
 
 mod options;
