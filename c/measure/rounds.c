@@ -1,4 +1,4 @@
-/* As many rounds of submit, dispatch and finish as the word says, on one device, for measuring: docs/GATE.md. */
+/* As many rounds of submit, dispatch and finish as the word says, on one device, for measuring: docs/PERFORMANCE.md. */
 #include <stdio.h>
 #include <stdlib.h>
 #include "dsa_model.h"

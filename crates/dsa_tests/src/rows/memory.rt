@@ -112,7 +112,8 @@ fn runs_over<S: EntryStore>(
     Ok(())
 }
 
-// These calls take the global allocator, which no test can replace: docs/GATE.md says how each request was refused.
+// These calls take the global allocator, which no test can replace: docs/PERFORMANCE.md says how
+// each request is refused.
 fn device_runs<S: EntryStore>(rt: &impl Abort, alloc: Global, store: S) -> Result<(), Fail> {
     let mut device = device_over(rt, alloc, store)?;
     let mut steps = Vec::new(alloc);
