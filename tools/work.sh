@@ -1,6 +1,7 @@
 # shellcheck shell=bash
-# Work that takes long. It has a folder of its own, `room`, and ends with the script that started it.
-# ./run and ./lib source this file after kept.sh, which sets `kept`, with their name in `script`.
+# Work that takes long. It has a folder of its own, `room`, and ends with the script that started
+# it. ./run and ./lib source this file after kept.sh, which sets `kept`, and have their name in
+# `script`.
 # shellcheck disable=SC2154
 
 refuse() { # WHY [STATUS]
@@ -9,13 +10,13 @@ refuse() { # WHY [STATUS]
 }
 
 stop_without_toolchain() { # IDENTITY
-    [ -n "$1" ] ||
-        refuse "the toolchain's command rt is not on the path: README.md says what it is, under \"The toolchain\""
+    local where="README.md says what it is, under \"The toolchain\""
+    [ -n "$1" ] || refuse "the toolchain's command rt is not on the path: $where"
 }
 
 make_room() {
     if ! mkdir -p "$kept" 2>/dev/null || [ ! -w "$kept" ]; then
-        refuse "cannot write to $kept, where what is built is kept: set XDG_CACHE_HOME to another folder"
+        refuse "cannot write to $kept, where builds are kept: set XDG_CACHE_HOME to another folder"
     fi
     room=$(mktemp -d)
     trap 'clear_room' EXIT
@@ -30,8 +31,8 @@ clear_room() {
     worker='' room=''
 }
 
-# Starts a command in a process group of its own, so that it ends when this script does. Its lines go
-# to the log.
+# Starts a command in a process group of its own, so that it ends when this script does. Its lines
+# go to the log.
 start_work() { # COMMAND...
     : >"$room/log"
     set -m
@@ -81,7 +82,6 @@ prove_crates() { # COPY NUMBER WHAT
     tail -f -s 0.5 --pid="$worker" -n +1 "$room/log" 2>/dev/null | report_crates "$2" &
     end_work || status=$?
     wait
-    if [ "$status" -ne 0 ] || ! tail -n 1 "$room/log" | grep -qE '^[1-9][0-9]* passed, 0 failed$'; then
-        refuse_with_log "$3 was not built"
-    fi
+    tail -n 1 "$room/log" | grep -qE '^[1-9][0-9]* passed, 0 failed$' || status=1
+    [ "$status" -eq 0 ] || refuse_with_log "$3 was not built"
 }
