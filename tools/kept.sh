@@ -6,6 +6,9 @@
 newest=3
 kept=${XDG_CACHE_HOME:-${HOME:-$top/out}/.cache}/bizhgora/kept
 
+# What the library for C is made from, beside the sources of its crates.
+library_files=(tools/build-proved tools/link-library tools/version c/libdsa_model.map)
+
 # The toolchain's folder, found without starting the toolchain, which takes half a second.
 toolchain_folder() {
     local folder
@@ -73,6 +76,17 @@ sum_of_sources() { # FOLDER CRATE PART...
                 LC_ALL=C sort
             find "${parts[@]}" -type f -print0 | LC_ALL=C sort -z | xargs -0 sha256sum
         } | sum_of_input
+    )
+}
+
+# The sum of what the library for C is made from.
+sum_of_library() { # FOLDER
+    local sources
+    sources=$(sum_of_sources "$1" dsa_c src specs proofs dsa_model.h) || return
+    (
+        set -o pipefail
+        cd "$1" || exit
+        { echo "$sources" && sha256sum "${library_files[@]}"; } | sum_of_input
     )
 }
 

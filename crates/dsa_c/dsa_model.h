@@ -11,7 +11,7 @@
  *     threads. The other calls take no memory, so a handler may make them, unless it interrupts a call on the same handle.
  * All numbers may be wrong: a queue, group or engine that the device does not have, a portal, an outcome, a word. They are answered.
  *
- * Link with libdsa_model.a and the C library alone. */
+ * Link with libdsa_model.a or libdsa_model.so, and the C library alone. */
 #ifndef DSA_MODEL_H
 #define DSA_MODEL_H
 
