@@ -75,6 +75,10 @@ AT(dsa_event, portal, 37);
 AT(dsa_event, outcome, 38);
 AT(dsa_event, command, 39);
 
+_Static_assert(DSA_VERSION / 1000000 == DSA_VERSION_MAJOR, "first number");
+_Static_assert(DSA_VERSION / 1000 % 1000 == DSA_VERSION_MINOR, "second number");
+_Static_assert(DSA_VERSION % 1000 == DSA_VERSION_PATCH, "third number");
+
 /* Each field that goes in is told apart from its neighbours by what the device does with it. */
 int main(void)
 {
@@ -83,6 +87,10 @@ int main(void)
 	CHECK(dsa_check(&batch, &wide, 0) == 0 && dsa_check(&batch, &flat, 0) == 0x14);
 	CHECK(dsa_check(&move, &wide, 0) == 0 && dsa_check(&move, &flat, 0) == 0x13);
 	CHECK(dsa_version() == DSA_VERSION);
+	char version[32];
+	snprintf(version, sizeof version, "%u.%u.%u", DSA_VERSION_MAJOR, DSA_VERSION_MINOR,
+		 DSA_VERSION_PATCH);
+	CHECK(strcmp(version, DSA_VERSION_TEXT) == 0);
 
 	const struct dsa_caps caps[] = {
 		{ 65, 1, 1, 16, 16, 2, 3, 20 }, { 2, 9, 1, 16, 16, 2, 3, 20 }, { 2, 1, 65, 16, 16, 2, 3, 20 }, { 2, 1, 1, 4097, 16, 2, 3, 20 },

@@ -23,7 +23,12 @@
 extern "C" {
 #endif
 
-#define DSA_VERSION 1u
+/* The version of this header. DSA_VERSION is MAJOR * 1000000 + MINOR * 1000 + PATCH. */
+#define DSA_VERSION_MAJOR 0u
+#define DSA_VERSION_MINOR 2u
+#define DSA_VERSION_PATCH 0u
+#define DSA_VERSION 2000u
+#define DSA_VERSION_TEXT "0.2.0"
 
 /* A device, or none. Opaque. */
 struct dsa_model {
@@ -287,7 +292,7 @@ uint32_t dsa_status(const struct dsa_descriptor *descriptor, const struct dsa_li
                     uint32_t outcome); /* 0 where the outcome is neither */
 void dsa_image(const struct dsa_descriptor *descriptor, uint32_t pasid, struct dsa_descriptor *image); /* what ENQCMD writes */
 
-uint32_t dsa_version(void);
+uint32_t dsa_version(void); /* DSA_VERSION of the library */
 
 #ifdef __cplusplus
 }

@@ -61,10 +61,10 @@ pub extern "C" fn dsa_image(bytes: &Bytes, pasid: u32, image: &mut Bytes)
     image.bytes = enqcmd_image(&bytes.bytes, pasid);
 }
 
-/// The version of these calls.
+/// The version as one number.
 #[unsafe(no_mangle)]
 pub extern "C" fn dsa_version() -> u32
-    ensures { result ≡ 1 }
+    ensures { result ≡ 2000 }
 {
     VERSION
 }

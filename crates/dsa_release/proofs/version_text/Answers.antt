@@ -1,5 +1,6 @@
 use Rattle.dsa_release.proofs.version_text.Goals as goal
-use Rattle.std.proofs.{Common.{arith, sym}, lemmas.Fmt.{decimal_digit}}
+use Rattle.std.{proofs.Common.{refl}, specs.Fmt.{digits}}
 
 pub returns : goal.returns
-returns c = sym (decimal_digit 1 (omega arith))
+unfolding digits
+returns c = refl
