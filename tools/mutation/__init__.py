@@ -1,0 +1,1 @@
+"""The parts of tools/mutants. Its --help describes mutants and how they are tried."""

@@ -1,0 +1,149 @@
+"""A mutant: what an edit makes of its crate, and how it can be tried."""
+from __future__ import annotations
+
+import pathlib
+from dataclasses import dataclass
+from typing import Dict, List, Optional, Set
+
+from .edit import BadEdit, Change, Edit, read_edit
+from .source import FUNCTION, Source, Span, with_one_clause
+
+# The checker leaves the goals open that have no answer.
+NO_SEARCH = "#[tactic(none)]\n"
+
+
+@dataclass(frozen=True)
+class Options:
+    """What is tried: without the changes, all goals of a function, and what was refused before."""
+
+    unturned: bool = False
+    whole: bool = False
+    anew: bool = False
+
+    def tries_all(self) -> bool:
+        return self.unturned or self.whole or self.anew
+
+
+@dataclass
+class Copy:
+    """A changed copy of a function. It is put beside the function, and nothing calls it."""
+
+    span: Span
+    name: str
+    text: str
+
+
+class Mutant:
+    """Raises BadEdit where its edit cannot be tried."""
+
+    def __init__(self, path: pathlib.Path, source: Source, options: Options) -> None:
+        self.label, self.crate = label_of(path), source.crate
+        edit = read_edit(path.read_text(encoding="utf-8"))
+        self.changes, self.clause, self.steps = edit.changes, edit.clause, edit.steps
+        self.goal, self.is_new_goal = goal_of(edit, options), edit.is_new_goal
+        self.copy: Optional[Copy] = None
+        self.was_tried_in_vain = False
+        changed = changed_functions(edit.changes, source)
+        known = {it for it in changed if it}
+        # The functions of which one has to be refused, by the ends of the checker's names.
+        self.functions: Set[str] = {edit.refuses} if edit.refuses else set(known)
+        if len({*changed}) == 1 and known and is_named(next(iter(known)), edit.refuses):
+            self.make_copy(source, options)
+        self.names = {it.rpartition("::")[2] for it in self.functions}
+        self.changed = self.functions | known
+        # What is in no function, as a constant, may change any.
+        self.is_alone = not self.copy and None in changed
+        self.stop_on_lines_that_need_more(changed[0], source)
+
+    def stop_on_lines_that_need_more(self, first: Optional[str], source: Source) -> None:
+        if self.copy:
+            return
+        if self.clause:
+            raise BadEdit("a line 'clause:' needs a function that can be copied")
+        if self.goal and (self.functions != {first} or first not in source.proofs):
+            raise BadEdit(
+                "a line 'goal:' needs a first change in the function that is refused, "
+                "and one whose proof can be found"
+            )
+
+    def make_copy(self, source: Source, options: Options) -> None:
+        """Makes a changed copy of the function, where it has all that the edit changes."""
+        first = self.changes[0]
+        at = source.texts[first.file].find(first.old) + len(first.old)
+        span = source.span_at(first.file, at)
+        text = source.texts[first.file][span.begin : span.end] if span else ""
+        for change in self.changes:
+            if change.file != first.file or text.count(change.old) != 1:
+                return
+            text = text if options.unturned else text.replace(change.old, change.new)
+        if not span:
+            return
+        if self.clause:
+            promised = with_one_clause(text, self.clause)
+            if promised is None:
+                raise BadEdit(f"its function has no clause {self.clause}")
+            text = promised
+        name = source.next_copy_of(span.function)
+        text = FUNCTION.sub(lambda it: it[0][: -len(it[2])] + name, text, count=1)
+        self.copy = Copy(span, name, without_search(text) if self.goal else text)
+        self.functions = {f"{span.function.rpartition('::')[0]}::{name}"}
+
+    def ask_all_goals(self) -> None:
+        """The goal that the edit names is proved, so its next run asks for all goals."""
+        self.goal = None
+        if self.copy:
+            self.copy.text = self.copy.text.partition("\n")[2]
+
+    def place(self) -> str:
+        """The line that keeps the place of the copy until the crate's own text is changed."""
+        return f"// {self.label}\n"
+
+
+def label_of(path: pathlib.Path) -> str:
+    return f"{path.parent.parent.name}/{path.name}"
+
+
+def goal_of(edit: Edit, options: Options) -> Optional[str]:
+    is_missing = options.unturned and edit.is_new_goal
+    return None if options.whole or is_missing else edit.goal
+
+
+def is_named(function: str, name: Optional[str]) -> bool:
+    """Whether a line 'refuses:' names this function, or there is none."""
+    return f"::{function}".endswith(f"::{name or function}")
+
+
+def without_search(text: str) -> str:
+    head = FUNCTION.search(text)
+    if not head or "#[tactic" in text[: head.start()]:
+        raise BadEdit("a line 'goal:' needs a function without an attribute 'tactic'")
+    return f"{head[1]}{NO_SEARCH}{text}"
+
+
+def changed_functions(changes: List[Change], source: Source) -> List[Optional[str]]:
+    """The function that each change is in, or None. Raises BadEdit where a change cannot be made,
+    and where nothing is changed in the end."""
+    before: Dict[str, str] = {it.file: text_of(it.file, source) for it in changes}
+    texts, functions = dict(before), []
+    for change in changes:
+        file, old = change.file, change.old
+        count = texts[file].count(old)
+        if count != 1:
+            raise BadEdit(f"its old text occurs {count} times in {file}, not once: {old[:80]}")
+        at = texts[file].find(old) + len(old)
+        is_code = file in source.texts
+        functions.append(source.function_at(file, texts[file], at) if is_code else None)
+        texts[file] = texts[file].replace(old, change.new)
+    if any(it.old == it.new for it in changes):
+        raise BadEdit("it changes nothing: an old and its new text are the same")
+    if texts == before:
+        raise BadEdit("it changes nothing: its changes cancel out")
+    return functions
+
+
+def text_of(file: str, source: Source) -> str:
+    path = source.folder / file
+    is_within = pathlib.PurePath(file).parts[:1] in (("src",), ("specs",), ("proofs",))
+    if not is_within or ".." in path.parts or not path.is_file():
+        raise BadEdit(f"its crate has no file {file} below src, specs or proofs")
+    return source.texts.get(file) or path.read_text(encoding="utf-8")
