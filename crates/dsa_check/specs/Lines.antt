@@ -8,6 +8,7 @@ use Rattle.std.specs.Prelude.{nat_lt, if◌then◌else◌}
 use Rattle.std.specs.Fmt.{signed_decimal}
 use Rattle.std.specs.Prelude.{String, string_bytes}
 use Rattle.std.specs.declared.alloc.Global.{Global}
+use Rattle.dsa_event_words.specs.Words.{count_words}
 use Rattle.dsa_scenario.specs.declared.faults.ScenarioFault.{ScenarioFault, TheVariants.{NotJson, BadDocument, BadStep}}
 use Rattle.dsa_scenario.specs.declared.faults.ScenarioFault.TheVariants.{BadCaps, BadCapacity}
 use Rattle.dsa_check.specs.declared.fields.{Key.{Key}, Form.{Form}, Found.{Found}}
@@ -146,6 +147,10 @@ no_kind_text (Some name) None =
     ++ codes "\", none of queue, group, enqcmd, movdir, dispatch, fetch, start, finish, command, poll and clear"
 no_kind_text None near = codes "\"do\" names no kind of step"
 
+-- how many digits a text has
+abbrev pub digits_text : ℕ → List ℕ
+digits_text count = count_words (codes " has ") count (codes "digit") (codes "digits")
+
 abbrev pub reason_text : Reason → List ℕ
 reason_text (reason.Missing key) = key_text key ++ codes " is missing"
 reason_text (reason.Misspelled key found) =
@@ -153,9 +158,9 @@ reason_text (reason.Misspelled key found) =
 reason_text (reason.Unfit key found wanted) =
     key_text key ++ codes " is " ++ found_text found ++ codes ", " ++ wanted_of found wanted ++ codes " is wanted"
 reason_text (reason.OddDigits key count) =
-    key_text key ++ codes " has " ++ decimal count ++ codes " digits, " ++ codes "an even number is" ++ codes " wanted"
+    key_text key ++ digits_text count ++ codes ", an even number is wanted"
 reason_text (reason.ManyDigits key count) =
-    key_text key ++ codes " has " ++ decimal count ++ codes " digits, " ++ codes "at most 128 are" ++ codes " wanted"
+    key_text key ++ digits_text count ++ codes ", at most 128 are wanted"
 reason_text (reason.NoDigit key at) = key_text key ++ (codes " has no hexadecimal digit at character " ++ decimal at)
 reason_text (reason.NoObject found) = found_text found ++ codes " stands here, an object is wanted"
 reason_text (reason.UnknownKind name near) = no_kind_text name near

@@ -1,12 +1,13 @@
 //! The lines that are told of the faults of a document.
 
 ghost use Rattle.std.specs.Prelude.{◌≡◌, ◌++◌, IfOk, OnOk, codes, decimal, string_bytes, flat_map};
-ghost use Rattle.dsa_check.specs.Lines.{key_text, range_text, form_text, found_text, bound_text, wanted_of, piece_text, closing_text, wanted_text, syntax_text, near_kind_text, no_kind_text, reason_text, number_text, step_text, part_text, place_text, line_of, bare_line, finding_text, report_text};
+ghost use Rattle.dsa_check.specs.Lines.{digits_text, key_text, range_text, form_text, found_text, bound_text, wanted_of, piece_text, closing_text, wanted_text, syntax_text, near_kind_text, no_kind_text, reason_text, number_text, step_text, part_text, place_text, line_of, bare_line, finding_text, report_text};
 
 use crate::fields::{Form, Found, Key};
 use crate::finding::{Finding, Reason};
 use crate::kinds::StepKind;
 use crate::syntax::{Piece, Syntax, Wanted};
+use dsa_event_words::add_count;
 use dsa_scenario::ScenarioFault;
 use std::alloc::{AllocError, Global};
 use std::fmt::Write;
@@ -218,10 +219,11 @@ fn add_kind(
 
 fn add_digits(text: &mut String, key: Key, count: usize, wanted: &str) -> Result<(), AllocError>
     ensures { OnOk result (string_bytes text.new ≡ string_bytes text.old
-        ++ (key_text key ++ codes " has " ++ decimal count ++ codes " digits, " ++ wanted.now ++ codes " wanted")) }
+        ++ (key_text key ++ digits_text count ++ wanted.now)) }
 {
     add_key(text, key)?;
-    write!(text, " has {count} digits, {wanted} wanted")
+    add_count(text, " has ", count as u64, "digit", "digits")?;
+    text.push_str(wanted)
 }
 
 fn add_no_digit(text: &mut String, key: Key, at: usize) -> Result<(), AllocError>
@@ -254,8 +256,18 @@ fn add_reason(text: &mut String, reason: &Reason) -> Result<(), AllocError>
         Reason::Missing { key } => add_at_key(text, *key, " is missing"),
         Reason::Misspelled { key, found } => add_misspelled(text, *key, found.as_str()),
         Reason::Unfit { key, found, wanted } => add_unfit(text, *key, *found, *wanted),
-        Reason::OddDigits { key, count } => add_digits(text, *key, *count, "an even number is"),
-        Reason::ManyDigits { key, count } => add_digits(text, *key, *count, "at most 128 are"),
+        Reason::OddDigits { key, count } => add_digits(
+            text,
+            *key,
+            *count,
+            ", an even number is wanted",
+        ),
+        Reason::ManyDigits { key, count } => add_digits(
+            text,
+            *key,
+            *count,
+            ", at most 128 are wanted",
+        ),
         Reason::NoDigit { key, at } => add_no_digit(text, *key, *at),
         Reason::NoObject { found } => add_no_object(text, *found),
         Reason::UnknownKind { found, near } => add_kind(text, found, *near),

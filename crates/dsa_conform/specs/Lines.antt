@@ -1,6 +1,7 @@
 -- What is told of a document whose steps say what was seen.
 use Rattle.std.specs.Prelude.{ℕ, Bool, true, false, List, [], ◌∷◌, ◌++◌, count_by, flat_map, codes, decimal}
 use Rattle.std.specs.Prelude.{Option, Some, None}
+use Rattle.dsa_event_words.specs.Words.{count_words}
 use Rattle.dsa_scenario.specs.declared.{actions.Action.{Action}, run.Record.{Record}}
 use Rattle.dsa_scenario.specs.Lines.{record_text}
 use Rattle.dsa_explain_lines.specs.Lines.{asked_words, shown}
@@ -10,7 +11,8 @@ use Rattle.dsa_conform.specs.Seen.{Seen, is_seen}
 -- how many steps there are, and of how many something was seen (profile)
 abbrev pub conforms_text : ℕ → ℕ → List ℕ
 conforms_text steps seen =
-    codes "conforms: " ++ decimal steps ++ codes " steps, " ++ decimal seen ++ codes " answers seen\n"
+    count_words (codes "conforms: ") steps (codes "step") (codes "steps")
+    ++ count_words (codes ", ") seen (codes "answer") (codes "answers") ++ codes " seen\n"
 
 abbrev pub seen_count : List (Action × Seen) → ℕ
 seen_count observed = count_by (λ o. is_seen o.1) observed

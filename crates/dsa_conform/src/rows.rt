@@ -170,6 +170,7 @@ pub fn a_run()
 #[tactic(auto, unfolding(dsa_scenario::specs::Worked::digits_on_literals))]
 pub fn texts()
     ensures conforms { conforms_text 9 4 ≡ codes "conforms: 9 steps, 4 answers seen\n" }
+    ensures one { conforms_text 1 1 ≡ codes "conforms: 1 step, 1 answer seen\n" }
     ensures idle { difference_text 17 (answered (codes "idle")) idle_words (taken 7 0 ∷ taken 9 2 ∷ []) ≡ codes "step 17: dispatch e0\nseen: idle\nallowed: taken 7 from 0\nallowed: taken 9 from 2\n" }
     ensures poll { difference_text 3 (answered (codes "active")) (codes ": no command is active") (stepped event.Poll (reply.Poll Nothing) ∷ []) ≡ codes "step 3: poll\nseen: active\nallowed: nothing: no command is active\n" }
     ensures both { seen_line (answered_with (codes "accepted 3") false) ≡ codes "seen: accepted 3, zf false\n" }
@@ -197,7 +198,7 @@ pub fn objects()
 /// conform only where each is read and its answer shows what was seen, and all are counted.
 #[tactic(auto, unfolding(dsa_scenario::specs::Worked::digits_on_literals))]
 pub fn verdicts()
-    ensures after_one { IsDifference smallest_caps 1 ((Ask (event.WriteGroup 0 group_of_a_run), nothing_seen) ∷ []) (Ask event.Poll, answered (codes "nothing")) 1 (codes "step 1: poll\nseen: nothing\nallowed: full: the history has room for 1 steps\n") }
+    ensures after_one { IsDifference smallest_caps 1 ((Ask (event.WriteGroup 0 group_of_a_run), nothing_seen) ∷ []) (Ask event.Poll, answered (codes "nothing")) 1 (codes "step 1: poll\nseen: nothing\nallowed: full: the history has room for 1 step\n") }
     ensures after_seven { IsDifference caps_of_a_run 7 (take 7 observed_of_a_run) (Finish 0 0 Success, answered (codes "idle")) 7 (codes "step 7: finish e0 name 0 success\nseen: idle\nallowed: done 01\n") }
     ensures second { IsDiffering smallest_caps 9 (changed (codes "word") (whole 0) command_step ∷ object_of ((codes "answer", string (codes "active")) ∷ poll_step) ∷ []) 1 (codes "step 1: poll\nseen: active\nallowed: nothing: no command is active\n") }
     ensures shown { ¬ IsRefusal at_first 0 (Ok event.Poll) (answered (codes "nothing")) (codes "step 0: poll\nseen: nothing\nallowed: nothing: no command is active\n") }
@@ -216,7 +217,7 @@ pub fn verdicts()
 pub fn documents()
     ensures no_steps { IsConformance (document_of []) None (codes "conforms: 0 steps, 0 answers seen\n") }
     ensures greatest { IsConformance (document_text smallest_caps_text (codes "1048576") []) None (codes "conforms: 0 steps, 0 answers seen\n") }
-    ensures conforms { IsConformance (document_of (poll_with (codes "\"answer\":\"nothing\""))) None (codes "conforms: 1 steps, 1 answers seen\n") }
+    ensures conforms { IsConformance (document_of (poll_with (codes "\"answer\":\"nothing\""))) None (codes "conforms: 1 step, 1 answer seen\n") }
     ensures differs { IsConformance (document_of (poll_with (codes "\"answer\":\"active\""))) (Some (Differs 0)) (codes "step 0: poll\nseen: active\nallowed: nothing: no command is active\n") }
     ensures unread { IsConformance (document_of (poll_with (codes "\"zf\":true") ++ codes "," ++ poll_with (codes "\"zf\":1"))) (Some (BadStep 1)) [] }
     ensures second { ¬ IsConformance (document_of (codes "1,2")) (Some (BadStep 1)) [] }

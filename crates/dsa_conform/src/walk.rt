@@ -16,11 +16,11 @@ use crate::following::{Followed, follow};
 use crate::observed::{Observed, parse_step};
 use dsa_book::{Event, Ticket};
 use dsa_device::Device;
+use dsa_event_words::add_count;
 use dsa_explain_lines::add_part;
 use dsa_regs::Fault;
 use dsa_scenario::{Action, Head, ScenarioFault, ask, event_for, note_ticket};
 use dsa_store::EntryStore;
-use itoa::Buffer;
 use std::alloc::{AllocError, Global};
 
 /// What is told of a document's steps.
@@ -131,12 +131,9 @@ fn conforms_text(alloc: Global, steps: usize, seen: usize) -> Result<String, All
     ensures { IfOk result (λ text. string_bytes text ≡ conforms_text steps seen) }
 {
     let mut text = String::new(alloc);
-    let mut buffer = Buffer::new();
-    text.push_str("conforms: ")?;
-    text.push_str(buffer.format(steps))?;
-    text.push_str(" steps, ")?;
-    text.push_str(buffer.format(seen))?;
-    text.push_str(" answers seen\n")?;
+    add_count(&mut text, "conforms: ", steps as u64, "step", "steps")?;
+    add_count(&mut text, ", ", seen as u64, "answer", "answers")?;
+    text.push_str(" seen\n")?;
     Ok(text)
 }
 

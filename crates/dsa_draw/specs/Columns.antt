@@ -1,41 +1,12 @@
 -- The columns of a drawing, as text: one for each step, with what it was asked and what it answered.
-use Rattle.dsa_book.specs.declared.event.Event.TheVariants as event
 use Rattle.std.specs.Prelude.{ℕ, ◌+◌, ◌-◌, ◌*◌, ◌%◌, ◌==◌, cond, List, [], ◌∷◌, ◌++◌, codes, decimal}
-use Rattle.dsa_regs.specs.Command.{command_name}
-use Rattle.dsa_book.specs.declared.event.{Event.{Event}, Kind.{Kind, TheVariants.{Enqcmd, Movdir64b}}}
+use Rattle.dsa_event_words.specs.Words.{event_words}
 use Rattle.dsa_scenario.specs.{declared.run.Record.{Record, TheVariants.{Stepped, Refused}}, Lines.{record_text}}
 use Rattle.dsa_draw.specs.{declared.moment.Moment.{Moment}, Bands.{next_step}}
 
--- ---- what a step was asked (profile)
-
-abbrev pub instruction_text : Kind → List ℕ
-instruction_text (Enqcmd pasid) = codes "enqcmd"
-instruction_text Movdir64b = codes "movdir"
-
-abbrev pub submission_text : ℕ → ℕ → Kind → List ℕ
-submission_text client queue kind =
-    instruction_text kind ++ codes " of client " ++ decimal client ++ codes " to queue " ++ decimal queue
-
-abbrev pub of_engine_text : List ℕ → ℕ → List ℕ
-of_engine_text what engine = what ++ codes " of engine " ++ decimal engine
-
-abbrev pub finish_text : ℕ → ℕ → List ℕ
-finish_text name engine = codes "finish of " ++ (decimal name ++ (codes " on engine " ++ decimal engine))
-
-abbrev pub event_text : Event → List ℕ
-event_text (event.Submit client queue portal kind desc) = submission_text client queue kind
-event_text (event.Dispatch engine) = of_engine_text (codes "dispatch") engine
-event_text (event.Fetch engine desc) = of_engine_text (codes "fetch") engine
-event_text (event.Start engine) = of_engine_text (codes "start") engine
-event_text (event.Finish engine ticket outcome) = finish_text ticket.name engine
-event_text (event.Issue command) = command_name command
-event_text event.Poll = codes "poll"
-event_text (event.WriteQueue queue config) = codes "queue " ++ decimal queue
-event_text (event.WriteGroup group config) = codes "group " ++ decimal group
-event_text event.ClearError = codes "clear"
-
+-- what was asked; a word that is no command is no event (profile)
 abbrev pub asked_text : Record → List ℕ
-asked_text (Stepped step) = event_text step.event
+asked_text (Stepped step) = event_words step.event
 asked_text (Refused fault) = codes "command"
 
 -- ---- columns

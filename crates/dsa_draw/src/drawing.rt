@@ -1,7 +1,7 @@
 //! The whole drawing.
 
 ghost use Rattle.std.specs.Prelude.{◌≡◌, ◌++◌, IfOk, OnOk, string_bytes};
-ghost use Rattle.dsa_draw.specs.Columns.{submission_text, of_engine_text, finish_text, event_text, asked_text, title_text, left_text, high_text, column_text, grid_text, label_text, number_text, fifth_text, columns_text};
+ghost use Rattle.dsa_draw.specs.Columns.{asked_text, title_text, left_text, high_text, column_text, grid_text, label_text, number_text, fifth_text, columns_text};
 ghost use Rattle.dsa_draw.specs.Drawings.{step_count, IsTextOf};
 
 use crate::bands::{add_bands, bands_of};
@@ -12,7 +12,8 @@ use crate::marks::{Mark, mark_of};
 use crate::moment::Moment;
 use crate::page::{add_foot, add_head, add_mark, add_name, add_rule};
 use crate::run::Story;
-use dsa_book::{Actor, Event, Fate, FateRow, Kind};
+use dsa_book::{Actor, Event, Fate, FateRow};
+use dsa_event_words::{add_event, command_word};
 use dsa_scenario::{Record, add_answer, add_rows};
 use std::alloc::{AllocError, Global};
 use std::fmt::Write;
@@ -31,50 +32,6 @@ const FATES: u32 = 128;
 const BANDS: u32 = 152;
 
 // ---- columns
-
-fn add_submission(text: &mut String, client: u16, queue: u16, kind: Kind) -> Result<(), AllocError>
-    ensures { OnOk result (string_bytes text.new ≡ string_bytes text.old ++ submission_text client queue kind) }
-{
-    let instruction = match kind {
-        Kind::Enqcmd { .. } => "enqcmd",
-        Kind::Movdir64b => "movdir",
-    };
-    write!(text, "{instruction} of client {client} to queue {queue}")
-}
-
-fn add_of_engine(text: &mut String, what: &str, engine: u16) -> Result<(), AllocError>
-    ensures { OnOk result (string_bytes text.new ≡ string_bytes text.old ++ of_engine_text what.now engine) }
-{
-    write!(text, "{what} of engine {engine}")
-}
-
-fn add_finish(text: &mut String, name: u32, engine: u16) -> Result<(), AllocError>
-    ensures { OnOk result (string_bytes text.new ≡ string_bytes text.old ++ finish_text name engine) }
-{
-    write!(text, "finish of {name} on engine {engine}")
-}
-
-fn add_event(text: &mut String, event: &Event) -> Result<(), AllocError>
-    ensures { OnOk result (string_bytes text.new ≡ string_bytes text.old ++ event_text event.now) }
-{
-    match event {
-        Event::Submit {
-            client,
-            queue,
-            kind,
-            ..
-        } => add_submission(text, *client, *queue, *kind),
-        Event::Dispatch { engine } => add_of_engine(text, "dispatch", *engine),
-        Event::Fetch { engine, .. } => add_of_engine(text, "fetch", *engine),
-        Event::Start { engine } => add_of_engine(text, "start", *engine),
-        Event::Finish { engine, ticket, .. } => add_finish(text, ticket.name, *engine),
-        Event::Issue { command } => text.push_str(command.name()),
-        Event::Poll => text.push_str("poll"),
-        Event::WriteQueue { queue, .. } => write!(text, "queue {queue}"),
-        Event::WriteGroup { group, .. } => write!(text, "group {group}"),
-        Event::ClearError => text.push_str("clear"),
-    }
-}
 
 fn add_asked(text: &mut String, entry: &Record) -> Result<(), AllocError>
     ensures { OnOk result (string_bytes text.new ≡ string_bytes text.old ++ asked_text entry.now) }
@@ -181,7 +138,7 @@ fn add_label(text: &mut String, entry: &Record, step: u32) -> Result<(), AllocEr
         return Ok(());
     };
     let x = column_left(step) + 10;
-    let name = command.name();
+    let name = command_word(&command);
     writeln!(
         text,
         "<text transform=\"translate({x} {LABELS}) rotate(-60)\">{name}</text>"

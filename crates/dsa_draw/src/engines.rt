@@ -69,7 +69,7 @@ fn add_fate(text: &mut String, fate: Fate) -> Result<(), AllocError> {
 fn add_bar_title(text: &mut String, bar: &Bar) -> Result<(), AllocError> {
     let kind = if bar.is_batch { "batch" } else { "entry" };
     let (name, engine, begin) = (bar.name, bar.engine, bar.begin);
-    write!(text, "<title>{kind} {name} on engine {engine}")?;
+    write!(text, "<title>{kind} {name} on e{engine}")?;
     if let Some(parent) = bar.parent {
         write!(text, ", member of batch {parent}")?;
     }
@@ -140,12 +140,15 @@ fn add_batch(text: &mut String, bar: &Bar, lanes: Lanes) -> Result<(), AllocErro
     let y = lane_top(lanes.top, bar.lane);
     let below = lane_top(lanes.top, lanes.taken.saturating_add(lanes.members));
     let high = below.saturating_sub(y);
-    let name = bar.name;
+    let (name, engine) = (bar.name, bar.engine);
     write!(
         text,
         "<rect class=\"batch\" x=\"{x}\" y=\"{y}\" width=\"{wide}\" height=\"{high}\">"
     )?;
-    writeln!(text, "<title>batch {name} and its members</title></rect>")
+    writeln!(
+        text,
+        "<title>batch of e{engine}: batch {name} and its members</title></rect>"
+    )
 }
 
 fn add_batches(

@@ -1,16 +1,27 @@
 -- An event in words.
 use Rattle.dsa_book.specs.declared.event.Event.TheVariants as event
+use Rattle.dsa_regs.specs.declared.layout.ListUse.TheVariants as list
 use Rattle.std.specs.Prelude.{ℕ, ◌+◌, false, ◌==◌, ◌&&◌, nat_lt, if◌then◌else◌, List, [], ◌∷◌, ◌++◌, map, Option, unwrap_or}
 use Rattle.std.specs.Prelude.{codes, decimal}
 use Rattle.std.specs.Fmt.{digits}
 use Rattle.dsa_base.specs.Rows.{first_row}
 use Rattle.dsa_desc.specs.declared.{Descriptor.{Descriptor}, Outcome.{Outcome, TheVariants.{Success, PageFault}}}
 use Rattle.dsa_desc.specs.Descriptor.{is_batch, is_transfer, is_fenced}
-use Rattle.dsa_regs.specs.declared.Command.{Command}
+use Rattle.dsa_regs.specs.declared.{Command.{Command}, layout.ListUse.{ListUse}}
 use Rattle.dsa_regs.specs.declared.Scope.{Scope, TheVariants.{Device, Queue, Queues, Pasid}}
 use Rattle.dsa_regs.specs.Command.{command_name, scope_of, operand_of}
 use Rattle.dsa_book.specs.declared.event.{Event.{Event}, Portal.{Portal, TheVariants.{Limited, Unlimited}}}
 use Rattle.dsa_book.specs.declared.event.Kind.{Kind, TheVariants.{Enqcmd, Movdir64b}}
+
+-- ---- numbers (profile)
+
+-- `one` after the number 1, and `many` after any other
+abbrev pub one_or_many : ℕ → List ℕ → List ℕ → List ℕ
+one_or_many n one many = if n == 1 then one else many
+
+-- a text, a number, and what is counted: `1 entry`, `2 entries`
+abbrev pub count_words : List ℕ → ℕ → List ℕ → List ℕ → List ℕ
+count_words before n one many = before ++ decimal n ++ codes " " ++ one_or_many n one many
 
 -- ---- descriptors (profile)
 
@@ -32,7 +43,7 @@ operation_words op = unwrap_or (operation_word op) (codes "operation 0x" ++ digi
 abbrev pub size_words : Descriptor → List ℕ
 size_words d =
     if is_batch d then codes " of " ++ decimal d.size
-    else (if is_transfer d then codes " " ++ decimal d.size ++ codes " bytes" else [])
+    else (if is_transfer d then count_words (codes " ") d.size (codes "byte") (codes "bytes") else [])
 
 -- a mark on a descriptor with a fence
 abbrev pub fence_words : Descriptor → List ℕ
@@ -60,6 +71,14 @@ scope_words (Pasid pasid) = codes " " ++ decimal pasid
 
 abbrev pub command_words : Command → List ℕ
 command_words command = command_word command ++ scope_words (scope_of command)
+
+-- ---- lists (profile)
+
+-- a queue, an engine for its entries in progress, or the members of the batch that it works on
+abbrev pub list_words : ListUse → List ℕ
+list_words (list.Queue queue) = codes "q" ++ decimal queue
+list_words (list.Progress engine) = codes "e" ++ decimal engine
+list_words (list.Members engine) = codes "batch of e" ++ decimal engine
 
 -- ---- events (profile)
 

@@ -8,7 +8,8 @@ use dsa_regs::{Command, Scope};
 use std::alloc::AllocError;
 use std::fmt::Write;
 
-fn command_word(command: &Command) -> &'static str
+/// The name of a command, as one word.
+pub fn command_word(command: &Command) -> &'static str
     ensures { result.now ≡ command_word command.now }
 {
     match command {

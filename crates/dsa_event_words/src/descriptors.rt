@@ -3,7 +3,7 @@
 ghost use Rattle.std.specs.Prelude.{◌≡◌, ◌++◌, OnOk, option_map, string_bytes};
 ghost use Rattle.dsa_event_words.specs.Words.{descriptor_words, fence_words, operation_word, operation_words, size_words};
 
-use crate::numbers::add_number;
+use crate::numbers::{add_count, add_number};
 use dsa_desc::Descriptor;
 use dsa_desc::opcode::{
     DSA_OPCODE_BATCH, DSA_OPCODE_COMPARE, DSA_OPCODE_DRAIN, DSA_OPCODE_MEMFILL, DSA_OPCODE_MEMMOVE,
@@ -42,8 +42,7 @@ fn add_size(text: &mut String, desc: &Descriptor) -> Result<(), AllocError>
         return add_number(text, " of ", desc.size);
     }
     if desc.is_transfer() {
-        add_number(text, " ", desc.size)?;
-        text.push_str(" bytes")?;
+        return add_count(text, " ", u64::from(desc.size), "byte", "bytes");
     }
     Ok(())
 }

@@ -7,10 +7,12 @@
 mod commands;
 mod descriptors;
 mod events;
+mod lists;
 mod numbers;
 pub mod rows;
 
-pub use commands::add_command;
+pub use commands::{add_command, command_word};
 pub use descriptors::add_descriptor;
 pub use events::{add_event, portal_word};
-pub use numbers::add_number;
+pub use lists::add_list;
+pub use numbers::{add_count, add_number, one_or_many};

@@ -3,12 +3,27 @@
 ghost use Rattle.std.specs.Prelude.{◌≡◌, [], ◌∷◌, codes, map};
 ghost use Rattle.dsa_desc.specs.declared.Outcome.TheVariants.{Success, PageFault};
 ghost use Rattle.dsa_regs.specs.declared.Command.TheVariants.{EnableDevice, DisableDevice, DrainAll, AbortAll, ResetDevice, EnableWq, DisableWq, DrainWq, AbortWq, ResetWq, DrainPasid, AbortPasid};
+ghost use Rattle.dsa_regs.specs.declared.layout.ListUse.TheVariants as list;
 ghost use Rattle.dsa_regs.specs.Config.{zero_queue, zero_group};
 ghost use Rattle.dsa_book.specs.declared.event.Event.TheVariants.{Submit, Dispatch, Fetch, Start, Finish, Issue, Poll, WriteQueue, WriteGroup, ClearError};
 ghost use Rattle.dsa_book.specs.declared.event.Kind.TheVariants.{Enqcmd, Movdir64b};
 ghost use Rattle.dsa_book.specs.declared.event.Portal.TheVariants.{Limited, Unlimited};
-ghost use Rattle.dsa_event_words.specs.Words.{command_words, descriptor_words, event_words};
+ghost use Rattle.dsa_event_words.specs.Words.{command_words, count_words, descriptor_words, event_words, list_words};
 ghost use Rattle.dsa_event_words.specs.Worked.{desc, mask, move, ticket};
+
+/// What is counted is singular after 1 alone.
+#[tactic(auto, unfolding(crate::specs::Worked::digits_on_literals))]
+pub fn counts()
+    ensures none { count_words (codes "for ") 0 (codes "entry") (codes "entries") ≡ codes "for 0 entries" }
+    ensures one { count_words [] 1 (codes "entry") (codes "entries") ≡ codes "1 entry" }
+    ensures eleven { count_words (codes "for ") 11 (codes "entry") (codes "entries") ≡ codes "for 11 entries" }
+{}
+
+/// Lists, by a queue or an engine.
+#[tactic(auto, unfolding(crate::specs::Worked::digits_on_literals))]
+pub fn lists()
+    ensures { map list_words (list.Queue 1 ∷ list.Progress 2 ∷ list.Members 13 ∷ []) ≡ codes "q1" ∷ codes "e2" ∷ codes "batch of e13" ∷ [] }
+{}
 
 /// Descriptors: the operation, the size where it counts, and the fence.
 #[tactic(auto, unfolding(crate::specs::Worked::digits_on_literals))]
@@ -16,7 +31,7 @@ pub fn descriptors()
     ensures no_op { descriptor_words (desc 0 0 7) ≡ codes "no-op" }
     ensures batch { descriptor_words (desc 0 1 8) ≡ codes "batch of 8" }
     ensures drain { descriptor_words (desc 0 2 7) ≡ codes "drain" }
-    ensures transfers { map descriptor_words (move ∷ desc 0 4 1 ∷ desc 0 5 0 ∷ []) ≡ codes "move 4096 bytes" ∷ codes "fill 1 bytes" ∷ codes "compare 0 bytes" ∷ [] }
+    ensures transfers { map descriptor_words (move ∷ desc 0 4 1 ∷ desc 0 5 0 ∷ []) ≡ codes "move 4096 bytes" ∷ codes "fill 1 byte" ∷ codes "compare 0 bytes" ∷ [] }
     ensures other { map descriptor_words (desc 0 6 7 ∷ desc 0 0xab 7 ∷ []) ≡ codes "operation 0x6" ∷ codes "operation 0xab" ∷ [] }
     ensures fence { map descriptor_words (desc 1 3 16 ∷ desc 3 0 0 ∷ desc 2 0 0 ∷ []) ≡ codes "move 16 bytes fence" ∷ codes "no-op fence" ∷ codes "no-op" ∷ [] }
 {}

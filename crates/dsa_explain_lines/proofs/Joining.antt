@@ -19,6 +19,12 @@ pub behind_three : (o a b c d mid far end new : List ℕ) → mid ≡ o ++ a →
 behind_three o a b c d mid far end new h k m e =
     behind o (a ++ b ++ c) d end new (behind_two o a b c mid far end h k m) e
 
+-- and in five
+pub behind_four : (o a b c d f mid far end last new : List ℕ) → mid ≡ o ++ a → far ≡ mid ++ b → end ≡ far ++ c
+    → last ≡ end ++ d → new ≡ last ++ f → new ≡ o ++ (a ++ b ++ c ++ d ++ f)
+behind_four o a b c d f mid far end last new h k m n e =
+    behind o (a ++ b ++ c ++ d) f last new (behind_three o a b c d mid far end last h k m n) e
+
 -- what is told of the numbers below, and of one more
 pub told-next : (f : ℕ → List ℕ) (n : ℕ) (o text new : List ℕ) → text ≡ o ++ flat_map f (numbers_below n)
     → new ≡ text ++ f n → new ≡ o ++ flat_map f (numbers_below (n + 1))

@@ -25,7 +25,8 @@ use Rattle.dsa_explain.specs.Check as checks
 use Rattle.dsa_explain.specs.Write.{write_queue_reason, write_group_reason, clear_reason}
 use Rattle.dsa_explain_lines.specs.Sentences.{submit_sentence, engine_sentence, queue_sentence, fetch_sentence}
 use Rattle.dsa_explain_lines.specs.Sentences.{start_sentence, finish_sentence, issue_sentence, poll_sentence, loss_words}
-use Rattle.dsa_explain_lines.specs.Sentences.{write_sentence, clear_sentence, counted, wait_sentence, kept_words}
+use Rattle.dsa_event_words.specs.Words.{count_words}
+use Rattle.dsa_explain_lines.specs.Sentences.{write_sentence, clear_sentence, wait_sentence, kept_words}
 
 -- the sentence of a reason, behind its mark; nothing where there is no reason
 abbrev pub told_of : {R : Type 0} → (R → List ℕ) → Option R → List ℕ
@@ -129,16 +130,16 @@ event_part s (event.Finish engine ticket outcome) =
 event_part s (event.Issue command) = issue_part s command
 event_part s event.Poll = told_of (poll_sentence (awaited_entry s)) (poll_reason s)
 event_part s (event.WriteQueue queue config) =
-    told_of (write_sentence (codes "queues")) (write_queue_reason s.work.setup queue config)
+    told_of (write_sentence (codes "queue") (codes "queues")) (write_queue_reason s.work.setup queue config)
 event_part s (event.WriteGroup group config) =
-    told_of (write_sentence (codes "groups")) (write_group_reason s.work.setup group)
+    told_of (write_sentence (codes "group") (codes "groups")) (write_group_reason s.work.setup group)
 event_part s event.ClearError = told_of clear_sentence (clear_reason s.work.setup.noted)
 
 -- ---- what is asked of a device
 
 -- what a history without room says
 abbrev pub room_part : ℕ → List ℕ
-room_part capacity = counted (codes ": the history has room for ") capacity (codes " steps")
+room_part capacity = count_words (codes ": the history has room for ") capacity (codes "step") (codes "steps")
 
 -- what is said of a word that is no command
 abbrev pub word_part : List ℕ

@@ -14,9 +14,8 @@ use Rattle.dsa_explain.specs.declared.write.WriteReason.TheVariants as write
 use Rattle.dsa_explain.specs.declared.write.ClearReason.TheVariants as clear
 use Rattle.std.specs.Prelude.{ℕ, Bool, true, false, List, [], ◌∷◌, ◌++◌, flat_map, Option, Some, None, codes, decimal}
 use Rattle.dsa_regs.specs.declared.{Command.{Command}, Phase.{Phase, TheVariants.{Off, On, Stopping}}, layout.ListUse.{ListUse}}
-use Rattle.dsa_regs.specs.declared.layout.ListUse.TheVariants.{Queue, Progress, Members}
 use Rattle.dsa_book.specs.declared.event.{Portal.{Portal}}
-use Rattle.dsa_event_words.specs.Words.{command_words, portal_word}
+use Rattle.dsa_event_words.specs.Words.{command_words, count_words, list_words, portal_word}
 use Rattle.dsa_explain.specs.declared.submission.SubmitReason.{SubmitReason}
 use Rattle.dsa_explain.specs.declared.dispatch.{EngineReason.{EngineReason}, QueueReason.{QueueReason}}
 use Rattle.dsa_explain.specs.declared.batch.{FetchReason.{FetchReason}, StartReason.{StartReason}}
@@ -46,12 +45,6 @@ phase_word Stopping = codes "stopping"
 abbrev pub phased : List ℕ → Phase → List ℕ
 phased before phase = before ++ phase_word phase
 
--- a list of the device
-abbrev pub list_words : ListUse → List ℕ
-list_words (Queue q) = codes "q" ++ decimal q
-list_words (Progress e) = codes "e" ++ decimal e
-list_words (Members e) = codes "the batch of e" ++ decimal e
-
 abbrev pub no_engine : ℕ → List ℕ
 no_engine e = codes "the device has no e" ++ decimal e
 
@@ -61,10 +54,11 @@ no_group e = counted (codes "e") e (codes " is of no group")
 -- the numbers by which read buffers do not fit a group
 abbrev pub want_words : BufferWant → List ℕ
 want_words want =
-    counted_twice (codes "needs ") want.asked (codes " read buffers, group ") want.group (codes "")
+    count_words (codes "needs ") want.asked (codes "read buffer") (codes "read buffers")
+    ++ counted (codes ", group ") want.group (codes "")
     ++ counted_twice (codes " uses ") want.used (codes " of ") want.allowed (codes "")
     ++ counted_twice (codes ", all groups use ") want.in_use (codes " of ") want.buffers (codes "")
-    ++ counted (codes ", and ") want.kept (codes " are kept")
+    ++ count_words (codes ", and ") want.kept (codes "is kept") (codes "are kept")
 
 -- so many read buffers are kept for the group
 abbrev pub kept_words : ℕ → ℕ → List ℕ
@@ -85,8 +79,8 @@ enabled_words q device (Some phase) =
 -- of a queue that holds so many, through the portal with that limit
 abbrev pub at_limit_words : ℕ → ℕ → ℕ → Portal → List ℕ
 at_limit_words q occupancy limit portal =
-    counted_twice (codes "q") q (codes " holds ") occupancy (codes " entries, and the ")
-    ++ portal_word portal ++ (codes " portal goes up to " ++ decimal limit)
+    counted (codes "q") q (codes "") ++ count_words (codes " holds ") occupancy (codes "entry") (codes "entries")
+    ++ codes ", and the " ++ portal_word portal ++ (codes " portal goes up to " ++ decimal limit)
 
 -- of the queue
 abbrev pub submit_sentence : ℕ → SubmitReason → List ℕ
@@ -110,7 +104,7 @@ abbrev pub queue_sentence : ℕ → ℕ → QueueReason → List ℕ
 queue_sentence q name queue.Empty = counted (codes "q") q (codes " is empty")
 queue_sentence q name (queue.NoSlot used slots) =
     front_words q name (codes " waits for a slot, of which ")
-    ++ counted_twice (codes "") used (codes " of ") slots (codes " are in use")
+    ++ decimal used ++ count_words (codes " of ") slots (codes "is in use") (codes "are in use")
 queue_sentence q name (queue.NoBuffers want) = front_words q name (codes " ") ++ want_words want
 queue_sentence q name (queue.OtherBatch batch) =
     front_words q name (codes " is a batch") ++ counted (codes ", and the engine works on batch ") batch (codes "")
@@ -122,12 +116,17 @@ abbrev pub closed_words : Bool → List ℕ
 closed_words true = codes ", and the rest is abandoned"
 closed_words false = []
 
+-- how many members of its batch the engine has fetched
+abbrev pub fetched_words : ℕ → ℕ → ℕ → List ℕ
+fetched_words e fetched count =
+    counted_twice (codes "e") e (codes " has fetched ") fetched (codes "")
+    ++ count_words (codes " of ") count (codes "member") (codes "members")
+
 -- of the engine
 abbrev pub fetch_sentence : ℕ → FetchReason → List ℕ
 fetch_sentence e fetch.NoEngine = no_engine e
 fetch_sentence e fetch.NoBatch = counted (codes "e") e (codes " works on no batch")
-fetch_sentence e (fetch.AllFetched count fetched closed) =
-    counted_twice (codes "") fetched (codes " of ") count (codes " members are fetched") ++ closed_words closed
+fetch_sentence e (fetch.AllFetched count fetched closed) = fetched_words e fetched count ++ closed_words closed
 
 -- the member that failed
 abbrev pub failed_words : Option ℕ → List ℕ
@@ -141,7 +140,7 @@ start_sentence e (start.Fence member waits_for) =
     counted_twice (codes "member ") member (codes " has a fence, and waits for ") waits_for (codes "")
 start_sentence e (start.Failed member failed left) =
     counted (codes "member ") member (codes " has a fence, ") ++ failed_words failed
-    ++ counted (codes " before it failed, and ") left (codes " end unstarted")
+    ++ count_words (codes " before it failed, and ") left (codes "ends unstarted") (codes "end unstarted")
 start_sentence e (start.NoBuffers want) = codes "the member " ++ want_words want
 start_sentence e start.NoGroup = no_group e
 
@@ -152,9 +151,9 @@ finish_sentence e finish.NoEntry = codes "the cell of the ticket holds no entry"
 finish_sentence e (finish.OtherName name) = counted (codes "the cell of the ticket holds ") name (codes " by now")
 finish_sentence e (finish.Elsewhere list) = codes "the entry stands in " ++ list_words list
 finish_sentence e finish.NotStarted = codes "the member has not started"
-finish_sentence e (finish.MembersLeft left) = counted (codes "") left (codes " members have not ended")
-finish_sentence e (finish.StillToFetch fetched count) =
-    counted_twice (codes "") fetched (codes " of ") count (codes " members are fetched")
+finish_sentence e (finish.MembersLeft left) =
+    count_words (codes "") left (codes "member has not ended") (codes "members have not ended")
+finish_sentence e (finish.StillToFetch fetched count) = fetched_words e fetched count
 finish_sentence e (finish.DrainWaits first) = counted (codes "the drain waits for ") first (codes "")
 
 -- ---- commands
@@ -185,16 +184,16 @@ abbrev pub name_words : Named → List ℕ
 name_words (named.Queue q) = codes "q" ++ decimal q
 name_words (named.Engine e) = codes "e" ++ decimal e
 
--- what of it there are so many
-abbrev pub names_words : Named → List ℕ
-names_words (named.Queue q) = codes " queues"
-names_words (named.Engine e) = codes " engines"
+-- how many queues or engines the device has
+abbrev pub has_words : Named → ℕ → List ℕ
+has_words (named.Queue q) count = count_words (codes ", and the device has ") count (codes "queue") (codes "queues")
+has_words (named.Engine e) count =
+    count_words (codes ", and the device has ") count (codes "engine") (codes "engines")
 
--- the group names it, and the device has so many
+-- the group names it, and the device has this number of them
 abbrev pub missing_words : ℕ → Named → ℕ → List ℕ
 missing_words group name count =
-    counted (codes "group ") group (codes " names ") ++ name_words name
-    ++ counted (codes ", and the device has ") count (names_words name)
+    counted (codes "group ") group (codes " names ") ++ name_words name ++ has_words name count
 
 -- both groups name it
 abbrev pub shared_words : Named → ℕ → ℕ → List ℕ
@@ -207,10 +206,12 @@ bound_words (bound.Reserved reserved) = counted (codes "below the ") reserved (c
 bound_words (bound.Unreserved left) = counted (codes "above the ") left (codes " that others leave")
 bound_words bound.Need = codes "below the 4 that a descriptor may need"
 
--- the group may use so many read buffers, which breaks the bound
+-- how many read buffers the group may use, which breaks the bound
 abbrev pub outside_words : ℕ → ℕ → Bound → List ℕ
 outside_words group allowed broken =
-    counted_twice (codes "group ") group (codes " may use ") allowed (codes " read buffers, ") ++ bound_words broken
+    counted (codes "group ") group (codes "")
+    ++ count_words (codes " may use ") allowed (codes "read buffer") (codes "read buffers")
+    ++ codes ", " ++ bound_words broken
 
 -- of the device, of a group, or of a queue
 abbrev pub check_sentence : CheckReason → List ℕ
@@ -219,7 +220,8 @@ check_sentence (check.SizesTooLarge sizes total) =
     counted_twice (codes "the sizes of the queues are ") sizes (codes ", of ") total (codes "")
 check_sentence (check.TwoGroups named first second) = shared_words named first second
 check_sentence (check.ReservedTooMany reserved total) =
-    counted_twice (codes "the groups reserve ") reserved (codes " read buffers, of ") total (codes "")
+    count_words (codes "the groups reserve ") reserved (codes "read buffer") (codes "read buffers")
+    ++ counted (codes ", of ") total (codes "")
 check_sentence (check.AllowedOutOfRange group allowed bound) = outside_words group allowed bound
 check_sentence (check.GroupWithoutEngine group) = counted (codes "group ") group (codes " has a queue and no engine")
 check_sentence (check.GroupWithoutQueue group) = counted (codes "group ") group (codes " has an engine and no queue")
@@ -252,7 +254,8 @@ first_words (Some held) = codes ", first for " ++ held_words held
 -- the active command, how many entries it waits for, and the first of them
 abbrev pub busy_words : Command → ℕ → Option Held → List ℕ
 busy_words active awaited first =
-    command_words active ++ counted (codes " is active, and waits for ") awaited (codes " entries")
+    command_words active
+    ++ count_words (codes " is active, and waits for ") awaited (codes "entry") (codes "entries")
     ++ first_words first
 
 -- with what the check of an enable found, and the first entry that is awaited
@@ -265,7 +268,7 @@ issue_sentence found first (issue.Check fault) = found_words found
 -- how many entries the command waits for, and the first of them
 abbrev pub wait_words : ℕ → Option Held → List ℕ
 wait_words awaited first =
-    counted (codes "the command waits for ") awaited (codes " entries") ++ first_words first
+    count_words (codes "the command waits for ") awaited (codes "entry") (codes "entries") ++ first_words first
 
 -- with the first entry that is awaited
 abbrev pub poll_sentence : Option Held → PollReason → List ℕ
@@ -293,13 +296,13 @@ loss_words mark list (first ∷ others) =
 abbrev pub device_words : Phase → List ℕ
 device_words phase = phased (codes "the device is ") phase
 
--- what is written: queues or groups
-abbrev pub write_sentence : List ℕ → WriteReason → List ℕ
-write_sentence what (write.BadIndex count) = counted (codes "the device has ") count (codes " ") ++ what
-write_sentence what (write.LockedQueue phase) = phased (codes "the queue is ") phase
-write_sentence what (write.LockedSize phase size) =
+-- what is written, as one and as many: a queue or a group
+abbrev pub write_sentence : List ℕ → List ℕ → WriteReason → List ℕ
+write_sentence one many (write.BadIndex count) = count_words (codes "the device has ") count one many
+write_sentence one many (write.LockedQueue phase) = phased (codes "the queue is ") phase
+write_sentence one many (write.LockedSize phase size) =
     device_words phase ++ counted (codes ", and the size stays ") size (codes "")
-write_sentence what (write.LockedGroup phase) = device_words phase
+write_sentence one many (write.LockedGroup phase) = device_words phase
 
 abbrev pub clear_sentence : ClearReason → List ℕ
 clear_sentence clear.NothingNoted = codes "no error is noted"

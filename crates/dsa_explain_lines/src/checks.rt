@@ -5,7 +5,7 @@ ghost use Rattle.dsa_explain_lines.specs.Sentences.{above_words, check_sentence,
 
 use crate::groups::{add_missing, add_outside, add_shared};
 use crate::words::{add_counted, add_counted_twice};
-use dsa_event_words::add_number;
+use dsa_event_words::{add_count, add_number};
 use dsa_explain::CheckReason;
 use std::alloc::AllocError;
 
@@ -105,15 +105,9 @@ pub fn add_check_reason(text: &mut String, reason: &CheckReason) -> Result<(), A
             second,
         } => add_shared(text, named, first, second),
         CheckReason::ReservedTooMany { reserved, total } => {
-            let between = " read buffers, of ";
-            add_counted_twice(
-                text,
-                "the groups reserve ",
-                reserved,
-                between,
-                u32::from(total),
-                "",
-            )
+            let (before, reserved) = ("the groups reserve ", u64::from(reserved));
+            add_count(text, before, reserved, "read buffer", "read buffers")?;
+            add_counted(text, ", of ", u32::from(total), "")
         }
         CheckReason::AllowedOutOfRange {
             group,

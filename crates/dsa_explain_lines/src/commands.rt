@@ -4,8 +4,8 @@ ghost use Rattle.std.specs.Prelude.{◌≡◌, ◌++◌, OnOk, string_bytes};
 ghost use Rattle.dsa_explain_lines.specs.Sentences.{busy_words, first_words, found_words, held_words, issue_sentence, named_words, poll_sentence, wait_sentence, wait_words, whose_words};
 
 use crate::checks::add_check_reason;
-use crate::words::{add_counted, add_list, add_phase};
-use dsa_event_words::{add_command, add_number};
+use crate::words::{add_counted, add_phase};
+use dsa_event_words::{add_command, add_count, add_list, add_number};
 use dsa_explain::{CheckReason, Held, IssueReason, PollReason, WaitReason};
 use dsa_regs::Command;
 use std::alloc::AllocError;
@@ -19,7 +19,8 @@ fn add_busy(
     ensures { OnOk result (string_bytes text.new ≡ string_bytes text.old ++ busy_words active.now awaited first.now) }
 {
     add_command(text, active)?;
-    add_counted(text, " is active, and waits for ", awaited, " entries")?;
+    let before = " is active, and waits for ";
+    add_count(text, before, u64::from(awaited), "entry", "entries")?;
     add_first(text, first)
 }
 
@@ -95,7 +96,8 @@ fn add_first(text: &mut String, first: &Option<Held>) -> Result<(), AllocError>
 fn add_wait(text: &mut String, awaited: u32, first: &Option<Held>) -> Result<(), AllocError>
     ensures { OnOk result (string_bytes text.new ≡ string_bytes text.old ++ wait_words awaited first.now) }
 {
-    add_counted(text, "the command waits for ", awaited, " entries")?;
+    let before = "the command waits for ";
+    add_count(text, before, u64::from(awaited), "entry", "entries")?;
     add_first(text, first)
 }
 

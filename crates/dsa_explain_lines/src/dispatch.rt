@@ -12,6 +12,7 @@ ghost use Rattle.dsa_explain_lines.specs.Sentences.{engine_sentence, front_words
 use crate::keeping::add_queue_keeping;
 use crate::words::{add_counted, add_counted_twice, add_no_engine, add_no_group, add_want};
 use dsa_device::Device;
+use dsa_event_words::{add_count, add_number};
 use dsa_explain::{EngineReason, QueueReason, engine_reason, queue_reason};
 use dsa_store::EntryStore;
 use std::alloc::AllocError;
@@ -50,7 +51,8 @@ pub fn add_queue_reason(
         QueueReason::Empty => add_counted(text, "q", u32::from(queue), " is empty"),
         QueueReason::NoSlot { used, slots } => {
             add_front(text, queue, name, " waits for a slot, of which ")?;
-            add_counted_twice(text, "", *used, " of ", u32::from(*slots), " are in use")
+            add_number(text, "", *used)?;
+            add_count(text, " of ", u64::from(*slots), "is in use", "are in use")
         }
         QueueReason::NoBuffers(want) => {
             add_front(text, queue, name, " ")?;

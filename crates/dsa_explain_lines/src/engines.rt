@@ -1,23 +1,30 @@
 //! What engines do not do with members and with entries in progress.
 
 ghost use Rattle.std.specs.Prelude.{◌≡◌, ◌++◌, OnOk, string_bytes};
-ghost use Rattle.dsa_explain_lines.specs.Sentences.{closed_words, failed_words, fetch_sentence, finish_sentence, start_sentence};
+ghost use Rattle.dsa_explain_lines.specs.Sentences.{closed_words, failed_words, fetch_sentence, fetched_words, finish_sentence, start_sentence};
 
-use crate::words::{
-    add_counted, add_counted_twice, add_list, add_no_engine, add_no_group, add_want,
-};
-use dsa_event_words::add_number;
+use crate::words::{add_counted, add_counted_twice, add_no_engine, add_no_group, add_want};
+use dsa_event_words::{add_count, add_list, add_number};
 use dsa_explain::{FetchReason, FinishReason, StartReason};
 use std::alloc::AllocError;
 
-fn closed_words(closed: bool) -> &'static str
-    ensures { result.now ≡ closed_words closed }
+// That the rest of a batch is abandoned, where the batch is closed.
+fn add_closed(text: &mut String, closed: bool) -> Result<(), AllocError>
+    ensures { OnOk result (string_bytes text.new ≡ string_bytes text.old ++ closed_words closed) }
 {
     if closed {
-        ", and the rest is abandoned"
+        text.push_str(", and the rest is abandoned")
     } else {
-        ""
+        Ok(())
     }
+}
+
+// How many members of its batch the engine has fetched.
+fn add_fetched(text: &mut String, engine: u16, fetched: u32, count: u32) -> Result<(), AllocError>
+    ensures { OnOk result (string_bytes text.new ≡ string_bytes text.old ++ fetched_words engine fetched count) }
+{
+    add_counted_twice(text, "e", u32::from(engine), " has fetched ", fetched, "")?;
+    add_count(text, " of ", u64::from(count), "member", "members")
 }
 
 /// Adds the sentence of why the engine fetches no member.
@@ -36,8 +43,8 @@ pub fn add_fetch_reason(
             fetched,
             closed,
         } => {
-            add_counted_twice(text, "", fetched, " of ", count, " members are fetched")?;
-            text.push_str(closed_words(closed))
+            add_fetched(text, engine, fetched, count)?;
+            add_closed(text, closed)
         }
     }
 }
@@ -73,7 +80,8 @@ pub fn add_start_reason(
         } => {
             add_counted(text, "member ", *member, " has a fence, ")?;
             add_failed(text, *failed)?;
-            add_counted(text, " before it failed, and ", *left, " end unstarted")
+            let (before, left) = (" before it failed, and ", u64::from(*left));
+            add_count(text, before, left, "ends unstarted", "end unstarted")
         }
         StartReason::NoBuffers(want) => {
             text.push_str("the member ")?;
@@ -103,10 +111,11 @@ pub fn add_finish_reason(
         }
         FinishReason::NotStarted => text.push_str("the member has not started"),
         FinishReason::MembersLeft { left } => {
-            add_counted(text, "", left, " members have not ended")
+            let (one, many) = ("member has not ended", "members have not ended");
+            add_count(text, "", u64::from(left), one, many)
         }
         FinishReason::StillToFetch { fetched, count } => {
-            add_counted_twice(text, "", fetched, " of ", count, " members are fetched")
+            add_fetched(text, engine, fetched, count)
         }
         FinishReason::DrainWaits { first } => add_counted(text, "the drain waits for ", first, ""),
     }

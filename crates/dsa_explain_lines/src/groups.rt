@@ -1,10 +1,10 @@
 //! What the check of Enable Device finds of groups.
 
 ghost use Rattle.std.specs.Prelude.{◌≡◌, ◌++◌, OnOk, string_bytes};
-ghost use Rattle.dsa_explain_lines.specs.Sentences.{bound_words, missing_words, name_words, names_words, outside_words, shared_words};
+ghost use Rattle.dsa_explain_lines.specs.Sentences.{bound_words, has_words, missing_words, name_words, outside_words, shared_words};
 
 use crate::words::{add_counted, add_counted_twice};
-use dsa_event_words::add_number;
+use dsa_event_words::{add_count, add_number};
 use dsa_explain::{Bound, Named};
 use std::alloc::AllocError;
 
@@ -18,13 +18,14 @@ fn add_name(text: &mut String, named: Named) -> Result<(), AllocError>
     }
 }
 
-// What of it there are so many.
-fn names_words(named: Named) -> &'static str
-    ensures { result.now ≡ names_words named }
+// How many queues or engines the device has.
+fn add_has(text: &mut String, named: Named, count: u16) -> Result<(), AllocError>
+    ensures { OnOk result (string_bytes text.new ≡ string_bytes text.old ++ has_words named count) }
 {
+    let (before, count) = (", and the device has ", u64::from(count));
     match named {
-        Named::Queue(_) => " queues",
-        Named::Engine(_) => " engines",
+        Named::Queue(_) => add_count(text, before, count, "queue", "queues"),
+        Named::Engine(_) => add_count(text, before, count, "engine", "engines"),
     }
 }
 
@@ -39,8 +40,7 @@ pub fn add_missing(
 {
     add_counted(text, "group ", u32::from(group), " names ")?;
     add_name(text, named)?;
-    let count = u32::from(count);
-    add_counted(text, ", and the device has ", count, names_words(named))
+    add_has(text, named, count)
 }
 
 /// Adds that two groups name it.
@@ -72,7 +72,7 @@ fn add_bound(text: &mut String, bound: Bound) -> Result<(), AllocError>
     }
 }
 
-/// Adds that the group may use so many read buffers, and the bound that this breaks.
+/// Adds how many read buffers the group may use, and the bound that this breaks.
 pub fn add_outside(
     text: &mut String,
     group: u16,
@@ -81,8 +81,9 @@ pub fn add_outside(
 ) -> Result<(), AllocError>
     ensures { OnOk result (string_bytes text.new ≡ string_bytes text.old ++ outside_words group allowed bound) }
 {
-    let (group, allowed) = (u32::from(group), u32::from(allowed));
-    let after = " read buffers, ";
-    add_counted_twice(text, "group ", group, " may use ", allowed, after)?;
+    add_number(text, "group ", u32::from(group))?;
+    let allowed = u64::from(allowed);
+    add_count(text, " may use ", allowed, "read buffer", "read buffers")?;
+    text.push_str(", ")?;
     add_bound(text, bound)
 }

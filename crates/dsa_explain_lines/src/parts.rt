@@ -7,7 +7,7 @@ ghost use Rattle.dsa_explain.specs.Submission.{submit_reason};
 ghost use Rattle.dsa_explain.specs.Command.{poll_reason};
 ghost use Rattle.dsa_explain.specs.Held.{awaited_entry};
 ghost use Rattle.dsa_explain.specs.Write.{clear_reason, write_group_reason, write_queue_reason};
-ghost use Rattle.dsa_explain_lines.specs.Sentences.{clear_sentence, counted, fetch_sentence, finish_sentence, poll_sentence, submit_sentence, write_sentence};
+ghost use Rattle.dsa_explain_lines.specs.Sentences.{clear_sentence, fetch_sentence, finish_sentence, poll_sentence, submit_sentence, write_sentence};
 ghost use Rattle.dsa_explain_lines.specs.Parts.{check_reason, event_part, issue_part, part_of, start_part, told_of};
 
 use crate::commands::{add_issue_reason, add_poll_reason};
@@ -19,6 +19,7 @@ use crate::submissions::add_submit_reason;
 use crate::writes::{add_clear_reason, add_write_reason};
 use dsa_book::{Event, Kind, Portal, Ticket};
 use dsa_device::Device;
+use dsa_event_words::add_count;
 use dsa_explain::{
     CheckReason, WriteReason, awaited_entry, check_device_reason, check_queue_reason, clear_reason,
     fetch_reason, finish_reason, issue_reason, poll_reason, start_reason, submit_reason,
@@ -26,7 +27,6 @@ use dsa_explain::{
 };
 use dsa_regs::{Command, Fault, Scope};
 use dsa_store::EntryStore;
-use itoa::Buffer;
 use std::alloc::AllocError;
 
 fn add_submit_part<S: EntryStore>(
@@ -130,16 +130,17 @@ fn add_poll_part<S: EntryStore>(text: &mut String, device: &Device<S>) -> Result
 // Why a configuration is refused, where it is.
 fn add_write_part(
     text: &mut String,
-    what: &str,
+    one: &str,
+    many: &str,
     reason: &Option<WriteReason>,
 ) -> Result<(), AllocError>
-    ensures { OnOk result (string_bytes text.new ≡ string_bytes text.old ++ told_of (write_sentence what.now) reason.now) }
+    ensures { OnOk result (string_bytes text.new ≡ string_bytes text.old ++ told_of (write_sentence one.now many.now) reason.now) }
 {
     let Some(reason) = reason else {
         return Ok(());
     };
     text.push_str(": ")?;
-    add_write_reason(text, what, reason)
+    add_write_reason(text, one, many, reason)
 }
 
 fn add_clear_part<S: EntryStore>(text: &mut String, device: &Device<S>) -> Result<(), AllocError>
@@ -174,22 +175,15 @@ pub fn add_event_part<S: EntryStore>(
         Event::Issue { command } => add_issue_part(text, device, command),
         Event::Poll => add_poll_part(text, device),
         Event::WriteQueue { queue, config } => {
-            add_write_part(text, "queues", &write_queue_reason(device, queue, &config))
+            let reason = write_queue_reason(device, queue, &config);
+            add_write_part(text, "queue", "queues", &reason)
         }
         Event::WriteGroup { group, .. } => {
-            add_write_part(text, "groups", &write_group_reason(device, group))
+            let reason = write_group_reason(device, group);
+            add_write_part(text, "group", "groups", &reason)
         }
         Event::ClearError => add_clear_part(text, device),
     }
-}
-
-fn add_large(text: &mut String, before: &str, number: u64, after: &str) -> Result<(), AllocError>
-    ensures { OnOk result (string_bytes text.new ≡ string_bytes text.old ++ counted before.now number after.now) }
-{
-    let mut buffer = Buffer::new();
-    text.push_str(before)?;
-    text.push_str(buffer.format(number))?;
-    text.push_str(after)
 }
 
 /// Adds why the device answers the event as it does, or why the word is refused.
@@ -206,12 +200,8 @@ pub fn add_part<S: EntryStore>(
         );
     };
     if device.is_full() {
-        return add_large(
-            text,
-            ": the history has room for ",
-            device.capacity(),
-            " steps",
-        );
+        let before = ": the history has room for ";
+        return add_count(text, before, device.capacity(), "step", "steps");
     }
     add_event_part(text, device, event)
 }

@@ -10,9 +10,8 @@ ghost use Rattle.dsa_explain_lines.specs.Sentences.{loss_head, loss_words, wait_
 ghost use Rattle.dsa_explain_lines.specs.Parts.{deed_part, losses_part, told_of};
 
 use crate::commands::add_wait_reason;
-use crate::words::add_list;
 use dsa_device::Device;
-use dsa_event_words::add_number;
+use dsa_event_words::{add_list, add_number};
 use dsa_explain::{is_removed, slots_of, wait_reason};
 use dsa_regs::{Command, Deed, ListUse, list_count};
 use dsa_store::EntryStore;

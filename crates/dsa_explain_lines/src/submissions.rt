@@ -3,9 +3,9 @@
 ghost use Rattle.std.specs.Prelude.{◌≡◌, ◌++◌, OnOk, string_bytes};
 ghost use Rattle.dsa_explain_lines.specs.Sentences.{at_limit_words, enabled_words, mode_words, submit_sentence};
 
-use crate::words::{add_counted, add_counted_twice, add_phase};
+use crate::words::{add_counted, add_phase};
 use dsa_book::Portal;
-use dsa_event_words::{add_number, portal_word};
+use dsa_event_words::{add_count, add_number, portal_word};
 use dsa_explain::SubmitReason;
 use dsa_regs::Phase;
 use std::alloc::AllocError;
@@ -47,8 +47,9 @@ fn add_limit(
 ) -> Result<(), AllocError>
     ensures { OnOk result (string_bytes text.new ≡ string_bytes text.old ++ at_limit_words queue occupancy limit portal) }
 {
-    let (place, held) = (u32::from(queue), u32::from(occupancy));
-    add_counted_twice(text, "q", place, " holds ", held, " entries, and the ")?;
+    add_number(text, "q", u32::from(queue))?;
+    add_count(text, " holds ", u64::from(occupancy), "entry", "entries")?;
+    text.push_str(", and the ")?;
     text.push_str(portal_word(portal))?;
     add_number(text, " portal goes up to ", u32::from(limit))
 }

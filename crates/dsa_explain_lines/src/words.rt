@@ -1,11 +1,11 @@
 //! What the sentences of several reasons have.
 
 ghost use Rattle.std.specs.Prelude.{◌≡◌, ◌++◌, OnOk, string_bytes};
-ghost use Rattle.dsa_explain_lines.specs.Sentences.{counted, counted_twice, list_words, no_engine, no_group, phase_word, phased, want_words};
+ghost use Rattle.dsa_explain_lines.specs.Sentences.{counted, counted_twice, no_engine, no_group, phase_word, phased, want_words};
 
-use dsa_event_words::add_number;
+use dsa_event_words::{add_count, add_number};
 use dsa_explain::BufferWant;
-use dsa_regs::{ListUse, Phase};
+use dsa_regs::Phase;
 use std::alloc::AllocError;
 
 /// Adds a text with a number in it.
@@ -55,17 +55,6 @@ pub fn add_phase(text: &mut String, before: &str, phase: Phase) -> Result<(), Al
     text.push_str(phase_word(phase))
 }
 
-/// Adds the words of a list.
-pub fn add_list(text: &mut String, list: ListUse) -> Result<(), AllocError>
-    ensures { OnOk result (string_bytes text.new ≡ string_bytes text.old ++ list_words list) }
-{
-    match list {
-        ListUse::Queue(queue) => add_number(text, "q", u32::from(queue)),
-        ListUse::Progress(engine) => add_number(text, "e", u32::from(engine)),
-        ListUse::Members(engine) => add_number(text, "the batch of e", u32::from(engine)),
-    }
-}
-
 /// Says that there is no such engine.
 pub fn add_no_engine(text: &mut String, engine: u16) -> Result<(), AllocError>
     ensures { OnOk result (string_bytes text.new ≡ string_bytes text.old ++ no_engine engine) }
@@ -84,11 +73,12 @@ pub fn add_no_group(text: &mut String, engine: u16) -> Result<(), AllocError>
 pub fn add_want(text: &mut String, want: &BufferWant) -> Result<(), AllocError>
     ensures { OnOk result (string_bytes text.new ≡ string_bytes text.old ++ want_words want.now) }
 {
-    let (asked, group) = (u32::from(want.asked), u32::from(want.group));
+    let (asked, kept) = (u64::from(want.asked), u64::from(want.kept));
     let (used, allowed) = (u32::from(want.used), u32::from(want.allowed));
     let buffers = u32::from(want.buffers);
-    add_counted_twice(text, "needs ", asked, " read buffers, group ", group, "")?;
+    add_count(text, "needs ", asked, "read buffer", "read buffers")?;
+    add_counted(text, ", group ", u32::from(want.group), "")?;
     add_counted_twice(text, " uses ", used, " of ", allowed, "")?;
     add_counted_twice(text, ", all groups use ", want.in_use, " of ", buffers, "")?;
-    add_counted(text, ", and ", want.kept, " are kept")
+    add_count(text, ", and ", kept, "is kept", "are kept")
 }

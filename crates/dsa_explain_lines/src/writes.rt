@@ -4,6 +4,7 @@ ghost use Rattle.std.specs.Prelude.{◌≡◌, ◌++◌, OnOk, string_bytes};
 ghost use Rattle.dsa_explain_lines.specs.Sentences.{clear_sentence, device_words, write_sentence};
 
 use crate::words::{add_counted, add_phase};
+use dsa_event_words::add_count;
 use dsa_explain::{ClearReason, WriteReason};
 use dsa_regs::Phase;
 use std::alloc::AllocError;
@@ -14,18 +15,18 @@ fn add_device(text: &mut String, phase: Phase) -> Result<(), AllocError>
     add_phase(text, "the device is ", phase)
 }
 
-/// Adds the sentence of why a configuration is refused: of `queues`, or of `groups`.
+/// Adds the sentence of why a configuration is refused: of a queue or of a group, named as `one` and as `many`.
 pub fn add_write_reason(
     text: &mut String,
-    what: &str,
+    one: &str,
+    many: &str,
     reason: &WriteReason,
 ) -> Result<(), AllocError>
-    ensures { OnOk result (string_bytes text.new ≡ string_bytes text.old ++ write_sentence what.now reason.now) }
+    ensures { OnOk result (string_bytes text.new ≡ string_bytes text.old ++ write_sentence one.now many.now reason.now) }
 {
     match *reason {
         WriteReason::BadIndex { count } => {
-            add_counted(text, "the device has ", u32::from(count), " ")?;
-            text.push_str(what)
+            add_count(text, "the device has ", u64::from(count), one, many)
         }
         WriteReason::LockedQueue { phase } => add_phase(text, "the queue is ", phase),
         WriteReason::LockedSize { phase, size } => {

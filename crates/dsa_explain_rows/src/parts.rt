@@ -92,18 +92,18 @@ pub fn checks()
 #[tactic(auto, unfolding(dsa_scenario::specs::Worked::digits_on_literals))]
 pub fn losses()
     ensures two { losses_part (codes ": ") ((list.Queue 0, 4 ∷ 7 ∷ []) ∷ (list.Progress 1, 2 ∷ []) ∷ []) ≡ codes ": q0 loses 4, 7; e1 loses 2" }
-    ensures three { losses_part (codes ": ") ((list.Queue 0, 4 ∷ []) ∷ (list.Queue 1, 5 ∷ []) ∷ (list.Members 0, 6 ∷ []) ∷ []) ≡ codes ": q0 loses 4; q1 loses 5; the batch of e0 loses 6" }
+    ensures three { losses_part (codes ": ") ((list.Queue 0, 4 ∷ []) ∷ (list.Queue 1, 5 ∷ []) ∷ (list.Members 0, 6 ∷ []) ∷ []) ≡ codes ": q0 loses 4; q1 loses 5; batch of e0 loses 6" }
     ensures none { losses_part (codes ": ") [] ≡ [] }
 {}
 
 /// A command that is carried out: what it removes, what it waits for, or nothing.
 #[tactic(auto, unfolding(dsa_scenario::specs::Worked::digits_on_literals))]
 pub fn deeds()
-    ensures abort { told_after (λ s. issue_part s AbortAll) (take 8 abort_of_all_lists) ≡ Some (codes ": q0 loses 5; q1 loses 4; e0 loses 0; e1 loses 2; the batch of e0 loses 1; the batch of e1 loses 3") }
+    ensures abort { told_after (λ s. issue_part s AbortAll) (take 8 abort_of_all_lists) ≡ Some (codes ": q0 loses 5; q1 loses 4; e0 loses 0; e1 loses 2; batch of e0 loses 1; batch of e1 loses 3") }
     ensures of_a_pasid { told_after (λ s. issue_part s (AbortPasid 5)) (take 4 abort_of_a_pasid) ≡ Some (codes ": q0 loses 0, 2") }
-    ensures reset { told_after (λ s. issue_part s (ResetWq (masked 2))) (take 8 abort_of_all_lists) ≡ Some (codes ": q1 loses 4; e1 loses 2; the batch of e1 loses 3") }
+    ensures reset { told_after (λ s. issue_part s (ResetWq (masked 2))) (take 8 abort_of_all_lists) ≡ Some (codes ": q1 loses 4; e1 loses 2; batch of e1 loses 3") }
     ensures abort_of_nothing { told_after (λ s. issue_part s AbortAll) [] ≡ Some [] }
-    ensures drain { told_after (λ s. issue_part s (DrainWq (masked 1))) (take 1 drain_of_a_queue) ≡ Some (codes ": the command waits for 1 entries, first for 0 in q0") }
+    ensures drain { told_after (λ s. issue_part s (DrainWq (masked 1))) (take 1 drain_of_a_queue) ≡ Some (codes ": the command waits for 1 entry, first for 0 in q0") }
     ensures disable { told_after (λ s. issue_part s DisableDevice) (take 8 abort_of_all_lists) ≡ Some (codes ": the command waits for 6 entries, first for 5 in q0") }
     ensures drain_of_nothing { told_after (λ s. issue_part s DrainAll) [] ≡ Some [] }
     ensures enable { told_from_first (λ s. issue_part s EnableDevice) (configured shared_queue dedicated_queue first_group second_group) ≡ Some [] }
@@ -112,7 +112,7 @@ pub fn deeds()
 /// A command that is refused removes nothing, whatever it would.
 #[tactic(auto, unfolding(dsa_scenario::specs::Worked::digits_on_literals))]
 pub fn refusals()
-    ensures busy { told_after (λ s. issue_part s AbortAll) (take 4 drain_of_a_queue) ≡ Some (codes ": drain-wq 0x1 is active, and waits for 1 entries, first for 0 in q0") }
+    ensures busy { told_after (λ s. issue_part s AbortAll) (take 4 drain_of_a_queue) ≡ Some (codes ": drain-wq 0x1 is active, and waits for 1 entry, first for 0 in q0") }
     ensures missing { told_after (λ s. issue_part s (EnableWq 9)) [] ≡ Some (codes ": the device has no q9") }
     ensures phase { told_from_first (λ s. issue_part s AbortAll) [] ≡ Some (codes ": the device is off") }
     ensures device { told_from_first (λ s. issue_part s EnableDevice) (configured shared_queue dedicated_queue first_group (record second_group { engines = 3 })) ≡ Some (codes ": e0 is in group 0 and in group 1") }
@@ -127,24 +127,25 @@ pub fn events()
     ensures kind { told [] (written 1 Limited (Enqcmd 5) no_op (Retry WrongKind)) ≡ Some (codes ": q1 is dedicated, and takes movdir") }
     ensures dropped { told (take 2 dedicated_queue_overflows) (movdir no_op (Dropped AtLimit)) ≡ Some (codes ": q1 holds 2 entries, and the limited portal goes up to 2") }
     ensures accepted { told [] (to_shared no_op 0 0) ≡ Some [] }
-    ensures fetch { told (take 5 fence_waits) (fetched 0 no_op AllFetched) ≡ Some (codes ": 3 of 3 members are fetched") }
+    ensures fetch { told (take 5 fence_waits) (fetched 0 no_op AllFetched) ≡ Some (codes ": e0 has fetched 3 of 3 members") }
     ensures fetch_on_the_other { told (take 5 fence_waits) (fetched 1 no_op AllFetched) ≡ Some (codes ": e1 works on no batch") }
     ensures finish_on_the_other { told (take 3 forged_tickets) (finished 1 (ticket 0 0) Gone) ≡ Some (codes ": the entry stands in e0") }
     ensures finish { told (take 5 old_ticket_is_gone) (finished 0 (ticket 0 0) Gone) ≡ Some (codes ": the cell of the ticket holds 1 by now") }
-    ensures poll { told (take 4 drain_of_a_queue) (polled poll.Active) ≡ Some (codes ": the command waits for 1 entries, first for 0 in q0") }
+    ensures poll { told (take 4 drain_of_a_queue) (polled poll.Active) ≡ Some (codes ": the command waits for 1 entry, first for 0 in q0") }
     ensures queue { told [] (queue_written 2 shared_queue (write.Refused BadIndex)) ≡ Some (codes ": the device has 2 queues") }
     ensures size { told (take 2 disable_with_a_queue_that_is_off) (queue_written 1 (record dedicated_queue { size = 1 }) (write.Refused Locked)) ≡ Some (codes ": the device is on, and the size stays 2") }
     ensures same_size { told (take 2 disable_with_a_queue_that_is_off) (queue_written 1 dedicated_queue write.Written) ≡ Some [] }
     ensures locked_group { told [] (group_written 1 first_group (write.Refused Locked)) ≡ Some (codes ": the device is on") }
     ensures group { told [] (group_written 2 first_group (write.Refused BadIndex)) ≡ Some (codes ": the device has 2 groups") }
     ensures clear { told [] (cleared clear.Nothing) ≡ Some (codes ": no error is noted") }
-    ensures issue { told (take 4 drain_of_a_queue) (issued DrainAll (issue.Refused Busy)) ≡ Some (codes ": drain-wq 0x1 is active, and waits for 1 entries, first for 0 in q0") }
+    ensures issue { told (take 4 drain_of_a_queue) (issued DrainAll (issue.Refused Busy)) ≡ Some (codes ": drain-wq 0x1 is active, and waits for 1 entry, first for 0 in q0") }
 {}
 
 /// A history without room comes before all else that is asked of a device, and a word that is no command before that.
 #[tactic(auto, unfolding(dsa_scenario::specs::Worked::digits_on_literals))]
 pub fn of_any()
     ensures room { room_part 12 ≡ codes ": the history has room for 12 steps" }
+    ensures room_for_one { room_part 1 ≡ codes ": the history has room for 1 step" }
     ensures full { part_of (running_at_first caps 0) (Ok event.Poll) ≡ codes ": the history has room for 0 steps" }
     ensures poll { part_of (running_at_first caps 1) (Ok event.Poll) ≡ codes ": no command is active" }
     ensures word { part_of (running_at_first caps 1) (Err BadCommand) ≡ codes ": no command has the number of the word, or one of its bits 30:25 is set" }

@@ -19,7 +19,7 @@ ghost use Rattle.dsa_explain.specs.declared.groups.Named.TheVariants as named;
 ghost use Rattle.dsa_explain.specs.declared.groups.Bound.TheVariants as bound;
 ghost use Rattle.dsa_explain.specs.declared.write.WriteReason.TheVariants as write;
 ghost use Rattle.dsa_explain.specs.declared.write.ClearReason.TheVariants as clear;
-ghost use Rattle.dsa_explain_lines.specs.Sentences.{check_sentence, clear_sentence, engine_sentence, fetch_sentence, finish_sentence, issue_sentence, kept_words, list_words, loss_words, phase_word, poll_sentence, queue_check_words, queue_sentence, start_sentence, submit_sentence, wait_sentence, write_sentence};
+ghost use Rattle.dsa_explain_lines.specs.Sentences.{check_sentence, clear_sentence, engine_sentence, fetch_sentence, finish_sentence, issue_sentence, kept_words, loss_words, phase_word, poll_sentence, queue_check_words, queue_sentence, start_sentence, submit_sentence, wait_sentence, write_sentence};
 ghost use Rattle.dsa_explain_rows.specs.Sentences.{held_at, some_want};
 
 /// Of a submission.
@@ -31,6 +31,7 @@ pub fn submissions()
     ensures dedicated { submit_sentence 3 (submit.WrongKind true) ≡ codes "q3 is dedicated, and takes movdir" }
     ensures shared { submit_sentence 1 (submit.WrongKind false) ≡ codes "q1 is shared, and takes enqcmd" }
     ensures limited { submit_sentence 0 (submit.AtLimit 3 2 Limited) ≡ codes "q0 holds 3 entries, and the limited portal goes up to 2" }
+    ensures one { submit_sentence 0 (submit.AtLimit 1 1 Limited) ≡ codes "q0 holds 1 entry, and the limited portal goes up to 1" }
     ensures unlimited { submit_sentence 5 (submit.AtLimit 16 16 Unlimited) ≡ codes "q5 holds 16 entries, and the unlimited portal goes up to 16" }
 {}
 
@@ -41,6 +42,8 @@ pub fn dispatches()
     ensures no_group { engine_sentence 1 engine.NoGroup ≡ codes "e1 is of no group" }
     ensures empty { queue_sentence 7 2 queue.Empty ≡ codes "q7 is empty" }
     ensures slots { queue_sentence 0 5 (queue.NoSlot 3 4) ≡ codes "q0's front 5 waits for a slot, of which 3 of 4 are in use" }
+    ensures one_slot { queue_sentence 0 5 (queue.NoSlot 1 1) ≡ codes "q0's front 5 waits for a slot, of which 1 of 1 is in use" }
+    ensures one_buffer { queue_sentence 1 2 (queue.NoBuffers (record some_want { asked = 1; kept = 1 })) ≡ codes "q1's front 2 needs 1 read buffer, group 3 uses 8 of 10, all groups use 12 of 16, and 1 is kept" }
     ensures buffers { queue_sentence 1 2 (queue.NoBuffers some_want) ≡ codes "q1's front 2 needs 4 read buffers, group 3 uses 8 of 10, all groups use 12 of 16, and 6 are kept" }
     ensures batch { queue_sentence 0 3 (queue.OtherBatch 1) ≡ codes "q0's front 3 is a batch, and the engine works on batch 1" }
     ensures drain { queue_sentence 2 3 (queue.OtherDrain 1) ≡ codes "q2's front 3 is a drain, and drain 1 is in progress on the engine" }
@@ -52,8 +55,8 @@ pub fn dispatches()
 pub fn fetches()
     ensures not_there { fetch_sentence 9 fetch.NoEngine ≡ codes "the device has no e9" }
     ensures no_batch { fetch_sentence 4 fetch.NoBatch ≡ codes "e4 works on no batch" }
-    ensures all { fetch_sentence 0 (fetch.AllFetched 2 2 false) ≡ codes "2 of 2 members are fetched" }
-    ensures abandoned { fetch_sentence 0 (fetch.AllFetched 3 1 true) ≡ codes "1 of 3 members are fetched, and the rest is abandoned" }
+    ensures all { fetch_sentence 0 (fetch.AllFetched 2 2 false) ≡ codes "e0 has fetched 2 of 2 members" }
+    ensures abandoned { fetch_sentence 0 (fetch.AllFetched 3 1 true) ≡ codes "e0 has fetched 1 of 3 members, and the rest is abandoned" }
 {}
 
 /// Of a member that does not start.
@@ -62,6 +65,7 @@ pub fn starts()
     ensures nothing { start_sentence 2 start.Nothing ≡ codes "no member waits on e2" }
     ensures fence { start_sentence 0 (start.Fence 3 1) ≡ codes "member 3 has a fence, and waits for 1" }
     ensures failed { start_sentence 0 (start.Failed 3 (Some 1) 2) ≡ codes "member 3 has a fence, member 1 before it failed, and 2 end unstarted" }
+    ensures one_left { start_sentence 0 (start.Failed 3 (Some 1) 1) ≡ codes "member 3 has a fence, member 1 before it failed, and 1 ends unstarted" }
     ensures one_failed { start_sentence 0 (start.Failed 3 None 2) ≡ codes "member 3 has a fence, one before it failed, and 2 end unstarted" }
     ensures buffers { start_sentence 0 (start.NoBuffers some_want) ≡ codes "the member needs 4 read buffers, group 3 uses 8 of 10, all groups use 12 of 16, and 6 are kept" }
     ensures no_group { start_sentence 5 start.NoGroup ≡ codes "e5 is of no group" }
@@ -75,10 +79,11 @@ pub fn ends()
     ensures other_name { finish_sentence 0 (finish.OtherName 4) ≡ codes "the cell of the ticket holds 4 by now" }
     ensures in_a_queue { finish_sentence 0 (finish.Elsewhere (Queue 2)) ≡ codes "the entry stands in q2" }
     ensures in_progress { finish_sentence 0 (finish.Elsewhere (Progress 1)) ≡ codes "the entry stands in e1" }
-    ensures among_members { finish_sentence 0 (finish.Elsewhere (Members 1)) ≡ codes "the entry stands in the batch of e1" }
+    ensures among_members { finish_sentence 0 (finish.Elsewhere (Members 1)) ≡ codes "the entry stands in batch of e1" }
     ensures not_started { finish_sentence 0 finish.NotStarted ≡ codes "the member has not started" }
     ensures members { finish_sentence 0 (finish.MembersLeft 2) ≡ codes "2 members have not ended" }
-    ensures to_fetch { finish_sentence 0 (finish.StillToFetch 1 2) ≡ codes "1 of 2 members are fetched" }
+    ensures one_member { finish_sentence 0 (finish.MembersLeft 1) ≡ codes "1 member has not ended" }
+    ensures to_fetch { finish_sentence 0 (finish.StillToFetch 1 2) ≡ codes "e0 has fetched 1 of 2 members" }
     ensures drain { finish_sentence 0 (finish.DrainWaits 7) ≡ codes "the drain waits for 7" }
 {}
 
@@ -86,7 +91,7 @@ pub fn ends()
 #[tactic(auto, unfolding(dsa_scenario::specs::Worked::digits_on_literals))]
 pub fn commands()
     ensures busy { issue_sentence None (Some (held_at (Queue 0) 4)) (issue.Busy DrainAll 2) ≡ codes "drain-all is active, and waits for 2 entries, first for 4 in q0" }
-    ensures in_progress { issue_sentence None (Some (held_at (Progress 1) 0)) (issue.Busy (DrainPasid 5) 1) ≡ codes "drain-pasid 5 is active, and waits for 1 entries, first for 0 in e1" }
+    ensures in_progress { issue_sentence None (Some (held_at (Progress 1) 0)) (issue.Busy (DrainPasid 5) 1) ≡ codes "drain-pasid 5 is active, and waits for 1 entry, first for 0 in e1" }
     ensures at_its_end { issue_sentence None None (issue.Busy DrainAll 0) ≡ codes "drain-all is active, and waits for 0 entries" }
     ensures missing { issue_sentence None None (issue.NoQueue (Some 9)) ≡ codes "the device has no q9" }
     ensures none_named { issue_sentence None None (issue.NoQueue None) ≡ codes "no queue is named" }
@@ -100,10 +105,9 @@ pub fn commands()
 #[tactic(auto, unfolding(dsa_scenario::specs::Worked::digits_on_literals))]
 pub fn waits()
     ensures nothing { poll_sentence None poll.Nothing ≡ codes "no command is active" }
-    ensures waits { poll_sentence (Some (held_at (Members 1) 4)) (poll.Waits 3) ≡ codes "the command waits for 3 entries, first for 4 in the batch of e1" }
+    ensures waits { poll_sentence (Some (held_at (Members 1) 4)) (poll.Waits 3) ≡ codes "the command waits for 3 entries, first for 4 in batch of e1" }
     ensures active { wait_sentence (record { awaited = 2; first = held_at (Queue 0) 1 }) ≡ codes "the command waits for 2 entries, first for 1 in q0" }
     ensures phases { map phase_word (Off ∷ On ∷ Stopping ∷ []) ≡ codes "off" ∷ codes "on" ∷ codes "stopping" ∷ [] }
-    ensures lists { map list_words (Queue 1 ∷ Progress 2 ∷ Members 3 ∷ []) ≡ codes "q1" ∷ codes "e2" ∷ codes "the batch of e3" ∷ [] }
 {}
 
 /// Of the groups, where the device is to be enabled.
@@ -111,6 +115,8 @@ pub fn waits()
 pub fn checks_of_groups()
     ensures missing_queue { check_sentence (check.NamesMissing 2 (named.Queue 3) 3) ≡ codes "group 2 names q3, and the device has 3 queues" }
     ensures missing_engine { check_sentence (check.NamesMissing 1 (named.Engine 63) 4) ≡ codes "group 1 names e63, and the device has 4 engines" }
+    ensures one_queue { check_sentence (check.NamesMissing 0 (named.Queue 1) 1) ≡ codes "group 0 names q1, and the device has 1 queue" }
+    ensures one_engine { check_sentence (check.NamesMissing 0 (named.Engine 1) 1) ≡ codes "group 0 names e1, and the device has 1 engine" }
     ensures sizes { check_sentence (check.SizesTooLarge 20 16) ≡ codes "the sizes of the queues are 20, of 16" }
     ensures shared_queue { check_sentence (check.TwoGroups (named.Queue 0) 1 2) ≡ codes "q0 is in group 1 and in group 2" }
     ensures shared_engine { check_sentence (check.TwoGroups (named.Engine 3) 0 1) ≡ codes "e3 is in group 0 and in group 1" }
@@ -118,6 +124,7 @@ pub fn checks_of_groups()
     ensures below_its_reserve { check_sentence (check.AllowedOutOfRange 2 7 (bound.Reserved 8)) ≡ codes "group 2 may use 7 read buffers, below the 8 that it reserves" }
     ensures above_the_rest { check_sentence (check.AllowedOutOfRange 2 13 (bound.Unreserved 12)) ≡ codes "group 2 may use 13 read buffers, above the 12 that others leave" }
     ensures below_need { check_sentence (check.AllowedOutOfRange 1 3 bound.Need) ≡ codes "group 1 may use 3 read buffers, below the 4 that a descriptor may need" }
+    ensures one_buffer { check_sentence (check.AllowedOutOfRange 1 1 bound.Need) ≡ codes "group 1 may use 1 read buffer, below the 4 that a descriptor may need" }
     ensures no_engine { check_sentence (check.GroupWithoutEngine 5) ≡ codes "group 5 has a queue and no engine" }
     ensures no_queue { check_sentence (check.GroupWithoutQueue 5) ≡ codes "group 5 has an engine and no queue" }
     ensures of_no_queue { queue_check_words (check.GroupWithoutQueue 5) ≡ [] }
@@ -141,17 +148,17 @@ pub fn checks_of_queues()
 pub fn losses()
     ensures one { loss_words (codes ": ") (Progress 0) (3 ∷ []) ≡ codes ": e0 loses 3" }
     ensures three { loss_words (codes "; ") (Queue 2) (4 ∷ 7 ∷ 12 ∷ []) ≡ codes "; q2 loses 4, 7, 12" }
-    ensures members { loss_words (codes ": ") (Members 1) (1 ∷ 2 ∷ []) ≡ codes ": the batch of e1 loses 1, 2" }
+    ensures members { loss_words (codes ": ") (Members 1) (1 ∷ 2 ∷ []) ≡ codes ": batch of e1 loses 1, 2" }
     ensures none { loss_words (codes ": ") (Queue 2) [] ≡ [] }
 {}
 
 /// Of a configuration that is not written, and of no error.
 #[tactic(auto, unfolding(dsa_scenario::specs::Worked::digits_on_literals))]
 pub fn writes()
-    ensures no_queue { write_sentence (codes "queues") (write.BadIndex 2) ≡ codes "the device has 2 queues" }
-    ensures no_group { write_sentence (codes "groups") (write.BadIndex 1) ≡ codes "the device has 1 groups" }
-    ensures queue { write_sentence (codes "queues") (write.LockedQueue Stopping) ≡ codes "the queue is stopping" }
-    ensures size { write_sentence (codes "queues") (write.LockedSize On 12) ≡ codes "the device is on, and the size stays 12" }
-    ensures group { write_sentence (codes "groups") (write.LockedGroup Stopping) ≡ codes "the device is stopping" }
+    ensures no_queue { write_sentence (codes "queue") (codes "queues") (write.BadIndex 2) ≡ codes "the device has 2 queues" }
+    ensures no_group { write_sentence (codes "group") (codes "groups") (write.BadIndex 1) ≡ codes "the device has 1 group" }
+    ensures queue { write_sentence (codes "queue") (codes "queues") (write.LockedQueue Stopping) ≡ codes "the queue is stopping" }
+    ensures size { write_sentence (codes "queue") (codes "queues") (write.LockedSize On 12) ≡ codes "the device is on, and the size stays 12" }
+    ensures group { write_sentence (codes "group") (codes "groups") (write.LockedGroup Stopping) ≡ codes "the device is stopping" }
     ensures clear { clear_sentence clear.NothingNoted ≡ codes "no error is noted" }
 {}

@@ -1,8 +1,7 @@
 //! Reads a scenario document from standard input, and writes its lines to standard output; with the word `threads`, runs
 //! workers in threads on one shared device, and writes their totals.
 //!
-//! The exit status is 0 where all was written, 1 on a fault, whose line goes to standard error, and 2 where the words of
-//! the command line are not understood.
+//! The exit status is 0 where all was written, 1 on a fault, whose line goes to standard error, and 2 on a usage error.
 #![tactic(auto)]
 
 use dsa_scenario::ScenarioFault;

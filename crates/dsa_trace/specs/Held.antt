@@ -1,17 +1,12 @@
 -- What is told of the entries that are held when the steps are over.
-use Rattle.std.specs.Prelude.{ℕ, List, ◌++◌, codes, decimal, flat_map}
+use Rattle.std.specs.Prelude.{ℕ, List, ◌++◌, flat_map}
 use Rattle.dsa_base.specs.Numbers.{numbers_below}
 use Rattle.dsa_regs.specs.declared.{Caps.{Caps}, layout.ListUse.{ListUse, TheVariants.{Queue, Progress, Members}}}
 use Rattle.dsa_store.specs.Content.{Slot, chain}
 use Rattle.dsa_book.specs.{State.{State}, Work.{in_progress, members}}
+use Rattle.dsa_event_words.specs.Words.{list_words}
 use Rattle.dsa_trace.specs.declared.form.{Trace.{Trace}, Part.TheVariants.{Held, InList, HeldEnd}}
 use Rattle.dsa_trace.specs.{Marks.{mark}, Columns.{marked}}
-
--- a list in words (profile)
-abbrev pub list_words : ListUse → List ℕ
-list_words (Queue queue) = codes "q" ++ decimal queue
-list_words (Progress engine) = codes "e" ++ decimal engine
-list_words (Members engine) = codes "batch of e" ++ decimal engine
 
 -- the name of an entry, and the list that it stands in (profile)
 abbrev pub held_line : Trace → ListUse → Slot → List ℕ

@@ -5,24 +5,14 @@ ghost use Rattle.dsa_base.specs.Numbers.{numbers_below};
 ghost use Rattle.dsa_regs.specs.declared.layout.ListUse.TheVariants as list;
 ghost use Rattle.dsa_regs.specs.Caps.{HasList};
 ghost use Rattle.dsa_store.specs.Content.{Slot};
-ghost use Rattle.dsa_trace.specs.Held.{held_in, held_line, held_lines, list_words, slots_of};
+ghost use Rattle.dsa_trace.specs.Held.{held_in, held_line, held_lines, slots_of};
 
 use crate::form::{Part, Trace, add_mark, add_marked};
 use dsa_device::Device;
-use dsa_event_words::add_number;
+use dsa_event_words::add_list;
 use dsa_regs::ListUse;
 use dsa_store::{Cell, Entry, EntryStore, Walk};
 use std::alloc::AllocError;
-
-fn add_list(text: &mut String, list: ListUse) -> Result<(), AllocError>
-    ensures { OnOk result (string_bytes text.new ≡ string_bytes text.old ++ list_words list) }
-{
-    match list {
-        ListUse::Queue(queue) => add_number(text, "q", u32::from(queue)),
-        ListUse::Progress(engine) => add_number(text, "e", u32::from(engine)),
-        ListUse::Members(engine) => add_number(text, "batch of e", u32::from(engine)),
-    }
-}
 
 fn add_slot(
     text: &mut String,

@@ -48,71 +48,64 @@ const MOST_EACH: u32 = 1_000;
 const MOST_TURNS: u32 = 40_000;
 
 const SCENARIO_HELP: &str = "\
-Without a command: reads one scenario, a JSON document, from standard input, runs its
-steps on a model of a device, and writes a line for each step and for each descriptor
-that ended.
+Without a command: what does the device answer to each step? Reads one scenario document
+(JSON) from standard input, makes its steps on a model of a device, and writes a line for
+each step and for each descriptor that ended.
 
-Exit status: 0 done, 1 a fault (its line goes to standard error), 2 these words are not
-understood.";
-
-const TRACE_HELP: &str = "\
-Reads one scenario, a JSON document, from standard input, runs its steps on a model of a
-device, and writes a line for each step: its number, what was asked, what was answered,
-and what the device shows after it. Then come the descriptors that are still held.
-
-Exit status: 0 done, 1 a fault (its line goes to standard error), 2 these words are not
-understood.";
+Exit status: 0 done, 1 a fault (its line goes to standard error), 2 a usage error.";
 
 const CHECK_HELP: &str = "\
-Reads one scenario, a JSON document, from standard input, and writes a line for each
-fault of it, with its place; no step is run. The fault that a run would tell goes to
-standard error.
+Reads one scenario document (JSON) from standard input, and writes a line for each fault,
+with its place. No step is made. The fault that a run would report goes to standard error.
 
-Exit status: 0 no fault, 1 a fault, 2 these words are not understood.";
+Exit status: 0 no fault, 1 a fault, 2 a usage error.";
 
 const EXPLAIN_HELP: &str = "\
-Reads one scenario, a JSON document, from standard input, runs its steps on a model of a
-device, and writes a line for each step: its number, what was asked, what was answered,
-and why, where that was not the plain success.
+Reads one scenario document (JSON) from standard input, makes its steps on a model of a
+device, and writes a line for each step: its number, the event and the answer, and the
+reason where the device turned the step down or the step has to wait.
 
-Exit status: 0 done, 1 a fault (its line goes to standard error), 2 these words are not
-understood.";
+Exit status: 0 done, 1 a fault (its line goes to standard error), 2 a usage error.";
+
+const TRACE_HELP: &str = "\
+Reads one scenario document (JSON) from standard input, makes its steps on a model of a
+device, and writes a line for each step: its number, the event, the answer, and what the
+device shows after it. A line follows for each entry that the device still holds.
+
+Exit status: 0 done, 1 a fault (its line goes to standard error), 2 a usage error.";
 
 const DRAW_HELP: &str = "\
-Reads one scenario, a JSON document, from standard input, runs its steps on a model of a
+Reads one scenario document (JSON) from standard input, makes its steps on a model of a
 device, and writes a drawing of the run, as SVG.
 
-Exit status: 0 done, 1 a fault (its line goes to standard error), 2 these words are not
-understood.";
+Exit status: 0 done, 1 a fault (its line goes to standard error), 2 a usage error.";
 
 const CONFORM_HELP: &str = "\
-Reads one scenario, a JSON document, from standard input, whose steps also have what
-another device was seen to answer: the text \"answer\", as the line of the step with or
-without its name, or \"zf\", the zero flag that ENQCMD left. The model follows where that
-is allowed. Where it is not, the step is told, with all answers that are allowed.
+Reads one scenario document (JSON) from standard input. Its steps also have what another
+device was seen to answer: \"answer\", the line of the step with or without the name of the
+entry, or \"zf\", the zero flag that ENQCMD left. The model follows as long as the rules
+allow these answers. At the first step where they do not, the program writes the step and
+all answers that they allow.
 
-Exit status: 0 all of it is allowed, 1 it is not, or a fault (its line goes to standard
-error), 2 these words are not understood.";
+Exit status: 0 all answers are allowed, 1 one is not, or a fault (its line goes to
+standard error), 2 a usage error.";
 
 const SERVE_HELP: &str = "\
-Reads one scenario from the first line of standard input, a JSON document in one line,
-and then a step in each line. Each is run as it comes, on one model of a device, and
-answered with its line before the next is read. A line that is no step is answered with
-its fault, and changes nothing. At the end of input a line follows for each descriptor
-that ended.
+Reads one scenario document (JSON) from the first line of standard input, and then a step
+from each line. Each step is made as it comes, on one model of a device, and answered with
+its line before the next is read. A line that is no step is answered with its fault, and
+changes nothing. At the end of input comes a line for each descriptor that ended.
 
-Exit status: 0 done, 1 a fault (its line goes to standard error), 2 these words are not
-understood.";
+Exit status: 0 done, 1 a fault (its line goes to standard error), 2 a usage error.";
 
 const THREADS_HELP: &str = "\
 Reads nothing. Clients, engines and an administrator share one device, each in a thread
 of its own. Each client submits Moves of 4096 bytes to one queue, the engines take and
-end them, and the administrator sets the device up. Then all of them are settled, and
-seven lines are written: accepted, fetched, retried, done, lost and held, each with its
-number, and balanced, since accepted + fetched = done + lost + held.
+end them, and the administrator sets the device up. At the end seven lines are written:
+accepted, fetched, retried, done, lost and held, each with its number, and balanced, since
+accepted + fetched = done + lost + held.
 
-Exit status: 0 done, 1 a fault (its line goes to standard error), 2 these words are not
-understood.";
+Exit status: 0 done, 1 a fault (its line goes to standard error), 2 a usage error.";
 
 // An option that takes a number from 1 to `most`.
 fn number_option<'a>(
@@ -139,7 +132,7 @@ fn threads_command<'a>(alloc: Global) -> Result<Command<'a>, AllocError>
     ensures local { IfOk result (λ c. (fields_of c).has_globals ≡ false) }
 {
     Command::new(alloc, "threads")
-        .about("Runs clients and engines in threads on one shared device, and writes totals")
+        .about("Do the totals balance where threads share one device?")
         .after_help(THREADS_HELP)
         .arg(number_option(
             alloc,
@@ -187,7 +180,7 @@ fn trace_command<'a>(alloc: Global) -> Result<Command<'a>, AllocError>
     ensures local { IfOk result (λ c. (fields_of c).has_globals ≡ false) }
 {
     Command::new(alloc, "trace")
-        .about("Runs a scenario, and writes what the device shows after each step")
+        .about("What does the device hold after each step?")
         .after_help(TRACE_HELP)
         .arg(flag(alloc, "json", "Write a JSON object in each line"))
 }
@@ -211,7 +204,7 @@ fn check_command<'a>(alloc: Global) -> Command<'a>
     ensures app { app_of result ≡ new_app (codes "check") }
     ensures local { (fields_of result).has_globals ≡ false }
 {
-    let about = "Judges a scenario without running it, and writes each fault with its place";
+    let about = "What is wrong with the document, and where?";
     plain_command(alloc, "check", about, CHECK_HELP)
 }
 
@@ -219,7 +212,7 @@ fn explain_command<'a>(alloc: Global) -> Command<'a>
     ensures app { app_of result ≡ new_app (codes "explain") }
     ensures local { (fields_of result).has_globals ≡ false }
 {
-    let about = "Runs a scenario, and writes why each step was answered as it was";
+    let about = "Why was each step answered as it was?";
     plain_command(alloc, "explain", about, EXPLAIN_HELP)
 }
 
@@ -227,7 +220,7 @@ fn draw_command<'a>(alloc: Global) -> Command<'a>
     ensures app { app_of result ≡ new_app (codes "draw") }
     ensures local { (fields_of result).has_globals ≡ false }
 {
-    let about = "Runs a scenario, and writes a drawing of the run";
+    let about = "What does the whole run look like?";
     plain_command(alloc, "draw", about, DRAW_HELP)
 }
 
@@ -235,7 +228,7 @@ fn conform_command<'a>(alloc: Global) -> Command<'a>
     ensures app { app_of result ≡ new_app (codes "conform") }
     ensures local { (fields_of result).has_globals ≡ false }
 {
-    let about = "Says whether what another device was seen to answer is allowed";
+    let about = "May a device answer as another one was seen to answer?";
     plain_command(alloc, "conform", about, CONFORM_HELP)
 }
 
@@ -243,7 +236,7 @@ fn serve_command<'a>(alloc: Global) -> Command<'a>
     ensures app { app_of result ≡ new_app (codes "serve") }
     ensures local { (fields_of result).has_globals ≡ false }
 {
-    let about = "Runs a scenario and then a step a line, each answered as it comes";
+    let about = "What does the device answer to my next step?";
     plain_command(alloc, "serve", about, SERVE_HELP)
 }
 

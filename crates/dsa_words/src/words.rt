@@ -37,7 +37,7 @@ const DONE: u8 = 0;
 /// The exit status of a fault.
 const FAILED: u8 = 1;
 
-/// The exit status of words that are not understood.
+/// The exit status of a usage error.
 const REFUSED: u8 = 2;
 
 // Writes the line of a fault, and gives the exit status.
@@ -263,7 +263,7 @@ fn show<O: Write, E: Write>(
 /// and answers each before it reads on. Help goes to `out`.
 ///
 /// The status is 0 where all of it was written, and 1 on a fault, whose line goes to `err` unless nobody reads `out` any
-/// more. It is 2 where the words are not understood, and `err` gets what `clap` says of them.
+/// more. It is 2 on a usage error, and `err` gets what `clap` says of it.
 pub fn answer_words<T: Threads + Wait + Sync, R: Read, O: Write, E: Write>(
     rt: &T,
     alloc: Global,
@@ -311,7 +311,7 @@ pub fn answer_words<T: Threads + Wait + Sync, R: Read, O: Write, E: Write>(
         × (is_closed out.new ≡ false → has_refused err.new ≡ false → Appends (watched_contents E.contents err.old)
         (watched_contents E.contents err.new) (fault_line fault)) }
 
-    // Words that are not understood.
+    // A usage error.
     ensures refused { result ≡ 2 → (out.new ≡ out.old) × (reader.new ≡ reader.old) }
     ensures mistake { result ≡ 2 → IsMistaken (map string_bytes words.now) }
     ensures quiet { result ≡ 0 → err.new ≡ err.old }
@@ -371,7 +371,7 @@ pub fn run_words<T: Threads + Wait + Sync, R: Read, O: Write, E: Write>(
         × ((fault ≡ ScenarioFault.OutOfMemory) × (out.new ≡ out.old)
         ⊎ IsStopped fault (R.remaining reader.old) (R.remaining reader.new) (O.contents out.old) (O.contents out.new)) }
 
-    // Words that are not understood.
+    // A usage error.
     ensures refused { result ≡ 2 → (out.new ≡ out.old) × (reader.new ≡ reader.old) }
     ensures mistake { result ≡ 2 → IsMistaken (map string_bytes words.now) }
     ensures quiet { result ≡ 0 → err.new ≡ err.old }

@@ -1,9 +1,7 @@
 use Rattle.dsa_check.proofs.report.add_reason.Goals as goal
-use Rattle.std.proofs.Common.{arith}
-use Rattle.std.proofs.lemmas.Grind.{common_steps}
 
 pub returns-in-OddDigits : goal.returns-in-OddDigits
-returns-in-OddDigits = grind (arith, common_steps)
+returns-in-OddDigits c = rw c.in-OddDigits.is c.add_digits.ensures
 
 pub returns-in-ManyDigits : goal.returns-in-ManyDigits
-returns-in-ManyDigits = grind (arith, common_steps)
+returns-in-ManyDigits c = rw c.in-ManyDigits.is c.add_digits-in-ManyDigits.ensures

@@ -11,9 +11,9 @@ pub returns-in-Fence : goal.returns-in-Fence
 returns-in-Fence c = rw c.in-Fence.is c.add_counted_twice.ensures
 
 pub returns-in_ok-add_failed-in-Failed : goal.returns-in_ok-add_failed-in-Failed
-returns-in_ok-add_failed-in-Failed c = rw c.in-Failed.is (on_ok_weaker c.add_counted-in-Failed-2.result
-    (λ e. behind_two _ _ _ _ _ _ _ c.in_ok-add_counted-in-Failed.ensures c.in_ok-add_failed-in-Failed.ensures e)
-    c.add_counted-in-Failed-2.ensures)
+returns-in_ok-add_failed-in-Failed c = rw c.in-Failed.is (on_ok_weaker c.add_count.result
+    (λ e. behind_two _ _ _ _ _ _ _ c.in_ok-add_counted-in-Failed.ensures c.in_ok-add_failed-in-Failed.ensures
+    (rw c.from-left.ensures at e)) c.add_count.ensures)
 
 pub returns-in_ok-push_str-in-NoBuffers : goal.returns-in_ok-push_str-in-NoBuffers
 returns-in_ok-push_str-in-NoBuffers = grind (arith, common_steps)
