@@ -125,15 +125,22 @@ keep() { # KIND STAMP FOLDER
     find "$kept" -maxdepth 1 -name '*.lock' -mtime +7 -delete
 }
 
-# Keeps the program that was proved in a copy whose sources had this sum when its proof began.
+# Keeps the program that was proved in a copy whose sources had this sum when its proof began. A
+# toolchain that kept the proof does not write the object again, which ./release asks for, so the
+# object that is kept already stays.
 keep_proved() { # COPY SOURCES-SUM IDENTITY
-    local folder
+    local folder stamp earlier
     folder=$(mktemp -d)
+    stamp=$(stamp_of "$2" "$3")
     cp "$1/crates/dsa_run/out/dsa_run" "$folder/"
-    cp "$1/crates/dsa_run/out/dsa_run.o" "$folder/" 2>/dev/null || true # ./release asks for it
+    if [ -f "$1/crates/dsa_run/out/dsa_run.o" ]; then
+        cp "$1/crates/dsa_run/out/dsa_run.o" "$folder/"
+    elif earlier=$(find_kept proved "$stamp") && [ -f "$earlier/dsa_run.o" ]; then
+        cp "$earlier/dsa_run.o" "$folder/"
+    fi
     echo "$2" >"$folder/sources"
     echo "$3" >"$folder/toolchain"
-    keep proved "$(stamp_of "$2" "$3")" "$folder"
+    keep proved "$stamp" "$folder"
     rm -rf "$folder"
 }
 

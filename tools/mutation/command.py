@@ -15,25 +15,25 @@ from .trial import Trial, say
 
 TOP = pathlib.Path(__file__).resolve().parent.parent.parent
 
-USAGE = """usage: tools/mutants [--anew] [--whole] [--unturned]
+USAGE = """usage: tools/mutants [--anew] [--whole] [--baseline]
                      [--libraries FOLDER [--while LOG]] [CRATE]...
 """
 
 HELP = (
     USAGE
     + """
-Tries mutants: functions with a wrong body. Each is written as an edit of the code, in a file
-crates/CRATE/must-fail/NAME.edit, and the prover has to refuse it. If it proves one, a contract says
-too little. Without CRATE, the mutants of all crates are tried.
+Tries mutants: functions with a wrong body, which the prover has to refuse. If it proves one, a
+contract says too little. A mutant is a file crates/CRATE/must-fail/NAME.edit, which says what to
+change in the code. Without CRATE, the mutants of all crates are tried.
 
 The last line is 'N passed, M failed'. The exit status is 0 where all mutants were refused, 1 where
 one was not or could not be tried, and 2 where the arguments are not understood.
 
 options:
   --anew              also try mutants that were refused before on this machine
-  --whole             ask for all goals of a function, not only for the goal that its edit names
-  --unturned          change nothing, and show that each function, or the goal that its edit names,
-                      is proved then, so that its refusal comes from the change. For 'new goal' all
+  --whole             ask for all goals of a function, not only for the goal that a mutant names
+  --baseline          change nothing, and show that the functions and goals that the mutants name
+                      are proved then, so that a refusal comes from the change. For 'new goal' all
                       goals are asked for
   --libraries FOLDER  use the libraries that 'rt ci' has built in FOLDER, a copy of the repository.
                       By default they are built here, where they have changed
@@ -42,7 +42,7 @@ options:
                       'rt ci' has ended
   -h, --help          print this text
 
-The lines of an edit:
+The lines of a mutant's file:
   file: PATH          the file that the next lines change, below the crate's src
   old: TEXT           a text that occurs once in that file
   new: TEXT           what replaces it. More lines 'old:' and 'new:' may follow, each for the text
@@ -63,13 +63,13 @@ How to write one:
   which says little of the contract and is reported.
 
   Name the goal. If several goals fail, take the one that the change breaks: another may fail only
-  because its answer names what is gone. Then run 'tools/mutants --unturned CRATE'. If it does not
+  because its answer names what is gone. Then run 'tools/mutants --baseline CRATE'. If it does not
   prove the goal, write 'new goal:', or allow more steps in a line 'steps:'.
 
   A change in no function, as of a constant, is tried on the whole crate, which takes long. Change
   the function that reads the constant, or name it in a line 'refuses:'.
 
-  After an old text has changed, 'rt check' in the crate's folder names the edits that no longer
+  After an old text has changed, 'rt check' in the crate's folder names the mutants that no longer
   apply.
 
 How mutants are tried:
@@ -88,13 +88,13 @@ How mutants are tried:
 What is reported of a mutant:
   refused             as it must be
   NOT REFUSED         the whole crate is proved with it
-  BAD EDIT            its lines are not understood, do not apply or change nothing, or the checker
+  BAD MUTANT            its lines are not understood, do not apply or change nothing, or the checker
                       cannot read the new text. The rest of the line says which
   NOT TRIED           a library below its crate is not proved
-  proved, NOT PROVED  with --unturned: whether its function is proved without the change
+  proved, NOT PROVED  with --baseline: whether its function is proved without the change
 
   A refusal is kept in the user's cache. The mutant is not tried again until one of these changes:
-  the sources of its crate or of a crate below it, its edit, this program or the toolchain.
+  the sources of its crate or of a crate below it, its file, this program or the toolchain.
 """
 )
 
@@ -109,7 +109,7 @@ class Parser(argparse.ArgumentParser):
 
 def parser() -> Parser:
     found = Parser(prog="mutants", allow_abbrev=False)
-    for option in ("--anew", "--whole", "--unturned"):
+    for option in ("--anew", "--whole", "--baseline"):
         found.add_argument(option, action="store_true")
     found.add_argument("--libraries", type=pathlib.Path)
     found.add_argument("--while", type=pathlib.Path, dest="log")
@@ -120,7 +120,7 @@ def parser() -> Parser:
 def trials_of(given: argparse.Namespace, toolchain: Toolchain) -> Optional[List[Trial]]:
     """The trials of the crates that have mutants, lowest first. None where a library below one is
     not built."""
-    options = Options(given.unturned, given.whole, given.anew)
+    options = Options(given.baseline, given.whole, given.anew)
     own = {it.name: it for it in toolchain.crates(TOP)}
     program, trials = sum_of_program(), []
     for crate in toolchain.crates(given.libraries or TOP):
@@ -166,7 +166,7 @@ def main(words: List[str]) -> int:
     trials = trials_of(given, toolchain)
     if trials is None:
         return 1
-    checker = Checker(toolchain, given.unturned)
+    checker = Checker(toolchain, given.baseline)
     results = Lanes(trials, Libraries(given.log), checker).run()
     for name, seconds in checker.seconds.items():
         say(f"{name}: {len(seconds)} runs of the checker, {sum(seconds):.0f} processor seconds")

@@ -1,4 +1,4 @@
-"""The file of a mutant: which text it replaces, and what is said of how it is refused."""
+"""The file of a mutant, NAME.edit: what it replaces, and what is said of how it is refused."""
 from __future__ import annotations
 
 import re
@@ -13,8 +13,8 @@ LINE = re.compile(r"(file|old|new|goal|new goal|steps|clause|refuses):(?: (.*))?
 ONCE = ("goal", "steps", "clause", "refuses")
 
 
-class BadEdit(Exception):
-    """Why an edit cannot be tried."""
+class BadMutant(Exception):
+    """Why a mutant cannot be tried."""
 
 
 @dataclass(frozen=True)
@@ -37,7 +37,7 @@ class Edit:
 
 
 def read_edit(text: str) -> Edit:
-    """Reads the lines of an edit. Raises BadEdit with the first line that is wrong."""
+    """Reads the lines of a mutant's file. Raises BadMutant with the first line that is wrong."""
     edit = Edit()
     file: Optional[str] = None
     old: Optional[str] = None
@@ -45,12 +45,12 @@ def read_edit(text: str) -> Edit:
     for number, line in enumerate(text.splitlines(), 1):
         found = LINE.fullmatch(line)
         if not found:
-            raise BadEdit(f"line {number} is not understood: {line[:80]}")
+            raise BadMutant(f"line {number} is not understood: {line[:80]}")
         key, value = found[1], found[2] or ""
         if not value.strip() and key != "new":
-            raise BadEdit(f"line {number} says nothing after '{key}:'")
+            raise BadMutant(f"line {number} says nothing after '{key}:'")
         if (old is not None) != (key == "new"):
-            raise BadEdit(f"line {number}: a line 'new:' comes right after each line 'old:'")
+            raise BadMutant(f"line {number}: a line 'new:' comes right after each line 'old:'")
         if key == "file":
             file = value.strip()
         elif key == "old":
@@ -61,31 +61,31 @@ def read_edit(text: str) -> Edit:
         else:
             note_once(edit, key, value.strip(), number, seen)
     if old is not None:
-        raise BadEdit("its last line 'old:' has no line 'new:'")
+        raise BadMutant("its last line 'old:' has no line 'new:'")
     if not edit.changes:
-        raise BadEdit("it has no lines 'old:' and 'new:'")
+        raise BadMutant("it has no lines 'old:' and 'new:'")
     if "steps" in seen and (not edit.goal or edit.is_new_goal):
-        raise BadEdit("a line 'steps:' goes with a line 'goal:'")
+        raise BadMutant("a line 'steps:' goes with a line 'goal:'")
     return edit
 
 
 def needed(text: Optional[str], number: int) -> str:
     if text is None:
-        raise BadEdit(f"line {number}: a line 'file:' has to come before this one")
+        raise BadMutant(f"line {number}: a line 'file:' has to come before this one")
     return text
 
 
 def note_once(edit: Edit, key: str, value: str, number: int, seen: Set[str]) -> None:
-    """Notes what is said of the whole edit, and so only once."""
+    """Notes what is said of the whole mutant, and so only once."""
     kind = "goal" if key == "new goal" else key
     if kind in seen:
-        raise BadEdit(f"line {number}: it has two lines '{kind}:'")
+        raise BadMutant(f"line {number}: it has two lines '{kind}:'")
     seen.add(kind)
     if kind == "goal":
         edit.goal, edit.is_new_goal = value, key == "new goal"
     elif kind == "steps":
         if not re.fullmatch("[1-9][0-9]{0,8}", value):
-            raise BadEdit(f"line {number}: the steps are a number from 1 to 999999999")
+            raise BadMutant(f"line {number}: the steps are a number from 1 to 999999999")
         edit.steps = int(value)
     elif kind == "clause":
         edit.clause = value

@@ -1,11 +1,11 @@
-"""A mutant: what an edit makes of its crate, and how it can be tried."""
+"""A mutant: what its file makes of its crate, and how it can be tried."""
 from __future__ import annotations
 
 import pathlib
 from dataclasses import dataclass
 from typing import Dict, List, Optional, Set
 
-from .edit import BadEdit, Change, Edit, read_edit
+from .edit import BadMutant, Change, Edit, read_edit
 from .source import FUNCTION, Source, Span, with_one_clause
 
 # The checker leaves the goals open that have no answer.
@@ -16,12 +16,12 @@ NO_SEARCH = "#[tactic(none)]\n"
 class Options:
     """What is tried: without the changes, all goals of a function, and what was refused before."""
 
-    unturned: bool = False
+    is_baseline: bool = False
     whole: bool = False
     anew: bool = False
 
     def tries_all(self) -> bool:
-        return self.unturned or self.whole or self.anew
+        return self.is_baseline or self.whole or self.anew
 
 
 @dataclass
@@ -34,7 +34,7 @@ class Copy:
 
 
 class Mutant:
-    """Raises BadEdit where its edit cannot be tried."""
+    """Raises BadMutant where it cannot be tried."""
 
     def __init__(self, path: pathlib.Path, source: Source, options: Options) -> None:
         self.label, self.crate = label_of(path), source.crate
@@ -59,15 +59,15 @@ class Mutant:
         if self.copy:
             return
         if self.clause:
-            raise BadEdit("a line 'clause:' needs a function that can be copied")
+            raise BadMutant("a line 'clause:' needs a function that can be copied")
         if self.goal and (self.functions != {first} or first not in source.proofs):
-            raise BadEdit(
+            raise BadMutant(
                 "a line 'goal:' needs a first change in the function that is refused, "
                 "and one whose proof can be found"
             )
 
     def make_copy(self, source: Source, options: Options) -> None:
-        """Makes a changed copy of the function, where it has all that the edit changes."""
+        """Makes a changed copy of the function, where it has all that the mutant changes."""
         first = self.changes[0]
         at = source.texts[first.file].find(first.old) + len(first.old)
         span = source.span_at(first.file, at)
@@ -75,13 +75,13 @@ class Mutant:
         for change in self.changes:
             if change.file != first.file or text.count(change.old) != 1:
                 return
-            text = text if options.unturned else text.replace(change.old, change.new)
+            text = text if options.is_baseline else text.replace(change.old, change.new)
         if not span:
             return
         if self.clause:
             promised = with_one_clause(text, self.clause)
             if promised is None:
-                raise BadEdit(f"its function has no clause {self.clause}")
+                raise BadMutant(f"its function has no clause {self.clause}")
             text = promised
         name = source.next_copy_of(span.function)
         text = FUNCTION.sub(lambda it: it[0][: -len(it[2])] + name, text, count=1)
@@ -89,7 +89,7 @@ class Mutant:
         self.functions = {f"{span.function.rpartition('::')[0]}::{name}"}
 
     def ask_all_goals(self) -> None:
-        """The goal that the edit names is proved, so its next run asks for all goals."""
+        """The goal that the mutant names is proved, so its next run asks for all goals."""
         self.goal = None
         if self.copy:
             self.copy.text = self.copy.text.partition("\n")[2]
@@ -104,7 +104,7 @@ def label_of(path: pathlib.Path) -> str:
 
 
 def goal_of(edit: Edit, options: Options) -> Optional[str]:
-    is_missing = options.unturned and edit.is_new_goal
+    is_missing = options.is_baseline and edit.is_new_goal
     return None if options.whole or is_missing else edit.goal
 
 
@@ -116,12 +116,12 @@ def is_named(function: str, name: Optional[str]) -> bool:
 def without_search(text: str) -> str:
     head = FUNCTION.search(text)
     if not head or "#[tactic" in text[: head.start()]:
-        raise BadEdit("a line 'goal:' needs a function without an attribute 'tactic'")
+        raise BadMutant("a line 'goal:' needs a function without an attribute 'tactic'")
     return f"{head[1]}{NO_SEARCH}{text}"
 
 
 def changed_functions(changes: List[Change], source: Source) -> List[Optional[str]]:
-    """The function that each change is in, or None. Raises BadEdit where a change cannot be made,
+    """The function that each change is in, or None. Raises BadMutant where a change cannot be made,
     and where nothing is changed in the end."""
     before: Dict[str, str] = {it.file: text_of(it.file, source) for it in changes}
     texts, functions = dict(before), []
@@ -129,15 +129,15 @@ def changed_functions(changes: List[Change], source: Source) -> List[Optional[st
         file, old = change.file, change.old
         count = texts[file].count(old)
         if count != 1:
-            raise BadEdit(f"its old text occurs {count} times in {file}, not once: {old[:80]}")
+            raise BadMutant(f"its old text occurs {count} times in {file}, not once: {old[:80]}")
         at = texts[file].find(old) + len(old)
         is_code = file in source.texts
         functions.append(source.function_at(file, texts[file], at) if is_code else None)
         texts[file] = texts[file].replace(old, change.new)
     if any(it.old == it.new for it in changes):
-        raise BadEdit("it changes nothing: an old and its new text are the same")
+        raise BadMutant("it changes nothing: an old and its new text are the same")
     if texts == before:
-        raise BadEdit("it changes nothing: its changes cancel out")
+        raise BadMutant("it changes nothing: its changes cancel out")
     return functions
 
 
@@ -145,5 +145,5 @@ def text_of(file: str, source: Source) -> str:
     path = source.folder / file
     is_within = pathlib.PurePath(file).parts[:1] in (("src",), ("specs",), ("proofs",))
     if not is_within or ".." in path.parts or not path.is_file():
-        raise BadEdit(f"its crate has no file {file} below src, specs or proofs")
+        raise BadMutant(f"its crate has no file {file} below src, specs or proofs")
     return source.texts.get(file) or path.read_text(encoding="utf-8")

@@ -26,15 +26,15 @@ def sum_of(parts: object) -> str:
 
 
 class Refusals:
-    """The refusals of one crate's mutants: under the name of each edit, a sum of all that it rested
-    on: the sources of the crate and of those below, the edit, this program and the toolchain."""
+    """The refusals of one crate's mutants: under the name of each file, a sum of all that it rested
+    on: the sources of the crate and of those below, the file, this program and the toolchain."""
 
     def __init__(self, crate: str, stamps: Sequence[str], program: str) -> None:
         self.folder = cache_folder() / crate
         self.stamps, self.program = tuple(stamps), program
 
-    def sum_for(self, edit: pathlib.Path) -> str:
-        return sum_of((self.stamps, edit.read_bytes(), self.program))
+    def sum_for(self, file: pathlib.Path) -> str:
+        return sum_of((self.stamps, file.read_bytes(), self.program))
 
     def has(self, name: str, wanted: str) -> bool:
         kept = self.folder / name

@@ -23,9 +23,9 @@ HOLE = "pub left_open {ℓ} : {A : Type ℓ} → A\nleft_open = ?\n"
 
 class Room:
     def __init__(
-        self, folder: pathlib.Path, source: Source, parts: Sequence[str], unturned: bool
+        self, folder: pathlib.Path, source: Source, parts: Sequence[str], is_baseline: bool
     ) -> None:
-        self.folder, self.source, self.unturned = folder, source, unturned
+        self.folder, self.source, self.is_baseline = folder, source, is_baseline
         for part in parts:
             if (source.folder / part).is_dir():
                 shutil.copytree(source.folder / part, folder / part)
@@ -109,7 +109,7 @@ class Room:
                 if at == -1:  # it replaces what an earlier change of the same mutant puts there
                     later.append(change)
                     continue
-                new = change.old if self.unturned else change.new
+                new = change.old if self.is_baseline else change.new
                 parts.setdefault(change.file, []).append((at, at + len(change.old), new))
             if mutant in by_goal:
                 parts[mutant.changes[0].file].append(self.no_search_at(mutant.changes[0]))
@@ -118,7 +118,7 @@ class Room:
             for begin, end, new in sorted(places, reverse=True):
                 text = text[:begin] + new + text[end:]
             for change in later:
-                if change.file == file and not self.unturned:
+                if change.file == file and not self.is_baseline:
                     text = text.replace(change.old, change.new)
             self.write(file, text)
 

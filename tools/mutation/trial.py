@@ -8,7 +8,7 @@ import threading
 from typing import Dict, List, NamedTuple, Optional, Sequence, Set
 
 from .checker import Checker
-from .edit import BadEdit
+from .edit import BadMutant
 from .mutant import Mutant, Options, label_of
 from .refusals import Refusals
 from .source import Source
@@ -39,40 +39,40 @@ class Outcome(NamedTuple):
     text: str
 
 
-UNTURNED_PROVED = Outcome(True, "proved without its change")
-UNTURNED_REFUSED = Outcome(False, "NOT PROVED without its change, so its refusal says nothing")
+BASELINE_PROVED = Outcome(True, "proved without its change")
+BASELINE_REFUSED = Outcome(False, "NOT PROVED without its change, so its refusal says nothing")
 
 
 class Trial:
-    """Reads a crate's edits. Its method run tries them."""
+    """Reads a crate's mutants. Its method run tries them."""
 
     def __init__(
         self, crate: Crate, folder: pathlib.Path, refusals: Refusals, options: Options
     ) -> None:
         self.crate, self.source = crate, Source(folder)
         self.refusals, self.options = refusals, options
-        self.edits = sorted((folder / "must-fail").glob("*.edit"))
+        self.files = sorted((folder / "must-fail").glob("*.edit"))
         self.paths: Dict[Mutant, pathlib.Path] = {}
-        self.sums: Dict[pathlib.Path, str] = {it: refusals.sum_for(it) for it in self.edits}
+        self.sums: Dict[pathlib.Path, str] = {it: refusals.sum_for(it) for it in self.files}
         self.bad: Dict[pathlib.Path, str] = {}
-        for path in self.edits:
+        for path in self.files:
             try:
                 self.paths[Mutant(path, self.source, options)] = path
-            except (BadEdit, UnicodeDecodeError) as fault:
+            except (BadMutant, UnicodeDecodeError) as fault:
                 self.bad[path] = str(fault)
         self.results: List[bool] = []
 
     def run(self, checker: Checker) -> List[bool]:
         """Tries the mutants, each run of the checker over what those before it found out."""
         for path, fault in self.bad.items():
-            self.report(path, Outcome(False, f"BAD EDIT: {fault}"))
+            self.report(path, Outcome(False, f"BAD MUTANT: {fault}"))
         left = self.without_refused()
         with tempfile.TemporaryDirectory(prefix="dsa-mutants-") as kept:
             takes_many = True
             while left:
                 some = next_together(left, self) if takes_many else left[:1]
                 # Keeping takes a run a while, and is of use only to a later one.
-                is_last = len(self.results) + len(some) == len(self.edits)
+                is_last = len(self.results) + len(some) == len(self.files)
                 over = None if is_last and not os.listdir(kept) else kept
                 by_goal = [it for it in some if it.goal]
                 known = self.outcomes(checker, some, over)
@@ -95,7 +95,7 @@ class Trial:
         }
         if before:
             say(
-                f"{self.crate.name}: {len(before)} of {len(self.edits)} were refused before on "
+                f"{self.crate.name}: {len(before)} of {len(self.files)} were refused before on "
                 "this machine, and nothing that they rest on has changed"
             )
         self.results += [True] * len(before)
@@ -103,12 +103,12 @@ class Trial:
 
     def report(self, path: pathlib.Path, outcome: Outcome) -> None:
         say(f"{label_of(path)}: {outcome.text}")
-        if outcome.is_right and not self.options.unturned:
+        if outcome.is_right and not self.options.is_baseline:
             self.refusals.keep(path.name, self.sums[path])
         self.results.append(outcome.is_right)
 
     def give_up(self, why: str) -> List[bool]:
-        for path in self.edits:
+        for path in self.files:
             self.report(path, Outcome(False, f"NOT TRIED: {why}"))
         return self.results
 
@@ -142,8 +142,8 @@ class Trial:
         said: Sequence[str],
         is_single: bool,
     ) -> Optional[Outcome]:
-        if self.options.unturned:
-            return UNTURNED_PROVED if verdicts == {Verdict.PROVED} else UNTURNED_REFUSED
+        if self.options.is_baseline:
+            return BASELINE_PROVED if verdicts == {Verdict.PROVED} else BASELINE_REFUSED
         if Verdict.REFUSED in verdicts:
             return Outcome(True, f"refused{note_of(mutant, said)}")
         if is_single and not mutant.goal and Verdict.LIMIT in verdicts:
@@ -155,12 +155,12 @@ class Trial:
         said = checker.check_crate(self.crate, self.source, mutant, over)
         bad = first_unreadable(said)
         if bad:
-            return Outcome(False, f"BAD EDIT: the changed text cannot be read: {bad[:200]}")
+            return Outcome(False, f"BAD MUTANT: the changed text cannot be read: {bad[:200]}")
         is_proved = said[-1].startswith("logic=proved")
         if not is_proved and not said[-1].startswith("logic=not-proved"):
-            return Outcome(False, f"BAD EDIT: {fault_of(said[-1])}: {said[-1][:200]}")
-        if self.options.unturned:
-            return UNTURNED_PROVED if is_proved else UNTURNED_REFUSED
+            return Outcome(False, f"BAD MUTANT: {fault_of(said[-1])}: {said[-1][:200]}")
+        if self.options.is_baseline:
+            return BASELINE_PROVED if is_proved else BASELINE_REFUSED
         if is_proved:
             return Outcome(False, "NOT REFUSED: the crate is still proved")
         by = ", ".join(refused_functions(said)[:3])
@@ -182,7 +182,7 @@ def next_together(mutants: Sequence[Mutant], trial: Trial) -> List[Mutant]:
         # Where a goal of a function is tried alone, the function is not proved, and so nothing that
         # calls it. Where nothing is changed, both have to be.
         others = [it for it in some if not it.copy]
-        if trial.options.unturned and any(bool(it.goal) != bool(mutant.goal) for it in others):
+        if trial.options.is_baseline and any(bool(it.goal) != bool(mutant.goal) for it in others):
             continue
         some.append(mutant)
         functions |= mutant.changed

@@ -1,7 +1,7 @@
 -- A history accepts and fetches as many entries as have a fate row or are held.
 use Rattle.std.{proofs.Common.{◌≡◌, ◌+◌, cond, List, Some, sym, ap, ◌∙◌, arith}, specs.Prelude.{count_by, is_none}}
 use Rattle.dsa_regs.specs.{declared.Caps.{Caps}, Caps.{list_count}}
-use Rattle.dsa_store.{specs.Content.{Slot, all_held}, proofs.Sums.{held-counted}}
+use Rattle.dsa_store.{specs.Content.{HeldEntry, all_held}, proofs.Sums.{held-counted}}
 use Rattle.dsa_book.specs.declared.{answer.Reply.{Reply}, fate.FateRow.{FateRow}, event.{Event.{Event}, Step.{Step}}}
 use Rattle.dsa_book.specs.{Totals.{is_accepted, total_accepted, total_fetched}, State.{State, opening}}
 use Rattle.dsa_book.{specs.Machine.{next, replay}, proofs.Replay.{replay-adds}}
@@ -9,7 +9,7 @@ use Rattle.dsa_laws.proofs.Histories.{well_formed-change, well_formed-opening, r
 use Rattle.dsa_laws.proofs.{Changes.{next-change, next-tells}, Contents.{all_held-empty}}
 use Rattle.dsa_laws.specs.WellFormed.{IsWellFormed}
 use Rattle.dsa_accounts.proofs.{Totals.{replay-names}, Accounts.{change-entries, parts}}
-use Rattle.dsa_accounts.specs.Accounts.{is_submitted_slot, submitted_entries, member_entries}
+use Rattle.dsa_accounts.specs.Accounts.{is_submitted_entry, submitted_entries, member_entries}
 
 -- each step adds a submission where it accepts one
 next-account : (caps : Caps) (s s' : State) (event : Event) (reply : Reply) → IsWellFormed caps s
@@ -21,7 +21,7 @@ next-account caps s s' event reply w h =
     (sym told.accepted)
 
 none-at-first : (caps : Caps) → submitted_entries (opening caps).work ≡ 0
-none-at-first caps = let e = ap (λ (xs : List Slot). count_by is_submitted_slot xs)
+none-at-first caps = let e = ap (λ (xs : List HeldEntry). count_by is_submitted_entry xs)
     (all_held-empty (list_count caps)) in omega (arith, e)
 
 pub replay-accepted : (caps : Caps) (h : List Step) (s : State) → replay caps h ≡ Some s
@@ -44,6 +44,6 @@ replay-fetched caps h s e = omega (
   (replay-well_formed caps h s e).names.counted,
   replay-accepted caps h s e,
   parts (λ (row : FateRow). row.parent) s.work.fates,
-  parts (λ (slot : Slot). slot.1.parent) (all_held s.work.content),
+  parts (λ (pair : HeldEntry). pair.1.parent) (all_held s.work.content),
   held-counted s.work.content,
 )

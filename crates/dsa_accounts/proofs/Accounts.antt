@@ -3,7 +3,7 @@ use Rattle.std.proofs.Common.{◌≡◌, ℕ, ◌+◌, ◌<◌, Bool, cond, List
 use Rattle.std.proofs.{lemmas.List.Sums.{sum_by-cons, count_by-le-length}, Common.{arith}}
 use Rattle.std.specs.Prelude.{sum_by, count_by, is_some, is_none}
 use Rattle.dsa_regs.specs.declared.Caps.{Caps}
-use Rattle.dsa_store.{specs.Content.{Slot, Content, all_held, after_push}, proofs.Sums.{sum-pushed}}
+use Rattle.dsa_store.{specs.Content.{HeldEntry, Content, all_held, after_push}, proofs.Sums.{sum-pushed}}
 use Rattle.dsa_book.specs.{Machine.{with_intake, intake_of}, declared.fate.FateRow.{FateRow}, Submit.{after_accept}}
 use Rattle.dsa_book.specs.{Work.{member_list, after_fetch}, State.{Work, State}}
 use Rattle.dsa_laws.proofs.{Shapes.{on-queue, noted-engine, queue_list-in}, Flows.{flow-change, rows-counted, IsFlow}}
@@ -13,23 +13,23 @@ use Rattle.dsa_laws.{specs.{Change.{Change}, WellFormed.{HasShape, CellsOnce}}, 
 
 -- how many entries have a fate row or are held, among those whose parent passes
 abbrev pub entries_with : (Option ℕ → Bool) → Work → ℕ
-entries_with p w = count_by (λ row. p row.parent) w.fates + count_by (λ slot. p slot.1.parent) (all_held w.content)
+entries_with p w = count_by (λ row. p row.parent) w.fates + count_by (λ pair. p pair.1.parent) (all_held w.content)
 
-abbrev weight : (Option ℕ → Bool) → Slot → ℕ
-weight p slot = cond (p slot.1.parent) 1 0
+abbrev weight : (Option ℕ → Bool) → HeldEntry → ℕ
+weight p pair = cond (p pair.1.parent) 1 0
 
 -- what is gone is counted by its row, and what moved or began to run as before
 account-flow : (p : Option ℕ → Bool) (caps : Caps) (w w' : Work) (flow : IsFlow caps w w')
-    → entries_with p w' ≡ entries_with p w + count_by (λ slot. p slot.1.parent) flow.came
+    → entries_with p w' ≡ entries_with p w + count_by (λ pair. p pair.1.parent) flow.came
 account-flow p caps w w' flow =
-    let sums = flow.sums (weight p) (λ slot. refl) in
+    let sums = flow.sums (weight p) (λ pair. refl) in
     let test : FateRow → Bool = λ row. p row.parent in
     let rows = ap (λ (rows : List FateRow). count_by test rows) flow.fates
     ∙ rows-counted test w.fates flow.fate flow.gone in
     omega (arith, sums, rows)
 
 -- what comes is counted where its parent passes
-entered : (p : Option ℕ → Bool) (w w' : Work) (k : ℕ) (x : Slot) → k < length w.content
+entered : (p : Option ℕ → Bool) (w w' : Work) (k : ℕ) (x : HeldEntry) → k < length w.content
     → w'.content ≡ after_push w.content k x.0 x.1 → w'.fates ≡ w.fates
     → entries_with p w' ≡ entries_with p w + count_by p (x.1.parent ∷ [])
 entered p w w' k x inside content fates = omega (
@@ -83,7 +83,7 @@ change-entries p caps s s' h once c =
         omega (
           arith,
           account-flow p caps s.work s'.work flow,
-          count_by-le-length (λ (slot : Slot). p slot.1.parent) flow.came,
+          count_by-le-length (λ (pair : HeldEntry). p pair.1.parent) flow.came,
           flow.next,
           names,
         )

@@ -7,7 +7,7 @@ use Rattle.std.specs.Prelude.{count_by}
 use Rattle.dsa_base.proofs.{Lists.{In-front, In-find, get_or-replicated}, Counts.{In-counted, count-none, count-cons}}
 use Rattle.dsa_base.{proofs.NumberLists.{get_or-each, get_or-past}, specs.Lists.{In}}
 use Rattle.dsa_regs.specs.{declared.Caps.{Caps}, Caps.{list_count}}
-use Rattle.dsa_store.specs.Content.{Slot, chain, all_held, without_front}
+use Rattle.dsa_store.specs.Content.{HeldEntry, chain, all_held, without_front}
 use Rattle.dsa_book.specs.Machine.{replay}
 use Rattle.dsa_book.specs.Work.{after_abandon, after_end, fate_row, after_fetch, last_status, member_list, members}
 use Rattle.dsa_book.specs.declared.fate.{Fate.{Fate, TheVariants.{Completed, Aborted, Abandoned}}, FateRow.{FateRow}}
@@ -20,24 +20,25 @@ use Rattle.dsa_laws.specs.{Lists.{EachAt}, Change.{Change}, WellFormed.{IsWellFo
 use Rattle.dsa_accounts.proofs.Accounts.{entries_with, change-entries}
 use Rattle.dsa_accounts.proofs.NotedBatches.{is_of-parent, parent-is_of, noted, noted-place, noted-once, noted-left}
 use Rattle.dsa_accounts.proofs.NotedBatches.{member-engine, unnoted, IsUnnoted}
-use Rattle.dsa_accounts.specs.BatchCounts.{is_of, was_completed, was_aborted, members_ended, members_abandoned, AddsUp}
+use Rattle.dsa_accounts.specs.BatchCounts.{is_of_batch, was_completed, was_aborted, members_ended, members_abandoned}
+use Rattle.dsa_accounts.specs.BatchCounts.{AddsUp}
 use Rattle.dsa_accounts.specs.{BatchCounts.{members_aborted}, Accounts.{was_abandoned}}
 
 -- ---- rows
 
 -- how many members of the batch have a fate or are held
 abbrev pub members_of : Work → ℕ → ℕ
-members_of w batch = entries_with (is_of batch) w
+members_of w batch = entries_with (is_of_batch batch) w
 
 -- each member has one of three fates
 fates-counted : (batch : ℕ) (rows : List FateRow)
-    → let such : (Fate → Bool) → ℕ = λ test. count_by (λ row. test row.fate && is_of batch row.parent) rows in
-    count_by (λ row. is_of batch row.parent) rows ≡ such was_completed + such was_abandoned + such was_aborted
+    → let such : (Fate → Bool) → ℕ = λ test. count_by (λ row. test row.fate && is_of_batch batch row.parent) rows in
+    count_by (λ row. is_of_batch batch row.parent) rows ≡ such was_completed + such was_abandoned + such was_aborted
 fates-counted batch [] = refl
 fates-counted batch (row ∷ rows) = omega (
   arith,
   sum_by-cons,
-  each row.fate (is_of batch row.parent),
+  each row.fate (is_of_batch batch row.parent),
   fates-counted batch rows,
 )
   where
@@ -48,21 +49,21 @@ fates-counted batch (row ∷ rows) = omega (
     each (Aborted number) b = omega arith
 
 -- the rows that a step adds
-rows-more : (such : Fate → Bool) (w w' : Work) (fate : Fate) (xs : List Slot) (batch : ℕ)
+rows-more : (such : Fate → Bool) (w w' : Work) (fate : Fate) (xs : List HeldEntry) (batch : ℕ)
     → w'.fates ≡ w.fates ++ map (fate_row fate) xs → members_ended such w' batch
-    ≡ members_ended such w batch + count_by (λ slot. such fate && is_of batch slot.1.parent) xs
+    ≡ members_ended such w batch + count_by (λ pair. such fate && is_of_batch batch pair.1.parent) xs
 rows-more such w w' fate xs batch e =
-    let test : FateRow → Bool = λ row. such row.fate && is_of batch row.parent in
+    let test : FateRow → Bool = λ row. such row.fate && is_of_batch batch row.parent in
     ap (λ (rows : List FateRow). count_by test rows) e ∙ rows-counted test w.fates fate xs
 
 -- rows of another end, and those of entries that are not of the batch, are not counted
-pub rows-apart : (such : Fate → Bool) (w w' : Work) (fate : Fate) (xs : List Slot) (batch : ℕ)
-    → ((x : Slot) → In x xs → (such fate && is_of batch x.1.parent) ≡ false)
+pub rows-apart : (such : Fate → Bool) (w w' : Work) (fate : Fate) (xs : List HeldEntry) (batch : ℕ)
+    → ((x : HeldEntry) → In x xs → (such fate && is_of_batch batch x.1.parent) ≡ false)
     → w'.fates ≡ w.fates ++ map (fate_row fate) xs → members_ended such w' batch ≡ members_ended such w batch
 rows-apart such w w' fate xs batch apart e = omega (
   arith,
   rows-more such w w' fate xs batch e,
-  count-none (λ (slot : Slot). such fate && is_of batch slot.1.parent) xs apart,
+  count-none (λ (pair : HeldEntry). such fate && is_of_batch batch pair.1.parent) xs apart,
 )
 
 -- ---- what a note counts
@@ -98,10 +99,10 @@ alike all abandoned aborted h = record {
 }
 
 -- where the new rows are not of the batch, or of another end
-ended : {w w' : Work} {batch fetched : ℕ} {closed : Bool} (fate : Fate) (xs : List Slot)
+ended : {w w' : Work} {batch fetched : ℕ} {closed : Bool} (fate : Fate) (xs : List HeldEntry)
     → w'.fates ≡ w.fates ++ map (fate_row fate) xs
-    → ((x : Slot) → In x xs → (was_abandoned fate && is_of batch x.1.parent) ≡ false)
-    → ((x : Slot) → In x xs → (was_aborted fate && is_of batch x.1.parent) ≡ false)
+    → ((x : HeldEntry) → In x xs → (was_abandoned fate && is_of_batch batch x.1.parent) ≡ false)
+    → ((x : HeldEntry) → In x xs → (was_aborted fate && is_of_batch batch x.1.parent) ≡ false)
     → members_of w' batch ≡ members_of w batch → Counts w batch fetched closed → Counts w' batch fetched closed
 ended {w} {w'} {batch} fate xs e abandoned aborted all h = alike {w = w} {w' = w'} all
     (rows-apart was_abandoned w w' fate xs batch abandoned e) (rows-apart was_aborted w w' fate xs batch aborted e) h
@@ -118,7 +119,7 @@ fresh w batch none = let three = fates-counted batch w.fates in record {
 -- what holds of each note, and of each name that is no noted batch's
 pub record CountsMembers (w : Work) : Type 0 where
   pub notes : (e : ℕ) (n : BatchNote) → note_at w e ≡ Some n → CountsNote w n
-  pub queued : (q : ℕ) (x : Slot) → q < w.setup.caps.queues → In x (chain w.content q) → members_of w x.1.name ≡ 0
+  pub queued : (q : ℕ) (x : HeldEntry) → q < w.setup.caps.queues → In x (chain w.content q) → members_of w x.1.name ≡ 0
   pub not_given : (name : ℕ) → w.setup.next_name ≤ name → members_of w name ≡ 0
 
 -- ---- notes that are set
@@ -162,7 +163,7 @@ stays false o n h = (refl, h)
 
 -- as many members of each batch as there were, and what came in
 abbrev Adds : Work → List (Option ℕ) → Work → Type 0
-Adds w xs w' = (batch : ℕ) → members_of w' batch ≡ members_of w batch + count_by (is_of batch) xs
+Adds w xs w' = (batch : ℕ) → members_of w' batch ≡ members_of w batch + count_by (is_of_batch batch) xs
 
 notes-change : (caps : Caps) (s s' : State) → IsWellFormed caps s → CountsMembers s.work → Change s s'
     → (j : ℕ) (n : BatchNote) → note_at s'.work j ≡ Some n → CountsNote s'.work n
@@ -189,7 +190,8 @@ notes-change caps s s' w counts c = by_count (λ xs k w'. Adds s.work xs w' → 
     (λ (o : ◌≡◌ {A = Option BatchNote} (Some more) (Some n)). subst (CountsNote after) (same_Some more n o) (
     let old = counts.notes c.engine c.note c.is_note in
     let all = same c.note.batch in
-    let own = count-cons (is_of c.note.batch) (Some c.note.batch) [] true (eq-eqb c.note.batch c.note.batch refl) in
+    let own = count-cons (is_of_batch c.note.batch) (Some c.note.batch) [] true
+    (eq-eqb c.note.batch c.note.batch refl) in
     let before = old.all in
     record {
       all = omega (arith, all, own, before);
@@ -198,7 +200,8 @@ notes-change caps s s' w counts c = by_count (λ xs k w'. Adds s.work xs w' → 
       none_aborted = old.none_aborted;
     }))
     (λ old.
-    let other = count-cons (is_of n.batch) (Some c.note.batch) [] false (false_from_ne_true (c.note.batch == n.batch)
+    let other = count-cons (is_of_batch n.batch) (Some c.note.batch) [] false
+    (false_from_ne_true (c.note.batch == n.batch)
     (λ t. old.0 (noted-once w j c.engine n c.note old.1 c.is_note (sym (eqb-true c.note.batch n.batch t))))) in
     alike (omega (arith, all, other)) refl refl (counts.notes j n old.1))
     (note-cases s.work.notes c.engine j (Some more) n h))
@@ -209,23 +212,23 @@ notes-change caps s s' w counts c = by_count (λ xs k w'. Adds s.work xs w' → 
     ⊎_elim
     (λ o. mapped (CountsNote after) (λ note. record note { closed = true }) (note_at s.work c.engine) n o (λ m is.
     let old = counts.notes c.engine m is in
-    let slot = (In-find _ c.slot gone c.is_first).0 in
-    let one = In-counted (λ (slot : Slot). is_of m.batch slot.1.parent) c.slot gone slot
-    (parent-is_of m.batch c.slot.1.parent ((noted w c.engine (Some m) is).parents c.slot slot)) in
+    let pair = (In-find _ c.pair gone c.is_first).0 in
+    let one = In-counted (λ (pair : HeldEntry). is_of_batch m.batch pair.1.parent) c.pair gone pair
+    (parent-is_of m.batch c.pair.1.parent ((noted w c.engine (Some m) is).parents c.pair pair)) in
     record {
       all = none (same m.batch) ∙ old.all;
       unclosed = λ no. absurd cc;
       closed = λ yes. omega (arith, rows-more was_abandoned s.work after Abandoned gone m.batch refl, one);
       none_aborted = rows-apart was_aborted s.work after Abandoned gone m.batch (λ x i. refl) refl ∙ old.none_aborted;
     }))
-    (λ old. ended {w = s.work} Abandoned gone refl (λ x i. false_from_ne_true (is_of n.batch x.1.parent)
+    (λ old. ended {w = s.work} Abandoned gone refl (λ x i. false_from_ne_true (is_of_batch n.batch x.1.parent)
     (λ t. old.0 (sym (member-engine w c.engine j n x old.1 i (is_of-parent n.batch x.1.parent t)))))
     (λ x i. refl) (none (same n.batch)) (counts.notes j n old.1))
     (note-cases s.work.notes c.engine j _ n h))
     (λ c same j n h.
     let keep : (j : ℕ) (n : BatchNote) → note_at s.work j ≡ Some n
-    → CountsNote (after_end s.work c.engine c.slot c.outcome) n = λ j n is.
-    ended {w = s.work} (Completed (last_status s.work c.engine c.slot c.outcome)) (c.slot ∷ []) refl (λ x i. refl)
+    → CountsNote (after_end s.work c.engine c.pair c.outcome) n = λ j n is.
+    ended {w = s.work} (Completed (last_status s.work c.engine c.pair c.outcome)) (c.pair ∷ []) refl (λ x i. refl)
     (λ x i. refl) (none (same n.batch)) (counts.notes j n is) in
     ⊎_elim (λ o. failed _ _ _ (note_at s.work c.engine) n o (keep c.engine)) (λ old. keep j n old.1)
     (note-cases s.work.notes c.engine j _ n h))
@@ -235,18 +238,19 @@ notes-change caps s s' w counts c = by_count (λ xs k w'. Adds s.work xs w' → 
     ⊎_elim
     (λ inside.
     let old = stays _ _ n (sym (get_or-each note s.work.setup.caps.engines j None inside) ∙ h) in
-    ended {w = s.work} (Aborted c.number) (filter (λ slot. is_in_scope c.scope slot.1) (all_held s.work.content)) refl
+    ended {w = s.work} (Aborted c.number) (filter (λ pair. is_in_scope c.scope pair.1) (all_held s.work.content)) refl
     (λ x i. refl) (λ x i. noted-left w j n c.scope x old.1 old.0 i) (none (same n.batch)) (counts.notes j n old.1))
     (λ past. absurd (none-some n (sym (get_or-past note s.work.setup.caps.engines j None past) ∙ h)))
     (cases_lt j s.work.setup.caps.engines))
-    (λ batch. change-entries (is_of batch) caps s s' w.shape w.cells c)
+    (λ batch. change-entries (is_of_batch batch) caps s s' w.shape w.cells c)
   where
     none : {m n : ℕ} → m ≡ n + 0 → m ≡ n
     none e = omega (arith, e)
 
     unended : (such : Fate → Bool) (batch : ℕ) → s'.work.fates ≡ s.work.fates
         → members_ended such s'.work batch ≡ members_ended such s.work batch
-    unended such batch = ap (λ (rows : List FateRow). count_by (λ row. such row.fate && is_of batch row.parent) rows)
+    unended such batch = ap (λ (rows : List FateRow). count_by (λ row. such row.fate && is_of_batch batch row.parent)
+        rows)
 
 -- ---- names that are not a noted batch's
 
@@ -258,9 +262,9 @@ IsUnused w name = (members_of w name ≡ 0) × IsUnnoted w name
 pub members-change : (caps : Caps) (s s' : State) (name : ℕ) → IsWellFormed caps s → Change s s'
     → IsUnnoted s.work name → members_of s'.work name ≡ members_of s.work name
 members-change caps s s' name w c apart =
-    let all = change-entries (is_of name) caps s s' w.shape w.cells c in
-    let none = by_count (λ xs k w'. count_by (is_of name) xs ≡ 0) s s' c (λ e. refl) (λ c. refl) (λ c. refl)
-    (λ c. count-cons (is_of name) (Some c.note.batch) [] false (false_from_ne_true (c.note.batch == name)
+    let all = change-entries (is_of_batch name) caps s s' w.shape w.cells c in
+    let none = by_count (λ xs k w'. count_by (is_of_batch name) xs ≡ 0) s s' c (λ e. refl) (λ c. refl) (λ c. refl)
+    (λ c. count-cons (is_of_batch name) (Some c.note.batch) [] false (false_from_ne_true (c.note.batch == name)
     (λ t. apart c.engine c.note c.is_note (eqb-true c.note.batch name t))))
     (λ c. refl) (λ c. refl) (λ c. refl) (λ c. refl) in
     omega (arith, all, none)
@@ -286,7 +290,7 @@ queued-change caps s s' w counts c = each-effect Waiting s s' old c
     (λ c. each-set Waiting s.work.content (member_list s.work.setup c.engine) _ old
     (λ x i below. absurd (omega (arith, below))))
   where
-    Waiting : ℕ → Slot → Type 0
+    Waiting : ℕ → HeldEntry → Type 0
     Waiting = λ k x. k < s.work.setup.caps.queues → IsUnused s.work x.1.name
 
     old : EachAt Waiting s.work.content
@@ -314,7 +318,7 @@ counts-opening : (caps : Caps) → CountsMembers (opening caps).work
 counts-opening caps = record {
   notes = λ e n h. absurd (none-some n (sym (get_or-replicated None caps.engines e) ∙ h));
   queued = λ q x below i. absurd (subst (In x) (chain-empty (list_count caps) q) i);
-  not_given = λ name past. ap (λ (xs : List Slot). 0 + count_by (λ slot. is_of name slot.1.parent) xs)
+  not_given = λ name past. ap (λ (xs : List HeldEntry). 0 + count_by (λ pair. is_of_batch name pair.1.parent) xs)
       (all_held-empty (list_count caps));
 }
 

@@ -7,7 +7,7 @@ use Rattle.dsa_base.proofs.{Lists.{length-none, In-append, In-filter, In-find}, 
 use Rattle.dsa_base.{proofs.Counts.{In-counted, count-none, count-cons}, specs.{Rows.{passes}, Lists.{In}}}
 use Rattle.dsa_desc.specs.declared.Outcome.{Outcome}
 use Rattle.dsa_regs.specs.declared.Caps.{Caps}
-use Rattle.dsa_store.specs.Content.{Slot, all_held}
+use Rattle.dsa_store.specs.Content.{HeldEntry, all_held}
 use Rattle.dsa_book.proofs.{Nexts.{next-each}, Replay.{replay_from-append, replay_none}}
 use Rattle.dsa_book.specs.Machine.{next, replay, replay_from, with_work}
 use Rattle.dsa_book.specs.Work.{after_end, finish_of, in_progress, is_all_fetched, is_unfinished, last_status, members}
@@ -22,22 +22,23 @@ use Rattle.dsa_laws.specs.{WellFormed.{IsWellFormed, NoteFits, fates_named}, Cha
 use Rattle.dsa_laws.{proofs.Flows.{flow-change, rows-counted, IsFlow}, specs.Engines.{holds_batch}}
 use Rattle.dsa_accounts.proofs.BatchCounts.{CountsMembers, adds-up, members_of, members-change, replay-counts}
 use Rattle.dsa_accounts.proofs.NotedBatches.{is_of-parent, named-once, noted, noted-member, unnoted}
-use Rattle.dsa_accounts.specs.BatchCounts.{is_of, was_completed, was_aborted, members_ended, members_held, HasEnded}
+use Rattle.dsa_accounts.specs.BatchCounts.{is_of_batch, was_completed, was_aborted, members_ended, members_held}
+use Rattle.dsa_accounts.specs.BatchCounts.{HasEnded}
 use Rattle.dsa_accounts.{proofs.{Accounts.{change-entries}, BatchCounts.{rows-apart}}, specs.Accounts.{was_abandoned}}
 
 -- ---- the step that ends a batch
 
 -- a batch that ends had nothing left to do
-abbrev Ends : State → ℕ → Slot → Outcome → State → Type 0
+abbrev Ends : State → ℕ → HeldEntry → Outcome → State → Type 0
 Ends s e batch outcome t = (must_wait s.work e batch.1 ≡ false)
     × (with_work s (after_end s.work e batch outcome) ≡ t)
 
 -- what an answer says, where it tells of an end with the status
-abbrev Tells : State → ℕ → Slot → Outcome → ℕ → FinishAnswer × Work → Type 0
+abbrev Tells : State → ℕ → HeldEntry → Outcome → ℕ → FinishAnswer × Work → Type 0
 Tells s e batch outcome status r =
     ◌≡◌ {A = Reply} (Finish r.0) (Finish (Done status)) → Ends s e batch outcome (with_work s r.1)
 
-done-is : (s : State) (e : ℕ) (batch : Slot) (outcome : Outcome) (status : ℕ)
+done-is : (s : State) (e : ℕ) (batch : HeldEntry) (outcome : Outcome) (status : ℕ)
     → Tells s e batch outcome status (finish_of s.work e outcome (Some batch))
 done-is s e batch outcome status = table1 (Tells s e batch outcome status) _ (NotReady, s.work)
     (Done (last_status s.work e batch outcome), after_end s.work e batch outcome)
@@ -46,25 +47,25 @@ done-is s e batch outcome status = table1 (Tells s e batch outcome status) _ (No
     other : ◌≡◌ {A = Reply} (Finish NotReady) (Finish (Done status)) → ⊥
     other told = cc
 
-next-done : (s t : State) (e : ℕ) (ticket : Ticket) (outcome : Outcome) (status : ℕ) (batch : Slot)
+next-done : (s t : State) (e : ℕ) (ticket : Ticket) (outcome : Outcome) (status : ℕ) (batch : HeldEntry)
     → next s (Finish e ticket outcome) (Finish (Done status)) ≡ Some t
     → find (is_ticket ticket) (running_on s.work e) ≡ Some batch → Ends s e batch outcome t
 next-done s t e ticket outcome status batch h found =
     next-each (λ r u. r ≡ Finish (Done status) → Ends s e batch outcome u)
     s t (Finish e ticket outcome) (Finish (Done status))
-    (λ choice may told. subst (λ (o : Option Slot). Tells s e batch outcome status (finish_of s.work e outcome o))
+    (λ choice may told. subst (λ (o : Option HeldEntry). Tells s e batch outcome status (finish_of s.work e outcome o))
     (sym found) (done-is s e batch outcome status)) h refl
 
 -- ---- where it ends
 
 -- the batch that ends is in progress, and no member is left
-record IsEnding (s : State) (e : ℕ) (batch : Slot) : Type 0 where
+record IsEnding (s : State) (e : ℕ) (batch : HeldEntry) : Type 0 where
   running : In batch (in_progress s.work e)
   is_batch : holds_batch s.work.setup batch ≡ true
   no_members : members s.work e ≡ []
   fetched : passes (λ note. not (is_all_fetched note)) (note_at s.work e) ≡ false
 
-ending : (s : State) (e : ℕ) (ticket : Ticket) (batch : Slot)
+ending : (s : State) (e : ℕ) (ticket : Ticket) (batch : HeldEntry)
     → find (is_ticket ticket) (running_on s.work e) ≡ Some batch
     → is_batch_of s.work.setup batch.1 ≡ true → must_wait s.work e batch.1 ≡ false → IsEnding s e batch
 ending s e ticket batch found is ready =
@@ -84,7 +85,7 @@ ending s e ticket batch found is ready =
     }
 
 -- what its members add up to in the state before its end
-before-end : (caps : Caps) (s : State) (e : ℕ) (batch : Slot) → IsWellFormed caps s → CountsMembers s.work
+before-end : (caps : Caps) (s : State) (e : ℕ) (batch : HeldEntry) → IsWellFormed caps s → CountsMembers s.work
     → IsEnding s e batch
     → HasEnded s.work batch.1.name batch.1.desc.size
 before-end caps s e batch w counts h = go (note_at s.work e) refl
@@ -100,7 +101,7 @@ before-end caps s e batch w counts h = go (note_at s.work e) refl
         let of = (noted w e (Some n) q).noted batch h.running h.is_batch in
         let count = of.count in
         let sum = adds-up s.work n (counts.notes e n q) in
-        let none : members_held s.work n.batch ≡ 0 = count-none (λ (slot : Slot). is_of n.batch slot.1.parent)
+        let none : members_held s.work n.batch ≡ 0 = count-none (λ (pair : HeldEntry). is_of_batch n.batch pair.1.parent)
         (all_held s.work.content) (λ y i. false_from_ne_true _ (λ t. subst (In y) h.no_members
         (noted-member w e n y q i (is_of-parent n.batch y.1.parent t)))) in
         let fits : NoteFits caps (Some n) = subst (NoteFits caps) q (w.notes e) in
@@ -129,8 +130,8 @@ record IsOver (w : Work) (batch count : ℕ) : Type 0 where
 carried : {caps : Caps} {w w' : Work} (batch count : ℕ) → IsFlow caps w w' → members_of w' batch ≡ members_of w batch
     → HasEnded w batch count → HasEnded w' batch count
 carried {caps} {w} {w'} batch count flow all h =
-    let test : Slot → Bool = λ slot. is_of batch slot.1.parent in
-    let of : FateRow → Bool = λ row. is_of batch row.parent in
+    let test : HeldEntry → Bool = λ pair. is_of_batch batch pair.1.parent in
+    let of : FateRow → Bool = λ row. is_of_batch batch row.parent in
     let rows = ap (λ (rows : List FateRow). count_by of rows) flow.fates
     ∙ rows-counted of w.fates flow.fate flow.gone in
     let none = h.none_held in
@@ -149,14 +150,14 @@ carried {caps} {w} {w'} batch count flow all h =
 
 -- the batch itself ends
 after-end : (caps : Caps) (s t : State) (count : ℕ) → IsWellFormed caps s → (c : IsEnded s t)
-    → HasEnded s.work c.slot.1.name count → IsOver t.work c.slot.1.name count
+    → HasEnded s.work c.pair.1.name count → IsOver t.work c.pair.1.name count
 after-end caps s t count w c h =
-    let name = c.slot.1.name in
+    let name = c.pair.1.name in
     let own : FateRow → Bool = λ row. row.name == name in
-    let fate = Completed (last_status s.work c.engine c.slot c.outcome) in
-    let rows = rows-counted own s.work.fates fate (c.slot ∷ []) in
-    let one = count-cons (λ (slot : Slot). slot.1.name == name) c.slot [] true (eq-eqb name name refl) in
-    let all = change-entries (is_of name) caps s t w.shape w.cells (is_ended c) in
+    let fate = Completed (last_status s.work c.engine c.pair c.outcome) in
+    let rows = rows-counted own s.work.fates fate (c.pair ∷ []) in
+    let one = count-cons (λ (pair : HeldEntry). pair.1.name == name) c.pair [] true (eq-eqb name name refl) in
+    let all = change-entries (is_of_batch name) caps s t w.shape w.cells (is_ended c) in
     record {
       has_fate = subst (λ (u : State). 1 ≤ fates_named u.work name) c.after (omega (arith, rows, one));
       ended = carried name count (flow-change caps s t w.shape w.cells (is_ended c)) (omega (arith, all)) h;
@@ -181,7 +182,7 @@ over-change caps s s' batch count w h c =
 -- ---- any history
 
 pub replay-ended : (caps : Caps) (before after : List Step) (s s' : State) (e : ℕ) (ticket : Ticket)
-    (outcome : Outcome) (status : ℕ) (batch : Slot)
+    (outcome : Outcome) (status : ℕ) (batch : HeldEntry)
     → replay caps before ≡ Some s → find (is_ticket ticket) (running_on s.work e) ≡ Some batch
     → is_batch_of s.work.setup batch.1 ≡ true
     → replay caps (before ++ record { event = Finish e ticket outcome; reply = Finish (Done status) } ∷ after) ≡ Some s'
@@ -206,7 +207,7 @@ replay-ended caps before after s s' e ticket outcome status batch r found is h =
           engine = e;
           ticket = ticket;
           outcome = outcome;
-          slot = batch;
+          pair = batch;
           is_found = found;
           ready = done.0;
           after = done.1;

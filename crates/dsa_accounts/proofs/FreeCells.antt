@@ -8,7 +8,7 @@ use Rattle.dsa_base.proofs.{NumberSums.{sum-numbers-lt}, Tables.{no-row}}
 use Rattle.dsa_base.specs.{Rows.{first_row}, Numbers.{numbers_below}}
 use Rattle.dsa_regs.specs.declared.{Caps.{Caps}, QueueConfig.{QueueConfig}}
 use Rattle.dsa_regs.specs.{Config.{queue_at, zero_queue, groups_table, total_size}, Caps.{cell_count, list_count}}
-use Rattle.dsa_store.specs.Content.{Slot, Content, chain, held_count}
+use Rattle.dsa_store.specs.Content.{HeldEntry, Content, chain, held_count}
 use Rattle.dsa_book.specs.declared.{event.{Portal.{Portal}, Kind.{Kind}}, note.BatchNote.{BatchNote}}
 use Rattle.dsa_book.specs.{Work.{members, note_at, is_all_fetched}, State.{State, is_on, is_off, phase_at}}
 use Rattle.dsa_book.{specs.{Submit.{limit_of, submit_table}, Machine.{intake_of}}, proofs.Phases.{on-not_off}}
@@ -40,7 +40,7 @@ held-parts caps content long =
     (λ k. ap (size content) (omega arith)) in
     omega (
       arith,
-      sum-places (λ (l : List Slot). length l) content [],
+      sum-places (λ (l : List HeldEntry). length l) content [],
       ap (λ k. sum_by (size content) (numbers_below k)) twice,
       sum-split_numbers (size content) q (n + n),
       sum-split_numbers (λ k. size content (q + k)) n n,
@@ -71,7 +71,7 @@ module _ {caps : Caps} {s : State} (w : IsWellFormed caps s) where
   queues-fit = ⊎_elim
       (λ off.
       let none : (k : ℕ) → k < caps.queues → size s.work.content k ≤ 0 = λ k i.
-      omega (arith, ap (λ (xs : List Slot). length xs) (none-held caps s.work w.setup w.entries off k)) in
+      omega (arith, ap (λ (xs : List HeldEntry). length xs) (none-held caps s.work w.setup w.entries off k)) in
       omega (arith, sum-numbers-le (size s.work.content) (λ k. 0) caps.queues none, sum-same 0 caps.queues))
       (λ not_off. omega (
         arith,
@@ -92,7 +92,7 @@ module _ {caps : Caps} {s : State} (w : IsWellFormed caps s) where
     arith,
     (lists-fit caps s.work w.shape w.limits (caps.queues + e)).progress e refl i,
     h,
-    ap (λ (xs : List Slot). length xs) (members-at w.shape e i),
+    ap (λ (xs : List HeldEntry). length xs) (members-at w.shape e i),
   )
 
   engine-within : (e : ℕ) → e < caps.engines → on_engine caps s.work.content e ≤ for_engine caps

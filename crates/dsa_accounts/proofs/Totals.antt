@@ -5,8 +5,8 @@ use Rattle.std.proofs.{Common.{arith, add-zero, zero-add}, lemmas.List.Sums.{sum
 use Rattle.std.specs.Prelude.{⊤, filter}
 use Rattle.dsa_regs.specs.declared.Caps.{Caps}
 use Rattle.dsa_store.specs.Content.{all_held, held_count}
-use Rattle.dsa_book.proofs.Replay.{replay-adds}
-use Rattle.dsa_book.specs.Totals.{named_by, ended_by, is_accepted, is_fetched, is_done, lost_by, total_accepted}
+use Rattle.dsa_book.proofs.{Gains.{named_by, ended_by}, Replay.{replay-adds}}
+use Rattle.dsa_book.specs.Totals.{is_accepted, is_fetched, is_done, lost_by, total_accepted}
 use Rattle.dsa_book.specs.declared.answer.Reply.{Reply, TheVariants.{Submit, Fetch, Start, Finish, Issue}}
 use Rattle.dsa_book.specs.declared.answer.{FetchAnswer.TheVariants.{Fetched}, FinishAnswer.TheVariants.{Done}}
 use Rattle.dsa_book.specs.declared.answer.{SubmitAnswer.TheVariants.{Accepted}, StartAnswer.TheVariants.{Abandoned}}
@@ -41,8 +41,8 @@ change-rows s s' c =
     by_count (λ xs n w. length w.fates ≡ rows_of s + n) s s' c
     (λ e. ap length e.fates ∙ same) (λ c. same) (λ c. same) (λ c. same) (λ c. same)
     (λ c. rows fate.Abandoned (members s.work c.engine))
-    (λ c. rows (fate.Completed (last_status s.work c.engine c.slot c.outcome)) (c.slot ∷ []))
-    (λ c. rows (fate.Aborted c.number) (filter (λ slot. is_in_scope c.scope slot.1) (all_held s.work.content)))
+    (λ c. rows (fate.Completed (last_status s.work c.engine c.pair c.outcome)) (c.pair ∷ []))
+    (λ c. rows (fate.Aborted c.number) (filter (λ pair. is_in_scope c.scope pair.1) (all_held s.work.content)))
 
 named_by-is : (r : Reply) → named_by r ≡ cond (is_accepted r) 1 0 + cond (is_fetched r) 1 0
 named_by-is (Submit (Accepted t)) = refl

@@ -3,20 +3,20 @@ use Rattle.std.proofs.Common.{◌≡◌, ℕ, zero, suc, ◌+◌, ◌<◌, ◌�
 use Rattle.std.proofs.lemmas.{Bool.{cases_eq, Decides.{nat_tests}}, List.Sums.{sum_by-cons, sum_by_push}}
 use Rattle.std.{specs.Prelude.{sum_by, count_by, nat_lt}, proofs.Common.{◌⊎◌, inl, inr, ⊎_elim}}
 use Rattle.dsa_base.{specs.Numbers.{numbers_below}, proofs.NumberSums.{sum-equal, sum-plus, sum-same}}
-use Rattle.dsa_store.specs.Content.{Slot, Content, is_cell, use_count, held_count, all_held, is_free}
+use Rattle.dsa_store.specs.Content.{HeldEntry, Content, is_cell, use_count, held_count, all_held, is_free}
 use Rattle.dsa_store.{proofs.Sums.{uses-counted, held-counted, unused-is_free}, specs.declared.entry.Cell.{Cell}}
 
 abbrev cell_at : ℕ → Cell
 cell_at k = record { 0 = k }
 
--- one number at most is the slot's cell
-one-cell : (x : Slot) (n : ℕ) → sum_by (λ k. cond (is_cell (cell_at k) x) 1 0) (numbers_below n)
+-- one number at most is the entry's cell
+one-cell : (x : HeldEntry) (n : ℕ) → sum_by (λ k. cond (is_cell (cell_at k) x) 1 0) (numbers_below n)
     ≡ cond (nat_lt x.0.0 n) 1 0
 one-cell x zero = grind (arith, nat_tests)
 one-cell x (suc n) = grind (arith, nat_tests, sum_by_push, one-cell x n)
 
--- each slot is of one cell
-counted-once : (xs : List Slot) (n : ℕ) → sum_by (λ k. count_by (is_cell (cell_at k)) xs) (numbers_below n) ≤ length xs
+-- each entry is of one cell
+counted-once : (xs : List HeldEntry) (n : ℕ) → sum_by (λ k. count_by (is_cell (cell_at k)) xs) (numbers_below n) ≤ length xs
 counted-once [] n = omega (arith, sum-same 0 n)
 counted-once (x ∷ xs) n =
     let most : cond (nat_lt x.0.0 n) 1 0 ≤ 1 = grind (arith, nat_tests) in

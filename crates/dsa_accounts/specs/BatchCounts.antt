@@ -7,8 +7,8 @@ use Rattle.dsa_book.specs.State.{Work}
 use Rattle.dsa_accounts.specs.Accounts.{was_abandoned}
 
 -- whether the parent is the batch of this name (profile)
-abbrev pub is_of : ℕ → Option ℕ → Bool
-is_of batch parent = passes (λ name. name == batch) parent
+abbrev pub is_of_batch : ℕ → Option ℕ → Bool
+is_of_batch batch parent = passes (λ name. name == batch) parent
 
 -- an engine ended it (profile)
 abbrev pub was_completed : Fate → Bool
@@ -22,7 +22,7 @@ was_aborted _ = false
 
 -- how many members of the batch came to such an end (profile)
 abbrev pub members_ended : (Fate → Bool) → Work → ℕ → ℕ
-members_ended such w batch = count_by (λ row. such row.fate && is_of batch row.parent) w.fates
+members_ended such w batch = count_by (λ row. such row.fate && is_of_batch batch row.parent) w.fates
 
 -- how many members are done (profile)
 abbrev pub members_done : Work → ℕ → ℕ
@@ -38,7 +38,7 @@ members_aborted = members_ended was_aborted
 
 -- how many are held (profile)
 abbrev pub members_held : Work → ℕ → ℕ
-members_held w batch = count_by (λ slot. is_of batch slot.1.parent) (all_held w.content)
+members_held w batch = count_by (λ pair. is_of_batch batch pair.1.parent) (all_held w.content)
 
 -- of the batch that an engine works on: each member that was fetched is done, abandoned or held,
 -- and members are abandoned exactly where the batch is closed; none is aborted without its batch

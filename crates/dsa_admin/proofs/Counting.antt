@@ -10,20 +10,20 @@ use Rattle.dsa_base.proofs.NumberLists.{get_or-each}
 use Rattle.dsa_regs.specs.declared.Scope.{Scope, TheVariants.{Device, Queue, Pasid}}
 use Rattle.dsa_regs.specs.declared.Deed.{Deed, TheVariants.{Disable}}
 use Rattle.dsa_regs.specs.declared.{Phase.{Phase}, layout.ListUse.{ListUse}}
-use Rattle.dsa_regs.specs.{Caps.{HasList, engine_of, list_number}}
+use Rattle.dsa_regs.specs.{Caps.{HasList, engine_of_list, list_number}}
 use Rattle.dsa_store.specs.declared.entry.{Cell.{Cell}, Entry.{Entry}}
-use Rattle.dsa_store.specs.Content.{Slot, Content, chain, all_held, place_count, use_count, count_where}
+use Rattle.dsa_store.specs.Content.{HeldEntry, Content, chain, all_held, place_count, use_count, count_where}
 use Rattle.dsa_store.proofs.{Places.{count-append}, Lists.{uses-set}, Turns.{Seam, seam}}
 use Rattle.dsa_book.specs.{State.{Setup, has_queue, holds_any}, Commands.{is_in_scope, after_stop, after_enable, reset}}
 use Rattle.dsa_queues.{specs.Queues.{Kept, IsCounted, held_of}, proofs.Counts.{counted-setup}}
-use Rattle.dsa_engines.specs.Engines.{Gear, IsInStep, MayRelease, gear_after_removal}
+use Rattle.dsa_engines.specs.Engines.{EnginesState, IsInStep, MayRelease, engines_after_removal}
 use Rattle.dsa_engines.proofs.Leaving.{may-release, in_step-removed}
 use Rattle.dsa_admin.specs.Admin.{is_counting, names_queue, names_queues}
 
 -- ---- numbers that are 0
 
 -- none counts exactly where none passes
-any-none : (test : Slot → Bool) (l : List Slot) → (count_by test l == 0) ≡ not (list_any test l)
+any-none : (test : HeldEntry → Bool) (l : List HeldEntry) → (count_by test l == 0) ≡ not (list_any test l)
 any-none test [] = refl
 any-none test (s ∷ l) =
     let one = sum_by-cons (λ x. cond (test x) 1 0) s l in
@@ -55,11 +55,11 @@ counts-others _ n = refl
 
 module _ (scope : Scope) (named : names_queues scope ≡ true) where
   -- where an entry names a queue of the scope, one of the scope is held
-  named-some : (q : ℕ) → names_queue scope q ≡ true → (l : List Slot)
-      → 0 < count_by (λ (s : Slot). s.1.queue == q) l → list_any (λ (s : Slot). is_in_scope scope s.1) l ≡ true
+  named-some : (q : ℕ) → names_queue scope q ≡ true → (l : List HeldEntry)
+      → 0 < count_by (λ (s : HeldEntry). s.1.queue == q) l → list_any (λ (s : HeldEntry). is_in_scope scope s.1) l ≡ true
   named-some q has [] h = absurd (omega (arith, h))
   named-some q has (s ∷ l) h =
-      let one = sum_by-cons (λ (x : Slot). cond (x.1.queue == q) 1 0) s l in
+      let one = sum_by-cons (λ (x : HeldEntry). cond (x.1.queue == q) 1 0) s l in
       let inside = names-scope scope s.1 named in
       elim (cases_Bool (s.1.queue == q)) [
         | inl same ↦
@@ -77,23 +77,23 @@ module _ (scope : Scope) (named : names_queues scope ≡ true) where
       named-some q has (all_held content) (omega (arith, some, number-held k content q below c))
 
   -- where none of its queues is named, none of the scope is held
-  named-none : (setup : Setup) (l : List Slot) → count_by (λ (s : Slot). not (has_queue setup s.1.queue)) l ≡ 0
+  named-none : (setup : Setup) (l : List HeldEntry) → count_by (λ (s : HeldEntry). not (has_queue setup s.1.queue)) l ≡ 0
       → ((q : ℕ) → q < setup.caps.queues → names_queue scope q ≡ true
-      → count_by (λ (s : Slot). s.1.queue == q) l ≡ 0)
-      → list_any (λ (s : Slot). is_in_scope scope s.1) l ≡ false
+      → count_by (λ (s : HeldEntry). s.1.queue == q) l ≡ 0)
+      → list_any (λ (s : HeldEntry). is_in_scope scope s.1) l ≡ false
   named-none setup [] there none = refl
   named-none setup (s ∷ l) there none =
-      let known = sum_by-cons (λ (x : Slot). cond (not (has_queue setup x.1.queue)) 1 0) s l in
+      let known = sum_by-cons (λ (x : HeldEntry). cond (not (has_queue setup x.1.queue)) 1 0) s l in
       let inside = names-scope scope s.1 named in
       let has : has_queue setup s.1.queue ≡ true = grind (arith, known, there) in
       let mine = none s.1.queue (ltb-true s.1.queue setup.caps.queues has) in
-      let one = sum_by-cons (λ (x : Slot). cond (x.1.queue == s.1.queue) 1 0) s l in
+      let one = sum_by-cons (λ (x : HeldEntry). cond (x.1.queue == s.1.queue) 1 0) s l in
       let same = eq-eqb s.1.queue s.1.queue refl in
       elim (cases_Bool (names_queue scope s.1.queue)) [
         | inl hit ↦ let zero = mine hit in absurd (grind (arith, zero, one, same))
         | inr miss ↦
             let rest = named-none setup l (omega (arith, known, there)) (λ q h n.
-            omega (arith, none q h n, sum_by-cons (λ (x : Slot). cond (x.1.queue == q) 1 0) s l)) in
+            omega (arith, none q h n, sum_by-cons (λ (x : HeldEntry). cond (x.1.queue == q) 1 0) s l)) in
             grind (arith, inside, miss, rest)
       ]
 
@@ -104,7 +104,7 @@ module _ (scope : Scope) (named : names_queues scope ≡ true) where
 
 -- ---- the first of what is left of a list
 
-module _ (content : Content) (i : ℕ) (done rest : List Slot) (s : Slot) (h : i < length content)
+module _ (content : Content) (i : ℕ) (done rest : List HeldEntry) (s : HeldEntry) (h : i < length content)
     (once : (cell : Cell) → use_count content cell ≤ 1) (parts : chain content i ≡ done ++ s ∷ rest) where
   -- it stands once there
   low : use_count (set content i (s ∷ rest)) s.0 ≤ 1
@@ -120,15 +120,15 @@ module _ (content : Content) (i : ℕ) (done rest : List Slot) (s : Slot) (h : i
   turn : Seam (set content i (s ∷ rest)) i [] rest s.0 s.1
   turn = seam (set content i (s ∷ rest)) i [] rest s.0 s.1 low (get_or-set_same content i (s ∷ rest) [] h)
 
-  module _ {cells : ℕ} {setup : Setup} {gear : Gear} (step : IsInStep setup gear cells (set content i (s ∷ rest)))
+  module _ {cells : ℕ} {setup : Setup} {engines_state : EnginesState} (step : IsInStep setup engines_state cells (set content i (s ∷ rest)))
       (from : ListUse) (has : HasList setup.caps from) (is : list_number setup.caps from ≡ i) where
     -- what it holds it may give back
-    pub first-releases : MayRelease setup gear (engine_of from) s.1
+    pub first-releases : MayRelease setup engines_state (engine_of_list from) s.1
     first-releases = may-release step low turn.stands from has is
 
     -- and then all is in step again
-    pub first-removed : IsInStep setup (gear_after_removal setup from s.1 gear) cells (set content i rest)
-    first-removed = subst (IsInStep setup (gear_after_removal setup from s.1 gear) cells)
+    pub first-removed : IsInStep setup (engines_after_removal setup from s.1 engines_state) cells (set content i rest)
+    first-removed = subst (IsInStep setup (engines_after_removal setup from s.1 engines_state) cells)
         (turn.unlinked ∙ set-set content i (s ∷ rest) rest) (in_step-removed step low turn.stands from refl has is)
 
 -- ---- another set-up of as many queues
@@ -161,12 +161,12 @@ reset-caps _ setup = refl
 
 -- ---- counts over the first lists
 
-pub never-counts : (l : List Slot) → count_by (λ (s : Slot). false) l ≡ 0
+pub never-counts : (l : List HeldEntry) → count_by (λ (s : HeldEntry). false) l ≡ 0
 never-counts [] = refl
-never-counts (s ∷ l) = omega (arith, sum_by-cons (λ (x : Slot). 0) s l, never-counts l)
+never-counts (s ∷ l) = omega (arith, sum_by-cons (λ (x : HeldEntry). 0) s l, never-counts l)
 
 -- no more are counted in the first lists than are held
-pub first-few : (test : Slot → Bool) (n : ℕ) (content : Content)
+pub first-few : (test : HeldEntry → Bool) (n : ℕ) (content : Content)
     → count_by test (all_held (take n content)) ≤ length (all_held content)
 first-few test zero [] = omega arith
 first-few test (suc n) [] = omega arith
@@ -181,11 +181,11 @@ first-few test (suc n) (l ∷ ls) =
     )
 
 -- those of one list more
-pub first-more : (test : Slot → Bool) (n : ℕ) (content : Content) → n < length content
+pub first-more : (test : HeldEntry → Bool) (n : ℕ) (content : Content) → n < length content
     → count_by test (all_held (take (n + 1) content))
     ≡ count_by test (all_held (take n content)) + count_by test (chain content n)
 first-more test n content h = rw (
   take_more content n [] h,
-  flat_map-append (λ (l : List Slot). l) (take n content) (chain content n ∷ []),
+  flat_map-append (λ (l : List HeldEntry). l) (take n content) (chain content n ∷ []),
   append-nil (chain content n),
 ) (sum_by-append (λ x. cond (test x) 1 0) (all_held (take n content)) (chain content n))

@@ -4,7 +4,7 @@ use Rattle.std.proofs.Common.{refl, ap, ◌∙◌, arith, inl, inr}
 use Rattle.std.proofs.lemmas.{Bool.{cases_Bool, cases_eq}, List.Sums.{sum_by-cons}}
 use Rattle.std.specs.List.{count_by}
 use Rattle.dsa_regs.specs.declared.Scope.{Scope}
-use Rattle.dsa_store.specs.{declared.entry.Entry.{Entry}, Content.{Slot, Content, all_held, count_where}}
+use Rattle.dsa_store.specs.{declared.entry.Entry.{Entry}, Content.{HeldEntry, Content, all_held, count_where}}
 use Rattle.dsa_book.specs.{State.{has_queue, Setup}, Commands.{is_in_scope}}
 use Rattle.dsa_queues.specs.Queues.{Kept, IsCounted, held_of}
 use Rattle.dsa_admin.{specs.Admin.{names_queue, names_queues}, proofs.Counting.{names-scope}}
@@ -14,10 +14,10 @@ abbrev pub is_named_below : Scope → ℕ → Entry → Bool
 is_named_below scope q entry = nat_lt entry.queue q && is_in_scope scope entry
 
 module _ (scope : Scope) where
-  none-in : (l : List Slot) → count_by (λ (s : Slot). is_named_below scope 0 s.1) l ≡ 0
+  none-in : (l : List HeldEntry) → count_by (λ (s : HeldEntry). is_named_below scope 0 s.1) l ≡ 0
   none-in [] = refl
   none-in (s ∷ l) =
-      grind (arith, sum_by-cons (λ (x : Slot). cond (is_named_below scope 0 x.1) 1 0) s l, none-in l)
+      grind (arith, sum_by-cons (λ (x : HeldEntry). cond (is_named_below scope 0 x.1) 1 0) s l, none-in l)
 
   -- none names a queue before the first
   pub none-below : (content : Content) → count_where (is_named_below scope 0) content ≡ 0
@@ -42,14 +42,14 @@ module _ (scope : Scope) where
               ])
         ]
 
-    more-in : (l : List Slot) → count_by (λ (s : Slot). is_named_below scope (q + 1) s.1) l
-        ≡ count_by (λ (s : Slot). is_named_below scope q s.1) l
-        + cond (names_queue scope q) (count_by (λ (s : Slot). s.1.queue == q) l) 0
+    more-in : (l : List HeldEntry) → count_by (λ (s : HeldEntry). is_named_below scope (q + 1) s.1) l
+        ≡ count_by (λ (s : HeldEntry). is_named_below scope q s.1) l
+        + cond (names_queue scope q) (count_by (λ (s : HeldEntry). s.1.queue == q) l) 0
     more-in [] = grind arith
     more-in (s ∷ l) =
-        let after = sum_by-cons (λ (x : Slot). cond (is_named_below scope (q + 1) x.1) 1 0) s l in
-        let before = sum_by-cons (λ (x : Slot). cond (is_named_below scope q x.1) 1 0) s l in
-        let here = sum_by-cons (λ (x : Slot). cond (x.1.queue == q) 1 0) s l in
+        let after = sum_by-cons (λ (x : HeldEntry). cond (is_named_below scope (q + 1) x.1) 1 0) s l in
+        let before = sum_by-cons (λ (x : HeldEntry). cond (is_named_below scope q x.1) 1 0) s l in
+        let here = sum_by-cons (λ (x : HeldEntry). cond (x.1.queue == q) 1 0) s l in
         let this = one s.1 in
         let rest = more-in l in
         elim (cases_Bool (names_queue scope q)) [
@@ -63,14 +63,14 @@ module _ (scope : Scope) where
         ≡ count_where (is_named_below scope q) content + cond (names_queue scope q) (held_of content q) 0
     more-below k content h c = more-in (all_held content)
 
-  all-in : (setup : Setup) (l : List Slot) → count_by (λ (s : Slot). not (has_queue setup s.1.queue)) l ≡ 0
-      → count_by (λ (s : Slot). is_named_below scope setup.caps.queues s.1) l
-      ≡ count_by (λ (s : Slot). is_in_scope scope s.1) l
+  all-in : (setup : Setup) (l : List HeldEntry) → count_by (λ (s : HeldEntry). not (has_queue setup s.1.queue)) l ≡ 0
+      → count_by (λ (s : HeldEntry). is_named_below scope setup.caps.queues s.1) l
+      ≡ count_by (λ (s : HeldEntry). is_in_scope scope s.1) l
   all-in setup [] there = refl
   all-in setup (s ∷ l) there =
-      let known = sum_by-cons (λ (x : Slot). cond (not (has_queue setup x.1.queue)) 1 0) s l in
-      let below = sum_by-cons (λ (x : Slot). cond (is_named_below scope setup.caps.queues x.1) 1 0) s l in
-      let inside = sum_by-cons (λ (x : Slot). cond (is_in_scope scope x.1) 1 0) s l in
+      let known = sum_by-cons (λ (x : HeldEntry). cond (not (has_queue setup x.1.queue)) 1 0) s l in
+      let below = sum_by-cons (λ (x : HeldEntry). cond (is_named_below scope setup.caps.queues x.1) 1 0) s l in
+      let inside = sum_by-cons (λ (x : HeldEntry). cond (is_in_scope scope x.1) 1 0) s l in
       let has : has_queue setup s.1.queue ≡ true = grind (arith, known, there) in
       let rest = all-in setup l (omega (arith, known, there)) in
       grind (arith, below, inside, has, rest)

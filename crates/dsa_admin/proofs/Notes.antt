@@ -7,10 +7,10 @@ use Rattle.dsa_regs.specs.declared.layout.ListUse.{ListUse, TheVariants.{Queue, 
 use Rattle.dsa_regs.specs.Caps.{list_count, list_use}
 use Rattle.dsa_regs.proofs.CapsLemmas.{IsUse, read-back}
 use Rattle.dsa_base.{specs.Numbers.{numbers_below}, proofs.Renewing.{renewed, renewed-set, renewed-next, renewed-all}}
-use Rattle.dsa_store.specs.{declared.entry.{Cell.{Cell}, Entry.{Entry}}, Content.{Slot, Content, chain, StandsAt}}
+use Rattle.dsa_store.specs.{declared.entry.{Cell.{Cell}, Entry.{Entry}}, Content.{HeldEntry, Content, chain, StandsAt}}
 use Rattle.dsa_book.specs.{declared.note.BatchNote.{BatchNote}, State.{Setup, is_batch_of}, Work.{progress_list}}
 use Rattle.dsa_book.specs.Commands.{is_in_scope, takes_batch, kept_note}
-use Rattle.dsa_engines.specs.Engines.{Gear, notes_without, gear_after_removal}
+use Rattle.dsa_engines.specs.Engines.{EnginesState, notes_without, engines_after_removal}
 use Rattle.dsa_admin.specs.Admin.{notes_left}
 
 -- ---- the places of one list
@@ -40,8 +40,8 @@ module _ (setup : Setup) (scope : Scope) (from : ListUse) (first : List (Option 
       (notes_left setup scope from (take k (chain content i)) first)
   notes-more = rw (
     take_more (chain content i) k (cell, e) at.within,
-    at.slot,
-    list_any-append (λ (slot : Slot). is_batch_of setup slot.1 && is_in_scope scope slot.1) (take k (chain content i))
+    at.pair,
+    list_any-append (λ (pair : HeldEntry). is_batch_of setup pair.1 && is_in_scope scope pair.1) (take k (chain content i))
         ((cell, e) ∷ []),
   ) (gone-with from first (takes_batch setup scope (take k (chain content i)))
       (is_batch_of setup e && is_in_scope scope e))
@@ -57,29 +57,29 @@ module _ (setup : Setup) (scope : Scope) (from : ListUse) (first : List (Option 
       none false = refl
 
   -- what it is about takes it along, where it is a well-formed Batch
-  pub notes-leave : {after : Gear} (gear : Gear) → is_in_scope scope e ≡ true
-      → gear.notes ≡ notes_left setup scope from (take k (chain content i)) first
-      → after ≡ gear_after_removal setup from e gear
+  pub notes-leave : {after : EnginesState} (engines_state : EnginesState) → is_in_scope scope e ≡ true
+      → engines_state.notes ≡ notes_left setup scope from (take k (chain content i)) first
+      → after ≡ engines_after_removal setup from e engines_state
       → after.notes ≡ notes_left setup scope from (take (k + 1) (chain content i)) first
-  notes-leave gear inside is step = rw (step, notes-more, inside, ← is) (same (is_batch_of setup e))
+  notes-leave engines_state inside is step = rw (step, notes-more, inside, ← is) (same (is_batch_of setup e))
     where
-      same : (b : Bool) → cond b (notes_without from gear.notes) gear.notes
-          ≡ cond (b && true) (notes_without from gear.notes) gear.notes
+      same : (b : Bool) → cond b (notes_without from engines_state.notes) engines_state.notes
+          ≡ cond (b && true) (notes_without from engines_state.notes) engines_state.notes
       same true = refl
       same false = refl
 
 -- where all are meant, one place more
-pub notes-taken : {after : Gear} (setup : Setup) (from : ListUse) (first : List (Option BatchNote)) (xs : List Slot)
-    (s : Slot) (gear : Gear) → gear.notes ≡ notes_left setup Device from xs first
-    → after ≡ gear_after_removal setup from s.1 gear → after.notes ≡ notes_left setup Device from (xs ++ s ∷ []) first
-notes-taken setup from first xs s gear is step =
-    ap (λ (g : Gear). g.notes) step ∙ same (is_batch_of setup s.1)
+pub notes-taken : {after : EnginesState} (setup : Setup) (from : ListUse) (first : List (Option BatchNote)) (xs : List HeldEntry)
+    (s : HeldEntry) (engines_state : EnginesState) → engines_state.notes ≡ notes_left setup Device from xs first
+    → after ≡ engines_after_removal setup from s.1 engines_state → after.notes ≡ notes_left setup Device from (xs ++ s ∷ []) first
+notes-taken setup from first xs s engines_state is step =
+    ap (λ (g : EnginesState). g.notes) step ∙ same (is_batch_of setup s.1)
     ∙ rw is (sym (gone-with from first (takes_batch setup Device xs) (is_batch_of setup s.1 && is_in_scope Device s.1)))
     ∙ ap (λ (b : Bool). cond b (notes_without from first) first) (sym (list_any-append
-    (λ (slot : Slot). is_batch_of setup slot.1 && is_in_scope Device slot.1) xs (s ∷ [])))
+    (λ (pair : HeldEntry). is_batch_of setup pair.1 && is_in_scope Device pair.1) xs (s ∷ [])))
   where
-    same : (b : Bool) → cond b (notes_without from gear.notes) gear.notes
-        ≡ cond (b && true) (notes_without from gear.notes) gear.notes
+    same : (b : Bool) → cond b (notes_without from engines_state.notes) engines_state.notes
+        ≡ cond (b && true) (notes_without from engines_state.notes) engines_state.notes
     same true = refl
     same false = refl
 
@@ -106,7 +106,7 @@ module _ (setup : Setup) (scope : Scope) (content : Content) (first : List (Opti
   swept-as n engines is = ap (λ (k : ℕ). renewed kept_at k first) is
 
   -- one more list
-  pub notes-turn : {now after : List (Option BatchNote)} {xs : List Slot} (n : ℕ) → length first ≡ setup.caps.engines
+  pub notes-turn : {now after : List (Option BatchNote)} {xs : List HeldEntry} (n : ℕ) → length first ≡ setup.caps.engines
       → n < list_count setup.caps → xs ≡ chain content n → now ≡ swept_notes n
       → after ≡ notes_left setup scope (list_use setup.caps n) xs now → after ≡ swept_notes (n + 1)
   notes-turn {now} {after} {xs} n len h same is step =

@@ -6,22 +6,22 @@ use Rattle.std.specs.List.{filter}
 use Rattle.dsa_desc.specs.Descriptor.{need}
 use Rattle.dsa_regs.specs.declared.{QueueConfig.{QueueConfig}, Scope.{Scope, TheVariants.{Device}}}
 use Rattle.dsa_regs.specs.declared.Phase.TheVariants.{Off}
-use Rattle.dsa_regs.specs.{Config.{check_groups, zero_queue, queue_at, limits_of}, Command.{queues_in}}
-use Rattle.dsa_store.specs.{declared.entry.Entry.{Entry}, Content.{Slot, Content, chain, held_count, only_where}}
+use Rattle.dsa_regs.specs.{Config.{check_groups, zero_queue, queue_at, limits_of_queue}, Command.{queues_in}}
+use Rattle.dsa_store.specs.{declared.entry.Entry.{Entry}, Content.{HeldEntry, Content, chain, held_count, only_where}}
 use Rattle.dsa_store.proofs.Lists.{held-nil, held-cons}
-use Rattle.dsa_queues.{specs.Queues.{IsWhole}, proofs.Whole.{whole-reset}}
+use Rattle.dsa_queues.{specs.Queues.{IsWholeSetup}, proofs.Whole.{whole-reset}}
 use Rattle.dsa_base.proofs.NumberLists.{get_or-each, length-each}
 use Rattle.dsa_book.specs.State.{Setup, held_by, is_member}
 use Rattle.dsa_book.specs.Commands.{is_in_scope, is_among, with_phases, with_sizes_alone, size_alone, reset}
 use Rattle.dsa_book.proofs.{Scopes.{unnamed}, Sizes.{total_size-alone}}
-use Rattle.dsa_engines.specs.Engines.{Gear, IsInStep}
+use Rattle.dsa_engines.specs.Engines.{EnginesState, IsInStep}
 use Rattle.dsa_engines.proofs.{Keeping.{KeepsLoads, homes-kept, buffers-kept}, Used.{load, load-nil, load-cons}}
 
 -- the set-up after Reset WQ
 abbrev after_reset : Scope → Setup → Setup
 after_reset scope setup = with_sizes_alone (queues_in scope) (with_phases (is_among (queues_in scope)) Off setup)
 
-module _ (scope : Scope) (setup : Setup) (w : IsWhole setup) where
+module _ (scope : Scope) (setup : Setup) (w : IsWholeSetup setup) where
   -- a queue that is not named keeps its configuration
   config-same : (q : ℕ) → is_among (queues_in scope) q ≡ false
       → queue_at (after_reset scope setup).configs q ≡ queue_at setup.configs q
@@ -36,18 +36,18 @@ module _ (scope : Scope) (setup : Setup) (w : IsWhole setup) where
   -- and its entries hold what they held
   held-same : (e : Entry) → is_in_scope scope e ≡ false → held_by (after_reset scope setup) e ≡ held_by setup e
   held-same e out =
-      ap (λ (config : QueueConfig). cond {A = ℕ} e.running (need e.desc (limits_of config) (is_member e)) 0)
+      ap (λ (config : QueueConfig). cond {A = ℕ} e.running (need e.desc (limits_of_queue config) (is_member e)) 0)
       (config-same e.queue (unnamed scope e out))
 
   -- so does what is left of a list
-  load-spared : (l : List Slot) → load (after_reset scope setup) (filter (λ (s : Slot). not (is_in_scope scope s.1)) l)
-      ≡ load setup (filter (λ (s : Slot). not (is_in_scope scope s.1)) l)
+  load-spared : (l : List HeldEntry) → load (after_reset scope setup) (filter (λ (s : HeldEntry). not (is_in_scope scope s.1)) l)
+      ≡ load setup (filter (λ (s : HeldEntry). not (is_in_scope scope s.1)) l)
   load-spared [] = load-nil (after_reset scope setup) ∙ sym (load-nil setup)
   load-spared (s ∷ l) =
       elim (cases_Bool (is_in_scope scope s.1)) [
         | inl inside ↦ rw inside (load-spared l)
         | inr outside ↦
-            let rest : List Slot = filter (λ (x : Slot). not (is_in_scope scope x.1)) l in
+            let rest : List HeldEntry = filter (λ (x : HeldEntry). not (is_in_scope scope x.1)) l in
             rw outside (omega (
               arith,
               load-spared l,
@@ -59,7 +59,7 @@ module _ (scope : Scope) (setup : Setup) (w : IsWhole setup) where
 
 -- a list of what is kept
 chain-kept : (test : Entry → Bool) (content : Content) (i : ℕ)
-    → chain (only_where test content) i ≡ filter (λ (s : Slot). test s.1) (chain content i)
+    → chain (only_where test content) i ≡ filter (λ (s : HeldEntry). test s.1) (chain content i)
 chain-kept test [] i = refl
 chain-kept test (l ∷ ls) zero = refl
 chain-kept test (l ∷ ls) (suc i) = chain-kept test ls i
@@ -73,17 +73,17 @@ reset-named _ setup n = refl
 none-kept : (content : Content) → held_count (only_where (λ entry. false) content) ≡ 0
 none-kept [] = held-nil
 none-kept (l ∷ ls) =
-    omega (arith, held-cons (filter (λ (s : Slot). false) l) (only_where (λ entry. false) ls), none l, none-kept ls)
+    omega (arith, held-cons (filter (λ (s : HeldEntry). false) l) (only_where (λ entry. false) ls), none l, none-kept ls)
   where
-    none : (l : List Slot) → length (filter (λ (s : Slot). false) l) ≡ 0
+    none : (l : List HeldEntry) → length (filter (λ (s : HeldEntry). false) l) ≡ 0
     none [] = refl
     none (s ∷ l) = none l
 
 -- a reset leaves in step what it left
-pub in_step-reset : {cells : ℕ} (scope : Scope) (setup : Setup) (gear : Gear) (content now : Content)
-    → now ≡ only_where (λ entry. not (is_in_scope scope entry)) content → IsInStep setup gear cells now
-    → IsInStep (reset scope setup) gear cells now
-in_step-reset Device setup gear content now is s = record {
+pub in_step-reset : {cells : ℕ} (scope : Scope) (setup : Setup) (engines_state : EnginesState) (content now : Content)
+    → now ≡ only_where (λ entry. not (is_in_scope scope entry)) content → IsInStep setup engines_state cells now
+    → IsInStep (reset scope setup) engines_state cells now
+in_step-reset Device setup engines_state content now is s = record {
   queues = whole-reset Device setup s.queues;
   store = s.store;
   idle = λ off. ap held_count is ∙ none-kept content;
@@ -92,7 +92,7 @@ in_step-reset Device setup gear content now is s = record {
   homes = λ on. absurd cc;
   buffers = λ on. absurd cc;
 }
-in_step-reset scope setup gear content now is s =
+in_step-reset scope setup engines_state content now is s =
     let w = s.queues in
     let keeps : KeepsLoads setup (after_reset scope setup) now now = record {
       caps = refl;
@@ -108,6 +108,6 @@ in_step-reset scope setup gear content now is s =
       checked = λ on. ap (λ (n : ℕ). check_groups setup.caps n setup.groups)
           (total_size-alone (queues_in scope) setup w.configs) ∙ s.checked on;
       notes = s.notes;
-      homes = homes-kept setup (after_reset scope setup) gear now now s keeps;
-      buffers = buffers-kept setup (after_reset scope setup) gear now now s keeps;
+      homes = homes-kept setup (after_reset scope setup) engines_state now now s keeps;
+      buffers = buffers-kept setup (after_reset scope setup) engines_state now now s keeps;
     }

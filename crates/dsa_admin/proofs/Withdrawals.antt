@@ -7,15 +7,15 @@ use Rattle.std.proofs.lemmas.List.{length-map, length-set, map-append, append-ni
 use Rattle.std.proofs.lemmas.List.{Elements.{filter-append, filter_more}, Filters.{length-filter_both}}
 use Rattle.std.specs.List.{filter}
 use Rattle.dsa_regs.specs.declared.Scope.{Scope, TheVariants.{Device}}
-use Rattle.dsa_regs.specs.{declared.Command.{Command}, Command.{number_of, scope_of}}
+use Rattle.dsa_regs.specs.{declared.Command.{Command}, Command.{number_of_command, scope_of}}
 use Rattle.dsa_store.specs.declared.entry.{Cell.{Cell}, Entry.{Entry}}
-use Rattle.dsa_store.specs.Content.{Slot, Content, chain, use_count, held_count, first_cell, entry_of, next_of}
+use Rattle.dsa_store.specs.Content.{HeldEntry, Content, chain, use_count, held_count, first_cell, entry_of, next_of}
 use Rattle.dsa_store.specs.Content.{after_unlink, only_where, all_held, StandsAt}
 use Rattle.dsa_store.proofs.{Finding.{entry_of-none}, Lists.{held-set, held-unlinked}}
 use Rattle.dsa_store.proofs.{Sums.{held-counted, all_held-kept}, Turns.{AtTurn, at-turn, thinned}}
 use Rattle.dsa_book.specs.{declared.fate.{Fate.TheVariants.{Aborted}, FateRow.{FateRow}}, Records.{Records}}
 use Rattle.dsa_book.specs.{Work.{fate_row}, Commands.{is_in_scope, count_in_scope}}
-use Rattle.dsa_admin.specs.Admin.{is_meant, is_spared, row_of, rows_of}
+use Rattle.dsa_admin.specs.Admin.{is_meant, is_spared, row_of_abort, rows_of_abort}
 
 -- a cell that has an entry is one of those held
 used-entry : (content : Content) (cell : Cell) {e : Entry} → entry_of content cell ≡ Some e → 1 ≤ use_count content cell
@@ -27,7 +27,7 @@ used-entry content cell h = grind (arith, h, entry_of-none content cell)
 pub record IsWithdrawn (command : Command) (content : Content) (first : Records) (i k : ℕ) (now : Content)
     (book : Records) : Type 0 where
   pub left : now ≡ thinned (is_spared command) content i k
-  pub rows : book ≡ record first { fates = first.fates ++ rows_of command (take k (chain content i)) }
+  pub rows : book ≡ record first { fates = first.fates ++ rows_of_abort command (take k (chain content i)) }
   pub room : length book.fates + held_count now ≤ book.capacity
 
 -- and the lists are as many
@@ -88,10 +88,10 @@ withdrawn-room {now = now} cell w read is =
 module _ {command : Command} {content now : Content} {first book : Records} {i k : ℕ} {cell : Cell} {e : Entry}
     (t : LooksAt command content i k now cell e) (w : IsWithdrawn command content first i k now book) where
   -- the rows of one more place
-  rows-more : rows_of command (take (k + 1) (chain content i))
-      ≡ map (fate_row (Aborted (number_of command))) (filter (is_meant command) (take k (chain content i))
+  rows-more : rows_of_abort command (take (k + 1) (chain content i))
+      ≡ map (fate_row (Aborted (number_of_command command))) (filter (is_meant command) (take k (chain content i))
       ++ cond (is_in_scope (scope_of command) e) ((cell, e) ∷ []) [])
-  rows-more = rw (filter_more (is_meant command) (chain content i) k (cell, e) t.stands.within, t.stands.slot) refl
+  rows-more = rw (filter_more (is_meant command) (chain content i) k (cell, e) t.stands.within, t.stands.pair) refl
 
   -- a cell that the command is not about stays
   pub withdrawn-stays : is_in_scope (scope_of command) e ≡ false → IsWithdrawn command content first i (k + 1) now book
@@ -103,21 +103,23 @@ module _ {command : Command} {content now : Content} {first book : Records} {i k
 
   -- a cell that the command is about leaves, with its row
   pub withdrawn-leaves : {after : Content} {later : Records} {row : FateRow} → is_in_scope (scope_of command) e ≡ true
-      → after ≡ after_unlink now cell → row ≡ row_of command e → later ≡ record book { fates = book.fates ++ row ∷ [] }
+      → after ≡ after_unlink now cell → row ≡ row_of_abort command e
+      → later ≡ record book { fates = book.fates ++ row ∷ [] }
       → IsWithdrawn command content first i (k + 1) after later
   withdrawn-leaves {row = row} inside left row_is rows =
-      let meant : List Slot = filter (is_meant command) (take k (chain content i)) in
+      let meant : List HeldEntry = filter (is_meant command) (take k (chain content i)) in
       record {
         left = left ∙ t.out (ap not inside);
         rows = rw (
           rows-more,
           inside,
-          map-append (fate_row (Aborted (number_of command))) meant ((cell, e) ∷ []),
+          map-append (fate_row (Aborted (number_of_command command))) meant ((cell, e) ∷ []),
           rows,
           row_is,
           w.rows,
         ) (ap (λ (l : List FateRow). record first { fates = l })
-            (append_assoc first.fates (rows_of command (take k (chain content i))) (row_of command e ∷ [])));
+            (append_assoc first.fates (rows_of_abort command (take k (chain content i)))
+            (row_of_abort command e ∷ [])));
         room = rw (rows, left) (omega (
           arith,
           length-append book.fates (row ∷ []),
@@ -137,19 +139,19 @@ swept command content n = map (filter (is_spared command)) (take n content) ++ d
 pub record IsSwept (command : Command) (content : Content) (first : Records) (n : ℕ) (now : Content)
     (book : Records) : Type 0 where
   pub left : now ≡ swept command content n
-  pub rows : book ≡ record first { fates = first.fates ++ rows_of command (all_held (take n content)) }
+  pub rows : book ≡ record first { fates = first.fates ++ rows_of_abort command (all_held (take n content)) }
   pub room : length book.fates + held_count now ≤ book.capacity
 
 -- the rows of one list after those of the lists before it
 rows-lists : (command : Command) (content : Content) (n : ℕ) → n < length content
-    → rows_of command (all_held (take (n + 1) content))
-    ≡ rows_of command (all_held (take n content)) ++ rows_of command (chain content n)
+    → rows_of_abort command (all_held (take (n + 1) content))
+    ≡ rows_of_abort command (all_held (take n content)) ++ rows_of_abort command (chain content n)
 rows-lists command content n h = rw (
   take_more content n [] h,
-  flat_map-append (λ (l : List Slot). l) (take n content) (chain content n ∷ []),
+  flat_map-append (λ (l : List HeldEntry). l) (take n content) (chain content n ∷ []),
   append-nil (chain content n),
   filter-append (is_meant command) (all_held (take n content)) (chain content n),
-) (map-append (fate_row (Aborted (number_of command))) (filter (is_meant command) (all_held (take n content)))
+) (map-append (fate_row (Aborted (number_of_command command))) (filter (is_meant command) (all_held (take n content)))
     (filter (is_meant command) (chain content n)))
 
 -- one more list
@@ -161,24 +163,25 @@ module _ {command : Command} {content now : Content} {first book : Records} {n :
 
   -- once it is walked too, one more list is swept
   pub swept-next : {after : Content} {later : Records} → after ≡ set now n (filter (is_spared command) (chain now n))
-      → later ≡ record book { fates = book.fates ++ rows_of command (chain now n) }
+      → later ≡ record book { fates = book.fates ++ rows_of_abort command (chain now n) }
       → IsSwept command content first (n + 1) after later
   swept-next left rows =
       let so_far = s.left in
       let within : n < length now = grind (arith, common_steps, so_far, h) in
       let both = length-filter_both (is_meant command) (is_spared command) (λ x. refl) (chain now n) in
-      let count = length-map (filter (is_meant command) (chain now n)) (fate_row (Aborted (number_of command))) in
+      let count = length-map (filter (is_meant command) (chain now n))
+      (fate_row (Aborted (number_of_command command))) in
       record {
         left = left ∙ map_over_more (filter (is_spared command)) content now n (chain now n) h so_far
             (grind (arith, common_steps, so_far, h));
         rows = rw (rows, swept-chain, s.rows, rows-lists command content n h)
             (ap (λ (l : List FateRow). record first { fates = l }) (append_assoc first.fates
-            (rows_of command (all_held (take n content))) (rows_of command (chain content n))));
+            (rows_of_abort command (all_held (take n content))) (rows_of_abort command (chain content n))));
         room = rw (rows, left) (omega (
           arith,
           both,
           count,
-          length-append book.fates (rows_of command (chain now n)),
+          length-append book.fates (rows_of_abort command (chain now n)),
           held-set now n (filter (is_spared command) (chain now n)) within,
           s.room,
         ));
@@ -188,26 +191,26 @@ module _ {command : Command} {content now : Content} {first book : Records} {n :
 
 module _ (command : Command) (all : scope_of command ≡ Device) where
   -- nothing of a list stays
-  pub spares-none : (l : List Slot) → filter (is_spared command) l ≡ []
-  spares-none l = ap (λ (s : Scope). filter (λ (x : Slot). not (is_in_scope s x.1)) l) all ∙ none l
+  pub spares-none : (l : List HeldEntry) → filter (is_spared command) l ≡ []
+  spares-none l = ap (λ (s : Scope). filter (λ (x : HeldEntry). not (is_in_scope s x.1)) l) all ∙ none l
     where
-      none : (l : List Slot) → filter (λ (s : Slot). false) l ≡ []
+      none : (l : List HeldEntry) → filter (λ (s : HeldEntry). false) l ≡ []
       none [] = refl
       none (s ∷ l) = none l
 
   -- one place more is one row more
-  pub rows-pushed : (l : List Slot) (s : Slot)
-      → rows_of command (l ++ s ∷ []) ≡ rows_of command l ++ row_of command s.1 ∷ []
+  pub rows-pushed : (l : List HeldEntry) (s : HeldEntry)
+      → rows_of_abort command (l ++ s ∷ []) ≡ rows_of_abort command l ++ row_of_abort command s.1 ∷ []
   rows-pushed l s = rw (filter-append (is_meant command) l (s ∷ []), all)
-      (map-append (fate_row (Aborted (number_of command))) _ (s ∷ []))
+      (map-append (fate_row (Aborted (number_of_command command))) _ (s ∷ []))
 
 -- a list has no fewer places than rows
-pub rows-few : (command : Command) (l : List Slot) → length (rows_of command l) ≤ length l
+pub rows-few : (command : Command) (l : List HeldEntry) → length (rows_of_abort command l) ≤ length l
 rows-few command l =
     omega (
       arith,
       length-filter_both (is_meant command) (is_spared command) (λ x. refl) l,
-      length-map (filter (is_meant command) l) (fate_row (Aborted (number_of command))),
+      length-map (filter (is_meant command) l) (fate_row (Aborted (number_of_command command))),
     )
 
 -- ---- an abort as a whole

@@ -5,13 +5,13 @@ use Rattle.std.specs.List.{list_all}
 use Rattle.dsa_base.specs.Rows.{passes}
 use Rattle.dsa_regs.specs.declared.{Command.{Command}, Scope.{Scope, TheVariants.{Device, Pasid}}}
 use Rattle.dsa_regs.specs.declared.{Deed.{Deed, TheVariants.{Disable}}, layout.ListUse.{ListUse}}
-use Rattle.dsa_regs.specs.Command.{number_of, scope_of, deed_of, queues_in}
-use Rattle.dsa_store.specs.{declared.entry.Entry.{Entry}, Content.{Slot, Content, count_where}}
+use Rattle.dsa_regs.specs.Command.{number_of_command, scope_of, deed_of, queues_in}
+use Rattle.dsa_store.specs.{declared.entry.Entry.{Entry}, Content.{HeldEntry, Content, count_where}}
 use Rattle.dsa_book.specs.declared.note.{BatchNote.{BatchNote}, ActiveCommand.{ActiveCommand}}
 use Rattle.dsa_book.specs.declared.fate.{Fate.TheVariants.{Aborted}, FateRow.{FateRow}}
 use Rattle.dsa_book.specs.{State.{Setup, State, has_queue}, Work.{fate_row}}
 use Rattle.dsa_book.specs.Commands.{is_among, is_in_scope, takes_batch, is_awaited, is_bad_queues, may_come, check_of}
-use Rattle.dsa_engines.specs.Engines.{Gear, notes_without, work}
+use Rattle.dsa_engines.specs.Engines.{EnginesState, notes_without, work}
 
 -- whether a command of this deed keeps the number of the entries that it waits for; the end of a
 -- disable is read from the numbers of its queues (profile)
@@ -59,24 +59,28 @@ pub record IsAwaiting (watch : Watch) (next_name : ℕ) (content : Content) : Ty
   pub mark : (active : ActiveCommand) → watch.active ≡ Some active → active.mark ≤ next_name
 
 -- the command is about the entry
-abbrev pub is_meant : Command → Slot → Bool
-is_meant command slot = is_in_scope (scope_of command) slot.1
+abbrev pub is_meant : Command → HeldEntry → Bool
+is_meant command pair = is_in_scope (scope_of command) pair.1
 
 -- the command is not about the entry
-abbrev pub is_spared : Command → Slot → Bool
-is_spared command slot = not (is_in_scope (scope_of command) slot.1)
+abbrev pub is_spared : Command → HeldEntry → Bool
+is_spared command pair = not (is_in_scope (scope_of command) pair.1)
 
 -- the row of an entry that the command takes out (profile)
-abbrev pub row_of : Command → Entry → FateRow
-row_of command entry = record { name = entry.name; parent = entry.parent; fate = Aborted (number_of command) }
+abbrev pub row_of_abort : Command → Entry → FateRow
+row_of_abort command entry = record {
+  name = entry.name;
+  parent = entry.parent;
+  fate = Aborted (number_of_command command);
+}
 
 -- the rows of what an abort takes out of a list (profile)
-abbrev pub rows_of : Command → List Slot → List FateRow
-rows_of command xs = map (fate_row (Aborted (number_of command))) (filter (is_meant command) xs)
+abbrev pub rows_of_abort : Command → List HeldEntry → List FateRow
+rows_of_abort command xs = map (fate_row (Aborted (number_of_command command))) (filter (is_meant command) xs)
 
 -- the notes after the command took its entries out of a list: that of an engine goes with a
 -- well-formed Batch in progress there (profile)
-abbrev pub notes_left : Setup → Scope → ListUse → List Slot → List (Option BatchNote) → List (Option BatchNote)
+abbrev pub notes_left : Setup → Scope → ListUse → List HeldEntry → List (Option BatchNote) → List (Option BatchNote)
 notes_left setup scope from xs notes = cond (takes_batch setup scope xs) (notes_without from notes) notes
 
 -- no queue is named, or one that the device does not have (profile)
@@ -85,8 +89,9 @@ names_bad_queue setup named = nat_le (length named) 0 || not (list_all (has_queu
 
 -- what a command sees and changes: the queues, what the engines keep, the entries, the rows, and
 -- the active command (profile)
-abbrev pub state : Setup → Gear → Content → List FateRow → Option ActiveCommand → State
-state setup gear content fates active = record { work = work setup gear content fates; active = active }
+abbrev pub state : Setup → EnginesState → Content → List FateRow → Option ActiveCommand → State
+state setup engines_state content fates active =
+    record { work = work setup engines_state content fates; active = active }
 
 -- nothing but another active command refuses it
 pub record IsUnrefused (setup : Setup) (deed : Deed) (scope : Scope) : Type 0 where

@@ -1,12 +1,12 @@
 -- A few entries that are held, and commands that wait for them.
 use Rattle.std.specs.Prelude.{ℕ, Bool, false, List, [], ◌∷◌, map, Option, None, Some}
 use Rattle.dsa_regs.specs.declared.{Command.{Command, TheVariants.{DisableWq, DrainWq, DrainPasid}}}
-use Rattle.dsa_store.specs.{declared.entry.Entry.{Entry}, Content.{Slot, Content}}
+use Rattle.dsa_store.specs.{declared.entry.Entry.{Entry}, Content.{HeldEntry, Content}}
 use Rattle.dsa_book.specs.declared.note.ActiveCommand.{ActiveCommand}
 
 -- an entry of that name, parent, queue and PASID, in the cell of its name
-abbrev pub held : ℕ → Option ℕ → ℕ → ℕ → Slot
-held name parent queue pasid = (
+abbrev pub held_entry_by_name : ℕ → Option ℕ → ℕ → ℕ → HeldEntry
+held_entry_by_name name parent queue pasid = (
   record { 0 = name },
   record {
     name = name;
@@ -20,14 +20,15 @@ held name parent queue pasid = (
 -- entries 1 and 3 wait in queue 0 and entry 2 in queue 1; an engine works on the batch 0 with its member 4
 abbrev pub content : Content
 content =
-    (held 1 None 0 5 ∷ held 3 None 0 6 ∷ []) ∷ (held 2 None 1 5 ∷ []) ∷
-    (held 0 None 0 5 ∷ []) ∷ [] ∷
-    (held 4 (Some 0) 0 5 ∷ []) ∷ [] ∷ []
+    (held_entry_by_name 1 None 0 5 ∷ held_entry_by_name 3 None 0 6 ∷ []) ∷ (held_entry_by_name 2 None 1 5 ∷ []) ∷
+    (held_entry_by_name 0 None 0 5 ∷ []) ∷ [] ∷
+    (held_entry_by_name 4 (Some 0) 0 5 ∷ []) ∷ [] ∷ []
 
 -- those entries by name
 abbrev pub by_name : List Entry
-by_name = map (λ (slot : Slot). slot.1)
-    (held 0 None 0 5 ∷ held 1 None 0 5 ∷ held 2 None 1 5 ∷ held 3 None 0 6 ∷ held 4 (Some 0) 0 5 ∷ [])
+by_name = map (λ (pair : HeldEntry). pair.1)
+    (held_entry_by_name 0 None 0 5 ∷ held_entry_by_name 1 None 0 5 ∷ held_entry_by_name 2 None 1 5
+    ∷ held_entry_by_name 3 None 0 6 ∷ held_entry_by_name 4 (Some 0) 0 5 ∷ [])
 
 -- a drain and a disable of queue 0, and a drain of PASID 5, each with that mark
 abbrev pub drain_of_queue : ℕ → ActiveCommand

@@ -5,7 +5,7 @@ ghost use Rattle.dsa_store.specs.Content.{held_count};
 ghost use Rattle.dsa_book.specs.Commands.{after_abort, abort_of, count_in_scope, reset};
 ghost use Rattle.dsa_queues.specs.Queues.{IsCounted};
 ghost use Rattle.dsa_engines.specs.Engines.{IsInStep, work};
-ghost use Rattle.dsa_regs.specs.Command.{number_of, scope_of};
+ghost use Rattle.dsa_regs.specs.Command.{number_of_command, scope_of};
 ghost use Rattle.dsa_book.specs.declared.note.ActiveCommand.{ActiveCommand};
 ghost use Rattle.dsa_admin.specs.Admin.{state};
 
@@ -16,8 +16,9 @@ use dsa_queues::Queues;
 use dsa_regs::{Command, Phase, Scope};
 use dsa_store::EntryStore;
 
-/// Ends each entry that the command is about, list by list and the front first, and answers how many those were.
-/// Each gets a row; one that ran gives its read buffers back, and a well-formed Batch in progress takes its note along.
+/// Ends each entry that the command is about, list by list and the front first, and answers how
+/// many those were. Each gets a row; one that ran gives its read buffers back, and a well-formed
+/// Batch in progress takes its note along.
 pub(crate) fn abort<S: EntryStore>(
     queues: &mut Queues,
     engines: &mut Engines,
@@ -25,14 +26,18 @@ pub(crate) fn abort<S: EntryStore>(
     book: &mut Book,
     command: &Command,
 ) -> u32
-    requires in_step { IsInStep queues.old.setup engines.old (S.cells store.old) (S.content store.old) }
+    requires in_step { IsInStep queues.old.setup engines.old (S.cells store.old)
+        (S.content store.old) }
     requires counted { IsCounted queues.old (S.content store.old) }
     requires room { length book.old.fates + held_count (S.content store.old) ≤ book.old.capacity }
-    ensures work { after_abort (number_of command.now) (scope_of command.now) (work queues.old.setup engines.old (S.content store.old) book.old.fates) ≡ work queues.new.setup engines.new (S.content store.new) book.new.fates }
+    ensures work { after_abort (number_of_command command.now) (scope_of command.now)
+        (work queues.old.setup engines.old (S.content store.old) book.old.fates)
+        ≡ work queues.new.setup engines.new (S.content store.new) book.new.fates }
     ensures setup { queues.new.setup ≡ queues.old.setup }
     ensures count { result ≡ count_in_scope (scope_of command.now) (S.content store.old) }
     ensures book { book.new ≡ record book.old { fates = book.new.fates } }
-    ensures in_step { IsInStep queues.new.setup engines.new (S.cells store.new) (S.content store.new) }
+    ensures in_step { IsInStep queues.new.setup engines.new (S.cells store.new)
+        (S.content store.new) }
     ensures counted { IsCounted queues.new (S.content store.new) }
 {
     let free = store.free();
@@ -48,21 +53,29 @@ pub(crate) fn abort_alone<S: EntryStore>(
     book: &mut Book,
     command: &Command,
 ) -> IssueAnswer
-    requires in_step { IsInStep queues.old.setup engines.old (S.cells store.old) (S.content store.old) }
+    requires in_step { IsInStep queues.old.setup engines.old (S.cells store.old)
+        (S.content store.old) }
     requires counted { IsCounted queues.old (S.content store.old) }
     requires room { length book.old.fates + held_count (S.content store.old) ≤ book.old.capacity }
-    ensures aborted { (active : Option ActiveCommand) → abort_of (state queues.old.setup engines.old (S.content store.old) book.old.fates active) (number_of command.now) (scope_of command.now) (λ setup. setup)
-        ≡ (result, state queues.new.setup engines.new (S.content store.new) book.new.fates active) }
+    ensures aborted { (active : Option ActiveCommand)
+        → abort_of (state queues.old.setup engines.old (S.content store.old) book.old.fates active)
+        (number_of_command command.now) (scope_of command.now) (λ setup. setup)
+        ≡ (
+          result,
+          state queues.new.setup engines.new (S.content store.new) book.new.fates
+              active,
+        ) }
     ensures book { book.new ≡ record book.old { fates = book.new.fates } }
-    ensures in_step { IsInStep queues.new.setup engines.new (S.cells store.new) (S.content store.new) }
+    ensures in_step { IsInStep queues.new.setup engines.new (S.cells store.new)
+        (S.content store.new) }
     ensures counted { IsCounted queues.new (S.content store.new) }
 {
     let aborted = abort(queues, engines, store, book, command);
     IssueAnswer::Ended { aborted }
 }
 
-// After Reset Device all is as it was at first, but for the next name. After Reset WQ the named queues are `Off`, and of
-// their configurations they keep the sizes alone.
+// After Reset Device all is as it was at first, but for the next name. After Reset WQ the named
+// queues are `Off`, and of their configurations they keep the sizes alone.
 fn reset_scope(queues: &mut Queues, scope: &Scope)
     ensures { queues.new ≡ record queues.old { setup = reset scope.now queues.old.setup } }
 {
@@ -83,13 +96,22 @@ pub(crate) fn reset<S: EntryStore>(
     book: &mut Book,
     command: &Command,
 ) -> IssueAnswer
-    requires in_step { IsInStep queues.old.setup engines.old (S.cells store.old) (S.content store.old) }
+    requires in_step { IsInStep queues.old.setup engines.old (S.cells store.old)
+        (S.content store.old) }
     requires counted { IsCounted queues.old (S.content store.old) }
     requires room { length book.old.fates + held_count (S.content store.old) ≤ book.old.capacity }
-    ensures reset { (active : Option ActiveCommand) → abort_of (state queues.old.setup engines.old (S.content store.old) book.old.fates active) (number_of command.now) (scope_of command.now) (reset (scope_of command.now))
-        ≡ (result, state queues.new.setup engines.new (S.content store.new) book.new.fates active) }
+    ensures reset { (active : Option ActiveCommand)
+        → abort_of (state queues.old.setup engines.old (S.content store.old) book.old.fates active)
+        (number_of_command command.now) (scope_of command.now)
+        (reset (scope_of command.now))
+        ≡ (
+          result,
+          state queues.new.setup engines.new (S.content store.new) book.new.fates
+              active,
+        ) }
     ensures book { book.new ≡ record book.old { fates = book.new.fates } }
-    ensures in_step { IsInStep queues.new.setup engines.new (S.cells store.new) (S.content store.new) }
+    ensures in_step { IsInStep queues.new.setup engines.new (S.cells store.new)
+        (S.content store.new) }
     ensures counted { IsCounted queues.new (S.content store.new) }
 {
     let aborted = abort(queues, engines, store, book, command);

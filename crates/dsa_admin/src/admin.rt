@@ -10,7 +10,7 @@ ghost use Rattle.dsa_regs.specs.declared.Deed.TheVariants.{Enable};
 ghost use Rattle.dsa_regs.specs.Command.{scope_of, deed_of};
 ghost use Rattle.dsa_book.specs.State.{State};
 ghost use Rattle.dsa_book.specs.Commands.{issue, poll, refusal_or, command_done_of, wait_of, after_stop, after_enable, may_come};
-ghost use Rattle.dsa_engines.specs.Engines.{Gear, IsInStep};
+ghost use Rattle.dsa_engines.specs.Engines.{EnginesState, IsInStep};
 ghost use Rattle.dsa_queues.specs.Queues.{IsCounted};
 ghost use Rattle.dsa_admin.specs.Admin.{IsAwaiting, IsUnrefused, is_awaited_by, is_counted_by, is_waited_for, state};
 
@@ -25,8 +25,8 @@ use dsa_regs::{Command, Deed, Fault, Phase, Scope};
 use dsa_store::{Entry, EntryStore};
 use std::marker::Model;
 
-/// The command that is not over yet, if there is one, with the name that was the next one when it was issued, and the
-/// number of entries that it still waits for, where it is a drain.
+/// The command that is not over yet, if there is one, with the name that was the next one when it
+/// was issued, and the number of entries that it still waits for, where it is a drain.
 #[derive(Drop)]
 pub struct Admin {
     active: Option<ActiveCommand>,
@@ -41,9 +41,14 @@ impl Model for Admin {
     ghost view = { λ a. record { active = a.active; awaited = a.awaited } };
 }
 
-// A disable brings the device with its queues, or the named queues, to this phase; other commands stop nothing.
+// A disable brings the device with its queues, or the named queues, to this phase; other commands
+// stop nothing.
 fn stop(queues: &mut Queues, command: &Command, phase: Phase)
-    ensures { queues.new ≡ record queues.old { setup = after_stop (deed_of command.now) (scope_of command.now) phase queues.old.setup } }
+    ensures { queues.new
+        ≡ record queues.old {
+          setup = after_stop (deed_of command.now) (scope_of command.now) phase
+              queues.old.setup;
+        } }
 {
     let Deed::Disable = command.deed() else {
         return;
@@ -57,14 +62,16 @@ fn stop(queues: &mut Queues, command: &Command, phase: Phase)
     }
 }
 
-// The device or the queue is On; no command enables by a mask or a PASID.
+// Turns the device or the queue On. No command enables by a mask or a PASID.
 fn enable(queues: &mut Queues, engines: &mut Engines, scope: &Scope)
     requires unrefused { IsUnrefused queues.old.setup Enable scope.now }
     requires caps { IsTrue (check_caps queues.old.setup.caps) }
     requires notes { length engines.old.notes ≡ queues.old.setup.caps.engines }
-    ensures enabled { queues.new ≡ record queues.old { setup = after_enable scope.now queues.old.setup } }
+    ensures enabled { queues.new
+        ≡ record queues.old { setup = after_enable scope.now queues.old.setup } }
     ensures notes { engines.new.notes ≡ engines.old.notes }
-    ensures in_step { (cells : ℕ) (content : Content) → IsInStep queues.old.setup engines.old cells content
+    ensures in_step { (cells : ℕ) (content : Content)
+        → IsInStep queues.old.setup engines.old cells content
         → IsInStep queues.new.setup engines.new cells content }
 {
     match scope {
@@ -96,12 +103,15 @@ impl Admin {
         self.active
     }
 
-    /// How many held entries the active command still waits for, by the numbers that are kept. `None` exactly when no
-    /// command is active. Looks at no list.
+    /// How many held entries the active command still waits for, by the numbers that are kept.
+    /// `None` exactly when no command is active. Looks at no list.
     pub fn awaited(&self, queues: &Queues) -> Option<u64>
-        ensures { (content : Content) → IsCounted queues.now content
+        ensures { (content : Content)
+            → IsCounted queues.now content
             → IsAwaiting self.now queues.now.setup.next_name content
-            → result ≡ option_map (λ active. count_where (is_waited_for active) content) self.now.active }
+            → result
+            ≡ option_map
+            (λ active. count_where (is_waited_for active) content) self.now.active }
     {
         let active = self.active?;
         Some(count_awaited(queues, &active, self.awaited))
@@ -119,9 +129,13 @@ impl Admin {
 
     // The first refusal that stands.
     fn refusal(&self, queues: &Queues, command: &Command) -> Option<Fault>
-        ensures refused { (s : State) → s.active ≡ self.now.active → s.work.setup ≡ queues.now.setup → issue s command.now ≡ refusal_or s result (command_done_of s command.now) }
+        ensures refused { (s : State)
+            → s.active ≡ self.now.active
+            → s.work.setup ≡ queues.now.setup
+            → issue s command.now ≡ refusal_or s result (command_done_of s command.now) }
         ensures idle { result ≡ None → self.now.active ≡ None }
-        ensures unrefused { result ≡ None → IsUnrefused queues.now.setup (deed_of command.now) (scope_of command.now) }
+        ensures unrefused { result ≡ None
+            → IsUnrefused queues.now.setup (deed_of command.now) (scope_of command.now) }
     {
         if self.active.is_some() {
             return Some(Fault::Busy);
@@ -146,11 +160,20 @@ impl Admin {
     ) -> IssueAnswer
         requires counted { IsCounted queues.old (S.content store.now) }
         requires idle { self.old.active ≡ None }
-        ensures waiting { (gear : Gear) (fates : List FateRow) → wait_of (state queues.old.setup gear (S.content store.now) fates self.old.active) command
-            ≡ (result, state queues.new.setup gear (S.content store.now) fates self.new.active) }
-        ensures in_step { (gear : Gear) → may_come queues.old.setup (deed_of command) (scope_of command) ≡ true
-            → IsInStep queues.old.setup gear (S.cells store.now) (S.content store.now)
-            → IsInStep queues.new.setup gear (S.cells store.now) (S.content store.now) }
+        ensures waiting { (engines_state : EnginesState) (fates : List FateRow)
+            → wait_of
+            (state queues.old.setup engines_state (S.content store.now) fates
+            self.old.active)
+            command
+            ≡ (
+              result,
+              state queues.new.setup engines_state (S.content store.now) fates
+                  self.new.active,
+            ) }
+        ensures in_step { (engines_state : EnginesState)
+            → may_come queues.old.setup (deed_of command) (scope_of command) ≡ true
+            → IsInStep queues.old.setup engines_state (S.cells store.now) (S.content store.now)
+            → IsInStep queues.new.setup engines_state (S.cells store.now) (S.content store.now) }
         ensures counted { IsCounted queues.new (S.content store.now) }
         ensures awaiting { IsAwaiting self.new queues.new.setup.next_name (S.content store.now) }
     {
@@ -180,13 +203,23 @@ impl Admin {
     ) -> IssueAnswer
         requires idle { self.old.active ≡ None }
         requires unrefused { IsUnrefused queues.old.setup (deed_of command) (scope_of command) }
-        requires in_step { IsInStep queues.old.setup engines.old (S.cells store.old) (S.content store.old) }
+        requires in_step { IsInStep queues.old.setup engines.old (S.cells store.old)
+            (S.content store.old) }
         requires counted { IsCounted queues.old (S.content store.old) }
-        requires room { length book.old.fates + held_count (S.content store.old) ≤ book.old.capacity }
-        ensures carried { command_done_of (state queues.old.setup engines.old (S.content store.old) book.old.fates self.old.active) command
-            ≡ (result, state queues.new.setup engines.new (S.content store.new) book.new.fates self.new.active) }
+        requires room { length book.old.fates + held_count (S.content store.old)
+            ≤ book.old.capacity }
+        ensures carried { command_done_of
+            (state queues.old.setup engines.old (S.content store.old) book.old.fates
+            self.old.active)
+            command
+            ≡ (
+              result,
+              state queues.new.setup engines.new (S.content store.new) book.new.fates
+                  self.new.active,
+            ) }
         ensures book { book.new ≡ record book.old { fates = book.new.fates } }
-        ensures in_step { IsInStep queues.new.setup engines.new (S.cells store.new) (S.content store.new) }
+        ensures in_step { IsInStep queues.new.setup engines.new (S.cells store.new)
+            (S.content store.new) }
         ensures counted { IsCounted queues.new (S.content store.new) }
         ensures awaiting { IsAwaiting self.new queues.new.setup.next_name (S.content store.new) }
     {
@@ -204,13 +237,15 @@ impl Admin {
 
     /// Issues a command.
     ///
-    /// The first refusal that stands answers it, and then nothing changes: `Busy` while another command is active, `BadQueue`
-    /// where it names no queue or one that the device does not have, `WrongState` where the device or the queues do not
-    /// stand as it needs, then the fault of the check of Enable Device or Enable WQ. The order is this model's own.
+    /// The first refusal that stands answers it, and then nothing changes: `Busy` while another
+    /// command is active, `BadQueue` where it names no queue or one that the device does not have,
+    /// `WrongState` where the device or the queues do not stand as it needs, then the fault of the
+    /// check of Enable Device or Enable WQ. The order is this model's own.
     ///
-    /// Enables, aborts and resets are over at once, and so is a drain or a disable that nothing is held for; `Ended` gives
-    /// the number of aborted entries, each of which has a new row in the book. Else the drain or the disable is active until
-    /// [`Admin::poll`] finds it over. Walks the lists, but for an enable and a disable.
+    /// Enables, aborts and resets are over at once, and so is a drain or a disable that nothing is
+    /// held for; `Ended` gives the number of aborted entries, each of which has a new row in the
+    /// book. Else the drain or the disable is active until [`Admin::poll`] finds it over. Walks the
+    /// lists, but for an enable and a disable.
     ///
     /// The book needs room for a row of each entry that is held.
     pub fn issue<S: EntryStore>(
@@ -221,14 +256,24 @@ impl Admin {
         book: &mut Book,
         command: Command,
     ) -> IssueAnswer
-        requires in_step { IsInStep queues.old.setup engines.old (S.cells store.old) (S.content store.old) }
+        requires in_step { IsInStep queues.old.setup engines.old (S.cells store.old)
+            (S.content store.old) }
         requires counted { IsCounted queues.old (S.content store.old) }
         requires awaiting { IsAwaiting self.old queues.old.setup.next_name (S.content store.old) }
-        requires room { length book.old.fates + held_count (S.content store.old) ≤ book.old.capacity }
-        ensures issued { issue (state queues.old.setup engines.old (S.content store.old) book.old.fates self.old.active) command
-            ≡ (result, state queues.new.setup engines.new (S.content store.new) book.new.fates self.new.active) }
+        requires room { length book.old.fates + held_count (S.content store.old)
+            ≤ book.old.capacity }
+        ensures issued { issue
+            (state queues.old.setup engines.old (S.content store.old) book.old.fates
+            self.old.active)
+            command
+            ≡ (
+              result,
+              state queues.new.setup engines.new (S.content store.new) book.new.fates
+                  self.new.active,
+            ) }
         ensures book { book.new ≡ record book.old { fates = book.new.fates } }
-        ensures in_step { IsInStep queues.new.setup engines.new (S.cells store.new) (S.content store.new) }
+        ensures in_step { IsInStep queues.new.setup engines.new (S.cells store.new)
+            (S.content store.new) }
         ensures counted { IsCounted queues.new (S.content store.new) }
         ensures awaiting { IsAwaiting self.new queues.new.setup.next_name (S.content store.new) }
     {
@@ -238,19 +283,26 @@ impl Admin {
         self.carry_out(queues, engines, store, book, command)
     }
 
-    /// Asks after the active command. It is over, and no more active, when nothing is held that it waits for: a drain waits
-    /// for the entries of its scope that were submitted before it, a disable for all of its scope. Looks at the number
-    /// that is kept, or at those of the queues, and at no list.
+    /// Asks after the active command. It is over, and no more active, when nothing is held that it
+    /// waits for: a drain waits for the entries of its scope that were submitted before it, a
+    /// disable for all of its scope. Looks at the number that is kept, or at those of the queues,
+    /// and at no list.
     pub fn poll(&mut self, queues: &mut Queues) -> PollAnswer
-        ensures polled { (gear : Gear) (content : Content) (fates : List FateRow) → IsCounted queues.old content
+        ensures polled { (engines_state : EnginesState) (content : Content) (fates : List FateRow)
+            → IsCounted queues.old content
             → IsAwaiting self.old queues.old.setup.next_name content
-            → poll (state queues.old.setup gear content fates self.old.active)
-            ≡ (result, state queues.new.setup gear content fates self.new.active) }
-        ensures in_step { (gear : Gear) (cells : ℕ) (content : Content) → IsCounted queues.old content
+            → poll (state queues.old.setup engines_state content fates self.old.active)
+            ≡ (result, state queues.new.setup engines_state content fates self.new.active) }
+        ensures in_step { (engines_state : EnginesState) (cells : ℕ) (content : Content)
+            → IsCounted queues.old content
             → IsAwaiting self.old queues.old.setup.next_name content
-            → IsInStep queues.old.setup gear cells content → IsInStep queues.new.setup gear cells content }
-        ensures counted { (content : Content) → IsCounted queues.old content → IsCounted queues.new content }
-        ensures awaiting { (content : Content) → IsAwaiting self.old queues.old.setup.next_name content
+            → IsInStep queues.old.setup engines_state cells content
+            → IsInStep queues.new.setup engines_state cells content }
+        ensures counted { (content : Content)
+            → IsCounted queues.old content
+            → IsCounted queues.new content }
+        ensures awaiting { (content : Content)
+            → IsAwaiting self.old queues.old.setup.next_name content
             → IsAwaiting self.new queues.new.setup.next_name content }
     {
         let Some(active) = self.active else {
@@ -279,7 +331,9 @@ impl Admin {
     #[inline(always)]
     pub fn ended(&mut self, entry: &Entry)
         requires { is_counted_by self.old entry.now ≡ true → 0 < self.old.awaited }
-        ensures { self.new ≡ record self.old { awaited = self.old.awaited - cond (is_counted_by self.old entry.now) 1 0 } }
+        ensures { self.new
+            ≡ record self.old
+            { awaited = self.old.awaited - cond (is_counted_by self.old entry.now) 1 0 } }
     {
         if self.is_counted_by(entry) {
             self.awaited -= 1;

@@ -12,16 +12,17 @@ use crate::scope::{is_counting, is_watched, names};
 use dsa_book::ActiveCommand;
 use dsa_queues::Queues;
 use dsa_regs::{Deed, Scope};
-use dsa_store::{EntryStore, ListId, slots};
+use dsa_store::{EntryStore, ListId, held_entries};
 
 // How many entries of the list the command counts.
 fn count_in<S: EntryStore>(store: &S, active: &ActiveCommand, list: ListId) -> u32
     requires list { list.0 < length (S.content store.now) }
     requires few { held_count (S.content store.now) < 2 ^ 32 }
-    ensures { result ≡ count_by (λ slot. is_watched active.now slot.1) (chain (S.content store.now) list.0) }
+    ensures { result
+        ≡ count_by (λ pair. is_watched active.now pair.1) (chain (S.content store.now) list.0) }
 {
     let mut count = 0;
-    for (_, entry) in slots(store, list) {
+    for (_, entry) in held_entries(store, list) {
         if is_watched(active, &entry) {
             count += 1;
         }
@@ -50,7 +51,9 @@ pub(crate) fn count_watched<S: EntryStore>(store: &S, active: &ActiveCommand) ->
 // Whether no held entry names a queue of the scope.
 fn is_clear(queues: &Queues, scope: &Scope) -> bool
     requires { names_queues scope.now ≡ true }
-    ensures { (content : Content) → IsCounted queues.now content → result ≡ not (holds_any (is_in_scope scope.now) content) }
+    ensures { (content : Content)
+        → IsCounted queues.now content
+        → result ≡ not (holds_any (is_in_scope scope.now) content) }
 {
     for queue in 0..queues.caps().queues {
         if names(scope, queue) && queues.held_of(queue) > 0 {
@@ -60,10 +63,12 @@ fn is_clear(queues: &Queues, scope: &Scope) -> bool
     true
 }
 
-/// Whether nothing is held that the command waits for: of a disable's queues by their numbers, else by the number of
-/// entries that are still awaited. Looks at no list.
+/// Whether nothing is held that the command waits for: of a disable's queues by their numbers, else
+/// by the number of entries that are still awaited. Looks at no list.
 pub(crate) fn is_at_end(queues: &Queues, active: &ActiveCommand, awaited: u32) -> bool
-    ensures { (content : Content) → IsCounted queues.now content → awaited ≡ count_where (is_watched active.now) content
+    ensures { (content : Content)
+        → IsCounted queues.now content
+        → awaited ≡ count_where (is_watched active.now) content
         → result ≡ is_at_end active.now content }
 {
     match active.command.deed() {
@@ -75,7 +80,9 @@ pub(crate) fn is_at_end(queues: &Queues, active: &ActiveCommand, awaited: u32) -
 // How many held entries name a queue of the scope.
 fn count_named(queues: &Queues, scope: &Scope) -> u64
     requires { names_queues scope.now ≡ true }
-    ensures { (content : Content) → IsCounted queues.now content → result ≡ count_where (is_in_scope scope.now) content }
+    ensures { (content : Content)
+        → IsCounted queues.now content
+        → result ≡ count_where (is_in_scope scope.now) content }
 {
     let mut count = 0;
     for queue in 0..queues.caps().queues {
@@ -86,10 +93,12 @@ fn count_named(queues: &Queues, scope: &Scope) -> u64
     count
 }
 
-/// How many held entries the command waits for: of a disable's queues by their numbers, else the number of entries that
-/// are still awaited. Looks at no list.
+/// How many held entries the command waits for: of a disable's queues by their numbers, else the
+/// number of entries that are still awaited. Looks at no list.
 pub(crate) fn count_awaited(queues: &Queues, active: &ActiveCommand, awaited: u32) -> u64
-    ensures { (content : Content) → IsCounted queues.now content → awaited ≡ count_where (is_watched active.now) content
+    ensures { (content : Content)
+        → IsCounted queues.now content
+        → awaited ≡ count_where (is_watched active.now) content
         → result ≡ count_where (is_waited_for active.now) content }
 {
     match active.command.deed() {

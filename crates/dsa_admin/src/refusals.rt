@@ -42,8 +42,8 @@ fn names_bad_queue(queues: &Queues, scope: &Scope) -> bool
     scope.queues().is_empty() || !has_queues(queues, scope)
 }
 
-/// Whether a scope of queues names no queue, or one that the device does not have. The device as a whole and a PASID
-/// name no queues, and are never wrong.
+/// Whether a scope of queues names no queue, or one that the device does not have. The device as a
+/// whole and a PASID name no queues, and are never wrong.
 pub(crate) fn is_bad_queues(queues: &Queues, scope: &Scope) -> bool
     ensures { result ≡ is_bad_queues queues.now.setup scope.now }
 {
@@ -67,7 +67,8 @@ fn suits(deed: Deed, phase: Phase) -> bool
 
 // Whether the deed may find each queue that is named in its phase.
 fn all_suit(queues: &Queues, deed: Deed, scope: &Scope) -> bool
-    ensures { result ≡ list_all (λ q. suits deed (phase_at queues.now.setup q)) (queues_in scope.now) }
+    ensures { result
+        ≡ list_all (λ q. suits deed (phase_at queues.now.setup q)) (queues_in scope.now) }
 {
     scope
         .queues()
@@ -85,7 +86,8 @@ pub(crate) fn may_come(queues: &Queues, deed: Deed, scope: &Scope) -> bool
     }
 }
 
-/// The first fault that the configuration has against an enable. It has none against any other deed.
+/// The first fault that the configuration has against an enable. It has none against any other
+/// deed.
 pub(crate) fn check(queues: &Queues, deed: Deed, scope: &Scope) -> Option<Fault>
     requires { is_bad_queues queues.now.setup scope.now ≡ false }
     ensures { result ≡ check_of queues.now.setup deed scope.now }

@@ -20,8 +20,8 @@ pub fn is_in_scope(scope: &Scope, entry: &Entry) -> bool
     }
 }
 
-/// Whether the entry keeps the command from its end: for a disable any entry of its scope, for a drain those that were
-/// submitted before it.
+/// Whether the entry keeps the command from its end: for a disable any entry of its scope, for a
+/// drain those that were submitted before it.
 pub(crate) fn is_waited_for(active: &ActiveCommand, entry: &Entry) -> bool
     ensures { result ≡ is_waited_for active.now entry.now }
 {
@@ -32,7 +32,8 @@ pub(crate) fn is_waited_for(active: &ActiveCommand, entry: &Entry) -> bool
     }
 }
 
-/// Whether a command of this deed keeps the number of the entries that it waits for: all do but a disable.
+/// Whether a command of this deed keeps the number of the entries that it waits for: all do but a
+/// disable.
 pub(crate) fn is_counting(deed: Deed) -> bool
     ensures { result ≡ is_counting deed }
 {

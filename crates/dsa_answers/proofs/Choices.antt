@@ -5,7 +5,7 @@ use Rattle.std.specs.List.{list_any}
 use Rattle.dsa_desc.specs.declared.Descriptor.{Descriptor}
 use Rattle.dsa_base.proofs.{NumberLemmas.{numbers_below-hit}, Tables.{not-both}}
 use Rattle.dsa_base.specs.{Rows.{first_row_or, passes}, Numbers.{numbers_below}}
-use Rattle.dsa_store.specs.{declared.entry.Cell.{Cell}, Content.{Slot}}
+use Rattle.dsa_store.specs.{declared.entry.Cell.{Cell}, Content.{HeldEntry}}
 use Rattle.dsa_book.specs.Work.{after_fetch, note_at, batch_on, is_all_fetched}
 use Rattle.dsa_book.specs.Work.{qualifies, may_take, front_of, may_leave, dispatch, dispatch_of, fetch_for, fetch_of}
 use Rattle.dsa_book.specs.declared.answer.FetchAnswer.{FetchAnswer, TheVariants.{Fetched, AllFetched}}
@@ -13,9 +13,9 @@ use Rattle.dsa_book.specs.declared.answer.Reply.{Reply, TheVariants.{Submit, Dis
 use Rattle.dsa_book.specs.declared.answer.SubmitAnswer.{SubmitAnswer, TheVariants.{Accepted}}
 use Rattle.dsa_book.specs.declared.event.{Event.{Event, TheVariants.{Submit, Dispatch, Fetch}}, Portal.{Portal}}
 use Rattle.dsa_book.specs.declared.{answer.DispatchAnswer.TheVariants.{Taken}, note.BatchNote.{BatchNote}}
-use Rattle.dsa_book.specs.{Choice.{Choice, nothing, from_queue, choice_of, cell_of}, declared.event.Kind.{Kind}}
+use Rattle.dsa_book.specs.{Choice.{Choice, nothing, from_queue, choice_of, chosen_cell}, declared.event.Kind.{Kind}}
 use Rattle.dsa_book.specs.{Machine.{intake_of, may_choose, reply_of, next}, Submit.{submit, submit_table, after_accept}}
-use Rattle.dsa_book.{specs.State.{Intake, Work, State, ticket_of}, proofs.Nexts.{next-is}}
+use Rattle.dsa_book.{specs.State.{Intake, Work, State, ticket_of_entry}, proofs.Nexts.{next-is}}
 use Rattle.dsa_answers.specs.Choices.{AreAlike}
 
 -- a reply is like itself
@@ -47,12 +47,13 @@ no-front w e q {X} n may =
     let front : passes (may_take w e) (front_of w q) ≡ true = (and_parts _ _ (and_parts _ _ may).1).1 in
     let none : false ≡ true = sym (ap (passes (may_take w e)) n) ∙ front in absurd cc
 
-fronts : (w : Work) (e q p : ℕ) (o o' : Option Slot) → front_of w q ≡ o → front_of w p ≡ o' → qualifies w e q ≡ true
+fronts : (w : Work) (e q p : ℕ) (o o' : Option HeldEntry) → front_of w q ≡ o → front_of w p ≡ o' → qualifies w e q ≡ true
     → qualifies w e p ≡ true
     → AreAlike (Dispatch (dispatch_of w e q o).0) (Dispatch (dispatch_of w e p o').0)
 fronts w e q p None o' n m may might = no-front w e q n may
 fronts w e q p (Some f) None n m may might = no-front w e p m might
-fronts w e q p (Some f) (Some g) n m may might = λ same. ap ticket_of (same_Some f g (sym n ∙ ap (front_of w) same ∙ m))
+fronts w e q p (Some f) (Some g) n m may might = λ same.
+    ap ticket_of_entry (same_Some f g (sym n ∙ ap (front_of w) same ∙ m))
 
 -- where a queue qualifies, nothing may not be chosen
 not-idle : (w : Work) (e q : ℕ) {X : Type 0} → qualifies w e q ≡ true → may_leave w e nothing ≡ true → X
@@ -73,7 +74,7 @@ dispatches w e _ _ may might = absurd cc
 
 -- ---- fetch
 
-of-batch : (w : Work) (e : ℕ) (d : Descriptor) (c c' : Cell) (note : BatchNote) (o : Option Slot)
+of-batch : (w : Work) (e : ℕ) (d : Descriptor) (c c' : Cell) (note : BatchNote) (o : Option HeldEntry)
     → AreAlike (Fetch (fetch_of w e d c note o).0) (Fetch (fetch_of w e d c' note o).0)
 of-batch w e d c c' note None = refl
 of-batch w e d c c' note (Some batch) =
@@ -92,9 +93,9 @@ of-note w e d c c' (Some note) = of-batch w e d c c' note (batch_on w e note)
 choices-alike : (s : State) (event : Event) (c c' : Choice) → may_choose s event c ≡ true → may_choose s event c' ≡ true
     → AreAlike (reply_of s event c).0 (reply_of s event c').0
 choices-alike s (Submit client q portal kind d) c c' may might =
-    submits (intake_of s) q portal kind d (cell_of c) (cell_of c')
+    submits (intake_of s) q portal kind d (chosen_cell c) (chosen_cell c')
 choices-alike s (Dispatch e) c c' may might = dispatches s.work e c c' may might
-choices-alike s (Fetch e d) c c' may might = of-note s.work e d (cell_of c) (cell_of c') (note_at s.work e)
+choices-alike s (Fetch e d) c c' may might = of-note s.work e d (chosen_cell c) (chosen_cell c') (note_at s.work e)
 choices-alike s _ c c' may might = refl
 
 pub replies-alike : (s s' s'' : State) (event : Event) (a b : Reply) → next s event a ≡ Some s'

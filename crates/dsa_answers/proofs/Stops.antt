@@ -8,7 +8,7 @@ use Rattle.dsa_regs.specs.declared.{Deed.{Deed, TheVariants.{Enable, Disable, Ab
 use Rattle.dsa_regs.specs.declared.{Fault.{Fault, TheVariants.{BadQueue, WrongState, Busy}}, GroupConfig.{GroupConfig}}
 use Rattle.dsa_regs.specs.declared.{Phase.{Phase, TheVariants.{Off, On, Stopping}}, Command.{Command}, Caps.{Caps}}
 use Rattle.dsa_regs.specs.{declared.Scope.{Scope, TheVariants.{Device, Queue}}, Command.{scope_of, deed_of, queues_in}}
-use Rattle.dsa_store.specs.{declared.entry.Cell.{Cell}, Content.{Slot}}
+use Rattle.dsa_store.specs.{declared.entry.Cell.{Cell}, Content.{HeldEntry}}
 use Rattle.dsa_book.proofs.{Leaving.{dispatch-setup, start_of-setup, finish_of-setup}, Replay.{replay_none}}
 use Rattle.dsa_book.proofs.{Nexts.{next-each}, Phases.{by_phase}}
 use Rattle.dsa_book.specs.Commands.{after_stop, is_among, with_phases, write_queue, write_queue_table, write_group}
@@ -23,7 +23,7 @@ use Rattle.dsa_book.specs.declared.event.Event.TheVariants.{Submit, Dispatch, Fe
 use Rattle.dsa_book.specs.declared.event.Event.TheVariants.{WriteQueue, WriteGroup, ClearError}
 use Rattle.dsa_book.specs.declared.event.{Kind.{Kind, TheVariants.{Enqcmd, Movdir64b}}, Portal.{Portal}, Event.{Event}}
 use Rattle.dsa_book.specs.declared.{note.{BatchNote.{BatchNote}, ActiveCommand.{ActiveCommand}}, event.Step.{Step}}
-use Rattle.dsa_book.specs.{Machine.{next, reply_of, replay, replay_from, intake_of}, Choice.{Choice, cell_of}}
+use Rattle.dsa_book.specs.{Machine.{next, reply_of, replay, replay_from, intake_of}, Choice.{Choice, chosen_cell}}
 use Rattle.dsa_book.specs.{Submit.{submit, submit_table, after_refusal, after_accept}, Work.{finish, running_on}}
 use Rattle.dsa_book.specs.{declared.answer.SubmitAnswer.{SubmitAnswer}, Commands.{write_group_table, clear_of}}
 use Rattle.dsa_answers.specs.Stops.{is_stopping, stops_device, stops_queue, is_active_command, IsAtRest}
@@ -92,7 +92,7 @@ submit-phases s q portal kind d cell =
     first_row_or-each (λ (r : SubmitAnswer × Intake). HasSame s r.1.setup) (submit_table (intake_of s) q portal kind)
     (after_accept (intake_of s) q kind d cell) (away NotEnabled, (away WrongKind, (away AtLimit, tt))) refl
 
-fetch_of-phases : (s : State) (e : ℕ) (d : Descriptor) (c : Cell) (note : BatchNote) (o : Option Slot)
+fetch_of-phases : (s : State) (e : ℕ) (d : Descriptor) (c : Cell) (note : BatchNote) (o : Option HeldEntry)
     → HasSame s (fetch_of s.work e d c note o).1.setup
 fetch_of-phases s e d c note None = refl
 fetch_of-phases s e d c note (Some batch) =
@@ -213,9 +213,10 @@ poll-stops s (Some active) e i = cond_both _ _ _ (λ (r : PollAnswer × State). 
 -- ---- any step, and any history
 
 reply-stops : (s : State) (event : Event) (choice : Choice) → Holds s → Holds (reply_of s event choice).1
-reply-stops s (Submit client q portal kind d) choice i = kept s _ i (submit-phases s q portal kind d (cell_of choice))
+reply-stops s (Submit client q portal kind d) choice i =
+    kept s _ i (submit-phases s q portal kind d (chosen_cell choice))
 reply-stops s (Dispatch e) choice i = left s (dispatch s.work e choice).1 i (dispatch-setup s.work e choice)
-reply-stops s (Fetch e d) choice i = kept s _ i (fetch-phases s e d (cell_of choice) (note_at s.work e))
+reply-stops s (Fetch e d) choice i = kept s _ i (fetch-phases s e d (chosen_cell choice) (note_at s.work e))
 reply-stops s (Start e) choice i = left s (start s.work e).1 i (start_of-setup s.work e (first_waiting s.work e))
 reply-stops s (Finish e t outcome) choice i = left s (finish s.work e t outcome).1 i
     (finish_of-setup s.work e outcome (find (is_ticket t) (running_on s.work e)))

@@ -1,10 +1,11 @@
-//! A client submits Moves through the limited portal of a queue, and backs off while it is told to come again.
+//! A client submits Moves through the limited portal of a queue, and backs off while it is told to
+//! come again.
 #![tactic(auto)]
 
 use anyhow::{Result, bail};
 use dsa_book::{Cause, DispatchAnswer, Kind, Portal, SubmitAnswer};
 use dsa_desc::{Descriptor, Outcome};
-use dsa_machine::Machine;
+use dsa_linked::LinkedDevice;
 use dsa_regs::{Caps, Command, GroupConfig, QueueConfig};
 use std::io::Print;
 
@@ -46,7 +47,7 @@ const MOVE: Descriptor = Descriptor {
 const ENQCMD: Kind = Kind::Enqcmd { pasid: 5 };
 
 // The device and its queue are On.
-fn set_up(machine: &mut Machine) {
+fn set_up(machine: &mut LinkedDevice) {
     machine.device.write_queue(0, QUEUE);
     machine.device.write_group(0, GROUP);
     machine.device.issue(Command::EnableDevice);
@@ -54,7 +55,7 @@ fn set_up(machine: &mut Machine) {
 }
 
 // The engine takes and ends so many entries, or as many as wait.
-fn work(machine: &mut Machine, most: u32) {
+fn work(machine: &mut LinkedDevice, most: u32) {
     for _ in 0..most {
         let DispatchAnswer::Taken { ticket, .. } = machine.device.dispatch(0) else {
             return;
@@ -63,9 +64,9 @@ fn work(machine: &mut Machine, most: u32) {
     }
 }
 
-// How often the client was told to come again, before its descriptor was accepted; the engine works on while it waits, each
-// time twice as long. `None` where it gave up, or another answer came.
-fn submit(machine: &mut Machine, bytes: &[u8; 64]) -> Option<u32> {
+// How often the client was told to come again, before its descriptor was accepted; the engine works
+// on while it waits, each time twice as long. `None` where it gave up, or another answer came.
+fn submit(machine: &mut LinkedDevice, bytes: &[u8; 64]) -> Option<u32> {
     for retries in 0..10u32 {
         match machine.device.submit(0, 0, Portal::Limited, ENQCMD, bytes) {
             SubmitAnswer::Accepted(_) => return Some(retries),
@@ -77,7 +78,7 @@ fn submit(machine: &mut Machine, bytes: &[u8; 64]) -> Option<u32> {
 }
 
 // Eight submissions, one after the other.
-fn submit_all<R: Print>(rt: &R, machine: &mut Machine) -> Result<()> {
+fn submit_all<R: Print>(rt: &R, machine: &mut LinkedDevice) -> Result<()> {
     let bytes = MOVE.to_bytes();
     for number in 0..8u32 {
         let Some(retries) = submit(machine, &bytes) else {
@@ -89,7 +90,7 @@ fn submit_all<R: Print>(rt: &R, machine: &mut Machine) -> Result<()> {
 }
 
 fn main(rt: HostRuntime) -> Result<()> {
-    let Ok(mut machine) = Machine::new(rt.alloc(), CAPS, 1000) else {
+    let Ok(mut machine) = LinkedDevice::new(rt.alloc(), CAPS, 1000) else {
         bail!("no device was made");
     };
     set_up(&mut machine);

@@ -1,6 +1,7 @@
 pub mod EqualParts
 pub mod EqualReplies
 pub mod EqualSteps
+pub mod Gains
 pub mod Replay
 pub mod Phases
 pub mod Scopes

@@ -25,9 +25,9 @@ is_nothing nothing = true
 is_nothing _ = false
 
 -- the cell that is chosen
-abbrev pub cell_of : Choice → Cell
-cell_of (in_cell cell) = cell
-cell_of _ = record { 0 = 0 }
+abbrev pub chosen_cell : Choice → Cell
+chosen_cell (in_cell cell) = cell
+chosen_cell _ = record { 0 = 0 }
 
 -- the cell of an entry that comes in is one of the device's, and no list names it (profile)
 abbrev pub may_enter : Setup → Content → Choice → Bool

@@ -2,13 +2,13 @@
 use Rattle.std.specs.Prelude.{ℕ, Bool, true, false, not, cond, ◌&&◌, ◌||◌, ◌==◌, nat_lt, nat_le, List, ◌∷◌, ◌++◌, map}
 use Rattle.std.specs.{Prelude.{length, filter, slice_set, Option, Some, None, is_some, []}, List.{list_any, list_all}}
 use Rattle.dsa_base.specs.{Rows.{first_row_or}, Numbers.{numbers_below}}
-use Rattle.dsa_regs.specs.Command.{number_of, scope_of, deed_of, queues_in}
+use Rattle.dsa_regs.specs.Command.{number_of_command, scope_of, deed_of, queues_in}
 use Rattle.dsa_regs.specs.Config.{zero_queue, queue_at, check_device, check_queue}
 use Rattle.dsa_regs.specs.declared.Fault.{Fault, TheVariants.{BadQueue, Locked, WrongState, Busy, BadIndex}}
 use Rattle.dsa_regs.specs.declared.{Deed.{Deed, TheVariants.{Enable, Disable, Abort, Reset}}, QueueConfig.{QueueConfig}}
 use Rattle.dsa_regs.specs.declared.{Phase.{Phase, TheVariants.{Off, On, Stopping}}, Command.{Command}}
 use Rattle.dsa_regs.specs.declared.{Scope.{Scope, TheVariants.{Device, Queue, Pasid}}, GroupConfig.{GroupConfig}}
-use Rattle.dsa_store.specs.{declared.entry.Entry.{Entry}, Content.{Slot, Content, chain, all_held, only_where}}
+use Rattle.dsa_store.specs.{declared.entry.Entry.{Entry}, Content.{HeldEntry, Content, chain, all_held, only_where}}
 use Rattle.dsa_book.specs.State.{Setup, Work, State, is_on, is_off, is_member, is_batch_of, phase_at, has_queue}
 use Rattle.dsa_book.specs.declared.answer.ClearAnswer.{ClearAnswer, TheVariants.{Cleared, Nothing}}
 use Rattle.dsa_book.specs.declared.answer.IssueAnswer.{IssueAnswer, TheVariants.{Ended, Active, Refused}}
@@ -89,11 +89,11 @@ reset scope setup = with_sizes_alone (queues_in scope) (with_phases (is_among (q
 -- ---- abort
 
 -- whether a well-formed Batch among these is in the scope
-abbrev pub takes_batch : Setup → Scope → List Slot → Bool
-takes_batch setup scope xs = list_any (λ slot. is_batch_of setup slot.1 && is_in_scope scope slot.1) xs
+abbrev pub takes_batch : Setup → Scope → List HeldEntry → Bool
+takes_batch setup scope xs = list_any (λ pair. is_batch_of setup pair.1 && is_in_scope scope pair.1) xs
 
 -- the note of an engine goes with a well-formed Batch that is in progress there (profile)
-abbrev pub kept_note : Setup → Scope → List Slot → Option BatchNote → Option BatchNote
+abbrev pub kept_note : Setup → Scope → List HeldEntry → Option BatchNote → Option BatchNote
 kept_note setup scope xs note = cond (takes_batch setup scope xs) None note
 
 -- what the scope holds ends by the command of this number, list by list and each front first; the
@@ -105,12 +105,12 @@ after_abort number scope w =
       notes = map (λ e. kept_note w.setup scope (chain w.content (progress_list w.setup e)) (note_at w e))
           (numbers_below w.setup.caps.engines);
       fates = w.fates ++ map (fate_row (Aborted number))
-          (filter (λ slot. is_in_scope scope slot.1) (all_held w.content));
+          (filter (λ pair. is_in_scope scope pair.1) (all_held w.content));
     }
 
 -- how many entries the scope holds
 abbrev pub count_in_scope : Scope → Content → ℕ
-count_in_scope scope content = length (filter (λ slot. is_in_scope scope slot.1) (all_held content))
+count_in_scope scope content = length (filter (λ pair. is_in_scope scope pair.1) (all_held content))
 
 -- ---- issue
 
@@ -138,8 +138,8 @@ check_of setup Enable (Queue queue) = check_queue setup.caps setup.groups queue 
 check_of setup _ _ = None
 
 -- with this set-up
-abbrev pub with_setup : Work → Setup → Work
-with_setup w setup = record w { setup = setup }
+abbrev pub work_with_setup : Work → Setup → Work
+work_with_setup w setup = record w { setup = setup }
 
 -- the command is over, and so many entries were aborted
 abbrev pub end_at_once : State → ℕ → Work → IssueAnswer × State
@@ -149,7 +149,7 @@ end_at_once s n w = (Ended n, record s { work = w })
 abbrev pub abort_of : State → ℕ → Scope → (Setup → Setup) → IssueAnswer × State
 abort_of s number scope change =
     let w = after_abort number scope s.work in
-    end_at_once s (count_in_scope scope s.work.content) (with_setup w (change w.setup))
+    end_at_once s (count_in_scope scope s.work.content) (work_with_setup w (change w.setup))
 
 -- the command ends at once where nothing is to be waited for, else it is active from here on (profile)
 abbrev pub wait_of : State → Command → IssueAnswer × State
@@ -157,14 +157,14 @@ wait_of s command =
     let active : ActiveCommand = record { command = command; mark = s.work.setup.next_name } in
     let stop = after_stop (deed_of command) (scope_of command) in
     cond (is_at_end active s.work.content)
-    (end_at_once s 0 (with_setup s.work (stop Off s.work.setup)))
-    (Active, record { work = with_setup s.work (stop Stopping s.work.setup); active = Some active })
+    (end_at_once s 0 (work_with_setup s.work (stop Off s.work.setup)))
+    (Active, record { work = work_with_setup s.work (stop Stopping s.work.setup); active = Some active })
 
 -- what each deed does with a scope; the command is what it is active by, and what it aborts by (profile)
 abbrev pub deed_done_of : State → Command → Deed → Scope → IssueAnswer × State
-deed_done_of s command Enable scope = end_at_once s 0 (with_setup s.work (after_enable scope s.work.setup))
-deed_done_of s command Abort scope = abort_of s (number_of command) scope (λ setup. setup)
-deed_done_of s command Reset scope = abort_of s (number_of command) scope (reset scope)
+deed_done_of s command Enable scope = end_at_once s 0 (work_with_setup s.work (after_enable scope s.work.setup))
+deed_done_of s command Abort scope = abort_of s (number_of_command command) scope (λ setup. setup)
+deed_done_of s command Reset scope = abort_of s (number_of_command command) scope (reset scope)
 deed_done_of s command _ scope = wait_of s command
 
 -- what a command does (profile)
@@ -197,7 +197,7 @@ poll_of s (Some active) =
     cond (is_at_end active s.work.content) (
       Finished,
       record {
-        work = with_setup s.work
+        work = work_with_setup s.work
             (after_stop (deed_of active.command) (scope_of active.command) Off s.work.setup);
         active = None;
       },

@@ -5,8 +5,9 @@ use Rattle.dsa_desc.specs.Descriptor.{need, status, is_lawful_batch, is_lawful_d
 use Rattle.dsa_desc.specs.declared.{Outcome.{Outcome}, QueueLimits.{QueueLimits}}
 use Rattle.dsa_regs.specs.Caps.{list_count}
 use Rattle.dsa_regs.specs.declared.{Phase.{Phase, TheVariants.{Off, On}}, QueueConfig.{QueueConfig}, Caps.{Caps}}
-use Rattle.dsa_regs.specs.{Config.{zero_queue, zero_group, queue_at, limits_of}, declared.GroupConfig.{GroupConfig}}
-use Rattle.dsa_store.specs.{declared.entry.Entry.{Entry}, Content.{Slot, Content, chain, all_held, is_cell}}
+use Rattle.dsa_regs.specs.Config.{zero_queue, zero_group, queue_at, limits_of_queue}
+use Rattle.dsa_regs.specs.declared.GroupConfig.{GroupConfig}
+use Rattle.dsa_store.specs.{declared.entry.Entry.{Entry}, Content.{HeldEntry, Content, chain, all_held, is_cell}}
 use Rattle.dsa_book.specs.declared.answer.{Ticket.{Ticket}, NotedError.{NotedError}}
 use Rattle.dsa_book.specs.declared.{note.{BatchNote.{BatchNote}, ActiveCommand.{ActiveCommand}}, fate.FateRow.{FateRow}}
 
@@ -91,7 +92,7 @@ is_member entry = is_some entry.parent
 
 -- the limits of a queue (profile)
 abbrev pub limits_at : Setup → ℕ → QueueLimits
-limits_at setup q = limits_of (queue_at setup.configs q)
+limits_at setup q = limits_of_queue (queue_at setup.configs q)
 
 -- how many read buffers an entry takes while it runs, by the limits of its queue (profile)
 abbrev pub need_of : Setup → Entry → ℕ
@@ -102,8 +103,8 @@ abbrev pub held_by : Setup → Entry → ℕ
 held_by setup entry = cond entry.running (need_of setup entry) 0
 
 -- the status that an entry completes with, by the limits of its queue (profile)
-abbrev pub status_of : Setup → Entry → Outcome → ℕ
-status_of setup entry outcome = status entry.desc (limits_at setup entry.queue) (is_member entry) outcome
+abbrev pub status_of_entry : Setup → Entry → Outcome → ℕ
+status_of_entry setup entry outcome = status entry.desc (limits_at setup entry.queue) (is_member entry) outcome
 
 -- whether an entry is a well-formed Batch, by the limits of its queue (profile)
 abbrev pub is_batch_of : Setup → Entry → Bool
@@ -120,17 +121,17 @@ abbrev pub occupancy : Content → ℕ → ℕ
 occupancy content q = length (chain content q)
 
 -- whether an entry that passes stands in the list
-abbrev pub any_in : (Entry → Bool) → List Slot → Bool
-any_in test slots = list_any (λ slot. test slot.1) slots
+abbrev pub any_in : (Entry → Bool) → List HeldEntry → Bool
+any_in test pairs = list_any (λ pair. test pair.1) pairs
 
 -- whether an entry that passes is held
 abbrev pub holds_any : (Entry → Bool) → Content → Bool
 holds_any test content = any_in test (all_held content)
 
 -- the ticket of an entry is its cell and its name (profile)
-abbrev pub ticket_of : Slot → Ticket
-ticket_of slot = record { cell = slot.0; name = slot.1.name }
+abbrev pub ticket_of_entry : HeldEntry → Ticket
+ticket_of_entry pair = record { cell = pair.0; name = pair.1.name }
 
 -- whether a ticket is the entry's: both the cell and the name are (profile)
-abbrev pub is_ticket : Ticket → Slot → Bool
-is_ticket ticket slot = is_cell ticket.cell slot && slot.1.name == ticket.name
+abbrev pub is_ticket : Ticket → HeldEntry → Bool
+is_ticket ticket pair = is_cell ticket.cell pair && pair.1.name == ticket.name

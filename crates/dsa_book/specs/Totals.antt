@@ -24,8 +24,8 @@ same_actor Admin Admin = true
 same_actor _ _ = false
 
 -- the actor's own steps, in order
-abbrev pub steps_of : List Step → Actor → List Step
-steps_of steps actor = filter (λ step. same_actor (actor_of step.event) actor) steps
+abbrev pub steps_of_actor : List Step → Actor → List Step
+steps_of_actor steps actor = filter (λ step. same_actor (actor_of step.event) actor) steps
 
 -- the step accepted a submission
 abbrev pub is_accepted : Reply → Bool
@@ -72,16 +72,3 @@ total_done steps = count_by (λ step. is_done step.reply) steps
 -- how many entries were aborted or abandoned
 abbrev pub total_lost : List Step → ℕ
 total_lost steps = sum_by (λ step. lost_by step.reply) steps
-
--- how many names the step gave
-abbrev pub named_by : Reply → ℕ
-named_by (Submit (Accepted ticket)) = 1
-named_by (Fetch (Fetched ticket)) = 1
-named_by _ = 0
-
--- how many fate rows the step added
-abbrev pub ended_by : Reply → ℕ
-ended_by (Finish (Done status)) = 1
-ended_by (Start (Abandoned k)) = k
-ended_by (Issue (Ended aborted)) = aborted
-ended_by _ = 0

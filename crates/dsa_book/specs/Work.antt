@@ -7,9 +7,9 @@ use Rattle.dsa_desc.specs.declared.{Descriptor.{Descriptor}, Outcome.{Outcome}}
 use Rattle.dsa_base.specs.{Rows.{first_row_or, passes}, Numbers.{has, numbers_below}}
 use Rattle.dsa_regs.specs.declared.{GroupConfig.{GroupConfig}, layout.ListUse.TheVariants.{Progress, Members}}
 use Rattle.dsa_regs.specs.{Caps.{list_number}, Config.{group_at}, Buffers.{fits}}
-use Rattle.dsa_store.specs.Content.{Slot, chain, is_cell, after_push, without_front, after_give_back, after_unlink}
+use Rattle.dsa_store.specs.Content.{HeldEntry, chain, is_cell, after_push, without_front, after_give_back, after_unlink}
 use Rattle.dsa_store.specs.declared.entry.{Cell.{Cell}, Entry.{Entry}}
-use Rattle.dsa_book.specs.State.{Setup, Work, has_queue, is_member, need_of, held_by, status_of, is_batch_of}
+use Rattle.dsa_book.specs.State.{Setup, Work, has_queue, is_member, need_of, held_by, status_of_entry, is_batch_of}
 use Rattle.dsa_book.specs.State.{is_drain_of}
 use Rattle.dsa_book.specs.declared.answer.FetchAnswer.{FetchAnswer, TheVariants.{Fetched, NoBatch, AllFetched}}
 use Rattle.dsa_book.specs.declared.answer.FinishAnswer.{FinishAnswer, TheVariants.{Done, NotReady, Gone}}
@@ -18,7 +18,7 @@ use Rattle.dsa_book.specs.declared.answer.{DispatchAnswer.{DispatchAnswer, TheVa
 use Rattle.dsa_book.specs.declared.fate.{Fate.{Fate, TheVariants.{Completed, Abandoned}}, FateRow.{FateRow}}
 use Rattle.dsa_book.specs.declared.{answer.StartAnswer.{StartAnswer}, note.BatchNote.{BatchNote}}
 use Rattle.dsa_book.specs.Choice.{Choice, nothing, in_cell, from_queue}
-use Rattle.dsa_book.specs.State.{ticket_of, is_ticket, any_in, holds_any}
+use Rattle.dsa_book.specs.State.{ticket_of_entry, is_ticket, any_in, holds_any}
 
 -- ---- what an engine has. An engine that the device does not have has nothing
 
@@ -31,16 +31,16 @@ abbrev pub member_list : Setup → ℕ → ℕ
 member_list setup e = list_number setup.caps (Members e)
 
 -- the submitted entries in progress on an engine
-abbrev pub in_progress : Work → ℕ → List Slot
+abbrev pub in_progress : Work → ℕ → List HeldEntry
 in_progress w e = cond (nat_lt e w.setup.caps.engines) (chain w.content (progress_list w.setup e)) []
 
 -- the members of the engine's batch that have not ended
-abbrev pub members : Work → ℕ → List Slot
+abbrev pub members : Work → ℕ → List HeldEntry
 members w e = cond (nat_lt e w.setup.caps.engines) (chain w.content (member_list w.setup e)) []
 
 -- the entries that run on an engine
-abbrev pub running_on : Work → ℕ → List Slot
-running_on w e = filter (λ slot. slot.1.running) (in_progress w e ++ members w e)
+abbrev pub running_on : Work → ℕ → List HeldEntry
+running_on w e = filter (λ pair. pair.1.running) (in_progress w e ++ members w e)
 
 -- the note of the batch that the engine works on
 abbrev pub note_at : Work → ℕ → Option BatchNote
@@ -55,14 +55,14 @@ abbrev pub group_in : List GroupConfig → ℕ → Option ℕ
 group_in groups e = position (λ g. has g.engines e) groups
 
 -- the group of the engine
-abbrev pub group_of : Work → ℕ → Option ℕ
-group_of w e = group_in w.setup.groups e
+abbrev pub group_of_engine : Work → ℕ → Option ℕ
+group_of_engine w e = group_in w.setup.groups e
 
 -- ---- read buffers
 
 -- how many read buffers the entries of an engine hold (profile)
 abbrev pub used_on : Work → ℕ → ℕ
-used_on w e = sum_by (λ slot. held_by w.setup slot.1) (in_progress w e ++ members w e)
+used_on w e = sum_by (λ pair. held_by w.setup pair.1) (in_progress w e ++ members w e)
 
 -- how many those of the group's engines have taken (profile)
 abbrev pub used : Work → ℕ → ℕ
@@ -74,13 +74,13 @@ all_used w = map (used w) (numbers_below w.setup.caps.groups)
 
 -- n more buffers fit the group of the engine (profile)
 abbrev pub has_room : Work → ℕ → ℕ → Bool
-has_room w e n = passes (λ g. fits w.setup.caps.read_buffers w.setup.groups (all_used w) g n) (group_of w e)
+has_room w e n = passes (λ g. fits w.setup.caps.read_buffers w.setup.groups (all_used w) g n) (group_of_engine w e)
 
 -- ---- dispatch
 
 -- the queue is of the engine's group (Intel DSA: any engine of a group takes from any work queue of the group)
 abbrev pub serves : Work → ℕ → ℕ → Bool
-serves w e q = passes (λ g. has (group_at w.setup.groups g).queues q) (group_of w e)
+serves w e q = passes (λ g. has (group_at w.setup.groups g).queues q) (group_of_engine w e)
 
 -- a well-formed Drain is in progress on the engine
 abbrev pub is_draining : Work → ℕ → Bool
@@ -88,7 +88,7 @@ is_draining w e = any_in (is_drain_of w.setup) (in_progress w e)
 
 -- the engine has a slot left and the buffers that the front needs, and works on one batch and on one Drain at a time
 -- (profile)
-abbrev pub may_take : Work → ℕ → Slot → Bool
+abbrev pub may_take : Work → ℕ → HeldEntry → Bool
 may_take w e front =
     nat_lt (length (in_progress w e)) w.setup.caps.slots
     && has_room w e (need_of w.setup front.1)
@@ -96,7 +96,7 @@ may_take w e front =
     && not (is_drain_of w.setup front.1 && is_draining w e)
 
 -- a queue is served front first (profile)
-abbrev pub front_of : Work → ℕ → Option Slot
+abbrev pub front_of : Work → ℕ → Option HeldEntry
 front_of w q = slice_get (chain w.content q) 0
 
 -- the queue is one of the engine's, and the engine may take its front (profile)
@@ -113,11 +113,11 @@ abbrev pub as_running : Entry → Entry
 as_running entry = record entry { running = true }
 
 -- the same cell, whose entry runs
-abbrev pub with_running_entry : Slot → Slot
-with_running_entry slot = (slot.0, as_running slot.1)
+abbrev pub with_running_entry : HeldEntry → HeldEntry
+with_running_entry pair = (pair.0, as_running pair.1)
 
 -- the front of the queue goes to the end of those in progress, and runs; a well-formed Batch opens a note (profile)
-abbrev pub after_take : Work → ℕ → ℕ → Slot → Work
+abbrev pub after_take : Work → ℕ → ℕ → HeldEntry → Work
 after_take w e q front = record w {
   content = after_push (without_front w.content q) (progress_list w.setup e) front.0 (as_running front.1);
   notes = cond (is_batch_of w.setup front.1) (with_note w.notes e (Some (opened_note front.1))) w.notes;
@@ -131,9 +131,9 @@ may_leave w e (from_queue q) = qualifies w e q
 may_leave w e (in_cell cell) = false
 
 -- the front is taken, where there is one (profile)
-abbrev pub dispatch_of : Work → ℕ → ℕ → Option Slot → DispatchAnswer × Work
+abbrev pub dispatch_of : Work → ℕ → ℕ → Option HeldEntry → DispatchAnswer × Work
 dispatch_of w e q None = (Idle, w)
-dispatch_of w e q (Some front) = (Taken (ticket_of front) q, after_take w e q front)
+dispatch_of w e q (Some front) = (Taken (ticket_of_entry front) q, after_take w e q front)
 
 -- the answer to a dispatch and what it leaves: the chosen queue's front is taken, and Idle comes without one (profile)
 abbrev pub dispatch : Work → ℕ → Choice → DispatchAnswer × Work
@@ -147,8 +147,8 @@ abbrev pub is_all_fetched : BatchNote → Bool
 is_all_fetched note = note.closed || nat_le note.count note.fetched
 
 -- the batch that the note is of
-abbrev pub batch_on : Work → ℕ → BatchNote → Option Slot
-batch_on w e note = find (λ slot. slot.1.name == note.batch) (in_progress w e)
+abbrev pub batch_on : Work → ℕ → BatchNote → Option HeldEntry
+batch_on w e note = find (λ pair. pair.1.name == note.batch) (in_progress w e)
 
 -- the member stands last among the members, with the next name, the given cell, and the batch's
 -- PASID and queue (profile)
@@ -171,7 +171,7 @@ after_fetch w e desc cell note batch = (
 )
 
 -- nothing is fetched past the count of the batch (profile)
-abbrev pub fetch_of : Work → ℕ → Descriptor → Cell → BatchNote → Option Slot → FetchAnswer × Work
+abbrev pub fetch_of : Work → ℕ → Descriptor → Cell → BatchNote → Option HeldEntry → FetchAnswer × Work
 fetch_of w e desc cell note None = (NoBatch, w)
 fetch_of w e desc cell note (Some batch) =
     first_row_or ((is_all_fetched note, (AllFetched, w)) ∷ []) (after_fetch w e desc cell note batch.1)
@@ -188,20 +188,20 @@ fetch w e desc cell = fetch_for w e desc cell (note_at w e)
 -- ---- start
 
 -- the first member that does not run
-abbrev pub first_waiting : Work → ℕ → Option Slot
-first_waiting w e = find (λ slot. not slot.1.running) (members w e)
+abbrev pub first_waiting : Work → ℕ → Option HeldEntry
+first_waiting w e = find (λ pair. not pair.1.running) (members w e)
 
 -- whether all members before this one have ended
-abbrev pub is_front : Work → ℕ → Slot → Bool
-is_front w e slot = passes (is_cell slot.0) (slice_get (members w e) 0)
+abbrev pub is_front : Work → ℕ → HeldEntry → Bool
+is_front w e pair = passes (is_cell pair.0) (slice_get (members w e) 0)
 
 -- whether a member of the engine's batch was not successful
-abbrev pub has_failed : Work → ℕ → Bool
-has_failed w e = passes (λ note. note.failed) (note_at w e)
+abbrev pub has_failed_member : Work → ℕ → Bool
+has_failed_member w e = passes (λ note. note.failed) (note_at w e)
 
 -- the row of an entry that ends so
-abbrev pub fate_row : Fate → Slot → FateRow
-fate_row fate slot = record { name = slot.1.name; parent = slot.1.parent; fate = fate }
+abbrev pub fate_row : Fate → HeldEntry → FateRow
+fate_row fate pair = record { name = pair.1.name; parent = pair.1.parent; fate = fate }
 
 -- all members end, and the batch is closed (Intel DSA: fence, where a descriptor before it failed)
 abbrev pub after_abandon : Work → ℕ → Work
@@ -212,9 +212,9 @@ after_abandon w e = record w {
 }
 
 -- the first that does not run runs
-abbrev pub with_first_run : List Slot → List Slot
+abbrev pub with_first_run : List HeldEntry → List HeldEntry
 with_first_run [] = []
-with_first_run (slot ∷ rest) = cond slot.1.running (slot ∷ with_first_run rest) (with_running_entry slot ∷ rest)
+with_first_run (pair ∷ rest) = cond pair.1.running (pair ∷ with_first_run rest) (with_running_entry pair ∷ rest)
 
 -- the first member that did not run runs (profile)
 abbrev pub after_start : Work → ℕ → Work
@@ -222,16 +222,16 @@ after_start w e = record w { content = slice_set w.content (member_list w.setup 
 
 -- what keeps a member from starting: a fence waits for all members before it, a failure before it
 -- abandons the rest (Intel DSA: fence), or there is want of buffers (profile)
-abbrev pub start_table : Work → ℕ → Slot → List (Bool × (StartAnswer × Work))
-start_table w e slot =
-    (is_fenced slot.1.desc && not (is_front w e slot), (FenceWait, w)) ∷
-    (is_fenced slot.1.desc && has_failed w e, (Abandoned (length (members w e)), after_abandon w e)) ∷
-    (not (has_room w e (need_of w.setup slot.1)), (NoBuffers, w)) ∷ []
+abbrev pub start_table : Work → ℕ → HeldEntry → List (Bool × (StartAnswer × Work))
+start_table w e pair =
+    (is_fenced pair.1.desc && not (is_front w e pair), (FenceWait, w)) ∷
+    (is_fenced pair.1.desc && has_failed_member w e, (Abandoned (length (members w e)), after_abandon w e)) ∷
+    (not (has_room w e (need_of w.setup pair.1)), (NoBuffers, w)) ∷ []
 
 -- Nothing without a member that waits, else what keeps it from starting, else it starts (profile)
-abbrev pub start_of : Work → ℕ → Option Slot → StartAnswer × Work
+abbrev pub start_of : Work → ℕ → Option HeldEntry → StartAnswer × Work
 start_of w e None = (Nothing, w)
-start_of w e (Some slot) = first_row_or (start_table w e slot) (Started (ticket_of slot), after_start w e)
+start_of w e (Some pair) = first_row_or (start_table w e pair) (Started (ticket_of_entry pair), after_start w e)
 
 -- the answer to a start and what it leaves (profile)
 abbrev pub start : Work → ℕ → StartAnswer × Work
@@ -262,32 +262,32 @@ must_wait w e entry =
 
 -- a batch with a member that was not successful ends with 0x05 (profile; the number is equal to
 -- that of the Linux header)
-abbrev pub last_status : Work → ℕ → Slot → Outcome → ℕ
-last_status w e slot outcome =
-    cond (is_batch_of w.setup slot.1 && has_failed w e) 0x05 (status_of w.setup slot.1 outcome)
+abbrev pub last_status : Work → ℕ → HeldEntry → Outcome → ℕ
+last_status w e pair outcome =
+    cond (is_batch_of w.setup pair.1 && has_failed_member w e) 0x05 (status_of_entry w.setup pair.1 outcome)
 
 -- the note of a batch that ends goes, and a member that was not successful sets the failed mark (profile)
-abbrev pub note_after : Work → ℕ → Slot → Outcome → Option BatchNote
-note_after w e slot outcome =
-    cond (is_batch_of w.setup slot.1) None
-    (cond (is_member slot.1 && not (is_successful (status_of w.setup slot.1 outcome)))
+abbrev pub note_after : Work → ℕ → HeldEntry → Outcome → Option BatchNote
+note_after w e pair outcome =
+    cond (is_batch_of w.setup pair.1) None
+    (cond (is_member pair.1 && not (is_successful (status_of_entry w.setup pair.1 outcome)))
     (option_map (λ (note : BatchNote). record note { failed = true }) (note_at w e))
     (note_at w e))
 
 -- the entry leaves, and its fate is written down (profile)
-abbrev pub after_end : Work → ℕ → Slot → Outcome → Work
-after_end w e slot outcome = record w {
-  content = after_unlink w.content slot.0;
-  notes = with_note w.notes e (note_after w e slot outcome);
-  fates = w.fates ++ fate_row (Completed (last_status w e slot outcome)) slot ∷ [];
+abbrev pub after_end : Work → ℕ → HeldEntry → Outcome → Work
+after_end w e pair outcome = record w {
+  content = after_unlink w.content pair.0;
+  notes = with_note w.notes e (note_after w e pair outcome);
+  fates = w.fates ++ fate_row (Completed (last_status w e pair outcome)) pair ∷ [];
 }
 
 -- Gone without such an entry, NotReady for one that must wait, else Done (profile)
-abbrev pub finish_of : Work → ℕ → Outcome → Option Slot → FinishAnswer × Work
+abbrev pub finish_of : Work → ℕ → Outcome → Option HeldEntry → FinishAnswer × Work
 finish_of w e outcome None = (Gone, w)
-finish_of w e outcome (Some slot) =
-    first_row_or ((must_wait w e slot.1, (NotReady, w)) ∷ [])
-    (Done (last_status w e slot outcome), after_end w e slot outcome)
+finish_of w e outcome (Some pair) =
+    first_row_or ((must_wait w e pair.1, (NotReady, w)) ∷ [])
+    (Done (last_status w e pair outcome), after_end w e pair outcome)
 
 -- the answer to an end and what it leaves: it is of the running entry of the engine that has the
 -- ticket's cell and name (profile)

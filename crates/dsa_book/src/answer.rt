@@ -6,14 +6,16 @@ use crate::event::Kind;
 use dsa_regs::Fault;
 use dsa_store::Cell;
 
-/// What names an entry that the device holds: the cell that it stands in, and its name, which is given once and never again.
+/// What names an entry that the device holds: the cell that it stands in, and its name, which is
+/// given once and never again.
 #[derive(Clone, Copy, Debug, PartialEq, Eq)]
 pub struct Ticket {
     pub cell: Cell,
     pub name: u32,
 }
 
-/// Why a submission was turned away. A program sees the zero flag alone, so the cause is the profile's.
+/// Why a submission was turned away. A program sees the zero flag alone, so the cause is the
+/// profile's.
 #[derive(Clone, Copy, Debug, PartialEq, Eq)]
 pub enum Cause {
     /// The occupancy of the queue is at or above the limit of the portal.
@@ -81,7 +83,8 @@ pub enum StartAnswer {
     FenceWait,
     /// The read buffers that it needs are not to be had.
     NoBuffers,
-    /// It has a fence, and a member before it was not successful: so many members end, and the batch is closed.
+    /// It has a fence, and a member before it was not successful: so many members end, and the
+    /// batch is closed.
     Abandoned(u32),
     /// No member waits.
     Nothing,
@@ -167,9 +170,9 @@ pub enum Reply {
 impl SubmitAnswer {
     ghost use Rattle.dsa_book.specs.Submit.{zf};
 
-    /// The zero flag after the instruction: clear where the descriptor was accepted, set where the program is to come
-    /// again; MOVDIR64B is posted and reports nothing (Intel SDM, ENQCMD and MOVDIR64B). A full history is no answer of a
-    /// device, and reports nothing (profile).
+    /// The zero flag after the instruction: clear where the descriptor was accepted, set where the
+    /// program is to come again; MOVDIR64B is posted and reports nothing (Intel SDM, ENQCMD and
+    /// MOVDIR64B). A full history is no answer of a device, and reports nothing (profile).
     pub fn zf(&self, kind: Kind) -> Option<bool>
         ensures { result ≡ zf self.now kind }
     {
@@ -184,7 +187,8 @@ impl SubmitAnswer {
 impl Reply {
     ghost use Rattle.dsa_book.specs.Machine.{is_stored};
 
-    /// Whether the history keeps a step with this reply. A step whose reply it does not keep changed nothing.
+    /// Whether the history keeps a step with this reply. A step whose reply it does not keep
+    /// changed nothing.
     pub fn is_stored(&self) -> bool
         ensures { result ≡ is_stored self.now }
     {

@@ -23,13 +23,18 @@ impl Model for Book {
 
     ghost Value = { Records };
 
-    ghost view = { λ b. record { history = b.history.items; fates = b.fates.items; capacity = b.capacity } };
+    ghost view = { λ b. record {
+      history = b.history.items;
+      fates = b.fates.items;
+      capacity = b.capacity;
+    } };
 
     ghost invariant = { λ b. HasRoom b };
 }
 
 impl Book {
-    /// An empty book with room for so many steps and as many fate rows. No other call of a book takes memory.
+    /// An empty book with room for so many steps and as many fate rows. No other call of a book
+    /// takes memory.
     pub fn new(alloc: Global, capacity: usize) -> Result<Book, AllocError>
         ensures history { IfOk result (λ b. b.history ≡ []) }
         ensures fates { IfOk result (λ b. b.fates ≡ []) }
@@ -97,7 +102,11 @@ impl Book {
     /// Adds the step where its reply is one that the history keeps, and else changes nothing.
     pub fn record(&mut self, event: Event, reply: Reply)
         requires { length self.old.history < self.old.capacity }
-        ensures { self.new ≡ record self.old { history = history_after self.old.history (record { event = event; reply = reply }) } }
+        ensures { self.new
+            ≡ record self.old {
+              history = history_after self.old.history
+                  (record { event = event; reply = reply });
+            } }
     {
         if reply.is_stored() {
             self.add_step(Step { event, reply });

@@ -6,16 +6,16 @@ use crate::answer::{Reply, Ticket};
 use dsa_desc::{Descriptor, Outcome};
 use dsa_regs::{Command, GroupConfig, QueueConfig};
 
-/// The address that a descriptor is written to: on the limited portal of a shared queue the threshold bounds the
-/// occupancy, else the size of the queue does (profile).
+/// The address that a descriptor is written to: on the limited portal of a shared queue the
+/// threshold bounds the occupancy, else the size of the queue does (profile).
 #[derive(Clone, Copy, Debug, PartialEq, Eq)]
 pub enum Portal {
     Limited,
     Unlimited,
 }
 
-/// The instruction that writes the descriptor: ENQCMD to a shared queue, MOVDIR64B to a dedicated one (Intel DSA
-/// specification; Intel SDM, ENQCMD and MOVDIR64B).
+/// The instruction that writes the descriptor: ENQCMD to a shared queue, MOVDIR64B to a dedicated
+/// one (Intel DSA specification; Intel SDM, ENQCMD and MOVDIR64B).
 #[derive(Clone, Copy, Debug, PartialEq, Eq)]
 pub enum Kind {
     /// ENQCMD, with the PASID of the register IA32_PASID, of which bits 19:0 count.

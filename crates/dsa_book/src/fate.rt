@@ -11,7 +11,8 @@ pub enum Fate {
     Abandoned,
 }
 
-/// The fate of one name. A submitted entry has no parent; the parent of a member is the name of its batch.
+/// The fate of one name. A submitted entry has no parent; the parent of a member is the name of its
+/// batch.
 #[derive(Clone, Copy, Debug, PartialEq, Eq)]
 pub struct FateRow {
     pub name: u32,

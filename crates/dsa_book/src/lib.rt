@@ -1,4 +1,5 @@
-//! Events, answers and fates of the device, and the book that keeps its history. The definitions of the whole machine stand in `specs/`.
+//! Events, answers and fates of the device, and the book that keeps its history. The definitions of
+//! the whole machine stand in `specs/`.
 #![tactic(auto)]
 
 mod answer;

@@ -19,15 +19,45 @@ use Rattle.dsa_book.specs.declared.answer.Reply.TheVariants.{Submit, Dispatch, F
 use Rattle.dsa_book.specs.declared.answer.Reply.TheVariants.{Write, Clear}
 use Rattle.dsa_book.specs.declared.event.Step.{Step}
 use Rattle.dsa_book.specs.declared.fate.{Fate.{Fate, TheVariants.{Completed, Aborted, Abandoned}}, FateRow.{FateRow}}
-use Rattle.dsa_c.specs.declared.answer.{Answer.{Answer}, Ending.{Ending}}
+use Rattle.dsa_c.specs.declared.answer.{AnswerKind.{AnswerKind}, Answer.{Answer}, Ending.{Ending}}
+use Rattle.dsa_c.specs.declared.answer.AnswerKind.TheVariants as kind
+
+-- the number of each kind of answer (enum dsa_kind of the header)
+abbrev pub kind_number : AnswerKind → ℕ
+kind_number kind.NoDevice = 0
+kind_number kind.Accepted = 1
+kind_number kind.Retry = 2
+kind_number kind.Dropped = 3
+kind_number kind.Taken = 4
+kind_number kind.Idle = 5
+kind_number kind.Fetched = 6
+kind_number kind.NoBatch = 7
+kind_number kind.AllFetched = 8
+kind_number kind.Started = 9
+kind_number kind.FenceWait = 10
+kind_number kind.NoBuffers = 11
+kind_number kind.Abandoned = 12
+kind_number kind.Nothing = 13
+kind_number kind.Done = 14
+kind_number kind.NotReady = 15
+kind_number kind.Gone = 16
+kind_number kind.Ended = 17
+kind_number kind.Active = 18
+kind_number kind.Refused = 19
+kind_number kind.Finished = 20
+kind_number kind.Written = 21
+kind_number kind.Cleared = 22
+kind_number kind.Full = 23
+kind_number kind.BadArgument = 24
 
 -- an answer of this kind, with one more number
-abbrev pub plain : ℕ → ℕ → Answer
-plain kind more = record { kind = kind; name = 0; cell = 0; more = more }
+abbrev pub plain : AnswerKind → ℕ → Answer
+plain kind more = record { kind = kind_number kind; name = 0; cell = 0; more = more }
 
 -- an answer of this kind that names an entry
-abbrev pub of_ticket : ℕ → Ticket → ℕ → Answer
-of_ticket kind ticket more = record { kind = kind; name = ticket.name; cell = ticket.cell.0; more = more }
+abbrev pub of_ticket : AnswerKind → Ticket → ℕ → Answer
+of_ticket kind ticket more =
+    record { kind = kind_number kind; name = ticket.name; cell = ticket.cell.0; more = more }
 
 abbrev pub cause_number : Cause → ℕ
 cause_number AtLimit = 1
@@ -40,7 +70,7 @@ bit_number false = 0
 
 abbrev pub of_noted : NotedError → Answer
 of_noted noted = record {
-  kind = 22;
+  kind = kind_number kind.Cleared;
   name = noted.queue;
   cell = bit_number noted.overflow;
   more =
@@ -49,56 +79,56 @@ of_noted noted = record {
 
 -- the handle has no device
 abbrev pub no_device : Answer
-no_device = plain 0 0
+no_device = plain kind.NoDevice 0
 
 -- the number of an argument is none of those that it may have
 abbrev pub bad_argument : Answer
-bad_argument = plain 24 0
+bad_argument = plain kind.BadArgument 0
 
-abbrev pub refused : Fault → Answer
-refused fault = plain 19 (fault_number fault)
+abbrev pub refusal_answer : Fault → Answer
+refusal_answer fault = plain kind.Refused (fault_number fault)
 
 -- what each reply of the machine is to C
 abbrev pub answer_of : Reply → Answer
-answer_of (Submit (Accepted ticket)) = of_ticket 1 ticket 0
-answer_of (Submit (Retry cause)) = plain 2 (cause_number cause)
-answer_of (Submit (Dropped cause)) = plain 3 (cause_number cause)
-answer_of (Submit Full) = plain 23 0
-answer_of (Dispatch (Taken ticket queue)) = of_ticket 4 ticket queue
-answer_of (Dispatch Idle) = plain 5 0
-answer_of (Dispatch Full) = plain 23 0
-answer_of (Fetch (Fetched ticket)) = of_ticket 6 ticket 0
-answer_of (Fetch NoBatch) = plain 7 0
-answer_of (Fetch AllFetched) = plain 8 0
-answer_of (Fetch Full) = plain 23 0
-answer_of (Start (Started ticket)) = of_ticket 9 ticket 0
-answer_of (Start FenceWait) = plain 10 0
-answer_of (Start NoBuffers) = plain 11 0
-answer_of (Start (Abandoned count)) = plain 12 count
-answer_of (Start Nothing) = plain 13 0
-answer_of (Start Full) = plain 23 0
-answer_of (Finish (Done status)) = plain 14 status
-answer_of (Finish NotReady) = plain 15 0
-answer_of (Finish Gone) = plain 16 0
-answer_of (Finish Full) = plain 23 0
-answer_of (Issue (Ended aborted)) = plain 17 aborted
-answer_of (Issue Active) = plain 18 0
-answer_of (Issue (Refused fault)) = refused fault
-answer_of (Issue Full) = plain 23 0
-answer_of (Poll Finished) = plain 20 0
-answer_of (Poll Active) = plain 18 0
-answer_of (Poll Nothing) = plain 13 0
-answer_of (Poll Full) = plain 23 0
-answer_of (Write Written) = plain 21 0
-answer_of (Write (Refused fault)) = refused fault
-answer_of (Write Full) = plain 23 0
+answer_of (Submit (Accepted ticket)) = of_ticket kind.Accepted ticket 0
+answer_of (Submit (Retry cause)) = plain kind.Retry (cause_number cause)
+answer_of (Submit (Dropped cause)) = plain kind.Dropped (cause_number cause)
+answer_of (Submit Full) = plain kind.Full 0
+answer_of (Dispatch (Taken ticket queue)) = of_ticket kind.Taken ticket queue
+answer_of (Dispatch Idle) = plain kind.Idle 0
+answer_of (Dispatch Full) = plain kind.Full 0
+answer_of (Fetch (Fetched ticket)) = of_ticket kind.Fetched ticket 0
+answer_of (Fetch NoBatch) = plain kind.NoBatch 0
+answer_of (Fetch AllFetched) = plain kind.AllFetched 0
+answer_of (Fetch Full) = plain kind.Full 0
+answer_of (Start (Started ticket)) = of_ticket kind.Started ticket 0
+answer_of (Start FenceWait) = plain kind.FenceWait 0
+answer_of (Start NoBuffers) = plain kind.NoBuffers 0
+answer_of (Start (Abandoned count)) = plain kind.Abandoned count
+answer_of (Start Nothing) = plain kind.Nothing 0
+answer_of (Start Full) = plain kind.Full 0
+answer_of (Finish (Done status)) = plain kind.Done status
+answer_of (Finish NotReady) = plain kind.NotReady 0
+answer_of (Finish Gone) = plain kind.Gone 0
+answer_of (Finish Full) = plain kind.Full 0
+answer_of (Issue (Ended aborted)) = plain kind.Ended aborted
+answer_of (Issue Active) = plain kind.Active 0
+answer_of (Issue (Refused fault)) = refusal_answer fault
+answer_of (Issue Full) = plain kind.Full 0
+answer_of (Poll Finished) = plain kind.Finished 0
+answer_of (Poll Active) = plain kind.Active 0
+answer_of (Poll Nothing) = plain kind.Nothing 0
+answer_of (Poll Full) = plain kind.Full 0
+answer_of (Write Written) = plain kind.Written 0
+answer_of (Write (Refused fault)) = refusal_answer fault
+answer_of (Write Full) = plain kind.Full 0
 answer_of (Clear (Cleared noted)) = of_noted noted
-answer_of (Clear Nothing) = plain 13 0
-answer_of (Clear Full) = plain 23 0
+answer_of (Clear Nothing) = plain kind.Nothing 0
+answer_of (Clear Full) = plain kind.Full 0
 
 -- the noted error, or that there is none
 abbrev pub noted_answer : Option NotedError → Answer
-noted_answer None = plain 13 0
+noted_answer None = plain kind.Nothing 0
 noted_answer (Some noted) = of_noted noted
 
 -- how an entry ended: the kind is 1 with a status, 2 with the number of a command, 3 behind a
@@ -130,5 +160,5 @@ ending_of (Some row) = record {
 
 -- the answer of a stored step, or that there is none
 abbrev pub step_answer : Option Step → Answer
-step_answer None = plain 13 0
+step_answer None = plain kind.Nothing 0
 step_answer (Some step) = answer_of step.reply

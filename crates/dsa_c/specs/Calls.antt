@@ -15,39 +15,39 @@ use Rattle.dsa_device.specs.declared.faults.MakeFault.TheVariants.{BadCaps, BadC
 use Rattle.dsa_device.specs.Running.{Running, after_answer}
 use Rattle.dsa_c.specs.declared.{answer.Answer.{Answer}, words.DeviceLimits.{DeviceLimits}}
 use Rattle.dsa_c.specs.declared.steps.{DeviceQueue.{DeviceQueue}, DeviceGroup.{DeviceGroup}}
-use Rattle.dsa_c.specs.Answers.{answer_of, no_device, bad_argument, refused, noted_answer, step_answer}
-use Rattle.dsa_c.specs.Place.{HeldMachine}
+use Rattle.dsa_c.specs.Answers.{answer_of, no_device, bad_argument, refusal_answer, noted_answer, step_answer}
+use Rattle.dsa_c.specs.Place.{HeldDevice}
 
 -- the device behind a handle made exactly this step, and the answer is its reply's; a handle of no device stays one
-abbrev pub IsStep : HeldMachine → Event → Answer → HeldMachine → Type 0
+abbrev pub IsStep : HeldDevice → Event → Answer → HeldDevice → Type 0
 IsStep None event answer after = (answer ≡ no_device) × (after ≡ None)
 IsStep (Some machine) event answer after =
     IsSomeAnd after (λ then. (reply : Reply)
     × ((answer ≡ answer_of reply) × (after_answer machine.device event reply ≡ Some then.device)))
 
 -- a call that may come with a wrong number: then it is answered as one, and changes nothing
-abbrev pub IsCall : HeldMachine → Option Event → Answer → HeldMachine → Type 0
+abbrev pub IsCall : HeldDevice → Option Event → Answer → HeldDevice → Type 0
 IsCall before None answer after = (answer ≡ bad_argument) × (after ≡ before)
 IsCall before (Some event) answer after = IsStep before event answer after
 
 -- a word that is written to the command register: the step of its command, or, where it is no command, its refusal
-abbrev pub IsIssue : Result Command Fault → HeldMachine → Answer → HeldMachine → Type 0
+abbrev pub IsIssue : Result Command Fault → HeldDevice → Answer → HeldDevice → Type 0
 IsIssue (Ok command) before answer after = IsStep before (event.Issue command) answer after
-IsIssue (Err fault) before answer after = (answer ≡ refused fault) × (after ≡ before)
+IsIssue (Err fault) before answer after = (answer ≡ refusal_answer fault) × (after ≡ before)
 
 -- ---- numbers of arguments
 
-abbrev pub portal_of : ℕ → Option Portal
-portal_of number = cond (number == 0) (Some Limited) (cond (number == 1) (Some Unlimited) None)
+abbrev pub portal_from_c : ℕ → Option Portal
+portal_from_c number = cond (number == 0) (Some Limited) (cond (number == 1) (Some Unlimited) None)
 
-abbrev pub outcome_of : ℕ → Option Outcome
-outcome_of number = cond (number == 0) (Some Success) (cond (number == 1) (Some PageFault) None)
+abbrev pub outcome_from_c : ℕ → Option Outcome
+outcome_from_c number = cond (number == 0) (Some Success) (cond (number == 1) (Some PageFault) None)
 
 abbrev pub bit_of : ℕ → Option Bool
 bit_of number = cond (number == 0) (Some false) (cond (number == 1) (Some true) None)
 
-abbrev pub group_of : DeviceGroup → GroupConfig
-group_of group = record {
+abbrev pub group_from_c : DeviceGroup → GroupConfig
+group_from_c group = record {
   queues = group.queues;
   engines = group.engines;
   reserved = group.reserved;
@@ -55,8 +55,8 @@ group_of group = record {
       group.allowed;
 }
 
-abbrev pub queue_of : DeviceQueue → Bool → QueueConfig
-queue_of queue dedicated = record {
+abbrev pub queue_from_c : DeviceQueue → Bool → QueueConfig
+queue_from_c queue dedicated = record {
   size = queue.size;
   threshold = queue.threshold;
   dedicated = dedicated;
@@ -68,17 +68,17 @@ queue_of queue dedicated = record {
 
 -- ---- events of calls with numbers that may be wrong
 
-abbrev pub submission : ℕ → ℕ → ℕ → Kind → List ℕ → Option Event
-submission client queue portal kind bytes =
-    option_map (λ portal. event.Submit client queue portal kind (read bytes)) (portal_of portal)
+abbrev pub submission_from_c : ℕ → ℕ → ℕ → Kind → List ℕ → Option Event
+submission_from_c client queue portal kind bytes =
+    option_map (λ portal. event.Submit client queue portal kind (read bytes)) (portal_from_c portal)
 
 abbrev pub finishing : ℕ → ℕ → ℕ → ℕ → Option Event
 finishing engine cell name outcome =
     option_map (λ outcome. event.Finish engine (record { cell = record { 0 = cell }; name = name }) outcome)
-    (outcome_of outcome)
+    (outcome_from_c outcome)
 
 abbrev pub queue_write : ℕ → DeviceQueue → Option Event
-queue_write queue config = option_map (λ dedicated. event.WriteQueue queue (queue_of config dedicated))
+queue_write queue config = option_map (λ dedicated. event.WriteQueue queue (queue_from_c config dedicated))
     (bit_of config.dedicated)
 
 -- ---- opening
@@ -98,30 +98,30 @@ or_none None = 2 ^ 64 - 1
 or_none (Some number) = number
 
 -- what the device behind a handle says, where there is one
-abbrev pub asked : {X : Type 0} → HeldMachine → (Running → X) → Option X
+abbrev pub asked : {X : Type 0} → HeldDevice → (Running → X) → Option X
 asked before f = option_map (λ machine. f machine.device) before
 
 -- the noted error of the device behind a handle
-abbrev pub noted_of : HeldMachine → Answer
+abbrev pub noted_of : HeldDevice → Answer
 noted_of None = no_device
 noted_of (Some machine) = noted_answer machine.device.state.work.setup.noted
 
 -- the same where it may be silent
-abbrev pub asked_for : {X : Type 0} → HeldMachine → (Running → Option X) → Option X
+abbrev pub asked_for : {X : Type 0} → HeldDevice → (Running → Option X) → Option X
 asked_for None f = None
 asked_for (Some machine) f = f machine.device
 
 -- the answer of the stored step at a position, the first one at 0
-abbrev pub reply_at : HeldMachine → ℕ → Answer
+abbrev pub reply_at : HeldDevice → ℕ → Answer
 reply_at None position = no_device
 reply_at (Some machine) position = step_answer (slice_get machine.device.history position)
 
 -- ---- descriptors
 
-abbrev pub limits_of : DeviceLimits → QueueLimits
-limits_of limits = record { max_batch_shift = limits.max_batch_shift; max_xfer_shift = limits.max_xfer_shift }
+abbrev pub limits_from_c : DeviceLimits → QueueLimits
+limits_from_c limits = record { max_batch_shift = limits.max_batch_shift; max_xfer_shift = limits.max_xfer_shift }
 
 -- the status after an outcome, 0 where there is none
-abbrev pub status_of : Descriptor → QueueLimits → Bool → Option Outcome → ℕ
-status_of desc limits member None = 0
-status_of desc limits member (Some outcome) = status desc limits member outcome
+abbrev pub status_after_outcome : Descriptor → QueueLimits → Bool → Option Outcome → ℕ
+status_after_outcome desc limits member None = 0
+status_after_outcome desc limits member (Some outcome) = status desc limits member outcome

@@ -1,18 +1,15 @@
 -- The events of the history, for C.
-use Rattle.std.specs.Prelude.{ℕ, ◌+◌, ◌*◌, ◌^◌, Option, None, Some, option_map, slice_get}
+use Rattle.std.specs.Prelude.{ℕ, Option, None, Some, option_map, slice_get}
 use Rattle.dsa_desc.specs.declared.{Outcome.{Outcome, TheVariants.{Success, PageFault}}, Descriptor.{Descriptor}}
-use Rattle.dsa_regs.specs.declared.{Command.{Command}, QueueMask.{QueueMask}}
 use Rattle.dsa_regs.specs.declared.{QueueConfig.{QueueConfig}, GroupConfig.{GroupConfig}}
-use Rattle.dsa_regs.specs.declared.Command.TheVariants.{EnableWq, DisableWq, DrainWq, AbortWq, ResetWq, DrainPasid}
-use Rattle.dsa_regs.specs.declared.Command.TheVariants.{AbortPasid}
-use Rattle.dsa_regs.specs.Command.{number_of}
+use Rattle.dsa_regs.specs.Command.{number_of_command, scope_of, operand_of_scope}
 use Rattle.dsa_book.specs.declared.answer.Ticket.{Ticket}
 use Rattle.dsa_book.specs.declared.event.Portal.{Portal, TheVariants.{Limited, Unlimited}}
 use Rattle.dsa_book.specs.declared.event.Kind.{Kind, TheVariants.{Enqcmd, Movdir64b}}
 use Rattle.dsa_book.specs.declared.event.Event.{Event}
 use Rattle.dsa_book.specs.declared.event.Event.TheVariants.{Submit, Dispatch, Fetch, Start, Finish, Issue, Poll}
 use Rattle.dsa_book.specs.declared.event.Event.TheVariants.{WriteQueue, WriteGroup, ClearError}
-use Rattle.dsa_c.specs.{declared.events.DeviceEvent.{DeviceEvent}, Calls.{asked_for}, Place.{HeldMachine}}
+use Rattle.dsa_c.specs.{declared.events.DeviceEvent.{DeviceEvent}, Calls.{asked_for}, Place.{HeldDevice}}
 
 abbrev pub portal_number : Portal → ℕ
 portal_number Limited = 0
@@ -21,21 +18,6 @@ portal_number Unlimited = 1
 abbrev pub outcome_number : Outcome → ℕ
 outcome_number Success = 0
 outcome_number PageFault = 1
-
--- the operand of a command that names queues by a mask
-abbrev pub mask_number : QueueMask → ℕ
-mask_number queues = queues.group * 2 ^ 16 + queues.mask
-
--- the operand of a command, 0 where it has none
-abbrev pub operand_of : Command → ℕ
-operand_of (EnableWq queue) = queue
-operand_of (DisableWq queues) = mask_number queues
-operand_of (DrainWq queues) = mask_number queues
-operand_of (AbortWq queues) = mask_number queues
-operand_of (ResetWq queues) = mask_number queues
-operand_of (DrainPasid pasid) = pasid
-operand_of (AbortPasid pasid) = pasid
-operand_of _ = 0
 
 -- an event of this kind, of which nothing more is said
 abbrev pub of_kind : ℕ → DeviceEvent
@@ -84,14 +66,15 @@ event_for_c (Dispatch engine) = of_engine 3 engine
 event_for_c (Fetch engine desc) = with_descriptor desc (of_engine 4 engine)
 event_for_c (Start engine) = of_engine 5 engine
 event_for_c (Finish engine ticket outcome) = of_finish engine ticket outcome
-event_for_c (Issue command) = record (of_kind 7) { command = number_of command; operand = operand_of command }
+event_for_c (Issue command) =
+    record (of_kind 7) { command = number_of_command command; operand = operand_of_scope (scope_of command) }
 event_for_c Poll = of_kind 8
 event_for_c (WriteQueue queue config) = record (of_kind 9) { queue = queue }
 event_for_c (WriteGroup group config) = record (of_kind 10) { group = group }
 event_for_c ClearError = of_kind 11
 
 -- the event of the stored step at a position, the first one at 0
-abbrev pub event_at : HeldMachine → ℕ → Option Event
+abbrev pub event_at : HeldDevice → ℕ → Option Event
 event_at before position =
     option_map (λ step. step.event) (asked_for before (λ d. slice_get d.history position))
 

@@ -5,10 +5,10 @@ use Rattle.dsa_regs.specs.{declared.Caps.{Caps}, Caps.{cell_count, list_count}}
 use Rattle.dsa_device.specs.declared.faults.MakeFault.{MakeFault}
 use Rattle.dsa_device.specs.Running.{running_at_first}
 use Rattle.dsa_device.specs.Made.{opening_table, opening_fault}
-use Rattle.dsa_c.specs.{declared.opening.DeviceCaps.{DeviceCaps}, Calls.{opening_number}, Place.{HeldMachine}}
+use Rattle.dsa_c.specs.{declared.opening.DeviceCaps.{DeviceCaps}, Calls.{opening_number}, Place.{HeldDevice}}
 
-abbrev pub caps_of : DeviceCaps → Caps
-caps_of caps = record {
+abbrev pub caps_from_c : DeviceCaps → Caps
+caps_from_c caps = record {
   queues = caps.queues;
   groups = caps.groups;
   engines = caps.engines;
@@ -22,14 +22,14 @@ caps_of caps = record {
 -- after an opening that ended with this number, where there was no device: an opened one exactly
 -- with 0, and else none, for the first fault
 -- that stands, or for want of memory where none does
-abbrev pub IsOpened : Caps → ℕ → ℕ → HeldMachine → Type 0
+abbrev pub IsOpened : Caps → ℕ → ℕ → HeldDevice → Type 0
 IsOpened caps capacity number None = number ≡ opening_number (opening_fault caps capacity)
 IsOpened caps capacity number (Some machine) =
     (number ≡ 0) × ((first_row (opening_table caps capacity) ≡ None)
     × (machine.device ≡ running_at_first caps capacity))
 
 -- a device that is open stays as it is, and 5 says so
-abbrev pub IsOpening : HeldMachine → Caps → ℕ → ℕ → HeldMachine → Type 0
+abbrev pub IsOpening : HeldDevice → Caps → ℕ → ℕ → HeldDevice → Type 0
 IsOpening None caps capacity number after = IsOpened caps capacity number after
 IsOpening (Some machine) caps capacity number after = (number ≡ 5) × (after ≡ Some machine)
 

@@ -4,28 +4,28 @@ use Rattle.dsa_base.specs.Rows.{passes, when}
 use Rattle.dsa_regs.specs.declared.Phase.{Phase, TheVariants.{Off, On, Stopping}}
 use Rattle.dsa_regs.specs.declared.{QueueConfig.{QueueConfig}, GroupConfig.{GroupConfig}}
 use Rattle.dsa_regs.specs.declared.layout.ListUse.{ListUse, TheVariants.{Queue, Progress, Members}}
-use Rattle.dsa_store.specs.Content.{Slot, chain}
+use Rattle.dsa_store.specs.Content.{HeldEntry, chain}
 use Rattle.dsa_book.specs.Work.{in_progress, members}
 use Rattle.dsa_book.specs.declared.note.BatchNote.{BatchNote}
 use Rattle.dsa_device.specs.Running.{Running}
 use Rattle.dsa_c.specs.declared.steps.{DeviceQueue.{DeviceQueue}, DeviceGroup.{DeviceGroup}}
 use Rattle.dsa_c.specs.declared.standing.{DeviceEntry.{DeviceEntry}, DeviceBatch.{DeviceBatch}}
-use Rattle.dsa_c.specs.{Answers.{bit_number, parent_number}, Place.{HeldMachine}}
+use Rattle.dsa_c.specs.{Answers.{bit_number, parent_number}, Place.{HeldDevice}}
 
 -- 1 where there is something to read, and it is written in C's form; 0 where there is not, and nothing is written
-abbrev pub IsWritten : {X Y : Type 0} → (X → Y) → Option X → ℕ → Y → Y → Type 0
-IsWritten form None said before after = (said ≡ 0) × (after ≡ before)
-IsWritten form (Some x) said before after = (said ≡ 1) × (after ≡ form x)
+abbrev pub IsWrittenForC : {X Y : Type 0} → (X → Y) → Option X → ℕ → Y → Y → Type 0
+IsWrittenForC form None said before after = (said ≡ 0) × (after ≡ before)
+IsWrittenForC form (Some x) said before after = (said ≡ 1) × (after ≡ form x)
 
 -- whether there is a device behind the handle, and it passes
-abbrev pub bit_asked : HeldMachine → (Running → Bool) → ℕ
+abbrev pub bit_asked : HeldDevice → (Running → Bool) → ℕ
 bit_asked before test = bit_number (passes (λ machine. test machine.device) before)
 
 -- the entries of a list, where the device has such a list
-abbrev pub listed : Running → ListUse → Option (List Slot)
-listed d (Queue queue) = when (nat_lt queue d.caps.queues) (chain d.state.work.content queue)
-listed d (Progress engine) = when (nat_lt engine d.caps.engines) (in_progress d.state.work engine)
-listed d (Members engine) = when (nat_lt engine d.caps.engines) (members d.state.work engine)
+abbrev pub entries_of_list_for_c : Running → ListUse → Option (List HeldEntry)
+entries_of_list_for_c d (Queue queue) = when (nat_lt queue d.caps.queues) (chain d.state.work.content queue)
+entries_of_list_for_c d (Progress engine) = when (nat_lt engine d.caps.engines) (in_progress d.state.work engine)
+entries_of_list_for_c d (Members engine) = when (nat_lt engine d.caps.engines) (members d.state.work engine)
 
 abbrev pub phase_number : Phase → ℕ
 phase_number Off = 0
@@ -51,17 +51,17 @@ group_for_c config = record {
   allowed = config.allowed;
 }
 
-abbrev pub entry_for_c : Slot → DeviceEntry
-entry_for_c slot = record {
-  name = slot.1.name;
-  cell = slot.0.0;
-  parent = parent_number slot.1.parent;
-  pasid = slot.1.desc.pasid;
-  flags = slot.1.desc.flags;
-  size = slot.1.desc.size;
-  queue = slot.1.queue;
-  operation = slot.1.desc.op;
-  running = bit_number slot.1.running;
+abbrev pub entry_for_c : HeldEntry → DeviceEntry
+entry_for_c pair = record {
+  name = pair.1.name;
+  cell = pair.0.0;
+  parent = parent_number pair.1.parent;
+  pasid = pair.1.desc.pasid;
+  flags = pair.1.desc.flags;
+  size = pair.1.desc.size;
+  queue = pair.1.queue;
+  operation = pair.1.desc.op;
+  running = bit_number pair.1.running;
 }
 
 abbrev pub batch_for_c : BatchNote → DeviceBatch

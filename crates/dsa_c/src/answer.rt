@@ -2,13 +2,46 @@
 
 ghost use Rattle.std.specs.Prelude.{◌≡◌};
 ghost use Rattle.dsa_book.specs.declared.answer.Reply.TheVariants as reply;
-ghost use Rattle.dsa_c.specs.Answers.{plain, of_ticket, cause_number, of_noted, no_device, bad_argument, refused, answer_of, step_answer, noted_answer, fate_kind, fate_number, parent_number, ending_of};
+ghost use Rattle.dsa_c.specs.Answers.{plain, of_ticket, kind_number, cause_number, of_noted};
+ghost use Rattle.dsa_c.specs.Answers.{no_device, bad_argument, refusal_answer, answer_of, step_answer};
+ghost use Rattle.dsa_c.specs.Answers.{noted_answer, fate_kind, fate_number, parent_number};
+ghost use Rattle.dsa_c.specs.Answers.{ending_of};
 
 use dsa_book::{
     Cause, ClearAnswer, DispatchAnswer, Fate, FateRow, FetchAnswer, FinishAnswer, IssueAnswer,
     NotedError, PollAnswer, Reply, StartAnswer, Step, SubmitAnswer, Ticket, WriteAnswer,
 };
 use dsa_regs::Fault;
+
+/// The kind of an answer, with its number in `enum dsa_kind` of the header.
+#[derive(Clone, Copy)]
+pub enum AnswerKind {
+    NoDevice = 0,
+    Accepted = 1,
+    Retry = 2,
+    Dropped = 3,
+    Taken = 4,
+    Idle = 5,
+    Fetched = 6,
+    NoBatch = 7,
+    AllFetched = 8,
+    Started = 9,
+    FenceWait = 10,
+    NoBuffers = 11,
+    Abandoned = 12,
+    Nothing = 13,
+    Done = 14,
+    NotReady = 15,
+    Gone = 16,
+    Ended = 17,
+    Active = 18,
+    Refused = 19,
+    Finished = 20,
+    Written = 21,
+    Cleared = 22,
+    Full = 23,
+    BadArgument = 24,
+}
 
 /// An answer: its kind, and the numbers that come with it.
 #[repr(C)]
@@ -40,23 +73,31 @@ fn cause_number(cause: Cause) -> u32
     }
 }
 
+impl AnswerKind {
+    fn number(self) -> u32
+        ensures { result ≡ kind_number self }
+    {
+        self as u32
+    }
+}
+
 impl Answer {
-    fn plain(kind: u32, more: u32) -> Answer
+    fn plain(kind: AnswerKind, more: u32) -> Answer
         ensures { result ≡ plain kind more }
     {
         Answer {
-            kind,
+            kind: kind.number(),
             name: 0,
             cell: 0,
             more,
         }
     }
 
-    fn ticket(kind: u32, ticket: Ticket, more: u32) -> Answer
+    fn ticket(kind: AnswerKind, ticket: Ticket, more: u32) -> Answer
         ensures { result ≡ of_ticket kind ticket more }
     {
         Answer {
-            kind,
+            kind: kind.number(),
             name: ticket.name,
             cell: ticket.cell.0,
             more,
@@ -67,7 +108,7 @@ impl Answer {
         ensures { result ≡ of_noted noted }
     {
         Answer {
-            kind: 22,
+            kind: AnswerKind::Cleared.number(),
             name: u32::from(noted.queue),
             cell: if noted.overflow { 1 } else { 0 },
             more: cause_number(noted.cause),
@@ -78,21 +119,21 @@ impl Answer {
     pub(crate) fn no_device() -> Answer
         ensures { result ≡ no_device }
     {
-        Answer::plain(0, 0)
+        Answer::plain(AnswerKind::NoDevice, 0)
     }
 
     /// An argument is none of the numbers that it may be.
     pub(crate) fn bad_argument() -> Answer
         ensures { result ≡ bad_argument }
     {
-        Answer::plain(24, 0)
+        Answer::plain(AnswerKind::BadArgument, 0)
     }
 
     /// Nothing changed, for this fault.
     pub(crate) fn refused(fault: Fault) -> Answer
-        ensures { result ≡ refused fault }
+        ensures { result ≡ refusal_answer fault }
     {
-        Answer::plain(19, u32::from(fault.number()))
+        Answer::plain(AnswerKind::Refused, u32::from(fault.number()))
     }
 
     /// What the answer is to C.
@@ -100,10 +141,10 @@ impl Answer {
         ensures { result ≡ answer_of (reply.Submit answer) }
     {
         match answer {
-            SubmitAnswer::Accepted(ticket) => Answer::ticket(1, ticket, 0),
-            SubmitAnswer::Retry(cause) => Answer::plain(2, cause_number(cause)),
-            SubmitAnswer::Dropped(cause) => Answer::plain(3, cause_number(cause)),
-            SubmitAnswer::Full => Answer::plain(23, 0),
+            SubmitAnswer::Accepted(ticket) => Answer::ticket(AnswerKind::Accepted, ticket, 0),
+            SubmitAnswer::Retry(cause) => Answer::plain(AnswerKind::Retry, cause_number(cause)),
+            SubmitAnswer::Dropped(cause) => Answer::plain(AnswerKind::Dropped, cause_number(cause)),
+            SubmitAnswer::Full => Answer::plain(AnswerKind::Full, 0),
         }
     }
 
@@ -112,9 +153,13 @@ impl Answer {
         ensures { result ≡ answer_of (reply.Dispatch answer) }
     {
         match answer {
-            DispatchAnswer::Taken { ticket, queue } => Answer::ticket(4, ticket, u32::from(queue)),
-            DispatchAnswer::Idle => Answer::plain(5, 0),
-            DispatchAnswer::Full => Answer::plain(23, 0),
+            DispatchAnswer::Taken { ticket, queue } => Answer::ticket(
+                AnswerKind::Taken,
+                ticket,
+                u32::from(queue),
+            ),
+            DispatchAnswer::Idle => Answer::plain(AnswerKind::Idle, 0),
+            DispatchAnswer::Full => Answer::plain(AnswerKind::Full, 0),
         }
     }
 
@@ -123,10 +168,10 @@ impl Answer {
         ensures { result ≡ answer_of (reply.Fetch answer) }
     {
         match answer {
-            FetchAnswer::Fetched(ticket) => Answer::ticket(6, ticket, 0),
-            FetchAnswer::NoBatch => Answer::plain(7, 0),
-            FetchAnswer::AllFetched => Answer::plain(8, 0),
-            FetchAnswer::Full => Answer::plain(23, 0),
+            FetchAnswer::Fetched(ticket) => Answer::ticket(AnswerKind::Fetched, ticket, 0),
+            FetchAnswer::NoBatch => Answer::plain(AnswerKind::NoBatch, 0),
+            FetchAnswer::AllFetched => Answer::plain(AnswerKind::AllFetched, 0),
+            FetchAnswer::Full => Answer::plain(AnswerKind::Full, 0),
         }
     }
 
@@ -135,12 +180,12 @@ impl Answer {
         ensures { result ≡ answer_of (reply.Start answer) }
     {
         match answer {
-            StartAnswer::Started(ticket) => Answer::ticket(9, ticket, 0),
-            StartAnswer::FenceWait => Answer::plain(10, 0),
-            StartAnswer::NoBuffers => Answer::plain(11, 0),
-            StartAnswer::Abandoned(count) => Answer::plain(12, count),
-            StartAnswer::Nothing => Answer::plain(13, 0),
-            StartAnswer::Full => Answer::plain(23, 0),
+            StartAnswer::Started(ticket) => Answer::ticket(AnswerKind::Started, ticket, 0),
+            StartAnswer::FenceWait => Answer::plain(AnswerKind::FenceWait, 0),
+            StartAnswer::NoBuffers => Answer::plain(AnswerKind::NoBuffers, 0),
+            StartAnswer::Abandoned(count) => Answer::plain(AnswerKind::Abandoned, count),
+            StartAnswer::Nothing => Answer::plain(AnswerKind::Nothing, 0),
+            StartAnswer::Full => Answer::plain(AnswerKind::Full, 0),
         }
     }
 
@@ -149,10 +194,10 @@ impl Answer {
         ensures { result ≡ answer_of (reply.Finish answer) }
     {
         match answer {
-            FinishAnswer::Done(status) => Answer::plain(14, u32::from(status)),
-            FinishAnswer::NotReady => Answer::plain(15, 0),
-            FinishAnswer::Gone => Answer::plain(16, 0),
-            FinishAnswer::Full => Answer::plain(23, 0),
+            FinishAnswer::Done(status) => Answer::plain(AnswerKind::Done, u32::from(status)),
+            FinishAnswer::NotReady => Answer::plain(AnswerKind::NotReady, 0),
+            FinishAnswer::Gone => Answer::plain(AnswerKind::Gone, 0),
+            FinishAnswer::Full => Answer::plain(AnswerKind::Full, 0),
         }
     }
 
@@ -161,10 +206,10 @@ impl Answer {
         ensures { result ≡ answer_of (reply.Issue answer) }
     {
         match answer {
-            IssueAnswer::Ended { aborted } => Answer::plain(17, aborted),
-            IssueAnswer::Active => Answer::plain(18, 0),
+            IssueAnswer::Ended { aborted } => Answer::plain(AnswerKind::Ended, aborted),
+            IssueAnswer::Active => Answer::plain(AnswerKind::Active, 0),
             IssueAnswer::Refused(fault) => Answer::refused(fault),
-            IssueAnswer::Full => Answer::plain(23, 0),
+            IssueAnswer::Full => Answer::plain(AnswerKind::Full, 0),
         }
     }
 
@@ -173,10 +218,10 @@ impl Answer {
         ensures { result ≡ answer_of (reply.Poll answer) }
     {
         match answer {
-            PollAnswer::Finished => Answer::plain(20, 0),
-            PollAnswer::Active => Answer::plain(18, 0),
-            PollAnswer::Nothing => Answer::plain(13, 0),
-            PollAnswer::Full => Answer::plain(23, 0),
+            PollAnswer::Finished => Answer::plain(AnswerKind::Finished, 0),
+            PollAnswer::Active => Answer::plain(AnswerKind::Active, 0),
+            PollAnswer::Nothing => Answer::plain(AnswerKind::Nothing, 0),
+            PollAnswer::Full => Answer::plain(AnswerKind::Full, 0),
         }
     }
 
@@ -185,9 +230,9 @@ impl Answer {
         ensures { result ≡ answer_of (reply.Write answer) }
     {
         match answer {
-            WriteAnswer::Written => Answer::plain(21, 0),
+            WriteAnswer::Written => Answer::plain(AnswerKind::Written, 0),
             WriteAnswer::Refused(fault) => Answer::refused(fault),
-            WriteAnswer::Full => Answer::plain(23, 0),
+            WriteAnswer::Full => Answer::plain(AnswerKind::Full, 0),
         }
     }
 
@@ -197,8 +242,8 @@ impl Answer {
     {
         match answer {
             ClearAnswer::Cleared(noted) => Answer::of_noted(noted),
-            ClearAnswer::Nothing => Answer::plain(13, 0),
-            ClearAnswer::Full => Answer::plain(23, 0),
+            ClearAnswer::Nothing => Answer::plain(AnswerKind::Nothing, 0),
+            ClearAnswer::Full => Answer::plain(AnswerKind::Full, 0),
         }
     }
 
@@ -225,7 +270,7 @@ impl Answer {
     {
         match step {
             Some(step) => Answer::of(step.reply),
-            None => Answer::plain(13, 0),
+            None => Answer::plain(AnswerKind::Nothing, 0),
         }
     }
 
@@ -235,7 +280,7 @@ impl Answer {
     {
         match noted {
             Some(noted) => Answer::of_noted(noted),
-            None => Answer::plain(13, 0),
+            None => Answer::plain(AnswerKind::Nothing, 0),
         }
     }
 }

@@ -1,15 +1,17 @@
 //! The events of the history as numbers.
 
 ghost use Rattle.std.specs.Prelude.{◌≡◌, option_and_then};
-ghost use Rattle.dsa_c.specs.Reads.{IsWritten, queue_for_c, group_for_c};
-ghost use Rattle.dsa_c.specs.Events.{portal_number, outcome_number, mask_number, operand_of, of_kind, of_engine, with_descriptor, of_instruction, of_finish, event_for_c, event_at, queue_written, group_written};
+ghost use Rattle.dsa_c.specs.Reads.{IsWrittenForC, queue_for_c, group_for_c};
+ghost use Rattle.dsa_c.specs.Events.{portal_number, outcome_number, of_kind, of_engine};
+ghost use Rattle.dsa_c.specs.Events.{with_descriptor, of_instruction, of_finish, event_for_c};
+ghost use Rattle.dsa_c.specs.Events.{event_at, queue_written, group_written};
 
-use crate::handle::Handle;
+use crate::handle::{Handle, let_device};
 use crate::standing::{write_group, write_queue};
 use crate::steps::{DeviceGroup, DeviceQueue};
 use dsa_book::{Event, Kind, Portal, Ticket};
 use dsa_desc::{Descriptor, Outcome};
-use dsa_regs::{Command, GroupConfig, QueueConfig, QueueMask};
+use dsa_regs::{GroupConfig, QueueConfig};
 
 /// An event: its kind, and the numbers that it speaks of.
 #[repr(C)]
@@ -47,31 +49,6 @@ fn outcome_number(outcome: Outcome) -> u8
     match outcome {
         Outcome::Success => 0,
         Outcome::PageFault => 1,
-    }
-}
-
-fn mask_number(queues: QueueMask) -> u32
-    ensures { result ≡ mask_number queues }
-{
-    u32::from(queues.group) * 0x1_0000 + u32::from(queues.mask)
-}
-
-fn operand_of(command: Command) -> u32
-    ensures { result ≡ operand_of command }
-{
-    match command {
-        Command::EnableDevice => 0,
-        Command::DisableDevice => 0,
-        Command::DrainAll => 0,
-        Command::AbortAll => 0,
-        Command::ResetDevice => 0,
-        Command::EnableWq(queue) => queue,
-        Command::DisableWq(queues) => mask_number(queues),
-        Command::DrainWq(queues) => mask_number(queues),
-        Command::AbortWq(queues) => mask_number(queues),
-        Command::ResetWq(queues) => mask_number(queues),
-        Command::DrainPasid(pasid) => pasid,
-        Command::AbortPasid(pasid) => pasid,
     }
 }
 
@@ -166,7 +143,7 @@ fn event_for_c(event: Event) -> DeviceEvent
         } => of_finish(engine, ticket, outcome),
         Event::Issue { command } => DeviceEvent {
             command: command.number(),
-            operand: operand_of(command),
+            operand: command.scope().operand(),
             ..of_kind(7)
         },
         Event::Poll => of_kind(8),
@@ -205,11 +182,8 @@ fn event_at(handle: &mut Handle, position: u64) -> Option<Event>
     ensures value { result ≡ event_at handle.old.place.machine position }
     ensures same { handle.new.place.machine ≡ handle.old.place.machine }
 {
-    if !handle.holds {
-        return None;
-    }
-    let machine = handle.place.machine();
-    let step = machine.device.history().get(position as usize).copied();
+    let_device!(device, handle, None);
+    let step = device.history().get(position as usize).copied();
     step.map(|step| step.event)
 }
 
@@ -220,7 +194,8 @@ pub extern "C" fn dsa_history_event(
     position: u64,
     event: &mut DeviceEvent,
 ) -> u32
-    ensures value { IsWritten event_for_c (event_at handle.old.place.machine position) result event.old event.new }
+    ensures value { IsWrittenForC event_for_c (event_at handle.old.place.machine position)
+        result event.old event.new }
     ensures same { handle.new.place.machine ≡ handle.old.place.machine }
 {
     let Some(found) = event_at(handle, position) else {
@@ -237,7 +212,9 @@ pub extern "C" fn dsa_history_queue_config(
     position: u64,
     config: &mut DeviceQueue,
 ) -> u32
-    ensures value { IsWritten queue_for_c (option_and_then queue_written (event_at handle.old.place.machine position)) result config.old config.new }
+    ensures value { IsWrittenForC queue_for_c
+        (option_and_then queue_written (event_at handle.old.place.machine position))
+        result config.old config.new }
     ensures same { handle.new.place.machine ≡ handle.old.place.machine }
 {
     let written = event_at(handle, position).and_then(|event| queue_written(event));
@@ -251,7 +228,9 @@ pub extern "C" fn dsa_history_group_config(
     position: u64,
     config: &mut DeviceGroup,
 ) -> u32
-    ensures value { IsWritten group_for_c (option_and_then group_written (event_at handle.old.place.machine position)) result config.old config.new }
+    ensures value { IsWrittenForC group_for_c
+        (option_and_then group_written (event_at handle.old.place.machine position))
+        result config.old config.new }
     ensures same { handle.new.place.machine ≡ handle.old.place.machine }
 {
     let written = event_at(handle, position).and_then(|event| group_written(event));

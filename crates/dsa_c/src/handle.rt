@@ -4,7 +4,7 @@ ghost use Rattle.std.specs.Prelude.{◌≡◌, Some, None, is_some, option_map};
 
 use crate::place::Place;
 use crate::unboxed::Unboxed;
-use dsa_machine::Machine;
+use dsa_linked::LinkedDevice;
 use std::alloc::Global;
 
 /// A device that C holds, or none. C makes one of zeros, and never writes to it.
@@ -14,6 +14,18 @@ pub struct Handle {
     pub(crate) holds: bool,
     ghost agrees: { holds ≡ is_some place.machine },
 }
+
+// Binds the device behind a handle to a name. Where there is none, the function returns the value.
+macro_rules! let_device {
+    ($device:ident, $handle:ident, $value:expr) => {
+        if !$handle.holds {
+            return $value;
+        }
+        let $device = &mut $handle.place.machine().device;
+    };
+}
+
+pub(crate) use let_device;
 
 // A value that may go to another thread, as C may take a handle there.
 fn crossing<T: Send>(value: T) -> T
@@ -34,7 +46,7 @@ impl Handle {
     }
 
     /// The handle of this machine.
-    fn of(machine: Box<Machine>) -> Handle
+    fn of(machine: Box<LinkedDevice>) -> Handle
         ensures { result.place.machine ≡ Some machine.value }
     {
         Handle {
@@ -43,7 +55,7 @@ impl Handle {
         }
     }
 
-    fn into_box(self) -> Option<Box<Machine>>
+    fn into_box(self) -> Option<Box<LinkedDevice>>
         ensures { option_map (λ machine. machine.value) result ≡ self.place.machine }
     {
         let Handle { place, holds } = self;
@@ -54,7 +66,7 @@ impl Handle {
     }
 
     /// Puts the machine in. One that was there is let go.
-    pub(crate) fn put(&mut self, machine: Box<Machine>)
+    pub(crate) fn put(&mut self, machine: Box<LinkedDevice>)
         ensures { self.new.place.machine ≡ Some machine.value }
     {
         *self = crossing(Handle::of(machine));

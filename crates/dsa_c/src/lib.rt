@@ -1,4 +1,5 @@
-//! The calls for C. `dsa_model.h` says of each what it does; a handle is one that C made of zeros and gave to these calls alone.
+//! The calls for C. `dsa_model.h` says of each what it does; a handle is one that C made of zeros
+//! and gave to these calls alone.
 #![tactic(auto)]
 
 mod answer;

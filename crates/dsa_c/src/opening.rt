@@ -3,13 +3,13 @@
 ghost use Rattle.std.specs.Prelude.{◌≡◌, None, is_some};
 ghost use Rattle.dsa_base.specs.Rows.{first_row};
 ghost use Rattle.dsa_device.specs.Made.{opening_table};
-ghost use Rattle.dsa_c.specs.Opening.{IsOpening, caps_of, bytes_taken};
+ghost use Rattle.dsa_c.specs.Opening.{IsOpening, caps_from_c, bytes_taken};
 ghost use Rattle.dsa_c.specs.Calls.{opening_number};
 
 use crate::handle::Handle;
 use dsa_book::{FateRow, Step};
 use dsa_device::{MakeFault, check_opening};
-use dsa_machine::Machine;
+use dsa_linked::LinkedDevice;
 use dsa_regs::{Caps, cell_count, list_count};
 use std::alloc::Global;
 
@@ -28,7 +28,7 @@ pub struct DeviceCaps {
 }
 
 fn caps_of(caps: &DeviceCaps) -> Caps
-    ensures { result ≡ caps_of caps.now }
+    ensures { result ≡ caps_from_c caps.now }
 {
     Caps {
         queues: caps.queues,
@@ -53,7 +53,8 @@ fn fault_number(fault: MakeFault) -> u32
     }
 }
 
-// The bytes of a cell with its entry and links, of the head of a list, of a step and a fate row, and of the device itself.
+// The bytes of a cell with its entry and links, of the head of a list, of a step and a fate row,
+// and of the device itself.
 const CELL_BYTES: u64 = 52;
 
 const LIST_BYTES: u64 = 20;
@@ -64,12 +65,14 @@ const DEVICE_BYTES: u64 = 3552;
 
 const _: () = prove!(size_of::<Step>() + size_of::<FateRow>() == 72);
 
-const _: () = prove!(size_of::<Machine>() == 3552);
+const _: () = prove!(size_of::<LinkedDevice>() == 3552);
 
-/// How many bytes an opened device of these capabilities and this capacity takes, 0 where it would be refused.
+/// How many bytes an opened device of these capabilities and this capacity takes, 0 where it would
+/// be refused.
 #[unsafe(no_mangle)]
 pub extern "C" fn dsa_size(caps: &DeviceCaps, capacity: u64) -> u64
-    ensures { result ≡ bytes_taken (caps_of caps.now) capacity (first_row (opening_table (caps_of caps.now) capacity)) }
+    ensures { result ≡ bytes_taken (caps_from_c caps.now) capacity
+        (first_row (opening_table (caps_from_c caps.now) capacity)) }
 {
     let caps = caps_of(caps);
     if check_opening(&caps, capacity).is_some() {
@@ -80,7 +83,8 @@ pub extern "C" fn dsa_size(caps: &DeviceCaps, capacity: u64) -> u64
     cells + lists + STEP_BYTES * capacity + DEVICE_BYTES
 }
 
-/// Opens a device behind a handle that has none: 0, or the number of what keeps it from being opened.
+/// Opens a device behind a handle that has none: 0, or the number of what keeps it from being
+/// opened.
 #[unsafe(no_mangle)]
 pub extern "C" fn dsa_open(
     alloc: Global,
@@ -88,12 +92,13 @@ pub extern "C" fn dsa_open(
     caps: &DeviceCaps,
     capacity: u64,
 ) -> u32
-    ensures { IsOpening handle.old.place.machine (caps_of caps.now) capacity result handle.new.place.machine }
+    ensures { IsOpening handle.old.place.machine (caps_from_c caps.now) capacity
+        result handle.new.place.machine }
 {
     if handle.holds {
         return 5;
     }
-    let machine = match Machine::new(alloc, caps_of(caps), capacity) {
+    let machine = match LinkedDevice::new(alloc, caps_of(caps), capacity) {
         Ok(machine) => machine,
         Err(fault) => return fault_number(fault),
     };

@@ -2,7 +2,7 @@
 
 ghost use Rattle.std.specs.Prelude.{◌≡◌, ◌==◌, ℕ, nat_lt, find, length, slice_get, option_map};
 ghost use Rattle.dsa_base.specs.Rows.{when};
-ghost use Rattle.dsa_regs.specs.Command.{number_of};
+ghost use Rattle.dsa_regs.specs.Command.{number_of_command};
 ghost use Rattle.dsa_store.specs.Content.{held_count};
 ghost use Rattle.dsa_book.specs.State.{occupancy};
 ghost use Rattle.dsa_book.specs.Work.{used};
@@ -10,7 +10,7 @@ ghost use Rattle.dsa_c.specs.Calls.{asked, asked_for, or_none, noted_of, reply_a
 ghost use Rattle.dsa_c.specs.Answers.{ending_of};
 
 use crate::answer::{Answer, Ending};
-use crate::handle::Handle;
+use crate::handle::{Handle, let_device};
 use dsa_book::FateRow;
 
 // A number that may not be there.
@@ -33,75 +33,63 @@ pub extern "C" fn dsa_capacity(handle: &mut Handle) -> u64
     ensures value { result ≡ or_none (asked handle.old.place.machine (λ d. d.capacity)) }
     ensures same { handle.new.place.machine ≡ handle.old.place.machine }
 {
-    if !handle.holds {
-        return or_none(None);
-    }
-    let capacity = handle.place.machine().device.capacity();
-    capacity
+    let_device!(device, handle, or_none(None));
+    device.capacity()
 }
 
 /// The number of entries that wait in the queue.
 #[unsafe(no_mangle)]
 pub extern "C" fn dsa_occupancy(handle: &mut Handle, queue: u16) -> u64
-    ensures value { result ≡ or_none (asked_for handle.old.place.machine (λ d. when (nat_lt queue d.caps.queues) (occupancy d.state.work.content queue))) }
+    ensures value { result ≡ or_none (asked_for handle.old.place.machine
+        (λ d. when (nat_lt queue d.caps.queues) (occupancy d.state.work.content queue))) }
     ensures same { handle.new.place.machine ≡ handle.old.place.machine }
 {
-    if !handle.holds {
-        return or_none(None);
-    }
-    let occupancy = handle.place.machine().device.occupancy(queue);
-    or_none(occupancy.map(u64::from))
+    let_device!(device, handle, or_none(None));
+    or_none(device.occupancy(queue).map(u64::from))
 }
 
 /// The number of read buffers that the group uses.
 #[unsafe(no_mangle)]
 pub extern "C" fn dsa_used(handle: &mut Handle, group: u16) -> u64
-    ensures value { result ≡ or_none (asked_for handle.old.place.machine (λ d. when (nat_lt group d.caps.groups) (used d.state.work group))) }
+    ensures value { result ≡ or_none (asked_for handle.old.place.machine
+        (λ d. when (nat_lt group d.caps.groups) (used d.state.work group))) }
     ensures same { handle.new.place.machine ≡ handle.old.place.machine }
 {
-    if !handle.holds {
-        return or_none(None);
-    }
-    let used = handle.place.machine().device.used(group);
-    or_none(used.map(u64::from))
+    let_device!(device, handle, or_none(None));
+    or_none(device.used(group).map(u64::from))
 }
 
 /// The number of entries that the device holds.
 #[unsafe(no_mangle)]
 pub extern "C" fn dsa_held(handle: &mut Handle) -> u64
-    ensures value { result ≡ or_none (asked handle.old.place.machine (λ d. held_count d.state.work.content)) }
+    ensures value { result ≡ or_none
+        (asked handle.old.place.machine (λ d. held_count d.state.work.content)) }
     ensures same { handle.new.place.machine ≡ handle.old.place.machine }
 {
-    if !handle.holds {
-        return or_none(None);
-    }
-    let held = handle.place.machine().device.held();
-    u64::from(held)
+    let_device!(device, handle, or_none(None));
+    u64::from(device.held())
 }
 
 /// The name that the next entry gets.
 #[unsafe(no_mangle)]
 pub extern "C" fn dsa_next_name(handle: &mut Handle) -> u64
-    ensures value { result ≡ or_none (asked handle.old.place.machine (λ d. d.state.work.setup.next_name)) }
+    ensures value { result ≡ or_none
+        (asked handle.old.place.machine (λ d. d.state.work.setup.next_name)) }
     ensures same { handle.new.place.machine ≡ handle.old.place.machine }
 {
-    if !handle.holds {
-        return or_none(None);
-    }
-    let name = handle.place.machine().device.next_name();
-    u64::from(name)
+    let_device!(device, handle, or_none(None));
+    u64::from(device.next_name())
 }
 
 /// The number of the command that is not over yet.
 #[unsafe(no_mangle)]
 pub extern "C" fn dsa_active(handle: &mut Handle) -> u64
-    ensures value { result ≡ or_none (asked_for handle.old.place.machine (λ d. option_map (λ active. number_of active.command) d.state.active)) }
+    ensures value { result ≡ or_none (asked_for handle.old.place.machine
+        (λ d. option_map (λ active. number_of_command active.command) d.state.active)) }
     ensures same { handle.new.place.machine ≡ handle.old.place.machine }
 {
-    if !handle.holds {
-        return or_none(None);
-    }
-    let active = handle.place.machine().device.active();
+    let_device!(device, handle, or_none(None));
+    let active = device.active();
     or_none(active.map(|command| u64::from(command.number())))
 }
 
@@ -111,24 +99,19 @@ pub extern "C" fn dsa_history_length(handle: &mut Handle) -> u64
     ensures value { result ≡ or_none (asked handle.old.place.machine (λ d. length d.history)) }
     ensures same { handle.new.place.machine ≡ handle.old.place.machine }
 {
-    if !handle.holds {
-        return or_none(None);
-    }
-    let length = handle.place.machine().device.history().len();
-    length as u64
+    let_device!(device, handle, or_none(None));
+    device.history().len() as u64
 }
 
 /// The number of entries that ended.
 #[unsafe(no_mangle)]
 pub extern "C" fn dsa_fates_length(handle: &mut Handle) -> u64
-    ensures value { result ≡ or_none (asked handle.old.place.machine (λ d. length d.state.work.fates)) }
+    ensures value { result ≡ or_none
+        (asked handle.old.place.machine (λ d. length d.state.work.fates)) }
     ensures same { handle.new.place.machine ≡ handle.old.place.machine }
 {
-    if !handle.holds {
-        return or_none(None);
-    }
-    let length = handle.place.machine().device.fates().len();
-    length as u64
+    let_device!(device, handle, or_none(None));
+    device.fates().len() as u64
 }
 
 /// The noted error.
@@ -137,11 +120,8 @@ pub extern "C" fn dsa_noted(handle: &mut Handle) -> Answer
     ensures value { result ≡ noted_of handle.old.place.machine }
     ensures same { handle.new.place.machine ≡ handle.old.place.machine }
 {
-    if !handle.holds {
-        return Answer::no_device();
-    }
-    let noted = handle.place.machine().device.noted();
-    Answer::noted(noted)
+    let_device!(device, handle, Answer::no_device());
+    Answer::noted(device.noted())
 }
 
 /// The answer of the stored step at this position, the first one at 0.
@@ -150,47 +130,28 @@ pub extern "C" fn dsa_history_answer(handle: &mut Handle, position: u64) -> Answ
     ensures value { result ≡ reply_at handle.old.place.machine position }
     ensures same { handle.new.place.machine ≡ handle.old.place.machine }
 {
-    if !handle.holds {
-        return Answer::no_device();
-    }
-    let step = handle
-        .place
-        .machine()
-        .device
-        .history()
-        .get(position as usize)
-        .copied();
-    Answer::of_step(step)
+    let_device!(device, handle, Answer::no_device());
+    Answer::of_step(device.history().get(position as usize).copied())
 }
 
 /// The fate at this position, in the order in which entries ended, the first one at 0.
 #[unsafe(no_mangle)]
 pub extern "C" fn dsa_fate_at(handle: &mut Handle, position: u64) -> Ending
-    ensures value { result ≡ ending_of (asked_for handle.old.place.machine (λ d. slice_get d.state.work.fates position)) }
+    ensures value { result ≡ ending_of
+        (asked_for handle.old.place.machine (λ d. slice_get d.state.work.fates position)) }
     ensures same { handle.new.place.machine ≡ handle.old.place.machine }
 {
-    if !handle.holds {
-        return Ending::of(None);
-    }
-    let row = handle
-        .place
-        .machine()
-        .device
-        .fates()
-        .get(position as usize)
-        .copied();
-    Ending::of(row)
+    let_device!(device, handle, Ending::of(None));
+    Ending::of(device.fates().get(position as usize).copied())
 }
 
 /// The fate of the entry of this name.
 #[unsafe(no_mangle)]
 pub extern "C" fn dsa_fate_of(handle: &mut Handle, name: u32) -> Ending
-    ensures value { result ≡ ending_of (asked_for handle.old.place.machine (λ d. find (λ row. row.name == name) d.state.work.fates)) }
+    ensures value { result ≡ ending_of (asked_for handle.old.place.machine
+        (λ d. find (λ row. row.name == name) d.state.work.fates)) }
     ensures same { handle.new.place.machine ≡ handle.old.place.machine }
 {
-    if !handle.holds {
-        return Ending::of(None);
-    }
-    let row = row_of(handle.place.machine().device.fates(), name);
-    Ending::of(row)
+    let_device!(device, handle, Ending::of(None));
+    Ending::of(row_of(device.fates(), name))
 }

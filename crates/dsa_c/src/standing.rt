@@ -1,4 +1,5 @@
-//! What stands in the device behind a handle: phases, configurations, and entries one by one. No read changes it.
+//! What stands in the device behind a handle: phases, configurations, and entries one by one. No
+//! read changes it.
 
 ghost use Rattle.std.specs.Prelude.{◌≡◌, ◌==◌, nat_lt, length};
 ghost use Rattle.dsa_base.specs.Rows.{when};
@@ -6,12 +7,13 @@ ghost use Rattle.dsa_regs.specs.Config.{queue_at, group_at};
 ghost use Rattle.dsa_store.specs.Content.{chain};
 ghost use Rattle.dsa_book.specs.State.{phase_at};
 ghost use Rattle.dsa_book.specs.Work.{in_progress, members, note_at};
-ghost use Rattle.dsa_device.specs.Reads.{awaited, is_held, slot_at};
+ghost use Rattle.dsa_device.specs.Reads.{awaited, is_held, entry_at};
 ghost use Rattle.dsa_c.specs.Calls.{asked, asked_for, or_none};
-ghost use Rattle.dsa_c.specs.Reads.{IsWritten, bit_asked, phase_number, listed, queue_for_c, group_for_c, entry_for_c, batch_for_c};
+ghost use Rattle.dsa_c.specs.Reads.{IsWrittenForC, bit_asked, phase_number, entries_of_list_for_c, queue_for_c};
+ghost use Rattle.dsa_c.specs.Reads.{group_for_c, entry_for_c, batch_for_c};
 ghost use Rattle.dsa_c.specs.Answers.{bit_number};
 
-use crate::handle::Handle;
+use crate::handle::{Handle, let_device};
 use crate::reads::or_none;
 use crate::steps::{DeviceGroup, DeviceQueue};
 use dsa_book::{BatchNote, Ticket};
@@ -81,7 +83,7 @@ fn group_for_c(config: &GroupConfig) -> DeviceGroup
 
 // Writes the configuration, where there is one.
 pub(crate) fn write_queue(found: Option<QueueConfig>, config: &mut DeviceQueue) -> u32
-    ensures { IsWritten queue_for_c found result config.old config.new }
+    ensures { IsWrittenForC queue_for_c found result config.old config.new }
 {
     let Some(found) = found else {
         return 0;
@@ -92,7 +94,7 @@ pub(crate) fn write_queue(found: Option<QueueConfig>, config: &mut DeviceQueue) 
 
 // Writes the configuration, where there is one.
 pub(crate) fn write_group(found: Option<GroupConfig>, config: &mut DeviceGroup) -> u32
-    ensures { IsWritten group_for_c found result config.old config.new }
+    ensures { IsWrittenForC group_for_c found result config.old config.new }
 {
     let Some(found) = found else {
         return 0;
@@ -131,19 +133,18 @@ fn entry_for_c(cell: Cell, entry: &Entry) -> DeviceEntry
 
 // Writes the entry at this place of one of the device's lists, where there is one.
 fn write_entry(handle: &mut Handle, list: ListUse, place: u64, entry: &mut DeviceEntry) -> u32
-    ensures value { IsWritten entry_for_c (asked_for handle.old.place.machine (λ d. slot_at (listed d list) place)) result entry.old entry.new }
+    ensures value { IsWrittenForC entry_for_c
+        (asked_for handle.old.place.machine (λ d. entry_at (entries_of_list_for_c d list) place))
+        result entry.old entry.new }
     ensures same { handle.new.place.machine ≡ handle.old.place.machine }
 {
-    if !handle.holds {
-        return 0;
-    }
-    let machine = handle.place.machine();
-    let slot = match list {
-        ListUse::Queue(queue) => machine.device.waiting_at(queue, place as usize),
-        ListUse::Progress(engine) => machine.device.in_progress_at(engine, place as usize),
-        ListUse::Members(engine) => machine.device.member_at(engine, place as usize),
+    let_device!(device, handle, 0);
+    let pair = match list {
+        ListUse::Queue(queue) => device.waiting_at(queue, place as usize),
+        ListUse::Progress(engine) => device.in_progress_at(engine, place as usize),
+        ListUse::Members(engine) => device.member_at(engine, place as usize),
     };
-    let Some((cell, found)) = slot else {
+    let Some((cell, found)) = pair else {
         return 0;
     };
     *entry = entry_for_c(cell, &found);
@@ -153,79 +154,70 @@ fn write_entry(handle: &mut Handle, list: ListUse, place: u64, entry: &mut Devic
 /// The phase of the device.
 #[unsafe(no_mangle)]
 pub extern "C" fn dsa_phase(handle: &mut Handle) -> u64
-    ensures value { result ≡ or_none (asked handle.old.place.machine (λ d. phase_number d.state.work.setup.device)) }
+    ensures value { result ≡ or_none
+        (asked handle.old.place.machine (λ d. phase_number d.state.work.setup.device)) }
     ensures same { handle.new.place.machine ≡ handle.old.place.machine }
 {
-    if !handle.holds {
-        return or_none(None);
-    }
-    let phase = handle.place.machine().device.phase();
-    phase_number(phase)
+    let_device!(device, handle, or_none(None));
+    phase_number(device.phase())
 }
 
 /// The phase of the queue.
 #[unsafe(no_mangle)]
 pub extern "C" fn dsa_queue_phase(handle: &mut Handle, queue: u16) -> u64
-    ensures value { result ≡ or_none (asked_for handle.old.place.machine (λ d. when (nat_lt queue d.caps.queues) (phase_number (phase_at d.state.work.setup queue)))) }
+    ensures value { result ≡ or_none (asked_for handle.old.place.machine
+        (λ d. when (nat_lt queue d.caps.queues)
+        (phase_number (phase_at d.state.work.setup queue)))) }
     ensures same { handle.new.place.machine ≡ handle.old.place.machine }
 {
-    if !handle.holds {
-        return or_none(None);
-    }
-    let phase = handle.place.machine().device.queue_phase(queue);
-    or_none(phase.map(phase_number))
+    let_device!(device, handle, or_none(None));
+    or_none(device.queue_phase(queue).map(phase_number))
 }
 
 /// The configuration of the queue.
 #[unsafe(no_mangle)]
 pub extern "C" fn dsa_queue_config(handle: &mut Handle, queue: u16, config: &mut DeviceQueue) -> u32
-    ensures value { IsWritten queue_for_c (asked_for handle.old.place.machine (λ d. when (nat_lt queue d.caps.queues) (queue_at d.state.work.setup.configs queue))) result config.old config.new }
+    ensures value { IsWrittenForC queue_for_c (asked_for handle.old.place.machine
+        (λ d. when (nat_lt queue d.caps.queues) (queue_at d.state.work.setup.configs queue)))
+        result config.old config.new }
     ensures same { handle.new.place.machine ≡ handle.old.place.machine }
 {
-    if !handle.holds {
-        return 0;
-    }
-    let found = handle.place.machine().device.queue_config(queue);
-    write_queue(found, config)
+    let_device!(device, handle, 0);
+    write_queue(device.queue_config(queue), config)
 }
 
 /// The configuration of the group.
 #[unsafe(no_mangle)]
 pub extern "C" fn dsa_group_config(handle: &mut Handle, group: u16, config: &mut DeviceGroup) -> u32
-    ensures value { IsWritten group_for_c (asked_for handle.old.place.machine (λ d. when (nat_lt group d.caps.groups) (group_at d.state.work.setup.groups group))) result config.old config.new }
+    ensures value { IsWrittenForC group_for_c (asked_for handle.old.place.machine
+        (λ d. when (nat_lt group d.caps.groups) (group_at d.state.work.setup.groups group)))
+        result config.old config.new }
     ensures same { handle.new.place.machine ≡ handle.old.place.machine }
 {
-    if !handle.holds {
-        return 0;
-    }
-    let found = handle.place.machine().device.group_config(group);
-    write_group(found, config)
+    let_device!(device, handle, 0);
+    write_group(device.group_config(group), config)
 }
 
 /// The number of submitted entries that the engine has in progress.
 #[unsafe(no_mangle)]
 pub extern "C" fn dsa_in_progress(handle: &mut Handle, engine: u16) -> u64
-    ensures value { result ≡ or_none (asked_for handle.old.place.machine (λ d. when (nat_lt engine d.caps.engines) (length (in_progress d.state.work engine)))) }
+    ensures value { result ≡ or_none (asked_for handle.old.place.machine
+        (λ d. when (nat_lt engine d.caps.engines) (length (in_progress d.state.work engine)))) }
     ensures same { handle.new.place.machine ≡ handle.old.place.machine }
 {
-    if !handle.holds {
-        return or_none(None);
-    }
-    let count = handle.place.machine().device.in_progress_count(engine);
-    or_none(count.map(u64::from))
+    let_device!(device, handle, or_none(None));
+    or_none(device.in_progress_count(engine).map(u64::from))
 }
 
 /// The number of members of the engine's batch that have not ended.
 #[unsafe(no_mangle)]
 pub extern "C" fn dsa_members(handle: &mut Handle, engine: u16) -> u64
-    ensures value { result ≡ or_none (asked_for handle.old.place.machine (λ d. when (nat_lt engine d.caps.engines) (length (members d.state.work engine)))) }
+    ensures value { result ≡ or_none (asked_for handle.old.place.machine
+        (λ d. when (nat_lt engine d.caps.engines) (length (members d.state.work engine)))) }
     ensures same { handle.new.place.machine ≡ handle.old.place.machine }
 {
-    if !handle.holds {
-        return or_none(None);
-    }
-    let count = handle.place.machine().device.member_count(engine);
-    or_none(count.map(u64::from))
+    let_device!(device, handle, or_none(None));
+    or_none(device.member_count(engine).map(u64::from))
 }
 
 /// The entry that waits at this place of the queue, the front at 0.
@@ -236,13 +228,18 @@ pub extern "C" fn dsa_waiting_at(
     place: u64,
     entry: &mut DeviceEntry,
 ) -> u32
-    ensures value { IsWritten entry_for_c (asked_for handle.old.place.machine (λ d. slot_at (when (nat_lt queue d.caps.queues) (chain d.state.work.content queue)) place)) result entry.old entry.new }
+    ensures value { IsWrittenForC entry_for_c
+        (asked_for handle.old.place.machine
+        (λ d. entry_at
+        (when (nat_lt queue d.caps.queues) (chain d.state.work.content queue)) place))
+        result entry.old entry.new }
     ensures same { handle.new.place.machine ≡ handle.old.place.machine }
 {
     write_entry(handle, ListUse::Queue(queue), place, entry)
 }
 
-/// The submitted entry at this place of those that the engine has in progress, the first one taken at 0.
+/// The submitted entry at this place of those that the engine has in progress, the first one taken
+/// at 0.
 #[unsafe(no_mangle)]
 pub extern "C" fn dsa_in_progress_at(
     handle: &mut Handle,
@@ -250,13 +247,17 @@ pub extern "C" fn dsa_in_progress_at(
     place: u64,
     entry: &mut DeviceEntry,
 ) -> u32
-    ensures value { IsWritten entry_for_c (asked_for handle.old.place.machine (λ d. slot_at (when (nat_lt engine d.caps.engines) (in_progress d.state.work engine)) place)) result entry.old entry.new }
+    ensures value { IsWrittenForC entry_for_c (asked_for handle.old.place.machine
+        (λ d. entry_at (when (nat_lt engine d.caps.engines) (in_progress d.state.work engine))
+        place))
+        result entry.old entry.new }
     ensures same { handle.new.place.machine ≡ handle.old.place.machine }
 {
     write_entry(handle, ListUse::Progress(engine), place, entry)
 }
 
-/// The member at this place of those of the engine's batch that have not ended, the first one fetched at 0.
+/// The member at this place of those of the engine's batch that have not ended, the first one
+/// fetched at 0.
 #[unsafe(no_mangle)]
 pub extern "C" fn dsa_member_at(
     handle: &mut Handle,
@@ -264,7 +265,9 @@ pub extern "C" fn dsa_member_at(
     place: u64,
     entry: &mut DeviceEntry,
 ) -> u32
-    ensures value { IsWritten entry_for_c (asked_for handle.old.place.machine (λ d. slot_at (when (nat_lt engine d.caps.engines) (members d.state.work engine)) place)) result entry.old entry.new }
+    ensures value { IsWrittenForC entry_for_c (asked_for handle.old.place.machine
+        (λ d. entry_at (when (nat_lt engine d.caps.engines) (members d.state.work engine)) place))
+        result entry.old entry.new }
     ensures same { handle.new.place.machine ≡ handle.old.place.machine }
 {
     write_entry(handle, ListUse::Members(engine), place, entry)
@@ -273,14 +276,13 @@ pub extern "C" fn dsa_member_at(
 /// What is noted of the batch that the engine works on.
 #[unsafe(no_mangle)]
 pub extern "C" fn dsa_batch(handle: &mut Handle, engine: u16, batch: &mut DeviceBatch) -> u32
-    ensures value { IsWritten batch_for_c (asked_for handle.old.place.machine (λ d. note_at d.state.work engine)) result batch.old batch.new }
+    ensures value { IsWrittenForC batch_for_c
+        (asked_for handle.old.place.machine (λ d. note_at d.state.work engine))
+        result batch.old batch.new }
     ensures same { handle.new.place.machine ≡ handle.old.place.machine }
 {
-    if !handle.holds {
-        return 0;
-    }
-    let note = handle.place.machine().device.batch(engine);
-    let Some(note) = note else {
+    let_device!(device, handle, 0);
+    let Some(note) = device.batch(engine) else {
         return 0;
     };
     *batch = batch_for_c(&note);
@@ -293,39 +295,32 @@ pub extern "C" fn dsa_awaited(handle: &mut Handle) -> u64
     ensures value { result ≡ or_none (asked_for handle.old.place.machine (λ d. awaited d.state)) }
     ensures same { handle.new.place.machine ≡ handle.old.place.machine }
 {
-    if !handle.holds {
-        return or_none(None);
-    }
-    let awaited = handle.place.machine().device.awaited();
-    or_none(awaited.map(u64::from))
+    let_device!(device, handle, or_none(None));
+    or_none(device.awaited().map(u64::from))
 }
 
 /// Whether the device holds the entry of that cell and name still: 1 or 0.
 #[unsafe(no_mangle)]
 pub extern "C" fn dsa_holds(handle: &mut Handle, cell: u32, name: u32) -> u32
-    ensures value { result ≡ bit_asked handle.old.place.machine (λ d. is_held d.state.work.content (record { cell = record { 0 = cell }; name = name })) }
+    ensures value { result ≡ bit_asked handle.old.place.machine
+        (λ d. is_held d.state.work.content (record { cell = record { 0 = cell }; name = name })) }
     ensures same { handle.new.place.machine ≡ handle.old.place.machine }
 {
-    if !handle.holds {
-        return 0;
-    }
     let ticket = Ticket {
         cell: Cell(cell),
         name,
     };
-    let holds = handle.place.machine().device.holds(ticket);
-    u32::from(holds)
+    let_device!(device, handle, 0);
+    u32::from(device.holds(ticket))
 }
 
 /// Whether the history has no room left: 1 or 0.
 #[unsafe(no_mangle)]
 pub extern "C" fn dsa_history_is_full(handle: &mut Handle) -> u32
-    ensures value { result ≡ bit_asked handle.old.place.machine (λ d. length d.history == d.capacity) }
+    ensures value { result ≡ bit_asked handle.old.place.machine
+        (λ d. length d.history == d.capacity) }
     ensures same { handle.new.place.machine ≡ handle.old.place.machine }
 {
-    if !handle.holds {
-        return 0;
-    }
-    let full = handle.place.machine().device.is_full();
-    u32::from(full)
+    let_device!(device, handle, 0);
+    u32::from(device.is_full())
 }

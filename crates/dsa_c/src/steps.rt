@@ -5,10 +5,11 @@ ghost use Rattle.dsa_desc.specs.Descriptor.{read};
 ghost use Rattle.dsa_regs.specs.Command.{command_of};
 ghost use Rattle.dsa_book.specs.declared.event.Event.TheVariants as event;
 ghost use Rattle.dsa_book.specs.declared.event.Kind.TheVariants as kind;
-ghost use Rattle.dsa_c.specs.Calls.{IsStep, IsCall, IsIssue, portal_of, bit_of, outcome_of, submission, finishing, queue_write, group_of};
+ghost use Rattle.dsa_c.specs.Calls.{IsStep, IsCall, IsIssue, portal_from_c, bit_of, outcome_from_c};
+ghost use Rattle.dsa_c.specs.Calls.{submission_from_c, finishing, queue_write, group_from_c};
 
 use crate::answer::Answer;
-use crate::handle::Handle;
+use crate::handle::{Handle, let_device};
 use dsa_book::{Kind, Portal, Ticket};
 use dsa_desc::{Descriptor, Outcome};
 use dsa_regs::{Command, CommandWord, GroupConfig, QueueConfig};
@@ -45,7 +46,7 @@ pub struct DeviceGroup {
 }
 
 fn portal_of(number: u32) -> Option<Portal>
-    ensures { result ≡ portal_of number }
+    ensures { result ≡ portal_from_c number }
 {
     match number {
         0 => Some(Portal::Limited),
@@ -65,7 +66,7 @@ fn bit_of(number: u8) -> Option<bool>
 }
 
 pub(crate) fn outcome_of(number: u32) -> Option<Outcome>
-    ensures { result ≡ outcome_of number }
+    ensures { result ≡ outcome_from_c number }
 {
     match number {
         0 => Some(Outcome::Success),
@@ -83,51 +84,36 @@ fn submit_at(
     kind: Kind,
     bytes: &Bytes,
 ) -> Answer
-    ensures { IsStep handle.old.place.machine (event.Submit client queue portal kind (read bytes.now.bytes)) result handle.new.place.machine }
+    ensures { IsStep handle.old.place.machine
+        (event.Submit client queue portal kind (read bytes.now.bytes))
+        result handle.new.place.machine }
 {
-    if !handle.holds {
-        return Answer::no_device();
-    }
-    let answer = handle
-        .place
-        .machine()
-        .device
-        .submit(client, queue, portal, kind, &bytes.bytes);
-    Answer::of_submit(answer)
+    let_device!(device, handle, Answer::no_device());
+    Answer::of_submit(device.submit(client, queue, portal, kind, &bytes.bytes))
 }
 
 fn finish_at(handle: &mut Handle, engine: u16, ticket: Ticket, outcome: Outcome) -> Answer
-    ensures { IsStep handle.old.place.machine (event.Finish engine ticket outcome) result handle.new.place.machine }
+    ensures { IsStep handle.old.place.machine (event.Finish engine ticket outcome)
+        result handle.new.place.machine }
 {
-    if !handle.holds {
-        return Answer::no_device();
-    }
-    let answer = handle
-        .place
-        .machine()
-        .device
-        .finish(engine, ticket, outcome);
-    Answer::of_finish(answer)
+    let_device!(device, handle, Answer::no_device());
+    Answer::of_finish(device.finish(engine, ticket, outcome))
 }
 
 fn issue(handle: &mut Handle, command: Command) -> Answer
-    ensures { IsStep handle.old.place.machine (event.Issue command) result handle.new.place.machine }
+    ensures { IsStep handle.old.place.machine (event.Issue command)
+        result handle.new.place.machine }
 {
-    if !handle.holds {
-        return Answer::no_device();
-    }
-    let answer = handle.place.machine().device.issue(command);
-    Answer::of_issue(answer)
+    let_device!(device, handle, Answer::no_device());
+    Answer::of_issue(device.issue(command))
 }
 
 fn write_queue(handle: &mut Handle, queue: u16, config: QueueConfig) -> Answer
-    ensures { IsStep handle.old.place.machine (event.WriteQueue queue config) result handle.new.place.machine }
+    ensures { IsStep handle.old.place.machine (event.WriteQueue queue config)
+        result handle.new.place.machine }
 {
-    if !handle.holds {
-        return Answer::no_device();
-    }
-    let answer = handle.place.machine().device.write_queue(queue, config);
-    Answer::of_write(answer)
+    let_device!(device, handle, Answer::no_device());
+    Answer::of_write(device.write_queue(queue, config))
 }
 
 // A submission, where the portal's number is one.
@@ -140,7 +126,9 @@ fn submit(
     kind: Kind,
     bytes: &Bytes,
 ) -> Answer
-    ensures { IsCall handle.old.place.machine (submission client queue portal kind bytes.now.bytes) result handle.new.place.machine }
+    ensures { IsCall handle.old.place.machine
+        (submission_from_c client queue portal kind bytes.now.bytes) result
+        handle.new.place.machine }
 {
     match portal_of(portal) {
         Some(portal) => submit_at(handle, client, queue, portal, kind, bytes),
@@ -158,7 +146,9 @@ pub extern "C" fn dsa_enqcmd(
     pasid: u32,
     bytes: &Bytes,
 ) -> Answer
-    ensures { IsCall handle.old.place.machine (submission client queue portal (kind.Enqcmd pasid) bytes.now.bytes) result handle.new.place.machine }
+    ensures { IsCall handle.old.place.machine
+        (submission_from_c client queue portal (kind.Enqcmd pasid) bytes.now.bytes)
+        result handle.new.place.machine }
 {
     submit(handle, client, queue, portal, Kind::Enqcmd { pasid }, bytes)
 }
@@ -172,7 +162,9 @@ pub extern "C" fn dsa_movdir64b(
     portal: u32,
     bytes: &Bytes,
 ) -> Answer
-    ensures { IsCall handle.old.place.machine (submission client queue portal kind.Movdir64b bytes.now.bytes) result handle.new.place.machine }
+    ensures { IsCall handle.old.place.machine
+        (submission_from_c client queue portal kind.Movdir64b bytes.now.bytes)
+        result handle.new.place.machine }
 {
     submit(handle, client, queue, portal, Kind::Movdir64b, bytes)
 }
@@ -180,13 +172,11 @@ pub extern "C" fn dsa_movdir64b(
 /// The step of an engine that asks for an entry.
 #[unsafe(no_mangle)]
 pub extern "C" fn dsa_dispatch(handle: &mut Handle, engine: u16) -> Answer
-    ensures { IsStep handle.old.place.machine (event.Dispatch engine) result handle.new.place.machine }
+    ensures { IsStep handle.old.place.machine (event.Dispatch engine)
+        result handle.new.place.machine }
 {
-    if !handle.holds {
-        return Answer::no_device();
-    }
-    let answer = handle.place.machine().device.dispatch(engine);
-    Answer::of_dispatch(answer)
+    let_device!(device, handle, Answer::no_device());
+    Answer::of_dispatch(device.dispatch(engine))
 }
 
 /// The step of an engine that starts the first of its members that does not run.
@@ -194,27 +184,23 @@ pub extern "C" fn dsa_dispatch(handle: &mut Handle, engine: u16) -> Answer
 pub extern "C" fn dsa_start(handle: &mut Handle, engine: u16) -> Answer
     ensures { IsStep handle.old.place.machine (event.Start engine) result handle.new.place.machine }
 {
-    if !handle.holds {
-        return Answer::no_device();
-    }
-    let answer = handle.place.machine().device.start(engine);
-    Answer::of_start(answer)
+    let_device!(device, handle, Answer::no_device());
+    Answer::of_start(device.start(engine))
 }
 
 /// The step of an engine that hands in the next member of its batch.
 #[unsafe(no_mangle)]
 pub extern "C" fn dsa_fetch(handle: &mut Handle, engine: u16, bytes: &Bytes) -> Answer
-    ensures { IsStep handle.old.place.machine (event.Fetch engine (read bytes.now.bytes)) result handle.new.place.machine }
+    ensures { IsStep handle.old.place.machine (event.Fetch engine (read bytes.now.bytes))
+        result handle.new.place.machine }
 {
     let desc = Descriptor::parse(&bytes.bytes);
-    if !handle.holds {
-        return Answer::no_device();
-    }
-    let answer = handle.place.machine().device.fetch(engine, desc);
-    Answer::of_fetch(answer)
+    let_device!(device, handle, Answer::no_device());
+    Answer::of_fetch(device.fetch(engine, desc))
 }
 
-/// The step of an engine that ends an entry, and says by 0 that all was done or by 1 that an address had no page.
+/// The step of an engine that ends an entry, and says by 0 that all was done or by 1 that an
+/// address had no page.
 #[unsafe(no_mangle)]
 pub extern "C" fn dsa_finish(
     handle: &mut Handle,
@@ -223,7 +209,8 @@ pub extern "C" fn dsa_finish(
     name: u32,
     outcome: u32,
 ) -> Answer
-    ensures { IsCall handle.old.place.machine (finishing engine cell name outcome) result handle.new.place.machine }
+    ensures { IsCall handle.old.place.machine (finishing engine cell name outcome)
+        result handle.new.place.machine }
 {
     let ticket = Ticket {
         cell: Cell(cell),
@@ -251,17 +238,15 @@ pub extern "C" fn dsa_command(handle: &mut Handle, word: u32) -> Answer
 pub extern "C" fn dsa_poll(handle: &mut Handle) -> Answer
     ensures { IsStep handle.old.place.machine event.Poll result handle.new.place.machine }
 {
-    if !handle.holds {
-        return Answer::no_device();
-    }
-    let answer = handle.place.machine().device.poll();
-    Answer::of_poll(answer)
+    let_device!(device, handle, Answer::no_device());
+    Answer::of_poll(device.poll())
 }
 
 /// The step of an administrator who writes the configuration of a queue.
 #[unsafe(no_mangle)]
 pub extern "C" fn dsa_write_queue(handle: &mut Handle, queue: u16, config: &DeviceQueue) -> Answer
-    ensures { IsCall handle.old.place.machine (queue_write queue config.now) result handle.new.place.machine }
+    ensures { IsCall handle.old.place.machine (queue_write queue config.now)
+        result handle.new.place.machine }
 {
     let Some(dedicated) = bit_of(config.dedicated) else {
         return Answer::bad_argument();
@@ -281,7 +266,8 @@ pub extern "C" fn dsa_write_queue(handle: &mut Handle, queue: u16, config: &Devi
 /// The step of an administrator who writes the configuration of a group.
 #[unsafe(no_mangle)]
 pub extern "C" fn dsa_write_group(handle: &mut Handle, group: u16, config: &DeviceGroup) -> Answer
-    ensures { IsStep handle.old.place.machine (event.WriteGroup group (group_of config.now)) result handle.new.place.machine }
+    ensures { IsStep handle.old.place.machine (event.WriteGroup group (group_from_c config.now))
+        result handle.new.place.machine }
 {
     let config = GroupConfig {
         queues: config.queues,
@@ -289,11 +275,8 @@ pub extern "C" fn dsa_write_group(handle: &mut Handle, group: u16, config: &Devi
         reserved: config.reserved,
         allowed: config.allowed,
     };
-    if !handle.holds {
-        return Answer::no_device();
-    }
-    let answer = handle.place.machine().device.write_group(group, config);
-    Answer::of_write(answer)
+    let_device!(device, handle, Answer::no_device());
+    Answer::of_write(device.write_group(group, config))
 }
 
 /// The step of an administrator who clears the noted error, and is told it.
@@ -301,9 +284,6 @@ pub extern "C" fn dsa_write_group(handle: &mut Handle, group: u16, config: &Devi
 pub extern "C" fn dsa_clear_error(handle: &mut Handle) -> Answer
     ensures { IsStep handle.old.place.machine event.ClearError result handle.new.place.machine }
 {
-    if !handle.holds {
-        return Answer::no_device();
-    }
-    let answer = handle.place.machine().device.clear_error();
-    Answer::of_clear(answer)
+    let_device!(device, handle, Answer::no_device());
+    Answer::of_clear(device.clear_error())
 }

@@ -2,7 +2,7 @@
 
 ghost use Rattle.std.specs.Prelude.{◌≡◌, ◌==◌, not};
 ghost use Rattle.dsa_desc.specs.Descriptor.{read, check, need, status, enqcmd_image};
-ghost use Rattle.dsa_c.specs.Calls.{limits_of, outcome_of, status_of};
+ghost use Rattle.dsa_c.specs.Calls.{limits_from_c, outcome_from_c, status_after_outcome};
 
 use crate::steps::{Bytes, outcome_of};
 use dsa_desc::{Descriptor, QueueLimits, enqcmd_image};
@@ -17,7 +17,7 @@ pub struct DeviceLimits {
 }
 
 fn limits_of(limits: &DeviceLimits) -> QueueLimits
-    ensures { result ≡ limits_of limits.now }
+    ensures { result ≡ limits_from_c limits.now }
 {
     QueueLimits {
         max_batch_shift: limits.max_batch_shift,
@@ -25,10 +25,11 @@ fn limits_of(limits: &DeviceLimits) -> QueueLimits
     }
 }
 
-/// The status of the first check of a descriptor that fails, 0 where none does; a member of a batch where `member` is not 0.
+/// The status of the first check of a descriptor that fails, 0 where none does; a member of a batch
+/// where `member` is not 0.
 #[unsafe(no_mangle)]
 pub extern "C" fn dsa_check(bytes: &Bytes, limits: &DeviceLimits, member: u32) -> u32
-    ensures { result ≡ check (read bytes.now.bytes) (limits_of limits.now) (not (member == 0)) }
+    ensures { result ≡ check (read bytes.now.bytes) (limits_from_c limits.now) (not (member == 0)) }
 {
     u32::from(Descriptor::parse(&bytes.bytes).check(&limits_of(limits), member != 0))
 }
@@ -36,7 +37,7 @@ pub extern "C" fn dsa_check(bytes: &Bytes, limits: &DeviceLimits, member: u32) -
 /// How many read buffers a descriptor holds while it runs.
 #[unsafe(no_mangle)]
 pub extern "C" fn dsa_need(bytes: &Bytes, limits: &DeviceLimits, member: u32) -> u32
-    ensures { result ≡ need (read bytes.now.bytes) (limits_of limits.now) (not (member == 0)) }
+    ensures { result ≡ need (read bytes.now.bytes) (limits_from_c limits.now) (not (member == 0)) }
 {
     u32::from(Descriptor::parse(&bytes.bytes).need(&limits_of(limits), member != 0))
 }
@@ -44,7 +45,9 @@ pub extern "C" fn dsa_need(bytes: &Bytes, limits: &DeviceLimits, member: u32) ->
 /// The status with which a descriptor ends after an outcome, 0 where the outcome's number is none.
 #[unsafe(no_mangle)]
 pub extern "C" fn dsa_status(bytes: &Bytes, limits: &DeviceLimits, member: u32, outcome: u32) -> u32
-    ensures { result ≡ status_of (read bytes.now.bytes) (limits_of limits.now) (not (member == 0)) (outcome_of outcome) }
+    ensures { result
+        ≡ status_after_outcome (read bytes.now.bytes) (limits_from_c limits.now) (not (member == 0))
+        (outcome_from_c outcome) }
 {
     let Some(outcome) = outcome_of(outcome) else {
         return 0;

@@ -8,17 +8,18 @@ use Rattle.std.proofs.lemmas.List.{length-take-le, take-set-le, Sums.{sum_by_mor
 use Rattle.std.proofs.Math.{Seq.{take-set-lt}, ListN.{get_or-map}, Path.{fun_ext}}
 use Rattle.std.proofs.lemmas.Simd.{map-map}
 use Rattle.dsa_store.specs.declared.entry.{Cell.{Cell}, Entry.{Entry}}
-use Rattle.dsa_store.specs.Content.{Slot, is_cell, chain, use_count, held_count, first_cell, after_push}
+use Rattle.dsa_store.specs.Content.{HeldEntry, is_cell, chain, use_count, held_count, first_cell, after_push}
 use Rattle.dsa_store.specs.Content.{after_move as move, after_unlink, after_set, after_give_back}
 use Rattle.dsa_store.proofs.Finding.{uses-stands, entry_of-at, list_of-at, unlinked-none, replaced-none, entry_of-none}
 use Rattle.dsa_store.proofs.{Finding.{list_of-none, next_of-none}, Turns.{Seam, seam}}
 use Rattle.dsa_cells.specs.declared.links.{Node.{Node}, Header.{Header}}
 use Rattle.dsa_cells.specs.Array.{no_entry, node_at, no_node, header_at, entries_of, owners_of}
-use Rattle.dsa_cells.specs.Partition.{first_or, times, in_use, cells_of, list_at, lists_of}
+use Rattle.dsa_cells.specs.Partition.{first_or, times, lists_in_use, cells_of, list_at, lists_of}
 use Rattle.dsa_cells.specs.Writes.{cells_without, after_append, after_transfer, after_splice, after_change}
-use Rattle.dsa_cells.specs.Invariant.{place, IsStore, IsWhole}
-use Rattle.dsa_cells.specs.Content.{slot, contents, content_at, cell_of, IsUnused, IsUsed}
-use Rattle.dsa_cells.specs.{Owners.{is_partition}, Naming.{uses-slots, held-slots, IsSound-from_whole}}
+use Rattle.dsa_cells.specs.Invariant.{place_by_owner, IsStore, IsWholeArray}
+use Rattle.dsa_cells.specs.Content.{held_entry_of_number, contents_of_cells, content_at, cell_of_number, IsUnused}
+use Rattle.dsa_cells.specs.Content.{IsUsed}
+use Rattle.dsa_cells.specs.{Owners.{is_partition}, Naming.{uses-entries, held-entries, IsSound-from_whole}}
 use Rattle.dsa_cells.proofs.Chain.{times-append, times-head, Linked-right, Linked-agree, split_at, map-changed}
 use Rattle.dsa_cells.proofs.Chain.{length-changed, changed-links, changed-keeps}
 use Rattle.dsa_cells.proofs.Joining.{list_at-in, AreHeaders-agree, stands_in, names_in, lists_is, store_found}
@@ -31,47 +32,49 @@ pub entry_is : (s : List Node) (x : ℕ) → get_or (entries_of s) x no_entry �
 entry_is s x = get_or-map (λ (t : Node). t.entry) s x no_node
 
 -- the front is the first cell
-pub first-slots : (es : List Entry) (xs : List ℕ) → first_cell (map (slot es) xs) ≡ cell_of (first_or xs None)
-first-slots es [] = refl
-first-slots es (x ∷ xs) = refl
+pub first-entries : (es : List Entry) (xs : List ℕ) → first_cell (map (held_entry_of_number es) xs)
+    ≡ cell_of_number (first_or xs None)
+first-entries es [] = refl
+first-entries es (x ∷ xs) = refl
 
 -- an entry is written
-slot-set : (es : List Entry) (c : ℕ) (e : Entry) (x : ℕ) → c < length es →
-    slot (set es c e) x ≡ cond (x == c) (record { 0 = x }, e) (slot es x)
-slot-set es c e x lt =
+pair-set : (es : List Entry) (c : ℕ) (e : Entry) (x : ℕ) → c < length es →
+    held_entry_of_number (set es c e) x ≡ cond (x == c) (record { 0 = x }, e) (held_entry_of_number es x)
+pair-set es c e x lt =
     let entry : get_or (set es c e) x no_entry ≡ cond (x == c) e (get_or es x no_entry) = grind (arith, common_steps) in
-    ap (λ f. let s : Slot = (record { 0 = x }, f) in s) entry ∙ choose (x == c)
+    ap (λ f. let s : HeldEntry = (record { 0 = x }, f) in s) entry ∙ choose (x == c)
   where
-    choose : (b : Bool) → ◌≡◌ {A = Slot} (record { 0 = x }, cond b e (get_or es x no_entry))
-        (cond b (record { 0 = x }, e) (slot es x))
+    choose : (b : Bool) → ◌≡◌ {A = HeldEntry} (record { 0 = x }, cond b e (get_or es x no_entry))
+        (cond b (record { 0 = x }, e) (held_entry_of_number es x))
     choose true = refl
     choose false = refl
 
 lists-set : (es : List Entry) (c : ℕ) (e : Entry) (lists : List (List ℕ)) → c < length es
-    → map (map (slot (set es c e))) lists ≡ after_set (map (map (slot es)) lists) (record { 0 = c }) e
+    → map (map (held_entry_of_number (set es c e))) lists
+    ≡ after_set (map (map (held_entry_of_number es)) lists) (record { 0 = c }) e
 lists-set es c e lists lt =
-    let change : Slot → Slot = λ s. cond (is_cell (record { 0 = c }) s) (s.0, e) s in
-    ap (λ (f : ℕ → Slot). map (map f) lists) (fun_ext (λ x. slot-set es c e x lt))
-    ∙ ap (λ (f : List ℕ → List Slot). map f lists) (fun_ext (λ xs. sym (map-map change (slot es) xs)))
-    ∙ sym (map-map (map change) (map (slot es)) lists)
+    let change : HeldEntry → HeldEntry = λ s. cond (is_cell (record { 0 = c }) s) (s.0, e) s in
+    ap (λ (f : ℕ → HeldEntry). map (map f) lists) (fun_ext (λ x. pair-set es c e x lt))
+    ∙ ap (λ (f : List ℕ → List HeldEntry). map f lists) (fun_ext (λ xs. sym (map-map change (held_entry_of_number es) xs)))
+    ∙ sym (map-map (map change) (map (held_entry_of_number es)) lists)
 
 -- ---- all lists
 
 -- all but the last are seen
-pub length-contents : (es : List Entry) (lists : List (List ℕ)) → length (contents es lists) ≡ length lists - 1
-length-contents es lists = length-map (take (length lists - 1) lists) (map (slot es))
+pub length-contents : (es : List Entry) (lists : List (List ℕ)) → length (contents_of_cells es lists) ≡ length lists - 1
+length-contents es lists = length-map (take (length lists - 1) lists) (map (held_entry_of_number es))
     ∙ length-take-le (length lists - 1) lists (omega arith)
 
 -- a list that is seen
 pub chain-contents : (es : List Entry) (lists : List (List ℕ)) (l : ℕ) → l < length lists - 1 →
-    chain (contents es lists) l ≡ map (slot es) (list_at lists l)
+    chain (contents_of_cells es lists) l ≡ map (held_entry_of_number es) (list_at lists l)
 chain-contents es lists l lt =
-    get_or-map (map (slot es)) (take (length lists - 1) lists) l []
-    ∙ ap (map (slot es)) (get_or-take (length lists - 1) lists l [] lt)
+    get_or-map (map (held_entry_of_number es)) (take (length lists - 1) lists) l []
+    ∙ ap (map (held_entry_of_number es)) (get_or-take (length lists - 1) lists l [] lt)
 
 -- a sum over all lists, the last of which is not seen
 pub sum-in_use : (f : List ℕ → ℕ) (lists : List (List ℕ)) → 0 < length lists
-    → sum_by f (in_use lists) + f (list_at lists (length lists - 1)) ≡ sum_by f lists
+    → sum_by f (lists_in_use lists) + f (list_at lists (length lists - 1)) ≡ sum_by f lists
 sum-in_use f lists lt =
     let n = length lists - 1 in
     omega (
@@ -82,24 +85,24 @@ sum-in_use f lists lt =
 
 -- a list is written that is seen
 pub contents-set : (es : List Entry) (lists : List (List ℕ)) (l : ℕ) (ys : List ℕ) → l < length lists - 1
-    → contents es (set lists l ys) ≡ set (contents es lists) l (map (slot es) ys)
+    → contents_of_cells es (set lists l ys) ≡ set (contents_of_cells es lists) l (map (held_entry_of_number es) ys)
 contents-set es lists l ys lt =
     rw (length-set lists l ys, take-set-lt (length lists - 1) lists l ys lt)
-    (map-set (map (slot es)) (in_use lists) l ys)
+    (map-set (map (held_entry_of_number es)) (lists_in_use lists) l ys)
 
 -- the free list is written
 pub contents-set_free : (es : List Entry) (lists : List (List ℕ)) (l : ℕ) (ys : List ℕ) → length lists - 1 ≤ l
-    → contents es (set lists l ys) ≡ contents es lists
+    → contents_of_cells es (set lists l ys) ≡ contents_of_cells es lists
 contents-set_free es lists l ys le =
     rw (length-set lists l ys, take-set-le (length lists - 1) lists l ys le) refl
 
 -- a cell comes behind a list that is seen
 contents-appended : (es : List Entry) (lists : List (List ℕ)) (l c : ℕ) → l < length lists - 1
-    → contents es (after_append lists l (c ∷ []))
-    ≡ after_push (contents es lists) l (record { 0 = c }) (get_or es c no_entry)
+    → contents_of_cells es (after_append lists l (c ∷ []))
+    ≡ after_push (contents_of_cells es lists) l (record { 0 = c }) (get_or es c no_entry)
 contents-appended es lists l c lt =
     contents-set es lists l (list_at lists l ++ c ∷ []) lt
-    ∙ rw (map-append (slot es) (list_at lists l) (c ∷ []), chain-contents es lists l lt) refl
+    ∙ rw (map-append (held_entry_of_number es) (list_at lists l) (c ∷ []), chain-contents es lists l lt) refl
 
 -- ---- what a whole store tells of a cell
 
@@ -113,11 +116,11 @@ record Standing (s : List Node) (r : List Header) (cell : Cell) : Type 0 where
   behind : List ℕ
   listed : (node_at s cell.0).owner < length (lists_of s r) - 1
   is : list_at (lists_of s r) (node_at s cell.0).owner ≡ before ++ cell.0 ∷ behind
-  seam : Seam (content_at s r) (node_at s cell.0).owner (map (slot (entries_of s)) before)
-      (map (slot (entries_of s)) behind) cell (node_at s cell.0).entry
+  seam : Seam (content_at s r) (node_at s cell.0).owner (map (held_entry_of_number (entries_of s)) before)
+      (map (held_entry_of_number (entries_of s)) behind) cell (node_at s cell.0).entry
   once : times cell.0 before + times cell.0 behind ≡ 0
 
-standing : {s : List Node} {r : List Header} (cell : Cell) → IsWhole s r → cell.0 < length s
+standing : {s : List Node} {r : List Header} (cell : Cell) → IsWholeArray s r → cell.0 < length s
     → (node_at s cell.0).owner < length r - 1 → Standing s r cell
 standing {s} {r} cell i lt listed =
     let lists = lists_of s r in
@@ -134,13 +137,15 @@ standing {s} {r} cell i lt listed =
       listed = l_in;
       is = parts.2;
       seam = seam (content_at s r) l _ _ cell (node_at s cell.0).entry ((IsSound-from_whole s r i).once cell)
-          (chain-contents es lists l l_in ∙ ap (map (slot es)) parts.2 ∙ map-append (slot es) xs (cell.0 ∷ zs)
-          ∙ ap (λ e. map (slot es) xs ++ (cell, e) ∷ map (slot es) zs) (entry_is s cell.0));
+          (chain-contents es lists l l_in ∙ ap (map (held_entry_of_number es)) parts.2
+          ∙ map-append (held_entry_of_number es) xs (cell.0 ∷ zs)
+          ∙ ap (λ e. map (held_entry_of_number es) xs ++ (cell, e) ∷ map (held_entry_of_number es) zs)
+          (entry_is s cell.0));
       once = omega (arith, one, ap (times cell.0) parts.2, times-append cell.0 xs (cell.0 ∷ zs), times-head cell.0 zs);
     }
 
 -- a cell that names a list in use
-pub used : {s : List Node} {r : List Header} (cell : Cell) (node : Node) → IsWhole s r → cell.0 < length s
+pub used : {s : List Node} {r : List Header} (cell : Cell) (node : Node) → IsWholeArray s r → cell.0 < length s
     → node ≡ node_at s cell.0 → node.owner < length r - 1 → IsUsed s r cell node
 used {s} {r} cell node i lt same listed =
     let C = content_at s r in
@@ -158,18 +163,18 @@ used {s} {r} cell node i lt same listed =
       used = uses-stands p.seam.stands;
       list = list_of-at C l _ cell _ once p.seam.stands ∙ ap Some (sym own);
       entry = entry_of-at C l _ cell _ once p.seam.stands ∙ ap (λ (t : Node). Some t.entry) (sym same);
-      next = p.seam.next ∙ first-slots (entries_of s) p.behind
-          ∙ ap cell_of (sym next ∙ ap (λ (t : Node). t.next) (sym same));
+      next = p.seam.next ∙ first-entries (entries_of s) p.behind
+          ∙ ap cell_of_number (sym next ∙ ap (λ (t : Node). t.next) (sym same));
     }
 
 -- no list in use names a cell that names none
-unused_uses : {s : List Node} {r : List Header} (cell : Cell) → IsWhole s r
+unused_uses : {s : List Node} {r : List Header} (cell : Cell) → IsWholeArray s r
     → (cell.0 < length s → length r - 1 ≤ (node_at s cell.0).owner) → use_count (content_at s r) cell ≡ 0
 unused_uses {s} {r} cell i h =
     let lists = lists_of s r in
     let c = cell.0 in
     let parts = is_partition s r lists i.store in
-    let sum = uses-slots (entries_of s) cell (in_use lists) in
+    let sum = uses-entries (entries_of s) cell (lists_in_use lists) in
     elim (leb_tells (length s) c) [
       | inl w ↦ omega (arith, sum, sum_by-take-le (times c) lists (length lists - 1), parts.only c w.1)
       | inr w ↦
@@ -187,7 +192,7 @@ unused_uses {s} {r} cell i h =
     ]
 
 -- a cell that names none
-pub unused : {s : List Node} {r : List Header} (cell : Cell) → IsWhole s r
+pub unused : {s : List Node} {r : List Header} (cell : Cell) → IsWholeArray s r
     → (cell.0 < length s → length r - 1 ≤ (node_at s cell.0).owner) → IsUnused s r cell
 unused {s} {r} cell i h =
     let C = content_at s r in
@@ -208,7 +213,7 @@ pub record Front (s : List Node) (r : List Header) (l c : ℕ) : Type 0 where
   pub behind : List ℕ
   pub is : list_at (lists_of s r) l ≡ c ∷ behind
 
-pub front : {s : List Node} {r : List Header} {c : ℕ} (l : ℕ) → IsWhole s r
+pub front : {s : List Node} {r : List Header} {c : ℕ} (l : ℕ) → IsWholeArray s r
     → first_or (list_at (lists_of s r) l) None ≡ Some c → Front s r l c
 front {s} {r} {c} l i h =
     let lists = lists_of s r in
@@ -221,31 +226,32 @@ front {s} {r} {c} l i h =
     first_is (x ∷ xs) c e = let same : x ≡ c = cc in (xs, ap (λ y. y ∷ xs) same)
 
 -- its length
-pub len-is : {s : List Node} {r : List Header} (l : ℕ) → IsWhole s r → l < length (content_at s r) →
+pub len-is : {s : List Node} {r : List Header} (l : ℕ) → IsWholeArray s r → l < length (content_at s r) →
     (header_at r l).count ≡ length (chain (content_at s r) l)
 len-is {s} {r} l i lt =
     let lists = lists_of s r in
     let k : l < length lists - 1 = omega (arith, lt, length-contents (entries_of s) lists) in
     (i.store.ends.each l (omega (arith, k))).count
-    ∙ sym (ap length (chain-contents (entries_of s) lists l k) ∙ length-map (list_at lists l) (slot (entries_of s)))
+    ∙ sym (ap length (chain-contents (entries_of s) lists l k)
+    ∙ length-map (list_at lists l) (held_entry_of_number (entries_of s)))
 
 -- its front
 pub front-is : (s : List Node) (r : List Header) (l : ℕ) → l < length (content_at s r)
-    → first_cell (chain (content_at s r) l) ≡ cell_of (first_or (list_at (lists_of s r) l) None)
+    → first_cell (chain (content_at s r) l) ≡ cell_of_number (first_or (list_at (lists_of s r) l) None)
 front-is s r l lt =
     let lists = lists_of s r in
     ap first_cell (chain-contents (entries_of s) lists l (omega (arith, lt, length-contents (entries_of s) lists)))
-    ∙ first-slots (entries_of s) (list_at lists l)
+    ∙ first-entries (entries_of s) (list_at lists l)
 
 -- the cells that are held and those that are free are all
-pub held-is : (s : List Node) (r : List Header) → IsWhole s r →
+pub held-is : (s : List Node) (r : List Header) → IsWholeArray s r →
     held_count (content_at s r) + length (list_at (lists_of s r) (length (content_at s r))) ≡ length s
 held-is s r i =
     let lists = lists_of s r in
     let size = length-contents (entries_of s) lists in
     omega (
       arith,
-      held-slots (entries_of s) (in_use lists),
+      held-entries (entries_of s) (lists_in_use lists),
       sum-in_use length lists (omega (arith, i.free, length-lists s r)),
       i.store.total,
       ap (λ n. length (list_at lists n)) size,
@@ -255,14 +261,14 @@ held-is s r i =
 
 -- an entry is written into a cell
 pub content-written : (s : List Node) (r : List Header) (c : ℕ) (e : Entry) → c < length s
-    → contents (set (entries_of s) c e) (lists_of s r) ≡ after_set (content_at s r) (record { 0 = c }) e
-content-written s r c e lt = lists-set (entries_of s) c e (in_use (lists_of s r))
+    → contents_of_cells (set (entries_of s) c e) (lists_of s r) ≡ after_set (content_at s r) (record { 0 = c }) e
+content-written s r c e lt = lists-set (entries_of s) c e (lists_in_use (lists_of s r))
     (omega (arith, lt, length-map s (λ (t : Node). t.entry)))
 
 -- a cell comes from the free list to another, with an entry
 pub content-pushed : (s : List Node) (r : List Header) (c to : ℕ) (e : Entry) → c < length s →
     IsUnused s r (record { 0 = c }) → to < length (content_at s r)
-    → contents (set (entries_of s) c e) (after_transfer (lists_of s r) c (length (content_at s r)) to) ≡
+    → contents_of_cells (set (entries_of s) c e) (after_transfer (lists_of s r) c (length (content_at s r)) to) ≡
     after_push (content_at s r) to (record { 0 = c }) e
 content-pushed s r c to e lt un to_in =
     let lists = lists_of s r in
@@ -279,9 +285,9 @@ content-pushed s r c to e lt un to_in =
     ) refl
 
 -- the front of a list comes behind another
-pub content-moved : {s : List Node} {r : List Header} {c from : ℕ} (to : ℕ) → IsWhole s r → Front s r from c
+pub content-moved : {s : List Node} {r : List Header} {c from : ℕ} (to : ℕ) → IsWholeArray s r → Front s r from c
     → from < length (content_at s r) → to < length (content_at s r) → from ≢ to
-    → contents (entries_of s) (after_transfer (lists_of s r) c from to) ≡ move (content_at s r) from to
+    → contents_of_cells (entries_of s) (after_transfer (lists_of s r) c from to) ≡ move (content_at s r) from to
 content-moved {s} {r} {c} {from} to i f from_in to_in ne =
     let lists = lists_of s r in
     let es = entries_of s in
@@ -296,15 +302,16 @@ content-moved {s} {r} {c} {from} to i f from_in to_in ne =
     ∙ rw (
       contents-set es lists from xs (omega (arith, from_in, size)),
       less,
-      get_or-set_other C from to (map (slot es) f.behind) [] (λ e. ne (sym e)),
+      get_or-set_other C from to (map (held_entry_of_number es) f.behind) [] (λ e. ne (sym e)),
       chain-contents es lists from (omega (arith, from_in, size)),
       f.is,
     ) refl
 
 -- a cell comes to the free list
-pub content-unlinked : {s : List Node} {r : List Header} {cell : Cell} {node : Node} → IsWhole s r
+pub content-unlinked : {s : List Node} {r : List Header} {cell : Cell} {node : Node} → IsWholeArray s r
     → IsUsed s r cell node
-    → contents (entries_of s) (after_transfer (lists_of s r) cell.0 (node_at s cell.0).owner (length (content_at s r)))
+    → contents_of_cells (entries_of s) (after_transfer (lists_of s r) cell.0 (node_at s cell.0).owner
+    (length (content_at s r)))
     ≡ after_unlink (content_at s r) cell
 content-unlinked {s} {r} {cell} i u =
     let lists = lists_of s r in
@@ -319,11 +326,11 @@ content-unlinked {s} {r} {cell} i u =
     let last : length rest - 1 ≤ f = omega (arith, length-contents es lists, length-set lists l ys) in
     contents-set_free es rest f (list_at rest f ++ cell.0 ∷ []) last
     ∙ contents-set es lists l ys p.listed
-    ∙ rw (less, map-append (slot es) p.before p.behind, p.seam.unlinked) refl
+    ∙ rw (less, map-append (held_entry_of_number es) p.before p.behind, p.seam.unlinked) refl
 
 -- a list comes to the free list
 pub content-emptied : (s : List Node) (r : List Header) (l : ℕ) → l < length (content_at s r)
-    → contents (entries_of s) (after_splice (lists_of s r) l (length (content_at s r)))
+    → contents_of_cells (entries_of s) (after_splice (lists_of s r) l (length (content_at s r)))
     ≡ after_give_back (content_at s r) l
 content-emptied s r l lt =
     let lists = lists_of s r in
@@ -346,7 +353,7 @@ pub in_headers : (s : List Node) (r : List Header) (l : ℕ) → l < length (con
 in_headers s r l lt = omega (arith, lt, in_use_is s r)
 
 -- the free list is empty where all cells are held
-pub full-when : {s : List Node} {r : List Header} {n : ℕ} → IsWhole s r → n ≡ length (content_at s r)
+pub full-when : {s : List Node} {r : List Header} {n : ℕ} → IsWholeArray s r → n ≡ length (content_at s r)
     → first_or (list_at (lists_of s r) n) None ≡ None → held_count (content_at s r) ≡ length s
 full-when {s} {r} {n} i e h = omega (
   arith,
@@ -360,18 +367,18 @@ full-when {s} {r} {n} i e h = omega (
     none_is (x ∷ xs) e = absurd (cc)
 
 -- no list in use names its front
-pub front-unused : {s : List Node} {r : List Header} {n c : ℕ} → IsWhole s r → n ≡ length (content_at s r)
+pub front-unused : {s : List Node} {r : List Header} {n c : ℕ} → IsWholeArray s r → n ≡ length (content_at s r)
     → Front s r n c → IsUnused s r (record { 0 = c })
 front-unused {s} {r} {c = c} i e f = unused (record { 0 = c }) i (λ _. omega (arith, f.owner, e, in_use_is s r))
 
 -- and it is empty only there
-pub not-full : {s : List Node} {r : List Header} {n c : ℕ} → IsWhole s r → n ≡ length (content_at s r)
+pub not-full : {s : List Node} {r : List Header} {n c : ℕ} → IsWholeArray s r → n ≡ length (content_at s r)
     → Front s r n c → held_count (content_at s r) ≡ length s → ⊥
 not-full {s} {r} i e f full =
     omega (arith, full, held-is s r i, ap (λ k. length (list_at (lists_of s r) k)) e, ap length f.is)
 
 -- its count
-pub free-is : {s : List Node} {r : List Header} {k : ℕ} → IsWhole s r → k ≡ length r →
+pub free-is : {s : List Node} {r : List Header} {k : ℕ} → IsWholeArray s r → k ≡ length r →
     (header_at r (k - 1)).count + held_count (content_at s r) ≡ length s
 free-is {s} {r} {k} i e =
     let n = length (content_at s r) in
@@ -387,13 +394,13 @@ free-is {s} {r} {k} i e =
 
 -- what it leaves
 pub record Written (s : List Node) (r : List Header) (c : ℕ) (e : Entry) (t : List Node) : Type 0 where
-  pub whole : IsWhole t r
+  pub whole : IsWholeArray t r
   pub lists : lists_of t r ≡ lists_of s r
   pub entries : entries_of t ≡ set (entries_of s) c e
   pub owner : (node_at t c).owner ≡ (node_at s c).owner
   pub size : length t ≡ length s
 
-pub written : {s : List Node} {r : List Header} {c : ℕ} {t : Node} (e : Entry) → IsWhole s r → t ≡ node_at s c →
+pub written : {s : List Node} {r : List Header} {c : ℕ} {t : Node} (e : Entry) → IsWholeArray s r → t ≡ node_at s c →
     Written s r c e (set s c (record t { entry = e }))
 written {s} {r} {c} e i is = rw is made
   where
@@ -411,7 +418,7 @@ written {s} {r} {c} e i is = rw is made
       ends = AreHeaders-agree s s2 r (lists_of s r) (λ m k.
           Linked-agree s s2 None (list_at (lists_of s r) m) None (λ x h. changed-links f s (Some c) x (λ u. refl)
           (λ u. refl)) k) i.store.ends;
-      placed = λ l x. i.store.placed l x ∙ sym (ap (λ os. place os l x) owners);
+      placed = λ l x. i.store.placed l x ∙ sym (ap (λ os. place_by_owner os l x) owners);
       total = i.store.total ∙ sym (length-changed f s (Some c));
     }
 

@@ -9,7 +9,7 @@ use Rattle.std.specs.Option.{option_or}
 use Rattle.dsa_cells.specs.{declared.links.{Node.{Node}, Header.{Header}}, Array.{node_at, header_at, no_header}}
 use Rattle.dsa_cells.specs.Partition.{first_or, last_or, Linked, cells_of, times, IsHeader, AreHeaders, list_at}
 use Rattle.dsa_cells.specs.Partition.{lists_of}
-use Rattle.dsa_cells.specs.Writes.{AreInside, after_change, after_join, after_detach, or_else, without}
+use Rattle.dsa_cells.specs.Writes.{AreInside, after_change, after_join, after_detach, or_else, header_without}
 use Rattle.dsa_cells.specs.Writes.{header_after_join}
 use Rattle.dsa_cells.specs.{Invariant.{IsStore}, Owners.{owner_is, length-owners}}
 use Rattle.dsa_cells.proofs.Chain.{first_or-append, last_or-append, times-append, times-tail, Once, Linked-left}
@@ -145,7 +145,8 @@ pub ends-left : (s : List Node) (r : List Header) (lists : List (List ℕ)) (fro
     AreHeaders s r lists → from < length lists
     → list_at lists from ≡ xs ++ c ∷ zs → AreInside s (xs ++ c ∷ zs) →
     ((m x : ℕ) → m ≢ from → times x (xs ++ c ∷ zs) + times x (list_at lists m) ≤ 1)
-    → AreHeaders (after_detach s c) (set r from (without (header_at r from) (node_at s c))) (set lists from (xs ++ zs))
+    → AreHeaders (after_detach s c) (set r from (header_without (header_at r from) (node_at s c)))
+    (set lists from (xs ++ zs))
 ends-left s r lists from c xs zs a lt is w d =
     let h : IsHeader s (header_at r from) (xs ++ c ∷ zs) = subst (IsHeader s (header_at r from)) is (a.each from lt) in
     let here = Linked-right s None xs (c ∷ zs) None h.links in
@@ -155,7 +156,7 @@ ends-left s r lists from c xs zs a lt is w d =
       times-tail x c zs,
     ) in
     let once = λ (x : ℕ). d (suc from) x (λ e. omega (arith, e)) in
-    AreHeaders-set s (after_detach s c) r lists from (without (header_at r from) (node_at s c)) (xs ++ zs) a
+    AreHeaders-set s (after_detach s c) r lists from (header_without (header_at r from) (node_at s c)) (xs ++ zs) a
     (record {
       head = rw (here.0, here.1, h.head) (head-left xs zs c);
       tail = rw (here.0, here.1, h.tail) (tail-left xs zs c);

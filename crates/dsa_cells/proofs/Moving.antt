@@ -8,9 +8,9 @@ use Rattle.std.specs.Option.{option_or}
 use Rattle.dsa_cells.specs.declared.links.{Node.{Node}, Header.{Header}}
 use Rattle.dsa_cells.specs.Array.{node_at, header_at, owners_of, entries_of}
 use Rattle.dsa_cells.specs.Partition.{first_or, last_or, times, IsHeader, AreHeaders, list_at}
-use Rattle.dsa_cells.specs.Writes.{InRange, AreInside, after_join, header_after_join, after_detach, without}
+use Rattle.dsa_cells.specs.Writes.{InRange, AreInside, after_join, header_after_join, after_detach, header_without}
 use Rattle.dsa_cells.specs.Writes.{cells_without, as_last, with_last, or_else, after_transfer}
-use Rattle.dsa_cells.specs.{Invariant.{place, IsStore}, Owners.{owner_is, length-owners}}
+use Rattle.dsa_cells.specs.{Invariant.{place_by_owner, IsStore}, Owners.{owner_is, length-owners}}
 use Rattle.dsa_cells.proofs.Chain.{times-append, times-head, times-tail, Names-more, Names-first, Names-last}
 use Rattle.dsa_cells.proofs.Chain.{InRange-of, Linked-right, Linked-other, split_at, changed-here, map-changed}
 use Rattle.dsa_cells.proofs.Chain.{length-changed}
@@ -38,8 +38,8 @@ length-lacking c (x ∷ xs) = grind (arith, nat_tests, length-lacking c xs)
 times-last : (x c : ℕ) (ys : List ℕ) → times x (ys ++ c ∷ []) ≡ times x ys + cond (c == x) 1 0
 times-last x c ys = grind (arith, nat_tests, times-append x ys (c ∷ []))
 
-place-set : (os : List ℕ) (c to l x : ℕ) → c < length os → place (set os c to) l x ≡
-    cond (x == c) (cond (to == l) 1 0) (place os l x)
+place-set : (os : List ℕ) (c to l x : ℕ) → c < length os → place_by_owner (set os c to) l x ≡
+    cond (x == c) (cond (to == l) 1 0) (place_by_owner os l x)
 place-set os c to l x lt = grind (arith, common_steps)
 
 -- the lists once the cell has left its own
@@ -48,7 +48,7 @@ left lists from c = set lists from (cells_without c (list_at lists from))
 
 -- the headers then
 abbrev pub headers_left : List Node → List Header → ℕ → List Header
-headers_left s r c = let from = (node_at s c).owner in set r from (without (header_at r from) (node_at s c))
+headers_left s r c = let from = (node_at s c).owner in set r from (header_without (header_at r from) (node_at s c))
 
 -- the array after a transfer
 abbrev pub transferred : List Node → List Header → ℕ → ℕ → List Node
@@ -144,7 +144,8 @@ transfer s r lists c to may = go parts.0 parts.1 parts.2
         ∙ ap (λ os. set os c to) (map-joined (λ t. t.owner) s (node_at s c).previous (node_at s c).next
         (λ t o. refl) (λ t o. refl))
 
-    placed : (m x : ℕ) → times x (list_at (after_transfer lists c from to) m) ≡ place (set (owners_of s) c to) m x
+    placed : (m x : ℕ) → times x (list_at (after_transfer lists c from to) m)
+        ≡ place_by_owner (set (owners_of s) c to) m x
     placed m x =
         let e = list_at-set (left lists from c) to m (list_at (left lists from c) to ++ c ∷ []) to_left in
         let k = times-last x c (list_at (left lists from c) to) in
@@ -208,7 +209,7 @@ transfer s r lists c to may = go parts.0 parts.1 parts.2
                 let big : length s2 ≡ length s = omega (arith, length-changed f s1 (Some c), size1) in
                 grind (arith, nat_tests, e, k, listed x, lt, big, size1))
                 (λ m x other. grind (arith, nat_tests, fewer m x, fewer to x, distinct s r lists to m x st other)));
-            placed = λ m x. placed m x ∙ sym (ap (λ os. place os m x) owners);
+            placed = λ m x. placed m x ∙ sym (ap (λ os. place_by_owner os m x) owners);
             total = omega (
               arith,
               total1,

@@ -5,10 +5,11 @@ use Rattle.std.proofs.Common.{ap, ◌∙◌, arith, length-append}
 use Rattle.std.proofs.lemmas.{Bool.Decides.{nat_tests}, Grind.{common_steps}}
 use Rattle.std.proofs.lemmas.List.{length-replicate, Sums.{sum_by-append}, Folds.{sum_by-replicate}}
 use Rattle.std.proofs.Math.Seq.{take-append_seam}
-use Rattle.dsa_store.specs.Content.{Slot, Content}
+use Rattle.dsa_store.specs.Content.{HeldEntry, Content}
 use Rattle.dsa_cells.specs.{declared.links.{Node.{Node}, Header.{Header}}, Array.{owners_of, entries_of, no_header}}
 use Rattle.dsa_cells.specs.Partition.{first_or, last_or, Linked, times, IsHeader, lists_of}
-use Rattle.dsa_cells.specs.{Invariant.{place, IsStore, IsWhole}, Content.{slot, content_at}}
+use Rattle.dsa_cells.specs.Invariant.{place_by_owner, IsStore, IsWholeArray}
+use Rattle.dsa_cells.specs.Content.{held_entry_of_number, content_at}
 use Rattle.dsa_cells.specs.{Fresh.{AreFresh, fresh_header}, Owners.{length-owners, owner_is}}
 use Rattle.dsa_cells.proofs.Joining.{lists_is, store_found}
 
@@ -105,7 +106,7 @@ store-fresh s n lists f = record {
     owner : (c : ℕ) → c < n → get_or (owners_of s) c 0 ≡ lists
     owner c lt = owner_is s c ∙ ap (λ (t : Node). t.owner) (f.each c lt)
 
-    placed : (l c : ℕ) → times c (cond (l == lists) (upto 0 n) no_cells) ≡ place (owners_of s) l c
+    placed : (l c : ℕ) → times c (cond (l == lists) (upto 0 n) no_cells) ≡ place_by_owner (owners_of s) l c
     placed l c =
         let size = length-owners s ∙ f.size in
         grind (arith, nat_tests, times-upto c 0 n, size, owner c)
@@ -113,7 +114,7 @@ store-fresh s n lists f = record {
 -- a new store is whole
 pub sound-fresh : (s : List Node) (r : List Header) (n lists : ℕ) → AreFresh s n lists n →
     r ≡ fresh_headers_of n lists → n < 2 ^ 32
-    → lists < 2 ^ 16 → IsWhole s r
+    → lists < 2 ^ 16 → IsWholeArray s r
 sound-fresh s r n lists f e few few2 =
     let size = ap length e ∙ length-last lists no_header (fresh_header n) in
     record {
@@ -136,6 +137,6 @@ content-fresh s r n lists f e =
     omega (arith, length-append xss (upto 0 n ∷ [])) in
     rw (is, size, take-append_seam xss (upto 0 n ∷ [])) (none lists)
   where
-    none : (k : ℕ) → map (map (slot (entries_of s))) (replicate k []) ≡ replicate k []
+    none : (k : ℕ) → map (map (held_entry_of_number (entries_of s))) (replicate k []) ≡ replicate k []
     none zero = refl
-    none (suc k) = ap (λ (ls : Content). let no_slots : List Slot = [] in no_slots ∷ ls) (none k)
+    none (suc k) = ap (λ (ls : Content). let no_slots : List HeldEntry = [] in no_slots ∷ ls) (none k)

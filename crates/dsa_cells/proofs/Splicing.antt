@@ -9,7 +9,7 @@ use Rattle.dsa_cells.specs.Array.{node_at, header_at, no_header, owners_of, entr
 use Rattle.dsa_cells.specs.Partition.{walk, cells_of, times, IsHeader, AreHeaders, list_at}
 use Rattle.dsa_cells.specs.Writes.{InRange, AreInside, after_change, after_join, header_after_join, after_mark}
 use Rattle.dsa_cells.specs.Writes.{after_splice}
-use Rattle.dsa_cells.specs.{Invariant.{place, IsStore}, Owners.{length-owners}}
+use Rattle.dsa_cells.specs.{Invariant.{place_by_owner, IsStore}, Owners.{length-owners}}
 use Rattle.dsa_cells.proofs.Chain.{times-append, times-head, times-tail, Names-first, Names-last, InRange-of}
 use Rattle.dsa_cells.proofs.Chain.{SameLinks, Linked-agree, map-changed, length-changed, changed-links}
 use Rattle.dsa_cells.proofs.Joining.{map-joined, length-joined, list_at-set, AreHeaders-set, AreHeaders-agree}
@@ -167,7 +167,7 @@ splice s r lists from to may = subst (Splice s r lists from to)
             (λ m x other.
             omega (arith, at m x, ap (times x) kept, apart m x other)));
         placed = λ m x. placed m x
-            ∙ sym (ap (λ os. place os m x) (map-joined (λ t. t.owner) s1 (header_at r to).tail
+            ∙ sym (ap (λ os. place_by_owner os m x) (map-joined (λ t. t.owner) s1 (header_at r to).tail
             (header_at r from).head (λ t o. refl) (λ t o. refl)));
         total = omega (
           arith,
@@ -233,7 +233,7 @@ splice s r lists from to may = subst (Splice s r lists from to)
         let k = st.placed m x in
         grind (arith, nat_tests, p, q, k)
 
-    placed : (m x : ℕ) → times x (list_at (after_splice lists from to) m) ≡ place (owners_of s1) m x
+    placed : (m x : ℕ) → times x (list_at (after_splice lists from to) m) ≡ place_by_owner (owners_of s1) m x
     placed m x = grind (
       arith,
       nat_tests,

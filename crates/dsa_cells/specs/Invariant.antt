@@ -7,17 +7,17 @@ use Rattle.dsa_cells.specs.{declared.links.{Node.{Node}, Header.{Header}}, Array
 use Rattle.dsa_cells.specs.Partition.{Linked, AreHeaders, list_at, lists_of, times}
 
 -- 1 where a cell of the array bears the number of that list, else 0
-abbrev pub place : List ℕ → ℕ → ℕ → ℕ
-place owners list cell = cond (ltb cell (length owners) && (slice_index_or owners cell 0 == list)) 1 0
+abbrev pub place_by_owner : List ℕ → ℕ → ℕ → ℕ
+place_by_owner owners list cell = cond (ltb cell (length owners) && (slice_index_or owners cell 0 == list)) 1 0
 
 -- the headers are those of these lists, and each cell of the array stands once, in the list whose number it bears
 pub record IsStore (nodes : List Node) (headers : List Header) (lists : List (List ℕ)) : Type 0 where
   pub ends : AreHeaders nodes headers lists
-  pub placed : (list cell : ℕ) → times cell (list_at lists list) ≡ place (owners_of nodes) list cell
+  pub placed : (list cell : ℕ) → times cell (list_at lists list) ≡ place_by_owner (owners_of nodes) list cell
   pub total : sum_by length lists ≡ length nodes
 
 -- the same of the lists that the array stands for, of which one is the free list, and the numbers fit
-pub record IsWhole (nodes : List Node) (headers : List Header) : Type 0 where
+pub record IsWholeArray (nodes : List Node) (headers : List Header) : Type 0 where
   pub store : IsStore nodes headers (lists_of nodes headers)
   pub free : 0 < length headers
   pub few_cells : length nodes < 2 ^ 32
@@ -31,5 +31,5 @@ Linked-prop nodes before (cell ∷ cells) after =
     let rest = Linked-prop nodes (Some cell) cells after in Prim.hlevel (props, rest)
 
 -- and so has the whole
-pub IsWhole-prop : (nodes : List Node) (headers : List Header) → IsProp (IsWhole nodes headers)
-IsWhole-prop nodes headers = Prim.hlevel (props, Linked-prop)
+pub IsWholeArray-prop : (nodes : List Node) (headers : List Header) → IsProp (IsWholeArray nodes headers)
+IsWholeArray-prop nodes headers = Prim.hlevel (props, Linked-prop)

@@ -20,8 +20,8 @@ abbrev pub lists_of : List Node → List Header → List (List ℕ)
 lists_of nodes headers = map (cells_of nodes) headers
 
 -- the lists but the last, which is that of the free cells
-abbrev pub in_use : List (List ℕ) → List (List ℕ)
-in_use lists = take (length lists - 1) lists
+abbrev pub lists_in_use : List (List ℕ) → List (List ℕ)
+lists_in_use lists = take (length lists - 1) lists
 
 -- ---- the links agree with them
 

@@ -45,8 +45,8 @@ or_else None here there = here
 or_else (Some _) here there = there
 
 -- the header of a list that a cell with these neighbours left
-abbrev pub without : Header → Node → Header
-without header node = record {
+abbrev pub header_without : Header → Node → Header
+header_without header node = record {
   head = or_else node.previous node.next header.head;
   tail = or_else node.next node.previous header.tail;
   count = header.count - 1;

@@ -1,14 +1,16 @@
-//! The nodes of the cells and the headers of the lists, and the few writes that move a cell, or a whole list, to the end of a list.
+//! The nodes of the cells and the headers of the lists, and the few writes that move a cell, or a
+//! whole list, to the end of a list.
 
 ghost use Rattle.std.specs.Prelude.{◌≡◌, ℕ, ◌+◌, ◌-◌, ◌^◌, ◌<◌, ◌≤◌, ◌≢◌, length, Option, Some};
 ghost use Rattle.dsa_cells.specs.Array.{node_at, entries_of};
 ghost use Rattle.dsa_cells.specs.Partition.{lists_of, cells_of, list_at};
-ghost use Rattle.dsa_cells.specs.Writes.{without, with_last, as_last, after_detach, InRange, AreInside, after_transfer, after_mark, after_join, header_after_join, after_splice};
+ghost use Rattle.dsa_cells.specs.Writes.{header_without, with_last, as_last, after_detach, InRange, AreInside, after_transfer, after_mark, after_join, header_after_join, after_splice};
 ghost use Rattle.dsa_cells.specs.Invariant.{IsStore};
 
 use dsa_store::Entry;
 
-/// What the array has of a cell: its entry, the cells behind and before it in its list, and the number of that list.
+/// What the array has of a cell: its entry, the cells behind and before it in its list, and the
+/// number of that list.
 #[derive(Clone, Copy)]
 pub struct Node {
     pub entry: Entry,
@@ -25,15 +27,15 @@ pub struct Header {
     pub count: u32,
 }
 
-/// Takes a cell out of the list with that header: its neighbours become neighbours, or the list's ends.
-/// Writes one link of each neighbour, and the header.
+/// Takes a cell out of the list with that header: its neighbours become neighbours, or the list's
+/// ends. Writes one link of each neighbour, and the header.
 pub fn detach(nodes: &mut [Node], header: &mut Header, cell: u32)
     requires cell_in { cell < length nodes.old }
     requires next_in { InRange nodes.old (node_at nodes.old cell).next }
     requires previous_in { InRange nodes.old (node_at nodes.old cell).previous }
     requires counted { 0 < header.old.count }
     ensures nodes { nodes.new ≡ after_detach nodes.old cell }
-    ensures header { header.new ≡ without header.old (node_at nodes.old cell) }
+    ensures header { header.new ≡ header_without header.old (node_at nodes.old cell) }
 {
     let Node { next, previous, .. } = nodes[cell as usize];
     match previous {
@@ -53,7 +55,8 @@ pub fn attach(nodes: &mut [Node], header: &mut Header, list: u16, cell: u32)
     requires cell_in { cell < length nodes.old }
     requires tail_in { InRange nodes.old header.old.tail }
     requires room { header.old.count + 1 < 2 ^ 32 }
-    ensures nodes { nodes.new ≡ after_join (as_last nodes.old cell list) header.old.tail (Some cell) }
+    ensures nodes { nodes.new
+        ≡ after_join (as_last nodes.old cell list) header.old.tail (Some cell) }
     ensures header { header.new ≡ with_last header.old cell }
 {
     let node = &mut nodes[cell as usize];
@@ -77,7 +80,8 @@ pub fn transfer(nodes: &mut [Node], headers: &mut [Header], cell: u32, to: u16)
     requires apart { (node_at nodes.old cell).owner ≢ to }
     requires few { length nodes.old < 2 ^ 32 }
     ensures store { IsStore nodes.new headers.new (lists_of nodes.new headers.new) }
-    ensures lists { lists_of nodes.new headers.new ≡ after_transfer (lists_of nodes.old headers.old) cell (node_at nodes.old cell).owner to }
+    ensures lists { lists_of nodes.new headers.new
+        ≡ after_transfer (lists_of nodes.old headers.old) cell (node_at nodes.old cell).owner to }
     ensures entries { entries_of nodes.new ≡ entries_of nodes.old }
 {
     let from = nodes[cell as usize].owner;
@@ -101,7 +105,7 @@ fn mark(nodes: &mut [Node], header: Header, owner: u16)
     }
 }
 
-/// Makes two cells neighbours, as far as they are there. Writes one link of each.
+/// Links two cells to each other. Where one is `None`, the other has no neighbour on that side.
 fn join(nodes: &mut [Node], before: Option<u32>, after: Option<u32>)
     requires before_in { InRange nodes.old before }
     requires after_in { InRange nodes.old after }
@@ -115,7 +119,7 @@ fn join(nodes: &mut [Node], before: Option<u32>, after: Option<u32>)
     }
 }
 
-/// The header of a list once another has come behind it.
+/// The header of two lists that are joined, `kept` first.
 fn joined_ends(kept: Header, given: Header) -> Header
     requires { kept.count + given.count < 2 ^ 32 }
     ensures { result ≡ header_after_join kept given }
@@ -136,7 +140,8 @@ pub fn splice(nodes: &mut [Node], headers: &mut [Header], from: u16, to: u16)
     requires apart { from ≢ to }
     requires few { length nodes.old < 2 ^ 32 }
     ensures store { IsStore nodes.new headers.new (lists_of nodes.new headers.new) }
-    ensures lists { lists_of nodes.new headers.new ≡ after_splice (lists_of nodes.old headers.old) from to }
+    ensures lists { lists_of nodes.new headers.new
+        ≡ after_splice (lists_of nodes.old headers.old) from to }
     ensures entries { entries_of nodes.new ≡ entries_of nodes.old }
 {
     let given = headers[from as usize];

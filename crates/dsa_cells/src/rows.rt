@@ -2,13 +2,13 @@
 
 ghost use Rattle.std.specs.Prelude.{◌≡◌, ℕ, ◌≢◌, [], ◌∷◌, List, replicate};
 ghost use Rattle.dsa_cells.specs.Array.{header_at};
-ghost use Rattle.dsa_cells.specs.Partition.{lists_of, in_use, places, IsHeader};
+ghost use Rattle.dsa_cells.specs.Partition.{lists_of, lists_in_use, places, IsHeader};
 ghost use Rattle.dsa_cells.specs.Rows.{three_cells, three_headers, unmended_cells};
 
 /// Three cells, of which one is free.
 pub fn three_cells_in_lists()
     ensures lists { lists_of three_cells three_headers ≡ (2 ∷ 0 ∷ []) ∷ [] ∷ (1 ∷ []) ∷ [] }
-    ensures in_use { in_use (lists_of three_cells three_headers) ≡ (2 ∷ 0 ∷ []) ∷ [] ∷ [] }
+    ensures in_use { lists_in_use (lists_of three_cells three_headers) ≡ (2 ∷ 0 ∷ []) ∷ [] ∷ [] }
     ensures first { IsHeader three_cells (header_at three_headers 0) (2 ∷ 0 ∷ []) }
     ensures empty { IsHeader three_cells (header_at three_headers 1) [] }
     ensures free { IsHeader three_cells (header_at three_headers 2) (1 ∷ []) }

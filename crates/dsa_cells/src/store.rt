@@ -4,7 +4,7 @@ ghost use Rattle.std.specs.Prelude.{◌≡◌, ◌≢◌, ◌<◌, ℕ, List, []
 ghost use Rattle.dsa_cells.specs.Array.{node_at, entries_of};
 ghost use Rattle.dsa_cells.specs.Partition.{AreHeaders, IsPartition, first_or, list_at};
 ghost use Rattle.dsa_cells.specs.Writes.{after_transfer, after_splice};
-ghost use Rattle.dsa_cells.specs.Invariant.{IsWhole, IsWhole-prop};
+ghost use Rattle.dsa_cells.specs.Invariant.{IsWholeArray, IsWholeArray-prop};
 ghost use Rattle.dsa_cells.specs.Content.{content_at, IsUnused, IsUsed};
 ghost use Rattle.dsa_cells.specs.Naming.{IsSound-from_whole};
 
@@ -13,18 +13,21 @@ use crate::links::{Header, Node, splice, transfer};
 use dsa_store::{Cell, Entry, EntryStore, ListId};
 use std::alloc::{AllocError, Allocator, Global};
 
-/// Lists over one array of cells, each linked to the cell before it and the cell behind it in its list.
+/// Lists over one array of cells, each linked to the cell before it and the cell behind it in its
+/// list.
 ///
 /// A header for each list has its first cell, its last cell and their number.
-/// The free cells are one more list, the last one: a push takes its front, and a cell that is freed becomes its end.
-/// Each cell bears the number of its list, so that finding a cell is one look at the array.
-/// `push_back`, `move_front` and `unlink` write a fixed number of links, however many cells are in use.
-/// `give_back` joins the whole list to the free one by its ends, and marks each of its cells as free.
+/// The free cells are one more list, the last one: a push takes its front, and a cell that is freed
+/// becomes its end. Each cell bears the number of its list, so that finding a cell is one look at
+/// the array. `push_back`, `move_front` and `unlink` write a fixed number of links, however many
+/// cells are in use. `give_back` joins the whole list to the free one by its ends, and marks each
+/// of its cells as free.
 #[derive(Drop)]
 pub struct LinkedStore<A: Allocator = Global> {
     nodes: Vec<Node, A>,
     headers: Vec<Header, A>,
-    ghost whole: { IsWhole nodes.items headers.items } by { IsWhole-prop nodes.items headers.items },
+    ghost whole: { IsWholeArray nodes.items
+        headers.items } by { IsWholeArray-prop nodes.items headers.items },
 }
 
 impl<A: Allocator + Copy> LinkedStore<A> {
@@ -32,7 +35,8 @@ impl<A: Allocator + Copy> LinkedStore<A> {
     /// Takes room for `cells` nodes and for `lists` + 1 headers, and no call takes memory after it.
     /// An error means that this memory was refused, and what had been taken is free again.
     pub fn new(alloc: A, lists: u16, cells: u32) -> Result<Self, AllocError>
-        ensures empty { IfOk result (λ s. ⟦<LinkedStore<A> as EntryStore>⟧.content s ≡ replicate lists []) }
+        ensures empty { IfOk result
+            (λ s. ⟦<LinkedStore<A> as EntryStore>⟧.content s ≡ replicate lists []) }
         ensures cells { IfOk result (λ s. ⟦<LinkedStore<A> as EntryStore>⟧.cells s ≡ cells) }
     {
         let nodes = fresh_nodes(alloc, cells, lists)?;
@@ -42,15 +46,18 @@ impl<A: Allocator + Copy> LinkedStore<A> {
 }
 
 impl<A: Allocator> LinkedStore<A> {
-    ghost use Rattle.dsa_cells.specs.Store.{array_of, headers_of, all_lists, slots_in_use};
+    ghost use Rattle.dsa_cells.specs.Store.{array_of, headers_of, all_lists, entries_in_use};
 
     /// What every store of linked cells keeps, for a caller to name.
-    /// The links agree with the lists that they stand for, each cell stands in exactly one of these lists, that of the free cells
-    /// included, and the store holds the lists but that one. The call does nothing.
+    /// The links agree with the lists that they stand for, each cell stands in exactly one of these
+    /// lists, that of the free cells included, and the store holds the lists but that one. The call
+    /// does nothing.
     pub fn each_cell_stands_once(&self)
         ensures links { AreHeaders (array_of self.now) (headers_of self.now) (all_lists self.now) }
-        ensures once { IsPartition (⟦<LinkedStore<A> as EntryStore>⟧.cells self.now) (all_lists self.now) }
-        ensures content { ⟦<LinkedStore<A> as EntryStore>⟧.content self.now ≡ slots_in_use self.now }
+        ensures once { IsPartition (⟦<LinkedStore<A> as EntryStore>⟧.cells self.now)
+            (all_lists self.now) }
+        ensures content { ⟦<LinkedStore<A> as EntryStore>⟧.content self.now
+            ≡ entries_in_use self.now }
     {}
 
     /// The first cell of a list, that of the free cells included.
@@ -65,7 +72,8 @@ impl<A: Allocator> LinkedStore<A> {
     /// The node of the cell, if it is in use.
     #[inline(always)]
     fn used_node(&self, cell: Cell) -> Option<Node>
-        ensures { MatchOption result (IsUnused (array_of self.now) (headers_of self.now) cell) (λ node. IsUsed (array_of self.now) (headers_of self.now) cell node) }
+        ensures { MatchOption result (IsUnused (array_of self.now) (headers_of self.now) cell)
+            (λ node. IsUsed (array_of self.now) (headers_of self.now) cell node) }
     {
         let at = cell.0 as usize;
         if at >= self.nodes.len() {
@@ -84,8 +92,10 @@ impl<A: Allocator> LinkedStore<A> {
     fn write(&mut self, cell: u32, entry: Entry)
         requires { cell < length (array_of self.old) }
         ensures lists { all_lists self.new ≡ all_lists self.old }
-        ensures entries { entries_of (array_of self.new) ≡ slice_set (entries_of (array_of self.old)) cell entry }
-        ensures owner { (node_at (array_of self.new) cell).owner ≡ (node_at (array_of self.old) cell).owner }
+        ensures entries { entries_of (array_of self.new)
+            ≡ slice_set (entries_of (array_of self.old)) cell entry }
+        ensures owner { (node_at (array_of self.new) cell).owner
+            ≡ (node_at (array_of self.old) cell).owner }
         ensures headers { headers_of self.new ≡ headers_of self.old }
         ensures size { length (array_of self.new) ≡ length (array_of self.old) }
     {
@@ -98,7 +108,8 @@ impl<A: Allocator> LinkedStore<A> {
         requires cell_in { cell < length (array_of self.old) }
         requires to_in { to < length (headers_of self.old) }
         requires apart { (node_at (array_of self.old) cell).owner ≢ to }
-        ensures lists { all_lists self.new ≡ after_transfer (all_lists self.old) cell (node_at (array_of self.old) cell).owner to }
+        ensures lists { all_lists self.new
+            ≡ after_transfer (all_lists self.old) cell (node_at (array_of self.old) cell).owner to }
         ensures entries { entries_of (array_of self.new) ≡ entries_of (array_of self.old) }
         ensures sizes { length (array_of self.new) ≡ length (array_of self.old) }
     {
@@ -142,8 +153,8 @@ impl<A: Allocator> EntryStore for LinkedStore<A> {
     }
 
     /// Takes the front of the free list.
-    /// Writes the entry, the two links and the list of that cell, one link of its neighbour in the free list,
-    /// one link of the old last of `list`, and the headers of the two lists.
+    /// Writes the entry, the two links and the list of that cell, one link of its neighbour in the
+    /// free list, one link of the old last of `list`, and the headers of the two lists.
     #[inline(always)]
     fn push_back(&mut self, list: ListId, entry: Entry) -> Option<Cell> {
         let cell = self.head(self.lists())?;
@@ -152,8 +163,8 @@ impl<A: Allocator> EntryStore for LinkedStore<A> {
         Some(Cell(cell))
     }
 
-    /// Writes the two links and the list of that cell, one link of the cell that followed it, one of the old last of `to`,
-    /// and the headers of the two lists.
+    /// Writes the two links and the list of that cell, one link of the cell that followed it, one
+    /// of the old last of `to`, and the headers of the two lists.
     #[inline(always)]
     fn move_front(&mut self, from: ListId, to: ListId) -> Option<Cell> {
         let cell = self.head(from.0)?;
@@ -161,8 +172,9 @@ impl<A: Allocator> EntryStore for LinkedStore<A> {
         Some(Cell(cell))
     }
 
-    /// Writes the two links and the list of the cell, one link of each of its neighbours, one of the old last of the free list,
-    /// and the headers of its list and of the free one. The entry stays where it was.
+    /// Writes the two links and the list of the cell, one link of each of its neighbours, one of
+    /// the old last of the free list, and the headers of its list and of the free one. The entry
+    /// stays where it was.
     #[inline(always)]
     fn unlink(&mut self, cell: Cell) -> Option<(ListId, Entry)> {
         let node = self.used_node(cell)?;
@@ -210,8 +222,8 @@ impl<A: Allocator> EntryStore for LinkedStore<A> {
     }
 
     /// Joins the whole list to the end of the free list by its head and its tail.
-    /// Writes the list that each of its cells belongs to, one link of its first cell, one of the old last of the free list,
-    /// and the headers of the two lists.
+    /// Writes the list that each of its cells belongs to, one link of its first cell, one of the
+    /// old last of the free list, and the headers of the two lists.
     fn give_back(&mut self, list: ListId) -> u32 {
         let count = self.len(list);
         self.splice(list.0, self.lists());

@@ -8,9 +8,10 @@ use Rattle.dsa_regs.specs.{declared.Caps.{Caps}, Caps.{check_caps}}
 use Rattle.dsa_scenario.specs.declared.{actions.Action.{Action}, faults.ScenarioFault.{ScenarioFault}}
 use Rattle.dsa_scenario.specs.Actions.{action_of}
 use Rattle.dsa_scenario.specs.Fields.{◌>>=◌}
-use Rattle.dsa_scenario.specs.Document.{head_of, list_of, IsJson, HasHead, IsDocument}
-use Rattle.dsa_check.specs.Judgement.{caps_at, capacity_at, items_at, listed, fault_of_head, fault_of_step, bad_steps}
-use Rattle.dsa_check.specs.Judgement.{caps_faults, capacity_faults, faults_of, IsJudged}
+use Rattle.dsa_scenario.specs.Document.{head_of, list_of_items, IsJson, HasHead, IsDocument}
+use Rattle.dsa_check.specs.Judgement.{caps_at, capacity_at, items_at, list_of_optional_items, fault_of_head}
+use Rattle.dsa_check.specs.Judgement.{fault_of_step, bad_steps}
+use Rattle.dsa_check.specs.Judgement.{caps_faults, capacity_faults, faults_of_value, IsJudged}
 
 -- ---- lists
 
@@ -117,20 +118,20 @@ head_by a b c = do
 parts_then : (bytes : List ℕ) (d : Data) → IsJson bytes d → (a : Option Caps) (b : Option ℕ) (c : Option Items)
     → head_of d ≡ head_by a b c
     → IsJudged bytes (fault_of_head (head_by a b c)
-    ++ (bad_steps 0 (listed c) ++ (caps_faults a ++ capacity_faults b)))
+    ++ (bad_steps 0 (list_of_optional_items c) ++ (caps_faults a ++ capacity_faults b)))
 parts_then bytes d json None b c h = record { document = d; json = json; none = h }
 parts_then bytes d json (Some caps) None c h = record { document = d; json = json; none = h }
 parts_then bytes d json (Some caps) (Some capacity) None h = record { document = d; json = json; none = h }
 parts_then bytes d json (Some caps) (Some capacity) (Some items) h =
-    let head : HasHead bytes caps capacity (list_of items) =
+    let head : HasHead bytes caps capacity (list_of_items items) =
     record { document = d; items = items; json = json; head = h; listed = refl } in
-    steps_then bytes caps capacity (list_of items) head [] (list_of items) []
+    steps_then bytes caps capacity (list_of_items items) head [] (list_of_items items) []
     (caps_faults (Some caps) ++ capacity_faults (Some capacity)) refl refl
     (λ actions asked. limits_then bytes caps capacity actions
-    (record { steps = list_of items; head = head; asked = asked }) (check_caps caps) refl
+    (record { steps = list_of_items items; head = head; asked = asked }) (check_caps caps) refl
     (nat_lt (2 ^ 20) capacity) refl)
 
 -- what is told of a JSON value is what a run tells
-pub judged : (bytes : List ℕ) (d : Data) → IsJson bytes d → IsJudged bytes (faults_of d)
+pub judged : (bytes : List ℕ) (d : Data) → IsJson bytes d → IsJudged bytes (faults_of_value d)
 judged bytes d json = rw (append_assoc, append_assoc)
     (parts_then bytes d json (caps_at d) (capacity_at d) (items_at d) refl)

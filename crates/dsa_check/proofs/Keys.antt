@@ -8,7 +8,7 @@ use Rattle.std.specs.declared.alloc.Global.{Global}
 use Rattle.std.proofs.lemmas.Cmp.{nat_list_cmp_total, tied_itself}
 use Rattle.serde_json.specs.{Data.{Data, null, boolean, number, string, array, object, Members}, Find.{get}}
 use Rattle.serde_json.specs.Find.{get_member, as_object}
-use Rattle.dsa_check.specs.{declared.fields.Field.{Field}, Steps.{row_of}}
+use Rattle.dsa_check.specs.{declared.fields.Field.{Field}, Steps.{row_of_field}}
 use Rattle.serde_json.specs.{View.{view, members_view}, declared.value.Value.{Value}}
 
 -- the object that a value is
@@ -55,6 +55,6 @@ finds_in d entries keys is all = rw (object_is d (members_view entries) is, all)
 -- a key is asked for by the names of fields as by their rows
 pub asked_by : (fields : List Field) (name : List ℕ) (b : Bool)
     → b ≡ list_any (λ field. bytes_eq field.name.now name) fields
-    → b ≡ list_any (λ row. bytes_eq row.0 name) (map row_of fields)
+    → b ≡ list_any (λ row. bytes_eq row.0 name) (map row_of_field fields)
 asked_by [] name b h = h
 asked_by (field ∷ fields) name b h = rw (← asked_by fields name _ refl) h

@@ -2,12 +2,13 @@
 use Rattle.std.proofs.Common.{◌≡◌, ◌<◌, ◌+◌, ℕ, suc, List, [], ◌∷◌, ◌++◌, map, length, take, get_or, refl, sym, ap, ◌∙◌, arith}
 use Rattle.std.proofs.lemmas.List.{append_assoc, append-nil, take_more, length-map, length-take-le}
 use Rattle.serde_json.specs.{Data.{Data}, View.{view, items_of}, declared.value.Value.{Value}}
-use Rattle.dsa_scenario.specs.{declared.faults.ScenarioFault.{ScenarioFault}, Actions.{action_of}, Document.{list_of}}
+use Rattle.dsa_scenario.specs.{declared.faults.ScenarioFault.{ScenarioFault}, Actions.{action_of}}
+use Rattle.dsa_scenario.specs.Document.{list_of_items}
 use Rattle.std.proofs.Math.ListN.{get_or-map}
 use Rattle.dsa_check.specs.Judgement.{fault_of_step, bad_steps}
 
 -- the items of a JSON array are its list
-pub items_are : (ds : List Data) → list_of (items_of ds) ≡ ds
+pub items_are : (ds : List Data) → list_of_items (items_of ds) ≡ ds
 items_are [] = refl
 items_are (d ∷ ds) = rw (items_are ds) refl
 

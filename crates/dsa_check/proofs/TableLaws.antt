@@ -10,14 +10,16 @@ use Rattle.std.proofs.lemmas.Bool.{Decides.{nat_tests}}
 use Rattle.serde_json.specs.{Data.{Data, null, boolean, number, string, array, object}, Find.{get, as_u64}}
 use Rattle.serde_json.specs.Find.{as_number, as_bool, as_str, as_array}
 use Rattle.dsa_scenario.specs.declared.actions.Action.{Action}
-use Rattle.dsa_scenario.specs.Fields.{below, whole_of, wholes_of, truth_of, text_of, hex_bytes_of}
-use Rattle.dsa_scenario.specs.Actions.{action_of, action_by, queue_of, group_of, enqcmd_of, movdir_of}
-use Rattle.dsa_scenario.specs.Actions.{dispatch_of, fetch_of, start_of, finish_of, command_action_of, desc_of}
+use Rattle.dsa_scenario.specs.Fields.{below_limit, whole_of, wholes_of, truth_of, text_of, hex_bytes_of}
+use Rattle.dsa_scenario.specs.Actions.{action_of, action_by, queue_action_of, group_action_of, enqcmd_action_of}
+use Rattle.dsa_scenario.specs.Actions.{movdir_action_of}
+use Rattle.dsa_scenario.specs.Actions.{dispatch_action_of, fetch_action_of, start_action_of, finish_action_of}
+use Rattle.dsa_scenario.specs.Actions.{command_action_of, desc_of}
 use Rattle.dsa_scenario.specs.{Actions.{queue_config_of, group_config_of, caps_of}, Document.{head_of}}
 use Rattle.dsa_check.specs.declared.kinds.StepKind.{StepKind, TheVariants.{Queue, Group, Enqcmd, Movdir, Dispatch}}
 use Rattle.dsa_check.specs.declared.kinds.StepKind.TheVariants.{Fetch, Start, Finish, Command, Poll, Clear}
-use Rattle.dsa_check.specs.Reasons.{fits, has_rows, is_step_of, is_step, has_caps, is_between}
-use Rattle.dsa_check.specs.Steps.{bits, held, rows_of, kind_named, caps_rows, device_rows, document_rows}
+use Rattle.dsa_check.specs.Reasons.{fits_form, has_rows, is_step_of, is_step, has_caps, is_between}
+use Rattle.dsa_check.specs.Steps.{bits, bounded_number, rows_of_kind, kind_named, caps_rows, device_rows, document_rows}
 
 -- what needs a value is there where that value is, and the rest
 needs : {A B : Type 0} (o : Option A) (f : A → Option B) (here rest : Bool) → is_some o ≡ here
@@ -34,23 +36,23 @@ is_below n limit most e true h = grind (arith, nat_tests)
 is_below n limit most e false h = grind (arith, nat_tests)
 
 at_number : (limit most : ℕ) → limit ≡ suc most → (o : Option ℕ)
-    → is_some (option_and_then (below limit) o) ≡ is_between 0 most o
+    → is_some (option_and_then (below_limit limit) o) ≡ is_between 0 most o
 at_number limit most e None = refl
 at_number limit most e (Some n) = is_below n limit most e (nat_lt n limit) refl
 
 at_whole : (limit most : ℕ) → limit ≡ suc most → (o : Option Data)
-    → is_some (option_and_then (below limit) (option_and_then as_u64 (option_and_then as_number o)))
-    ≡ fits (form.Whole 0 most) o
+    → is_some (option_and_then (below_limit limit) (option_and_then as_u64 (option_and_then as_number o)))
+    ≡ fits_form (form.Whole 0 most) o
 at_whole limit most e None = refl
 at_whole limit most e (Some d) = at_number limit most e (option_and_then as_u64 (as_number d))
 
 at_held : (limit most least upto : ℕ) → limit ≡ suc most → (o : Option Data)
-    → is_some (option_and_then (below limit) (option_and_then as_u64 (option_and_then as_number o)))
-    ≡ fits (form.Held most least upto) o
+    → is_some (option_and_then (below_limit limit) (option_and_then as_u64 (option_and_then as_number o)))
+    ≡ fits_form (form.Bounded most least upto) o
 at_held limit most least upto e None = refl
 at_held limit most least upto e (Some d) = at_number limit most e (option_and_then as_u64 (as_number d))
 
-at_truth : (o : Option Data) → is_some (option_and_then as_bool o) ≡ fits form.Truth o
+at_truth : (o : Option Data) → is_some (option_and_then as_bool o) ≡ fits_form form.Truth o
 at_truth None = refl
 at_truth (Some d) = refl
 
@@ -67,29 +69,29 @@ of_text f (Some text) = of_bytes f (hex_bytes_of text)
 
 at_digits : {A : Type 0} (f : List ℕ → A) (o : Option Data)
     → is_some (option_and_then (λ text. option_and_then (λ bytes. Some (f bytes)) (hex_bytes_of text))
-    (option_and_then as_str o)) ≡ fits form.Digits o
+    (option_and_then as_str o)) ≡ fits_form form.Digits o
 at_digits f None = refl
 at_digits f (Some d) = of_text f (as_str d)
 
 -- ---- one kind
 
 module _ (d : Data) where
-  byte : (key : List ℕ) → is_some (whole_of (2 ^ 8) key d) ≡ fits (bits 8) (get key d)
+  byte : (key : List ℕ) → is_some (whole_of (2 ^ 8) key d) ≡ fits_form (bits 8) (get key d)
   byte key = at_whole (2 ^ 8) (2 ^ 8 - 1) refl (get key d)
 
-  short : (key : List ℕ) → is_some (whole_of (2 ^ 16) key d) ≡ fits (bits 16) (get key d)
+  short : (key : List ℕ) → is_some (whole_of (2 ^ 16) key d) ≡ fits_form (bits 16) (get key d)
   short key = at_whole (2 ^ 16) (2 ^ 16 - 1) refl (get key d)
 
-  word : (key : List ℕ) → is_some (whole_of (2 ^ 32) key d) ≡ fits (bits 32) (get key d)
+  word : (key : List ℕ) → is_some (whole_of (2 ^ 32) key d) ≡ fits_form (bits 32) (get key d)
   word key = at_whole (2 ^ 32) (2 ^ 32 - 1) refl (get key d)
 
-  long : (key : List ℕ) → is_some (whole_of (2 ^ 64) key d) ≡ fits (bits 64) (get key d)
+  long : (key : List ℕ) → is_some (whole_of (2 ^ 64) key d) ≡ fits_form (bits 64) (get key d)
   long key = at_whole (2 ^ 64) (2 ^ 64 - 1) refl (get key d)
 
-  truth : (key : List ℕ) → is_some (truth_of key d) ≡ fits form.Truth (get key d)
+  truth : (key : List ℕ) → is_some (truth_of key d) ≡ fits_form form.Truth (get key d)
   truth key = at_truth (get key d)
 
-  digits : is_some (desc_of d) ≡ fits form.Digits (get (codes "desc") d)
+  digits : is_some (desc_of d) ≡ fits_form form.Digits (get (codes "desc") d)
   digits = at_digits _ (get (codes "desc") d)
 
   both : (limit : ℕ) (first second : List ℕ) (here there : Bool) → is_some (whole_of limit first d) ≡ here
@@ -97,11 +99,11 @@ module _ (d : Data) where
   both limit first second here there e f = needs _ _ here (there && true) e (λ m. needs _ _ there true f (λ n. refl))
 
   two_bytes : (first second : List ℕ) → is_some (wholes_of (2 ^ 8) first second d)
-      ≡ (fits (bits 8) (get first d) && (fits (bits 8) (get second d) && true))
+      ≡ (fits_form (bits 8) (get first d) && (fits_form (bits 8) (get second d) && true))
   two_bytes first second = both (2 ^ 8) first second _ _ (byte first) (byte second)
 
   two_shorts : (first second : List ℕ) → is_some (wholes_of (2 ^ 16) first second d)
-      ≡ (fits (bits 16) (get first d) && (fits (bits 16) (get second d) && true))
+      ≡ (fits_form (bits 16) (get first d) && (fits_form (bits 16) (get second d) && true))
   two_shorts first second = both (2 ^ 16) first second _ _ (short first) (short second)
 
   queue_config_has : is_some (queue_config_of d)
@@ -120,7 +122,7 @@ module _ (d : Data) where
       (two_bytes (codes "batch") (codes "xfer")) (λ n. refl)))))
       ∙ simp (and_assoc, and-true)
 
-  queue_has : is_some (queue_of d) ≡ has_rows d (rows_of Queue)
+  queue_has : is_some (queue_action_of d) ≡ has_rows d (rows_of_kind Queue)
   queue_has =
       needs _ _ _ _ (short (codes "queue")) (λ queue. needs _ _ _ true queue_config_has (λ config. refl))
       ∙ simp (and_assoc, and-true)
@@ -136,45 +138,45 @@ module _ (d : Data) where
       needs _ _ _ _ (short (codes "reserved")) (λ reserved.
       needs _ _ _ true (short (codes "allowed")) (λ allowed. refl))))
 
-  group_has : is_some (group_of d) ≡ has_rows d (rows_of Group)
+  group_has : is_some (group_action_of d) ≡ has_rows d (rows_of_kind Group)
   group_has =
       needs _ _ _ _ (short (codes "group")) (λ group. needs _ _ _ true group_config_has (λ config. refl))
       ∙ simp (and_assoc, and-true)
 
-  enqcmd_has : is_some (enqcmd_of d) ≡ has_rows d (rows_of Enqcmd)
+  enqcmd_has : is_some (enqcmd_action_of d) ≡ has_rows d (rows_of_kind Enqcmd)
   enqcmd_has =
       needs _ _ _ _ (two_shorts (codes "client") (codes "queue"))
       (λ m. needs _ _ _ _ (truth (codes "limited")) (λ limited. needs _ _ _ _ (word (codes "pasid")) (λ pasid.
       needs _ _ _ true digits (λ desc. refl)))) ∙ simp (and_assoc, and-true)
 
-  movdir_has : is_some (movdir_of d) ≡ has_rows d (rows_of Movdir)
+  movdir_has : is_some (movdir_action_of d) ≡ has_rows d (rows_of_kind Movdir)
   movdir_has =
       needs _ _ _ _ (two_shorts (codes "client") (codes "queue"))
       (λ m. needs _ _ _ _ (truth (codes "limited")) (λ limited. needs _ _ _ true digits (λ desc. refl)))
       ∙ simp (and_assoc, and-true)
 
-  dispatch_has : is_some (dispatch_of d) ≡ has_rows d (rows_of Dispatch)
+  dispatch_has : is_some (dispatch_action_of d) ≡ has_rows d (rows_of_kind Dispatch)
   dispatch_has = needs _ _ _ true (short (codes "engine")) (λ engine. refl)
 
-  fetch_has : is_some (fetch_of d) ≡ has_rows d (rows_of Fetch)
+  fetch_has : is_some (fetch_action_of d) ≡ has_rows d (rows_of_kind Fetch)
   fetch_has = needs _ _ _ _ (short (codes "engine")) (λ engine. needs _ _ _ true digits (λ desc. refl))
 
-  start_has : is_some (start_of d) ≡ has_rows d (rows_of Start)
+  start_has : is_some (start_action_of d) ≡ has_rows d (rows_of_kind Start)
   start_has = needs _ _ _ true (short (codes "engine")) (λ engine. refl)
 
-  finish_has : is_some (finish_of d) ≡ has_rows d (rows_of Finish)
+  finish_has : is_some (finish_action_of d) ≡ has_rows d (rows_of_kind Finish)
   finish_has =
       needs _ _ _ _ (short (codes "engine")) (λ engine. needs _ _ _ _ (word (codes "name")) (λ name.
       needs _ _ _ true (truth (codes "fault")) (λ fault. refl)))
 
-  command_has : is_some (command_action_of d) ≡ has_rows d (rows_of Command)
+  command_has : is_some (command_action_of d) ≡ has_rows d (rows_of_kind Command)
   command_has = needs _ _ _ true (word (codes "word")) (λ word. refl)
 
   -- ---- all kinds
 
   -- a kind, or another one
   one_of : (b : Bool) (x y : Option Action) (kind : StepKind) (other : Option StepKind)
-      → is_some x ≡ has_rows d (rows_of kind) → is_some y ≡ is_step_of d other
+      → is_some x ≡ has_rows d (rows_of_kind kind) → is_some y ≡ is_step_of d other
       → is_some (if b then x else y) ≡ is_step_of d (cond b (Some kind) other)
   one_of true x y kind other e f = e
   one_of false x y kind other e f = f
@@ -205,11 +207,12 @@ action_has d = by_text d (text_of (codes "do") d)
 -- ---- caps and documents
 
 module _ (d : Data) where
-  held_byte : (least upto : ℕ) (key : List ℕ) → is_some (whole_of (2 ^ 8) key d) ≡ fits (held 8 least upto) (get key d)
+  held_byte : (least upto : ℕ) (key : List ℕ) → is_some (whole_of (2 ^ 8) key d)
+      ≡ fits_form (bounded_number 8 least upto) (get key d)
   held_byte least upto key = at_held (2 ^ 8) (2 ^ 8 - 1) least upto refl (get key d)
 
   held_short : (least upto : ℕ) (key : List ℕ)
-      → is_some (whole_of (2 ^ 16) key d) ≡ fits (held 16 least upto) (get key d)
+      → is_some (whole_of (2 ^ 16) key d) ≡ fits_form (bounded_number 16 least upto) (get key d)
   held_short least upto key = at_held (2 ^ 16) (2 ^ 16 - 1) least upto refl (get key d)
 
   pub caps_have : is_some (caps_of d) ≡ has_rows d caps_rows
@@ -223,11 +226,12 @@ module _ (d : Data) where
       needs _ _ _ _ (held_byte 1 10 (codes "max_batch_shift")) (λ max_batch_shift.
       needs _ _ _ true (held_byte 0 31 (codes "max_xfer_shift")) (λ max_xfer_shift. refl))))))))
 
-  capacity_has : is_some (whole_of (2 ^ 64) (codes "capacity") d) ≡ fits (held 64 0 (2 ^ 20)) (get (codes "capacity") d)
+  capacity_has : is_some (whole_of (2 ^ 64) (codes "capacity") d)
+      ≡ fits_form (bounded_number 64 0 (2 ^ 20)) (get (codes "capacity") d)
   capacity_has = at_held (2 ^ 64) (2 ^ 64 - 1) 0 (2 ^ 20) refl (get (codes "capacity") d)
 
 -- caps are an object
-caps_in : (o : Option Data) → is_some (option_and_then caps_of o) ≡ (fits form.Object o && has_caps o)
+caps_in : (o : Option Data) → is_some (option_and_then caps_of o) ≡ (fits_form form.Object o && has_caps o)
 caps_in None = refl
 caps_in (Some null) = refl
 caps_in (Some (boolean b)) = refl
@@ -236,7 +240,7 @@ caps_in (Some (string s)) = refl
 caps_in (Some (array ds)) = refl
 caps_in (Some (object ms)) = caps_have (object ms)
 
-array_in : (o : Option Data) → is_some (option_and_then as_array o) ≡ fits form.Array o
+array_in : (o : Option Data) → is_some (option_and_then as_array o) ≡ fits_form form.Array o
 array_in None = refl
 array_in (Some d) = refl
 
@@ -250,8 +254,8 @@ pub head_has : (d : Data) → is_some (head_of d) ≡ (has_rows d document_rows 
 head_has d =
     needs _ _ _ _ (caps_in (get (codes "caps") d)) (λ caps. needs _ _ _ _ (capacity_has d) (λ capacity.
     needs _ _ _ true (array_in (get (codes "steps") d)) (λ steps. refl)))
-    ∙ in_order (fits form.Object (get (codes "caps") d)) (has_caps (get (codes "caps") d))
-    (fits (held 64 0 (2 ^ 20)) (get (codes "capacity") d)) (fits form.Array (get (codes "steps") d))
+    ∙ in_order (fits_form form.Object (get (codes "caps") d)) (has_caps (get (codes "caps") d))
+    (fits_form (bounded_number 64 0 (2 ^ 20)) (get (codes "capacity") d)) (fits_form form.Array (get (codes "steps") d))
 
 -- ---- devices and histories
 
@@ -263,14 +267,14 @@ lies_below limit least upto m n true e h =
     rw same refl
 lies_below limit least upto m n false e h = absurd cc
 
-lies_at : (limit least upto n : ℕ) (o : Option ℕ) → option_and_then (below limit) o ≡ Some n
+lies_at : (limit least upto n : ℕ) (o : Option ℕ) → option_and_then (below_limit limit) o ≡ Some n
     → is_between least upto o ≡ (nat_le least n && nat_le n upto)
 lies_at limit least upto n None h = absurd cc
 lies_at limit least upto n (Some m) h = lies_below limit least upto m n (nat_lt m limit) refl h
 
 lies : (limit least upto n : ℕ) (o : Option Data)
-    → option_and_then (below limit) (option_and_then as_u64 (option_and_then as_number o)) ≡ Some n
-    → fits (form.Whole least upto) o ≡ (nat_le least n && nat_le n upto)
+    → option_and_then (below_limit limit) (option_and_then as_u64 (option_and_then as_number o)) ≡ Some n
+    → fits_form (form.Whole least upto) o ≡ (nat_le least n && nat_le n upto)
 lies limit least upto n None h = absurd cc
 lies limit least upto n (Some d) h = lies_at limit least upto n (option_and_then as_u64 (as_number d)) h
 

@@ -5,7 +5,7 @@ use Rattle.std.proofs.Math.ListN.{get_or-map}
 use Rattle.std.specs.Prelude.{filter, is_some, Some, None, String, string_bytes, Result, Ok, Err, OnOk}
 use Rattle.std.specs.declared.alloc.Global.{Global}
 use Rattle.std.specs.List.{AllZip, AllByRecursion}
-use Rattle.std.proofs.lemmas.List.{append_assoc, append-nil, take_more, map-append, length-map}
+use Rattle.std.proofs.lemmas.List.{append_assoc, take_more, map-append, length-map}
 use Rattle.std.proofs.lemmas.List.Elements.{filter-append}
 use Rattle.std.proofs.lemmas.Option.{slice_get-get_or}
 use Rattle.serde_json.specs.{Data.{Data, null, boolean, number, string, array, object}, Find.{get, as_object}}
@@ -17,9 +17,9 @@ use Rattle.dsa_check.specs.declared.finding.Reason.{Reason, TheVariants.{Missing
 use Rattle.dsa_check.specs.declared.finding.Finding.{Finding}
 use Rattle.dsa_check.specs.Findings.{Appends, AppendsAll, AreInCaps, IsFindingOf, IsFindingIn, IsFounded}
 use Rattle.dsa_check.specs.Findings.{AreFounded}
-use Rattle.dsa_check.specs.Judgement.{steps_of}
+use Rattle.dsa_check.specs.Judgement.{step_items_of}
 use Rattle.dsa_check.specs.Reasons.{is_unfit, IsStrayKey, IsReasonAt, AreReasonsAt, AreReasonsOf}
-use Rattle.dsa_check.specs.Steps.{Row, row_of, caps_rows}
+use Rattle.dsa_check.specs.Steps.{Row, row_of_field, caps_rows}
 
 -- ---- lists
 
@@ -41,9 +41,6 @@ AllByRecursion-weaker P Q f [] h = tt
 AllByRecursion-weaker P Q f (x ∷ xs) h = (f x h.0, AllByRecursion-weaker P Q f xs h.1)
 
 -- ---- parts that are added
-
-pub appends_nothing : {X : Type 0} (P : List X → Type 0) (old : List X) → P [] → Appends P old old
-appends_nothing P old h = ([], sym (append-nil old), h)
 
 pub appends_more : {X : Type 0} (P Q R : List X → Type 0) → ((xs ys : List X) → P xs → Q ys → R (xs ++ ys))
     → (old mid new : List X) → Appends P old mid → Appends Q mid new → Appends R old new
@@ -95,7 +92,7 @@ finding_in vs i v inside is finding h =
     (i, h.0, rw (slice_get-get_or (map view vs) i (view v) inside', item) h.1)
 
 -- a finding of one of the items of a document
-pub founded_in : (d : Data) (finding : Finding) → IsFindingIn (steps_of d) finding → IsFounded d finding
+pub founded_in : (d : Data) (finding : Finding) → IsFindingIn (step_items_of d) finding → IsFounded d finding
 founded_in d finding h = rw h.1 h.2
 
 -- the bytes are no other value
@@ -126,12 +123,12 @@ module _ (d : Data) (rows : List Row) (in_caps : Bool) where
 
   -- the rows of some fields, and one field more
   pub reasons_more : (fields : List Field) (i : ℕ) (none : Field) (old mid new : List Reason) → i < length fields
-      → Appends (AreReasonsAt d rows in_caps (map row_of (take i fields))) old mid
-      → Appends (AreReasonsAt d rows in_caps (row_of (get_or fields i none) ∷ [])) mid new
-      → Appends (AreReasonsAt d rows in_caps (map row_of (take (i + 1) fields))) old new
+      → Appends (AreReasonsAt d rows in_caps (map row_of_field (take i fields))) old mid
+      → Appends (AreReasonsAt d rows in_caps (row_of_field (get_or fields i none) ∷ [])) mid new
+      → Appends (AreReasonsAt d rows in_caps (map row_of_field (take (i + 1) fields))) old new
   reasons_more fields i none old mid new inside before here =
-      let front = map row_of (take i fields) in
-      let last = row_of (get_or fields i none) ∷ [] in
+      let front = map row_of_field (take i fields) in
+      let last = row_of_field (get_or fields i none) ∷ [] in
       rw (take_more fields i none inside, map-append)
       (appends_more (AreReasonsAt d rows in_caps front) (AreReasonsAt d rows in_caps last)
       (AreReasonsAt d rows in_caps (front ++ last)) (λ xs ys h k. rw (filter-append (is_unfit d) front last)

@@ -10,7 +10,7 @@ first_of (fault ∷ faults) = Some fault
 
 -- the text has the lines of all faults of the document, and the fault is the first of them; it has none where it is
 -- right; and each line tells what is so of the part that has the fault
-pub record IsReportOf (bytes : List ℕ) (fault : Option ScenarioFault) (text : List ℕ) : Type 0 where
+pub record IsCheckReportOf (bytes : List ℕ) (fault : Option ScenarioFault) (text : List ℕ) : Type 0 where
   pub findings : List Finding
   pub all : AreFaultsOf bytes (faults_told findings)
   pub judged : IsJudged bytes (faults_told findings)

@@ -7,7 +7,7 @@ use Rattle.dsa_scenario.specs.declared.faults.ScenarioFault.{ScenarioFault, TheV
 use Rattle.dsa_scenario.specs.declared.faults.ScenarioFault.TheVariants.{BadCapacity}
 use Rattle.dsa_scenario.specs.Document.{IsJson, IsNoJson}
 use Rattle.dsa_check.specs.declared.finding.{Finding.{Finding}, Reason.{Reason, TheVariants.{NoObject, Syntax}}}
-use Rattle.dsa_check.specs.Judgement.{steps_of}
+use Rattle.dsa_check.specs.Judgement.{step_items_of}
 use Rattle.dsa_check.specs.Reasons.{found_of, AreReasonsOf, AreStepReasons}
 use Rattle.dsa_check.specs.Steps.{kind_of, document_rows, caps_rows, device_rows, history_rows}
 
@@ -48,7 +48,7 @@ IsFindingIn steps finding = (i : ℕ) × (finding.fault ≡ BadStep i) × IsSome
 -- the finding tells why the part has this fault
 abbrev pub TellsWhy : Data → Finding → ScenarioFault → Type 0
 TellsWhy d finding BadDocument = AreDocumentReasons d finding.reasons.items
-TellsWhy d finding (BadStep i) = IsSomeAnd (slice_get (steps_of d) i) (TellsStep finding)
+TellsWhy d finding (BadStep i) = IsSomeAnd (slice_get (step_items_of d) i) (TellsStep finding)
 TellsWhy d finding BadCaps =
     IsSomeAnd (get (codes "caps") d) (λ caps. AreReasonsOf caps device_rows false finding.reasons.items)
 TellsWhy d finding BadCapacity = AreReasonsOf d history_rows false finding.reasons.items

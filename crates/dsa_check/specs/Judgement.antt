@@ -7,7 +7,7 @@ use Rattle.dsa_scenario.specs.declared.actions.Action.{Action}
 use Rattle.dsa_scenario.specs.declared.faults.ScenarioFault.{ScenarioFault, TheVariants.{NotJson, BadDocument, BadStep}}
 use Rattle.dsa_scenario.specs.declared.faults.ScenarioFault.TheVariants.{BadCaps, BadCapacity}
 use Rattle.dsa_scenario.specs.{Fields.{whole_of}, Actions.{caps_of, action_of}}
-use Rattle.dsa_scenario.specs.Document.{head_of, list_of, IsJson, IsNoJson, IsDocument, IsFaultOf}
+use Rattle.dsa_scenario.specs.Document.{head_of, list_of_items, IsJson, IsNoJson, IsDocument, IsFaultOf}
 use Rattle.dsa_check.specs.declared.finding.Finding.{Finding}
 
 -- ---- the parts of a document
@@ -21,13 +21,13 @@ capacity_at d = whole_of (2 ^ 64) (codes "capacity") d
 abbrev pub items_at : Data → Option Items
 items_at d = option_and_then as_array (get (codes "steps") d)
 
-abbrev pub listed : Option Items → List Data
-listed None = []
-listed (Some items) = list_of items
+abbrev pub list_of_optional_items : Option Items → List Data
+list_of_optional_items None = []
+list_of_optional_items (Some items) = list_of_items items
 
 -- the items of `steps`, where that is an array
-abbrev pub steps_of : Data → List Data
-steps_of d = listed (items_at d)
+abbrev pub step_items_of : Data → List Data
+step_items_of d = list_of_optional_items (items_at d)
 
 -- ---- the faults of each part
 
@@ -60,14 +60,15 @@ capacity_faults (Some capacity) = cond (nat_lt (2 ^ 20) capacity) (BadCapacity �
 -- ---- the whole
 
 -- all faults of a JSON value
-abbrev pub faults_of : Data → List ScenarioFault
-faults_of d = head_faults d ++ bad_steps 0 (steps_of d) ++ caps_faults (caps_at d) ++ capacity_faults (capacity_at d)
+abbrev pub faults_of_value : Data → List ScenarioFault
+faults_of_value d = head_faults d ++ bad_steps 0 (step_items_of d) ++ caps_faults (caps_at d)
+    ++ capacity_faults (capacity_at d)
 
 -- all faults of a document
 abbrev pub AreFaultsOf : List ℕ → List ScenarioFault → Type 0
 AreFaultsOf bytes faults =
     (IsNoJson bytes × (faults ≡ NotJson ∷ []))
-    ⊎ ((document : Data) × IsJson bytes document × (faults ≡ faults_of document))
+    ⊎ ((document : Data) × IsJson bytes document × (faults ≡ faults_of_value document))
 
 -- the document has no fault
 pub record IsRight (bytes : List ℕ) : Type 0 where

@@ -8,7 +8,7 @@ use Rattle.std.specs.Prelude.{nat_lt, if◌then◌else◌}
 use Rattle.std.specs.Fmt.{signed_decimal}
 use Rattle.std.specs.Prelude.{String, string_bytes}
 use Rattle.std.specs.declared.alloc.Global.{Global}
-use Rattle.dsa_event_words.specs.Words.{count_words}
+use Rattle.dsa_event_text.specs.Text.{count_text}
 use Rattle.dsa_scenario.specs.declared.faults.ScenarioFault.{ScenarioFault, TheVariants.{NotJson, BadDocument, BadStep}}
 use Rattle.dsa_scenario.specs.declared.faults.ScenarioFault.TheVariants.{BadCaps, BadCapacity}
 use Rattle.dsa_check.specs.declared.fields.{Key.{Key}, Form.{Form}, Found.{Found}}
@@ -47,12 +47,12 @@ holder_text false = []
 abbrev pub key_text : Key → List ℕ
 key_text key = codes "\"" ++ key.name.now ++ codes "\"" ++ holder_text key.in_caps
 
-abbrev pub range_text : ℕ → ℕ → List ℕ
-range_text least most = codes "a whole number from " ++ (decimal least ++ (codes " to " ++ decimal most))
+abbrev pub whole_range_text : ℕ → ℕ → List ℕ
+whole_range_text least most = codes "a whole number from " ++ (decimal least ++ (codes " to " ++ decimal most))
 
 abbrev pub form_text : Form → List ℕ
-form_text (form.Whole least most) = range_text least most
-form_text (form.Held field least most) = range_text least most
+form_text (form.Whole least most) = whole_range_text least most
+form_text (form.Bounded field least most) = whole_range_text least most
 form_text form.Truth = codes "true or false"
 form_text form.Text = codes "a text"
 form_text form.Digits = codes "a text of hexadecimal digits"
@@ -78,11 +78,11 @@ abbrev pub bound_text : Found → ℕ → ℕ → List ℕ
 bound_text (found.Whole n) least most =
     if nat_lt most n then codes "at most " ++ decimal most else codes "at least " ++ decimal least
 bound_text (found.Below z) least most = codes "at least " ++ decimal least
-bound_text found least most = range_text least most
+bound_text found least most = whole_range_text least most
 
 abbrev pub wanted_of : Found → Form → List ℕ
 wanted_of found (form.Whole least most) = bound_text found least most
-wanted_of found (form.Held field least most) = bound_text found least most
+wanted_of found (form.Bounded field least most) = bound_text found least most
 wanted_of found form = form_text form
 
 -- what stands at a place of a text that is no JSON
@@ -99,8 +99,10 @@ piece_text Number = codes "a number stands here"
 piece_text Word = codes "a word stands here"
 
 abbrev pub closing_text : Bool → ℕ → ℕ → List ℕ
-closing_text true line column = codes "a ] for the [ of line " ++ (decimal line ++ (codes ", column " ++ decimal column))
-closing_text false line column = codes "a } for the { of line " ++ (decimal line ++ (codes ", column " ++ decimal column))
+closing_text true line column =
+    codes "a ] for the [ of line " ++ (decimal line ++ (codes ", column " ++ decimal column))
+closing_text false line column =
+    codes "a } for the { of line " ++ (decimal line ++ (codes ", column " ++ decimal column))
 
 -- what may stand there
 abbrev pub wanted_text : Wanted → List ℕ
@@ -138,7 +140,8 @@ syntax_text (Unwanted found wanted) = piece_text found ++ codes ", " ++ wanted_t
 -- a kind that is spelled nearly as the name
 abbrev pub near_kind_text : List ℕ → StepKind → List ℕ
 near_kind_text name kind =
-    codes "\"do\" is \"" ++ (name ++ (codes "\", which is no kind of step, but \"" ++ (kind_text kind ++ codes "\" is")))
+    codes "\"do\" is \"" ++ (name
+    ++ (codes "\", which is no kind of step, but \"" ++ (kind_text kind ++ codes "\" is")))
 
 abbrev pub no_kind_text : Option (String Global) → Option StepKind → List ℕ
 no_kind_text (Some name) (Some kind) = near_kind_text (string_bytes name) kind
@@ -149,7 +152,7 @@ no_kind_text None near = codes "\"do\" names no kind of step"
 
 -- how many digits a text has
 abbrev pub digits_text : ℕ → List ℕ
-digits_text count = count_words (codes " has ") count (codes "digit") (codes "digits")
+digits_text count = count_text (codes " has ") count (codes "digit") (codes "digits")
 
 abbrev pub reason_text : Reason → List ℕ
 reason_text (reason.Missing key) = key_text key ++ codes " is missing"
@@ -169,43 +172,43 @@ reason_text (reason.Syntax syntax) = syntax_text syntax
 -- ---- where it is (profile)
 
 -- a number between these texts, where it is known
-abbrev pub number_text : List ℕ → Option ℕ → List ℕ → List ℕ
-number_text before None after = []
-number_text before (Some n) after = before ++ decimal n ++ after
+abbrev pub known_number_text : List ℕ → Option ℕ → List ℕ → List ℕ
+known_number_text before None after = []
+known_number_text before (Some n) after = before ++ decimal n ++ after
 
 abbrev pub step_text : ℕ → Option StepKind → List ℕ
 step_text i None = codes "step " ++ decimal i ++ codes ": "
 step_text i (Some kind) = codes "step " ++ decimal i ++ codes " (" ++ kind_text kind ++ codes "): "
 
-abbrev pub part_text : ScenarioFault → Option StepKind → List ℕ
-part_text NotJson kind = codes "not JSON: "
-part_text BadDocument kind = codes "document: "
-part_text (BadStep i) kind = step_text i kind
-part_text BadCaps kind = codes "caps: "
-part_text BadCapacity kind = codes "capacity: "
-part_text _ kind = []
+abbrev pub fault_part_text : ScenarioFault → Option StepKind → List ℕ
+fault_part_text NotJson kind = codes "not JSON: "
+fault_part_text BadDocument kind = codes "document: "
+fault_part_text (BadStep i) kind = step_text i kind
+fault_part_text BadCaps kind = codes "caps: "
+fault_part_text BadCapacity kind = codes "capacity: "
+fault_part_text _ kind = []
 
 abbrev pub place_text : Finding → List ℕ
 place_text finding =
-    number_text (codes "line ") finding.place.line (codes ", ")
-    ++ number_text (codes "column ") finding.place.column (codes ": ")
-    ++ part_text finding.fault finding.place.kind
+    known_number_text (codes "line ") finding.place.line (codes ", ")
+    ++ known_number_text (codes "column ") finding.place.column (codes ": ")
+    ++ fault_part_text finding.fault finding.place.kind
 
 -- ---- the lines (profile)
 
-abbrev pub line_of : Finding → Reason → List ℕ
-line_of finding reason = place_text finding ++ reason_text reason ++ codes "\n"
+abbrev pub line_of_finding : Finding → Reason → List ℕ
+line_of_finding finding reason = place_text finding ++ reason_text reason ++ codes "\n"
 
 -- the line of a fault of which nothing finer is known
 abbrev pub bare_line : Finding → List ℕ
 bare_line finding = place_text finding ++ codes "not understood\n"
 
-abbrev pub lines_of : Finding → List Reason → List ℕ
-lines_of finding [] = bare_line finding
-lines_of finding (r ∷ rs) = flat_map (line_of finding) (r ∷ rs)
+abbrev pub lines_of_finding : Finding → List Reason → List ℕ
+lines_of_finding finding [] = bare_line finding
+lines_of_finding finding (r ∷ rs) = flat_map (line_of_finding finding) (r ∷ rs)
 
 abbrev pub finding_text : Finding → List ℕ
-finding_text finding = lines_of finding finding.reasons.items
+finding_text finding = lines_of_finding finding finding.reasons.items
 
 abbrev pub report_text : List Finding → List ℕ
 report_text findings = flat_map finding_text findings

@@ -9,7 +9,7 @@ use Rattle.serde_json.specs.Find.{as_number, as_bool, as_str, as_array, as_objec
 use Rattle.dsa_scenario.specs.Fields.{hex_bytes_of, text_of}
 use Rattle.dsa_check.specs.declared.fields.{Form.{Form}, Found.{Found}, Key.{Key}}
 use Rattle.dsa_check.specs.declared.{finding.Reason.{Reason}, kinds.StepKind.{StepKind}}
-use Rattle.dsa_check.specs.Steps.{Row, rows_of, caps_rows, kind_named, kind_of}
+use Rattle.dsa_check.specs.Steps.{Row, rows_of_kind, caps_rows, kind_named, kind_of}
 use Rattle.dsa_check.specs.declared.fields.Form.TheVariants as form
 use Rattle.dsa_check.specs.declared.finding.Reason.TheVariants as reason
 use Rattle.dsa_check.specs.declared.fields.Found.TheVariants as found
@@ -35,23 +35,23 @@ is_between least most (Some n) = nat_le least n && nat_le n most
 is_between least most None = false
 
 -- the value may stand there
-abbrev pub is_of : Form → Data → Bool
-is_of (form.Whole least most) d = is_between least most (option_and_then as_u64 (as_number d))
-is_of (form.Held field least most) d = is_between 0 field (option_and_then as_u64 (as_number d))
-is_of form.Truth d = is_some (as_bool d)
-is_of form.Text d = is_some (as_str d)
-is_of form.Digits d = is_some (option_and_then hex_bytes_of (as_str d))
-is_of form.Array d = is_some (as_array d)
-is_of form.Object d = is_some (as_object d)
+abbrev pub is_of_form : Form → Data → Bool
+is_of_form (form.Whole least most) d = is_between least most (option_and_then as_u64 (as_number d))
+is_of_form (form.Bounded field least most) d = is_between 0 field (option_and_then as_u64 (as_number d))
+is_of_form form.Truth d = is_some (as_bool d)
+is_of_form form.Text d = is_some (as_str d)
+is_of_form form.Digits d = is_some (option_and_then hex_bytes_of (as_str d))
+is_of_form form.Array d = is_some (as_array d)
+is_of_form form.Object d = is_some (as_object d)
 
 -- the value, where one stands there, may stand there
-abbrev pub fits : Form → Option Data → Bool
-fits form None = false
-fits form (Some d) = is_of form d
+abbrev pub fits_form : Form → Option Data → Bool
+fits_form form None = false
+fits_form form (Some d) = is_of_form form d
 
 -- the object has no such value at the key
 abbrev pub is_unfit : Data → Row → Bool
-is_unfit d row = not (fits row.1 (get row.0 d))
+is_unfit d row = not (fits_form row.1 (get row.0 d))
 
 -- the place of the first character that is no hexadecimal digit, counted from 0
 abbrev pub first_no_digit : List ℕ → Option ℕ
@@ -79,12 +79,12 @@ IsReasonOf key wanted _ _ = ⊥
 
 -- the object has such a value at each key
 abbrev pub has_rows : Data → List Row → Bool
-has_rows d rows = list_all (λ row. fits row.1 (get row.0 d)) rows
+has_rows d rows = list_all (λ row. fits_form row.1 (get row.0 d)) rows
 
 -- the object is a step of this kind, or of none
 abbrev pub is_step_of : Data → Option StepKind → Bool
 is_step_of d None = false
-is_step_of d (Some kind) = has_rows d (rows_of kind)
+is_step_of d (Some kind) = has_rows d (rows_of_kind kind)
 
 abbrev pub is_step : Data → Bool
 is_step d = is_step_of d (kind_of d)
@@ -150,7 +150,7 @@ IsKindReason step reason = IsReasonAt step [] false kind_row reason
 
 -- the reasons of an object that is a step of this kind, or of none
 abbrev pub AreReasonsOfKind : Data → Option StepKind → List Reason → Type 0
-AreReasonsOfKind step (Some kind) reasons = AreReasonsOf step (rows_of kind) false reasons
+AreReasonsOfKind step (Some kind) reasons = AreReasonsOf step (rows_of_kind kind) false reasons
 AreReasonsOfKind step None (reason ∷ []) = IsKindReason step reason
 AreReasonsOfKind step None _ = ⊥
 

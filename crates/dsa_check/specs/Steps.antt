@@ -12,8 +12,8 @@ use Rattle.dsa_check.specs.Lines.{kind_text}
 abbrev pub Row : Type 0
 Row = List ℕ × Form
 
-abbrev pub row_of : Field → Row
-row_of field = (field.name.now, field.form)
+abbrev pub row_of_field : Field → Row
+row_of_field field = (field.name.now, field.form)
 
 -- ---- steps
 
@@ -22,8 +22,8 @@ abbrev pub bits : ℕ → Form
 bits n = form.Whole 0 (2 ^ n - 1)
 
 -- the keys of a step of each kind, beside `do` (profile)
-abbrev pub rows_of : StepKind → List Row
-rows_of Queue =
+abbrev pub rows_of_kind : StepKind → List Row
+rows_of_kind Queue =
     (codes "queue", bits 16) ∷
     (codes "size", bits 16) ∷
     (codes "threshold", bits 16) ∷
@@ -32,30 +32,30 @@ rows_of Queue =
     (codes "pasid", bits 32) ∷
     (codes "batch", bits 8) ∷
     (codes "xfer", bits 8) ∷ []
-rows_of Group =
+rows_of_kind Group =
     (codes "group", bits 16) ∷
     (codes "queues", bits 64) ∷
     (codes "engines", bits 64) ∷
     (codes "reserved", bits 16) ∷
     (codes "allowed", bits 16) ∷ []
-rows_of Enqcmd =
+rows_of_kind Enqcmd =
     (codes "client", bits 16) ∷
     (codes "queue", bits 16) ∷
     (codes "limited", form.Truth) ∷
     (codes "pasid", bits 32) ∷
     (codes "desc", form.Digits) ∷ []
-rows_of Movdir =
+rows_of_kind Movdir =
     (codes "client", bits 16) ∷
     (codes "queue", bits 16) ∷
     (codes "limited", form.Truth) ∷
     (codes "desc", form.Digits) ∷ []
-rows_of Dispatch = (codes "engine", bits 16) ∷ []
-rows_of Fetch = (codes "engine", bits 16) ∷ (codes "desc", form.Digits) ∷ []
-rows_of Start = (codes "engine", bits 16) ∷ []
-rows_of Finish = (codes "engine", bits 16) ∷ (codes "name", bits 32) ∷ (codes "fault", form.Truth) ∷ []
-rows_of Command = (codes "word", bits 32) ∷ []
-rows_of Poll = []
-rows_of Clear = []
+rows_of_kind Dispatch = (codes "engine", bits 16) ∷ []
+rows_of_kind Fetch = (codes "engine", bits 16) ∷ (codes "desc", form.Digits) ∷ []
+rows_of_kind Start = (codes "engine", bits 16) ∷ []
+rows_of_kind Finish = (codes "engine", bits 16) ∷ (codes "name", bits 32) ∷ (codes "fault", form.Truth) ∷ []
+rows_of_kind Command = (codes "word", bits 32) ∷ []
+rows_of_kind Poll = []
+rows_of_kind Clear = []
 
 -- all kinds of steps
 abbrev pub kinds : List StepKind
@@ -73,27 +73,27 @@ kind_of step = option_and_then kind_named (text_of (codes "do") step)
 -- ---- the document, its caps and its capacity
 
 -- of a number that the document's field of so many bits holds, a device may have these (profile)
-abbrev pub held : ℕ → ℕ → ℕ → Form
-held n least most = form.Held (2 ^ n - 1) least most
+abbrev pub bounded_number : ℕ → ℕ → ℕ → Form
+bounded_number n least most = form.Bounded (2 ^ n - 1) least most
 
 abbrev pub document_rows : List Row
 document_rows =
-    (codes "caps", form.Object) ∷ (codes "capacity", held 64 0 (2 ^ 20)) ∷ (codes "steps", form.Array) ∷ []
+    (codes "caps", form.Object) ∷ (codes "capacity", bounded_number 64 0 (2 ^ 20)) ∷ (codes "steps", form.Array) ∷ []
 
 abbrev pub caps_rows : List Row
 caps_rows =
-    (codes "queues", held 16 1 64) ∷
-    (codes "groups", held 16 1 8) ∷
-    (codes "engines", held 16 1 64) ∷
-    (codes "total_size", held 16 1 4096) ∷
-    (codes "read_buffers", held 16 1 255) ∷
-    (codes "slots", held 16 1 16) ∷
-    (codes "max_batch_shift", held 8 1 10) ∷
-    (codes "max_xfer_shift", held 8 0 31) ∷ []
+    (codes "queues", bounded_number 16 1 64) ∷
+    (codes "groups", bounded_number 16 1 8) ∷
+    (codes "engines", bounded_number 16 1 64) ∷
+    (codes "total_size", bounded_number 16 1 4096) ∷
+    (codes "read_buffers", bounded_number 16 1 255) ∷
+    (codes "slots", bounded_number 16 1 16) ∷
+    (codes "max_batch_shift", bounded_number 8 1 10) ∷
+    (codes "max_xfer_shift", bounded_number 8 0 31) ∷ []
 
 -- the same form, where other numbers than those of a device are not wanted
 abbrev pub of_a_device : Form → Form
-of_a_device (form.Held field least most) = form.Whole least most
+of_a_device (form.Bounded field least most) = form.Whole least most
 of_a_device other = other
 
 abbrev pub device_rows : List Row

@@ -2,7 +2,7 @@
 use Rattle.std.specs.Prelude.{ℕ, List, [], ◌∷◌, map, filter, codes, Option, option_map}
 use Rattle.serde_json.specs.Data.{Data}
 use Rattle.dsa_scenario.specs.Worked.{Fields, whole, object_of, array_of_one, some_caps, poll_step}
-use Rattle.dsa_check.specs.{Reasons.{is_unfit}, Steps.{Row, rows_of, kind_of}}
+use Rattle.dsa_check.specs.{Reasons.{is_unfit}, Steps.{Row, rows_of_kind, kind_of}}
 
 abbrev pub right_document : Fields
 right_document =
@@ -16,4 +16,5 @@ unfit_keys d rows = map (λ row. row.0) (filter (is_unfit d) rows)
 
 -- those of a step, by its kind
 abbrev pub unfit_keys_of : Fields → Option (List (List ℕ))
-unfit_keys_of fields = option_map (λ kind. unfit_keys (object_of fields) (rows_of kind)) (kind_of (object_of fields))
+unfit_keys_of fields = option_map (λ kind. unfit_keys (object_of fields) (rows_of_kind kind))
+    (kind_of (object_of fields))

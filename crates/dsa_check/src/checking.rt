@@ -2,7 +2,7 @@
 
 ghost use Rattle.std.specs.Prelude.{◌≡◌};
 ghost use Rattle.dsa_check.specs.Judgement.{faults_told};
-ghost use Rattle.dsa_check.specs.Check.{IsReportOf, first_of};
+ghost use Rattle.dsa_check.specs.Check.{IsCheckReportOf, first_of};
 
 use crate::finding::Finding;
 use crate::judge::judge_document;
@@ -24,7 +24,7 @@ fn first_fault(findings: &[Finding]) -> Option<ScenarioFault>
 }
 
 impl Render for Check {
-    ghost is_rendering = { λ check bytes fault text. IsReportOf bytes fault text };
+    ghost is_rendering = { λ check bytes fault text. IsCheckReportOf bytes fault text };
 
     fn render(&self, alloc: Global, bytes: &[u8]) -> Result<Rendering, ScenarioFault> {
         let findings = judge_document(alloc, bytes)?;

@@ -2,7 +2,7 @@
 
 ghost use Rattle.std.specs.Prelude.{◌≡◌};
 ghost use Rattle.serde_json.specs.View.{view};
-ghost use Rattle.dsa_check.specs.Reasons.{found_of, is_of};
+ghost use Rattle.dsa_check.specs.Reasons.{found_of, is_of_form};
 
 use dsa_scenario::bytes_of_hex;
 use serde_json::Value;
@@ -20,9 +20,9 @@ pub struct Key {
 pub enum Form {
     /// A whole number without sign, from the least to the most.
     Whole { least: u64, most: u64 },
-    /// A whole number without sign that the document's field holds, of which a device may have those from the least to the
-    /// most.
-    Held { field: u64, least: u64, most: u64 },
+    /// A whole number without sign that the document's field holds, of which a device may have
+    /// those from the least to the most.
+    Bounded { field: u64, least: u64, most: u64 },
     Truth,
     Text,
     /// A text of hexadecimal digits, which are the bytes of a descriptor.
@@ -74,14 +74,14 @@ pub fn found_in(value: &Value) -> Found
 
 /// Whether this value may stand there.
 pub fn is_of(form: Form, value: &Value) -> bool
-    ensures { result ≡ is_of form (view value.now) }
+    ensures { result ≡ is_of_form form (view value.now) }
 {
     match form {
         Form::Whole { least, most } => match value.as_u64() {
             Some(number) => least <= number && number <= most,
             None => false,
         },
-        Form::Held { field, .. } => match value.as_u64() {
+        Form::Bounded { field, .. } => match value.as_u64() {
             Some(number) => number <= field,
             None => false,
         },

@@ -15,7 +15,8 @@ pub struct Finding {
     pub reasons: Vec<Reason>,
 }
 
-/// Where a fault is, as far as that is known: a line and a column, counted from 1, and the kind of the step.
+/// Where a fault is, as far as that is known: a line and a column, counted from 1, and the kind of
+/// the step.
 #[derive(Clone, Copy)]
 pub struct Place {
     pub line: Option<usize>,
@@ -51,7 +52,8 @@ pub enum Reason {
         key: Key,
         count: usize,
     },
-    /// What stands there has a character that is no hexadecimal digit, the first of which is this one, counted from 1.
+    /// What stands there has a character that is no hexadecimal digit, the first of which is this
+    /// one, counted from 1.
     NoDigit {
         key: Key,
         at: usize,
@@ -60,7 +62,8 @@ pub enum Reason {
     NoObject {
         found: Found,
     },
-    /// The text `do` names no kind of step; it is told where it is short and plain, and the kind that is spelled nearly so.
+    /// The text `do` names no kind of step; it is told where it is short and plain, and the kind
+    /// that is spelled nearly so.
     UnknownKind {
         found: Option<String>,
         near: Option<StepKind>,

@@ -5,7 +5,7 @@ ghost use Rattle.serde_json.specs.View.{view};
 ghost use Rattle.std.specs.List.{AllByRecursion};
 ghost use Rattle.dsa_scenario.specs.Actions.{action_of};
 ghost use Rattle.dsa_check.specs.Findings.{AppendsAll, IsFounded, IsOfText, IsInText, IsFindingOf, IsFindingIn, AreFounded};
-ghost use Rattle.dsa_check.specs.Judgement.{faults_told, AreFaultsOf, IsJudged, head_faults, steps_of, caps_at, capacity_at, fault_of_step, bad_steps, caps_faults, capacity_faults, faults_of};
+ghost use Rattle.dsa_check.specs.Judgement.{faults_told, AreFaultsOf, IsJudged, head_faults, step_items_of, caps_at, capacity_at, fault_of_step, bad_steps, caps_faults, capacity_faults, faults_of_value};
 
 use crate::finding::{Finding, Place, Reason};
 use crate::kinds::MAX_CAPACITY;
@@ -37,7 +37,8 @@ fn whole(fault: ScenarioFault, reasons: Vec<Reason>) -> Finding
     }
 }
 
-// Where bytes that are no JSON are none, and what is wrong there. Of bytes that are no UTF-8 their reader tells the place.
+// Line, column and reason of the first error. For bytes that are not UTF-8 serde_json gives the
+// place.
 fn flaw_of(
     alloc: Global,
     bytes: &[u8],
@@ -68,7 +69,8 @@ fn flaw_of(
 
 // What is wrong with bytes that are no JSON.
 fn no_json(alloc: Global, bytes: &[u8], error: &Error) -> Result<Vec<Finding>, AllocError>
-    ensures faults { IfOk result (λ findings. faults_told findings.items ≡ ScenarioFault.NotJson ∷ []) }
+    ensures faults { IfOk result
+        (λ findings. faults_told findings.items ≡ ScenarioFault.NotJson ∷ []) }
     ensures told { IfOk result (λ findings. AllByRecursion IsInText findings.items) }
 {
     let (line, column, reasons) = flaw_of(alloc, bytes, error)?;
@@ -85,14 +87,18 @@ fn no_json(alloc: Global, bytes: &[u8], error: &Error) -> Result<Vec<Finding>, A
     Ok(vec![in alloc; finding]?)
 }
 
-// The caps, the capacity and the steps of a document, where one of them is missing or of another form.
+// The caps, the capacity and the steps of a document, where one of them is missing or of another
+// form.
 fn judge_head(
     alloc: Global,
     document: &Value,
     findings: &mut Vec<Finding>,
 ) -> Result<(), AllocError>
-    ensures faults { OnOk result (faults_told findings.new.items ≡ faults_told findings.old.items ++ head_faults (view document.now)) }
-    ensures told { OnOk result (AppendsAll (IsFounded (view document.now)) findings.old.items findings.new.items) }
+    ensures faults { OnOk result
+        (faults_told findings.new.items
+        ≡ faults_told findings.old.items ++ head_faults (view document.now)) }
+    ensures told { OnOk result
+        (AppendsAll (IsFounded (view document.now)) findings.old.items findings.new.items) }
 {
     if parse_head(document).is_none() {
         let reasons = document_reasons(alloc, document)?;
@@ -125,8 +131,11 @@ fn judge_item(
     step: &Value,
     findings: &mut Vec<Finding>,
 ) -> Result<(), AllocError>
-    ensures faults { OnOk result (faults_told findings.new.items ≡ faults_told findings.old.items ++ fault_of_step i (action_of (view step.now))) }
-    ensures told { OnOk result (AppendsAll (IsFindingOf i (view step.now)) findings.old.items findings.new.items) }
+    ensures faults { OnOk result
+        (faults_told findings.new.items
+        ≡ faults_told findings.old.items ++ fault_of_step i (action_of (view step.now))) }
+    ensures told { OnOk result
+        (AppendsAll (IsFindingOf i (view step.now)) findings.old.items findings.new.items) }
 {
     if parse_action(step).is_none() {
         findings.push(bad_step(alloc, lines, i, step)?)?;
@@ -141,8 +150,11 @@ fn judge_items(
     steps: &[Value],
     findings: &mut Vec<Finding>,
 ) -> Result<(), AllocError>
-    ensures faults { OnOk result (faults_told findings.new.items ≡ faults_told findings.old.items ++ bad_steps 0 (map view steps.now)) }
-    ensures told { OnOk result (AppendsAll (IsFindingIn (map view steps.now)) findings.old.items findings.new.items) }
+    ensures faults { OnOk result
+        (faults_told findings.new.items
+        ≡ faults_told findings.old.items ++ bad_steps 0 (map view steps.now)) }
+    ensures told { OnOk result
+        (AppendsAll (IsFindingIn (map view steps.now)) findings.old.items findings.new.items) }
 {
     for (i, step) in steps.iter().enumerate() {
         judge_item(alloc, lines, i, step, findings)?;
@@ -157,8 +169,11 @@ fn judge_steps(
     document: &Value,
     findings: &mut Vec<Finding>,
 ) -> Result<(), AllocError>
-    ensures faults { OnOk result (faults_told findings.new.items ≡ faults_told findings.old.items ++ bad_steps 0 (steps_of (view document.now))) }
-    ensures told { OnOk result (AppendsAll (IsFounded (view document.now)) findings.old.items findings.new.items) }
+    ensures faults { OnOk result
+        (faults_told findings.new.items
+        ≡ faults_told findings.old.items ++ bad_steps 0 (step_items_of (view document.now))) }
+    ensures told { OnOk result
+        (AppendsAll (IsFounded (view document.now)) findings.old.items findings.new.items) }
 {
     let Some(value) = document.get("steps") else {
         return Ok(());
@@ -176,8 +191,11 @@ fn judge_caps(
     document: &Value,
     findings: &mut Vec<Finding>,
 ) -> Result<(), AllocError>
-    ensures faults { OnOk result (faults_told findings.new.items ≡ faults_told findings.old.items ++ caps_faults (caps_at (view document.now))) }
-    ensures told { OnOk result (AppendsAll (IsFounded (view document.now)) findings.old.items findings.new.items) }
+    ensures faults { OnOk result
+        (faults_told findings.new.items
+        ≡ faults_told findings.old.items ++ caps_faults (caps_at (view document.now))) }
+    ensures told { OnOk result
+        (AppendsAll (IsFounded (view document.now)) findings.old.items findings.new.items) }
 {
     let Some(object) = document.get("caps") else {
         return Ok(());
@@ -197,8 +215,11 @@ fn judge_capacity(
     document: &Value,
     findings: &mut Vec<Finding>,
 ) -> Result<(), AllocError>
-    ensures faults { OnOk result (faults_told findings.new.items ≡ faults_told findings.old.items ++ capacity_faults (capacity_at (view document.now))) }
-    ensures told { OnOk result (AppendsAll (IsFounded (view document.now)) findings.old.items findings.new.items) }
+    ensures faults { OnOk result
+        (faults_told findings.new.items
+        ≡ faults_told findings.old.items ++ capacity_faults (capacity_at (view document.now))) }
+    ensures told { OnOk result
+        (AppendsAll (IsFounded (view document.now)) findings.old.items findings.new.items) }
 {
     if let Some(capacity) = u64_field(document, "capacity") {
         if capacity > MAX_CAPACITY {
@@ -211,8 +232,10 @@ fn judge_capacity(
 
 // All faults of a JSON value.
 fn judge_value(alloc: Global, bytes: &[u8], document: &Value) -> Result<Vec<Finding>, AllocError>
-    ensures faults { IfOk result (λ findings. faults_told findings.items ≡ faults_of (view document.now)) }
-    ensures told { IfOk result (λ findings. AllByRecursion (IsFounded (view document.now)) findings.items) }
+    ensures faults { IfOk result
+        (λ findings. faults_told findings.items ≡ faults_of_value (view document.now)) }
+    ensures told { IfOk result
+        (λ findings. AllByRecursion (IsFounded (view document.now)) findings.items) }
 {
     let mut findings = Vec::new(alloc);
     judge_head(alloc, document, &mut findings)?;
@@ -222,8 +245,8 @@ fn judge_value(alloc: Global, bytes: &[u8], document: &Value) -> Result<Vec<Find
     Ok(findings)
 }
 
-/// All faults of the document in these bytes, in the order in which a run would tell each where no other came before it. There
-/// is none exactly where the document is right.
+/// All faults of the document in these bytes, in the order in which a run would tell each where no
+/// other came before it. There is none exactly where the document is right.
 pub fn judge_document(alloc: Global, bytes: &[u8]) -> Result<Vec<Finding>, AllocError>
     ensures all { IfOk result (λ findings. AreFaultsOf bytes.now (faults_told findings.items)) }
     ensures first { IfOk result (λ findings. IsJudged bytes.now (faults_told findings.items)) }

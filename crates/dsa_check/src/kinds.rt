@@ -2,7 +2,7 @@
 
 ghost use Rattle.std.specs.Prelude.{◌≡◌, map, IfSome};
 ghost use Rattle.dsa_check.specs.Lines.{kind_text};
-ghost use Rattle.dsa_check.specs.Steps.{row_of, rows_of, kind_named};
+ghost use Rattle.dsa_check.specs.Steps.{row_of_field, rows_of_kind, kind_named};
 
 use crate::fields::{Field, Form};
 use dsa_regs::{
@@ -190,7 +190,7 @@ pub const DOCUMENT: [Field; 3] = [
     },
     Field {
         name: "capacity",
-        form: Form::Held {
+        form: Form::Bounded {
             field: u64::MAX,
             least: 0,
             most: MAX_CAPACITY,
@@ -206,7 +206,7 @@ pub const DOCUMENT: [Field; 3] = [
 pub const CAPS: [Field; 8] = [
     Field {
         name: "queues",
-        form: Form::Held {
+        form: Form::Bounded {
             field: 0xffff,
             least: 1,
             most: MAX_QUEUES as u64,
@@ -214,7 +214,7 @@ pub const CAPS: [Field; 8] = [
     },
     Field {
         name: "groups",
-        form: Form::Held {
+        form: Form::Bounded {
             field: 0xffff,
             least: 1,
             most: MAX_GROUPS as u64,
@@ -222,7 +222,7 @@ pub const CAPS: [Field; 8] = [
     },
     Field {
         name: "engines",
-        form: Form::Held {
+        form: Form::Bounded {
             field: 0xffff,
             least: 1,
             most: MAX_ENGINES as u64,
@@ -230,7 +230,7 @@ pub const CAPS: [Field; 8] = [
     },
     Field {
         name: "total_size",
-        form: Form::Held {
+        form: Form::Bounded {
             field: 0xffff,
             least: 1,
             most: MAX_TOTAL_SIZE as u64,
@@ -238,7 +238,7 @@ pub const CAPS: [Field; 8] = [
     },
     Field {
         name: "read_buffers",
-        form: Form::Held {
+        form: Form::Bounded {
             field: 0xffff,
             least: 1,
             most: MAX_READ_BUFFERS as u64,
@@ -246,7 +246,7 @@ pub const CAPS: [Field; 8] = [
     },
     Field {
         name: "slots",
-        form: Form::Held {
+        form: Form::Bounded {
             field: 0xffff,
             least: 1,
             most: MAX_SLOTS as u64,
@@ -254,7 +254,7 @@ pub const CAPS: [Field; 8] = [
     },
     Field {
         name: "max_batch_shift",
-        form: Form::Held {
+        form: Form::Bounded {
             field: 0xff,
             least: 1,
             most: MAX_BATCH_SHIFT as u64,
@@ -262,7 +262,7 @@ pub const CAPS: [Field; 8] = [
     },
     Field {
         name: "max_xfer_shift",
-        form: Form::Held {
+        form: Form::Bounded {
             field: 0xff,
             least: 0,
             most: MAX_TRANSFER_SHIFT as u64,
@@ -271,7 +271,7 @@ pub const CAPS: [Field; 8] = [
 ];
 
 /// The same, where other numbers than those of a device are no capabilities.
-pub const CAPS_OF_A_DEVICE: [Field; 8] = [
+pub const DEVICE_CAPS: [Field; 8] = [
     Field {
         name: "queues",
         form: Form::Whole {
@@ -334,7 +334,7 @@ pub const CAPS_OF_A_DEVICE: [Field; 8] = [
 pub const MAX_CAPACITY: u64 = 1_048_576;
 
 /// The capacity that a history may have (profile).
-pub const CAPACITY_OF_A_HISTORY: [Field; 1] = [Field {
+pub const HISTORY_CAPACITY: [Field; 1] = [Field {
     name: "capacity",
     form: Form::Whole {
         least: 0,
@@ -401,7 +401,7 @@ impl StepKind {
 
 /// The keys of a step of this kind, beside `do`.
 pub fn fields_of(kind: StepKind) -> &'static [Field]
-    ensures { map row_of result.now ≡ rows_of kind }
+    ensures { map row_of_field result.now ≡ rows_of_kind kind }
 {
     match kind {
         StepKind::Queue => &QUEUE,

@@ -1,7 +1,8 @@
 //! What is wrong with a scenario document, all of it, without a run.
 //!
-//! [`judge_document`] finds the faults of a document in the order in which a run would tell them, each with its place and its
-//! reasons. `docs/COMMANDS.md` describes the lines that are told of them.
+//! [`judge_document`] finds the faults of a document in the order in which a run would tell them,
+//! each with its place and its reasons. `docs/COMMANDS.md` describes the lines that are told of
+//! them.
 #![tactic(auto)]
 
 mod checking;

@@ -57,7 +57,7 @@ impl Walk {
         }
     }
 
-    // The begin of an array or an object. Of steps that come twice the last count.
+    // The start of an array or an object. If `steps` comes twice, the last one counts.
     fn open(&mut self, byte: u8) {
         if self.depth == 1 && self.is_steps && byte == b'[' {
             self.in_steps = true;
@@ -106,8 +106,9 @@ impl Walk {
     }
 }
 
-/// The lines on which the steps of this document begin, in order, counted from 1. The bytes are a JSON object with an array
-/// `steps`; where that key is written with an escape its lines are not found.
+/// The lines on which the steps of this document begin, in order, counted from 1. The bytes are a
+/// JSON object with an array `steps`; where that key is written with an escape its lines are not
+/// found.
 pub fn find_steps(alloc: Global, bytes: &[u8]) -> Result<Vec<usize>, AllocError> {
     let mut walk = Walk::new(alloc);
     for (at, byte) in bytes.iter().enumerate() {

@@ -5,13 +5,11 @@ ghost use Rattle.serde_json.specs.View.{view};
 ghost use Rattle.serde_json.specs.Find.{get, as_str};
 ghost use Rattle.dsa_check.specs.Findings.{Appends, AreInCaps, AreDocumentReasons};
 ghost use Rattle.dsa_check.specs.Reasons.{IsReasonOf, IsDigitsReason, IsTextReason, is_unfit, is_plain, is_asked, IsStrayKey, IsReasonAt, AreReasonsAt, AreReasonsOf, IsKindReason, AreStepReasons};
-ghost use Rattle.dsa_check.specs.Steps.{row_of, kind_of, device_rows, history_rows};
+ghost use Rattle.dsa_check.specs.Steps.{row_of_field, kind_of, device_rows, history_rows};
 
 use crate::fields::{Field, Form, Key, found_in, is_of};
 use crate::finding::Reason;
-use crate::kinds::{
-    CAPACITY_OF_A_HISTORY, CAPS, CAPS_OF_A_DEVICE, DOCUMENT, KINDS, StepKind, fields_of,
-};
+use crate::kinds::{CAPS, DEVICE_CAPS, DOCUMENT, HISTORY_CAPACITY, KINDS, StepKind, fields_of};
 use crate::syntax::is_plain;
 use serde_json::Value;
 use std::alloc::{AllocError, Global};
@@ -56,7 +54,7 @@ fn distance_of(alloc: Global, name: &str, other: &str) -> Result<Option<usize>, 
 }
 
 fn is_asked(fields: &[Field], name: &str) -> bool
-    ensures { result ≡ is_asked (map row_of fields.now) name.now }
+    ensures { result ≡ is_asked (map row_of_field fields.now) name.now }
 {
     name == "do" || fields.iter().any(|field| field.name == name)
 }
@@ -68,7 +66,10 @@ fn near_key(
     fields: &[Field],
     name: &str,
 ) -> Result<Option<String>, AllocError>
-    ensures { IfOk result (λ found. IfSome found (λ key. IsStrayKey (view object.now) (map row_of fields.now) (string_bytes key))) }
+    ensures { IfOk result
+        (λ found. IfSome found
+        (λ key. IsStrayKey (view object.now)
+        (map row_of_field fields.now) (string_bytes key))) }
 {
     let Some(members) = object.as_object() else {
         return Ok(None);
@@ -152,8 +153,12 @@ fn field_reason(
     field: Field,
     in_caps: bool,
 ) -> Result<Option<Reason>, AllocError>
-    ensures told { IfOk result (λ told. is_some told ≡ is_unfit (view object.now) (row_of field)) }
-    ensures so { IfOk result (λ told. IfSome told (IsReasonAt (view object.now) (map row_of fields.now) in_caps (row_of field))) }
+    ensures told { IfOk result
+        (λ told. is_some told ≡ is_unfit (view object.now) (row_of_field field)) }
+    ensures so { IfOk result
+        (λ told. IfSome told
+        (IsReasonAt (view object.now) (map row_of_field fields.now) in_caps
+        (row_of_field field))) }
 {
     let name = field.name;
     let key = Key { name, in_caps };
@@ -176,7 +181,10 @@ fn add_reason(
     in_caps: bool,
     reasons: &mut Vec<Reason>,
 ) -> Result<(), AllocError>
-    ensures { OnOk result (Appends (AreReasonsAt (view object.now) (map row_of fields.now) in_caps (row_of field ∷ []))
+    ensures { OnOk result
+        (Appends
+        (AreReasonsAt (view object.now) (map row_of_field fields.now) in_caps
+        (row_of_field field ∷ []))
         reasons.old.items reasons.new.items) }
 {
     if let Some(reason) = field_reason(alloc, object, fields, field, in_caps)? {
@@ -185,7 +193,8 @@ fn add_reason(
     Ok(())
 }
 
-/// Adds what is wrong at these keys of the object: a reason for each that is missing, or where something else stands.
+/// Adds what is wrong at these keys of the object: a reason for each that is missing, or where
+/// something else stands.
 pub fn add_reasons(
     alloc: Global,
     object: &Value,
@@ -193,7 +202,8 @@ pub fn add_reasons(
     in_caps: bool,
     reasons: &mut Vec<Reason>,
 ) -> Result<(), AllocError>
-    ensures { OnOk result (Appends (AreReasonsOf (view object.now) (map row_of fields.now) in_caps)
+    ensures { OnOk result
+        (Appends (AreReasonsOf (view object.now) (map row_of_field fields.now) in_caps)
         reasons.old.items reasons.new.items) }
 {
     for field in fields {
@@ -257,7 +267,9 @@ fn add_caps_reasons(
     document: &Value,
     reasons: &mut Vec<Reason>,
 ) -> Result<(), AllocError>
-    ensures { OnOk result (Appends (AreInCaps (get (codes "caps") (view document.now))) reasons.old.items reasons.new.items) }
+    ensures { OnOk result
+        (Appends (AreInCaps (get (codes "caps") (view document.now))) reasons.old.items
+        reasons.new.items) }
 {
     match document.get("caps") {
         Some(caps) if caps.as_object().is_some() => add_reasons(alloc, caps, &CAPS, true, reasons),
@@ -289,15 +301,16 @@ pub fn caps_reasons(alloc: Global, document: &Value) -> Result<Vec<Reason>, Allo
     let Some(caps) = document.get("caps") else {
         return Ok(reasons);
     };
-    add_reasons(alloc, caps, &CAPS_OF_A_DEVICE, false, &mut reasons)?;
+    add_reasons(alloc, caps, &DEVICE_CAPS, false, &mut reasons)?;
     Ok(reasons)
 }
 
-/// That no history has such a capacity.
+/// The reason for a capacity above the maximum.
 pub fn capacity_reasons(alloc: Global, document: &Value) -> Result<Vec<Reason>, AllocError>
-    ensures { IfOk result (λ reasons. AreReasonsOf (view document.now) history_rows false reasons.items) }
+    ensures { IfOk result
+        (λ reasons. AreReasonsOf (view document.now) history_rows false reasons.items) }
 {
     let mut reasons = Vec::new(alloc);
-    add_reasons(alloc, document, &CAPACITY_OF_A_HISTORY, false, &mut reasons)?;
+    add_reasons(alloc, document, &HISTORY_CAPACITY, false, &mut reasons)?;
     Ok(reasons)
 }

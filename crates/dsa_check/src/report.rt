@@ -1,13 +1,13 @@
 //! The lines that are told of the faults of a document.
 
 ghost use Rattle.std.specs.Prelude.{◌≡◌, ◌++◌, IfOk, OnOk, codes, decimal, string_bytes, flat_map};
-ghost use Rattle.dsa_check.specs.Lines.{digits_text, key_text, range_text, form_text, found_text, bound_text, wanted_of, piece_text, closing_text, wanted_text, syntax_text, near_kind_text, no_kind_text, reason_text, number_text, step_text, part_text, place_text, line_of, bare_line, finding_text, report_text};
+ghost use Rattle.dsa_check.specs.Lines.{digits_text, key_text, whole_range_text, form_text, found_text, bound_text, wanted_of, piece_text, closing_text, wanted_text, syntax_text, near_kind_text, no_kind_text, reason_text, known_number_text, step_text, fault_part_text, place_text, line_of_finding, bare_line, finding_text, report_text};
 
 use crate::fields::{Form, Found, Key};
 use crate::finding::{Finding, Reason};
 use crate::kinds::StepKind;
 use crate::syntax::{Piece, Syntax, Wanted};
-use dsa_event_words::add_count;
+use dsa_event_text::add_count;
 use dsa_scenario::ScenarioFault;
 use std::alloc::{AllocError, Global};
 use std::fmt::Write;
@@ -20,7 +20,8 @@ fn add_key(text: &mut String, key: Key) -> Result<(), AllocError>
 }
 
 fn add_range(text: &mut String, least: u64, most: u64) -> Result<(), AllocError>
-    ensures { OnOk result (string_bytes text.new ≡ string_bytes text.old ++ range_text least most) }
+    ensures { OnOk result
+        (string_bytes text.new ≡ string_bytes text.old ++ whole_range_text least most) }
 {
     write!(text, "a whole number from {least} to {most}")
 }
@@ -30,7 +31,7 @@ fn add_form(text: &mut String, form: Form) -> Result<(), AllocError>
 {
     match form {
         Form::Whole { least, most } => add_range(text, least, most),
-        Form::Held { least, most, .. } => add_range(text, least, most),
+        Form::Bounded { least, most, .. } => add_range(text, least, most),
         Form::Truth => text.push_str("true or false"),
         Form::Text => text.push_str("a text"),
         Form::Digits => text.push_str("a text of hexadecimal digits"),
@@ -59,7 +60,8 @@ fn add_found(text: &mut String, found: Found) -> Result<(), AllocError>
 
 // What may stand there, of a number that is too large or too small its bound.
 fn add_bound(text: &mut String, found: Found, least: u64, most: u64) -> Result<(), AllocError>
-    ensures { OnOk result (string_bytes text.new ≡ string_bytes text.old ++ bound_text found least most) }
+    ensures { OnOk result
+        (string_bytes text.new ≡ string_bytes text.old ++ bound_text found least most) }
 {
     match found {
         Found::Whole(number) if number > most => write!(text, "at most {most}"),
@@ -73,14 +75,21 @@ fn add_wanted(text: &mut String, found: Found, form: Form) -> Result<(), AllocEr
 {
     match form {
         Form::Whole { least, most } => add_bound(text, found, least, most),
-        Form::Held { least, most, .. } => add_bound(text, found, least, most),
+        Form::Bounded { least, most, .. } => add_bound(text, found, least, most),
         _ => add_form(text, form),
     }
 }
 
 fn add_unfit(text: &mut String, key: Key, found: Found, wanted: Form) -> Result<(), AllocError>
-    ensures { OnOk result (string_bytes text.new ≡ string_bytes text.old
-        ++ (key_text key ++ codes " is " ++ found_text found ++ codes ", " ++ wanted_of found wanted ++ codes " is wanted")) }
+    ensures { OnOk result
+        (string_bytes text.new
+        ≡ string_bytes text.old
+        ++ (key_text key
+        ++ codes " is "
+        ++ found_text found
+        ++ codes ", "
+        ++ wanted_of found wanted
+        ++ codes " is wanted")) }
 {
     add_key(text, key)?;
     text.push_str(" is ")?;
@@ -114,7 +123,8 @@ fn add_closing(
     line: usize,
     column: usize,
 ) -> Result<(), AllocError>
-    ensures { OnOk result (string_bytes text.new ≡ string_bytes text.old ++ closing_text is_array line column) }
+    ensures { OnOk result
+        (string_bytes text.new ≡ string_bytes text.old ++ closing_text is_array line column) }
 {
     if is_array {
         write!(text, "a ] for the [ of line {line}, column {column}")
@@ -171,7 +181,8 @@ fn add_unwanted(text: &mut String, found: &Piece, wanted: Wanted) -> Result<(), 
 }
 
 fn add_syntax(text: &mut String, syntax: &Syntax) -> Result<(), AllocError>
-    ensures { OnOk result (string_bytes text.new ≡ string_bytes text.old ++ syntax_text syntax.now) }
+    ensures { OnOk result
+        (string_bytes text.new ≡ string_bytes text.old ++ syntax_text syntax.now) }
 {
     match syntax {
         Syntax::NotUtf8 => text.push_str("the bytes are no UTF-8"),
@@ -184,14 +195,16 @@ fn add_syntax(text: &mut String, syntax: &Syntax) -> Result<(), AllocError>
 
 // A key, and what is wrong there.
 fn add_at_key(text: &mut String, key: Key, what: &str) -> Result<(), AllocError>
-    ensures { OnOk result (string_bytes text.new ≡ string_bytes text.old ++ (key_text key ++ what.now)) }
+    ensures { OnOk result
+        (string_bytes text.new ≡ string_bytes text.old ++ (key_text key ++ what.now)) }
 {
     add_key(text, key)?;
     text.push_str(what)
 }
 
 fn add_near_kind(text: &mut String, name: &str, near: StepKind) -> Result<(), AllocError>
-    ensures { OnOk result (string_bytes text.new ≡ string_bytes text.old ++ near_kind_text name.now near) }
+    ensures { OnOk result
+        (string_bytes text.new ≡ string_bytes text.old ++ near_kind_text name.now near) }
 {
     write!(
         text,
@@ -205,7 +218,8 @@ fn add_kind(
     name: &Option<String>,
     near: Option<StepKind>,
 ) -> Result<(), AllocError>
-    ensures { OnOk result (string_bytes text.new ≡ string_bytes text.old ++ no_kind_text name.now near) }
+    ensures { OnOk result
+        (string_bytes text.new ≡ string_bytes text.old ++ no_kind_text name.now near) }
 {
     match (name, near) {
         (Some(name), Some(kind)) => add_near_kind(text, name.as_str(), kind),
@@ -235,22 +249,30 @@ fn add_no_digit(text: &mut String, key: Key, at: usize) -> Result<(), AllocError
 }
 
 fn add_misspelled(text: &mut String, key: Key, found: &str) -> Result<(), AllocError>
-    ensures { OnOk result (string_bytes text.new ≡ string_bytes text.old
-        ++ (key_text key ++ (codes " is missing, and \"" ++ (found.now ++ codes "\" is no key here")))) }
+    ensures { OnOk result
+        (string_bytes text.new
+        ≡ string_bytes text.old
+        ++ (key_text key
+        ++ (codes " is missing, and \""
+        ++ (found.now ++ codes "\" is no key here")))) }
 {
     add_key(text, key)?;
     write!(text, " is missing, and \"{found}\" is no key here")
 }
 
 fn add_no_object(text: &mut String, found: Found) -> Result<(), AllocError>
-    ensures { OnOk result (string_bytes text.new ≡ string_bytes text.old ++ (found_text found ++ codes " stands here, an object is wanted")) }
+    ensures { OnOk result
+        (string_bytes text.new
+        ≡ string_bytes text.old
+        ++ (found_text found ++ codes " stands here, an object is wanted")) }
 {
     add_found(text, found)?;
     text.push_str(" stands here, an object is wanted")
 }
 
 fn add_reason(text: &mut String, reason: &Reason) -> Result<(), AllocError>
-    ensures { OnOk result (string_bytes text.new ≡ string_bytes text.old ++ reason_text reason.now) }
+    ensures { OnOk result
+        (string_bytes text.new ≡ string_bytes text.old ++ reason_text reason.now) }
 {
     match reason {
         Reason::Missing { key } => add_at_key(text, *key, " is missing"),
@@ -282,7 +304,9 @@ fn add_number(
     number: Option<usize>,
     after: &str,
 ) -> Result<(), AllocError>
-    ensures { OnOk result (string_bytes text.new ≡ string_bytes text.old ++ number_text word.now number after.now) }
+    ensures { OnOk result
+        (string_bytes text.new
+        ≡ string_bytes text.old ++ known_number_text word.now number after.now) }
 {
     match number {
         Some(number) => write!(text, "{word}{number}{after}"),
@@ -300,7 +324,9 @@ fn add_step(text: &mut String, i: u64, kind: Option<StepKind>) -> Result<(), All
 }
 
 fn add_part(text: &mut String, finding: &Finding) -> Result<(), AllocError>
-    ensures { OnOk result (string_bytes text.new ≡ string_bytes text.old ++ part_text finding.now.fault finding.now.place.kind) }
+    ensures { OnOk result
+        (string_bytes text.new
+        ≡ string_bytes text.old ++ fault_part_text finding.now.fault finding.now.place.kind) }
 {
     match finding.fault {
         ScenarioFault::NotJson => text.push_str("not JSON: "),
@@ -313,7 +339,8 @@ fn add_part(text: &mut String, finding: &Finding) -> Result<(), AllocError>
 }
 
 fn add_place(text: &mut String, finding: &Finding) -> Result<(), AllocError>
-    ensures { OnOk result (string_bytes text.new ≡ string_bytes text.old ++ place_text finding.now) }
+    ensures { OnOk result
+        (string_bytes text.new ≡ string_bytes text.old ++ place_text finding.now) }
 {
     add_number(text, "line ", finding.place.line, ", ")?;
     add_number(text, "column ", finding.place.column, ": ")?;
@@ -321,7 +348,8 @@ fn add_place(text: &mut String, finding: &Finding) -> Result<(), AllocError>
 }
 
 fn add_line(text: &mut String, finding: &Finding, reason: &Reason) -> Result<(), AllocError>
-    ensures { OnOk result (string_bytes text.new ≡ string_bytes text.old ++ line_of finding.now reason.now) }
+    ensures { OnOk result
+        (string_bytes text.new ≡ string_bytes text.old ++ line_of_finding finding.now reason.now) }
 {
     add_place(text, finding)?;
     add_reason(text, reason)?;
@@ -337,7 +365,8 @@ fn add_bare(text: &mut String, finding: &Finding) -> Result<(), AllocError>
 }
 
 fn add_finding(text: &mut String, finding: &Finding) -> Result<(), AllocError>
-    ensures { OnOk result (string_bytes text.new ≡ string_bytes text.old ++ finding_text finding.now) }
+    ensures { OnOk result
+        (string_bytes text.new ≡ string_bytes text.old ++ finding_text finding.now) }
 {
     if finding.reasons.is_empty() {
         return add_bare(text, finding);

@@ -7,7 +7,8 @@ use crate::syntax::Wanted;
 use serde_json::Value;
 use std::alloc::{AllocError, Global};
 
-/// The first place of a text where it is no JSON: its offset, its line and its column, counted from 1, and what may stand there.
+/// The first place of a text where it is no JSON: its offset, its line and its column, counted from
+/// 1, and what may stand there.
 #[derive(Clone, Copy)]
 pub struct Flaw {
     pub at: usize,
@@ -105,7 +106,8 @@ struct Scan {
     start_line: usize,
     start_column: usize,
     is_key: bool,
-    // Where the last escape begins, the number that its digits have so far, and where the first half of a pair begins.
+    // Where the last escape begins, the number that its digits have so far, and where the first
+    // half of a pair begins.
     escape: usize,
     unit: u32,
     half: Option<usize>,

@@ -12,10 +12,13 @@ pub fn steps_have_their_rows()
     ensures { (d : Data) → is_some (action_of d) ≡ is_step d }
 {}
 
-/// Caps are read exactly where an object has what stands in their table, and a device has them where they have what stands in
-/// its own; the head of a document is read where it and its caps have what stands in theirs.
+/// Caps are read exactly where an object has what stands in their table, and a device has them
+/// where they have what stands in its own; the head of a document is read where it and its caps
+/// have what stands in theirs.
 pub fn documents_have_their_rows()
     ensures caps { (d : Data) → is_some (caps_of d) ≡ has_rows d caps_rows }
-    ensures device { (d : Data) → IfSome (caps_of d) (λ caps. check_caps caps ≡ has_rows d device_rows) }
-    ensures head { (d : Data) → is_some (head_of d) ≡ (has_rows d document_rows && has_caps (get (codes "caps") d)) }
+    ensures device { (d : Data)
+        → IfSome (caps_of d) (λ caps. check_caps caps ≡ has_rows d device_rows) }
+    ensures head { (d : Data)
+        → is_some (head_of d) ≡ (has_rows d document_rows && has_caps (get (codes "caps") d)) }
 {}

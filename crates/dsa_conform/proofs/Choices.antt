@@ -12,7 +12,7 @@ use Rattle.std.proofs.Math.ListN.{get_or-map}
 use Rattle.std.specs.{Prelude.{All, Contains}, List.{list_any}}
 use Rattle.dsa_base.{specs.{Numbers.{numbers_below}, Rows.{passes}}, proofs.NumberLemmas.{numbers_below-miss}}
 use Rattle.dsa_base.proofs.Tables.{not-both}
-use Rattle.dsa_store.specs.Content.{Slot}
+use Rattle.dsa_store.specs.Content.{HeldEntry}
 use Rattle.dsa_regs.specs.declared.Fault.{Fault}
 use Rattle.dsa_book.specs.declared.answer.{Ticket.{Ticket}, DispatchAnswer.TheVariants.{Taken, Idle}}
 use Rattle.dsa_book.specs.declared.answer.Reply.{Reply}
@@ -20,7 +20,8 @@ use Rattle.dsa_book.specs.declared.answer.Reply.TheVariants.{Dispatch}
 use Rattle.dsa_book.specs.declared.event.{Event.{Event, TheVariants.{Dispatch}}, Step.{Step}}
 use Rattle.dsa_book.specs.Choice.{Choice, choice_of, nothing, in_cell, from_queue}
 use Rattle.dsa_book.specs.Machine.{may_choose, next, reply_of, with_work}
-use Rattle.dsa_book.specs.{State.{Work, State, ticket_of}, Work.{qualifies, may_take, front_of, dispatch_of, dispatch}}
+use Rattle.dsa_book.specs.State.{Work, State, ticket_of_entry}
+use Rattle.dsa_book.specs.Work.{qualifies, may_take, front_of, dispatch_of, dispatch}
 use Rattle.dsa_book.proofs.Nexts.{next-is, next-of, next-each}
 use Rattle.dsa_device.{specs.Running.{Running, running_after, after_answer}, proofs.Steps.{answered_by_cases}}
 use Rattle.dsa_scenario.specs.declared.run.Record.{Record, TheVariants.{Stepped, Refused}}
@@ -79,25 +80,26 @@ given-more f n = rw (add-one, filter_map-append) refl
 -- ---- the offers
 
 -- what the machine makes of a front that is taken
-offered-next : (s : State) (e q : ℕ) (front : Slot) → qualifies s.work e q ≡ true → front_of s.work q ≡ Some front
-    → (after : State) × (next s (Dispatch e) (Dispatch (Taken (ticket_of front) q)) ≡ Some after)
+offered-next : (s : State) (e q : ℕ) (front : HeldEntry) → qualifies s.work e q ≡ true → front_of s.work q ≡ Some front
+    → (after : State) × (next s (Dispatch e) (Dispatch (Taken (ticket_of_entry front) q)) ≡ Some after)
 offered-next s e q front may is =
     let made = reply_of s (Dispatch e) (from_queue q) in
-    let reply : made ≡ (Dispatch (Taken (ticket_of front) q), made.1) = rw is refl in
-    (made.1, next-of s made.1 (Dispatch e) (Dispatch (Taken (ticket_of front) q)) may reply)
+    let reply : made ≡ (Dispatch (Taken (ticket_of_entry front) q), made.1) = rw is refl in
+    (made.1, next-of s made.1 (Dispatch e) (Dispatch (Taken (ticket_of_entry front) q)) may reply)
 
 -- an offer is taken of a queue that qualifies
 pub record IsOffer (w : Work) (e q : ℕ) (entry : Record) : Type 0 where
-  pub front : Slot
+  pub front : HeldEntry
   pub may : qualifies w e q ≡ true
   pub stands : front_of w q ≡ Some front
-  pub is : entry ≡ taken_from e q (ticket_of front)
+  pub is : entry ≡ taken_from e q (ticket_of_entry front)
 
 pub is_offer : (w : Work) (e q : ℕ) (entry : Record) → offer w e q ≡ Some entry → IsOffer w e q entry
 is_offer w e q entry h = at (qualifies w e q) refl (front_of w q) refl h
   where
-    at : (b : Bool) → qualifies w e q ≡ b → (o : Option Slot) → front_of w q ≡ o
-        → cond b (option_map (λ front. taken_from e q (ticket_of front)) o) None ≡ Some entry → IsOffer w e q entry
+    at : (b : Bool) → qualifies w e q ≡ b → (o : Option HeldEntry) → front_of w q ≡ o
+        → cond b (option_map (λ front. taken_from e q (ticket_of_entry front)) o) None ≡ Some entry
+        → IsOffer w e q entry
     at false unfit o is h = absurd cc
     at true may None is h = absurd cc
     at true may (Some front) is h =
@@ -105,7 +107,7 @@ is_offer w e q entry h = at (qualifies w e q) refl (front_of w q) refl h
           front = front;
           may = may;
           stands = is;
-          is = sym (same_Some (taken_from e q (ticket_of front))
+          is = sym (same_Some (taken_from e q (ticket_of_entry front))
               entry h);
         }
 
@@ -113,7 +115,7 @@ is_offer w e q entry h = at (qualifies w e q) refl (front_of w q) refl h
 pub offered_is_allowed : (now : Running) (e q : ℕ) (entry : Record) → (length now.history == now.capacity) ≡ false
     → IsOffer now.state.work e q entry → IsAllowed now (Ok (Dispatch e)) entry
 offered_is_allowed now e q entry room h =
-    let reply : Reply = Dispatch (Taken (ticket_of h.front) q) in
+    let reply : Reply = Dispatch (Taken (ticket_of_entry h.front) q) in
     let goes = offered-next now.state e q h.front h.may h.stands in
     rw h.is (record {
       answers = refl;
@@ -122,12 +124,12 @@ offered_is_allowed now e q entry room h =
     })
 
 -- what qualifies has a front
-taken-offer : (w : Work) (e q : ℕ) (o : Option Slot) → front_of w q ≡ o → qualifies w e q ≡ true
+taken-offer : (w : Work) (e q : ℕ) (o : Option HeldEntry) → front_of w q ≡ o → qualifies w e q ≡ true
     → (entry : Record) × (offer w e q ≡ Some entry) × (stepped (Dispatch e) (Dispatch (dispatch_of w e q o).0) ≡ entry)
 taken-offer w e q None is may =
     let front : passes (may_take w e) (front_of w q) ≡ true = (and_parts _ _ (and_parts _ _ may).1).1 in
     let bad : false ≡ true = sym (ap (passes (may_take w e)) is) ∙ front in absurd cc
-taken-offer w e q (Some front) is may = (taken_from e q (ticket_of front), rw (may, is) refl, refl)
+taken-offer w e q (Some front) is may = (taken_from e q (ticket_of_entry front), rw (may, is) refl, refl)
 
 -- a queue that qualifies is one of the device's
 pub below_queues : (w : Work) (e q : ℕ) → qualifies w e q ≡ true → q < w.setup.caps.queues

@@ -8,7 +8,7 @@ use Rattle.dsa_regs.specs.{declared.Caps.{Caps}, Caps.{check_caps}}
 use Rattle.dsa_scenario.specs.declared.actions.Action.{Action}
 use Rattle.dsa_scenario.specs.declared.faults.ScenarioFault.{ScenarioFault, TheVariants.{OutOfMemory}}
 use Rattle.dsa_scenario.specs.declared.faults.ScenarioFault.TheVariants.{BadCaps, BadCapacity}
-use Rattle.dsa_scenario.specs.Document.{head_of, list_of, HasHead}
+use Rattle.dsa_scenario.specs.Document.{head_of, list_of_items, HasHead}
 use Rattle.dsa_scenario.proofs.Whole.{bad_head}
 use Rattle.dsa_conform.specs.{Seen.{Seen, observation_of}, Run.{AreRead, IsUnreadAt, IsUnread, IsOtherFault}}
 use Rattle.dsa_conform.proofs.Objects.{asked_of}
@@ -25,7 +25,7 @@ same_steps bytes caps other_caps capacity other_capacity steps others one other 
     let other_value = other.json.value in
     let same : other.document ≡ one.document = cc in
     let keys = sym other.head ∙ ap head_of same ∙ one.head in
-    sym other.listed ∙ ap (λ o. option_map_or (λ (keys : Keys). list_of keys.2) o []) keys ∙ one.listed
+    sym other.listed ∙ ap (λ o. option_map_or (λ (keys : Keys). list_of_items keys.2) o []) keys ∙ one.listed
 
 -- what is read is no object that is not
 not_both : (o : Option (Action × Seen)) → option_map (λ (o : Action × Seen). Some o) o ≡ Some None → ⊥

@@ -1,15 +1,15 @@
 -- The step objects of a document, one after the other.
-use Rattle.std.proofs.Common.{◌≡◌, ◌<◌, ◌≤◌, ℕ, ◌+◌, List, [], ◌∷◌, ◌++◌}
+use Rattle.std.proofs.Common.{◌≡◌, ◌<◌, ℕ, ◌+◌, List, [], ◌∷◌, ◌++◌}
 use Rattle.std.proofs.Common.{Option, Some, None, refl, sym, ap, ◌∙◌, map, length}
 use Rattle.std.proofs.Common.{take, get_or, option_map}
-use Rattle.std.proofs.lemmas.List.{take_more, take_all, length-map, map-append}
+use Rattle.std.proofs.lemmas.List.{take_more, length-map, map-append}
 use Rattle.std.proofs.lemmas.Option.{slice_get-map, slice_get_read, get_or_from_slice_get, same_Some}
 use Rattle.std.proofs.Math.ListN.{get_or-map}
 use Rattle.std.specs.Prelude.{slice_get, is_none, false, option_and_then}
 use Rattle.dsa_scenario.specs.Actions.{action_of}
 use Rattle.serde_json.specs.{View.{view}, Data.{Data}, declared.value.Value.{Value}}
 use Rattle.dsa_scenario.specs.declared.actions.Action.{Action}
-use Rattle.dsa_conform.specs.{Seen.{Seen, seen_of, observation_of}, Run.{AreRead, IsUnreadAt}}
+use Rattle.dsa_conform.specs.{Seen.{Seen, seen_of, observation_of}, Run.{AreRead}}
 
 -- the item is that of the list, as JSON
 item_at : (vs : List Value) (i : ℕ) (v : Value) → i < length vs → v ≡ get_or vs i v
@@ -25,20 +25,6 @@ read_more vs i v here done inside is reads h =
     let inside' : i < length (map view vs) = rw (length-map vs view) inside in
     let item : get_or (map view vs) i (view v) ≡ view v = get_or-map view vs i v ∙ ap view (sym is) in
     rw (take_more (map view vs) i (view v) inside', map-append, map-append, h, item, reads) refl
-
--- the first that is none
-pub unread_here : (vs : List Value) (i : ℕ) (v : Value) (done : List (Action × Seen)) → i < length vs
-    → v ≡ get_or vs i v → observation_of (view v) ≡ None → AreRead (take i (map view vs)) done
-    → IsUnreadAt (map view vs) i
-unread_here vs i v done inside is reads h =
-    record { done = done; before = h; here = rw (item_at vs i v inside is, reads) refl }
-
--- all are read
-pub all_read : (vs : List Value) (i : ℕ) (done : List (Action × Seen)) → length vs ≤ i
-    → AreRead (take i (map view vs)) done → AreRead (map view vs) done
-all_read vs i done past h =
-    let all : take i (map view vs) ≡ map view vs = take_all i (map view vs) (rw (length-map vs view) past) in
-    rw all at h
 
 -- there are as many observations as step objects
 pub count_read : (vs : List Value) (observed : List (Action × Seen)) → AreRead (map view vs) observed

@@ -14,7 +14,7 @@ use Rattle.dsa_regs.specs.{declared.Fault.{Fault}, Caps.{check_caps}}
 use Rattle.dsa_book.specs.declared.event.Event.{Event}
 use Rattle.dsa_scenario.specs.declared.{run.Record.{Record}, faults.ScenarioFault.{ScenarioFault}}
 use Rattle.dsa_scenario.specs.declared.faults.ScenarioFault.TheVariants as fault
-use Rattle.dsa_scenario.specs.{Document.{HasHead}, Run.{given_by, event_of, IsTable}}
+use Rattle.dsa_scenario.specs.{Document.{HasHead}, Run.{ticket_given_by, event_of, IsTable}}
 use Rattle.dsa_explain_lines.specs.Parts.{part_of}
 use Rattle.dsa_conform.specs.declared.following.Followed.{Followed, TheVariants.{Shown, Differs}}
 use Rattle.dsa_conform.specs.Allowed.{IsFollowed}
@@ -123,7 +123,7 @@ pub stepped_on : (caps : Caps) (capacity : ℕ) (now new : Running) (done : List
     (differing : Option (List ℕ))
     → ((before : List Record) → IsTable (slice_get tickets) before → asked ≡ event_of before here.0)
     → IsFollowed now asked here.1 new followed → told ≡ part_of now asked
-    → more ≡ tickets ++ filter_map given_by (records_of followed)
+    → more ≡ tickets ++ filter_map ticket_given_by (records_of followed)
     → differing ≡ difference_of number here.1 told followed → IsFollowedTo caps capacity done number now tickets
     → IsStepped caps capacity done here number new more differing
 stepped_on caps capacity now new done here number tickets more asked told (Shown entry) differing asks goes why noted

@@ -8,7 +8,7 @@ use Rattle.dsa_regs.specs.declared.{Caps.{Caps}, Fault.{Fault}}
 use Rattle.dsa_book.specs.declared.{answer.Ticket.{Ticket}, event.Event.{Event}}
 use Rattle.dsa_device.specs.{Running.{Running, running_at_first, IsReplay}}
 use Rattle.dsa_scenario.specs.declared.{actions.Action.{Action}, run.Record.{Record}}
-use Rattle.dsa_scenario.specs.Run.{given_by, event_of, answered_by, Leads, IsTable}
+use Rattle.dsa_scenario.specs.Run.{ticket_given_by, event_of, answered_by, Leads, IsTable}
 use Rattle.dsa_scenario.specs.Steps.{standing, Visit, visit, visits, IsWalkTo}
 use Rattle.dsa_scenario.proofs.Walks.{stands, one_more, opened}
 use Rattle.dsa_explain_lines.specs.Parts.{part_of}
@@ -50,13 +50,13 @@ pub followed_more : (caps : Caps) (capacity : ℕ) (now new : Running) (done : L
     Seen)
     (number : ℕ) (tickets more : List Ticket) (entry : Record)
     → ((before : List Record) → IsTable (slice_get tickets) before → answered_by entry ≡ event_of before here.0)
-    → Leads now entry new → more ≡ tickets ++ filter_map given_by (entry ∷ []) → shows here.1 entry ≡ true
+    → Leads now entry new → more ≡ tickets ++ filter_map ticket_given_by (entry ∷ []) → shows here.1 entry ≡ true
     → IsFollowedTo caps capacity done number now tickets
     → IsFollowedTo caps capacity (done ++ here ∷ []) (number + 1) new more
 followed_more caps capacity now new done here number tickets more entry answers leads noted shown h =
     rw (map-append, map-append)
     (one_more ShowAll (λ d asked. []) caps capacity now new (map (λ o. o.0) done) here.0 number tickets more
-    (map (λ o. o.1) done) (map (λ o. o.1) done ++ here.1 ∷ []) [] entry (answered_by entry) answers answers leads noted
+    (map (λ o. o.1) done) (map (λ o. o.1) done ++ here.1 ∷ []) [] entry (answered_by entry) answers refl leads noted
     refl
     (λ steps before told made. rw map-append (shown-push (map (λ o. o.1) done)
     (map (λ (step : Visit). step.entry) steps) here.1 entry made shown))

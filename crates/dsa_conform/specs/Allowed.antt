@@ -7,7 +7,7 @@ use Rattle.dsa_base.specs.Numbers.{numbers_below}
 use Rattle.dsa_regs.specs.declared.Fault.{Fault}
 use Rattle.dsa_book.specs.declared.{event.Event.{Event}, answer.{Ticket.{Ticket}, Reply.{Reply}}}
 use Rattle.dsa_book.specs.declared.answer.DispatchAnswer.TheVariants.{Taken}
-use Rattle.dsa_book.specs.{State.{Work, ticket_of}, Work.{qualifies, front_of}}
+use Rattle.dsa_book.specs.{State.{Work, ticket_of_entry}, Work.{qualifies, front_of}}
 use Rattle.dsa_device.specs.Running.{Running}
 use Rattle.dsa_scenario.specs.declared.run.Record.{Record, TheVariants.{Stepped, Refused}}
 use Rattle.dsa_scenario.specs.{Lines.{record_text}, Run.{answered_by, Leads}}
@@ -52,7 +52,7 @@ taken_from e q ticket = Stepped (record { event = event.Dispatch e; reply = repl
 
 -- the front of the queue is taken, where the engine may take it
 abbrev pub offer : Work → ℕ → ℕ → Option Record
-offer w e q = cond (qualifies w e q) (option_map (λ front. taken_from e q (ticket_of front)) (front_of w q)) None
+offer w e q = cond (qualifies w e q) (option_map (λ front. taken_from e q (ticket_of_entry front)) (front_of w q)) None
 
 -- one answer for each queue that the engine may take from
 abbrev pub offers : Work → ℕ → List Record

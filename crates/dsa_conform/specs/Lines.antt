@@ -1,7 +1,7 @@
 -- What is told of a document whose steps say what was seen.
 use Rattle.std.specs.Prelude.{ℕ, Bool, true, false, List, [], ◌∷◌, ◌++◌, count_by, flat_map, codes, decimal}
 use Rattle.std.specs.Prelude.{Option, Some, None}
-use Rattle.dsa_event_words.specs.Words.{count_words}
+use Rattle.dsa_event_text.specs.Text.{count_text}
 use Rattle.dsa_scenario.specs.declared.{actions.Action.{Action}, run.Record.{Record}}
 use Rattle.dsa_scenario.specs.Lines.{record_text}
 use Rattle.dsa_explain_lines.specs.Lines.{asked_words, shown}
@@ -11,8 +11,8 @@ use Rattle.dsa_conform.specs.Seen.{Seen, is_seen}
 -- how many steps there are, and of how many something was seen (profile)
 abbrev pub conforms_text : ℕ → ℕ → List ℕ
 conforms_text steps seen =
-    count_words (codes "conforms: ") steps (codes "step") (codes "steps")
-    ++ count_words (codes ", ") seen (codes "answer") (codes "answers") ++ codes " seen\n"
+    count_text (codes "conforms: ") steps (codes "step") (codes "steps")
+    ++ count_text (codes ", ") seen (codes "answer") (codes "answers") ++ codes " seen\n"
 
 abbrev pub seen_count : List (Action × Seen) → ℕ
 seen_count observed = count_by (λ o. is_seen o.1) observed
@@ -36,14 +36,14 @@ abbrev pub allowed_line : List ℕ → Record → List ℕ
 allowed_line told entry = codes "allowed: " ++ record_text entry ++ (shown told entry ++ codes "\n")
 
 -- the step of this number, by what one of its answers tells of it
-abbrev pub step_line : ℕ → Record → List ℕ
-step_line number entry = codes "step " ++ decimal number ++ codes ": " ++ asked_words entry ++ codes "\n"
+abbrev pub asked_step_line : ℕ → Record → List ℕ
+asked_step_line number entry = codes "step " ++ decimal number ++ codes ": " ++ asked_words entry ++ codes "\n"
 
 -- the step, what was seen of it, and what was allowed (profile)
 abbrev pub difference_text : ℕ → Seen → List ℕ → List Record → List ℕ
 difference_text number seen told [] = []
 difference_text number seen told (entry ∷ entries) =
-    step_line number entry ++ seen_line seen ++ flat_map (allowed_line told) (entry ∷ entries)
+    asked_step_line number entry ++ seen_line seen ++ flat_map (allowed_line told) (entry ∷ entries)
 
 -- what is told of a step that does not go on
 abbrev pub difference_of : ℕ → Seen → List ℕ → Followed → Option (List ℕ)

@@ -8,7 +8,7 @@ use Rattle.dsa_book.specs.{declared.{answer.Ticket.{Ticket}, event.Event.{Event}
 use Rattle.dsa_device.specs.Running.{Running}
 use Rattle.dsa_scenario.specs.declared.{actions.Action.{Action}, run.Record.{Record}}
 use Rattle.dsa_scenario.specs.declared.faults.ScenarioFault.{ScenarioFault, TheVariants.{BadStep, Differs}}
-use Rattle.dsa_scenario.specs.{Document.{HasHead, IsFaultOf}, Run.{event_of, steps_of, AreOf}}
+use Rattle.dsa_scenario.specs.{Document.{HasHead, IsFaultOf}, Run.{event_of, steps_of_records, AreOf}}
 use Rattle.dsa_scenario.specs.Steps.{standing, IsWalkTo}
 use Rattle.dsa_explain_lines.specs.Parts.{part_of}
 use Rattle.dsa_conform.specs.Allowed.{AreAllowed, NoneShows}
@@ -21,7 +21,7 @@ use Rattle.dsa_conform.specs.Seen.{Seen, observation_of, AreShown}
 pub record IsShownRun (caps : Caps) (capacity : ℕ) (observed : List (Action × Seen)) (records : List Record)
     : Type 0 where
   pub of_actions : AreOf [] (map (λ o. o.0) observed) records
-  pub run : is_run caps capacity (steps_of records) ≡ true
+  pub run : is_run caps capacity (steps_of_records records) ≡ true
   pub shown : AreShown (map (λ o. o.1) observed) records
 
 -- none of the answers that are allowed where the device stands so shows what was seen, and the text tells of them
@@ -75,7 +75,7 @@ IsVerdict caps capacity steps (Some (Differs i)) text = IsDiffering caps capacit
 IsVerdict caps capacity steps _ text = ⊥
 
 -- a document that a device can be made for, and what is told of its steps (profile)
-pub record IsJudged (bytes : List ℕ) (fault : Option ScenarioFault) (text : List ℕ) : Type 0 where
+pub record IsRunJudged (bytes : List ℕ) (fault : Option ScenarioFault) (text : List ℕ) : Type 0 where
   pub caps : Caps
   pub capacity : ℕ
   pub steps : List Data
@@ -95,7 +95,7 @@ pub record IsUnread (bytes : List ℕ) (i : ℕ) : Type 0 where
 -- the text, and the fault that is told after it, are what is made of a document (profile)
 abbrev pub IsConformance : List ℕ → Option ScenarioFault → List ℕ → Type 0
 IsConformance bytes (Some (BadStep i)) text = IsUnread bytes i × (text ≡ [])
-IsConformance bytes fault text = IsJudged bytes fault text
+IsConformance bytes fault text = IsRunJudged bytes fault text
 
 -- any other fault is that of the plain run, of a document that has no object to be told so (profile)
 abbrev pub IsOtherFault : List ℕ → ScenarioFault → Type 0

@@ -12,7 +12,7 @@ use Rattle.dsa_regs.specs.declared.{Caps.{Caps}, QueueConfig.{QueueConfig}, Faul
 use Rattle.dsa_regs.specs.declared.Command.TheVariants.{EnableDevice, EnableWq}
 use Rattle.dsa_scenario.specs.declared.actions.Action.{Action, TheVariants.{Ask, Finish, Refuse}}
 use Rattle.dsa_scenario.specs.declared.run.Record.{Record}
-use Rattle.dsa_scenario.specs.{Steps.{standing}, Worked.{ticket, stepped, fill, caps_of_a_run, queue_of_a_run}}
+use Rattle.dsa_scenario.specs.{Steps.{standing}, Worked.{record_ticket, stepped, fill, caps_of_a_run, queue_of_a_run}}
 use Rattle.dsa_scenario.specs.Worked.{group_of_a_run, submission_of_a_run, smallest_caps, smallest_caps_text, document_text}
 use Rattle.dsa_conform.specs.Seen.{Seen}
 
@@ -39,8 +39,8 @@ abbrev pub by_movdir : SubmitAnswer → Record
 by_movdir answer = stepped (event.Submit 0 0 Limited Movdir64b fill) (reply.Submit answer)
 
 -- engine 0 takes the entry of this name from the queue
-abbrev pub taken : ℕ → ℕ → Record
-taken name queue = stepped (event.Dispatch 0) (reply.Dispatch (Taken (ticket 3 name) queue))
+abbrev pub record_of_a_take : ℕ → ℕ → Record
+record_of_a_take name queue = stepped (event.Dispatch 0) (reply.Dispatch (Taken (record_ticket 3 name) queue))
 
 -- why a queue is not taken from
 abbrev pub idle_words : List ℕ
@@ -69,9 +69,9 @@ half_queue = record queue_of_a_run { size = 8 }
 
 -- a Move was accepted in the queue
 abbrev pub accepted_in : ℕ → Ticket → Record
-accepted_in queue ticket = stepped
+accepted_in queue record_ticket = stepped
     (event.Submit 0 queue Limited (Enqcmd 1) (record { pasid = 0; flags = 0; op = 3; size = 4096 }))
-    (reply.Submit (Accepted ticket))
+    (reply.Submit (Accepted record_ticket))
 
 abbrev pub records_of_two_queues : List Record
 records_of_two_queues =
@@ -81,18 +81,18 @@ records_of_two_queues =
     stepped (event.Issue EnableDevice) (reply.Issue (Ended 0)) ∷
     stepped (event.Issue (EnableWq 0)) (reply.Issue (Ended 0)) ∷
     stepped (event.Issue (EnableWq 2)) (reply.Issue (Ended 0)) ∷
-    accepted_in 0 (ticket 3 0) ∷
-    accepted_in 2 (ticket 5 1) ∷ []
+    accepted_in 0 (record_ticket 3 0) ∷
+    accepted_in 2 (record_ticket 5 1) ∷ []
 
 -- engine 0 takes the entry of one or the other, or one that is not there
 abbrev pub from_first : Record
-from_first = stepped (event.Dispatch 0) (reply.Dispatch (Taken (ticket 3 0) 0))
+from_first = stepped (event.Dispatch 0) (reply.Dispatch (Taken (record_ticket 3 0) 0))
 
 abbrev pub from_second : Record
-from_second = stepped (event.Dispatch 0) (reply.Dispatch (Taken (ticket 5 1) 2))
+from_second = stepped (event.Dispatch 0) (reply.Dispatch (Taken (record_ticket 5 1) 2))
 
 abbrev pub from_third : Record
-from_third = stepped (event.Dispatch 0) (reply.Dispatch (Taken (ticket 7 2) 3))
+from_third = stepped (event.Dispatch 0) (reply.Dispatch (Taken (record_ticket 7 2) 3))
 
 -- how the device stands after so many of these records, and after all
 abbrev pub after_some : ℕ → Running
@@ -103,8 +103,8 @@ after_all = standing caps_of_three_queues 9 records_of_two_queues
 
 -- ---- the smallest device
 
-abbrev pub at_first : Running
-at_first = running_at_first smallest_caps 9
+abbrev pub smallest_device_at_first : Running
+smallest_device_at_first = running_at_first smallest_caps 9
 
 -- a document on the smallest device, with these steps
 abbrev pub document_of : List ℕ → List ℕ

@@ -1,7 +1,7 @@
 //! What is told of a step that differs.
 
 ghost use Rattle.std.specs.Prelude.{◌≡◌, ◌++◌, OnOk, IfOk, flat_map, string_bytes};
-ghost use Rattle.dsa_conform.specs.Lines.{flag_text, seen_words, seen_line, allowed_line, step_line, difference_text};
+ghost use Rattle.dsa_conform.specs.Lines.{flag_text, seen_words, seen_line, allowed_line, asked_step_line, difference_text};
 ghost use Rattle.dsa_conform.specs.Seen.{seen_as};
 
 use crate::observed::Observed;
@@ -12,7 +12,8 @@ use std::alloc::{AllocError, Global};
 
 // The number of the step, and what was asked.
 fn add_step(text: &mut String, number: usize, entry: &Record) -> Result<(), AllocError>
-    ensures { OnOk result (string_bytes text.new ≡ string_bytes text.old ++ step_line number entry.now) }
+    ensures { OnOk result
+        (string_bytes text.new ≡ string_bytes text.old ++ asked_step_line number entry.now) }
 {
     let mut buffer = Buffer::new();
     text.push_str("step ")?;
@@ -29,7 +30,9 @@ fn flag_text(flag: bool) -> &'static str
 }
 
 fn add_seen_words(text: &mut String, seen: &Observed<'_>) -> Result<(), AllocError>
-    ensures { OnOk result (string_bytes text.new ≡ string_bytes text.old ++ seen_words (seen_as seen.now).answer (seen_as seen.now).zf) }
+    ensures { OnOk result
+        (string_bytes text.new
+        ≡ string_bytes text.old ++ seen_words (seen_as seen.now).answer (seen_as seen.now).zf) }
 {
     match (seen.answer, seen.zf) {
         (Some(answer), Some(flag)) => {
@@ -44,7 +47,8 @@ fn add_seen_words(text: &mut String, seen: &Observed<'_>) -> Result<(), AllocErr
 }
 
 fn add_seen(text: &mut String, seen: &Observed<'_>) -> Result<(), AllocError>
-    ensures { OnOk result (string_bytes text.new ≡ string_bytes text.old ++ seen_line (seen_as seen.now)) }
+    ensures { OnOk result
+        (string_bytes text.new ≡ string_bytes text.old ++ seen_line (seen_as seen.now)) }
 {
     text.push_str("seen: ")?;
     add_seen_words(text, seen)?;
@@ -52,7 +56,8 @@ fn add_seen(text: &mut String, seen: &Observed<'_>) -> Result<(), AllocError>
 }
 
 fn add_allowed(text: &mut String, told: &str, entry: &Record) -> Result<(), AllocError>
-    ensures { OnOk result (string_bytes text.new ≡ string_bytes text.old ++ allowed_line told.now entry.now) }
+    ensures { OnOk result
+        (string_bytes text.new ≡ string_bytes text.old ++ allowed_line told.now entry.now) }
 {
     text.push_str("allowed: ")?;
     add_answer(text, entry)?;
@@ -60,7 +65,9 @@ fn add_allowed(text: &mut String, told: &str, entry: &Record) -> Result<(), Allo
 }
 
 fn add_all(text: &mut String, told: &str, allowed: &[Record]) -> Result<(), AllocError>
-    ensures { OnOk result (string_bytes text.new ≡ string_bytes text.old ++ flat_map (allowed_line told.now) allowed.now) }
+    ensures { OnOk result
+        (string_bytes text.new
+        ≡ string_bytes text.old ++ flat_map (allowed_line told.now) allowed.now) }
 {
     for entry in allowed {
         add_allowed(text, told, entry)?;
@@ -68,7 +75,8 @@ fn add_all(text: &mut String, told: &str, allowed: &[Record]) -> Result<(), Allo
     Ok(())
 }
 
-/// The step of this number, what was seen of it, and the answers that were allowed, with why they come.
+/// The step of this number, what was seen of it, and the answers that were allowed, with why they
+/// come.
 pub fn difference_text(
     alloc: Global,
     number: usize,
@@ -76,7 +84,9 @@ pub fn difference_text(
     told: &str,
     allowed: &[Record],
 ) -> Result<String, AllocError>
-    ensures { IfOk result (λ text. string_bytes text ≡ difference_text number (seen_as seen.now) told.now allowed.now) }
+    ensures { IfOk result
+        (λ text. string_bytes text
+        ≡ difference_text number (seen_as seen.now) told.now allowed.now) }
 {
     let mut text = String::new(alloc);
     if let Some(first) = allowed.first() {

@@ -3,7 +3,7 @@
 ghost use Rattle.std.specs.Prelude.{◌≡◌, ◌==◌, true, false, Some, Ok, IfOk, MatchOption, length};
 ghost use Rattle.dsa_book.specs.declared.event.Event.TheVariants as event;
 ghost use Rattle.dsa_book.specs.Work.{qualifies};
-ghost use Rattle.dsa_scenario.specs.Run.{answered_by, Leads};
+ghost use Rattle.dsa_scenario.specs.Run.{Leads};
 ghost use Rattle.dsa_conform.specs.Seen.{seen_as};
 ghost use Rattle.dsa_conform.specs.Allowed.{HasOneAnswer, IsFollowed, IsNoDispatch, offer};
 
@@ -13,7 +13,7 @@ use crate::shown::is_shown;
 use dsa_book::{Event, Reply, Step};
 use dsa_device::Device;
 use dsa_regs::Fault;
-use dsa_scenario::Record;
+use dsa_scenario::{Record, ask};
 use dsa_store::EntryStore;
 use std::alloc::{AllocError, Global};
 
@@ -22,23 +22,9 @@ use std::alloc::{AllocError, Global};
 pub enum Followed {
     /// The device answered so, and that shows what was seen.
     Shown(Record),
-    /// None of the answers that are allowed shows what was seen: these are all, but for the cell of an entry that comes in.
+    /// None of the answers that are allowed shows what was seen: these are all, but for the cell of
+    /// an entry that comes in.
     Differs(Vec<Record>),
-}
-
-// The device's own answer.
-#[inline(always)]
-fn answer<S: EntryStore>(device: &mut Device<S>, asked: &Result<Event, Fault>) -> Record
-    ensures answers { answered_by result ≡ asked.now }
-    ensures leads { Leads device.old result device.new }
-{
-    match *asked {
-        Ok(event) => {
-            let reply = device.step(event);
-            Record::Stepped(Step { event, reply })
-        }
-        Err(fault) => Record::Refused(fault),
-    }
 }
 
 // A step that has one answer, but for the cell of an entry that comes in.
@@ -49,9 +35,10 @@ fn follow_only<S: EntryStore>(
     seen: &Observed<'_>,
 ) -> Result<Followed, AllocError>
     requires { HasOneAnswer device.old asked.now }
-    ensures { IfOk result (λ followed. IsFollowed device.old asked.now (seen_as seen.now) device.new followed) }
+    ensures { IfOk result
+        (λ followed. IsFollowed device.old asked.now (seen_as seen.now) device.new followed) }
 {
-    let entry = answer(device, asked);
+    let entry = ask(device, asked);
     if is_shown(alloc, seen, &entry)? {
         return Ok(Followed::Shown(entry));
     }
@@ -82,7 +69,9 @@ fn follow_dispatch<S: EntryStore>(
     seen: &Observed<'_>,
 ) -> Result<Followed, AllocError>
     requires { (length device.old.history == device.old.capacity) ≡ false }
-    ensures { IfOk result (λ followed. IsFollowed device.old (Ok (event.Dispatch engine)) (seen_as seen.now) device.new followed) }
+    ensures { IfOk result
+        (λ followed. IsFollowed device.old (Ok (event.Dispatch engine)) (seen_as seen.now)
+        device.new followed) }
 {
     if let Some(queue) = find_shown(alloc, device, engine, seen)? {
         return Ok(Followed::Shown(take(device, engine, queue)));
@@ -101,7 +90,9 @@ fn follow_engine<S: EntryStore>(
     engine: u16,
     seen: &Observed<'_>,
 ) -> Result<Followed, AllocError>
-    ensures { IfOk result (λ followed. IsFollowed device.old (Ok (event.Dispatch engine)) (seen_as seen.now) device.new followed) }
+    ensures { IfOk result
+        (λ followed. IsFollowed device.old (Ok (event.Dispatch engine)) (seen_as seen.now)
+        device.new followed) }
 {
     if device.is_full() {
         return follow_only(alloc, device, &Ok(Event::Dispatch { engine }), seen);
@@ -111,7 +102,8 @@ fn follow_engine<S: EntryStore>(
 
 // The engine that is asked to take an entry.
 fn asked_engine(asked: &Result<Event, Fault>) -> Option<u16>
-    ensures { MatchOption result (IsNoDispatch asked.now) (λ engine. asked.now ≡ Ok (event.Dispatch engine)) }
+    ensures { MatchOption result (IsNoDispatch asked.now)
+        (λ engine. asked.now ≡ Ok (event.Dispatch engine)) }
 {
     match *asked {
         Ok(Event::Dispatch { engine }) => Some(engine),
@@ -119,14 +111,16 @@ fn asked_engine(asked: &Result<Event, Fault>) -> Option<u16>
     }
 }
 
-/// Goes on by an answer that is allowed and shows what was seen, or tells all that are allowed where none does.
+/// Goes on by an answer that is allowed and shows what was seen, or tells all that are allowed
+/// where none does.
 pub fn follow<S: EntryStore>(
     alloc: Global,
     device: &mut Device<S>,
     asked: &Result<Event, Fault>,
     seen: &Observed<'_>,
 ) -> Result<Followed, AllocError>
-    ensures { IfOk result (λ followed. IsFollowed device.old asked.now (seen_as seen.now) device.new followed) }
+    ensures { IfOk result
+        (λ followed. IsFollowed device.old asked.now (seen_as seen.now) device.new followed) }
 {
     let Some(engine) = asked_engine(asked) else {
         return follow_only(alloc, device, asked, seen);

@@ -1,7 +1,9 @@
-//! Whether a document's steps may be answered as another device, driver or simulator was seen to answer them.
+//! Whether a document's steps may be answered as another device, driver or simulator was seen to
+//! answer them.
 //!
-//! [`Conformance`] makes the text of a document. A device goes on where an answer that is allowed shows what was seen; at the
-//! first step where none does, the text tells the step, what was seen, and each answer that was allowed, with its reason.
+//! [`Conformance`] makes the text of a document. A device goes on where an answer that is allowed
+//! shows what was seen; at the first step where none does, the text tells the step, what was seen,
+//! and each answer that was allowed, with its reason.
 #![tactic(auto)]
 
 mod difference;

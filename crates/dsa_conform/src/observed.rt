@@ -10,7 +10,8 @@ ghost use Rattle.dsa_conform.specs.Run.{AreRead, IsUnreadAt};
 use dsa_scenario::{Action, parse_action};
 use serde_json::Value;
 
-/// What was seen of a step: the text of its answer and the zero flag after it, as far as a document says so.
+/// What was seen of a step: the text of its answer and the zero flag after it, as far as a document
+/// says so.
 #[derive(Clone, Copy, Debug, PartialEq, Eq)]
 pub struct Observed<'v> {
     pub answer: Option<&'v str>,
@@ -28,7 +29,8 @@ impl Observed<'_> {
 
 // The text at the key, where something stands there.
 fn text_at<'v>(object: &'v Value, key: &str) -> Option<Option<&'v str>>
-    ensures { option_map (λ found. option_map (λ text. text.now) found) result ≡ perhaps as_str (get key.now (view object.now)) }
+    ensures { option_map (λ found. option_map (λ text. text.now) found) result
+        ≡ perhaps as_str (get key.now (view object.now)) }
 {
     match object.get(key) {
         None => Some(None),
@@ -46,7 +48,8 @@ fn truth_at(object: &Value, key: &str) -> Option<Option<bool>>
     }
 }
 
-/// What a step object says was seen: a text at `answer` and a truth value at `zf`, where these keys stand there.
+/// What a step object says was seen: a text at `answer` and a truth value at `zf`, where these keys
+/// stand there.
 pub fn parse_observed(step: &Value) -> Option<Observed<'_>>
     ensures { option_map seen_as result ≡ seen_of (view step.now) }
 {
@@ -66,7 +69,9 @@ pub fn parse_step(step: &Value) -> Option<(Action, Observed<'_>)>
 
 /// The first item that is no step object with what was seen, by its number.
 pub fn first_unread(steps: &[Value]) -> Option<usize>
-    ensures { MatchOption result ((observed : List (Action × Seen)) × AreRead (map view steps.now) observed) (λ i. IsUnreadAt (map view steps.now) i) }
+    ensures { MatchOption result
+        ((observed : List (Action × Seen)) × AreRead (map view steps.now) observed)
+        (λ i. IsUnreadAt (map view steps.now) i) }
 {
     for (i, step) in steps.iter().enumerate() {
         if parse_step(step).is_none() {

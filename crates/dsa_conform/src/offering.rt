@@ -31,7 +31,9 @@ fn add_offer<S: EntryStore>(
     engine: u16,
     queue: u16,
 ) -> Result<(), AllocError>
-    ensures { OnOk result (found.new.items ≡ found.old.items ++ filter_map (offer device.now.state.work engine) (queue ∷ [])) }
+    ensures { OnOk result
+        (found.new.items
+        ≡ found.old.items ++ filter_map (offer device.now.state.work engine) (queue ∷ [])) }
 {
     if let Some(entry) = offer(device, engine, queue) {
         found.push(entry)?;
@@ -62,12 +64,18 @@ pub fn find_shown<S: EntryStore>(
     engine: u16,
     seen: &Observed<'_>,
 ) -> Result<Option<u16>, AllocError>
-    ensures { IfOk result (λ first. MatchOption first
-        ((q : ℕ) → (entry : Record) → q < device.now.state.work.setup.caps.queues
-        → offer device.now.state.work engine q ≡ Some entry → shows (seen_as seen.now) entry ≡ false)
-        (λ q. (entry : Record) × (offer device.now.state.work engine q ≡ Some entry)
+    ensures { IfOk result
+        (λ first. MatchOption first
+        ((q : ℕ)
+        → (entry : Record) → q < device.now.state.work.setup.caps.queues
+        → offer device.now.state.work engine q ≡ Some entry
+        → shows (seen_as seen.now) entry ≡ false)
+        (λ q. (entry : Record)
+        × (offer device.now.state.work engine q ≡ Some entry)
         × (shows (seen_as seen.now) entry ≡ true)
-        × ((p : ℕ) → (other : Record) → p < q → offer device.now.state.work engine p ≡ Some other
+        × ((p : ℕ)
+        → (other : Record) → p < q
+        → offer device.now.state.work engine p ≡ Some other
         → shows (seen_as seen.now) other ≡ false))) }
 {
     device.state_is_replay();

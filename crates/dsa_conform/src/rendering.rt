@@ -24,8 +24,9 @@ impl Render for Conformance {
 
 /// Whether the steps of the document in these bytes may be answered as was seen.
 ///
-/// The first object that is no step object with what was seen is told in any case. No step is run before all objects are
-/// read, and of the other faults only those of what is no document come before.
+/// The first object that is no step object with what was seen is told in any case. No step is run
+/// before all objects are read, and of the other faults only those of what is no document come
+/// before.
 pub fn render_conformance(alloc: Global, bytes: &[u8]) -> Result<Rendering, ScenarioFault>
     ensures ok { IfOk result (λ r. IsConformance bytes.now r.fault (string_bytes r.text)) }
     ensures err { IfErr result (λ e. (e ≡ ScenarioFault.OutOfMemory) ⊎ IsOtherFault bytes.now e) }

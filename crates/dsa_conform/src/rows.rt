@@ -19,62 +19,87 @@ ghost use Rattle.dsa_device.specs.Running.{running_at_first};
 ghost use Rattle.dsa_scenario.specs.declared.actions.Action.TheVariants.{Ask, Finish, Refuse};
 ghost use Rattle.dsa_scenario.specs.declared.faults.ScenarioFault.TheVariants.{NotJson, BadStep, BadCaps, Differs};
 ghost use Rattle.dsa_scenario.specs.declared.run.Record.{Record, TheVariants.{Refused}};
-ghost use Rattle.dsa_scenario.specs.Worked.{whole, object_of, changed, command_step, poll_step, ticket, stepped, fill, smallest_caps, smallest_caps_text, no_caps_text, document_text, caps_of_a_run, group_of_a_run, records_of_a_run};
+ghost use Rattle.dsa_scenario.specs.Worked.{whole, object_of, changed, command_step, poll_step, record_ticket, stepped, fill, smallest_caps, smallest_caps_text, no_caps_text, document_text, caps_of_a_run, group_of_a_run, records_of_a_run};
 ghost use Rattle.dsa_conform.specs.declared.following.Followed.TheVariants as followed;
 ghost use Rattle.dsa_conform.specs.declared.following.Followed.TheVariants.{Shown};
 ghost use Rattle.dsa_conform.specs.Seen.{seen_of, observation_of, seen_as, shows, zf_of, is_seen, AreShown};
 ghost use Rattle.dsa_conform.specs.Allowed.{IsAllowed, AreAllowed, IsAscending, NoneShows, AreSeenAlike, HasOneAnswer, IsNoDispatch, IsFollowed, offers, queue_taken};
 ghost use Rattle.dsa_conform.specs.Lines.{conforms_text, seen_count, seen_line, difference_text, difference_of, records_of};
 ghost use Rattle.dsa_conform.specs.Run.{IsShownRun, IsRefusal, IsDifference, AreRead, IsUnreadAt, IsConforming, IsDiffering, IsConformance, IsOtherFault};
-ghost use Rattle.dsa_conform.specs.Worked.{answered, flagged, answered_with, nothing_seen, by_enqcmd, by_movdir, observed_of_a_run, taken, idle_words, from_first, from_second, from_third, after_some, after_all, at_first, document_of, poll_with};
+ghost use Rattle.dsa_conform.specs.Worked.{answered, flagged, answered_with, nothing_seen, by_enqcmd, by_movdir, observed_of_a_run, record_of_a_take, idle_words, from_first, from_second, from_third, after_some, after_all, smallest_device_at_first, document_of, poll_with};
 
 /// What a step object says was seen.
 pub fn observations()
     ensures nothing { seen_of (object_of poll_step) ≡ Some nothing_seen }
-    ensures answer { seen_of (object_of ((codes "answer", string (codes "nothing")) ∷ poll_step)) ≡ Some (answered (codes "nothing")) }
-    ensures flag { seen_of (object_of ((codes "zf", boolean true) ∷ poll_step)) ≡ Some (flagged true) }
+    ensures answer { seen_of (object_of ((codes "answer", string (codes "nothing")) ∷ poll_step))
+        ≡ Some (answered (codes "nothing")) }
+    ensures flag { seen_of (object_of ((codes "zf", boolean true) ∷ poll_step))
+        ≡ Some (flagged true) }
     ensures number { seen_of (object_of ((codes "answer", whole 1) ∷ poll_step)) ≡ None }
     ensures no_null { seen_of (object_of ((codes "answer", null) ∷ poll_step)) ≡ None }
     ensures no_flag { seen_of (object_of ((codes "zf", string (codes "true")) ∷ poll_step)) ≡ None }
-    ensures both { seen_of (object_of ((codes "answer", string (codes "full")) ∷ (codes "zf", boolean false) ∷ poll_step)) ≡ Some (answered_with (codes "full") false) }
-    ensures step { observation_of (object_of ((codes "zf", boolean false) ∷ poll_step)) ≡ Some (Ask event.Poll, flagged false) }
+    ensures both { seen_of (object_of
+        ((codes "answer", string (codes "full")) ∷ (codes "zf", boolean false) ∷ poll_step))
+        ≡ Some (answered_with (codes "full") false) }
+    ensures step { observation_of (object_of ((codes "zf", boolean false) ∷ poll_step))
+        ≡ Some (Ask event.Poll, flagged false) }
     ensures no_step { observation_of (object_of ((codes "zf", boolean false) ∷ [])) ≡ None }
     ensures unread { observation_of (object_of ((codes "zf", null) ∷ poll_step)) ≡ None }
 {}
 
 /// What a value of the program says was seen.
 pub fn values()
-    ensures text { seen_as (record { answer = Some (record { ref_ptr = (0, 0); now = codes "full" }); zf = None }) ≡ answered (codes "full") }
+    ensures text { seen_as
+        (record { answer = Some (record { ref_ptr = (0, 0); now = codes "full" }); zf = None })
+        ≡ answered (codes "full") }
     ensures nothing { seen_as (record { answer = None; zf = None }) ≡ nothing_seen }
     ensures flag { seen_as (record { answer = None; zf = Some false }) ≡ flagged false }
 {}
 
 /// Steps of which nothing was seen are not counted.
 pub fn counts()
-    ensures seen { map is_seen (nothing_seen ∷ answered [] ∷ flagged false ∷ answered_with [] true ∷ []) ≡ false ∷ replicate 3 true }
+    ensures seen { map is_seen
+        (nothing_seen ∷ answered [] ∷ flagged false ∷ answered_with [] true ∷ [])
+        ≡ false ∷ replicate 3 true }
     ensures of_a_run { seen_count observed_of_a_run ≡ 7 }
 {}
 
 /// Lines, with and without names.
 #[tactic(auto, unfolding(dsa_scenario::specs::Worked::digits_on_literals))]
 pub fn lines()
-    ensures accepted { shows (answered (codes "accepted 12")) (by_enqcmd (Accepted (ticket 3 12))) ≡ true }
-    ensures nameless { shows (answered (codes "accepted")) (by_enqcmd (Accepted (ticket 3 12))) ≡ true }
-    ensures other_name { shows (answered (codes "accepted 13")) (by_enqcmd (Accepted (ticket 3 12))) ≡ false }
-    ensures more { shows (answered (codes "accepted 12 ")) (by_enqcmd (Accepted (ticket 3 12))) ≡ false }
-    ensures other_kind { shows (answered (codes "retry at-limit")) (by_enqcmd (Accepted (ticket 3 12))) ≡ false }
+    ensures accepted { shows (answered (codes "accepted 12"))
+        (by_enqcmd (Accepted (record_ticket 3 12)))
+        ≡ true }
+    ensures nameless { shows (answered (codes "accepted"))
+        (by_enqcmd (Accepted (record_ticket 3 12)))
+        ≡ true }
+    ensures other_name { shows (answered (codes "accepted 13"))
+        (by_enqcmd (Accepted (record_ticket 3 12)))
+        ≡ false }
+    ensures more { shows (answered (codes "accepted 12 "))
+        (by_enqcmd (Accepted (record_ticket 3 12)))
+        ≡ false }
+    ensures other_kind { shows (answered (codes "retry at-limit"))
+        (by_enqcmd (Accepted (record_ticket 3 12)))
+        ≡ false }
     ensures half { shows (answered (codes "retry")) (by_enqcmd (Retry AtLimit)) ≡ false }
-    ensures taken { shows (answered (codes "taken 7 from 1")) (taken 7 1) ≡ true }
-    ensures taken_nameless { shows (answered (codes "taken from 1")) (taken 7 1) ≡ true }
-    ensures other_queue { shows (answered (codes "taken from 0")) (taken 7 1) ≡ false }
-    ensures no_queue { shows (answered (codes "taken 7")) (taken 7 1) ≡ false }
-    ensures fetched { shows (answered (codes "fetched")) (stepped (event.Fetch 0 fill) (reply.Fetch (Fetched (ticket 1 2)))) ≡ true }
-    ensures started { shows (answered (codes "started")) (stepped (event.Start 0) (reply.Start (Started (ticket 1 2)))) ≡ true }
+    ensures taken { shows (answered (codes "taken 7 from 1")) (record_of_a_take 7 1) ≡ true }
+    ensures taken_nameless { shows (answered (codes "taken from 1")) (record_of_a_take 7 1) ≡ true }
+    ensures other_queue { shows (answered (codes "taken from 0")) (record_of_a_take 7 1) ≡ false }
+    ensures no_queue { shows (answered (codes "taken 7")) (record_of_a_take 7 1) ≡ false }
+    ensures fetched { shows (answered (codes "fetched"))
+        (stepped (event.Fetch 0 fill) (reply.Fetch (Fetched (record_ticket 1 2))))
+        ≡ true }
+    ensures started { shows (answered (codes "started"))
+        (stepped (event.Start 0) (reply.Start (Started (record_ticket 1 2))))
+        ≡ true }
     ensures refused { shows (answered (codes "refused 13 BadCommand")) (Refused BadCommand) ≡ true }
     ensures other_fault { shows (answered (codes "refused 13 BadCommand")) (Refused Busy) ≡ false }
-    ensures anything { shows nothing_seen (taken 7 1) ≡ true }
-    ensures taken_alone { shows (answered (codes "taken")) (taken 7 1) ≡ false }
-    ensures other_fetched { shows (answered (codes "fetched 3")) (stepped (event.Fetch 0 fill) (reply.Fetch (Fetched (ticket 1 2)))) ≡ false }
+    ensures anything { shows nothing_seen (record_of_a_take 7 1) ≡ true }
+    ensures taken_alone { shows (answered (codes "taken")) (record_of_a_take 7 1) ≡ false }
+    ensures other_fetched { shows (answered (codes "fetched 3"))
+        (stepped (event.Fetch 0 fill) (reply.Fetch (Fetched (record_ticket 1 2))))
+        ≡ false }
     ensures no_fault { shows (answered (codes "refused")) (Refused BadCommand) ≡ false }
     ensures empty { shows (answered []) (by_enqcmd Full) ≡ false }
 {}
@@ -82,17 +107,30 @@ pub fn lines()
 /// Zero flags: of ENQCMD both, of MOVDIR64B none.
 #[tactic(auto, unfolding(dsa_scenario::specs::Worked::digits_on_literals))]
 pub fn flags()
-    ensures accepted { shows (flagged false) (by_enqcmd (Accepted (ticket 3 12))) ≡ true }
+    ensures accepted { shows (flagged false) (by_enqcmd (Accepted (record_ticket 3 12))) ≡ true }
     ensures retry { shows (flagged true) (by_enqcmd (Retry AtLimit)) ≡ true }
-    ensures not_accepted { shows (flagged true) (by_enqcmd (Accepted (ticket 3 12))) ≡ false }
+    ensures not_accepted { shows (flagged true) (by_enqcmd (Accepted (record_ticket 3 12)))
+        ≡ false }
     ensures not_retry { shows (flagged false) (by_enqcmd (Retry AtLimit)) ≡ false }
-    ensures posted { shows (flagged false) (by_movdir (Accepted (ticket 3 12))) ≡ false }
+    ensures posted { shows (flagged false) (by_movdir (Accepted (record_ticket 3 12))) ≡ false }
     ensures full { shows (flagged true) (by_enqcmd Full) ≡ false }
-    ensures no_submission { shows (flagged true) (taken 7 1) ≡ false }
-    ensures unreported { map zf_of (taken 7 1 ∷ Refused BadCommand ∷ by_enqcmd Full ∷ by_movdir (Accepted (ticket 3 12)) ∷ []) ≡ replicate 4 None }
-    ensures with_its_line { shows (answered_with (codes "accepted") false) (by_enqcmd (Accepted (ticket 3 12))) ≡ true }
-    ensures with_another_line { shows (answered_with (codes "retry at-limit") false) (by_enqcmd (Accepted (ticket 3 12))) ≡ false }
-    ensures line_with_another { shows (answered_with (codes "accepted") true) (by_enqcmd (Accepted (ticket 3 12))) ≡ false }
+    ensures no_submission { shows (flagged true) (record_of_a_take 7 1) ≡ false }
+    ensures unreported { map zf_of
+        (record_of_a_take 7 1
+        ∷ Refused BadCommand
+        ∷ by_enqcmd Full
+        ∷ by_movdir (Accepted (record_ticket 3 12))
+        ∷ [])
+        ≡ replicate 4 None }
+    ensures with_its_line { shows (answered_with (codes "accepted") false)
+        (by_enqcmd (Accepted (record_ticket 3 12)))
+        ≡ true }
+    ensures with_another_line { shows (answered_with (codes "retry at-limit") false)
+        (by_enqcmd (Accepted (record_ticket 3 12)))
+        ≡ false }
+    ensures line_with_another { shows (answered_with (codes "accepted") true)
+        (by_enqcmd (Accepted (record_ticket 3 12)))
+        ≡ false }
 {}
 
 /// An engine may take the front of each queue that qualifies, in ascending order.
@@ -100,58 +138,84 @@ pub fn offered()
     ensures both { offers after_all.state.work 0 ≡ from_first ∷ from_second ∷ [] }
     ensures one { offers (after_some 7).state.work 0 ≡ from_first ∷ [] }
     ensures none { offers (after_some 6).state.work 0 ≡ [] }
-    ensures second_engine { offers after_all.state.work 1 ≡ stepped (event.Dispatch 1) (reply.Dispatch (Taken (ticket 3 0) 0)) ∷ stepped (event.Dispatch 1) (reply.Dispatch (Taken (ticket 5 1) 2)) ∷ [] }
+    ensures second_engine { offers after_all.state.work 1
+        ≡ stepped (event.Dispatch 1) (reply.Dispatch (Taken (record_ticket 3 0) 0))
+        ∷ stepped (event.Dispatch 1) (reply.Dispatch (Taken (record_ticket 5 1) 2))
+        ∷ [] }
     ensures no_engine { offers after_all.state.work 2 ≡ [] }
-    ensures queues { map queue_taken (from_second ∷ Refused BadCommand ∷ by_enqcmd Full ∷ []) ≡ 2 ∷ 0 ∷ 0 ∷ [] }
+    ensures queues { map queue_taken (from_second ∷ Refused BadCommand ∷ by_enqcmd Full ∷ [])
+        ≡ 2 ∷ 0 ∷ 0 ∷ [] }
 {}
 
 /// Taken entries are told in the order of their queues, each once.
 pub fn ascending()
     ensures one { IsAscending (by_enqcmd Full ∷ []) }
-    ensures twice { ¬ IsAscending (taken 0 1 ∷ taken 1 1 ∷ []) }
-    ensures last { ¬ IsAscending (taken 0 0 ∷ taken 1 2 ∷ taken 2 1 ∷ []) }
+    ensures twice { ¬ IsAscending (record_of_a_take 0 1 ∷ record_of_a_take 1 1 ∷ []) }
+    ensures last { ¬ IsAscending
+        (record_of_a_take 0 0 ∷ record_of_a_take 1 2 ∷ record_of_a_take 2 1 ∷ []) }
 {}
 
 /// Which answers nothing that is seen tells apart, and where more than one of them may come.
 #[tactic(auto, unfolding(dsa_scenario::specs::Worked::digits_on_literals))]
 pub fn alike()
-    ensures cells { AreSeenAlike (by_enqcmd (Accepted (ticket 3 12))) (by_enqcmd (Accepted (ticket 9 12))) }
+    ensures cells { AreSeenAlike (by_enqcmd (Accepted (record_ticket 3 12)))
+        (by_enqcmd (Accepted (record_ticket 9 12))) }
     ensures queues { ¬ AreSeenAlike from_first from_second }
-    ensures flags { ¬ AreSeenAlike (by_enqcmd (Accepted (ticket 3 12))) (by_movdir (Accepted (ticket 3 12))) }
+    ensures flags { ¬ AreSeenAlike (by_enqcmd (Accepted (record_ticket 3 12)))
+        (by_movdir (Accepted (record_ticket 3 12))) }
     ensures either { ¬ HasOneAnswer after_all (Ok (event.Dispatch 0)) }
     ensures poll { IsNoDispatch (Ok event.Poll) }
     ensures word { IsNoDispatch (Err BadCommand) }
     ensures dispatch { ¬ IsNoDispatch (Ok (event.Dispatch 1)) }
 {}
 
-/// What may be answered where an engine may take from either of two queues, and which lists tell all of it.
+/// What may be answered where an engine may take from either of two queues, and which lists tell
+/// all of it.
 #[tactic(auto, unfolding(dsa_scenario::specs::Worked::digits_on_literals))]
 pub fn allowed()
     ensures first { IsAllowed after_all (Ok (event.Dispatch 0)) from_first }
     ensures second { IsAllowed after_all (Ok (event.Dispatch 0)) from_second }
-    ensures idle { ¬ IsAllowed after_all (Ok (event.Dispatch 0)) (stepped (event.Dispatch 0) (reply.Dispatch Idle)) }
-    ensures other_event { ¬ IsAllowed after_all (Ok (event.Dispatch 0)) (stepped event.Poll (reply.Poll Nothing)) }
-    ensures word { IsAllowed at_first (Err BadCommand) (Refused BadCommand) }
-    ensures other_word { ¬ IsAllowed at_first (Err BadCommand) (Refused Busy) }
+    ensures idle { ¬ IsAllowed after_all (Ok (event.Dispatch 0))
+        (stepped (event.Dispatch 0) (reply.Dispatch Idle)) }
+    ensures other_event { ¬ IsAllowed after_all (Ok (event.Dispatch 0))
+        (stepped event.Poll (reply.Poll Nothing)) }
+    ensures word { IsAllowed smallest_device_at_first (Err BadCommand) (Refused BadCommand) }
+    ensures other_word { ¬ IsAllowed smallest_device_at_first (Err BadCommand) (Refused Busy) }
     ensures all { AreAllowed after_all (Ok (event.Dispatch 0)) (from_first ∷ from_second ∷ []) }
     ensures neither { NoneShows after_all (Ok (event.Dispatch 0)) (answered (codes "idle")) }
     ensures left_out { ¬ AreAllowed after_all (Ok (event.Dispatch 0)) (from_first ∷ []) }
     ensures order { ¬ AreAllowed after_all (Ok (event.Dispatch 0)) (from_second ∷ from_first ∷ []) }
-    ensures not_there { ¬ AreAllowed after_all (Ok (event.Dispatch 0)) (from_first ∷ from_second ∷ from_third ∷ []) }
-    ensures shown { ¬ NoneShows after_all (Ok (event.Dispatch 0)) (answered (codes "taken from 2")) }
+    ensures not_there { ¬ AreAllowed after_all (Ok (event.Dispatch 0))
+        (from_first ∷ from_second ∷ from_third ∷ []) }
+    ensures shown { ¬ NoneShows after_all (Ok (event.Dispatch 0))
+        (answered (codes "taken from 2")) }
 {}
 
 /// A device goes on by an answer to what was asked that shows what was seen.
 #[tactic(auto, unfolding(dsa_scenario::specs::Worked::digits_on_literals))]
 pub fn followed()
-    ensures step { IsFollowed at_first (Ok event.Poll) (answered (codes "nothing")) at_first (Shown (stepped event.Poll (reply.Poll Nothing))) }
-    ensures refused { IsFollowed at_first (Err BadCommand) (answered (codes "refused 13 BadCommand")) at_first (Shown (Refused BadCommand)) }
-    ensures not_seen { ¬ IsFollowed at_first (Err BadCommand) (answered (codes "nothing")) at_first (Shown (Refused BadCommand)) }
-    ensures not_asked { ¬ IsFollowed at_first (Ok event.Poll) (answered (codes "refused 13 BadCommand")) at_first (Shown (Refused BadCommand)) }
-    ensures not_allowed { ¬ IsFollowed at_first (Ok event.Poll) (answered (codes "active")) at_first (Shown (stepped event.Poll (reply.Poll Active))) }
-    ensures shown { (v : Vec Record Global) → ¬ IsFollowed at_first (Ok event.Poll) (answered (codes "nothing")) at_first (followed.Differs v) }
-    ensures untold { (v : Vec Record Global) → v.items ≡ [] → ¬ IsFollowed at_first (Ok event.Poll) (answered (codes "active")) at_first (followed.Differs v) }
-    ensures another_state { ¬ IsFollowed at_first (Err BadCommand) nothing_seen (running_at_first smallest_caps 8) (Shown (Refused BadCommand)) }
+    ensures step { IsFollowed smallest_device_at_first (Ok event.Poll) (answered (codes "nothing"))
+        smallest_device_at_first (Shown (stepped event.Poll (reply.Poll Nothing))) }
+    ensures refused { IsFollowed smallest_device_at_first (Err BadCommand)
+        (answered (codes "refused 13 BadCommand")) smallest_device_at_first
+        (Shown (Refused BadCommand)) }
+    ensures not_seen { ¬ IsFollowed smallest_device_at_first (Err BadCommand)
+        (answered (codes "nothing")) smallest_device_at_first (Shown (Refused BadCommand)) }
+    ensures not_asked { ¬ IsFollowed smallest_device_at_first (Ok event.Poll)
+        (answered (codes "refused 13 BadCommand")) smallest_device_at_first
+        (Shown (Refused BadCommand)) }
+    ensures not_allowed { ¬ IsFollowed smallest_device_at_first (Ok event.Poll)
+        (answered (codes "active")) smallest_device_at_first
+        (Shown (stepped event.Poll (reply.Poll Active))) }
+    ensures shown { (v : Vec Record Global)
+        → ¬ IsFollowed smallest_device_at_first (Ok event.Poll) (answered (codes "nothing"))
+        smallest_device_at_first (followed.Differs v) }
+    ensures untold { (v : Vec Record Global)
+        → v.items ≡ []
+        → ¬ IsFollowed smallest_device_at_first (Ok event.Poll) (answered (codes "active"))
+        smallest_device_at_first (followed.Differs v) }
+    ensures another_state { ¬ IsFollowed smallest_device_at_first (Err BadCommand) nothing_seen
+        (running_at_first smallest_caps 8) (Shown (Refused BadCommand)) }
 {}
 
 /// A run from set-up to its end conforms. No other answers do, nor more or fewer than were seen.
@@ -160,10 +224,15 @@ pub fn a_run()
     ensures conforms { IsShownRun caps_of_a_run 7 observed_of_a_run records_of_a_run }
     ensures fewer { ¬ AreShown (nothing_seen ∷ []) [] }
     ensures more { ¬ AreShown [] (Refused BadCommand ∷ []) }
-    ensures second_not_shown { ¬ AreShown (nothing_seen ∷ answered (codes "idle") ∷ []) (Refused BadCommand ∷ Refused BadCommand ∷ []) }
-    ensures not_shown { ¬ IsShownRun smallest_caps 9 ((Refuse BadCommand, answered (codes "nothing")) ∷ []) (Refused BadCommand ∷ []) }
-    ensures not_asked { ¬ IsShownRun smallest_caps 9 ((Ask event.Poll, nothing_seen) ∷ []) (Refused BadCommand ∷ []) }
-    ensures not_allowed { ¬ IsShownRun smallest_caps 9 ((Ask event.Poll, answered (codes "active")) ∷ []) (stepped event.Poll (reply.Poll Active) ∷ []) }
+    ensures second_not_shown { ¬ AreShown (nothing_seen ∷ answered (codes "idle") ∷ [])
+        (Refused BadCommand ∷ Refused BadCommand ∷ []) }
+    ensures not_shown { ¬ IsShownRun smallest_caps 9
+        ((Refuse BadCommand, answered (codes "nothing")) ∷ []) (Refused BadCommand ∷ []) }
+    ensures not_asked { ¬ IsShownRun smallest_caps 9 ((Ask event.Poll, nothing_seen) ∷ [])
+        (Refused BadCommand ∷ []) }
+    ensures not_allowed { ¬ IsShownRun smallest_caps 9
+        ((Ask event.Poll, answered (codes "active")) ∷ [])
+        (stepped event.Poll (reply.Poll Active) ∷ []) }
 {}
 
 /// What is told.
@@ -171,70 +240,128 @@ pub fn a_run()
 pub fn texts()
     ensures conforms { conforms_text 9 4 ≡ codes "conforms: 9 steps, 4 answers seen\n" }
     ensures one { conforms_text 1 1 ≡ codes "conforms: 1 step, 1 answer seen\n" }
-    ensures idle { difference_text 17 (answered (codes "idle")) idle_words (taken 7 0 ∷ taken 9 2 ∷ []) ≡ codes "step 17: dispatch e0\nseen: idle\nallowed: taken 7 from 0\nallowed: taken 9 from 2\n" }
-    ensures poll { difference_text 3 (answered (codes "active")) (codes ": no command is active") (stepped event.Poll (reply.Poll Nothing) ∷ []) ≡ codes "step 3: poll\nseen: active\nallowed: nothing: no command is active\n" }
-    ensures both { seen_line (answered_with (codes "accepted 3") false) ≡ codes "seen: accepted 3, zf false\n" }
+    ensures idle { difference_text 17 (answered (codes "idle")) idle_words
+        (record_of_a_take 7 0 ∷ record_of_a_take 9 2 ∷ [])
+        ≡ codes
+        "step 17: dispatch e0\nseen: idle\nallowed: taken 7 from 0\nallowed: taken 9 from 2\n" }
+    ensures poll { difference_text 3 (answered (codes "active")) (codes ": no command is active")
+        (stepped event.Poll (reply.Poll Nothing) ∷ [])
+        ≡ codes "step 3: poll\nseen: active\nallowed: nothing: no command is active\n" }
+    ensures both { seen_line (answered_with (codes "accepted 3") false)
+        ≡ codes "seen: accepted 3, zf false\n" }
     ensures nothing { seen_line nothing_seen ≡ codes "seen: \n" }
     ensures none { difference_text 3 (answered (codes "active")) [] [] ≡ [] }
-    ensures goes_on { difference_of 3 nothing_seen [] (Shown (taken 7 0)) ≡ None }
-    ensures record { records_of (Shown (taken 7 0)) ≡ taken 7 0 ∷ [] }
-    ensures differs { (v : Vec Record Global) → v.items ≡ taken 7 0 ∷ [] → difference_of 3 (answered (codes "idle")) [] (followed.Differs v) ≡ Some (codes "step 3: dispatch e0\nseen: idle\nallowed: taken 7 from 0\n") }
+    ensures goes_on { difference_of 3 nothing_seen [] (Shown (record_of_a_take 7 0)) ≡ None }
+    ensures record { records_of (Shown (record_of_a_take 7 0)) ≡ record_of_a_take 7 0 ∷ [] }
+    ensures differs { (v : Vec Record Global)
+        → v.items ≡ record_of_a_take 7 0 ∷ []
+        → difference_of 3 (answered (codes "idle")) [] (followed.Differs v)
+        ≡ Some (codes "step 3: dispatch e0\nseen: idle\nallowed: taken 7 from 0\n") }
     ensures no_record { (v : Vec Record Global) → records_of (followed.Differs v) ≡ [] }
-    ensures flag { difference_text 0 (flagged true) [] (Refused BadCommand ∷ []) ≡ codes "step 0: command\nseen: zf true\nallowed: refused 13 BadCommand\n" }
+    ensures flag { difference_text 0 (flagged true) [] (Refused BadCommand ∷ [])
+        ≡ codes "step 0: command\nseen: zf true\nallowed: refused 13 BadCommand\n" }
 {}
 
 /// The first object that is no step object with what was seen.
 pub fn objects()
-    ensures read { AreRead (object_of ((codes "zf", boolean true) ∷ poll_step) ∷ []) ((Ask event.Poll, flagged true) ∷ []) }
-    ensures not_read { ¬ AreRead (object_of ((codes "zf", null) ∷ poll_step) ∷ []) ((Ask event.Poll, nothing_seen) ∷ []) }
-    ensures last_not_read { ¬ AreRead (object_of poll_step ∷ null ∷ []) ((Ask event.Poll, nothing_seen) ∷ []) }
+    ensures read { AreRead (object_of ((codes "zf", boolean true) ∷ poll_step) ∷ [])
+        ((Ask event.Poll, flagged true) ∷ []) }
+    ensures not_read { ¬ AreRead (object_of ((codes "zf", null) ∷ poll_step) ∷ [])
+        ((Ask event.Poll, nothing_seen) ∷ []) }
+    ensures last_not_read { ¬ AreRead (object_of poll_step ∷ null ∷ [])
+        ((Ask event.Poll, nothing_seen) ∷ []) }
     ensures first { IsUnreadAt (object_of poll_step ∷ null ∷ null ∷ []) 1 }
     ensures before { ¬ IsUnreadAt (object_of poll_step ∷ null ∷ null ∷ []) 0 }
     ensures behind { ¬ IsUnreadAt (object_of poll_step ∷ null ∷ null ∷ []) 2 }
     ensures past_the_end { ¬ IsUnreadAt (object_of poll_step ∷ []) 1 }
 {}
 
-/// A difference is told of a step that differs alone, with all that is allowed where the steps before have led to. Steps
-/// conform only where each is read and its answer shows what was seen, and all are counted.
+/// A difference is told of a step that differs alone, with all that is allowed where the steps
+/// before have led to. Steps conform only where each is read and its answer shows what was seen,
+/// and all are counted.
 #[tactic(auto, unfolding(dsa_scenario::specs::Worked::digits_on_literals))]
 pub fn verdicts()
-    ensures after_one { IsDifference smallest_caps 1 ((Ask (event.WriteGroup 0 group_of_a_run), nothing_seen) ∷ []) (Ask event.Poll, answered (codes "nothing")) 1 (codes "step 1: poll\nseen: nothing\nallowed: full: the history has room for 1 step\n") }
-    ensures after_seven { IsDifference caps_of_a_run 7 (take 7 observed_of_a_run) (Finish 0 0 Success, answered (codes "idle")) 7 (codes "step 7: finish e0 name 0 success\nseen: idle\nallowed: done 01\n") }
-    ensures second { IsDiffering smallest_caps 9 (changed (codes "word") (whole 0) command_step ∷ object_of ((codes "answer", string (codes "active")) ∷ poll_step) ∷ []) 1 (codes "step 1: poll\nseen: active\nallowed: nothing: no command is active\n") }
-    ensures shown { ¬ IsRefusal at_first 0 (Ok event.Poll) (answered (codes "nothing")) (codes "step 0: poll\nseen: nothing\nallowed: nothing: no command is active\n") }
-    ensures untold { ¬ IsRefusal at_first 0 (Ok event.Poll) (answered (codes "active")) [] }
-    ensures earlier { ¬ IsDifference smallest_caps 9 ((Refuse BadCommand, answered (codes "nothing")) ∷ []) (Ask event.Poll, answered (codes "active")) 1 (codes "step 1: poll\nseen: active\nallowed: nothing: no command is active\n") }
-    ensures other_step { ¬ IsDiffering smallest_caps 9 (object_of poll_step ∷ []) 0 (codes "step 0: poll\nseen: active\nallowed: nothing: no command is active\n") }
-    ensures unread_behind { ¬ IsDiffering smallest_caps 9 (object_of ((codes "answer", string (codes "active")) ∷ poll_step) ∷ null ∷ []) 0 (codes "step 0: poll\nseen: active\nallowed: nothing: no command is active\n") }
+    ensures after_one { IsDifference smallest_caps 1
+        ((Ask (event.WriteGroup 0 group_of_a_run), nothing_seen) ∷ [])
+        (Ask event.Poll, answered (codes "nothing")) 1
+        (codes "step 1: poll\nseen: nothing\nallowed: full: the history has room for 1 step\n") }
+    ensures after_seven { IsDifference caps_of_a_run 7 (take 7 observed_of_a_run)
+        (Finish 0 0 Success, answered (codes "idle")) 7
+        (codes "step 7: finish e0 name 0 success\nseen: idle\nallowed: done 01\n") }
+    ensures second { IsDiffering smallest_caps 9
+        (changed (codes "word") (whole 0) command_step
+        ∷ object_of ((codes "answer", string (codes "active")) ∷ poll_step)
+        ∷ [])
+        1 (codes "step 1: poll\nseen: active\nallowed: nothing: no command is active\n") }
+    ensures shown { ¬ IsRefusal smallest_device_at_first 0 (Ok event.Poll)
+        (answered (codes "nothing"))
+        (codes "step 0: poll\nseen: nothing\nallowed: nothing: no command is active\n") }
+    ensures untold { ¬ IsRefusal smallest_device_at_first 0 (Ok event.Poll)
+        (answered (codes "active")) [] }
+    ensures earlier { ¬ IsDifference smallest_caps 9
+        ((Refuse BadCommand, answered (codes "nothing")) ∷ [])
+        (Ask event.Poll, answered (codes "active")) 1
+        (codes "step 1: poll\nseen: active\nallowed: nothing: no command is active\n") }
+    ensures other_step { ¬ IsDiffering smallest_caps 9 (object_of poll_step ∷ []) 0
+        (codes "step 0: poll\nseen: active\nallowed: nothing: no command is active\n") }
+    ensures unread_behind { ¬ IsDiffering smallest_caps 9
+        (object_of ((codes "answer", string (codes "active")) ∷ poll_step) ∷ null ∷ []) 0
+        (codes "step 0: poll\nseen: active\nallowed: nothing: no command is active\n") }
     ensures unread { ¬ IsConforming smallest_caps 9 (null ∷ []) (conforms_text 1 0) }
-    ensures not_shown { ¬ IsConforming smallest_caps 9 (changed (codes "word") (whole 0) ((codes "answer", string (codes "nothing")) ∷ command_step) ∷ []) (conforms_text 1 1) }
-    ensures not_counted { ¬ IsConforming smallest_caps 9 (object_of poll_step ∷ []) (conforms_text 0 0) }
-    ensures counted_as_seen { ¬ IsConforming smallest_caps 9 (object_of poll_step ∷ []) (conforms_text 1 1) }
+    ensures not_shown { ¬ IsConforming smallest_caps 9
+        (changed (codes "word") (whole 0)
+        ((codes "answer", string (codes "nothing")) ∷ command_step)
+        ∷ [])
+        (conforms_text 1 1) }
+    ensures not_counted { ¬ IsConforming smallest_caps 9
+        (object_of poll_step ∷ []) (conforms_text 0 0) }
+    ensures counted_as_seen { ¬ IsConforming smallest_caps 9
+        (object_of poll_step ∷ []) (conforms_text 1 1) }
 {}
 
 /// Documents, with what is told of each.
 #[tactic(auto, unfolding(serde_json::proofs::OnLiterals::serde_json_on_literals, dsa_scenario::specs::Worked::digits_on_literals))]
 pub fn documents()
-    ensures no_steps { IsConformance (document_of []) None (codes "conforms: 0 steps, 0 answers seen\n") }
-    ensures greatest { IsConformance (document_text smallest_caps_text (codes "1048576") []) None (codes "conforms: 0 steps, 0 answers seen\n") }
-    ensures conforms { IsConformance (document_of (poll_with (codes "\"answer\":\"nothing\""))) None (codes "conforms: 1 step, 1 answer seen\n") }
-    ensures differs { IsConformance (document_of (poll_with (codes "\"answer\":\"active\""))) (Some (Differs 0)) (codes "step 0: poll\nseen: active\nallowed: nothing: no command is active\n") }
-    ensures unread { IsConformance (document_of (poll_with (codes "\"zf\":true") ++ codes "," ++ poll_with (codes "\"zf\":1"))) (Some (BadStep 1)) [] }
+    ensures no_steps { IsConformance (document_of []) None
+        (codes "conforms: 0 steps, 0 answers seen\n") }
+    ensures greatest { IsConformance (document_text smallest_caps_text (codes "1048576") []) None
+        (codes "conforms: 0 steps, 0 answers seen\n") }
+    ensures conforms { IsConformance (document_of (poll_with (codes "\"answer\":\"nothing\""))) None
+        (codes "conforms: 1 step, 1 answer seen\n") }
+    ensures differs { IsConformance (document_of (poll_with (codes "\"answer\":\"active\"")))
+        (Some (Differs 0))
+        (codes "step 0: poll\nseen: active\nallowed: nothing: no command is active\n") }
+    ensures unread { IsConformance
+        (document_of (poll_with (codes "\"zf\":true") ++ codes "," ++ poll_with (codes "\"zf\":1")))
+        (Some (BadStep 1)) [] }
     ensures second { ¬ IsConformance (document_of (codes "1,2")) (Some (BadStep 1)) [] }
-    ensures unread_with_a_text { ¬ IsConformance (document_of (codes "1")) (Some (BadStep 0)) (codes "1") }
+    ensures unread_with_a_text { ¬ IsConformance (document_of (codes "1"))
+        (Some (BadStep 0)) (codes "1") }
     ensures other_fault { ¬ IsConformance (document_of []) (Some BadCaps) [] }
-    ensures no_caps { ¬ IsConformance (document_text no_caps_text (codes "9") []) None (conforms_text 0 0) }
-    ensures no_capacity { ¬ IsConformance (document_text smallest_caps_text (codes "1048577") []) None (conforms_text 0 0) }
-    ensures unread_behind { ¬ IsConformance (document_of (poll_with (codes "\"answer\":\"active\"") ++ codes "," ++ poll_with (codes "\"zf\":1"))) (Some (Differs 0)) (codes "step 0: poll\nseen: active\nallowed: nothing: no command is active\n") }
+    ensures no_caps { ¬ IsConformance (document_text no_caps_text (codes "9") []) None
+        (conforms_text 0 0) }
+    ensures no_capacity { ¬ IsConformance (document_text smallest_caps_text (codes "1048577") [])
+        None (conforms_text 0 0) }
+    ensures unread_behind { ¬ IsConformance
+        (document_of
+        (poll_with (codes "\"answer\":\"active\"")
+        ++ codes ","
+        ++ poll_with (codes "\"zf\":1")))
+        (Some (Differs 0))
+        (codes "step 0: poll\nseen: active\nallowed: nothing: no command is active\n") }
 {}
 
-/// The other faults are told where no object is: it comes before those of the capabilities, and is never a plain run's.
+/// The other faults are told where no object is: it comes before those of the capabilities, and is
+/// never a plain run's.
 #[tactic(auto, unfolding(serde_json::proofs::OnLiterals::serde_json_on_literals))]
 pub fn other_faults()
     ensures json { IsOtherFault (codes "{") NotJson }
-    ensures caps { IsOtherFault (document_text no_caps_text (codes "9") (poll_with (codes "\"zf\":true"))) BadCaps }
-    ensures unread_before_caps { ¬ IsOtherFault (document_text no_caps_text (codes "9") (poll_with (codes "\"zf\":1"))) BadCaps }
+    ensures caps { IsOtherFault
+        (document_text no_caps_text (codes "9") (poll_with (codes "\"zf\":true"))) BadCaps }
+    ensures unread_before_caps { ¬ IsOtherFault
+        (document_text no_caps_text (codes "9") (poll_with (codes "\"zf\":1"))) BadCaps }
     ensures no_step { ¬ IsOtherFault (document_of (codes "1")) (BadStep 0) }
-    ensures no_step_behind { ¬ IsOtherFault (document_of (poll_with (codes "\"zf\":1") ++ codes ",1")) (BadStep 1) }
+    ensures no_step_behind { ¬ IsOtherFault
+        (document_of (poll_with (codes "\"zf\":1") ++ codes ",1")) (BadStep 1) }
     ensures no_such_fault { ¬ IsOtherFault (codes "{}") NotJson }
 {}

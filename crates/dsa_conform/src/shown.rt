@@ -6,13 +6,14 @@ ghost use Rattle.dsa_conform.specs.Seen.{seen_as, nameless_reply, nameless_text,
 
 use crate::observed::Observed;
 use dsa_book::{DispatchAnswer, Event, FetchAnswer, Reply, StartAnswer, SubmitAnswer};
-use dsa_event_words::add_number;
+use dsa_event_text::add_number;
 use dsa_scenario::{Record, add_answer};
 use std::alloc::{AllocError, Global};
 
 // Adds the answer without the name that it gives or tells.
 fn add_nameless(text: &mut String, entry: &Record) -> Result<(), AllocError>
-    ensures { OnOk result (string_bytes text.new ≡ string_bytes text.old ++ nameless_text entry.now) }
+    ensures { OnOk result
+        (string_bytes text.new ≡ string_bytes text.old ++ nameless_text entry.now) }
 {
     let Record::Stepped(step) = entry else {
         return add_answer(text, entry);
@@ -47,7 +48,8 @@ fn is_nameless_line(alloc: Global, answer: &str, entry: &Record) -> Result<bool,
 }
 
 fn answer_shown(alloc: Global, answer: Option<&str>, entry: &Record) -> Result<bool, AllocError>
-    ensures { IfOk result (λ shown. shown ≡ answer_shown (option_map (λ text. text.now) answer.entry) entry.now) }
+    ensures { IfOk result
+        (λ shown. shown ≡ answer_shown (option_map (λ text. text.now) answer.entry) entry.now) }
 {
     let Some(answer) = answer else {
         return Ok(true);

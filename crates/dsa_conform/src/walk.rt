@@ -1,7 +1,7 @@
 //! A run of a document's steps by what was seen of them.
 
 ghost use Rattle.std.specs.Prelude.{◌≡◌, ◌<◌, ◌+◌, ◌++◌, [], ◌∷◌, ℕ, List, Some, None, OnOk, IfOk, cond, filter_map, map, option_map, string_bytes, false};
-ghost use Rattle.dsa_scenario.specs.Run.{given_by};
+ghost use Rattle.dsa_scenario.specs.Run.{ticket_given_by};
 ghost use Rattle.serde_json.specs.View.{view};
 ghost use Rattle.dsa_regs.specs.declared.Caps.{Caps};
 ghost use Rattle.dsa_device.specs.Made.{make_fault};
@@ -16,7 +16,7 @@ use crate::following::{Followed, follow};
 use crate::observed::{Observed, parse_step};
 use dsa_book::{Event, Ticket};
 use dsa_device::Device;
-use dsa_event_words::add_count;
+use dsa_event_text::add_count;
 use dsa_explain_lines::add_part;
 use dsa_regs::Fault;
 use dsa_scenario::{Action, Head, ScenarioFault, ask, event_for, note_ticket};
@@ -39,11 +39,15 @@ fn walk_unseen<S: EntryStore>(
     seen: &Observed<'_>,
 ) -> Result<(), AllocError>
     requires { is_seen (seen_as seen.now) ≡ false }
-    ensures { OnOk result ((caps : Caps) → (capacity : ℕ) → (done : List (Action × Seen)) → (number : ℕ)
-        → IsFollowedTo caps capacity done number device.old tickets.old.items
-        → IsFollowedTo caps capacity (done ++ (action, seen_as seen.now) ∷ []) (number + 1) device.new tickets.new.items) }
+    ensures { OnOk result
+        ((caps : Caps)
+        → (capacity : ℕ) → (done : List (Action × Seen))
+        → (number : ℕ) → IsFollowedTo caps capacity done number device.old tickets.old.items
+        → IsFollowedTo caps capacity (done ++ (action, seen_as seen.now) ∷ []) (number + 1)
+        device.new tickets.new.items) }
 {
-    let entry = ask(device, tickets, action);
+    let asked = event_for(tickets, action);
+    let entry = ask(device, &asked);
     note_ticket(tickets, &entry)
 }
 
@@ -68,7 +72,9 @@ fn difference_of(
     told: &str,
     followed: &Followed,
 ) -> Result<Option<String>, AllocError>
-    ensures { IfOk result (λ differs. option_map string_bytes differs ≡ difference_of number (seen_as seen.now) told.now followed.now) }
+    ensures { IfOk result
+        (λ differs. option_map string_bytes differs
+        ≡ difference_of number (seen_as seen.now) told.now followed.now) }
 {
     match followed {
         Followed::Shown(_) => Ok(None),
@@ -81,7 +87,9 @@ fn difference_of(
 
 // Notes the ticket that the answer of a step gives.
 fn note_followed(tickets: &mut Vec<Ticket>, followed: &Followed) -> Result<(), AllocError>
-    ensures { OnOk result (tickets.new.items ≡ tickets.old.items ++ filter_map given_by (records_of followed.now)) }
+    ensures { OnOk result
+        (tickets.new.items
+        ≡ tickets.old.items ++ filter_map ticket_given_by (records_of followed.now)) }
 {
     match followed {
         Followed::Shown(entry) => note_ticket(tickets, entry),
@@ -89,7 +97,8 @@ fn note_followed(tickets: &mut Vec<Ticket>, followed: &Followed) -> Result<(), A
     }
 }
 
-// A step of which something was seen, or what is told where none of the answers that are allowed shows it.
+// A step of which something was seen, or what is told where none of the answers that are allowed
+// shows it.
 fn walk_seen<S: EntryStore>(
     alloc: Global,
     device: &mut Device<S>,
@@ -98,7 +107,9 @@ fn walk_seen<S: EntryStore>(
     action: Action,
     seen: &Observed<'_>,
 ) -> Result<Option<String>, AllocError>
-    ensures { IfOk result (λ differs. IsNextStep (action, seen_as seen.now) number device.old tickets.old.items device.new tickets.new.items (option_map string_bytes differs)) }
+    ensures { IfOk result
+        (λ differs. IsNextStep (action, seen_as seen.now) number device.old tickets.old.items
+        device.new tickets.new.items (option_map string_bytes differs)) }
 {
     let asked = event_for(tickets, action);
     let told = reason_of(alloc, device, &asked)?;
@@ -117,7 +128,9 @@ fn walk_step<S: EntryStore>(
     action: Action,
     seen: &Observed<'_>,
 ) -> Result<Option<String>, AllocError>
-    ensures { IfOk result (λ differs. IsNextStep (action, seen_as seen.now) number device.old tickets.old.items device.new tickets.new.items (option_map string_bytes differs)) }
+    ensures { IfOk result
+        (λ differs. IsNextStep (action, seen_as seen.now) number device.old tickets.old.items
+        device.new tickets.new.items (option_map string_bytes differs)) }
 {
     if seen.is_seen() {
         return walk_seen(alloc, device, tickets, number, action, seen);
@@ -151,9 +164,13 @@ pub fn walk_steps<S: EntryStore>(
     store: S,
     head: &Head<'_>,
 ) -> Result<Verdict, AllocError>
-    requires fits { make_fault head.now.caps head.now.capacity (S.cells store) (S.content store) ≡ None }
-    requires read { (observed : List (Action × Seen)) × AreRead (map view head.now.steps.now) observed }
-    ensures { IfOk result (λ verdict. IsVerdict head.now.caps head.now.capacity (map view head.now.steps.now) verdict.fault (string_bytes verdict.text)) }
+    requires fits { make_fault head.now.caps head.now.capacity (S.cells store) (S.content store)
+        ≡ None }
+    requires read { (observed : List (Action × Seen))
+        × AreRead (map view head.now.steps.now) observed }
+    ensures { IfOk result
+        (λ verdict. IsVerdict head.now.caps head.now.capacity (map view head.now.steps.now)
+        verdict.fault (string_bytes verdict.text)) }
 {
     let made = Device::new(alloc, store, head.caps, head.capacity);
     let Ok(mut device) = made else {

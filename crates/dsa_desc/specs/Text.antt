@@ -31,7 +31,7 @@ abbrev pub size_label : Descriptor → List ℕ
 size_label d = if is_batch d then codes "count" else codes "size"
 
 -- operation, PASID, flags, and size or count (profile)
-abbrev pub line_of : Descriptor → List ℕ
-line_of d =
+abbrev pub line_of_descriptor : Descriptor → List ℕ
+line_of_descriptor d =
     operation_text d.op ++ (codes ", PASID " ++ (decimal d.pasid ++ (codes ", flags " ++ (flags_text d.flags
     ++ (codes ", " ++ (size_label d ++ (codes " " ++ decimal d.size)))))))

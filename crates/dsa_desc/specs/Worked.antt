@@ -27,24 +27,24 @@ abbrev pub descriptor : ℕ → ℕ → ℕ → Descriptor
 descriptor op flags size = record { pasid = 5; flags = flags; op = op; size = size }
 
 -- a No-op with these flags
-abbrev pub no_op : ℕ → Descriptor
-no_op flags = descriptor 0x00 flags 0
+abbrev pub no_op_descriptor : ℕ → Descriptor
+no_op_descriptor flags = descriptor 0x00 flags 0
 
 -- a Batch of so many descriptors
-abbrev pub batch : ℕ → Descriptor
-batch count = descriptor 0x01 0 count
+abbrev pub batch_descriptor : ℕ → Descriptor
+batch_descriptor count = descriptor 0x01 0 count
 
 -- a Drain
-abbrev pub drain : Descriptor
-drain = descriptor 0x02 0 0
+abbrev pub drain_descriptor : Descriptor
+drain_descriptor = descriptor 0x02 0 0
 
 -- a Memory Move of so many bytes
 abbrev pub memory_move : ℕ → Descriptor
 memory_move size = descriptor 0x03 0 size
 
 -- a Fill of so many bytes
-abbrev pub fill : ℕ → Descriptor
-fill size = descriptor 0x04 0 size
+abbrev pub fill_descriptor : ℕ → Descriptor
+fill_descriptor size = descriptor 0x04 0 size
 
 -- a Compare of so many bytes
 abbrev pub compare : ℕ → Descriptor

@@ -1,7 +1,7 @@
 //! A descriptor in one line.
 
 ghost use Rattle.std.specs.Prelude.{◌≡◌, Some, option_map};
-ghost use Rattle.dsa_desc.specs.Text.{flags_text, line_of, operation_name, operation_text, size_label};
+ghost use Rattle.dsa_desc.specs.Text.{flags_text, line_of_descriptor, operation_name, operation_text, size_label};
 
 use crate::opcode::{
     DSA_OPCODE_BATCH, DSA_OPCODE_COMPARE, DSA_OPCODE_DRAIN, DSA_OPCODE_MEMFILL, DSA_OPCODE_MEMMOVE,
@@ -66,7 +66,7 @@ impl fmt::Display for DescriptorFlags {
 /// As `Memory Move, PASID 5, flags 0x00000c, size 4096`. A Batch has `count` for `size`, and a code
 /// that the model does not know is written `Operation 0x06`.
 impl fmt::Display for Descriptor {
-    ghost output = { λ d. Some (line_of d) };
+    ghost output = { λ d. Some (line_of_descriptor d) };
 
     fn fmt<W: fmt::Write>(&self, f: &mut fmt::Formatter<W>) -> fmt::Result {
         let operation = Operation(self.op);

@@ -52,10 +52,22 @@ impl Flags for DescriptorFlags {
 
     ghost exact = { ⊤ };
 
-    ghost table = { (codes "FENCE", 0x000001) ∷ (codes "BOF", 0x000002) ∷ (codes "CRAV", 0x000004) ∷ (codes "RCR", 0x000008)
-        ∷ (codes "RCI", 0x000010) ∷ (codes "CRSTS", 0x000020) ∷ (codes "CR", 0x000080) ∷ (codes "CC", 0x000100)
-        ∷ (codes "ADDR1_TCS", 0x000200) ∷ (codes "ADDR2_TCS", 0x000400) ∷ (codes "ADDR3_TCS", 0x000800)
-        ∷ (codes "CR_TCS", 0x001000) ∷ (codes "STORD", 0x002000) ∷ (codes "DRDBK", 0x004000) ∷ (codes "DSTS", 0x008000) ∷ [] };
+    ghost table = { (codes "FENCE", 0x000001)
+        ∷ (codes "BOF", 0x000002)
+        ∷ (codes "CRAV", 0x000004)
+        ∷ (codes "RCR", 0x000008)
+        ∷ (codes "RCI", 0x000010)
+        ∷ (codes "CRSTS", 0x000020)
+        ∷ (codes "CR", 0x000080)
+        ∷ (codes "CC", 0x000100)
+        ∷ (codes "ADDR1_TCS", 0x000200)
+        ∷ (codes "ADDR2_TCS", 0x000400)
+        ∷ (codes "ADDR3_TCS", 0x000800)
+        ∷ (codes "CR_TCS", 0x001000)
+        ∷ (codes "STORD", 0x002000)
+        ∷ (codes "DRDBK", 0x004000)
+        ∷ (codes "DSTS", 0x008000)
+        ∷ [] };
 
     ghost set_of = { λ flags. flags.0 };
 

@@ -10,7 +10,7 @@ use Rattle.dsa_book.specs.declared.answer.FinishAnswer.{FinishAnswer, TheVariant
 use Rattle.dsa_book.specs.declared.{event.Event.{Event}, note.ActiveCommand.{ActiveCommand}}
 use Rattle.dsa_book.specs.{State.{Setup, Work, is_off}, Choice.{choice_of}, Work.{may_leave, dispatch, finish}}
 use Rattle.dsa_queues.{specs.Queues.{Kept, IsCounted}, proofs.Counts.{counted-setup}}
-use Rattle.dsa_engines.{specs.Engines.{Gear, IsInStep}, proofs.Keeping.{KeepsLoads}}
+use Rattle.dsa_engines.{specs.Engines.{EnginesState, IsInStep}, proofs.Keeping.{KeepsLoads}}
 use Rattle.dsa_admin.specs.Admin.{Watch, IsAwaiting, is_watched, is_waited_for, is_counting}
 use Rattle.dsa_laws.specs.WellFormed.{CellsOnce}
 use Rattle.dsa_laws.proofs.Awaits.{IsOfEarlier, guarded, awaited-earlier, ended_of, dispatch-counts, finish-counts}
@@ -58,15 +58,15 @@ pub names-after : (d now t : Running) (e : Event) (r : Reply) → IsReplay d →
 names-after d now t e r i is a = next-names d t e r i (rw (← is) at a)
 
 -- a step of the set-up alone, which leaves all entries and numbers as they are
-pub set-up-running : (cells more : ℕ) (kept after : Kept) (gear : Gear) (watch : Watch) (d now t : Running) (e : Event)
-    (r : Reply) → IsRunning cells kept gear watch d → d ≡ now → after_answer now e r ≡ Some t
-    → gear.notes ≡ t.state.work.notes → more ≡ cells
+pub set-up-running : (cells more : ℕ) (kept after : Kept) (engines_state : EnginesState) (watch : Watch) (d now t : Running) (e : Event)
+    (r : Reply) → IsRunning cells kept engines_state watch d → d ≡ now → after_answer now e r ≡ Some t
+    → engines_state.notes ≡ t.state.work.notes → more ≡ cells
     → (is_off t.state.work.setup.device ≡ false
     → KeepsLoads d.state.work.setup t.state.work.setup d.state.work.content t.state.work.content)
     → after.held ≡ kept.held → kept.setup ≡ d.state.work.setup → after.setup ≡ t.state.work.setup
-    → t.state.work.content ≡ d.state.work.content → IsRunning more after gear watch t
-set-up-running cells more kept after gear watch d now t e r i is a notes count keeps held before setup same = record {
-  whole = whole_after_queues cells more gear d now t e r i.whole is a notes count keeps;
+    → t.state.work.content ≡ d.state.work.content → IsRunning more after engines_state watch t
+set-up-running cells more kept after engines_state watch d now t e r i is a notes count keeps held before setup same = record {
+  whole = whole_after_queues cells more engines_state d now t e r i.whole is a notes count keeps;
   counted = rw same (counted-setup kept after d.state.work.content held
       (ap queues_of setup ∙ same-queues d now t e r i.whole.replay is a ∙ ap queues_of (sym before)) i.counted);
   awaiting = rw same (awaiting-kept watch d.state.work.setup.next_name t.state.work.setup.next_name
@@ -78,15 +78,15 @@ set-up-running cells more kept after gear watch d now t e r i is a notes count k
     queues_of setup = setup.caps.queues
 
 -- a dispatch, which leaves as many that a command counts
-pub dispatch-running : (cells more : ℕ) (kept : Kept) (gear after : Gear) (watch : Watch) (d now t : Running)
-    (engine : ℕ) (answer : DispatchAnswer) → IsRunning cells kept gear watch d → d ≡ now
+pub dispatch-running : (cells more : ℕ) (kept : Kept) (engines_state after : EnginesState) (watch : Watch) (d now t : Running)
+    (engine : ℕ) (answer : DispatchAnswer) → IsRunning cells kept engines_state watch d → d ≡ now
     → after_answer now (event.Dispatch engine) (reply.Dispatch answer) ≡ Some t
     → may_leave d.state.work engine (choice_of (reply.Dispatch answer)) ≡ true
     → dispatch d.state.work engine (choice_of (reply.Dispatch answer)) ≡ (answer, t.state.work)
     → IsInStep t.state.work.setup after more t.state.work.content → IsCounted kept t.state.work.content
     → IsRunning more kept after watch t
-dispatch-running cells more kept gear after watch d now t engine answer i is a may step in_step counted = record {
-  whole = whole_after cells more gear after d now t (event.Dispatch engine) (reply.Dispatch answer) i.whole is a
+dispatch-running cells more kept engines_state after watch d now t engine answer i is a may step in_step counted = record {
+  whole = whole_after cells more engines_state after d now t (event.Dispatch engine) (reply.Dispatch answer) i.whole is a
       in_step;
   counted = counted;
   awaiting = awaiting-kept watch d.state.work.setup.next_name t.state.work.setup.next_name

@@ -6,7 +6,7 @@ use Rattle.std.specs.List.{find, list_any}
 use Rattle.std.specs.Option.{option_map}
 use Rattle.dsa_base.specs.Rows.{passes}
 use Rattle.dsa_store.specs.declared.entry.{Cell.{Cell}, Entry.{Entry}}
-use Rattle.dsa_store.specs.Content.{Slot, Content, is_cell, place_count, use_count, entry_of, all_held}
+use Rattle.dsa_store.specs.Content.{HeldEntry, Content, is_cell, place_count, use_count, entry_of, all_held}
 use Rattle.dsa_store.specs.Content.{held_count, count_where}
 use Rattle.dsa_store.proofs.{Places.{count-cons, list_any-absent, list_any-present}, Lists.{uses-cons}}
 use Rattle.dsa_store.proofs.Sums.{held-counted}
@@ -20,13 +20,13 @@ module _ (t : Ticket) where
   is_named entry = entry.name == t.name
 
   -- not in a list without the cell
-  absent : (l : List Slot) → place_count t.cell l ≡ 0 → list_any (is_ticket t) l ≡ false
+  absent : (l : List HeldEntry) → place_count t.cell l ≡ 0 → list_any (is_ticket t) l ≡ false
   absent [] h = refl
   absent (s ∷ l) h = grind (arith, count-cons t.cell s l, absent l)
 
   -- in a list that has the cell once, where its entry has the name
-  there : (l : List Slot) → place_count t.cell l ≤ 1
-      → list_any (is_ticket t) l ≡ passes (λ (s : Slot). is_named s.1) (find (is_cell t.cell) l)
+  there : (l : List HeldEntry) → place_count t.cell l ≤ 1
+      → list_any (is_ticket t) l ≡ passes (λ (s : HeldEntry). is_named s.1) (find (is_cell t.cell) l)
   there [] one = refl
   there (s ∷ l) one =
       let count = count-cons t.cell s l in
@@ -43,8 +43,8 @@ module _ (t : Ticket) where
       ∙ ap (λ (b : Bool). b || list_any (is_ticket t) (all_held ls)) (absent l (omega (arith, counts, h)))
       ∙ nowhere ls (omega (arith, counts, h))
 
-  name-of : (o : Option Slot) → passes (λ (s : Slot). is_named s.1) o
-      ≡ passes is_named (option_map (λ (s : Slot). s.1) o)
+  name-of : (o : Option HeldEntry) → passes (λ (s : HeldEntry). is_named s.1) o
+      ≡ passes is_named (option_map (λ (s : HeldEntry). s.1) o)
   name-of None = refl
   name-of (Some s) = refl
 
@@ -76,7 +76,7 @@ awaited-few (Some active) content n cells is room =
     omega (
       arith,
       same,
-      count_by-le-length (λ (s : Slot). is_waited_for active s.1) (all_held content),
+      count_by-le-length (λ (s : HeldEntry). is_waited_for active s.1) (all_held content),
       held-counted content,
       room,
     )

@@ -6,8 +6,8 @@ use Rattle.std.specs.Prelude.{nat_lt, not, ◌&&◌, ◌==◌}
 use Rattle.dsa_desc.specs.{declared.Descriptor.{Descriptor}, Descriptor.{need}}
 use Rattle.dsa_base.{proofs.Tables.{first_row_or-each, table2, table3, not-both}, specs.Lists.{In}}
 use Rattle.dsa_regs.specs.declared.{Caps.{Caps}, QueueConfig.{QueueConfig}, GroupConfig.{GroupConfig}}
-use Rattle.dsa_regs.specs.Config.{zero_queue, queue_at, limits_of}
-use Rattle.dsa_store.specs.{declared.entry.Cell.{Cell}, Content.{Slot, Content, chain, after_push}}
+use Rattle.dsa_regs.specs.Config.{zero_queue, queue_at, limits_of_queue}
+use Rattle.dsa_store.specs.{declared.entry.Cell.{Cell}, Content.{HeldEntry, Content, chain, after_push}}
 use Rattle.dsa_book.specs.declared.answer.Cause.{Cause, TheVariants.{AtLimit, NotEnabled, WrongKind}}
 use Rattle.dsa_book.specs.declared.answer.{NotedError.{NotedError}, SubmitAnswer.{SubmitAnswer}}
 use Rattle.dsa_book.specs.declared.answer.ClearAnswer.{ClearAnswer}
@@ -22,21 +22,22 @@ use Rattle.dsa_engines.proofs.{Used.{load, load-nil, load-cons, load-append}, Ke
 -- ---- what the running entries of a list need
 
 -- the limits of their queues decide
-load-same : (setup more : Setup) (xs : List Slot)
-    → ((x : Slot) → In x xs → queue_at more.configs x.1.queue ≡ queue_at setup.configs x.1.queue)
+load-same : (setup more : Setup) (xs : List HeldEntry)
+    → ((x : HeldEntry) → In x xs → queue_at more.configs x.1.queue ≡ queue_at setup.configs x.1.queue)
     → load more xs ≡ load setup xs
 load-same setup more [] h = load-nil more ∙ sym (load-nil setup)
 load-same setup more (x ∷ xs) h =
-    let here = ap (λ (config : QueueConfig). cond x.1.running (need x.1.desc (limits_of config) (is_member x.1)) 0)
+    let here = ap (λ (config : QueueConfig). cond x.1.running (need x.1.desc (limits_of_queue config) (is_member x.1))
+    0)
     (h x (inl refl)) in
     omega (arith, load-cons more x xs, load-cons setup x xs, here, load-same setup more xs (λ y i. h y (inr i)))
 
 -- one that does not run yet needs nothing
-load-waiting : (setup : Setup) (xs : List Slot) (x : Slot) → x.1.running ≡ false
+load-waiting : (setup : Setup) (xs : List HeldEntry) (x : HeldEntry) → x.1.running ≡ false
     → load setup (xs ++ x ∷ []) ≡ load setup xs
 load-waiting setup xs x waits = rw (load-append, load-cons, load-nil, waits) (omega arith)
 
-load-pushed : (setup : Setup) (c : Content) (p : ℕ) (x : Slot) → x.1.running ≡ false → (k : ℕ)
+load-pushed : (setup : Setup) (c : Content) (p : ℕ) (x : HeldEntry) → x.1.running ≡ false → (k : ℕ)
     → load setup (chain (after_push c p x.0 x.1) k) ≡ load setup (chain c k)
 load-pushed setup c p x waits = each-place (λ k l. load setup l ≡ load setup (chain c k)) [] c p
     (chain c p ++ x ∷ []) (λ k. refl) (load-waiting setup (chain c p) x waits)

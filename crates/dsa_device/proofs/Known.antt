@@ -9,7 +9,7 @@ use Rattle.dsa_regs.specs.declared.{Phase.{Phase, TheVariants.{Off}}, Caps.{Caps
 use Rattle.dsa_regs.specs.Caps.{cell_count, HasList, list_number}
 use Rattle.dsa_regs.specs.declared.layout.ListUse.{ListUse, TheVariants.{Queue, Progress, Members}}
 use Rattle.dsa_regs.proofs.CapsLemmas.{total_size-bound}
-use Rattle.dsa_store.specs.Content.{Slot, Content, chain, held_count}
+use Rattle.dsa_store.specs.Content.{HeldEntry, Content, chain, held_count}
 use Rattle.dsa_store.proofs.Lists.{held-nil, held-cons, length-le-held}
 use Rattle.dsa_book.specs.declared.{event.{Portal.{Portal}, Kind.{Kind}}, note.BatchNote.{BatchNote}}
 use Rattle.dsa_book.specs.State.{is_off, has_queue}
@@ -18,10 +18,10 @@ use Rattle.dsa_queues.specs.Queues.{intake, is_accepting}
 use Rattle.dsa_laws.specs.WellFormed.{IsWellFormed, none_runs, runs_first}
 use Rattle.dsa_laws.proofs.{Histories.{replay-well_formed}}
 use Rattle.dsa_accounts.proofs.{FreeCells.{accepting-room, fetching-room, queue-fits}, Totals.{replay-names-le}}
-use Rattle.dsa_engines.specs.Engines.{Gear, WaitInOrder, IsInPlace, is_fetching, is_running, lists_alone}
+use Rattle.dsa_engines.specs.Engines.{EnginesState, WaitInOrder, IsInPlace, is_fetching, is_running, lists_alone}
 use Rattle.dsa_engines.proofs.{Used.{buffers-at_rest}}
 use Rattle.dsa_buffers.specs.Buffers.{Buffers}
-use Rattle.dsa_device.specs.Running.{Running, IsReplay, IsWhole}
+use Rattle.dsa_device.specs.Running.{Running, IsReplay, IsWholeDevice}
 
 pub well_formed : (d : Running) → IsReplay d → IsWellFormed d.caps d.state
 well_formed d i = replay-well_formed d.caps d.history d.state i.replayed
@@ -29,23 +29,23 @@ well_formed d i = replay-well_formed d.caps d.history d.state i.replayed
 pub none-held_all : (c : Content) → ((k : ℕ) → chain c k ≡ []) → held_count c ≡ 0
 none-held_all [] h = held-nil
 none-held_all (l ∷ ls) h =
-    omega (arith, held-cons l ls, ap (λ (xs : List Slot). length xs) (h 0), none-held_all ls (λ k. h (suc k)))
+    omega (arith, held-cons l ls, ap (λ (xs : List HeldEntry). length xs) (h 0), none-held_all ls (λ k. h (suc k)))
 
 -- the store has the cells of the device
-pub cells-are : (cells : ℕ) (gear : Gear) (d : Running) → IsWhole cells gear d → cells ≡ cell_count d.caps
-cells-are cells gear d w = w.in_step.store.cells ∙ ap cell_count (well_formed d w.replay).shape.same_caps
+pub cells-are : (cells : ℕ) (engines_state : EnginesState) (d : Running) → IsWholeDevice cells engines_state d → cells ≡ cell_count d.caps
+cells-are cells engines_state d w = w.in_step.store.cells ∙ ap cell_count (well_formed d w.replay).shape.same_caps
 
 is_none-None : {X : Type 0} (o : Option X) → is_none o ≡ true → o ≡ None
 is_none-None None h = refl
 is_none-None (Some x) h = absurd cc
 
 -- where a submission is accepted a cell is free
-pub accepting : (cells : ℕ) (gear : Gear) (d : Running) (queue : ℕ) (portal : Portal) (kind : Kind)
-    → IsWhole cells gear d
+pub accepting : (cells : ℕ) (engines_state : EnginesState) (d : Running) (queue : ℕ) (portal : Portal) (kind : Kind)
+    → IsWholeDevice cells engines_state d
     → is_accepting (intake d.state.work.setup d.state.work.content) queue portal kind ≡ true
     → held_count d.state.work.content < cells
-accepting cells gear d queue portal kind w h =
-    rw (cells-are cells gear d w) (accepting-room (well_formed d w.replay) queue portal kind (is_none-None _ h))
+accepting cells engines_state d queue portal kind w h =
+    rw (cells-are cells engines_state d w) (accepting-room (well_formed d w.replay) queue portal kind (is_none-None _ h))
 
 -- names do not run over
 pub names_fit : (d : Running) → IsReplay d → d.state.work.setup.next_name + 1 < 2 ^ 32
@@ -65,14 +65,14 @@ row_fits d i room =
 
 -- ---- what a start asks
 
-none_runs-filter : (xs : List Slot) → none_runs xs ≡ true → filter is_running xs ≡ []
+none_runs-filter : (xs : List HeldEntry) → none_runs xs ≡ true → filter is_running xs ≡ []
 none_runs-filter [] h = refl
-none_runs-filter (slot ∷ rest) h = cond_both slot.1.running (slot ∷ filter is_running rest) (filter is_running rest)
+none_runs-filter (pair ∷ rest) h = cond_both pair.1.running (pair ∷ filter is_running rest) (filter is_running rest)
     (λ xs. xs ≡ []) (λ on. let no : false ≡ true = rw on at h in absurd cc) (λ off. none_runs-filter rest (rw off at h))
 
-wait_in_order : (xs : List Slot) → runs_first xs ≡ true → WaitInOrder xs
+wait_in_order : (xs : List HeldEntry) → runs_first xs ≡ true → WaitInOrder xs
 wait_in_order [] h = tt
-wait_in_order (slot ∷ rest) h = λ waits.
+wait_in_order (pair ∷ rest) h = λ waits.
     none_runs-filter rest (rw waits at h)
 
 pub members_wait : (d : Running) (engine : ℕ) → IsReplay d
@@ -93,9 +93,9 @@ member_rows_fit d engine i =
 -- ---- what a fetch asks
 
 -- where a member may be fetched a cell is free
-pub fetching : (cells : ℕ) (gear : Gear) (d : Running) (engine : ℕ) → IsWhole cells gear d
+pub fetching : (cells : ℕ) (engines_state : EnginesState) (d : Running) (engine : ℕ) → IsWholeDevice cells engines_state d
     → is_fetching d.state.work engine ≡ true → held_count d.state.work.content < cells
-fetching cells gear d engine w h = rw (cells-are cells gear d w) (go (note_at d.state.work engine) refl h)
+fetching cells engines_state d engine w h = rw (cells-are cells engines_state d w) (go (note_at d.state.work engine) refl h)
   where
     go : (note : Option BatchNote) → note_at d.state.work engine ≡ note
         → passes (λ note. is_some (batch_on d.state.work engine note) && not (is_all_fetched note)) note ≡ true
@@ -114,16 +114,16 @@ in_place d i =
     let engines : w.setup.caps.engines ≡ d.caps.engines = ap (λ (c : Caps). c.engines) same in
     let placed = (well_formed d i).entries.placed in
     record {
-      queued = λ q slot h at. (placed q slot at).queue (omega (arith, h, queues));
-      members = λ e slot h at. (placed (member_list w.setup e) slot at).member (omega (arith, queues, engines));
+      queued = λ q pair h at. (placed q pair at).queue (omega (arith, h, queues));
+      members = λ e pair h at. (placed (member_list w.setup e) pair at).member (omega (arith, queues, engines));
     }
 
 -- ---- what a reader of the occupancy asks
 
 -- no queue is longer than all of them together may be
-pub occupancy_fits : (cells : ℕ) (gear : Gear) (d : Running) (queue : ℕ) → IsWhole cells gear d
+pub occupancy_fits : (cells : ℕ) (engines_state : EnginesState) (d : Running) (queue : ℕ) → IsWholeDevice cells engines_state d
     → has_queue d.state.work.setup queue ≡ true → length (chain d.state.work.content queue) < 2 ^ 16
-occupancy_fits cells gear d queue w has =
+occupancy_fits cells engines_state d queue w has =
     let setup = d.state.work.setup in
     let same = (well_formed d w.replay).shape.same_caps in
     let there : queue < d.caps.queues =
@@ -147,9 +147,9 @@ used-listed d group i h =
     (ap Some (get_or-each (used d.state.work) d.state.work.setup.caps.groups group 0 (omega (arith, h, same))))
 
 -- while the device is Off nothing runs
-pub used-off : (cells : ℕ) (gear : Gear) (d : Running) (group : ℕ) → IsWhole cells gear d → group < d.caps.groups
+pub used-off : (cells : ℕ) (engines_state : EnginesState) (d : Running) (group : ℕ) → IsWholeDevice cells engines_state d → group < d.caps.groups
     → is_off d.state.work.setup.device ≡ true → Some 0 ≡ when (nat_lt group d.caps.groups) (used d.state.work group)
-used-off cells gear d group w h off =
+used-off cells engines_state d group w h off =
     let setup = d.state.work.setup in
     let inside : group < length setup.groups = omega (arith, h, (well_formed d w.replay).shape.groups) in
     ap Some (sym (get_or-replicate {A = ℕ} (length setup.groups) group 0 0 inside))
@@ -158,15 +158,15 @@ used-off cells gear d group w h off =
     ∙ used-listed d group w.replay h
 
 -- and else the engines keep the number
-pub used-on : (cells n : ℕ) (gear : Gear) (d : Running) (group : ℕ) → IsWhole cells gear d → group < d.caps.groups
-    → is_off d.state.work.setup.device ≡ false → n ≡ get_or gear.buffers.used group 0
+pub used-on : (cells n : ℕ) (engines_state : EnginesState) (d : Running) (group : ℕ) → IsWholeDevice cells engines_state d → group < d.caps.groups
+    → is_off d.state.work.setup.device ≡ false → n ≡ get_or engines_state.buffers.used group 0
     → Some n ≡ when (nat_lt group d.caps.groups) (used d.state.work group)
-used-on cells n gear d group w h on is =
+used-on cells n engines_state d group w h on is =
     rw (is, w.in_step.buffers on) (used-listed d group w.replay h)
 
-pub groups-on : (cells : ℕ) (gear : Gear) (d : Running) (group : ℕ) → IsWhole cells gear d → group < d.caps.groups
-    → is_off d.state.work.setup.device ≡ false → group < length gear.buffers.groups
-groups-on cells gear d group w h on = rw (w.in_step.buffers on)
+pub groups-on : (cells : ℕ) (engines_state : EnginesState) (d : Running) (group : ℕ) → IsWholeDevice cells engines_state d → group < d.caps.groups
+    → is_off d.state.work.setup.device ≡ false → group < length engines_state.buffers.groups
+groups-on cells engines_state d group w h on = rw (w.in_step.buffers on)
     (omega (arith, (well_formed d w.replay).shape.groups, h))
 
 pub not_off : (phase : Phase) → (phase ≡ Off → ⊥) → is_off phase ≡ false
@@ -174,8 +174,9 @@ not_off Off h = absurd (h refl)
 not_off _ h = refl
 
 -- each list of the device is one of the store's
-pub has-list : (cells : ℕ) (gear : Gear) (d : Running) (list : ListUse) → IsWhole cells gear d → HasList d.caps list
+pub has-list : (cells : ℕ) (engines_state : EnginesState) (d : Running) (list : ListUse) → IsWholeDevice cells engines_state d
+    → HasList d.caps list
     → list_number d.caps list < length d.state.work.content
-has-list cells gear d (Queue q) w h = omega (arith, h, (well_formed d w.replay).shape.lists)
-has-list cells gear d (Progress e) w h = omega (arith, h, (well_formed d w.replay).shape.lists)
-has-list cells gear d (Members e) w h = omega (arith, h, (well_formed d w.replay).shape.lists)
+has-list cells engines_state d (Queue q) w h = omega (arith, h, (well_formed d w.replay).shape.lists)
+has-list cells engines_state d (Progress e) w h = omega (arith, h, (well_formed d w.replay).shape.lists)
+has-list cells engines_state d (Members e) w h = omega (arith, h, (well_formed d w.replay).shape.lists)

@@ -3,14 +3,14 @@ use Rattle.std.proofs.Common.{◌≡◌, ◌≤◌, ◌^◌, ℕ, true, List, []
 use Rattle.std.proofs.lemmas.{Bool.{le-ltb}, List.{length-replicate, Folds.{sum_by-replicate}}}
 use Rattle.dsa_base.specs.Rows.{first_row}
 use Rattle.dsa_regs.specs.{declared.Caps.{Caps}, Caps.{check_caps, cell_count, list_count}}
-use Rattle.dsa_store.specs.Content.{Slot, Content, held_count}
+use Rattle.dsa_store.specs.Content.{HeldEntry, Content, held_count}
 use Rattle.dsa_device.specs.Made.{is_store_of, opening_table, make_fault, fault_or_memory, opening_fault}
 use Rattle.dsa_device.proofs.Opening.{opening-clear}
 
 -- empty lists hold nothing
 held-replicate : (n : ℕ) → held_count (replicate n []) ≡ 0
 unfolding held_count
-held-replicate n = let e = sum_by-replicate {X = List Slot} length n [] in omega (arith, e)
+held-replicate n = let e = sum_by-replicate {X = List HeldEntry} length n [] in omega (arith, e)
 
 -- empty lists and cells in their numbers
 new-is_store_of : (caps : Caps) (cells : ℕ) (content : Content) → content ≡ replicate (list_count caps) []
@@ -21,7 +21,7 @@ new-is_store_of caps cells content lists same =
       lists,
       same,
       held-replicate (list_count caps),
-      length-replicate {A = List Slot} (list_count caps) [],
+      length-replicate {A = List HeldEntry} (list_count caps) [],
       eq-eqb (list_count caps) (list_count caps) refl,
       eq-eqb (cell_count caps) (cell_count caps) refl,
     ) refl
@@ -32,7 +32,7 @@ pub new-make_fault : (caps : Caps) (capacity lists count cells : ℕ) (content :
     → cells ≡ count → make_fault caps capacity cells content ≡ None
 new-make_fault caps capacity lists count cells content good small are have empty same =
     let listed : content ≡ replicate (list_count caps) [] =
-    empty ∙ ap (λ (n : ℕ). replicate {A = List Slot} n []) are in
+    empty ∙ ap (λ (n : ℕ). replicate {A = List HeldEntry} n []) are in
     rw (good, le-ltb (2 ^ 20) capacity small, new-is_store_of caps cells content listed (same ∙ have)) refl
 
 -- so all that is left to keep the device from being made is memory

@@ -4,11 +4,12 @@ use Rattle.std.proofs.Common.{arith}
 use Rattle.std.proofs.lemmas.Bool.{eqb-true, ltb-false, and_parts, not-false}
 use Rattle.dsa_base.{specs.Rows.{first_row}, proofs.Tables.{no-row}}
 use Rattle.dsa_regs.specs.{declared.Caps.{Caps}, Caps.{check_caps, list_count}}
-use Rattle.dsa_store.{specs.Content.{Slot, Content, held_count}, proofs.Lists.{contents-from_held_zero}}
+use Rattle.dsa_store.{specs.Content.{HeldEntry, Content, held_count}, proofs.Lists.{contents-from_held_zero}}
 use Rattle.dsa_book.specs.State.{opening_setup}
 use Rattle.dsa_queues.specs.Queues.{IsStoreFor}
-use Rattle.dsa_engines.specs.Engines.{Gear, IsInStep}
-use Rattle.dsa_device.specs.{Running.{Running, running_at_first, IsWhole}, Made.{opening_table, make_table, make_fault}}
+use Rattle.dsa_engines.specs.Engines.{EnginesState, IsInStep}
+use Rattle.dsa_device.specs.Running.{Running, running_at_first, IsWholeDevice}
+use Rattle.dsa_device.specs.Made.{opening_table, make_table, make_fault}
 
 -- what stands where no cause does
 pub record IsClear (c : Caps) (room count : ℕ) (lists : Content) : Type 0 where
@@ -20,7 +21,7 @@ pub record IsClear (c : Caps) (room count : ℕ) (lists : Content) : Type 0 wher
 
 empty_lists : (content : Content) (n : ℕ) → held_count content ≡ 0 → length content ≡ n → content ≡ replicate n []
 empty_lists content n none long = contents-from_held_zero content none
-    ∙ ap (λ (k : ℕ). replicate {A = List Slot} k []) long
+    ∙ ap (λ (k : ℕ). replicate {A = List HeldEntry} k []) long
 
 -- what stands where no cause but the store can
 pub opening-clear : (caps : Caps) (capacity : ℕ) → first_row (opening_table caps capacity) ≡ None
@@ -44,12 +45,12 @@ clear-of caps capacity cells content h =
     }
 
 -- it is whole, where its engines are in step with any store that holds nothing
-pub made-whole : (caps : Caps) (capacity cells : ℕ) (gear : Gear) (content : Content) (d : Running)
+pub made-whole : (caps : Caps) (capacity cells : ℕ) (engines_state : EnginesState) (content : Content) (d : Running)
     → IsClear caps capacity cells content → d ≡ running_at_first caps capacity
     → ((count : ℕ) (lists : Content) → IsStoreFor caps count lists → held_count lists ≡ 0
-    → IsInStep (opening_setup caps) gear count lists)
-    → IsWhole cells gear d
-made-whole caps capacity cells gear content d clear is in_step = rw is (record {
+    → IsInStep (opening_setup caps) engines_state count lists)
+    → IsWholeDevice cells engines_state d
+made-whole caps capacity cells engines_state content d clear is in_step = rw is (record {
   replay = record {
     caps = clear.caps;
     bounded = clear.capacity;

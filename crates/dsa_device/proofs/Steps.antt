@@ -8,17 +8,18 @@ use Rattle.std.specs.List.{list_all}
 use Rattle.dsa_base.{specs.Rows.{when}, proofs.Tables.{when-some}}
 use Rattle.dsa_book.specs.declared.{event.{Event.{Event}, Step.{Step}}, answer.Reply.{Reply}}
 use Rattle.dsa_book.specs.{State.{State, is_off}, Choice.{choice_of}}
-use Rattle.dsa_book.specs.Machine.{may_choose, reply_of, next, is_stored, history_after, full_reply, is_full, replay}
+use Rattle.dsa_book.specs.Machine.{may_choose, reply_of, next, is_stored, history_after, full_reply, is_full_reply}
+use Rattle.dsa_book.specs.Machine.{replay}
 use Rattle.dsa_book.proofs.{EqualReplies.{equal-replies}, Replay.{replay-snoc}, Nexts.{next-of}}
-use Rattle.dsa_engines.{specs.Engines.{Gear, IsInStep}, proofs.Keeping.{KeepsLoads, homes-kept, buffers-kept}}
+use Rattle.dsa_engines.{specs.Engines.{EnginesState, IsInStep}, proofs.Keeping.{KeepsLoads, homes-kept, buffers-kept}}
 use Rattle.dsa_device.proofs.Known.{well_formed, none-held_all, cells-are}
-use Rattle.dsa_device.specs.Running.{Running, running_after, after_answer, IsReplay, IsWhole}
+use Rattle.dsa_device.specs.Running.{Running, running_after, after_answer, IsReplay, IsWholeDevice}
 use Rattle.dsa_laws.proofs.{Changes.{next_keeps}, Entries.{none-held}}
 use Rattle.dsa_regs.specs.{declared.Caps.{Caps}, Caps.{cell_count}}
 
 -- what a reply came of: a history without room, or a step of the machine
 pub answered_by_cases : (P : Running → Type 0) (d t : Running) (e : Event) (r : Reply) → after_answer d e r ≡ Some t
-    → ((length d.history == d.capacity) ≡ true → is_full e r ≡ true → P d)
+    → ((length d.history == d.capacity) ≡ true → is_full_reply e r ≡ true → P d)
     → ((s : State) → (length d.history == d.capacity) ≡ false → next d.state e r ≡ Some s
     → P (running_after d e r s)) → P t
 answered_by_cases P d t e r a full step = at_room (length d.history == d.capacity) refl a
@@ -29,12 +30,12 @@ answered_by_cases P d t e r a full step = at_room (length d.history == d.capacit
     at_next (Some s) n free a = subst P (same_Some (running_after d e r s) t a) (step s free n)
 
     at_room : (b : Bool) → (length d.history == d.capacity) ≡ b
-        → cond b (when (is_full e r) d) (option_map (running_after d e r) (next d.state e r)) ≡ Some t → P t
-    at_room true room a = let p = when-some (is_full e r) d t a in subst P p.1 (full room p.0)
+        → cond b (when (is_full_reply e r) d) (option_map (running_after d e r) (next d.state e r)) ≡ Some t → P t
+    at_room true room a = let p = when-some (is_full_reply e r) d t a in subst P p.1 (full room p.0)
     at_room false room a = at_next (next d.state e r) refl room a
 
 -- Full is not kept
-full-unstored : (e : Event) (r : Reply) → is_full e r ≡ true → is_stored r ≡ false
+full-unstored : (e : Event) (r : Reply) → is_full_reply e r ≡ true → is_stored r ≡ false
 full-unstored e r h = ap is_stored (equal-replies r (full_reply e) h) ∙ unstored e
   where
     unstored : (e : Event) → is_stored (full_reply e) ≡ false
@@ -95,19 +96,20 @@ pub answered : (d now t : Running) (e : Event) (r : Reply) → d ≡ now → (le
 answered d now t e r is room may step goes = rw (← is, room, next-of d.state t.state e r may step) (ap Some goes)
 
 -- the device stays whole where queues, engines and store are in step again
-pub whole_after : (cells more : ℕ) (gear after : Gear) (d now t : Running) (e : Event) (r : Reply)
-    → IsWhole cells gear d → d ≡ now → after_answer now e r ≡ Some t
-    → IsInStep t.state.work.setup after more t.state.work.content → IsWhole more after t
-whole_after cells more gear after d now t e r w is a in_step =
+pub whole_after : (cells more : ℕ) (engines_state after : EnginesState) (d now t : Running) (e : Event) (r : Reply)
+    → IsWholeDevice cells engines_state d → d ≡ now → after_answer now e r ≡ Some t
+    → IsInStep t.state.work.setup after more t.state.work.content → IsWholeDevice more after t
+whole_after cells more engines_state after d now t e r w is a in_step =
     record { replay = answered-replay d t e r w.replay (rw is a); in_step = in_step }
 
 -- which the laws say after a step of the queues alone, for that leaves the engines as they were
-pub whole_after_queues : (cells more : ℕ) (gear : Gear) (d now t : Running) (e : Event) (r : Reply)
-    → IsWhole cells gear d → d ≡ now → after_answer now e r ≡ Some t → gear.notes ≡ t.state.work.notes → more ≡ cells
+pub whole_after_queues : (cells more : ℕ) (engines_state : EnginesState) (d now t : Running) (e : Event) (r : Reply)
+    → IsWholeDevice cells engines_state d → d ≡ now → after_answer now e r ≡ Some t → engines_state.notes ≡ t.state.work.notes
+    → more ≡ cells
     → (is_off t.state.work.setup.device ≡ false
     → KeepsLoads d.state.work.setup t.state.work.setup d.state.work.content t.state.work.content)
-    → IsWhole more gear t
-whole_after_queues cells more gear d now t e r w is a notes same keeps =
+    → IsWholeDevice more engines_state t
+whole_after_queues cells more engines_state d now t e r w is a notes same keeps =
     let a = rw (← is) at a in
     let i = answered-replay d t e r w.replay a in
     let lawful = well_formed t i in
@@ -125,12 +127,12 @@ whole_after_queues cells more gear d now t e r w is a notes same keeps =
         };
         store = record {
           lists = rw caps shape.lists;
-          cells = same ∙ cells-are cells gear d w ∙ ap cell_count (sym (caps ∙ (grows d t e r a).caps));
+          cells = same ∙ cells-are cells engines_state d w ∙ ap cell_count (sym (caps ∙ (grows d t e r a).caps));
         };
         idle = λ off. none-held_all after.content (none-held t.caps after lawful.setup lawful.entries off);
         checked = lawful.setup.device;
         notes = rw (notes, caps) shape.notes;
-        homes = λ on. homes-kept _ _ gear _ _ w.in_step (keeps on) on;
-        buffers = λ on. buffers-kept _ _ gear _ _ w.in_step (keeps on) on;
+        homes = λ on. homes-kept _ _ engines_state _ _ w.in_step (keeps on) on;
+        buffers = λ on. buffers-kept _ _ engines_state _ _ w.in_step (keeps on) on;
       };
     }

@@ -1,7 +1,7 @@
 -- What is read of a device.
 use Rattle.std.specs.Prelude.{ℕ, Bool, List, Option, Some, None, slice_get}
 use Rattle.std.specs.{List.{list_any}, Option.{option_map, option_and_then}}
-use Rattle.dsa_store.specs.Content.{Slot, Content, all_held, count_where}
+use Rattle.dsa_store.specs.Content.{HeldEntry, Content, all_held, count_where}
 use Rattle.dsa_book.specs.{declared.answer.Ticket.{Ticket}, State.{State, is_ticket}}
 use Rattle.dsa_admin.specs.Admin.{is_waited_for}
 
@@ -13,6 +13,6 @@ is_held content ticket = list_any (is_ticket ticket) (all_held content)
 abbrev pub awaited : State → Option ℕ
 awaited s = option_map (λ active. count_where (is_waited_for active) s.work.content) s.active
 
--- the slot at a place of a list, where there is such a list (profile)
-abbrev pub slot_at : Option (List Slot) → ℕ → Option Slot
-slot_at list place = option_and_then (λ slots. slice_get slots place) list
+-- the entry at a place of a list, where there is such a list (profile)
+abbrev pub entry_at : Option (List HeldEntry) → ℕ → Option HeldEntry
+entry_at list place = option_and_then (λ pairs. slice_get pairs place) list

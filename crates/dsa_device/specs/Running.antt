@@ -8,9 +8,9 @@ use Rattle.dsa_book.specs.declared.{event.{Event.{Event}, Step.{Step}}, answer.R
 use Rattle.dsa_book.specs.declared.answer.{Ticket.{Ticket}, FinishAnswer.{FinishAnswer, TheVariants.{Done}}}
 use Rattle.dsa_book.specs.declared.note.ActiveCommand.{ActiveCommand}
 use Rattle.dsa_book.specs.{Records.{Records}, State.{Setup, State, opening}}
-use Rattle.dsa_book.specs.Machine.{next, history_after, is_full, is_legal, replay}
+use Rattle.dsa_book.specs.Machine.{next, history_after, is_full_reply, is_legal, replay}
 use Rattle.dsa_queues.specs.Queues.{Kept, IsCounted}
-use Rattle.dsa_engines.specs.Engines.{Gear, IsInStep, work}
+use Rattle.dsa_engines.specs.Engines.{EnginesState, IsInStep, work}
 use Rattle.dsa_admin.specs.Admin.{Watch, IsAwaiting, is_counted_by}
 
 -- what a device has, for how many steps its history has room, the steps that it stored, and its state (profile)
@@ -37,7 +37,7 @@ running_after d event reply s = record d {
 abbrev pub after_answer : Running → Event → Reply → Option Running
 after_answer d event reply =
     cond (length d.history == d.capacity)
-    (when (is_full event reply) d)
+    (when (is_full_reply event reply) d)
     (option_map (running_after d event reply) (next d.state event reply))
 
 -- the history is a legal one within its capacity, and the state is its replay (profile)
@@ -51,22 +51,23 @@ pub record IsReplay (d : Running) : Type 0 where
 -- ---- the parts that a device is made of
 
 -- a device by its parts (profile)
-abbrev pub running_of : Caps → Setup → Gear → Content → Option ActiveCommand → Records → Running
-running_of caps setup gear content active book = record {
+abbrev pub running_of : Caps → Setup → EnginesState → Content → Option ActiveCommand → Records → Running
+running_of caps setup engines_state content active book = record {
   caps = caps;
   capacity = book.capacity;
   history = book.history;
-  state = record { work = work setup gear content book.fates; active = active };
+  state = record { work = work setup engines_state content book.fates; active = active };
 }
 
 -- the parts belong together: queues, engines and store are in step (profile)
-pub record IsWhole (cells : ℕ) (gear : Gear) (d : Running) : Type 0 where
+pub record IsWholeDevice (cells : ℕ) (engines_state : EnginesState) (d : Running) : Type 0 where
   pub replay : IsReplay d
-  pub in_step : IsInStep d.state.work.setup gear cells d.state.work.content
+  pub in_step : IsInStep d.state.work.setup engines_state cells d.state.work.content
 
 -- the parts belong together, and the numbers that are kept are counts over the lists (profile)
-pub record IsRunning (cells : ℕ) (kept : Kept) (gear : Gear) (watch : Watch) (d : Running) : Type 0 where
-  pub whole : IsWhole cells gear d
+pub record IsRunning (cells : ℕ) (kept : Kept) (engines_state : EnginesState) (watch : Watch)
+    (d : Running) : Type 0 where
+  pub whole : IsWholeDevice cells engines_state d
   pub counted : IsCounted kept d.state.work.content
   pub awaiting : IsAwaiting watch d.state.work.setup.next_name d.state.work.content
 

@@ -36,9 +36,10 @@ const MAX_CAPACITY: u64 = 1_048_576;
 
 /// A device over a store, used by one thread (profile).
 ///
-/// It numbers its queues, groups and engines from 0. Each step may be called with any numbers. A step whose reply is kept
-/// stands in the history, and takes one of the places that [`Device::new`] took memory for; any other changes nothing.
-/// Once all places are taken every step is answered `Full`. No step takes memory.
+/// It numbers its queues, groups and engines from 0. Each step may be called with any numbers. A
+/// step whose reply is kept stands in the history, and takes one of the places that [`Device::new`]
+/// took memory for; any other changes nothing. Once all places are taken every step is answered
+/// `Full`. No step takes memory.
 #[derive(Drop)]
 pub struct Device<S: EntryStore> {
     caps: Caps,
@@ -54,9 +55,12 @@ impl<S: EntryStore> Model for Device<S> {
 
     ghost Value = { Running };
 
-    ghost view = { λ d. running_of d.caps d.queues.setup d.engines (S.content d.store) d.admin.active d.book };
+    ghost view = { λ d. running_of d.caps d.queues.setup d.engines (S.content d.store)
+        d.admin.active d.book };
 
-    ghost invariant = { λ d. IsRunning (S.cells d.store) d.queues d.engines d.admin (running_of d.caps d.queues.setup d.engines (S.content d.store) d.admin.active d.book) };
+    ghost invariant = { λ d. IsRunning (S.cells d.store) d.queues d.engines d.admin
+        (running_of d.caps d.queues.setup d.engines (S.content d.store) d.admin.active
+        d.book) };
 }
 
 // Whether the store is empty, with the lists and cells of such a device.
@@ -69,7 +73,8 @@ fn is_store_of<S: EntryStore>(store: &S, caps: &Caps) -> bool
         && store.cells() == cell_count(caps)
 }
 
-/// The first cause that keeps a device from being made, whatever its store: `BadCaps`, then `BadCapacity` (profile).
+/// The first cause that keeps a device from being made, whatever its store: `BadCaps`, then
+/// `BadCapacity` (profile).
 pub fn check_opening(caps: &Caps, capacity: u64) -> Option<MakeFault>
     ensures { result ≡ first_row (opening_table caps.now capacity) }
 {
@@ -100,7 +105,8 @@ fn make_fault<S: EntryStore>(store: &S, caps: &Caps, capacity: u64) -> Option<Ma
 #[inline(always)]
 fn tell_end(admin: &mut Admin, entry: Option<Entry>, answer: FinishAnswer)
     requires { awaited_end admin.old entry answer ≤ admin.old.awaited }
-    ensures { admin.new ≡ record admin.old { awaited = admin.old.awaited - awaited_end admin.old entry answer } }
+    ensures { admin.new
+        ≡ record admin.old { awaited = admin.old.awaited - awaited_end admin.old entry answer } }
 {
     if let (Some(entry), FinishAnswer::Done(_)) = (entry, answer) {
         admin.ended(&entry);
@@ -108,11 +114,13 @@ fn tell_end(admin: &mut Admin, entry: Option<Entry>, answer: FinishAnswer)
 }
 
 impl<S: EntryStore> Device<S> {
-    /// A device that is `Off`, with nothing configured and nothing held, over an empty store. Its history has room for
-    /// `capacity` steps, at most 1,048,576; with 0 each step is answered `Full`.
+    /// A device that is `Off`, with nothing configured and nothing held, over an empty store. Its
+    /// history has room for `capacity` steps, at most 1,048,576; with 0 each step is answered
+    /// `Full`.
     ///
-    /// `BadStore` says that the store is not empty, or has other lists or cells than `dsa_regs::list_count` and
-    /// `dsa_regs::cell_count` say. Whatever the error, the store comes back as it was.
+    /// `BadStore` says that the store is not empty, or has other lists or cells than
+    /// `dsa_regs::list_count` and `dsa_regs::cell_count` say. Whatever the error, the store comes
+    /// back as it was.
     pub fn new(
         alloc: Global,
         store: S,
@@ -120,8 +128,10 @@ impl<S: EntryStore> Device<S> {
         capacity: u64,
     ) -> Result<Device<S>, (MakeFault, S)>
         ensures opened { IfOk result (λ device. device ≡ running_at_first caps capacity) }
-        ensures no_fault { IfOk result (λ device. make_fault caps capacity (S.cells store) (S.content store) ≡ None) }
-        ensures fault { IfErr result (λ e. e.0 ≡ fault_or_memory caps capacity (S.cells store) (S.content store)) }
+        ensures no_fault { IfOk result
+            (λ device. make_fault caps capacity (S.cells store) (S.content store) ≡ None) }
+        ensures fault { IfErr result
+            (λ e. e.0 ≡ fault_or_memory caps capacity (S.cells store) (S.content store)) }
         ensures store { IfErr result (λ e. e.1 ≡ store) }
     {
         if let Some(fault) = make_fault(&store, &caps, capacity) {
@@ -150,7 +160,9 @@ impl<S: EntryStore> Device<S> {
         kind: Kind,
         desc: Descriptor,
     ) -> SubmitAnswer
-        ensures { after_answer self.old (event.Submit client queue portal kind desc) (reply.Submit result) ≡ Some self.new }
+        ensures { after_answer self.old (event.Submit client queue portal kind desc)
+            (reply.Submit result)
+            ≡ Some self.new }
     {
         if self.book.is_full() {
             return SubmitAnswer::Full;
@@ -179,7 +191,9 @@ impl<S: EntryStore> Device<S> {
         kind: Kind,
         bytes: &[u8; 64],
     ) -> SubmitAnswer
-        ensures { after_answer self.old (event.Submit client queue portal kind (read bytes.now)) (reply.Submit result) ≡ Some self.new }
+        ensures { after_answer self.old (event.Submit client queue portal kind (read bytes.now))
+            (reply.Submit result)
+            ≡ Some self.new }
     {
         self.submit_parsed(client, queue, portal, kind, Descriptor::parse(bytes))
     }
@@ -187,7 +201,8 @@ impl<S: EntryStore> Device<S> {
     /// An engine asks for an entry, and takes the front of a queue of its group.
     #[inline(always)]
     pub fn dispatch(&mut self, engine: u16) -> DispatchAnswer
-        ensures { after_answer self.old (event.Dispatch engine) (reply.Dispatch result) ≡ Some self.new }
+        ensures { after_answer self.old (event.Dispatch engine) (reply.Dispatch result)
+            ≡ Some self.new }
     {
         if self.book.is_full() {
             return DispatchAnswer::Full;
@@ -198,12 +213,16 @@ impl<S: EntryStore> Device<S> {
         answer
     }
 
-    /// An engine takes the front of this queue, as `dispatch` does of one that the device chooses: `None`, and nothing
-    /// changed, where the queue does not qualify. A history without room is answered `Full` whether it does or not.
+    /// An engine takes the front of this queue, as `dispatch` does of one that the device chooses:
+    /// `None`, and nothing changed, where the queue does not qualify. A history without room is
+    /// answered `Full` whether it does or not.
     #[inline(always)]
     pub fn dispatch_from(&mut self, engine: u16, queue: u16) -> Option<DispatchAnswer>
-        ensures some { IfSome result (λ answer. after_answer self.old (event.Dispatch engine) (reply.Dispatch answer) ≡ Some self.new) }
-        ensures queue { IfSome result (λ answer. answer ≢ Full → choice_of (reply.Dispatch answer) ≡ from_queue queue) }
+        ensures some { IfSome result
+            (λ answer. after_answer self.old (event.Dispatch engine) (reply.Dispatch answer)
+            ≡ Some self.new) }
+        ensures queue { IfSome result
+            (λ answer. answer ≢ Full → choice_of (reply.Dispatch answer) ≡ from_queue queue) }
         ensures none { IfNone result (self.new ≡ self.old) }
         ensures unqualified { IfNone result (qualifies self.old.state.work engine queue ≡ false) }
         ensures room { IfNone result (length self.old.history ≢ self.old.capacity) }
@@ -223,7 +242,8 @@ impl<S: EntryStore> Device<S> {
     /// An engine hands in the next member of its batch.
     #[inline(always)]
     pub fn fetch(&mut self, engine: u16, desc: Descriptor) -> FetchAnswer
-        ensures { after_answer self.old (event.Fetch engine desc) (reply.Fetch result) ≡ Some self.new }
+        ensures { after_answer self.old (event.Fetch engine desc) (reply.Fetch result)
+            ≡ Some self.new }
     {
         if self.book.is_full() {
             return FetchAnswer::Full;
@@ -264,7 +284,8 @@ impl<S: EntryStore> Device<S> {
     /// An engine ends the running entry of that ticket, and says how its work went.
     #[inline(always)]
     pub fn finish(&mut self, engine: u16, ticket: Ticket, outcome: Outcome) -> FinishAnswer
-        ensures { after_answer self.old (event.Finish engine ticket outcome) (reply.Finish result) ≡ Some self.new }
+        ensures { after_answer self.old (event.Finish engine ticket outcome) (reply.Finish result)
+            ≡ Some self.new }
     {
         if self.book.is_full() {
             return FinishAnswer::Full;
@@ -324,7 +345,8 @@ impl<S: EntryStore> Device<S> {
     /// The administrator writes the configuration of a queue.
     #[inline(always)]
     pub fn write_queue(&mut self, queue: u16, config: QueueConfig) -> WriteAnswer
-        ensures { after_answer self.old (event.WriteQueue queue config) (reply.Write result) ≡ Some self.new }
+        ensures { after_answer self.old (event.WriteQueue queue config) (reply.Write result)
+            ≡ Some self.new }
     {
         if self.book.is_full() {
             return WriteAnswer::Full;
@@ -338,7 +360,8 @@ impl<S: EntryStore> Device<S> {
     /// The administrator writes the configuration of a group.
     #[inline(always)]
     pub fn write_group(&mut self, group: u16, config: GroupConfig) -> WriteAnswer
-        ensures { after_answer self.old (event.WriteGroup group config) (reply.Write result) ≡ Some self.new }
+        ensures { after_answer self.old (event.WriteGroup group config) (reply.Write result)
+            ≡ Some self.new }
     {
         if self.book.is_full() {
             return WriteAnswer::Full;

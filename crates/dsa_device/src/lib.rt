@@ -1,8 +1,10 @@
-//! The machine of one thread: a device over any store, whose state is at all times what its history leads to.
+//! The machine of one thread: a device over any store, whose state is at all times what its history
+//! leads to.
 //!
-//! [`Device::new`] takes all the memory that a device ever has. Each step is one event and one answer; those that change
-//! something stand in [`Device::history`] from then on, and the machine that is written down leads to the device's state
-//! from them. A step of a device whose history has no room is answered `Full`, and changes nothing.
+//! [`Device::new`] takes all the memory that a device ever has. Each step is one event and one
+//! answer; those that change something stand in [`Device::history`] from then on, and the machine
+//! that is written down leads to the device's state from them. A step of a device whose history has
+//! no room is answered `Full`, and changes nothing.
 #![tactic(auto)]
 
 mod device;

@@ -6,7 +6,8 @@ use Rattle.std.proofs.Math.ListN.{get_or-map}
 use Rattle.std.specs.Prelude.{◌==◌}
 use Rattle.dsa_draw.specs.declared.{bands.Band.{Band}, moment.Moment.{Moment}}
 use Rattle.dsa_draw.specs.Bands.{level_in, highest, highest_of, next_step, turn_text, turns}
-use Rattle.dsa_draw.specs.{Bands.{part_text, next_top, bands_text}, Columns.{fifth_text, column_text, columns_text}}
+use Rattle.dsa_draw.specs.Bands.{band_part_text, next_top, bands_text}
+use Rattle.dsa_draw.specs.Columns.{fifth_text, column_text, columns_text}
 
 -- what is left of a list, from one of its moments on
 left : (ms : List Moment) (i : ℕ) (m : Moment) → i < length ms → m ≡ get_or ms i m → drop i ms ≡ m ∷ drop (i + 1) ms
@@ -55,7 +56,8 @@ turned_at_end V ms i bottom most step before text longer whole past added h =
 
 -- one band more
 pub banded : (bands : List Band) (i : ℕ) (d : Band) (steps top next : ℕ) (moments : List Moment)
-    (text longer whole : List ℕ) → i < length bands → longer ≡ text ++ part_text steps top (get_or bands i d) moments
+    (text longer whole : List ℕ) → i < length bands → longer
+    ≡ text ++ band_part_text steps top (get_or bands i d) moments
     → next ≡ next_top top (get_or bands i d) moments → text ++ bands_text steps top (drop i bands) moments ≡ whole
     → longer ++ bands_text steps next (drop (i + 1) bands) moments ≡ whole
 banded bands i d steps top next moments text longer whole inside added is h =

@@ -97,32 +97,33 @@ name_text (Queue queue) top = numbered_text (codes "queue") queue top
 name_text (Group group) top = numbered_text (codes "buffers") group top
 
 -- from which level to which the band goes
-unfoldable pub range_text : ℕ → ℕ → List ℕ
-range_text most top =
+unfoldable pub band_range_text : ℕ → ℕ → List ℕ
+band_range_text most top =
     codes "<text x=\"4\" y=\"" ++ decimal (top + 24) ++ codes "\">0 to " ++ decimal most ++ codes "</text>\n"
 
 -- the lower end of what begins at `top` and is so high; places have 32 bits
-abbrev pub below : ℕ → ℕ → ℕ
-below top high = min (top + high) (2 ^ 32 - 1)
+abbrev pub lower_end : ℕ → ℕ → ℕ
+lower_end top high = min (top + high) (2 ^ 32 - 1)
 
 -- a band that begins at `top` and is full at `most`: its frame, its lines and its names
 unfoldable pub band_text : ℕ → ℕ → ℕ → Band → List Moment → List ℕ
 band_text steps top most band moments =
-    frame_text steps top ++ lines_text (below top 48) most band moments ++ name_text band top ++ range_text most top
+    frame_text steps top ++ lines_text (lower_end top 48) most band moments ++ name_text band top
+    ++ band_range_text most top
 
 -- of a band of which nothing was configured there is no text, and the next one stands in its place
-abbrev pub part_text : ℕ → ℕ → Band → List Moment → List ℕ
-part_text steps top band moments =
+abbrev pub band_part_text : ℕ → ℕ → Band → List Moment → List ℕ
+band_part_text steps top band moments =
     cond (highest_of band 0 moments == 0) [] (band_text steps top (highest_of band 0 moments) band moments)
 
 abbrev pub next_top : ℕ → Band → List Moment → ℕ
-next_top top band moments = cond (highest_of band 0 moments == 0) top (below top 56)
+next_top top band moments = cond (highest_of band 0 moments == 0) top (lower_end top 56)
 
 -- bands below one another
 abbrev pub bands_text : ℕ → ℕ → List Band → List Moment → List ℕ
 bands_text steps top [] moments = []
 bands_text steps top (band ∷ bands) moments =
-    part_text steps top band moments ++ bands_text steps (next_top top band moments) bands moments
+    band_part_text steps top band moments ++ bands_text steps (next_top top band moments) bands moments
 
 -- the bands of a device: its queues, and then its groups
 abbrev pub bands_of : Caps → List Band

@@ -1,12 +1,12 @@
 -- The columns of a drawing, as text: one for each step, with what it was asked and what it answered.
 use Rattle.std.specs.Prelude.{ℕ, ◌+◌, ◌-◌, ◌*◌, ◌%◌, ◌==◌, cond, List, [], ◌∷◌, ◌++◌, codes, decimal}
-use Rattle.dsa_event_words.specs.Words.{event_words}
+use Rattle.dsa_event_text.specs.Text.{event_text}
 use Rattle.dsa_scenario.specs.{declared.run.Record.{Record, TheVariants.{Stepped, Refused}}, Lines.{record_text}}
 use Rattle.dsa_draw.specs.{declared.moment.Moment.{Moment}, Bands.{next_step}}
 
 -- what was asked; a word that is no command is no event (profile)
 abbrev pub asked_text : Record → List ℕ
-asked_text (Stepped step) = event_words step.event
+asked_text (Stepped step) = event_text step.event
 asked_text (Refused fault) = codes "command"
 
 -- ---- columns
@@ -37,12 +37,12 @@ unfoldable pub label_text : ℕ → List ℕ
 label_text step =
     codes "<text x=\"" ++ decimal (112 + 14 * step + 2) ++ codes "\" y=\"91\">" ++ decimal step ++ codes "</text>\n"
 
-abbrev pub number_text : ℕ → ℕ → List ℕ
-number_text height step = grid_text height step ++ label_text step
+abbrev pub step_number_text : ℕ → ℕ → List ℕ
+step_number_text height step = grid_text height step ++ label_text step
 
 -- of every fifth step
 abbrev pub fifth_text : ℕ → ℕ → List ℕ
-fifth_text height step = cond (step % 5 == 0) (number_text height step) []
+fifth_text height step = cond (step % 5 == 0) (step_number_text height step) []
 
 -- a column for each moment, the first one's step of this number
 abbrev pub columns_text : ℕ → ℕ → List Moment → List ℕ

@@ -15,17 +15,17 @@ use Rattle.dsa_scenario.specs.declared.run.Record.{Record, TheVariants.{Stepped,
 use Rattle.dsa_draw.specs.declared.marks.Mark.{Mark, TheVariants.{Done, Wait, Failed}}
 
 -- the step did what it was asked for; what it ended was successful
-abbrev pub is_done : Reply → Bool
-is_done (reply.Submit (submit.Accepted ticket)) = true
-is_done (reply.Dispatch (dispatch.Taken ticket queue)) = true
-is_done (reply.Fetch (fetch.Fetched ticket)) = true
-is_done (reply.Start (start.Started ticket)) = true
-is_done (reply.Finish (finish.Done status)) = status == 1
-is_done (reply.Issue (issue.Ended aborted)) = true
-is_done (reply.Poll poll.Finished) = true
-is_done (reply.Write write.Written) = true
-is_done (reply.Clear (clear.Cleared noted)) = true
-is_done _ = false
+abbrev pub is_done_as_asked : Reply → Bool
+is_done_as_asked (reply.Submit (submit.Accepted ticket)) = true
+is_done_as_asked (reply.Dispatch (dispatch.Taken ticket queue)) = true
+is_done_as_asked (reply.Fetch (fetch.Fetched ticket)) = true
+is_done_as_asked (reply.Start (start.Started ticket)) = true
+is_done_as_asked (reply.Finish (finish.Done status)) = status == 1
+is_done_as_asked (reply.Issue (issue.Ended aborted)) = true
+is_done_as_asked (reply.Poll poll.Finished) = true
+is_done_as_asked (reply.Write write.Written) = true
+is_done_as_asked (reply.Clear (clear.Cleared noted)) = true
+is_done_as_asked _ = false
 
 -- it was refused or dropped, the history was full, or what it ended was not successful
 abbrev pub is_failed : Reply → Bool
@@ -47,7 +47,8 @@ is_failed (reply.Clear clear.Full) = true
 is_failed _ = false
 
 abbrev pub reply_mark : Reply → Mark
-reply_mark answer = if is_done answer then Done else (if is_failed answer then Failed else Wait)
+reply_mark answer = if is_done_as_asked answer then
+    Done else (if is_failed answer then Failed else Wait)
 
 -- how a step object came out
 abbrev pub mark_of : Record → Mark

@@ -2,7 +2,7 @@
 
 ghost use Rattle.std.specs.Prelude.{◌≡◌, ◌++◌, ◌==◌, [], cond, map, IfOk, OnOk, string_bytes};
 ghost use Rattle.std.specs.List.{range_with_len};
-ghost use Rattle.dsa_draw.specs.Bands.{level_in, value_of, highest_of, turn_text, turns, levels_of, path_text, class_text, close_text, line_text, lines_text, frame_text, name_text, range_text, band_text, part_text, next_top, bands_text, bands_of};
+ghost use Rattle.dsa_draw.specs.Bands.{level_in, value_of, highest_of, turn_text, turns, levels_of, path_text, class_text, close_text, line_text, lines_text, frame_text, name_text, band_range_text, band_text, band_part_text, next_top, bands_text, bands_of};
 
 use crate::geometry::{column_left, level_high};
 use crate::moment::{Level, Moment};
@@ -84,7 +84,9 @@ impl Line {
 
 // A line goes to the column of a step, and there to the height of a level.
 fn add_turn(text: &mut String, step: u32, level: u16, scale: Scale) -> Result<(), AllocError>
-    ensures { OnOk result (string_bytes text.new ≡ string_bytes text.old ++ turn_text scale.bottom scale.most step level) }
+    ensures { OnOk result
+        (string_bytes text.new
+        ≡ string_bytes text.old ++ turn_text scale.bottom scale.most step level) }
 {
     let x = column_left(step);
     let y = u64::from(scale.bottom).saturating_sub(level_high(level, scale.most));
@@ -153,9 +155,10 @@ fn add_path(
     add_turns(text, moments, band, line, scale)
 }
 
-// What is filled goes down to the lower end.
+// Closes a filled path at the baseline.
 fn add_close(text: &mut String, line: Line, bottom: u32) -> Result<(), AllocError>
-    ensures { OnOk result (string_bytes text.new ≡ string_bytes text.old ++ close_text bottom line) }
+    ensures { OnOk result
+        (string_bytes text.new ≡ string_bytes text.old ++ close_text bottom line) }
 {
     match line {
         Line::Filled => write!(text, "V{bottom}Z"),
@@ -203,9 +206,10 @@ fn add_band_name(text: &mut String, band: Band, top: u32) -> Result<(), AllocErr
     }
 }
 
-#[tactic(auto, unfolding(crate::specs::Bands::range_text))]
+#[tactic(auto, unfolding(crate::specs::Bands::band_range_text))]
 fn add_range(text: &mut String, most: u16, top: u32) -> Result<(), AllocError>
-    ensures { OnOk result (string_bytes text.new ≡ string_bytes text.old ++ range_text most top) }
+    ensures { OnOk result
+        (string_bytes text.new ≡ string_bytes text.old ++ band_range_text most top) }
 {
     let base = u64::from(top) + 24;
     write!(text, "<text x=\"4\" y=\"{base}\">0 to {most}</text>\n")
@@ -236,7 +240,9 @@ fn draw_band(
     most: u16,
     top: u32,
 ) -> Result<(), AllocError>
-    ensures { OnOk result (string_bytes text.new ≡ string_bytes text.old ++ band_text steps top most band moments.now) }
+    ensures { OnOk result
+        (string_bytes text.new
+        ≡ string_bytes text.old ++ band_text steps top most band moments.now) }
 {
     let scale = Scale {
         bottom: top.saturating_add(48),
@@ -256,7 +262,9 @@ fn add_band(
     band: Band,
     top: u32,
 ) -> Result<u32, AllocError>
-    ensures text { OnOk result (string_bytes text.new ≡ string_bytes text.old ++ part_text steps top band moments.now) }
+    ensures text { OnOk result
+        (string_bytes text.new
+        ≡ string_bytes text.old ++ band_part_text steps top band moments.now) }
     ensures next { IfOk result (λ next. next ≡ next_top top band moments.now) }
 {
     let most = highest_of(band, moments);
@@ -275,7 +283,9 @@ pub fn add_bands(
     bands: &[Band],
     top: u32,
 ) -> Result<u32, AllocError>
-    ensures { OnOk result (string_bytes text.new ≡ string_bytes text.old ++ bands_text steps top bands.now moments.now) }
+    ensures { OnOk result
+        (string_bytes text.new
+        ≡ string_bytes text.old ++ bands_text steps top bands.now moments.now) }
 {
     let mut top = top;
     for band in bands {
@@ -285,7 +295,8 @@ pub fn add_bands(
 }
 
 fn push_queues(bands: &mut Vec<Band>, queues: u16) -> Result<(), AllocError>
-    ensures { OnOk result (bands.new.items ≡ bands.old.items ++ map Band.Queue (range_with_len 0 queues)) }
+    ensures { OnOk result
+        (bands.new.items ≡ bands.old.items ++ map Band.Queue (range_with_len 0 queues)) }
 {
     for queue in 0..queues {
         bands.push(Band::Queue(queue))?;
@@ -294,7 +305,8 @@ fn push_queues(bands: &mut Vec<Band>, queues: u16) -> Result<(), AllocError>
 }
 
 fn push_groups(bands: &mut Vec<Band>, groups: u16) -> Result<(), AllocError>
-    ensures { OnOk result (bands.new.items ≡ bands.old.items ++ map Band.Group (range_with_len 0 groups)) }
+    ensures { OnOk result
+        (bands.new.items ≡ bands.old.items ++ map Band.Group (range_with_len 0 groups)) }
 {
     for group in 0..groups {
         bands.push(Band::Group(group))?;

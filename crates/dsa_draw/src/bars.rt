@@ -53,8 +53,8 @@ impl Table {
 
     fn take(&mut self, bar: Bar) -> Result<(), AllocError> {
         let place = self.bars.len();
-        if let Some(slot) = self.places.get_mut(bar.name as usize) {
-            *slot = Some(place);
+        if let Some(pair) = self.places.get_mut(bar.name as usize) {
+            *pair = Some(place);
         }
         self.bars.push(bar)?;
         Ok(())
@@ -194,8 +194,8 @@ fn take_lane(lanes: &mut Vec<u32>, begin: u32, end: u32) -> Result<u32, AllocErr
     Ok(lane)
 }
 
-/// Gives each bar of the engine a lane in which it is alone, the members apart from the others, and says how many lanes that
-/// takes.
+/// Gives each bar of the engine a lane in which it is alone, the members apart from the others, and
+/// says how many lanes that takes.
 pub fn set_lanes(
     alloc: Global,
     bars: &mut [Bar],

@@ -1,7 +1,7 @@
 //! The whole drawing.
 
 ghost use Rattle.std.specs.Prelude.{◌≡◌, ◌++◌, IfOk, OnOk, string_bytes};
-ghost use Rattle.dsa_draw.specs.Columns.{asked_text, title_text, left_text, high_text, column_text, grid_text, label_text, number_text, fifth_text, columns_text};
+ghost use Rattle.dsa_draw.specs.Columns.{asked_text, title_text, left_text, high_text, column_text, grid_text, label_text, step_number_text, fifth_text, columns_text};
 ghost use Rattle.dsa_draw.specs.Drawings.{step_count, IsTextOf};
 
 use crate::bands::{add_bands, bands_of};
@@ -13,7 +13,7 @@ use crate::moment::Moment;
 use crate::page::{add_foot, add_head, add_mark, add_name, add_rule};
 use crate::run::Story;
 use dsa_book::{Actor, Event, Fate, FateRow};
-use dsa_event_words::{add_event, command_word};
+use dsa_event_text::{add_event, command_label};
 use dsa_scenario::{Record, add_answer, add_rows};
 use std::alloc::{AllocError, Global};
 use std::fmt::Write;
@@ -45,7 +45,8 @@ fn add_asked(text: &mut String, entry: &Record) -> Result<(), AllocError>
 // The title of a column.
 #[tactic(auto, unfolding(crate::specs::Columns::title_text))]
 fn add_title(text: &mut String, entry: &Record, step: u32) -> Result<(), AllocError>
-    ensures { OnOk result (string_bytes text.new ≡ string_bytes text.old ++ title_text step entry.now) }
+    ensures { OnOk result
+        (string_bytes text.new ≡ string_bytes text.old ++ title_text step entry.now) }
 {
     write!(text, "step {step}: ")?;
     add_asked(text, entry)?;
@@ -71,7 +72,8 @@ fn add_high(text: &mut String, height: u32) -> Result<(), AllocError>
 
 // A column has the step as its title.
 fn add_column(text: &mut String, entry: &Record, step: u32, height: u32) -> Result<(), AllocError>
-    ensures { OnOk result (string_bytes text.new ≡ string_bytes text.old ++ column_text height step entry.now) }
+    ensures { OnOk result
+        (string_bytes text.new ≡ string_bytes text.old ++ column_text height step entry.now) }
 {
     add_left(text, step)?;
     add_high(text, height)?;
@@ -98,7 +100,8 @@ fn add_step_label(text: &mut String, step: u32) -> Result<(), AllocError>
 
 // A line, and the number of the step.
 fn add_number(text: &mut String, step: u32, height: u32) -> Result<(), AllocError>
-    ensures { OnOk result (string_bytes text.new ≡ string_bytes text.old ++ number_text height step) }
+    ensures { OnOk result
+        (string_bytes text.new ≡ string_bytes text.old ++ step_number_text height step) }
 {
     add_grid(text, step, height)?;
     add_step_label(text, step)
@@ -106,7 +109,8 @@ fn add_number(text: &mut String, step: u32, height: u32) -> Result<(), AllocErro
 
 // That of every fifth step.
 fn add_fifth(text: &mut String, step: u32, height: u32) -> Result<(), AllocError>
-    ensures { OnOk result (string_bytes text.new ≡ string_bytes text.old ++ fifth_text height step) }
+    ensures { OnOk result
+        (string_bytes text.new ≡ string_bytes text.old ++ fifth_text height step) }
 {
     if step % 5 == 0 {
         add_number(text, step, height)
@@ -116,7 +120,8 @@ fn add_fifth(text: &mut String, step: u32, height: u32) -> Result<(), AllocError
 }
 
 fn add_columns(text: &mut String, moments: &[Moment], height: u32) -> Result<(), AllocError>
-    ensures { OnOk result (string_bytes text.new ≡ string_bytes text.old ++ columns_text height 0 moments.now) }
+    ensures { OnOk result
+        (string_bytes text.new ≡ string_bytes text.old ++ columns_text height 0 moments.now) }
 {
     let mut step = 0u32;
     for moment in moments {
@@ -138,7 +143,7 @@ fn add_label(text: &mut String, entry: &Record, step: u32) -> Result<(), AllocEr
         return Ok(());
     };
     let x = column_left(step) + 10;
-    let name = command_word(&command);
+    let name = command_label(&command);
     writeln!(
         text,
         "<text transform=\"translate({x} {LABELS}) rotate(-60)\">{name}</text>"
@@ -236,7 +241,8 @@ fn count_of(moments: &[Moment]) -> u32
 }
 
 fn add_parts(text: &mut String, above: &str, bands: &str, below: &str) -> Result<(), AllocError>
-    ensures { OnOk result (string_bytes text.new ≡ (string_bytes text.old ++ above.now) ++ bands.now ++ below.now) }
+    ensures { OnOk result
+        (string_bytes text.new ≡ (string_bytes text.old ++ above.now) ++ bands.now ++ below.now) }
 {
     text.push_str(above)?;
     text.push_str(bands)?;

@@ -1,7 +1,7 @@
 //! Where things stand in a drawing.
 //!
-//! A column for each step, from left to right, and a number of 32 bits for each step: a place is one of 64, so that no sum of
-//! these wraps.
+//! A column for each step, from left to right, and a number of 32 bits for each step: a place is
+//! one of 64, so that no sum of these wraps.
 
 ghost use Rattle.std.specs.Prelude.{◌≡◌, ◌+◌, ◌-◌, ◌*◌, ◌/◌, min, max};
 
@@ -24,7 +24,7 @@ pub fn column_left(step: u32) -> u64
     LEFT + COLUMN * u64::from(step)
 }
 
-/// How wide the columns are from that of `begin` on to before that of `end`: nothing where that is none.
+/// The width of the columns from `begin` up to, but without, `end`; 0 if there are none.
 pub fn columns_wide(begin: u32, end: u32) -> u64
     ensures { result ≡ 14 * (end - begin) }
 {

@@ -1,8 +1,10 @@
-//! A drawing of a scenario's run, as SVG: queues and read buffers by steps, and the entries that engines had.
+//! A drawing of a scenario's run, as SVG: queues and read buffers by steps, and the entries that
+//! engines had.
 //!
-//! [`render_drawing`] reads a document, runs its steps on a new device, and takes a [`Moment`] after each: what the device
-//! answered, and what it then says of itself. All that is drawn is of these moments and of the fates that the device tells at
-//! the end. `docs/COMMANDS.md` says how a drawing is read.
+//! [`Drawing`] reads a document, runs its steps on a new device, and takes a [`Moment`] after each:
+//! what the device answered, and what it then says of itself. All that is drawn is of these moments
+//! and of the fates that the device tells at the end. `docs/COMMANDS.md` says how a drawing is
+//! read.
 #![tactic(auto)]
 
 mod bands;
@@ -18,4 +20,4 @@ mod run;
 pub use geometry::{column_left, columns_wide, lane_top, level_high};
 pub use marks::{Mark, mark_of};
 pub use moment::{Level, Moment, group_level, queue_level, take_moment};
-pub use run::{Drawing, Story, render_drawing};
+pub use run::{Drawing, Story};

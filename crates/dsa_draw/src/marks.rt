@@ -1,7 +1,7 @@
 //! What a step is marked with.
 
 ghost use Rattle.std.specs.Prelude.{◌≡◌};
-ghost use Rattle.dsa_draw.specs.Marks.{is_done, is_failed, reply_mark, mark_of};
+ghost use Rattle.dsa_draw.specs.Marks.{is_done_as_asked, is_failed, reply_mark, mark_of};
 
 use dsa_book::{
     ClearAnswer, DispatchAnswer, FetchAnswer, FinishAnswer, IssueAnswer, PollAnswer, Reply,
@@ -24,7 +24,7 @@ pub enum Mark {
 const SUCCESS: u8 = 0x01;
 
 fn is_done(reply: Reply) -> bool
-    ensures { result ≡ is_done reply }
+    ensures { result ≡ is_done_as_asked reply }
 {
     match reply {
         Reply::Submit(answer) => matches!(answer, SubmitAnswer::Accepted(_)),

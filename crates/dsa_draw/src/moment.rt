@@ -10,8 +10,8 @@ use dsa_scenario::Record;
 use dsa_store::EntryStore;
 use std::alloc::{AllocError, Global};
 
-/// How full something is: of a queue its occupancy, its threshold and its size, of a group the read buffers that are used,
-/// reserved and allowed.
+/// How full something is: of a queue its occupancy, its threshold and its size, of a group the read
+/// buffers that are used, reserved and allowed.
 #[derive(Clone, Copy)]
 pub struct Level {
     pub filled: u16,
@@ -66,7 +66,9 @@ pub fn group_level<S: EntryStore>(device: &Device<S>, group: u16) -> Level
 }
 
 fn queue_levels<S: EntryStore>(alloc: Global, device: &Device<S>) -> Result<Vec<Level>, AllocError>
-    ensures { IfOk result (λ levels. levels.items ≡ map (queue_level_of device.now) (range_with_len 0 device.now.caps.queues)) }
+    ensures { IfOk result
+        (λ levels. levels.items
+        ≡ map (queue_level_of device.now) (range_with_len 0 device.now.caps.queues)) }
 {
     let mut levels = Vec::new(alloc);
     for queue in 0..device.caps().queues {
@@ -76,7 +78,9 @@ fn queue_levels<S: EntryStore>(alloc: Global, device: &Device<S>) -> Result<Vec<
 }
 
 fn group_levels<S: EntryStore>(alloc: Global, device: &Device<S>) -> Result<Vec<Level>, AllocError>
-    ensures { IfOk result (λ levels. levels.items ≡ map (group_level_of device.now) (range_with_len 0 device.now.caps.groups)) }
+    ensures { IfOk result
+        (λ levels. levels.items
+        ≡ map (group_level_of device.now) (range_with_len 0 device.now.caps.groups)) }
 {
     let mut levels = Vec::new(alloc);
     for group in 0..device.caps().groups {

@@ -8,7 +8,8 @@ use crate::marks::Mark;
 use std::alloc::AllocError;
 use std::fmt::Write;
 
-// Colours for light and for dark. Titles are those of columns and bars, so marks let the pointer through.
+// Colours for light and for dark. Titles are those of columns and bars, so marks let the pointer
+// through.
 const STYLE: &str = "<style>
 text{font:10px ui-monospace,monospace;fill:#1f2328}
 .sheet{fill:#ffffff}.column{fill:#ffffff;fill-opacity:0}.grid{stroke:#d8dee4}.frame{fill:none;stroke:#d8dee4}
@@ -52,7 +53,8 @@ pub fn add_name(text: &mut String, name: &str, top: u32) -> Result<(), AllocErro
 
 /// The same with a number.
 pub fn add_numbered(text: &mut String, name: &str, number: u16, top: u32) -> Result<(), AllocError>
-    ensures { OnOk result (string_bytes text.new ≡ string_bytes text.old ++ numbered_text name.now number top) }
+    ensures { OnOk result
+        (string_bytes text.new ≡ string_bytes text.old ++ numbered_text name.now number top) }
 {
     let base = u64::from(top) + 11;
     write!(text, "<text x=\"4\" y=\"{base}\">{name} {number}</text>\n")

@@ -1,7 +1,6 @@
 //! A run with a moment after each step, and its drawing.
 
-ghost use Rattle.std.specs.Prelude.{◌≡◌, ◌⊎◌, [], None, IfOk, IfErr, string_bytes};
-ghost use Rattle.dsa_scenario.specs.Document.{IsFaultOf};
+ghost use Rattle.std.specs.Prelude.{◌≡◌, [], None};
 ghost use Rattle.dsa_draw.specs.Drawings.{AreMoments, IsDrawnOf, IsDrawingOf};
 
 use crate::drawing::draw;
@@ -86,13 +85,4 @@ impl Render for Drawing {
     fn render(&self, alloc: Global, bytes: &[u8]) -> Result<Rendering, ScenarioFault> {
         render_steps(alloc, self, bytes)
     }
-}
-
-/// The drawing of the run of the document in these bytes.
-pub fn render_drawing(alloc: Global, bytes: &[u8]) -> Result<String, ScenarioFault>
-    ensures ok { IfOk result (λ text. IsDrawingOf bytes.now (string_bytes text)) }
-    ensures err { IfErr result (λ e. (e ≡ ScenarioFault.OutOfMemory) ⊎ IsFaultOf bytes.now e) }
-{
-    let rendering = render_steps(alloc, &Drawing, bytes)?;
-    Ok(rendering.text)
 }

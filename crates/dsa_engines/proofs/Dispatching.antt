@@ -8,24 +8,24 @@ use Rattle.std.proofs.lemmas.List.Folds.{list_any-append}
 use Rattle.std.specs.{Prelude.{IfSome, MatchOption}, Option.{IfNone}, List.{list_any}}
 use Rattle.dsa_regs.specs.{declared.GroupConfig.{GroupConfig}, Config.{group_at, zero_group}, Buffers.{fits}}
 use Rattle.dsa_base.{specs.Numbers.{has, numbers_below, IsNext, NoneFrom}, proofs.FirstPlaces.{hit-at}}
-use Rattle.dsa_store.specs.Content.{Slot, Content, chain, after_push, without_front}
+use Rattle.dsa_store.specs.Content.{HeldEntry, Content, chain, after_push, without_front}
 use Rattle.dsa_store.proofs.Lists.{length-le-held, length-pushed}
 use Rattle.dsa_book.specs.{State.{Setup, any_in, is_off, need_of, is_batch_of, is_drain_of}}
 use Rattle.dsa_book.specs.Work.{progress_list, qualifies, group_in, as_running, with_note, opened_note}
-use Rattle.dsa_engines.specs.Engines.{Gear, work, IsInStep, IsOpen}
+use Rattle.dsa_engines.specs.Engines.{EnginesState, work, IsInStep, IsOpen}
 use Rattle.dsa_engines.proofs.{Homes.{home-of}, Keeping.{awake-found, in_step-moved}}
 use Rattle.dsa_engines.proofs.Used.{load-push, HoldsMore, taken-of}
 
 -- ---- an engine with a slot left
 
-module _ {cells : ℕ} {setup : Setup} {gear : Gear} {content : Content} {e : ℕ} {home : Option ℕ}
-    (s : IsInStep setup gear cells content) (he : e < setup.caps.engines) (is : home ≡ get_or gear.homes e None) where
+module _ {cells : ℕ} {setup : Setup} {engines_state : EnginesState} {content : Content} {e : ℕ} {home : Option ℕ}
+    (s : IsInStep setup engines_state cells content) (he : e < setup.caps.engines) (is : home ≡ get_or engines_state.homes e None) where
   -- without a group no queue qualifies
-  pub no-home : IfNone home ((q : ℕ) → qualifies (work setup gear content []) e q ≡ false)
+  pub no-home : IfNone home ((q : ℕ) → qualifies (work setup engines_state content []) e q ≡ false)
   no-home = go home is
     where
-      go : (o : Option ℕ) → o ≡ get_or gear.homes e None
-          → IfNone o ((q : ℕ) → qualifies (work setup gear content []) e q ≡ false)
+      go : (o : Option ℕ) → o ≡ get_or engines_state.homes e None
+          → IfNone o ((q : ℕ) → qualifies (work setup engines_state content []) e q ≡ false)
       go (Some g) at = tt
       go None at = λ q. elim (cases_Bool (is_off setup.device)) [
         | inl off ↦
@@ -37,12 +37,12 @@ module _ {cells : ℕ} {setup : Setup} {gear : Gear} {content : Content} {e : �
   -- and one that it has is its group
   pub open-home : length (chain content (progress_list setup e)) < setup.caps.slots
       → IfSome home (λ g. is_off setup.device ≡ false → IsOpen setup content e g)
-  open-home slot = go home is
+  open-home pair = go home is
     where
-      go : (o : Option ℕ) → o ≡ get_or gear.homes e None
+      go : (o : Option ℕ) → o ≡ get_or engines_state.homes e None
           → IfSome o (λ g. is_off setup.device ≡ false → IsOpen setup content e g)
       go None at = tt
-      go (Some g) at = λ on. record { engine = he; home = sym (at ∙ home-of s on he); slot = slot }
+      go (Some g) at = λ on. record { engine = he; home = sym (at ∙ home-of s on he); pair = pair }
 
 -- ---- the queue that is chosen
 
@@ -54,21 +54,21 @@ none-below p (suc N) h =
     grind (arith, common_steps, list_any-append p (numbers_below N) (N ∷ []), none-below p N h, here)
 
 -- what qualifies is a queue of the device
-pub qualifying-queue : (setup : Setup) (gear : Gear) (content : Content) (e q : ℕ)
-    → qualifies (work setup gear content []) e q ≡ true → q < setup.caps.queues
-qualifying-queue setup gear content e q h = ltb-true q setup.caps.queues (and_parts _ _ (and_parts _ _ h).0).1
+pub qualifying-queue : (setup : Setup) (engines_state : EnginesState) (content : Content) (e q : ℕ)
+    → qualifies (work setup engines_state content []) e q ≡ true → q < setup.caps.queues
+qualifying-queue setup engines_state content e q h = ltb-true q setup.caps.queues (and_parts _ _ (and_parts _ _ h).0).1
 
 -- the best so far of the queues below n: one that qualifies, or none does
-abbrev pub IsBest : Setup → Gear → Content → ℕ → ℕ → Option ℕ → Type 0
-IsBest setup gear content e n best =
-    MatchOption best ((q : ℕ) → q < n → qualifies (work setup gear content []) e q ≡ false)
-    (λ queue. qualifies (work setup gear content []) e queue ≡ true)
+abbrev pub IsBest : Setup → EnginesState → Content → ℕ → ℕ → Option ℕ → Type 0
+IsBest setup engines_state content e n best =
+    MatchOption best ((q : ℕ) → q < n → qualifies (work setup engines_state content []) e q ≡ false)
+    (λ queue. qualifies (work setup engines_state content []) e queue ≡ true)
 
-module _ {cells : ℕ} {setup : Setup} {gear : Gear} {content : Content} {e g : ℕ}
-    (s : IsInStep setup gear cells content) (group : is_off setup.device ≡ false → IsOpen setup content e g) where
+module _ {cells : ℕ} {setup : Setup} {engines_state : EnginesState} {content : Content} {e g : ℕ}
+    (s : IsInStep setup engines_state cells content) (group : is_off setup.device ≡ false → IsOpen setup content e g) where
   -- a queue that is not the group's does not qualify
   pub not-served : (q : ℕ) → has (group_at setup.groups g).queues q ≡ false
-      → qualifies (work setup gear content []) e q ≡ false
+      → qualifies (work setup engines_state content []) e q ≡ false
   not-served q other = elim (cases_Bool (is_off setup.device)) [
     | inl off ↦
         let none = nil_from_length (chain content q) (omega (arith, s.idle off, length-le-held content q)) in
@@ -77,10 +77,10 @@ module _ {cells : ℕ} {setup : Setup} {gear : Gear} {content : Content} {e g : 
   ]
 
   -- one more queue of the group, with those before it that are not the group's, where it does not qualify
-  pub next-best : {from queue : ℕ} (best : Option ℕ) → IsBest setup gear content e from best
+  pub next-best : {from queue : ℕ} (best : Option ℕ) → IsBest setup engines_state content e from best
       → IsNext (group_at setup.groups g).queues from queue
-      → (best ≡ None → false ≡ qualifies (work setup gear content []) e queue)
-      → IsBest setup gear content e (queue + 1) best
+      → (best ≡ None → false ≡ qualifies (work setup engines_state content []) e queue)
+      → IsBest setup engines_state content e (queue + 1) best
   next-best (Some other) before next none = before
   next-best {from = from} {queue = queue} None before next none = λ q low.
       elim (cases_lt q from) [
@@ -92,22 +92,22 @@ module _ {cells : ℕ} {setup : Setup} {gear : Gear} {content : Content} {e g : 
       ]
 
   -- with none from there on, that is all
-  pub last-best : {from : ℕ} (best : Option ℕ) → IsBest setup gear content e from best
+  pub last-best : {from : ℕ} (best : Option ℕ) → IsBest setup engines_state content e from best
       → NoneFrom (group_at setup.groups g).queues from
-      → MatchOption best ((q : ℕ) → qualifies (work setup gear content []) e q ≡ false)
-      (λ queue. qualifies (work setup gear content []) e queue ≡ true)
+      → MatchOption best ((q : ℕ) → qualifies (work setup engines_state content []) e q ≡ false)
+      (λ queue. qualifies (work setup engines_state content []) e queue ≡ true)
   last-best (Some queue) before none = before
   last-best {from = from} None before none = λ q.
       elim (cases_lt q from) [ inl below ↦ before q below | inr past ↦ not-served q (none q past) ]
 
 -- ---- a queue with a front
 
-module _ {cells : ℕ} {setup : Setup} {gear : Gear} {content : Content} {e g q : ℕ} {front : Slot}
-    (s : IsInStep setup gear cells content) (group : is_off setup.device ≡ false → IsOpen setup content e g)
+module _ {cells : ℕ} {setup : Setup} {engines_state : EnginesState} {content : Content} {e g q : ℕ} {front : HeldEntry}
+    (s : IsInStep setup engines_state cells content) (group : is_off setup.device ≡ false → IsOpen setup content e g)
     (hq : q < setup.caps.queues) (hf : slice_get (chain content q) 0 ≡ Some front) where
   -- while the device is Off there is no front
   on : is_off setup.device ≡ false
-  on = awake-found s (λ (l : List Slot). slice_get l 0) q refl hf
+  on = awake-found s (λ (l : List HeldEntry). slice_get l 0) q refl hf
 
   pub taking-engine : e < setup.caps.engines
   taking-engine = (group on).engine
@@ -116,28 +116,28 @@ module _ {cells : ℕ} {setup : Setup} {gear : Gear} {content : Content} {e g q 
   home = (group on).home
 
   -- the group is one of those whose buffers are kept
-  pub within-groups : g < length gear.buffers.groups
+  pub within-groups : g < length engines_state.buffers.groups
   within-groups = rw (s.buffers on) (hit-at (λ (x : GroupConfig). has x.engines e) setup.groups zero_group g home).0
 
   -- what its qualifying comes to
   pub qualifies-is : {served : Bool} → served ≡ has (group_at setup.groups g).queues q
-      → qualifies (work setup gear content []) e q
-      ≡ (served && (fits gear.buffers.total gear.buffers.groups gear.buffers.used g (need_of setup front.1)
-      && (is_none (get_or gear.notes e None) || not (is_batch_of setup front.1))
+      → qualifies (work setup engines_state content []) e q
+      ≡ (served && (fits engines_state.buffers.total engines_state.buffers.groups engines_state.buffers.used g (need_of setup front.1)
+      && (is_none (get_or engines_state.notes e None) || not (is_batch_of setup front.1))
       && not (is_drain_of setup front.1
       && any_in (is_drain_of setup) (chain content (progress_list setup e)))))
   qualifies-is same =
-      let slot : nat_lt (length (chain content (progress_list setup e))) setup.caps.slots ≡ true =
-      lt-ltb _ _ (group on).slot in
+      let pair : nat_lt (length (chain content (progress_list setup e))) setup.caps.slots ≡ true =
+      lt-ltb _ _ (group on).pair in
       rw (same, s.buffers on, lt-ltb e setup.caps.engines taking-engine, lt-ltb q setup.caps.queues hq, home, hf)
-      (rw (lt-ltb e setup.caps.engines taking-engine, home, slot) refl)
+      (rw (lt-ltb e setup.caps.engines taking-engine, home, pair) refl)
 
   -- so its buffers fit
-  pub fits-taken : {n : ℕ} → n ≡ need_of setup front.1 → qualifies (work setup gear content []) e q ≡ true
-      → fits gear.buffers.total gear.buffers.groups gear.buffers.used g n ≡ true
+  pub fits-taken : {n : ℕ} → n ≡ need_of setup front.1 → qualifies (work setup engines_state content []) e q ≡ true
+      → fits engines_state.buffers.total engines_state.buffers.groups engines_state.buffers.used g n ≡ true
   fits-taken is taking =
       let all = and_parts (has (group_at setup.groups g).queues q) _ (sym (qualifies-is refl) ∙ taking) in
-      rw is (and_parts (fits gear.buffers.total gear.buffers.groups gear.buffers.used g (need_of setup front.1)) _
+      rw is (and_parts (fits engines_state.buffers.total engines_state.buffers.groups engines_state.buffers.used g (need_of setup front.1)) _
       (and_parts _ _ all.1).0).0
 
   -- once the front was taken the engine holds what it needs more
@@ -149,7 +149,7 @@ module _ {cells : ℕ} {setup : Setup} {gear : Gear} {content : Content} {e g q 
       let mid : Content = without_front content q in
       let same : chain mid p ≡ chain content p =
       get_or-set_other content q p (drop 1 (chain content q)) [] (omega (arith, hq)) in
-      let new : List Slot = chain mid p ++ (front.0, as_running front.1) ∷ [] in
+      let new : List HeldEntry = chain mid p ++ (front.0, as_running front.1) ∷ [] in
       let lists = s.store.lists in
       let within : p < length mid =
       rw (length-set content q (drop 1 (chain content q))) (omega (arith, lists, taking-engine)) in
@@ -163,13 +163,13 @@ module _ {cells : ℕ} {setup : Setup} {gear : Gear} {content : Content} {e g q 
       }
 
   -- by what the calls leave one after another
-  pub in_step-after : {more n p : ℕ} {took noted after : Gear} {now : Content} → p ≡ progress_list setup e
+  pub in_step-after : {more n p : ℕ} {took noted after : EnginesState} {now : Content} → p ≡ progress_list setup e
       → now ≡ after_push (without_front content q) p front.0 (as_running front.1) → more ≡ cells
       → n ≡ need_of setup front.1
-      → took ≡ record gear {
-        buffers = record gear.buffers {
+      → took ≡ record engines_state {
+        buffers = record engines_state.buffers {
           used =
-              set gear.buffers.used g (get_or gear.buffers.used g 0 + n);
+              set engines_state.buffers.used g (get_or engines_state.buffers.used g 0 + n);
         };
       }
       → noted ≡ record took {

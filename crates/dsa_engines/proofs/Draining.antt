@@ -6,7 +6,7 @@ use Rattle.std.proofs.lemmas.List.Folds.{list_any-append}
 use Rattle.std.specs.List.{list_any}
 use Rattle.dsa_base.specs.{Lists.{In}, Numbers.{numbers_below}}
 use Rattle.dsa_base.proofs.{Lists.{any-In}, NumberLemmas.{numbers_below-miss}}
-use Rattle.dsa_store.specs.{declared.entry.Entry.{Entry}, Content.{Slot, Content, chain}}
+use Rattle.dsa_store.specs.{declared.entry.Entry.{Entry}, Content.{HeldEntry, Content, chain}}
 use Rattle.dsa_book.specs.State.{Setup, any_in, holds_any}
 use Rattle.dsa_book.{specs.Work.{waits_for}, proofs.Held.{holds-hit, holds-nowhere}}
 use Rattle.dsa_queues.specs.Queues.{IsStoreFor}
@@ -23,11 +23,11 @@ none-more p n before here = rw add-one
     (grind (arith, common_steps, list_any-append p (numbers_below n) (n ∷ []), before, here))
 
 -- a list of which none is waited for
-none-in : (drain : Entry) (l : List Slot) → ((slot : Slot) → In slot l → waits_for drain slot.1 ≡ false)
+none-in : (drain : Entry) (l : List HeldEntry) → ((pair : HeldEntry) → In pair l → waits_for drain pair.1 ≡ false)
     → any_in (waits_for drain) l ≡ false
 none-in drain l none = elim (cases_Bool (any_in (waits_for drain) l)) [
   | inl one ↦
-      let found = any-In (λ (slot : Slot). waits_for drain slot.1) l one in
+      let found = any-In (λ (pair : HeldEntry). waits_for drain pair.1) l one in
       let false_is_true : false ≡ true = sym (none found.0 found.1.0) ∙ found.1.1 in
       absurd cc
   | inr none ↦ none
@@ -57,8 +57,8 @@ module _ (setup : Setup) {cells : ℕ} (content : Content) (drain : Entry) (stor
         by_list i h = elim (cases_lt i setup.caps.queues) [
           | inl low ↦ elim (cases_eq i drain.queue) [
             | inl same ↦ rw same (grind (arith, common_steps, queued, low, same))
-            | inr other ↦ none-in drain (chain content i) (λ slot at.
-                let its = placed.queued i slot low at in
+            | inr other ↦ none-in drain (chain content i) (λ pair at.
+                let its = placed.queued i pair low at in
                 grind (arith, common_steps, its, other))
           ]
           | inr past ↦ elim (cases_lt i (setup.caps.queues + setup.caps.engines)) [
@@ -70,8 +70,8 @@ module _ (setup : Setup) {cells : ℕ} (content : Content) (drain : Entry) (stor
             | inr high ↦
                 let k = i - (setup.caps.queues + setup.caps.engines) in
                 let is : setup.caps.queues + setup.caps.engines + k ≡ i = omega (arith, high) in
-                rw (← is) (none-in drain (chain content (setup.caps.queues + setup.caps.engines + k)) (λ slot at.
-                let its = placed.members k slot (omega (arith, store.lists, h, high)) at in
+                rw (← is) (none-in drain (chain content (setup.caps.queues + setup.caps.engines + k)) (λ pair at.
+                let its = placed.members k pair (omega (arith, store.lists, h, high)) at in
                 grind (arith, common_steps, its)))
           ]
         ]

@@ -7,7 +7,7 @@ use Rattle.std.proofs.lemmas.List.{get_or_append_left, get_or-append-add}
 use Rattle.std.specs.List.{find, filter}
 use Rattle.dsa_base.{specs.Rows.{when}, proofs.Tables.{when-some}}
 use Rattle.dsa_store.specs.declared.entry.{Cell.{Cell}, Entry.{Entry}}
-use Rattle.dsa_store.specs.Content.{Slot, Content, is_cell, chain, place_count, use_count, list_of, entry_of}
+use Rattle.dsa_store.specs.Content.{HeldEntry, Content, is_cell, chain, place_count, use_count, list_of_cell, entry_of}
 use Rattle.dsa_store.specs.Content.{StandsAt}
 use Rattle.dsa_store.proofs.Places.{count-nil, count-cons, count-append, count-at, is_cell-itself}
 use Rattle.dsa_store.proofs.Lists.{uses-cons, count-le-uses}
@@ -30,12 +30,12 @@ count-apart (l ∷ ls) (suc i) (suc j) cell ne =
 
 module _ (t : Ticket) where
   -- in a list without the cell nothing is found
-  find-absent : (l : List Slot) → place_count t.cell l ≡ 0 → find (is_ticket t) (filter is_running l) ≡ None
+  find-absent : (l : List HeldEntry) → place_count t.cell l ≡ 0 → find (is_ticket t) (filter is_running l) ≡ None
   find-absent [] h = refl
   find-absent (s ∷ l) h = grind (arith, count-cons t.cell s l, find-absent l)
 
   -- in a list with the cell its entry is, if it is meant
-  find-there : (l : List Slot) (k : ℕ) (e : Entry) → k < length l → get_or l k (t.cell, e) ≡ (t.cell, e)
+  find-there : (l : List HeldEntry) (k : ℕ) (e : Entry) → k < length l → get_or l k (t.cell, e) ≡ (t.cell, e)
       → place_count t.cell l ≤ 1
       → find (is_ticket t) (filter is_running l) ≡ when (e.running && e.name == t.name) (t.cell, e)
   find-there [] k e h is one = absurd (omega (arith, h))
@@ -65,7 +65,7 @@ neither : (a x y : ℕ) → (a == x || a == y) ≡ false → (a ≢ x) × (a ≢
 neither a x y h = (λ p. absurd (grind (arith, h, p)), λ q. absurd (grind (arith, h, q)))
 
 -- what is meant, by the list and the entry of the ticket's cell
-abbrev pub meant_in : Setup → ℕ → Ticket → Option ℕ → Option Entry → Option Slot
+abbrev pub meant_in : Setup → ℕ → Ticket → Option ℕ → Option Entry → Option HeldEntry
 meant_in setup e t (Some i) (Some entry) =
     when ((i == progress_list setup e || i == member_list setup e) && (entry.running && entry.name == t.name))
     (t.cell, entry)
@@ -83,8 +83,8 @@ module _ (setup : Setup) (content : Content) (e : ℕ) (t : Ticket) (once : use_
       → place_count t.cell (chain content (member_list setup e)) ≡ 0
       → find (is_ticket t) (running_on (lists_alone setup content) e) ≡ None
   absent p m =
-      let first : List Slot = chain content (progress_list setup e) in
-      let second : List Slot = chain content (member_list setup e) in
+      let first : List HeldEntry = chain content (progress_list setup e) in
+      let second : List HeldEntry = chain content (member_list setup e) in
       rw (lt-ltb e setup.caps.engines h)
       (find-absent t (first ++ second) (omega (arith, count-append t.cell first second, p, m)))
 
@@ -98,8 +98,8 @@ module _ (setup : Setup) (content : Content) (e : ℕ) (t : Ticket) (once : use_
     mine : IsMine setup e i → find (is_ticket t) (running_on (lists_alone setup content) e)
         ≡ when (entry.running && entry.name == t.name) (t.cell, entry)
     mine is =
-        let first : List Slot = chain content (progress_list setup e) in
-        let second : List Slot = chain content (member_list setup e) in
+        let first : List HeldEntry = chain content (progress_list setup e) in
+        let second : List HeldEntry = chain content (member_list setup e) in
         let lengths = length-append first second in
         let low : place_count t.cell (first ++ second) ≤ 1 =
         omega (
@@ -112,11 +112,11 @@ module _ (setup : Setup) (content : Content) (e : ℕ) (t : Ticket) (once : use_
           | inl p ↦
               let there = rw p at at in
               find-there t (first ++ second) k entry (omega (arith, lengths, there.within))
-              (get_or_append_left first second (t.cell, entry) k there.within ∙ there.slot) low
+              (get_or_append_left first second (t.cell, entry) k there.within ∙ there.pair) low
           | inr m ↦
               let there = rw m at at in
               find-there t (first ++ second) (length first + k) entry (omega (arith, lengths, there.within))
-              (get_or-append-add first second k (t.cell, entry) ∙ there.slot) low
+              (get_or-append-add first second k (t.cell, entry) ∙ there.pair) low
         ])
 
     -- a cell that stands there is looked for in its list
@@ -136,7 +136,7 @@ module _ (setup : Setup) (content : Content) (e : ℕ) (t : Ticket) (once : use_
 
   -- by what the store answers
   pub found : find (is_ticket t) (running_on (lists_alone setup content) e)
-      ≡ meant_in setup e t (list_of content t.cell) (entry_of content t.cell)
+      ≡ meant_in setup e t (list_of_cell content t.cell) (entry_of content t.cell)
   found = elim (placed content t.cell) [
     | inl none ↦ rw (list_of-none content t.cell none) (nowhere none)
     | inr s ↦ rw (
@@ -163,7 +163,7 @@ pub running-place : (setup : Setup) (content : Content) (e : ℕ) (t : Ticket) (
 running-place setup content e t entry once is = on (cases_lt e setup.caps.engines) (placed content t.cell)
   where
     none : find (is_ticket t) (running_on (lists_alone setup content) e) ≡ None → ⊥
-    none n = let both : ◌≡◌ {A = Option Slot} None (Some (t.cell, entry)) = sym n ∙ is in cc
+    none n = let both : ◌≡◌ {A = Option HeldEntry} None (Some (t.cell, entry)) = sym n ∙ is in cc
 
     on : (e < setup.caps.engines) ⊎ (setup.caps.engines ≤ e) → (use_count content t.cell ≡ 0) ⊎ Stands content t.cell
         → RunsAt setup content e t.cell entry
@@ -172,7 +172,7 @@ running-place setup content e t entry once is = on (cases_lt e setup.caps.engine
     on (inl h) (inr s) =
         let meant = when-some _ (t.cell, s.entry) (t.cell, entry) (sym (found-at setup content e t once h s.at) ∙ is) in
         let parts = and_parts (s.list == progress_list setup e || s.list == member_list setup e) _ meant.0 in
-        let same : s.entry ≡ entry = ap (λ (x : Slot). x.1) meant.1 in
+        let same : s.entry ≡ entry = ap (λ (x : HeldEntry). x.1) meant.1 in
         record {
           engine = h;
           list = s.list;

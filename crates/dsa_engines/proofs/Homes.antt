@@ -10,13 +10,13 @@ use Rattle.dsa_base.proofs.{NumberLemmas.{numbers_below-miss}, NumberLists.{get_
 use Rattle.dsa_base.proofs.{Tables.{no-row}, Counts.{only-position}}
 use Rattle.dsa_store.specs.Content.{Content}
 use Rattle.dsa_book.specs.{State.{Setup, is_off}, Work.{group_in}}
-use Rattle.dsa_engines.specs.Engines.{Gear, IsInStep}
+use Rattle.dsa_engines.specs.Engines.{EnginesState, IsInStep}
 
 -- the device has an engine that is below a copy of its capabilities
 pub has-engine : {caps all : Caps} {e : ℕ} → caps ≡ all → e < caps.engines → e < all.engines
 has-engine same h = rw (← same) h
 
-module _ {cells : ℕ} {setup : Setup} {gear : Gear} {content : Content} (s : IsInStep setup gear cells content)
+module _ {cells : ℕ} {setup : Setup} {engines_state : EnginesState} {content : Content} (s : IsInStep setup engines_state cells content)
     (on : is_off setup.device ≡ false) {e : ℕ} (he : e < setup.caps.engines) where
   -- while the device is not Off each of its engines is of one group at most
   pub one-group : {g : ℕ} → g < length setup.groups → has (group_at setup.groups g).engines e ≡ true
@@ -31,7 +31,7 @@ module _ {cells : ℕ} {setup : Setup} {gear : Gear} {content : Content} (s : Is
       only-position (λ (x : GroupConfig). has x.engines e) setup.groups g zero_group (grind (arith, low)) hg has_e
 
   -- what is kept of it is its group
-  pub home-of : get_or gear.homes e None ≡ group_in setup.groups e
+  pub home-of : get_or engines_state.homes e None ≡ group_in setup.groups e
   home-of = rw (s.homes on) (get_or-each (group_in setup.groups) setup.caps.engines e None he)
 
 -- one more engine

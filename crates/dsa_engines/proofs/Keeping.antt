@@ -8,10 +8,10 @@ use Rattle.std.specs.List.{filter, sum_by}
 use Rattle.dsa_base.specs.Numbers.{has, numbers_below}
 use Rattle.dsa_regs.specs.{declared.{Caps.{Caps}, GroupConfig.{GroupConfig}}, Config.{group_at}}
 use Rattle.dsa_buffers.specs.Buffers.{Buffers}
-use Rattle.dsa_store.specs.{Content.{Slot, Content, chain}}
+use Rattle.dsa_store.specs.{Content.{HeldEntry, Content, chain}}
 use Rattle.dsa_store.proofs.Lists.{length-le-held}
 use Rattle.dsa_book.specs.{State.{Setup, is_off}, Work.{used_on}}
-use Rattle.dsa_engines.specs.Engines.{Gear, IsInStep, lists_alone, buffers_of, homes_of}
+use Rattle.dsa_engines.specs.Engines.{EnginesState, IsInStep, lists_alone, buffers_of, homes_of}
 use Rattle.dsa_engines.proofs.Used.{load, used_on-same}
 
 -- ---- a change that touches no list of an engine
@@ -33,11 +33,11 @@ buffers_by caps groups holds = record {
       (numbers_below caps.groups);
 }
 
-module _ {cells : ℕ} (setup more : Setup) (gear : Gear) (content now : Content)
-    (s : IsInStep setup gear cells content) (k : KeepsLoads setup more content now)
+module _ {cells : ℕ} (setup more : Setup) (engines_state : EnginesState) (content now : Content)
+    (s : IsInStep setup engines_state cells content) (k : KeepsLoads setup more content now)
     (on : is_off more.device ≡ false) where
   -- the groups of the engines stay
-  pub homes-kept : gear.homes ≡ homes_of more
+  pub homes-kept : engines_state.homes ≡ homes_of more
   homes-kept = s.homes (k.device on) ∙ rw (k.caps, k.groups) refl
 
   -- each engine holds what it held
@@ -45,13 +45,13 @@ module _ {cells : ℕ} (setup more : Setup) (gear : Gear) (content now : Content
   engine-kept e = used_on-same setup more content now e k.caps (λ j lt is. k.loads j (omega arith))
 
   -- and so do the buffers in use
-  pub buffers-kept : gear.buffers ≡ buffers_of more now
+  pub buffers-kept : engines_state.buffers ≡ buffers_of more now
   buffers-kept = s.buffers (k.device on) ∙ ap (buffers_by setup.caps setup.groups) (sym (fun_ext engine-kept))
       ∙ rw (k.caps, k.groups) refl
 
 -- ---- a device with entries
 
-module _ {cells : ℕ} {setup : Setup} {gear : Gear} {content : Content} (s : IsInStep setup gear cells content) where
+module _ {cells : ℕ} {setup : Setup} {engines_state : EnginesState} {content : Content} (s : IsInStep setup engines_state cells content) where
   -- while the device is Off nothing stands in a list
   pub awake : (i : ℕ) → 0 < length (chain content i) → is_off setup.device ≡ false
   awake i some =
@@ -61,18 +61,18 @@ module _ {cells : ℕ} {setup : Setup} {gear : Gear} {content : Content} (s : Is
       ]
 
   -- so that nothing is found in one
-  pub awake-found : {X : Type 0} {x : X} (search_in : List Slot → Option X) (i : ℕ) → search_in [] ≡ None
+  pub awake-found : {X : Type 0} {x : X} (search_in : List HeldEntry → Option X) (i : ℕ) → search_in [] ≡ None
       → search_in (chain content i) ≡ Some x → is_off setup.device ≡ false
   awake-found {X} {x} search_in i none found = awake i (some (chain content i) found)
     where
-      some : (l : List Slot) → search_in l ≡ Some x → 0 < length l
+      some : (l : List HeldEntry) → search_in l ≡ Some x → 0 < length l
       some [] h = absurd cc
-      some (slot ∷ l) h = omega arith
+      some (pair ∷ l) h = omega arith
 
   module _ (on : is_off setup.device ≡ false) {more : ℕ} (same : more ≡ cells) where
     -- lists, cells and notes stay as many, and the buffers in use are told anew
-    pub in_step-moved : {after : Gear} {now : Content} → length now ≡ length content
-        → length after.notes ≡ length gear.notes → after.homes ≡ gear.homes → after.buffers ≡ buffers_of setup now
+    pub in_step-moved : {after : EnginesState} {now : Content} → length now ≡ length content
+        → length after.notes ≡ length engines_state.notes → after.homes ≡ engines_state.homes → after.buffers ≡ buffers_of setup now
         → IsInStep setup after more now
     in_step-moved lists notes homes buffers = record {
       queues = s.queues;
@@ -85,9 +85,9 @@ module _ {cells : ℕ} {setup : Setup} {gear : Gear} {content : Content} (s : Is
     }
 
     -- a queue's list, whatever it comes to
-    pub in_step-queue : (q : ℕ) (l : List Slot) → q < setup.caps.queues → IsInStep setup gear more (set content q l)
+    pub in_step-queue : (q : ℕ) (l : List HeldEntry) → q < setup.caps.queues → IsInStep setup engines_state more (set content q l)
     in_step-queue q l hq = in_step-moved (length-set content q l) refl refl
-        (buffers-kept setup setup gear content (set content q l) s (record {
+        (buffers-kept setup setup engines_state content (set content q l) s (record {
           caps = refl;
           groups = refl;
           device = λ on. on;

@@ -9,7 +9,7 @@ use Rattle.dsa_base.{specs.Rows.{passes}, proofs.Lists.{In-find}}
 use Rattle.dsa_desc.specs.Descriptor.{is_fenced}
 use Rattle.dsa_regs.specs.Buffers.{fits}
 use Rattle.dsa_store.specs.declared.entry.{Cell.{Cell}, Entry.{Entry}}
-use Rattle.dsa_store.specs.Content.{Slot, Content, is_cell, chain, place_count, use_count, after_set, after_give_back}
+use Rattle.dsa_store.specs.Content.{HeldEntry, Content, is_cell, chain, place_count, use_count, after_set, after_give_back}
 use Rattle.dsa_store.proofs.Places.{count-cons, count-at, is_cell-itself}
 use Rattle.dsa_store.proofs.{Lists.{count-le-uses}, Finding.{replaced-at}}
 use Rattle.dsa_book.specs.declared.{note.BatchNote.{BatchNote}, answer.StartAnswer.TheVariants.{Started, NoBuffers}}
@@ -17,25 +17,25 @@ use Rattle.dsa_book.specs.declared.fate.FateRow.{FateRow}
 use Rattle.dsa_book.specs.State.{Setup, is_off, need_of, held_by}
 use Rattle.dsa_book.specs.Work.{member_list, members, with_first_run, with_running_entry, as_running, has_room, start}
 use Rattle.dsa_queues.{specs.Queues.{Kept, IsCounted}, proofs.Counts.{counted-replaced}}
-use Rattle.dsa_engines.specs.Engines.{Gear, work, lists_alone, Holds, IsInStep, WaitInOrder}
+use Rattle.dsa_engines.specs.Engines.{EnginesState, work, lists_alone, Holds, IsInStep, WaitInOrder}
 use Rattle.dsa_engines.proofs.{Homes.{home-of}, Keeping.{awake-found, in_step-moved}}
 use Rattle.dsa_engines.proofs.Used.{load, load-nil, load-cons, load-set, held-is, none-load, HoldsMore, gives-back}
 use Rattle.dsa_engines.proofs.Used.{taken-of, buffers-same, written-less}
 
 -- an entry that does not run
-abbrev pub waits : Slot → Bool
-waits slot = not slot.1.running
+abbrev pub waits : HeldEntry → Bool
+waits pair = not pair.1.running
 
 -- ---- the first that waits
 
 -- what runs then, by whether the front does
-first-run : (x : Slot) (l : List Slot) (b : Bool) → x.1.running ≡ b
+first-run : (x : HeldEntry) (l : List HeldEntry) (b : Bool) → x.1.running ≡ b
     → with_first_run (x ∷ l) ≡ cond b (x ∷ with_first_run l) (with_running_entry x ∷ l)
-first-run x l b is = ap (λ (c : Bool). let m : List Slot =
+first-run x l b is = ap (λ (c : Bool). let m : List HeldEntry =
     cond c (x ∷ with_first_run l) (with_running_entry x ∷ l) in m) is
 
 -- it is found at the front or behind one that runs
-first-found : (x : Slot) (l : List Slot) (s : Slot) → find waits (x ∷ l) ≡ Some s
+first-found : (x : HeldEntry) (l : List HeldEntry) (s : HeldEntry) → find waits (x ∷ l) ≡ Some s
     → ((x.1.running ≡ true) × (find waits l ≡ Some s)) ⊎ ((x.1.running ≡ false) × (x ≡ s))
 first-found x l s h = go x.1.running refl h
   where
@@ -45,14 +45,14 @@ first-found x l s h = go x.1.running refl h
     go false is found = inr (is, cc)
 
 -- its place in the list
-pub record WaitsIn (l : List Slot) (s : Slot) : Type 0 where
+pub record WaitsIn (l : List HeldEntry) (s : HeldEntry) : Type 0 where
   pub place : ℕ
   pub within : place < length l
-  pub slot : get_or l place s ≡ s
+  pub pair : get_or l place s ≡ s
   pub started : with_first_run l ≡ set l place (with_running_entry s)
 
 -- where one is found it has a place
-pub waits-in : (l : List Slot) (s : Slot) → find waits l ≡ Some s → WaitsIn l s
+pub waits-in : (l : List HeldEntry) (s : HeldEntry) → find waits l ≡ Some s → WaitsIn l s
 waits-in [] s h = absurd cc
 waits-in (x ∷ l) s h =
     elim (first-found x l s h) [
@@ -61,35 +61,35 @@ waits-in (x ∷ l) s h =
           record {
             place = suc w.place;
             within = omega (arith, w.within);
-            slot = w.slot;
-            started = first-run x l true later.0 ∙ ap (λ (m : List Slot). let n : List Slot = x ∷ m in n) w.started;
+            pair = w.pair;
+            started = first-run x l true later.0 ∙ ap (λ (m : List HeldEntry). let n : List HeldEntry = x ∷ m in n) w.started;
           }
       | inr front ↦ record {
         place = zero;
         within = omega arith;
-        slot = front.1;
+        pair = front.1;
         started = first-run x l false front.0
-            ∙ ap (λ (y : Slot). let m : List Slot = with_running_entry y ∷ l in m) front.1;
+            ∙ ap (λ (y : HeldEntry). let m : List HeldEntry = with_running_entry y ∷ l in m) front.1;
       }
     ]
 
 -- once it runs, the list needs what it needs more
-load-started : (setup : Setup) (l : List Slot) (s : Slot) → find waits l ≡ Some s
+load-started : (setup : Setup) (l : List HeldEntry) (s : HeldEntry) → find waits l ≡ Some s
     → load setup (with_first_run l) ≡ load setup l + need_of setup s.1
 load-started setup l s h =
     let w = waits-in l s h in
     let none = held-is setup s.1 (not-true s.1.running (In-find waits s l h).1) in
-    let same = ap (λ (y : Slot). held_by setup y.1) w.slot in
+    let same = ap (λ (y : HeldEntry). held_by setup y.1) w.pair in
     rw w.started (omega (arith, load-set setup l w.place (with_running_entry s) s w.within, same, none))
 
 -- its cell is named there
-found-counted : (l : List Slot) (s : Slot) → find waits l ≡ Some s → 1 ≤ place_count s.0 l
+found-counted : (l : List HeldEntry) (s : HeldEntry) → find waits l ≡ Some s → 1 ≤ place_count s.0 l
 found-counted l s h =
     let w = waits-in l s h in
-    count-at s.0 l w.place s w.within (rw w.slot (is_cell-itself s.0 s.1))
+    count-at s.0 l w.place s w.within (rw w.pair (is_cell-itself s.0 s.1))
 
 -- where it stands in front none runs
-none-runs : (setup : Setup) (l : List Slot) (s : Slot) → place_count s.0 l ≤ 1 → find waits l ≡ Some s
+none-runs : (setup : Setup) (l : List HeldEntry) (s : HeldEntry) → place_count s.0 l ≤ 1 → find waits l ≡ Some s
     → passes (is_cell s.0) (slice_get l 0) ≡ true → WaitInOrder l → load setup l ≡ 0
 none-runs setup [] s once h front order = load-nil setup
 none-runs setup (x ∷ l) s once h here order =
@@ -104,18 +104,18 @@ none-runs setup (x ∷ l) s once h here order =
 -- ---- a start
 
 -- the member that runs now counts as it did
-pub started-counted : {cells : ℕ} {k : Kept} {gear : Gear} {content now : Content} {e i : ℕ} {cell : Cell}
+pub started-counted : {cells : ℕ} {k : Kept} {engines_state : EnginesState} {content now : Content} {e i : ℕ} {cell : Cell}
     {entry : Entry}
-    → IsInStep k.setup gear cells content → ((c : Cell) → use_count content c ≤ 1) → e < k.setup.caps.engines
+    → IsInStep k.setup engines_state cells content → ((c : Cell) → use_count content c ≤ 1) → e < k.setup.caps.engines
     → i ≡ member_list k.setup e → find waits (chain content i) ≡ Some (cell, entry) → IsCounted k content
     → now ≡ after_set content cell (as_running entry) → IsCounted k now
 started-counted {k = k} {content = content} {i = i} {cell = cell} {entry = entry} s once he ie h c is =
     let w = waits-in (chain content i) (cell, entry) h in
     rw is (counted-replaced k content i w.place cell entry (as_running entry) (once cell)
-    (omega (arith, s.store.lists, he, ie)) (record { within = w.within; slot = w.slot }) refl c)
+    (omega (arith, s.store.lists, he, ie)) (record { within = w.within; pair = w.pair }) refl c)
 
-module _ {cells : ℕ} {setup : Setup} {gear : Gear} {content : Content} {e i : ℕ} {cell : Cell} {entry : Entry}
-    (s : IsInStep setup gear cells content) (once : (c : Cell) → use_count content c ≤ 1)
+module _ {cells : ℕ} {setup : Setup} {engines_state : EnginesState} {content : Content} {e i : ℕ} {cell : Cell} {entry : Entry}
+    (s : IsInStep setup engines_state cells content) (once : (c : Cell) → use_count content c ≤ 1)
     (he : e < setup.caps.engines) (ie : i ≡ member_list setup e)
     (h : find waits (chain content i) ≡ Some (cell, entry)) where
   -- while the device is Off no member waits
@@ -123,7 +123,7 @@ module _ {cells : ℕ} {setup : Setup} {gear : Gear} {content : Content} {e i : 
   on = awake-found s (find waits) i refl h
 
   -- the group has none in use at least
-  pub holds-none : Holds (get_or gear.homes e None) 0 gear.buffers
+  pub holds-none : Holds (get_or engines_state.homes e None) 0 engines_state.buffers
   holds-none = (gives-back s on {after = content} {i = i} (record {
     engine = he;
     list = inr ie;
@@ -136,13 +136,13 @@ module _ {cells : ℕ} {setup : Setup} {gear : Gear} {content : Content} {e i : 
   started-is =
       let w = waits-in (chain content i) (cell, entry) h in
       rw w.started (replaced-at content i w.place cell entry (as_running entry) (once cell)
-      (record { within = w.within; slot = w.slot }))
+      (record { within = w.within; pair = w.pair }))
 
   -- its list needs what it needs more
   started-more : HoldsMore setup content (set content i (with_first_run (chain content i))) e i (need_of setup entry)
   started-more =
       let lists = s.store.lists in
-      let l : List Slot = with_first_run (chain content i) in
+      let l : List HeldEntry = with_first_run (chain content i) in
       record {
         engine = he;
         list = inr ie;
@@ -152,12 +152,12 @@ module _ {cells : ℕ} {setup : Setup} {gear : Gear} {content : Content} {e i : 
       }
 
   -- once it runs all is in step again
-  pub in_step-started : {more g n : ℕ} {after : Gear} {now : Content} → more ≡ cells
-      → get_or gear.homes e None ≡ Some g → n ≡ need_of setup entry
-      → after ≡ record gear {
-        buffers = record gear.buffers {
+  pub in_step-started : {more g n : ℕ} {after : EnginesState} {now : Content} → more ≡ cells
+      → get_or engines_state.homes e None ≡ Some g → n ≡ need_of setup entry
+      → after ≡ record engines_state {
+        buffers = record engines_state.buffers {
           used =
-              set gear.buffers.used g (get_or gear.buffers.used g 0 + n);
+              set engines_state.buffers.used g (get_or engines_state.buffers.used g 0 + n);
         };
       }
       → now ≡ after_set content cell (as_running entry) → IsInStep setup after more now
@@ -167,9 +167,9 @@ module _ {cells : ℕ} {setup : Setup} {gear : Gear} {content : Content} {e i : 
 
   module _ (fence : false ≡ (is_fenced entry.desc && not (passes (is_cell cell) (slice_get (chain content i) 0)))) where
     -- the first that waits stands in front, so none runs
-    pub in_step-abandoned : {more : ℕ} {after : Gear} {now : Content} (new : Option BatchNote) (fails : Bool)
+    pub in_step-abandoned : {more : ℕ} {after : EnginesState} {now : Content} (new : Option BatchNote) (fails : Bool)
         → more ≡ cells → WaitInOrder (members (lists_alone setup content) e)
-        → true ≡ (is_fenced entry.desc && fails) → after ≡ record gear { notes = set gear.notes e new }
+        → true ≡ (is_fenced entry.desc && fails) → after ≡ record engines_state { notes = set engines_state.notes e new }
         → now ≡ after_give_back content i → IsInStep setup after more now
     in_step-abandoned new fails kept order failing ae is =
         let front : passes (is_cell cell) (slice_get (chain content i) 0) ≡ true =
@@ -179,34 +179,34 @@ module _ {cells : ℕ} {setup : Setup} {gear : Gear} {content : Content} {e i : 
         rw (lt-ltb e setup.caps.engines he) refl in
         let none = none-runs setup (chain content i) (cell, entry) low h front
         (subst WaitInOrder (all ∙ ap (chain content) (sym ie)) order) in
-        rw (ae, is) (in_step-moved s on kept (length-set content i []) (length-set gear.notes e new) refl
+        rw (ae, is) (in_step-moved s on kept (length-set content i []) (length-set engines_state.notes e new) refl
         (buffers-same s on (written-less [] s.store.lists he (inr ie) (omega (arith, none, load-nil setup)))))
 
     module _ (failing : false ≡ (is_fenced entry.desc
-        && passes (λ (note : BatchNote). note.failed) (get_or gear.notes e None)))
+        && passes (λ (note : BatchNote). note.failed) (get_or engines_state.notes e None)))
         {n : ℕ} (ne : n ≡ need_of setup entry) (fates : List FateRow) where
       -- there is room for it where the code finds room
-      room-is : has_room (work setup gear content fates) e (need_of setup entry)
-          ≡ passes (λ g. fits gear.buffers.total gear.buffers.groups gear.buffers.used g n) (get_or gear.homes e None)
+      room-is : has_room (work setup engines_state content fates) e (need_of setup entry)
+          ≡ passes (λ g. fits engines_state.buffers.total engines_state.buffers.groups engines_state.buffers.used g n) (get_or engines_state.homes e None)
       room-is = rw (ne, home-of s on he, s.buffers on) refl
 
       -- without room it waits for buffers
-      pub start-refused : passes (λ g. fits gear.buffers.total gear.buffers.groups gear.buffers.used g n)
-          (get_or gear.homes e None) ≡ false
-          → start (work setup gear content fates) e ≡ (NoBuffers, work setup gear content fates)
+      pub start-refused : passes (λ g. fits engines_state.buffers.total engines_state.buffers.groups engines_state.buffers.used g n)
+          (get_or engines_state.homes e None) ≡ false
+          → start (work setup engines_state content fates) e ≡ (NoBuffers, work setup engines_state content fates)
       start-refused no_room = rw (lt-ltb e setup.caps.engines he, rw ie at h)
           (rw (lt-ltb e setup.caps.engines he, sym (rw ie at fence), sym failing, room-is ∙ no_room) refl)
 
       -- with room it is started
-      pub start-done : {g : ℕ} {after : Gear} {now : Content} → get_or gear.homes e None ≡ Some g
-          → fits gear.buffers.total gear.buffers.groups gear.buffers.used g n ≡ true
-          → after ≡ record gear {
-            buffers = record gear.buffers {
+      pub start-done : {g : ℕ} {after : EnginesState} {now : Content} → get_or engines_state.homes e None ≡ Some g
+          → fits engines_state.buffers.total engines_state.buffers.groups engines_state.buffers.used g n ≡ true
+          → after ≡ record engines_state {
+            buffers = record engines_state.buffers {
               used =
-                  set gear.buffers.used g (get_or gear.buffers.used g 0 + n);
+                  set engines_state.buffers.used g (get_or engines_state.buffers.used g 0 + n);
             };
           }
-          → now ≡ after_set content cell (as_running entry) → start (work setup gear content fates) e
+          → now ≡ after_set content cell (as_running entry) → start (work setup engines_state content fates) e
           ≡ (Started (record { cell = cell; name = entry.name }), work setup after now fates)
       start-done home fitting ae is = rw (ae, is ∙ started-is, ie, lt-ltb e setup.caps.engines he, rw ie at h)
           (rw (lt-ltb e setup.caps.engines he, sym (rw ie at fence), sym failing, (rw home at room-is) ∙ fitting) refl)

@@ -10,17 +10,17 @@ use Rattle.dsa_base.proofs.{NumberSums.{sum-raised, zero-sum}, FirstPlaces.{hit-
 use Rattle.dsa_regs.specs.declared.{Caps.{Caps}, GroupConfig.{GroupConfig}}
 use Rattle.dsa_regs.specs.declared.layout.ListUse.TheVariants.{Progress, Members}
 use Rattle.dsa_regs.specs.{Caps.{list_number}, Config.{zero_group, group_at}}
-use Rattle.dsa_store.specs.{declared.entry.Entry.{Entry}, Content.{Slot, Content, chain, held_count}}
+use Rattle.dsa_store.specs.{declared.entry.Entry.{Entry}, Content.{HeldEntry, Content, chain, held_count}}
 use Rattle.dsa_store.proofs.Lists.{length-le-held}
 use Rattle.dsa_book.specs.State.{Setup, is_off, need_of, held_by}
 use Rattle.dsa_book.specs.Work.{used_on, used, all_used, group_in, progress_list, member_list}
-use Rattle.dsa_engines.specs.Engines.{Gear, IsInStep, lists_alone, is_running, buffers_of, buffers_at_rest, Holds}
+use Rattle.dsa_engines.specs.Engines.{EnginesState, IsInStep, lists_alone, is_running, buffers_of, buffers_at_rest, Holds}
 use Rattle.dsa_engines.{specs.Engines.{buffers_after_return}, proofs.Homes.{one-group, home-of}}
 
 module _ (setup : Setup) where
   -- what the entries of a list hold
-  pub load : List Slot → ℕ
-  load l = sum_by (λ slot. held_by setup slot.1) l
+  pub load : List HeldEntry → ℕ
+  load l = sum_by (λ pair. held_by setup pair.1) l
 
   -- without entries nothing is held
   pub load-nil : load [] ≡ 0
@@ -28,32 +28,32 @@ module _ (setup : Setup) where
   load-nil = refl
 
   -- two lists one after the other hold what both do
-  pub load-append : (a b : List Slot) → load (a ++ b) ≡ load a + load b
+  pub load-append : (a b : List HeldEntry) → load (a ++ b) ≡ load a + load b
   unfolding load
-  load-append = sum_by-append (λ slot. held_by setup slot.1)
+  load-append = sum_by-append (λ pair. held_by setup pair.1)
 
   -- one entry more
-  pub load-cons : (s : Slot) (l : List Slot) → load (s ∷ l) ≡ held_by setup s.1 + load l
+  pub load-cons : (s : HeldEntry) (l : List HeldEntry) → load (s ∷ l) ≡ held_by setup s.1 + load l
   unfolding load
-  load-cons = sum_by-cons (λ slot. held_by setup slot.1)
+  load-cons = sum_by-cons (λ pair. held_by setup pair.1)
 
   -- and that at the end
-  pub load-push : (l : List Slot) (s : Slot) → load (l ++ s ∷ []) ≡ load l + held_by setup s.1
+  pub load-push : (l : List HeldEntry) (s : HeldEntry) → load (l ++ s ∷ []) ≡ load l + held_by setup s.1
   unfolding load
-  load-push = sum_by_push (λ slot. held_by setup slot.1)
+  load-push = sum_by_push (λ pair. held_by setup pair.1)
 
   -- another in the place of one
-  pub load-set : (l : List Slot) (k : ℕ) (s d : Slot) → k < length l
+  pub load-set : (l : List HeldEntry) (k : ℕ) (s d : HeldEntry) → k < length l
       → load (set l k s) + held_by setup (get_or l k d).1 ≡ load l + held_by setup s.1
   unfolding load
-  load-set = sum_by-set (λ slot. held_by setup slot.1)
+  load-set = sum_by-set (λ pair. held_by setup pair.1)
 
   -- what one entry holds, by whether it runs
   pub held-is : {b : Bool} (entry : Entry) → entry.running ≡ b → held_by setup entry ≡ cond b (need_of setup entry) 0
   held-is entry is = ap (λ (running : Bool). cond {A = ℕ} running (need_of setup entry) 0) is
 
   -- where none runs nothing is held
-  pub none-load : (l : List Slot) → filter is_running l ≡ [] → load l ≡ 0
+  pub none-load : (l : List HeldEntry) → filter is_running l ≡ [] → load l ≡ 0
   none-load [] h = load-nil
   none-load (s ∷ l) h = grind (arith, load-cons s l, none-load l)
 
@@ -127,7 +127,7 @@ module _ {setup : Setup} {before after : Content} {e i n : ℕ} (h : HoldsMore s
   group-raised k = sum-raised (has (group_at setup.groups k).engines) (used_on (lists_alone setup before))
       (used_on (lists_alone setup after)) e n same-engine more-engine setup.caps.engines
 
-module _ {cells : ℕ} {setup : Setup} {gear : Gear} {content : Content} (s : IsInStep setup gear cells content)
+module _ {cells : ℕ} {setup : Setup} {engines_state : EnginesState} {content : Content} (s : IsInStep setup engines_state cells content)
     (on : is_off setup.device ≡ false) {before after : Content} {e i n : ℕ}
     (h : HoldsMore setup before after e i n) where
   -- its group has n more in use
@@ -150,17 +150,17 @@ module _ {cells : ℕ} {setup : Setup} {gear : Gear} {content : Content} (s : Is
       (λ k lt. grind (arith, group-raised h k, one-group s on h.engine {g = k} (omega (arith, lt, groups)), is))
 
 -- as an engine holds n less, its group, if it has one, gives n back
-pub record GivesBack (setup : Setup) (gear : Gear) (after : Content) (e n : ℕ) : Type 0 where
-  pub holds : Holds (get_or gear.homes e None) n gear.buffers
-  pub given : buffers_after_return (get_or gear.homes e None) n gear.buffers ≡ buffers_of setup after
+pub record GivesBack (setup : Setup) (engines_state : EnginesState) (after : Content) (e n : ℕ) : Type 0 where
+  pub holds : Holds (get_or engines_state.homes e None) n engines_state.buffers
+  pub given : buffers_after_return (get_or engines_state.homes e None) n engines_state.buffers ≡ buffers_of setup after
 
-module _ {cells : ℕ} {setup : Setup} {gear : Gear} {content : Content} (s : IsInStep setup gear cells content)
+module _ {cells : ℕ} {setup : Setup} {engines_state : EnginesState} {content : Content} (s : IsInStep setup engines_state cells content)
     (on : is_off setup.device ≡ false) {after : Content} {e i : ℕ} where
   -- its group, if it has one, has n in use and gives them back
-  pub gives-back : {n : ℕ} → HoldsMore setup after content e i n → GivesBack setup gear after e n
+  pub gives-back : {n : ℕ} → HoldsMore setup after content e i n → GivesBack setup engines_state after e n
   gives-back {n} h = go (group_in setup.groups e) refl
     where
-      go : (home : Option ℕ) → group_in setup.groups e ≡ home → GivesBack setup gear after e n
+      go : (home : Option ℕ) → group_in setup.groups e ≡ home → GivesBack setup engines_state after e n
       go None is = record {
         holds = rw (home-of s on h.engine, is) tt;
         given = rw (home-of s on h.engine, is, s.buffers on, all-same s on h is) refl;
@@ -177,23 +177,23 @@ module _ {cells : ℕ} {setup : Setup} {gear : Gear} {content : Content} (s : Is
           }
 
   -- as it holds n more, its group takes n
-  pub taken-of : {g n : ℕ} → HoldsMore setup content after e i n → get_or gear.homes e None ≡ Some g
-      → record gear.buffers { used = set gear.buffers.used g (get_or gear.buffers.used g 0 + n) }
+  pub taken-of : {g n : ℕ} → HoldsMore setup content after e i n → get_or engines_state.homes e None ≡ Some g
+      → record engines_state.buffers { used = set engines_state.buffers.used g (get_or engines_state.buffers.used g 0 + n) }
       ≡ buffers_of setup after
   taken-of h home = rw (s.buffers on, all-raised s on h (sym (home-of s on h.engine) ∙ home)) refl
 
   -- where it holds what it did, nothing changes
-  pub buffers-same : HoldsMore setup after content e i 0 → gear.buffers ≡ buffers_of setup after
-  buffers-same h = sym (none (get_or gear.homes e None)) ∙ (gives-back h).given
+  pub buffers-same : HoldsMore setup after content e i 0 → engines_state.buffers ≡ buffers_of setup after
+  buffers-same h = sym (none (get_or engines_state.homes e None)) ∙ (gives-back h).given
     where
-      none : (home : Option ℕ) → buffers_after_return home 0 gear.buffers ≡ gear.buffers
+      none : (home : Option ℕ) → buffers_after_return home 0 engines_state.buffers ≡ engines_state.buffers
       none None = refl
       none (Some g) =
-          let same : get_or gear.buffers.used g 0 - 0 ≡ get_or gear.buffers.used g 0 = omega arith in
-          rw (same, set-get_or gear.buffers.used g 0) refl
+          let same : get_or engines_state.buffers.used g 0 - 0 ≡ get_or engines_state.buffers.used g 0 = omega arith in
+          rw (same, set-get_or engines_state.buffers.used g 0) refl
 
 -- a list of the engine that is written, and held n more before
-pub written-less : {setup : Setup} {content : Content} {e i n : ℕ} (l : List Slot)
+pub written-less : {setup : Setup} {content : Content} {e i n : ℕ} (l : List HeldEntry)
     → length content ≡ setup.caps.queues + 2 * setup.caps.engines → e < setup.caps.engines → IsMine setup e i
     → load setup (chain content i) ≡ load setup l + n → HoldsMore setup (set content i l) content e i n
 written-less {setup} {content} {e} {i} {n} l len he is more = record {

@@ -8,7 +8,7 @@ ghost use Rattle.dsa_store.specs.Content.{Content, held_count};
 ghost use Rattle.dsa_book.specs.State.{opening_setup};
 ghost use Rattle.dsa_buffers.specs.Buffers.{IsRoom};
 ghost use Rattle.dsa_queues.specs.Queues.{IsStoreFor};
-ghost use Rattle.dsa_engines.specs.Engines.{IsInStep, gear_at_first, homes_of, buffers_at_rest, buffers_after_return, Holds};
+ghost use Rattle.dsa_engines.specs.Engines.{IsInStep, engines_at_first, homes_of, buffers_at_rest, buffers_after_return, Holds};
 
 use arrayvec::ArrayVec;
 use dsa_book::BatchNote;
@@ -17,8 +17,8 @@ use dsa_queues::Queues;
 use dsa_regs::{Caps, MAX_ENGINES, MAX_GROUPS};
 use std::marker::Model;
 
-/// The engines of a device: the note of each engine that works on a batch, the read buffers of the groups, the group of
-/// each engine, and the queue whose turn is next in each group.
+/// The engines of a device: the note of each engine that works on a batch, the read buffers of the
+/// groups, the group of each engine, and the queue whose turn is next in each group.
 #[derive(Drop)]
 pub struct Engines {
     notes: ArrayVec<Option<BatchNote>, MAX_ENGINES>,
@@ -28,11 +28,15 @@ pub struct Engines {
 }
 
 impl Model for Engines {
-    ghost use Rattle.dsa_engines.specs.Engines.{Gear};
+    ghost use Rattle.dsa_engines.specs.Engines.{EnginesState};
 
-    ghost Value = { Gear };
+    ghost Value = { EnginesState };
 
-    ghost view = { λ e. record { notes = e.notes.items; buffers = e.buffers; homes = e.homes.items } };
+    ghost view = { λ e. record {
+      notes = e.notes.items;
+      buffers = e.buffers;
+      homes = e.homes.items;
+    } };
 }
 
 // No note, for each engine.
@@ -59,11 +63,14 @@ fn homes(queues: &Queues) -> ArrayVec<Option<u16>, MAX_ENGINES>
 }
 
 impl Engines {
-    /// The engines of a device before it is first enabled: none works on a batch, and there are no read buffers.
+    /// The engines of a device before it is first enabled: none works on a batch, and there are no
+    /// read buffers.
     pub fn new(caps: &Caps) -> Engines
         requires { IsTrue (check_caps caps.now) }
-        ensures value { result ≡ gear_at_first caps.now }
-        ensures in_step { (cells : ℕ) (content : Content) → IsStoreFor caps.now cells content → held_count content ≡ 0
+        ensures value { result ≡ engines_at_first caps.now }
+        ensures in_step { (cells : ℕ) (content : Content)
+            → IsStoreFor caps.now cells content
+            → held_count content ≡ 0
             → IsInStep (opening_setup caps.now) result cells content }
     {
         Engines {
@@ -74,12 +81,19 @@ impl Engines {
         }
     }
 
-    /// Makes the read buffers and finds the group of each engine, as Enable Device asks. Nothing may be held then.
+    /// Makes the read buffers and finds the group of each engine, as Enable Device asks. Nothing
+    /// may be held then.
     pub fn enable(&mut self, queues: &Queues)
-        requires checked { check_device queues.now.setup.caps queues.now.setup.configs queues.now.setup.groups ≡ None }
+        requires checked { check_device queues.now.setup.caps queues.now.setup.configs
+            queues.now.setup.groups
+            ≡ None }
         requires notes { length self.old.notes ≡ queues.now.setup.caps.engines }
-        ensures after { self.new ≡ record self.old { homes = homes_of queues.now.setup; buffers = buffers_at_rest queues.now.setup } }
-        ensures in_step { (cells : ℕ) (content : Content) → IsStoreFor queues.now.setup.caps cells content → held_count content ≡ 0
+        ensures after { self.new
+            ≡ record self.old
+            { homes = homes_of queues.now.setup; buffers = buffers_at_rest queues.now.setup } }
+        ensures in_step { (cells : ℕ) (content : Content)
+            → IsStoreFor queues.now.setup.caps cells content
+            → held_count content ≡ 0
             → IsInStep queues.now.setup self.new cells content }
     {
         self.homes = homes(queues);
@@ -120,7 +134,8 @@ impl Engines {
     #[inline(always)]
     pub(crate) fn fits(&self, group: u16, n: u8) -> bool
         requires { group < length self.now.buffers.groups }
-        ensures { result ≡ fits self.now.buffers.total self.now.buffers.groups self.now.buffers.used group n }
+        ensures { result
+            ≡ fits self.now.buffers.total self.now.buffers.groups self.now.buffers.used group n }
     {
         self.buffers.fits(group, u16::from(n))
     }
@@ -137,8 +152,16 @@ impl Engines {
     #[inline(always)]
     pub(crate) fn take(&mut self, group: u16, n: u8)
         requires group { group < length self.old.buffers.groups }
-        requires fits { fits self.old.buffers.total self.old.buffers.groups self.old.buffers.used group n ≡ true }
-        ensures { self.new ≡ record self.old { buffers = record self.old.buffers { used = slice_set self.old.buffers.used group (slice_index self.old.buffers.used group + n) } } }
+        requires fits { fits self.old.buffers.total self.old.buffers.groups self.old.buffers.used
+            group n
+            ≡ true }
+        ensures { self.new
+            ≡ record self.old {
+              buffers = record self.old.buffers {
+                used = slice_set self.old.buffers.used group
+                    (slice_index self.old.buffers.used group + n);
+              };
+            } }
     {
         self.buffers.take(group, u16::from(n));
     }
@@ -147,7 +170,8 @@ impl Engines {
     #[inline(always)]
     pub(crate) fn give_back(&mut self, home: Option<u16>, n: u8)
         requires { Holds home n self.old.buffers }
-        ensures { self.new ≡ record self.old { buffers = buffers_after_return home n self.old.buffers } }
+        ensures { self.new
+            ≡ record self.old { buffers = buffers_after_return home n self.old.buffers } }
     {
         if let Some(group) = home {
             self.buffers.give(group, u16::from(n));

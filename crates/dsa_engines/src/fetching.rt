@@ -4,7 +4,7 @@ ghost use Rattle.std.specs.Prelude.{◌≡◌, ℕ, ◌<◌, ◌+◌, ◌^◌, �
 ghost use Rattle.dsa_store.specs.Content.{chain, held_count};
 ghost use Rattle.dsa_book.specs.declared.fate.FateRow.{FateRow};
 ghost use Rattle.dsa_book.specs.declared.answer.Reply.TheVariants as reply;
-ghost use Rattle.dsa_book.specs.Choice.{choice_of, cell_of, may_enter};
+ghost use Rattle.dsa_book.specs.Choice.{choice_of, chosen_cell, may_enter};
 ghost use Rattle.dsa_book.specs.Work.{fetch, is_all_fetched};
 ghost use Rattle.dsa_queues.specs.Queues.{IsCounted};
 ghost use Rattle.dsa_engines.specs.Engines.{work, IsInStep, is_fetching};
@@ -14,14 +14,14 @@ use dsa_book::{BatchNote, FetchAnswer, Ticket};
 use dsa_desc::Descriptor;
 use dsa_queues::Queues;
 use dsa_regs::ListUse;
-use dsa_store::{Cell, Entry, EntryStore, ListId, slots};
+use dsa_store::{Cell, Entry, EntryStore, ListId, held_entries};
 
 // The first entry of the list that has the name. Looks at those before it.
 fn find_named<S: EntryStore>(store: &S, list: ListId, name: u32) -> Option<(Cell, Entry)>
     requires { list.0 < length (S.content store.now) }
-    ensures { result ≡ find (λ slot. slot.1.name == name) (chain (S.content store.now) list.0) }
+    ensures { result ≡ find (λ pair. pair.1.name == name) (chain (S.content store.now) list.0) }
 {
-    slots(store, list).find(|slot| slot.1.name == name)
+    held_entries(store, list).find(|pair| pair.1.name == name)
 }
 
 // Whether no member is to be fetched any more.
@@ -32,11 +32,11 @@ pub(crate) fn is_all_fetched(note: &BatchNote) -> bool
 }
 
 impl Engines {
-    /// The engine hands in the next member of the batch that it works on. It stands last among the members, waits, and has
-    /// the next name, the PASID and the queue of the batch (profile).
+    /// The engine hands in the next member of the batch that it works on. It stands last among the
+    /// members, waits, and has the next name, the PASID and the queue of the batch (profile).
     ///
-    /// `NoBatch` where the engine works on no batch, `AllFetched` where the batch has no more members or is closed.
-    /// Looks for the batch among the entries in progress.
+    /// `NoBatch` where the engine works on no batch, `AllFetched` where the batch has no more
+    /// members or is closed. Looks for the batch among the entries in progress.
     pub fn fetch<S: EntryStore>(
         &mut self,
         queues: &mut Queues,
@@ -44,15 +44,25 @@ impl Engines {
         engine: u16,
         desc: Descriptor,
     ) -> FetchAnswer
-        requires in_step { IsInStep queues.old.setup self.old (S.cells store.old) (S.content store.old) }
+        requires in_step { IsInStep queues.old.setup self.old (S.cells store.old)
+            (S.content store.old) }
         requires counted { IsCounted queues.old (S.content store.old) }
-        requires room { is_fetching (work queues.old.setup self.old (S.content store.old) []) engine ≡ true → held_count (S.content store.old) < S.cells store.old }
-        requires names { is_fetching (work queues.old.setup self.old (S.content store.old) []) engine ≡ true → queues.old.setup.next_name + 1 < 2 ^ 32 }
+        requires room { is_fetching (work queues.old.setup self.old (S.content store.old) []) engine
+            ≡ true
+            → held_count (S.content store.old) < S.cells store.old }
+        requires names { is_fetching
+            (work queues.old.setup self.old (S.content store.old) []) engine
+            ≡ true
+            → queues.old.setup.next_name + 1 < 2 ^ 32 }
         ensures step { (fates : List FateRow)
-            → fetch (work queues.old.setup self.old (S.content store.old) fates) engine desc (cell_of (choice_of (reply.Fetch result)))
+            → fetch (work queues.old.setup self.old (S.content store.old) fates) engine desc
+            (chosen_cell (choice_of (reply.Fetch result)))
             ≡ (result, work queues.new.setup self.new (S.content store.new) fates) }
-        ensures free { may_enter queues.old.setup (S.content store.old) (choice_of (reply.Fetch result)) ≡ true }
-        ensures in_step { IsInStep queues.new.setup self.new (S.cells store.new) (S.content store.new) }
+        ensures free { may_enter queues.old.setup (S.content store.old)
+            (choice_of (reply.Fetch result))
+            ≡ true }
+        ensures in_step { IsInStep queues.new.setup self.new (S.cells store.new)
+            (S.content store.new) }
         ensures counted { IsCounted queues.new (S.content store.new) }
     {
         let caps = queues.caps();

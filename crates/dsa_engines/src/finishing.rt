@@ -14,7 +14,7 @@ use dsa_book::{BatchNote, Book, Fate, FateRow, FinishAnswer, Ticket};
 use dsa_desc::Outcome;
 use dsa_queues::Queues;
 use dsa_regs::ListUse;
-use dsa_store::{Entry, EntryStore, ListId, slots};
+use dsa_store::{Entry, EntryStore, ListId, held_entries};
 
 fn is_either(list: ListId, one: ListId, other: ListId) -> bool
     ensures { result ≡ (list.0 == one.0 || list.0 == other.0) }
@@ -37,7 +37,9 @@ fn find_running<S: EntryStore>(
     ticket: Ticket,
 ) -> Option<Entry>
     requires { IsStoreFor queues.now.setup.caps (S.cells store.now) (S.content store.now) }
-    ensures { find (is_ticket ticket) (running_on (lists_alone queues.now.setup (S.content store.now)) engine) ≡ option_map (λ entry. (ticket.cell, entry)) result }
+    ensures { find (is_ticket ticket)
+        (running_on (lists_alone queues.now.setup (S.content store.now)) engine)
+        ≡ option_map (λ entry. (ticket.cell, entry)) result }
 {
     let caps = queues.caps();
     if engine >= caps.engines {
@@ -68,10 +70,11 @@ fn waits_in<S: EntryStore>(store: &S, list: ListId, drain: &Entry) -> bool
     requires { list.0 < length (S.content store.now) }
     ensures { result ≡ any_in (waits_for drain.now) (chain (S.content store.now) list.0) }
 {
-    slots(store, list).any(|slot| waits_for(drain, &slot.1))
+    held_entries(store, list).any(|pair| waits_for(drain, &pair.1))
 }
 
-// Whether an entry that the Drain waits for is held. It stands in the Drain's queue or is in progress on an engine.
+// Whether an entry that the Drain waits for is held. It stands in the Drain's queue or is in
+// progress on an engine.
 fn waits<S: EntryStore>(queues: &Queues, store: &S, drain: &Entry) -> bool
     requires store { IsStoreFor queues.now.setup.caps (S.cells store.now) (S.content store.now) }
     requires placed { IsInPlace queues.now.setup (S.content store.now) }
@@ -91,9 +94,11 @@ fn waits<S: EntryStore>(queues: &Queues, store: &S, drain: &Entry) -> bool
 impl Engines {
     // Whether members are left, or may still be fetched.
     fn is_unfinished<S: EntryStore>(&self, queues: &Queues, store: &S, engine: u16) -> bool
-        requires store { IsStoreFor queues.now.setup.caps (S.cells store.now) (S.content store.now) }
+        requires store { IsStoreFor queues.now.setup.caps (S.cells store.now)
+            (S.content store.now) }
         requires engine { engine < queues.now.setup.caps.engines }
-        ensures { result ≡ is_unfinished (work queues.now.setup self.now (S.content store.now) []) engine }
+        ensures { result
+            ≡ is_unfinished (work queues.now.setup self.now (S.content store.now) []) engine }
     {
         if store.len(queues.list(ListUse::Members(engine))) > 0 {
             return true;
@@ -115,10 +120,12 @@ impl Engines {
         is_batch: bool,
     ) -> bool
         requires batch { is_batch ≡ is_batch_of queues.now.setup entry.now }
-        requires store { IsStoreFor queues.now.setup.caps (S.cells store.now) (S.content store.now) }
+        requires store { IsStoreFor queues.now.setup.caps (S.cells store.now)
+            (S.content store.now) }
         requires placed { IsInPlace queues.now.setup (S.content store.now) }
         requires engine { engine < queues.now.setup.caps.engines }
-        ensures { result ≡ must_wait (work queues.now.setup self.now (S.content store.now) []) engine entry.now }
+        ensures { result
+            ≡ must_wait (work queues.now.setup self.now (S.content store.now) []) engine entry.now }
     {
         if is_batch {
             return self.is_unfinished(queues, store, engine);
@@ -137,7 +144,10 @@ impl Engines {
         outcome: Outcome,
     ) -> u8
         requires batch { is_batch ≡ is_batch_of queues.now.setup entry.now }
-        ensures { (content : Content) (cell : Cell) → result ≡ last_status (work queues.now.setup self.now content []) engine (cell, entry.now) outcome }
+        ensures { (content : Content) (cell : Cell)
+            → result
+            ≡ last_status (work queues.now.setup self.now content []) engine
+            (cell, entry.now) outcome }
     {
         match self.note(engine) {
             Some(note) if is_batch && note.failed => 0x05,
@@ -157,10 +167,13 @@ impl Engines {
     )
         requires engine { engine < length self.old.notes }
         requires batch { is_batch ≡ is_batch_of queues.now.setup entry.now }
-        ensures { (content : Content) (cell : Cell) → self.new ≡ record self.old {
-          notes = with_note self.old.notes engine
-              (note_after (work queues.now.setup self.old content []) engine (cell, entry.now) outcome);
-        } }
+        ensures { (content : Content) (cell : Cell)
+            → self.new
+            ≡ record self.old {
+              notes = with_note self.old.notes engine
+                  (note_after (work queues.now.setup self.old content []) engine
+                  (cell, entry.now) outcome);
+            } }
     {
         if is_batch {
             self.set_note(engine, None);
@@ -180,14 +193,16 @@ impl Engines {
         }
     }
 
-    /// The engine ends the running entry that has the ticket's cell and name, and says how its work went.
+    /// The engine ends the running entry that has the ticket's cell and name, and says how its work
+    /// went.
     ///
-    /// `Gone` where no running entry of the engine has them, `NotReady` for a well-formed Batch with members that are left
-    /// or that may still be fetched and for a well-formed Drain while an entry that was submitted before it to its queue
-    /// and under its PASID is held, else `Done` with the status. The entry leaves and gives its read buffers back, and the
-    /// book gets a row. A member that was not successful marks its batch as failed; a batch that is so marked ends with
-    /// 0x05, and its note goes. Touches the cell of the ticket alone; the end of a Drain looks at what stands in its queue
-    /// and at what is in progress on each engine.
+    /// `Gone` where no running entry of the engine has them, `NotReady` for a well-formed Batch
+    /// with members that are left or that may still be fetched and for a well-formed Drain while an
+    /// entry that was submitted before it to its queue and under its PASID is held, else `Done`
+    /// with the status. The entry leaves and gives its read buffers back, and the book gets a row.
+    /// A member that was not successful marks its batch as failed; a batch that is so marked ends
+    /// with 0x05, and its note goes. Touches the cell of the ticket alone; the end of a Drain looks
+    /// at what stands in its queue and at what is in progress on each engine.
     #[inline(always)]
     pub fn finish<S: EntryStore>(
         &mut self,
@@ -198,14 +213,17 @@ impl Engines {
         ticket: Ticket,
         outcome: Outcome,
     ) -> FinishAnswer
-        requires in_step { IsInStep queues.old.setup self.old (S.cells store.old) (S.content store.old) }
+        requires in_step { IsInStep queues.old.setup self.old (S.cells store.old)
+            (S.content store.old) }
         requires counted { IsCounted queues.old (S.content store.old) }
         requires placed { IsInPlace queues.old.setup (S.content store.old) }
         requires room { length book.old.fates < book.old.capacity }
-        ensures step { finish (work queues.old.setup self.old (S.content store.old) book.old.fates) engine ticket outcome
+        ensures step { finish (work queues.old.setup self.old (S.content store.old) book.old.fates)
+            engine ticket outcome
             ≡ (result, work queues.new.setup self.new (S.content store.new) book.new.fates) }
         ensures book { book.new ≡ record book.old { fates = book.new.fates } }
-        ensures in_step { IsInStep queues.new.setup self.new (S.cells store.new) (S.content store.new) }
+        ensures in_step { IsInStep queues.new.setup self.new (S.cells store.new)
+            (S.content store.new) }
         ensures counted { IsCounted queues.new (S.content store.new) }
     {
         let Some(entry) = find_running(queues, store, engine, ticket) else {

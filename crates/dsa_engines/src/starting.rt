@@ -15,20 +15,22 @@ use crate::Engines;
 use dsa_book::{BatchNote, Book, Fate, FateRow, StartAnswer, Ticket};
 use dsa_queues::Queues;
 use dsa_regs::ListUse;
-use dsa_store::{Cell, Entry, EntryStore, ListId, slots};
+use dsa_store::{Cell, Entry, EntryStore, ListId, held_entries};
 
 // The first entry of the list that does not run. Looks at those before it.
 fn first_waiting<S: EntryStore>(store: &S, list: ListId) -> Option<(Cell, Entry)>
     requires { list.0 < length (S.content store.now) }
-    ensures { result ≡ find (λ slot. not slot.1.running) (chain (S.content store.now) list.0) }
+    ensures { result ≡ find (λ pair. not pair.1.running) (chain (S.content store.now) list.0) }
 {
-    slots(store, list).find(|slot| !slot.1.running)
+    held_entries(store, list).find(|pair| !pair.1.running)
 }
 
-// Whether the entry is fenced, and stands behind others.
+// Whether the entry is fenced and other members are ahead of it.
 fn waits_at_fence<S: EntryStore>(store: &S, list: ListId, cell: Cell, entry: &Entry) -> bool
     requires { list.0 < length (S.content store.now) }
-    ensures { result ≡ (is_fenced entry.now.desc && not (passes (is_cell cell) (slice_get (chain (S.content store.now) list.0) 0))) }
+    ensures { result
+        ≡ (is_fenced entry.now.desc
+        && not (passes (is_cell cell) (slice_get (chain (S.content store.now) list.0) 0))) }
 {
     if !entry.desc.is_fenced() {
         return false;
@@ -43,12 +45,17 @@ fn waits_at_fence<S: EntryStore>(store: &S, list: ListId, cell: Cell, entry: &En
 fn abandon_all<S: EntryStore>(queues: &mut Queues, store: &S, book: &mut Book, list: ListId)
     requires list { list.0 < length (S.content store.now) }
     requires counted { IsCounted queues.old (S.content store.now) }
-    requires room { length book.old.fates + length (chain (S.content store.now) list.0) ≤ book.old.capacity }
+    requires room { length book.old.fates + length (chain (S.content store.now) list.0)
+        ≤ book.old.capacity }
     ensures counted { IsCounted queues.new (after_give_back (S.content store.now) list.0) }
     ensures setup { queues.new.setup ≡ queues.old.setup }
-    ensures rows { book.new ≡ record book.old { fates = book.old.fates ++ map (fate_row Abandoned) (chain (S.content store.now) list.0) } }
+    ensures rows { book.new
+        ≡ record book.old {
+          fates = book.old.fates
+              ++ map (fate_row Abandoned) (chain (S.content store.now) list.0);
+        } }
 {
-    for (_, entry) in slots(store, list) {
+    for (_, entry) in held_entries(store, list) {
         book.add_row(FateRow {
             name: entry.name,
             parent: entry.parent,
@@ -61,7 +68,10 @@ fn abandon_all<S: EntryStore>(queues: &mut Queues, store: &S, book: &mut Book, l
 impl Engines {
     // Whether the entry is fenced, and a member of the engine's batch was not successful.
     fn fails_at_fence(&self, engine: u16, entry: &Entry) -> bool
-        ensures { result ≡ (is_fenced entry.now.desc && passes (λ (note : BatchNote). note.failed) (get_or self.now.notes engine None)) }
+        ensures { result
+            ≡ (is_fenced entry.now.desc
+            && passes (λ (note : BatchNote). note.failed)
+            (get_or self.now.notes engine None)) }
     {
         if !entry.desc.is_fenced() {
             return false;
@@ -76,8 +86,16 @@ impl Engines {
     fn roomy_group(&self, engine: u16, n: u8) -> Option<u16>
         requires { Holds (get_or self.now.homes engine None) 0 self.now.buffers }
         ensures { MatchOption result
-            (passes (λ g. fits self.now.buffers.total self.now.buffers.groups self.now.buffers.used g n) (get_or self.now.homes engine None) ≡ false)
-            (λ group. (get_or self.now.homes engine None ≡ Some group) × (group < length self.now.buffers.groups) × (fits self.now.buffers.total self.now.buffers.groups self.now.buffers.used group n ≡ true)) }
+            (passes
+            (λ g. fits self.now.buffers.total self.now.buffers.groups self.now.buffers.used
+            g n)
+            (get_or self.now.homes engine None)
+            ≡ false)
+            (λ group. (get_or self.now.homes engine None ≡ Some group)
+            × (group < length self.now.buffers.groups)
+            × (fits self.now.buffers.total self.now.buffers.groups self.now.buffers.used
+            group n
+            ≡ true)) }
     {
         match self.home(engine) {
             Some(group) if self.fits(group, n) => Some(group),
@@ -88,7 +106,12 @@ impl Engines {
     // The batch that the engine works on is closed.
     fn close_note(&mut self, engine: u16)
         requires { engine < length self.old.notes }
-        ensures { self.new ≡ record self.old { notes = with_note self.old.notes engine (option_map (λ (note : BatchNote). record note { closed = true }) (get_or self.old.notes engine None)) } }
+        ensures { self.new
+            ≡ record self.old {
+              notes = with_note self.old.notes engine
+                  (option_map (λ (note : BatchNote). record note { closed = true })
+                  (get_or self.old.notes engine None));
+            } }
     {
         let note = match self.note(engine) {
             Some(note) => Some(BatchNote {
@@ -102,10 +125,11 @@ impl Engines {
 
     /// The engine starts the first member of its batch that does not run.
     ///
-    /// `Nothing` where no member waits. A fenced member waits for all members before it (`FenceWait`), and if one of them
-    /// was not successful all members that are left end as `Abandoned`, and the batch is closed. `NoBuffers` where the read
-    /// buffers that the member needs do not fit the group. Else it is `Started`, and takes them.
-    /// Looks at the members up to the first that waits, and at all of them where they are abandoned.
+    /// `Nothing` where no member waits. A fenced member waits for all members before it
+    /// (`FenceWait`), and if one of them was not successful all members that are left end as
+    /// `Abandoned`, and the batch is closed. `NoBuffers` where the read buffers that the member
+    /// needs do not fit the group. Else it is `Started`, and takes them. Looks at the members up to
+    /// the first that waits, and at all of them where they are abandoned.
     pub fn start<S: EntryStore>(
         &mut self,
         queues: &mut Queues,
@@ -113,14 +137,20 @@ impl Engines {
         book: &mut Book,
         engine: u16,
     ) -> StartAnswer
-        requires in_step { IsInStep queues.old.setup self.old (S.cells store.old) (S.content store.old) }
+        requires in_step { IsInStep queues.old.setup self.old (S.cells store.old)
+            (S.content store.old) }
         requires counted { IsCounted queues.old (S.content store.old) }
-        requires order { WaitInOrder (members (lists_alone queues.old.setup (S.content store.old)) engine) }
-        requires room { length book.old.fates + length (members (lists_alone queues.old.setup (S.content store.old)) engine) ≤ book.old.capacity }
-        ensures step { start (work queues.old.setup self.old (S.content store.old) book.old.fates) engine
+        requires order { WaitInOrder
+            (members (lists_alone queues.old.setup (S.content store.old)) engine) }
+        requires room { length book.old.fates
+            + length (members (lists_alone queues.old.setup (S.content store.old)) engine)
+            ≤ book.old.capacity }
+        ensures step { start
+            (work queues.old.setup self.old (S.content store.old) book.old.fates) engine
             ≡ (result, work queues.new.setup self.new (S.content store.new) book.new.fates) }
         ensures book { book.new ≡ record book.old { fates = book.new.fates } }
-        ensures in_step { IsInStep queues.new.setup self.new (S.cells store.new) (S.content store.new) }
+        ensures in_step { IsInStep queues.new.setup self.new (S.cells store.new)
+            (S.content store.new) }
         ensures counted { IsCounted queues.new (S.content store.new) }
     {
         let caps = queues.caps();

@@ -18,7 +18,7 @@ use crate::Engines;
 use dsa_book::{BatchNote, DispatchAnswer, Ticket};
 use dsa_queues::Queues;
 use dsa_regs::ListUse;
-use dsa_store::{Cell, Entry, EntryStore, ListId, front_slot, slots};
+use dsa_store::{Cell, Entry, EntryStore, ListId, front_entry, held_entries};
 
 // An engine's group, and how many more read buffers it has room for.
 #[derive(Clone, Copy)]
@@ -34,7 +34,9 @@ fn run_front<S: EntryStore>(store: &mut S, from: ListId, to: ListId, front: (Cel
     requires to { to.0 < length (S.content store.old) }
     requires apart { from.0 ≢ to.0 }
     requires front { slice_get (chain (S.content store.old) from.0) 0 ≡ Some front }
-    ensures after { S.content store.new ≡ after_push (without_front (S.content store.old) from.0) to.0 front.0 (as_running front.1) }
+    ensures after { S.content store.new
+        ≡ after_push (without_front (S.content store.old) from.0) to.0 front.0
+        (as_running front.1) }
     ensures cells { S.cells store.new ≡ S.cells store.old }
 {
     let _ = store.move_front(from, to);
@@ -52,18 +54,26 @@ fn run_front<S: EntryStore>(store: &mut S, from: ListId, to: ListId, front: (Cel
 fn is_draining<S: EntryStore>(queues: &Queues, store: &S, engine: u16) -> bool
     requires store { IsStoreFor queues.now.setup.caps (S.cells store.now) (S.content store.now) }
     requires engine { engine < queues.now.setup.caps.engines }
-    ensures { result ≡ any_in (is_drain_of queues.now.setup) (chain (S.content store.now) (progress_list queues.now.setup engine)) }
+    ensures { result
+        ≡ any_in (is_drain_of queues.now.setup)
+        (chain (S.content store.now) (progress_list queues.now.setup engine)) }
 {
     let progress = queues.list(ListUse::Progress(engine));
-    slots(store, progress).any(|slot| queues.is_drain(&slot.1))
+    held_entries(store, progress).any(|pair| queues.is_drain(&pair.1))
 }
 
 impl Engines {
     // The engine's group, where the engine has a slot left.
     fn open_group<S: EntryStore>(&self, queues: &Queues, store: &S, engine: u16) -> Option<u16>
-        requires in_step { IsInStep queues.now.setup self.now (S.cells store.now) (S.content store.now) }
-        ensures none { IfNone result ((q : ℕ) → qualifies (work queues.now.setup self.now (S.content store.now) []) engine q ≡ false) }
-        ensures some { IfSome result (λ group. is_off queues.now.setup.device ≡ false → IsOpen queues.now.setup (S.content store.now) engine group) }
+        requires in_step { IsInStep queues.now.setup self.now (S.cells store.now)
+            (S.content store.now) }
+        ensures none { IfNone result
+            ((q : ℕ)
+            → qualifies (work queues.now.setup self.now (S.content store.now) []) engine q
+            ≡ false) }
+        ensures some { IfSome result
+            (λ group. is_off queues.now.setup.device ≡ false
+            → IsOpen queues.now.setup (S.content store.now) engine group) }
     {
         let caps = queues.caps();
         if engine >= caps.engines {
@@ -75,7 +85,8 @@ impl Engines {
         self.home(engine)
     }
 
-    // Whether there is room for the buffers that the entry needs, and neither a second batch nor a second Drain would be begun.
+    // Whether there is room for the buffers that the entry needs, and neither a second batch nor a
+    // second Drain would be begun.
     #[inline(always)]
     fn may_run<S: EntryStore>(
         &self,
@@ -85,12 +96,17 @@ impl Engines {
         room: u16,
         entry: &Entry,
     ) -> bool
-        requires store { IsStoreFor queues.now.setup.caps (S.cells store.now) (S.content store.now) }
+        requires store { IsStoreFor queues.now.setup.caps (S.cells store.now)
+            (S.content store.now) }
         requires engine { engine < queues.now.setup.caps.engines }
-        ensures { result ≡ (nat_le (need_of queues.now.setup entry.now) room
-            && (is_none (get_or self.now.notes engine None) || not (is_batch_of queues.now.setup entry.now))
+        ensures { result
+            ≡ (nat_le (need_of queues.now.setup entry.now) room
+            && (is_none (get_or self.now.notes engine None)
+            || not (is_batch_of queues.now.setup entry.now))
             && not (is_drain_of queues.now.setup entry.now
-            && any_in (is_drain_of queues.now.setup) (chain (S.content store.now) (progress_list queues.now.setup engine)))) }
+            && any_in (is_drain_of queues.now.setup)
+            (chain (S.content store.now)
+            (progress_list queues.now.setup engine)))) }
     {
         if u16::from(queues.need(entry)) > room {
             return false;
@@ -111,16 +127,19 @@ impl Engines {
         share: Share,
         queue: u16,
     ) -> bool
-        requires in_step { IsInStep queues.now.setup self.now (S.cells store.now) (S.content store.now) }
-        requires group { is_off queues.now.setup.device ≡ false → IsOpen queues.now.setup (S.content store.now) engine share.group }
+        requires in_step { IsInStep queues.now.setup self.now (S.cells store.now)
+            (S.content store.now) }
+        requires group { is_off queues.now.setup.device ≡ false
+            → IsOpen queues.now.setup (S.content store.now) engine share.group }
         requires room { IsRoom self.now.buffers share.group share.room }
         requires served { has (group_at queues.now.setup.groups share.group).queues queue ≡ true }
-        ensures { result ≡ qualifies (work queues.now.setup self.now (S.content store.now) []) engine queue }
+        ensures { result
+            ≡ qualifies (work queues.now.setup self.now (S.content store.now) []) engine queue }
     {
         if !queues.has_queue(queue) {
             return false;
         }
-        let Some((_, entry)) = front_slot(store, ListId(queue)) else {
+        let Some((_, entry)) = front_entry(store, ListId(queue)) else {
             return false;
         };
         self.may_run(queues, store, engine, share.room, &entry)
@@ -135,7 +154,8 @@ impl Engines {
         mine > theirs || mine == theirs && queue >= turn && other < turn
     }
 
-    // Whether this queue of the group is better than the best so far. Its front is looked at only where it goes before.
+    // Whether this queue of the group is better than the best so far. Its front is looked at only
+    // where it goes before.
     #[inline(always)]
     fn is_better<S: EntryStore>(
         &self,
@@ -146,12 +166,18 @@ impl Engines {
         best: Option<u16>,
         queue: u16,
     ) -> bool
-        requires in_step { IsInStep queues.now.setup self.now (S.cells store.now) (S.content store.now) }
-        requires group { is_off queues.now.setup.device ≡ false → IsOpen queues.now.setup (S.content store.now) engine share.group }
+        requires in_step { IsInStep queues.now.setup self.now (S.cells store.now)
+            (S.content store.now) }
+        requires group { is_off queues.now.setup.device ≡ false
+            → IsOpen queues.now.setup (S.content store.now) engine share.group }
         requires room { IsRoom self.now.buffers share.group share.room }
         requires served { has (group_at queues.now.setup.groups share.group).queues queue ≡ true }
-        ensures better { result ≡ true → qualifies (work queues.now.setup self.now (S.content store.now) []) engine queue ≡ true }
-        ensures first { best ≡ None → result ≡ qualifies (work queues.now.setup self.now (S.content store.now) []) engine queue }
+        ensures better { result ≡ true
+            → qualifies (work queues.now.setup self.now (S.content store.now) []) engine queue
+            ≡ true }
+        ensures first { best ≡ None
+            → result
+            ≡ qualifies (work queues.now.setup self.now (S.content store.now) []) engine queue }
     {
         if let Some(other) = best {
             if !self.goes_before(queues, share.group, queue, other) {
@@ -170,12 +196,18 @@ impl Engines {
         engine: u16,
         share: Share,
     ) -> Option<u16>
-        requires in_step { IsInStep queues.now.setup self.now (S.cells store.now) (S.content store.now) }
-        requires group { is_off queues.now.setup.device ≡ false → IsOpen queues.now.setup (S.content store.now) engine share.group }
+        requires in_step { IsInStep queues.now.setup self.now (S.cells store.now)
+            (S.content store.now) }
+        requires group { is_off queues.now.setup.device ≡ false
+            → IsOpen queues.now.setup (S.content store.now) engine share.group }
         requires room { IsRoom self.now.buffers share.group share.room }
         ensures { MatchOption result
-            ((q : ℕ) → qualifies (work queues.now.setup self.now (S.content store.now) []) engine q ≡ false)
-            (λ queue. qualifies (work queues.now.setup self.now (S.content store.now) []) engine queue ≡ true) }
+            ((q : ℕ)
+            → qualifies (work queues.now.setup self.now (S.content store.now) []) engine q
+            ≡ false)
+            (λ queue. qualifies (work queues.now.setup self.now (S.content store.now) []) engine
+            queue
+            ≡ true) }
     {
         let config = queues.group(share.group);
         let mut best = None;
@@ -192,7 +224,12 @@ impl Engines {
     // A well-formed Batch opens a note.
     fn open_note(&mut self, queues: &Queues, engine: u16, entry: &Entry)
         requires { engine < length self.old.notes }
-        ensures { self.new ≡ record self.old { notes = cond (is_batch_of queues.now.setup entry.now) (with_note self.old.notes engine (Some (opened_note entry.now))) self.old.notes } }
+        ensures { self.new
+            ≡ record self.old {
+              notes = cond (is_batch_of queues.now.setup entry.now)
+                  (with_note self.old.notes engine (Some (opened_note entry.now)))
+                  self.old.notes;
+            } }
     {
         if queues.is_batch(entry) {
             self.set_note(
@@ -217,9 +254,13 @@ impl Engines {
         engine: u16,
         queue: u16,
     ) -> Option<u16>
-        requires in_step { IsInStep queues.now.setup self.now (S.cells store.now) (S.content store.now) }
-        ensures qualifies { is_some result ≡ qualifies (work queues.now.setup self.now (S.content store.now) []) engine queue }
-        ensures open { IfSome result (λ group. is_off queues.now.setup.device ≡ false → IsOpen queues.now.setup (S.content store.now) engine group) }
+        requires in_step { IsInStep queues.now.setup self.now (S.cells store.now)
+            (S.content store.now) }
+        ensures qualifies { is_some result
+            ≡ qualifies (work queues.now.setup self.now (S.content store.now) []) engine queue }
+        ensures open { IfSome result
+            (λ group. is_off queues.now.setup.device ≡ false
+            → IsOpen queues.now.setup (S.content store.now) engine group) }
     {
         let group = self.open_group(queues, store, engine)?;
         if !queues.group(group).has_queue(queue) {
@@ -245,17 +286,23 @@ impl Engines {
         group: u16,
         queue: u16,
     ) -> Ticket
-        requires in_step { IsInStep queues.now.setup self.old (S.cells store.old) (S.content store.old) }
+        requires in_step { IsInStep queues.now.setup self.old (S.cells store.old)
+            (S.content store.old) }
         requires counted { IsCounted queues.now (S.content store.old) }
-        requires group { is_off queues.now.setup.device ≡ false → IsOpen queues.now.setup (S.content store.old) engine group }
-        requires qualifies { qualifies (work queues.now.setup self.old (S.content store.old) []) engine queue ≡ true }
+        requires group { is_off queues.now.setup.device ≡ false
+            → IsOpen queues.now.setup (S.content store.old) engine group }
+        requires qualifies { qualifies (work queues.now.setup self.old (S.content store.old) [])
+            engine queue
+            ≡ true }
         ensures step { (fates : List FateRow)
-            → dispatch (work queues.now.setup self.old (S.content store.old) fates) engine (from_queue queue)
+            → dispatch (work queues.now.setup self.old (S.content store.old) fates) engine
+            (from_queue queue)
             ≡ (Taken result queue, work queues.now.setup self.new (S.content store.new) fates) }
-        ensures in_step { IsInStep queues.now.setup self.new (S.cells store.new) (S.content store.new) }
+        ensures in_step { IsInStep queues.now.setup self.new (S.cells store.new)
+            (S.content store.new) }
         ensures counted { IsCounted queues.now (S.content store.new) }
     {
-        let Some((cell, entry)) = front_slot(store, ListId(queue)) else {
+        let Some((cell, entry)) = front_entry(store, ListId(queue)) else {
             unreachable!();
         };
         let progress = queues.list(ListUse::Progress(engine));
@@ -267,13 +314,14 @@ impl Engines {
         Ticket { cell, name }
     }
 
-    /// The engine takes the front of a queue of its group, and it runs: it goes to the end of those in progress, and a
-    /// well-formed Batch opens the engine's note (profile).
+    /// The engine takes the front of a queue of its group, and it runs: it goes to the end of those
+    /// in progress, and a well-formed Batch opens the engine's note (profile).
     ///
-    /// A queue qualifies if its front's read buffers fit the group, and if it is no well-formed Batch or Drain while the
-    /// engine works on one. Of those that qualify the one of the highest priority is served, and among equals they take turns.
-    /// `Idle` exactly where none qualifies; so too where all slots of the engine are taken. Looks at the queues of the
-    /// group, at the fronts of those that go before the best so far, and for a Drain at what is in progress.
+    /// A queue qualifies if its front's read buffers fit the group, and if it is no well-formed
+    /// Batch or Drain while the engine works on one. Of those that qualify the one of the highest
+    /// priority is served, and among equals they take turns. `Idle` exactly where none qualifies;
+    /// so too where all slots of the engine are taken. Looks at the queues of the group, at the
+    /// fronts of those that go before the best so far, and for a Drain at what is in progress.
     #[inline(always)]
     pub fn dispatch<S: EntryStore>(
         &mut self,
@@ -281,14 +329,18 @@ impl Engines {
         store: &mut S,
         engine: u16,
     ) -> DispatchAnswer
-        requires in_step { IsInStep queues.now.setup self.old (S.cells store.old) (S.content store.old) }
+        requires in_step { IsInStep queues.now.setup self.old (S.cells store.old)
+            (S.content store.old) }
         requires counted { IsCounted queues.now (S.content store.old) }
         ensures step { (fates : List FateRow)
-            → dispatch (work queues.now.setup self.old (S.content store.old) fates) engine (choice_of (reply.Dispatch result))
+            → dispatch (work queues.now.setup self.old (S.content store.old) fates) engine
+            (choice_of (reply.Dispatch result))
             ≡ (result, work queues.now.setup self.new (S.content store.new) fates) }
-        ensures free { may_leave (work queues.now.setup self.old (S.content store.old) []) engine (choice_of (reply.Dispatch result))
+        ensures free { may_leave (work queues.now.setup self.old (S.content store.old) []) engine
+            (choice_of (reply.Dispatch result))
             ≡ true }
-        ensures in_step { IsInStep queues.now.setup self.new (S.cells store.new) (S.content store.new) }
+        ensures in_step { IsInStep queues.now.setup self.new (S.cells store.new)
+            (S.content store.new) }
         ensures counted { IsCounted queues.now (S.content store.new) }
     {
         let Some(group) = self.open_group(queues, store, engine) else {
@@ -305,7 +357,8 @@ impl Engines {
         DispatchAnswer::Taken { ticket, queue }
     }
 
-    /// The ticket of the queue's front, where the engine may take it. `None` exactly where the queue does not qualify.
+    /// The ticket of the queue's front, where the engine may take it. `None` exactly where the
+    /// queue does not qualify.
     pub fn offered<S: EntryStore>(
         &self,
         queues: &Queues,
@@ -313,20 +366,26 @@ impl Engines {
         engine: u16,
         queue: u16,
     ) -> Option<Ticket>
-        requires in_step { IsInStep queues.now.setup self.now (S.cells store.now) (S.content store.now) }
+        requires in_step { IsInStep queues.now.setup self.now (S.cells store.now)
+            (S.content store.now) }
         ensures { MatchOption result
-            (qualifies (work queues.now.setup self.now (S.content store.now) []) engine queue ≡ false)
-            (λ ticket. (qualifies (work queues.now.setup self.now (S.content store.now) []) engine queue ≡ true)
-            × ((dispatch (work queues.now.setup self.now (S.content store.now) []) engine (from_queue queue)).0 ≡ Taken ticket queue)) }
+            (qualifies (work queues.now.setup self.now (S.content store.now) []) engine queue
+            ≡ false)
+            (λ ticket. (qualifies (work queues.now.setup self.now (S.content store.now) []) engine
+            queue
+            ≡ true)
+            × ((dispatch (work queues.now.setup self.now (S.content store.now) []) engine
+            (from_queue queue)).0
+            ≡ Taken ticket queue)) }
     {
         self.taking_group(queues, store, engine, queue)?;
-        let (cell, entry) = front_slot(store, ListId(queue))?;
+        let (cell, entry) = front_entry(store, ListId(queue))?;
         let name = entry.name;
         Some(Ticket { cell, name })
     }
 
-    /// The engine takes the front of this queue, as `dispatch` does of one that it chooses, and the ticket is told. `None`,
-    /// and nothing changed, exactly where the queue does not qualify.
+    /// The engine takes the front of this queue, as `dispatch` does of one that it chooses, and the
+    /// ticket is told. `None`, and nothing changed, exactly where the queue does not qualify.
     #[inline(always)]
     pub fn dispatch_from<S: EntryStore>(
         &mut self,
@@ -335,14 +394,23 @@ impl Engines {
         engine: u16,
         queue: u16,
     ) -> Option<Ticket>
-        requires in_step { IsInStep queues.now.setup self.old (S.cells store.old) (S.content store.old) }
+        requires in_step { IsInStep queues.now.setup self.old (S.cells store.old)
+            (S.content store.old) }
         requires counted { IsCounted queues.now (S.content store.old) }
-        ensures qualifies { is_some result ≡ qualifies (work queues.now.setup self.old (S.content store.old) []) engine queue }
-        ensures none { IfNone result ((self.new ≡ self.old) × (S.content store.new ≡ S.content store.old)) }
-        ensures step { IfSome result (λ ticket. (fates : List FateRow)
-            → dispatch (work queues.now.setup self.old (S.content store.old) fates) engine (from_queue queue)
-            ≡ (Taken ticket queue, work queues.now.setup self.new (S.content store.new) fates)) }
-        ensures in_step { IsInStep queues.now.setup self.new (S.cells store.new) (S.content store.new) }
+        ensures qualifies { is_some result
+            ≡ qualifies (work queues.now.setup self.old (S.content store.old) []) engine queue }
+        ensures none { IfNone result
+            ((self.new ≡ self.old) × (S.content store.new ≡ S.content store.old)) }
+        ensures step { IfSome result
+            (λ ticket. (fates : List FateRow)
+            → dispatch (work queues.now.setup self.old (S.content store.old) fates) engine
+            (from_queue queue)
+            ≡ (
+              Taken ticket queue,
+              work queues.now.setup self.new (S.content store.new) fates,
+            )) }
+        ensures in_step { IsInStep queues.now.setup self.new (S.cells store.new)
+            (S.content store.new) }
         ensures counted { IsCounted queues.now (S.content store.new) }
     {
         let group = self.taking_group(queues, store, engine, queue)?;

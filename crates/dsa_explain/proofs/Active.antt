@@ -8,13 +8,13 @@ use Rattle.dsa_base.specs.Rows.{first_row_or}
 use Rattle.dsa_regs.specs.declared.{Command.{Command}, Deed.{Deed, TheVariants.{Enable, Disable, Drain, Abort, Reset}}}
 use Rattle.dsa_regs.specs.declared.{Scope.{Scope}, Fault.{Fault, TheVariants.{BadQueue, WrongState, Busy}}}
 use Rattle.dsa_regs.specs.{declared.Phase.TheVariants.{Stopping}, Command.{scope_of, deed_of}}
-use Rattle.dsa_store.specs.{declared.entry.Entry.{Entry}, Content.{Slot, count_where}}
+use Rattle.dsa_store.specs.{declared.entry.Entry.{Entry}, Content.{HeldEntry, count_where}}
 use Rattle.dsa_book.specs.declared.{answer.IssueAnswer.{IssueAnswer}, note.ActiveCommand.{ActiveCommand}}
 use Rattle.dsa_book.specs.State.{State}
 use Rattle.dsa_book.specs.Commands.{issue, refusal_or, check_of, command_done_of, deed_done_of, wait_of}
 use Rattle.dsa_book.specs.Commands.{is_at_end, is_bad_queues, may_come}
 use Rattle.dsa_admin.{specs.Admin.{is_waited_for}, proofs.Counting.{stop-caps}}
-use Rattle.dsa_explain.specs.declared.{command.IssueReason.{IssueReason}, held.Held.{Held}}
+use Rattle.dsa_explain.specs.declared.{command.IssueReason.{IssueReason}, held.ListedEntry.{ListedEntry}}
 use Rattle.dsa_explain.specs.Command.{is_active_answer, is_waiting, noted_as, wait_by, wait_reason, wait_of_active}
 use Rattle.dsa_explain.specs.Command.{issue_by}
 use Rattle.dsa_explain.specs.Held.{all_entries, first_awaited}
@@ -25,7 +25,7 @@ pub first-there : (s : State) (noted : ActiveCommand)
     → is_some (first_awaited (Some noted) s) ≡ not (is_at_end noted s.work.content)
 first-there s noted =
     let told = find-any (λ (e : Entry). is_waited_for noted e) (all_entries s)
-    ∙ ap (list_any (λ (slot : Slot). is_waited_for noted slot.1)) (all-told s.work.setup.caps 0 s.work.content) in
+    ∙ ap (list_any (λ (pair : HeldEntry). is_waited_for noted pair.1)) (all-told s.work.setup.caps 0 s.work.content) in
     grind (arith, common_steps, told)
 
 -- what is answered active was refused by no row and by no check
@@ -55,14 +55,6 @@ waiting s c Abort scope h = absurd cc
 waiting s c Reset scope h = absurd cc
 waiting s c Disable scope h = refl
 waiting s c Drain scope h = refl
-
-others : (s : State) (c : Command) (deed : Deed) (scope : Scope) → is_waiting deed ≡ false
-    → is_active_answer (deed_done_of s c deed scope).0 ≡ false
-others s c Enable scope h = refl
-others s c Abort scope h = refl
-others s c Reset scope h = refl
-others s c Disable scope h = absurd cc
-others s c Drain scope h = absurd cc
 
 waits : (s : State) (c : Command) (deed : Deed) (scope : Scope) → is_waiting deed ≡ true
     → deed_done_of s c deed scope ≡ wait_of s c
@@ -122,24 +114,7 @@ kept s c h =
 
 -- ---- by the reason of a refusal
 
-pub refused : (s : State) (c : Command) (r : Option IssueReason) → issue s c ≡ issue_by s c r → is_some r ≡ true
-    → wait_reason s c ≡ None
-refused s c None law h = absurd cc
-refused s c (Some r) law h = rw law refl
-
-pub other : (s : State) (c : Command) (r : Option IssueReason) → issue s c ≡ issue_by s c r → is_some r ≡ false
-    → is_waiting (deed_of c) ≡ false → wait_reason s c ≡ None
-other s c (Some r) law h deed = absurd cc
-other s c None law h deed = rw (law, others s c (deed_of c) (scope_of c) deed) refl
-
-pub none-first : (s : State) (c : Command) → first_awaited (Some (noted_as s c)) s ≡ None → wait_reason s c ≡ None
-none-first s c h = rw h (either (is_active_answer (issue s c).0))
-  where
-    either : {X : Type 0} (b : Bool) → cond {A = Option X} b None None ≡ None
-    either true = refl
-    either false = refl
-
-pub some-first : (s : State) (c : Command) (r : Option IssueReason) (first : Held) → issue s c ≡ issue_by s c r
+pub some-first : (s : State) (c : Command) (r : Option IssueReason) (first : ListedEntry) → issue s c ≡ issue_by s c r
     → is_some r ≡ false → is_waiting (deed_of c) ≡ true → first_awaited (Some (noted_as s c)) s ≡ Some first
     → wait_reason s c
     ≡ Some (record { awaited = count_where (is_waited_for (noted_as s c)) s.work.content; first = first })

@@ -6,7 +6,7 @@ use Rattle.std.specs.{Option.{option_map}}
 use Rattle.dsa_base.specs.Rows.{first_row, first_row_or, when, passes}
 use Rattle.dsa_desc.specs.declared.Outcome.{Outcome}
 use Rattle.dsa_regs.specs.{declared.{Caps.{Caps}}, Caps.{list_use}}
-use Rattle.dsa_store.specs.{declared.entry.Entry.{Entry}, Content.{Slot, all_held, use_count, list_of, entry_of}}
+use Rattle.dsa_store.specs.{declared.entry.Entry.{Entry}, Content.{HeldEntry, all_held, use_count, list_of_cell, entry_of}}
 use Rattle.dsa_book.specs.declared.answer.{Ticket.{Ticket}, FinishAnswer.{FinishAnswer, TheVariants.{Done, NotReady}}}
 use Rattle.dsa_book.specs.State.{Work, is_batch_of, is_drain_of}
 use Rattle.dsa_book.specs.Work.{waits_for, waits, members, note_at, is_all_fetched, must_wait}
@@ -15,21 +15,21 @@ use Rattle.dsa_engines.proofs.Finding.{meant_in, found}
 use Rattle.dsa_explain.specs.declared.finish.FinishReason.{TheVariants.{OtherName, Elsewhere, NotStarted}}
 use Rattle.dsa_explain.specs.declared.finish.FinishReason.TheVariants.{MembersLeft, StillToFetch, DrainWaits}
 use Rattle.dsa_explain.specs.Finish.{first_waited, drain_table, wait_table, is_list_of}
-use Rattle.dsa_explain.specs.Batch.{name_of}
+use Rattle.dsa_explain.specs.Batch.{name_of_entry}
 use Rattle.dsa_explain.specs.Finish.{fetched_count, member_total, entry_reason, finish_reason, finish_answer, unended}
 use Rattle.dsa_explain.proofs.Rows.{find-any}
 
 -- where nothing is waited for no Drain waits
 pub no-wait : (w : Work) (drain : Entry) → first_waited w drain ≡ None → None ≡ first_row (drain_table w drain)
 no-wait w drain h =
-    let none = find-any (λ (slot : Slot). waits_for drain slot.1) (all_held w.content) in
+    let none = find-any (λ (pair : HeldEntry). waits_for drain pair.1) (all_held w.content) in
     grind (arith, common_steps, none, h)
 
 -- and where something is, a Drain waits for the first
-pub one-wait : (w : Work) (drain : Entry) (slot : Slot) → is_drain_of w.setup drain ≡ true
-    → first_waited w drain ≡ Some slot → Some (DrainWaits slot.1.name) ≡ first_row (drain_table w drain)
-one-wait w drain slot is h =
-    let some = find-any (λ (slot : Slot). waits_for drain slot.1) (all_held w.content) in
+pub one-wait : (w : Work) (drain : Entry) (pair : HeldEntry) → is_drain_of w.setup drain ≡ true
+    → first_waited w drain ≡ Some pair → Some (DrainWaits pair.1.name) ≡ first_row (drain_table w drain)
+one-wait w drain pair is h =
+    let some = find-any (λ (pair : HeldEntry). waits_for drain pair.1) (all_held w.content) in
     grind (arith, common_steps, some, is, h)
 
 -- a list is the engine's where its number is
@@ -48,7 +48,7 @@ must : (w : Work) (e : ℕ) (entry : Entry)
     → option_map finish_answer (first_row (wait_table w e entry)) ≡ when (must_wait w e entry) NotReady
 must w e entry = go (is_batch_of w.setup entry) (nat_lt 0 (length (members w e)))
     (passes (λ note. not (is_all_fetched note)) (note_at w e)) (is_drain_of w.setup entry && waits w entry)
-    (length (members w e)) (fetched_count w e) (member_total w e) (name_of (first_waited w entry))
+    (length (members w e)) (fetched_count w e) (member_total w e) (name_of_entry (first_waited w entry))
   where
     go : (a b c d : Bool) (left fetched count first : ℕ)
         → option_map finish_answer (first_row ((a && b, MembersLeft left) ∷ (a && c, StillToFetch fetched count) ∷
@@ -100,10 +100,11 @@ ended-told w e t outcome once = elim (cases_lt e w.setup.caps.engines) [
   | inl here ↦
       let there = found w.setup w.content e t once here in
       let reason : finish_reason w e t ≡ entry_reason w e t.name (entry_of w.content t.cell)
-      (option_map (list_use w.setup.caps) (list_of w.content t.cell)) = rw (lt-ltb e w.setup.caps.engines here) refl in
+      (option_map (list_use w.setup.caps) (list_of_cell w.content t.cell)) =
+      rw (lt-ltb e w.setup.caps.engines here) refl in
       ap (option_map finish_answer) reason
-      ∙ of_entry w e t outcome here (list_of w.content t.cell) (entry_of w.content t.cell)
-      ∙ ap (λ (slot : Option Slot). unended (finish_of w e outcome slot).0) (sym there)
+      ∙ of_entry w e t outcome here (list_of_cell w.content t.cell) (entry_of w.content t.cell)
+      ∙ ap (λ (pair : Option HeldEntry). unended (finish_of w e outcome pair).0) (sym there)
   | inr past ↦
       let off : nat_lt e w.setup.caps.engines ≡ false = grind (arith, common_steps, past) in
       rw off refl

@@ -1,6 +1,6 @@
 -- The entries of all lists, as a walk finds them list by list.
 use Rattle.std.proofs.Common.{◌≡◌, ℕ, zero, suc, ◌+◌, ◌<◌, Bool, true, false, List, [], ◌∷◌, ◌++◌, map, filter, find}
-use Rattle.std.proofs.Common.{length, drop, Option, Some, None, is_some, refl, ◌∙◌, arith, inl, inr, cond, flat_map}
+use Rattle.std.proofs.Common.{length, drop, Option, Some, None, is_some, refl, ◌∙◌, arith, inl, inr, flat_map}
 use Rattle.std.proofs.Common.{drop-cons}
 use Rattle.std.proofs.lemmas.{Bool.{cases_Bool}, Grind.{common_steps}}
 use Rattle.std.proofs.lemmas.List.{map-append, Elements.{filter-append}, Folds.{find-append}}
@@ -9,21 +9,21 @@ use Rattle.dsa_regs.specs.{declared.{Caps.{Caps}, layout.ListUse.{ListUse}}, Cap
 use Rattle.dsa_regs.specs.{declared.Command.{Command}, Command.{scope_of}}
 use Rattle.dsa_book.specs.{State.{State}, Commands.{is_in_scope}}
 use Rattle.dsa_laws.specs.WellFormed.{HasShape}
-use Rattle.dsa_store.specs.{declared.entry.Entry.{Entry}, Content.{Slot, Content, chain, all_held}}
-use Rattle.dsa_explain.specs.declared.held.Held.{Held}
-use Rattle.dsa_explain.specs.Held.{held_in, held_from, slot_of, Loss, removed_names, loss_of, losses_from}
+use Rattle.dsa_store.specs.{declared.entry.Entry.{Entry}, Content.{HeldEntry, Content, chain, all_held}}
+use Rattle.dsa_explain.specs.declared.held.ListedEntry.{ListedEntry}
+use Rattle.dsa_explain.specs.Held.{held_in_list, held_from, held_entry_of, Loss, removed_names, loss_of, losses_from}
 
 -- ---- one list
 
-pub find-told : (p : Entry → Bool) (list : ListUse) (l : List Slot)
-    → find (λ (h : Held). p h.entry) (map (held_in list) l)
-    ≡ option_map (held_in list) (find (λ (s : Slot). p s.1) l)
+pub find-told : (p : Entry → Bool) (list : ListUse) (l : List HeldEntry)
+    → find (λ (h : ListedEntry). p h.entry) (map (held_in_list list) l)
+    ≡ option_map (held_in_list list) (find (λ (s : HeldEntry). p s.1) l)
 find-told p list [] = refl
 find-told p list (s ∷ l) = grind (arith, common_steps, find-told p list l)
 
-pub filter-told : (p : Entry → Bool) (list : ListUse) (l : List Slot)
-    → filter (λ (h : Held). p h.entry) (map (held_in list) l)
-    ≡ map (held_in list) (filter (λ (s : Slot). p s.1) l)
+pub filter-told : (p : Entry → Bool) (list : ListUse) (l : List HeldEntry)
+    → filter (λ (h : ListedEntry). p h.entry) (map (held_in_list list) l)
+    ≡ map (held_in_list list) (filter (λ (s : HeldEntry). p s.1) l)
 filter-told p list [] = refl
 filter-told p list (s ∷ l) = grind (arith, common_steps, filter-told p list l)
 
@@ -44,38 +44,39 @@ get-rest (x ∷ xs) ys left = grind (arith, common_steps, get-rest xs ys left)
 -- the list of this number stands first among those from there on
 pub held-step : (caps : Caps) (n : ℕ) (content : Content) → n < length content
     → held_from caps n (drop n content)
-    ≡ map (held_in (list_use caps n)) (chain content n) ++ held_from caps (suc n) (drop (suc n) content)
+    ≡ map (held_in_list (list_use caps n)) (chain content n) ++ held_from caps (suc n) (drop (suc n) content)
 held-step caps n content h = rw (drop-cons content n [] h) refl
 
-pub all-told : (caps : Caps) (n : ℕ) (content : Content) → map slot_of (held_from caps n content) ≡ all_held content
+pub all-told : (caps : Caps) (n : ℕ) (content : Content)
+    → map held_entry_of (held_from caps n content) ≡ all_held content
 all-told caps n [] = refl
 all-told caps n (l ∷ ls) =
-    map-append slot_of (map (held_in (list_use caps n)) l) (held_from caps (suc n) ls)
+    map-append held_entry_of (map (held_in_list (list_use caps n)) l) (held_from caps (suc n) ls)
     ∙ grind (arith, same l, all-told caps (suc n) ls)
   where
-    same : (l : List Slot) → map slot_of (map (held_in (list_use caps n)) l) ≡ l
+    same : (l : List HeldEntry) → map held_entry_of (map (held_in_list (list_use caps n)) l) ≡ l
     same [] = refl
     same (s ∷ l) = grind (arith, same l)
 
--- ---- their slots
+-- ---- their entries
 
-pub filter-slots : (p : Entry → Bool) (hs : List Held)
-    → map slot_of (filter (λ (h : Held). p h.entry) hs) ≡ filter (λ (s : Slot). p s.1) (map slot_of hs)
-filter-slots p [] = refl
-filter-slots p (h ∷ hs) = grind (arith, common_steps, filter-slots p hs)
+pub filter-entries : (p : Entry → Bool) (hs : List ListedEntry)
+    → map held_entry_of (filter (λ (h : ListedEntry). p h.entry) hs) ≡ filter (λ (s : HeldEntry). p s.1) (map held_entry_of hs)
+filter-entries p [] = refl
+filter-entries p (h ∷ hs) = grind (arith, common_steps, filter-entries p hs)
 
-pub find-any : (p : Entry → Bool) (hs : List Held)
-    → is_some (find (λ (h : Held). p h.entry) hs) ≡ list_any (λ (s : Slot). p s.1) (map slot_of hs)
+pub find-any : (p : Entry → Bool) (hs : List ListedEntry)
+    → is_some (find (λ (h : ListedEntry). p h.entry) hs) ≡ list_any (λ (s : HeldEntry). p s.1) (map held_entry_of hs)
 find-any p [] = refl
 find-any p (h ∷ hs) = grind (arith, common_steps, find-any p hs)
 
 -- ---- those of one list that pass
 
 -- the next one is that of the index which those before it leave
-pub filter-hit : (p : Entry → Bool) (list : ListUse) (before after : List Slot) (s : Slot) → p s.1 ≡ true
-    → slice_get (filter (λ (h : Held). p h.entry) (map (held_in list) (before ++ s ∷ after)))
-    (length (filter (λ (s : Slot). p s.1) before))
-    ≡ Some (held_in list s)
+pub filter-hit : (p : Entry → Bool) (list : ListUse) (before after : List HeldEntry) (s : HeldEntry) → p s.1 ≡ true
+    → slice_get (filter (λ (h : ListedEntry). p h.entry) (map (held_in_list list) (before ++ s ∷ after)))
+    (length (filter (λ (s : HeldEntry). p s.1) before))
+    ≡ Some (held_in_list list s)
 filter-hit p list [] after s h = rw h refl
 filter-hit p list (x ∷ before) after s h =
     elim (cases_Bool (p x.1)) [
@@ -83,16 +84,10 @@ filter-hit p list (x ∷ before) after s h =
       | inr miss ↦ rw miss (filter-hit p list before after s h)
     ]
 
-pub filter-count : (p : Entry → Bool) (list : ListUse) (l : List Slot)
-    → length (filter (λ (h : Held). p h.entry) (map (held_in list) l)) ≡ length (filter (λ (s : Slot). p s.1) l)
+pub filter-count : (p : Entry → Bool) (list : ListUse) (l : List HeldEntry)
+    → length (filter (λ (h : ListedEntry). p h.entry) (map (held_in_list list) l)) ≡ length (filter (λ (s : HeldEntry). p s.1) l)
 filter-count p list [] = refl
 filter-count p list (s ∷ l) = grind (arith, common_steps, filter-count p list l)
-
--- one more, where it passes
-pub filter-more : (p : Entry → Bool) (l : List Slot) (s : Slot)
-    → length (filter (λ (s : Slot). p s.1) (l ++ s ∷ []))
-    ≡ length (filter (λ (s : Slot). p s.1) l) + cond (p s.1) 1 0
-filter-more p l s = rw (filter-append) (grind (arith, common_steps))
 
 pub map-map : {X Y Z : Type 0} (g : Y → Z) (f : X → Y) (xs : List X) → map g (map f xs) ≡ map (λ x. g (f x)) xs
 map-map g f [] = refl
@@ -107,14 +102,14 @@ lost-names : (list : ListUse) (names : List ℕ) (more : List Loss)
 lost-names list [] more = refl
 lost-names list (name ∷ names) more = refl
 
-named-told : (list : ListUse) (l : List Slot)
-    → map (λ (h : Held). h.entry.name) (map (held_in list) l) ≡ map (λ (s : Slot). s.1.name) l
-named-told list l = map-map (λ (h : Held). h.entry.name) (held_in list) l
+named-told : (list : ListUse) (l : List HeldEntry)
+    → map (λ (h : ListedEntry). h.entry.name) (map (held_in_list list) l) ≡ map (λ (s : HeldEntry). s.1.name) l
+named-told list l = map-map (λ (h : ListedEntry). h.entry.name) (held_in_list list) l
 
 pub all-lost : (caps : Caps) (command : Command) (n : ℕ) (content : Content)
     → flat_map (λ (loss : Loss). loss.1) (losses_from caps command n content)
-    ≡ map (λ (h : Held). h.entry.name)
-    (filter (λ (h : Held). is_in_scope (scope_of command) h.entry) (held_from caps n content))
+    ≡ map (λ (h : ListedEntry). h.entry.name)
+    (filter (λ (h : ListedEntry). is_in_scope (scope_of command) h.entry) (held_from caps n content))
 all-lost caps command n [] = refl
 all-lost caps command n (l ∷ ls) =
     lost-names (list_use caps n) (removed_names command l) (losses_from caps command (suc n) ls)
@@ -134,11 +129,11 @@ losses-step caps command n content h = rw (drop-cons content n [] h) refl
 
 -- ---- what a list has, and what the lists after it
 
-or-some : (o r : Option Held) → is_some o ≡ true → option_or o r ≡ o
+or-some : (o r : Option ListedEntry) → is_some o ≡ true → option_or o r ≡ o
 or-some None r h = absurd cc
 or-some (Some x) r h = refl
 
-or-none : (o r : Option Held) → is_some o ≡ false → option_or o r ≡ r
+or-none : (o r : Option ListedEntry) → is_some o ≡ false → option_or o r ≡ r
 or-none None r h = refl
 or-none (Some x) r h = absurd cc
 
@@ -146,7 +141,7 @@ module _ (s : State) (device told : Caps) (shape : HasShape device s.work) (same
     (n : ℕ) (within : n < list_count told) (found : list ≡ list_use told n) (number : list_number told list ≡ n) where
   -- the list that the device names by this number
   list-step : held_from s.work.setup.caps n (drop n s.work.content)
-      ≡ map (held_in list) (chain s.work.content (list_number device list))
+      ≡ map (held_in_list list) (chain s.work.content (list_number device list))
       ++ held_from s.work.setup.caps (n + 1) (drop (n + 1) s.work.content)
   list-step =
       let there : n < length s.work.content = rw (shape.lists, ← same) within in
@@ -170,25 +165,25 @@ module _ (s : State) (device told : Caps) (shape : HasShape device s.work) (same
       ) refl
 
   -- the first that passes is one of the list, or of those after it
-  pub found-here : (p : Held → Bool) (o : Option Held)
-      → o ≡ find p (map (held_in list) (chain s.work.content (list_number device list))) → is_some o ≡ true
+  pub found-here : (p : ListedEntry → Bool) (o : Option ListedEntry)
+      → o ≡ find p (map (held_in_list list) (chain s.work.content (list_number device list))) → is_some o ≡ true
       → find p (held_from s.work.setup.caps n (drop n s.work.content)) ≡ o
   found-here p o is some = rw (list-step, find-append, ← is) (or-some o _ some)
 
-  pub found-later : (p : Held → Bool) (o : Option Held)
-      → o ≡ find p (map (held_in list) (chain s.work.content (list_number device list))) → is_some o ≡ false
+  pub found-later : (p : ListedEntry → Bool) (o : Option ListedEntry)
+      → o ≡ find p (map (held_in_list list) (chain s.work.content (list_number device list))) → is_some o ≡ false
       → find p (held_from s.work.setup.caps n (drop n s.work.content))
       ≡ find p (held_from s.work.setup.caps (n + 1) (drop (n + 1) s.work.content))
   found-later p o is none = rw (list-step, find-append, ← is) (or-none o _ none)
 
   -- and so is the one of an index, among those that pass
-  pub get-here : (p : Held → Bool) (i : ℕ) (h : Held)
-      → slice_get (filter p (map (held_in list) (chain s.work.content (list_number device list)))) i ≡ Some h
+  pub get-here : (p : ListedEntry → Bool) (i : ℕ) (h : ListedEntry)
+      → slice_get (filter p (map (held_in_list list) (chain s.work.content (list_number device list)))) i ≡ Some h
       → slice_get (filter p (held_from s.work.setup.caps n (drop n s.work.content))) i ≡ Some h
   get-here p i h is = rw (list-step, filter-append) (get-first _ _ i h is)
 
-  pub get-later : (p : Held → Bool) (i left : ℕ)
-      → left + length (filter p (map (held_in list) (chain s.work.content (list_number device list)))) ≡ i
+  pub get-later : (p : ListedEntry → Bool) (i left : ℕ)
+      → left + length (filter p (map (held_in_list list) (chain s.work.content (list_number device list)))) ≡ i
       → slice_get (filter p (held_from s.work.setup.caps n (drop n s.work.content))) i
       ≡ slice_get (filter p (held_from s.work.setup.caps (n + 1) (drop (n + 1) s.work.content))) left
   get-later p i left is = rw (list-step, filter-append, ← is) (get-rest _ _ left)

@@ -1,8 +1,6 @@
 pub mod Holding
 pub mod Naming
-pub mod Checking
-pub mod Grouping
-pub mod Faulting
+pub mod Refusing
 pub mod Wanting
 pub mod Rows
 pub mod Taking

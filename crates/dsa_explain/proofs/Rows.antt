@@ -9,10 +9,6 @@ pub when-none : {X : Type 0} (b : Bool) (x : X) → when b x ≡ None → b ≡ 
 when-none true x h = absurd cc
 when-none false x h = refl
 
-pub is_some-when : {X : Type 0} (b : Bool) (x : X) → is_some (when b x) ≡ b
-is_some-when true x = refl
-is_some-when false x = refl
-
 pub some-map : {X Y : Type 0} (f : X → Y) (o : Option X) → is_some (option_map f o) ≡ is_some o
 some-map f None = refl
 some-map f (Some x) = refl

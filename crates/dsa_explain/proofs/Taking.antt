@@ -6,13 +6,14 @@ use Rattle.std.specs.{Prelude.{is_none, is_some, find, slice_get}, List.{list_an
 use Rattle.dsa_base.{specs.Rows.{first_row, when, passes}, proofs.Tables.{when-some}}
 use Rattle.dsa_regs.specs.declared.{Caps.{Caps}, GroupConfig.{GroupConfig}}
 use Rattle.dsa_regs.specs.{Config.{group_at}}
-use Rattle.dsa_store.specs.{declared.entry.Entry.{Entry}, Content.{Slot, chain}}
+use Rattle.dsa_store.specs.{declared.entry.Entry.{Entry}, Content.{HeldEntry, chain}}
 use Rattle.dsa_book.specs.State.{Work, has_queue, need_of, is_batch_of, is_drain_of}
-use Rattle.dsa_book.specs.Work.{group_of, has_room, in_progress, note_at, serves, front_of, qualifies, is_draining}
+use Rattle.dsa_book.specs.Work.{group_of_engine, has_room, in_progress, note_at, serves, front_of, qualifies}
+use Rattle.dsa_book.specs.Work.{is_draining}
 use Rattle.dsa_book.specs.Work.{used, may_leave}
 use Rattle.dsa_book.specs.Work.{may_take}
 use Rattle.dsa_laws.specs.WellFormed.{HasShape}
-use Rattle.dsa_device.specs.Reads.{slot_at}
+use Rattle.dsa_device.specs.Reads.{entry_at}
 use Rattle.dsa_explain.specs.Buffers.{want_of, is_met, lacking}
 use Rattle.dsa_explain.specs.declared.buffers.BufferWant.{BufferWant}
 use Rattle.dsa_explain.specs.declared.dispatch.QueueReason.{QueueReason, TheVariants.{OtherBatch}}
@@ -36,32 +37,32 @@ lacking-told {caps} w g n want config met shape h wanted configured is =
     rw (is, ← a, ← b) (ap (λ (b : Bool). when (not b) (want_of w g n)) (sym told))
 
 -- the engine has a slot left
-pub slot-left : {caps : Caps} (w : Work) (e used : ℕ) → HasShape caps w
+pub pair-left : {caps : Caps} (w : Work) (e used : ℕ) → HasShape caps w
     → when (nat_lt e caps.engines) (length (in_progress w e)) ≡ Some used → used < caps.slots
     → nat_lt (length (in_progress w e)) w.setup.caps.slots ≡ true
-slot-left w e used shape counted less =
+pair-left w e used shape counted less =
     let count = (when-some _ _ _ counted).1 in
     let same = ap (λ (caps : Caps). caps.slots) shape.same_caps in
     lt-ltb _ _ (omega (arith, count, same, less))
 
 -- where no Drain is in progress, no front waits for one
 pub no-drain : (w : Work) (e : ℕ) (front : Entry)
-    → find (λ (slot : Slot). is_drain_of w.setup slot.1) (in_progress w e) ≡ None
+    → find (λ (pair : HeldEntry). is_drain_of w.setup pair.1) (in_progress w e) ≡ None
     → None ≡ when (is_drain_of w.setup front && is_draining w e) (drain_name w e)
 no-drain w e front h =
-    let none = find-any (λ (slot : Slot). is_drain_of w.setup slot.1) (in_progress w e) in
+    let none = find-any (λ (pair : HeldEntry). is_drain_of w.setup pair.1) (in_progress w e) in
     grind (arith, common_steps, none, h)
 
 -- where one is, a Drain waits for it
-pub one-drain : (w : Work) (e : ℕ) (front : Entry) (slot : Slot) → is_drain_of w.setup front ≡ true
-    → find (λ (slot : Slot). is_drain_of w.setup slot.1) (in_progress w e) ≡ Some slot
-    → Some slot.1.name ≡ when (is_drain_of w.setup front && is_draining w e) (drain_name w e)
-one-drain w e front slot is h =
-    let some = find-any (λ (slot : Slot). is_drain_of w.setup slot.1) (in_progress w e) in
+pub one-drain : (w : Work) (e : ℕ) (front : Entry) (pair : HeldEntry) → is_drain_of w.setup front ≡ true
+    → find (λ (pair : HeldEntry). is_drain_of w.setup pair.1) (in_progress w e) ≡ Some pair
+    → Some pair.1.name ≡ when (is_drain_of w.setup front && is_draining w e) (drain_name w e)
+one-drain w e front pair is h =
+    let some = find-any (λ (pair : HeldEntry). is_drain_of w.setup pair.1) (in_progress w e) in
     grind (arith, common_steps, some, is, h)
 
-module _ (w : Work) (e g : ℕ) (front : Slot) (home : group_of w e ≡ Some g)
-    (slot : nat_lt (length (in_progress w e)) w.setup.caps.slots ≡ true)
+module _ (w : Work) (e g : ℕ) (front : HeldEntry) (home : group_of_engine w e ≡ Some g)
+    (pair : nat_lt (length (in_progress w e)) w.setup.caps.slots ≡ true)
     (room : lacking w g (need_of w.setup front.1) ≡ None) where
   has : has_room w e (need_of w.setup front.1) ≡ true
   has = rw home (grind (arith, common_steps, when-none _ _ room))
@@ -69,29 +70,29 @@ module _ (w : Work) (e g : ℕ) (front : Slot) (home : group_of w e ≡ Some g)
   pub take-batch : (batch : ℕ)
       → when (not (is_none (note_at w e) || not (is_batch_of w.setup front.1))) (batch_name w e) ≡ Some batch
       → Some (OtherBatch batch) ≡ first_row (take_table w e front)
-  take-batch batch h = let row = when-some _ _ _ h in rw (slot, has, row.0, row.1) refl
+  take-batch batch h = let row = when-some _ _ _ h in rw (pair, has, row.0, row.1) refl
 
   pub take-drain : when (not (is_none (note_at w e) || not (is_batch_of w.setup front.1))) (batch_name w e) ≡ None
       → when (is_drain_of w.setup front.1 && is_draining w e) (drain_name w e) ≡ None
       → None ≡ first_row (take_table w e front)
-  take-drain batch drain = rw (slot, has, when-none _ _ batch, when-none _ _ drain) refl
+  take-drain batch drain = rw (pair, has, when-none _ _ batch, when-none _ _ drain) refl
 
 -- a front has a reason exactly where the engine may not take it
-reason-taken : (w : Work) (e : ℕ) (front : Slot) → is_some (first_row (take_table w e front)) ≡ not (may_take w e front)
+reason-taken : (w : Work) (e : ℕ) (front : HeldEntry) → is_some (first_row (take_table w e front)) ≡ not (may_take w e front)
 reason-taken w e front = grind (arith, common_steps)
 
 -- and a queue of the engine's group exactly where it does not qualify
 reason-some : (w : Work) (e q : ℕ) → is_some (queue_reason w e q) ≡ (is_offered w e q && not (qualifies w e q))
 reason-some w e q = go (nat_lt e w.setup.caps.engines && has_queue w.setup q) (serves w e q) (front_of w q)
   where
-    go : (a b : Bool) (front : Option Slot) → is_some (cond (a && b) (front_reason w e front) None)
+    go : (a b : Bool) (front : Option HeldEntry) → is_some (cond (a && b) (front_reason w e front) None)
         ≡ (a && b && not (a && (b && passes (may_take w e) front)))
     go false b front = refl
     go true false front = refl
     go true true None = refl
     go true true (Some front) = reason-taken w e front
 
-front-there : (b : Bool) (l : List Slot) (front : Slot) → slot_at (when b l) 0 ≡ Some front → slice_get l 0 ≡ Some front
+front-there : (b : Bool) (l : List HeldEntry) (front : HeldEntry) → entry_at (when b l) 0 ≡ Some front → slice_get l 0 ≡ Some front
 front-there true l front h = h
 front-there false l front h = absurd cc
 
@@ -100,9 +101,10 @@ offered true home g h = refl
 offered false home g h = absurd cc
 
 -- so of a front that was read
-pub reason-read : (w : Work) (e q g : ℕ) (b : Bool) (front : Slot) → cond (is_offered w e q) (group_of w e) None ≡
+pub reason-read : (w : Work) (e q g : ℕ) (b : Bool) (front : HeldEntry)
+    → cond (is_offered w e q) (group_of_engine w e) None ≡
     Some g
-    → slot_at (when b (chain w.content q)) 0 ≡ Some front
+    → entry_at (when b (chain w.content q)) 0 ≡ Some front
     → is_some (first_row (take_table w e front)) ≡ (is_offered w e q && not (qualifies w e q))
 reason-read w e q g b front home h =
     let is : is_offered w e q ≡ true = offered _ _ g home in

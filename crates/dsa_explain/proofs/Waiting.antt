@@ -3,18 +3,18 @@ use Rattle.std.proofs.Common.{◌≡◌, ℕ, zero, suc, ◌+◌, ◌<◌, Bool,
 use Rattle.std.proofs.Common.{refl, sym, ap, ◌∙◌, arith, inl, inr}
 use Rattle.std.proofs.lemmas.{Bool.{cases_lt}, List.Folds.{find-append}}
 use Rattle.std.specs.{Prelude.{is_some, find}, Option.{option_or}}
-use Rattle.dsa_store.specs.Content.{Slot, Content, chain, all_held}
+use Rattle.dsa_store.specs.Content.{HeldEntry, Content, chain, all_held}
 
-module _ (p : Slot → Bool) where
+module _ (p : HeldEntry → Bool) where
   -- where the first list has none, it is one of the others
-  skip : (l : List Slot) (ls : Content) → find p l ≡ None → find p (all_held (l ∷ ls)) ≡ find p (all_held ls)
-  skip l ls none = find-append p l (all_held ls) ∙ ap (λ (o : Option Slot). option_or o (find p (all_held ls))) none
+  skip : (l : List HeldEntry) (ls : Content) → find p l ≡ None → find p (all_held (l ∷ ls)) ≡ find p (all_held ls)
+  skip l ls none = find-append p l (all_held ls) ∙ ap (λ (o : Option HeldEntry). option_or o (find p (all_held ls))) none
 
-  hit : (l : List Slot) (ls : Content) (o : Option Slot) → find p l ≡ o → is_some o ≡ true
+  hit : (l : List HeldEntry) (ls : Content) (o : Option HeldEntry) → find p l ≡ o → is_some o ≡ true
       → find p l ≡ find p (all_held (l ∷ ls))
   hit l ls None is some = absurd cc
-  hit l ls (Some slot) is some =
-      is ∙ sym (find-append p l (all_held ls) ∙ ap (λ (o : Option Slot). option_or o (find p (all_held ls))) is)
+  hit l ls (Some pair) is some =
+      is ∙ sym (find-append p l (all_held ls) ∙ ap (λ (o : Option HeldEntry). option_or o (find p (all_held ls))) is)
 
   -- the first list that has one has the first
   pub first-held : (content : Content) (k : ℕ) → k < length content
@@ -33,12 +33,12 @@ module _ (p : Slot → Bool) where
   none-held (l ∷ ls) none =
       skip l ls (none 0 (omega arith)) ∙ none-held ls (λ j less. none (suc j) (omega (arith, less)))
 
-no-some : (o : Option Slot) → is_some o ≡ false → o ≡ None
+no-some : (o : Option HeldEntry) → is_some o ≡ false → o ≡ None
 no-some None h = refl
-no-some (Some slot) h = absurd cc
+no-some (Some pair) h = absurd cc
 
 -- one list more that has none
-pub none-next : (found : ℕ → Option Slot) (n : ℕ) → ((j : ℕ) → j < n → found j ≡ None) → is_some (found n) ≡ false
+pub none-next : (found : ℕ → Option HeldEntry) (n : ℕ) → ((j : ℕ) → j < n → found j ≡ None) → is_some (found n) ≡ false
     → (j : ℕ) → j < n + 1 → found j ≡ None
 none-next found n before here j h = elim (cases_lt j n) [
   | inl less ↦ before j less

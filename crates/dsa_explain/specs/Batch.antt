@@ -6,12 +6,12 @@ use Rattle.std.specs.Prelude.{Option, Some, None, is_none, unwrap_or, option_map
 use Rattle.std.specs.Option.{option_map_or}
 use Rattle.dsa_base.specs.Rows.{first_row, passes, when}
 use Rattle.dsa_desc.specs.Descriptor.{is_successful}
-use Rattle.dsa_store.specs.{declared.entry.Entry.{Entry}, Content.{Slot}}
+use Rattle.dsa_store.specs.{declared.entry.Entry.{Entry}, Content.{HeldEntry}}
 use Rattle.dsa_book.specs.declared.answer.FetchAnswer.{FetchAnswer}
 use Rattle.dsa_book.specs.declared.{answer.StartAnswer.{StartAnswer}, note.BatchNote.{BatchNote}}
 use Rattle.dsa_book.specs.declared.fate.{Fate.{Fate, TheVariants.{Completed}}, FateRow.{FateRow}}
 use Rattle.dsa_book.specs.State.{Work, need_of}
-use Rattle.dsa_book.specs.Work.{note_at, batch_on, is_all_fetched, members, first_waiting, start_table, group_of}
+use Rattle.dsa_book.specs.Work.{note_at, batch_on, is_all_fetched, members, first_waiting, start_table, group_of_engine}
 use Rattle.dsa_explain.specs.declared.batch.FetchReason.{FetchReason, TheVariants.{NoEngine, NoBatch, AllFetched}}
 use Rattle.dsa_explain.specs.declared.batch.StartReason.{StartReason}
 use Rattle.dsa_explain.specs.declared.batch.StartReason.TheVariants.{Nothing, Fence, Failed, NoBuffers, NoGroup}
@@ -20,7 +20,7 @@ use Rattle.dsa_explain.specs.{Reasons.{with_reasons}, Buffers.{want_of}}
 -- ---- fetch
 
 -- of the batch that the note is of: its numbers, where no member is to be fetched
-abbrev pub fetch_reason_of : BatchNote → Option Slot → Option FetchReason
+abbrev pub fetch_reason_of : BatchNote → Option HeldEntry → Option FetchReason
 fetch_reason_of note None = Some NoBatch
 fetch_reason_of note (Some batch) = when (is_all_fetched note) (AllFetched note.count note.fetched note.closed)
 
@@ -46,11 +46,11 @@ unfetched answer = Some answer
 -- ---- start
 
 -- the name of an entry that is there
-abbrev pub name_of : Option Slot → ℕ
-name_of slot = option_map_or (λ (slot : Slot). slot.1.name) slot 0
+abbrev pub name_of_entry : Option HeldEntry → ℕ
+name_of_entry pair = option_map_or (λ (pair : HeldEntry). pair.1.name) pair 0
 
 -- the first of the engine's members that have not ended
-abbrev pub first_member : Work → ℕ → Option Slot
+abbrev pub first_member : Work → ℕ → Option HeldEntry
 first_member w e = slice_get (members w e) 0
 
 -- the row is of a member of that batch, which an engine ended with another status than success
@@ -64,25 +64,26 @@ is_failed_in batch row = passes (λ parent. parent == batch) row.parent && is_fa
 -- the first member of the engine's batch that was not successful, by its name
 abbrev pub failed_member : Work → ℕ → Option ℕ
 failed_member w e = option_and_then
-    (λ (note : BatchNote). option_map (λ (row : FateRow). row.name) (find (is_failed_in note.batch) w.fates)) (note_at w e)
+    (λ (note : BatchNote). option_map (λ (row : FateRow). row.name) (find (is_failed_in note.batch) w.fates))
+    (note_at w e)
 
 -- the read buffers that the member lacks; those of a group, where the engine is of one
 abbrev pub want_reason : Work → ℕ → Entry → StartReason
-want_reason w e member = cond (is_none (group_of w e)) NoGroup
-    (NoBuffers (want_of w (unwrap_or (group_of w e) 0) (need_of w.setup member)))
+want_reason w e member = cond (is_none (group_of_engine w e)) NoGroup
+    (NoBuffers (want_of w (unwrap_or (group_of_engine w e) 0) (need_of w.setup member)))
 
 -- a reason for each row of what keeps a member from starting: the member with the fence and the first
 -- that it waits for, the same member with the one that failed and how many are abandoned, and the read buffers
-abbrev pub start_reasons : Work → ℕ → Slot → List StartReason
-start_reasons w e slot =
-    Fence slot.1.name (name_of (first_member w e)) ∷
-    Failed slot.1.name (failed_member w e) (length (members w e)) ∷
-    want_reason w e slot.1 ∷ []
+abbrev pub start_reasons : Work → ℕ → HeldEntry → List StartReason
+start_reasons w e pair =
+    Fence pair.1.name (name_of_entry (first_member w e)) ∷
+    Failed pair.1.name (failed_member w e) (length (members w e)) ∷
+    want_reason w e pair.1 ∷ []
 
 -- of the first member that waits: the first row that stands
-abbrev pub start_reason_of : Work → ℕ → Option Slot → Option StartReason
+abbrev pub start_reason_of : Work → ℕ → Option HeldEntry → Option StartReason
 start_reason_of w e None = Some Nothing
-start_reason_of w e (Some slot) = first_row (with_reasons (start_table w e slot) (start_reasons w e slot))
+start_reason_of w e (Some pair) = first_row (with_reasons (start_table w e pair) (start_reasons w e pair))
 
 -- why the engine starts no member
 abbrev pub start_reason : Work → ℕ → Option StartReason

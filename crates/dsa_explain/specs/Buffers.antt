@@ -14,8 +14,8 @@ abbrev pub kept_from : Work → ℕ → ℕ
 kept_from w g = sum_by (λ other. cond (other == g) 0 (kept_for w other)) (numbers_below w.setup.caps.groups)
 
 -- how many all groups use
-abbrev pub in_use : Work → ℕ
-in_use w = sum_by (used w) (numbers_below w.setup.caps.groups)
+abbrev pub buffers_in_use : Work → ℕ
+buffers_in_use w = sum_by (used w) (numbers_below w.setup.caps.groups)
 
 -- so many are asked for of the group: what it uses and what it is allowed, how many the device has,
 -- how many of these are in use, and how many are kept for other groups
@@ -26,7 +26,7 @@ want_of w g asked = record {
   used = used w g;
   allowed = (group_at w.setup.groups g).allowed;
   buffers = w.setup.caps.read_buffers;
-  in_use = in_use w;
+  in_use = buffers_in_use w;
   kept = kept_from w g;
 }
 

@@ -4,16 +4,18 @@ use Rattle.dsa_explain.specs.declared.awaiting.Waiter.TheVariants as waiter
 use Rattle.std.specs.Prelude.{ℕ, Bool, true, false, not, cond, List, [], ◌∷◌, find}
 use Rattle.std.specs.Prelude.{Option, Some, None, option_map}
 use Rattle.dsa_base.specs.Rows.{first_row_or}
-use Rattle.dsa_regs.specs.declared.{Command.{Command}, Phase.{Phase}, Deed.{Deed, TheVariants.{Disable, Drain}}}
-use Rattle.dsa_regs.specs.declared.{Scope.{Scope, TheVariants.{Device}}, Fault.{Fault}}
+use Rattle.dsa_regs.specs.declared.{Command.{Command}, Phase.{Phase}, Deed.{Deed, TheVariants.{Enable, Disable, Drain}}}
+use Rattle.dsa_regs.specs.declared.{Scope.{Scope, TheVariants.{Device, Queue}}, Fault.{Fault}}
 use Rattle.dsa_regs.specs.declared.Fault.TheVariants.{BadQueue, WrongState, Busy}
+use Rattle.dsa_regs.specs.declared.reasons.CheckReason.{CheckReason}
 use Rattle.dsa_regs.specs.Command.{scope_of, deed_of, queues_in}
+use Rattle.dsa_regs.specs.Config.{queue_at, check_fault, check_device_reason, check_queue_reason}
 use Rattle.dsa_store.specs.Content.{count_where}
 use Rattle.dsa_book.specs.declared.answer.IssueAnswer.{IssueAnswer, TheVariants.{Refused}}
 use Rattle.dsa_book.specs.declared.answer.PollAnswer.{PollAnswer, TheVariants.{Finished, Active, Nothing}}
 use Rattle.dsa_book.specs.declared.note.ActiveCommand.{ActiveCommand}
 use Rattle.dsa_book.specs.State.{Setup, State, has_queue, is_on, phase_at}
-use Rattle.dsa_book.specs.Commands.{issue_table, suits, check_of, command_done_of, is_at_end, issue}
+use Rattle.dsa_book.specs.Commands.{issue_table, suits, command_done_of, is_at_end, issue}
 use Rattle.dsa_admin.specs.Admin.{is_awaited_by, is_waited_for}
 use Rattle.dsa_explain.specs.declared.command.IssueReason.{IssueReason, TheVariants.{Busy, NoQueue, WrongPhase, Check}}
 use Rattle.dsa_explain.specs.declared.command.PollReason.{PollReason, TheVariants.{Nothing, Waits}}
@@ -49,6 +51,13 @@ phase_of setup (Some queue) = phase_at setup queue
 abbrev pub phase_reason : Setup → Option ℕ → IssueReason
 phase_reason setup queue = WrongPhase queue (phase_of setup queue)
 
+-- what the check of an enable finds of the configuration
+abbrev pub found_by_check : Setup → Deed → Scope → Option CheckReason
+found_by_check setup Enable Device = check_device_reason setup.caps setup.configs setup.groups
+found_by_check setup Enable (Queue queue) =
+    check_queue_reason setup.caps setup.groups queue (queue_at setup.configs queue)
+found_by_check setup _ _ = None
+
 -- a reason for each row of the table of commands, in its order
 abbrev pub issue_reasons : State → Command → List (Option IssueReason)
 issue_reasons s command =
@@ -60,19 +69,19 @@ issue_reasons s command =
 -- the reason of the first row that stands, or else what the check finds
 abbrev pub issue_reason : State → Command → Option IssueReason
 issue_reason s command = first_row_or (with_reasons (issue_table s command) (issue_reasons s command))
-    (option_map Check (check_of s.work.setup (deed_of command) (scope_of command)))
+    (option_map Check (found_by_check s.work.setup (deed_of command) (scope_of command)))
 
 -- the fault that is answered for the reason
-abbrev pub fault_of : IssueReason → Fault
-fault_of (Busy active awaited) = Busy
-fault_of (NoQueue queue) = BadQueue
-fault_of (WrongPhase queue phase) = WrongState
-fault_of (Check fault) = fault
+abbrev pub fault_of_command : IssueReason → Fault
+fault_of_command (Busy active awaited) = Busy
+fault_of_command (NoQueue queue) = BadQueue
+fault_of_command (WrongPhase queue phase) = WrongState
+fault_of_command (Check reason) = check_fault reason
 
 -- what a command leads to by its reason: it is refused for the fault of one, and carried out without
 abbrev pub issue_by : State → Command → Option IssueReason → IssueAnswer × State
 issue_by s command None = command_done_of s command
-issue_by s command (Some reason) = (Refused (fault_of reason), s)
+issue_by s command (Some reason) = (Refused (fault_of_command reason), s)
 
 -- ---- poll
 
@@ -96,7 +105,8 @@ poll_answer_by (Some (Waits awaited)) = Active
 -- what keeps a command that is noted so from its end: how many held entries it waits for, and the first
 abbrev pub wait_by : Option ActiveCommand → State → Option WaitReason
 wait_by noted s = option_map
-    (λ first. record { awaited = count_where (is_awaited_by noted) s.work.content; first = first }) (first_awaited noted s)
+    (λ first. record { awaited = count_where (is_awaited_by noted) s.work.content; first = first })
+    (first_awaited noted s)
 
 -- what keeps the active command from its end
 abbrev pub wait_of_active : State → Option WaitReason

@@ -3,10 +3,10 @@ use Rattle.std.specs.Prelude.{ℕ, Bool, not, cond, ◌&&◌, ◌||◌, nat_lt, 
 use Rattle.std.specs.{Prelude.{Option, Some, None, is_none, is_some, unwrap_or}, List.{list_all}}
 use Rattle.std.specs.Option.{option_map_or}
 use Rattle.dsa_base.specs.{Rows.{first_row}, Numbers.{numbers_below}}
-use Rattle.dsa_store.specs.Content.{Slot}
+use Rattle.dsa_store.specs.Content.{HeldEntry}
 use Rattle.dsa_book.specs.declared.note.BatchNote.{BatchNote}
 use Rattle.dsa_book.specs.State.{Work, has_queue, need_of, is_batch_of, is_drain_of}
-use Rattle.dsa_book.specs.Work.{group_of, has_room, in_progress, note_at, serves, front_of, is_draining}
+use Rattle.dsa_book.specs.Work.{group_of_engine, has_room, in_progress, note_at, serves, front_of, is_draining}
 use Rattle.dsa_explain.specs.declared.dispatch.EngineReason.{EngineReason, TheVariants.{NoEngine, NoGroup}}
 use Rattle.dsa_explain.specs.declared.dispatch.QueueReason.{QueueReason}
 use Rattle.dsa_explain.specs.declared.dispatch.QueueReason.TheVariants.{Empty, NoSlot, NoBuffers, OtherBatch}
@@ -17,7 +17,7 @@ use Rattle.dsa_explain.specs.Buffers.{want_of}
 
 -- what an engine wants before any queue is looked at, in this order
 abbrev pub engine_table : Work → ℕ → List (Bool × EngineReason)
-engine_table w e = (not (nat_lt e w.setup.caps.engines), NoEngine) ∷ (is_none (group_of w e), NoGroup) ∷ []
+engine_table w e = (not (nat_lt e w.setup.caps.engines), NoEngine) ∷ (is_none (group_of_engine w e), NoGroup) ∷ []
 
 -- the first that stands
 abbrev pub engine_reason : Work → ℕ → Option EngineReason
@@ -36,20 +36,20 @@ batch_name w e = option_map_or (λ (note : BatchNote). note.batch) (note_at w e)
 -- the name of the Drain in progress on the engine
 abbrev pub drain_name : Work → ℕ → ℕ
 drain_name w e =
-    option_map_or (λ (slot : Slot). slot.1.name) (find (λ slot. is_drain_of w.setup slot.1) (in_progress w e)) 0
+    option_map_or (λ (pair : HeldEntry). pair.1.name) (find (λ pair. is_drain_of w.setup pair.1) (in_progress w e)) 0
 
 -- what keeps the engine from taking this front: what it has to meet and does not, in that order
-abbrev pub take_table : Work → ℕ → Slot → List (Bool × QueueReason)
+abbrev pub take_table : Work → ℕ → HeldEntry → List (Bool × QueueReason)
 take_table w e front =
     let in_use = length (in_progress w e) in
     let need = need_of w.setup front.1 in
     (not (nat_lt in_use w.setup.caps.slots), NoSlot in_use w.setup.caps.slots) ∷
-    (not (has_room w e need), NoBuffers (want_of w (unwrap_or (group_of w e) 0) need)) ∷
+    (not (has_room w e need), NoBuffers (want_of w (unwrap_or (group_of_engine w e) 0) need)) ∷
     (not (is_none (note_at w e) || not (is_batch_of w.setup front.1)), OtherBatch (batch_name w e)) ∷
     (is_drain_of w.setup front.1 && is_draining w e, OtherDrain (drain_name w e)) ∷ []
 
 -- an empty queue has no front, and else the first row that stands decides
-abbrev pub front_reason : Work → ℕ → Option Slot → Option QueueReason
+abbrev pub front_reason : Work → ℕ → Option HeldEntry → Option QueueReason
 front_reason w e None = Some Empty
 front_reason w e (Some front) = first_row (take_table w e front)
 

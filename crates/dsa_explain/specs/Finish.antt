@@ -3,8 +3,8 @@ use Rattle.std.specs.Prelude.{ℕ, Bool, not, cond, ◌&&◌, ◌==◌, nat_lt, 
 use Rattle.std.specs.Prelude.{Option, Some, None}
 use Rattle.std.specs.Option.{option_map, option_map_or}
 use Rattle.dsa_base.specs.Rows.{first_row, passes}
-use Rattle.dsa_regs.specs.{declared.layout.ListUse.{ListUse}, Caps.{engine_of, list_use}}
-use Rattle.dsa_store.specs.{declared.entry.Entry.{Entry}, Content.{Slot, all_held, entry_of, list_of}}
+use Rattle.dsa_regs.specs.{declared.layout.ListUse.{ListUse}, Caps.{engine_of_list, list_use}}
+use Rattle.dsa_store.specs.{declared.entry.Entry.{Entry}, Content.{HeldEntry, all_held, entry_of, list_of_cell}}
 use Rattle.dsa_book.specs.declared.{answer.Ticket.{Ticket}, note.BatchNote.{BatchNote}}
 use Rattle.dsa_book.specs.declared.answer.FinishAnswer.{FinishAnswer, TheVariants.{Done, NotReady, Gone}}
 use Rattle.dsa_book.specs.State.{Work, is_batch_of, is_drain_of}
@@ -13,13 +13,13 @@ use Rattle.dsa_explain.specs.declared.finish.FinishReason.{FinishReason}
 use Rattle.dsa_explain.specs.declared.finish.FinishReason.TheVariants.{NoEngine, NoEntry, OtherName, Elsewhere}
 use Rattle.dsa_explain.specs.declared.finish.FinishReason.TheVariants.{NotStarted}
 use Rattle.dsa_explain.specs.declared.finish.FinishReason.TheVariants.{MembersLeft, StillToFetch, DrainWaits}
-use Rattle.dsa_explain.specs.Batch.{name_of}
+use Rattle.dsa_explain.specs.Batch.{name_of_entry}
 
 -- ---- an entry that is not the engine's to end
 
 -- the list is one of the engine's
 abbrev pub is_list_of : ℕ → ListUse → Bool
-is_list_of e list = passes (λ k. k == e) (engine_of list)
+is_list_of e list = passes (λ k. k == e) (engine_of_list list)
 
 -- what the cell of the ticket holds is another entry, or stands in a list that is not the engine's,
 -- or is a member of the engine's batch that has not started
@@ -32,8 +32,8 @@ gone_table e name entry list =
 -- ---- an entry that has to wait
 
 -- the first held entry that the Drain waits for, by the lists in their order
-abbrev pub first_waited : Work → Entry → Option Slot
-first_waited w drain = find (λ slot. waits_for drain slot.1) (all_held w.content)
+abbrev pub first_waited : Work → Entry → Option HeldEntry
+first_waited w drain = find (λ pair. waits_for drain pair.1) (all_held w.content)
 
 -- how many members of its batch the engine has fetched, and how many there are
 abbrev pub fetched_count : Work → ℕ → ℕ
@@ -54,7 +54,8 @@ rows_where test rows = map (λ row. (test && row.0, row.1)) rows
 
 -- what a Drain waits for: what was submitted before it
 abbrev pub drain_table : Work → Entry → List (Bool × FinishReason)
-drain_table w entry = (is_drain_of w.setup entry && waits w entry, DrainWaits (name_of (first_waited w entry))) ∷ []
+drain_table w entry = (is_drain_of w.setup entry && waits w entry, DrainWaits (name_of_entry (first_waited w entry)))
+    ∷ []
 
 -- what the entry waits for
 abbrev pub wait_table : Work → ℕ → Entry → List (Bool × FinishReason)
@@ -71,7 +72,7 @@ entry_reason w e name _ _ = Some NoEntry
 abbrev pub finish_reason : Work → ℕ → Ticket → Option FinishReason
 finish_reason w e ticket = cond (nat_lt e w.setup.caps.engines)
     (entry_reason w e ticket.name (entry_of w.content ticket.cell)
-    (option_map (list_use w.setup.caps) (list_of w.content ticket.cell)))
+    (option_map (list_use w.setup.caps) (list_of_cell w.content ticket.cell)))
     (Some NoEngine)
 
 -- the answer that the reason is one for

@@ -3,8 +3,6 @@ pub mod Submission
 pub mod Held
 pub mod Command
 pub mod Write
-pub mod Groups
-pub mod Check
 pub mod Buffers
 pub mod Dispatch
 pub mod Batch

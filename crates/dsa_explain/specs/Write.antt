@@ -33,14 +33,14 @@ abbrev pub write_group_reason : Setup → ℕ → Option WriteReason
 write_group_reason setup g = first_row (with_reasons (write_group_table setup g) (write_group_reasons setup))
 
 -- the fault that is answered for the reason
-abbrev pub fault_of : WriteReason → Fault
-fault_of (BadIndex count) = BadIndex
-fault_of _ = Locked
+abbrev pub fault_of_write : WriteReason → Fault
+fault_of_write (BadIndex count) = BadIndex
+fault_of_write _ = Locked
 
 -- what a write leads to by its reason: it is refused for the fault of one, and leaves this without
 abbrev pub write_by : Setup → Setup → Option WriteReason → WriteAnswer × Setup
 write_by setup written None = (Written, written)
-write_by setup written (Some reason) = (Refused (fault_of reason), setup)
+write_by setup written (Some reason) = (Refused (fault_of_write reason), setup)
 
 -- nothing is cleared where no error is noted
 abbrev pub clear_reason : Option NotedError → Option ClearReason

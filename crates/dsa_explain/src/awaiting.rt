@@ -9,22 +9,23 @@ ghost use Rattle.dsa_book.specs.declared.note.ActiveCommand.{ActiveCommand};
 ghost use Rattle.dsa_book.specs.State.{State};
 ghost use Rattle.dsa_book.specs.Commands.{is_at_end, issue};
 ghost use Rattle.dsa_admin.specs.Admin.{is_awaited_by, is_waited_for};
-ghost use Rattle.dsa_explain.specs.Held.{awaited_entry, first_awaited, held_in};
+ghost use Rattle.dsa_explain.specs.Held.{awaited_entry, first_awaited, held_in_list};
 ghost use Rattle.dsa_explain.specs.Command.{is_active_answer, is_waiting, noted_by, wait_of_active, wait_reason};
 
 use crate::command::{commands_follow_reasons, issue_reason};
-use crate::held::{Held, slots_of};
+use crate::held::{ListedEntry, entries_of_list};
 use dsa_admin::is_in_scope;
 use dsa_book::ActiveCommand;
 use dsa_device::Device;
 use dsa_regs::{Command, Deed, ListUse, list_count};
 use dsa_store::{Entry, EntryStore};
 
-/// What keeps a drain or a disable from its end: so many held entries, the first of them list by list and the front first.
+/// What keeps a drain or a disable from its end: so many held entries, the first of them list by
+/// list and the front first.
 #[derive(Clone, Copy, Debug, PartialEq, Eq)]
 pub struct WaitReason {
     pub awaited: u32,
-    pub first: Held,
+    pub first: ListedEntry,
 }
 
 // Who waits: the active command, or one that would be noted so.
@@ -56,18 +57,26 @@ fn is_awaited<S: EntryStore>(device: &Device<S>, waiter: &Waiter, entry: &Entry)
 }
 
 // The first entry of the list that is waited for.
-fn first_in<S: EntryStore>(device: &Device<S>, waiter: &Waiter, list: ListUse) -> Option<Held>
+fn first_in<S: EntryStore>(
+    device: &Device<S>,
+    waiter: &Waiter,
+    list: ListUse,
+) -> Option<ListedEntry>
     requires { HasList device.now.caps list }
-    ensures { result ≡ find (λ held. is_awaited_by (noted_by device.now.state.active waiter.now) held.entry) (map (held_in list) (chain device.now.state.work.content (list_number device.now.caps list))) }
+    ensures { result
+        ≡ find (λ held. is_awaited_by (noted_by device.now.state.active waiter.now) held.entry)
+        (map (held_in_list list)
+        (chain device.now.state.work.content (list_number device.now.caps list))) }
 {
-    let mut slots = slots_of(device, list);
-    let (cell, entry) = slots.find(|slot| is_awaited(device, waiter, &slot.1))?;
-    Some(Held { list, cell, entry })
+    let mut entries = entries_of_list(device, list);
+    let (cell, entry) = entries.find(|pair| is_awaited(device, waiter, &pair.1))?;
+    Some(ListedEntry { list, cell, entry })
 }
 
 // The first held entry that is waited for.
-fn first_awaited<S: EntryStore>(device: &Device<S>, waiter: &Waiter) -> Option<Held>
-    ensures { result ≡ first_awaited (noted_by device.now.state.active waiter.now) device.now.state }
+fn first_awaited<S: EntryStore>(device: &Device<S>, waiter: &Waiter) -> Option<ListedEntry>
+    ensures { result
+        ≡ first_awaited (noted_by device.now.state.active waiter.now) device.now.state }
 {
     device.state_is_replay();
     let caps = device.caps();
@@ -80,9 +89,9 @@ fn first_awaited<S: EntryStore>(device: &Device<S>, waiter: &Waiter) -> Option<H
     None
 }
 
-/// The first held entry that the active command waits for, list by list and the front first. `None` exactly where no
-/// command is active, or the active one is at its end.
-pub fn awaited_entry<S: EntryStore>(device: &Device<S>) -> Option<Held>
+/// The first held entry that the active command waits for, list by list and the front first. `None`
+/// exactly where no command is active, or the active one is at its end.
+pub fn awaited_entry<S: EntryStore>(device: &Device<S>) -> Option<ListedEntry>
     ensures { result ≡ awaited_entry device.now.state }
 {
     first_awaited(device, &Waiter::Active)
@@ -92,10 +101,12 @@ pub fn awaited_entry<S: EntryStore>(device: &Device<S>) -> Option<Held>
 fn count_in<S: EntryStore>(device: &Device<S>, noted: &ActiveCommand, list: ListUse) -> u32
     requires list { HasList device.now.caps list }
     requires few { held_count device.now.state.work.content < 2 ^ 32 }
-    ensures { result ≡ count_by (λ slot. is_waited_for noted.now slot.1) (chain device.now.state.work.content (list_number device.now.caps list)) }
+    ensures { result
+        ≡ count_by (λ pair. is_waited_for noted.now pair.1)
+        (chain device.now.state.work.content (list_number device.now.caps list)) }
 {
     let mut count = 0;
-    for (_cell, entry) in slots_of(device, list) {
+    for (_cell, entry) in entries_of_list(device, list) {
         if is_waited_for(noted, &entry) {
             count += 1;
         }
@@ -128,7 +139,8 @@ fn is_waiting(deed: Deed) -> bool
     }
 }
 
-/// What this command would wait for. `None` exactly where it would not be answered active: it would be refused, or over at once.
+/// What this command would wait for. `None` exactly where it would not be answered active: it would
+/// be refused, or over at once.
 pub fn wait_reason<S: EntryStore>(device: &Device<S>, command: Command) -> Option<WaitReason>
     ensures { result ≡ wait_reason device.now.state command }
 {
@@ -148,12 +160,17 @@ pub fn wait_reason<S: EntryStore>(device: &Device<S>, command: Command) -> Optio
 
 /// An active command is at its end exactly where no entry is told that it waits for.
 pub fn commands_wait_for_what_is_told()
-    ensures { (s : State) (active : ActiveCommand) → s.active ≡ Some active → (awaited_entry s ≡ None) ↔ (is_at_end active s.work.content ≡ true) }
+    ensures { (s : State) (active : ActiveCommand)
+        → s.active ≡ Some active
+        → (awaited_entry s ≡ None) ↔ (is_at_end active s.work.content ≡ true) }
 {}
 
-/// A command is answered active exactly where it is told what it waits for, and then that is what the active command of the
-/// state after it waits for.
+/// A command is answered active exactly where it is told what it waits for, and then that is what
+/// the active command of the state after it waits for.
 pub fn waits_follow_reasons()
-    ensures told { (s : State) (command : Command) → is_active_answer (issue s command).0 ≡ is_some (wait_reason s command) }
-    ensures kept { (s : State) (command : Command) → is_active_answer (issue s command).0 ≡ true → wait_of_active (issue s command).1 ≡ wait_reason s command }
+    ensures told { (s : State) (command : Command)
+        → is_active_answer (issue s command).0 ≡ is_some (wait_reason s command) }
+    ensures kept { (s : State) (command : Command)
+        → is_active_answer (issue s command).0 ≡ true
+        → wait_of_active (issue s command).1 ≡ wait_reason s command }
 {}

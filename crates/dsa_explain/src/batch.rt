@@ -6,10 +6,10 @@ ghost use Rattle.dsa_base.specs.Rows.{first_row, passes, when};
 ghost use Rattle.dsa_desc.specs.declared.Descriptor.{Descriptor};
 ghost use Rattle.dsa_store.specs.Content.{is_cell};
 ghost use Rattle.dsa_book.specs.State.{need_of};
-ghost use Rattle.dsa_book.specs.Work.{batch_on, is_all_fetched, first_waiting, has_failed, has_room, start_table, fetch, start};
+ghost use Rattle.dsa_book.specs.Work.{batch_on, is_all_fetched, first_waiting, has_failed_member, has_room, start_table, fetch, start};
 ghost use Rattle.dsa_explain.specs.declared.batch.StartReason.TheVariants.{Failed};
 ghost use Rattle.dsa_explain.specs.Reasons.{with_reasons};
-ghost use Rattle.dsa_explain.specs.Batch.{fetch_reason, fetch_answer, unfetched, first_member, name_of, want_reason, start_reasons, start_reason, start_answer, unstarted, is_failure, is_failed_in, failed_member};
+ghost use Rattle.dsa_explain.specs.Batch.{fetch_reason, fetch_answer, unfetched, first_member, name_of_entry, want_reason, start_reasons, start_reason, start_answer, unstarted, is_failure, is_failed_in, failed_member};
 
 use crate::buffers::{BufferWant, lacking};
 use dsa_book::{BatchNote, Fate, FateRow};
@@ -24,7 +24,8 @@ pub enum FetchReason {
     NoEngine,
     /// The engine works on no batch.
     NoBatch,
-    /// So many of the batch's members were fetched, of so many, or its rest was abandoned and it is closed.
+    /// `fetched` of `count` members were fetched, or the rest was abandoned and the batch is
+    /// closed.
     AllFetched {
         count: u32,
         fetched: u32,
@@ -37,12 +38,14 @@ pub enum FetchReason {
 pub enum StartReason {
     /// No member waits.
     Nothing,
-    /// The member of that name has a fence, and waits for all before it: the first of them is named.
+    /// The member of that name has a fence and waits for all before it, of which the first is
+    /// named.
     Fence {
         member: u32,
         waits_for: u32,
     },
-    /// The member of that name has a fence, and one before it failed, the first such named: all that are left end, so many.
+    /// The member of that name has a fence, and a member before it failed (`failed` names the
+    /// first): the remaining `left` members are abandoned.
     Failed {
         member: u32,
         failed: Option<u32>,
@@ -63,8 +66,8 @@ fn batch_on<S: EntryStore>(
     ensures { result ≡ batch_on device.now.state.work engine note.now }
 {
     device.state_is_replay();
-    let mut slots = device.in_progress(engine)?;
-    slots.find(|slot| slot.1.name == note.batch)
+    let mut entries = device.in_progress(engine)?;
+    entries.find(|pair| pair.1.name == note.batch)
 }
 
 // Whether no member of the batch is to be fetched any more.
@@ -74,11 +77,13 @@ pub(crate) fn is_all_fetched(note: &BatchNote) -> bool
     note.closed || note.count <= note.fetched
 }
 
-/// Why the engine fetches no member, the first cause that stands. `None` exactly where it fetches one, and any other answer is
-/// the one that the reason is for.
+/// Why the engine fetches no member, the first cause that stands. `None` exactly where it fetches
+/// one, and any other answer is the one that the reason is for.
 pub fn fetch_reason<S: EntryStore>(device: &Device<S>, engine: u16) -> Option<FetchReason>
     ensures reason { result ≡ fetch_reason device.now.state.work engine }
-    ensures answer { (desc : Descriptor) (cell : Cell) → option_map fetch_answer result ≡ unfetched (fetch device.now.state.work engine desc cell).0 }
+    ensures answer { (desc : Descriptor) (cell : Cell)
+        → option_map fetch_answer result
+        ≡ unfetched (fetch device.now.state.work engine desc cell).0 }
 {
     device.state_is_replay();
     if engine >= device.caps().engines {
@@ -105,8 +110,8 @@ fn first_waiting<S: EntryStore>(device: &Device<S>, engine: u16) -> Option<(Cell
     ensures { result ≡ first_waiting device.now.state.work engine }
 {
     device.state_is_replay();
-    let mut slots = device.members(engine)?;
-    slots.find(|slot| !slot.1.running)
+    let mut entries = device.members(engine)?;
+    entries.find(|pair| !pair.1.running)
 }
 
 // The first of the engine's members that have not ended.
@@ -118,20 +123,20 @@ fn first_member<S: EntryStore>(device: &Device<S>, engine: u16) -> Option<(Cell,
 }
 
 // Whether an entry is there and stands in the cell.
-fn stands_in(slot: Option<(Cell, Entry)>, cell: Cell) -> bool
-    ensures { result ≡ passes (is_cell cell) slot }
+fn stands_in(pair: Option<(Cell, Entry)>, cell: Cell) -> bool
+    ensures { result ≡ passes (is_cell cell) pair }
 {
-    match slot {
+    match pair {
         Some((other, _)) => other.0 == cell.0,
         None => false,
     }
 }
 
 // The name of an entry that is there.
-fn name_of(slot: Option<(Cell, Entry)>) -> u32
-    ensures { result ≡ name_of slot }
+fn name_of(pair: Option<(Cell, Entry)>) -> u32
+    ensures { result ≡ name_of_entry pair }
 {
-    match slot {
+    match pair {
         Some((_, entry)) => entry.name,
         None => 0,
     }
@@ -139,7 +144,7 @@ fn name_of(slot: Option<(Cell, Entry)>) -> u32
 
 // Whether a member of the engine's batch was not successful.
 fn has_failed<S: EntryStore>(device: &Device<S>, engine: u16) -> bool
-    ensures { result ≡ has_failed device.now.state.work engine }
+    ensures { result ≡ has_failed_member device.now.state.work engine }
 {
     match device.batch(engine) {
         Some(note) => note.failed,
@@ -189,7 +194,11 @@ fn want_reason<S: EntryStore>(
     engine: u16,
     member: &Entry,
 ) -> Option<StartReason>
-    ensures { result ≡ when (not (has_room device.now.state.work engine (need_of device.now.state.work.setup member.now))) (want_reason device.now.state.work engine member.now) }
+    ensures { result
+        ≡ when
+        (not (has_room device.now.state.work engine
+        (need_of device.now.state.work.setup member.now)))
+        (want_reason device.now.state.work engine member.now) }
 {
     device.state_is_replay();
     let Some(group) = device.group_of(engine) else {
@@ -203,13 +212,16 @@ fn want_reason<S: EntryStore>(
 fn waiting_reason<S: EntryStore>(
     device: &Device<S>,
     engine: u16,
-    slot: (Cell, Entry),
+    pair: (Cell, Entry),
 ) -> Option<StartReason>
     requires { engine < device.now.caps.engines }
-    ensures { result ≡ first_row (with_reasons (start_table device.now.state.work engine slot) (start_reasons device.now.state.work engine slot)) }
+    ensures { result
+        ≡ first_row
+        (with_reasons (start_table device.now.state.work engine pair)
+        (start_reasons device.now.state.work engine pair)) }
 {
     device.state_is_replay();
-    let (cell, entry) = slot;
+    let (cell, entry) = pair;
     let member = entry.name;
     if entry.desc.is_fenced() {
         let first = first_member(device, engine);
@@ -230,19 +242,23 @@ fn waiting_reason<S: EntryStore>(
     want_reason(device, engine, &entry)
 }
 
-/// Why the engine starts no member, the first cause that stands. `None` exactly where it starts one, and any other answer is the
-/// one that the reason is for. Where one before the fence failed its name is always told.
+/// Why the engine starts no member, the first cause that stands. `None` exactly where it starts
+/// one, and any other answer is the one that the reason is for. Where one before the fence failed
+/// its name is always told.
 pub fn start_reason<S: EntryStore>(device: &Device<S>, engine: u16) -> Option<StartReason>
     ensures reason { result ≡ start_reason device.now.state.work engine }
-    ensures named { (member left : ℕ) (failed : Option ℕ) → result ≡ Some (Failed member failed left) → is_some failed ≡ true }
-    ensures answer { option_map start_answer result ≡ unstarted (start device.now.state.work engine).0 }
+    ensures named { (member left : ℕ) (failed : Option ℕ)
+        → result ≡ Some (Failed member failed left)
+        → is_some failed ≡ true }
+    ensures answer { option_map start_answer result
+        ≡ unstarted (start device.now.state.work engine).0 }
 {
     device.state_is_replay();
     if engine >= device.caps().engines {
         return Some(StartReason::Nothing);
     }
-    let Some(slot) = first_waiting(device, engine) else {
+    let Some(pair) = first_waiting(device, engine) else {
         return Some(StartReason::Nothing);
     };
-    waiting_reason(device, engine, slot)
+    waiting_reason(device, engine, pair)
 }

@@ -2,13 +2,13 @@
 
 ghost use Rattle.std.specs.Prelude.{◌≡◌, ◌<◌, ◌==◌, nat_lt, cond};
 ghost use Rattle.dsa_base.specs.Rows.{when};
-ghost use Rattle.dsa_explain.specs.Buffers.{kept_for, kept_from, in_use, want_of, is_met, lacking};
+ghost use Rattle.dsa_explain.specs.Buffers.{kept_for, kept_from, buffers_in_use, want_of, is_met, lacking};
 
 use dsa_device::Device;
 use dsa_store::EntryStore;
 
-/// So many read buffers are asked for of a group, and do not fit: the group would use more than it is allowed, or the device
-/// has fewer than would be in use or kept.
+/// So many read buffers are asked for of a group, and do not fit: the group would use more than it
+/// is allowed, or the device has fewer than would be in use or kept.
 #[derive(Clone, Copy, Debug, PartialEq, Eq)]
 pub struct BufferWant {
     /// The group.
@@ -27,10 +27,11 @@ pub struct BufferWant {
     pub kept: u32,
 }
 
-/// How many read buffers are kept for the group: what it has reserved and does not use. `None` exactly when the device has no
-/// such group.
+/// How many read buffers are kept for the group: what it has reserved and does not use. `None`
+/// exactly when the device has no such group.
 pub fn kept_for<S: EntryStore>(device: &Device<S>, group: u16) -> Option<u16>
-    ensures { result ≡ when (nat_lt group device.now.caps.groups) (kept_for device.now.state.work group) }
+    ensures { result
+        ≡ when (nat_lt group device.now.caps.groups) (kept_for device.now.state.work group) }
 {
     let used = device.used(group)?;
     let config = device.group_config(group)?;
@@ -39,7 +40,7 @@ pub fn kept_for<S: EntryStore>(device: &Device<S>, group: u16) -> Option<u16>
 
 // How many read buffers all groups use.
 fn in_use<S: EntryStore>(device: &Device<S>) -> u32
-    ensures { result ≡ in_use device.now.state.work }
+    ensures { result ≡ buffers_in_use device.now.state.work }
 {
     device.state_is_replay();
     let mut sum: u32 = 0;
@@ -75,7 +76,8 @@ fn kept_from<S: EntryStore>(device: &Device<S>, group: u16) -> u32
 
 // The numbers of the group that so many are asked for.
 fn want_of<S: EntryStore>(device: &Device<S>, group: u16, asked: u8) -> Option<BufferWant>
-    ensures { result ≡ when (nat_lt group device.now.caps.groups) (want_of device.now.state.work group asked) }
+    ensures { result
+        ≡ when (nat_lt group device.now.caps.groups) (want_of device.now.state.work group asked) }
 {
     device.state_is_replay();
     let config = device.group_config(group)?;
@@ -91,8 +93,8 @@ fn want_of<S: EntryStore>(device: &Device<S>, group: u16, asked: u8) -> Option<B
     })
 }
 
-// Whether so many fit a group with that many in reserve: it stays within what it is allowed, and the device has all that is
-// then in use or kept.
+// Whether the wanted buffers fit a group that has `reserved` of its own: the group keeps to what it
+// is allowed, and the device has all that is then in use or kept.
 fn is_met(want: &BufferWant, reserved: u16) -> bool
     ensures { result ≡ is_met want.now reserved }
 {

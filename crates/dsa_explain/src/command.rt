@@ -6,13 +6,14 @@ ghost use Rattle.dsa_regs.specs.Command.{queues_in};
 ghost use Rattle.dsa_base.specs.Rows.{when};
 ghost use Rattle.dsa_regs.specs.declared.Command.{Command};
 ghost use Rattle.dsa_book.specs.State.{State, is_on, phase_at};
-ghost use Rattle.dsa_book.specs.Commands.{issue, poll, is_bad_queues, may_come, suits, check_of};
+ghost use Rattle.dsa_book.specs.Commands.{issue, poll, is_bad_queues, may_come, suits};
 ghost use Rattle.dsa_admin.specs.Admin.{names_bad_queue};
 ghost use Rattle.dsa_explain.specs.declared.command.IssueReason.TheVariants.{NoQueue};
-ghost use Rattle.dsa_explain.specs.Command.{busy_reason, missing_queue, unsuited_queue, unsuited, phase_reason, issue_reason, issue_by, poll_reason, poll_answer_by};
+ghost use Rattle.dsa_explain.specs.Command.{busy_reason, missing_queue, unsuited_queue, unsuited, phase_reason, issue_reason, issue_by, found_by_check, poll_reason, poll_answer_by};
 
+use crate::check::{check_device_reason, check_queue_reason};
 use dsa_device::Device;
-use dsa_regs::{Command, Deed, Fault, Phase, Scope, check_device, check_queue};
+use dsa_regs::{CheckReason, Command, Deed, Phase, Scope};
 use dsa_store::EntryStore;
 
 /// What refuses a command, in the order in which the causes are tried.
@@ -20,13 +21,14 @@ use dsa_store::EntryStore;
 pub enum IssueReason {
     /// Another command is active, and waits for so many held entries.
     Busy { active: Command, awaited: u32 },
-    /// The device does not have this queue that is named, the first such; `None` where no queue is named.
+    /// The device does not have this queue that is named, the first such; `None` where no queue is
+    /// named.
     NoQueue { queue: Option<u32> },
-    /// The queue, the first such that is named, does not stand in a phase that the command needs; `None` where it is the
-    /// device that does not.
+    /// The queue, the first such that is named, does not stand in a phase that the command needs;
+    /// `None` where it is the device that does not.
     WrongPhase { queue: Option<u32>, phase: Phase },
-    /// The configuration has this fault.
-    Check(Fault),
+    /// The check of an enable finds this of the configuration.
+    Check(CheckReason),
 }
 
 /// Why one who asks after the active command is not told that it is over.
@@ -62,7 +64,9 @@ fn missing_queue<S: EntryStore>(device: &Device<S>, scope: &Scope) -> Option<u32
 
 // What is wrong with the queues that are named, of which there has to be one.
 fn named_reason<S: EntryStore>(device: &Device<S>, scope: &Scope) -> Option<IssueReason>
-    ensures { result ≡ when (names_bad_queue device.now.state.work.setup (queues_in scope.now)) (NoQueue (missing_queue device.now.state.work.setup scope.now)) }
+    ensures { result
+        ≡ when (names_bad_queue device.now.state.work.setup (queues_in scope.now))
+        (NoQueue (missing_queue device.now.state.work.setup scope.now)) }
 {
     if scope.queues().is_empty() {
         return Some(IssueReason::NoQueue { queue: None });
@@ -73,7 +77,9 @@ fn named_reason<S: EntryStore>(device: &Device<S>, scope: &Scope) -> Option<Issu
 
 // What is wrong with the queues of the scope. The device as a whole and a PASID name none.
 fn queue_reason<S: EntryStore>(device: &Device<S>, scope: &Scope) -> Option<IssueReason>
-    ensures { result ≡ when (is_bad_queues device.now.state.work.setup scope.now) (NoQueue (missing_queue device.now.state.work.setup scope.now)) }
+    ensures { result
+        ≡ when (is_bad_queues device.now.state.work.setup scope.now)
+        (NoQueue (missing_queue device.now.state.work.setup scope.now)) }
 {
     match scope {
         Scope::Queue(_) => named_reason(device, scope),
@@ -124,7 +130,14 @@ fn standing_reason<S: EntryStore>(
     deed: Deed,
     scope: &Scope,
 ) -> Option<IssueReason>
-    ensures { result ≡ when (not (is_on device.now.state.work.setup.device && list_all (λ q. suits deed (phase_at device.now.state.work.setup q)) (queues_in scope.now))) (phase_reason device.now.state.work.setup (cond (is_on device.now.state.work.setup.device) (unsuited_queue device.now.state.work.setup deed scope.now) None)) }
+    ensures { result
+        ≡ when
+        (not (is_on device.now.state.work.setup.device
+        && list_all (λ q. suits deed (phase_at device.now.state.work.setup q))
+        (queues_in scope.now)))
+        (phase_reason device.now.state.work.setup
+        (cond (is_on device.now.state.work.setup.device)
+        (unsuited_queue device.now.state.work.setup deed scope.now) None)) }
 {
     let phase = device.phase();
     if phase != Phase::On {
@@ -139,7 +152,10 @@ fn standing_reason<S: EntryStore>(
 
 // What does not stand as the deed needs.
 fn phase_reason<S: EntryStore>(device: &Device<S>, deed: Deed, scope: &Scope) -> Option<IssueReason>
-    ensures { result ≡ when (not (may_come device.now.state.work.setup deed scope.now)) (phase_reason device.now.state.work.setup (unsuited device.now.state.work.setup deed scope.now)) }
+    ensures { result
+        ≡ when (not (may_come device.now.state.work.setup deed scope.now))
+        (phase_reason device.now.state.work.setup
+        (unsuited device.now.state.work.setup deed scope.now)) }
 {
     let phase = device.phase();
     match scope {
@@ -150,22 +166,17 @@ fn phase_reason<S: EntryStore>(device: &Device<S>, deed: Deed, scope: &Scope) ->
 }
 
 // What the check of an enable finds.
-fn check_fault<S: EntryStore>(device: &Device<S>, deed: Deed, scope: &Scope) -> Option<Fault>
+fn found<S: EntryStore>(device: &Device<S>, deed: Deed, scope: &Scope) -> Option<CheckReason>
     requires { is_bad_queues device.now.state.work.setup scope.now ≡ false }
-    ensures { result ≡ check_of device.now.state.work.setup deed scope.now }
+    ensures { result ≡ found_by_check device.now.state.work.setup deed scope.now }
 {
     device.state_is_replay();
     let Deed::Enable = deed else {
         return None;
     };
-    let caps = device.caps();
     match scope {
-        Scope::Device => check_device(&caps, device.queue_configs(), device.group_configs()),
-        Scope::Queue(queue) => {
-            let queue = *queue as u16;
-            let config = device.queue_config(queue)?;
-            check_queue(&caps, device.group_configs(), queue, &config)
-        }
+        Scope::Device => check_device_reason(device),
+        Scope::Queue(queue) => check_queue_reason(device, *queue as u16),
         _ => None,
     }
 }
@@ -188,11 +199,12 @@ pub fn issue_reason<S: EntryStore>(device: &Device<S>, command: Command) -> Opti
     if reason.is_some() {
         return reason;
     }
-    let fault = check_fault(device, deed, &scope)?;
-    Some(IssueReason::Check(fault))
+    let reason = found(device, deed, &scope)?;
+    Some(IssueReason::Check(reason))
 }
 
-/// Why one who asks after the active command would not be told that it is over. `None` exactly where that would be told.
+/// Why one who asks after the active command would not be told that it is over. `None` exactly
+/// where that would be told.
 pub fn poll_reason<S: EntryStore>(device: &Device<S>) -> Option<PollReason>
     ensures { result ≡ poll_reason device.now.state }
 {
@@ -203,12 +215,15 @@ pub fn poll_reason<S: EntryStore>(device: &Device<S>) -> Option<PollReason>
     }
 }
 
-/// The machine refuses a command for the fault of its reason, and carries it out exactly where there is none.
+/// The machine refuses a command for the fault of its reason, and carries it out exactly where
+/// there is none.
 pub fn commands_follow_reasons()
-    ensures { (s : State) (command : Command) → issue s command ≡ issue_by s command (issue_reason s command) }
+    ensures { (s : State) (command : Command)
+        → issue s command ≡ issue_by s command (issue_reason s command) }
 {}
 
-/// The machine answers one who asks after the active command by the reason, and that it is over exactly where there is none.
+/// The machine answers one who asks after the active command by the reason, and that it is over
+/// exactly where there is none.
 pub fn polls_follow_reasons()
     ensures { (s : State) → (poll s).0 ≡ poll_answer_by (poll_reason s) }
 {}

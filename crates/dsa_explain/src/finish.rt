@@ -8,7 +8,7 @@ ghost use Rattle.dsa_regs.specs.Caps.{HasList, list_number};
 ghost use Rattle.dsa_store.specs.Content.{chain};
 ghost use Rattle.dsa_book.specs.State.{is_batch_of};
 ghost use Rattle.dsa_book.specs.Work.{waits_for, finish};
-ghost use Rattle.dsa_explain.specs.Batch.{name_of};
+ghost use Rattle.dsa_explain.specs.Batch.{name_of_entry};
 ghost use Rattle.dsa_explain.specs.Finish.{gone_table, first_waited, rows_where, batch_table, drain_table, wait_table, finish_reason, finish_answer, unended};
 
 use crate::batch::is_all_fetched;
@@ -34,7 +34,8 @@ pub enum FinishReason {
     MembersLeft { left: u32 },
     /// The entry is a Batch of so many members, and so many of them were fetched.
     StillToFetch { fetched: u32, count: u32 },
-    /// The entry is a Drain, and waits for the entry of that name: the first, by the lists in their order.
+    /// The entry is a Drain, and waits for the entry of that name: the first, by the lists in their
+    /// order.
     DrainWaits { first: u32 },
 }
 
@@ -67,7 +68,8 @@ fn waits_for(drain: &Entry, other: &Entry) -> bool
 // The entries of the list.
 fn listed<S: EntryStore>(device: &Device<S>, list: ListUse) -> Option<Walk<'_, S>>
     requires { HasList device.now.caps list }
-    ensures { result ≡ Some (chain device.now.state.work.content (list_number device.now.caps list)) }
+    ensures { result
+        ≡ Some (chain device.now.state.work.content (list_number device.now.caps list)) }
 {
     device.state_is_replay();
     match list {
@@ -84,10 +86,12 @@ fn first_waited_in<S: EntryStore>(
     drain: &Entry,
 ) -> Option<(Cell, Entry)>
     requires { HasList device.now.caps list }
-    ensures { result ≡ find (λ slot. waits_for drain.now slot.1) (chain device.now.state.work.content (list_number device.now.caps list)) }
+    ensures { result
+        ≡ find (λ pair. waits_for drain.now pair.1)
+        (chain device.now.state.work.content (list_number device.now.caps list)) }
 {
-    let mut slots = listed(device, list)?;
-    slots.find(|slot| waits_for(drain, &slot.1))
+    let mut entries = listed(device, list)?;
+    entries.find(|pair| waits_for(drain, &pair.1))
 }
 
 // The first held entry that the Drain waits for, by the lists in their order.
@@ -105,7 +109,8 @@ fn first_waited<S: EntryStore>(device: &Device<S>, drain: &Entry) -> Option<(Cel
     None
 }
 
-// What the engine's batch waits for: members that are left, then those that are still to be fetched.
+// What the engine's batch waits for: members that are left, then those that are still to be
+// fetched.
 fn batch_reason<S: EntryStore>(device: &Device<S>, engine: u16) -> Option<FinishReason>
     requires { engine < device.now.caps.engines }
     ensures { result ≡ first_row (batch_table device.now.state.work engine) }
@@ -132,7 +137,10 @@ fn batch_waits<S: EntryStore>(
     entry: &Entry,
 ) -> Option<FinishReason>
     requires { engine < device.now.caps.engines }
-    ensures { result ≡ first_row (rows_where (is_batch_of device.now.state.work.setup entry.now) (batch_table device.now.state.work engine)) }
+    ensures { result
+        ≡ first_row
+        (rows_where (is_batch_of device.now.state.work.setup entry.now)
+        (batch_table device.now.state.work engine)) }
 {
     if !device.is_batch(entry) {
         return None;
@@ -188,15 +196,17 @@ fn reason_of<S: EntryStore>(device: &Device<S>, engine: u16, ticket: Ticket) -> 
     wait_reason(device, engine, &entry)
 }
 
-/// Why the engine does not end the entry of the ticket, the first cause that stands. `None` exactly where it ends the entry,
-/// and any other answer is the one that the reason is for.
+/// Why the engine does not end the entry of the ticket, the first cause that stands. `None` exactly
+/// where it ends the entry, and any other answer is the one that the reason is for.
 pub fn finish_reason<S: EntryStore>(
     device: &Device<S>,
     engine: u16,
     ticket: Ticket,
 ) -> Option<FinishReason>
     ensures reason { result ≡ finish_reason device.now.state.work engine ticket }
-    ensures answer { (outcome : Outcome) → option_map finish_answer result ≡ unended (finish device.now.state.work engine ticket outcome).0 }
+    ensures answer { (outcome : Outcome)
+        → option_map finish_answer result
+        ≡ unended (finish device.now.state.work engine ticket outcome).0 }
 {
     device.state_is_replay();
     reason_of(device, engine, ticket)

@@ -1,5 +1,5 @@
-//! Why a device answers a step as it does: the row of the written machine's table that decides, with the numbers that made
-//! it stand.
+//! Why a device answers a step as it does: the row of the written machine's table that decides,
+//! with the numbers that made it stand.
 //!
 //! Each function reads the device before the step, and takes no memory.
 #![tactic(auto)]
@@ -12,7 +12,6 @@ mod command;
 mod dispatch;
 mod failing;
 mod finish;
-mod groups;
 mod held;
 mod submission;
 mod write;
@@ -22,10 +21,7 @@ pub use awaiting::{
 };
 pub use batch::{FetchReason, StartReason, fetch_reason, start_reason};
 pub use buffers::{BufferWant, kept_for};
-pub use check::{
-    CheckReason, check_device_reason, check_queue_reason, device_checks_follow_reasons,
-    queue_checks_follow_reasons,
-};
+pub use check::{check_device_reason, check_queue_reason};
 pub use command::{
     IssueReason, PollReason, commands_follow_reasons, issue_reason, poll_reason,
     polls_follow_reasons,
@@ -33,12 +29,12 @@ pub use command::{
 pub use dispatch::{
     EngineReason, QueueReason, engine_reason, idle_engines_have_reasons, queue_reason,
 };
+pub use dsa_regs::{Bound, CheckReason, Named};
 pub use failing::failed_members_are_named;
 pub use finish::{FinishReason, finish_reason};
-pub use groups::{Bound, Named};
 pub use held::{
-    Held, aborted_at, aborted_entries_get_rows, all_entries_are_told, is_removed,
-    removed_names_get_rows, slots_of,
+    ListedEntry, aborted_at, aborted_entries_get_rows, all_entries_are_told, entries_of_list,
+    is_removed, removed_names_get_rows,
 };
 pub use submission::{SubmitReason, submissions_follow_reasons, submit_reason};
 pub use write::{

@@ -18,7 +18,8 @@ use dsa_store::EntryStore;
 /// What turns a submission away, in the order in which the causes are tried.
 #[derive(Clone, Copy, Debug, PartialEq, Eq)]
 pub enum SubmitReason {
-    /// The queue is not on: the phases of the device and of the queue, `None` where the device has no such queue.
+    /// The queue is not on: the phases of the device and of the queue, `None` where the device has
+    /// no such queue.
     NotEnabled {
         device: Phase,
         queue: Option<Phase>,
@@ -81,8 +82,11 @@ pub fn submit_reason<S: EntryStore>(
     None
 }
 
-/// The machine turns a submission away for the cause of its reason, and accepts it exactly where there is none.
+/// The machine turns a submission away for the cause of its reason, and accepts it exactly where
+/// there is none.
 pub fn submissions_follow_reasons()
-    ensures { (s : State) (queue : ℕ) (portal : Portal) (kind : Kind) (desc : Descriptor) (cell : Cell)
-        → submit (intake_of s) queue portal kind desc cell ≡ submit_by (intake_of s) queue kind desc cell (submit_reason s queue portal kind) }
+    ensures { (s : State) (queue : ℕ) (portal : Portal) (kind : Kind)
+        (desc : Descriptor) (cell : Cell)
+        → submit (intake_of s) queue portal kind desc cell
+        ≡ submit_by (intake_of s) queue kind desc cell (submit_reason s queue portal kind) }
 {}

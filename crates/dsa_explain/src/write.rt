@@ -82,12 +82,17 @@ pub fn clear_reason<S: EntryStore>(device: &Device<S>) -> Option<ClearReason>
     }
 }
 
-/// The machine refuses a configuration for the fault of its reason, and writes it exactly where there is none; it clears
-/// nothing exactly where there is a reason.
+/// The machine refuses a configuration for the fault of its reason, and writes it exactly where
+/// there is none; it clears nothing exactly where there is a reason.
 pub fn writes_follow_reasons()
-    ensures queue { (setup : Setup) (queue : ℕ) (config : QueueConfig) → write_queue setup queue config
-        ≡ write_by setup (record setup { configs = slice_set setup.configs queue config }) (write_queue_reason setup queue config) }
-    ensures group { (setup : Setup) (group : ℕ) (config : GroupConfig) → write_group setup group config
-        ≡ write_by setup (record setup { groups = slice_set setup.groups group config }) (write_group_reason setup group) }
-    ensures clear { (setup : Setup) → ((clear setup).0 ≡ Nothing) ↔ (clear_reason setup.noted ≡ Some NothingNoted) }
+    ensures queue { (setup : Setup) (queue : ℕ) (config : QueueConfig)
+        → write_queue setup queue config
+        ≡ write_by setup (record setup { configs = slice_set setup.configs queue config })
+        (write_queue_reason setup queue config) }
+    ensures group { (setup : Setup) (group : ℕ) (config : GroupConfig)
+        → write_group setup group config
+        ≡ write_by setup (record setup { groups = slice_set setup.groups group config })
+        (write_group_reason setup group) }
+    ensures clear { (setup : Setup)
+        → ((clear setup).0 ≡ Nothing) ↔ (clear_reason setup.noted ≡ Some NothingNoted) }
 {}

@@ -3,14 +3,14 @@ use Rattle.dsa_book.specs.declared.answer.Reply.TheVariants as reply
 use Rattle.std.specs.Prelude.{ℕ, cond, Bool, true, false, List, [], ◌++◌, codes, decimal}
 use Rattle.dsa_book.specs.declared.{answer.{Reply.{Reply}, DispatchAnswer.TheVariants.{Taken}}}
 use Rattle.dsa_device.specs.Running.{Running}
-use Rattle.dsa_event_words.specs.Words.{event_words}
+use Rattle.dsa_event_text.specs.Text.{event_text}
 use Rattle.dsa_scenario.specs.declared.run.Record.{Record, TheVariants.{Stepped, Refused}}
 use Rattle.dsa_scenario.specs.{Lines.{record_text}, Run.{answered_by}, Steps.{Visit}}
 use Rattle.dsa_explain_lines.specs.Parts.{part_of}
 
 -- what was asked; a word that is no command is no event (profile)
 abbrev pub asked_words : Record → List ℕ
-asked_words (Stepped step) = event_words step.event
+asked_words (Stepped step) = event_text step.event
 asked_words (Refused fault) = codes "command"
 
 abbrev pub is_taken_by : Reply → Bool
@@ -37,5 +37,5 @@ abbrev pub explained_line : Running → ℕ → Record → List ℕ
 explained_line now number entry = line_with (part_of now (answered_by entry)) number entry
 
 -- the line of a step of a run (profile)
-abbrev pub line_of_step : Visit → List ℕ
-line_of_step step = explained_line step.before step.number step.entry
+abbrev pub explanation_of_step : Visit → List ℕ
+explanation_of_step step = explained_line step.before step.number step.entry

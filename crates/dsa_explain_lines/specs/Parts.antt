@@ -9,23 +9,21 @@ use Rattle.std.specs.List.{list_any}
 use Rattle.dsa_base.specs.Numbers.{numbers_below}
 use Rattle.dsa_device.specs.Running.{Running}
 use Rattle.dsa_regs.specs.declared.Fault.{Fault}
-use Rattle.dsa_regs.specs.declared.{Command.{Command}, Scope.{Scope}}
-use Rattle.dsa_regs.specs.declared.Scope.TheVariants.{Device, Queue}
+use Rattle.dsa_regs.specs.declared.{Command.{Command}}
 use Rattle.dsa_regs.specs.declared.Deed.{Deed, TheVariants.{Abort, Reset}}
-use Rattle.dsa_regs.specs.{Command.{scope_of, deed_of}, Config.{queue_at, total_size}}
-use Rattle.dsa_book.specs.{declared.event.Event.{Event}, State.{Setup, Work, State, has_queue}, Work.{front_of}}
-use Rattle.dsa_explain.specs.declared.{check.CheckReason.{CheckReason}, command.IssueReason.{IssueReason}}
+use Rattle.dsa_regs.specs.{Command.{deed_of}}
+use Rattle.dsa_book.specs.{declared.event.Event.{Event}, State.{Work, State}, Work.{front_of}}
+use Rattle.dsa_explain.specs.declared.{command.IssueReason.{IssueReason}}
 use Rattle.dsa_explain.specs.declared.dispatch.{EngineReason.{EngineReason}, QueueReason.{QueueReason}}
 use Rattle.dsa_explain.specs.declared.batch.StartReason.{StartReason}
 use Rattle.dsa_explain.specs.{Submission.{submit_reason}, Dispatch.{engine_reason, queue_reason}}
-use Rattle.dsa_explain.specs.Batch.{name_of, fetch_reason, start_reason}
+use Rattle.dsa_explain.specs.Batch.{name_of_entry, fetch_reason, start_reason}
 use Rattle.dsa_explain.specs.{Finish.{finish_reason}, Command.{issue_reason, poll_reason, wait_reason}}
 use Rattle.dsa_explain.specs.{Held.{awaited_entry, Loss, losses}, Buffers.{kept_for}}
-use Rattle.dsa_explain.specs.Check as checks
 use Rattle.dsa_explain.specs.Write.{write_queue_reason, write_group_reason, clear_reason}
 use Rattle.dsa_explain_lines.specs.Sentences.{submit_sentence, engine_sentence, queue_sentence, fetch_sentence}
 use Rattle.dsa_explain_lines.specs.Sentences.{start_sentence, finish_sentence, issue_sentence, poll_sentence, loss_words}
-use Rattle.dsa_event_words.specs.Words.{count_words}
+use Rattle.dsa_event_text.specs.Text.{count_text}
 use Rattle.dsa_explain_lines.specs.Sentences.{write_sentence, clear_sentence, wait_sentence, kept_words}
 
 -- the sentence of a reason, behind its mark; nothing where there is no reason
@@ -62,7 +60,7 @@ joint w e q = cond (list_any (λ other. is_some (queue_reason w e other)) (numbe
 abbrev pub queue_part_of : Work → ℕ → ℕ → Option QueueReason → List ℕ
 queue_part_of w e q None = []
 queue_part_of w e q (Some reason) =
-    joint w e q ++ queue_sentence q (name_of (front_of w q)) reason ++ queue_keeping w reason
+    joint w e q ++ queue_sentence q (name_of_entry (front_of w q)) reason ++ queue_keeping w reason
 
 -- the reason of a queue of the engine's group
 abbrev pub queue_part : Work → ℕ → ℕ → List ℕ
@@ -88,13 +86,6 @@ start_part w e = start_part_of w e (start_reason w e)
 
 -- ---- commands
 
--- what the check of an enable finds, of the device or of a queue
-abbrev pub check_reason : Setup → Scope → Option CheckReason
-check_reason setup Device = checks.groups_reason setup.caps (total_size setup.configs) setup.groups
-check_reason setup (Queue q) =
-    cond (has_queue setup q) (checks.queue_reason setup.caps setup.groups q (queue_at setup.configs q)) None
-check_reason setup _ = None
-
 -- the lists that lose something, the first behind this mark
 abbrev pub losses_part : List ℕ → List Loss → List ℕ
 losses_part mark [] = []
@@ -110,7 +101,7 @@ deed_part s command _ = told_of wait_sentence (wait_reason s command)
 abbrev pub issue_part_of : State → Command → Option IssueReason → List ℕ
 issue_part_of s command None = deed_part s command (deed_of command)
 issue_part_of s command (Some reason) =
-    codes ": " ++ issue_sentence (check_reason s.work.setup (scope_of command)) (awaited_entry s) reason
+    codes ": " ++ issue_sentence (awaited_entry s) reason
 
 -- why a command is refused, or what it removes or waits for
 abbrev pub issue_part : State → Command → List ℕ
@@ -139,7 +130,7 @@ event_part s event.ClearError = told_of clear_sentence (clear_reason s.work.setu
 
 -- what a history without room says
 abbrev pub room_part : ℕ → List ℕ
-room_part capacity = count_words (codes ": the history has room for ") capacity (codes "step") (codes "steps")
+room_part capacity = count_text (codes ": the history has room for ") capacity (codes "step") (codes "steps")
 
 -- what is said of a word that is no command
 abbrev pub word_part : List ℕ

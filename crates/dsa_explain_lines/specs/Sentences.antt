@@ -7,23 +7,23 @@ use Rattle.dsa_explain.specs.declared.batch.StartReason.TheVariants as start
 use Rattle.dsa_explain.specs.declared.finish.FinishReason.TheVariants as finish
 use Rattle.dsa_explain.specs.declared.command.IssueReason.TheVariants as issue
 use Rattle.dsa_explain.specs.declared.command.PollReason.TheVariants as poll
-use Rattle.dsa_explain.specs.declared.check.CheckReason.TheVariants as check
-use Rattle.dsa_explain.specs.declared.groups.Named.TheVariants as named
-use Rattle.dsa_explain.specs.declared.groups.Bound.TheVariants as bound
+use Rattle.dsa_regs.specs.declared.reasons.CheckReason.TheVariants as check
+use Rattle.dsa_regs.specs.declared.reasons.Named.TheVariants as named
+use Rattle.dsa_regs.specs.declared.reasons.Bound.TheVariants as bound
 use Rattle.dsa_explain.specs.declared.write.WriteReason.TheVariants as write
 use Rattle.dsa_explain.specs.declared.write.ClearReason.TheVariants as clear
 use Rattle.std.specs.Prelude.{ℕ, Bool, true, false, List, [], ◌∷◌, ◌++◌, flat_map, Option, Some, None, codes, decimal}
 use Rattle.dsa_regs.specs.declared.{Command.{Command}, Phase.{Phase, TheVariants.{Off, On, Stopping}}, layout.ListUse.{ListUse}}
 use Rattle.dsa_book.specs.declared.event.{Portal.{Portal}}
-use Rattle.dsa_event_words.specs.Words.{command_words, count_words, list_words, portal_word}
+use Rattle.dsa_event_text.specs.Text.{command_with_operand, count_text, list_text, portal_label}
 use Rattle.dsa_explain.specs.declared.submission.SubmitReason.{SubmitReason}
 use Rattle.dsa_explain.specs.declared.dispatch.{EngineReason.{EngineReason}, QueueReason.{QueueReason}}
 use Rattle.dsa_explain.specs.declared.batch.{FetchReason.{FetchReason}, StartReason.{StartReason}}
 use Rattle.dsa_explain.specs.declared.{finish.FinishReason.{FinishReason}, buffers.BufferWant.{BufferWant}}
 use Rattle.dsa_explain.specs.declared.command.{IssueReason.{IssueReason}, PollReason.{PollReason}}
-use Rattle.dsa_explain.specs.declared.{check.CheckReason.{CheckReason}, held.Held.{Held}}
+use Rattle.dsa_regs.specs.declared.reasons.{CheckReason.{CheckReason}, Named.{Named}, Bound.{Bound}}
+use Rattle.dsa_explain.specs.declared.{held.ListedEntry.{ListedEntry}}
 use Rattle.dsa_explain.specs.declared.awaiting.WaitReason.{WaitReason}
-use Rattle.dsa_explain.specs.declared.groups.{Named.{Named}, Bound.{Bound}}
 use Rattle.dsa_explain.specs.declared.write.{WriteReason.{WriteReason}, ClearReason.{ClearReason}}
 
 -- ---- what several sentences have
@@ -54,11 +54,11 @@ no_group e = counted (codes "e") e (codes " is of no group")
 -- the numbers by which read buffers do not fit a group
 abbrev pub want_words : BufferWant → List ℕ
 want_words want =
-    count_words (codes "needs ") want.asked (codes "read buffer") (codes "read buffers")
+    count_text (codes "needs ") want.asked (codes "read buffer") (codes "read buffers")
     ++ counted (codes ", group ") want.group (codes "")
     ++ counted_twice (codes " uses ") want.used (codes " of ") want.allowed (codes "")
     ++ counted_twice (codes ", all groups use ") want.in_use (codes " of ") want.buffers (codes "")
-    ++ count_words (codes ", and ") want.kept (codes "is kept") (codes "are kept")
+    ++ count_text (codes ", and ") want.kept (codes "is kept") (codes "are kept")
 
 -- so many read buffers are kept for the group
 abbrev pub kept_words : ℕ → ℕ → List ℕ
@@ -79,8 +79,8 @@ enabled_words q device (Some phase) =
 -- of a queue that holds so many, through the portal with that limit
 abbrev pub at_limit_words : ℕ → ℕ → ℕ → Portal → List ℕ
 at_limit_words q occupancy limit portal =
-    counted (codes "q") q (codes "") ++ count_words (codes " holds ") occupancy (codes "entry") (codes "entries")
-    ++ codes ", and the " ++ portal_word portal ++ (codes " portal goes up to " ++ decimal limit)
+    counted (codes "q") q (codes "") ++ count_text (codes " holds ") occupancy (codes "entry") (codes "entries")
+    ++ codes ", and the " ++ portal_label portal ++ (codes " portal goes up to " ++ decimal limit)
 
 -- of the queue
 abbrev pub submit_sentence : ℕ → SubmitReason → List ℕ
@@ -104,7 +104,7 @@ abbrev pub queue_sentence : ℕ → ℕ → QueueReason → List ℕ
 queue_sentence q name queue.Empty = counted (codes "q") q (codes " is empty")
 queue_sentence q name (queue.NoSlot used slots) =
     front_words q name (codes " waits for a slot, of which ")
-    ++ decimal used ++ count_words (codes " of ") slots (codes "is in use") (codes "are in use")
+    ++ decimal used ++ count_text (codes " of ") slots (codes "is in use") (codes "are in use")
 queue_sentence q name (queue.NoBuffers want) = front_words q name (codes " ") ++ want_words want
 queue_sentence q name (queue.OtherBatch batch) =
     front_words q name (codes " is a batch") ++ counted (codes ", and the engine works on batch ") batch (codes "")
@@ -120,7 +120,7 @@ closed_words false = []
 abbrev pub fetched_words : ℕ → ℕ → ℕ → List ℕ
 fetched_words e fetched count =
     counted_twice (codes "e") e (codes " has fetched ") fetched (codes "")
-    ++ count_words (codes " of ") count (codes "member") (codes "members")
+    ++ count_text (codes " of ") count (codes "member") (codes "members")
 
 -- of the engine
 abbrev pub fetch_sentence : ℕ → FetchReason → List ℕ
@@ -140,7 +140,7 @@ start_sentence e (start.Fence member waits_for) =
     counted_twice (codes "member ") member (codes " has a fence, and waits for ") waits_for (codes "")
 start_sentence e (start.Failed member failed left) =
     counted (codes "member ") member (codes " has a fence, ") ++ failed_words failed
-    ++ count_words (codes " before it failed, and ") left (codes "ends unstarted") (codes "end unstarted")
+    ++ count_text (codes " before it failed, and ") left (codes "ends unstarted") (codes "end unstarted")
 start_sentence e (start.NoBuffers want) = codes "the member " ++ want_words want
 start_sentence e start.NoGroup = no_group e
 
@@ -149,10 +149,10 @@ abbrev pub finish_sentence : ℕ → FinishReason → List ℕ
 finish_sentence e finish.NoEngine = no_engine e
 finish_sentence e finish.NoEntry = codes "the cell of the ticket holds no entry"
 finish_sentence e (finish.OtherName name) = counted (codes "the cell of the ticket holds ") name (codes " by now")
-finish_sentence e (finish.Elsewhere list) = codes "the entry stands in " ++ list_words list
+finish_sentence e (finish.Elsewhere list) = codes "the entry stands in " ++ list_text list
 finish_sentence e finish.NotStarted = codes "the member has not started"
 finish_sentence e (finish.MembersLeft left) =
-    count_words (codes "") left (codes "member has not ended") (codes "members have not ended")
+    count_text (codes "") left (codes "member has not ended") (codes "members have not ended")
 finish_sentence e (finish.StillToFetch fetched count) = fetched_words e fetched count
 finish_sentence e (finish.DrainWaits first) = counted (codes "the drain waits for ") first (codes "")
 
@@ -186,9 +186,9 @@ name_words (named.Engine e) = codes "e" ++ decimal e
 
 -- how many queues or engines the device has
 abbrev pub has_words : Named → ℕ → List ℕ
-has_words (named.Queue q) count = count_words (codes ", and the device has ") count (codes "queue") (codes "queues")
+has_words (named.Queue q) count = count_text (codes ", and the device has ") count (codes "queue") (codes "queues")
 has_words (named.Engine e) count =
-    count_words (codes ", and the device has ") count (codes "engine") (codes "engines")
+    count_text (codes ", and the device has ") count (codes "engine") (codes "engines")
 
 -- the group names it, and the device has this number of them
 abbrev pub missing_words : ℕ → Named → ℕ → List ℕ
@@ -210,7 +210,7 @@ bound_words bound.Need = codes "below the 4 that a descriptor may need"
 abbrev pub outside_words : ℕ → ℕ → Bound → List ℕ
 outside_words group allowed broken =
     counted (codes "group ") group (codes "")
-    ++ count_words (codes " may use ") allowed (codes "read buffer") (codes "read buffers")
+    ++ count_text (codes " may use ") allowed (codes "read buffer") (codes "read buffers")
     ++ codes ", " ++ bound_words broken
 
 -- of the device, of a group, or of a queue
@@ -220,17 +220,12 @@ check_sentence (check.SizesTooLarge sizes total) =
     counted_twice (codes "the sizes of the queues are ") sizes (codes ", of ") total (codes "")
 check_sentence (check.TwoGroups named first second) = shared_words named first second
 check_sentence (check.ReservedTooMany reserved total) =
-    count_words (codes "the groups reserve ") reserved (codes "read buffer") (codes "read buffers")
+    count_text (codes "the groups reserve ") reserved (codes "read buffer") (codes "read buffers")
     ++ counted (codes ", of ") total (codes "")
 check_sentence (check.AllowedOutOfRange group allowed bound) = outside_words group allowed bound
 check_sentence (check.GroupWithoutEngine group) = counted (codes "group ") group (codes " has a queue and no engine")
 check_sentence (check.GroupWithoutQueue group) = counted (codes "group ") group (codes " has an engine and no queue")
 check_sentence reason = queue_check_words reason
-
--- what the check found, where it did
-abbrev pub found_words : Option CheckReason → List ℕ
-found_words None = []
-found_words (Some reason) = check_sentence reason
 
 -- the queue that is named, or none
 abbrev pub named_words : Option ℕ → List ℕ
@@ -243,35 +238,35 @@ whose_words None = codes "the device"
 whose_words (Some q) = codes "q" ++ decimal q
 
 -- an entry, by its name and its list
-abbrev pub held_words : Held → List ℕ
-held_words held = counted (codes "") held.entry.name (codes " in ") ++ list_words held.list
+abbrev pub held_words : ListedEntry → List ℕ
+held_words held = counted (codes "") held.entry.name (codes " in ") ++ list_text held.list
 
 -- the first that is awaited
-abbrev pub first_words : Option Held → List ℕ
+abbrev pub first_words : Option ListedEntry → List ℕ
 first_words None = []
 first_words (Some held) = codes ", first for " ++ held_words held
 
 -- the active command, how many entries it waits for, and the first of them
-abbrev pub busy_words : Command → ℕ → Option Held → List ℕ
+abbrev pub busy_words : Command → ℕ → Option ListedEntry → List ℕ
 busy_words active awaited first =
-    command_words active
-    ++ count_words (codes " is active, and waits for ") awaited (codes "entry") (codes "entries")
+    command_with_operand active
+    ++ count_text (codes " is active, and waits for ") awaited (codes "entry") (codes "entries")
     ++ first_words first
 
--- with what the check of an enable found, and the first entry that is awaited
-abbrev pub issue_sentence : Option CheckReason → Option Held → IssueReason → List ℕ
-issue_sentence found first (issue.Busy active awaited) = busy_words active awaited first
-issue_sentence found first (issue.NoQueue q) = named_words q
-issue_sentence found first (issue.WrongPhase q phase) = whose_words q ++ phased (codes " is ") phase
-issue_sentence found first (issue.Check fault) = found_words found
+-- with the first entry that is awaited
+abbrev pub issue_sentence : Option ListedEntry → IssueReason → List ℕ
+issue_sentence first (issue.Busy active awaited) = busy_words active awaited first
+issue_sentence first (issue.NoQueue q) = named_words q
+issue_sentence first (issue.WrongPhase q phase) = whose_words q ++ phased (codes " is ") phase
+issue_sentence first (issue.Check reason) = check_sentence reason
 
 -- how many entries the command waits for, and the first of them
-abbrev pub wait_words : ℕ → Option Held → List ℕ
+abbrev pub wait_words : ℕ → Option ListedEntry → List ℕ
 wait_words awaited first =
-    count_words (codes "the command waits for ") awaited (codes "entry") (codes "entries") ++ first_words first
+    count_text (codes "the command waits for ") awaited (codes "entry") (codes "entries") ++ first_words first
 
 -- with the first entry that is awaited
-abbrev pub poll_sentence : Option Held → PollReason → List ℕ
+abbrev pub poll_sentence : Option ListedEntry → PollReason → List ℕ
 poll_sentence first poll.Nothing = codes "no command is active"
 poll_sentence first (poll.Waits awaited) = wait_words awaited first
 
@@ -283,7 +278,7 @@ wait_sentence reason = wait_words reason.awaited (Some reason.first)
 
 -- what stands before the first name that a list loses
 abbrev pub loss_head : List ℕ → ListUse → List ℕ
-loss_head mark list = mark ++ (list_words list ++ codes " loses ")
+loss_head mark list = mark ++ (list_text list ++ codes " loses ")
 
 -- the names that a list loses, the first behind the mark and the list; nothing where there are none
 abbrev pub loss_words : List ℕ → ListUse → List ℕ → List ℕ
@@ -298,7 +293,7 @@ device_words phase = phased (codes "the device is ") phase
 
 -- what is written, as one and as many: a queue or a group
 abbrev pub write_sentence : List ℕ → List ℕ → WriteReason → List ℕ
-write_sentence one many (write.BadIndex count) = count_words (codes "the device has ") count one many
+write_sentence one many (write.BadIndex count) = count_text (codes "the device has ") count one many
 write_sentence one many (write.LockedQueue phase) = phased (codes "the queue is ") phase
 write_sentence one many (write.LockedSize phase size) =
     device_words phase ++ counted (codes ", and the size stays ") size (codes "")

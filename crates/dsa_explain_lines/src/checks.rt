@@ -4,14 +4,15 @@ ghost use Rattle.std.specs.Prelude.{◌≡◌, ◌++◌, OnOk, codes, string_byt
 ghost use Rattle.dsa_explain_lines.specs.Sentences.{above_words, check_sentence, counted, queue_check_words};
 
 use crate::groups::{add_missing, add_outside, add_shared};
-use crate::words::{add_counted, add_counted_twice};
-use dsa_event_words::{add_count, add_number};
+use crate::words::{add_counted, add_counted_twice, add_group};
+use dsa_event_text::{add_count, add_number};
 use dsa_explain::CheckReason;
 use std::alloc::AllocError;
 
-// What there is to say of a queue or a group.
+// What there is to say of a queue.
 fn add_field(text: &mut String, before: &str, number: u16, after: &str) -> Result<(), AllocError>
-    ensures { OnOk result (string_bytes text.new ≡ string_bytes text.old ++ counted before.now number after.now) }
+    ensures { OnOk result
+        (string_bytes text.new ≡ string_bytes text.old ++ counted before.now number after.now) }
 {
     add_counted(text, before, u32::from(number), after)
 }
@@ -25,7 +26,9 @@ fn add_above(
     bound: &str,
     most: u32,
 ) -> Result<(), AllocError>
-    ensures { OnOk result (string_bytes text.new ≡ string_bytes text.old ++ above_words field.now queue value bound.now most) }
+    ensures { OnOk result
+        (string_bytes text.new
+        ≡ string_bytes text.old ++ above_words field.now queue value bound.now most) }
 {
     add_number(text, field, u32::from(queue))?;
     add_counted_twice(text, " is ", value, bound, most, "")
@@ -39,7 +42,10 @@ fn add_shift(
     asked: u8,
     most: u8,
 ) -> Result<(), AllocError>
-    ensures { OnOk result (string_bytes text.new ≡ string_bytes text.old ++ above_words field.now queue asked (codes ", above the device's ") most) }
+    ensures { OnOk result
+        (string_bytes text.new
+        ≡ string_bytes text.old
+        ++ above_words field.now queue asked (codes ", above the device's ") most) }
 {
     let (asked, most) = (u32::from(asked), u32::from(most));
     add_above(text, field, queue, asked, ", above the device's ", most)
@@ -47,7 +53,8 @@ fn add_shift(
 
 // What it finds of a queue.
 fn add_queue_check(text: &mut String, reason: &CheckReason) -> Result<(), AllocError>
-    ensures { OnOk result (string_bytes text.new ≡ string_bytes text.old ++ queue_check_words reason.now) }
+    ensures { OnOk result
+        (string_bytes text.new ≡ string_bytes text.old ++ queue_check_words reason.now) }
 {
     match *reason {
         CheckReason::SizeZero { queue } => add_field(text, "the size of q", queue, " is 0"),
@@ -87,7 +94,8 @@ fn add_queue_check(text: &mut String, reason: &CheckReason) -> Result<(), AllocE
 
 /// Adds the sentence of what the check of an enable finds.
 pub fn add_check_reason(text: &mut String, reason: &CheckReason) -> Result<(), AllocError>
-    ensures { OnOk result (string_bytes text.new ≡ string_bytes text.old ++ check_sentence reason.now) }
+    ensures { OnOk result
+        (string_bytes text.new ≡ string_bytes text.old ++ check_sentence reason.now) }
 {
     match *reason {
         CheckReason::NamesMissing {
@@ -115,10 +123,10 @@ pub fn add_check_reason(text: &mut String, reason: &CheckReason) -> Result<(), A
             bound,
         } => add_outside(text, group, allowed, bound),
         CheckReason::GroupWithoutEngine { group } => {
-            add_field(text, "group ", group, " has a queue and no engine")
+            add_group(text, "group ", group, " has a queue and no engine")
         }
         CheckReason::GroupWithoutQueue { group } => {
-            add_field(text, "group ", group, " has an engine and no queue")
+            add_group(text, "group ", group, " has an engine and no queue")
         }
         _ => add_queue_check(text, reason),
     }

@@ -1,12 +1,12 @@
 //! Commands that are refused, and one that is not over.
 
 ghost use Rattle.std.specs.Prelude.{◌≡◌, ◌++◌, OnOk, string_bytes};
-ghost use Rattle.dsa_explain_lines.specs.Sentences.{busy_words, first_words, found_words, held_words, issue_sentence, named_words, poll_sentence, wait_sentence, wait_words, whose_words};
+ghost use Rattle.dsa_explain_lines.specs.Sentences.{busy_words, first_words, held_words, issue_sentence, named_words, poll_sentence, wait_sentence, wait_words, whose_words};
 
 use crate::checks::add_check_reason;
 use crate::words::{add_counted, add_phase};
-use dsa_event_words::{add_command, add_count, add_list, add_number};
-use dsa_explain::{CheckReason, Held, IssueReason, PollReason, WaitReason};
+use dsa_event_text::{add_command, add_count, add_list, add_number};
+use dsa_explain::{IssueReason, ListedEntry, PollReason, WaitReason};
 use dsa_regs::Command;
 use std::alloc::AllocError;
 
@@ -14,9 +14,10 @@ fn add_busy(
     text: &mut String,
     active: &Command,
     awaited: u32,
-    first: &Option<Held>,
+    first: &Option<ListedEntry>,
 ) -> Result<(), AllocError>
-    ensures { OnOk result (string_bytes text.new ≡ string_bytes text.old ++ busy_words active.now awaited first.now) }
+    ensures { OnOk result
+        (string_bytes text.new ≡ string_bytes text.old ++ busy_words active.now awaited first.now) }
 {
     add_command(text, active)?;
     let before = " is active, and waits for ";
@@ -44,24 +45,15 @@ fn add_whose(text: &mut String, queue: Option<u32>) -> Result<(), AllocError>
     }
 }
 
-fn add_found(text: &mut String, found: &Option<CheckReason>) -> Result<(), AllocError>
-    ensures { OnOk result (string_bytes text.new ≡ string_bytes text.old ++ found_words found.now) }
-{
-    match found {
-        Some(reason) => add_check_reason(text, reason),
-        None => Ok(()),
-    }
-}
-
-/// Adds the sentence of why a command is refused, with what the check of an enable found, and the first entry that the
-/// active command waits for.
+/// Adds the sentence of why a command is refused, with the first entry that the active command
+/// waits for.
 pub fn add_issue_reason(
     text: &mut String,
-    found: &Option<CheckReason>,
-    first: &Option<Held>,
+    first: &Option<ListedEntry>,
     reason: &IssueReason,
 ) -> Result<(), AllocError>
-    ensures { OnOk result (string_bytes text.new ≡ string_bytes text.old ++ issue_sentence found.now first.now reason.now) }
+    ensures { OnOk result
+        (string_bytes text.new ≡ string_bytes text.old ++ issue_sentence first.now reason.now) }
 {
     match reason {
         IssueReason::Busy { active, awaited } => add_busy(text, active, *awaited, first),
@@ -70,19 +62,19 @@ pub fn add_issue_reason(
             add_whose(text, *queue)?;
             add_phase(text, " is ", *phase)
         }
-        IssueReason::Check(_) => add_found(text, found),
+        IssueReason::Check(reason) => add_check_reason(text, reason),
     }
 }
 
 /// Adds the name of an entry, and its list.
-pub fn add_held(text: &mut String, held: &Held) -> Result<(), AllocError>
+pub fn add_held(text: &mut String, held: &ListedEntry) -> Result<(), AllocError>
     ensures { OnOk result (string_bytes text.new ≡ string_bytes text.old ++ held_words held.now) }
 {
     add_counted(text, "", held.entry.name, " in ")?;
     add_list(text, held.list)
 }
 
-fn add_first(text: &mut String, first: &Option<Held>) -> Result<(), AllocError>
+fn add_first(text: &mut String, first: &Option<ListedEntry>) -> Result<(), AllocError>
     ensures { OnOk result (string_bytes text.new ≡ string_bytes text.old ++ first_words first.now) }
 {
     let Some(held) = first else {
@@ -93,8 +85,9 @@ fn add_first(text: &mut String, first: &Option<Held>) -> Result<(), AllocError>
 }
 
 // How many entries a command waits for, and the first of them.
-fn add_wait(text: &mut String, awaited: u32, first: &Option<Held>) -> Result<(), AllocError>
-    ensures { OnOk result (string_bytes text.new ≡ string_bytes text.old ++ wait_words awaited first.now) }
+fn add_wait(text: &mut String, awaited: u32, first: &Option<ListedEntry>) -> Result<(), AllocError>
+    ensures { OnOk result
+        (string_bytes text.new ≡ string_bytes text.old ++ wait_words awaited first.now) }
 {
     let before = "the command waits for ";
     add_count(text, before, u64::from(awaited), "entry", "entries")?;
@@ -103,7 +96,8 @@ fn add_wait(text: &mut String, awaited: u32, first: &Option<Held>) -> Result<(),
 
 /// Adds the sentence of what a command waits for that is answered active.
 pub fn add_wait_reason(text: &mut String, reason: &WaitReason) -> Result<(), AllocError>
-    ensures { OnOk result (string_bytes text.new ≡ string_bytes text.old ++ wait_sentence reason.now) }
+    ensures { OnOk result
+        (string_bytes text.new ≡ string_bytes text.old ++ wait_sentence reason.now) }
 {
     add_wait(text, reason.awaited, &Some(reason.first))
 }
@@ -111,10 +105,11 @@ pub fn add_wait_reason(text: &mut String, reason: &WaitReason) -> Result<(), All
 /// Adds the sentence of why the active command is not over, with the first entry that it waits for.
 pub fn add_poll_reason(
     text: &mut String,
-    first: &Option<Held>,
+    first: &Option<ListedEntry>,
     reason: &PollReason,
 ) -> Result<(), AllocError>
-    ensures { OnOk result (string_bytes text.new ≡ string_bytes text.old ++ poll_sentence first.now reason.now) }
+    ensures { OnOk result
+        (string_bytes text.new ≡ string_bytes text.old ++ poll_sentence first.now reason.now) }
 {
     match *reason {
         PollReason::Nothing => text.push_str("no command is active"),

@@ -4,7 +4,7 @@ ghost use Rattle.std.specs.Prelude.{◌≡◌, ◌<◌, ◌++◌, OnOk, cond, co
 ghost use Rattle.std.specs.List.{list_any};
 ghost use Rattle.dsa_base.specs.Numbers.{numbers_below};
 ghost use Rattle.dsa_book.specs.Work.{front_of};
-ghost use Rattle.dsa_explain.specs.Batch.{name_of};
+ghost use Rattle.dsa_explain.specs.Batch.{name_of_entry};
 ghost use Rattle.dsa_explain.specs.Dispatch.{queue_reason};
 ghost use Rattle.dsa_explain_lines.specs.Parts.{dispatch_part, joint, queue_part};
 ghost use Rattle.dsa_explain_lines.specs.Sentences.{engine_sentence, front_words, queue_sentence};
@@ -12,7 +12,7 @@ ghost use Rattle.dsa_explain_lines.specs.Sentences.{engine_sentence, front_words
 use crate::keeping::add_queue_keeping;
 use crate::words::{add_counted, add_counted_twice, add_no_engine, add_no_group, add_want};
 use dsa_device::Device;
-use dsa_event_words::{add_count, add_number};
+use dsa_event_text::{add_count, add_number};
 use dsa_explain::{EngineReason, QueueReason, engine_reason, queue_reason};
 use dsa_store::EntryStore;
 use std::alloc::AllocError;
@@ -23,7 +23,8 @@ pub fn add_engine_reason(
     engine: u16,
     reason: &EngineReason,
 ) -> Result<(), AllocError>
-    ensures { OnOk result (string_bytes text.new ≡ string_bytes text.old ++ engine_sentence engine reason.now) }
+    ensures { OnOk result
+        (string_bytes text.new ≡ string_bytes text.old ++ engine_sentence engine reason.now) }
 {
     match *reason {
         EngineReason::NoEngine => add_no_engine(text, engine),
@@ -33,7 +34,8 @@ pub fn add_engine_reason(
 
 // The front of a queue, by its name, and what it is.
 fn add_front(text: &mut String, queue: u16, name: u32, after: &str) -> Result<(), AllocError>
-    ensures { OnOk result (string_bytes text.new ≡ string_bytes text.old ++ front_words queue name after.now) }
+    ensures { OnOk result
+        (string_bytes text.new ≡ string_bytes text.old ++ front_words queue name after.now) }
 {
     add_counted_twice(text, "q", u32::from(queue), "'s front ", name, after)
 }
@@ -45,7 +47,8 @@ pub fn add_queue_reason(
     name: u32,
     reason: &QueueReason,
 ) -> Result<(), AllocError>
-    ensures { OnOk result (string_bytes text.new ≡ string_bytes text.old ++ queue_sentence queue name reason.now) }
+    ensures { OnOk result
+        (string_bytes text.new ≡ string_bytes text.old ++ queue_sentence queue name reason.now) }
 {
     match reason {
         QueueReason::Empty => add_counted(text, "q", u32::from(queue), " is empty"),
@@ -77,7 +80,7 @@ pub fn add_queue_reason(
 // The name of the front of the queue.
 fn front_name<S: EntryStore>(device: &Device<S>, queue: u16) -> u32
     requires { queue < device.now.caps.queues }
-    ensures { result ≡ name_of (front_of device.now.state.work queue) }
+    ensures { result ≡ name_of_entry (front_of device.now.state.work queue) }
 {
     device.state_is_replay();
     match device.waiting_at(queue, 0) {
@@ -106,7 +109,9 @@ fn add_queue<S: EntryStore>(
     queue: u16,
 ) -> Result<(), AllocError>
     requires { queue < device.now.caps.queues }
-    ensures { OnOk result (string_bytes text.new ≡ string_bytes text.old ++ queue_part device.now.state.work engine queue) }
+    ensures { OnOk result
+        (string_bytes text.new
+        ≡ string_bytes text.old ++ queue_part device.now.state.work engine queue) }
 {
     let Some(reason) = queue_reason(device, engine, queue) else {
         return Ok(());
@@ -122,7 +127,11 @@ fn add_queues<S: EntryStore>(
     device: &Device<S>,
     engine: u16,
 ) -> Result<(), AllocError>
-    ensures { OnOk result (string_bytes text.new ≡ string_bytes text.old ++ flat_map (queue_part device.now.state.work engine) (numbers_below device.now.caps.queues)) }
+    ensures { OnOk result
+        (string_bytes text.new
+        ≡ string_bytes text.old
+        ++ flat_map (queue_part device.now.state.work engine)
+        (numbers_below device.now.caps.queues)) }
 {
     for queue in 0..device.caps().queues {
         add_queue(text, device, engine, queue)?;
@@ -136,7 +145,9 @@ pub fn add_dispatch_part<S: EntryStore>(
     device: &Device<S>,
     engine: u16,
 ) -> Result<(), AllocError>
-    ensures { OnOk result (string_bytes text.new ≡ string_bytes text.old ++ dispatch_part device.now.state.work engine) }
+    ensures { OnOk result
+        (string_bytes text.new
+        ≡ string_bytes text.old ++ dispatch_part device.now.state.work engine) }
 {
     device.state_is_replay();
     let Some(reason) = engine_reason(device, engine) else {

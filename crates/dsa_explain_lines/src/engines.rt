@@ -4,7 +4,7 @@ ghost use Rattle.std.specs.Prelude.{◌≡◌, ◌++◌, OnOk, string_bytes};
 ghost use Rattle.dsa_explain_lines.specs.Sentences.{closed_words, failed_words, fetch_sentence, fetched_words, finish_sentence, start_sentence};
 
 use crate::words::{add_counted, add_counted_twice, add_no_engine, add_no_group, add_want};
-use dsa_event_words::{add_count, add_list, add_number};
+use dsa_event_text::{add_count, add_list, add_number};
 use dsa_explain::{FetchReason, FinishReason, StartReason};
 use std::alloc::AllocError;
 
@@ -21,7 +21,8 @@ fn add_closed(text: &mut String, closed: bool) -> Result<(), AllocError>
 
 // How many members of its batch the engine has fetched.
 fn add_fetched(text: &mut String, engine: u16, fetched: u32, count: u32) -> Result<(), AllocError>
-    ensures { OnOk result (string_bytes text.new ≡ string_bytes text.old ++ fetched_words engine fetched count) }
+    ensures { OnOk result
+        (string_bytes text.new ≡ string_bytes text.old ++ fetched_words engine fetched count) }
 {
     add_counted_twice(text, "e", u32::from(engine), " has fetched ", fetched, "")?;
     add_count(text, " of ", u64::from(count), "member", "members")
@@ -33,7 +34,8 @@ pub fn add_fetch_reason(
     engine: u16,
     reason: &FetchReason,
 ) -> Result<(), AllocError>
-    ensures { OnOk result (string_bytes text.new ≡ string_bytes text.old ++ fetch_sentence engine reason.now) }
+    ensures { OnOk result
+        (string_bytes text.new ≡ string_bytes text.old ++ fetch_sentence engine reason.now) }
 {
     match *reason {
         FetchReason::NoEngine => add_no_engine(text, engine),
@@ -65,7 +67,8 @@ pub fn add_start_reason(
     engine: u16,
     reason: &StartReason,
 ) -> Result<(), AllocError>
-    ensures { OnOk result (string_bytes text.new ≡ string_bytes text.old ++ start_sentence engine reason.now) }
+    ensures { OnOk result
+        (string_bytes text.new ≡ string_bytes text.old ++ start_sentence engine reason.now) }
 {
     match reason {
         StartReason::Nothing => add_counted(text, "no member waits on e", u32::from(engine), ""),
@@ -97,7 +100,8 @@ pub fn add_finish_reason(
     engine: u16,
     reason: &FinishReason,
 ) -> Result<(), AllocError>
-    ensures { OnOk result (string_bytes text.new ≡ string_bytes text.old ++ finish_sentence engine reason.now) }
+    ensures { OnOk result
+        (string_bytes text.new ≡ string_bytes text.old ++ finish_sentence engine reason.now) }
 {
     match *reason {
         FinishReason::NoEngine => add_no_engine(text, engine),

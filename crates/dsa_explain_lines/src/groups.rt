@@ -3,8 +3,8 @@
 ghost use Rattle.std.specs.Prelude.{◌≡◌, ◌++◌, OnOk, string_bytes};
 ghost use Rattle.dsa_explain_lines.specs.Sentences.{bound_words, has_words, missing_words, name_words, outside_words, shared_words};
 
-use crate::words::{add_counted, add_counted_twice};
-use dsa_event_words::{add_count, add_number};
+use crate::words::{add_counted, add_group, add_two_groups};
+use dsa_event_text::{add_count, add_number};
 use dsa_explain::{Bound, Named};
 use std::alloc::AllocError;
 
@@ -32,13 +32,14 @@ fn add_has(text: &mut String, named: Named, count: u16) -> Result<(), AllocError
 /// Adds that the group names what the device does not have.
 pub fn add_missing(
     text: &mut String,
-    group: u16,
+    group: usize,
     named: Named,
     count: u16,
 ) -> Result<(), AllocError>
-    ensures { OnOk result (string_bytes text.new ≡ string_bytes text.old ++ missing_words group named count) }
+    ensures { OnOk result
+        (string_bytes text.new ≡ string_bytes text.old ++ missing_words group named count) }
 {
-    add_counted(text, "group ", u32::from(group), " names ")?;
+    add_group(text, "group ", group, " names ")?;
     add_name(text, named)?;
     add_has(text, named, count)
 }
@@ -47,14 +48,14 @@ pub fn add_missing(
 pub fn add_shared(
     text: &mut String,
     named: Named,
-    first: u16,
-    second: u16,
+    first: usize,
+    second: usize,
 ) -> Result<(), AllocError>
-    ensures { OnOk result (string_bytes text.new ≡ string_bytes text.old ++ shared_words named first second) }
+    ensures { OnOk result
+        (string_bytes text.new ≡ string_bytes text.old ++ shared_words named first second) }
 {
-    let (first, second) = (u32::from(first), u32::from(second));
     add_name(text, named)?;
-    add_counted_twice(text, " is in group ", first, " and in group ", second, "")
+    add_two_groups(text, " is in group ", first, " and in group ", second, "")
 }
 
 // The bound that is broken.
@@ -75,13 +76,14 @@ fn add_bound(text: &mut String, bound: Bound) -> Result<(), AllocError>
 /// Adds how many read buffers the group may use, and the bound that this breaks.
 pub fn add_outside(
     text: &mut String,
-    group: u16,
+    group: usize,
     allowed: u16,
     bound: Bound,
 ) -> Result<(), AllocError>
-    ensures { OnOk result (string_bytes text.new ≡ string_bytes text.old ++ outside_words group allowed bound) }
+    ensures { OnOk result
+        (string_bytes text.new ≡ string_bytes text.old ++ outside_words group allowed bound) }
 {
-    add_number(text, "group ", u32::from(group))?;
+    add_group(text, "group ", group, "")?;
     let allowed = u64::from(allowed);
     add_count(text, " may use ", allowed, "read buffer", "read buffers")?;
     text.push_str(", ")?;

@@ -18,7 +18,9 @@ fn add_kept<S: EntryStore>(
     other: u16,
 ) -> Result<(), AllocError>
     requires { other < device.now.caps.groups }
-    ensures { OnOk result (string_bytes text.new ≡ string_bytes text.old ++ kept_part device.now.state.work group other) }
+    ensures { OnOk result
+        (string_bytes text.new
+        ≡ string_bytes text.old ++ kept_part device.now.state.work group other) }
 {
     let kept = kept_for(device, other).unwrap_or(0);
     if other == group || kept == 0 {
@@ -40,7 +42,9 @@ fn add_keeping<S: EntryStore>(
     device: &Device<S>,
     group: u16,
 ) -> Result<(), AllocError>
-    ensures { OnOk result (string_bytes text.new ≡ string_bytes text.old ++ keeping_part device.now.state.work group) }
+    ensures { OnOk result
+        (string_bytes text.new
+        ≡ string_bytes text.old ++ keeping_part device.now.state.work group) }
 {
     device.state_is_replay();
     for other in 0..device.caps().groups {
@@ -49,13 +53,16 @@ fn add_keeping<S: EntryStore>(
     Ok(())
 }
 
-/// Adds for which other groups read buffers are kept, behind the reason of a queue that is about them.
+/// Adds for which other groups read buffers are kept, behind the reason of a queue that is about
+/// them.
 pub fn add_queue_keeping<S: EntryStore>(
     text: &mut String,
     device: &Device<S>,
     reason: &QueueReason,
 ) -> Result<(), AllocError>
-    ensures { OnOk result (string_bytes text.new ≡ string_bytes text.old ++ queue_keeping device.now.state.work reason.now) }
+    ensures { OnOk result
+        (string_bytes text.new
+        ≡ string_bytes text.old ++ queue_keeping device.now.state.work reason.now) }
 {
     match reason {
         QueueReason::NoBuffers(want) => add_keeping(text, device, want.group),
@@ -69,7 +76,9 @@ pub fn add_start_keeping<S: EntryStore>(
     device: &Device<S>,
     reason: &StartReason,
 ) -> Result<(), AllocError>
-    ensures { OnOk result (string_bytes text.new ≡ string_bytes text.old ++ start_keeping device.now.state.work reason.now) }
+    ensures { OnOk result
+        (string_bytes text.new
+        ≡ string_bytes text.old ++ start_keeping device.now.state.work reason.now) }
 {
     match reason {
         StartReason::NoBuffers(want) => add_keeping(text, device, want.group),

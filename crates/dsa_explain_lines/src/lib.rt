@@ -1,7 +1,8 @@
-//! Why each step of a document's run was answered as it was: a line a step, with its number, its event in words, its answer,
-//! and the reason where it was not the plain success.
+//! Why each step of a document's run was answered as it was: a line a step, with its number, its
+//! event in words, its answer, and the reason where it was not the plain success.
 //!
-//! [`Explanation`] makes the text of a document. A reason is read from the device before the step, and told in a sentence.
+//! [`Explanation`] makes the text of a document. A reason is read from the device before the step,
+//! and told in a sentence.
 #![tactic(auto)]
 
 mod checks;

@@ -4,13 +4,14 @@ ghost use Rattle.std.specs.Prelude.{◌≡◌, ◌++◌, OnOk, codes, decimal, s
 ghost use Rattle.dsa_explain_lines.specs.Lines.{asked_words, is_taken, line_with, shown};
 
 use dsa_book::{DispatchAnswer, Reply};
-use dsa_event_words::add_event;
+use dsa_event_text::add_event;
 use dsa_scenario::{Record, add_answer};
 use itoa::Buffer;
 use std::alloc::AllocError;
 
 fn add_place(text: &mut String, number: usize) -> Result<(), AllocError>
-    ensures { OnOk result (string_bytes text.new ≡ string_bytes text.old ++ (decimal number ++ codes " ")) }
+    ensures { OnOk result
+        (string_bytes text.new ≡ string_bytes text.old ++ (decimal number ++ codes " ")) }
 {
     let mut buffer = Buffer::new();
     text.push_str(buffer.format(number))?;
@@ -41,7 +42,9 @@ fn is_taken(entry: &Record) -> bool
 
 /// Adds this part where no entry was taken, and the line's end.
 pub fn add_shown(text: &mut String, entry: &Record, part: &str) -> Result<(), AllocError>
-    ensures { OnOk result (string_bytes text.new ≡ string_bytes text.old ++ (shown part.now entry.now ++ codes "\n")) }
+    ensures { OnOk result
+        (string_bytes text.new
+        ≡ string_bytes text.old ++ (shown part.now entry.now ++ codes "\n")) }
 {
     if !is_taken(entry) {
         text.push_str(part)?;
@@ -56,7 +59,8 @@ pub fn add_line(
     entry: &Record,
     part: &str,
 ) -> Result<(), AllocError>
-    ensures { OnOk result (string_bytes text.new ≡ string_bytes text.old ++ line_with part.now number entry.now) }
+    ensures { OnOk result
+        (string_bytes text.new ≡ string_bytes text.old ++ line_with part.now number entry.now) }
 {
     add_place(text, number)?;
     add_asked(text, entry)?;

@@ -8,7 +8,7 @@ ghost use Rattle.dsa_explain.specs.Command.{poll_reason};
 ghost use Rattle.dsa_explain.specs.Held.{awaited_entry};
 ghost use Rattle.dsa_explain.specs.Write.{clear_reason, write_group_reason, write_queue_reason};
 ghost use Rattle.dsa_explain_lines.specs.Sentences.{clear_sentence, fetch_sentence, finish_sentence, poll_sentence, submit_sentence, write_sentence};
-ghost use Rattle.dsa_explain_lines.specs.Parts.{check_reason, event_part, issue_part, part_of, start_part, told_of};
+ghost use Rattle.dsa_explain_lines.specs.Parts.{event_part, issue_part, part_of, start_part, told_of};
 
 use crate::commands::{add_issue_reason, add_poll_reason};
 use crate::dispatch::add_dispatch_part;
@@ -19,13 +19,12 @@ use crate::submissions::add_submit_reason;
 use crate::writes::{add_clear_reason, add_write_reason};
 use dsa_book::{Event, Kind, Portal, Ticket};
 use dsa_device::Device;
-use dsa_event_words::add_count;
+use dsa_event_text::add_count;
 use dsa_explain::{
-    CheckReason, WriteReason, awaited_entry, check_device_reason, check_queue_reason, clear_reason,
-    fetch_reason, finish_reason, issue_reason, poll_reason, start_reason, submit_reason,
-    write_group_reason, write_queue_reason,
+    WriteReason, awaited_entry, clear_reason, fetch_reason, finish_reason, issue_reason,
+    poll_reason, start_reason, submit_reason, write_group_reason, write_queue_reason,
 };
-use dsa_regs::{Command, Fault, Scope};
+use dsa_regs::{Command, Fault};
 use dsa_store::EntryStore;
 use std::alloc::AllocError;
 
@@ -36,7 +35,11 @@ fn add_submit_part<S: EntryStore>(
     portal: Portal,
     kind: Kind,
 ) -> Result<(), AllocError>
-    ensures { OnOk result (string_bytes text.new ≡ string_bytes text.old ++ told_of (submit_sentence queue) (submit_reason device.now.state queue portal kind)) }
+    ensures { OnOk result
+        (string_bytes text.new
+        ≡ string_bytes text.old
+        ++ told_of (submit_sentence queue)
+        (submit_reason device.now.state queue portal kind)) }
 {
     let Some(reason) = submit_reason(device, queue, portal, kind) else {
         return Ok(());
@@ -50,7 +53,10 @@ fn add_fetch_part<S: EntryStore>(
     device: &Device<S>,
     engine: u16,
 ) -> Result<(), AllocError>
-    ensures { OnOk result (string_bytes text.new ≡ string_bytes text.old ++ told_of (fetch_sentence engine) (fetch_reason device.now.state.work engine)) }
+    ensures { OnOk result
+        (string_bytes text.new
+        ≡ string_bytes text.old
+        ++ told_of (fetch_sentence engine) (fetch_reason device.now.state.work engine)) }
 {
     let Some(reason) = fetch_reason(device, engine) else {
         return Ok(());
@@ -64,7 +70,8 @@ fn add_start_part<S: EntryStore>(
     device: &Device<S>,
     engine: u16,
 ) -> Result<(), AllocError>
-    ensures { OnOk result (string_bytes text.new ≡ string_bytes text.old ++ start_part device.now.state.work engine) }
+    ensures { OnOk result
+        (string_bytes text.new ≡ string_bytes text.old ++ start_part device.now.state.work engine) }
 {
     let Some(reason) = start_reason(device, engine) else {
         return Ok(());
@@ -80,7 +87,11 @@ fn add_finish_part<S: EntryStore>(
     engine: u16,
     ticket: Ticket,
 ) -> Result<(), AllocError>
-    ensures { OnOk result (string_bytes text.new ≡ string_bytes text.old ++ told_of (finish_sentence engine) (finish_reason device.now.state.work engine ticket)) }
+    ensures { OnOk result
+        (string_bytes text.new
+        ≡ string_bytes text.old
+        ++ told_of (finish_sentence engine)
+        (finish_reason device.now.state.work engine ticket)) }
 {
     let Some(reason) = finish_reason(device, engine, ticket) else {
         return Ok(());
@@ -89,36 +100,27 @@ fn add_finish_part<S: EntryStore>(
     add_finish_reason(text, engine, &reason)
 }
 
-// What the check of an enable finds, of the device or of a queue.
-fn check_reason<S: EntryStore>(device: &Device<S>, scope: Scope) -> Option<CheckReason>
-    ensures { result ≡ check_reason device.now.state.work.setup scope }
-{
-    device.state_is_replay();
-    let queues = u32::from(device.caps().queues);
-    match scope {
-        Scope::Device => check_device_reason(device),
-        Scope::Queue(queue) if queue < queues => check_queue_reason(device, queue as u16),
-        _ => None,
-    }
-}
-
 fn add_issue_part<S: EntryStore>(
     text: &mut String,
     device: &Device<S>,
     command: Command,
 ) -> Result<(), AllocError>
-    ensures { OnOk result (string_bytes text.new ≡ string_bytes text.old ++ issue_part device.now.state command) }
+    ensures { OnOk result
+        (string_bytes text.new ≡ string_bytes text.old ++ issue_part device.now.state command) }
 {
     let Some(reason) = issue_reason(device, command) else {
         return add_deed_part(text, device, &command);
     };
     text.push_str(": ")?;
-    let found = check_reason(device, command.scope());
-    add_issue_reason(text, &found, &awaited_entry(device), &reason)
+    add_issue_reason(text, &awaited_entry(device), &reason)
 }
 
 fn add_poll_part<S: EntryStore>(text: &mut String, device: &Device<S>) -> Result<(), AllocError>
-    ensures { OnOk result (string_bytes text.new ≡ string_bytes text.old ++ told_of (poll_sentence (awaited_entry device.now.state)) (poll_reason device.now.state)) }
+    ensures { OnOk result
+        (string_bytes text.new
+        ≡ string_bytes text.old
+        ++ told_of (poll_sentence (awaited_entry device.now.state))
+        (poll_reason device.now.state)) }
 {
     let Some(reason) = poll_reason(device) else {
         return Ok(());
@@ -134,7 +136,9 @@ fn add_write_part(
     many: &str,
     reason: &Option<WriteReason>,
 ) -> Result<(), AllocError>
-    ensures { OnOk result (string_bytes text.new ≡ string_bytes text.old ++ told_of (write_sentence one.now many.now) reason.now) }
+    ensures { OnOk result
+        (string_bytes text.new
+        ≡ string_bytes text.old ++ told_of (write_sentence one.now many.now) reason.now) }
 {
     let Some(reason) = reason else {
         return Ok(());
@@ -144,7 +148,10 @@ fn add_write_part(
 }
 
 fn add_clear_part<S: EntryStore>(text: &mut String, device: &Device<S>) -> Result<(), AllocError>
-    ensures { OnOk result (string_bytes text.new ≡ string_bytes text.old ++ told_of clear_sentence (clear_reason device.now.state.work.setup.noted)) }
+    ensures { OnOk result
+        (string_bytes text.new
+        ≡ string_bytes text.old
+        ++ told_of clear_sentence (clear_reason device.now.state.work.setup.noted)) }
 {
     let Some(reason) = clear_reason(device) else {
         return Ok(());
@@ -153,13 +160,15 @@ fn add_clear_part<S: EntryStore>(text: &mut String, device: &Device<S>) -> Resul
     add_clear_reason(text, &reason)
 }
 
-/// Adds why the device answers the event as it does. Nothing is added where it has no reason to turn it down.
+/// Adds why the device answers the event as it does. Nothing is added where it has no reason to
+/// turn it down.
 pub fn add_event_part<S: EntryStore>(
     text: &mut String,
     device: &Device<S>,
     event: &Event,
 ) -> Result<(), AllocError>
-    ensures { OnOk result (string_bytes text.new ≡ string_bytes text.old ++ event_part device.now.state event.now) }
+    ensures { OnOk result
+        (string_bytes text.new ≡ string_bytes text.old ++ event_part device.now.state event.now) }
 {
     match *event {
         Event::Submit {
@@ -192,7 +201,8 @@ pub fn add_part<S: EntryStore>(
     device: &Device<S>,
     asked: &Result<Event, Fault>,
 ) -> Result<(), AllocError>
-    ensures { OnOk result (string_bytes text.new ≡ string_bytes text.old ++ part_of device.now asked.now) }
+    ensures { OnOk result
+        (string_bytes text.new ≡ string_bytes text.old ++ part_of device.now asked.now) }
 {
     let Ok(event) = asked else {
         return text.push_str(

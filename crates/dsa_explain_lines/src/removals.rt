@@ -11,8 +11,8 @@ ghost use Rattle.dsa_explain_lines.specs.Parts.{deed_part, losses_part, told_of}
 
 use crate::commands::add_wait_reason;
 use dsa_device::Device;
-use dsa_event_words::{add_list, add_number};
-use dsa_explain::{is_removed, slots_of, wait_reason};
+use dsa_event_text::{add_list, add_number};
+use dsa_explain::{entries_of_list, is_removed, wait_reason};
 use dsa_regs::{Command, Deed, ListUse, list_count};
 use dsa_store::EntryStore;
 use std::alloc::AllocError;
@@ -25,7 +25,10 @@ fn add_lost(
     is_first: bool,
     name: u32,
 ) -> Result<(), AllocError>
-    ensures { OnOk result (string_bytes text.new ≡ string_bytes text.old ++ (cond is_first (loss_head mark.now list) (codes ", ") ++ decimal name)) }
+    ensures { OnOk result
+        (string_bytes text.new
+        ≡ string_bytes text.old
+        ++ (cond is_first (loss_head mark.now list) (codes ", ") ++ decimal name)) }
 {
     if !is_first {
         return add_number(text, ", ", name);
@@ -44,11 +47,21 @@ fn add_loss<S: EntryStore>(
     list: ListUse,
 ) -> Result<bool, AllocError>
     requires { HasList device.now.caps list }
-    ensures text { OnOk result (string_bytes text.new ≡ string_bytes text.old ++ loss_words mark.now list (removed_names command.now (chain device.now.state.work.content (list_number device.now.caps list)))) }
-    ensures told { IfOk result (λ told. told ≡ nat_lt 0 (length (removed_names command.now (chain device.now.state.work.content (list_number device.now.caps list))))) }
+    ensures text { OnOk result
+        (string_bytes text.new
+        ≡ string_bytes text.old
+        ++ loss_words mark.now list
+        (removed_names command.now
+        (chain device.now.state.work.content (list_number device.now.caps list)))) }
+    ensures told { IfOk result
+        (λ told. told
+        ≡ nat_lt 0
+        (length (removed_names command.now
+        (chain device.now.state.work.content
+        (list_number device.now.caps list))))) }
 {
     let mut is_told = false;
-    for (_cell, entry) in slots_of(device, list) {
+    for (_cell, entry) in entries_of_list(device, list) {
         if is_removed(command, &entry) {
             add_lost(text, mark, list, !is_told, entry.name)?;
             is_told = true;
@@ -70,7 +83,10 @@ fn add_losses<S: EntryStore>(
     device: &Device<S>,
     command: &Command,
 ) -> Result<(), AllocError>
-    ensures { OnOk result (string_bytes text.new ≡ string_bytes text.old ++ losses_part (codes ": ") (losses device.now.state command.now)) }
+    ensures { OnOk result
+        (string_bytes text.new
+        ≡ string_bytes text.old
+        ++ losses_part (codes ": ") (losses device.now.state command.now)) }
 {
     device.state_is_replay();
     let caps = device.caps();
@@ -89,7 +105,10 @@ fn add_wait_part<S: EntryStore>(
     device: &Device<S>,
     command: &Command,
 ) -> Result<(), AllocError>
-    ensures { OnOk result (string_bytes text.new ≡ string_bytes text.old ++ told_of wait_sentence (wait_reason device.now.state command.now)) }
+    ensures { OnOk result
+        (string_bytes text.new
+        ≡ string_bytes text.old
+        ++ told_of wait_sentence (wait_reason device.now.state command.now)) }
 {
     let Some(reason) = wait_reason(device, *command) else {
         return Ok(());
@@ -98,14 +117,17 @@ fn add_wait_part<S: EntryStore>(
     add_wait_reason(text, &reason)
 }
 
-/// Adds what is told of the command where it is carried out: an abort and a reset name what they remove, list by list, and
-/// what is answered active waits for entries.
+/// Adds what is told of the command where it is carried out: an abort and a reset name what they
+/// remove, list by list, and what is answered active waits for entries.
 pub fn add_deed_part<S: EntryStore>(
     text: &mut String,
     device: &Device<S>,
     command: &Command,
 ) -> Result<(), AllocError>
-    ensures { OnOk result (string_bytes text.new ≡ string_bytes text.old ++ deed_part device.now.state command.now (deed_of command.now)) }
+    ensures { OnOk result
+        (string_bytes text.new
+        ≡ string_bytes text.old
+        ++ deed_part device.now.state command.now (deed_of command.now)) }
 {
     match command.deed() {
         Deed::Abort => add_losses(text, device, command),

@@ -1,7 +1,7 @@
 //! A document in, the explanation of its run out.
 
 ghost use Rattle.std.specs.Prelude.{◌≡◌, None, flat_map, string_bytes};
-ghost use Rattle.dsa_explain_lines.specs.Lines.{line_of_step};
+ghost use Rattle.dsa_explain_lines.specs.Lines.{explanation_of_step};
 ghost use Rattle.dsa_explain_lines.specs.Parts.{part_of};
 ghost use Rattle.dsa_explain_lines.specs.Run.{IsExplanation, IsExplanationOf};
 
@@ -24,7 +24,8 @@ impl RenderSteps for Explanation {
 
     ghost told_before = { λ explanation now asked. part_of now asked };
 
-    ghost is_page = { λ explanation steps page. string_bytes page ≡ flat_map line_of_step steps };
+    ghost is_page = { λ explanation steps page. string_bytes page
+        ≡ flat_map explanation_of_step steps };
 
     ghost is_text = { λ explanation steps last text. IsExplanationOf steps last text };
 
@@ -66,7 +67,8 @@ impl RenderSteps for Explanation {
 }
 
 impl Render for Explanation {
-    ghost is_rendering = { λ explanation bytes fault text. (fault ≡ None) × IsExplanation bytes text };
+    ghost is_rendering = { λ explanation bytes fault text. (fault ≡ None)
+        × IsExplanation bytes text };
 
     fn render(&self, alloc: Global, bytes: &[u8]) -> Result<Rendering, ScenarioFault> {
         render_steps(alloc, self, bytes)

@@ -5,7 +5,7 @@ ghost use Rattle.dsa_explain_lines.specs.Sentences.{at_limit_words, enabled_word
 
 use crate::words::{add_counted, add_phase};
 use dsa_book::Portal;
-use dsa_event_words::{add_count, add_number, portal_word};
+use dsa_event_text::{add_count, add_number, portal_label};
 use dsa_explain::SubmitReason;
 use dsa_regs::Phase;
 use std::alloc::AllocError;
@@ -27,7 +27,8 @@ fn add_phases(
     device: Phase,
     phase: Option<Phase>,
 ) -> Result<(), AllocError>
-    ensures { OnOk result (string_bytes text.new ≡ string_bytes text.old ++ enabled_words queue device phase) }
+    ensures { OnOk result
+        (string_bytes text.new ≡ string_bytes text.old ++ enabled_words queue device phase) }
 {
     let Some(phase) = phase else {
         return add_number(text, "the device has no q", u32::from(queue));
@@ -45,12 +46,14 @@ fn add_limit(
     limit: u16,
     portal: Portal,
 ) -> Result<(), AllocError>
-    ensures { OnOk result (string_bytes text.new ≡ string_bytes text.old ++ at_limit_words queue occupancy limit portal) }
+    ensures { OnOk result
+        (string_bytes text.new
+        ≡ string_bytes text.old ++ at_limit_words queue occupancy limit portal) }
 {
     add_number(text, "q", u32::from(queue))?;
     add_count(text, " holds ", u64::from(occupancy), "entry", "entries")?;
     text.push_str(", and the ")?;
-    text.push_str(portal_word(portal))?;
+    text.push_str(portal_label(portal))?;
     add_number(text, " portal goes up to ", u32::from(limit))
 }
 
@@ -60,7 +63,8 @@ pub fn add_submit_reason(
     queue: u16,
     reason: &SubmitReason,
 ) -> Result<(), AllocError>
-    ensures { OnOk result (string_bytes text.new ≡ string_bytes text.old ++ submit_sentence queue reason.now) }
+    ensures { OnOk result
+        (string_bytes text.new ≡ string_bytes text.old ++ submit_sentence queue reason.now) }
 {
     match *reason {
         SubmitReason::NotEnabled {

@@ -3,9 +3,10 @@
 ghost use Rattle.std.specs.Prelude.{◌≡◌, ◌++◌, OnOk, string_bytes};
 ghost use Rattle.dsa_explain_lines.specs.Sentences.{counted, counted_twice, no_engine, no_group, phase_word, phased, want_words};
 
-use dsa_event_words::{add_count, add_number};
+use dsa_event_text::{add_count, add_number};
 use dsa_explain::BufferWant;
 use dsa_regs::Phase;
+use itoa::Buffer;
 use std::alloc::AllocError;
 
 /// Adds a text with a number in it.
@@ -15,9 +16,46 @@ pub fn add_counted(
     number: u32,
     after: &str,
 ) -> Result<(), AllocError>
-    ensures { OnOk result (string_bytes text.new ≡ string_bytes text.old ++ counted before.now number after.now) }
+    ensures { OnOk result
+        (string_bytes text.new ≡ string_bytes text.old ++ counted before.now number after.now) }
 {
     add_number(text, before, number)?;
+    text.push_str(after)
+}
+
+/// Adds a text with the number of a group in it.
+pub fn add_group(
+    text: &mut String,
+    before: &str,
+    group: usize,
+    after: &str,
+) -> Result<(), AllocError>
+    ensures { OnOk result (string_bytes text.new
+        ≡ string_bytes text.old ++ counted before.now group after.now) }
+{
+    let mut buffer = Buffer::new();
+    text.push_str(before)?;
+    text.push_str(buffer.format(group))?;
+    text.push_str(after)
+}
+
+/// Adds a text with the numbers of two groups in it.
+pub fn add_two_groups(
+    text: &mut String,
+    before: &str,
+    first: usize,
+    between: &str,
+    second: usize,
+    after: &str,
+) -> Result<(), AllocError>
+    ensures { OnOk result
+        (string_bytes text.new
+        ≡ string_bytes text.old
+        ++ counted_twice before.now first between.now second after.now) }
+{
+    let mut buffer = Buffer::new();
+    add_group(text, before, first, between)?;
+    text.push_str(buffer.format(second))?;
     text.push_str(after)
 }
 
@@ -30,7 +68,10 @@ pub fn add_counted_twice(
     second: u32,
     after: &str,
 ) -> Result<(), AllocError>
-    ensures { OnOk result (string_bytes text.new ≡ string_bytes text.old ++ counted_twice before.now first between.now second after.now) }
+    ensures { OnOk result
+        (string_bytes text.new
+        ≡ string_bytes text.old
+        ++ counted_twice before.now first between.now second after.now) }
 {
     add_number(text, before, first)?;
     add_number(text, between, second)?;
@@ -49,7 +90,8 @@ fn phase_word(phase: Phase) -> &'static str
 
 /// Adds a text and a phase.
 pub fn add_phase(text: &mut String, before: &str, phase: Phase) -> Result<(), AllocError>
-    ensures { OnOk result (string_bytes text.new ≡ string_bytes text.old ++ phased before.now phase) }
+    ensures { OnOk result
+        (string_bytes text.new ≡ string_bytes text.old ++ phased before.now phase) }
 {
     text.push_str(before)?;
     text.push_str(phase_word(phase))

@@ -4,7 +4,7 @@ ghost use Rattle.std.specs.Prelude.{◌≡◌, ◌++◌, OnOk, string_bytes};
 ghost use Rattle.dsa_explain_lines.specs.Sentences.{clear_sentence, device_words, write_sentence};
 
 use crate::words::{add_counted, add_phase};
-use dsa_event_words::add_count;
+use dsa_event_text::add_count;
 use dsa_explain::{ClearReason, WriteReason};
 use dsa_regs::Phase;
 use std::alloc::AllocError;
@@ -15,14 +15,17 @@ fn add_device(text: &mut String, phase: Phase) -> Result<(), AllocError>
     add_phase(text, "the device is ", phase)
 }
 
-/// Adds the sentence of why a configuration is refused: of a queue or of a group, named as `one` and as `many`.
+/// Adds the sentence of why a configuration is refused: of a queue or of a group, named as `one`
+/// and as `many`.
 pub fn add_write_reason(
     text: &mut String,
     one: &str,
     many: &str,
     reason: &WriteReason,
 ) -> Result<(), AllocError>
-    ensures { OnOk result (string_bytes text.new ≡ string_bytes text.old ++ write_sentence one.now many.now reason.now) }
+    ensures { OnOk result
+        (string_bytes text.new
+        ≡ string_bytes text.old ++ write_sentence one.now many.now reason.now) }
 {
     match *reason {
         WriteReason::BadIndex { count } => {
@@ -39,7 +42,8 @@ pub fn add_write_reason(
 
 /// Adds the sentence of why no error is cleared.
 pub fn add_clear_reason(text: &mut String, reason: &ClearReason) -> Result<(), AllocError>
-    ensures { OnOk result (string_bytes text.new ≡ string_bytes text.old ++ clear_sentence reason.now) }
+    ensures { OnOk result
+        (string_bytes text.new ≡ string_bytes text.old ++ clear_sentence reason.now) }
 {
     match reason {
         ClearReason::NothingNoted => text.push_str("no error is noted"),

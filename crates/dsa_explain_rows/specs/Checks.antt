@@ -1,6 +1,8 @@
 -- Groups with one change to those of the set-up.
-use Rattle.std.specs.Prelude.{List, [], ◌∷◌}
-use Rattle.dsa_regs.specs.{declared.GroupConfig.{GroupConfig}, Worked.{first_group}}
+use Rattle.std.specs.Prelude.{ℕ, List, [], ◌∷◌, Option}
+use Rattle.dsa_base.specs.Rows.{first_row}
+use Rattle.dsa_regs.specs.declared.{Caps.{Caps}, GroupConfig.{GroupConfig}, reasons.CheckReason.{CheckReason}}
+use Rattle.dsa_regs.specs.{Config.{groups_rules}, Worked.{first_group}}
 
 abbrev pub pair : GroupConfig → GroupConfig → List GroupConfig
 pair first second = first ∷ second ∷ []
@@ -15,3 +17,7 @@ trio_with third = first_group ∷ record first_group { queues = 2; engines = 2 }
 
 abbrev pub three : List GroupConfig
 three = trio_with (record first_group { queues = 4; engines = 4 })
+
+-- what is against these groups, where the queues' sizes add up to so much
+abbrev pub groups_reason : Caps → ℕ → List GroupConfig → Option CheckReason
+groups_reason caps sizes groups = first_row (groups_rules caps sizes groups)

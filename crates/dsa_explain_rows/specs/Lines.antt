@@ -11,8 +11,8 @@ use Rattle.dsa_scenario.specs.declared.run.Record.{Record, TheVariants.{Stepped,
 use Rattle.dsa_scenario.specs.Steps.{Visit, standing, visits}
 
 -- a new device
-abbrev pub at_first : Running
-at_first = running_at_first caps 9
+abbrev pub new_device : Running
+new_device = running_at_first caps 9
 
 -- where an engine has two queues, and the front of one is a batch that has to wait
 abbrev pub with_two_queues : Running

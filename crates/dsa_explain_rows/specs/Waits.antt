@@ -2,18 +2,18 @@
 use Rattle.std.specs.Prelude.{ℕ, List, Option, option_map, option_and_then}
 use Rattle.dsa_regs.specs.declared.{Command.{Command}, layout.ListUse.{ListUse}}
 use Rattle.dsa_book.specs.declared.event.Step.{Step}
-use Rattle.dsa_store.specs.Content.{Slot}
+use Rattle.dsa_store.specs.Content.{HeldEntry}
 use Rattle.dsa_worked.specs.Setup.{state_after}
-use Rattle.dsa_explain.specs.declared.{awaiting.WaitReason.{WaitReason}, held.Held.{Held}}
+use Rattle.dsa_explain.specs.declared.{awaiting.WaitReason.{WaitReason}, held.ListedEntry.{ListedEntry}}
 use Rattle.dsa_explain.specs.Command.{wait_of_active, wait_reason}
 
--- the cell and the entry of a slot, in this list
-abbrev pub held_as : ListUse → Slot → Held
-held_as list slot = record { list = list; cell = slot.0; entry = slot.1 }
+-- the cell and the entry of an entry, in this list
+abbrev pub held_as : ListUse → HeldEntry → ListedEntry
+held_as list pair = record { list = list; cell = pair.0; entry = pair.1 }
 
 -- an entry by its name, and its list
-abbrev pub place : Held → ℕ × ListUse
-place held = (held.entry.name, held.list)
+abbrev pub name_and_list : ListedEntry → ℕ × ListUse
+name_and_list held = (held.entry.name, held.list)
 
 -- how many entries are waited for, and the first by its name and its list
 abbrev pub numbers : WaitReason → ℕ × ℕ × ListUse

@@ -11,7 +11,7 @@ ghost use Rattle.dsa_worked.specs.States.{seen_after};
 ghost use Rattle.dsa_explain.specs.declared.dispatch.EngineReason.TheVariants.{NoEngine, NoGroup};
 ghost use Rattle.dsa_explain.specs.declared.dispatch.QueueReason.TheVariants.{Empty, NoSlot, NoBuffers, OtherBatch, OtherDrain};
 ghost use Rattle.dsa_explain.specs.Dispatch.{all_have_reasons, batch_name, drain_name, engine_reason, is_offered, queue_reason};
-ghost use Rattle.dsa_explain.specs.Buffers.{in_use, is_met, kept_for, kept_from, lacking, want_of};
+ghost use Rattle.dsa_explain.specs.Buffers.{buffers_in_use, is_met, kept_for, kept_from, lacking, want_of};
 ghost use Rattle.dsa_explain_rows.specs.After.{of_three_groups, of_two_queues};
 ghost use Rattle.dsa_explain_rows.specs.Wants.{want_of_the_first, want_of_the_second, kept_want};
 
@@ -29,8 +29,10 @@ pub fn engines()
 pub fn offers()
     ensures of_its_group { seen_after (λ w. is_offered w 0 0) [] ≡ Some true }
     ensures of_another { seen_after (λ w. is_offered w 0 1) [] ≡ Some false }
-    ensures two { of_two_queues (λ w. map (is_offered w 0) (0 ∷ 1 ∷ 2 ∷ [])) [] ≡ Some (true ∷ true ∷ false ∷ []) }
-    ensures no_group { of_two_queues (λ w. map (is_offered w 2) (0 ∷ 1 ∷ 2 ∷ [])) [] ≡ Some (false ∷ false ∷ false ∷ []) }
+    ensures two { of_two_queues (λ w. map (is_offered w 0) (0 ∷ 1 ∷ 2 ∷ [])) []
+        ≡ Some (true ∷ true ∷ false ∷ []) }
+    ensures no_group { of_two_queues (λ w. map (is_offered w 2) (0 ∷ 1 ∷ 2 ∷ [])) []
+        ≡ Some (false ∷ false ∷ false ∷ []) }
     ensures no_engine { seen_after (λ w. is_offered w 2 0) [] ≡ Some false }
     ensures no_queue { seen_after (λ w. is_offered w 0 2) [] ≡ Some false }
 {}
@@ -38,7 +40,8 @@ pub fn offers()
 /// An empty queue, where what an engine has taken is not counted.
 pub fn empty_queues()
     ensures empty { seen_after (λ w. queue_reason w 0 0) [] ≡ Some (Some Empty) }
-    ensures taken { seen_after (λ w. queue_reason w 0 0) (take 2 slots_are_full) ≡ Some (Some Empty) }
+    ensures taken { seen_after (λ w. queue_reason w 0 0) (take 2 slots_are_full)
+        ≡ Some (Some Empty) }
     ensures of_another_group { seen_after (λ w. queue_reason w 0 1) [] ≡ Some None }
     ensures no_engine { seen_after (λ w. queue_reason w 2 0) [] ≡ Some None }
     ensures no_queue { seen_after (λ w. queue_reason w 0 2) [] ≡ Some None }
@@ -46,42 +49,69 @@ pub fn empty_queues()
 {}
 
 /// The slots of the engine, before all else that stands against the front.
-pub fn slots()
-    ensures both { seen_after (λ w. queue_reason w 0 0) (take 6 slots_are_full) ≡ Some (Some (NoSlot 2 2)) }
+pub fn held_entries()
+    ensures both { seen_after (λ w. queue_reason w 0 0) (take 6 slots_are_full)
+        ≡ Some (Some (NoSlot 2 2)) }
     ensures one { seen_after (λ w. queue_reason w 0 0) (take 4 slots_are_full) ≡ Some None }
     ensures one_left { seen_after (λ w. queue_reason w 0 0) (take 8 slots_are_full) ≡ Some None }
-    ensures before_buffers { seen_after (λ w. queue_reason w 0 0) (take 4 buffers_of_a_batch ++ to_shared (move 16384) 2 2 ∷ []) ≡ Some (Some (NoSlot 2 2)) }
-    ensures before_a_batch { seen_after (λ w. queue_reason w 0 0) (take 4 drain_of_a_batch ++ to_shared (batch 2) 2 2 ∷ []) ≡ Some (Some (NoSlot 2 2)) }
-    ensures before_a_drain { seen_after (λ w. queue_reason w 0 0) (take 9 drains_of_two_pasids) ≡ Some (Some (NoSlot 2 2)) }
+    ensures before_buffers { seen_after (λ w. queue_reason w 0 0)
+        (take 4 buffers_of_a_batch ++ to_shared (move 16384) 2 2 ∷ [])
+        ≡ Some (Some (NoSlot 2 2)) }
+    ensures before_a_batch { seen_after (λ w. queue_reason w 0 0)
+        (take 4 drain_of_a_batch ++ to_shared (batch 2) 2 2 ∷ [])
+        ≡ Some (Some (NoSlot 2 2)) }
+    ensures before_a_drain { seen_after (λ w. queue_reason w 0 0) (take 9 drains_of_two_pasids)
+        ≡ Some (Some (NoSlot 2 2)) }
 {}
 
-/// The read buffers that a front needs do not fit the group, by what it may use, or by what is kept for another.
+/// The read buffers that a front needs do not fit the group, by what it may use, or by what is kept
+/// for another.
 pub fn buffers()
-    ensures allowed { seen_after (λ w. queue_reason w 0 0) (take 15 buffers_of_a_batch) ≡ Some (Some (NoBuffers want_of_the_first)) }
-    ensures kept { of_three_groups (λ w. queue_reason w 1 1) (take 8 buffers_reserved_for_another) ≡ Some (Some (NoBuffers kept_want)) }
-    ensures not_from_itself { of_three_groups (λ w. queue_reason w 2 2) (take 8 buffers_reserved_for_another) ≡ Some None }
+    ensures allowed { seen_after (λ w. queue_reason w 0 0) (take 15 buffers_of_a_batch)
+        ≡ Some (Some (NoBuffers want_of_the_first)) }
+    ensures kept { of_three_groups (λ w. queue_reason w 1 1) (take 8 buffers_reserved_for_another)
+        ≡ Some (Some (NoBuffers kept_want)) }
+    ensures not_from_itself { of_three_groups (λ w. queue_reason w 2 2)
+        (take 8 buffers_reserved_for_another)
+        ≡ Some None }
     ensures before { seen_after (λ w. queue_reason w 0 0) (take 1 buffers_of_a_batch) ≡ Some None }
 {}
 
 /// One batch at a time, of those that are well formed; it is told by its name.
 pub fn batches()
-    ensures first { seen_after (λ w. queue_reason w 0 0) (take 7 batches_beside_a_batch) ≡ Some (Some (OtherBatch 0)) }
-    ensures second { seen_after (λ w. queue_reason w 0 0) (take 7 drain_of_a_batch ++ to_shared (batch 2) 0 3 ∷ []) ≡ Some (Some (OtherBatch 1)) }
-    ensures not_well_formed { seen_after (λ w. queue_reason w 0 0) (take 3 batches_beside_a_batch) ≡ Some None }
-    ensures no_batch { seen_after (λ w. queue_reason w 0 0) (take 7 drain_of_a_batch ++ to_shared no_op 0 3 ∷ []) ≡ Some None }
-    ensures none_before { seen_after (λ w. queue_reason w 0 0) (take 1 batches_beside_a_batch) ≡ Some None }
+    ensures first { seen_after (λ w. queue_reason w 0 0) (take 7 batches_beside_a_batch)
+        ≡ Some (Some (OtherBatch 0)) }
+    ensures second { seen_after (λ w. queue_reason w 0 0)
+        (take 7 drain_of_a_batch ++ to_shared (batch 2) 0 3 ∷ [])
+        ≡ Some (Some (OtherBatch 1)) }
+    ensures not_well_formed { seen_after (λ w. queue_reason w 0 0) (take 3 batches_beside_a_batch)
+        ≡ Some None }
+    ensures no_batch { seen_after (λ w. queue_reason w 0 0)
+        (take 7 drain_of_a_batch ++ to_shared no_op 0 3 ∷ [])
+        ≡ Some None }
+    ensures none_before { seen_after (λ w. queue_reason w 0 0) (take 1 batches_beside_a_batch)
+        ≡ Some None }
     ensures name { seen_after (λ w. batch_name w 0) (take 5 drain_of_a_batch) ≡ Some 1 }
     ensures no_name { seen_after (λ w. batch_name w 1) (take 5 drain_of_a_batch) ≡ Some 0 }
-    ensures of_two_queues { of_two_queues (λ w. map (queue_reason w 0) (0 ∷ 1 ∷ 2 ∷ [])) one_of_two_queues_waits ≡ Some (Some (OtherBatch 0) ∷ None ∷ None ∷ []) }
+    ensures of_two_queues { of_two_queues (λ w. map (queue_reason w 0) (0 ∷ 1 ∷ 2 ∷ []))
+        one_of_two_queues_waits
+        ≡ Some (Some (OtherBatch 0) ∷ None ∷ None ∷ []) }
 {}
 
 /// One Drain at a time, of those that are well formed; it is told by its name.
 pub fn drains()
-    ensures other { seen_after (λ w. queue_reason w 0 0) (take 11 drains_of_two_pasids) ≡ Some (Some (OtherDrain 2)) }
-    ensures ended { seen_after (λ w. queue_reason w 0 0) (take 13 drains_of_two_pasids) ≡ Some None }
-    ensures no_drain { seen_after (λ w. queue_reason w 0 0) (take 1 drains_of_two_pasids) ≡ Some None }
-    ensures beside_one_that_is_not_well_formed { seen_after (λ w. queue_reason w 0 0) (take 4 fenced_drains_beside_a_drain) ≡ Some None }
-    ensures not_well_formed { seen_after (λ w. queue_reason w 0 0) (take 7 fenced_drains_beside_a_drain) ≡ Some None }
+    ensures other { seen_after (λ w. queue_reason w 0 0) (take 11 drains_of_two_pasids)
+        ≡ Some (Some (OtherDrain 2)) }
+    ensures ended { seen_after (λ w. queue_reason w 0 0) (take 13 drains_of_two_pasids)
+        ≡ Some None }
+    ensures no_drain { seen_after (λ w. queue_reason w 0 0) (take 1 drains_of_two_pasids)
+        ≡ Some None }
+    ensures beside_one_that_is_not_well_formed { seen_after (λ w. queue_reason w 0 0)
+        (take 4 fenced_drains_beside_a_drain)
+        ≡ Some None }
+    ensures not_well_formed { seen_after (λ w. queue_reason w 0 0)
+        (take 7 fenced_drains_beside_a_drain)
+        ≡ Some None }
     ensures name { seen_after (λ w. drain_name w 0) (take 9 drains_of_two_pasids) ≡ Some 2 }
     ensures no_name { seen_after (λ w. drain_name w 0) (take 7 drains_of_two_pasids) ≡ Some 0 }
 {}
@@ -89,42 +119,60 @@ pub fn drains()
 /// Whether each queue that is offered to an engine has a reason.
 pub fn queues_with_reasons()
     ensures idle { seen_after (λ w. all_have_reasons w 0) [] ≡ Some true }
-    ensures one_to_take { seen_after (λ w. all_have_reasons w 0) (take 1 slots_are_full) ≡ Some false }
-    ensures of_another_group { seen_after (λ w. all_have_reasons w 1) (take 1 slots_are_full) ≡ Some true }
-    ensures one_of_two { of_two_queues (λ w. all_have_reasons w 0) one_of_two_queues_waits ≡ Some false }
-    ensures both { of_two_queues (λ w. all_have_reasons w 0) (take 3 one_of_two_queues_waits) ≡ Some true }
+    ensures one_to_take { seen_after (λ w. all_have_reasons w 0) (take 1 slots_are_full)
+        ≡ Some false }
+    ensures of_another_group { seen_after (λ w. all_have_reasons w 1) (take 1 slots_are_full)
+        ≡ Some true }
+    ensures one_of_two { of_two_queues (λ w. all_have_reasons w 0) one_of_two_queues_waits
+        ≡ Some false }
+    ensures both { of_two_queues (λ w. all_have_reasons w 0) (take 3 one_of_two_queues_waits)
+        ≡ Some true }
 {}
 
 /// What is kept for a group is what it has reserved and does not use.
 pub fn kept()
     ensures each { seen_after (λ w. map (kept_for w) (0 ∷ 1 ∷ 2 ∷ [])) [] ≡ Some (4 ∷ 8 ∷ 0 ∷ []) }
-    ensures part { seen_after (λ w. map (kept_for w) (0 ∷ 1 ∷ [])) (take 10 buffers_of_a_batch) ≡ Some (0 ∷ 4 ∷ []) }
-    ensures none { seen_after (λ w. map (kept_for w) (0 ∷ 1 ∷ [])) (take 14 buffers_of_a_batch) ≡ Some (0 ∷ 0 ∷ []) }
-    ensures from { seen_after (λ w. map (kept_from w) (0 ∷ 1 ∷ 2 ∷ [])) [] ≡ Some (8 ∷ 4 ∷ 12 ∷ []) }
-    ensures from_part { seen_after (λ w. map (kept_from w) (0 ∷ 1 ∷ [])) (take 10 buffers_of_a_batch) ≡ Some (4 ∷ 0 ∷ []) }
-    ensures from_three { of_three_groups (λ w. map (kept_from w) (0 ∷ 1 ∷ 2 ∷ [])) [] ≡ Some (8 ∷ 8 ∷ 8 ∷ []) }
-    ensures in_use { seen_after in_use (take 10 buffers_of_a_batch) ≡ Some 12 }
-    ensures none_in_use { seen_after in_use [] ≡ Some 0 }
+    ensures part { seen_after (λ w. map (kept_for w) (0 ∷ 1 ∷ [])) (take 10 buffers_of_a_batch)
+        ≡ Some (0 ∷ 4 ∷ []) }
+    ensures none { seen_after (λ w. map (kept_for w) (0 ∷ 1 ∷ [])) (take 14 buffers_of_a_batch)
+        ≡ Some (0 ∷ 0 ∷ []) }
+    ensures from { seen_after (λ w. map (kept_from w) (0 ∷ 1 ∷ 2 ∷ [])) []
+        ≡ Some (8 ∷ 4 ∷ 12 ∷ []) }
+    ensures from_part { seen_after (λ w. map (kept_from w) (0 ∷ 1 ∷ []))
+        (take 10 buffers_of_a_batch)
+        ≡ Some (4 ∷ 0 ∷ []) }
+    ensures from_three { of_three_groups (λ w. map (kept_from w) (0 ∷ 1 ∷ 2 ∷ [])) []
+        ≡ Some (8 ∷ 8 ∷ 8 ∷ []) }
+    ensures in_use { seen_after buffers_in_use (take 10 buffers_of_a_batch) ≡ Some 12 }
+    ensures none_in_use { seen_after buffers_in_use [] ≡ Some 0 }
 {}
 
 /// The numbers of a want, which is met where they fit.
 pub fn wants()
-    ensures want { seen_after (λ w. want_of w 1 3) (take 10 buffers_of_a_batch) ≡ Some want_of_the_second }
+    ensures want { seen_after (λ w. want_of w 1 3) (take 10 buffers_of_a_batch)
+        ≡ Some want_of_the_second }
     ensures met { is_met want_of_the_second 8 ≡ true }
     ensures one_more { is_met (record want_of_the_second { asked = 5 }) 8 ≡ false }
     ensures not_allowed { is_met want_of_the_first 4 ≡ false }
     ensures kept { is_met kept_want 4 ≡ false }
     ensures not_kept { is_met (record kept_want { kept = 0 }) 4 ≡ true }
     ensures own_reserve { is_met (record want_of_the_second { kept = 1 }) 8 ≡ false }
-    ensures above_the_reserve { is_met (record want_of_the_second { asked = 0; used = 0; in_use = 8 }) 9 ≡ false }
-    ensures reserve_alone { is_met (record want_of_the_second { asked = 0; used = 0; in_use = 8 }) 8 ≡ true }
+    ensures above_the_reserve { is_met
+        (record want_of_the_second { asked = 0; used = 0; in_use = 8 }) 9
+        ≡ false }
+    ensures reserve_alone { is_met (record want_of_the_second { asked = 0; used = 0; in_use = 8 }) 8
+        ≡ true }
     ensures allowed { is_met (record want_of_the_second { allowed = 6; in_use = 4 }) 0 ≡ false }
 {}
 
 /// The numbers are told where so many do not fit.
 pub fn what_is_lacking()
     ensures fits { seen_after (λ w. lacking w 1 4) (take 10 buffers_of_a_batch) ≡ Some None }
-    ensures one_more { seen_after (λ w. lacking w 1 5) (take 10 buffers_of_a_batch) ≡ Some (Some (record want_of_the_second { asked = 5 })) }
-    ensures kept { of_three_groups (λ w. lacking w 1 4) (take 8 buffers_reserved_for_another) ≡ Some (Some kept_want) }
-    ensures not_from_itself { of_three_groups (λ w. lacking w 2 4) (take 8 buffers_reserved_for_another) ≡ Some None }
+    ensures one_more { seen_after (λ w. lacking w 1 5) (take 10 buffers_of_a_batch)
+        ≡ Some (Some (record want_of_the_second { asked = 5 })) }
+    ensures kept { of_three_groups (λ w. lacking w 1 4) (take 8 buffers_reserved_for_another)
+        ≡ Some (Some kept_want) }
+    ensures not_from_itself { of_three_groups (λ w. lacking w 2 4)
+        (take 8 buffers_reserved_for_another)
+        ≡ Some None }
 {}

@@ -6,24 +6,31 @@ ghost use Rattle.dsa_regs.specs.declared.Fault.TheVariants.{BadCommand};
 ghost use Rattle.dsa_book.specs.declared.answer.DispatchAnswer.TheVariants.{Idle, Taken};
 ghost use Rattle.dsa_book.specs.declared.answer.IssueAnswer.TheVariants.{Ended};
 ghost use Rattle.dsa_book.specs.declared.answer.PollAnswer.TheVariants.{Nothing};
-ghost use Rattle.dsa_worked.specs.Setup.{dispatched, issued, no_op, polled, taken, ticket, to_shared};
+ghost use Rattle.dsa_worked.specs.Setup.{dispatched, issued, no_op, polled, step_of_a_take, ticket, to_shared};
 ghost use Rattle.dsa_scenario.specs.declared.run.Record.TheVariants.{Refused, Stepped};
 ghost use Rattle.dsa_explain_lines.specs.Lines.{asked_words, explained_line, is_taken, line_with, shown};
 ghost use Rattle.dsa_explain_lines.specs.Run.{IsExplanationOf};
-ghost use Rattle.dsa_explain_rows.specs.Lines.{at_first, at_last, steps_of_three, with_two_queues};
+ghost use Rattle.dsa_explain_rows.specs.Lines.{new_device, at_last, steps_of_three, with_two_queues};
 
 /// What was asked, where a word that is no command is told as one word.
 #[tactic(auto, unfolding(dsa_scenario::specs::Worked::digits_on_literals))]
 pub fn asked()
     ensures step { asked_words (Stepped (dispatched 3 Idle)) ≡ codes "dispatch e3" }
-    ensures command { asked_words (Stepped (issued DrainAll (Ended 0))) ≡ codes "command drain-all" }
+    ensures command { asked_words (Stepped (issued DrainAll (Ended 0)))
+        ≡ codes "command drain-all" }
     ensures word { asked_words (Refused BadCommand) ≡ codes "command" }
 {}
 
 /// The part behind an answer is left out where an entry was taken, and nowhere else.
 pub fn parts_that_are_shown()
-    ensures taken { map is_taken (Stepped (taken 0 0 0) ∷ Stepped (dispatched 0 Idle) ∷ Stepped (to_shared no_op 0 0) ∷ Refused BadCommand ∷ []) ≡ true ∷ false ∷ false ∷ false ∷ [] }
-    ensures left_out { shown (codes "why") (Stepped (taken 0 0 0)) ≡ [] }
+    ensures taken { map is_taken
+        (Stepped (step_of_a_take 0 0 0)
+        ∷ Stepped (dispatched 0 Idle)
+        ∷ Stepped (to_shared no_op 0 0)
+        ∷ Refused BadCommand
+        ∷ [])
+        ≡ true ∷ false ∷ false ∷ false ∷ [] }
+    ensures left_out { shown (codes "why") (Stepped (step_of_a_take 0 0 0)) ≡ [] }
     ensures idle { shown (codes "why") (Stepped (dispatched 0 Idle)) ≡ codes "why" }
     ensures word { shown (codes "why") (Refused BadCommand) ≡ codes "why" }
 {}
@@ -31,24 +38,33 @@ pub fn parts_that_are_shown()
 /// A line: the number of the step, what was asked and answered, this part, and the end of the line.
 #[tactic(auto, unfolding(dsa_scenario::specs::Worked::digits_on_literals))]
 pub fn lines()
-    ensures step { line_with (codes ": why") 12 (Stepped (polled Nothing)) ≡ codes "12 poll -> nothing: why\n" }
-    ensures no_part { line_with [] 0 (Stepped (issued DrainAll (Ended 0))) ≡ codes "0 command drain-all -> ended 0\n" }
-    ensures taken { line_with (codes ": why") 7 (Stepped (taken 1 4 9)) ≡ codes "7 dispatch e1 -> taken 9 from 1\n" }
-    ensures word { line_with (codes ": why") 3 (Refused BadCommand) ≡ codes "3 command -> refused 13 BadCommand: why\n" }
+    ensures step { line_with (codes ": why") 12 (Stepped (polled Nothing))
+        ≡ codes "12 poll -> nothing: why\n" }
+    ensures no_part { line_with [] 0 (Stepped (issued DrainAll (Ended 0)))
+        ≡ codes "0 command drain-all -> ended 0\n" }
+    ensures taken { line_with (codes ": why") 7 (Stepped (step_of_a_take 1 4 9))
+        ≡ codes "7 dispatch e1 -> taken 9 from 1\n" }
+    ensures word { line_with (codes ": why") 3 (Refused BadCommand)
+        ≡ codes "3 command -> refused 13 BadCommand: why\n" }
 {}
 
 /// The line of a step has what stands against it in the state before.
 #[tactic(auto, unfolding(dsa_scenario::specs::Worked::digits_on_literals))]
 pub fn explained()
-    ensures poll { explained_line at_first 5 (Stepped (polled Nothing)) ≡ codes "5 poll -> nothing: no command is active\n" }
-    ensures word { explained_line at_first 5 (Refused BadCommand) ≡ codes "5 command -> refused 13 BadCommand: no command has the number of the word, or one of its bits 30:25 is set\n" }
-    ensures idle { explained_line with_two_queues 9 (Stepped (dispatched 1 Idle)) ≡ codes "9 dispatch e1 -> idle: q2 is empty\n" }
-    ensures taken { explained_line with_two_queues 9 (Stepped (dispatched 0 (Taken (ticket 2 2) 1))) ≡ codes "9 dispatch e0 -> taken 2 from 1\n" }
+    ensures poll { explained_line new_device 5 (Stepped (polled Nothing))
+        ≡ codes "5 poll -> nothing: no command is active\n" }
+    ensures word { explained_line new_device 5 (Refused BadCommand)
+        ≡ codes "5 command -> refused 13 BadCommand: no command has the number of the word, or one of its bits 30:25 is set\n" }
+    ensures idle { explained_line with_two_queues 9 (Stepped (dispatched 1 Idle))
+        ≡ codes "9 dispatch e1 -> idle: q2 is empty\n" }
+    ensures taken { explained_line with_two_queues 9 (Stepped (dispatched 0 (Taken (ticket 2 2) 1)))
+        ≡ codes "9 dispatch e0 -> taken 2 from 1\n" }
 {}
 
 /// An explanation has a line for each step of a run, and no more.
 #[tactic(auto, unfolding(dsa_scenario::specs::Worked::digits_on_literals))]
 pub fn texts()
-    ensures none { IsExplanationOf [] at_first [] }
-    ensures three { IsExplanationOf steps_of_three at_last (codes "0 command enable-device -> ended 0\n1 poll -> nothing: no command is active\n2 command -> refused 13 BadCommand: no command has the number of the word, or one of its bits 30:25 is set\n") }
+    ensures none { IsExplanationOf [] new_device [] }
+    ensures three { IsExplanationOf steps_of_three at_last
+        (codes "0 command enable-device -> ended 0\n1 poll -> nothing: no command is active\n2 command -> refused 13 BadCommand: no command has the number of the word, or one of its bits 30:25 is set\n") }
 {}

@@ -1,7 +1,7 @@
 //! Small devices and descriptors that tests, an example and measurements share.
 //!
-//! The device at the head of the crate has two queues, a shared and a dedicated one, each with its group and
-//! its engine. The one in [`single`] has one shared queue.
+//! The device at the head of the crate has two queues, a shared and a dedicated one, each with its
+//! group and its engine. The one in [`single`] has one shared queue.
 #![tactic(auto)]
 
 ghost use Rattle.std.specs.Prelude.{◌≡◌};
@@ -83,8 +83,6 @@ pub const FENCED_NO_OP: Descriptor = Descriptor { flags: 1, ..NO_OP };
 
 /// A Drain.
 pub const DRAIN: Descriptor = Descriptor { op: 2, ..NO_OP };
-
-pub const FENCED_DRAIN: Descriptor = Descriptor { flags: 1, ..DRAIN };
 
 /// A Memory Move of one page.
 pub const MOVE: Descriptor = Descriptor {

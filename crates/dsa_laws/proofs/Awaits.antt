@@ -13,7 +13,7 @@ use Rattle.dsa_desc.specs.declared.{Descriptor.{Descriptor}, Outcome.{Outcome}}
 use Rattle.dsa_regs.specs.declared.{Caps.{Caps}, Deed.{Deed, TheVariants.{Enable, Disable, Drain, Abort, Reset}}}
 use Rattle.dsa_regs.specs.declared.Scope.{Scope, TheVariants.{Device, Queue, Queues, Pasid}}
 use Rattle.dsa_store.specs.declared.entry.{Cell.{Cell}, Entry.{Entry}}
-use Rattle.dsa_store.specs.Content.{Slot, Content, is_cell, chain, use_count, entry_of, all_held, count_where}
+use Rattle.dsa_store.specs.Content.{HeldEntry, Content, is_cell, chain, use_count, entry_of, all_held, count_where}
 use Rattle.dsa_store.specs.Content.{after_push}
 use Rattle.dsa_store.proofs.Sums.{sum-set, sum-pushed, uses-counted, all_held-filtered}
 use Rattle.dsa_store.proofs.Finding.{entry_of-at, placed, Stands}
@@ -81,24 +81,24 @@ awaited-earlier Reset scope mark other = drained scope mark
 
 -- ---- the entry in a cell
 
-In-at : (xs : List Slot) (k : ℕ) (d : Slot) → k < length xs → In (get_or xs k d) xs
+In-at : (xs : List HeldEntry) (k : ℕ) (d : HeldEntry) → k < length xs → In (get_or xs k d) xs
 In-at [] k d h = absurd (omega arith)
 In-at (x ∷ xs) zero d h = inl refl
 In-at (x ∷ xs) (suc k) d h = inr (In-at xs k d (omega arith))
 
 -- what is held in a cell is the entry of the cell
-entry-held : (content : Content) (cell : Cell) (slot : Slot) → use_count content cell ≤ 1
-    → In slot (all_held content) → is_cell cell slot ≡ true → entry_of content cell ≡ Some slot.1
-entry-held content cell slot once held is = ⊎_elim
-    (λ none. absurd (omega (arith, none, uses-counted content cell, In-counted (is_cell cell) slot _ held is)))
+entry-held : (content : Content) (cell : Cell) (pair : HeldEntry) → use_count content cell ≤ 1
+    → In pair (all_held content) → is_cell cell pair ≡ true → entry_of content cell ≡ Some pair.1
+entry-held content cell pair once held is = ⊎_elim
+    (λ none. absurd (omega (arith, none, uses-counted content cell, In-counted (is_cell cell) pair _ held is)))
     (λ (s : Stands content cell).
     let here : In (cell, s.entry) (all_held content) = In-chain _ content s.list
-    (subst (λ x. In x (chain content s.list)) s.at.slot
+    (subst (λ x. In x (chain content s.list)) s.at.pair
     (In-at (chain content s.list) s.place (cell, s.entry) s.at.within)) in
     let one : count_by (is_cell cell) (all_held content) ≤ 1 = omega (arith, once, uses-counted content cell) in
     entry_of-at content s.list s.place cell s.entry once s.at
-    ∙ ap (λ (x : Slot). Some x.1)
-    (In-same (is_cell cell) (cell, s.entry) slot (all_held content) one here held (eq-eqb cell.0 cell.0 refl) is))
+    ∙ ap (λ (x : HeldEntry). Some x.1)
+    (In-same (is_cell cell) (cell, s.entry) pair (all_held content) one here held (eq-eqb cell.0 cell.0 refl) is))
     (placed content cell)
 
 -- how many of those that pass an answer to an end ends: one where it is Done and the ticket's entry passes
@@ -109,11 +109,11 @@ ended_of test content ticket _ = 0
 -- ---- steps
 
 module _ (test : Entry → Bool) (mark : ℕ) (is : IsOfEarlier test mark) where
-  abbrev counted : Slot → ℕ
-  counted slot = cond (test slot.1) 1 0
+  abbrev counted : HeldEntry → ℕ
+  counted pair = cond (test pair.1) 1 0
 
-  alike-counted : (slot : Slot) → counted (slot.0, record slot.1 { running = true }) ≡ counted slot
-  alike-counted slot = ap (λ b. cond {A = ℕ} b 1 0) (is.alike slot.1 true)
+  alike-counted : (pair : HeldEntry) → counted (pair.0, record pair.1 { running = true }) ≡ counted pair
+  alike-counted pair = ap (λ b. cond {A = ℕ} b 1 0) (is.alike pair.1 true)
 
   -- an entry that comes does not pass
   later : (entry : Entry) → mark ≤ entry.name → test entry ≡ false
@@ -144,7 +144,7 @@ module _ (test : Entry → Bool) (mark : ℕ) (is : IsOfEarlier test mark) where
       (refused-counts i q kind NotEnabled, (refused-counts i q kind WrongKind, (refused-counts i q kind AtLimit, tt)))
       (pushed-counts i.content q cell _ past))
 
-  fetch_of-counts : (w : Work) (e : ℕ) (desc : Descriptor) (cell : Cell) (note : BatchNote) (batch : Option Slot)
+  fetch_of-counts : (w : Work) (e : ℕ) (desc : Descriptor) (cell : Cell) (note : BatchNote) (batch : Option HeldEntry)
       → mark ≤ w.setup.next_name
       → count_where test (fetch_of w e desc cell note batch).1.content ≡ count_where test w.content
   fetch_of-counts w e desc cell note None past = refl
@@ -168,7 +168,7 @@ module _ (test : Entry → Bool) (mark : ℕ) (is : IsOfEarlier test mark) where
       ∙ fetch_for-counts w e desc cell (note_at w e) past
 
   -- a front that moves runs, and counts as before
-  dispatch_of-counts : (caps : Caps) (w : Work) (e q : ℕ) (front : Option Slot) → HasShape caps w
+  dispatch_of-counts : (caps : Caps) (w : Work) (e q : ℕ) (front : Option HeldEntry) → HasShape caps w
       → front_of w q ≡ front → qualifies w e q ≡ true
       → count_where test (dispatch_of w e q front).1.content ≡ count_where test w.content
   dispatch_of-counts caps w e q None shape n may = refl
@@ -192,20 +192,20 @@ module _ (test : Entry → Bool) (mark : ℕ) (is : IsOfEarlier test mark) where
 
   -- no member passes
   members-uncounted : (caps : Caps) (w : Work) (e : ℕ) → HasShape caps w → EachAt (IsPlaced caps) w.content
-      → count_by (λ slot. test slot.1) (chain w.content (member_list w.setup e)) ≡ 0
-  members-uncounted caps w e shape each = count-none (λ slot. test slot.1) _ (λ x i.
+      → count_by (λ pair. test pair.1) (chain w.content (member_list w.setup e)) ≡ 0
+  members-uncounted caps w e shape each = count-none (λ pair. test pair.1) _ (λ x i.
       let member = (each (member_list w.setup e) x i).member (omega (arith, queues-same shape, engines-same shape)) in
       false_from_ne_true _ (λ t. not-both (is_member x.1) member (is.submitted x.1 t)))
 
-  start_of-counts : (caps : Caps) (w : Work) (e : ℕ) (first : Option Slot) → HasShape caps w
+  start_of-counts : (caps : Caps) (w : Work) (e : ℕ) (first : Option HeldEntry) → HasShape caps w
       → EachAt (IsPlaced caps) w.content → first_waiting w e ≡ first
       → count_where test (start_of w e first).1.content ≡ count_where test w.content
   start_of-counts caps w e None shape each n = refl
-  start_of-counts caps w e (Some slot) shape each n =
-      let k = waiting-engine shape e slot n in
+  start_of-counts caps w e (Some pair) shape each n =
+      let k = waiting-engine shape e pair n in
       let list = member_list w.setup e in
       first_row_or-each (λ (r : StartAnswer × Work). count_where test r.1.content ≡ count_where test w.content)
-      (start_table w e slot) _ (
+      (start_table w e pair) _ (
         refl,
         (
           omega (arith, sum-set counted w.content list [] k.members_inside, members-uncounted caps w e shape each),
@@ -226,28 +226,28 @@ module _ (test : Entry → Bool) (mark : ℕ) (is : IsOfEarlier test mark) where
       ap (λ (r : StartAnswer × Work). count_where test r.1.content) (sym goes)
       ∙ start_of-counts caps w e (first_waiting w e) shape each refl
 
-  finish_of-counts : (caps : Caps) (w : Work) (e : ℕ) (ticket : Ticket) (outcome : Outcome) (slot : Option Slot)
-      → CellsOnce caps w → find (is_ticket ticket) (running_on w e) ≡ slot
-      → let r = finish_of w e outcome slot in
+  finish_of-counts : (caps : Caps) (w : Work) (e : ℕ) (ticket : Ticket) (outcome : Outcome) (pair : Option HeldEntry)
+      → CellsOnce caps w → find (is_ticket ticket) (running_on w e) ≡ pair
+      → let r = finish_of w e outcome pair in
       count_where test r.1.content + ended_of test w.content ticket r.0 ≡ count_where test w.content
   finish_of-counts caps w e ticket outcome None once n = omega arith
-  finish_of-counts caps w e ticket outcome (Some slot) once n =
+  finish_of-counts caps w e ticket outcome (Some pair) once n =
       table1 (λ (r : FinishAnswer × Work).
       count_where test r.1.content + ended_of test w.content ticket r.0 ≡ count_where test w.content)
-      (must_wait w e slot.1) _ _
+      (must_wait w e pair.1) _ _
       (λ u. omega arith)
       (λ u.
-      let place = running-place w e ticket slot n in
-      let held = In-chain slot w.content place.list place.at in
-      let own : is_cell ticket.cell slot ≡ true =
-      (and_parts _ _ (In-find (is_ticket ticket) slot (running_on w e) n).1).0 in
-      let entry = entry-held w.content ticket.cell slot (once.once ticket.cell) held own in
-      let one : count_by (is_cell slot.0) (all_held w.content) ≤ 1 =
-      omega (arith, once.once slot.0, uses-counted w.content slot.0) in
+      let place = running-place w e ticket pair n in
+      let held = In-chain pair w.content place.list place.at in
+      let own : is_cell ticket.cell pair ≡ true =
+      (and_parts _ _ (In-find (is_ticket ticket) pair (running_on w e) n).1).0 in
+      let entry = entry-held w.content ticket.cell pair (once.once ticket.cell) held own in
+      let one : count_by (is_cell pair.0) (all_held w.content) ≤ 1 =
+      omega (arith, once.once pair.0, uses-counted w.content pair.0) in
       omega (
         arith,
-        sum-without counted (is_cell slot.0) slot (all_held w.content) one held (eq-eqb slot.0.0 slot.0.0 refl),
-        ap (sum_by counted) (all_held-filtered (λ x. not (is_cell slot.0 x)) w.content),
+        sum-without counted (is_cell pair.0) pair (all_held w.content) one held (eq-eqb pair.0.0 pair.0.0 refl),
+        ap (sum_by counted) (all_held-filtered (λ x. not (is_cell pair.0 x)) w.content),
         ap (λ o. cond {A = ℕ} (passes test o) 1 0) entry,
       ))
 

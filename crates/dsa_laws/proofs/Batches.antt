@@ -7,7 +7,7 @@ use Rattle.dsa_base.proofs.Lists.{length-none, In-push, In-filter, In-passing, a
 use Rattle.dsa_base.proofs.Counts.{count-push, length-filter-le, filter-none, In-counted, count-none, count-alike}
 use Rattle.dsa_base.{proofs.{Counts.{In-old}, Tables.{not-both}}, specs.Lists.{In}}
 use Rattle.dsa_regs.specs.{declared.Scope.{Scope, TheVariants.{Device, Pasid}}, Command.{queues_in}}
-use Rattle.dsa_store.{specs.Content.{Slot, Content, chain, all_held}, proofs.Sums.{sum-split}}
+use Rattle.dsa_store.{specs.Content.{HeldEntry, Content, chain, all_held}, proofs.Sums.{sum-split}}
 use Rattle.dsa_book.specs.{Commands.{is_in_scope, is_among, takes_batch, kept_note}, State.{Setup, is_batch_of}}
 use Rattle.dsa_book.specs.{Work.{with_running_entry, opened_note, with_first_run}, declared.note.BatchNote.{BatchNote}}
 use Rattle.dsa_laws.specs.Engines.{holds_batch, IsNoteOf, IsAlike, IsLawfulEngine}
@@ -16,7 +16,7 @@ use Rattle.dsa_laws.proofs.{Contents.{sum-list-le}, Entries.{first_run-each}}
 -- ---- lists
 
 -- two lists together hold no more than all do
-pub sum-two : (f : Slot → ℕ) (c : Content) (i j : ℕ) → i ≢ j
+pub sum-two : (f : HeldEntry → ℕ) (c : Content) (i j : ℕ) → i ≢ j
     → sum_by f (chain c i) + sum_by f (chain c j) ≤ sum_by f (all_held c)
 sum-two f [] i j n = omega arith
 sum-two f (l ∷ ls) zero zero n = absurd (n refl)
@@ -29,15 +29,15 @@ sum-two f (l ∷ ls) (suc i) (suc j) n = omega (
       (λ e. n (ap (λ k. suc k) e)),
 )
 
-length-first_run : (xs : List Slot) → length (with_first_run xs) ≡ length xs
+length-first_run : (xs : List HeldEntry) → length (with_first_run xs) ≡ length xs
 length-first_run [] = refl
 length-first_run (x ∷ xs) = grind (arith, length-first_run xs)
 
 -- ---- by another setup, with fewer entries, with other marks
 
 -- the same lists by a setup with the same batches
-pub by_setup : (setup setup' : Setup) (ps ms : List Slot) (o : Option BatchNote)
-    → ((x : Slot) → In x ps → holds_batch setup' x ≡ holds_batch setup x) → IsLawfulEngine setup ps ms o
+pub by_setup : (setup setup' : Setup) (ps ms : List HeldEntry) (o : Option BatchNote)
+    → ((x : HeldEntry) → In x ps → holds_batch setup' x ≡ holds_batch setup x) → IsLawfulEngine setup ps ms o
     → IsLawfulEngine setup' ps ms o
 by_setup setup setup' ps ms None same h =
     let count = count-alike (holds_batch setup') (holds_batch setup) ps same in
@@ -51,9 +51,9 @@ by_setup setup setup' ps ms (Some note) same h = record {
 }
 
 -- some go, and no batch is among them
-pub fewer : (setup : Setup) (ps ps' ms ms' : List Slot) (o : Option BatchNote)
-    → count_by (holds_batch setup) ps' ≡ count_by (holds_batch setup) ps → ((x : Slot) → In x ps' → In x ps)
-    → ((x : Slot) → In x ms' → In x ms) → length ms' ≤ length ms → IsLawfulEngine setup ps ms o
+pub fewer : (setup : Setup) (ps ps' ms ms' : List HeldEntry) (o : Option BatchNote)
+    → count_by (holds_batch setup) ps' ≡ count_by (holds_batch setup) ps → ((x : HeldEntry) → In x ps' → In x ps)
+    → ((x : HeldEntry) → In x ms' → In x ms) → length ms' ≤ length ms → IsLawfulEngine setup ps ms o
     → IsLawfulEngine setup ps' ms' o
 fewer setup ps ps' ms ms' None same p m l h = record {
   no_batch = same ∙ h.no_batch;
@@ -68,7 +68,7 @@ fewer setup ps ps' ms ms' (Some note) same p m l h = record {
 }
 
 -- a note with other marks
-pub marked : (setup : Setup) (ps ms : List Slot) (f : BatchNote → BatchNote) (o : Option BatchNote)
+pub marked : (setup : Setup) (ps ms : List HeldEntry) (f : BatchNote → BatchNote) (o : Option BatchNote)
     → ((n : BatchNote) → (f n).batch ≡ n.batch) → ((n : BatchNote) → (f n).count ≡ n.count)
     → ((n : BatchNote) → (f n).fetched ≡ n.fetched)
     → IsLawfulEngine setup ps ms o → IsLawfulEngine setup ps ms (option_map f o)
@@ -84,14 +84,14 @@ marked setup ps ms f (Some n) a b c h = record {
 -- ---- each kind of step of an engine
 
 -- a front comes: a batch where there was none, or no batch
-pub with_front : (setup : Setup) (ps ms : List Slot) (o : Option BatchNote) (x : Slot) (b : Bool)
+pub with_front : (setup : Setup) (ps ms : List HeldEntry) (o : Option BatchNote) (x : HeldEntry) (b : Bool)
     → holds_batch setup x ≡ b → (is_none o || not b) ≡ true
     → IsLawfulEngine setup ps ms o → IsLawfulEngine setup (ps ++ with_running_entry x ∷ []) ms
     (cond b (Some (opened_note x.1)) o)
 with_front setup ps ms None x true is may h =
     let count = count-push (holds_batch setup) ps (with_running_entry x) true is in
     let old = h.no_batch in
-    let none : (y : Slot) → In y ms → ⊥ = λ y i. subst (λ l. In y l) h.no_members i in
+    let none : (y : HeldEntry) → In y ms → ⊥ = λ y i. subst (λ l. In y l) h.no_members i in
     record {
       one_batch = omega arith;
       noted = λ y i t. ⊎_elim
@@ -117,8 +117,8 @@ with_front setup ps ms (Some n) x false is may h = record {
 }
 
 -- a member comes, like the batch
-pub with_member : (setup : Setup) (ps ms : List Slot) (n : BatchNote) (x : Slot) → x.1.parent ≡ Some n.batch
-    → ((b : Slot) → In b ps → holds_batch setup b ≡ true → IsAlike x b)
+pub with_member : (setup : Setup) (ps ms : List HeldEntry) (n : BatchNote) (x : HeldEntry) → x.1.parent ≡ Some n.batch
+    → ((b : HeldEntry) → In b ps → holds_batch setup b ≡ true → IsAlike x b)
     → IsLawfulEngine setup ps ms (Some n)
     → IsLawfulEngine setup ps (ms ++ x ∷ []) (Some (record n { fetched = n.fetched + 1 }))
 with_member setup ps ms n x parent like h = record {
@@ -132,7 +132,7 @@ with_member setup ps ms n x parent like h = record {
 }
 
 -- the first member that waits runs
-pub with_run : (setup : Setup) (ps ms : List Slot) (o : Option BatchNote) → IsLawfulEngine setup ps ms o
+pub with_run : (setup : Setup) (ps ms : List HeldEntry) (o : Option BatchNote) → IsLawfulEngine setup ps ms o
     → IsLawfulEngine setup ps (with_first_run ms) o
 with_run setup ps ms None h = record {
   no_batch = h.no_batch;
@@ -148,14 +148,14 @@ with_run setup ps ms (Some n) h = record {
 }
 
 -- those that pass are left, and no batch is gone
-filtered : (setup : Setup) (p : Slot → Bool) (ps ms : List Slot) (o : Option BatchNote)
+filtered : (setup : Setup) (p : HeldEntry → Bool) (ps ms : List HeldEntry) (o : Option BatchNote)
     → count_by (holds_batch setup) (filter p ps) ≡ count_by (holds_batch setup) ps → IsLawfulEngine setup ps ms o
     → IsLawfulEngine setup (filter p ps) (filter p ms) o
 filtered setup p ps ms o same = fewer setup ps (filter p ps) ms (filter p ms) o same
     (λ x i. (In-filter p x ps i).0) (λ x i. (In-filter p x ms i).0) (length-filter-le p ms)
 
 -- a batch ends, which has no members left, or another entry
-pub with_end : (setup : Setup) (p : Slot → Bool) (ps ms : List Slot) (o : Option BatchNote) (b m : Bool)
+pub with_end : (setup : Setup) (p : HeldEntry → Bool) (ps ms : List HeldEntry) (o : Option BatchNote) (b m : Bool)
     → count_by (holds_batch setup) (filter p ps) + cond b 1 0 ≡ count_by (holds_batch setup) ps
     → (b ≡ true → ms ≡ []) → IsLawfulEngine setup ps ms o → IsLawfulEngine setup (filter p ps) (filter p ms)
     (cond b None (cond m (option_map (λ (note : BatchNote). record note { failed = true }) o) o))
@@ -168,7 +168,7 @@ with_end setup p ps ms o false true less none h =
 with_end setup p ps ms o false false less none h = filtered setup p ps ms o (omega arith) h
 
 -- the members are abandoned, and the batch is closed
-pub with_none : (setup : Setup) (ps ms : List Slot) (o : Option BatchNote) → IsLawfulEngine setup ps ms o
+pub with_none : (setup : Setup) (ps ms : List HeldEntry) (o : Option BatchNote) → IsLawfulEngine setup ps ms o
     → IsLawfulEngine setup ps [] (option_map (λ (note : BatchNote). record note { closed = true }) o)
 with_none setup ps ms o h =
     marked setup ps [] (λ note. record note { closed = true }) o (λ n. refl) (λ n. refl)
@@ -177,30 +177,30 @@ with_none setup ps ms o h =
 -- ---- an abort
 
 -- the entries that an abort takes
-abbrev is_taken_out : Scope → Slot → Bool
+abbrev is_taken_out : Scope → HeldEntry → Bool
 is_taken_out scope x = is_in_scope scope x.1
 
 -- the entries that an abort leaves
-abbrev pub is_left : Scope → Slot → Bool
+abbrev pub is_left : Scope → HeldEntry → Bool
 is_left scope x = not (is_in_scope scope x.1)
 
 -- a member and its batch are both of a scope, or neither is
-pub scope-alike : (scope : Scope) (m b : Slot) → IsAlike m b → is_in_scope scope m.1 ≡ is_in_scope scope b.1
+pub scope-alike : (scope : Scope) (m b : HeldEntry) → IsAlike m b → is_in_scope scope m.1 ≡ is_in_scope scope b.1
 scope-alike Device m b h = refl
 scope-alike (Pasid pasid) m b h = ap (λ p. p == pasid) h.pasid
 scope-alike scope m b h = ap (is_among (queues_in scope)) h.queue
 
 -- a batch in the scope is the only one in progress, and no member is left
-goes-along : (scope : Scope) (setup : Setup) (ps ms : List Slot) (o : Option BatchNote) (x : Slot) → In x ps
+goes-along : (scope : Scope) (setup : Setup) (ps ms : List HeldEntry) (o : Option BatchNote) (x : HeldEntry) → In x ps
     → holds_batch setup x ≡ true → is_taken_out scope x ≡ true → IsLawfulEngine setup ps ms o
-    → (count_by (holds_batch setup) ps ≡ 1) × ((m : Slot) → In m ms → is_left scope m ≡ false)
+    → (count_by (holds_batch setup) ps ≡ 1) × ((m : HeldEntry) → In m ms → is_left scope m ≡ false)
 goes-along scope setup ps ms None x i t s h =
     absurd (omega (arith, In-counted (holds_batch setup) x ps i t))
 goes-along scope setup ps ms (Some n) x i t s h =
     (h.one_batch, λ m j. ap not (scope-alike scope m x (h.alike m x j i t) ∙ s))
 
 -- a batch goes with all its members, or stays
-pub with_abort : (scope : Scope) (setup : Setup) (ps ms : List Slot) (o : Option BatchNote)
+pub with_abort : (scope : Scope) (setup : Setup) (ps ms : List HeldEntry) (o : Option BatchNote)
     → IsLawfulEngine setup ps ms o
     → IsLawfulEngine setup (filter (is_left scope) ps) (filter (is_left scope) ms) (kept_note setup scope ps o)
 with_abort scope setup ps ms o h = go (takes_batch setup scope ps) refl
@@ -208,7 +208,7 @@ with_abort scope setup ps ms o h = go (takes_batch setup scope ps) refl
     go : (b : Bool) → takes_batch setup scope ps ≡ b
         → IsLawfulEngine setup (filter (is_left scope) ps) (filter (is_left scope) ms) (cond b None o)
     go true t =
-        let batch = any-In (λ slot. is_batch_of setup slot.1 && is_in_scope scope slot.1) ps t in
+        let batch = any-In (λ pair. is_batch_of setup pair.1 && is_in_scope scope pair.1) ps t in
         let both = and_parts _ _ batch.1.1 in
         let along = goes-along scope setup ps ms o batch.0 batch.1.0 both.0 both.1 h in
         record {
@@ -225,7 +225,7 @@ with_abort scope setup ps ms o h = go (takes_batch setup scope ps) refl
         let none = count-none (holds_batch setup) (filter (is_taken_out scope) ps) (λ x j.
         let i = In-filter (is_taken_out scope) x ps j in
         false_from_ne_true (holds_batch setup x) (λ t.
-        not-both _ (In-any (λ slot. is_batch_of setup slot.1 && is_in_scope scope slot.1) x ps i.0
+        not-both _ (In-any (λ pair. is_batch_of setup pair.1 && is_in_scope scope pair.1) x ps i.0
         (ap (λ b. b && is_in_scope scope x.1) t ∙ i.1)) f)) in
         filtered setup (is_left scope) ps ms o
         (omega (arith, sum-split (λ x. cond (holds_batch setup x) 1 0) (is_taken_out scope) ps)) h

@@ -3,11 +3,11 @@ use Rattle.std.proofs.Common.{sym, set, eq-eqb, not, Bool, List, arith, drop, �
 use Rattle.std.proofs.Common.{inr, false, ◌⊎◌, ℕ, ◌+◌, None, ◌==◌, [], ap, ◌∙◌, cond, subst, ◌++◌, true, Some, ◌∷◌, inl}
 use Rattle.std.proofs.lemmas.{List.Sums.{sum_by-cons, sum_by-append, sum_by_push}, Bool.{Decides.{nat_tests}, or_parts}}
 use Rattle.std.{proofs.{lemmas.Bool.{ltb-false}, Math.Path.{fun_ext}}, specs.Prelude.{find, sum_by, position, nat_lt}}
-use Rattle.dsa_regs.specs.Config.{queue_at, total_size, total_reserved, groups_table, limits_of, check_device}
+use Rattle.dsa_regs.specs.Config.{queue_at, total_size, total_reserved, groups_table, limits_of_queue, check_device}
 use Rattle.dsa_regs.specs.declared.{Caps.{Caps}, Phase.TheVariants.{Off, Stopping}, Deed.{Deed, TheVariants.{Disable}}}
 use Rattle.dsa_regs.specs.{declared.Scope.{Scope, TheVariants.{Device}}, Buffers.{fits}}
 use Rattle.dsa_desc.specs.Descriptor.{need}
-use Rattle.dsa_store.specs.Content.{Slot, Content, chain, after_push, without_front}
+use Rattle.dsa_store.specs.Content.{HeldEntry, Content, chain, after_push, without_front}
 use Rattle.dsa_book.{proofs.Phases.{on-not_off}, specs.Work.{progress_list, member_list, members, used_on, has_room}}
 use Rattle.dsa_book.specs.{Work.{in_progress, with_running_entry, with_first_run}, Commands.{after_stop, may_come}}
 use Rattle.dsa_book.specs.State.{Setup, Work, is_member, need_of, held_by, State, opening, is_off}
@@ -20,30 +20,30 @@ use Rattle.dsa_laws.proofs.{Entries.{none-held, configs-kept}, Shapes.{IsEngine,
 
 -- ---- one entry
 
--- what the entry of the slot holds
-weight : Setup → Slot → ℕ
-weight setup slot = held_by setup slot.1
+-- what the entry of the entry holds
+weight : Setup → HeldEntry → ℕ
+weight setup pair = held_by setup pair.1
 
-weight-waiting : (setup : Setup) (slot : Slot) → slot.1.running ≡ false → weight setup slot ≡ 0
+weight-waiting : (setup : Setup) (pair : HeldEntry) → pair.1.running ≡ false → weight setup pair ≡ 0
 unfolding weight
-weight-waiting setup slot h = ap (λ b. cond b (need_of setup slot.1) 0) h
+weight-waiting setup pair h = ap (λ b. cond b (need_of setup pair.1) 0) h
 
 -- it needs as much as it will once it runs
-weight-run : (setup : Setup) (slot : Slot) → weight setup (with_running_entry slot) ≡ need_of setup slot.1
+weight-run : (setup : Setup) (pair : HeldEntry) → weight setup (with_running_entry pair) ≡ need_of setup pair.1
 unfolding weight
-weight-run setup slot = refl
+weight-run setup pair = refl
 
 -- the limits of its queue decide
-weight-same : (setup setup' : Setup) (slot : Slot)
-    → queue_at setup'.configs slot.1.queue ≡ queue_at setup.configs slot.1.queue
-    → weight setup' slot ≡ weight setup slot
+weight-same : (setup setup' : Setup) (pair : HeldEntry)
+    → queue_at setup'.configs pair.1.queue ≡ queue_at setup.configs pair.1.queue
+    → weight setup' pair ≡ weight setup pair
 unfolding weight
-weight-same setup setup' slot h = ap (λ c. cond slot.1.running
-    (need slot.1.desc (limits_of c) (is_member slot.1)) 0) h
+weight-same setup setup' pair h = ap (λ c. cond pair.1.running
+    (need pair.1.desc (limits_of_queue c) (is_member pair.1)) 0) h
 
 -- ---- one list
 
-sum-within : (f f' : Slot → ℕ) (xs : List Slot) → ((x : Slot) → In x xs → f' x ≤ f x) → sum_by f' xs ≤ sum_by f xs
+sum-within : (f f' : HeldEntry → ℕ) (xs : List HeldEntry) → ((x : HeldEntry) → In x xs → f' x ≤ f x) → sum_by f' xs ≤ sum_by f xs
 sum-within f f' [] h = omega arith
 sum-within f f' (x ∷ xs) h =
     omega (arith, sum-within f f' xs (λ y i. h y (inr i)), h x (inl refl), sum_by-cons f x xs, sum_by-cons f' x xs)
@@ -51,11 +51,11 @@ sum-within f f' (x ∷ xs) h =
 -- ---- one engine
 
 -- the sum over its entries in progress and its members
-abbrev sum_on : Caps → (Slot → ℕ) → Content → ℕ → ℕ
+abbrev sum_on : Caps → (HeldEntry → ℕ) → Content → ℕ → ℕ
 sum_on caps f c e = cond (nat_lt e caps.engines)
     (sum_by f (chain c (caps.queues + e)) + sum_by f (chain c (caps.queues + caps.engines + e))) 0
 
-both-lists : (b : Bool) (f : Slot → ℕ) (xs ys : List Slot)
+both-lists : (b : Bool) (f : HeldEntry → ℕ) (xs ys : List HeldEntry)
     → sum_by f (cond b xs []) + sum_by f (cond b ys []) ≡ cond b (sum_by f xs + sum_by f ys) 0
 both-lists true f xs ys = refl
 both-lists false f xs ys = omega arith
@@ -68,7 +68,7 @@ used_on-sum w e =
     (chain w.content (member_list w.setup e))
 
 -- where no list has more, no engine needs more
-sum_on-less : (caps : Caps) (f f' : Slot → ℕ) (c c' : Content) (e : ℕ)
+sum_on-less : (caps : Caps) (f f' : HeldEntry → ℕ) (c c' : Content) (e : ℕ)
     → ((k : ℕ) → sum_by f' (chain c' k) ≤ sum_by f (chain c k)) → sum_on caps f' c' e ≤ sum_on caps f c e
 sum_on-less caps f f' c c' e h =
     let progress = h (caps.queues + e) in
@@ -76,7 +76,7 @@ sum_on-less caps f f' c c' e h =
     grind arith
 
 -- where list p, which is one of engine e's, has n more, no other engine needs more
-sum_on-more : (caps : Caps) (f : Slot → ℕ) (c c' : Content) (e p n : ℕ) → e < caps.engines
+sum_on-more : (caps : Caps) (f : HeldEntry → ℕ) (c c' : Content) (e p n : ℕ) → e < caps.engines
     → (p ≡ caps.queues + e) ⊎ (p ≡ caps.queues + caps.engines + e)
     → ((k : ℕ) → sum_by f (chain c' k) ≤ sum_by f (chain c k) + cond (k == p) n 0) → (j : ℕ)
     → sum_on caps f c' j ≤ sum_on caps f c j + cond (j == e) n 0
@@ -124,34 +124,34 @@ one-more w c' e p n shape setup engine place lists room h on =
 -- ---- lists
 
 -- as they were, or as one is set
-set-light : (f : Slot → ℕ) (c : Content) (p : ℕ) (l : List Slot) → sum_by f l ≤ sum_by f (chain c p)
+set-light : (f : HeldEntry → ℕ) (c : Content) (p : ℕ) (l : List HeldEntry) → sum_by f l ≤ sum_by f (chain c p)
     → (k : ℕ) → sum_by f (chain (set c p l) k) ≤ sum_by f (chain c k)
 set-light f c p l = each-place (λ k l. sum_by f l ≤ sum_by f (chain c k)) [] c p l (λ k. omega arith)
 
 -- one is set that may need n more, where the others need no more
-set-more : (f : Slot → ℕ) (c c' : Content) (p : ℕ) (l : List Slot) (n : ℕ)
+set-more : (f : HeldEntry → ℕ) (c c' : Content) (p : ℕ) (l : List HeldEntry) (n : ℕ)
     → ((k : ℕ) → sum_by f (chain c' k) ≤ sum_by f (chain c k)) → sum_by f l ≤ sum_by f (chain c p) + n
     → (k : ℕ) → sum_by f (chain (set c' p l) k) ≤ sum_by f (chain c k) + cond (k == p) n 0
 set-more f c c' p l n less h = each-place (λ k l. sum_by f l ≤ sum_by f (chain c k) + cond (k == p) n 0) [] c' p l
     (λ k. omega (arith, less k)) (rw (eq-eqb p p refl) h)
 
-front-light : (f : Slot → ℕ) (c : Content) (q k : ℕ) → sum_by f (chain (without_front c q) k) ≤ sum_by f (chain c k)
+front-light : (f : HeldEntry → ℕ) (c : Content) (q k : ℕ) → sum_by f (chain (without_front c q) k) ≤ sum_by f (chain c k)
 front-light f c q = set-light f c q (drop 1 (chain c q)) (rest (chain c q))
   where
-    rest : (xs : List Slot) → sum_by f (drop 1 xs) ≤ sum_by f xs
+    rest : (xs : List HeldEntry) → sum_by f (drop 1 xs) ≤ sum_by f xs
     rest [] = omega arith
     rest (x ∷ xs) = omega (arith, sum_by-cons f x xs)
 
 -- the first that does not run runs
-first_run-within : (f : Slot → ℕ) (xs : List Slot) (slot : Slot) → find (λ x. not x.1.running) xs ≡ Some slot
-    → sum_by f (with_first_run xs) ≤ sum_by f xs + f (with_running_entry slot)
-first_run-within f [] slot h = absurd cc
-first_run-within f (x ∷ xs) slot h = grind (arith, first_run-within f xs slot, sum_by-cons f)
+first_run-within : (f : HeldEntry → ℕ) (xs : List HeldEntry) (pair : HeldEntry) → find (λ x. not x.1.running) xs ≡ Some pair
+    → sum_by f (with_first_run xs) ≤ sum_by f xs + f (with_running_entry pair)
+first_run-within f [] pair h = absurd cc
+first_run-within f (x ∷ xs) pair h = grind (arith, first_run-within f xs pair, sum_by-cons f)
 
 -- ---- what is held, and then the set-up
 
 -- one that needs nothing yet is pushed
-pushed-light : (setup : Setup) (c : Content) (p : ℕ) (x : Slot) → x.1.running ≡ false → (k : ℕ)
+pushed-light : (setup : Setup) (c : Content) (p : ℕ) (x : HeldEntry) → x.1.running ≡ false → (k : ℕ)
     → sum_by (weight setup) (chain (after_push c p x.0 x.1) k) ≤ sum_by (weight setup) (chain c k)
 pushed-light setup c p x z = set-light (weight setup) c p (chain c p ++ x ∷ [])
     (omega (arith, sum_by_push (weight setup) (chain c p) x, weight-waiting setup x z))
@@ -181,13 +181,13 @@ buffers-effect s s' shape setup h c =
     (rw (weight-run s.work.setup c.front) k.room) h)
     (λ c. light _ (pushed-light s.work.setup held (member_list s.work.setup c.engine) _ refl))
     (λ c.
-    let k = waiting-engine shape c.engine c.slot c.is_first in
+    let k = waiting-engine shape c.engine c.pair c.is_first in
     let p = member_list s.work.setup c.engine in
-    let n = f (with_running_entry c.slot) in
+    let n = f (with_running_entry c.pair) in
     one-more s.work _ c.engine p n shape setup k (inr refl)
     (set-more f held held p (with_first_run (members s.work c.engine)) n (λ k. omega arith)
-    (omega (arith, first_run-within f (members s.work c.engine) c.slot c.is_first, ap (sum_by f) k.members)))
-    (rw (weight-run s.work.setup c.slot) c.room) h)
+    (omega (arith, first_run-within f (members s.work c.engine) c.pair c.is_first, ap (sum_by f) k.members)))
+    (rw (weight-run s.work.setup c.pair) c.room) h)
     (λ c. light _ (set-light f held (member_list s.work.setup c.engine) [] (omega arith)))
     (λ c. light _ (λ k. rw (chain-filtered _ held k) (sum-filter-le f _ (chain held k))))
     (λ c. light _ (λ k. rw (chain-filtered _ held k) (sum-filter-le f _ (chain held k))))
@@ -232,7 +232,7 @@ bounded-change s s' w change = by_setting After s s' change
     (configs-kept s.work.setup.caps s s' w change)
   where
     After : Setup → Type 0
-    After = λ setup. ((k : ℕ) (x : Slot) → In x (chain s'.work.content k)
+    After = λ setup. ((k : ℕ) (x : HeldEntry) → In x (chain s'.work.content k)
         → queue_at setup.configs x.1.queue ≡ queue_at s.work.setup.configs x.1.queue)
         → Bounded setup s'.work.content
 

@@ -7,18 +7,19 @@ use Rattle.dsa_laws.specs.Change.{Change, same, is_noted, is_accepted, is_taken,
 use Rattle.dsa_laws.specs.Change.{is_abandoned, is_ended, is_device_enabled, is_queue_enabled, is_waiting, is_over}
 use Rattle.dsa_laws.specs.Change.{is_aborted, is_device_reset, is_queues_reset, is_queue_written, is_group_written}
 use Rattle.dsa_base.proofs.Tables.{not-both, table1, table2, table3}
-use Rattle.dsa_regs.specs.{Command.{number_of, scope_of, deed_of}, Caps.{cell_count}}
+use Rattle.dsa_regs.specs.{Command.{number_of_command, scope_of, deed_of}, Caps.{cell_count}}
 use Rattle.dsa_regs.specs.declared.{Scope.{TheVariants.{Device, Queue}, Scope}, GroupConfig.{GroupConfig}}
 use Rattle.dsa_regs.specs.declared.{QueueConfig.{QueueConfig}, Deed.{Deed, TheVariants.{Enable, Abort, Reset}}}
 use Rattle.dsa_regs.specs.declared.{Fault.{TheVariants.{BadQueue, WrongState, Busy}, Fault}, Command.{Command}}
-use Rattle.dsa_store.specs.{declared.entry.Cell.{Cell}, Content.{Slot, is_free}}
-use Rattle.dsa_book.specs.{Choice.{from_queue, Choice, cell_of, choice_of, may_enter, in_cell}, Commands.{check_of}}
+use Rattle.dsa_store.specs.{declared.entry.Cell.{Cell}, Content.{HeldEntry, is_free}}
+use Rattle.dsa_book.specs.{Choice.{from_queue, Choice, chosen_cell, choice_of, may_enter, in_cell}, Commands.{check_of}}
 use Rattle.dsa_book.specs.Commands.{poll_of, deed_done_of, write_group, wait_of, refusal_or, is_at_end, command_done_of}
 use Rattle.dsa_book.specs.{Commands.{issue, clear_of, is_bad_queues, write_queue, may_come}, State.{Setup, is_ticket}}
 use Rattle.dsa_book.specs.{State.{State, Work, Intake}, Submit.{next_noted, after_refusal, submit, after_accept}}
 use Rattle.dsa_book.specs.Work.{finish_of, is_all_fetched, qualifies, fetch_of, batch_on, first_waiting, dispatch_of}
 use Rattle.dsa_book.specs.Work.{may_leave, front_of, dispatch, start_of, after_fetch, running_on, note_at, fetch_for}
-use Rattle.dsa_book.specs.Machine.{next, with_intake, with_work, intake_of, may_choose, with_setup, reply_of, is_stored}
+use Rattle.dsa_book.specs.Machine.{next, with_intake, with_work, intake_of, may_choose, state_with_setup, reply_of}
+use Rattle.dsa_book.specs.Machine.{is_stored}
 use Rattle.dsa_book.specs.declared.note.{ActiveCommand.{ActiveCommand}, BatchNote.{BatchNote}}
 use Rattle.dsa_book.specs.declared.answer.{SubmitAnswer.{SubmitAnswer}, FetchAnswer.{FetchAnswer}, Ticket.{Ticket}}
 use Rattle.dsa_book.specs.declared.answer.{PollAnswer.{PollAnswer}, IssueAnswer.{TheVariants.{Refused}, IssueAnswer}}
@@ -29,7 +30,8 @@ use Rattle.dsa_book.specs.declared.answer.{NotedError.{NotedError}, StartAnswer.
 use Rattle.dsa_book.specs.declared.event.Kind.{TheVariants.{Movdir64b, Enqcmd}, Kind}
 use Rattle.dsa_book.specs.declared.event.Event.TheVariants.{Fetch, WriteQueue, Submit, Finish, WriteGroup, Poll, Start}
 use Rattle.dsa_book.specs.declared.event.{Event.{TheVariants.{Issue, ClearError, Dispatch}, Event}, Portal.{Portal}}
-use Rattle.dsa_book.{specs.Totals.{ended_by, is_fetched as fetches, is_accepted as accepts}, proofs.Nexts.{next-each}}
+use Rattle.dsa_book.{specs.Totals.{is_fetched as fetches, is_accepted as accepts}, proofs.Nexts.{next-each}}
+use Rattle.dsa_book.proofs.Gains.{ended_by}
 
 -- ---- what a reply tells of the change that its step makes
 
@@ -89,9 +91,9 @@ free_of s choice cell may told = rw (← told) at may
 
 submit-tells : (s : State) (q : ℕ) (portal : Portal) (kind : Kind) (d : Descriptor) (choice : Choice)
     → may_enter s.work.setup s.work.content choice ≡ true
-    → let r = submit (intake_of s) q portal kind d (cell_of choice) in choice_of (Submit r.0) ≡ choice → Submits s r
+    → let r = submit (intake_of s) q portal kind d (chosen_cell choice) in choice_of (Submit r.0) ≡ choice → Submits s r
 submit-tells s q portal kind d choice may =
-    let cell = cell_of choice in
+    let cell = chosen_cell choice in
     table3 (λ r. choice_of (Submit r.0) ≡ choice → Submits s r) _ _ _
     _ _ _ (after_accept (intake_of s) q kind d cell)
     (λ x told. turned_away-tells s q kind _)
@@ -113,7 +115,7 @@ submit-tells s q portal kind d choice may =
 
 -- ---- dispatch
 
-dispatch_of-tells : (s : State) (e q : ℕ) (o : Option Slot) → front_of s.work q ≡ o → qualifies s.work e q ≡ true
+dispatch_of-tells : (s : State) (e q : ℕ) (o : Option HeldEntry) → front_of s.work q ≡ o → qualifies s.work e q ≡ true
     → let r = dispatch_of s.work e q o in Tells s (Dispatch r.0, with_work s r.1)
 dispatch_of-tells s e q None n may = stays refl
 dispatch_of-tells s e q (Some front) n may =
@@ -131,47 +133,47 @@ dispatch-tells s e _ may = stays refl
 abbrev Fetches : State → Choice → FetchAnswer × Work → Type 0
 Fetches s choice r = choice_of (Fetch r.0) ≡ choice → Tells s (Fetch r.0, with_work s r.1)
 
-fetch_of-tells : (s : State) (e : ℕ) (d : Descriptor) (choice : Choice) (note : BatchNote) (o : Option Slot)
+fetch_of-tells : (s : State) (e : ℕ) (d : Descriptor) (choice : Choice) (note : BatchNote) (o : Option HeldEntry)
     → may_enter s.work.setup s.work.content choice ≡ true → note_at s.work e ≡ Some note → batch_on s.work e note ≡ o
-    → Fetches s choice (fetch_of s.work e d (cell_of choice) note o)
+    → Fetches s choice (fetch_of s.work e d (chosen_cell choice) note o)
 fetch_of-tells s e d choice note None may n m = λ told. stays refl
 fetch_of-tells s e d choice note (Some batch) may n m =
-    table1 (Fetches s choice) (is_all_fetched note) _ (after_fetch s.work e d (cell_of choice) note batch.1)
+    table1 (Fetches s choice) (is_all_fetched note) _ (after_fetch s.work e d (chosen_cell choice) note batch.1)
     (λ u told. stays refl)
     (λ u told.
     makes (is_fetched (record {
       engine = e;
       desc = d;
-      cell = cell_of choice;
+      cell = chosen_cell choice;
       note = note;
       batch = batch;
       is_note = n;
       is_batch = m;
       more = u;
-      free = free_of s choice (cell_of choice) may told;
+      free = free_of s choice (chosen_cell choice) may told;
       after = refl;
     })) refl refl)
 
 fetch_for-tells : (s : State) (e : ℕ) (d : Descriptor) (choice : Choice) (o : Option BatchNote)
     → may_enter s.work.setup s.work.content choice ≡ true → note_at s.work e ≡ o
-    → Fetches s choice (fetch_for s.work e d (cell_of choice) o)
+    → Fetches s choice (fetch_for s.work e d (chosen_cell choice) o)
 fetch_for-tells s e d choice None may n = λ told. stays refl
 fetch_for-tells s e d choice (Some note) may n = fetch_of-tells s e d choice note (batch_on s.work e note) may n refl
 
 -- ---- start
 
-start_of-tells : (s : State) (e : ℕ) (o : Option Slot) → first_waiting s.work e ≡ o
+start_of-tells : (s : State) (e : ℕ) (o : Option HeldEntry) → first_waiting s.work e ≡ o
     → let r = start_of s.work e o in Tells s (Start r.0, with_work s r.1)
 start_of-tells s e None n = stays refl
-start_of-tells s e (Some slot) n =
+start_of-tells s e (Some pair) n =
     table3 (λ (r : StartAnswer × Work). Tells s (Start r.0, with_work s r.1)) _ _ _ _ _ _ _
     (λ u. stays refl)
     (λ u. makes (is_abandoned
-    (record { engine = e; slot = slot; is_first = n; failed = u; after = refl })) refl refl)
+    (record { engine = e; pair = pair; is_first = n; failed = u; after = refl })) refl refl)
     (λ u. stays refl)
     (λ u v t. makes (is_started (record {
       engine = e;
-      slot = slot;
+      pair = pair;
       is_first = n;
       first_of_all = u;
       unfailed = v;
@@ -181,18 +183,18 @@ start_of-tells s e (Some slot) n =
 
 -- ---- finish
 
-finish_of-tells : (s : State) (e : ℕ) (t : Ticket) (outcome : Outcome) (o : Option Slot)
+finish_of-tells : (s : State) (e : ℕ) (t : Ticket) (outcome : Outcome) (o : Option HeldEntry)
     → find (is_ticket t) (running_on s.work e) ≡ o
     → let r = finish_of s.work e outcome o in Tells s (Finish r.0, with_work s r.1)
 finish_of-tells s e t outcome None n = stays refl
-finish_of-tells s e t outcome (Some slot) n =
+finish_of-tells s e t outcome (Some pair) n =
     table1 (λ (r : FinishAnswer × Work). Tells s (Finish r.0, with_work s r.1)) _ _ _
     (λ u. stays refl)
     (λ u. makes (is_ended (record {
       engine = e;
       ticket = t;
       outcome = outcome;
-      slot = slot;
+      pair = pair;
       is_found = n;
       ready = u;
       after = refl;
@@ -226,11 +228,11 @@ done-tells s command Enable (Queue queue) may check w =
     (record { queue = queue; on = (and_parts _ _ may).0; check = check; after = refl })) refl refl
 done-tells s command Enable scope may check w = stays refl
 done-tells s command Abort scope may check w =
-    makes (is_aborted (record { number = number_of command; scope = scope; after = refl })) refl refl
+    makes (is_aborted (record { number = number_of_command command; scope = scope; after = refl })) refl refl
 done-tells s command Reset Device may check w =
-    makes (is_device_reset (record { number = number_of command; after = refl })) refl refl
+    makes (is_device_reset (record { number = number_of_command command; after = refl })) refl refl
 done-tells s command Reset scope may check w =
-    makes (is_queues_reset (record { number = number_of command; scope = scope; after = refl })) refl refl
+    makes (is_queues_reset (record { number = number_of_command command; scope = scope; after = refl })) refl refl
 done-tells s command _ scope may check w = w
 
 refused_or-tells : (s : State) (command : Command) (o : Option Fault)
@@ -266,7 +268,7 @@ poll_of-tells s (Some active) =
 
 -- the answer to a write, and the set-up after it
 abbrev Writes : State → WriteAnswer × Setup → Type 0
-Writes s r = Tells s (Write r.0, with_setup s r.1)
+Writes s r = Tells s (Write r.0, state_with_setup s r.1)
 
 write_queue-tells : (s : State) (q : ℕ) (config : QueueConfig) → Writes s (write_queue s.work.setup q config)
 write_queue-tells s q config =
@@ -294,7 +296,7 @@ write_group-tells s g config =
     (record { group = g; config = config; off = not-false _ v; after = refl })) refl refl)
 
 clear_of-tells : (s : State) (o : Option NotedError) → let r = clear_of s.work.setup o in
-    Tells s (Clear r.0, with_setup s r.1)
+    Tells s (Clear r.0, state_with_setup s r.1)
 clear_of-tells s None = stays refl
 clear_of-tells s (Some noted) = makes (is_noted (record { noted = None; after = refl })) refl refl
 

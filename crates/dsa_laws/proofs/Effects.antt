@@ -91,7 +91,7 @@ ByEffect P s s' goal = (IsSetUp s.work s'.work → P [] 0 s'.work)
     (after_fetch s.work c.engine c.desc c.cell c.note c.batch.1).1)
     → ((c : IsStarted s s') → P [] 0 (after_start s.work c.engine))
     → ((c : IsAbandoned s s') → P [] (length (members s.work c.engine)) (after_abandon s.work c.engine))
-    → ((c : IsEnded s s') → P [] 1 (after_end s.work c.engine c.slot c.outcome))
+    → ((c : IsEnded s s') → P [] 1 (after_end s.work c.engine c.pair c.outcome))
     → ((c : IsRemoved s.work) → P [] (count_in_scope c.scope s.work.content) (removed s.work c))
     → goal
 

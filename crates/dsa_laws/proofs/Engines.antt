@@ -7,10 +7,10 @@ use Rattle.std.{proofs.lemmas.List.{get_or-set_other, length-set, get_or-set_sam
 use Rattle.dsa_base.proofs.Lists.{length-none, In-find, get_or-replicated}
 use Rattle.dsa_base.{proofs.{Counts.{In-same, In-counted}, NumberLists.{get_or-each}}, specs.Lists.{In}}
 use Rattle.dsa_desc.specs.{declared.Outcome.{Outcome}, Descriptor.{with_pasid, is_successful, is_lawful_batch}}
-use Rattle.dsa_regs.specs.{declared.Caps.{Caps}, Caps.{list_count}, Config.{limits_of}}
-use Rattle.dsa_store.specs.Content.{Slot, Content, is_cell, chain, place_count, use_count, without_front}
+use Rattle.dsa_regs.specs.{declared.Caps.{Caps}, Caps.{list_count}, Config.{limits_of_queue}}
+use Rattle.dsa_store.specs.Content.{HeldEntry, Content, is_cell, chain, place_count, use_count, without_front}
 use Rattle.dsa_store.proofs.{Places.{filter-absent}, Sums.{uses-counted}}
-use Rattle.dsa_book.specs.State.{Setup, Work, State, opening, is_member, is_batch_of, status_of}
+use Rattle.dsa_book.specs.State.{Setup, Work, State, opening, is_member, is_batch_of, status_of_entry}
 use Rattle.dsa_book.specs.Work.{after_take, after_end, progress_list, member_list, in_progress, members}
 use Rattle.dsa_book.specs.Work.{note_at, with_running_entry, is_unfinished, note_after, with_first_run, opened_note}
 use Rattle.dsa_book.specs.{declared.note.BatchNote.{BatchNote}, Commands.{kept_note, is_among}}
@@ -25,10 +25,10 @@ use Rattle.dsa_laws.specs.{Change.{Change}, Engines.{IsAlike, HasLawfulEngines, 
 -- ---- an engine's lists by their numbers
 
 -- what an engine of the device has in progress, and its members
-abbrev own_progress : Work → ℕ → List Slot
+abbrev own_progress : Work → ℕ → List HeldEntry
 own_progress w e = chain w.content (progress_list w.setup e)
 
-abbrev own_members : Work → ℕ → List Slot
+abbrev own_members : Work → ℕ → List HeldEntry
 own_members w e = chain w.content (member_list w.setup e)
 
 -- what a setup says of an engine whose lists and note are these
@@ -63,14 +63,14 @@ by_engine : (setup : Setup) (c : Content) (ns : List (Option BatchNote)) (k e : 
 by_engine setup c ns k e a b = ⊎_elim (λ q. subst (LawIn setup c ns) (sym q) a) b (cases_eq e k)
 
 -- a list is set that is none of the engine's
-set_other : (setup : Setup) (c : Content) (ns ns' : List (Option BatchNote)) (k : ℕ) (l : List Slot) (e : ℕ)
+set_other : (setup : Setup) (c : Content) (ns ns' : List (Option BatchNote)) (k : ℕ) (l : List HeldEntry) (e : ℕ)
     → progress_list setup e ≢ k → member_list setup e ≢ k → get_or ns' e None ≡ get_or ns e None
     → LawIn setup c ns e → LawIn setup (set c k l) ns' e
 set_other setup c ns ns' k l e p m n h =
     rw (get_or-set_other c k (progress_list setup e) l [] p, get_or-set_other c k (member_list setup e) l [] m, n) h
 
 -- the members of an engine are set, with its note
-members_set : {caps : Caps} (w : Work) (k e : ℕ) (l : List Slot) (ns : List (Option BatchNote)) (o : Option BatchNote)
+members_set : {caps : Caps} (w : Work) (k e : ℕ) (l : List HeldEntry) (ns : List (Option BatchNote)) (o : Option BatchNote)
     → IsEngine caps w e → IsEngine caps w k
     → get_or ns k None ≡ o → (e ≢ k → get_or ns e None ≡ note_at w e)
     → IsLawfulEngine w.setup (own_progress w k) l o → LawAt w.setup w e
@@ -88,7 +88,7 @@ members_set w k e l ns o i j here other new old =
 -- ---- an entry ends
 
 -- the lists in which it does not stand stay
-other-unlinked : (content : Content) (x : Slot) (i j : ℕ) → use_count content x.0 ≤ 1 → In x (chain content j) → i ≢ j
+other-unlinked : (content : Content) (x : HeldEntry) (i j : ℕ) → use_count content x.0 ≤ 1 → In x (chain content j) → i ≢ j
     → filter (λ s. not (is_cell x.0 s)) (chain content i) ≡ chain content i
 unfolding place_count
 other-unlinked content x i j once at apart =
@@ -100,12 +100,12 @@ other-unlinked content x i j once at apart =
     ))
 
 -- an entry that runs on engine k ends
-entry_ended : {caps : Caps} (w : Work) (k e : ℕ) (x : Slot) (outcome : Outcome) → IsEngine caps w k
+entry_ended : {caps : Caps} (w : Work) (k e : ℕ) (x : HeldEntry) (outcome : Outcome) → IsEngine caps w k
     → IsEngine caps w e → use_count w.content x.0 ≤ 1 → StandsOn w k x
     → (is_batch_of w.setup x.1 && is_unfinished w k) ≡ false
     → LawAt w.setup w k → LawAt w.setup w e → LawAt w.setup (after_end w k x outcome) e
 entry_ended w k e x outcome i j once place ready own old =
-    let p : Slot → Bool = λ s. not (is_cell x.0 s) in
+    let p : HeldEntry → Bool = λ s. not (is_cell x.0 s) in
     let b = holds_batch w.setup x in
     let note = note_after w k x outcome in
     let apart = λ (l : ℕ) (n : l ≢ place.list). other-unlinked w.content x l place.list once place.at n in
@@ -119,7 +119,7 @@ entry_ended w k e x outcome i j once place ready own old =
       get_or-set_same w.notes k note None i.noted,
     )
     (with_end w.setup p (own_progress w k) (own_members w k) (note_at w k) b
-    (is_member x.1 && not (is_successful (status_of w.setup x.1 outcome)))
+    (is_member x.1 && not (is_successful (status_of_entry w.setup x.1 outcome)))
     (⊎_elim
     (λ (q : place.list ≡ progress_list w.setup k).
     sum-without (λ s. cond (holds_batch w.setup s) 1 0) (is_cell x.0) x (own_progress w k)
@@ -157,7 +157,7 @@ note-same : (b : Bool) (ns : List (Option BatchNote)) (k : ℕ) (o : Option Batc
 note-same b ns k o i = let is = get_or-set_same ns k o None i in grind arith
 
 -- a front is taken
-front_taken : {caps : Caps} (w : Work) (k e q : ℕ) (x : Slot) → IsEngine caps w e → IsTaker caps w k q x
+front_taken : {caps : Caps} (w : Work) (k e q : ℕ) (x : HeldEntry) → IsEngine caps w e → IsTaker caps w k q x
     → w.setup.caps.queues ≡ caps.queues → LawAt w.setup w k → LawAt w.setup w e
     → LawAt w.setup (after_take w k q x) e
 front_taken w k e q x i j same own old =
@@ -185,12 +185,12 @@ front_taken w k e q x i j same own old =
     (set_other w.setup w.content w.notes w.notes q rest e (omega arith) (omega arith) refl old))
 
 -- the entry in progress that has the name of the batch is like each of the batches there
-alike-batch : (w : Work) (k : ℕ) (n : BatchNote) (x batch : Slot) → NamesOnce w → IsAlike x batch
+alike-batch : (w : Work) (k : ℕ) (n : BatchNote) (x batch : HeldEntry) → NamesOnce w → IsAlike x batch
     → In batch (own_progress w k) → batch.1.name ≡ n.batch
-    → IsLawfulEngine w.setup (own_progress w k) (own_members w k) (Some n) → (b : Slot) → In b (own_progress w k)
+    → IsLawfulEngine w.setup (own_progress w k) (own_members w k) (Some n) → (b : HeldEntry) → In b (own_progress w k)
     → holds_batch w.setup b ≡ true → IsAlike x b
 alike-batch w k n x batch is_among like i is h b j t =
-    let named : Slot → Bool = λ slot. slot.1.name == n.batch in
+    let named : HeldEntry → Bool = λ pair. pair.1.name == n.batch in
     let most : cond (nat_lt n.batch w.setup.next_name) 1 0 ≤ 1 = grind (arith, nat_tests) in
     let one : count_by named (own_progress w k) ≤ 1 = omega (
       arith,
@@ -216,10 +216,10 @@ lists-change caps s s' e w i c =
     (λ c.
     let k = c.engine in
     let engine = noted-engine w.shape k c.note c.is_note in
-    let found = In-find (λ slot. slot.1.name == c.note.batch) c.batch (in_progress s.work k) c.is_batch in
+    let found = In-find (λ pair. pair.1.name == c.note.batch) c.batch (in_progress s.work k) c.is_batch in
     let here : In c.batch (own_progress s.work k) = rw engine.progress at found.0 in
     let more = Some (record c.note { fetched = c.note.fetched + 1 }) in
-    let member : Slot = (
+    let member : HeldEntry = (
       c.cell,
       record {
         name = s.work.setup.next_name;
@@ -241,13 +241,13 @@ lists-change caps s s' e w i c =
     old)
     (λ c.
     let k = c.engine in
-    let engine = waiting-engine w.shape k c.slot c.is_first in
+    let engine = waiting-engine w.shape k c.pair c.is_first in
     members_set s.work k e (with_first_run (members s.work k)) s.work.notes (note_at s.work k) i engine refl (λ n. refl)
     (with_run s.work.setup (own_progress s.work k) (members s.work k) (note_at s.work k)
     (rw engine.progress at (w.engines k))) old)
     (λ c.
     let k = c.engine in
-    let engine = waiting-engine w.shape k c.slot c.is_first in
+    let engine = waiting-engine w.shape k c.pair c.is_first in
     let closed = option_map (λ (note : BatchNote). record note { closed = true })
     (note_at s.work k) in
     members_set s.work k e [] _ closed i engine
@@ -256,9 +256,9 @@ lists-change caps s s' e w i c =
     (lists-of s.work k engine w.engines)) old)
     (λ c.
     let k = c.engine in
-    let place = running-place s.work k c.ticket c.slot c.is_found in
+    let place = running-place s.work k c.ticket c.pair c.is_found in
     let engine = an_engine w.shape k place.there in
-    entry_ended s.work k e c.slot c.outcome engine i (w.cells.once c.slot.0) place
+    entry_ended s.work k e c.pair c.outcome engine i (w.cells.once c.pair.0) place
     (or_parts _ _ c.ready).0 (lists-of s.work k engine w.engines) old)
     (λ c.
     let p = is_left c.scope in
@@ -278,7 +278,7 @@ engines-change caps s s' w c =
     (chain s'.work.content (c.queues + c.engines + e)) (note_at s'.work e)) (w.shape.same_caps ∙ sym after.same_caps)
     (by_setup s.work.setup s'.work.setup (chain s'.work.content (progress_list s.work.setup e))
     (chain s'.work.content (member_list s.work.setup e)) (note_at s'.work e)
-    (λ x i. ap (λ c. is_lawful_batch x.1.desc (limits_of c) (is_member x.1))
+    (λ x i. ap (λ c. is_lawful_batch x.1.desc (limits_of_queue c) (is_member x.1))
     (configs-kept caps s s' w c (progress_list s.work.setup e) x i))
     (lists-change caps s s' e w (numbered-engine w.shape e k.inside) c)))
 

@@ -9,7 +9,7 @@ use Rattle.dsa_regs.specs.{Caps.{list_count}, Config.{queue_at, zero_queue}, Com
 use Rattle.dsa_regs.specs.declared.{Scope.{TheVariants.{Device}, Scope}, Deed.{Deed, TheVariants.{Disable}}}
 use Rattle.dsa_regs.specs.declared.{Phase.{Phase, TheVariants.{Off, On, Stopping}}, Caps.{Caps}}
 use Rattle.dsa_desc.specs.Descriptor.{pasid_of}
-use Rattle.dsa_store.specs.Content.{Slot, Content, chain, all_held, without_front}
+use Rattle.dsa_store.specs.Content.{HeldEntry, Content, chain, all_held, without_front}
 use Rattle.dsa_book.specs.{State.{holds_any}, Commands.{after_stop, with_phases, is_among, is_in_scope, is_awaited}}
 use Rattle.dsa_book.specs.{Submit.{after_accept}, State.{Setup, Work, State, opening, is_off, phase_at}}
 use Rattle.dsa_book.specs.Work.{progress_list, member_list, in_progress, members, with_running_entry, with_first_run}
@@ -22,8 +22,8 @@ use Rattle.dsa_laws.proofs.Contents.{chain-empty, each-without_front, each-pushe
 use Rattle.dsa_laws.proofs.{Contents.{In-chain}, Effects.{stopped-keeps, reset-config, by_setting, by_effect}}
 
 -- what holds of each of a list, and is not changed when an entry begins to run, holds when the first begins to run
-pub first_run-each : (P : Slot → Type 0) → ((x : Slot) → P x → P (with_running_entry x)) → (xs : List Slot)
-    → ((x : Slot) → In x xs → P x) → (x : Slot) → In x (with_first_run xs) → P x
+pub first_run-each : (P : HeldEntry → Type 0) → ((x : HeldEntry) → P x → P (with_running_entry x)) → (xs : List HeldEntry)
+    → ((x : HeldEntry) → In x xs → P x) → (x : HeldEntry) → In x (with_first_run xs) → P x
 first_run-each P r [] a x i = absurd i
 first_run-each P r (y ∷ ys) a x i = go (first_run-each P r ys (λ z j. a z (inr j)) x) y.1.running i
   where
@@ -40,7 +40,7 @@ pasid-again p = omega arith
 
 -- entries leave or stay: what holds of each by its list is to be seen of those that come, and of
 -- those that begin to run
-pub each-effect : (P : ℕ → Slot → Type 0) (s s' : State) → EachAt P s.work.content → Change s s'
+pub each-effect : (P : ℕ → HeldEntry → Type 0) (s s' : State) → EachAt P s.work.content → Change s s'
     → ((c : IsAccepted s s') → EachAt P
     (with_intake s (after_accept (intake_of s) c.queue c.kind c.desc c.cell).1).work.content)
     → ((c : IsTaken s s') → EachAt P (after_take s.work c.engine c.queue c.front).content)
@@ -56,14 +56,14 @@ each-effect P s s' a c accept take fetch start = by_effect (λ w. EachAt P w.con
 
 -- of an entry that its queue is in use, and that its PASID is no longer than a PASID: the same
 -- wherever it stands, and whether it runs or not
-abbrev IsSettled : Setup → Slot → Type 0
+abbrev IsSettled : Setup → HeldEntry → Type 0
 IsSettled setup x = (is_off (phase_at setup x.1.queue) ≡ false) × (pasid_of x.1.desc.pasid ≡ x.1.desc.pasid)
 
 -- each entry after a change is such, by the phases before it
 settled : (caps : Caps) (s s' : State) → IsWellFormed caps s → Change s s'
     → EachAt (λ k. IsSettled s.work.setup) s'.work.content
 settled caps s s' w c =
-    let P : ℕ → Slot → Type 0 = λ k. IsSettled s.work.setup in
+    let P : ℕ → HeldEntry → Type 0 = λ k. IsSettled s.work.setup in
     let old : EachAt P s.work.content = λ k x i. (w.entries.none_off k x i, w.entries.pasids k x i) in
     each-effect P s s' old c
     (λ c. each-pushed P s.work.content c.queue _ old (on-not_off _ c.on, pasid-again _))
@@ -80,7 +80,7 @@ settled caps s s' w c =
 
 -- ---- places
 
-placed-member : (caps : Caps) (w : Work) (e : ℕ) (x : Slot) → HasShape caps w → is_some x.1.parent ≡ true
+placed-member : (caps : Caps) (w : Work) (e : ℕ) (x : HeldEntry) → HasShape caps w → is_some x.1.parent ≡ true
     → IsPlaced caps (member_list w.setup e) x
 placed-member caps w e x h m =
     let a = queues-same h in
@@ -132,9 +132,9 @@ placed-change caps s s' w c =
 -- ---- no entry names a queue that is Off
 
 -- nothing that is held is of what ends
-pub none-slot : (test : Slot → Bool) (content : Content) (k : ℕ) (x : Slot)
+pub none-pair : (test : HeldEntry → Bool) (content : Content) (k : ℕ) (x : HeldEntry)
     → list_any test (all_held content) ≡ false → In x (chain content k) → test x ≡ false
-none-slot test content k x h i = false_from_ne_true (test x)
+none-pair test content k x h i = false_from_ne_true (test x)
     (λ t. not-both (list_any test (all_held content)) (In-any test x (all_held content) (In-chain x content k i) t) h)
 
 -- a queue that is not Off is one of the device's
@@ -155,13 +155,13 @@ kept-phase caps w test p q h out n = rw (get_or-each (λ k. cond (test k) p (pha
 
 over-off : (caps : Caps) (w : Work) (deed : Deed) (scope : Scope) (mark : ℕ) → HasShape caps w
     → not (holds_any (is_awaited deed scope mark) w.content) ≡ true
-    → (k : ℕ) (x : Slot) → In x (chain w.content k) → is_off (phase_at w.setup x.1.queue) ≡ false
+    → (k : ℕ) (x : HeldEntry) → In x (chain w.content k) → is_off (phase_at w.setup x.1.queue) ≡ false
     → is_off (phase_at (after_stop deed scope Off w.setup) x.1.queue) ≡ false
 over-off caps w Disable Device mark h e k x i p =
-    absurd (not-both true refl (none-slot (λ slot. true) w.content k x (not-true _ e) i))
+    absurd (not-both true refl (none-pair (λ pair. true) w.content k x (not-true _ e) i))
 over-off caps w Disable scope mark h e k x i p =
     kept-phase caps w (is_among (queues_in scope)) Off x.1.queue h (inl (unnamed scope x.1
-    (none-slot (λ slot. is_in_scope scope slot.1) w.content k x (not-true _ e) i))) p
+    (none-pair (λ pair. is_in_scope scope pair.1) w.content k x (not-true _ e) i))) p
 over-off caps w _ scope mark h e k x i p = p
 
 waiting-off : (caps : Caps) (w : Work) (deed : Deed) (scope : Scope) → HasShape caps w → (q : ℕ)
@@ -172,7 +172,7 @@ waiting-off caps w Disable scope h q n = kept-phase caps w (is_among (queues_in 
 waiting-off caps w _ scope h q n = n
 
 -- what is held after a change, as its last state is made
-pub In-after : (s t : State) → t ≡ s → (k : ℕ) (x : Slot) → In x (chain s.work.content k)
+pub In-after : (s t : State) → t ≡ s → (k : ℕ) (x : HeldEntry) → In x (chain s.work.content k)
     → In x (chain t.work.content k)
 In-after s t e k x i = subst (λ u. In x (chain u.work.content k)) (sym e) i
 
@@ -199,9 +199,9 @@ queues-kept caps s s' w c k x i =
       in_use = over-off caps s.work c.deed c.scope c.mark h c.over k x (In-after s' _ c.after k x i) p;
       config = rw (stopped-keeps c.deed c.scope Off s.work.setup).configs refl;
     })
-    (λ c. not-both false (In-filtered (λ slot. not true) s.work.content k x (In-after s' _ c.after k x i)).1 refl)
+    (λ c. not-both false (In-filtered (λ pair. not true) s.work.content k x (In-after s' _ c.after k x i)).1 refl)
     (λ c.
-    let old = In-filtered (λ slot. not (is_in_scope c.scope slot.1)) s.work.content k x (In-after s' _ c.after k x i) in
+    let old = In-filtered (λ pair. not (is_in_scope c.scope pair.1)) s.work.content k x (In-after s' _ c.after k x i) in
     let out = unnamed c.scope x.1 (not-true _ old.1) in
     record {
       in_use = kept-phase caps s.work (is_among (queues_in c.scope)) Off x.1.queue h (inl out) p;
@@ -216,7 +216,7 @@ queues-kept caps s s' w c k x i =
     (λ c. record { in_use = p; config = refl })
 
 pub configs-kept : (caps : Caps) (s s' : State) → IsWellFormed caps s → Change s s'
-    → (k : ℕ) (x : Slot) → In x (chain s'.work.content k)
+    → (k : ℕ) (x : HeldEntry) → In x (chain s'.work.content k)
     → queue_at s'.work.setup.configs x.1.queue ≡ queue_at s.work.setup.configs x.1.queue
 configs-kept caps s s' w c k x i = (queues-kept caps s s' w c k x i).config
 
@@ -228,7 +228,7 @@ entries-change caps s s' w c = record {
   pasids = λ k x i. (settled caps s s' w c k x i).1;
 }
 
-pub each-opening : (P : ℕ → Slot → Type 0) (caps : Caps) → EachAt P (opening caps).work.content
+pub each-opening : (P : ℕ → HeldEntry → Type 0) (caps : Caps) → EachAt P (opening caps).work.content
 each-opening P caps k x i = absurd (subst (In x) (chain-empty (list_count caps) k) i)
 
 pub entries-opening : (caps : Caps) → HasLawfulEntries caps (opening caps).work

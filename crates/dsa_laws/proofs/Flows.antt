@@ -7,7 +7,7 @@ use Rattle.dsa_base.proofs.{Counts.{count-cons}, NumberSums.{sum-map}}
 use Rattle.dsa_regs.specs.{declared.Caps.{Caps}, Caps.{cell_count}}
 use Rattle.dsa_store.proofs.Sums.{is_free-unused, sum-set, sum-pushed, held-counted, all_held-filtered}
 use Rattle.dsa_store.{proofs.Sums.{uses-counted, sum-split}, specs.Content.{is_free, use_count, without_front}}
-use Rattle.dsa_store.specs.{Content.{is_cell, after_push, Slot, Content, all_held, chain}, declared.entry.Cell.{Cell}}
+use Rattle.dsa_store.specs.{Content.{is_cell, after_push, HeldEntry, Content, all_held, chain}, declared.entry.Cell.{Cell}}
 use Rattle.dsa_book.specs.{State.{State, Work}, Commands.{is_in_scope}, Work.{member_list}}
 use Rattle.dsa_book.specs.Work.{with_running_entry, with_first_run, progress_list, as_running, members, fate_row}
 use Rattle.dsa_book.specs.declared.fate.{FateRow.{FateRow}, Fate.{TheVariants.{Abandoned}, Fate}}
@@ -40,14 +40,14 @@ names-counted w h name = let a = h.given name in let b = h.not_given name in gri
 -- what every change says of entries: some came, some are gone with a row each, and all others are
 -- held as before (they may have begun to run)
 pub record IsFlow (caps : Caps) (w w' : Work) : Type 0 where
-  pub came : List Slot
-  pub gone : List Slot
-  pub sums : (f : Slot → ℕ) → ((slot : Slot) → f (with_running_entry slot) ≡ f slot)
+  pub came : List HeldEntry
+  pub gone : List HeldEntry
+  pub sums : (f : HeldEntry → ℕ) → ((pair : HeldEntry) → f (with_running_entry pair) ≡ f pair)
       → sum_by f (all_held w'.content) + sum_by f gone ≡ sum_by f (all_held w.content) + sum_by f came
   pub fate : Fate
   pub fates : w'.fates ≡ w.fates ++ map (fate_row fate) gone
   pub next : w'.setup.next_name ≡ w.setup.next_name + length came
-  pub names : (name : ℕ) → count_by (λ slot. slot.1.name == name) came + cond (nat_lt name w.setup.next_name) 1 0
+  pub names : (name : ℕ) → count_by (λ pair. pair.1.name == name) came + cond (nat_lt name w.setup.next_name) 1 0
       ≡ cond (nat_lt name w'.setup.next_name) 1 0
   pub cells : (cell : Cell) → use_count w.content cell
       + count_by (is_cell cell) came ≤ cond (nat_lt cell.0 (cell_count caps)) 1 0
@@ -57,14 +57,14 @@ next_of w = w.setup.next_name
 
 -- ---- words
 
-pub length-rows : (fates : List FateRow) (fate : Fate) (xs : List Slot)
+pub length-rows : (fates : List FateRow) (fate : Fate) (xs : List HeldEntry)
     → length (fates ++ map (fate_row fate) xs) ≡ length fates + length xs
 length-rows fates fate xs = length-append fates (map (fate_row fate) xs)
     ∙ ap (λ n. length fates + n) (length-map xs (fate_row fate))
 
 -- a count of rows, by the entries that the new ones are of
-pub rows-counted : (g : FateRow → Bool) (fates : List FateRow) (fate : Fate) (xs : List Slot)
-    → count_by g (fates ++ map (fate_row fate) xs) ≡ count_by g fates + count_by (λ slot. g (fate_row fate slot)) xs
+pub rows-counted : (g : FateRow → Bool) (fates : List FateRow) (fate : Fate) (xs : List HeldEntry)
+    → count_by g (fates ++ map (fate_row fate) xs) ≡ count_by g fates + count_by (λ pair. g (fate_row fate pair)) xs
 rows-counted g fates fate xs =
     omega (
       arith,
@@ -73,12 +73,12 @@ rows-counted g fates fate xs =
           (λ row. cond (g row) 1 0) (fate_row fate) xs,
     )
 
-pub sum-first_run : (f : Slot → ℕ) → ((slot : Slot) → f (with_running_entry slot) ≡ f slot) → (xs : List Slot)
+pub sum-first_run : (f : HeldEntry → ℕ) → ((pair : HeldEntry) → f (with_running_entry pair) ≡ f pair) → (xs : List HeldEntry)
     → sum_by f (with_first_run xs) ≡ sum_by f xs
 sum-first_run f alike [] = refl
 sum-first_run f alike (x ∷ xs) = grind (arith, sum-first_run f alike xs, alike x, sum_by-cons f)
 
-uses-with_free : (cells : ℕ) (content : Content) (x : Slot) → is_free cells content x.0 ≡ true
+uses-with_free : (cells : ℕ) (content : Content) (x : HeldEntry) → is_free cells content x.0 ≡ true
     → ((cell : Cell) → use_count content cell ≤ cond (nat_lt cell.0 cells) 1 0) → (cell : Cell)
     → use_count content cell + count_by (is_cell cell) (x ∷ []) ≤ cond (nat_lt cell.0 cells) 1 0
 uses-with_free cells content x free once cell =
@@ -91,8 +91,8 @@ uses-with_free cells content x free once cell =
 -- ---- flows
 
 -- nothing comes, and some go, each with a row
-left : (caps : Caps) (w w' : Work) (fate : Fate) (gone : List Slot) → UsesOnce caps w
-    → ((f : Slot → ℕ) → ((slot : Slot) → f (with_running_entry slot) ≡ f slot)
+left : (caps : Caps) (w w' : Work) (fate : Fate) (gone : List HeldEntry) → UsesOnce caps w
+    → ((f : HeldEntry → ℕ) → ((pair : HeldEntry) → f (with_running_entry pair) ≡ f pair)
     → sum_by f (all_held w'.content) + sum_by f gone ≡ sum_by f (all_held w.content))
     → w'.fates ≡ w.fates ++ map (fate_row fate) gone → next_of w' ≡ next_of w → IsFlow caps w w'
 left caps w w' fate gone once sums fates next = record {
@@ -108,15 +108,15 @@ left caps w w' fate gone once sums fates next = record {
 
 -- nothing comes and nothing goes
 still : (caps : Caps) (w w' : Work) → UsesOnce caps w
-    → ((f : Slot → ℕ) → ((slot : Slot) → f (with_running_entry slot) ≡ f slot)
+    → ((f : HeldEntry → ℕ) → ((pair : HeldEntry) → f (with_running_entry pair) ≡ f pair)
     → sum_by f (all_held w'.content) ≡ sum_by f (all_held w.content))
     → w'.fates ≡ w.fates → next_of w' ≡ next_of w → IsFlow caps w w'
 still caps w w' once sums fates = left caps w w' Abandoned [] once (λ f alike. omega (arith, sums f alike))
     (fates ∙ sym (append-nil w.fates))
 
 -- one comes, with the next name and a free cell
-entered : (caps : Caps) (w w' : Work) (x : Slot) → HasShape caps w → UsesOnce caps w
-    → ((f : Slot → ℕ) → sum_by f (all_held w'.content) ≡ sum_by f (all_held w.content) + f x)
+entered : (caps : Caps) (w w' : Work) (x : HeldEntry) → HasShape caps w → UsesOnce caps w
+    → ((f : HeldEntry → ℕ) → sum_by f (all_held w'.content) ≡ sum_by f (all_held w.content) + f x)
     → w'.fates ≡ w.fates → next_of w' ≡ next_of w + 1 → x.1.name ≡ next_of w
     → is_free (cell_count w.setup.caps) w.content x.0 ≡ true → IsFlow caps w w'
 entered caps w w' x shape once sums fates next name free = record {
@@ -126,18 +126,18 @@ entered caps w w' x shape once sums fates next name free = record {
   fate = Abandoned;
   fates = fates ∙ sym (append-nil w.fates);
   next = omega arith;
-  names = λ n. rw next (let c = count-cons (λ slot. slot.1.name == n) x [] _ refl in grind (arith, nat_tests));
+  names = λ n. rw next (let c = count-cons (λ pair. pair.1.name == n) x [] _ refl in grind (arith, nat_tests));
   cells = uses-with_free (cell_count caps) w.content x (rw shape.same_caps at free) once;
 }
 
-sum-front : (f : Slot → ℕ) (l : List Slot) (front : Slot) → slice_get l 0 ≡ Some front
+sum-front : (f : HeldEntry → ℕ) (l : List HeldEntry) (front : HeldEntry) → slice_get l 0 ≡ Some front
     → sum_by f l ≡ f front + sum_by f (drop 1 l)
 sum-front f [] front h = absurd cc
 sum-front f (x ∷ rest) front h = let is : x ≡ front = cc in omega (arith, sum_by-cons f x rest, ap f is)
 
 -- the sum where a front moves and runs
-pub sum-taken : (f : Slot → ℕ) → ((slot : Slot) → f (with_running_entry slot) ≡ f slot)
-    → (content : Content) (q to : ℕ) (front : Slot) → q < length content → to < length content
+pub sum-taken : (f : HeldEntry → ℕ) → ((pair : HeldEntry) → f (with_running_entry pair) ≡ f pair)
+    → (content : Content) (q to : ℕ) (front : HeldEntry) → q < length content → to < length content
     → slice_get (chain content q) 0 ≡ Some front
     → sum_by f (all_held (after_push (without_front content q) to front.0 (as_running front.1)))
     ≡ sum_by f (all_held content)
@@ -165,7 +165,7 @@ flow-change caps s s' h once c =
     sum-pushed f s.work.content (member_list s.work.setup c.engine) _ _
     (noted-engine h c.engine c.note c.is_note).members_inside) refl refl refl c.free)
     (λ c.
-    let k = waiting-engine h c.engine c.slot c.is_first in
+    let k = waiting-engine h c.engine c.pair c.is_first in
     still caps s.work _ use_count (λ f alike.
     omega (
       arith,
@@ -175,7 +175,7 @@ flow-change caps s s' h once c =
       ap (sum_by f) k.members,
     )) refl refl)
     (λ c.
-    let k = waiting-engine h c.engine c.slot c.is_first in
+    let k = waiting-engine h c.engine c.pair c.is_first in
     left caps s.work _ Abandoned (members s.work c.engine) use_count (λ f alike.
     omega (
       arith,
@@ -183,24 +183,24 @@ flow-change caps s s' h once c =
       ap (sum_by f) k.members,
     )) refl refl)
     (λ c.
-    let place = running-place s.work c.engine c.ticket c.slot c.is_found in
-    let one : count_by (is_cell c.slot.0) (all_held s.work.content) ≤ 1 =
-    omega (arith, once.once c.slot.0, uses-counted s.work.content c.slot.0) in
-    left caps s.work _ _ (c.slot ∷ []) use_count (λ f alike.
+    let place = running-place s.work c.engine c.ticket c.pair c.is_found in
+    let one : count_by (is_cell c.pair.0) (all_held s.work.content) ≤ 1 =
+    omega (arith, once.once c.pair.0, uses-counted s.work.content c.pair.0) in
+    left caps s.work _ _ (c.pair ∷ []) use_count (λ f alike.
     omega (
       arith,
-      sum-without f (is_cell c.slot.0) c.slot (all_held s.work.content) one
-          (In-chain c.slot s.work.content place.list place.at) (eq-eqb c.slot.0.0 c.slot.0.0 refl),
-      ap (sum_by f) (all_held-filtered (λ slot. not (is_cell c.slot.0 slot)) s.work.content),
-      sum_by-cons f c.slot [],
+      sum-without f (is_cell c.pair.0) c.pair (all_held s.work.content) one
+          (In-chain c.pair s.work.content place.list place.at) (eq-eqb c.pair.0.0 c.pair.0.0 refl),
+      ap (sum_by f) (all_held-filtered (λ pair. not (is_cell c.pair.0 pair)) s.work.content),
+      sum_by-cons f c.pair [],
     ))
     refl refl)
     (λ c.
-    let test : Slot → Bool = λ slot. is_in_scope c.scope slot.1 in
+    let test : HeldEntry → Bool = λ pair. is_in_scope c.scope pair.1 in
     left caps s.work _ _ (filter test (all_held s.work.content)) use_count (λ f alike.
     omega (
       arith,
-      ap (sum_by f) (all_held-filtered (λ slot. not (test slot)) s.work.content),
+      ap (sum_by f) (all_held-filtered (λ pair. not (test pair)) s.work.content),
       sum-split f test (all_held s.work.content),
     )) refl c.names)
 
@@ -216,9 +216,9 @@ cells-flow caps w w' flow = of-uses caps w' (λ cell.
       uses-counted w'.content cell,
     ))
 
-length-sum : (xs : List Slot) → sum_by (λ slot. 1) xs ≡ length xs
+length-sum : (xs : List HeldEntry) → sum_by (λ pair. 1) xs ≡ length xs
 length-sum [] = refl
-length-sum (x ∷ xs) = omega (arith, length-sum xs, sum_by-cons (λ slot. 1) x xs)
+length-sum (x ∷ xs) = omega (arith, length-sum xs, sum_by-cons (λ pair. 1) x xs)
 
 pub names-flow : (caps : Caps) (w w' : Work) → NamesOnce w → IsFlow caps w w' → NamesOnce w'
 names-flow caps w w' names flow = record {
@@ -227,7 +227,7 @@ names-flow caps w w' names flow = record {
   counted =
       omega (
         arith,
-        flow.sums (λ slot. 1) (λ slot. refl),
+        flow.sums (λ pair. 1) (λ pair. refl),
         length-sum (all_held w.content),
         length-sum
             (all_held w'.content),
@@ -243,7 +243,7 @@ names-flow caps w w' names flow = record {
     counted name =
         omega (
           arith,
-          flow.sums (λ slot. cond (slot.1.name == name) 1 0) (λ slot. refl),
+          flow.sums (λ pair. cond (pair.1.name == name) 1 0) (λ pair. refl),
           ap (count_by (λ row. row.name == name)) flow.fates
               ∙ rows-counted (λ row. row.name == name) w.fates flow.fate flow.gone,
           flow.names name,

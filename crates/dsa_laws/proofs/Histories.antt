@@ -42,7 +42,7 @@ well_formed-opening caps =
       cells = record { once = λ cell. omega (arith, unused cell); inside = λ cell past. unused cell };
       names = record {
         given = λ name below. absurd (omega arith);
-        not_given = λ name past. ap (λ xs. count_by (λ slot. slot.1.name == name) xs + 0) none;
+        not_given = λ name past. ap (λ xs. count_by (λ pair. pair.1.name == name) xs + 0) none;
         counted =
             omega (arith, ap length none, held-counted (replicate (list_count caps) []));
       };

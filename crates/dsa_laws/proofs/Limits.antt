@@ -7,7 +7,7 @@ use Rattle.dsa_base.proofs.{Lists.{none-In}, Counts.{length-filter-le}, Tables.{
 use Rattle.dsa_regs.specs.declared.{Phase.TheVariants.{Off, Stopping}, Caps.{Caps}, QueueConfig.{QueueConfig}}
 use Rattle.dsa_regs.specs.{declared.GroupConfig.{GroupConfig}, Caps.{list_count}, Command.{queues_in}}
 use Rattle.dsa_regs.specs.Config.{queue_at, check_queue, queue_table, zero_queue}
-use Rattle.dsa_store.specs.Content.{Slot, Content, chain, without_front}
+use Rattle.dsa_store.specs.Content.{HeldEntry, Content, chain, without_front}
 use Rattle.dsa_book.{proofs.Phases.{on-not_off}, specs.Work.{progress_list, member_list, in_progress, members, note_at}}
 use Rattle.dsa_book.specs.{Submit.{limit_of}, State.{Work, State, opening, is_off, phase_at}, Commands.{is_among}}
 use Rattle.dsa_book.specs.declared.{event.Portal.{TheVariants.{Limited, Unlimited}, Portal}, note.BatchNote.{BatchNote}}
@@ -23,7 +23,7 @@ size-without_front : (c : Content) (k j : ℕ) → length (chain (without_front 
 size-without_front c k = each-place (λ j l. length l ≤ length (chain c j)) [] c k (drop 1 (chain c k))
     (λ j. omega arith) (omega (arith, length-drop 1 (chain c k)))
 
-pub size-filtered : (p : Slot → Bool) (c : Content) (j : ℕ) → length (chain (map (filter p) c) j) ≤ length (chain c j)
+pub size-filtered : (p : HeldEntry → Bool) (c : Content) (j : ℕ) → length (chain (map (filter p) c) j) ≤ length (chain c j)
 size-filtered p c j = rw chain-filtered (length-filter-le p (chain c j))
 
 -- ---- what a check says
@@ -39,7 +39,7 @@ limit-le caps groups q config Limited h =
 -- ---- limits
 
 -- a list is no longer than its queue's size, or than the slots of an engine, by its number
-pub record IsFit (caps : Caps) (configs : List QueueConfig) (list : ℕ) (slots : List Slot) : Type 0 where
+pub record IsFit (caps : Caps) (configs : List QueueConfig) (list : ℕ) (slots : List HeldEntry) : Type 0 where
   pub queue : list < caps.queues → length slots ≤ (queue_at configs list).size
   pub progress : (e : ℕ) → list ≡ caps.queues + e → e < caps.engines → length slots ≤ caps.slots
 
@@ -97,7 +97,7 @@ lists-effect caps s s' w c = by_effect (λ w. ListsFit caps s.work.setup.configs
       leb-false (limit_of config c.portal) (length (chain s.work.content c.queue)) c.below,
       limit-le s.work.setup.caps s.work.setup.groups c.queue config c.portal
           (w.setup.queue c.queue (on-not_off _ c.on)),
-      length-append {A = Slot},
+      length-append {A = HeldEntry},
     ))
     (λ e is. absurd (omega (arith, on-queue w.shape c.queue c.on))))
     (λ c.
@@ -111,7 +111,7 @@ lists-effect caps s s' w c = by_effect (λ w. ListsFit caps s.work.setup.configs
       arith,
       ap length k.engine.progress,
       there (progress_list s.work.setup c.engine),
-      length-append {A = Slot},
+      length-append {A = HeldEntry},
     )))
     (λ c. members_set c.engine _)
     (λ c. members_set c.engine _)
@@ -122,14 +122,14 @@ lists-effect caps s s' w c = by_effect (λ w. ListsFit caps s.work.setup.configs
     h : Fitting caps s.work
     h = lists-fit caps s.work w.shape w.limits
 
-    set-fit : (content : Content) (k : ℕ) (l : List Slot) → ListsFit caps s.work.setup.configs content
+    set-fit : (content : Content) (k : ℕ) (l : List HeldEntry) → ListsFit caps s.work.setup.configs content
         → (k < caps.queues → length l ≤ (queue_at s.work.setup.configs k).size)
         → ((e : ℕ) → k ≡ caps.queues + e → e < caps.engines → length l ≤ caps.slots)
         → ListsFit caps s.work.setup.configs (set content k l)
     set-fit content k l h queue progress = each-place (IsFit caps s.work.setup.configs) [] content k l h
         (record { queue = queue; progress = progress })
 
-    members_set : (e : ℕ) (l : List Slot)
+    members_set : (e : ℕ) (l : List HeldEntry)
         → ListsFit caps s.work.setup.configs (set s.work.content (member_list s.work.setup e) l)
     members_set e l =
         let a = queues-same w.shape in
@@ -147,7 +147,7 @@ lists_fit-change caps s s' w c =
     (λ c. rw (stopped-keeps c.deed c.scope Off s.work.setup).configs h)
     (λ c k.
     let none = none-In (chain s'.work.content k)
-    (λ x i. not-both false (In-filtered (λ slot. not true) s.work.content k x (In-after s' _ c.after k x i)).1 refl) in
+    (λ x i. not-both false (In-filtered (λ pair. not true) s.work.content k x (In-after s' _ c.after k x i)).1 refl) in
     record { queue = λ i. rw none (omega arith); progress = λ e is i. rw none (omega arith) })
     (λ c.
     let qs = queues_in c.scope in

@@ -7,9 +7,10 @@ use Rattle.dsa_base.proofs.{NumberLists.{get_or-each, get_or-past}, Tables.{no-r
 use Rattle.dsa_desc.specs.declared.{Descriptor.{Descriptor}, QueueLimits.{QueueLimits}}
 use Rattle.dsa_desc.specs.Descriptor.{is_lawful_batch, is_successful}
 use Rattle.dsa_regs.specs.{declared.Caps.{Caps}, Config.{queue_at, queue_table}}
-use Rattle.dsa_store.specs.Content.{Slot, chain}
+use Rattle.dsa_store.specs.Content.{HeldEntry, chain}
 use Rattle.dsa_book.specs.declared.note.BatchNote.{BatchNote}
-use Rattle.dsa_book.specs.State.{Work, State, opening, is_off, is_member, phase_at, limits_at, is_batch_of, status_of}
+use Rattle.dsa_book.specs.State.{Work, State, opening, is_off, is_member, phase_at, limits_at, is_batch_of}
+use Rattle.dsa_book.specs.State.{status_of_entry}
 use Rattle.dsa_book.specs.{Work.{note_at, opened_note, progress_list}, Commands.{kept_note}}
 use Rattle.dsa_laws.specs.{Change.{Change}, WellFormed.{HasShape, HasLawfulSetup, NoteFits, NotesFit, IsWellFormed}}
 use Rattle.dsa_laws.proofs.{Effects.{by_effect}, Contents.{each-place}}
@@ -20,7 +21,7 @@ batch-size : (d : Descriptor) (limits : QueueLimits) (member : Bool) → is_lawf
     → d.size ≤ 2 ^ limits.max_batch_shift
 batch-size d limits member h = grind (arith, nat_tests)
 
-front-size : (caps : Caps) (w : Work) (x : Slot) → HasShape caps w → HasLawfulSetup w.setup
+front-size : (caps : Caps) (w : Work) (x : HeldEntry) → HasShape caps w → HasLawfulSetup w.setup
     → is_off (phase_at w.setup x.1.queue) ≡ false → is_batch_of w.setup x.1 ≡ true
     → x.1.desc.size ≤ 2 ^ caps.max_batch_shift
 front-size caps w x shape setup off b =
@@ -69,8 +70,8 @@ notes-change caps s s' w c =
     (λ c. h)
     (λ c. set c.engine _ (marked caps (λ note. record note { closed = true }) (λ n. refl) (λ n. refl)
     (note_at s.work c.engine) (h c.engine)))
-    (λ c. set c.engine _ (cond_both (is_batch_of s.work.setup c.slot.1) _ _ (NoteFits caps) (λ b. tt)
-    (λ b. cond_both (is_member c.slot.1 && not (is_successful (status_of s.work.setup c.slot.1 c.outcome))) _ _
+    (λ c. set c.engine _ (cond_both (is_batch_of s.work.setup c.pair.1) _ _ (NoteFits caps) (λ b. tt)
+    (λ b. cond_both (is_member c.pair.1 && not (is_successful (status_of_entry s.work.setup c.pair.1 c.outcome))) _ _
     (NoteFits caps) (λ m. marked caps (λ note. record note { failed = true }) (λ n. refl) (λ n. refl)
     (note_at s.work c.engine) (h c.engine)) (λ m. h c.engine))))
     (λ c j.

@@ -3,33 +3,33 @@ use Rattle.std.proofs.Common.{drop, ◌≡◌, ℕ, ◌+◌, ◌≤◌, Bool, tr
 use Rattle.std.proofs.{Common.{sym, ap, ◌∙◌, subst, arith, ⊎_elim, ◌-◌, length}, lemmas.Bool.{cases_lt, cond_both}}
 use Rattle.std.{proofs.Math.ListN.{get_or-eq_default}, specs.Prelude.{filter, nat_lt}}
 use Rattle.dsa_regs.specs.{declared.Caps.{Caps}, Caps.{list_count}}
-use Rattle.dsa_store.specs.Content.{Slot, Content, chain, without_front}
+use Rattle.dsa_store.specs.Content.{HeldEntry, Content, chain, without_front}
 use Rattle.dsa_book.specs.{State.{Work, State, opening}, Work.{progress_list, member_list, members, with_first_run}}
 use Rattle.dsa_laws.specs.{Change.{Change}, WellFormed.{HasShape, MembersInOrder, runs_first, none_runs, IsWellFormed}}
 use Rattle.dsa_laws.proofs.{Effects.{by_effect}, Contents.{each-place, chain-filtered, chain-empty}}
 use Rattle.dsa_laws.proofs.Shapes.{queues-same, engines-same, on-queue, a_taker, waiting-engine, members-at}
 
-none-first : (xs : List Slot) → none_runs xs ≡ true → runs_first xs ≡ true
+none-first : (xs : List HeldEntry) → none_runs xs ≡ true → runs_first xs ≡ true
 none-first [] h = refl
 none-first (x ∷ xs) h = grind arith
 
-none-push : (xs : List Slot) (y : Slot) → y.1.running ≡ false → none_runs xs ≡ true → none_runs (xs ++ y ∷ []) ≡ true
+none-push : (xs : List HeldEntry) (y : HeldEntry) → y.1.running ≡ false → none_runs xs ≡ true → none_runs (xs ++ y ∷ []) ≡ true
 none-push [] y n h = grind arith
 none-push (x ∷ xs) y n h = grind (arith, none-push xs y n)
 
-first-push : (xs : List Slot) (y : Slot) → y.1.running ≡ false → runs_first xs ≡ true → runs_first (xs ++ y ∷ []) ≡ true
+first-push : (xs : List HeldEntry) (y : HeldEntry) → y.1.running ≡ false → runs_first xs ≡ true → runs_first (xs ++ y ∷ []) ≡ true
 first-push [] y n h = grind arith
 first-push (x ∷ xs) y n h = grind (arith, first-push xs y n, none-push xs y n)
 
-none-filter : (p : Slot → Bool) (xs : List Slot) → none_runs xs ≡ true → none_runs (filter p xs) ≡ true
+none-filter : (p : HeldEntry → Bool) (xs : List HeldEntry) → none_runs xs ≡ true → none_runs (filter p xs) ≡ true
 none-filter p [] h = refl
 none-filter p (x ∷ xs) h = grind (arith, none-filter p xs)
 
-first-filter : (p : Slot → Bool) (xs : List Slot) → runs_first xs ≡ true → runs_first (filter p xs) ≡ true
+first-filter : (p : HeldEntry → Bool) (xs : List HeldEntry) → runs_first xs ≡ true → runs_first (filter p xs) ≡ true
 first-filter p [] h = refl
 first-filter p (x ∷ xs) h = grind (arith, first-filter p xs, none-filter p xs, none-first (filter p xs))
 
-first-first_run : (xs : List Slot) → runs_first xs ≡ true → runs_first (with_first_run xs) ≡ true
+first-first_run : (xs : List HeldEntry) → runs_first xs ≡ true → runs_first (with_first_run xs) ≡ true
 first-first_run [] h = refl
 first-first_run (x ∷ xs) h = grind (arith, first-first_run xs, none-first xs)
 
@@ -53,12 +53,12 @@ of-lists_in_order caps w shape h e =
     (λ xs. runs_first xs ≡ true)
     (λ t. h (member_list w.setup e) (omega (arith, queues-same shape, engines-same shape))) (λ f. refl)
 
-filtered-order : (caps : Caps) (p : Slot → Bool) (w : Work) → ListsInOrder caps w.content → (k : ℕ)
+filtered-order : (caps : Caps) (p : HeldEntry → Bool) (w : Work) → ListsInOrder caps w.content → (k : ℕ)
     → caps.queues + caps.engines ≤ k → runs_first (chain (map (filter p) w.content) k) ≡ true
 filtered-order caps p w h k i = ap runs_first (chain-filtered p w.content k)
     ∙ first-filter p (chain w.content k) (h k i)
 
-set-order : (caps : Caps) (c : Content) (k : ℕ) (l : List Slot) → ListsInOrder caps c
+set-order : (caps : Caps) (c : Content) (k : ℕ) (l : List HeldEntry) → ListsInOrder caps c
     → (caps.queues + caps.engines ≤ k → runs_first l ≡ true) → ListsInOrder caps (set c k l)
 set-order caps = each-place (λ k l. caps.queues + caps.engines ≤ k → runs_first l ≡ true) []
 
@@ -79,7 +79,7 @@ order-change caps s s' w c =
     set-order caps s.work.content k _ h (λ i. first-push (chain s.work.content k) _ refl (h k i)))
     (λ c. set-order caps s.work.content _ (with_first_run (members s.work c.engine)) h
     (λ i. first-first_run (members s.work c.engine)
-    (ap runs_first (waiting-engine shape c.engine c.slot c.is_first).members ∙ h
+    (ap runs_first (waiting-engine shape c.engine c.pair c.is_first).members ∙ h
     (member_list s.work.setup c.engine) i)))
     (λ c. set-order caps s.work.content (member_list s.work.setup c.engine) [] h (λ i. refl))
     (λ c. filtered-order caps _ s.work h)

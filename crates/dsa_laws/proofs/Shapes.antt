@@ -7,7 +7,7 @@ use Rattle.dsa_base.proofs.{Lists.{In-find, In-append, In-filter}, NumberLists.{
 use Rattle.dsa_base.specs.{Lists.{In}, Numbers.{numbers_below}, Rows.{passes}}
 use Rattle.dsa_regs.specs.declared.{Phase.{TheVariants.{Off, Stopping}, Phase}, Deed.{Deed, TheVariants.{Disable}}}
 use Rattle.dsa_regs.specs.{declared.{Scope.{TheVariants.{Device}, Scope}, Caps.{Caps}}, Caps.{list_count}}
-use Rattle.dsa_store.specs.Content.{Slot, chain, without_front}
+use Rattle.dsa_store.specs.Content.{HeldEntry, chain, without_front}
 use Rattle.dsa_book.specs.declared.{note.BatchNote.{BatchNote}, answer.Ticket.{Ticket}}
 use Rattle.dsa_book.specs.State.{Setup, Work, State, opening, is_on, phase_at, need_of, is_batch_of, is_ticket}
 use Rattle.dsa_book.specs.Work.{progress_list, member_list, in_progress, members, note_at, first_waiting, has_room}
@@ -121,7 +121,7 @@ note-in_range [] e note h = absurd cc
 note-in_range (n ∷ notes) zero note h = omega arith
 note-in_range (n ∷ notes) (suc e) note h = omega (arith, note-in_range notes e note h)
 
-pub In-cond : (b : Bool) (x : Slot) (l : List Slot) → In x (cond b l []) → (b ≡ true) × In x l
+pub In-cond : (b : Bool) (x : HeldEntry) (l : List HeldEntry) → In x (cond b l []) → (b ≡ true) × In x l
 In-cond true x l i = (refl, i)
 In-cond false x l i = absurd i
 
@@ -136,15 +136,15 @@ pub record IsEngine (caps : Caps) (w : Work) (e : ℕ) : Type 0 where
   pub progress : in_progress w e ≡ chain w.content (progress_list w.setup e)
   pub members : members w e ≡ chain w.content (member_list w.setup e)
 
--- the slot stands in one of the engine's two lists
-pub record StandsOn (w : Work) (e : ℕ) (slot : Slot) : Type 0 where
+-- the entry stands in one of the engine's two lists
+pub record StandsOn (w : Work) (e : ℕ) (pair : HeldEntry) : Type 0 where
   pub list : ℕ
   pub own : (list ≡ progress_list w.setup e) ⊎ (list ≡ member_list w.setup e)
-  pub at : In slot (chain w.content list)
+  pub at : In pair (chain w.content list)
   pub there : nat_lt e w.setup.caps.engines ≡ true
 
 -- an engine that may take the front of a queue
-pub record IsTaker (caps : Caps) (w : Work) (e q : ℕ) (front : Slot) : Type 0 where
+pub record IsTaker (caps : Caps) (w : Work) (e q : ℕ) (front : HeldEntry) : Type 0 where
   pub engine : IsEngine caps w e
   pub queue : q < caps.queues
   pub slots : length (in_progress w e) < caps.slots
@@ -183,8 +183,8 @@ module _ {caps : Caps} {w : Work} (shape : HasShape caps w) where
   noted-engine e note h = numbered-engine e (omega (arith, note-in_range w.notes e note h))
 
   -- by a member that waits there
-  pub waiting-engine : (e : ℕ) (slot : Slot) → first_waiting w e ≡ Some slot → IsEngine caps w e
-  waiting-engine e slot h = an_engine e (In-cond _ slot _ (In-find _ slot (members w e) h).0).0
+  pub waiting-engine : (e : ℕ) (pair : HeldEntry) → first_waiting w e ≡ Some pair → IsEngine caps w e
+  waiting-engine e pair h = an_engine e (In-cond _ pair _ (In-find _ pair (members w e) h).0).0
 
   -- its lists by their numbers
   pub members-at : (e : ℕ) → e < caps.engines → members w e ≡ chain w.content (caps.queues + caps.engines + e)
@@ -194,7 +194,7 @@ module _ {caps : Caps} {w : Work} (shape : HasShape caps w) where
   pub progress-at : (e : ℕ) → e < caps.engines → in_progress w e ≡ chain w.content (caps.queues + e)
   progress-at e i = (numbered-engine e i).progress ∙ ap (λ c. chain w.content (c.queues + e)) shape.same_caps
 
-  pub a_taker : (e q : ℕ) (front : Slot) → qualifies w e q ≡ true → front_of w q ≡ Some front
+  pub a_taker : (e q : ℕ) (front : HeldEntry) → qualifies w e q ≡ true → front_of w q ≡ Some front
       → IsTaker caps w e q front
   a_taker e q front h f =
       let tests = and_parts _ _ (and_parts _ _ h).0 in
@@ -211,10 +211,10 @@ module _ {caps : Caps} {w : Work} (shape : HasShape caps w) where
       }
 
 -- what runs on an engine stands in one of its lists
-pub running-place : (w : Work) (e : ℕ) (ticket : Ticket) (slot : Slot)
-    → find (is_ticket ticket) (running_on w e) ≡ Some slot → StandsOn w e slot
-running-place w e ticket slot h = ⊎_elim
-    (λ i. let p = In-cond _ slot _ i in record { list = _; own = inl refl; at = p.1; there = p.0 })
-    (λ i. let p = In-cond _ slot _ i in record { list = _; own = inr refl; at = p.1; there = p.0 })
-    (In-append slot (in_progress w e) (members w e)
-    (In-filter _ slot (in_progress w e ++ members w e) (In-find _ slot (running_on w e) h).0).0)
+pub running-place : (w : Work) (e : ℕ) (ticket : Ticket) (pair : HeldEntry)
+    → find (is_ticket ticket) (running_on w e) ≡ Some pair → StandsOn w e pair
+running-place w e ticket pair h = ⊎_elim
+    (λ i. let p = In-cond _ pair _ i in record { list = _; own = inl refl; at = p.1; there = p.0 })
+    (λ i. let p = In-cond _ pair _ i in record { list = _; own = inr refl; at = p.1; there = p.0 })
+    (In-append pair (in_progress w e) (members w e)
+    (In-filter _ pair (in_progress w e ++ members w e) (In-find _ pair (running_on w e) h).0).0)

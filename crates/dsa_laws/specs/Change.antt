@@ -5,11 +5,13 @@ use Rattle.dsa_desc.specs.{declared.{Descriptor.{Descriptor}, Outcome.{Outcome}}
 use Rattle.dsa_regs.specs.declared.{Phase.TheVariants.{Off, On, Stopping}, QueueConfig.{QueueConfig}}
 use Rattle.dsa_regs.specs.declared.{GroupConfig.{GroupConfig}, Scope.{Scope, TheVariants.{Device}}, Deed.{Deed}}
 use Rattle.dsa_regs.specs.{Caps.{cell_count}, Config.{queue_at, check_device, check_queue}, Command.{queues_in}}
-use Rattle.dsa_store.specs.{declared.entry.Cell.{Cell}, Content.{Slot, is_free}}
+use Rattle.dsa_store.specs.{declared.entry.Cell.{Cell}, Content.{HeldEntry, is_free}}
 use Rattle.dsa_book.specs.Submit.{limit_of, after_accept, is_movdir64b}
-use Rattle.dsa_book.specs.Work.{after_end, is_front, has_failed, first_waiting, has_room, after_start, after_abandon}
+use Rattle.dsa_book.specs.Work.{after_end, is_front, has_failed_member, first_waiting, has_room, after_start}
+use Rattle.dsa_book.specs.Work.{after_abandon}
 use Rattle.dsa_book.specs.Work.{running_on, must_wait, front_of, qualifies, after_take, note_at, batch_on}
-use Rattle.dsa_book.specs.{Work.{is_all_fetched, after_fetch}, Machine.{with_work, with_intake, with_setup, intake_of}}
+use Rattle.dsa_book.specs.Work.{is_all_fetched, after_fetch}
+use Rattle.dsa_book.specs.Machine.{with_work, with_intake, state_with_setup, intake_of}
 use Rattle.dsa_book.specs.declared.{answer.{NotedError.{NotedError}, Ticket.{Ticket}}, note.BatchNote.{BatchNote}}
 use Rattle.dsa_book.specs.declared.{note.ActiveCommand.{ActiveCommand}, event.{Portal.{Portal}, Kind.{Kind}}}
 use Rattle.dsa_book.specs.State.{is_ticket, Setup, State, is_on, is_off, phase_at, has_queue, occupancy}
@@ -36,7 +38,7 @@ pub record IsAccepted (s s' : State) : Type 0 where
 pub record IsTaken (s s' : State) : Type 0 where
   pub engine : ℕ
   pub queue : ℕ
-  pub front : Slot
+  pub front : HeldEntry
   pub is_front : front_of s.work queue ≡ Some front
   pub qualifies : qualifies s.work engine queue ≡ true
   pub after : with_work s (after_take s.work engine queue front) ≡ s'
@@ -47,7 +49,7 @@ pub record IsFetched (s s' : State) : Type 0 where
   pub desc : Descriptor
   pub cell : Cell
   pub note : BatchNote
-  pub batch : Slot
+  pub batch : HeldEntry
   pub is_note : note_at s.work engine ≡ Some note
   pub is_batch : batch_on s.work engine note ≡ Some batch
   pub more : is_all_fetched note ≡ false
@@ -58,19 +60,19 @@ pub record IsFetched (s s' : State) : Type 0 where
 -- before all others and none has failed (Intel DSA: fence; the read buffers are the profile's)
 pub record IsStarted (s s' : State) : Type 0 where
   pub engine : ℕ
-  pub slot : Slot
-  pub is_first : first_waiting s.work engine ≡ Some slot
-  pub first_of_all : (is_fenced slot.1.desc && not (is_front s.work engine slot)) ≡ false
-  pub unfailed : (is_fenced slot.1.desc && has_failed s.work engine) ≡ false
-  pub room : has_room s.work engine (need_of s.work.setup slot.1) ≡ true
+  pub pair : HeldEntry
+  pub is_first : first_waiting s.work engine ≡ Some pair
+  pub first_of_all : (is_fenced pair.1.desc && not (is_front s.work engine pair)) ≡ false
+  pub unfailed : (is_fenced pair.1.desc && has_failed_member s.work engine) ≡ false
+  pub room : has_room s.work engine (need_of s.work.setup pair.1) ≡ true
   pub after : with_work s (after_start s.work engine) ≡ s'
 
 -- the members behind a fence are abandoned, since one before it failed (Intel DSA: fence)
 pub record IsAbandoned (s s' : State) : Type 0 where
   pub engine : ℕ
-  pub slot : Slot
-  pub is_first : first_waiting s.work engine ≡ Some slot
-  pub failed : (is_fenced slot.1.desc && has_failed s.work engine) ≡ true
+  pub pair : HeldEntry
+  pub is_first : first_waiting s.work engine ≡ Some pair
+  pub failed : (is_fenced pair.1.desc && has_failed_member s.work engine) ≡ true
   pub after : with_work s (after_abandon s.work engine) ≡ s'
 
 -- an entry that runs ends: a batch after its members, a Drain after what it waits for (profile)
@@ -78,10 +80,10 @@ pub record IsEnded (s s' : State) : Type 0 where
   pub engine : ℕ
   pub ticket : Ticket
   pub outcome : Outcome
-  pub slot : Slot
-  pub is_found : find (is_ticket ticket) (running_on s.work engine) ≡ Some slot
-  pub ready : must_wait s.work engine slot.1 ≡ false
-  pub after : with_work s (after_end s.work engine slot outcome) ≡ s'
+  pub pair : HeldEntry
+  pub is_found : find (is_ticket ticket) (running_on s.work engine) ≡ Some pair
+  pub ready : must_wait s.work engine pair.1 ≡ false
+  pub after : with_work s (after_end s.work engine pair outcome) ≡ s'
 
 -- ---- commands and configuration
 
@@ -147,19 +149,19 @@ pub record IsQueueWritten (s s' : State) : Type 0 where
   pub off : is_off (phase_at s.work.setup queue) ≡ true
   pub size : (not (is_off s.work.setup.device) && not (config.size == (queue_at s.work.setup.configs queue).size))
       ≡ false
-  pub after : with_setup s (record s.work.setup { configs = slice_set s.work.setup.configs queue config }) ≡ s'
+  pub after : state_with_setup s (record s.work.setup { configs = slice_set s.work.setup.configs queue config }) ≡ s'
 
 -- a group is configured while the device is Off (profile)
 pub record IsGroupWritten (s s' : State) : Type 0 where
   pub group : ℕ
   pub config : GroupConfig
   pub off : is_off s.work.setup.device ≡ true
-  pub after : with_setup s (record s.work.setup { groups = slice_set s.work.setup.groups group config }) ≡ s'
+  pub after : state_with_setup s (record s.work.setup { groups = slice_set s.work.setup.groups group config }) ≡ s'
 
 -- an error is noted, or read and cleared (profile)
 pub record IsNoted (s s' : State) : Type 0 where
   pub noted : Option NotedError
-  pub after : with_setup s (record s.work.setup { noted = noted }) ≡ s'
+  pub after : state_with_setup s (record s.work.setup { noted = noted }) ≡ s'
 
 -- what a step that may come does: nothing, or one of these (profile)
 pub data Change (s s' : State) : Type 0 where

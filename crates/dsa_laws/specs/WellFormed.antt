@@ -4,7 +4,7 @@ use Rattle.std.specs.Prelude.{length, count_by, Option, Some, None, is_some, ⊤
 use Rattle.dsa_desc.specs.Descriptor.{pasid_of}
 use Rattle.dsa_regs.specs.declared.Caps.{Caps}
 use Rattle.dsa_regs.specs.{Caps.{cell_count, first_members, list_count}, Config.{queue_at, check_device, check_queue}}
-use Rattle.dsa_store.specs.{declared.entry.Cell.{Cell}, Content.{Slot, use_count, held_count, all_held}}
+use Rattle.dsa_store.specs.{declared.entry.Cell.{Cell}, Content.{HeldEntry, use_count, held_count, all_held}}
 use Rattle.dsa_book.specs.{Work.{in_progress, members, note_at}, declared.note.BatchNote.{BatchNote}}
 use Rattle.dsa_book.specs.State.{Setup, Work, State, phase_at, is_on, is_off, occupancy}
 use Rattle.dsa_laws.specs.{Lists.{EachAt}, Buffering.{HasBuffers}, Engines.{HasLawfulEngines}}
@@ -28,7 +28,7 @@ pub record CellsOnce (caps : Caps) (w : Work) : Type 0 where
 
 -- how many held entries have the name (profile)
 abbrev pub held_named : Work → ℕ → ℕ
-held_named w name = count_by (λ slot. slot.1.name == name) (all_held w.content)
+held_named w name = count_by (λ pair. pair.1.name == name) (all_held w.content)
 
 -- how many fate rows have the name (profile)
 abbrev pub fates_named : Work → ℕ → ℕ
@@ -54,23 +54,23 @@ pub record HasLawfulSetup (setup : Setup) : Type 0 where
 -- ---- the entries
 
 -- what the list of an entry says of it (profile)
-pub record IsPlaced (caps : Caps) (list : ℕ) (slot : Slot) : Type 0 where
+pub record IsPlaced (caps : Caps) (list : ℕ) (pair : HeldEntry) : Type 0 where
   -- in a queue, it names that queue and does not run
-  pub queue : list < caps.queues → slot.1.queue ≡ list
-  pub waiting : list < caps.queues → slot.1.running ≡ false
+  pub queue : list < caps.queues → pair.1.queue ≡ list
+  pub waiting : list < caps.queues → pair.1.running ≡ false
   -- in progress on an engine, it runs
-  pub running : caps.queues ≤ list → list < first_members caps → slot.1.running ≡ true
+  pub running : caps.queues ≤ list → list < first_members caps → pair.1.running ≡ true
   -- in both it has no parent, and in an engine's list of members it has one
-  pub submitted : list < first_members caps → slot.1.parent ≡ None
-  pub member : first_members caps ≤ list → is_some slot.1.parent ≡ true
+  pub submitted : list < first_members caps → pair.1.parent ≡ None
+  pub member : first_members caps ≤ list → is_some pair.1.parent ≡ true
 
 -- no entry names a queue that is Off (profile)
 abbrev pub NoneOff : Work → Type 0
-NoneOff w = EachAt (λ list slot. is_off (phase_at w.setup slot.1.queue) ≡ false) w.content
+NoneOff w = EachAt (λ list pair. is_off (phase_at w.setup pair.1.queue) ≡ false) w.content
 
 -- the PASID of an entry is no longer than a PASID (Intel DSA: descriptor format)
 abbrev pub PasidsFit : Work → Type 0
-PasidsFit w = EachAt (λ list slot. pasid_of slot.1.desc.pasid ≡ slot.1.desc.pasid) w.content
+PasidsFit w = EachAt (λ list pair. pasid_of pair.1.desc.pasid ≡ pair.1.desc.pasid) w.content
 
 -- what every entry is (profile)
 pub record HasLawfulEntries (caps : Caps) (w : Work) : Type 0 where
@@ -90,14 +90,14 @@ pub record IsWithinLimits (caps : Caps) (w : Work) : Type 0 where
 -- ---- the batches
 
 -- none of these runs
-abbrev pub none_runs : List Slot → Bool
+abbrev pub none_runs : List HeldEntry → Bool
 none_runs [] = true
-none_runs (slot ∷ rest) = not slot.1.running && none_runs rest
+none_runs (pair ∷ rest) = not pair.1.running && none_runs rest
 
 -- those that run stand before all others
-abbrev pub runs_first : List Slot → Bool
+abbrev pub runs_first : List HeldEntry → Bool
 runs_first [] = true
-runs_first (slot ∷ rest) = cond slot.1.running (runs_first rest) (none_runs rest)
+runs_first (pair ∷ rest) = cond pair.1.running (runs_first rest) (none_runs rest)
 
 -- members start in their order: those that run stand first (profile)
 abbrev pub MembersInOrder : Work → Type 0
@@ -128,7 +128,7 @@ pub record IsWellFormed (caps : Caps) (s : State) : Type 0 where
   -- the device and its queues; each entry by its list
   pub setup : HasLawfulSetup s.work.setup
   pub entries : HasLawfulEntries caps s.work
-  -- occupancy, slots, members, and read buffers
+  -- occupancy, entries, members, and read buffers
   pub limits : IsWithinLimits caps s.work
   pub buffers : HasBuffers caps s.work
   -- the batch of each engine, its note, and its members in their order

@@ -1,6 +1,7 @@
-//! The laws, each on a function with nothing to do. A history is a list of steps from the opening of a device with these capabilities.
+//! The laws, each on a function with nothing to do. A history is a list of steps from the opening
+//! of a device with these capabilities.
 
-ghost use Rattle.std.specs.Prelude.{◌≡◌, ℕ, ◌+◌, ◌<◌, ◌≤◌, List, Some, false};
+ghost use Rattle.std.specs.Prelude.{◌≡◌, ℕ, ◌+◌, ◌<◌, ◌≤◌, List, false};
 ghost use Rattle.dsa_regs.specs.declared.Caps.{Caps};
 ghost use Rattle.dsa_regs.specs.declared.Phase.TheVariants.{Off};
 ghost use Rattle.dsa_store.specs.Content.{held_count};
@@ -8,7 +9,7 @@ ghost use Rattle.dsa_book.specs.declared.event.Event.{Event};
 ghost use Rattle.dsa_book.specs.declared.event.Step.{Step};
 ghost use Rattle.dsa_book.specs.declared.answer.Reply.{Reply};
 ghost use Rattle.dsa_book.specs.State.{State};
-ghost use Rattle.dsa_book.specs.Machine.{next, is_stored, replay};
+ghost use Rattle.dsa_book.specs.Machine.{is_stored, LeadsTo, Reaches};
 ghost use Rattle.dsa_laws.specs.Change.{Change};
 ghost use Rattle.dsa_laws.specs.WellFormed.{IsWellFormed, IsWithinLimits, held_named, fates_named};
 ghost use Rattle.dsa_laws.specs.Engines.{HasLawfulEngines};
@@ -16,36 +17,58 @@ ghost use Rattle.dsa_laws.specs.Buffering.{HasBuffers};
 
 /// Every step that may come is one of the changes, with the facts that it tested.
 pub fn steps_are_changes()
-    ensures { (s s' : State) (event : Event) (reply : Reply) → next s event reply ≡ Some s' → Change s s' }
+    ensures { (s s' : State) (event : Event) (reply : Reply)
+        → LeadsTo s event reply s'
+        → Change s s' }
 {}
 
 /// A step whose reply is not stored changes nothing.
 pub fn unstored_steps_change_nothing()
-    ensures { (s s' : State) (event : Event) (reply : Reply) → next s event reply ≡ Some s' → is_stored reply ≡ false → s' ≡ s }
+    ensures { (s s' : State) (event : Event) (reply : Reply)
+        → LeadsTo s event reply s'
+        → is_stored reply ≡ false
+        → s' ≡ s }
 {}
 
 /// Every state that a history leads to is well formed.
 pub fn histories_are_well_formed()
-    ensures { (caps : Caps) (history : List Step) (s : State) → replay caps history ≡ Some s → IsWellFormed caps s }
+    ensures { (caps : Caps) (history : List Step) (s : State)
+        → Reaches caps history s
+        → IsWellFormed caps s }
 {}
 
 /// Each name below the next one is one held entry's or one fate row's, and no other name is given.
 pub fn each_name_is_held_or_has_a_fate()
-    ensures given { (caps : Caps) (history : List Step) (s : State) (name : ℕ) → replay caps history ≡ Some s → name < s.work.setup.next_name → held_named s.work name + fates_named s.work name ≡ 1 }
-    ensures not_given { (caps : Caps) (history : List Step) (s : State) (name : ℕ) → replay caps history ≡ Some s → s.work.setup.next_name ≤ name → held_named s.work name + fates_named s.work name ≡ 0 }
+    ensures given { (caps : Caps) (history : List Step) (s : State) (name : ℕ)
+        → Reaches caps history s
+        → name < s.work.setup.next_name
+        → held_named s.work name + fates_named s.work name ≡ 1 }
+    ensures not_given { (caps : Caps) (history : List Step) (s : State) (name : ℕ)
+        → Reaches caps history s
+        → s.work.setup.next_name ≤ name
+        → held_named s.work name + fates_named s.work name ≡ 0 }
 {}
 
-/// No queue holds more than its size, and no engine has more in progress than slots or more members than a batch may have.
+/// No queue holds more than its size, and no engine has more in progress than slots or more members
+/// than a batch may have.
 pub fn limits_are_kept()
-    ensures { (caps : Caps) (history : List Step) (s : State) → replay caps history ≡ Some s → IsWithinLimits caps s.work }
+    ensures { (caps : Caps) (history : List Step) (s : State)
+        → Reaches caps history s
+        → IsWithinLimits caps s.work }
 {}
 
-/// No group uses more read buffers than it may, and what each group has reserved is at hand, unless the device is Off.
+/// No group uses more read buffers than it may, and what each group has reserved is at hand, unless
+/// the device is Off.
 pub fn read_buffers_are_covered()
-    ensures { (caps : Caps) (history : List Step) (s : State) → replay caps history ≡ Some s → HasBuffers caps s.work }
+    ensures { (caps : Caps) (history : List Step) (s : State)
+        → Reaches caps history s
+        → HasBuffers caps s.work }
 {}
 
-/// An engine has a note exactly where one batch is in progress there, which the note is of, and its members are of that batch.
+/// An engine has a note exactly where one batch is in progress there, which the note is of, and its
+/// members are of that batch.
 pub fn engines_work_on_one_batch()
-    ensures { (caps : Caps) (history : List Step) (s : State) → replay caps history ≡ Some s → HasLawfulEngines s.work }
+    ensures { (caps : Caps) (history : List Step) (s : State)
+        → Reaches caps history s
+        → HasLawfulEngines s.work }
 {}

@@ -1,6 +1,6 @@
-//! Reads a scenario document from standard input, and writes its lines to standard output: what `dsa_run` does without
-//! words, over a store of vectors in place of linked cells. It needs neither the words nor the other texts, so that the
-//! toolchain's quick way begins sooner.
+//! Reads a scenario document from standard input, and writes its lines to standard output: what
+//! `dsa_run` does without words, over a store of vectors in place of linked cells. It needs neither
+//! the words nor the other texts, so that the toolchain's quick way begins sooner.
 #![tactic(auto)]
 
 ghost use Rattle.std.specs.Prelude.{◌≡◌, None};

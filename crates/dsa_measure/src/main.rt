@@ -1,14 +1,17 @@
 //! Steps of a device, for measuring.
 //!
-//! `dsa_measure unshared ROUNDS` makes rounds of submit, dispatch and finish on one thread by calls of a device,
-//! `shared ROUNDS` through seats of a shared one, and `settled ROUNDS` settles in the end. It prints how many entries ended.
+//! `dsa_measure unshared ROUNDS` makes rounds of submit, dispatch and finish on one thread by calls
+//! of a device, `shared ROUNDS` through seats of a shared one, and `settled ROUNDS` settles in the
+//! end. It prints how many entries ended.
 //!
-//! The other modes make steps of a device that holds many entries while a command waits for one that stands behind them:
-//! `dsa_measure drain HELD COUNT` polls an active drain so often, `disable HELD COUNT` an active disable, and
-//! `waiting HELD COUNT` submits, dispatches and finishes other entries while the drain is active. It prints whether the
-//! command still waits, and how many entries ended.
+//! The other modes make steps of a device that holds many entries while a command waits for one
+//! that stands behind them: `dsa_measure drain HELD COUNT` polls an active drain so often, `disable
+//! HELD COUNT` an active disable, and `waiting HELD COUNT` submits, dispatches and finishes other
+//! entries while the drain is active. It prints whether the command still waits, and how many
+//! entries ended.
 //!
-//! With no words it makes a small run of each mode, and prints a line for each: the mode's name and what it came to.
+//! With no words it makes a small run of each mode, and prints a line for each: the mode's name and
+//! what it came to.
 #![tactic(auto)]
 
 mod rounds;

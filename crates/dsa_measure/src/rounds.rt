@@ -1,4 +1,5 @@
-//! Rounds of submit, dispatch and finish on one thread: by calls of a device, or through seats of a shared one.
+//! Rounds of submit, dispatch and finish on one thread: by calls of a device, or through seats of a
+//! shared one.
 
 ghost use Rattle.std.specs.Prelude.{◌≡◌, ◌≤◌, IfOk};
 

@@ -60,7 +60,8 @@ const SECOND_GROUP: GroupConfig = GroupConfig {
 
 const SECOND_QUEUE: QueueMask = QueueMask { group: 0, mask: 2 };
 
-// The device is On, its first queue holds so many entries, and one of its second queue is in progress.
+// The device is On, its first queue holds so many entries, and one of its second queue is in
+// progress.
 fn fill<S: EntryStore>(device: &mut Device<S>, held: u32) {
     let _ = device.write_queue(0, LONG_QUEUE);
     let _ = device.write_queue(1, SHORT_QUEUE);

@@ -8,7 +8,7 @@ use Rattle.std.specs.List.{sum_by}
 use Rattle.dsa_base.specs.{Numbers.{numbers_below}, Lists.{In}}
 use Rattle.dsa_base.proofs.NumberLists.{length-each, get_or-each, given-back, raised-table, same-table, zero-table}
 use Rattle.dsa_store.specs.declared.entry.{Cell.{Cell}, Entry.{Entry}}
-use Rattle.dsa_store.specs.Content.{Slot, Content, StandsAt, chain, all_held, count_where, use_count, held_count}
+use Rattle.dsa_store.specs.Content.{HeldEntry, Content, StandsAt, chain, all_held, count_where, use_count, held_count}
 use Rattle.dsa_store.specs.Content.{after_push, after_set, after_unlink, without_front}
 use Rattle.dsa_store.proofs.Sums.{held-counted, sum-set, sum-pushed, sum-without_front, sum-unlinked, sum-replaced}
 use Rattle.dsa_book.specs.State.{Setup, has_queue}
@@ -74,7 +74,7 @@ module _ (setup : Setup) (less more : Content) (q : ℕ) (there : has_queue setu
       → get_or held q 0 < held_count more
   entered-room held c =
       let here = one (λ n. n == q) in
-      let few = count_by-le-length (λ slot. slot.1.queue == q) (all_held more) in
+      let few = count_by-le-length (λ pair. pair.1.queue == q) (all_held more) in
       omega (
         arith,
         ap (λ l. get_or l q 0) c.counts,
@@ -100,7 +100,7 @@ pub counted-pushed : (k : Kept) (content now : Content) (list : ℕ) (cell : Cel
     × IsCounted (record k { held = set k.held e.queue (get_or k.held e.queue 0 + 1) }) now
 counted-pushed k content now list cell e is h there c =
     let one : (test : ℕ → Bool) → naming test now ≡ naming test content + cond (test e.queue) 1 0 =
-    λ test. ap (naming test) is ∙ sum-pushed (λ slot. cond (test slot.1.queue) 1 0) content list cell e h in (
+    λ test. ap (naming test) is ∙ sum-pushed (λ pair. cond (test pair.1.queue) 1 0) content list cell e h in (
       entered-room k.setup content now e.queue there one k.held c,
       counted-entered k.setup content now e.queue there one k.held c,
     )
@@ -129,23 +129,23 @@ pub unlinked-leaves : (k : Kept) (content : Content) (i p : ℕ) (cell : Cell) (
     → i < length content → StandsAt content i p cell e → IsCounted k content
     → Leaves k (after_unlink content cell) e.queue
 unlinked-leaves k content i p cell e once h at = leaves k (after_unlink content cell) content e.queue
-    (λ test. sym (sum-unlinked (λ slot. cond (test slot.1.queue) 1 0) content i p cell e once h at))
+    (λ test. sym (sum-unlinked (λ pair. cond (test pair.1.queue) 1 0) content i p cell e once h at))
 
 -- the first of what is left of a list
-pub first-leaves : (k : Kept) (content : Content) (i : ℕ) (s : Slot) (rest : List Slot) → i < length content
+pub first-leaves : (k : Kept) (content : Content) (i : ℕ) (s : HeldEntry) (rest : List HeldEntry) → i < length content
     → IsCounted k (set content i (s ∷ rest)) → Leaves k (set content i rest) s.1.queue
 first-leaves k content i s rest h = leaves k (set content i rest) (set content i (s ∷ rest)) s.1.queue (λ test.
-    let f : Slot → ℕ = λ slot. cond (test slot.1.queue) 1 0 in
+    let f : HeldEntry → ℕ = λ pair. cond (test pair.1.queue) 1 0 in
     omega (arith, sum-set f content i (s ∷ rest) h, sum-set f content i rest h, sum_by-cons f s rest))
 
 -- ---- an entry that stays
 
 -- a front that is taken goes to another list, and runs there
-pub counted-moved : (k : Kept) (content : Content) (from to : ℕ) (front : Slot) (e : Entry) → from < length content
+pub counted-moved : (k : Kept) (content : Content) (from to : ℕ) (front : HeldEntry) (e : Entry) → from < length content
     → to < length content → slice_get (chain content from) 0 ≡ Some front → e.queue ≡ front.1.queue
     → IsCounted k content → IsCounted k (after_push (without_front content from) to front.0 e)
 counted-moved k content from to front e hf ht is same = counted-same k content _ (λ test.
-    let f : Slot → ℕ = λ slot. cond (test slot.1.queue) 1 0 in
+    let f : HeldEntry → ℕ = λ pair. cond (test pair.1.queue) 1 0 in
     let within : to < length (without_front content from) =
     rw (length-set content from (drop 1 (chain content from))) ht in
     omega (
@@ -156,7 +156,7 @@ counted-moved k content from to front e hf ht is same = counted-same k content _
       ap (λ n. cond {A = ℕ} (test n) 1 0) same,
     ))
   where
-    front-first : (l : List Slot) (s : Slot) → slice_get l 0 ≡ Some s → l ≡ s ∷ drop 1 l
+    front-first : (l : List HeldEntry) (s : HeldEntry) → slice_get l 0 ≡ Some s → l ≡ s ∷ drop 1 l
     front-first [] s h = absurd cc
     front-first (x ∷ l) s h = let one : x ≡ s = cc in ap (λ y. y ∷ l) one
 
@@ -166,20 +166,20 @@ pub counted-replaced : (k : Kept) (content : Content) (i p : ℕ) (cell : Cell) 
     → i < length content → StandsAt content i p cell e → new.queue ≡ e.queue → IsCounted k content
     → IsCounted k (after_set content cell new)
 counted-replaced k content i p cell e new once h at same = counted-same k content _ (λ test.
-    sum-replaced (λ slot. cond (test slot.1.queue) 1 0) content i p cell e new once h at
+    sum-replaced (λ pair. cond (test pair.1.queue) 1 0) content i p cell e new once h at
     (ap (λ n. cond {A = ℕ} (test n) 1 0) same))
 
 -- one of a list counts in its sum
-In-sum : (f : Slot → ℕ) (s : Slot) (l : List Slot) → In s l → f s ≤ sum_by f l
+In-sum : (f : HeldEntry → ℕ) (s : HeldEntry) (l : List HeldEntry) → In s l → f s ≤ sum_by f l
 In-sum f s [] at = absurd at
 In-sum f s (x ∷ l) (inl is) = omega (arith, sum_by-cons f x l, ap f is)
 In-sum f s (x ∷ l) (inr at) = omega (arith, sum_by-cons f x l, In-sum f s l at)
 
 -- what stands in a list names a queue of the device
-pub named-in : (k : Kept) (content : Content) (i : ℕ) (s : Slot) → i < length content → In s (chain content i)
+pub named-in : (k : Kept) (content : Content) (i : ℕ) (s : HeldEntry) → i < length content → In s (chain content i)
     → IsCounted k content → has_queue k.setup s.1.queue ≡ true
 named-in k content i s h at c =
-    let f : Slot → ℕ = λ slot. cond (not (has_queue k.setup slot.1.queue)) 1 0 in
+    let f : HeldEntry → ℕ = λ pair. cond (not (has_queue k.setup pair.1.queue)) 1 0 in
     let most = In-sum f s (chain content i) at in
     let all = sum-set f content i [] h in
     grind (arith, most, all, c.named)

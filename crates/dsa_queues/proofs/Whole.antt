@@ -4,11 +4,11 @@ use Rattle.dsa_base.proofs.NumberLists.{length-each}
 use Rattle.dsa_regs.specs.declared.{Phase.{Phase, TheVariants.{Off}}, Scope.{Scope, TheVariants.{Device}}}
 use Rattle.dsa_regs.specs.{Command.{queues_in}, Config.{queue_at, zero_group, zero_queue}}
 use Rattle.dsa_book.specs.{State.{Setup, phase_at}, Commands.{is_among, reset, size_alone, with_phases}}
-use Rattle.dsa_queues.specs.Queues.{IsWhole}
+use Rattle.dsa_queues.specs.Queues.{IsWholeSetup}
 
 -- phases that some queues come to
-pub whole-phases : (test : ℕ → Bool) (phase : Phase) (setup : Setup) → IsWhole setup
-    → IsWhole (with_phases test phase setup)
+pub whole-phases : (test : ℕ → Bool) (phase : Phase) (setup : Setup) → IsWholeSetup setup
+    → IsWholeSetup (with_phases test phase setup)
 whole-phases test phase setup w = record {
   lawful = w.lawful;
   configs = w.configs;
@@ -17,7 +17,7 @@ whole-phases test phase setup w = record {
 }
 
 -- a reset
-pub whole-reset : (scope : Scope) (setup : Setup) → IsWhole setup → IsWhole (reset scope setup)
+pub whole-reset : (scope : Scope) (setup : Setup) → IsWholeSetup setup → IsWholeSetup (reset scope setup)
 whole-reset Device setup w = record {
   lawful = w.lawful;
   configs = length-replicate setup.caps.queues zero_queue;

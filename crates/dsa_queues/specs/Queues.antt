@@ -21,7 +21,7 @@ is_accepting i queue portal kind = is_none (first_row (submit_table i queue port
 
 -- what holds of the queues at all times: lawful capabilities, a configuration and a phase for each
 -- queue, a configuration for each group (profile)
-pub record IsWhole (setup : Setup) : Type 0 where
+pub record IsWholeSetup (setup : Setup) : Type 0 where
   pub lawful : check_caps setup.caps ≡ true
   pub configs : length setup.configs ≡ setup.caps.queues
   pub phases : length setup.phases ≡ setup.caps.queues
@@ -34,7 +34,7 @@ pub record IsStoreFor (caps : Caps) (count : ℕ) (content : Content) : Type 0 w
 
 -- the set-up is whole, and there is a number for each queue (profile)
 pub record IsKept (kept : Kept) : Type 0 where
-  pub whole : IsWhole kept.setup
+  pub whole : IsWholeSetup kept.setup
   pub numbers : length kept.held ≡ kept.setup.caps.queues
 
 -- how many entries in all lists name the queue (profile)

@@ -11,7 +11,9 @@ use dsa_regs::{Phase, QueueConfig, Scope};
 impl Queues {
     /// Gives the named queues this phase. A number that no queue has names nothing.
     pub fn set_phases(&mut self, named: &Scope, phase: Phase)
-        ensures { self.new ≡ record self.old { setup = with_phases (is_among (queues_in named.now)) phase self.old.setup } }
+        ensures { self.new
+            ≡ record self.old
+            { setup = with_phases (is_among (queues_in named.now)) phase self.old.setup } }
     {
         for queue in 0..self.caps().queues {
             if named.contains(queue) {
@@ -22,7 +24,11 @@ impl Queues {
 
     /// Gives the queues that are not `Off` this phase.
     pub fn set_live_phases(&mut self, phase: Phase)
-        ensures { self.new ≡ record self.old { setup = with_phases (λ q. not (is_off (phase_at self.old.setup q))) phase self.old.setup } }
+        ensures { self.new
+            ≡ record self.old {
+              setup = with_phases (λ q. not (is_off (phase_at self.old.setup q)))
+                  phase self.old.setup;
+            } }
     {
         for queue in 0..self.caps().queues {
             if self.phase(queue) != Phase::Off {
@@ -33,7 +39,8 @@ impl Queues {
 
     /// Makes the configurations of the named queues zero but for their sizes.
     pub fn keep_sizes(&mut self, named: &Scope)
-        ensures { self.new ≡ record self.old { setup = with_sizes_alone (queues_in named.now) self.old.setup } }
+        ensures { self.new
+            ≡ record self.old { setup = with_sizes_alone (queues_in named.now) self.old.setup } }
     {
         for queue in 0..self.caps().queues {
             if named.contains(queue) {

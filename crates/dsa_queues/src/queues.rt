@@ -6,10 +6,10 @@ ghost use Rattle.dsa_store.specs.Content.{Content, held_count};
 ghost use Rattle.dsa_regs.specs.declared.Scope.TheVariants.{Device};
 ghost use Rattle.dsa_base.specs.Numbers.{has};
 ghost use Rattle.dsa_regs.specs.Config.{queue_at, group_at};
-ghost use Rattle.dsa_book.specs.State.{opening_setup, phase_at, is_off, has_queue, limits_at, need_of, held_by, status_of, is_batch_of, is_drain_of};
+ghost use Rattle.dsa_book.specs.State.{opening_setup, phase_at, is_off, has_queue, limits_at, need_of, held_by, status_of_entry, is_batch_of, is_drain_of};
 ghost use Rattle.dsa_book.specs.Submit.{next_noted};
 ghost use Rattle.dsa_book.specs.Commands.{clear, reset, with_device, with_phases};
-ghost use Rattle.dsa_queues.specs.Queues.{IsWhole, IsCounted};
+ghost use Rattle.dsa_queues.specs.Queues.{IsWholeSetup, IsCounted};
 
 use arrayvec::ArrayVec;
 use dsa_book::{Cause, ClearAnswer, NotedError};
@@ -21,8 +21,8 @@ use dsa_regs::{
 use dsa_store::{Entry, ListId};
 use std::marker::Model;
 
-/// The configurations and phases of a device, its next name, its noted error, and for each queue the number of held
-/// entries that name it (profile).
+/// The configurations and phases of a device, its next name, its noted error, and for each queue
+/// the number of held entries that name it (profile).
 ///
 /// A queue that the device does not have reads as `Off` and all zero, and so does a group.
 #[derive(Drop)]
@@ -42,9 +42,31 @@ impl Model for Queues {
 
     ghost Value = { Kept };
 
-    ghost view = { λ q. record { setup = record { caps = q.caps; device = q.device; configs = q.configs.items; phases = q.phases.items; groups = q.groups.items; next_name = q.next_name; noted = q.noted }; held = q.held.items } };
+    ghost view = { λ q. record {
+      setup = record {
+        caps = q.caps;
+        device = q.device;
+        configs = q.configs.items;
+        phases = q.phases.items;
+        groups = q.groups.items;
+        next_name = q.next_name;
+        noted = q.noted;
+      };
+      held = q.held.items;
+    } };
 
-    ghost invariant = { λ q. IsKept (record { setup = record { caps = q.caps; device = q.device; configs = q.configs.items; phases = q.phases.items; groups = q.groups.items; next_name = q.next_name; noted = q.noted }; held = q.held.items }) };
+    ghost invariant = { λ q. IsKept (record {
+      setup = record {
+        caps = q.caps;
+        device = q.device;
+        configs = q.configs.items;
+        phases = q.phases.items;
+        groups = q.groups.items;
+        next_name = q.next_name;
+        noted = q.noted;
+      };
+      held = q.held.items;
+    }) };
 }
 
 // The noted error after one more descriptor was dropped.
@@ -77,11 +99,12 @@ fn no_entries(queues: u16) -> ArrayVec<u32, MAX_QUEUES>
 }
 
 impl Queues {
-    /// The queues of a device before anything is written: all zero, all `Off`, no name given, no error noted and no entry
-    /// held.
+    /// The queues of a device before anything is written: all zero, all `Off`, no name given, no
+    /// error noted and no entry held.
     pub fn new(caps: Caps) -> Queues
         requires { IsTrue (check_caps caps) }
-        ensures value { result ≡ record { setup = opening_setup caps; held = replicate caps.queues 0 } }
+        ensures value { result
+            ≡ record { setup = opening_setup caps; held = replicate caps.queues 0 } }
         ensures counted { (content : Content) → held_count content ≡ 0 → IsCounted result content }
     {
         Queues {
@@ -96,8 +119,8 @@ impl Queues {
         }
     }
 
-    /// All zero, `Off` and with no error noted again, but for the next name, so that no name is given twice. The numbers
-    /// of held entries stay.
+    /// All zero, `Off` and with no error noted again, but for the next name, so that no name is
+    /// given twice. The numbers of held entries stay.
     pub fn reset(&mut self)
         ensures { self.new ≡ record self.old { setup = reset Device self.old.setup } }
     {
@@ -112,7 +135,7 @@ impl Queues {
     #[inline(always)]
     pub fn caps(&self) -> Caps
         ensures value { result ≡ self.now.setup.caps }
-        ensures whole { IsWhole self.now.setup }
+        ensures whole { IsWholeSetup self.now.setup }
     {
         self.caps
     }
@@ -177,8 +200,13 @@ impl Queues {
     #[inline(always)]
     pub fn set_phase(&mut self, queue: u16, phase: Phase)
         requires { has_queue self.old.setup queue ≡ true }
-        ensures place { self.new ≡ record self.old { setup = record self.old.setup { phases = slice_set self.old.setup.phases queue phase } } }
-        ensures alone { self.new ≡ record self.old { setup = with_phases (λ q. q == queue) phase self.old.setup } }
+        ensures place { self.new
+            ≡ record self.old {
+              setup = record self.old.setup
+                  { phases = slice_set self.old.setup.phases queue phase };
+            } }
+        ensures alone { self.new
+            ≡ record self.old { setup = with_phases (λ q. q == queue) phase self.old.setup } }
     {
         self.phases[usize::from(queue)] = phase;
     }
@@ -225,7 +253,11 @@ impl Queues {
     #[inline(always)]
     pub fn set_queue(&mut self, queue: u16, config: QueueConfig)
         requires { has_queue self.old.setup queue ≡ true }
-        ensures { self.new ≡ record self.old { setup = record self.old.setup { configs = slice_set self.old.setup.configs queue config } } }
+        ensures { self.new
+            ≡ record self.old {
+              setup = record self.old.setup
+                  { configs = slice_set self.old.setup.configs queue config };
+            } }
     {
         self.configs[usize::from(queue)] = config;
     }
@@ -234,7 +266,11 @@ impl Queues {
     #[inline(always)]
     pub fn set_group(&mut self, group: u16, config: GroupConfig)
         requires { group < self.old.setup.caps.groups }
-        ensures { self.new ≡ record self.old { setup = record self.old.setup { groups = slice_set self.old.setup.groups group config } } }
+        ensures { self.new
+            ≡ record self.old {
+              setup = record self.old.setup
+                  { groups = slice_set self.old.setup.groups group config };
+            } }
     {
         self.groups[usize::from(group)] = config;
     }
@@ -252,7 +288,9 @@ impl Queues {
     pub fn give_name(&mut self) -> u32
         requires { self.old.setup.next_name + 1 < 2 ^ 32 }
         ensures name { result ≡ self.old.setup.next_name }
-        ensures after { self.new ≡ record self.old { setup = record self.old.setup { next_name = self.old.setup.next_name + 1 } } }
+        ensures after { self.new
+            ≡ record self.old
+            { setup = record self.old.setup { next_name = self.old.setup.next_name + 1 } } }
     {
         let name = self.next_name;
         self.next_name += 1;
@@ -267,9 +305,14 @@ impl Queues {
         self.noted
     }
 
-    /// Notes that a descriptor was dropped: queue and cause where no error is noted, else the overflow mark alone.
+    /// Notes that a descriptor was dropped: queue and cause where no error is noted, else the
+    /// overflow mark alone.
     pub fn note_error(&mut self, queue: u16, cause: Cause)
-        ensures { self.new ≡ record self.old { setup = record self.old.setup { noted = Some (next_noted self.old.setup.noted queue cause) } } }
+        ensures { self.new
+            ≡ record self.old {
+              setup = record self.old.setup
+                  { noted = Some (next_noted self.old.setup.noted queue cause) };
+            } }
     {
         self.noted = Some(noted_more(self.noted, queue, cause));
     }
@@ -299,7 +342,9 @@ impl Queues {
     pub fn entered(&mut self, queue: u16)
         requires there { has_queue self.old.setup queue ≡ true }
         requires room { slice_index self.old.held queue < cell_count self.old.setup.caps }
-        ensures { self.new ≡ record self.old { held = slice_set self.old.held queue (slice_index self.old.held queue + 1) } }
+        ensures { self.new
+            ≡ record self.old
+            { held = slice_set self.old.held queue (slice_index self.old.held queue + 1) } }
     {
         self.held[usize::from(queue)] += 1;
     }
@@ -309,7 +354,9 @@ impl Queues {
     pub fn left(&mut self, queue: u16)
         requires there { has_queue self.old.setup queue ≡ true }
         requires some { 0 < slice_index self.old.held queue }
-        ensures { self.new ≡ record self.old { held = slice_set self.old.held queue (slice_index self.old.held queue - 1) } }
+        ensures { self.new
+            ≡ record self.old
+            { held = slice_set self.old.held queue (slice_index self.old.held queue - 1) } }
     {
         self.held[usize::from(queue)] -= 1;
     }
@@ -318,7 +365,8 @@ impl Queues {
     pub fn group_of(&self, engine: u16) -> Option<u16>
         ensures group { result ≡ position (λ g. has g.engines engine) self.now.setup.groups }
         ensures within { IfSome result (λ group. group < self.now.setup.caps.groups) }
-        ensures engine { IfSome result (λ group. has (group_at self.now.setup.groups group).engines engine ≡ true) }
+        ensures engine { IfSome result
+            (λ group. has (group_at self.now.setup.groups group).engines engine ≡ true) }
     {
         for group in 0..self.caps.groups {
             if self.groups[usize::from(group)].has_engine(engine) {
@@ -326,17 +374,6 @@ impl Queues {
             }
         }
         None
-    }
-
-    /// Whether the queue is in the group.
-    #[inline(always)]
-    pub fn has_queue_in(&self, group: u16, queue: u16) -> bool
-        ensures { result ≡ has (group_at self.now.setup.groups group).queues queue }
-    {
-        match self.groups.get(usize::from(group)) {
-            Some(config) => config.has_queue(queue),
-            None => false,
-        }
     }
 
     /// The priority of the queue; 0 where the device has no such queue.
@@ -379,7 +416,7 @@ impl Queues {
     /// The status that the entry ends with, a well-formed Batch as if its members were successful.
     #[inline(always)]
     pub fn status(&self, entry: &Entry, outcome: Outcome) -> u8
-        ensures { result ≡ status_of self.now.setup entry.now outcome }
+        ensures { result ≡ status_of_entry self.now.setup entry.now outcome }
     {
         entry
             .desc

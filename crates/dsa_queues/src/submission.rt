@@ -8,7 +8,7 @@ ghost use Rattle.dsa_store.specs.Content.{Content, held_count};
 ghost use Rattle.dsa_book.specs.State.{occupancy, has_queue};
 ghost use Rattle.dsa_book.specs.Submit.{submit, after_refusal, limit_of, pasid_by, is_movdir64b};
 ghost use Rattle.dsa_book.specs.declared.answer.Reply.TheVariants as reply;
-ghost use Rattle.dsa_book.specs.Choice.{choice_of, nothing, cell_of, may_enter};
+ghost use Rattle.dsa_book.specs.Choice.{choice_of, nothing, chosen_cell, may_enter};
 ghost use Rattle.dsa_queues.specs.Queues.{IsCounted, IsStoreFor, intake, is_accepting};
 
 use crate::Queues;
@@ -46,7 +46,9 @@ fn pasid_by(kind: Kind, config: &QueueConfig) -> u32
 impl Queues {
     // ENQCMD is told to come again, MOVDIR64B leaves a noted error.
     fn turned_away(&mut self, queue: u16, kind: Kind, cause: Cause) -> SubmitAnswer
-        ensures answer { (content : Content) → after_refusal (intake self.old.setup content) queue kind cause ≡ (result, intake self.new.setup content) }
+        ensures answer { (content : Content)
+            → after_refusal (intake self.old.setup content) queue kind cause
+            ≡ (result, intake self.new.setup content) }
         ensures held { self.new.held ≡ self.old.held }
         ensures no_cell { choice_of (reply.Submit result) ≡ nothing }
     {
@@ -61,10 +63,11 @@ impl Queues {
 
     /// Writes a descriptor to a portal of a queue.
     ///
-    /// The first cause that stands turns it away: `NotEnabled` where the queue is not `On` or the device has no such queue,
-    /// `WrongKind` for ENQCMD to a dedicated queue or MOVDIR64B to a shared one, `AtLimit` where the queue holds as many
-    /// entries as the portal allows. ENQCMD is answered `Retry`, MOVDIR64B `Dropped`, and an error is noted.
-    /// Else the descriptor stands last in its queue, under the PASID that the instruction or the queue gives it.
+    /// The first cause that stands turns it away: `NotEnabled` where the queue is not `On` or the
+    /// device has no such queue, `WrongKind` for ENQCMD to a dedicated queue or MOVDIR64B to a
+    /// shared one, `AtLimit` where the queue holds as many entries as the portal allows. ENQCMD is
+    /// answered `Retry`, MOVDIR64B `Dropped`, and an error is noted. Else the descriptor stands
+    /// last in its queue, under the PASID that the instruction or the queue gives it.
     #[inline(always)]
     pub fn submit<S: EntryStore>(
         &mut self,
@@ -75,12 +78,20 @@ impl Queues {
         desc: Descriptor,
     ) -> SubmitAnswer
         requires store { IsStoreFor self.old.setup.caps (S.cells store.old) (S.content store.old) }
-        requires room { is_accepting (intake self.old.setup (S.content store.old)) queue portal kind ≡ true → held_count (S.content store.old) < S.cells store.old }
+        requires room { is_accepting (intake self.old.setup (S.content store.old)) queue portal kind
+            ≡ true
+            → held_count (S.content store.old) < S.cells store.old }
         requires counted { IsCounted self.old (S.content store.old) }
-        requires names { is_accepting (intake self.old.setup (S.content store.old)) queue portal kind ≡ true → self.old.setup.next_name + 1 < 2 ^ 32 }
-        ensures answer { submit (intake self.old.setup (S.content store.old)) queue portal kind desc (cell_of (choice_of (reply.Submit result)))
+        requires names { is_accepting (intake self.old.setup (S.content store.old)) queue portal
+            kind
+            ≡ true
+            → self.old.setup.next_name + 1 < 2 ^ 32 }
+        ensures answer { submit (intake self.old.setup (S.content store.old)) queue portal kind desc
+            (chosen_cell (choice_of (reply.Submit result)))
             ≡ (result, intake self.new.setup (S.content store.new)) }
-        ensures free { may_enter self.old.setup (S.content store.old) (choice_of (reply.Submit result)) ≡ true }
+        ensures free { may_enter self.old.setup (S.content store.old)
+            (choice_of (reply.Submit result))
+            ≡ true }
         ensures counted { IsCounted self.new (S.content store.new) }
         ensures store { IsStoreFor self.new.setup.caps (S.cells store.new) (S.content store.new) }
     {
@@ -112,11 +123,14 @@ impl Queues {
         }
     }
 
-    /// The number of entries in the queue's own list. `None` exactly when the device has no such queue.
+    /// The number of entries in the queue's own list. `None` exactly when the device has no such
+    /// queue.
     pub fn occupancy<S: EntryStore>(&self, store: &S, queue: u16) -> Option<u16>
         requires store { IsStoreFor self.now.setup.caps (S.cells store.now) (S.content store.now) }
-        requires short { has_queue self.now.setup queue ≡ true → occupancy (S.content store.now) queue < 2 ^ 16 }
-        ensures { result ≡ when (has_queue self.now.setup queue) (occupancy (S.content store.now) queue) }
+        requires short { has_queue self.now.setup queue ≡ true
+            → occupancy (S.content store.now) queue < 2 ^ 16 }
+        ensures { result
+            ≡ when (has_queue self.now.setup queue) (occupancy (S.content store.now) queue) }
     {
         if queue < self.caps().queues {
             Some(store.len(ListId(queue)) as u16)

@@ -1,2 +1,3 @@
 pub mod MaskLemmas
 pub mod CapsLemmas
+pub mod Places

@@ -34,7 +34,8 @@ pub fn check_caps(caps: &Caps) -> bool
 
 /// The cells that the device's store needs: one for each entry that may be held at once.
 ///
-/// That is `total_size` in the queues and, for each engine, `slots` in progress and `2^max_batch_shift` members.
+/// That is `total_size` in the queues and, for each engine, `slots` in progress and
+/// `2^max_batch_shift` members.
 pub fn cell_count(caps: &Caps) -> u32
     requires { IsTrue (check_caps caps.now) }
     ensures number { result ≡ cell_count caps.now }

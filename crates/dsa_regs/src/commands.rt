@@ -48,11 +48,11 @@ impl QueueMask {
 }
 
 impl Scope {
-    ghost use Rattle.dsa_regs.specs.Command.{queues_in, operand_of};
+    ghost use Rattle.dsa_regs.specs.Command.{queues_in, operand_of_scope};
 
-    // The operand that names it.
-    fn operand(self) -> u32
-        ensures { result ≡ operand_of self }
+    /// The operand that names whom the command is about; 0 for the device.
+    pub fn operand(self) -> u32
+        ensures { result ≡ operand_of_scope self }
     {
         match self {
             Scope::Device => 0,
@@ -90,11 +90,11 @@ impl Scope {
 }
 
 impl Command {
-    ghost use Rattle.dsa_regs.specs.Command.{command_of, number_of, command_name, scope_of, deed_of, named_queues, word_of};
+    ghost use Rattle.dsa_regs.specs.Command.{command_of, number_of_command, command_name, scope_of, deed_of, named_queues, word_of};
 
     /// The number of the command, 1 to 12 (Intel DSA specification, Command register).
     pub fn number(&self) -> u8
-        ensures { result ≡ number_of self.now }
+        ensures { result ≡ number_of_command self.now }
     {
         match self {
             Command::EnableDevice => 1,
@@ -132,9 +132,9 @@ impl Command {
         }
     }
 
-    /// The word that is written to the command register, without asking for an interrupt (Intel DSA specification, Command
-    /// register). `None` exactly where the operand has more than 20 bits: a queue's number or a PASID that is not below
-    /// 1,048,576, or a mask of a group past 15.
+    /// The word that is written to the command register, without asking for an interrupt (Intel DSA
+    /// specification, Command register). `None` exactly where the operand has more than 20 bits: a
+    /// queue's number or a PASID that is not below 1,048,576, or a mask of a group past 15.
     pub fn word(&self) -> Option<u32>
         ensures word { result ≡ word_of self.now }
         ensures parsed { IfSome result (λ word. command_of word ≡ Ok self.now) }
@@ -196,15 +196,17 @@ impl Command {
 
 /// The 32 bits that are written to the device's command register.
 ///
-/// Bits 19:0 are the operand, bits 24:20 the number of the command, bit 31 asks for an interrupt at its end
-/// (Intel DSA specification, Command register). Bit 31 is accepted without effect, and bits 30:25 must be clear (profile).
+/// Bits 19:0 are the operand, bits 24:20 the number of the command, bit 31 asks for an interrupt at
+/// its end (Intel DSA specification, Command register). Bit 31 is accepted without effect, and bits
+/// 30:25 must be clear (profile).
 #[derive(Clone, Copy, Debug, PartialEq, Eq)]
 pub struct CommandWord(pub u32);
 
 impl CommandWord {
     ghost use Rattle.dsa_regs.specs.Command.{command_of};
 
-    /// The command that the word says, or `BadCommand` where a bit among 30:25 is set, the number is 0 or above 12.
+    /// The command that the word says, or `BadCommand` where a bit among 30:25 is set, the number
+    /// is 0 or above 12.
     ///
     /// The operand of commands 1 to 5 is ignored (profile).
     pub fn parse(word: u32) -> Result<Command, Fault>

@@ -29,11 +29,11 @@ fn next_number(bits: u64, from: u16) -> Option<u16>
 }
 
 impl QueueConfig {
-    ghost use Rattle.dsa_regs.specs.Config.{limits_of};
+    ghost use Rattle.dsa_regs.specs.Config.{limits_of_queue};
 
     /// What the queue's descriptors may ask for.
     pub fn limits(&self) -> QueueLimits
-        ensures { result ≡ limits_of self.now }
+        ensures { result ≡ limits_of_queue self.now }
     {
         QueueLimits {
             max_batch_shift: self.max_batch_shift,
@@ -52,7 +52,8 @@ impl GroupConfig {
 
     /// The first queue of the group from that number on.
     pub fn next_queue(&self, from: u16) -> Option<u16>
-        ensures number { MatchOption result (NoneFrom self.now.queues from) (λ queue. IsNext self.now.queues from queue) }
+        ensures number { MatchOption result (NoneFrom self.now.queues from)
+            (λ queue. IsNext self.now.queues from queue) }
         ensures within { IfSome result (λ queue. queue < 64) }
     {
         next_number(self.queues, from)

@@ -1,7 +1,7 @@
 //! The layout of the lists: which list of the store is for what.
 
 ghost use Rattle.std.specs.Prelude.{◌≡◌, ◌<◌, IsTrue};
-ghost use Rattle.dsa_regs.specs.Caps.{HasList, check_caps, engine_of, list_count, list_number, list_use};
+ghost use Rattle.dsa_regs.specs.Caps.{HasList, check_caps, engine_of_list, list_count, list_number, list_use};
 
 use crate::Caps;
 
@@ -20,7 +20,7 @@ impl ListUse {
     /// The engine whose list it is. `None` where it is a queue's.
     #[inline(always)]
     pub fn engine(self) -> Option<u16>
-        ensures { result ≡ engine_of self }
+        ensures { result ≡ engine_of_list self }
     {
         match self {
             ListUse::Queue(_) => None,

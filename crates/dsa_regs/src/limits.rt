@@ -30,7 +30,8 @@ pub const MAX_CELLS: u32 = 70_656;
 /// The highest priority of a queue.
 pub const MAX_PRIORITY: u8 = 15;
 
-/// The fewest read buffers that a group with an engine may be allowed: the most that one descriptor needs.
+/// The fewest read buffers that a group with an engine may be allowed: the most that one descriptor
+/// needs.
 pub const LEAST_ALLOWED: u16 = 4;
 
 /// The queues that the mask of one operand names at most.

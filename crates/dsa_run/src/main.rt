@@ -1,11 +1,12 @@
-//! Reads a scenario document from standard input, and writes its lines to standard output; with the word `threads`, runs
-//! workers in threads on one shared device, and writes their totals.
+//! Reads a scenario document from standard input, and writes its lines to standard output; with the
+//! word `threads`, runs workers in threads on one shared device, and writes their totals.
 //!
-//! The exit status is 0 where all was written, 1 on a fault, whose line goes to standard error, and 2 on a usage error.
+//! The exit status is 0 where all was written, 1 on a fault, whose line goes to standard error, and
+//! 2 on a usage error.
 #![tactic(auto)]
 
+use dsa_cli::{run_words, tell};
 use dsa_scenario::ScenarioFault;
-use dsa_words::{run_words, tell};
 use std::alloc::Global;
 use std::env;
 use std::process::ExitCode;

@@ -4,15 +4,15 @@ use Rattle.std.proofs.Common.{◌≡◌, ℕ, ◌+◌, Option, Some, None, refl,
 use Rattle.std.specs.Prelude.{⊤}
 use Rattle.dsa_base.proofs.Tables.{table1, table3}
 use Rattle.dsa_desc.specs.declared.Descriptor.{Descriptor}
-use Rattle.dsa_store.specs.{Content.{Slot}, declared.entry.Cell.{Cell}}
+use Rattle.dsa_store.specs.{Content.{HeldEntry}, declared.entry.Cell.{Cell}}
 use Rattle.dsa_book.specs.declared.answer.{Ticket.{Ticket}, Cause.{Cause, TheVariants.{NotEnabled, WrongKind, AtLimit}}}
 use Rattle.dsa_book.specs.declared.answer.FetchAnswer.TheVariants.{AllFetched}
 use Rattle.dsa_book.specs.declared.answer.Reply.{Reply, TheVariants.{Submit, Fetch}}
 use Rattle.dsa_book.specs.declared.event.{Event.{Event}, Portal.{Portal}, Kind.{Kind, TheVariants.{Enqcmd, Movdir64b}}}
 use Rattle.dsa_book.specs.declared.note.BatchNote.{BatchNote}
-use Rattle.dsa_book.specs.{Choice.{Choice, cell_of}, State.{State}, Submit.{after_refusal, after_accept, submit}}
+use Rattle.dsa_book.specs.{Choice.{Choice, chosen_cell}, State.{State}, Submit.{after_refusal, after_accept, submit}}
 use Rattle.dsa_book.specs.Work.{note_at, batch_on, is_all_fetched, after_fetch, fetch_of, fetch_for}
-use Rattle.dsa_book.specs.{Totals.{named_by}, Machine.{intake_of, reply_of, full_reply}}
+use Rattle.dsa_book.{proofs.Gains.{named_by}, specs.Machine.{intake_of, reply_of, full_reply}}
 use Rattle.dsa_book.proofs.{Nexts.{next-each}, EqualReplies.{equal-replies}}
 use Rattle.dsa_accounts.proofs.Totals.{name_of, next-names}
 use Rattle.dsa_device.{specs.Running.{Running, after_answer}, proofs.Steps.{answered_by_cases}}
@@ -43,7 +43,7 @@ submits s q portal kind d cell =
     (λ x. turned_away s q kind NotEnabled) (λ x. turned_away s q kind WrongKind) (λ x. turned_away s q kind AtLimit)
     (λ x y z. record { given = refl })
 
-fetch_of-gives : (s : State) (e : ℕ) (d : Descriptor) (cell : Cell) (note : BatchNote) (o : Option Slot)
+fetch_of-gives : (s : State) (e : ℕ) (d : Descriptor) (cell : Cell) (note : BatchNote) (o : Option HeldEntry)
     → GivesNext s (Fetch (fetch_of s.work e d cell note o).0)
 fetch_of-gives s e d cell note None = record { given = tt }
 fetch_of-gives s e d cell note (Some batch) =
@@ -56,8 +56,8 @@ fetch_for-gives s e d cell None = record { given = tt }
 fetch_for-gives s e d cell (Some note) = fetch_of-gives s e d cell note (batch_on s.work e note)
 
 replies : (s : State) (e : Event) (choice : Choice) → GivesNext s (reply_of s e choice).0
-replies s (event.Submit client queue portal kind desc) choice = submits s queue portal kind desc (cell_of choice)
-replies s (event.Fetch engine desc) choice = fetch_for-gives s engine desc (cell_of choice) (note_at s.work engine)
+replies s (event.Submit client queue portal kind desc) choice = submits s queue portal kind desc (chosen_cell choice)
+replies s (event.Fetch engine desc) choice = fetch_for-gives s engine desc (chosen_cell choice) (note_at s.work engine)
 replies s _ choice = record { given = tt }
 
 -- ---- a step of a device

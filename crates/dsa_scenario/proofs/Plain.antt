@@ -2,16 +2,17 @@
 use Rattle.std.proofs.Common.{◌≡◌, ℕ, List, [], ◌∷◌, ◌++◌, refl, ap, ◌∙◌, flat_map}
 use Rattle.dsa_regs.specs.declared.Caps.{Caps}
 use Rattle.dsa_scenario.specs.declared.{actions.Action.{Action}, run.Record.{Record}}
-use Rattle.dsa_scenario.specs.{Lines.{record_text, line_of}, Run.{AreLinesOf}, Scenario.{IsRenderingOf}}
+use Rattle.dsa_scenario.specs.{Lines.{record_text, line_of_text}, Run.{AreLinesOf}, Scenario.{IsRenderingOf}}
 use Rattle.dsa_scenario.specs.Steps.{visits, line_of_step, AreLinesOfSteps, IsTextOfRun, IsTextOfDocument}
 
 -- the lines of steps are those of their records
 lines_of_visits : (caps : Caps) (capacity : ℕ) (before records : List Record)
     → flat_map line_of_step (visits caps capacity before records)
-    ≡ flat_map (λ entry. line_of (record_text entry)) records
+    ≡ flat_map (λ entry. line_of_text (record_text entry)) records
 lines_of_visits caps capacity before [] = refl
 lines_of_visits caps capacity before (entry ∷ records) =
-    ap (λ lines. line_of (record_text entry) ++ lines) (lines_of_visits caps capacity (before ++ entry ∷ []) records)
+    ap (λ lines. line_of_text (record_text entry) ++ lines)
+    (lines_of_visits caps capacity (before ++ entry ∷ []) records)
 
 -- the lines of a walk are those of a run
 pub lines_of_run : (caps : Caps) (capacity : ℕ) (actions : List Action) (text : List ℕ)

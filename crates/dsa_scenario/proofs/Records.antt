@@ -5,12 +5,13 @@ use Rattle.std.proofs.Common.{append_assoc, append-nil, add-zero, subst, filter_
 use Rattle.std.proofs.lemmas.List.{map-append, Elements.{filter_map-append}}
 use Rattle.dsa_book.specs.declared.answer.{Ticket.{Ticket}, SubmitAnswer.TheVariants.{Accepted}, Reply.{Reply}}
 use Rattle.dsa_book.specs.declared.answer.FetchAnswer.TheVariants.{Fetched}
-use Rattle.dsa_book.specs.Totals.{named_by}
+use Rattle.dsa_book.proofs.Gains.{named_by}
 use Rattle.dsa_accounts.proofs.Totals.{name_of}
 use Rattle.dsa_device.specs.{Running.{Running, IsReplay}, Runs.{IsRunOf}}
 use Rattle.dsa_device.proofs.{Runs.{IsRunOf-push}, Steps.{answered-replay}}
 use Rattle.dsa_scenario.specs.declared.{actions.Action.{Action}, run.Record.{Record, TheVariants.{Stepped, Refused}}}
-use Rattle.dsa_scenario.specs.Run.{given_by_reply, given_by, event_of, answered_by, AreOf, step_of, steps_of, Leads}
+use Rattle.dsa_scenario.specs.Run.{given_by_reply, ticket_given_by, event_of, answered_by, AreOf, step_of}
+use Rattle.dsa_scenario.specs.Run.{steps_of_records, Leads}
 use Rattle.dsa_scenario.proofs.Names.{IsNamed, gives-in_turn}
 
 -- one action more, with its record
@@ -27,8 +28,8 @@ AreOf-push before (b ∷ bs) (x ∷ xs) a r h fits =
 
 -- the name that a record gives, where it gives one, and the name that comes next
 pub gives : (now new : Running) (entry : Record) → Leads now entry new
-    → IsNamed (name_of now.state) (given_by entry) × (name_of new.state
-    ≡ name_of now.state + length (filter_map given_by (entry ∷ [])))
+    → IsNamed (name_of now.state) (ticket_given_by entry) × (name_of new.state
+    ≡ name_of now.state + length (filter_map ticket_given_by (entry ∷ [])))
 gives now new (Stepped step) leads =
     let told = gives-in_turn now new step.event step.reply leads in
     (told.given, told.next ∙ ap (λ n. name_of now.state + n) (counted step.reply))
@@ -41,7 +42,7 @@ gives now new (Refused fault) same = (tt, rw (same, add-zero) refl)
 
 -- the device has answered as its history says, and goes on to
 pub record Goes (first now : Running) (records : List Record) : Type 0 where
-  pub run : IsRunOf first (map (λ step. step.event) (steps_of records)) [] (steps_of records) now
+  pub run : IsRunOf first (map (λ step. step.event) (steps_of_records records)) [] (steps_of_records records) now
   pub replay : IsReplay now
 
 -- with one record more

@@ -7,7 +7,7 @@ use Rattle.std.proofs.lemmas.List.{length_push, get_or_push, get_or_append_left}
 use Rattle.std.proofs.lemmas.List.{Folds.{find-append}, Elements.{filter_map-append}}
 use Rattle.std.specs.{Prelude.{◌==◌, is_some, slice_get}, Option.{option_or}}
 use Rattle.dsa_book.specs.declared.answer.Ticket.{Ticket}
-use Rattle.dsa_scenario.specs.{declared.run.Record.{Record}, Run.{given_by, found, IsTable}}
+use Rattle.dsa_scenario.specs.{declared.run.Record.{Record}, Run.{ticket_given_by, found, IsTable}}
 use Rattle.dsa_scenario.proofs.Names.{IsNamed}
 
 -- with nothing in its place, what there is stays
@@ -25,25 +25,25 @@ renewed : (table more : ℕ → Option Ticket) (before : List Record) (r : Recor
     → ((q : ℕ) → more q ≡ option_or (table q) (found (r ∷ []) q)) → IsTable more (before ++ r ∷ [])
 renewed table more before r is each = λ q.
     each q ∙ ap (λ o. option_or o (found (r ∷ []) q)) (is q)
-    ∙ sym (ap (find (λ t. t.name == q)) (filter_map-append given_by before (r ∷ []))
-    ∙ find-append (λ t. t.name == q) (filter_map given_by before) (filter_map given_by (r ∷ [])))
+    ∙ sym (ap (find (λ t. t.name == q)) (filter_map-append ticket_given_by before (r ∷ []))
+    ∙ find-append (λ t. t.name == q) (filter_map ticket_given_by before) (filter_map ticket_given_by (r ∷ [])))
 
 -- and what it gives is its ticket, at the ticket's name
 renewed_by : (table more : ℕ → Option Ticket) (before : List Record) (r : Record) (t : Ticket) → IsTable table before
-    → Some t ≡ given_by r → ((q : ℕ) → more q ≡ option_or (table q) (cond (t.name == q) (Some t) None))
+    → Some t ≡ ticket_given_by r → ((q : ℕ) → more q ≡ option_or (table q) (cond (t.name == q) (Some t) None))
     → IsTable more (before ++ r ∷ [])
 renewed_by table more before r t is e each = renewed table more before r is (λ q. each q ∙ (rw (← e) refl))
 
 -- a record without a ticket changes nothing
 pub IsTable-nothing : (table : ℕ → Option Ticket) (before : List Record) (r : Record) → IsTable table before
-    → None ≡ given_by r
+    → None ≡ ticket_given_by r
     → IsTable table (before ++ r ∷ [])
 IsTable-nothing table before r is e = renewed table table before r is (λ q. or_none (table q) ∙ (rw (← e) refl))
 
 -- what is inserted at a new name
 pub IsTable-new : (table more : ℕ → Option Ticket) (before : List Record) (r : Record) (t : Ticket)
     → IsTable table before
-    → Some t ≡ given_by r → is_some (table t.name) ≡ false → more t.name ≡ Some t
+    → Some t ≡ ticket_given_by r → is_some (table t.name) ≡ false → more t.name ≡ Some t
     → ((q : ℕ) → nat_eq t.name q ≡ false → more q ≡ table q) → IsTable more (before ++ r ∷ [])
 IsTable-new table more before r t is e absent put others = renewed_by table more before r t is e
     (λ q. at q (t.name == q) refl) where
@@ -79,11 +79,11 @@ placed_others tickets t q named other =
 -- a ticket of the next name, noted behind all others
 pub IsTable-noted : (tickets more : List Ticket) (before : List Record) (r : Record)
     → IsTable (slice_get tickets) before
-    → IsNamed (length tickets) (given_by r) → more ≡ tickets ++ filter_map given_by (r ∷ [])
+    → IsNamed (length tickets) (ticket_given_by r) → more ≡ tickets ++ filter_map ticket_given_by (r ∷ [])
     → IsTable (slice_get more) (before ++ r ∷ [])
-IsTable-noted tickets more before r is named e = at (given_by r) refl named e
+IsTable-noted tickets more before r is named e = at (ticket_given_by r) refl named e
   where
-    at : (o : Option Ticket) → given_by r ≡ o → IsNamed (length tickets) o
+    at : (o : Option Ticket) → ticket_given_by r ≡ o → IsNamed (length tickets) o
         → more ≡ tickets ++ filter_map (λ (x : Option Ticket). x) (o ∷ []) → IsTable (slice_get more) (before ++ r ∷ [])
     at None gives named e = rw (e, append-nil tickets) (IsTable-nothing (slice_get tickets) before r is (sym gives))
     at (Some t) gives named e =

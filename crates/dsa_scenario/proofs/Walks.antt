@@ -8,7 +8,7 @@ use Rattle.dsa_book.specs.declared.{answer.Ticket.{Ticket}, event.Event.{Event}}
 use Rattle.dsa_book.specs.{Machine.{replay, stored_steps}}
 use Rattle.dsa_device.specs.{Running.{Running, running_at_first, IsReplay}, Runs.{IsRunOf}}
 use Rattle.dsa_scenario.specs.declared.{actions.Action.{Action}, run.Record.{Record}}
-use Rattle.dsa_scenario.specs.Run.{given_by, event_of, answered_by, steps_of, Leads, IsTable}
+use Rattle.dsa_scenario.specs.Run.{ticket_given_by, event_of, answered_by, steps_of_records, Leads, IsTable}
 use Rattle.dsa_scenario.specs.Steps.{standing, Visit, visit, visits, IsWalkTo, IsTextOfRun}
 use Rattle.dsa_scenario.proofs.{Records.{AreOf-push, gives, goes_on}, Tickets.{IsTable-noted}}
 
@@ -31,10 +31,11 @@ visits-push caps capacity before (r ∷ records) entry =
 
 -- a device that has come by these records stands as they say
 pub stands : (caps : Caps) (capacity : ℕ) (records : List Record) (now : Running)
-    → IsRunOf (running_at_first caps capacity) (map (λ step. step.event) (steps_of records)) [] (steps_of records) now
+    → IsRunOf (running_at_first caps capacity) (map (λ step. step.event) (steps_of_records records)) []
+    (steps_of_records records) now
     → standing caps capacity records ≡ now
 stands caps capacity records now run =
-    let history : now.history ≡ stored_steps (steps_of records) = rw run.added run.history in
+    let history : now.history ≡ stored_steps (steps_of_records records) = rw run.added run.history in
     let replayed = rw history at run.replayed in
     rw (replayed, ← history, ← run.same_caps, ← run.same_capacity) refl
 
@@ -43,8 +44,7 @@ pub one_more : {Page : Type 0} (is_page : List Visit → Page → Type 0) (told_
     (caps : Caps) (capacity : ℕ) (now new : Running) (actions : List Action) (a : Action) (number : ℕ)
     (tickets more : List Ticket) (page longer : Page) (told : List ℕ) (entry : Record) (asked : Result Event Fault)
     → ((before : List Record) → IsTable (slice_get tickets) before → asked ≡ event_of before a)
-    → ((before : List Record) → IsTable (slice_get tickets) before → answered_by entry ≡ event_of before a)
-    → Leads now entry new → more ≡ tickets ++ filter_map given_by (entry ∷ [])
+    → answered_by entry ≡ asked → Leads now entry new → more ≡ tickets ++ filter_map ticket_given_by (entry ∷ [])
     → told ≡ told_before now asked
     → ((steps : List Visit) → (before : Running) → told ≡ told_before before (answered_by entry) → is_page steps page
     → is_page (steps ++ visit number before entry new ∷ []) longer)
@@ -52,11 +52,9 @@ pub one_more : {Page : Type 0} (is_page : List Visit → Page → Type 0) (told_
     → IsWalkTo is_page caps capacity (actions ++ a ∷ []) (number + 1) new more longer
 one_more is_page told_before caps capacity now new actions a number tickets more page longer told entry asked asks
     answers leads noted tells adds h =
-    let table : IsTable (slice_get tickets) h.records = h.table in
     let named = gives now new entry leads in
     let on = goes_on (running_at_first caps capacity) now new h.records entry
     (record { run = h.run; replay = h.replay }) leads in
-    let same : asked ≡ answered_by entry = asks h.records table ∙ sym (answers h.records table) in
     let before : standing caps capacity h.records ≡ now = stands caps capacity h.records now h.run in
     let after : standing caps capacity (h.records ++ entry ∷ []) ≡ new =
     stands caps capacity (h.records ++ entry ∷ []) new on.run in
@@ -64,17 +62,17 @@ one_more is_page told_before caps capacity now new actions a number tickets more
     rw (before, after, h.count) refl in
     let steps = visits caps capacity [] h.records in
     let added : is_page (steps ++ visit number now entry new ∷ []) longer =
-    adds steps now (tells ∙ ap (λ q. told_before now q) same) h.made in
+    adds steps now (tells ∙ ap (λ q. told_before now q) (sym answers)) h.made in
     let all : visits caps capacity [] (h.records ++ entry ∷ []) ≡ steps ++ visit number now entry new ∷ [] =
     visits-push caps capacity [] h.records entry ∙ ap (λ v. steps ++ v ∷ []) here in
     record {
       records = h.records ++ entry ∷ [];
-      of_actions = AreOf-push [] actions h.records a entry h.of_actions (answers h.records table);
+      of_actions = AreOf-push [] actions h.records a entry h.of_actions (answers ∙ asks h.records h.table);
       count = length-append h.records (entry ∷ []) ∙ ap (λ n. n + 1) h.count;
       run = on.run;
       replay = on.replay;
       table = IsTable-noted tickets more h.records entry h.table (rw h.in_turn named.0) noted;
-      in_turn = ap length noted ∙ length-append tickets (filter_map given_by (entry ∷ []))
+      in_turn = ap length noted ∙ length-append tickets (filter_map ticket_given_by (entry ∷ []))
           ∙ omega (arith, h.in_turn, named.1);
       made = subst (λ v. is_page v longer) (sym all) added;
     }

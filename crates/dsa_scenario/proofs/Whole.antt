@@ -7,10 +7,10 @@ use Rattle.dsa_scenario.specs.declared.faults.ScenarioFault.TheVariants.{BadCaps
 use Rattle.dsa_scenario.specs.declared.actions.Action.{Action}
 use Rattle.dsa_scenario.specs.Actions.{action_of}
 use Rattle.dsa_regs.specs.Caps.{check_caps}
-use Rattle.dsa_scenario.specs.Document.{list_of, head_of, IsJson, HasHead, IsFirstBad, IsDocument, IsFaultOf}
+use Rattle.dsa_scenario.specs.Document.{list_of_items, head_of, IsJson, HasHead, IsFirstBad, IsDocument, IsFaultOf}
 
 -- the items of a list are the list
-list_of-items_of : (ds : List Data) → list_of (items_of ds) ≡ ds
+list_of-items_of : (ds : List Data) → list_of_items (items_of ds) ≡ ds
 list_of-items_of [] = refl
 list_of-items_of (d ∷ ds) = ap (λ l. d ∷ l) (list_of-items_of ds)
 

@@ -70,14 +70,14 @@ desc_of d = do
   Some (read bytes)
 
 -- the portal that `limited` says (profile)
-abbrev pub portal_of : Bool → Portal
-portal_of true = Limited
-portal_of false = Unlimited
+abbrev pub portal_of_limited : Bool → Portal
+portal_of_limited true = Limited
+portal_of_limited false = Unlimited
 
 -- the outcome that `fault` says (profile)
-abbrev pub outcome_of : Bool → Outcome
-outcome_of true = PageFault
-outcome_of false = Success
+abbrev pub outcome_of_fault : Bool → Outcome
+outcome_of_fault true = PageFault
+outcome_of_fault false = Success
 
 -- a command, or the refusal of a word that is none (profile)
 abbrev pub action_of_command : Result Command Fault → Action
@@ -85,62 +85,62 @@ action_of_command (Ok command) = Ask (event.Issue command)
 action_of_command (Err fault) = Refuse fault
 
 -- `queue`: a write of a queue's configuration (profile)
-abbrev pub queue_of : Data → Option Action
-queue_of d = do
+abbrev pub queue_action_of : Data → Option Action
+queue_action_of d = do
   queue ← whole_of (2 ^ 16) (codes "queue") d
   config ← queue_config_of d
   Some (Ask (event.WriteQueue queue config))
 
 -- `group`: a write of a group's configuration (profile)
-abbrev pub group_of : Data → Option Action
-group_of d = do
+abbrev pub group_action_of : Data → Option Action
+group_action_of d = do
   group ← whole_of (2 ^ 16) (codes "group") d
   config ← group_config_of d
   Some (Ask (event.WriteGroup group config))
 
 -- `enqcmd`: a submission by ENQCMD (profile)
-abbrev pub enqcmd_of : Data → Option Action
-enqcmd_of d = do
+abbrev pub enqcmd_action_of : Data → Option Action
+enqcmd_action_of d = do
   (client, queue) ← wholes_of (2 ^ 16) (codes "client") (codes "queue") d
   limited ← truth_of (codes "limited") d
   pasid ← whole_of (2 ^ 32) (codes "pasid") d
   desc ← desc_of d
-  Some (Ask (event.Submit client queue (portal_of limited) (Enqcmd pasid) desc))
+  Some (Ask (event.Submit client queue (portal_of_limited limited) (Enqcmd pasid) desc))
 
 -- `movdir`: a submission by MOVDIR64B (profile)
-abbrev pub movdir_of : Data → Option Action
-movdir_of d = do
+abbrev pub movdir_action_of : Data → Option Action
+movdir_action_of d = do
   (client, queue) ← wholes_of (2 ^ 16) (codes "client") (codes "queue") d
   limited ← truth_of (codes "limited") d
   desc ← desc_of d
-  Some (Ask (event.Submit client queue (portal_of limited) Movdir64b desc))
+  Some (Ask (event.Submit client queue (portal_of_limited limited) Movdir64b desc))
 
 -- `dispatch` (profile)
-abbrev pub dispatch_of : Data → Option Action
-dispatch_of d = do
+abbrev pub dispatch_action_of : Data → Option Action
+dispatch_action_of d = do
   engine ← whole_of (2 ^ 16) (codes "engine") d
   Some (Ask (event.Dispatch engine))
 
 -- `fetch` (profile)
-abbrev pub fetch_of : Data → Option Action
-fetch_of d = do
+abbrev pub fetch_action_of : Data → Option Action
+fetch_action_of d = do
   engine ← whole_of (2 ^ 16) (codes "engine") d
   desc ← desc_of d
   Some (Ask (event.Fetch engine desc))
 
 -- `start` (profile)
-abbrev pub start_of : Data → Option Action
-start_of d = do
+abbrev pub start_action_of : Data → Option Action
+start_action_of d = do
   engine ← whole_of (2 ^ 16) (codes "engine") d
   Some (Ask (event.Start engine))
 
 -- `finish`: the end of an entry, which is called by its name (profile)
-abbrev pub finish_of : Data → Option Action
-finish_of d = do
+abbrev pub finish_action_of : Data → Option Action
+finish_action_of d = do
   engine ← whole_of (2 ^ 16) (codes "engine") d
   name ← whole_of (2 ^ 32) (codes "name") d
   fault ← truth_of (codes "fault") d
-  Some (Finish engine name (outcome_of fault))
+  Some (Finish engine name (outcome_of_fault fault))
 
 -- `command`: a word for the command register (profile)
 abbrev pub command_action_of : Data → Option Action
@@ -151,14 +151,14 @@ command_action_of d = do
 -- what a step object of this kind asks (profile)
 abbrev pub action_by : List ℕ → Data → Option Action
 action_by kind d =
-    if bytes_eq kind (codes "queue") then queue_of d
-    else if bytes_eq kind (codes "group") then group_of d
-    else if bytes_eq kind (codes "enqcmd") then enqcmd_of d
-    else if bytes_eq kind (codes "movdir") then movdir_of d
-    else if bytes_eq kind (codes "dispatch") then dispatch_of d
-    else if bytes_eq kind (codes "fetch") then fetch_of d
-    else if bytes_eq kind (codes "start") then start_of d
-    else if bytes_eq kind (codes "finish") then finish_of d
+    if bytes_eq kind (codes "queue") then queue_action_of d
+    else if bytes_eq kind (codes "group") then group_action_of d
+    else if bytes_eq kind (codes "enqcmd") then enqcmd_action_of d
+    else if bytes_eq kind (codes "movdir") then movdir_action_of d
+    else if bytes_eq kind (codes "dispatch") then dispatch_action_of d
+    else if bytes_eq kind (codes "fetch") then fetch_action_of d
+    else if bytes_eq kind (codes "start") then start_action_of d
+    else if bytes_eq kind (codes "finish") then finish_action_of d
     else if bytes_eq kind (codes "command") then command_action_of d
     else if bytes_eq kind (codes "poll") then Some (Ask event.Poll)
     else if bytes_eq kind (codes "clear") then Some (Ask event.ClearError)

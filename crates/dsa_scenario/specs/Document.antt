@@ -18,9 +18,9 @@ head_of d = do
   Some (caps, capacity, steps)
 
 -- the items of a JSON array, as a list
-abbrev pub list_of : Items → List Data
-list_of no_items = []
-list_of (item d ds) = d ∷ list_of ds
+abbrev pub list_of_items : Items → List Data
+list_of_items no_items = []
+list_of_items (item d ds) = d ∷ list_of_items ds
 
 -- the bytes are this JSON value
 pub record IsJson (bytes : List ℕ) (document : Data) : Type 0 where
@@ -33,7 +33,7 @@ pub record HasHead (bytes : List ℕ) (caps : Caps) (capacity : ℕ) (steps : Li
   pub items : Items
   pub json : IsJson bytes document
   pub head : head_of document ≡ Some (caps, capacity, items)
-  pub listed : list_of items ≡ steps
+  pub listed : list_of_items items ≡ steps
 
 -- and its step objects ask these actions, one each in order (profile)
 pub record IsDocument (bytes : List ℕ) (caps : Caps) (capacity : ℕ) (actions : List Action) : Type 0 where

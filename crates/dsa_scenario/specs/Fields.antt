@@ -10,12 +10,13 @@ abbrev pub ◌>>=◌ : {A B : Type 0} → Option A → (A → Option B) → Opti
 o >>= f = option_and_then f o
 
 -- a number below the limit
-abbrev pub below : ℕ → ℕ → Option ℕ
-below limit n = if nat_lt n limit then Some n else None
+abbrev pub below_limit : ℕ → ℕ → Option ℕ
+below_limit limit n = if nat_lt n limit then Some n else None
 
 -- the whole number without sign at the key, where it is below the limit (profile)
 abbrev pub whole_of : ℕ → List ℕ → Data → Option ℕ
-whole_of limit key d = option_and_then (below limit) (option_and_then as_u64 (option_and_then as_number (get key d)))
+whole_of limit key d = option_and_then (below_limit limit)
+    (option_and_then as_u64 (option_and_then as_number (get key d)))
 
 -- and those at two keys (profile)
 abbrev pub wholes_of : ℕ → List ℕ → List ℕ → Data → Option (ℕ × ℕ)

@@ -3,7 +3,7 @@ pub mod Fields
 pub mod Actions
 pub mod Document
 pub mod Lines
-pub mod Metered
+pub mod Counted
 pub mod Run
 pub mod Scenario
 pub mod Steps

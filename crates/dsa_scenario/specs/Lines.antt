@@ -129,8 +129,8 @@ row_text row =
 -- ---- lines (profile)
 
 -- a text and a line feed
-abbrev pub line_of : List ℕ → List ℕ
-line_of text = text ++ 10 ∷ []
+abbrev pub line_of_text : List ℕ → List ℕ
+line_of_text text = text ++ 10 ∷ []
 
 -- what a step object comes to prints the answer, or the refusal of its word
 abbrev pub record_text : Record → List ℕ
@@ -138,6 +138,6 @@ record_text (Stepped step) = reply_text step.reply
 record_text (Refused fault) = refusal_text fault
 
 -- a line for each step object, and then one for each entry that ended
-abbrev pub lines_of : List Record → List FateRow → List ℕ
-lines_of records fates =
-    flat_map (λ entry. line_of (record_text entry)) records ++ flat_map (λ row. line_of (row_text row)) fates
+abbrev pub lines_of_run : List Record → List FateRow → List ℕ
+lines_of_run records fates =
+    flat_map (λ entry. line_of_text (record_text entry)) records ++ flat_map (λ row. line_of_text (row_text row)) fates

@@ -11,7 +11,7 @@ use Rattle.dsa_book.specs.{State.{State}, Machine.{is_run, replay, stored_steps}
 use Rattle.dsa_scenario.specs.declared.actions.Action.{Action, TheVariants.{Ask, Finish, Refuse}}
 use Rattle.dsa_scenario.specs.declared.run.Record.{Record, TheVariants.{Stepped, Refused}}
 use Rattle.dsa_device.specs.{Running.{Running, after_answer}}
-use Rattle.dsa_scenario.specs.Lines.{lines_of}
+use Rattle.dsa_scenario.specs.Lines.{lines_of_run}
 
 -- ---- tickets
 
@@ -21,17 +21,17 @@ given_by_reply (reply.Submit (Accepted ticket)) = Some ticket
 given_by_reply (reply.Fetch (Fetched ticket)) = Some ticket
 given_by_reply _ = None
 
-abbrev pub given_by : Record → Option Ticket
-given_by (Stepped step) = given_by_reply step.reply
-given_by (Refused fault) = None
+abbrev pub ticket_given_by : Record → Option Ticket
+ticket_given_by (Stepped step) = given_by_reply step.reply
+ticket_given_by (Refused fault) = None
 
 -- the ticket under which the name was given in these records
 abbrev pub found : List Record → ℕ → Option Ticket
-found records name = find (λ ticket. ticket.name == name) (filter_map given_by records)
+found records name = find (λ ticket. ticket.name == name) (filter_map ticket_given_by records)
 
 -- that ticket, or cell 0 with a name that was not given (profile)
-abbrev pub ticket_of : List Record → ℕ → Ticket
-ticket_of records name = unwrap_or (found records name) (record { cell = record { 0 = 0 }; name = name })
+abbrev pub ticket_of_name : List Record → ℕ → Ticket
+ticket_of_name records name = unwrap_or (found records name) (record { cell = record { 0 = 0 }; name = name })
 
 -- a table by name has the tickets that these records gave
 abbrev pub IsTable : (ℕ → Option Ticket) → List Record → Type 0
@@ -42,7 +42,7 @@ IsTable table records = (name : ℕ) → table name ≡ found records name
 -- the event that an action asks for after these records, or the refusal of its word (profile)
 abbrev pub event_of : List Record → Action → Result Event Fault
 event_of before (Ask e) = Ok e
-event_of before (Finish engine name outcome) = Ok (event.Finish engine (ticket_of before name) outcome)
+event_of before (Finish engine name outcome) = Ok (event.Finish engine (ticket_of_name before name) outcome)
 event_of before (Refuse fault) = Err fault
 
 -- the event that a record answers, or the refusal that it is
@@ -66,8 +66,8 @@ step_of (Stepped step) = Some step
 step_of (Refused fault) = None
 
 -- the steps that the device made
-abbrev pub steps_of : List Record → List Step
-steps_of records = filter_map step_of records
+abbrev pub steps_of_records : List Record → List Step
+steps_of_records records = filter_map step_of records
 
 -- what a record says of the device: it made the step, or was not asked
 abbrev pub Leads : Running → Record → Running → Type 0
@@ -80,6 +80,6 @@ pub record AreLinesOf (caps : Caps) (capacity : ℕ) (actions : List Action) (li
   pub records : List Record
   pub last : State
   pub events : AreOf [] actions records
-  pub run : is_run caps capacity (steps_of records) ≡ true
-  pub replayed : replay caps (stored_steps (steps_of records)) ≡ Some last
-  pub rendered : lines ≡ lines_of records last.work.fates
+  pub run : is_run caps capacity (steps_of_records records) ≡ true
+  pub replayed : replay caps (stored_steps (steps_of_records records)) ≡ Some last
+  pub rendered : lines ≡ lines_of_run records last.work.fates

@@ -7,8 +7,8 @@ use Rattle.dsa_scenario.specs.declared.faults.ScenarioFault.{ScenarioFault}
 use Rattle.dsa_scenario.specs.declared.faults.ScenarioFault.TheVariants.{Read, TooLong, Write, OutOfMemory}
 
 -- the reader gave these bytes and then its end, and they are no more than a document has (profile)
-abbrev pub IsWhole : Option (List ℕ) → Option (List ℕ) → List ℕ → Type 0
-IsWhole old new bytes = Consumes old new bytes × IsAtEnd new × (length bytes ≤ 2 ^ 20)
+abbrev pub IsWholeDocument : Option (List ℕ) → Option (List ℕ) → List ℕ → Type 0
+IsWholeDocument old new bytes = Consumes old new bytes × IsAtEnd new × (length bytes ≤ 2 ^ 20)
 
 -- the bytes are a document without a fault, and the lines are those of a run of it (profile)
 pub record IsRenderingOf (bytes lines : List ℕ) : Type 0 where
@@ -26,27 +26,29 @@ HasFault had left Read = (bytes : List ℕ) × Consumes had left bytes × (lengt
 HasFault had left TooLong = (bytes : List ℕ) × Consumes had left bytes × (2 ^ 20 < length bytes)
 HasFault had left Write = ⊤
 HasFault had left OutOfMemory = ⊤
-HasFault had left fault = (bytes : List ℕ) × IsWhole had left bytes × IsFaultOf bytes fault
+HasFault had left fault = (bytes : List ℕ) × IsWholeDocument had left bytes × IsFaultOf bytes fault
 
 -- the fault is of reading, of length, of writing or of memory, or the first that stands of all that the reader gave
 abbrev pub IsFirstOf : Option (List ℕ) → Option (List ℕ) → ScenarioFault → Type 0
 IsFirstOf had left fault = (fault ≡ Read) ⊎ (fault ≡ TooLong) ⊎ (fault ≡ Write) ⊎ (fault ≡ OutOfMemory)
-    ⊎ ((bytes : List ℕ) × IsWhole had left bytes × IsFaultOf bytes fault)
+    ⊎ ((bytes : List ℕ) × IsWholeDocument had left bytes × IsFaultOf bytes fault)
 
 -- the reader gave a document, and the writer, which held and holds these bytes, took all of a text that is of it
-abbrev pub IsWritten : (List ℕ → List ℕ → Type 0) → Option (List ℕ) → Option (List ℕ) → Option (List ℕ)
+abbrev pub IsTextWritten : (List ℕ → List ℕ → Type 0) → Option (List ℕ) → Option (List ℕ) → Option (List ℕ)
     → Option (List ℕ) → Type 0
-IsWritten is_of had left held holds = (bytes : List ℕ) × (text : List ℕ) × IsWhole had left bytes × is_of bytes text
+IsTextWritten is_of had left held holds = (bytes : List ℕ) × (text : List ℕ) × IsWholeDocument had left bytes
+    × is_of bytes text
     × Appends held holds text
 
--- the writer has taken the first bytes of a text of the document, after which a fault is told or none, and not all of them
+-- the writer has taken the first bytes of a text of the document, after which a fault is told or
+-- none, and not all of them
 abbrev pub IsTextCutShort : (List ℕ → Option ScenarioFault → List ℕ → Type 0) → Option (List ℕ) → Option (List ℕ)
     → Option (List ℕ) → Option (List ℕ) → Type 0
 IsTextCutShort is_of had left held holds = (bytes : List ℕ) × (text : List ℕ) × (fault : Option ScenarioFault)
-    × (count : ℕ) × IsWhole had left bytes × is_of bytes fault text × (count < length text)
+    × (count : ℕ) × IsWholeDocument had left bytes × is_of bytes fault text × (count < length text)
     × Appends held holds (take count text)
 
 -- the writer, which held and holds these bytes, has taken the first lines of a run of the document, and not all of them
 abbrev pub IsCutShort : Option (List ℕ) → Option (List ℕ) → Option (List ℕ) → Option (List ℕ) → Type 0
-IsCutShort had left held holds = (bytes : List ℕ) × (lines : List ℕ) × (count : ℕ) × IsWhole had left bytes
+IsCutShort had left held holds = (bytes : List ℕ) × (lines : List ℕ) × (count : ℕ) × IsWholeDocument had left bytes
     × IsRenderingOf bytes lines × (count < length lines) × Appends held holds (take count lines)

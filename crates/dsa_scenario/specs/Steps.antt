@@ -6,13 +6,13 @@ use Rattle.dsa_book.specs.declared.answer.Ticket.{Ticket}
 use Rattle.dsa_book.specs.{State.{State, opening}, Machine.{is_run, replay, stored_steps}}
 use Rattle.dsa_device.specs.{Running.{Running, running_at_first, IsReplay}, Runs.{IsRunOf}}
 use Rattle.dsa_scenario.specs.declared.{actions.Action.{Action}, run.Record.{Record}}
-use Rattle.dsa_scenario.specs.{Document.{IsDocument}, Lines.{line_of, record_text, row_text}}
-use Rattle.dsa_scenario.specs.Run.{steps_of, AreOf, IsTable}
+use Rattle.dsa_scenario.specs.{Document.{IsDocument}, Lines.{line_of_text, record_text, row_text}}
+use Rattle.dsa_scenario.specs.Run.{steps_of_records, AreOf, IsTable}
 
 -- how a device stands that has come by these records
 abbrev pub standing : Caps → ℕ → List Record → Running
 standing caps capacity records =
-    let history = stored_steps (steps_of records) in
+    let history = stored_steps (steps_of_records records) in
     record {
       caps = caps;
       capacity = capacity;
@@ -20,7 +20,7 @@ standing caps capacity records =
       state = unwrap_or (replay caps history) (opening caps);
     }
 
--- a step of a run: its number, how the device stood before it, what came of it, and how the device stands after it (profile)
+-- a step of a run: its number, the device before it, what came of it, and the device after it (profile)
 pub record Visit : Type 0 where
   pub number : ℕ
   pub before : Running
@@ -44,8 +44,8 @@ pub record IsWalkTo {Page : Type 0} (is_page : List Visit → Page → Type 0) (
   pub records : List Record
   pub of_actions : AreOf [] actions records
   pub count : length records ≡ number
-  pub run : IsRunOf (running_at_first caps capacity) (map (λ step. step.event) (steps_of records)) []
-      (steps_of records) now
+  pub run : IsRunOf (running_at_first caps capacity) (map (λ step. step.event) (steps_of_records records)) []
+      (steps_of_records records) now
   pub replay : IsReplay now
   pub table : IsTable (slice_get tickets) records
   pub in_turn : length tickets ≡ now.state.work.setup.next_name
@@ -58,8 +58,8 @@ pub record IsTextOfRun (is_text : List Visit → Running → List ℕ → Type 0
   pub records : List Record
   pub last : State
   pub of_actions : AreOf [] actions records
-  pub run : is_run caps capacity (steps_of records) ≡ true
-  pub replayed : replay caps (stored_steps (steps_of records)) ≡ Some last
+  pub run : is_run caps capacity (steps_of_records records) ≡ true
+  pub replayed : replay caps (stored_steps (steps_of_records records)) ≡ Some last
   pub rendered : is_text (visits caps capacity [] records) (standing caps capacity records) text
 
 -- the bytes are a document without a fault, and the text is made of a run of it (profile)
@@ -75,9 +75,9 @@ pub record IsTextOfDocument (is_text : List Visit → Running → List ℕ → T
 
 -- the line of a step of a run (profile)
 abbrev pub line_of_step : Visit → List ℕ
-line_of_step step = line_of (record_text step.entry)
+line_of_step step = line_of_text (record_text step.entry)
 
 -- the text has a line for each of these steps, and one for each fate that the device tells at last (profile)
 abbrev pub AreLinesOfSteps : List Visit → Running → List ℕ → Type 0
 AreLinesOfSteps steps last text =
-    text ≡ flat_map line_of_step steps ++ flat_map (λ row. line_of (row_text row)) last.state.work.fates
+    text ≡ flat_map line_of_step steps ++ flat_map (λ row. line_of_text (row_text row)) last.state.work.fates

@@ -46,12 +46,12 @@ abbrev pub array_of_one : Data → Data
 array_of_one value = array (item value no_items)
 
 -- all fields but that at the key
-abbrev pub without : List ℕ → Fields → Fields
-without key fields = filter (λ field. not (bytes_eq field.0 key)) fields
+abbrev pub fields_without : List ℕ → Fields → Fields
+fields_without key fields = filter (λ field. not (bytes_eq field.0 key)) fields
 
 -- the object with another value at the key
 abbrev pub changed : List ℕ → Data → Fields → Data
-changed key value fields = object_of ((key, value) ∷ without key fields)
+changed key value fields = object_of ((key, value) ∷ fields_without key fields)
 
 -- values of each kind, those of a text that reads like another kind among them
 abbrev pub wholes : List Data
@@ -73,7 +73,7 @@ others =
 module _ {A : Type 0} (read : Data → Option A) (fields : Fields) where
   -- it has to have each of them
   abbrev pub needs_each : Bool
-  needs_each = list_all (λ field. is_none (read (object_of (without field.0 fields)))) fields
+  needs_each = list_all (λ field. is_none (read (object_of (fields_without field.0 fields)))) fields
 
   -- it may have any of these values at the key
   abbrev pub takes : List ℕ → List Data → Bool
@@ -225,8 +225,8 @@ read_number text = option_and_then (whole_of (2 ^ 8) (codes "n")) (read text)
 -- ---- records
 
 -- the ticket of this cell and name
-abbrev pub ticket : ℕ → ℕ → Ticket
-ticket cell name = record { cell = record { 0 = cell }; name = name }
+abbrev pub record_ticket : ℕ → ℕ → Ticket
+record_ticket cell name = record { cell = record { 0 = cell }; name = name }
 
 -- an event, and what was answered
 abbrev pub stepped : Event → Reply → Record
@@ -234,11 +234,11 @@ stepped event reply = Stepped (record { event = event; reply = reply })
 
 -- a submission was accepted under this ticket
 abbrev pub accepted : Ticket → Record
-accepted ticket = stepped (event.Submit 0 0 Limited Movdir64b fill) (reply.Submit (Accepted ticket))
+accepted record_ticket = stepped (event.Submit 0 0 Limited Movdir64b fill) (reply.Submit (Accepted record_ticket))
 
 -- a member was fetched under this ticket
-abbrev pub fetched : Ticket → Record
-fetched ticket = stepped (event.Fetch 0 fill) (reply.Fetch (Fetched ticket))
+abbrev pub record_of_a_fetch : Ticket → Record
+record_of_a_fetch record_ticket = stepped (event.Fetch 0 fill) (reply.Fetch (Fetched record_ticket))
 
 -- the fate of a name that was submitted by itself
 abbrev pub fate : ℕ → Fate → FateRow
@@ -303,9 +303,9 @@ records_of_a_run =
     stepped (event.Issue EnableDevice) (reply.Issue (Ended 0)) ∷
     stepped (event.Issue (EnableWq 0)) (reply.Issue (Ended 0)) ∷
     Refused BadCommand ∷
-    stepped submission_of_a_run (reply.Submit (Accepted (ticket 3 0))) ∷
-    stepped (event.Dispatch 0) (reply.Dispatch (Taken (ticket 3 0) 0)) ∷
-    stepped (event.Finish 0 (ticket 3 0) Success) (reply.Finish (Done 1)) ∷
+    stepped submission_of_a_run (reply.Submit (Accepted (record_ticket 3 0))) ∷
+    stepped (event.Dispatch 0) (reply.Dispatch (Taken (record_ticket 3 0) 0)) ∷
+    stepped (event.Finish 0 (record_ticket 3 0) Success) (reply.Finish (Done 1)) ∷
     stepped event.Poll (reply.Poll Full) ∷ []
 
 abbrev pub lines_of_a_run : List ℕ

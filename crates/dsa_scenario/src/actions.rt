@@ -4,7 +4,7 @@ ghost use Rattle.std.specs.Prelude.{◌≡◌, ◌^◌, codes, option_map, optio
 ghost use Rattle.serde_json.specs.View.{view};
 ghost use Rattle.serde_json.specs.Find.{get};
 ghost use Rattle.dsa_regs.specs.Command.{command_of};
-ghost use Rattle.dsa_scenario.specs.Actions.{caps_of, queue_config_of, group_config_of, desc_of, portal_of, outcome_of, action_of_command, queue_of, group_of, enqcmd_of, movdir_of, dispatch_of, fetch_of, start_of, finish_of, command_action_of, action_of};
+ghost use Rattle.dsa_scenario.specs.Actions.{caps_of, queue_config_of, group_config_of, desc_of, portal_of_limited, outcome_of_fault, action_of_command, queue_action_of, group_action_of, enqcmd_action_of, movdir_action_of, dispatch_action_of, fetch_action_of, start_action_of, finish_action_of, command_action_of, action_of};
 
 use crate::fields::{bytes_of_hex, truth_field, u8_field, u16_field, u32_field, u64_field};
 use dsa_book::{Event, Kind, Portal};
@@ -79,7 +79,7 @@ fn parse_desc(object: &Value) -> Option<Descriptor>
 
 #[inline(always)]
 fn portal_of(limited: bool) -> Portal
-    ensures { result ≡ portal_of limited }
+    ensures { result ≡ portal_of_limited limited }
 {
     if limited {
         Portal::Limited
@@ -90,7 +90,7 @@ fn portal_of(limited: bool) -> Portal
 
 #[inline(always)]
 fn outcome_of(fault: bool) -> Outcome
-    ensures { result ≡ outcome_of fault }
+    ensures { result ≡ outcome_of_fault fault }
 {
     if fault {
         Outcome::PageFault
@@ -100,7 +100,7 @@ fn outcome_of(fault: bool) -> Outcome
 }
 
 fn parse_queue(object: &Value) -> Option<Action>
-    ensures { result ≡ queue_of (view object.now) }
+    ensures { result ≡ queue_action_of (view object.now) }
 {
     let queue = u16_field(object, "queue")?;
     let config = parse_queue_config(object)?;
@@ -108,7 +108,7 @@ fn parse_queue(object: &Value) -> Option<Action>
 }
 
 fn parse_group(object: &Value) -> Option<Action>
-    ensures { result ≡ group_of (view object.now) }
+    ensures { result ≡ group_action_of (view object.now) }
 {
     let group = u16_field(object, "group")?;
     let config = parse_group_config(object)?;
@@ -116,7 +116,7 @@ fn parse_group(object: &Value) -> Option<Action>
 }
 
 fn parse_enqcmd(object: &Value) -> Option<Action>
-    ensures { result ≡ enqcmd_of (view object.now) }
+    ensures { result ≡ enqcmd_action_of (view object.now) }
 {
     let client = u16_field(object, "client")?;
     let queue = u16_field(object, "queue")?;
@@ -133,7 +133,7 @@ fn parse_enqcmd(object: &Value) -> Option<Action>
 }
 
 fn parse_movdir(object: &Value) -> Option<Action>
-    ensures { result ≡ movdir_of (view object.now) }
+    ensures { result ≡ movdir_action_of (view object.now) }
 {
     let client = u16_field(object, "client")?;
     let queue = u16_field(object, "queue")?;
@@ -150,7 +150,7 @@ fn parse_movdir(object: &Value) -> Option<Action>
 
 #[inline(always)]
 fn parse_dispatch(object: &Value) -> Option<Action>
-    ensures { result ≡ dispatch_of (view object.now) }
+    ensures { result ≡ dispatch_action_of (view object.now) }
 {
     let engine = u16_field(object, "engine")?;
     Some(Action::Ask(Event::Dispatch { engine }))
@@ -158,7 +158,7 @@ fn parse_dispatch(object: &Value) -> Option<Action>
 
 #[inline(always)]
 fn parse_fetch(object: &Value) -> Option<Action>
-    ensures { result ≡ fetch_of (view object.now) }
+    ensures { result ≡ fetch_action_of (view object.now) }
 {
     let engine = u16_field(object, "engine")?;
     let desc = parse_desc(object)?;
@@ -167,7 +167,7 @@ fn parse_fetch(object: &Value) -> Option<Action>
 
 #[inline(always)]
 fn parse_start(object: &Value) -> Option<Action>
-    ensures { result ≡ start_of (view object.now) }
+    ensures { result ≡ start_action_of (view object.now) }
 {
     let engine = u16_field(object, "engine")?;
     Some(Action::Ask(Event::Start { engine }))
@@ -175,7 +175,7 @@ fn parse_start(object: &Value) -> Option<Action>
 
 #[inline(always)]
 fn parse_finish(object: &Value) -> Option<Action>
-    ensures { result ≡ finish_of (view object.now) }
+    ensures { result ≡ finish_action_of (view object.now) }
 {
     let engine = u16_field(object, "engine")?;
     let name = u32_field(object, "name")?;
@@ -205,8 +205,8 @@ fn parse_command(object: &Value) -> Option<Action>
     Some(action_of_word(word))
 }
 
-/// What a step object asks, by its text `do` and the fields of that kind of step; other fields are ignored. `None` says
-/// that it is no step object.
+/// What a step object asks, by its text `do` and the fields of that kind of step; other fields are
+/// ignored. `None` says that it is no step object.
 #[inline(always)]
 pub fn parse_action(object: &Value) -> Option<Action>
     ensures { result ≡ action_of (view object.now) }

@@ -16,7 +16,8 @@ use dsa_regs::Caps;
 use serde_json::{Error, Value};
 use std::alloc::Global;
 
-/// A document that is read: the capabilities of the device, the capacity of its history, and what is asked of it.
+/// A document that is read: the capabilities of the device, the capacity of its history, and what
+/// is asked of it.
 #[derive(Drop)]
 pub struct Document {
     pub caps: Caps,
@@ -46,7 +47,9 @@ fn json_fault(error: Error) -> ScenarioFault
 /// Reads a JSON value.
 pub fn parse_json(alloc: Global, bytes: &[u8]) -> Result<Value, ScenarioFault>
     ensures ok { IfOk result (λ v. IsJson bytes.now (view v)) }
-    ensures err { IfErr result (λ e. (e ≡ ScenarioFault.OutOfMemory) ⊎ ((e ≡ ScenarioFault.NotJson) × IsNoJson bytes.now)) }
+    ensures err { IfErr result
+        (λ e. (e ≡ ScenarioFault.OutOfMemory)
+        ⊎ ((e ≡ ScenarioFault.NotJson) × IsNoJson bytes.now)) }
 {
     match Value::from_slice(alloc, bytes) {
         Ok(value) => Ok(value),
@@ -56,7 +59,8 @@ pub fn parse_json(alloc: Global, bytes: &[u8]) -> Result<Value, ScenarioFault>
 
 /// The three keys of a document, where it has them.
 pub fn parse_head(document: &Value) -> Option<Head<'_>>
-    ensures { option_map (λ h. (h.caps, h.capacity, items_view h.steps.now)) result ≡ head_of (view document.now) }
+    ensures { option_map (λ h. (h.caps, h.capacity, items_view h.steps.now)) result
+        ≡ head_of (view document.now) }
 {
     let caps = parse_caps(document.get("caps")?)?;
     let capacity = u64_field(document, "capacity")?;
@@ -70,8 +74,10 @@ pub fn parse_head(document: &Value) -> Option<Head<'_>>
 
 /// What the step objects ask.
 pub fn parse_actions(alloc: Global, steps: &[Value]) -> Result<Vec<Action>, ScenarioFault>
-    ensures ok { IfOk result (λ actions. map action_of (map view steps.now) ≡ map Some actions.items) }
-    ensures bad { IfErr result (λ e. (e ≡ ScenarioFault.OutOfMemory) ⊎ IsFirstBad (map view steps.now) e) }
+    ensures ok { IfOk result
+        (λ actions. map action_of (map view steps.now) ≡ map Some actions.items) }
+    ensures bad { IfErr result
+        (λ e. (e ≡ ScenarioFault.OutOfMemory) ⊎ IsFirstBad (map view steps.now) e) }
 {
     let mut actions = Vec::with_capacity(alloc, steps.len())?;
     for (i, step) in steps.iter().enumerate() {
@@ -118,8 +124,11 @@ pub fn check_head(caps: &Caps, capacity: u64) -> Result<(), ScenarioFault>
 pub fn check_document(document: &Document) -> Result<(), ScenarioFault>
     ensures caps { OnOk result (check_caps document.now.caps ≡ true) }
     ensures capacity { OnOk result (document.now.capacity ≤ 2 ^ 20) }
-    ensures bad { IfErr result (λ e. ((e ≡ ScenarioFault.BadCaps) × (check_caps document.now.caps ≡ false))
-        ⊎ ((e ≡ ScenarioFault.BadCapacity) × (check_caps document.now.caps ≡ true) × (2 ^ 20 < document.now.capacity))) }
+    ensures bad { IfErr result
+        (λ e. ((e ≡ ScenarioFault.BadCaps) × (check_caps document.now.caps ≡ false))
+        ⊎ ((e ≡ ScenarioFault.BadCapacity)
+        × (check_caps document.now.caps ≡ true)
+        × (2 ^ 20 < document.now.capacity))) }
 {
     check_head(&document.caps, document.capacity)
 }

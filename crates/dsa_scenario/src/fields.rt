@@ -47,7 +47,8 @@ pub fn truth_field(object: &Value, key: &str) -> Option<bool>
     object.get(key)?.as_bool()
 }
 
-// Writes the bytes of a text of hexadecimal digits over the first of `bytes`, and says whether it is one.
+// Writes the bytes of a text of hexadecimal digits over the first of `bytes`, and says whether it
+// is one.
 #[inline(always)]
 fn decode_front(text: &str, bytes: &mut [u8]) -> bool
     requires even { length text.now % 2 ≡ 0 }

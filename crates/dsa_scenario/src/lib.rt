@@ -1,16 +1,17 @@
 //! Scenario documents: a JSON text in, the lines of its run on a device out.
 //!
-//! A document has the capabilities of a device, the capacity of its history, and steps. [`run_scenario`] reads one, runs its
-//! steps on a new device, one after the other, and writes a line for each step and then one for each entry that ended.
-//! `docs/SCENARIO.md` describes documents and lines.
+//! A document has the capabilities of a device, the capacity of its history, and steps.
+//! [`run_scenario`] reads one, runs its steps on a new device, one after the other, and writes a
+//! line for each step and then one for each entry that ended. `docs/SCENARIO.md` describes
+//! documents and lines.
 #![tactic(auto)]
 
 mod actions;
+mod counted;
 mod document;
 mod faults;
 mod fields;
 mod lines;
-mod metered;
 mod reading;
 mod rendering;
 pub mod rows;
@@ -21,6 +22,7 @@ mod watched;
 mod writing;
 
 pub use actions::{Action, parse_action, parse_caps};
+pub use counted::CountedReader;
 pub use document::{
     Document, Head, check_document, check_head, parse_actions, parse_document, parse_head,
     parse_json,
@@ -28,11 +30,10 @@ pub use document::{
 pub use faults::ScenarioFault;
 pub use fields::{bytes_of_hex, u64_field};
 pub use lines::{add_answer, add_record, add_rows};
-pub use metered::MeteredReader;
 pub use reading::MAX_READS;
-pub use rendering::{Render, Rendering, render_input, render_metered};
+pub use rendering::{Render, Rendering, render_counted, render_input};
 pub use run::{Record, ask, event_for, note_ticket};
-pub use scenario::{PlainRun, render_document, run_document, run_metered, run_scenario};
+pub use scenario::{PlainRun, run_document, run_scenario};
 pub use steps::{RenderSteps, render_run, render_steps};
 pub use watched::WatchedWriter;
 pub use writing::write_text;

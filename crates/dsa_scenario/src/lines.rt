@@ -2,7 +2,7 @@
 
 ghost use Rattle.std.specs.Prelude.{◌≡◌, ◌<◌, ◌++◌, false, OnOk, string_bytes, flat_map};
 ghost use Rattle.std.specs.Fmt.{decimal, digit_glyph};
-ghost use Rattle.dsa_scenario.specs.Lines.{two_digits, cause_text, refusal_text, submit_text, dispatch_text, fetch_text, start_text, finish_text, issue_text, poll_text, write_text, noted_text, clear_text, reply_text, parent_text, fate_text, row_text, record_text, line_of};
+ghost use Rattle.dsa_scenario.specs.Lines.{two_digits, cause_text, refusal_text, submit_text, dispatch_text, fetch_text, start_text, finish_text, issue_text, poll_text, write_text, noted_text, clear_text, reply_text, parent_text, fate_text, row_text, record_text, line_of_text};
 
 use crate::run::Record;
 use dsa_book::{
@@ -45,7 +45,8 @@ fn add_status(text: &mut String, status: u8) -> Result<(), AllocError>
 // A word and a number.
 #[inline(always)]
 fn add_number(text: &mut String, word: &str, number: u32) -> Result<(), AllocError>
-    ensures { OnOk result (string_bytes text.new ≡ string_bytes text.old ++ word.now ++ decimal number) }
+    ensures { OnOk result
+        (string_bytes text.new ≡ string_bytes text.old ++ word.now ++ decimal number) }
 {
     let mut buffer = Buffer::new();
     text.push_str(word)?;
@@ -55,7 +56,8 @@ fn add_number(text: &mut String, word: &str, number: u32) -> Result<(), AllocErr
 // A word and a status.
 #[inline(always)]
 fn add_ended(text: &mut String, word: &str, status: u8) -> Result<(), AllocError>
-    ensures { OnOk result (string_bytes text.new ≡ string_bytes text.old ++ (word.now ++ two_digits status)) }
+    ensures { OnOk result
+        (string_bytes text.new ≡ string_bytes text.old ++ (word.now ++ two_digits status)) }
 {
     text.push_str(word)?;
     add_status(text, status)
@@ -209,7 +211,8 @@ pub fn add_answer(text: &mut String, entry: &Record) -> Result<(), AllocError>
 /// Adds the line of a record.
 #[inline(always)]
 pub fn add_record(text: &mut String, entry: &Record) -> Result<(), AllocError>
-    ensures { OnOk result (string_bytes text.new ≡ string_bytes text.old ++ line_of (record_text entry.now)) }
+    ensures { OnOk result
+        (string_bytes text.new ≡ string_bytes text.old ++ line_of_text (record_text entry.now)) }
 {
     add_answer(text, entry)?;
     text.push_str("\n")
@@ -235,7 +238,8 @@ fn add_fate(text: &mut String, fate: Fate) -> Result<(), AllocError>
 }
 
 fn add_row(text: &mut String, row: &FateRow) -> Result<(), AllocError>
-    ensures { OnOk result (string_bytes text.new ≡ string_bytes text.old ++ line_of (row_text row.now)) }
+    ensures { OnOk result
+        (string_bytes text.new ≡ string_bytes text.old ++ line_of_text (row_text row.now)) }
 {
     add_number(text, "fate ", row.name)?;
     text.push_str(" ")?;
@@ -247,7 +251,9 @@ fn add_row(text: &mut String, row: &FateRow) -> Result<(), AllocError>
 
 /// Adds a line for each fate row.
 pub fn add_rows(text: &mut String, fates: &[FateRow]) -> Result<(), AllocError>
-    ensures { OnOk result (string_bytes text.new ≡ string_bytes text.old ++ flat_map (λ row. line_of (row_text row)) fates.now) }
+    ensures { OnOk result
+        (string_bytes text.new
+        ≡ string_bytes text.old ++ flat_map (λ row. line_of_text (row_text row)) fates.now) }
 {
     for row in fates {
         add_row(text, row)?;

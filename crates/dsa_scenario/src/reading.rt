@@ -2,10 +2,11 @@
 
 ghost use Rattle.std.specs.Prelude.{◌≡◌, ◌<◌, ◌≤◌, ◌+◌, ◌⊎◌, ℕ, List, length, vec_len, IfOk, IfErr, IsErrOf};
 ghost use Rattle.std.specs.Io.KnownBytes.{Consumes, IsAtEnd};
-ghost use Rattle.dsa_scenario.specs.Metered.{metered_remaining, budget_of, IsSameReader, IsFailureNoted};
+ghost use Rattle.dsa_scenario.specs.Counted.{counted_remaining, asked_of};
+ghost use Rattle.dsa_scenario.specs.Counted.{IsSameReader, IsAskedFor, IsFailureNoted};
 
+use crate::counted::CountedReader;
 use crate::faults::ScenarioFault;
-use crate::metered::MeteredReader;
 use std::alloc::Global;
 use std::io::Read;
 
@@ -22,33 +23,35 @@ const CHUNK: usize = 4096;
 /// `Read` is an error of the reader, and `TooLong` says that more than [`MAX_DOCUMENT`] bytes came.
 pub fn read_document<R: Read>(
     alloc: Global,
-    reader: &mut MeteredReader<'_, R>,
+    reader: &mut CountedReader<'_, R>,
 ) -> Result<Vec<u8>, ScenarioFault>
-    requires { MAX_READS ≤ budget_of reader.old }
     ensures same_reader { IsSameReader reader.old reader.new }
-    ensures reads { budget_of reader.old ≤ budget_of reader.new + MAX_READS }
-    ensures bytes { IfOk result (λ bytes. Consumes (metered_remaining R.remaining reader.old)
-        (metered_remaining R.remaining reader.new) bytes.items) }
-    ensures end { IfOk result (λ bytes. IsAtEnd (metered_remaining R.remaining reader.new)) }
+    ensures reads { asked_of reader.new ≤ asked_of reader.old + MAX_READS }
+    ensures asked { IsAskedFor R.remaining reader.old reader.new 1 }
+    ensures bytes { IfOk result (λ bytes. Consumes (counted_remaining R.remaining reader.old)
+        (counted_remaining R.remaining reader.new) bytes.items) }
+    ensures end { IfOk result (λ bytes. IsAtEnd (counted_remaining R.remaining reader.new)) }
     ensures fits { IfOk result (λ bytes. vec_len bytes ≤ MAX_DOCUMENT) }
 
     // `TooLong` is told of more bytes than a document has, and `Read` of an error that came before.
     ensures too_long { IsErrOf result ScenarioFault.TooLong → (bytes : List ℕ)
-        × Consumes (metered_remaining R.remaining reader.old) (metered_remaining R.remaining reader.new) bytes
+        × Consumes (counted_remaining R.remaining reader.old)
+        (counted_remaining R.remaining reader.new) bytes
         × (MAX_DOCUMENT < length bytes) }
     ensures read { IsErrOf result ScenarioFault.Read → (bytes : List ℕ)
-        × Consumes (metered_remaining R.remaining reader.old) (metered_remaining R.remaining reader.new) bytes
+        × Consumes (counted_remaining R.remaining reader.old)
+        (counted_remaining R.remaining reader.new) bytes
         × (length bytes ≤ MAX_DOCUMENT) }
     ensures failed { IsFailureNoted result reader.old reader.new }
-    ensures faults { IfErr result (λ e. (e ≡ ScenarioFault.Read) ⊎ (e ≡ ScenarioFault.TooLong) ⊎ (e ≡ ScenarioFault.OutOfMemory)) }
+    ensures faults { IfErr result
+        (λ e. (e ≡ ScenarioFault.Read)
+        ⊎ (e ≡ ScenarioFault.TooLong)
+        ⊎ (e ≡ ScenarioFault.OutOfMemory)) }
 {
     let mut bytes = Vec::new(alloc);
     let mut chunk = [0u8; CHUNK];
     'reads: while bytes.len() <= MAX_DOCUMENT {
-        let count = match reader.read(&mut chunk) {
-            Ok(count) => count,
-            Err(_) => return Err(ScenarioFault::Read),
-        };
+        let count = reader.read_once(&mut chunk)?;
         if count == 0 {
             return Ok(bytes);
         }

@@ -1,15 +1,17 @@
-//! Ways to make a text of a document, and what reads the document and writes the text around each of them.
+//! Ways to make a text of a document, and what reads the document and writes the text around each
+//! of them.
 
 ghost use Rattle.std.specs.Prelude.{◌≡◌, ◌≢◌, ◌⊎◌, ◌<◌, ◌≤◌, ◌+◌, List, Option, ℕ, length, take, IfOk, IfErr, IsErrOf, string_bytes};
 ghost use Rattle.std.specs.Io.KnownBytes.{Appends};
+ghost use Rattle.dsa_scenario.specs.Counted.{counted_remaining, asked_of};
+ghost use Rattle.dsa_scenario.specs.Counted.{IsSameReader, IsAskedFor, IsFailureNoted};
 ghost use Rattle.dsa_scenario.specs.declared.faults.ScenarioFault.{ScenarioFault};
 ghost use Rattle.dsa_scenario.specs.Document.{IsFaultOf};
-ghost use Rattle.dsa_scenario.specs.Metered.{metered_remaining, budget_of, IsSameReader, IsFailureNoted};
-ghost use Rattle.dsa_scenario.specs.Scenario.{HasFault, IsFirstOf, IsWritten, IsTextCutShort};
+ghost use Rattle.dsa_scenario.specs.Scenario.{HasFault, IsFirstOf, IsTextWritten, IsTextCutShort};
 ghost use Rattle.dsa_scenario.specs.Watched.{watched_contents, IsSameWriter, IsRefusalNoted};
 
+use crate::counted::CountedReader;
 use crate::faults::ScenarioFault;
-use crate::metered::MeteredReader;
 use crate::reading::{MAX_READS, read_document};
 use crate::watched::WatchedWriter;
 use crate::writing::write_text;
@@ -19,8 +21,8 @@ use std::io::{Read, Write};
 
 /// What a document came to.
 ///
-/// The JSON value is let go after the text: where a large block comes back, an allocator looks at all small ones that are
-/// free, and the value is of many.
+/// The JSON value is dropped last: freeing its many small blocks before the text's large one makes
+/// `malloc` merge them.
 #[derive(Drop)]
 pub struct Rendering {
     pub text: String,
@@ -37,45 +39,51 @@ pub trait Render: Drop {
 
     /// The text of the document in these bytes, or the document's fault.
     fn render(&self, alloc: Global, bytes: &[u8]) -> Result<Rendering, ScenarioFault>
-        ensures ok { IfOk result (λ r. is_rendering self.now bytes.now r.fault (string_bytes r.text)) }
+        ensures ok { IfOk result
+            (λ r. is_rendering self.now bytes.now r.fault (string_bytes r.text)) }
         ensures err { IfErr result (λ e. (e ≡ ScenarioFault.OutOfMemory) ⊎ IsFaultOf bytes.now e) };
 }
 
-/// Reads one document to the end of input and writes what `what` makes of it, by at most [`MAX_READS`] reads. It gives the
-/// fault that is told after the text.
+/// Reads one document to the end of input and writes what `what` makes of it, by at most
+/// [`MAX_READS`] reads. It gives the fault that is told after the text.
 ///
-/// The whole text is made before the first byte is written. The faults come in the order of [`ScenarioFault`]; want of
-/// memory comes where it is refused. On `Write` the writer has got a proper prefix of the text, on any other fault it was not
-/// asked for anything.
-pub fn render_metered<D: Render, R: Read, W: Write>(
+/// The whole text is made before the first byte is written. The faults come in the order of
+/// [`ScenarioFault`]; want of memory comes where it is refused. On `Write` the writer has got a
+/// proper prefix of the text, on any other fault it was not asked for anything.
+pub fn render_counted<D: Render, R: Read, W: Write>(
     alloc: Global,
     what: &D,
-    reader: &mut MeteredReader<'_, R>,
+    reader: &mut CountedReader<'_, R>,
     writer: &mut WatchedWriter<'_, W>,
 ) -> Result<Option<ScenarioFault>, ScenarioFault>
-    requires { MAX_READS ≤ budget_of reader.old }
     ensures same_reader { IsSameReader reader.old reader.new }
     ensures same_writer { IsSameWriter writer.old writer.new }
-    ensures reads { budget_of reader.old ≤ budget_of reader.new + MAX_READS }
-    ensures ok { IfOk result (λ fault. IsWritten (λ bytes text. D.is_rendering what.now bytes fault text)
-        (metered_remaining R.remaining reader.old) (metered_remaining R.remaining reader.new)
-        (watched_contents W.contents writer.old) (watched_contents W.contents writer.new)) }
+    ensures reads { asked_of reader.new ≤ asked_of reader.old + MAX_READS }
+    ensures asked { IsAskedFor R.remaining reader.old reader.new 1 }
+    ensures ok { IfOk result
+        (λ fault. IsTextWritten (λ bytes text. D.is_rendering what.now bytes fault text)
+        (counted_remaining R.remaining reader.old)
+        (counted_remaining R.remaining reader.new) (watched_contents W.contents writer.old)
+        (watched_contents W.contents writer.new)) }
 
     // Only `Write` may have written, and then some of such a text.
     ensures nothing { IfErr result (λ e. e ≢ ScenarioFault.Write → writer.new ≡ writer.old) }
     ensures prefix { IsErrOf result ScenarioFault.Write → IsTextCutShort (D.is_rendering what.now)
-        (metered_remaining R.remaining reader.old) (metered_remaining R.remaining reader.new)
+        (counted_remaining R.remaining reader.old) (counted_remaining R.remaining reader.new)
         (watched_contents W.contents writer.old) (watched_contents W.contents writer.new) }
     ensures refused { IsRefusalNoted result writer.old writer.new }
 
     // A fault of the document is the first that stands.
-    ensures document { IfErr result (λ e. IsFirstOf (metered_remaining R.remaining reader.old) (metered_remaining R.remaining reader.new) e) }
+    ensures document { IfErr result (λ e. IsFirstOf (counted_remaining R.remaining reader.old)
+        (counted_remaining R.remaining reader.new) e) }
 
     // `TooLong` is told of more bytes than a document has, and `Read` of an error that came before.
     ensures too_long { IsErrOf result ScenarioFault.TooLong
-        → HasFault (metered_remaining R.remaining reader.old) (metered_remaining R.remaining reader.new) ScenarioFault.TooLong }
+        → HasFault (counted_remaining R.remaining reader.old)
+        (counted_remaining R.remaining reader.new) ScenarioFault.TooLong }
     ensures read { IsErrOf result ScenarioFault.Read
-        → HasFault (metered_remaining R.remaining reader.old) (metered_remaining R.remaining reader.new) ScenarioFault.Read }
+        → HasFault (counted_remaining R.remaining reader.old)
+        (counted_remaining R.remaining reader.new) ScenarioFault.Read }
     ensures failed { IsFailureNoted result reader.old reader.new }
 {
     let bytes = read_document(alloc, reader)?;
@@ -90,37 +98,48 @@ fn write_rendering<D: Render, W: Write>(
     writer: &mut WatchedWriter<'_, W>,
 ) -> Result<Option<ScenarioFault>, ScenarioFault>
     ensures same_writer { IsSameWriter writer.old writer.new }
-    ensures ok { IfOk result (λ fault. (text : List ℕ) × D.is_rendering what.now bytes.now fault text
-        × Appends (watched_contents W.contents writer.old) (watched_contents W.contents writer.new) text) }
+    ensures ok { IfOk result
+        (λ fault. (text : List ℕ)
+        × D.is_rendering what.now bytes.now fault text
+        × Appends (watched_contents W.contents writer.old)
+        (watched_contents W.contents writer.new) text) }
 
     // Only `Write` may have written, and then some of such a text.
     ensures nothing { IfErr result (λ e. e ≢ ScenarioFault.Write → writer.new ≡ writer.old) }
-    ensures prefix { IsErrOf result ScenarioFault.Write → (text : List ℕ) × (fault : Option ScenarioFault) × (count : ℕ)
-        × D.is_rendering what.now bytes.now fault text × (count < length text)
-        × Appends (watched_contents W.contents writer.old) (watched_contents W.contents writer.new) (take count text) }
+    ensures prefix { IsErrOf result ScenarioFault.Write
+        → (text : List ℕ)
+        × (fault : Option ScenarioFault)
+        × (count : ℕ)
+        × D.is_rendering what.now bytes.now fault text
+        × (count < length text)
+        × Appends (watched_contents W.contents writer.old)
+        (watched_contents W.contents writer.new) (take count text) }
     ensures refused { IsRefusalNoted result writer.old writer.new }
 
     // Any other fault than of writing and of memory is the document's.
-    ensures document { IfErr result (λ e. (e ≡ ScenarioFault.Write) ⊎ (e ≡ ScenarioFault.OutOfMemory) ⊎ IsFaultOf bytes.now e) }
+    ensures document { IfErr result
+        (λ e. (e ≡ ScenarioFault.Write) ⊎ (e ≡ ScenarioFault.OutOfMemory) ⊎ IsFaultOf bytes.now e) }
 {
     let rendering = what.render(alloc, bytes)?;
     write_text(writer, rendering.text.as_bytes())?;
     Ok(rendering.fault)
 }
 
-/// Reads one document to the end of input and writes what `what` makes of it. It gives the fault that is told after the text.
+/// Reads one document to the end of input and writes what `what` makes of it. It gives the fault
+/// that is told after the text.
 ///
-/// All of it is the work of [`render_metered`], which is lent the reader with a budget of [`MAX_READS`], and the writer as
-/// one that is watched.
+/// All of it is the work of [`render_counted`], which is lent the reader as one that is counted
+/// and the writer as one that is watched.
 pub fn render_input<D: Render, R: Read, W: Write>(
     alloc: Global,
     what: &D,
     reader: &mut R,
     writer: &mut W,
 ) -> Result<Option<ScenarioFault>, ScenarioFault>
-    ensures ok { IfOk result (λ fault. IsWritten (λ bytes text. D.is_rendering what.now bytes fault text)
-        (R.remaining reader.old) (R.remaining reader.new)
-        (W.contents writer.old) (W.contents writer.new)) }
+    ensures ok { IfOk result
+        (λ fault. IsTextWritten (λ bytes text. D.is_rendering what.now bytes fault text)
+        (R.remaining reader.old) (R.remaining reader.new) (W.contents writer.old)
+        (W.contents writer.new)) }
 
     // Only `Write` may have written, and then some of such a text.
     ensures nothing { IfErr result (λ e. e ≢ ScenarioFault.Write → writer.new ≡ writer.old) }
@@ -129,7 +148,8 @@ pub fn render_input<D: Render, R: Read, W: Write>(
         (W.contents writer.old) (W.contents writer.new) }
 
     // A fault of the document is the first that stands.
-    ensures document { IfErr result (λ e. IsFirstOf (R.remaining reader.old) (R.remaining reader.new) e) }
+    ensures document { IfErr result
+        (λ e. IsFirstOf (R.remaining reader.old) (R.remaining reader.new) e) }
 
     // `TooLong` is told of more bytes than a document has, and `Read` of an error that came before.
     ensures too_long { IsErrOf result ScenarioFault.TooLong
@@ -137,7 +157,7 @@ pub fn render_input<D: Render, R: Read, W: Write>(
     ensures read { IsErrOf result ScenarioFault.Read
         → HasFault (R.remaining reader.old) (R.remaining reader.new) ScenarioFault.Read }
 {
-    let mut reader = MeteredReader::new(reader, MAX_READS);
+    let mut reader = CountedReader::new(reader);
     let mut writer = WatchedWriter::new(writer);
-    render_metered(alloc, what, &mut reader, &mut writer)
+    render_counted(alloc, what, &mut reader, &mut writer)
 }

@@ -1,6 +1,6 @@
 //! Worked documents and lines: what the definitions answer at chosen values, by computation.
 
-ghost use Rattle.std.specs.Prelude.{◌≡◌, ◌^◌, ◌++◌, [], ◌∷◌, codes, map, replicate, negsuc, Some, None, Ok, Err, true, false};
+ghost use Rattle.std.specs.Prelude.{◌≡◌, ◌^◌, ◌+◌, ◌++◌, [], ◌∷◌, ℕ, List, codes, map, replicate, negsuc, Some, None, Ok, Err, true, false};
 ghost use Rattle.serde_json.specs.Data.{negative, null, boolean, number, string, array, no_items, item};
 ghost use Rattle.dsa_desc.specs.declared.Outcome.TheVariants.{Success, PageFault};
 ghost use Rattle.dsa_regs.specs.declared.Command.TheVariants.{EnableWq};
@@ -21,26 +21,37 @@ ghost use Rattle.dsa_book.specs.declared.event.Kind.TheVariants.{Enqcmd, Movdir6
 ghost use Rattle.dsa_book.specs.declared.event.Portal.TheVariants.{Limited, Unlimited};
 ghost use Rattle.dsa_book.specs.declared.fate.Fate.TheVariants.{Completed, Aborted, Abandoned};
 ghost use Rattle.dsa_scenario.specs.declared.actions.Action.TheVariants.{Ask, Finish, Refuse};
+ghost use Rattle.dsa_scenario.specs.declared.counted.CountedReader.{CountedReader};
+ghost use Rattle.dsa_scenario.specs.declared.faults.ScenarioFault.{ScenarioFault};
 ghost use Rattle.dsa_scenario.specs.declared.faults.ScenarioFault.TheVariants.{NotJson, BadDocument, BadStep, BadCaps, BadCapacity, Differs};
 ghost use Rattle.dsa_scenario.specs.declared.run.Record.TheVariants.{Refused};
 ghost use Rattle.dsa_scenario.specs.Fields.{whole_of, truth_of, text_of, hex_bytes_of};
 ghost use Rattle.dsa_scenario.specs.Actions.{caps_of, action_of};
-ghost use Rattle.dsa_scenario.specs.Document.{head_of, list_of, IsFaultOf};
-ghost use Rattle.dsa_scenario.specs.Lines.{reply_text, record_text, row_text, lines_of};
-ghost use Rattle.dsa_scenario.specs.Run.{ticket_of, event_of, steps_of, AreLinesOf};
+ghost use Rattle.dsa_scenario.specs.Counted.{counted_remaining, asked_of, has_reader_failed};
+ghost use Rattle.dsa_scenario.specs.Counted.{IsAskedFor, IsFailureNoted};
+ghost use Rattle.dsa_scenario.specs.Document.{head_of, list_of_items, IsFaultOf};
+ghost use Rattle.dsa_scenario.specs.Lines.{reply_text, record_text, row_text, lines_of_run};
+ghost use Rattle.dsa_scenario.specs.Run.{ticket_of_name, event_of, steps_of_records, AreLinesOf};
 ghost use Rattle.dsa_scenario.specs.Scenario.{IsRenderingOf};
-ghost use Rattle.dsa_scenario.specs.Worked.{actions_of_a_run, caps_of_a_run, lines_of_a_run, whole, read_number, fate, smallest_caps_text, no_caps_text, document_text, object_of, changed, texts, takes, refuses, needs_each, are_below, is_truth, is_text, some_caps, some_document, queue_step, group_step, fill_text, fill, enqcmd_step, movdir_step, dispatch_step, fetch_step, start_step, finish_step, command_step, poll_step, clear_step, ticket, stepped, accepted, fetched};
+ghost use Rattle.dsa_scenario.specs.Worked.{actions_of_a_run, caps_of_a_run, lines_of_a_run, whole, read_number, fate, smallest_caps_text, no_caps_text, document_text, object_of, changed, texts, takes, refuses, needs_each, are_below, is_truth, is_text, some_caps, some_document, queue_step, group_step, fill_text, fill, enqcmd_step, movdir_step, dispatch_step, fetch_step, start_step, finish_step, command_step, poll_step, clear_step, record_ticket, stepped, accepted, record_of_a_fetch};
 
-/// Numbers are whole, without sign, and below the limit of their field; the key stands in an object.
+/// Numbers are whole, without sign, and below the limit of their field; the key stands in an
+/// object.
 pub fn numbers()
     ensures zero { whole_of (2 ^ 8) (codes "n") (object_of ((codes "n", whole 0) ∷ [])) ≡ Some 0 }
-    ensures below { whole_of (2 ^ 8) (codes "n") (object_of ((codes "n", whole 255) ∷ [])) ≡ Some 255 }
+    ensures below { whole_of (2 ^ 8) (codes "n") (object_of ((codes "n", whole 255) ∷ []))
+        ≡ Some 255 }
     ensures at { whole_of (2 ^ 8) (codes "n") (object_of ((codes "n", whole 256) ∷ [])) ≡ None }
     ensures above { whole_of (2 ^ 8) (codes "n") (object_of ((codes "n", whole 257) ∷ [])) ≡ None }
-    ensures negative { whole_of (2 ^ 8) (codes "n") (object_of ((codes "n", number (negative (negsuc 0))) ∷ [])) ≡ None }
-    ensures text { whole_of (2 ^ 8) (codes "n") (object_of ((codes "n", string (codes "1")) ∷ [])) ≡ None }
-    ensures truth { whole_of (2 ^ 8) (codes "n") (object_of ((codes "n", boolean true) ∷ [])) ≡ None }
-    ensures other_key { whole_of (2 ^ 8) (codes "n") (object_of ((codes "N", whole 1) ∷ [])) ≡ None }
+    ensures negative { whole_of (2 ^ 8) (codes "n")
+        (object_of ((codes "n", number (negative (negsuc 0))) ∷ []))
+        ≡ None }
+    ensures text { whole_of (2 ^ 8) (codes "n") (object_of ((codes "n", string (codes "1")) ∷ []))
+        ≡ None }
+    ensures truth { whole_of (2 ^ 8) (codes "n") (object_of ((codes "n", boolean true) ∷ []))
+        ≡ None }
+    ensures other_key { whole_of (2 ^ 8) (codes "n") (object_of ((codes "N", whole 1) ∷ []))
+        ≡ None }
     ensures no_object { whole_of (2 ^ 8) (codes "n") (whole 1) ≡ None }
 {}
 
@@ -49,11 +60,13 @@ pub fn truth_values_and_texts()
     ensures yes { truth_of (codes "b") (object_of ((codes "b", boolean true) ∷ [])) ≡ Some true }
     ensures no { truth_of (codes "b") (object_of ((codes "b", boolean false) ∷ [])) ≡ Some false }
     ensures no_truth { truth_of (codes "b") (object_of ((codes "b", whole 1) ∷ [])) ≡ None }
-    ensures text { text_of (codes "t") (object_of ((codes "t", string (codes "yes")) ∷ [])) ≡ Some (codes "yes") }
+    ensures text { text_of (codes "t") (object_of ((codes "t", string (codes "yes")) ∷ []))
+        ≡ Some (codes "yes") }
     ensures no_text { text_of (codes "t") (object_of ((codes "t", whole 1) ∷ [])) ≡ None }
 {}
 
-/// As JSON, a number has no fraction, exponent or sign, and of a key that comes twice the last value counts.
+/// As JSON, a number has no fraction, exponent or sign, and of a key that comes twice the last
+/// value counts.
 #[tactic(auto, unfolding(serde_json::proofs::OnLiterals::serde_json_on_literals))]
 pub fn numbers_in_json()
     ensures whole { read_number (codes "{\"n\": 7}") ≡ Some 7 }
@@ -88,63 +101,130 @@ pub fn hex_lengths()
 
 /// The capabilities, each in a field of its own.
 pub fn caps_fields()
-    ensures read { caps_of (object_of some_caps) ≡ Some (record { queues = 1; groups = 2; engines = 3; total_size = 4; read_buffers = 5; slots = 6; max_batch_shift = 7; max_xfer_shift = 8 }) }
+    ensures read { caps_of (object_of some_caps)
+        ≡ Some (record {
+          queues = 1;
+          groups = 2;
+          engines = 3;
+          total_size = 4;
+          read_buffers = 5;
+          slots = 6;
+          max_batch_shift = 7;
+          max_xfer_shift = 8;
+        }) }
     ensures needed { needs_each caps_of some_caps ≡ true }
-    ensures counts { are_below caps_of some_caps (2 ^ 16) (codes "queues" ∷ codes "groups" ∷ codes "engines" ∷ codes "total_size" ∷ codes "read_buffers" ∷ codes "slots" ∷ []) ≡ true }
-    ensures shifts { are_below caps_of some_caps (2 ^ 8) (codes "max_batch_shift" ∷ codes "max_xfer_shift" ∷ []) ≡ true }
+    ensures counts { are_below caps_of some_caps (2 ^ 16)
+        (codes "queues"
+        ∷ codes "groups"
+        ∷ codes "engines"
+        ∷ codes "total_size"
+        ∷ codes "read_buffers"
+        ∷ codes "slots"
+        ∷ [])
+        ≡ true }
+    ensures shifts { are_below caps_of some_caps (2 ^ 8)
+        (codes "max_batch_shift" ∷ codes "max_xfer_shift" ∷ [])
+        ≡ true }
 {}
 
 /// The three keys of a document. Others are ignored.
 pub fn document_fields()
-    ensures read { head_of (object_of some_document) ≡ Some (record { queues = 1; groups = 2; engines = 3; total_size = 4; read_buffers = 5; slots = 6; max_batch_shift = 7; max_xfer_shift = 8 }, 9, item (whole 1) no_items) }
-    ensures more { head_of (object_of ((codes "more", null) ∷ some_document)) ≡ head_of (object_of some_document) }
+    ensures read { head_of (object_of some_document)
+        ≡ Some (
+          record {
+            queues = 1;
+            groups = 2;
+            engines = 3;
+            total_size = 4;
+            read_buffers = 5;
+            slots = 6;
+            max_batch_shift = 7;
+            max_xfer_shift = 8;
+          },
+          9,
+          item (whole 1) no_items,
+        ) }
+    ensures more { head_of (object_of ((codes "more", null) ∷ some_document))
+        ≡ head_of (object_of some_document) }
     ensures needed { needs_each head_of some_document ≡ true }
     ensures capacity { are_below head_of some_document (2 ^ 64) (codes "capacity" ∷ []) ≡ true }
     ensures steps { takes head_of some_document (codes "steps") (array no_items ∷ []) ≡ true }
-    ensures no_steps { refuses head_of some_document (codes "steps") (null ∷ object_of [] ∷ whole 0 ∷ texts) ≡ true }
-    ensures no_caps { refuses head_of some_document (codes "caps") (null ∷ array no_items ∷ whole 0 ∷ texts) ≡ true }
+    ensures no_steps { refuses head_of some_document (codes "steps")
+        (null ∷ object_of [] ∷ whole 0 ∷ texts)
+        ≡ true }
+    ensures no_caps { refuses head_of some_document (codes "caps")
+        (null ∷ array no_items ∷ whole 0 ∷ texts)
+        ≡ true }
     ensures bare { head_of (array no_items) ≡ None }
-    ensures order { list_of (item (whole 1) (item (whole 2) no_items)) ≡ whole 1 ∷ whole 2 ∷ [] }
+    ensures order { list_of_items (item (whole 1) (item (whole 2) no_items))
+        ≡ whole 1 ∷ whole 2 ∷ [] }
 {}
 
 /// A write of a queue's configuration.
 pub fn queue_steps()
-    ensures read { action_of (object_of queue_step) ≡ Some (Ask (WriteQueue 1 (record { size = 2; threshold = 3; dedicated = true; priority = 4; pasid = 5; max_batch_shift = 6; max_xfer_shift = 7 }))) }
+    ensures read { action_of (object_of queue_step)
+        ≡ Some (Ask (WriteQueue 1
+        (record {
+          size = 2;
+          threshold = 3;
+          dedicated = true;
+          priority = 4;
+          pasid = 5;
+          max_batch_shift = 6;
+          max_xfer_shift = 7;
+        }))) }
     ensures needed { needs_each action_of queue_step ≡ true }
-    ensures counts { are_below action_of queue_step (2 ^ 16) (codes "queue" ∷ codes "size" ∷ codes "threshold" ∷ []) ≡ true }
-    ensures small { are_below action_of queue_step (2 ^ 8) (codes "priority" ∷ codes "batch" ∷ codes "xfer" ∷ []) ≡ true }
+    ensures counts { are_below action_of queue_step (2 ^ 16)
+        (codes "queue" ∷ codes "size" ∷ codes "threshold" ∷ [])
+        ≡ true }
+    ensures small { are_below action_of queue_step (2 ^ 8)
+        (codes "priority" ∷ codes "batch" ∷ codes "xfer" ∷ [])
+        ≡ true }
     ensures pasid { are_below action_of queue_step (2 ^ 32) (codes "pasid" ∷ []) ≡ true }
     ensures dedicated { is_truth action_of queue_step (codes "dedicated") ≡ true }
 {}
 
 /// A write of a group's configuration.
 pub fn group_steps()
-    ensures read { action_of (object_of group_step) ≡ Some (Ask (WriteGroup 1 (record { queues = 2; engines = 3; reserved = 4; allowed = 5 }))) }
+    ensures read { action_of (object_of group_step)
+        ≡ Some
+        (Ask (WriteGroup 1 (record { queues = 2; engines = 3; reserved = 4; allowed = 5 }))) }
     ensures needed { needs_each action_of group_step ≡ true }
-    ensures counts { are_below action_of group_step (2 ^ 16) (codes "group" ∷ codes "reserved" ∷ codes "allowed" ∷ []) ≡ true }
-    ensures sets { are_below action_of group_step (2 ^ 64) (codes "queues" ∷ codes "engines" ∷ []) ≡ true }
+    ensures counts { are_below action_of group_step (2 ^ 16)
+        (codes "group" ∷ codes "reserved" ∷ codes "allowed" ∷ [])
+        ≡ true }
+    ensures sets { are_below action_of group_step (2 ^ 64) (codes "queues" ∷ codes "engines" ∷ [])
+        ≡ true }
 {}
 
 /// A submission by ENQCMD.
 #[tactic(auto, unfolding(hex::proofs::OnLiterals::hex_on_literals))]
 pub fn enqcmd_steps()
-    ensures limited { action_of (object_of enqcmd_step) ≡ Some (Ask (Submit 1 2 Limited (Enqcmd 3) fill)) }
-    ensures unlimited { action_of (changed (codes "limited") (boolean false) enqcmd_step) ≡ Some (Ask (Submit 1 2 Unlimited (Enqcmd 3) fill)) }
+    ensures limited { action_of (object_of enqcmd_step)
+        ≡ Some (Ask (Submit 1 2 Limited (Enqcmd 3) fill)) }
+    ensures unlimited { action_of (changed (codes "limited") (boolean false) enqcmd_step)
+        ≡ Some (Ask (Submit 1 2 Unlimited (Enqcmd 3) fill)) }
     ensures needed { needs_each action_of enqcmd_step ≡ true }
-    ensures counts { are_below action_of enqcmd_step (2 ^ 16) (codes "client" ∷ codes "queue" ∷ []) ≡ true }
+    ensures counts { are_below action_of enqcmd_step (2 ^ 16) (codes "client" ∷ codes "queue" ∷ [])
+        ≡ true }
     ensures pasid { are_below action_of enqcmd_step (2 ^ 32) (codes "pasid" ∷ []) ≡ true }
     ensures portal { is_truth action_of enqcmd_step (codes "limited") ≡ true }
     ensures desc { is_text action_of enqcmd_step fill_text (codes "desc") ≡ true }
-    ensures bad_desc { refuses action_of enqcmd_step (codes "desc") (string (codes "0") ∷ string (codes "0x") ∷ []) ≡ true }
+    ensures bad_desc { refuses action_of enqcmd_step (codes "desc")
+        (string (codes "0") ∷ string (codes "0x") ∷ [])
+        ≡ true }
 {}
 
 /// A submission by MOVDIR64B, which names no PASID.
 #[tactic(auto, unfolding(hex::proofs::OnLiterals::hex_on_literals))]
 pub fn movdir_steps()
-    ensures unlimited { action_of (object_of movdir_step) ≡ Some (Ask (Submit 1 2 Unlimited Movdir64b fill)) }
-    ensures limited { action_of (changed (codes "limited") (boolean true) movdir_step) ≡ Some (Ask (Submit 1 2 Limited Movdir64b fill)) }
+    ensures unlimited { action_of (object_of movdir_step)
+        ≡ Some (Ask (Submit 1 2 Unlimited Movdir64b fill)) }
+    ensures limited { action_of (changed (codes "limited") (boolean true) movdir_step)
+        ≡ Some (Ask (Submit 1 2 Limited Movdir64b fill)) }
     ensures needed { needs_each action_of movdir_step ≡ true }
-    ensures counts { are_below action_of movdir_step (2 ^ 16) (codes "client" ∷ codes "queue" ∷ []) ≡ true }
+    ensures counts { are_below action_of movdir_step (2 ^ 16) (codes "client" ∷ codes "queue" ∷ [])
+        ≡ true }
     ensures portal { is_truth action_of movdir_step (codes "limited") ≡ true }
     ensures desc { is_text action_of movdir_step fill_text (codes "desc") ≡ true }
 {}
@@ -156,9 +236,14 @@ pub fn engine_steps()
     ensures fetch { action_of (object_of fetch_step) ≡ Some (Ask (Fetch 1 fill)) }
     ensures start { action_of (object_of start_step) ≡ Some (Ask (Start 1)) }
     ensures finish { action_of (object_of finish_step) ≡ Some (Finish 1 2 PageFault) }
-    ensures finish_well { action_of (changed (codes "fault") (boolean false) finish_step) ≡ Some (Finish 1 2 Success) }
-    ensures needed { map (needs_each action_of) (dispatch_step ∷ fetch_step ∷ start_step ∷ finish_step ∷ []) ≡ replicate 4 true }
-    ensures engines { map (λ step. are_below action_of step (2 ^ 16) (codes "engine" ∷ [])) (dispatch_step ∷ fetch_step ∷ start_step ∷ finish_step ∷ []) ≡ replicate 4 true }
+    ensures finish_well { action_of (changed (codes "fault") (boolean false) finish_step)
+        ≡ Some (Finish 1 2 Success) }
+    ensures needed { map (needs_each action_of)
+        (dispatch_step ∷ fetch_step ∷ start_step ∷ finish_step ∷ [])
+        ≡ replicate 4 true }
+    ensures engines { map (λ step. are_below action_of step (2 ^ 16) (codes "engine" ∷ []))
+        (dispatch_step ∷ fetch_step ∷ start_step ∷ finish_step ∷ [])
+        ≡ replicate 4 true }
     ensures name { are_below action_of finish_step (2 ^ 32) (codes "name" ∷ []) ≡ true }
     ensures fault { is_truth action_of finish_step (codes "fault") ≡ true }
     ensures desc { is_text action_of fetch_step fill_text (codes "desc") ≡ true }
@@ -167,18 +252,24 @@ pub fn engine_steps()
 /// What the administrator does beside writes. A word that is no command is refused.
 pub fn admin_steps()
     ensures command { action_of (object_of command_step) ≡ Some (Ask (Issue (EnableWq 2))) }
-    ensures no_command { action_of (changed (codes "word") (whole 0) command_step) ≡ Some (Refuse BadCommand) }
+    ensures no_command { action_of (changed (codes "word") (whole 0) command_step)
+        ≡ Some (Refuse BadCommand) }
     ensures poll { action_of (object_of poll_step) ≡ Some (Ask Poll) }
     ensures clear { action_of (object_of clear_step) ≡ Some (Ask ClearError) }
-    ensures needed { map (needs_each action_of) (command_step ∷ poll_step ∷ clear_step ∷ []) ≡ replicate 3 true }
+    ensures needed { map (needs_each action_of) (command_step ∷ poll_step ∷ clear_step ∷ [])
+        ≡ replicate 3 true }
     ensures word { are_below action_of command_step (2 ^ 32) (codes "word" ∷ []) ≡ true }
 {}
 
 /// No other text says what a step is, and no other value.
 pub fn kinds_of_steps()
     ensures kind { is_text action_of poll_step (codes "poll") (codes "do") ≡ true }
-    ensures others { refuses action_of poll_step (codes "do") (map string (codes "" ∷ codes "Poll" ∷ codes "pol" ∷ codes "polls" ∷ codes "reset" ∷ [])) ≡ true }
-    ensures fields_of_another { action_of (changed (codes "do") (string (codes "start")) poll_step) ≡ None }
+    ensures others { refuses action_of poll_step (codes "do")
+        (map string
+        (codes "" ∷ codes "Poll" ∷ codes "pol" ∷ codes "polls" ∷ codes "reset" ∷ []))
+        ≡ true }
+    ensures fields_of_another { action_of (changed (codes "do") (string (codes "start")) poll_step)
+        ≡ None }
     ensures more { action_of (object_of ((codes "engine", null) ∷ poll_step)) ≡ Some (Ask Poll) }
     ensures no_object { action_of (string (codes "poll")) ≡ None }
 {}
@@ -186,7 +277,7 @@ pub fn kinds_of_steps()
 /// The lines of submissions.
 #[tactic(auto, unfolding(crate::specs::Worked::digits_on_literals))]
 pub fn submission_lines()
-    ensures accepted { reply_text (Submit (Accepted (ticket 7 12))) ≡ codes "accepted 12" }
+    ensures accepted { reply_text (Submit (Accepted (record_ticket 7 12))) ≡ codes "accepted 12" }
     ensures at_limit { reply_text (Submit (Retry AtLimit)) ≡ codes "retry at-limit" }
     ensures not_enabled { reply_text (Submit (Retry NotEnabled)) ≡ codes "retry not-enabled" }
     ensures wrong_kind { reply_text (Submit (Retry WrongKind)) ≡ codes "retry wrong-kind" }
@@ -197,20 +288,22 @@ pub fn submission_lines()
 /// The lines of what engines do.
 #[tactic(auto, unfolding(crate::specs::Worked::digits_on_literals))]
 pub fn engine_lines()
-    ensures taken { reply_text (Dispatch (Taken (ticket 7 12) 3)) ≡ codes "taken 12 from 3" }
+    ensures taken { reply_text (Dispatch (Taken (record_ticket 7 12) 3)) ≡ codes "taken 12 from 3" }
     ensures idle { reply_text (Dispatch Idle) ≡ codes "idle" }
-    ensures fetched { reply_text (Fetch (Fetched (ticket 7 12))) ≡ codes "fetched 12" }
+    ensures fetched { reply_text (Fetch (Fetched (record_ticket 7 12))) ≡ codes "fetched 12" }
     ensures no_batch { reply_text (Fetch NoBatch) ≡ codes "no-batch" }
     ensures all_fetched { reply_text (Fetch AllFetched) ≡ codes "all-fetched" }
-    ensures started { reply_text (Start (Started (ticket 7 12))) ≡ codes "started 12" }
+    ensures started { reply_text (Start (Started (record_ticket 7 12))) ≡ codes "started 12" }
     ensures fence_wait { reply_text (Start FenceWait) ≡ codes "fence-wait" }
     ensures no_buffers { reply_text (Start NoBuffers) ≡ codes "no-buffers" }
     ensures abandoned { reply_text (Start (Abandoned 3)) ≡ codes "abandoned 3" }
     ensures nothing { reply_text (Start Nothing) ≡ codes "nothing" }
-    ensures done { map (λ status. reply_text (Finish (Done status))) (0x01 ∷ 0x1a ∷ 0xa1 ∷ []) ≡ codes "done 01" ∷ codes "done 1a" ∷ codes "done a1" ∷ [] }
+    ensures done { map (λ status. reply_text (Finish (Done status))) (0x01 ∷ 0x1a ∷ 0xa1 ∷ [])
+        ≡ codes "done 01" ∷ codes "done 1a" ∷ codes "done a1" ∷ [] }
     ensures not_ready { reply_text (Finish NotReady) ≡ codes "not-ready" }
     ensures gone { reply_text (Finish Gone) ≡ codes "gone" }
-    ensures full { map reply_text (Dispatch Full ∷ Fetch Full ∷ Start Full ∷ Finish Full ∷ []) ≡ replicate 4 (codes "full") }
+    ensures full { map reply_text (Dispatch Full ∷ Fetch Full ∷ Start Full ∷ Finish Full ∷ [])
+        ≡ replicate 4 (codes "full") }
 {}
 
 /// The lines of what the administrator does.
@@ -224,49 +317,81 @@ pub fn admin_lines()
     ensures no_command { reply_text (Poll Nothing) ≡ codes "nothing" }
     ensures written { reply_text (Write Written) ≡ codes "written" }
     ensures not_written { reply_text (Write (Refused BadIndex)) ≡ codes "refused 20 BadIndex" }
-    ensures cleared { reply_text (Clear (Cleared (record { queue = 3; cause = WrongKind; overflow = false }))) ≡ codes "cleared 3 wrong-kind" }
-    ensures overflow { reply_text (Clear (Cleared (record { queue = 3; cause = AtLimit; overflow = true }))) ≡ codes "cleared 3 at-limit overflow" }
+    ensures cleared { reply_text
+        (Clear (Cleared (record { queue = 3; cause = WrongKind; overflow = false })))
+        ≡ codes "cleared 3 wrong-kind" }
+    ensures overflow { reply_text
+        (Clear (Cleared (record { queue = 3; cause = AtLimit; overflow = true })))
+        ≡ codes "cleared 3 at-limit overflow" }
     ensures not_noted { reply_text (Clear Nothing) ≡ codes "nothing" }
-    ensures full { map reply_text (Issue Full ∷ Poll Full ∷ Write Full ∷ Clear Full ∷ []) ≡ replicate 4 (codes "full") }
+    ensures full { map reply_text (Issue Full ∷ Poll Full ∷ Write Full ∷ Clear Full ∷ [])
+        ≡ replicate 4 (codes "full") }
 {}
 
 /// The lines of fates, with the name of the batch for a member.
 #[tactic(auto, unfolding(crate::specs::Worked::digits_on_literals))]
 pub fn fate_lines()
-    ensures completed { row_text (record { name = 12; parent = None; fate = Completed 0x13 }) ≡ codes "fate 12 - completed 13" }
-    ensures member { row_text (record { name = 12; parent = Some 3; fate = Completed 0x01 }) ≡ codes "fate 12 3 completed 01" }
-    ensures aborted { row_text (record { name = 12; parent = None; fate = Aborted 12 }) ≡ codes "fate 12 - aborted 12" }
-    ensures abandoned { row_text (record { name = 12; parent = Some 0; fate = Abandoned }) ≡ codes "fate 12 0 abandoned" }
+    ensures completed { row_text (record { name = 12; parent = None; fate = Completed 0x13 })
+        ≡ codes "fate 12 - completed 13" }
+    ensures member { row_text (record { name = 12; parent = Some 3; fate = Completed 0x01 })
+        ≡ codes "fate 12 3 completed 01" }
+    ensures aborted { row_text (record { name = 12; parent = None; fate = Aborted 12 })
+        ≡ codes "fate 12 - aborted 12" }
+    ensures abandoned { row_text (record { name = 12; parent = Some 0; fate = Abandoned })
+        ≡ codes "fate 12 0 abandoned" }
 {}
 
 /// A line for each record in order, and then for each fate in order.
 #[tactic(auto, unfolding(crate::specs::Worked::digits_on_literals))]
 pub fn lines_in_order()
-    ensures none { lines_of [] [] ≡ [] }
+    ensures none { lines_of_run [] [] ≡ [] }
     ensures refused { record_text (Refused BadCommand) ≡ codes "refused 13 BadCommand" }
-    ensures records { lines_of (accepted (ticket 7 0) ∷ Refused BadCommand ∷ []) [] ≡ codes "accepted 0\nrefused 13 BadCommand\n" }
-    ensures fates { lines_of [] (fate 1 Abandoned ∷ fate 0 (Completed 1) ∷ []) ≡ codes "fate 1 - abandoned\nfate 0 - completed 01\n" }
-    ensures both { lines_of (accepted (ticket 7 0) ∷ []) (fate 1 Abandoned ∷ []) ≡ codes "accepted 0\nfate 1 - abandoned\n" }
+    ensures records { lines_of_run (accepted (record_ticket 7 0) ∷ Refused BadCommand ∷ []) []
+        ≡ codes "accepted 0\nrefused 13 BadCommand\n" }
+    ensures fates { lines_of_run [] (fate 1 Abandoned ∷ fate 0 (Completed 1) ∷ [])
+        ≡ codes "fate 1 - abandoned\nfate 0 - completed 01\n" }
+    ensures both { lines_of_run (accepted (record_ticket 7 0) ∷ []) (fate 1 Abandoned ∷ [])
+        ≡ codes "accepted 0\nfate 1 - abandoned\n" }
 {}
 
-/// A name stands for the first ticket that gave it, of a submission or of a member; a name that was not given for cell 0.
+/// A name stands for the first ticket that gave it, of a submission or of a member; a name that was
+/// not given for cell 0.
 pub fn tickets()
-    ensures submitted { ticket_of (accepted (ticket 7 12) ∷ []) 12 ≡ ticket 7 12 }
-    ensures member { ticket_of (fetched (ticket 7 12) ∷ []) 12 ≡ ticket 7 12 }
-    ensures among_others { ticket_of (accepted (ticket 5 0) ∷ Refused Busy ∷ fetched (ticket 6 1) ∷ accepted (ticket 7 2) ∷ []) 1 ≡ ticket 6 1 }
-    ensures first { ticket_of (accepted (ticket 5 0) ∷ accepted (ticket 6 0) ∷ []) 0 ≡ ticket 5 0 }
-    ensures not_given { ticket_of (accepted (ticket 5 0) ∷ []) 3 ≡ ticket 0 3 }
-    ensures started { ticket_of (stepped (Start 1) (Start (Started (ticket 7 12))) ∷ []) 12 ≡ ticket 0 12 }
-    ensures taken { ticket_of (stepped (Dispatch 1) (Dispatch (Taken (ticket 7 12) 3)) ∷ []) 12 ≡ ticket 0 12 }
+    ensures submitted { ticket_of_name (accepted (record_ticket 7 12) ∷ []) 12
+        ≡ record_ticket 7 12 }
+    ensures member { ticket_of_name (record_of_a_fetch (record_ticket 7 12) ∷ []) 12
+        ≡ record_ticket 7 12 }
+    ensures among_others { ticket_of_name
+        (accepted (record_ticket 5 0)
+        ∷ Refused Busy
+        ∷ record_of_a_fetch (record_ticket 6 1)
+        ∷ accepted (record_ticket 7 2)
+        ∷ [])
+        1
+        ≡ record_ticket 6 1 }
+    ensures first { ticket_of_name
+        (accepted (record_ticket 5 0) ∷ accepted (record_ticket 6 0) ∷ []) 0
+        ≡ record_ticket 5 0 }
+    ensures not_given { ticket_of_name (accepted (record_ticket 5 0) ∷ []) 3 ≡ record_ticket 0 3 }
+    ensures started { ticket_of_name
+        (stepped (Start 1) (Start (Started (record_ticket 7 12))) ∷ []) 12
+        ≡ record_ticket 0 12 }
+    ensures taken { ticket_of_name
+        (stepped (Dispatch 1) (Dispatch (Taken (record_ticket 7 12) 3)) ∷ []) 12
+        ≡ record_ticket 0 12 }
 {}
 
 /// What an action asks of the device. A refused word asks nothing.
 pub fn events()
     ensures ask { event_of [] (Ask Poll) ≡ Ok Poll }
-    ensures finish { event_of (accepted (ticket 7 12) ∷ []) (Finish 1 12 PageFault) ≡ Ok (Finish 1 (ticket 7 12) PageFault) }
-    ensures finish_unknown { event_of (accepted (ticket 7 12) ∷ []) (Finish 1 2 Success) ≡ Ok (Finish 1 (ticket 0 2) Success) }
+    ensures finish { event_of (accepted (record_ticket 7 12) ∷ []) (Finish 1 12 PageFault)
+        ≡ Ok (Finish 1 (record_ticket 7 12) PageFault) }
+    ensures finish_unknown { event_of (accepted (record_ticket 7 12) ∷ []) (Finish 1 2 Success)
+        ≡ Ok (Finish 1 (record_ticket 0 2) Success) }
     ensures refuse { event_of [] (Refuse BadCommand) ≡ Err BadCommand }
-    ensures steps { steps_of (Refused Busy ∷ stepped Poll (Poll Nothing) ∷ Refused Busy ∷ []) ≡ record { event = Poll; reply = Poll Nothing } ∷ [] }
+    ensures steps { steps_of_records
+        (Refused Busy ∷ stepped Poll (Poll Nothing) ∷ Refused Busy ∷ [])
+        ≡ record { event = Poll; reply = Poll Nothing } ∷ [] }
 {}
 
 /// A document without a fault, and with the greatest capacity.
@@ -281,24 +406,58 @@ pub fn document_faults()
     ensures empty { IsFaultOf [] NotJson }
     ensures cut { IsFaultOf (codes "{") NotJson }
     ensures no_keys { IsFaultOf (codes "{}") BadDocument }
-    ensures step { IsFaultOf (document_text no_caps_text (codes "1048577") (codes "{\"do\":\"poll\"},1,2")) (BadStep 1) }
+    ensures step { IsFaultOf
+        (document_text no_caps_text (codes "1048577") (codes "{\"do\":\"poll\"},1,2")) (BadStep 1) }
     ensures caps { IsFaultOf (document_text no_caps_text (codes "1048577") []) BadCaps }
-    ensures capacity { IsFaultOf (document_text smallest_caps_text (codes "1048577") []) BadCapacity }
+    ensures capacity { IsFaultOf
+        (document_text smallest_caps_text (codes "1048577") []) BadCapacity }
 {}
 
 /// No fault is told that does not stand, or before which another stands.
 #[tactic(auto, unfolding(serde_json::proofs::OnLiterals::serde_json_on_literals))]
 pub fn faults_that_are_not_told()
     ensures json { ¬ IsFaultOf (codes "{}") NotJson }
-    ensures second_step { ¬ IsFaultOf (document_text smallest_caps_text (codes "9") (codes "1,2")) (BadStep 1) }
-    ensures step_before_caps { ¬ IsFaultOf (document_text no_caps_text (codes "9") (codes "1")) BadCaps }
-    ensures caps_before_capacity { ¬ IsFaultOf (document_text no_caps_text (codes "1048577") []) BadCapacity }
-    ensures capacity { ¬ IsFaultOf (document_text smallest_caps_text (codes "1048576") []) BadCapacity }
-    ensures difference { ¬ IsFaultOf (document_text smallest_caps_text (codes "9") (codes "{\"do\":\"poll\"}")) (Differs 0) }
+    ensures second_step { ¬ IsFaultOf
+        (document_text smallest_caps_text (codes "9") (codes "1,2")) (BadStep 1) }
+    ensures step_before_caps { ¬ IsFaultOf
+        (document_text no_caps_text (codes "9") (codes "1")) BadCaps }
+    ensures caps_before_capacity { ¬ IsFaultOf
+        (document_text no_caps_text (codes "1048577") []) BadCapacity }
+    ensures capacity { ¬ IsFaultOf
+        (document_text smallest_caps_text (codes "1048576") []) BadCapacity }
+    ensures difference { ¬ IsFaultOf
+        (document_text smallest_caps_text (codes "9") (codes "{\"do\":\"poll\"}")) (Differs 0) }
 {}
 
-/// A run of a submission from its set-up to its end, with a refused word and an answer that is not stored.
+/// A run of a submission from its set-up to its end, with a refused word and an answer that is not
+/// stored.
 #[tactic(auto, unfolding(crate::specs::Worked::digits_on_literals))]
 pub fn a_run()
     ensures { AreLinesOf caps_of_a_run 7 actions_of_a_run lines_of_a_run }
+{}
+
+/// How often a reader is asked, by the bytes that it had and has left, and which faults are told of
+/// what was noted of it.
+pub fn reads()
+    ensures asked_for_a_byte { (old : CountedReader (List ℕ)) (new : CountedReader (List ℕ))
+        → counted_remaining Some old ≡ Some (codes "12")
+        → counted_remaining Some new ≡ Some (codes "2") → asked_of new ≡ asked_of old + 1
+        → IsAskedFor Some old new 0 }
+    ensures asked_twice_for_it { (old : CountedReader (List ℕ)) (new : CountedReader (List ℕ))
+        → counted_remaining Some old ≡ Some (codes "12")
+        → counted_remaining Some new ≡ Some (codes "2") → asked_of new ≡ asked_of old + 2
+        → ¬ IsAskedFor Some old new 0 }
+    ensures asked_besides { (old : CountedReader (List ℕ)) (new : CountedReader (List ℕ))
+        → counted_remaining Some old ≡ Some (codes "12")
+        → counted_remaining Some new ≡ Some (codes "2") → asked_of new ≡ asked_of old + 2
+        → IsAskedFor Some old new 1 }
+    ensures read_without_an_error { (old : CountedReader (List ℕ)) (new : CountedReader (List ℕ))
+        → has_reader_failed new ≡ false
+        → ¬ IsFailureNoted {T = ℕ} (Err ScenarioFault.Read) old new }
+    ensures error_untold { (old : CountedReader (List ℕ)) (new : CountedReader (List ℕ))
+        → has_reader_failed old ≡ false → has_reader_failed new ≡ true
+        → ¬ IsFailureNoted {T = ℕ} (Ok 0) old new }
+    ensures error_told_as_another { (old : CountedReader (List ℕ)) (new : CountedReader (List ℕ))
+        → has_reader_failed old ≡ false → has_reader_failed new ≡ true
+        → ¬ IsFailureNoted {T = ℕ} (Err ScenarioFault.OutOfMemory) old new }
 {}

@@ -1,7 +1,7 @@
 //! What a document's actions come to on a device.
 
 ghost use Rattle.std.specs.Prelude.{◌≡◌, ◌++◌, [], ◌∷◌, OnOk, slice_get, filter_map};
-ghost use Rattle.dsa_scenario.specs.Run.{given_by, ticket_of, event_of, answered_by, IsTable, Leads};
+ghost use Rattle.dsa_scenario.specs.Run.{ticket_given_by, ticket_of_name, event_of, answered_by, IsTable, Leads};
 
 use crate::actions::Action;
 use dsa_book::{Event, FetchAnswer, Reply, Step, SubmitAnswer, Ticket};
@@ -21,7 +21,7 @@ pub enum Record {
 
 #[inline(always)]
 fn ticket_given(entry: &Record) -> Option<Ticket>
-    ensures { result ≡ given_by entry.now }
+    ensures { result ≡ ticket_given_by entry.now }
 {
     match entry {
         Record::Stepped(step) => match step.reply {
@@ -33,10 +33,13 @@ fn ticket_given(entry: &Record) -> Option<Ticket>
     }
 }
 
-// The ticket under which the name was given: names are given in turn, and so it stands at its name's place.
+// The ticket under which the name was given: names are given in turn, and so it stands at its
+// name's place.
 #[inline(always)]
 fn ticket_for(tickets: &[Ticket], name: u32) -> Ticket
-    ensures { (before : _) → IsTable (slice_get tickets.now) before → result ≡ ticket_of before name }
+    ensures { (before : _)
+        → IsTable (slice_get tickets.now) before
+        → result ≡ ticket_of_name before name }
 {
     let unknown = Ticket {
         cell: Cell(0),
@@ -48,7 +51,8 @@ fn ticket_for(tickets: &[Ticket], name: u32) -> Ticket
 /// Notes the ticket that this record gives.
 #[inline(always)]
 pub fn note_ticket(tickets: &mut Vec<Ticket>, entry: &Record) -> Result<(), AllocError>
-    ensures { OnOk result (tickets.new.items ≡ tickets.old.items ++ filter_map given_by (entry.now ∷ [])) }
+    ensures { OnOk result
+        (tickets.new.items ≡ tickets.old.items ++ filter_map ticket_given_by (entry.now ∷ [])) }
 {
     if let Some(ticket) = ticket_given(entry) {
         tickets.push(ticket)?;
@@ -56,10 +60,13 @@ pub fn note_ticket(tickets: &mut Vec<Ticket>, entry: &Record) -> Result<(), Allo
     Ok(())
 }
 
-/// The event that the action asks for, or the refusal of its word. The tickets stand at the places of their names.
+/// The event that the action asks for, or the refusal of its word. The tickets stand at the places
+/// of their names.
 #[inline(always)]
 pub fn event_for(tickets: &[Ticket], action: Action) -> Result<Event, Fault>
-    ensures { (before : _) → IsTable (slice_get tickets.now) before → result ≡ event_of before action }
+    ensures { (before : _)
+        → IsTable (slice_get tickets.now) before
+        → result ≡ event_of before action }
 {
     match action {
         Action::Ask(event) => Ok(event),
@@ -76,13 +83,13 @@ pub fn event_for(tickets: &[Ticket], action: Action) -> Result<Event, Fault>
     }
 }
 
-/// Asks the device for what the action says.
+/// Asks the device for the event. The refusal of a word asks nothing of it.
 #[inline(always)]
-pub fn ask<S: EntryStore>(device: &mut Device<S>, tickets: &[Ticket], action: Action) -> Record
-    ensures answers { (before : _) → IsTable (slice_get tickets.now) before → answered_by result ≡ event_of before action }
+pub fn ask<S: EntryStore>(device: &mut Device<S>, asked: &Result<Event, Fault>) -> Record
+    ensures answers { answered_by result ≡ asked.now }
     ensures leads { Leads device.old result device.new }
 {
-    match event_for(tickets, action) {
+    match *asked {
         Ok(event) => {
             let reply = device.step(event);
             Record::Stepped(Step { event, reply })

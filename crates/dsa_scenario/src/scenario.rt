@@ -1,23 +1,17 @@
 //! A document in, its lines out.
 
-ghost use Rattle.std.specs.Prelude.{◌≡◌, ◌≢◌, ◌⊎◌, ◌≤◌, ◌+◌, [], None, OnOk, IfOk, IfErr, IsErrOf, flat_map, string_bytes};
+ghost use Rattle.std.specs.Prelude.{◌≡◌, ◌≢◌, [], None, OnOk, IfOk, IfErr, IsErrOf, flat_map, string_bytes};
 ghost use Rattle.dsa_device.specs.Made.{make_fault};
-ghost use Rattle.dsa_scenario.specs.Document.{IsFaultOf};
-ghost use Rattle.dsa_scenario.specs.Metered.{metered_remaining, budget_of, IsSameReader, IsFailureNoted};
 ghost use Rattle.dsa_scenario.specs.Run.{AreLinesOf};
-ghost use Rattle.dsa_scenario.specs.Scenario.{HasFault, IsCutShort, IsFirstOf, IsRenderingOf, IsWritten};
+ghost use Rattle.dsa_scenario.specs.Scenario.{HasFault, IsCutShort, IsFirstOf, IsRenderingOf, IsTextWritten};
 ghost use Rattle.dsa_scenario.specs.Steps.{line_of_step, AreLinesOfSteps};
-ghost use Rattle.dsa_scenario.specs.Watched.{watched_contents, IsSameWriter, IsRefusalNoted};
 
 use crate::document::Document;
 use crate::faults::ScenarioFault;
 use crate::lines::{add_record, add_rows};
-use crate::metered::MeteredReader;
-use crate::reading::MAX_READS;
-use crate::rendering::{Render, Rendering, render_input, render_metered};
+use crate::rendering::{Render, Rendering, render_input};
 use crate::run::Record;
 use crate::steps::{RenderSteps, render_steps, walk_action};
-use crate::watched::WatchedWriter;
 use dsa_book::Event;
 use dsa_device::Device;
 use dsa_regs::Fault;
@@ -87,24 +81,18 @@ impl Render for PlainRun {
     }
 }
 
-/// The lines of the document in these bytes.
-pub fn render_document(alloc: Global, bytes: &[u8]) -> Result<String, ScenarioFault>
-    ensures ok { IfOk result (λ text. IsRenderingOf bytes.now (string_bytes text)) }
-    ensures err { IfErr result (λ e. (e ≡ ScenarioFault.OutOfMemory) ⊎ IsFaultOf bytes.now e) }
-{
-    let rendering = render_steps(alloc, &PlainRun, bytes)?;
-    Ok(rendering.text)
-}
-
-/// The lines of a run of the document on a new device over this store, which is to be an empty one with the lists and the
-/// cells of such a device.
+/// The lines of a run of the document on a new device over this store, which is to be an empty one
+/// with the lists and the cells of such a device.
 pub fn run_document<S: EntryStore>(
     alloc: Global,
     store: S,
     document: &Document,
 ) -> Result<String, AllocError>
-    requires { make_fault document.now.caps document.now.capacity (S.cells store) (S.content store) ≡ None }
-    ensures { IfOk result (λ text. AreLinesOf document.now.caps document.now.capacity document.now.actions.items (string_bytes text)) }
+    requires { make_fault document.now.caps document.now.capacity (S.cells store) (S.content store)
+        ≡ None }
+    ensures { IfOk result
+        (λ text. AreLinesOf document.now.caps document.now.capacity document.now.actions.items
+        (string_bytes text)) }
 {
     let made = Device::new(alloc, store, document.caps, document.capacity);
     let Ok(mut device) = made else {
@@ -128,45 +116,6 @@ pub fn run_document<S: EntryStore>(
     Ok(text)
 }
 
-/// Reads one document to the end of input, runs it and writes its lines, by at most [`MAX_READS`] reads.
-///
-/// The whole run is computed before the first byte is written. The faults come in the order of [`ScenarioFault`]; want of
-/// memory comes where it is refused. On `Write` the writer has got a proper prefix of the lines, on any other fault it was not
-/// asked for anything.
-pub fn run_metered<R: Read, W: Write>(
-    alloc: Global,
-    reader: &mut MeteredReader<'_, R>,
-    writer: &mut WatchedWriter<'_, W>,
-) -> Result<(), ScenarioFault>
-    requires { MAX_READS ≤ budget_of reader.old }
-    ensures same_reader { IsSameReader reader.old reader.new }
-    ensures same_writer { IsSameWriter writer.old writer.new }
-    ensures reads { budget_of reader.old ≤ budget_of reader.new + MAX_READS }
-    ensures ok { OnOk result (IsWritten IsRenderingOf
-        (metered_remaining R.remaining reader.old) (metered_remaining R.remaining reader.new)
-        (watched_contents W.contents writer.old) (watched_contents W.contents writer.new)) }
-
-    // Only `Write` may have written, and then some of such lines.
-    ensures nothing { IfErr result (λ e. e ≢ ScenarioFault.Write → writer.new ≡ writer.old) }
-    ensures prefix { IsErrOf result ScenarioFault.Write → IsCutShort
-        (metered_remaining R.remaining reader.old) (metered_remaining R.remaining reader.new)
-        (watched_contents W.contents writer.old) (watched_contents W.contents writer.new) }
-    ensures refused { IsRefusalNoted result writer.old writer.new }
-
-    // A fault of the document is the first that stands.
-    ensures document { IfErr result (λ e. IsFirstOf (metered_remaining R.remaining reader.old) (metered_remaining R.remaining reader.new) e) }
-
-    // `TooLong` is told of more bytes than a document has, and `Read` of an error that came before.
-    ensures too_long { IsErrOf result ScenarioFault.TooLong
-        → HasFault (metered_remaining R.remaining reader.old) (metered_remaining R.remaining reader.new) ScenarioFault.TooLong }
-    ensures read { IsErrOf result ScenarioFault.Read
-        → HasFault (metered_remaining R.remaining reader.old) (metered_remaining R.remaining reader.new) ScenarioFault.Read }
-    ensures failed { IsFailureNoted result reader.old reader.new }
-{
-    render_metered(alloc, &PlainRun, reader, writer)?;
-    Ok(())
-}
-
 /// Reads one document to the end of input, runs it and writes its lines.
 ///
 /// All of it is the work of [`render_input`].
@@ -175,7 +124,7 @@ pub fn run_scenario<R: Read, W: Write>(
     reader: &mut R,
     writer: &mut W,
 ) -> Result<(), ScenarioFault>
-    ensures ok { OnOk result (IsWritten IsRenderingOf
+    ensures ok { OnOk result (IsTextWritten IsRenderingOf
         (R.remaining reader.old) (R.remaining reader.new)
         (W.contents writer.old) (W.contents writer.new)) }
 
@@ -186,7 +135,8 @@ pub fn run_scenario<R: Read, W: Write>(
         (W.contents writer.old) (W.contents writer.new) }
 
     // A fault of the document is the first that stands.
-    ensures document { IfErr result (λ e. IsFirstOf (R.remaining reader.old) (R.remaining reader.new) e) }
+    ensures document { IfErr result
+        (λ e. IsFirstOf (R.remaining reader.old) (R.remaining reader.new) e) }
 
     // `TooLong` is told of more bytes than a document has, and `Read` of an error that came before.
     ensures too_long { IsErrOf result ScenarioFault.TooLong

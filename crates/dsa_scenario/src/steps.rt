@@ -49,9 +49,11 @@ pub trait RenderSteps: Drop {
         device: &Device<S>,
         asked: &Result<Event, Fault>,
     ) -> Result<String, AllocError>
-        ensures { IfOk result (λ told. string_bytes told ≡ told_before self.now device.now asked.now) };
+        ensures { IfOk result
+            (λ told. string_bytes told ≡ told_before self.now device.now asked.now) };
 
-    /// Adds the step of this number to the page, with what was told before it. The device is as it stands after it.
+    /// Adds the step of this number to the page, with what was told before it. The device is as it
+    /// stands after it.
     fn add_step<S: EntryStore>(
         &self,
         alloc: Global,
@@ -61,9 +63,13 @@ pub trait RenderSteps: Drop {
         entry: &Record,
         device: &Device<S>,
     ) -> Result<(), AllocError>
-        ensures { OnOk result ((steps : List Visit) → (before : Running)
-            → told.now ≡ told_before self.now before (answered_by entry.now) → is_page self.now steps page.old
-            → is_page self.now (steps ++ visit number before entry.now device.now ∷ []) page.new) };
+        ensures { OnOk result
+            ((steps : List Visit)
+            → (before : Running)
+            → told.now ≡ told_before self.now before (answered_by entry.now)
+            → is_page self.now steps page.old
+            → is_page self.now
+            (steps ++ visit number before entry.now device.now ∷ []) page.new) };
 
     /// The text, from the page of all steps and the device as it stands at last.
     fn finish<S: EntryStore>(
@@ -78,7 +84,8 @@ pub trait RenderSteps: Drop {
 
 /// Runs one action more, notes the ticket that it is given, and adds its step to the page.
 ///
-/// A ticket is found at the place of its name, so an action takes the same time however many came before.
+/// A ticket is found at the place of its name, so an action takes the same time however many came
+/// before.
 #[inline(always)]
 pub fn walk_action<D: RenderSteps, S: EntryStore>(
     alloc: Global,
@@ -89,18 +96,23 @@ pub fn walk_action<D: RenderSteps, S: EntryStore>(
     number: usize,
     action: Action,
 ) -> Result<(), AllocError>
-    ensures { OnOk result ((caps : Caps) → (capacity : ℕ) → (done : List Action)
-        → IsWalkTo (D.is_page what.now) caps capacity done number device.old tickets.old.items page.old
-        → IsWalkTo (D.is_page what.now) caps capacity (done ++ action ∷ []) (number + 1) device.new tickets.new.items page.new) }
+    ensures { OnOk result
+        ((caps : Caps)
+        → (capacity : ℕ) → (done : List Action)
+        → IsWalkTo (D.is_page what.now) caps capacity done number device.old tickets.old.items
+        page.old
+        → IsWalkTo (D.is_page what.now) caps capacity (done ++ action ∷ []) (number + 1)
+        device.new tickets.new.items page.new) }
 {
     let asked = event_for(tickets, action);
     let told = what.look(alloc, device, &asked)?;
-    let entry = ask(device, tickets, action);
+    let entry = ask(device, &asked);
     note_ticket(tickets, &entry)?;
     what.add_step(alloc, page, number, &told, &entry, device)
 }
 
-/// What `what` makes of a run of the step objects on a new device over this store. Each is run as soon as it is read.
+/// What `what` makes of a run of the step objects on a new device over this store. Each is run as
+/// soon as it is read.
 pub fn render_run<D: RenderSteps, S: EntryStore>(
     alloc: Global,
     what: &D,
@@ -108,9 +120,13 @@ pub fn render_run<D: RenderSteps, S: EntryStore>(
     head: &Head<'_>,
 ) -> Result<String, ScenarioFault>
     requires { make_fault head.now.caps head.now.capacity (S.cells store) (S.content store) ≡ None }
-    ensures ok { IfOk result (λ text. (actions : List Action) × (map action_of (map view head.now.steps.now) ≡ map Some actions)
-        × IsTextOfRun (D.is_text what.now) head.now.caps head.now.capacity actions (string_bytes text)) }
-    ensures bad { IfErr result (λ e. (e ≡ ScenarioFault.OutOfMemory) ⊎ IsFirstBad (map view head.now.steps.now) e) }
+    ensures ok { IfOk result
+        (λ text. (actions : List Action)
+        × (map action_of (map view head.now.steps.now) ≡ map Some actions)
+        × IsTextOfRun (D.is_text what.now) head.now.caps head.now.capacity actions
+        (string_bytes text)) }
+    ensures bad { IfErr result
+        (λ e. (e ≡ ScenarioFault.OutOfMemory) ⊎ IsFirstBad (map view head.now.steps.now) e) }
 {
     let made = Device::new(alloc, store, head.caps, head.capacity);
     let Ok(mut device) = made else {
@@ -139,13 +155,16 @@ pub fn render_run<D: RenderSteps, S: EntryStore>(
 
 /// What `what` makes of a run of the document in these bytes.
 ///
-/// A step object that is none comes before a fault of the device, so all of them are read before that is told.
+/// A step object that is none comes before a fault of the device, so all of them are read before
+/// that is told.
 pub fn render_steps<D: RenderSteps>(
     alloc: Global,
     what: &D,
     bytes: &[u8],
 ) -> Result<Rendering, ScenarioFault>
-    ensures ok { IfOk result (λ r. (r.fault ≡ None) × IsTextOfDocument (D.is_text what.now) bytes.now (string_bytes r.text)) }
+    ensures ok { IfOk result
+        (λ r. (r.fault ≡ None)
+        × IsTextOfDocument (D.is_text what.now) bytes.now (string_bytes r.text)) }
     ensures err { IfErr result (λ e. (e ≡ ScenarioFault.OutOfMemory) ⊎ IsFaultOf bytes.now e) }
 {
     let value = parse_json(alloc, bytes)?;

@@ -10,8 +10,8 @@ use std::fmt::Display;
 use std::io;
 use std::io::{ErrorKind, Write};
 
-/// A writer that notes whether a write was refused: it was answered by an error, or took no byte of some. It also notes
-/// whether an error said that nobody reads what is written.
+/// A writer that notes whether a write was refused: it was answered by an error, or took no byte of
+/// some. It also notes whether an error said that nobody reads what is written.
 #[derive(Drop)]
 pub struct WatchedWriter<'w, W: Write> {
     writer: &'w mut W,
@@ -54,10 +54,14 @@ impl<'w, W: Write> WatchedWriter<'w, W> {
         ensures same_writer { IsSameWriter self.old self.new }
         ensures kept { has_refused self.old ≡ true → has_refused self.new ≡ true }
         ensures refused { IsErr result → has_refused self.new ≡ true }
-        ensures taken { OnOk result (IfSome (D.output text)
-            (Appends (watched_contents W.contents self.old) (watched_contents W.contents self.new))) }
-        ensures closed { IfErr result (λ e. error_kind e ≡ ErrorKind.BrokenPipe → is_closed self.new ≡ true) }
-        ensures other { IfErr result (λ e. error_kind e ≢ ErrorKind.BrokenPipe → is_closed self.new ≡ is_closed self.old) }
+        ensures taken { OnOk result
+            (IfSome (D.output text)
+            (Appends (watched_contents W.contents self.old)
+            (watched_contents W.contents self.new))) }
+        ensures closed { IfErr result
+            (λ e. error_kind e ≡ ErrorKind.BrokenPipe → is_closed self.new ≡ true) }
+        ensures other { IfErr result
+            (λ e. error_kind e ≢ ErrorKind.BrokenPipe → is_closed self.new ≡ is_closed self.old) }
         ensures open { OnOk result (is_closed self.new ≡ is_closed self.old) }
     {
         let result = write!(self.writer, "{text}");
@@ -80,8 +84,10 @@ impl<W: Write> Write for WatchedWriter<'_, W> {
         ensures failed { IsErr result → has_refused self.new ≡ true }
         ensures took_none { 0 < length buf.now → result ≡ Ok 0 → has_refused self.new ≡ true }
         ensures took { IfOk result (λ n. 0 < n → has_refused self.new ≡ has_refused self.old) }
-        ensures closed { IfErr result (λ e. error_kind e ≡ ErrorKind.BrokenPipe → is_closed self.new ≡ true) }
-        ensures other { IfErr result (λ e. error_kind e ≢ ErrorKind.BrokenPipe → is_closed self.new ≡ is_closed self.old) }
+        ensures closed { IfErr result
+            (λ e. error_kind e ≡ ErrorKind.BrokenPipe → is_closed self.new ≡ true) }
+        ensures other { IfErr result
+            (λ e. error_kind e ≢ ErrorKind.BrokenPipe → is_closed self.new ≡ is_closed self.old) }
         ensures open { OnOk result (is_closed self.new ≡ is_closed self.old) }
     {
         let result = self.writer.write(buf);
@@ -95,7 +101,8 @@ impl<W: Write> Write for WatchedWriter<'_, W> {
     }
 
     fn flush(&mut self) -> io::Result<()>
-        ensures bytes { Keeps (watched_contents W.contents self.old) (watched_contents W.contents self.new) }
+        ensures bytes { Keeps (watched_contents W.contents self.old)
+            (watched_contents W.contents self.new) }
         ensures same_writer { IsSameWriter self.old self.new }
         ensures refused { has_refused self.new ≡ has_refused self.old }
         ensures closed { is_closed self.new ≡ is_closed self.old }

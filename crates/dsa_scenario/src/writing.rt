@@ -8,7 +8,8 @@ use crate::faults::ScenarioFault;
 use crate::watched::WatchedWriter;
 use std::io::Write;
 
-/// Writes all of `text`. On a fault a write was refused, and the writer has got a proper prefix of the text.
+/// Writes all of `text`. On a fault a write was refused, and the writer has got a proper prefix of
+/// the text.
 pub fn write_text<W: Write>(
     writer: &mut WatchedWriter<'_, W>,
     text: &[u8],
@@ -19,8 +20,11 @@ pub fn write_text<W: Write>(
     ensures taken { OnOk result (has_refused writer.new ≡ has_refused writer.old) }
     ensures fault { IfErr result (λ e. e ≡ ScenarioFault.Write) }
     ensures refused { OnErr result (has_refused writer.new ≡ true) }
-    ensures prefix { IfErr result (λ e. (count : ℕ) × (count < length text.now)
-        × Appends (watched_contents W.contents writer.old) (watched_contents W.contents writer.new) (take count text.now)) }
+    ensures prefix { IfErr result
+        (λ e. (count : ℕ)
+        × (count < length text.now)
+        × Appends (watched_contents W.contents writer.old)
+        (watched_contents W.contents writer.new) (take count text.now)) }
 {
     let mut written = 0;
     'writes: while written < text.len() {

@@ -2,12 +2,13 @@
 use Rattle.std.proofs.Common.{◌≡◌, ◌≢◌, ◌⊎◌, ◌+◌, ℕ, List, ◌++◌, Option, Result, Ok, Err, IfErr, arith}
 use Rattle.std.proofs.Common.{length-append, inl, inr, refl, ◌∙◌}
 use Rattle.std.proofs.KnownBytes.{Consumes-trans}
-use Rattle.dsa_serve.specs.declared.counted.CountedReader.{CountedReader}
+use Rattle.dsa_scenario.specs.declared.counted.CountedReader.{CountedReader}
 use Rattle.dsa_scenario.specs.declared.faults.ScenarioFault.{ScenarioFault, TheVariants.{Read, TooLong, Write}}
 use Rattle.dsa_scenario.specs.declared.faults.ScenarioFault.{TheVariants.{OutOfMemory}}
 use Rattle.dsa_scenario.specs.declared.watched.WatchedWriter.{WatchedWriter}
 use Rattle.dsa_scenario.specs.Watched.{has_refused}
-use Rattle.dsa_serve.specs.Noted.{counted_remaining, has_failed, IsAskedFor, IsFailureNoted, IsRefusalTold}
+use Rattle.dsa_scenario.specs.Counted.{counted_remaining, has_reader_failed, IsAskedFor, IsFailureNoted}
+use Rattle.dsa_serve.specs.Noted.{IsRefusalTold}
 
 -- a reader that is asked, and then asked again
 pub asked_on : {R : Type 0} (remaining : R → Option (List ℕ)) (a b c : CountedReader R) (m n : ℕ)
@@ -21,7 +22,7 @@ asked_on remaining a b c m n first more = (
 
 -- where no fault of reading is told, nothing more is noted of a reader
 pub not_failed : {T R : Type 0} (result : Result T ScenarioFault) (old new : CountedReader R)
-    → IfErr result (λ e. e ≢ Read) → has_failed new ≡ has_failed old → IsFailureNoted result old new
+    → IfErr result (λ e. e ≢ Read) → has_reader_failed new ≡ has_reader_failed old → IsFailureNoted result old new
 not_failed (Ok x) old new other same = (λ is. absurd cc, same, tt)
 not_failed (Err e) old new other same = (λ is. absurd (other cc), tt, λ _. same)
 

@@ -5,12 +5,12 @@ use Rattle.dsa_regs.specs.declared.Caps.{Caps}
 use Rattle.dsa_book.specs.declared.{answer.Ticket.{Ticket}, fate.FateRow.{FateRow}}
 use Rattle.dsa_device.specs.Running.{Running}
 use Rattle.dsa_scenario.specs.declared.actions.Action.{Action}
-use Rattle.dsa_scenario.specs.Lines.{line_of, row_text}
+use Rattle.dsa_scenario.specs.Lines.{line_of_text, row_text}
 use Rattle.dsa_serve.specs.declared.requests.Request.{Request, TheVariants.{Step}}
 use Rattle.dsa_serve.specs.Requests.{Asks}
 use Rattle.dsa_serve.specs.Answers.{answers, IsSessionTo}
 use Rattle.dsa_serve.specs.Input.{IsLine, with_rest, IsFront}
-use Rattle.dsa_serve.specs.Dialogue.{from_document, IsDialogue, IsEnded, AnswersWhole, IsServing}
+use Rattle.dsa_serve.specs.Dialogue.{from_document, IsDialogue, IsDialogueEnded, AnswersWhole, IsServing}
 use Rattle.dsa_serve.proofs.Asking.{Asks-kept, AreAsked-more}
 use Rattle.dsa_serve.proofs.Lines.{AreLines-rest, AreLines-line}
 
@@ -127,8 +127,8 @@ counted n lines (b ∷ rest) some = refl
 -- the end of a dialogue with no rest of a line
 pub ended_whole : (first behind written old new : List ℕ) (number : ℕ) (now : Running) (tickets : List Ticket)
     (kept : List ℕ) (rows : List FateRow) → kept ≡ [] → rows ≡ now.state.work.fates
-    → new ≡ old ++ flat_map (λ row. line_of (row_text row)) rows
-    → IsServing first behind (written ++ old) number now tickets kept → IsEnded first behind (written ++ new)
+    → new ≡ old ++ flat_map (λ row. line_of_text (row_text row)) rows
+    → IsServing first behind (written ++ old) number now tickets kept → IsDialogueEnded first behind (written ++ new)
 ended_whole first behind written old new number now tickets kept rows none is adds h =
     let blank : h.rest ≡ [] = nothing_kept (2 ^ 20) h.rest (sym h.keeps ∙ none) in
     record {
@@ -142,16 +142,16 @@ ended_whole first behind written old new number now tickets kept rows none is ad
           subst (λ ls. IsDialogue first ls now.state (written ++ old)) all
           (dialogue_of first behind (written ++ old) number now tickets kept h);
       with_fates = ap (λ l. written ++ l) adds
-          ∙ sym (append_assoc written old (flat_map (λ row. line_of (row_text row)) rows))
-          ∙ ap (λ rs. (written ++ old) ++ flat_map (λ row. line_of (row_text row)) rs) is;
+          ∙ sym (append_assoc written old (flat_map (λ row. line_of_text (row_text row)) rows))
+          ∙ ap (λ rs. (written ++ old) ++ flat_map (λ row. line_of_text (row_text row)) rs) is;
     }
 
 -- and with one, which is answered as a line
 pub ended_rest : (first behind written old mid new : List ℕ) (number : ℕ) (now : Running) (tickets : List Ticket)
     (kept seen : List ℕ) (number' : ℕ) (now' : Running) (tickets' : List Ticket) (rows : List FateRow) → 0 < length kept
     → seen ≡ kept → Answered seen number now tickets old number' now' tickets' mid → rows ≡ now'.state.work.fates
-    → new ≡ mid ++ flat_map (λ row. line_of (row_text row)) rows
-    → IsServing first behind (written ++ old) number now tickets kept → IsEnded first behind (written ++ new)
+    → new ≡ mid ++ flat_map (λ row. line_of_text (row_text row)) rows
+    → IsServing first behind (written ++ old) number now tickets kept → IsDialogueEnded first behind (written ++ new)
 ended_rest first behind written old mid new number now tickets kept seen number' now' tickets' rows some same answers is
     adds h =
     let it = answers h.caps h.capacity (from_document h.actions h.requests) written h.session in
@@ -182,6 +182,6 @@ ended_rest first behind written old mid new number now tickets kept seen number'
         answered = session.made.answered;
       });
       with_fates = ap (λ l. written ++ l) adds
-          ∙ sym (append_assoc written mid (flat_map (λ row. line_of (row_text row)) rows))
-          ∙ ap (λ rs. (written ++ mid) ++ flat_map (λ row. line_of (row_text row)) rs) is;
+          ∙ sym (append_assoc written mid (flat_map (λ row. line_of_text (row_text row)) rows))
+          ∙ ap (λ rs. (written ++ mid) ++ flat_map (λ row. line_of_text (row_text row)) rs) is;
     }

@@ -1,5 +1,5 @@
 -- The lines of an input, with more bytes.
-use Rattle.std.proofs.Common.{◌≡◌, ◌≢◌, ◌≤◌, ◌<◌, ◌+◌, ◌-◌, ℕ, true, false, Bool, List, [], ◌∷◌, ◌++◌, length, take}
+use Rattle.std.proofs.Common.{◌≡◌, ◌≢◌, ◌≤◌, ◌<◌, ◌+◌, ◌-◌, ℕ, false, List, [], ◌∷◌, ◌++◌, length, take}
 use Rattle.std.proofs.Common.{drop, get_or}
 use Rattle.std.proofs.Common.{refl, sym, ap, ◌∙◌, arith, append_assoc, append-nil, flat_map}
 use Rattle.std.proofs.Common.{length-take, length-drop, subst, min, inl, inr}
@@ -8,7 +8,7 @@ use Rattle.std.proofs.lemmas.{Bool.{eqb-true, cases_lt}, Grind.{flat_map-append}
 use Rattle.std.proofs.lemmas.List.{take_all, take_min, take_more, get_or-take, take-append-drop, take-append-le}
 use Rattle.std.proofs.lemmas.List.Elements.{All-append, All-from_get_or, All-nil, All-cons}
 use Rattle.memchr.specs.Find.{Nowhere, NoneBefore, Passes, is_byte}
-use Rattle.dsa_scenario.specs.Lines.{line_of}
+use Rattle.dsa_scenario.specs.Lines.{line_of_text}
 use Rattle.dsa_serve.specs.Input.{IsLine, AreLines, IsFront}
 
 -- bytes up to a place before which there is no line feed
@@ -36,7 +36,7 @@ through_feed bytes j inside feed =
 pub AreLines-rest : (bytes : List ℕ) (lines : List (List ℕ)) (rest piece : List ℕ) → IsLine piece
     → AreLines bytes lines rest → AreLines (bytes ++ piece) lines (rest ++ piece)
 AreLines-rest bytes lines rest piece line h = record {
-  joined = ap (λ l. l ++ piece) h.joined ∙ append_assoc (flat_map line_of lines) rest piece;
+  joined = ap (λ l. l ++ piece) h.joined ∙ append_assoc (flat_map line_of_text lines) rest piece;
   each = h.each;
   last = All-append (λ b. b ≢ 10) rest piece h.last line;
 }
@@ -46,14 +46,14 @@ pub AreLines-line : (bytes : List ℕ) (lines : List (List ℕ)) (rest piece : L
     → AreLines bytes lines rest → AreLines (bytes ++ piece ++ 10 ∷ []) (lines ++ (rest ++ piece) ∷ []) []
 AreLines-line bytes lines rest piece line h =
     let whole = AreLines-rest bytes lines rest piece line h in
-    let line_is : flat_map line_of ((rest ++ piece) ∷ []) ≡ line_of (rest ++ piece) =
-    append-nil (line_of (rest ++ piece)) in
+    let line_is : flat_map line_of_text ((rest ++ piece) ∷ []) ≡ line_of_text (rest ++ piece) =
+    append-nil (line_of_text (rest ++ piece)) in
     record {
       joined = ap (λ l. l ++ 10 ∷ []) whole.joined
-          ∙ append_assoc (flat_map line_of lines) (rest ++ piece) (10 ∷ [])
-          ∙ ap (λ l. flat_map line_of lines ++ l) (sym line_is)
-          ∙ sym (flat_map-append line_of lines ((rest ++ piece) ∷ []))
-          ∙ sym (append-nil (flat_map line_of (lines ++ (rest ++ piece) ∷ [])));
+          ∙ append_assoc (flat_map line_of_text lines) (rest ++ piece) (10 ∷ [])
+          ∙ ap (λ l. flat_map line_of_text lines ++ l) (sym line_is)
+          ∙ sym (flat_map-append line_of_text lines ((rest ++ piece) ∷ []))
+          ∙ sym (append-nil (flat_map line_of_text (lines ++ (rest ++ piece) ∷ [])));
       each = All-append IsLine lines ((rest ++ piece) ∷ []) h.each
           (All-cons IsLine (rest ++ piece) [] whole.last (All-nil IsLine));
       last = All-nil (λ b. b ≢ 10);
@@ -104,9 +104,3 @@ front_cut first piece at found line =
       ap (λ l. first ++ l) cut ∙ sym (append_assoc first (take at piece ++ 10 ∷ []) (drop (at + 1) piece))
           ∙ ap (λ l. l ++ drop (at + 1) piece) (sym (append_assoc first (take at piece) (10 ∷ []))),
     )
-
--- an input begins with its first line
-pub front_begins : (ended : Bool) (input first behind : List ℕ) → IsFront ended input first behind
-    → (more : List ℕ) × (input ≡ first ++ more)
-front_begins false input first behind front = (10 ∷ behind, front ∙ append_assoc first (10 ∷ []) behind)
-front_begins true input first behind front = ([], front.0 ∙ sym (append-nil first))

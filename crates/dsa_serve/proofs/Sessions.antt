@@ -7,15 +7,15 @@ use Rattle.dsa_regs.specs.declared.{Caps.{Caps}, Fault.{Fault as Refusal}}
 use Rattle.dsa_book.specs.declared.{answer.Ticket.{Ticket}, event.Event.{Event}}
 use Rattle.dsa_device.specs.Running.{Running}
 use Rattle.dsa_scenario.specs.declared.{actions.Action.{Action}, run.Record.{Record}}
-use Rattle.dsa_scenario.specs.Lines.{record_text, line_of}
-use Rattle.dsa_scenario.specs.Run.{given_by, event_of, answered_by, Leads, IsTable}
+use Rattle.dsa_scenario.specs.Lines.{record_text, line_of_text}
+use Rattle.dsa_scenario.specs.Run.{ticket_given_by, event_of, answered_by, Leads, IsTable}
 use Rattle.dsa_scenario.specs.Steps.{Visit, visit, IsWalkTo}
 use Rattle.dsa_scenario.proofs.Walks.{one_more}
-use Rattle.dsa_explain_lines.specs.Lines.{line_of_step}
+use Rattle.dsa_explain_lines.specs.Lines.{explanation_of_step}
 use Rattle.dsa_serve.specs.declared.requests.LineFault.{LineFault}
 use Rattle.dsa_serve.specs.declared.requests.Request.{Request, TheVariants.{Step, Explain, Fault}}
 use Rattle.dsa_serve.specs.Requests.{action_in, actions_of}
-use Rattle.dsa_serve.specs.Answers.{fault_text, answers, IsAnswered, IsPage, IsSessionTo}
+use Rattle.dsa_serve.specs.Answers.{line_fault_text, answers, AreRequestsAnswered, IsPage, IsSessionTo}
 
 -- the actions of requests and of more
 pub actions-more : (requests more : List Request)
@@ -28,21 +28,22 @@ answers-more : (requests more : List Request) (steps next : List Visit) → leng
 answers-more [] more [] next h = refl
 answers-more [] more (v ∷ steps) next h = absurd (omega (arith, h))
 answers-more (Fault fault ∷ requests) more steps next h =
-    ap (λ l. line_of (fault_text fault) ++ l) (answers-more requests more steps next h)
-    ∙ sym (append_assoc (line_of (fault_text fault)) (answers requests steps) (answers more next))
+    ap (λ l. line_of_text (line_fault_text fault) ++ l) (answers-more requests more steps next h)
+    ∙ sym (append_assoc (line_of_text (line_fault_text fault)) (answers requests steps) (answers more next))
 answers-more (Step action ∷ requests) more [] next h = absurd (omega (arith, h))
 answers-more (Explain action ∷ requests) more [] next h = absurd (omega (arith, h))
 answers-more (Step action ∷ requests) more (v ∷ steps) next h =
-    ap (λ l. line_of (record_text v.entry) ++ l) (answers-more requests more steps next (omega (arith, h)))
-    ∙ sym (append_assoc (line_of (record_text v.entry)) (answers requests steps) (answers more next))
+    ap (λ l. line_of_text (record_text v.entry) ++ l) (answers-more requests more steps next (omega (arith, h)))
+    ∙ sym (append_assoc (line_of_text (record_text v.entry)) (answers requests steps) (answers more next))
 answers-more (Explain action ∷ requests) more (v ∷ steps) next h =
-    ap (λ l. line_of_step v ++ l) (answers-more requests more steps next (omega (arith, h)))
-    ∙ sym (append_assoc (line_of_step v) (answers requests steps) (answers more next))
+    ap (λ l. explanation_of_step v ++ l) (answers-more requests more steps next (omega (arith, h)))
+    ∙ sym (append_assoc (explanation_of_step v) (answers requests steps) (answers more next))
 
 -- a request with its step, and what it adds
 IsAnswered-step : (requests : List Request) (request : Request) (action : Action) (steps : List Visit) (step : Visit)
     (output line : List ℕ) → action_in request ≡ Some action → answers (request ∷ []) (step ∷ []) ≡ line
-    → IsAnswered requests steps output → IsAnswered (requests ++ request ∷ []) (steps ++ step ∷ []) (output ++ line)
+    → AreRequestsAnswered requests steps output → AreRequestsAnswered (requests ++ request ∷ []) (steps ++ step ∷ [])
+    (output ++ line)
 IsAnswered-step requests request action steps step output line is adds h = record {
   count =
       let one : actions_of (request ∷ []) ≡ action ∷ [] = rw is refl in
@@ -59,8 +60,7 @@ pub stepped : (told_before : Running → Result Event Refusal → List ℕ) (cap
     (tickets more : List Ticket) (written old text line told : List ℕ) (entry : Record) (asked : Result Event Refusal)
     → action_in request ≡ Some action
     → ((before : List Record) → IsTable (slice_get tickets) before → asked ≡ event_of before action)
-    → ((before : List Record) → IsTable (slice_get tickets) before → answered_by entry ≡ event_of before action)
-    → Leads now entry new → more ≡ tickets ++ filter_map given_by (entry ∷ [])
+    → answered_by entry ≡ asked → Leads now entry new → more ≡ tickets ++ filter_map ticket_given_by (entry ∷ [])
     → told ≡ told_before now asked → text ≡ old ++ line
     → ((before : Running) → told ≡ told_before before (answered_by entry)
     → answers (request ∷ []) (visit number before entry new ∷ []) ≡ line)
@@ -83,19 +83,20 @@ stepped told_before caps capacity requests request action number now new tickets
 
 -- the lines that a step adds
 pub plain_line : (action : Action) (step : Visit)
-    → answers (Step action ∷ []) (step ∷ []) ≡ line_of (record_text step.entry)
-plain_line action step = append-nil (line_of (record_text step.entry))
+    → answers (Step action ∷ []) (step ∷ []) ≡ line_of_text (record_text step.entry)
+plain_line action step = append-nil (line_of_text (record_text step.entry))
 
-pub explained_line : (action : Action) (step : Visit) → answers (Explain action ∷ []) (step ∷ []) ≡ line_of_step step
-explained_line action step = append-nil (line_of_step step)
+pub explained_line : (action : Action) (step : Visit) → answers (Explain action ∷ []) (step ∷ [])
+    ≡ explanation_of_step step
+explained_line action step = append-nil (explanation_of_step step)
 
 -- a session with one request more that is none
 pub missed : (caps : Caps) (capacity : ℕ) (requests : List Request) (fault : LineFault) (number : ℕ) (now : Running)
-    (tickets : List Ticket) (written old text : List ℕ) → text ≡ old ++ line_of (fault_text fault)
+    (tickets : List Ticket) (written old text : List ℕ) → text ≡ old ++ line_of_text (line_fault_text fault)
     → IsSessionTo caps capacity requests number now tickets (written ++ old)
     → IsSessionTo caps capacity (requests ++ Fault fault ∷ []) number now tickets (written ++ text)
 missed caps capacity requests fault number now tickets written old text adds h =
-    let line = line_of (fault_text fault) in
+    let line = line_of_text (line_fault_text fault) in
     let longer : written ++ text ≡ (written ++ old) ++ line =
     ap (λ l. written ++ l) adds ∙ sym (append_assoc written old line) in
     let same : actions_of requests ≡ actions_of (requests ++ Fault fault ∷ []) =
@@ -115,10 +116,10 @@ missed caps capacity requests fault number now tickets written old text adds h =
       };
     })
   where
-    faulty : {steps : List Visit} → IsAnswered requests steps (written ++ old)
-        → (written ++ old) ++ line_of (fault_text fault) ≡ answers (requests ++ Fault fault ∷ []) steps
+    faulty : {steps : List Visit} → AreRequestsAnswered requests steps (written ++ old)
+        → (written ++ old) ++ line_of_text (line_fault_text fault) ≡ answers (requests ++ Fault fault ∷ []) steps
     faulty {steps} made =
-        let line = line_of (fault_text fault) in
+        let line = line_of_text (line_fault_text fault) in
         ap (λ l. l ++ line) made.answered ∙ ap (λ l. answers requests steps ++ l) (sym (append-nil line))
         ∙ sym (answers-more requests (Fault fault ∷ []) steps [] made.count)
         ∙ ap (answers (requests ++ Fault fault ∷ [])) (append-nil steps)

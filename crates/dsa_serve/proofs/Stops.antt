@@ -9,14 +9,14 @@ use Rattle.std.specs.Io.KnownBytes.{Consumes, Appends, Keeps}
 use Rattle.std.proofs.KnownBytes.{Consumes-nil, Consumes-trans, Consumes-kept, Appends-nil, Appends-trans}
 use Rattle.dsa_book.specs.declared.answer.Ticket.{Ticket}
 use Rattle.dsa_device.specs.Running.{Running}
-use Rattle.dsa_scenario.specs.Lines.{line_of}
+use Rattle.dsa_scenario.specs.Lines.{line_of_text}
 use Rattle.dsa_scenario.specs.declared.faults.ScenarioFault.{ScenarioFault, TheVariants.{Read, Write, OutOfMemory}}
 use Rattle.dsa_scenario.specs.declared.faults.ScenarioFault.TheVariants.{TooLong, NotJson, BadDocument, BadStep}
 use Rattle.dsa_scenario.specs.declared.faults.ScenarioFault.TheVariants.{Differs}
 use Rattle.dsa_scenario.specs.declared.faults.ScenarioFault.TheVariants.{BadCaps, BadCapacity}
 use Rattle.dsa_scenario.specs.Document.{IsFaultOf}
 use Rattle.dsa_serve.specs.Input.{IsLine, IsFront}
-use Rattle.dsa_serve.specs.Dialogue.{IsEnded, AnswersWhole, AnswersAll, IsServing, IsInCourse, IsLate}
+use Rattle.dsa_serve.specs.Dialogue.{IsDialogueEnded, AnswersWhole, AnswersAll, IsServing, IsInCourse, IsLate}
 use Rattle.dsa_serve.specs.Dialogue.{IsStoppedWithin, IsStopped}
 use Rattle.dsa_serve.proofs.{Courses.{whole_answered}, Lines.{front_cut}}
 
@@ -34,7 +34,7 @@ cut_short held holds holds' output text count first less second = (
 front_more : (input first behind bytes : List ℕ) → IsFront false input first behind
     → IsFront false (input ++ bytes) first (behind ++ bytes)
 front_more input first behind bytes front =
-    ap (λ l. l ++ bytes) front ∙ append_assoc (line_of first) behind bytes
+    ap (λ l. l ++ bytes) front ∙ append_assoc (line_of_text first) behind bytes
 
 -- what a read and its answers make of a session
 abbrev pub Advances : List ℕ → List ℕ → ℕ → Running → List Ticket → List ℕ → ℕ → Running → List Ticket → List ℕ → Type 0
@@ -133,7 +133,7 @@ write_stops had left left' held holds holds' bytes text count number now tickets
 abbrev pub Ends : List ℕ → ℕ → Running → List Ticket → List ℕ → Type 0
 Ends text number now tickets kept =
     (first : List ℕ) (behind : List ℕ) (output : List ℕ) → IsServing first behind output number now tickets kept
-    → IsEnded first behind (output ++ text)
+    → IsDialogueEnded first behind (output ++ text)
 
 -- all of a dialogue
 pub all_answered : (ended : Bool) (had left held holds holds' : Option (List ℕ)) (text : List ℕ) (number : ℕ)
@@ -189,7 +189,7 @@ from_blank bytes old text seen number now tickets kept number' now' tickets' kep
 pub ends_blank : (old text seen : List ℕ) (number : ℕ) (now : Running) (tickets : List Ticket) (kept : List ℕ)
     → old ≡ [] → seen ≡ text
     → ((first : List ℕ) (behind : List ℕ) (written : List ℕ)
-    → IsServing first behind (written ++ old) number now tickets kept → IsEnded first behind (written ++ text))
+    → IsServing first behind (written ++ old) number now tickets kept → IsDialogueEnded first behind (written ++ text))
     → Ends seen number now tickets kept
 ends_blank old text seen number now tickets kept blank same on first behind output h =
     rw same (on first behind output (rw (blank, append-nil output) h))

@@ -8,8 +8,8 @@ use Rattle.dsa_device.specs.Running.{Running}
 use Rattle.dsa_scenario.specs.declared.{actions.Action.{Action}, run.Record.{Record}}
 use Rattle.dsa_scenario.specs.declared.faults.ScenarioFault.{ScenarioFault}
 use Rattle.dsa_scenario.specs.declared.faults.ScenarioFault.TheVariants.{Read, TooLong, Write, OutOfMemory}
-use Rattle.dsa_scenario.specs.{Document.{IsDocument, IsFaultOf}, Lines.{line_of, row_text}}
-use Rattle.dsa_scenario.specs.{Run.{steps_of, AreOf}, Steps.{visits}}
+use Rattle.dsa_scenario.specs.{Document.{IsDocument, IsFaultOf}, Lines.{line_of_text, row_text}}
+use Rattle.dsa_scenario.specs.{Run.{steps_of_records, AreOf}, Steps.{visits}}
 use Rattle.dsa_serve.specs.declared.requests.Request.{Request, TheVariants.{Step}}
 use Rattle.dsa_serve.specs.Requests.{AreAsked, actions_of}
 use Rattle.dsa_serve.specs.Answers.{answers, IsSessionTo}
@@ -32,8 +32,8 @@ pub record IsDialogue (first : List ℕ) (lines : List (List ℕ)) (last : State
   pub small : capacity ≤ 2 ^ 20
   pub asked : AreAsked lines requests
   pub of_actions : AreOf [] (actions_of (from_document actions requests)) records
-  pub run : is_run caps capacity (steps_of records) ≡ true
-  pub replayed : replay caps (stored_steps (steps_of records)) ≡ Some last
+  pub run : is_run caps capacity (steps_of_records records) ≡ true
+  pub replayed : replay caps (stored_steps (steps_of_records records)) ≡ Some last
   pub answered : output ≡ answers (from_document actions requests) (visits caps capacity [] records)
 
 -- the output answers all whole lines of the input, and no more (profile)
@@ -48,21 +48,21 @@ pub record AnswersWhole (input output : List ℕ) : Type 0 where
   pub dialogue : IsDialogue first lines last output
 
 -- the output answers this first line and all lines behind it, and ends with the fates that their run leads to (profile)
-pub record IsEnded (first behind output : List ℕ) : Type 0 where
+pub record IsDialogueEnded (first behind output : List ℕ) : Type 0 where
   pub lines : List (List ℕ)
   pub rest : List ℕ
   pub last : State
   pub answered : List ℕ
   pub lines_are : AreLines behind lines rest
   pub dialogue : IsDialogue first (with_rest lines rest) last answered
-  pub with_fates : output ≡ answered ++ flat_map (λ row. line_of (row_text row)) last.work.fates
+  pub with_fates : output ≡ answered ++ flat_map (λ row. line_of_text (row_text row)) last.work.fates
 
 -- the output answers all lines of the input, and ends with the fates (profile)
 pub record AnswersAll (input output : List ℕ) : Type 0 where
   pub first : List ℕ
   pub behind : List ℕ
   pub split : HasFirst input first behind
-  pub ended : IsEnded first behind output
+  pub ended : IsDialogueEnded first behind output
 
 -- nothing is written before the first line is whole, which it is by 2^20 bytes, and then what answers the whole lines
 -- (profile)

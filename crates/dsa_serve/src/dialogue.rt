@@ -2,7 +2,7 @@
 
 ghost use Rattle.std.specs.Prelude.{◌≡◌, ◌++◌, ◌+◌, [], ◌∷◌, ℕ, List, take, OnOk, string_bytes};
 ghost use Rattle.dsa_serve.specs.Input.{IsLine};
-ghost use Rattle.dsa_serve.specs.Dialogue.{IsServing, IsEnded};
+ghost use Rattle.dsa_serve.specs.Dialogue.{IsServing, IsDialogueEnded};
 
 use crate::requests::MAX_LINE;
 use crate::session::Session;
@@ -31,11 +31,14 @@ fn keep(kept: &mut Vec<u8>, piece: &[u8]) -> Result<(), AllocError>
 impl<S: EntryStore> Dialogue<S> {
     // Takes the last piece of a line, without its line feed, and adds the answer to the line.
     fn end_line(&mut self, alloc: Global, text: &mut String, piece: &[u8]) -> Result<(), AllocError>
-        ensures { OnOk result (IsLine piece.now → (first : List ℕ) (behind : List ℕ) (written : List ℕ)
-            → IsServing first behind (written ++ string_bytes text.old) self.old.session.number self.old.session.device
-            self.old.session.tickets.items self.old.kept.items
-            → IsServing first (behind ++ piece.now ++ 10 ∷ []) (written ++ string_bytes text.new) self.new.session.number self.new.session.device
-            self.new.session.tickets.items self.new.kept.items) }
+        ensures { OnOk result
+            (IsLine piece.now
+            → (first : List ℕ) (behind : List ℕ) (written : List ℕ)
+            → IsServing first behind (written ++ string_bytes text.old) self.old.session.number
+            self.old.session.device self.old.session.tickets.items self.old.kept.items
+            → IsServing first (behind ++ piece.now ++ 10 ∷ [])
+            (written ++ string_bytes text.new) self.new.session.number
+            self.new.session.device self.new.session.tickets.items self.new.kept.items) }
     {
         keep(&mut self.kept, piece)?;
         self.session.answer(alloc, text, &self.kept)?;
@@ -45,11 +48,13 @@ impl<S: EntryStore> Dialogue<S> {
 
     /// Takes more bytes, and adds the answers to the lines that they complete.
     pub fn feed(&mut self, alloc: Global, text: &mut String, bytes: &[u8]) -> Result<(), AllocError>
-        ensures { OnOk result ((first : List ℕ) (behind : List ℕ) (written : List ℕ)
-            → IsServing first behind (written ++ string_bytes text.old) self.old.session.number self.old.session.device
-            self.old.session.tickets.items self.old.kept.items
-            → IsServing first (behind ++ bytes.now) (written ++ string_bytes text.new) self.new.session.number self.new.session.device
-            self.new.session.tickets.items self.new.kept.items) }
+        ensures { OnOk result
+            ((first : List ℕ) (behind : List ℕ) (written : List ℕ)
+            → IsServing first behind (written ++ string_bytes text.old) self.old.session.number
+            self.old.session.device self.old.session.tickets.items self.old.kept.items
+            → IsServing first (behind ++ bytes.now) (written ++ string_bytes text.new)
+            self.new.session.number self.new.session.device self.new.session.tickets.items
+            self.new.kept.items) }
     {
         let mut rest = bytes;
         'lines: while let Some(at) = memchr(b'\n', rest) {
@@ -62,10 +67,11 @@ impl<S: EntryStore> Dialogue<S> {
 
     /// Adds the answer to a last line without a line feed, where it has a byte, and then the fates.
     pub fn add_end(&mut self, alloc: Global, text: &mut String) -> Result<(), AllocError>
-        ensures { OnOk result ((first : List ℕ) (behind : List ℕ) (written : List ℕ)
-            → IsServing first behind (written ++ string_bytes text.old) self.old.session.number self.old.session.device
-            self.old.session.tickets.items self.old.kept.items
-            → IsEnded first behind (written ++ string_bytes text.new)) }
+        ensures { OnOk result
+            ((first : List ℕ) (behind : List ℕ) (written : List ℕ)
+            → IsServing first behind (written ++ string_bytes text.old) self.old.session.number
+            self.old.session.device self.old.session.tickets.items self.old.kept.items
+            → IsDialogueEnded first behind (written ++ string_bytes text.new)) }
     {
         if !self.kept.is_empty() {
             self.session.answer(alloc, text, &self.kept)?;

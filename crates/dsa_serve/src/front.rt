@@ -5,11 +5,11 @@ ghost use Rattle.std.specs.Io.KnownBytes.{Consumes, IsAtEnd};
 ghost use Rattle.dsa_scenario.specs.declared.faults.ScenarioFault.{ScenarioFault};
 ghost use Rattle.dsa_serve.specs.Input.{IsLine, IsFront};
 ghost use Rattle.dsa_serve.specs.Dialogue.{IsStoppedWithin};
-ghost use Rattle.dsa_serve.specs.Noted.{counted_remaining, given_by, IsSameReader, IsFailureNoted, IsAskedFor};
+ghost use Rattle.dsa_scenario.specs.Counted.{counted_remaining, last_given};
+ghost use Rattle.dsa_scenario.specs.Counted.{IsSameReader, IsAskedFor, IsFailureNoted};
 
-use crate::counted::CountedReader;
 use crate::requests::MAX_LINE;
-use dsa_scenario::ScenarioFault;
+use dsa_scenario::{CountedReader, ScenarioFault};
 use memchr::memchr;
 use std::alloc::Global;
 use std::io::Read;
@@ -55,17 +55,29 @@ pub fn read_first<R: Read>(
     ensures same_reader { IsSameReader reader.old reader.new }
     ensures failed { IsFailureNoted result reader.old reader.new }
     ensures asked { IsAskedFor R.remaining reader.old reader.new 1 }
-    ensures asked_first { IfOk result (λ front. front.ended ≡ false → IsAskedFor R.remaining reader.old reader.new 0) }
-    ensures last_read { IfOk result (λ front. front.ended ≡ false → length front.behind.items < given_by reader.new) }
-    ensures room { IfOk result (λ front. front.ended ≡ false → given_by reader.new ≤ length chunk.old) }
-    ensures bytes { IfOk result (λ front. (input : List ℕ)
-        × Consumes (counted_remaining R.remaining reader.old) (counted_remaining R.remaining reader.new) input
-        × IsLine front.first.items × IsFront front.ended input front.first.items front.behind.items) }
-    ensures end { IfOk result (λ front. front.ended ≡ true → IsAtEnd (counted_remaining R.remaining reader.new)) }
+    ensures asked_first { IfOk result
+        (λ front. front.ended ≡ false → IsAskedFor R.remaining reader.old reader.new 0) }
+    ensures last_read { IfOk result (λ front. front.ended ≡ false
+        → length front.behind.items < last_given reader.new) }
+    ensures room { IfOk result (λ front. front.ended ≡ false
+        → last_given reader.new ≤ length chunk.old) }
+    ensures bytes { IfOk result
+        (λ front. (input : List ℕ)
+        × Consumes (counted_remaining R.remaining reader.old)
+        (counted_remaining R.remaining reader.new) input
+        × IsLine front.first.items
+        × IsFront front.ended input front.first.items front.behind.items) }
+    ensures end { IfOk result
+        (λ front. front.ended ≡ true → IsAtEnd (counted_remaining R.remaining reader.new)) }
     ensures fits { IfOk result (λ front. vec_len front.first ≤ MAX_LINE) }
-    ensures faults { IfErr result (λ e. (e ≡ ScenarioFault.Read) ⊎ (e ≡ ScenarioFault.TooLong) ⊎ (e ≡ ScenarioFault.OutOfMemory)) }
-    ensures stopped { IfErr result (λ e. (held : Option (List ℕ))
-        → IsStoppedWithin (length chunk.old) e (counted_remaining R.remaining reader.old) (counted_remaining R.remaining reader.new) held held) }
+    ensures faults { IfErr result
+        (λ e. (e ≡ ScenarioFault.Read)
+        ⊎ (e ≡ ScenarioFault.TooLong)
+        ⊎ (e ≡ ScenarioFault.OutOfMemory)) }
+    ensures stopped { IfErr result
+        (λ e. (held : Option (List ℕ))
+        → IsStoppedWithin (length chunk.old) e (counted_remaining R.remaining reader.old)
+        (counted_remaining R.remaining reader.new) held held) }
 {
     let mut first = Vec::new(alloc);
     'reads: while first.len() <= MAX_LINE {
@@ -84,27 +96,4 @@ pub fn read_first<R: Read>(
         first.extend_from_slice(piece)?;
     }
     Err(ScenarioFault::TooLong)
-}
-
-/// Reads the first line, by as many reads as it takes.
-///
-/// All of it is the work of [`read_first`], which is lent the reader as one that is counted.
-pub fn read_front<R: Read>(
-    alloc: Global,
-    reader: &mut R,
-    chunk: &mut [u8],
-) -> Result<Front, ScenarioFault>
-    requires { 0 < length chunk.old }
-    ensures bytes { IfOk result (λ front. (input : List ℕ) × Consumes (R.remaining reader.old) (R.remaining reader.new) input
-        × IsLine front.first.items × IsFront front.ended input front.first.items front.behind.items) }
-    ensures end { IfOk result (λ front. front.ended ≡ true → IsAtEnd (R.remaining reader.new)) }
-    ensures fits { IfOk result (λ front. vec_len front.first ≤ MAX_LINE) }
-
-    // What came behind the line feed came with it, in one read.
-    ensures one_read { IfOk result (λ front. front.ended ≡ false → length front.behind.items < length chunk.old) }
-    ensures stopped { IfErr result (λ e. (held : Option (List ℕ))
-        → IsStoppedWithin (length chunk.old) e (R.remaining reader.old) (R.remaining reader.new) held held) }
-{
-    let mut reader = CountedReader::new(reader);
-    read_first(alloc, &mut reader, chunk)
 }

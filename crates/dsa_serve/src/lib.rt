@@ -1,9 +1,9 @@
-//! A dialogue: a document in the first line, and a step a line behind it, each answered before more is read.
+//! A dialogue: a document in the first line, and a step a line behind it, each answered before more
+//! is read.
 //!
 //! `docs/COMMANDS.md` describes lines and answers.
 #![tactic(auto)]
 
-mod counted;
 mod dialogue;
 mod front;
 mod opening;
@@ -12,10 +12,9 @@ pub mod rows;
 mod serving;
 mod session;
 
-pub use counted::CountedReader;
 pub use dialogue::Dialogue;
-pub use front::{Front, read_first, read_front};
+pub use front::{Front, read_first};
 pub use opening::begin;
 pub use requests::{LineFault, MAX_LINE, Request, parse_request};
-pub use serving::{serve, serve_counted, serve_watched};
+pub use serving::{serve_counted, serve_watched};
 pub use session::{Session, open};

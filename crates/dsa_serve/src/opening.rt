@@ -15,14 +15,17 @@ use std::alloc::Global;
 
 // A session of the document in these bytes, with the answers to its steps.
 //
-// A step object that is none comes before a fault of the device, so all of them are read before that is told.
+// A step object that is none comes before a fault of the device, so all of them are read before
+// that is told.
 fn open_document(
     alloc: Global,
     text: &mut String,
     bytes: &[u8],
 ) -> Result<Session<LinkedStore>, ScenarioFault>
-    ensures ok { IfOk result (λ session. string_bytes text.old ≡ [] → IsServing bytes.now [] (string_bytes text.new)
-        session.number session.device session.tickets.items []) }
+    ensures ok { IfOk result
+        (λ session. string_bytes text.old ≡ []
+        → IsServing bytes.now [] (string_bytes text.new) session.number session.device
+        session.tickets.items []) }
     ensures err { IfErr result (λ e. (e ≡ ScenarioFault.OutOfMemory) ⊎ IsFaultOf bytes.now e) }
 {
     let value = parse_json(alloc, bytes)?;
@@ -39,15 +42,20 @@ fn open_document(
     Ok(session)
 }
 
-/// A dialogue of the document in the first line, with the answers to its steps and to the whole lines behind it.
+/// A dialogue of the document in the first line, with the answers to its steps and to the whole
+/// lines behind it.
 pub fn begin(
     alloc: Global,
     text: &mut String,
     front: &Front,
 ) -> Result<Dialogue<LinkedStore>, ScenarioFault>
-    ensures ok { IfOk result (λ dialogue. string_bytes text.old ≡ [] → IsServing front.now.first.items front.now.behind.items
-        (string_bytes text.new) dialogue.session.number dialogue.session.device dialogue.session.tickets.items dialogue.kept.items) }
-    ensures err { IfErr result (λ e. (e ≡ ScenarioFault.OutOfMemory) ⊎ IsFaultOf front.now.first.items e) }
+    ensures ok { IfOk result
+        (λ dialogue. string_bytes text.old ≡ []
+        → IsServing front.now.first.items front.now.behind.items (string_bytes text.new)
+        dialogue.session.number dialogue.session.device dialogue.session.tickets.items
+        dialogue.kept.items) }
+    ensures err { IfErr result
+        (λ e. (e ≡ ScenarioFault.OutOfMemory) ⊎ IsFaultOf front.now.first.items e) }
 {
     let session = open_document(alloc, text, &front.first)?;
     let mut dialogue = Dialogue {

@@ -7,28 +7,32 @@ ghost use Rattle.dsa_book.specs.State.{State, opening};
 ghost use Rattle.dsa_scenario.specs.declared.actions.Action.TheVariants.{Ask, Refuse};
 ghost use Rattle.dsa_scenario.specs.declared.faults.ScenarioFault.{ScenarioFault};
 ghost use Rattle.dsa_scenario.specs.Document.{IsNoJson};
-ghost use Rattle.dsa_scenario.specs.Lines.{line_of};
+ghost use Rattle.dsa_scenario.specs.Lines.{line_of_text};
 ghost use Rattle.dsa_scenario.specs.Steps.{visits};
 ghost use Rattle.dsa_scenario.specs.Worked.{object_of, poll_step, step_of_kind, whole, smallest_caps, smallest_caps_text, no_caps_text, document_text};
 ghost use Rattle.dsa_serve.specs.declared.requests.LineFault.TheVariants.{NotJson, NoStep, TooLong};
 ghost use Rattle.dsa_serve.specs.declared.requests.Request.TheVariants.{Step, Explain, Fault};
 ghost use Rattle.dsa_serve.specs.Requests.{request_of, actions_of, IsRead, Asks, AreAsked};
-ghost use Rattle.dsa_serve.specs.Answers.{answers, fault_text, IsAnswered};
+ghost use Rattle.dsa_serve.specs.Answers.{answers, line_fault_text, AreRequestsAnswered};
 ghost use Rattle.dsa_serve.specs.Input.{IsLine, AreLines, with_rest, IsFront, HasFirst};
-ghost use Rattle.dsa_serve.specs.Dialogue.{IsDialogue, IsEnded, AnswersWhole, AnswersAll, AnswersSoFar, IsStopped};
+ghost use Rattle.dsa_serve.specs.Dialogue.{IsDialogue, IsDialogueEnded, AnswersWhole, AnswersAll, AnswersSoFar, IsStopped};
 ghost use Rattle.dsa_scenario.specs.declared.watched.WatchedWriter.{WatchedWriter};
 ghost use Rattle.dsa_scenario.specs.Watched.{has_refused};
-ghost use Rattle.dsa_serve.specs.declared.counted.CountedReader.{CountedReader};
-ghost use Rattle.dsa_serve.specs.Noted.{counted_remaining, asked_of, has_failed, IsFailureNoted, IsAskedFor, IsRefusalTold};
+ghost use Rattle.dsa_serve.specs.Noted.{IsRefusalTold};
 ghost use Rattle.dsa_serve.specs.Worked.{explain_around, requests_of_a_dialogue, records_of_a_dialogue, lines_of_a_dialogue, poll_line, explained_poll_line, first_line};
 
-/// A step object asks its step, and `explain` around one its explanation. Nothing else asks anything.
+/// A step object asks its step, and `explain` around one its explanation. Nothing else asks
+/// anything.
 pub fn requests()
     ensures step { request_of (object_of poll_step) ≡ Step (Ask Poll) }
     ensures explained { request_of (explain_around (object_of poll_step)) ≡ Explain (Ask Poll) }
-    ensures twice { request_of (explain_around (explain_around (object_of poll_step))) ≡ Fault NoStep }
-    ensures other_word { request_of (object_of (step_of_kind (codes "explains") ((codes "step", object_of poll_step) ∷ []))) ≡ Fault NoStep }
-    ensures around_nothing { request_of (object_of (step_of_kind (codes "explain") [])) ≡ Fault NoStep }
+    ensures twice { request_of (explain_around (explain_around (object_of poll_step)))
+        ≡ Fault NoStep }
+    ensures other_word { request_of
+        (object_of (step_of_kind (codes "explains") ((codes "step", object_of poll_step) ∷ [])))
+        ≡ Fault NoStep }
+    ensures around_nothing { request_of (object_of (step_of_kind (codes "explain") []))
+        ≡ Fault NoStep }
     ensures other_kind { request_of (object_of (step_of_kind (codes "submit") [])) ≡ Fault NoStep }
     ensures no_object { request_of (whole 1) ≡ Fault NoStep }
 {}
@@ -44,13 +48,24 @@ pub fn lines()
     ensures json { ¬ Asks (codes "{}") (Fault NotJson) }
     ensures not_asked { ¬ Asks (codes "{}") (Step (Ask Poll)) }
     ensures longest { (line : List ℕ) → length line ≡ 1_048_576 → ¬ Asks line (Fault TooLong) }
-    ensures too_long_for_a_step { (line : List ℕ) → length line ≡ 1_048_577 → ¬ Asks line (Step (Ask Poll)) }
-    ensures too_long_to_be_read { (line : List ℕ) → length line ≡ 1_048_577 → ¬ Asks line (Fault NotJson) }
+    ensures too_long_for_a_step { (line : List ℕ)
+        → length line ≡ 1_048_577
+        → ¬ Asks line (Step (Ask Poll)) }
+    ensures too_long_to_be_read { (line : List ℕ)
+        → length line ≡ 1_048_577
+        → ¬ Asks line (Fault NotJson) }
     ensures each { AreAsked (poll_line ∷ codes "{" ∷ []) (Step (Ask Poll) ∷ Fault NotJson ∷ []) }
-    ensures longest_that_is_no_json { (line : List ℕ) → length line ≡ 1_048_576 → IsNoJson line → Asks line (Fault NotJson) }
-    ensures longest_that_is_read { (line : List ℕ) → length line ≡ 1_048_576 → IsRead line (Fault NoStep) → Asks line (Fault NoStep) }
+    ensures longest_that_is_no_json { (line : List ℕ)
+        → length line ≡ 1_048_576
+        → IsNoJson line
+        → Asks line (Fault NotJson) }
+    ensures longest_that_is_read { (line : List ℕ)
+        → length line ≡ 1_048_576
+        → IsRead line (Fault NoStep)
+        → Asks line (Fault NoStep) }
     ensures other { ¬ AreAsked (codes "{}" ∷ []) (Fault NotJson ∷ []) }
-    ensures other_later { ¬ AreAsked (codes "{" ∷ codes "{}" ∷ []) (Fault NotJson ∷ Fault NotJson ∷ []) }
+    ensures other_later { ¬ AreAsked (codes "{" ∷ codes "{}" ∷ [])
+        (Fault NotJson ∷ Fault NotJson ∷ []) }
     ensures fewer { ¬ AreAsked (codes "{" ∷ []) [] }
     ensures more { ¬ AreAsked [] (Fault NotJson ∷ []) }
 {}
@@ -58,21 +73,29 @@ pub fn lines()
 /// A step after a fault is the next one, and each line has its answer.
 #[tactic(auto, unfolding(dsa_scenario::specs::Worked::digits_on_literals))]
 pub fn a_dialogue()
-    ensures steps { actions_of requests_of_a_dialogue ≡ Refuse BadCommand ∷ Ask Poll ∷ Ask Poll ∷ [] }
-    ensures answers { answers requests_of_a_dialogue (visits smallest_caps 9 [] records_of_a_dialogue) ≡ lines_of_a_dialogue }
-    ensures too_long { fault_text TooLong ≡ codes "fault line too long" }
-    ensures answered { IsAnswered requests_of_a_dialogue (visits smallest_caps 9 [] records_of_a_dialogue) lines_of_a_dialogue }
-    ensures not_answered { ¬ IsAnswered (Fault NoStep ∷ []) [] [] }
-    ensures without_its_step { ¬ IsAnswered (Step (Ask Poll) ∷ []) [] [] }
+    ensures steps { actions_of requests_of_a_dialogue
+        ≡ Refuse BadCommand ∷ Ask Poll ∷ Ask Poll ∷ [] }
+    ensures answers { answers requests_of_a_dialogue
+        (visits smallest_caps 9 [] records_of_a_dialogue)
+        ≡ lines_of_a_dialogue }
+    ensures too_long { line_fault_text TooLong ≡ codes "fault line too long" }
+    ensures answered { AreRequestsAnswered requests_of_a_dialogue
+        (visits smallest_caps 9 [] records_of_a_dialogue) lines_of_a_dialogue }
+    ensures not_answered { ¬ AreRequestsAnswered (Fault NoStep ∷ []) [] [] }
+    ensures without_its_step { ¬ AreRequestsAnswered (Step (Ask Poll) ∷ []) [] [] }
 {}
 
 /// A first line, and those behind it. The steps of the document come before what the lines ask.
 #[tactic(auto, unfolding(serde_json::proofs::OnLiterals::serde_json_on_literals, dsa_scenario::specs::Worked::digits_on_literals))]
 pub fn dialogues()
     ensures no_lines { IsDialogue (first_line []) [] (opening smallest_caps) [] }
-    ensures whole { AnswersWhole (line_of (first_line []) ++ codes "{\n{") (codes "fault not JSON\n") }
-    ensures all { AnswersAll (line_of (first_line []) ++ codes "{") (codes "fault not JSON\n") }
-    ensures lines { IsDialogue (first_line poll_line) (codes "{" ∷ explained_poll_line ∷ []) (opening smallest_caps) (codes "nothing\nfault not JSON\n1 poll -> nothing: no command is active\n") }
+    ensures whole { AnswersWhole (line_of_text (first_line []) ++ codes "{\n{")
+        (codes "fault not JSON\n") }
+    ensures all { AnswersAll (line_of_text (first_line []) ++ codes "{")
+        (codes "fault not JSON\n") }
+    ensures lines { IsDialogue (first_line poll_line) (codes "{" ∷ explained_poll_line ∷ [])
+        (opening smallest_caps)
+        (codes "nothing\nfault not JSON\n1 poll -> nothing: no command is active\n") }
 {}
 
 /// An input in lines, each with its line feed, and the rest of one.
@@ -90,18 +113,29 @@ pub fn inputs()
     ensures front_is_all { ¬ IsFront true (codes "1\n2") (codes "1") (codes "2") }
     ensures first { HasFirst (codes "1\n2") (codes "1") (codes "2") }
     ensures first_alone { HasFirst (codes "1") (codes "1") [] }
-    ensures longest_first { (first : List ℕ) → IsLine first → length first ≡ 1_048_576 → HasFirst first first [] }
-    ensures too_long_first { (input : List ℕ) (first : List ℕ) (behind : List ℕ) → length first ≡ 1_048_577 → ¬ HasFirst input first behind }
+    ensures longest_first { (first : List ℕ)
+        → IsLine first
+        → length first ≡ 1_048_576
+        → HasFirst first first [] }
+    ensures too_long_first { (input : List ℕ) (first : List ℕ) (behind : List ℕ)
+        → length first ≡ 1_048_577
+        → ¬ HasFirst input first behind }
     ensures first_of_two_lines { ¬ HasFirst (codes "1\n2\n") (codes "1\n2") [] }
     ensures first_without_the_rest { ¬ HasFirst (codes "1\n2") (codes "1") [] }
 {}
 
 /// An input has one first line, and bytes fall into lines in one way.
 pub fn one_division()
-    ensures first { (input : List ℕ) (first : List ℕ) (behind : List ℕ) (other : List ℕ) (more : List ℕ)
-        → HasFirst input first behind → HasFirst input other more → (first ≡ other) × (behind ≡ more) }
-    ensures lines { (bytes : List ℕ) (lines : List (List ℕ)) (rest : List ℕ) (others : List (List ℕ)) (other : List ℕ)
-        → AreLines bytes lines rest → AreLines bytes others other → (lines ≡ others) × (rest ≡ other) }
+    ensures first { (input : List ℕ) (first : List ℕ) (behind : List ℕ)
+        (other : List ℕ) (more : List ℕ)
+        → HasFirst input first behind
+        → HasFirst input other more
+        → (first ≡ other) × (behind ≡ more) }
+    ensures lines { (bytes : List ℕ) (lines : List (List ℕ)) (rest : List ℕ)
+        (others : List (List ℕ)) (other : List ℕ)
+        → AreLines bytes lines rest
+        → AreLines bytes others other
+        → (lines ≡ others) × (rest ≡ other) }
 {}
 
 /// The rest of a line counts at the end of input if it has a byte.
@@ -113,13 +147,19 @@ pub fn last_lines()
 /// What no dialogue begins with, and the one answer to a line, and the one state, that there is.
 #[tactic(auto, unfolding(serde_json::proofs::OnLiterals::serde_json_on_literals, dsa_scenario::specs::Worked::digits_on_literals))]
 pub fn one_dialogue()
-    ensures no_document { (last : State) (output : List ℕ) → ¬ IsDialogue (codes "{}") [] last output }
-    ensures bad_caps { (last : State) (output : List ℕ) → ¬ IsDialogue (document_text no_caps_text (codes "9") []) [] last output }
-    ensures large { (last : State) (output : List ℕ) → ¬ IsDialogue (document_text smallest_caps_text (codes "1048577") []) [] last output }
+    ensures no_document { (last : State) (output : List ℕ)
+        → ¬ IsDialogue (codes "{}") [] last output }
+    ensures bad_caps { (last : State) (output : List ℕ)
+        → ¬ IsDialogue (document_text no_caps_text (codes "9") []) [] last output }
+    ensures large { (last : State) (output : List ℕ)
+        → ¬ IsDialogue (document_text smallest_caps_text (codes "1048577") []) [] last output }
     ensures no_record { (last : State) → ¬ IsDialogue (first_line poll_line) [] last [] }
-    ensures one_state { (last : State) (output : List ℕ) → IsDialogue (first_line []) [] last output → last ≡ opening smallest_caps }
-    ensures one_end { (output : List ℕ) → IsEnded (first_line []) [] output → output ≡ [] }
-    ensures one_answer { (last : State) (output : List ℕ) → IsDialogue (first_line []) (codes "{" ∷ []) last output
+    ensures one_state { (last : State) (output : List ℕ)
+        → IsDialogue (first_line []) [] last output
+        → last ≡ opening smallest_caps }
+    ensures one_end { (output : List ℕ) → IsDialogueEnded (first_line []) [] output → output ≡ [] }
+    ensures one_answer { (last : State) (output : List ℕ)
+        → IsDialogue (first_line []) (codes "{" ∷ []) last output
         → output ≡ codes "fault not JSON\n" }
 {}
 
@@ -128,35 +168,44 @@ pub fn one_dialogue()
 pub fn stops()
     ensures read { IsStopped ScenarioFault.Read (Some (codes "1")) (Some []) (Some []) (Some []) }
     ensures nothing_yet { AnswersSoFar (codes "1") [] }
-    ensures too_long_so_far { (input : List ℕ) (output : List ℕ) → IsLine input → length input ≡ 1_048_577 → ¬ AnswersSoFar input output }
-    ensures answered_too_early { ¬ IsStopped ScenarioFault.Read (Some (codes "1")) (Some []) (Some []) (Some (codes "2")) }
-    ensures too_long { (first : List ℕ) → IsLine first → length first ≡ 1_048_577 → IsStopped ScenarioFault.TooLong (Some first) (Some []) (Some []) (Some []) }
-    ensures longest { (first : List ℕ) → length first ≡ 1_048_576 → ¬ IsStopped ScenarioFault.TooLong (Some first) (Some []) (Some []) (Some []) }
-    ensures nothing_to_write { ¬ IsStopped ScenarioFault.Write (Some (codes "1")) (Some []) (Some []) (Some []) }
-    ensures memory { IsStopped ScenarioFault.OutOfMemory (Some (codes "1")) (Some []) (Some []) (Some []) }
-    ensures memory_after_a_long_line { (input : List ℕ) → IsLine input → length input ≡ 1_114_113 → ¬ IsStopped ScenarioFault.OutOfMemory (Some input) (Some []) (Some []) (Some []) }
-    ensures document { IsStopped ScenarioFault.BadDocument (Some (codes "1")) (Some []) (Some []) (Some []) }
-    ensures other_fault { ¬ IsStopped ScenarioFault.NotJson (Some (codes "1")) (Some []) (Some []) (Some []) }
+    ensures too_long_so_far { (input : List ℕ) (output : List ℕ)
+        → IsLine input
+        → length input ≡ 1_048_577
+        → ¬ AnswersSoFar input output }
+    ensures answered_too_early { ¬ IsStopped ScenarioFault.Read (Some (codes "1")) (Some [])
+        (Some []) (Some (codes "2")) }
+    ensures too_long { (first : List ℕ)
+        → IsLine first
+        → length first ≡ 1_048_577
+        → IsStopped ScenarioFault.TooLong (Some first) (Some []) (Some []) (Some []) }
+    ensures longest { (first : List ℕ)
+        → length first ≡ 1_048_576
+        → ¬ IsStopped ScenarioFault.TooLong (Some first) (Some []) (Some []) (Some []) }
+    ensures nothing_to_write { ¬ IsStopped ScenarioFault.Write (Some (codes "1")) (Some [])
+        (Some []) (Some []) }
+    ensures memory { IsStopped ScenarioFault.OutOfMemory (Some (codes "1")) (Some [])
+        (Some []) (Some []) }
+    ensures memory_after_a_long_line { (input : List ℕ)
+        → IsLine input
+        → length input ≡ 1_114_113
+        → ¬ IsStopped ScenarioFault.OutOfMemory (Some input) (Some []) (Some []) (Some []) }
+    ensures document { IsStopped ScenarioFault.BadDocument (Some (codes "1")) (Some [])
+        (Some []) (Some []) }
+    ensures other_fault { ¬ IsStopped ScenarioFault.NotJson (Some (codes "1")) (Some [])
+        (Some []) (Some []) }
 {}
 
-/// How often a reader is asked, by the bytes that it had and has left, and which faults are told of what was noted.
+/// Which faults are told of what was noted of a writer.
 pub fn notes()
-    ensures asked_for_a_byte { (old : CountedReader (List ℕ)) (new : CountedReader (List ℕ)) → counted_remaining Some old ≡ Some (codes "12")
-        → counted_remaining Some new ≡ Some (codes "2") → asked_of new ≡ asked_of old + 1 → IsAskedFor Some old new 0 }
-    ensures asked_twice_for_it { (old : CountedReader (List ℕ)) (new : CountedReader (List ℕ)) → counted_remaining Some old ≡ Some (codes "12")
-        → counted_remaining Some new ≡ Some (codes "2") → asked_of new ≡ asked_of old + 2 → ¬ IsAskedFor Some old new 0 }
-    ensures asked_besides { (old : CountedReader (List ℕ)) (new : CountedReader (List ℕ)) → counted_remaining Some old ≡ Some (codes "12")
-        → counted_remaining Some new ≡ Some (codes "2") → asked_of new ≡ asked_of old + 2 → IsAskedFor Some old new 1 }
-    ensures read_without_an_error { (old : CountedReader (List ℕ)) (new : CountedReader (List ℕ)) → has_failed new ≡ false
-        → ¬ IsFailureNoted {T = ℕ} (Err ScenarioFault.Read) old new }
-    ensures error_untold { (old : CountedReader (List ℕ)) (new : CountedReader (List ℕ)) → has_failed old ≡ false → has_failed new ≡ true
-        → ¬ IsFailureNoted {T = ℕ} (Ok 0) old new }
-    ensures error_told_as_another { (old : CountedReader (List ℕ)) (new : CountedReader (List ℕ)) → has_failed old ≡ false
-        → has_failed new ≡ true → ¬ IsFailureNoted {T = ℕ} (Err ScenarioFault.OutOfMemory) old new }
-    ensures write_without_a_refusal { (old : WatchedWriter (List ℕ)) (new : WatchedWriter (List ℕ)) → has_refused new ≡ false
+    ensures write_without_a_refusal { (old : WatchedWriter (List ℕ)) (new : WatchedWriter (List ℕ))
+        → has_refused new ≡ false
         → ¬ IsRefusalTold {T = ℕ} (Err ScenarioFault.Write) old new }
-    ensures refusal_untold { (old : WatchedWriter (List ℕ)) (new : WatchedWriter (List ℕ)) → has_refused old ≡ false
-        → has_refused new ≡ true → ¬ IsRefusalTold {T = ℕ} (Ok 0) old new }
-    ensures refusal_told_as_another { (old : WatchedWriter (List ℕ)) (new : WatchedWriter (List ℕ)) → has_refused old ≡ false
-        → has_refused new ≡ true → ¬ IsRefusalTold {T = ℕ} (Err ScenarioFault.OutOfMemory) old new }
+    ensures refusal_untold { (old : WatchedWriter (List ℕ)) (new : WatchedWriter (List ℕ))
+        → has_refused old ≡ false
+        → has_refused new ≡ true
+        → ¬ IsRefusalTold {T = ℕ} (Ok 0) old new }
+    ensures refusal_told_as_another { (old : WatchedWriter (List ℕ)) (new : WatchedWriter (List ℕ))
+        → has_refused old ≡ false
+        → has_refused new ≡ true
+        → ¬ IsRefusalTold {T = ℕ} (Err ScenarioFault.OutOfMemory) old new }
 {}

@@ -1,18 +1,19 @@
 //! Lines in, answers out.
 
-ghost use Rattle.std.specs.Prelude.{◌≡◌, ◌≢◌, ◌<◌, ◌≤◌, ◌+◌, ◌^◌, true, false, ℕ, Bool, List, Option, Ok, length, OnOk, IfOk, IfErr, IsErrOf};
+ghost use Rattle.std.specs.Prelude.{◌≡◌, ◌≢◌, ◌<◌, ◌≤◌, ◌+◌, ◌^◌, true, false, ℕ, Bool, List, Option, Ok, length, OnOk, IfOk, IfErr};
 ghost use Rattle.std.specs.Io.KnownBytes.{Consumes, IsAtEnd, Appends};
 ghost use Rattle.dsa_scenario.specs.declared.faults.ScenarioFault.{ScenarioFault};
 ghost use Rattle.dsa_scenario.specs.Watched.{watched_contents, IsSameWriter};
-ghost use Rattle.dsa_serve.specs.Noted.{counted_remaining, asked_of, IsSameReader, IsFailureNoted, IsRefusalTold, IsAskedFor};
+ghost use Rattle.dsa_scenario.specs.Counted.{counted_remaining, asked_of};
+ghost use Rattle.dsa_scenario.specs.Counted.{IsSameReader, IsAskedFor, IsFailureNoted};
+ghost use Rattle.dsa_serve.specs.Noted.{IsRefusalTold};
 ghost use Rattle.dsa_serve.specs.Dialogue.{AnswersAll, IsInCourse, IsLate, IsStoppedWithin, IsStopped};
 
-use crate::counted::CountedReader;
 use crate::dialogue::Dialogue;
 use crate::front::read_first;
 use crate::opening::begin;
 use dsa_cells::LinkedStore;
-use dsa_scenario::{ScenarioFault, WatchedWriter, write_text};
+use dsa_scenario::{CountedReader, ScenarioFault, WatchedWriter, write_text};
 use dsa_store::EntryStore;
 use std::alloc::Global;
 use std::io::{Read, Write};
@@ -40,14 +41,21 @@ fn start<R: Read, W: Write>(
     ensures failed { IsFailureNoted result reader.old reader.new }
     ensures refused { IsRefusalTold result writer.old writer.new }
     ensures asked { IsAskedFor R.remaining reader.old reader.new 1 }
-    ensures asked_first { IfOk result (λ it. it.ended ≡ false → IsAskedFor R.remaining reader.old reader.new 0) }
-    ensures ok { IfOk result (λ it. IsInCourse it.ended (counted_remaining R.remaining reader.old) (counted_remaining R.remaining reader.new)
-        (watched_contents W.contents writer.old) (watched_contents W.contents writer.new) it.dialogue.session.number it.dialogue.session.device
-        it.dialogue.session.tickets.items it.dialogue.kept.items) }
-    ensures end { IfOk result (λ it. it.ended ≡ true → IsAtEnd (counted_remaining R.remaining reader.new)) }
+    ensures asked_first { IfOk result
+        (λ it. it.ended ≡ false → IsAskedFor R.remaining reader.old reader.new 0) }
+    ensures ok { IfOk result
+        (λ it. IsInCourse it.ended (counted_remaining R.remaining reader.old)
+        (counted_remaining R.remaining reader.new) (watched_contents W.contents writer.old)
+        (watched_contents W.contents writer.new) it.dialogue.session.number
+        it.dialogue.session.device it.dialogue.session.tickets.items
+        it.dialogue.kept.items) }
+    ensures end { IfOk result
+        (λ it. it.ended ≡ true → IsAtEnd (counted_remaining R.remaining reader.new)) }
     ensures nothing { IfErr result (λ e. e ≢ ScenarioFault.Write → writer.new ≡ writer.old) }
-    ensures stopped { IfErr result (λ e. IsStoppedWithin (length chunk.old) e (counted_remaining R.remaining reader.old) (counted_remaining R.remaining reader.new)
-        (watched_contents W.contents writer.old) (watched_contents W.contents writer.new)) }
+    ensures stopped { IfErr result
+        (λ e. IsStoppedWithin (length chunk.old) e (counted_remaining R.remaining reader.old)
+        (counted_remaining R.remaining reader.new) (watched_contents W.contents writer.old)
+        (watched_contents W.contents writer.new)) }
 {
     let front = read_first(alloc, reader, chunk)?;
     let mut text = String::new(alloc);
@@ -59,7 +67,8 @@ fn start<R: Read, W: Write>(
     })
 }
 
-// One read, and then the answers to the lines that it completes, all written. It says whether more may come.
+// One read, and then the answers to the lines that it completes, all written. It says whether more
+// may come.
 fn turn<S: EntryStore, R: Read, W: Write>(
     alloc: Global,
     dialogue: &mut Dialogue<S>,
@@ -78,17 +87,27 @@ fn turn<S: EntryStore, R: Read, W: Write>(
     ensures fits { asked_of reader.new < 2 ^ 64 }
     ensures asked { IsAskedFor R.remaining reader.old reader.new 1 }
     ensures asked_for_more { result ≡ Ok true → IsAskedFor R.remaining reader.old reader.new 0 }
-    ensures ok { OnOk result ((had : Option (List ℕ)) (held : Option (List ℕ))
-        → IsInCourse false had (counted_remaining R.remaining reader.old) held (watched_contents W.contents writer.old)
-        dialogue.old.session.number dialogue.old.session.device dialogue.old.session.tickets.items dialogue.old.kept.items
-        → IsInCourse false had (counted_remaining R.remaining reader.new) held (watched_contents W.contents writer.new)
-        dialogue.new.session.number dialogue.new.session.device dialogue.new.session.tickets.items dialogue.new.kept.items) }
+    ensures ok { OnOk result
+        ((had : Option (List ℕ)) (held : Option (List ℕ))
+        → IsInCourse false had (counted_remaining R.remaining reader.old) held
+        (watched_contents W.contents writer.old) dialogue.old.session.number
+        dialogue.old.session.device dialogue.old.session.tickets.items
+        dialogue.old.kept.items
+        → IsInCourse false had (counted_remaining R.remaining reader.new) held
+        (watched_contents W.contents writer.new) dialogue.new.session.number
+        dialogue.new.session.device dialogue.new.session.tickets.items
+        dialogue.new.kept.items) }
     ensures end { result ≡ Ok false → IsAtEnd (counted_remaining R.remaining reader.new) }
     ensures late { IfErr result IsLate }
-    ensures stopped { IfErr result (λ e. (had : Option (List ℕ)) (held : Option (List ℕ))
-        → IsInCourse false had (counted_remaining R.remaining reader.old) held (watched_contents W.contents writer.old)
-        dialogue.old.session.number dialogue.old.session.device dialogue.old.session.tickets.items dialogue.old.kept.items
-        → IsStoppedWithin (length chunk.old) e had (counted_remaining R.remaining reader.new) held (watched_contents W.contents writer.new)) }
+    ensures stopped { IfErr result
+        (λ e. (had : Option (List ℕ)) (held : Option (List ℕ))
+        → IsInCourse false had (counted_remaining R.remaining reader.old) held
+        (watched_contents W.contents writer.old) dialogue.old.session.number
+        dialogue.old.session.device dialogue.old.session.tickets.items
+        dialogue.old.kept.items
+        → IsStoppedWithin (length chunk.old) e had
+        (counted_remaining R.remaining reader.new) held
+        (watched_contents W.contents writer.new)) }
 {
     let count = reader.read_once(chunk)?;
     text.clear();
@@ -111,17 +130,27 @@ fn serve_lines<S: EntryStore, R: Read, W: Write>(
     ensures failed { IsFailureNoted result reader.old reader.new }
     ensures refused { IsRefusalTold result writer.old writer.new }
     ensures asked { IsAskedFor R.remaining reader.old reader.new 1 }
-    ensures ok { OnOk result ((had : Option (List ℕ)) (held : Option (List ℕ))
-        → IsInCourse false had (counted_remaining R.remaining reader.old) held (watched_contents W.contents writer.old)
-        dialogue.old.session.number dialogue.old.session.device dialogue.old.session.tickets.items dialogue.old.kept.items
-        → IsInCourse false had (counted_remaining R.remaining reader.new) held (watched_contents W.contents writer.new)
-        dialogue.new.session.number dialogue.new.session.device dialogue.new.session.tickets.items dialogue.new.kept.items) }
+    ensures ok { OnOk result
+        ((had : Option (List ℕ)) (held : Option (List ℕ))
+        → IsInCourse false had (counted_remaining R.remaining reader.old) held
+        (watched_contents W.contents writer.old) dialogue.old.session.number
+        dialogue.old.session.device dialogue.old.session.tickets.items
+        dialogue.old.kept.items
+        → IsInCourse false had (counted_remaining R.remaining reader.new) held
+        (watched_contents W.contents writer.new) dialogue.new.session.number
+        dialogue.new.session.device dialogue.new.session.tickets.items
+        dialogue.new.kept.items) }
     ensures end { OnOk result (IsAtEnd (counted_remaining R.remaining reader.new)) }
     ensures late { IfErr result IsLate }
-    ensures stopped { IfErr result (λ e. (had : Option (List ℕ)) (held : Option (List ℕ))
-        → IsInCourse false had (counted_remaining R.remaining reader.old) held (watched_contents W.contents writer.old)
-        dialogue.old.session.number dialogue.old.session.device dialogue.old.session.tickets.items dialogue.old.kept.items
-        → IsStoppedWithin (length chunk.old) e had (counted_remaining R.remaining reader.new) held (watched_contents W.contents writer.new)) }
+    ensures stopped { IfErr result
+        (λ e. (had : Option (List ℕ)) (held : Option (List ℕ))
+        → IsInCourse false had (counted_remaining R.remaining reader.old) held
+        (watched_contents W.contents writer.old) dialogue.old.session.number
+        dialogue.old.session.device dialogue.old.session.tickets.items
+        dialogue.old.kept.items
+        → IsStoppedWithin (length chunk.old) e had
+        (counted_remaining R.remaining reader.new) held
+        (watched_contents W.contents writer.new)) }
 {
     let mut text = String::new(alloc);
     'turns: while turn(alloc, dialogue, reader, chunk, &mut text, writer)? {}
@@ -136,16 +165,24 @@ fn finish<S: EntryStore, W: Write>(
 ) -> Result<(), ScenarioFault>
     ensures same_writer { IsSameWriter writer.old writer.new }
     ensures refused { IsRefusalTold result writer.old writer.new }
-    ensures ok { OnOk result ((ended : Bool) (had : Option (List ℕ)) (left : Option (List ℕ)) (held : Option (List ℕ))
+    ensures ok { OnOk result
+        ((ended : Bool) (had : Option (List ℕ)) (left : Option (List ℕ)) (held : Option (List ℕ))
         → IsInCourse ended had left held (watched_contents W.contents writer.old)
-        dialogue.old.session.number dialogue.old.session.device dialogue.old.session.tickets.items dialogue.old.kept.items
-        → (input : List ℕ) × (output : List ℕ) × Consumes had left input × AnswersAll input output
+        dialogue.old.session.number dialogue.old.session.device
+        dialogue.old.session.tickets.items dialogue.old.kept.items
+        → (input : List ℕ)
+        × (output : List ℕ)
+        × Consumes had left input
+        × AnswersAll input output
         × Appends held (watched_contents W.contents writer.new) output) }
     ensures late { IfErr result IsLate }
     ensures not_read { IfErr result (λ e. e ≢ ScenarioFault.Read) }
-    ensures stopped { IfErr result (λ e. (ended : Bool) (had : Option (List ℕ)) (left : Option (List ℕ)) (held : Option (List ℕ))
+    ensures stopped { IfErr result
+        (λ e. (ended : Bool) (had : Option (List ℕ)) (left : Option (List ℕ))
+        (held : Option (List ℕ))
         → IsInCourse ended had left held (watched_contents W.contents writer.old)
-        dialogue.old.session.number dialogue.old.session.device dialogue.old.session.tickets.items dialogue.old.kept.items
+        dialogue.old.session.number dialogue.old.session.device
+        dialogue.old.session.tickets.items dialogue.old.kept.items
         → IsStopped e had left held (watched_contents W.contents writer.new)) }
 {
     let mut text = String::new(alloc);
@@ -155,12 +192,14 @@ fn finish<S: EntryStore, W: Write>(
 
 /// Reads a document in the first line and a step in each further one, and answers each line.
 ///
-/// All whole lines that a read gave are answered, and the answers written, before the next read. A line that is no step is
-/// answered with its fault, and changes nothing. At the end of input come the fates, as at the end of a document's run.
+/// All whole lines that a read gave are answered, and the answers written, before the next read. A
+/// line that is no step is answered with its fault, and changes nothing. At the end of input come
+/// the fates, as at the end of a document's run.
 ///
-/// A fault of the document is the same as that of [`run_scenario`](dsa_scenario::run_scenario), and nothing is written then.
-/// On `Read` an answer of the reader was an error, and what was read is answered; on `OutOfMemory` what was read before the
-/// last read. On `Write` a write was refused, and the writer has got a proper prefix of the answers.
+/// A fault of the document is the same as that of [`run_scenario`](dsa_scenario::run_scenario), and
+/// nothing is written then. On `Read` an answer of the reader was an error, and what was read is
+/// answered; on `OutOfMemory` what was read before the last read. On `Write` a write was refused,
+/// and the writer has got a proper prefix of the answers.
 pub fn serve_counted<R: Read, W: Write>(
     alloc: Global,
     reader: &mut CountedReader<'_, R>,
@@ -171,13 +210,23 @@ pub fn serve_counted<R: Read, W: Write>(
     ensures failed { IsFailureNoted result reader.old reader.new }
     ensures refused { IsRefusalTold result writer.old writer.new }
     ensures asked { IsAskedFor R.remaining reader.old reader.new 1 }
-    ensures ok { OnOk result ((input : List ℕ) × (output : List ℕ)
-        × Consumes (counted_remaining R.remaining reader.old) (counted_remaining R.remaining reader.new) input
-        × IsAtEnd (counted_remaining R.remaining reader.new) × AnswersAll input output
-        × Appends (watched_contents W.contents writer.old) (watched_contents W.contents writer.new) output) }
-    ensures stopped { IfErr result (λ e. IsStopped e (counted_remaining R.remaining reader.old) (counted_remaining R.remaining reader.new)
-        (watched_contents W.contents writer.old) (watched_contents W.contents writer.new)) }
-    ensures nothing { IfErr result (λ e. e ≢ ScenarioFault.Read → e ≢ ScenarioFault.Write → e ≢ ScenarioFault.OutOfMemory
+    ensures ok { OnOk result
+        ((input : List ℕ)
+        × (output : List ℕ)
+        × Consumes (counted_remaining R.remaining reader.old)
+        (counted_remaining R.remaining reader.new) input
+        × IsAtEnd (counted_remaining R.remaining reader.new)
+        × AnswersAll input output
+        × Appends (watched_contents W.contents writer.old)
+        (watched_contents W.contents writer.new) output) }
+    ensures stopped { IfErr result
+        (λ e. IsStopped e (counted_remaining R.remaining reader.old)
+        (counted_remaining R.remaining reader.new) (watched_contents W.contents writer.old)
+        (watched_contents W.contents writer.new)) }
+    ensures nothing { IfErr result
+        (λ e. e ≢ ScenarioFault.Read
+        → e ≢ ScenarioFault.Write
+        → e ≢ ScenarioFault.OutOfMemory
         → writer.new ≡ writer.old) }
 {
     let mut chunk = [0u8; CHUNK];
@@ -198,36 +247,23 @@ pub fn serve_watched<R: Read, W: Write>(
 ) -> Result<(), ScenarioFault>
     ensures same_writer { IsSameWriter writer.old writer.new }
     ensures refused { IsRefusalTold result writer.old writer.new }
-    ensures ok { OnOk result ((input : List ℕ) × (output : List ℕ)
-        × Consumes (R.remaining reader.old) (R.remaining reader.new) input × IsAtEnd (R.remaining reader.new)
+    ensures ok { OnOk result
+        ((input : List ℕ)
+        × (output : List ℕ)
+        × Consumes (R.remaining reader.old) (R.remaining reader.new) input
+        × IsAtEnd (R.remaining reader.new)
         × AnswersAll input output
-        × Appends (watched_contents W.contents writer.old) (watched_contents W.contents writer.new) output) }
-    ensures stopped { IfErr result (λ e. IsStopped e (R.remaining reader.old) (R.remaining reader.new)
+        × Appends (watched_contents W.contents writer.old)
+        (watched_contents W.contents writer.new) output) }
+    ensures stopped { IfErr result
+        (λ e. IsStopped e (R.remaining reader.old) (R.remaining reader.new)
         (watched_contents W.contents writer.old) (watched_contents W.contents writer.new)) }
-    ensures nothing { IfErr result (λ e. e ≢ ScenarioFault.Read → e ≢ ScenarioFault.Write → e ≢ ScenarioFault.OutOfMemory
+    ensures nothing { IfErr result
+        (λ e. e ≢ ScenarioFault.Read
+        → e ≢ ScenarioFault.Write
+        → e ≢ ScenarioFault.OutOfMemory
         → writer.new ≡ writer.old) }
 {
     let mut reader = CountedReader::new(reader);
     serve_counted(alloc, &mut reader, writer)
-}
-
-/// Reads a document in the first line and a step in each further one, and answers each line.
-///
-/// All of it is the work of [`serve_watched`], which is lent the writer as one that is watched.
-pub fn serve<R: Read, W: Write>(
-    alloc: Global,
-    reader: &mut R,
-    writer: &mut W,
-) -> Result<(), ScenarioFault>
-    ensures ok { OnOk result ((input : List ℕ) × (output : List ℕ)
-        × Consumes (R.remaining reader.old) (R.remaining reader.new) input × IsAtEnd (R.remaining reader.new)
-        × AnswersAll input output
-        × Appends (W.contents writer.old) (W.contents writer.new) output) }
-    ensures stopped { IfErr result (λ e. IsStopped e (R.remaining reader.old) (R.remaining reader.new)
-        (W.contents writer.old) (W.contents writer.new)) }
-    ensures nothing { IfErr result (λ e. e ≢ ScenarioFault.Read → e ≢ ScenarioFault.Write → e ≢ ScenarioFault.OutOfMemory
-        → writer.new ≡ writer.old) }
-{
-    let mut writer = WatchedWriter::new(writer);
-    serve_watched(alloc, reader, &mut writer)
 }

@@ -8,10 +8,10 @@ ghost use Rattle.dsa_scenario.specs.declared.actions.Action.{Action};
 ghost use Rattle.dsa_scenario.specs.declared.faults.ScenarioFault.{ScenarioFault};
 ghost use Rattle.dsa_scenario.specs.Actions.{action_of};
 ghost use Rattle.dsa_scenario.specs.Document.{IsFirstBad};
-ghost use Rattle.dsa_scenario.specs.Lines.{line_of};
+ghost use Rattle.dsa_scenario.specs.Lines.{line_of_text};
 ghost use Rattle.dsa_serve.specs.declared.requests.Request.{Request};
 ghost use Rattle.dsa_serve.specs.Requests.{Asks};
-ghost use Rattle.dsa_serve.specs.Answers.{fault_text, IsSessionTo};
+ghost use Rattle.dsa_serve.specs.Answers.{line_fault_text, IsSessionTo};
 
 use crate::requests::{LineFault, Request, parse_request};
 use dsa_book::Ticket;
@@ -31,8 +31,8 @@ pub struct Session<S: EntryStore> {
     pub(crate) number: usize,
 }
 
-// The number of steps, or of reads, with one more.
-pub(crate) fn next(number: usize) -> Result<usize, AllocError>
+// The number of steps with one more.
+fn next(number: usize) -> Result<usize, AllocError>
     ensures { IfOk result (λ more. more ≡ number + 1) }
 {
     number.checked_add(1).ok_or(AllocError)
@@ -40,7 +40,8 @@ pub(crate) fn next(number: usize) -> Result<usize, AllocError>
 
 // Adds the fault of a line.
 fn add_fault(text: &mut String, fault: LineFault) -> Result<(), AllocError>
-    ensures { OnOk result (string_bytes text.new ≡ string_bytes text.old ++ line_of (fault_text fault)) }
+    ensures { OnOk result
+        (string_bytes text.new ≡ string_bytes text.old ++ line_of_text (line_fault_text fault)) }
 {
     text.push_str(match fault {
         LineFault::NotJson => "fault not JSON\n",
@@ -53,53 +54,64 @@ impl<S: EntryStore> Session<S> {
     // Makes one step more, and adds what it is answered.
     #[inline(always)]
     fn step(&mut self, text: &mut String, action: Action) -> Result<(), AllocError>
-        ensures { OnOk result ((caps : Caps) (capacity : ℕ) (requests : List Request) (written : List ℕ)
-            → IsSessionTo caps capacity requests self.old.number self.old.device self.old.tickets.items (written ++ string_bytes text.old)
-            → IsSessionTo caps capacity (requests ++ Request.Step action ∷ []) self.new.number self.new.device self.new.tickets.items
-            (written ++ string_bytes text.new)) }
+        ensures { OnOk result
+            ((caps : Caps) (capacity : ℕ) (requests : List Request) (written : List ℕ)
+            → IsSessionTo caps capacity requests self.old.number self.old.device
+            self.old.tickets.items (written ++ string_bytes text.old)
+            → IsSessionTo caps capacity (requests ++ Request.Step action ∷ []) self.new.number
+            self.new.device self.new.tickets.items (written ++ string_bytes text.new)) }
     {
         let number = next(self.number)?;
-        let entry = ask(&mut self.device, &self.tickets, action);
+        let asked = event_for(&self.tickets, action);
+        let entry = ask(&mut self.device, &asked);
         note_ticket(&mut self.tickets, &entry)?;
         self.number = number;
         add_record(text, &entry)
     }
 
-    // Makes one step more, and adds its line of an explanation. The reason is read of the device before the step.
+    // Makes one step more, and adds its line of an explanation. The reason is read of the device
+    // before the step.
     fn explain(
         &mut self,
         alloc: Global,
         text: &mut String,
         action: Action,
     ) -> Result<(), AllocError>
-        ensures { OnOk result ((caps : Caps) (capacity : ℕ) (requests : List Request) (written : List ℕ)
-            → IsSessionTo caps capacity requests self.old.number self.old.device self.old.tickets.items (written ++ string_bytes text.old)
-            → IsSessionTo caps capacity (requests ++ Request.Explain action ∷ []) self.new.number self.new.device self.new.tickets.items
+        ensures { OnOk result
+            ((caps : Caps) (capacity : ℕ) (requests : List Request) (written : List ℕ)
+            → IsSessionTo caps capacity requests self.old.number self.old.device
+            self.old.tickets.items (written ++ string_bytes text.old)
+            → IsSessionTo caps capacity (requests ++ Request.Explain action ∷ [])
+            self.new.number self.new.device self.new.tickets.items
             (written ++ string_bytes text.new)) }
     {
         let number = next(self.number)?;
         let asked = event_for(&self.tickets, action);
         let mut part = String::new(alloc);
         add_part(&mut part, &self.device, &asked)?;
-        let entry = ask(&mut self.device, &self.tickets, action);
+        let entry = ask(&mut self.device, &asked);
         note_ticket(&mut self.tickets, &entry)?;
         add_line(text, self.number, &entry, &part)?;
         self.number = number;
         Ok(())
     }
 
-    /// Adds the answer to a line: what the step comes to, or the fault of the line, which changes nothing.
+    /// Adds the answer to a line: what the step comes to, or the fault of the line, which changes
+    /// nothing.
     pub fn answer(
         &mut self,
         alloc: Global,
         text: &mut String,
         line: &[u8],
     ) -> Result<(), AllocError>
-        ensures { OnOk result ((caps : Caps) (capacity : ℕ) (requests : List Request) (written : List ℕ)
-            → IsSessionTo caps capacity requests self.old.number self.old.device self.old.tickets.items (written ++ string_bytes text.old)
-            → (request : Request) × Asks line.now request
-            × IsSessionTo caps capacity (requests ++ request ∷ []) self.new.number self.new.device self.new.tickets.items
-            (written ++ string_bytes text.new)) }
+        ensures { OnOk result
+            ((caps : Caps) (capacity : ℕ) (requests : List Request) (written : List ℕ)
+            → IsSessionTo caps capacity requests self.old.number self.old.device
+            self.old.tickets.items (written ++ string_bytes text.old)
+            → (request : Request)
+            × Asks line.now request
+            × IsSessionTo caps capacity (requests ++ request ∷ []) self.new.number
+            self.new.device self.new.tickets.items (written ++ string_bytes text.new)) }
     {
         match parse_request(alloc, line)? {
             Request::Step(action) => self.step(text, action),
@@ -117,10 +129,15 @@ pub fn open<S: EntryStore>(
     head: &Head<'_>,
 ) -> Result<Session<S>, ScenarioFault>
     requires { make_fault head.now.caps head.now.capacity (S.cells store) (S.content store) ≡ None }
-    ensures ok { IfOk result (λ session. (actions : List Action) × (map action_of (map view head.now.steps.now) ≡ map Some actions)
-        × (string_bytes text.old ≡ [] → IsSessionTo head.now.caps head.now.capacity (map Request.Step actions)
-        session.number session.device session.tickets.items (string_bytes text.new))) }
-    ensures bad { IfErr result (λ e. (e ≡ ScenarioFault.OutOfMemory) ⊎ IsFirstBad (map view head.now.steps.now) e) }
+    ensures ok { IfOk result
+        (λ session. (actions : List Action)
+        × (map action_of (map view head.now.steps.now) ≡ map Some actions)
+        × (string_bytes text.old ≡ []
+        → IsSessionTo head.now.caps head.now.capacity (map Request.Step actions)
+        session.number session.device session.tickets.items
+        (string_bytes text.new))) }
+    ensures bad { IfErr result
+        (λ e. (e ≡ ScenarioFault.OutOfMemory) ⊎ IsFirstBad (map view head.now.steps.now) e) }
 {
     let made = Device::new(alloc, store, head.caps, head.capacity);
     let Ok(device) = made else {

@@ -4,8 +4,9 @@ use Rattle.std.proofs.Common.{inr, Option, Some, None, refl, sym, ap, ◌∙◌,
 use Rattle.std.proofs.lemmas.{List.Elements.{All-contains}, Option.{slice_get-get_or, same_Some}}
 use Rattle.std.proofs.lemmas.Bool.{cases_lt, Decides.{nat_tests}}
 use Rattle.std.specs.{Prelude.{slice_get, Contains}, Option.{IsSomeAnd}}
-use Rattle.dsa_book.specs.{declared.event.{Step.{Step}, Actor.{Actor, TheVariants.{Admin}}}, Totals.{steps_of}}
-use Rattle.dsa_shared.specs.{Compare.{DiffersFirstAt}, Seat.{SeatLog, client_of, engine_of, number_of, receipts_of}}
+use Rattle.dsa_book.specs.{declared.event.{Step.{Step}, Actor.{Actor, TheVariants.{Admin}}}, Totals.{steps_of_actor}}
+use Rattle.dsa_shared.specs.Compare.{DiffersFirstAt}
+use Rattle.dsa_shared.specs.Seat.{SeatLog, client_of, engine_of_seat, number_of_seat, receipts_of}
 use Rattle.dsa_shared.specs.Settle.{HasEach, AllMatch, FirstMismatch, IsComplete, IsFirstMismatch}
 use Rattle.dsa_shared.proofs.{Compares.{never_same}, Sums.{total, once, total_is}}
 
@@ -76,14 +77,14 @@ first_once : {T : Type 0} (number : T → ℕ) (actor : T → Actor) (receipts :
 first_once {T} number actor receipts h n seats i j each (s, held, differs, before) (t, held', differs', before') =
     elim (cases_lt (number s) (number t)) [
       | inl lt ↦ absurd (never_same _ _ i differs
-          (All-contains (λ u. number u < number t → receipts u ≡ steps_of h (actor u)) seats s before' held lt))
+          (All-contains (λ u. number u < number t → receipts u ≡ steps_of_actor h (actor u)) seats s before' held lt))
       | inr le ↦ elim (cases_lt (number t) (number s)) [
         | inl lt ↦ absurd (never_same _ _ j differs'
-            (All-contains (λ u. number u < number s → receipts u ≡ steps_of h (actor u)) seats t before held' lt))
+            (All-contains (λ u. number u < number s → receipts u ≡ steps_of_actor h (actor u)) seats t before held' lt))
         | inr ge ↦
             let e : s ≡ t = one_seat number n seats each s t held held' (omega (arith, le, ge)) in
-            let P : T → Type 0 = λ u. DiffersFirstAt (receipts u) (steps_of h (actor u)) j in
-            differs_once (receipts s) (steps_of h (actor s)) i j differs (subst P (sym e) differs')
+            let P : T → Type 0 = λ u. DiffersFirstAt (receipts u) (steps_of_actor h (actor u)) j in
+            differs_once (receipts s) (steps_of_actor h (actor s)) i j differs (subst P (sym e) differs')
       ]
     ]
 
@@ -91,31 +92,31 @@ none_matching : {T : Type 0} (number : T → ℕ) (actor : T → Actor) (receipt
     → List Step) (h : List Step) (seats : List T) (i : ℕ)
     → AllMatch actor receipts h seats → FirstMismatch number actor receipts h seats i → ⊥
 none_matching number actor receipts h seats i match (s, held, differs, before) =
-    never_same _ _ i differs (All-contains (λ u. receipts u ≡ steps_of h (actor u)) seats s match held)
+    never_same _ _ i differs (All-contains (λ u. receipts u ≡ steps_of_actor h (actor u)) seats s match held)
 
 admin_once : (h : List Step) (admin : Option (List Step)) (i j : ℕ)
-    → IsSomeAnd admin (λ r. DiffersFirstAt r (steps_of h Admin) i)
-    → IsSomeAnd admin (λ r. DiffersFirstAt r (steps_of h Admin) j) → i ≡ j
-admin_once h (Some r) i j a b = differs_once r (steps_of h Admin) i j a b
+    → IsSomeAnd admin (λ r. DiffersFirstAt r (steps_of_actor h Admin) i)
+    → IsSomeAnd admin (λ r. DiffersFirstAt r (steps_of_actor h Admin) j) → i ≡ j
+admin_once h (Some r) i j a b = differs_once r (steps_of_actor h Admin) i j a b
 admin_once h None i j a b = absurd a
 
 pub mismatch_once : (h : List Step) (clients engines : List SeatLog) (admin : Option (List Step)) (c e i j : ℕ)
     → IsComplete clients engines admin c e
     → IsFirstMismatch h clients engines admin i → IsFirstMismatch h clients engines admin j → i ≡ j
 mismatch_once h clients engines admin c e i j all (inl a) (inl b) =
-    first_once number_of client_of receipts_of h c clients i j all.each_client a b
+    first_once number_of_seat client_of receipts_of h c clients i j all.each_client a b
 mismatch_once h clients engines admin c e i j all (inl a) (inr (inl b)) =
-    absurd (none_matching number_of client_of receipts_of h clients i b.0 a)
+    absurd (none_matching number_of_seat client_of receipts_of h clients i b.0 a)
 mismatch_once h clients engines admin c e i j all (inl a) (inr (inr b)) =
-    absurd (none_matching number_of client_of receipts_of h clients i b.0 a)
+    absurd (none_matching number_of_seat client_of receipts_of h clients i b.0 a)
 mismatch_once h clients engines admin c e i j all (inr (inl a)) (inl b) =
-    absurd (none_matching number_of client_of receipts_of h clients j a.0 b)
+    absurd (none_matching number_of_seat client_of receipts_of h clients j a.0 b)
 mismatch_once h clients engines admin c e i j all (inr (inl a)) (inr (inl b)) =
-    first_once number_of engine_of receipts_of h e engines i j all.each_engine a.1 b.1
+    first_once number_of_seat engine_of_seat receipts_of h e engines i j all.each_engine a.1 b.1
 mismatch_once h clients engines admin c e i j all (inr (inl a)) (inr (inr b)) =
-    absurd (none_matching number_of engine_of receipts_of h engines i b.1 a.1)
+    absurd (none_matching number_of_seat engine_of_seat receipts_of h engines i b.1 a.1)
 mismatch_once h clients engines admin c e i j all (inr (inr a)) (inl b) =
-    absurd (none_matching number_of client_of receipts_of h clients j a.0 b)
+    absurd (none_matching number_of_seat client_of receipts_of h clients j a.0 b)
 mismatch_once h clients engines admin c e i j all (inr (inr a)) (inr (inl b)) =
-    absurd (none_matching number_of engine_of receipts_of h engines j a.1 b.1)
+    absurd (none_matching number_of_seat engine_of_seat receipts_of h engines j a.1 b.1)
 mismatch_once h clients engines admin c e i j all (inr (inr a)) (inr (inr b)) = admin_once h admin i j a.2 b.2

@@ -5,8 +5,8 @@ use Rattle.std.proofs.lemmas.List.{Sums.{sum_by-cons}, Elements.{All-head, All-t
 use Rattle.std.proofs.lemmas.Bool.{Decides.{nat_tests}, cases_lt}
 use Rattle.std.specs.{Prelude.{filter, sum_by, All}, Option.{option_map_or}}
 use Rattle.dsa_book.specs.declared.event.{Step.{Step}, Actor.{Actor, TheVariants.{Client, Engine, Admin}}}
-use Rattle.dsa_book.specs.Totals.{steps_of, actor_of, same_actor}
-use Rattle.dsa_shared.specs.Seat.{SeatLog, client_of, engine_of, number_of, receipts_of}
+use Rattle.dsa_book.specs.Totals.{steps_of_actor, actor_of, same_actor}
+use Rattle.dsa_shared.specs.Seat.{SeatLog, client_of, engine_of_seat, number_of_seat, receipts_of}
 use Rattle.dsa_shared.specs.Settle.{HasEach, AllMatch, IsComplete, Match, over_seats}
 
 -- a sum by recursion
@@ -53,8 +53,9 @@ many_of : {T : Type 0} (actor : T → Actor) (receipts : T → List Step) (f : S
     ≡ total (λ x. f x * total (λ s. once (same_actor (actor_of x.event) (actor s))) seats) h
 many_of actor receipts f h [] match = sym (total_zero _ (λ x. omega arith) h)
 many_of actor receipts f h (s ∷ seats) match =
-    let here = All-head (λ t. receipts t ≡ steps_of h (actor t)) s seats match in
-    let rest = many_of actor receipts f h seats (All-tail (λ t. receipts t ≡ steps_of h (actor t)) s seats match) in
+    let here = All-head (λ t. receipts t ≡ steps_of_actor h (actor t)) s seats match in
+    let rest = many_of actor receipts f h seats (All-tail (λ t. receipts t ≡ steps_of_actor h (actor t)) s seats match)
+    in
     let one = ap (total f) here ∙ one_of f (λ x. same_actor (actor_of x.event) (actor s)) h in
     let add = total_add (λ x. f x * once (same_actor (actor_of x.event) (actor s)))
     (λ x. f x * total (λ t. once (same_actor (actor_of x.event) (actor t))) seats) h in
@@ -99,15 +100,15 @@ at_most_one number n k seats each =
 -- how many seats an actor has
 abbrev holders : List SeatLog → List SeatLog → Actor → ℕ
 holders clients engines a =
-    total (λ s. once (same_actor a (client_of s))) clients + total (λ s. once (same_actor a (engine_of s))) engines
+    total (λ s. once (same_actor a (client_of s))) clients + total (λ s. once (same_actor a (engine_of_seat s))) engines
     + once (same_actor a Admin)
 
-holders_le : (clients engines : List SeatLog) (c e : ℕ) → HasEach number_of c clients
-    → HasEach number_of e engines → (a : Actor) → holders clients engines a ≤ 1
+holders_le : (clients engines : List SeatLog) (c e : ℕ) → HasEach number_of_seat c clients
+    → HasEach number_of_seat e engines → (a : Actor) → holders clients engines a ≤ 1
 holders_le clients engines c e each other (Client k) =
-    omega (arith, at_most_one number_of c k clients each, total_zero (λ s. 0) (λ s. refl) engines)
+    omega (arith, at_most_one number_of_seat c k clients each, total_zero (λ s. 0) (λ s. refl) engines)
 holders_le clients engines c e each other (Engine k) =
-    omega (arith, at_most_one number_of e k engines other, total_zero (λ s. 0) (λ s. refl) clients)
+    omega (arith, at_most_one number_of_seat e k engines other, total_zero (λ s. 0) (λ s. refl) clients)
 holders_le clients engines c e each other Admin =
     omega (arith, total_zero (λ s. 0) (λ s. refl) clients, total_zero (λ s. 0) (λ s. refl) engines)
 
@@ -117,16 +118,16 @@ seats_total : (f : Step → ℕ) (clients engines : List SeatLog) (admin : Optio
     → over_seats (sum_by f) clients engines admin ≡ total (λ x. f x * holders clients engines (actor_of x.event)) h
 seats_total f clients engines admin h match =
     let one = many_of client_of receipts_of f h clients match.client_receipts in
-    let two = many_of engine_of receipts_of f h engines match.engine_receipts in
+    let two = many_of engine_of_seat receipts_of f h engines match.engine_receipts in
     let three = one_of f (λ x. same_actor (actor_of x.event) Admin) h in
     let m = λ (x : Step). total (λ s. once (same_actor (actor_of x.event) (client_of s))) clients in
-    let n = λ (x : Step). total (λ s. once (same_actor (actor_of x.event) (engine_of s))) engines in
+    let n = λ (x : Step). total (λ s. once (same_actor (actor_of x.event) (engine_of_seat s))) engines in
     let o = λ (x : Step). once (same_actor (actor_of x.event) Admin) in
     let clients_is = total_is (λ s. sum_by f s.receipts) clients
     ∙ total_same _ _ (λ s. total_is f s.receipts) clients in
     let engines_is = total_is (λ s. sum_by f s.receipts) engines
     ∙ total_same _ _ (λ s. total_is f s.receipts) engines in
-    let admin_is = ap (λ a. option_map_or (sum_by f) a 0) match.admin_receipts ∙ total_is f (steps_of h Admin) in
+    let admin_is = ap (λ a. option_map_or (sum_by f) a 0) match.admin_receipts ∙ total_is f (steps_of_actor h Admin) in
     let add = total_add (λ x. f x * m x) (λ x. f x * n x) h in
     let all = total_add (λ x. f x * m x + f x * n x) (λ x. f x * o x) h in
     let spread = total_same (λ x. f x * (m x + n x + o x)) (λ x. f x * m x + f x * n x + f x * o x)
@@ -176,10 +177,10 @@ below (suc n) number seats each =
     omega (arith, split, total_add (λ s. once (ltb (number s) n)) (λ s. once (eqb n (number s))) seats, rest, here)
 
 -- there are as many seats as numbers
-pub seats_len : (n : ℕ) (seats : List SeatLog) → HasEach number_of n seats → length seats ≡ n
+pub seats_len : (n : ℕ) (seats : List SeatLog) → HasEach number_of_seat n seats → length seats ≡ n
 seats_len n seats each =
-    sym (total_one seats) ∙ all_below number_of n seats each.0
-    ∙ below n number_of seats (λ k lt. sym (total_is (λ s. once (eqb k s.number)) seats) ∙ each.1 k lt)
+    sym (total_one seats) ∙ all_below number_of_seat n seats each.0
+    ∙ below n number_of_seat seats (λ k lt. sym (total_is (λ s. once (eqb k s.number)) seats) ∙ each.1 k lt)
 
 pub complete_by : (clients engines : List SeatLog) (admin : Option (List Step)) (c c' e e' : ℕ) → c ≡ c'
     → e ≡ e' → IsComplete clients engines admin c e → IsComplete clients engines admin c' e'

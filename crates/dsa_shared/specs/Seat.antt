@@ -34,11 +34,11 @@ with_receipt seat event reply = record { number = seat.number; receipts = with_s
 abbrev pub client_of : SeatLog → Actor
 client_of seat = Client seat.number
 
-abbrev pub engine_of : SeatLog → Actor
-engine_of seat = Engine seat.number
+abbrev pub engine_of_seat : SeatLog → Actor
+engine_of_seat seat = Engine seat.number
 
-abbrev pub number_of : SeatLog → ℕ
-number_of seat = seat.number
+abbrev pub number_of_seat : SeatLog → ℕ
+number_of_seat seat = seat.number
 
 abbrev pub receipts_of : SeatLog → List Step
 receipts_of seat = seat.receipts

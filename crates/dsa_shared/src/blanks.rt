@@ -7,9 +7,9 @@ ghost use Rattle.dsa_shared.specs.Seat.{no_caps};
 use std::marker::{Brand, Model};
 use std::sync::ledger::{Blank, Book, Ledger, Share};
 
-/// Names one shared device: the ledger of the steps that its history keeps, its capabilities, for how many
-/// steps its history has room, and how many clients it has. Only `std::marker::Brand` implements it: see
-/// the head of the crate.
+/// Names one shared device: the ledger of the steps that its history keeps, its capabilities, for
+/// how many steps its history has room, and how many clients it has. Only `std::marker::Brand`
+/// implements it: see the head of the crate.
 pub trait Sharing: Ledger {
     ghost caps: { Caps };
 
@@ -26,8 +26,9 @@ impl Sharing for Brand {
     ghost clients = { 0 };
 }
 
-/// What the ledger of a shared device is made of: 129 parts, one for each seat that there can be (64
-/// clients, 64 engines and the administrator). Contracts see its name, which no other blanks have.
+/// What the ledger of a shared device is made of: 129 parts, one for each seat that there can be
+/// (64 clients, 64 engines and the administrator). Contracts see its name, which no other blanks
+/// have.
 #[derive(Drop)]
 pub struct Blanks {
     blank: Blank,

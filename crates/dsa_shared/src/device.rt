@@ -21,8 +21,8 @@ use dsa_store::EntryStore;
 use std::alloc::Allocator;
 use std::sync::{Mutex, Wait};
 
-/// A device that threads share. Each step takes the lock once, and promises only what it answers if it
-/// returns.
+/// A device that threads share. Each step takes the lock once, and promises only what it answers if
+/// it returns.
 #[derive(Drop)]
 pub struct SharedDevice<S: EntryStore, L: Sharing> {
     pub(crate) clients: u16,
@@ -31,8 +31,8 @@ pub struct SharedDevice<S: EntryStore, L: Sharing> {
 }
 
 impl<S: EntryStore, L: Sharing> SharedDevice<S, L> {
-    /// The client of the seat writes the 64 bytes of a descriptor to a portal of a queue, by ENQCMD or
-    /// MOVDIR64B.
+    /// The client of the seat writes the 64 bytes of a descriptor to a portal of a queue, by ENQCMD
+    /// or MOVDIR64B.
     #[inline(always)]
     pub fn submit<R: Wait, A: Allocator>(
         &self,
@@ -43,7 +43,9 @@ impl<S: EntryStore, L: Sharing> SharedDevice<S, L> {
         kind: Kind,
         bytes: &[u8; 64],
     ) -> SubmitAnswer
-        ensures { seat.new ≡ with_receipt seat.old (event.Submit seat.old.number queue portal kind (read bytes.now))
+        ensures { seat.new
+            ≡ with_receipt seat.old
+            (event.Submit seat.old.number queue portal kind (read bytes.now))
             (reply.Submit result) }
     {
         locked::submit(&mut self.locked.lock(rt), seat, queue, portal, kind, bytes)
@@ -56,7 +58,8 @@ impl<S: EntryStore, L: Sharing> SharedDevice<S, L> {
         rt: &R,
         seat: &mut EngineSeat<L, A>,
     ) -> DispatchAnswer
-        ensures { seat.new ≡ with_receipt seat.old (event.Dispatch seat.old.number) (reply.Dispatch result) }
+        ensures { seat.new
+            ≡ with_receipt seat.old (event.Dispatch seat.old.number) (reply.Dispatch result) }
     {
         locked::dispatch(&mut self.locked.lock(rt), seat)
     }
@@ -69,7 +72,8 @@ impl<S: EntryStore, L: Sharing> SharedDevice<S, L> {
         seat: &mut EngineSeat<L, A>,
         desc: Descriptor,
     ) -> FetchAnswer
-        ensures { seat.new ≡ with_receipt seat.old (event.Fetch seat.old.number desc) (reply.Fetch result) }
+        ensures { seat.new
+            ≡ with_receipt seat.old (event.Fetch seat.old.number desc) (reply.Fetch result) }
     {
         locked::fetch(&mut self.locked.lock(rt), seat, desc)
     }
@@ -77,7 +81,8 @@ impl<S: EntryStore, L: Sharing> SharedDevice<S, L> {
     /// The engine of the seat starts the first of its members that does not run.
     #[inline(always)]
     pub fn start<R: Wait, A: Allocator>(&self, rt: &R, seat: &mut EngineSeat<L, A>) -> StartAnswer
-        ensures { seat.new ≡ with_receipt seat.old (event.Start seat.old.number) (reply.Start result) }
+        ensures { seat.new
+            ≡ with_receipt seat.old (event.Start seat.old.number) (reply.Start result) }
     {
         locked::start(&mut self.locked.lock(rt), seat)
     }
@@ -127,7 +132,8 @@ impl<S: EntryStore, L: Sharing> SharedDevice<S, L> {
         queue: u16,
         config: QueueConfig,
     ) -> WriteAnswer
-        ensures { seat.new ≡ with_step seat.old (event.WriteQueue queue config) (reply.Write result) }
+        ensures { seat.new
+            ≡ with_step seat.old (event.WriteQueue queue config) (reply.Write result) }
     {
         locked::write_queue(&mut self.locked.lock(rt), seat, queue, config)
     }
@@ -141,7 +147,8 @@ impl<S: EntryStore, L: Sharing> SharedDevice<S, L> {
         group: u16,
         config: GroupConfig,
     ) -> WriteAnswer
-        ensures { seat.new ≡ with_step seat.old (event.WriteGroup group config) (reply.Write result) }
+        ensures { seat.new
+            ≡ with_step seat.old (event.WriteGroup group config) (reply.Write result) }
     {
         locked::write_group(&mut self.locked.lock(rt), seat, group, config)
     }

@@ -1,7 +1,7 @@
 //! The value behind the lock, and its steps.
 //!
-//! Each step makes one step of the device, by the seat that it is lent, and adds it to the ledger and to
-//! the receipts of the seat where the history keeps it.
+//! Each step makes one step of the device, by the seat that it is lent, and adds it to the ledger
+//! and to the receipts of the seat where the history keeps it.
 
 ghost use Rattle.std.specs.Prelude.{◌≡◌, ℕ, Some};
 ghost use Rattle.dsa_desc.specs.Descriptor.{read};
@@ -33,7 +33,7 @@ use std::sync::ledger::Book;
 #[derive(Drop)]
 pub struct Locked<S: EntryStore, L: Sharing> {
     pub(crate) device: Device<S>,
-    pub(crate) book: Book<L>,
+    pub(crate) ledger: Book<L>,
 }
 
 impl<S: EntryStore, L: Sharing> Model for Locked<S, L> {
@@ -44,21 +44,21 @@ impl<S: EntryStore, L: Sharing> Model for Locked<S, L> {
 
     ghost view = { λ l. l.device };
 
-    ghost invariant = { λ l. (l.book.total ≡ length l.device.history)
+    ghost invariant = { λ l. (l.ledger.total ≡ length l.device.history)
         × (l.device.capacity ≡ L.capacity) × (l.device.caps ≡ L.caps) };
 }
 
-// Makes a step of the device, and adds it to the ledger and to the receipts of the seat where the history
-// keeps it.
+// Makes a step of the device, and adds it to the ledger and to the receipts of the seat where the
+// history keeps it.
 macro_rules! noting {
     ($locked:ident, $seat:ident, |$device:ident| $step:expr) => {{
         let Locked {
             device: $device,
-            book,
+            ledger,
         } = $locked;
         let before = $device.history().len();
         let answer = $step;
-        $seat.receipts.note(book, $device, before);
+        $seat.receipts.note(ledger, $device, before);
         answer
     }};
 }
@@ -73,9 +73,11 @@ pub fn submit<S: EntryStore, L: Sharing, A: Allocator>(
     kind: Kind,
     bytes: &[u8; 64],
 ) -> SubmitAnswer
-    ensures step { after_answer locked.old (event.Submit seat.old.number queue portal kind (read bytes.now)) (reply.Submit result)
+    ensures step { after_answer locked.old
+        (event.Submit seat.old.number queue portal kind (read bytes.now)) (reply.Submit result)
         ≡ Some locked.new }
-    ensures receipts { seat.new ≡ with_receipt seat.old (event.Submit seat.old.number queue portal kind (read bytes.now))
+    ensures receipts { seat.new
+        ≡ with_receipt seat.old (event.Submit seat.old.number queue portal kind (read bytes.now))
         (reply.Submit result) }
 {
     noting!(
@@ -93,7 +95,8 @@ pub fn dispatch<S: EntryStore, L: Sharing, A: Allocator>(
 ) -> DispatchAnswer
     ensures step { after_answer locked.old (event.Dispatch seat.old.number) (reply.Dispatch result)
         ≡ Some locked.new }
-    ensures receipts { seat.new ≡ with_receipt seat.old (event.Dispatch seat.old.number) (reply.Dispatch result) }
+    ensures receipts { seat.new
+        ≡ with_receipt seat.old (event.Dispatch seat.old.number) (reply.Dispatch result) }
 {
     noting!(locked, seat, |device| device.dispatch(seat.number))
 }
@@ -107,7 +110,8 @@ pub fn fetch<S: EntryStore, L: Sharing, A: Allocator>(
 ) -> FetchAnswer
     ensures step { after_answer locked.old (event.Fetch seat.old.number desc) (reply.Fetch result)
         ≡ Some locked.new }
-    ensures receipts { seat.new ≡ with_receipt seat.old (event.Fetch seat.old.number desc) (reply.Fetch result) }
+    ensures receipts { seat.new
+        ≡ with_receipt seat.old (event.Fetch seat.old.number desc) (reply.Fetch result) }
 {
     noting!(locked, seat, |device| device.fetch(seat.number, desc))
 }
@@ -118,8 +122,10 @@ pub fn start<S: EntryStore, L: Sharing, A: Allocator>(
     locked: &mut Locked<S, L>,
     seat: &mut EngineSeat<L, A>,
 ) -> StartAnswer
-    ensures step { after_answer locked.old (event.Start seat.old.number) (reply.Start result) ≡ Some locked.new }
-    ensures receipts { seat.new ≡ with_receipt seat.old (event.Start seat.old.number) (reply.Start result) }
+    ensures step { after_answer locked.old (event.Start seat.old.number) (reply.Start result)
+        ≡ Some locked.new }
+    ensures receipts { seat.new
+        ≡ with_receipt seat.old (event.Start seat.old.number) (reply.Start result) }
 {
     noting!(locked, seat, |device| device.start(seat.number))
 }
@@ -132,9 +138,11 @@ pub fn finish<S: EntryStore, L: Sharing, A: Allocator>(
     ticket: Ticket,
     outcome: Outcome,
 ) -> FinishAnswer
-    ensures step { after_answer locked.old (event.Finish seat.old.number ticket outcome) (reply.Finish result)
+    ensures step { after_answer locked.old (event.Finish seat.old.number ticket outcome)
+        (reply.Finish result)
         ≡ Some locked.new }
-    ensures receipts { seat.new ≡ with_receipt seat.old (event.Finish seat.old.number ticket outcome)
+    ensures receipts { seat.new
+        ≡ with_receipt seat.old (event.Finish seat.old.number ticket outcome)
         (reply.Finish result) }
 {
     noting!(
@@ -151,7 +159,8 @@ pub fn issue<S: EntryStore, L: Sharing, A: Allocator>(
     seat: &mut AdminSeat<L, A>,
     command: Command,
 ) -> IssueAnswer
-    ensures step { after_answer locked.old (event.Issue command) (reply.Issue result) ≡ Some locked.new }
+    ensures step { after_answer locked.old (event.Issue command) (reply.Issue result)
+        ≡ Some locked.new }
     ensures receipts { seat.new ≡ with_step seat.old (event.Issue command) (reply.Issue result) }
 {
     noting!(locked, seat, |device| device.issue(command))
@@ -190,8 +199,10 @@ pub fn write_queue<S: EntryStore, L: Sharing, A: Allocator>(
     queue: u16,
     config: QueueConfig,
 ) -> WriteAnswer
-    ensures step { after_answer locked.old (event.WriteQueue queue config) (reply.Write result) ≡ Some locked.new }
-    ensures receipts { seat.new ≡ with_step seat.old (event.WriteQueue queue config) (reply.Write result) }
+    ensures step { after_answer locked.old (event.WriteQueue queue config) (reply.Write result)
+        ≡ Some locked.new }
+    ensures receipts { seat.new
+        ≡ with_step seat.old (event.WriteQueue queue config) (reply.Write result) }
 {
     noting!(locked, seat, |device| device.write_queue(queue, config))
 }
@@ -204,8 +215,10 @@ pub fn write_group<S: EntryStore, L: Sharing, A: Allocator>(
     group: u16,
     config: GroupConfig,
 ) -> WriteAnswer
-    ensures step { after_answer locked.old (event.WriteGroup group config) (reply.Write result) ≡ Some locked.new }
-    ensures receipts { seat.new ≡ with_step seat.old (event.WriteGroup group config) (reply.Write result) }
+    ensures step { after_answer locked.old (event.WriteGroup group config) (reply.Write result)
+        ≡ Some locked.new }
+    ensures receipts { seat.new
+        ≡ with_step seat.old (event.WriteGroup group config) (reply.Write result) }
 {
     noting!(locked, seat, |device| device.write_group(group, config))
 }

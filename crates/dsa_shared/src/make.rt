@@ -45,10 +45,10 @@ struct Rooms<L: Sharing, A: Allocator> {
 }
 
 impl<S: EntryStore, L: Sharing> SharedDevice<S, L> {
-    /// Shares a device that has made no step yet among `clients` clients, 1 to 64, its engines and one
-    /// administrator, with a seat for each. Takes room for as many receipts in each seat as the history has
-    /// for steps; no other call takes memory. Whatever the error, the device and the blanks come back as
-    /// they were, and what memory was taken is free again.
+    /// Shares a device that has made no step yet among `clients` clients, 1 to 64, its engines and
+    /// one administrator, with a seat for each. Takes room for as many receipts in each seat as the
+    /// history has for steps; no other call takes memory. Whatever the error, the device and the
+    /// blanks come back as they were, and what memory was taken is free again.
     pub fn new<A: Allocator + Copy>(
         alloc: A,
         device: Device<S>,
@@ -79,11 +79,11 @@ impl<S: EntryStore, L: Sharing> SharedDevice<S, L> {
         let Ok(rooms) = Rooms::<L, A>::new(alloc, device.capacity(), clients, engines) else {
             return Err((ShareFault::OutOfMemory, device, blanks));
         };
-        let (book, share) = blanks.open::<L>();
+        let (ledger, share) = blanks.open::<L>();
         let seats = rooms.seats(share);
         let shared = SharedDevice {
             clients,
-            locked: Mutex::new(Locked { device, book }),
+            locked: Mutex::new(Locked { device, ledger }),
         };
         Ok((shared, seats))
     }

@@ -71,22 +71,23 @@ impl<L: Sharing, A: Allocator> Receipts<L, A> {
         self.steps.as_slice()
     }
 
-    // Enters in the ledger and among the receipts what the history has beyond its first `before` steps: one
-    // step, or none.
+    // Enters in the ledger and among the receipts what the history has beyond its first `before`
+    // steps: one step, or none.
     #[inline(always)]
-    pub fn note<S: EntryStore>(&mut self, book: &mut Book<L>, device: &Device<S>, before: usize)
+    pub fn note<S: EntryStore>(&mut self, ledger: &mut Book<L>, device: &Device<S>, before: usize)
         requires capacity { device.now.capacity ≡ L.capacity }
-        requires before { book.old.total ≡ before }
+        requires before { ledger.old.total ≡ before }
         requires grown { (before ≤ length device.now.history)
             × (length device.now.history ≤ before + 1) }
-        ensures total { book.new.total ≡ length device.now.history }
-        ensures noted { self.new ≡ record self.old { steps = self.old.steps ++ drop before device.now.history } }
+        ensures total { ledger.new.total ≡ length device.now.history }
+        ensures noted { self.new
+            ≡ record self.old { steps = self.old.steps ++ drop before device.now.history } }
     {
         device.state_is_replay();
-        book.audit(&mut self.share);
+        ledger.audit(&mut self.share);
         if let Some(step) = device.history().get(before) {
             self.steps.push_reserved(*step);
-            book.add(&mut self.share, 1);
+            ledger.add(&mut self.share, 1);
         }
     }
 

@@ -5,7 +5,7 @@ ghost use Rattle.dsa_book.specs.declared.event.Step.{Step};
 ghost use Rattle.dsa_book.specs.declared.event.Actor.{Actor};
 ghost use Rattle.dsa_book.specs.declared.event.Actor.TheVariants as actor;
 ghost use Rattle.dsa_book.specs.Totals.{total_accepted, total_retried, total_fetched, total_done, total_lost};
-ghost use Rattle.dsa_shared.specs.Seat.{number_of, receipts_of};
+ghost use Rattle.dsa_shared.specs.Seat.{number_of_seat, receipts_of};
 
 use crate::blanks::Sharing;
 use crate::counts::{accepted_in, done_in, fetched_in, lost_in, retried_in};
@@ -89,7 +89,7 @@ impl<K: Role, L: Sharing, A: Allocator> Model for NumberedSeat<K, L, A> {
 }
 
 impl<K: Role, L: Sharing, A: Allocator> Numbered for NumberedSeat<K, L, A> {
-    ghost number = { number_of };
+    ghost number = { number_of_seat };
 
     ghost actor = { λ s. K.actor s.number };
 
@@ -170,7 +170,8 @@ impl<L: Sharing, A: Allocator> NumberedSeat<EngineRole, L, A> {
     }
 }
 
-/// The seat of the administrator, who configures the device and commands it. Contracts see its receipts.
+/// The seat of the administrator, who configures the device and commands it. Contracts see its
+/// receipts.
 #[derive(Drop)]
 pub struct AdminSeat<L: Sharing, A: Allocator = Global> {
     pub(crate) receipts: Receipts<L, A>,
@@ -211,8 +212,8 @@ impl<L: Sharing, A: Allocator> AdminSeat<L, A> {
     }
 }
 
-/// The seats of a shared device. Those that are lent to threads come back to their place before the device
-/// is settled.
+/// The seats of a shared device. Those that are lent to threads come back to their place before the
+/// device is settled.
 #[derive(Drop)]
 pub struct Seats<L: Sharing, A: Allocator = Global> {
     /// A seat for each client number, in order.

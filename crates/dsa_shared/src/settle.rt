@@ -24,12 +24,13 @@ use thiserror::Error;
 /// Why settling was refused: the first of these that stands.
 #[derive(Clone, Copy, Debug, PartialEq, Eq, Error)]
 pub enum SettleFault {
-    /// The seats are not one for each client number, one for each engine number and the administrator's.
+    /// The seats are not one for each client number, one for each engine number and the
+    /// administrator's.
     #[error("a seat is missing, or there are two of it")]
     SeatMissing,
-    /// The receipts of a seat are not its steps of the history: this is the first position at which they
-    /// differ, or at which only one of the two lists has ended. It is of the first such seat: clients by
-    /// number, engines by number, administrator.
+    /// The receipts of a seat are not its steps of the history: this is the first position at which
+    /// they differ, or at which only one of the two lists has ended. It is of the first such seat:
+    /// clients by number, engines by number, administrator.
     #[error("the receipts of a seat differ from the history at {0}")]
     ReceiptMismatch(u64),
 }
@@ -74,16 +75,18 @@ pub struct SettleRefused<S: EntryStore, L: Sharing, A: Allocator = Global> {
 }
 
 impl<S: EntryStore, L: Sharing> SharedDevice<S, L> {
-    /// Gives the device and the totals, where each seat has come back, once, with just those receipts that
-    /// the history has of it. Waits for nobody.
+    /// Gives the device and the totals, where each seat has come back, once, with just those
+    /// receipts that the history has of it. Waits for nobody.
     pub fn settle<A: Allocator>(
         self,
         seats: Seats<L, A>,
     ) -> Result<Settled<S>, SettleRefused<S, L, A>>
         ensures complete { OnOk result (IsComplete seats.clients.items seats.engines.items
             seats.admin L.clients L.caps.engines) }
-        ensures matched { IfOk result (λ s. Match s.device.history seats.clients.items seats.engines.items seats.admin) }
-        ensures totals { IfOk result (λ s. s.totals ≡ totals_of s.device.history (held_count s.device.state.work.content)) }
+        ensures matched { IfOk result
+            (λ s. Match s.device.history seats.clients.items seats.engines.items seats.admin) }
+        ensures totals { IfOk result
+            (λ s. s.totals ≡ totals_of s.device.history (held_count s.device.state.work.content)) }
         ensures sums { IfOk result (λ s. AreSums s.totals seats.clients.items seats.engines.items
             seats.admin) }
         ensures balance { IfOk result (λ s. Balance s.totals s.device.state.work) }
@@ -94,8 +97,10 @@ impl<S: EntryStore, L: Sharing> SharedDevice<S, L> {
         ensures missing { IfErr result (λ e. (e.fault ≡ SettleFault.SeatMissing)
             ↔ ¬ IsComplete seats.clients.items seats.engines.items seats.admin
             L.clients L.caps.engines) }
-        ensures mismatch { IfErr result (λ e. (e.fault ≢ SettleFault.SeatMissing)
-            → IsComplete seats.clients.items seats.engines.items seats.admin L.clients L.caps.engines) }
+        ensures mismatch { IfErr result
+            (λ e. (e.fault ≢ SettleFault.SeatMissing)
+            → IsComplete seats.clients.items seats.engines.items seats.admin L.clients
+            L.caps.engines) }
         ensures seats { IfErr result (λ e. (e.seats.clients.items ≡ seats.clients.items)
             × (e.seats.engines.items ≡ seats.engines.items) × (e.seats.admin ≡ seats.admin)) }
     {
@@ -129,14 +134,15 @@ fn finish<S: EntryStore, L: Sharing, A: Allocator>(
     ensures well_formed { IsWellFormed locked.caps locked.state }
     ensures caps { locked.caps ≡ L.caps }
     ensures capacity { locked.capacity ≡ L.capacity }
-    ensures totals { result.totals ≡ totals_of locked.history (held_count locked.state.work.content) }
+    ensures totals { result.totals
+        ≡ totals_of locked.history (held_count locked.state.work.content) }
     ensures sums { AreSums result.totals seats.clients.items seats.engines.items seats.admin }
     ensures balance { Balance result.totals locked.state.work }
 {
-    let Locked { device, book } = locked;
+    let Locked { device, ledger } = locked;
     device.state_is_replay();
     let totals = count(device.history(), device.held());
-    close(book, seats, totals.steps);
+    close(ledger, seats, totals.steps);
     Settled { device, totals }
 }
 
@@ -155,11 +161,11 @@ fn count(history: &[Step], held: u32) -> Totals
     }
 }
 
-// The seats together have as many receipts as the book has steps.
-fn close<L: Sharing, A: Allocator>(book: Book<L>, seats: Seats<L, A>, steps: u64)
+// The seats together have as many receipts as the ledger has steps.
+fn close<L: Sharing, A: Allocator>(ledger: Book<L>, seats: Seats<L, A>, steps: u64)
     requires all { (length seats.clients.items ≡ L.clients)
         × (length seats.engines.items ≡ L.caps.engines) × IsSome seats.admin }
-    requires steps { book.total ≡ steps }
+    requires steps { ledger.total ≡ steps }
     ensures { steps ≡ over_seats length seats.clients.items seats.engines.items seats.admin }
 {
     let Seats {
@@ -169,11 +175,11 @@ fn close<L: Sharing, A: Allocator>(book: Book<L>, seats: Seats<L, A>, steps: u64
     } = seats;
     let Some(admin) = admin else { unreachable!() };
     let AdminSeat { receipts } = admin;
-    let mut book = book;
+    let mut ledger = ledger;
     let mut all = receipts.into_share();
     gather(clients, &mut all);
     gather(engines, &mut all);
-    book.audit(&mut all);
+    ledger.audit(&mut all);
 }
 
 fn gather<K: Role, L: Sharing, A: Allocator>(

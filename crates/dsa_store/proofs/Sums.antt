@@ -1,4 +1,4 @@
--- Sums over all slots of a store, as its calls change them. How often a cell is used, and how many
+-- Sums over all entries of a store, as its calls change them. How often a cell is used, and how many
 -- are held, are such sums.
 use Rattle.std.proofs.Common.{◌≡◌, ℕ, zero, suc, ◌+◌, ◌<◌, ◌≤◌, Bool, true, not, cond, List, [], ◌∷◌, ◌++◌, drop}
 use Rattle.std.proofs.Common.{length}
@@ -8,24 +8,24 @@ use Rattle.std.proofs.lemmas.List.Sums.{sum_by-cons, sum_by-append, sum_by_push,
 use Rattle.std.proofs.lemmas.List.Filters.{sum_by-filter_both}
 use Rattle.std.specs.List.{filter, count_by, sum_by, remove}
 use Rattle.dsa_store.specs.declared.entry.{Cell.{Cell}, Entry.{Entry}}
-use Rattle.dsa_store.specs.Content.{Slot, Content, is_cell, chain, place_count, use_count, held_count, after_push}
+use Rattle.dsa_store.specs.Content.{HeldEntry, Content, is_cell, chain, place_count, use_count, held_count, after_push}
 use Rattle.dsa_store.specs.Content.{without_front, after_unlink, after_set, all_held, is_free, only_where, StandsAt}
 use Rattle.dsa_store.proofs.{Places.{list_any-absent, list_any-present}, Finding.{unlinked-at, replaced-at}}
 
--- a sum over all slots goes list by list
-pub sum-lists : (f : Slot → ℕ) (content : Content) → sum_by f (all_held content) ≡ sum_by (sum_by f) content
+-- a sum over all entries goes list by list
+pub sum-lists : (f : HeldEntry → ℕ) (content : Content) → sum_by f (all_held content) ≡ sum_by (sum_by f) content
 sum-lists f [] = refl
 sum-lists f (l ∷ ls) = omega (arith, sum_by-append f l (all_held ls), sum_by-cons (sum_by f) l ls, sum-lists f ls)
 
 -- another list in place of one
-pub sum-set : (f : Slot → ℕ) (content : Content) (i : ℕ) (l : List Slot) → i < length content
+pub sum-set : (f : HeldEntry → ℕ) (content : Content) (i : ℕ) (l : List HeldEntry) → i < length content
     → sum_by f (all_held (set content i l)) + sum_by f (chain content i) ≡ sum_by f (all_held content) + sum_by f l
 sum-set f content i l h =
     omega (arith, sum-lists f content, sum-lists f (set content i l), sum_by-set (sum_by f) content i l [] h)
 
 -- ---- the words of the calls
 
-pub sum-pushed : (f : Slot → ℕ) (content : Content) (list : ℕ) (cell : Cell) (e : Entry) → list < length content
+pub sum-pushed : (f : HeldEntry → ℕ) (content : Content) (list : ℕ) (cell : Cell) (e : Entry) → list < length content
     → sum_by f (all_held (after_push content list cell e)) ≡ sum_by f (all_held content) + f (cell, e)
 sum-pushed f content list cell e h =
     omega (
@@ -35,7 +35,7 @@ sum-pushed f content list cell e h =
           (cell, e),
     )
 
-pub sum-without_front : (f : Slot → ℕ) (content : Content) (list : ℕ) (s : Slot) (rest : List Slot)
+pub sum-without_front : (f : HeldEntry → ℕ) (content : Content) (list : ℕ) (s : HeldEntry) (rest : List HeldEntry)
     → list < length content → chain content list ≡ s ∷ rest
     → sum_by f (all_held (without_front content list)) + f s ≡ sum_by f (all_held content)
 sum-without_front f content list s rest h is =
@@ -47,7 +47,7 @@ sum-without_front f content list s rest h is =
       ap (λ l. sum_by f (drop 1 l)) is,
     )
 
-sum-removed : (f : Slot → ℕ) (l : List Slot) (k : ℕ) (s : Slot) → k < length l → get_or l k s ≡ s
+sum-removed : (f : HeldEntry → ℕ) (l : List HeldEntry) (k : ℕ) (s : HeldEntry) → k < length l → get_or l k s ≡ s
     → sum_by f (remove l k) + f s ≡ sum_by f l
 sum-removed f [] k s h is = absurd (omega arith)
 sum-removed f (x ∷ l) zero s h is = omega (arith, sum_by-cons f x l, ap f is)
@@ -59,7 +59,7 @@ sum-removed f (x ∷ l) (suc k) s h is =
       sum-removed f l k s (omega arith) is,
     )
 
-pub sum-unlinked : (f : Slot → ℕ) (content : Content) (i k : ℕ) (cell : Cell) (e : Entry) → use_count content cell ≤ 1
+pub sum-unlinked : (f : HeldEntry → ℕ) (content : Content) (i k : ℕ) (cell : Cell) (e : Entry) → use_count content cell ≤ 1
     → i < length content → StandsAt content i k cell e
     → sum_by f (all_held (after_unlink content cell)) + f (cell, e) ≡ sum_by f (all_held content)
 sum-unlinked f content i k cell e once hi at =
@@ -68,11 +68,11 @@ sum-unlinked f content i k cell e once hi at =
       arith,
       ap (λ c. sum_by f (all_held c)) (unlinked-at content i k cell e once at),
       sum-set f content i (remove l k) hi,
-      sum-removed f l k (cell, e) at.within at.slot,
+      sum-removed f l k (cell, e) at.within at.pair,
     )
 
 -- another entry in the cell, which counts as the one before it
-pub sum-replaced : (f : Slot → ℕ) (content : Content) (i k : ℕ) (cell : Cell) (e new : Entry)
+pub sum-replaced : (f : HeldEntry → ℕ) (content : Content) (i k : ℕ) (cell : Cell) (e new : Entry)
     → use_count content cell ≤ 1 → i < length content → StandsAt content i k cell e → f (cell, new) ≡ f (cell, e)
     → sum_by f (all_held (after_set content cell new)) ≡ sum_by f (all_held content)
 sum-replaced f content i k cell e new once hi at same =
@@ -82,11 +82,11 @@ sum-replaced f content i k cell e new once hi at same =
       ap (λ c. sum_by f (all_held c)) (replaced-at content i k cell e new once at),
       sum-set f content i (set l k (cell, new)) hi,
       sum_by-set f l k (cell, new) (cell, e) at.within,
-      ap f at.slot,
+      ap f at.pair,
       same,
     )
 
--- ---- a test that each slot passes or not
+-- ---- a test that each entry passes or not
 
 -- what passes and what does not are all
 pub sum-split : {X : Type 0} (f : X → ℕ) (test : X → Bool) (l : List X)
@@ -94,7 +94,7 @@ pub sum-split : {X : Type 0} (f : X → ℕ) (test : X → Bool) (l : List X)
 sum-split f test l = sum_by-filter_both test (λ x. not (test x)) (λ x. refl) f l
 
 -- what passes of all, list by list
-pub all_held-filtered : (test : Slot → Bool) (content : Content)
+pub all_held-filtered : (test : HeldEntry → Bool) (content : Content)
     → all_held (map (filter test) content) ≡ filter test (all_held content)
 all_held-filtered test [] = refl
 all_held-filtered test (l ∷ ls) = ap (λ m. filter test l ++ m) (all_held-filtered test ls)

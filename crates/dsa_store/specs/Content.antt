@@ -5,23 +5,23 @@ use Rattle.std.specs.{List.{filter, find, list_any, flat_map, count_by, sum_by, 
 use Rattle.dsa_store.specs.declared.entry.{Cell.{Cell}, Entry.{Entry}}
 
 -- a cell in use, with its entry
-abbrev pub Slot : Type 0
-Slot = Cell × Entry
+abbrev pub HeldEntry : Type 0
+HeldEntry = Cell × Entry
 
--- the lists by number, each with its slots in order, the front first
+-- the lists by number, each with its entries in order, the front first
 abbrev pub Content : Type 0
-Content = List (List Slot)
+Content = List (List HeldEntry)
 
--- the slot is that cell's
-abbrev pub is_cell : Cell → Slot → Bool
+-- the entry is that cell's
+abbrev pub is_cell : Cell → HeldEntry → Bool
 is_cell cell s = s.0.0 == cell.0
 
 -- the list of that number
-abbrev pub chain : Content → ℕ → List Slot
+abbrev pub chain : Content → ℕ → List HeldEntry
 chain content list = slice_index_or content list []
 
 -- how many places of a list name the cell
-unfoldable pub place_count : Cell → List Slot → ℕ
+unfoldable pub place_count : Cell → List HeldEntry → ℕ
 place_count cell l = count_by (is_cell cell) l
 
 -- how many places of all lists name the cell
@@ -39,16 +39,16 @@ entry_of (l ∷ ls) cell = cond (list_any (is_cell cell) l) (option_map (λ s. s
     (entry_of ls cell)
 
 -- the number of the list that names the cell, if one does
-abbrev pub list_of : Content → Cell → Option ℕ
-list_of content cell = position (list_any (is_cell cell)) content
+abbrev pub list_of_cell : Content → Cell → Option ℕ
+list_of_cell content cell = position (list_any (is_cell cell)) content
 
 -- the cell at the front of a list
-abbrev pub first_cell : List Slot → Option Cell
+abbrev pub first_cell : List HeldEntry → Option Cell
 first_cell [] = None
 first_cell (s ∷ l) = Some s.0
 
 -- the cell that follows in a list
-abbrev pub cell_after : Cell → List Slot → Option Cell
+abbrev pub cell_after : Cell → List HeldEntry → Option Cell
 cell_after cell [] = None
 cell_after cell (s ∷ l) = cond (is_cell cell s) (first_cell l) (cell_after cell l)
 
@@ -90,19 +90,19 @@ pub record IsSound (cells : ℕ) (content : Content) : Type 0 where
 -- the cell, with that entry, is the k-th of list i
 pub record StandsAt (content : Content) (i k : ℕ) (cell : Cell) (entry : Entry) : Type 0 where
   pub within : k < length (chain content i)
-  pub slot : slice_index_or (chain content i) k (cell, entry) ≡ (cell, entry)
+  pub pair : slice_index_or (chain content i) k (cell, entry) ≡ (cell, entry)
 
 -- ---- the lists together
 
--- the slots of all lists, list by list, each front first
-abbrev pub all_held : Content → List Slot
+-- the entries of all lists, list by list, each front first
+abbrev pub all_held : Content → List HeldEntry
 all_held content = flat_map (λ list. list) content
 
 -- a cell of the store that no list names
 abbrev pub is_free : ℕ → Content → Cell → Bool
 is_free cells content cell = nat_lt cell.0 cells && not (list_any (is_cell cell) (all_held content))
 
--- the slots whose entry passes, in order
+-- the entries whose entry passes, in order
 abbrev pub only_where : (Entry → Bool) → Content → Content
 only_where test content = map (filter (λ s. test s.1)) content
 

@@ -1,4 +1,5 @@
-//! Lists of cells with entries: what a store of them does, and one that keeps a vector for each list.
+//! Lists of cells with entries: what a store of them does, and one that keeps a vector for each
+//! list.
 #![tactic(auto)]
 
 mod entry;
@@ -9,4 +10,4 @@ mod walk;
 pub use entry::{Cell, Entry, ListId};
 pub use plain::PlainStore;
 pub use store::{EntryStore, cells_stand_once};
-pub use walk::{Walk, front_slot, slots};
+pub use walk::{Walk, front_entry, held_entries};

@@ -8,8 +8,9 @@ use crate::entry::{Cell, Entry, ListId};
 use crate::store::EntryStore;
 use std::marker::Model;
 
-/// The front of a list, with its entry. `None` exactly when the list is empty. Two reads of the store.
-pub fn front_slot<S: EntryStore>(store: &S, list: ListId) -> Option<(Cell, Entry)>
+/// The front of a list, with its entry. `None` exactly when the list is empty. Two reads of the
+/// store.
+pub fn front_entry<S: EntryStore>(store: &S, list: ListId) -> Option<(Cell, Entry)>
     requires { list.0 < length (S.content store.now) }
     ensures { result ≡ slice_get (chain (S.content store.now) list.0) 0 }
 {
@@ -27,12 +28,12 @@ pub struct Walk<'a, S: EntryStore> {
 
 impl<'a, S: EntryStore> Model for Walk<'a, S> {
     ghost use Rattle.std.specs.Prelude.{List};
-    ghost use Rattle.dsa_store.specs.Content.{Slot};
-    ghost use Rattle.dsa_store.specs.Walk.{slots_from};
+    ghost use Rattle.dsa_store.specs.Content.{HeldEntry};
+    ghost use Rattle.dsa_store.specs.Walk.{entries_from};
 
-    ghost Value = { List Slot };
+    ghost Value = { List HeldEntry };
 
-    ghost view = { λ walk. slots_from (S.content walk.store.now) walk.at };
+    ghost view = { λ walk. entries_from (S.content walk.store.now) walk.at };
 }
 
 impl<'a, S: EntryStore> Iterator for Walk<'a, S> {
@@ -50,8 +51,9 @@ impl<'a, S: EntryStore> Iterator for Walk<'a, S> {
     }
 }
 
-/// The cells of the list in its order, each with its entry. One read of the store, and two more for each cell.
-pub fn slots<S: EntryStore>(store: &S, list: ListId) -> Walk<'_, S>
+/// The cells of the list in its order, each with its entry. One read of the store, and two more for
+/// each cell.
+pub fn held_entries<S: EntryStore>(store: &S, list: ListId) -> Walk<'_, S>
     requires { list.0 < length (S.content store.now) }
     ensures { result ≡ chain (S.content store.now) list.0 }
 {

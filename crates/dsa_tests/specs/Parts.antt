@@ -2,15 +2,16 @@
 use Rattle.std.specs.Prelude.{◌≡◌, ℕ}
 use Rattle.dsa_store.specs.Content.{Content}
 use Rattle.dsa_queues.specs.Queues.{Kept, IsCounted}
-use Rattle.dsa_engines.specs.Engines.{Gear, IsInStep}
+use Rattle.dsa_engines.specs.Engines.{EnginesState, IsInStep}
 use Rattle.dsa_admin.specs.Admin.{Watch, IsAwaiting}
 
 -- the queues, the engines and a store are in step, and the numbers of the queues are counts over the lists
-pub record Agree (kept : Kept) (gear : Gear) (cells : ℕ) (content : Content) : Type 0 where
-  pub in_step : IsInStep kept.setup gear cells content
+pub record Agree (kept : Kept) (engines_state : EnginesState) (cells : ℕ) (content : Content) : Type 0 where
+  pub in_step : IsInStep kept.setup engines_state cells content
   pub counted : IsCounted kept content
 
 -- so do they, and the number of the active command is a count over the lists too
-pub record AllAgree (kept : Kept) (gear : Gear) (watch : Watch) (cells : ℕ) (content : Content) : Type 0 where
-  pub agree : Agree kept gear cells content
+pub record AllAgree (kept : Kept) (engines_state : EnginesState) (watch : Watch)
+    (cells : ℕ) (content : Content) : Type 0 where
+  pub agree : Agree kept engines_state cells content
   pub awaiting : IsAwaiting watch kept.setup.next_name content

@@ -81,7 +81,8 @@ const ALL: usize = usize::MAX;
 const DOCUMENT: &str =
     r#"{"caps":{"queues":2,"groups":2,"engines":2,"total_size":8,"read_buffers":16,
 "slots":2,"max_batch_shift":3,"max_xfer_shift":20},"capacity":100,"steps":[
-{"do":"queue","queue":0,"size":4,"threshold":2,"dedicated":false,"priority":1,"pasid":0,"batch":3,"xfer":20},
+{"do":"queue","queue":0,"size":4,"threshold":2,"dedicated":false,"priority":1,"pasid":0,
+"batch":3,"xfer":20},
 {"do":"group","group":0,"queues":1,"engines":1,"reserved":4,"allowed":8},
 {"do":"command","word":1048576},{"do":"command","word":6291456},
 {"do":"enqcmd","client":0,"queue":0,"limited":true,"pasid":5,"desc":""},
@@ -90,7 +91,8 @@ const DOCUMENT: &str =
 const LINES: &str =
     "written\nwritten\nended 0\nended 0\naccepted 0\ntaken 0 from 0\ndone 01\nfate 0 - completed 01\n";
 
-// What the reader gives a call and in all, what the writer takes a call and in all, and what comes of it.
+// What the reader gives a call and in all, what the writer takes a call and in all, and what comes
+// of it.
 type Row = (
     (usize, usize),
     (usize, usize),
@@ -102,7 +104,8 @@ const READ: Result<(), ScenarioFault> = Err(ScenarioFault::Read);
 
 const WRITE: Result<(), ScenarioFault> = Err(ScenarioFault::Write);
 
-// The bytes by the reader and the writer of that row lead to what it says. Gives how often the reader was asked.
+// The bytes by the reader and the writer of that row lead to what it says. Gives how often the
+// reader was asked.
 fn is_run(
     rt: &impl Abort,
     alloc: Global,

@@ -1,6 +1,7 @@
-//! What no sentence of an explanation tells: the entries that an abort would end, the read buffers that are kept for a group, and
-//! queues of which an engine is told nothing. The explanations of the examples have each other reason. All on a small device over
-//! a store of vectors, with queue 0 shared and On, in a group with engine 0.
+//! What no sentence of an explanation tells: the entries that an abort would end, the read buffers
+//! that are kept for a group, and queues of which an engine is told nothing. The explanations of
+//! the examples have each other reason. All on a small device over a store of vectors, with queue 0
+//! shared and On, in a group with engine 0.
 
 use crate::layers::devices::enabled;
 use crate::layers::setup::store;
@@ -26,7 +27,8 @@ fn submission(pasid: u32) -> Event {
     }
 }
 
-// What is looked at: the entries that wait or run, the buffers before and while an entry uses some, and the queues.
+// What is looked at: the entries that wait or run, the buffers before and while an entry uses some,
+// and the queues.
 #[derive(Clone, Copy)]
 enum Trial {
     Entries,

@@ -7,7 +7,7 @@ use Rattle.dsa_regs.specs.declared.{Caps.{Caps}, Command.{Command}, QueueConfig.
 use Rattle.dsa_regs.specs.Config.{queue_at, group_at}
 use Rattle.dsa_book.specs.{State.{State, occupancy}, Work.{used, in_progress, members}}
 use Rattle.dsa_device.specs.Reads.{awaited}
-use Rattle.dsa_event_words.specs.Words.{command_words}
+use Rattle.dsa_event_text.specs.Text.{command_with_operand}
 use Rattle.dsa_trace.specs.declared.form.{Trace.{Trace, TheVariants.{Table, Json}}, Part.{Part}}
 use Rattle.dsa_trace.specs.declared.form.Part.TheVariants.{Queues, Engines, Groups, NoCommand, Active, Awaited}
 use Rattle.dsa_trace.specs.declared.form.Part.TheVariants.{CommandEnd, Queue, Occupancy, Threshold, Size, Engine}
@@ -49,7 +49,7 @@ group_text form group taken allowed =
 -- the command that is not over, and how many entries it waits for
 abbrev pub command_text : Trace → Option Command → Option ℕ → List ℕ
 command_text form (Some command) (Some count) =
-    mark form Active ++ command_words command ++ marked form Awaited count ++ mark form CommandEnd
+    mark form Active ++ command_with_operand command ++ marked form Awaited count ++ mark form CommandEnd
 command_text form _ _ = mark form NoCommand
 
 -- ---- of a state

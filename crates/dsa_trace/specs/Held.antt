@@ -2,29 +2,29 @@
 use Rattle.std.specs.Prelude.{ℕ, List, ◌++◌, flat_map}
 use Rattle.dsa_base.specs.Numbers.{numbers_below}
 use Rattle.dsa_regs.specs.declared.{Caps.{Caps}, layout.ListUse.{ListUse, TheVariants.{Queue, Progress, Members}}}
-use Rattle.dsa_store.specs.Content.{Slot, chain}
+use Rattle.dsa_store.specs.Content.{HeldEntry, chain}
 use Rattle.dsa_book.specs.{State.{State}, Work.{in_progress, members}}
-use Rattle.dsa_event_words.specs.Words.{list_words}
+use Rattle.dsa_event_text.specs.Text.{list_text}
 use Rattle.dsa_trace.specs.declared.form.{Trace.{Trace}, Part.TheVariants.{Held, InList, HeldEnd}}
 use Rattle.dsa_trace.specs.{Marks.{mark}, Columns.{marked}}
 
 -- the name of an entry, and the list that it stands in (profile)
-abbrev pub held_line : Trace → ListUse → Slot → List ℕ
-held_line form list slot =
-    marked form Held slot.1.name ++ (mark form InList ++ list_words list) ++ mark form HeldEnd
+abbrev pub held_line : Trace → ListUse → HeldEntry → List ℕ
+held_line form list pair =
+    marked form Held pair.1.name ++ (mark form InList ++ list_text list) ++ mark form HeldEnd
 
 -- the entries of a list (profile)
-abbrev pub slots_of : State → ListUse → List Slot
-slots_of s (Queue q) = chain s.work.content q
-slots_of s (Progress e) = in_progress s.work e
-slots_of s (Members e) = members s.work e
+abbrev pub entries_of_list : State → ListUse → List HeldEntry
+entries_of_list s (Queue q) = chain s.work.content q
+entries_of_list s (Progress e) = in_progress s.work e
+entries_of_list s (Members e) = members s.work e
 
-abbrev pub held_in : Trace → State → ListUse → List ℕ
-held_in form s list = flat_map (held_line form list) (slots_of s list)
+abbrev pub held_text : Trace → State → ListUse → List ℕ
+held_text form s list = flat_map (held_line form list) (entries_of_list s list)
 
 -- a line for each entry that is held: in the queues, in progress on the engines, in their batches (profile)
 abbrev pub held_lines : Trace → Caps → State → List ℕ
 held_lines form caps s =
-    flat_map (λ q. held_in form s (Queue q)) (numbers_below caps.queues)
-    ++ flat_map (λ e. held_in form s (Progress e)) (numbers_below caps.engines)
-    ++ flat_map (λ e. held_in form s (Members e)) (numbers_below caps.engines)
+    flat_map (λ q. held_text form s (Queue q)) (numbers_below caps.queues)
+    ++ flat_map (λ e. held_text form s (Progress e)) (numbers_below caps.engines)
+    ++ flat_map (λ e. held_text form s (Members e)) (numbers_below caps.engines)

@@ -8,7 +8,7 @@ ghost use Rattle.dsa_trace.specs.Marks.{mark};
 
 use crate::form::{Part, Trace, add_comma, add_mark, add_marked};
 use dsa_device::Device;
-use dsa_event_words::add_command;
+use dsa_event_text::add_command;
 use dsa_regs::{Command, QueueConfig};
 use dsa_store::EntryStore;
 use std::alloc::AllocError;
@@ -23,7 +23,8 @@ fn is_left_out(form: Trace, config: &QueueConfig) -> bool
 }
 
 fn add_threshold(text: &mut String, form: Trace, config: &QueueConfig) -> Result<(), AllocError>
-    ensures { OnOk result (string_bytes text.new ≡ string_bytes text.old ++ threshold_text form config.now) }
+    ensures { OnOk result
+        (string_bytes text.new ≡ string_bytes text.old ++ threshold_text form config.now) }
 {
     match form {
         Trace::Table if config.dedicated => Ok(()),
@@ -38,7 +39,9 @@ fn add_queue(
     waiting: u16,
     config: &QueueConfig,
 ) -> Result<(), AllocError>
-    ensures { OnOk result (string_bytes text.new ≡ string_bytes text.old ++ queue_text form queue waiting config.now) }
+    ensures { OnOk result
+        (string_bytes text.new
+        ≡ string_bytes text.old ++ queue_text form queue waiting config.now) }
 {
     if is_left_out(form, config) {
         return Ok(());
@@ -59,7 +62,9 @@ fn add_engine(
     slots: u16,
     left: u32,
 ) -> Result<(), AllocError>
-    ensures { OnOk result (string_bytes text.new ≡ string_bytes text.old ++ engine_text form engine taken slots left) }
+    ensures { OnOk result
+        (string_bytes text.new
+        ≡ string_bytes text.old ++ engine_text form engine taken slots left) }
 {
     add_comma(text, form, engine)?;
     add_marked(text, form, Part::Engine, u32::from(engine))?;
@@ -76,7 +81,8 @@ fn add_group(
     taken: u16,
     allowed: u16,
 ) -> Result<(), AllocError>
-    ensures { OnOk result (string_bytes text.new ≡ string_bytes text.old ++ group_text form group taken allowed) }
+    ensures { OnOk result
+        (string_bytes text.new ≡ string_bytes text.old ++ group_text form group taken allowed) }
 {
     add_comma(text, form, group)?;
     add_marked(text, form, Part::Group, u32::from(group))?;
@@ -91,7 +97,8 @@ fn add_active(
     command: Option<Command>,
     awaited: Option<u32>,
 ) -> Result<(), AllocError>
-    ensures { OnOk result (string_bytes text.new ≡ string_bytes text.old ++ command_text form command awaited) }
+    ensures { OnOk result
+        (string_bytes text.new ≡ string_bytes text.old ++ command_text form command awaited) }
 {
     match (command, awaited) {
         (Some(command), Some(count)) => {
@@ -111,7 +118,9 @@ fn add_queue_of<S: EntryStore>(
     queue: u16,
 ) -> Result<(), AllocError>
     requires { queue < device.now.caps.queues }
-    ensures { OnOk result (string_bytes text.new ≡ string_bytes text.old ++ queue_column form device.now.state queue) }
+    ensures { OnOk result
+        (string_bytes text.new
+        ≡ string_bytes text.old ++ queue_column form device.now.state queue) }
 {
     match (device.occupancy(queue), device.queue_config(queue)) {
         (Some(waiting), Some(config)) => add_queue(text, form, queue, waiting, &config),
@@ -126,7 +135,9 @@ fn add_engine_of<S: EntryStore>(
     engine: u16,
 ) -> Result<(), AllocError>
     requires { engine < device.now.caps.engines }
-    ensures { OnOk result (string_bytes text.new ≡ string_bytes text.old ++ engine_column form device.now.caps device.now.state engine) }
+    ensures { OnOk result
+        (string_bytes text.new
+        ≡ string_bytes text.old ++ engine_column form device.now.caps device.now.state engine) }
 {
     let slots = device.caps().slots;
     match (
@@ -145,7 +156,9 @@ fn add_group_of<S: EntryStore>(
     group: u16,
 ) -> Result<(), AllocError>
     requires { group < device.now.caps.groups }
-    ensures { OnOk result (string_bytes text.new ≡ string_bytes text.old ++ group_column form device.now.state group) }
+    ensures { OnOk result
+        (string_bytes text.new
+        ≡ string_bytes text.old ++ group_column form device.now.state group) }
 {
     match (device.used(group), device.group_config(group)) {
         (Some(taken), Some(config)) => add_group(text, form, group, taken, config.allowed),
@@ -158,7 +171,12 @@ fn add_queues<S: EntryStore>(
     form: Trace,
     device: &Device<S>,
 ) -> Result<(), AllocError>
-    ensures { OnOk result (string_bytes text.new ≡ string_bytes text.old ++ (mark form part.Queues ++ flat_map (queue_column form device.now.state) (numbers_below device.now.caps.queues))) }
+    ensures { OnOk result
+        (string_bytes text.new
+        ≡ string_bytes text.old
+        ++ (mark form part.Queues
+        ++ flat_map (queue_column form device.now.state)
+        (numbers_below device.now.caps.queues))) }
 {
     add_mark(text, form, Part::Queues)?;
     for queue in 0..device.caps().queues {
@@ -172,7 +190,12 @@ fn add_engines<S: EntryStore>(
     form: Trace,
     device: &Device<S>,
 ) -> Result<(), AllocError>
-    ensures { OnOk result (string_bytes text.new ≡ string_bytes text.old ++ (mark form part.Engines ++ flat_map (engine_column form device.now.caps device.now.state) (numbers_below device.now.caps.engines))) }
+    ensures { OnOk result
+        (string_bytes text.new
+        ≡ string_bytes text.old
+        ++ (mark form part.Engines
+        ++ flat_map (engine_column form device.now.caps device.now.state)
+        (numbers_below device.now.caps.engines))) }
 {
     add_mark(text, form, Part::Engines)?;
     for engine in 0..device.caps().engines {
@@ -186,7 +209,12 @@ fn add_groups<S: EntryStore>(
     form: Trace,
     device: &Device<S>,
 ) -> Result<(), AllocError>
-    ensures { OnOk result (string_bytes text.new ≡ string_bytes text.old ++ (mark form part.Groups ++ flat_map (group_column form device.now.state) (numbers_below device.now.caps.groups))) }
+    ensures { OnOk result
+        (string_bytes text.new
+        ≡ string_bytes text.old
+        ++ (mark form part.Groups
+        ++ flat_map (group_column form device.now.state)
+        (numbers_below device.now.caps.groups))) }
 {
     add_mark(text, form, Part::Groups)?;
     for group in 0..device.caps().groups {
@@ -201,7 +229,9 @@ pub fn add_columns<S: EntryStore>(
     form: Trace,
     device: &Device<S>,
 ) -> Result<(), AllocError>
-    ensures { OnOk result (string_bytes text.new ≡ string_bytes text.old ++ columns form device.now.caps device.now.state) }
+    ensures { OnOk result
+        (string_bytes text.new
+        ≡ string_bytes text.old ++ columns form device.now.caps device.now.state) }
 {
     add_queues(text, form, device)?;
     add_engines(text, form, device)?;

@@ -4,7 +4,7 @@ ghost use Rattle.std.specs.Prelude.{◌≡◌, ◌++◌, OnOk, string_bytes};
 ghost use Rattle.dsa_trace.specs.Columns.{marked};
 ghost use Rattle.dsa_trace.specs.Marks.{comma, mark, marks};
 
-use dsa_event_words::add_number;
+use dsa_event_text::add_number;
 use std::alloc::AllocError;
 
 /// The form of a trace (profile).
@@ -47,7 +47,7 @@ pub enum Part {
     HeldEnd,
 }
 
-// What stands before the part of a row of the table, and before that of an object.
+// The text before this part, in a table row and in a JSON object.
 #[inline(always)]
 fn marks(part: Part) -> (&'static str, &'static str)
     ensures table { result.0.now ≡ (marks part).0 }
@@ -108,7 +108,8 @@ pub fn add_mark(text: &mut String, form: Trace, part: Part) -> Result<(), AllocE
 /// Adds a number behind the mark of its part.
 #[inline(always)]
 pub fn add_marked(text: &mut String, form: Trace, part: Part, number: u32) -> Result<(), AllocError>
-    ensures { OnOk result (string_bytes text.new ≡ string_bytes text.old ++ marked form part number) }
+    ensures { OnOk result
+        (string_bytes text.new ≡ string_bytes text.old ++ marked form part number) }
 {
     add_number(text, form.mark(part), number)
 }

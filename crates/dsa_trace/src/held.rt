@@ -4,59 +4,61 @@ ghost use Rattle.std.specs.Prelude.{◌≡◌, ◌++◌, List, OnOk, flat_map, s
 ghost use Rattle.dsa_base.specs.Numbers.{numbers_below};
 ghost use Rattle.dsa_regs.specs.declared.layout.ListUse.TheVariants as list;
 ghost use Rattle.dsa_regs.specs.Caps.{HasList};
-ghost use Rattle.dsa_store.specs.Content.{Slot};
-ghost use Rattle.dsa_trace.specs.Held.{held_in, held_line, held_lines, slots_of};
+ghost use Rattle.dsa_store.specs.Content.{HeldEntry};
+ghost use Rattle.dsa_trace.specs.Held.{held_text, held_line, held_lines, entries_of_list};
 
 use crate::form::{Part, Trace, add_mark, add_marked};
 use dsa_device::Device;
-use dsa_event_words::add_list;
+use dsa_event_text::add_list;
 use dsa_regs::ListUse;
 use dsa_store::{Cell, Entry, EntryStore, Walk};
 use std::alloc::AllocError;
 
-fn add_slot(
+fn add_entry(
     text: &mut String,
     form: Trace,
     list: ListUse,
-    slot: (Cell, Entry),
+    pair: (Cell, Entry),
 ) -> Result<(), AllocError>
-    ensures { OnOk result (string_bytes text.new ≡ string_bytes text.old ++ held_line form list slot) }
+    ensures { OnOk result
+        (string_bytes text.new ≡ string_bytes text.old ++ held_line form list pair) }
 {
-    let (_cell, entry) = slot;
+    let (_cell, entry) = pair;
     add_marked(text, form, Part::Held, entry.name)?;
     add_mark(text, form, Part::InList)?;
     add_list(text, list)?;
     add_mark(text, form, Part::HeldEnd)
 }
 
-// The slots of the list, the front first.
-fn slots_of<S: EntryStore>(device: &Device<S>, list: ListUse) -> Walk<'_, S>
+// The entries of the list, the front first.
+fn entries_of_list<S: EntryStore>(device: &Device<S>, list: ListUse) -> Walk<'_, S>
     requires { HasList device.now.caps list }
-    ensures { result ≡ slots_of device.now.state list }
+    ensures { result ≡ entries_of_list device.now.state list }
 {
-    let slots = match list {
+    let entries = match list {
         ListUse::Queue(queue) => device.waiting(queue),
         ListUse::Progress(engine) => device.in_progress(engine),
         ListUse::Members(engine) => device.members(engine),
     };
-    match slots {
-        Some(slots) => slots,
+    match entries {
+        Some(entries) => entries,
         None => unreachable!(),
     }
 }
 
 // A line for each entry of the list.
-fn add_slots<S: EntryStore>(
+fn add_entries<S: EntryStore>(
     text: &mut String,
     form: Trace,
     device: &Device<S>,
     list: ListUse,
 ) -> Result<(), AllocError>
     requires { HasList device.now.caps list }
-    ensures { OnOk result (string_bytes text.new ≡ string_bytes text.old ++ held_in form device.now.state list) }
+    ensures { OnOk result
+        (string_bytes text.new ≡ string_bytes text.old ++ held_text form device.now.state list) }
 {
-    for slot in slots_of(device, list) {
-        add_slot(text, form, list, slot)?;
+    for pair in entries_of_list(device, list) {
+        add_entry(text, form, list, pair)?;
     }
     Ok(())
 }
@@ -66,10 +68,14 @@ fn add_waiting<S: EntryStore>(
     form: Trace,
     device: &Device<S>,
 ) -> Result<(), AllocError>
-    ensures { OnOk result (string_bytes text.new ≡ string_bytes text.old ++ flat_map (λ q. held_in form device.now.state (list.Queue q)) (numbers_below device.now.caps.queues)) }
+    ensures { OnOk result
+        (string_bytes text.new
+        ≡ string_bytes text.old
+        ++ flat_map (λ q. held_text form device.now.state (list.Queue q))
+        (numbers_below device.now.caps.queues)) }
 {
     for queue in 0..device.caps().queues {
-        add_slots(text, form, device, ListUse::Queue(queue))?;
+        add_entries(text, form, device, ListUse::Queue(queue))?;
     }
     Ok(())
 }
@@ -79,10 +85,14 @@ fn add_in_progress<S: EntryStore>(
     form: Trace,
     device: &Device<S>,
 ) -> Result<(), AllocError>
-    ensures { OnOk result (string_bytes text.new ≡ string_bytes text.old ++ flat_map (λ e. held_in form device.now.state (list.Progress e)) (numbers_below device.now.caps.engines)) }
+    ensures { OnOk result
+        (string_bytes text.new
+        ≡ string_bytes text.old
+        ++ flat_map (λ e. held_text form device.now.state (list.Progress e))
+        (numbers_below device.now.caps.engines)) }
 {
     for engine in 0..device.caps().engines {
-        add_slots(text, form, device, ListUse::Progress(engine))?;
+        add_entries(text, form, device, ListUse::Progress(engine))?;
     }
     Ok(())
 }
@@ -92,10 +102,14 @@ fn add_members<S: EntryStore>(
     form: Trace,
     device: &Device<S>,
 ) -> Result<(), AllocError>
-    ensures { OnOk result (string_bytes text.new ≡ string_bytes text.old ++ flat_map (λ e. held_in form device.now.state (list.Members e)) (numbers_below device.now.caps.engines)) }
+    ensures { OnOk result
+        (string_bytes text.new
+        ≡ string_bytes text.old
+        ++ flat_map (λ e. held_text form device.now.state (list.Members e))
+        (numbers_below device.now.caps.engines)) }
 {
     for engine in 0..device.caps().engines {
-        add_slots(text, form, device, ListUse::Members(engine))?;
+        add_entries(text, form, device, ListUse::Members(engine))?;
     }
     Ok(())
 }
@@ -106,7 +120,9 @@ pub fn add_held<S: EntryStore>(
     form: Trace,
     device: &Device<S>,
 ) -> Result<(), AllocError>
-    ensures { OnOk result (string_bytes text.new ≡ string_bytes text.old ++ held_lines form device.now.caps device.now.state) }
+    ensures { OnOk result
+        (string_bytes text.new
+        ≡ string_bytes text.old ++ held_lines form device.now.caps device.now.state) }
 {
     add_waiting(text, form, device)?;
     add_in_progress(text, form, device)?;

@@ -1,7 +1,8 @@
-//! A run of a scenario document, step by step: what was asked and answered, and what the device shows after it.
+//! A run of a scenario document, step by step: what was asked and answered, and what the device
+//! shows after it.
 //!
-//! [`render_trace`] makes the text, a row of a table or a JSON object for each step, and then one for each entry that is held
-//! when the steps are over. `docs/COMMANDS.md` describes both forms.
+//! [`Trace`] makes the text, a row of a table or a JSON object for each step, and then one for each
+//! entry that is held when the steps are over. `docs/COMMANDS.md` describes both forms.
 #![tactic(auto)]
 
 mod columns;
@@ -11,4 +12,3 @@ mod lines;
 mod rendering;
 
 pub use form::Trace;
-pub use rendering::render_trace;

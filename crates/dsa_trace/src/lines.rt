@@ -5,20 +5,21 @@ ghost use Rattle.std.specs.Fmt.{decimal};
 ghost use Rattle.dsa_scenario.specs.Lines.{record_text};
 ghost use Rattle.dsa_trace.specs.declared.form.Part.TheVariants as part;
 ghost use Rattle.dsa_trace.specs.Columns.{marked};
-ghost use Rattle.dsa_trace.specs.Lines.{asked_words, step_line};
+ghost use Rattle.dsa_trace.specs.Lines.{traced_event_words, step_line};
 ghost use Rattle.dsa_trace.specs.Marks.{mark};
 
 use crate::columns::add_columns;
 use crate::form::{Part, Trace, add_mark};
 use dsa_device::Device;
-use dsa_event_words::add_event;
+use dsa_event_text::add_event;
 use dsa_scenario::{Record, add_answer};
 use dsa_store::EntryStore;
 use itoa::Buffer;
 use std::alloc::AllocError;
 
 fn add_place(text: &mut String, form: Trace, number: usize) -> Result<(), AllocError>
-    ensures { OnOk result (string_bytes text.new ≡ string_bytes text.old ++ marked form part.Step number) }
+    ensures { OnOk result
+        (string_bytes text.new ≡ string_bytes text.old ++ marked form part.Step number) }
 {
     let mut buffer = Buffer::new();
     add_mark(text, form, Part::Step)?;
@@ -26,7 +27,9 @@ fn add_place(text: &mut String, form: Trace, number: usize) -> Result<(), AllocE
 }
 
 fn add_asked(text: &mut String, form: Trace, entry: &Record) -> Result<(), AllocError>
-    ensures { OnOk result (string_bytes text.new ≡ string_bytes text.old ++ (mark form part.Event ++ asked_words entry.now)) }
+    ensures { OnOk result
+        (string_bytes text.new
+        ≡ string_bytes text.old ++ (mark form part.Event ++ traced_event_words entry.now)) }
 {
     add_mark(text, form, Part::Event)?;
     match entry {
@@ -36,7 +39,9 @@ fn add_asked(text: &mut String, form: Trace, entry: &Record) -> Result<(), Alloc
 }
 
 fn add_answered(text: &mut String, form: Trace, entry: &Record) -> Result<(), AllocError>
-    ensures { OnOk result (string_bytes text.new ≡ string_bytes text.old ++ (mark form part.Answer ++ record_text entry.now)) }
+    ensures { OnOk result
+        (string_bytes text.new
+        ≡ string_bytes text.old ++ (mark form part.Answer ++ record_text entry.now)) }
 {
     add_mark(text, form, Part::Answer)?;
     add_answer(text, entry)
@@ -50,7 +55,10 @@ pub fn add_step<S: EntryStore>(
     entry: &Record,
     device: &Device<S>,
 ) -> Result<(), AllocError>
-    ensures { OnOk result (string_bytes text.new ≡ string_bytes text.old ++ step_line form device.now.caps number entry.now device.now.state) }
+    ensures { OnOk result
+        (string_bytes text.new
+        ≡ string_bytes text.old
+        ++ step_line form device.now.caps number entry.now device.now.state) }
 {
     add_place(text, form, number)?;
     add_asked(text, form, entry)?;

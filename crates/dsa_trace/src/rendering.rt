@@ -1,8 +1,7 @@
 //! A document in, the trace of its run out.
 
-ghost use Rattle.std.specs.Prelude.{◌≡◌, ◌⊎◌, [], None, IfErr, IfOk, flat_map, string_bytes};
-ghost use Rattle.dsa_scenario.specs.Document.{IsFaultOf};
-ghost use Rattle.dsa_trace.specs.Lines.{line_of_step};
+ghost use Rattle.std.specs.Prelude.{◌≡◌, [], None, flat_map, string_bytes};
+ghost use Rattle.dsa_trace.specs.Lines.{trace_line_of_step};
 ghost use Rattle.dsa_trace.specs.Run.{IsTrace, IsTraceOf};
 
 use crate::form::Trace;
@@ -20,7 +19,8 @@ impl RenderSteps for Trace {
 
     ghost told_before = { λ form now asked. [] };
 
-    ghost is_page = { λ form steps page. string_bytes page ≡ flat_map (line_of_step form) steps };
+    ghost is_page = { λ form steps page. string_bytes page
+        ≡ flat_map (trace_line_of_step form) steps };
 
     ghost is_text = { λ form steps last text. IsTraceOf form steps last text };
 
@@ -68,13 +68,4 @@ impl Render for Trace {
     fn render(&self, alloc: Global, bytes: &[u8]) -> Result<Rendering, ScenarioFault> {
         render_steps(alloc, self, bytes)
     }
-}
-
-/// The trace of the document in these bytes, in this form.
-pub fn render_trace(alloc: Global, form: Trace, bytes: &[u8]) -> Result<String, ScenarioFault>
-    ensures ok { IfOk result (λ text. IsTrace form bytes.now (string_bytes text)) }
-    ensures err { IfErr result (λ e. (e ≡ ScenarioFault.OutOfMemory) ⊎ IsFaultOf bytes.now e) }
-{
-    let rendering = render_steps(alloc, &form, bytes)?;
-    Ok(rendering.text)
 }

@@ -8,8 +8,8 @@ use Rattle.dsa_book.specs.declared.answer.{SubmitAnswer.TheVariants.{Accepted}, 
 use Rattle.dsa_book.specs.declared.answer.{FinishAnswer.{FinishAnswer}, IssueAnswer.TheVariants.{Active}}
 use Rattle.dsa_book.specs.declared.event.{Step.{Step}, Portal.TheVariants.{Limited}, Kind.TheVariants.{Enqcmd}}
 use Rattle.dsa_book.specs.{Machine.{replay}, declared.fate.FateRow.{FateRow}}
-use Rattle.dsa_worked.specs.Setup.{batch, ticket, written, taken, finished, issued, obeyed, refused}
-use Rattle.dsa_worked.specs.Setup.{queue_written, group_written}
+use Rattle.dsa_worked.specs.Setup.{batch, ticket, written, step_of_a_take, finished, issued, obeyed, step_of_a_refusal}
+use Rattle.dsa_worked.specs.Setup.{step_of_a_queue_write, step_of_a_group_write}
 
 -- 64 queues, 64 engines and 4096 places, in one group
 abbrev pub one_large_group : Caps
@@ -34,14 +34,14 @@ last_group = record { queues = 9223372036854775808; engines = 922337203685477580
 -- the last queue is enabled, and one beyond it is not there
 abbrev pub last_of_all : List Step
 last_of_all =
-    queue_written 63 last_queue Written ∷ group_written 0 last_group Written ∷ obeyed EnableDevice ∷
-    obeyed (EnableWq 63) ∷ refused BadQueue (DisableWq (record { group = 4; mask = 1 })) ∷ []
+    step_of_a_queue_write 63 last_queue Written ∷ step_of_a_group_write 0 last_group Written ∷ obeyed EnableDevice ∷
+    obeyed (EnableWq 63) ∷ step_of_a_refusal BadQueue (DisableWq (record { group = 4; mask = 1 })) ∷ []
 
 -- a batch of so many comes to the last queue and is ended, while the queue is being disabled
 abbrev pub batch_of_the_last_queue : ℕ → FinishAnswer → List Step
 batch_of_the_last_queue count answer =
     last_of_all
-    ++ written 63 Limited (Enqcmd 5) (batch count) (Accepted (ticket 0 0)) ∷ taken 63 0 0 ∷
+    ++ written 63 Limited (Enqcmd 5) (batch count) (Accepted (ticket 0 0)) ∷ step_of_a_take 63 0 0 ∷
     issued (DisableWq (record { group = 3; mask = 32768 })) Active ∷ finished 63 (ticket 0 0) answer ∷ []
 
 -- the fate rows after these steps of that device

@@ -9,8 +9,9 @@ use Rattle.dsa_book.specs.declared.answer.IssueAnswer.TheVariants.{Ended, Active
 use Rattle.dsa_book.specs.declared.answer.{Cause.TheVariants.{AtLimit, NotEnabled}, SubmitAnswer.TheVariants.{Dropped}}
 use Rattle.dsa_book.specs.declared.answer.{PollAnswer.TheVariants.{Finished, Active}, ClearAnswer.TheVariants.{Nothing}}
 use Rattle.dsa_book.specs.declared.{answer.WriteAnswer.TheVariants.{Written, Refused}, event.Step.{Step}}
-use Rattle.dsa_worked.specs.Setup.{no_op, masked, movdir, issued, polled, cleared, queue_written, group_written, taken}
-use Rattle.dsa_worked.specs.Setup.{to_shared, to_dedicated, ended, obeyed, refused, all_refused}
+use Rattle.dsa_worked.specs.Setup.{no_op, masked, movdir, issued, polled, cleared, step_of_a_queue_write}
+use Rattle.dsa_worked.specs.Setup.{step_of_a_group_write, step_of_a_take}
+use Rattle.dsa_worked.specs.Setup.{to_shared, to_dedicated, ended, obeyed, step_of_a_refusal, all_refused}
 
 -- ---- which commands may come
 
@@ -21,12 +22,12 @@ commands_while_off =
     DisableDevice ∷ DrainAll ∷ AbortAll ∷ EnableWq 0 ∷ DisableWq (masked 1) ∷ DrainWq (masked 1)
     ∷ AbortWq (masked 1) ∷ ResetWq (masked 1) ∷ DrainPasid 5 ∷ AbortPasid 5 ∷ []
     ) ++ all_refused BadQueue (EnableWq 2 ∷ DrainWq (masked 0) ∷ []) ++ obeyed ResetDevice ∷ obeyed EnableDevice ∷
-    refused SizeZero (EnableWq 0) ∷ []
+    step_of_a_refusal SizeZero (EnableWq 0) ∷ []
 
 -- an enable of a queue that is On, and commands of queue 1 while it is Off, alone and beside queue 0
 abbrev pub commands_of_a_queue_that_is_off : List Step
 commands_of_a_queue_that_is_off =
-    refused WrongState (EnableWq 0) ∷ obeyed (DisableWq (masked 2)) ∷ all_refused WrongState (
+    step_of_a_refusal WrongState (EnableWq 0) ∷ obeyed (DisableWq (masked 2)) ∷ all_refused WrongState (
     DisableWq (masked 2) ∷ DrainWq (masked 2) ∷ AbortWq (masked 2)
     ∷ DisableWq (masked 3) ∷ DrainWq (masked 3) ∷ AbortWq (masked 3) ∷ []
     ) ++ obeyed (ResetWq (masked 2)) ∷ obeyed (ResetWq (masked 3)) ∷ []
@@ -50,21 +51,22 @@ commands_while_busy =
 abbrev pub drain_of_one_queue_of_two : List Step
 drain_of_one_queue_of_two =
     to_dedicated no_op 0 0 ∷ obeyed (DrainWq (masked 1)) ∷ to_shared no_op 1 1 ∷ issued (DrainWq (masked 2)) Active ∷
-    taken 1 0 0 ∷ polled Active ∷ ended 1 0 0 0x01 ∷ polled Finished ∷ obeyed (DrainWq (masked 2)) ∷
-    issued DrainAll Active ∷ taken 0 1 1 ∷ ended 0 1 1 0x01 ∷ polled Finished ∷ []
+    step_of_a_take 1 0 0 ∷ polled Active ∷ ended 1 0 0 0x01 ∷ polled Finished ∷ obeyed (DrainWq (masked 2)) ∷
+    issued DrainAll Active ∷ step_of_a_take 0 1 1 ∷ ended 0 1 1 0x01 ∷ polled Finished ∷ []
 
 -- an abort of one queue leaves the entries of the other
 abbrev pub abort_of_one_queue_of_two : List Step
 abort_of_one_queue_of_two =
-    to_shared no_op 0 0 ∷ to_dedicated no_op 1 1 ∷ to_dedicated no_op 2 2 ∷ taken 1 1 1 ∷
+    to_shared no_op 0 0 ∷ to_dedicated no_op 1 1 ∷ to_dedicated no_op 2 2 ∷ step_of_a_take 1 1 1 ∷
     issued (AbortWq (masked 2)) (Ended 2) ∷ to_dedicated no_op 1 3 ∷ []
 
 -- a disable of one queue waits for what it holds, and the other goes on; then it is Off until it is enabled
 abbrev pub disable_of_one_queue_of_two : List Step
 disable_of_one_queue_of_two =
     to_shared no_op 0 0 ∷ to_dedicated no_op 1 1 ∷ issued (DisableWq (masked 2)) Active ∷
-    movdir no_op (Dropped NotEnabled) ∷ to_shared no_op 2 2 ∷ queue_written 1 dedicated_queue (Refused Locked) ∷
-    taken 1 1 1 ∷ polled Active ∷ ended 1 1 1 0x01 ∷ polled Finished ∷ queue_written 1 dedicated_queue Written ∷
+    movdir no_op (Dropped NotEnabled) ∷ to_shared no_op 2 2 ∷ step_of_a_queue_write 1 dedicated_queue (Refused Locked) ∷
+    step_of_a_take 1 1 1 ∷ polled Active ∷ ended 1 1 1 0x01 ∷ polled Finished ∷
+    step_of_a_queue_write 1 dedicated_queue Written ∷
     obeyed (EnableWq 1) ∷ to_dedicated no_op 1 3 ∷ []
 
 -- both queues are Off, and one of them is enabled
@@ -77,12 +79,14 @@ enable_of_one_queue_of_two =
 abbrev pub disable_with_a_queue_that_is_off : List Step
 disable_with_a_queue_that_is_off =
     to_shared no_op 0 0 ∷ obeyed (DisableWq (masked 2)) ∷ issued DisableDevice Active ∷
-    queue_written 0 shared_queue (Refused Locked) ∷
-    queue_written 1 (record dedicated_queue { size = 1 }) (Refused Locked) ∷
-    queue_written 1 (record dedicated_queue { pasid = 8 }) Written ∷ group_written 0 first_group (Refused Locked) ∷
-    taken 0 0 0 ∷ polled Active ∷ ended 0 0 0 0x01 ∷ polled Finished ∷
-    queue_written 1 (record dedicated_queue { size = 1 }) Written ∷ group_written 0 first_group Written ∷
-    refused WrongState (EnableWq 0) ∷ []
+    step_of_a_queue_write 0 shared_queue (Refused Locked) ∷
+    step_of_a_queue_write 1 (record dedicated_queue { size = 1 }) (Refused Locked) ∷
+    step_of_a_queue_write 1 (record dedicated_queue { pasid = 8 }) Written ∷
+    step_of_a_group_write 0 first_group (Refused Locked) ∷
+    step_of_a_take 0 0 0 ∷ polled Active ∷ ended 0 0 0 0x01 ∷ polled Finished ∷
+    step_of_a_queue_write 1 (record dedicated_queue { size = 1 }) Written ∷
+    step_of_a_group_write 0 first_group Written ∷
+    step_of_a_refusal WrongState (EnableWq 0) ∷ []
 
 -- ---- resets
 
@@ -91,14 +95,15 @@ abbrev pub reset_of_all : List Step
 reset_of_all =
     to_dedicated no_op 0 0 ∷ to_dedicated no_op 1 1 ∷ movdir no_op (Dropped AtLimit) ∷ issued ResetDevice (Ended 2) ∷
     cleared Nothing ∷ movdir no_op (Dropped NotEnabled) ∷ obeyed ResetDevice ∷ cleared Nothing ∷
-    queue_written 0 shared_queue Written ∷ obeyed EnableDevice ∷ refused SizeZero (EnableWq 1) ∷
-    refused NoGroup (EnableWq 0) ∷ []
+    step_of_a_queue_write 0 shared_queue Written ∷ obeyed EnableDevice ∷ step_of_a_refusal SizeZero (EnableWq 1) ∷
+    step_of_a_refusal NoGroup (EnableWq 0) ∷ []
 
 -- a reset of one queue keeps its size alone, which stays locked, and leaves the other queue as it was
 abbrev pub reset_of_one_queue_of_two : List Step
 reset_of_one_queue_of_two =
     to_shared no_op 0 0 ∷ to_dedicated no_op 1 1 ∷ issued (ResetWq (masked 1)) (Ended 1) ∷ to_dedicated no_op 0 2 ∷
-    queue_written 0 (record shared_queue { size = 3 }) (Refused Locked) ∷ queue_written 0 shared_queue Written ∷
+    step_of_a_queue_write 0 (record shared_queue { size = 3 }) (Refused Locked) ∷
+    step_of_a_queue_write 0 shared_queue Written ∷
     obeyed (EnableWq 0) ∷ to_shared no_op 2 3 ∷ []
 
 -- ---- writes
@@ -106,10 +111,11 @@ reset_of_one_queue_of_two =
 -- not after the set-up: what may be written while the device is Off, and what is refused after its enable
 abbrev pub writes_and_locks : List Step
 writes_and_locks =
-    queue_written 0 (record shared_queue { size = 9 }) Written ∷ queue_written 0 shared_queue Written ∷
-    queue_written 2 shared_queue (Refused BadIndex) ∷ group_written 0 first_group Written ∷
-    group_written 2 first_group (Refused BadIndex) ∷ obeyed EnableDevice ∷
-    queue_written 0 (record shared_queue { size = 3 }) (Refused Locked) ∷
-    queue_written 0 (record shared_queue { threshold = 3 }) Written ∷ queue_written 2 shared_queue (Refused BadIndex) ∷
-    group_written 0 first_group (Refused Locked) ∷ group_written 2 first_group (Refused BadIndex) ∷
-    obeyed (EnableWq 0) ∷ queue_written 0 (record shared_queue { threshold = 3 }) (Refused Locked) ∷ []
+    step_of_a_queue_write 0 (record shared_queue { size = 9 }) Written ∷ step_of_a_queue_write 0 shared_queue Written ∷
+    step_of_a_queue_write 2 shared_queue (Refused BadIndex) ∷ step_of_a_group_write 0 first_group Written ∷
+    step_of_a_group_write 2 first_group (Refused BadIndex) ∷ obeyed EnableDevice ∷
+    step_of_a_queue_write 0 (record shared_queue { size = 3 }) (Refused Locked) ∷
+    step_of_a_queue_write 0 (record shared_queue { threshold = 3 }) Written ∷
+    step_of_a_queue_write 2 shared_queue (Refused BadIndex) ∷
+    step_of_a_group_write 0 first_group (Refused Locked) ∷ step_of_a_group_write 2 first_group (Refused BadIndex) ∷
+    obeyed (EnableWq 0) ∷ step_of_a_queue_write 0 (record shared_queue { threshold = 3 }) (Refused Locked) ∷ []

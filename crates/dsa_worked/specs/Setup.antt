@@ -4,7 +4,7 @@ use Rattle.dsa_desc.specs.declared.{Descriptor.{Descriptor}, Outcome.TheVariants
 use Rattle.dsa_regs.specs.Worked.{caps, shared_queue, dedicated_queue, first_group, second_group}
 use Rattle.dsa_regs.specs.declared.{Command.{Command, TheVariants.{EnableDevice, EnableWq}}, QueueConfig.{QueueConfig}}
 use Rattle.dsa_regs.specs.declared.{GroupConfig.{GroupConfig}, QueueMask.{QueueMask}, Phase.{Phase}, Fault.{Fault}}
-use Rattle.dsa_store.specs.Content.{Slot, Content, all_held}
+use Rattle.dsa_store.specs.Content.{HeldEntry, Content, all_held}
 use Rattle.dsa_book.specs.Machine.{replay, is_run, may_follow, stored_steps}
 use Rattle.dsa_book.specs.declared.answer.DispatchAnswer.{DispatchAnswer, TheVariants.{Taken}}
 use Rattle.dsa_book.specs.declared.answer.FinishAnswer.{FinishAnswer, TheVariants.{Done}}
@@ -74,8 +74,8 @@ abbrev pub dispatched : ℕ → DispatchAnswer → Step
 dispatched engine answer = step (Dispatch engine) (Dispatch answer)
 
 -- an engine reads the next member of its batch
-abbrev pub fetched : ℕ → Descriptor → FetchAnswer → Step
-fetched engine descriptor answer = step (Fetch engine descriptor) (Fetch answer)
+abbrev pub step_of_a_fetch : ℕ → Descriptor → FetchAnswer → Step
+step_of_a_fetch engine descriptor answer = step (Fetch engine descriptor) (Fetch answer)
 
 -- an engine asks to start the first member that waits
 abbrev pub started : ℕ → StartAnswer → Step
@@ -102,12 +102,12 @@ abbrev pub cleared : ClearAnswer → Step
 cleared answer = step ClearError (Clear answer)
 
 -- the administrator configures a queue
-abbrev pub queue_written : ℕ → QueueConfig → WriteAnswer → Step
-queue_written queue config answer = step (WriteQueue queue config) (Write answer)
+abbrev pub step_of_a_queue_write : ℕ → QueueConfig → WriteAnswer → Step
+step_of_a_queue_write queue config answer = step (WriteQueue queue config) (Write answer)
 
 -- the administrator configures a group
-abbrev pub group_written : ℕ → GroupConfig → WriteAnswer → Step
-group_written group config answer = step (WriteGroup group config) (Write answer)
+abbrev pub step_of_a_group_write : ℕ → GroupConfig → WriteAnswer → Step
+step_of_a_group_write group config answer = step (WriteGroup group config) (Write answer)
 
 -- ---- the same, where what is asked for is done, or a command is refused
 
@@ -120,12 +120,12 @@ abbrev pub to_dedicated : Descriptor → ℕ → ℕ → Step
 to_dedicated descriptor cell name = movdir descriptor (Accepted (ticket cell name))
 
 -- an engine takes the entry with this cell and name from the queue of its own number
-abbrev pub taken : ℕ → ℕ → ℕ → Step
-taken engine cell name = dispatched engine (Taken (ticket cell name) engine)
+abbrev pub step_of_a_take : ℕ → ℕ → ℕ → Step
+step_of_a_take engine cell name = dispatched engine (Taken (ticket cell name) engine)
 
 -- an engine has read a member, which has this cell and name
 abbrev pub member : ℕ → Descriptor → ℕ → ℕ → Step
-member engine descriptor cell name = fetched engine descriptor (Fetched (ticket cell name))
+member engine descriptor cell name = step_of_a_fetch engine descriptor (Fetched (ticket cell name))
 
 -- an engine starts the member with this cell and name
 abbrev pub begun : ℕ → ℕ → ℕ → Step
@@ -140,20 +140,20 @@ abbrev pub obeyed : Command → Step
 obeyed command = issued command (Ended 0)
 
 -- a command is refused
-abbrev pub refused : Fault → Command → Step
-refused fault command = issued command (Refused fault)
+abbrev pub step_of_a_refusal : Fault → Command → Step
+step_of_a_refusal fault command = issued command (Refused fault)
 
 -- one after the other is refused
 abbrev pub all_refused : Fault → List Command → List Step
-all_refused fault commands = map (refused fault) commands
+all_refused fault commands = map (step_of_a_refusal fault) commands
 
 -- ---- the set-up
 
 -- both queues and both groups are written, in this order
 abbrev pub configured : QueueConfig → QueueConfig → GroupConfig → GroupConfig → List Step
 configured first_queue second_queue first_group second_group =
-    queue_written 0 first_queue Written ∷ queue_written 1 second_queue Written ∷
-    group_written 0 first_group Written ∷ group_written 1 second_group Written ∷ []
+    step_of_a_queue_write 0 first_queue Written ∷ step_of_a_queue_write 1 second_queue Written ∷
+    step_of_a_group_write 0 first_group Written ∷ step_of_a_group_write 1 second_group Written ∷ []
 
 -- the device and both queues are enabled
 abbrev pub enabled : List Step
@@ -166,8 +166,8 @@ setup = configured shared_queue dedicated_queue first_group second_group ++ enab
 -- three shared queues and these groups are written, and all of it enabled
 abbrev pub three_queues : List Step → List Step
 three_queues groups =
-    queue_written 0 shared_queue Written ∷ queue_written 1 shared_queue Written ∷
-    queue_written 2 shared_queue Written ∷ groups ++ enabled ++ obeyed (EnableWq 2) ∷ []
+    step_of_a_queue_write 0 shared_queue Written ∷ step_of_a_queue_write 1 shared_queue Written ∷
+    step_of_a_queue_write 2 shared_queue Written ∷ groups ++ enabled ++ obeyed (EnableWq 2) ∷ []
 
 -- the queues of this mask, of the first sixteen
 abbrev pub masked : ℕ → QueueMask
@@ -216,8 +216,8 @@ abbrev pub row : ℕ → Option ℕ → Fate → FateRow
 row name parent fate = record { name = name; parent = parent; fate = fate }
 
 -- a cell with an entry
-abbrev pub slot : ℕ → ℕ → Option ℕ → Descriptor → ℕ → Bool → Slot
-slot cell name parent desc queue running =
+abbrev pub held_entry : ℕ → ℕ → Option ℕ → Descriptor → ℕ → Bool → HeldEntry
+held_entry cell name parent desc queue running =
     (record { 0 = cell }, record { name = name; parent = parent; desc = desc; queue = queue; running = running })
 
 -- what is counted of a history: entries, those held at its end, and steps with those of the set-up

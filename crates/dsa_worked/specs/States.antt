@@ -2,11 +2,11 @@
 -- of the laws are true or false.
 use Rattle.std.specs.Prelude.{ℕ, true, false, List, [], ◌∷◌, count_by, Option, Some, None, option_map}
 use Rattle.dsa_regs.specs.Buffers.{covered_count}
-use Rattle.dsa_store.specs.Content.{Slot}
+use Rattle.dsa_store.specs.Content.{HeldEntry}
 use Rattle.dsa_book.specs.declared.fate.{Fate.TheVariants.{Completed, Aborted, Abandoned}, FateRow.{FateRow}}
 use Rattle.dsa_book.specs.{Work.{in_progress, all_used}, declared.event.Step.{Step}, State.{Work}}
 use Rattle.dsa_laws.specs.Engines.{holds_batch}
-use Rattle.dsa_worked.specs.Setup.{no_op, row, slot, state_after}
+use Rattle.dsa_worked.specs.Setup.{no_op, row, held_entry, state_after}
 
 -- what is seen of the work after the set-up and these steps
 abbrev pub seen_after : {X : Type 0} → (Work → X) → List Step → Option X
@@ -21,12 +21,12 @@ abbrev pub covered_by : Work → ℕ
 covered_by w = covered_count w.setup.groups (all_used w)
 
 -- a member of batch 0 that runs
-abbrev pub running_member : Slot
-running_member = slot 1 1 (Some 0) no_op 0 true
+abbrev pub running_member : HeldEntry
+running_member = held_entry 1 1 (Some 0) no_op 0 true
 
 -- and one that waits
-abbrev pub waiting_member : Slot
-waiting_member = slot 2 2 (Some 0) no_op 0 false
+abbrev pub waiting_member : HeldEntry
+waiting_member = held_entry 2 2 (Some 0) no_op 0 false
 
 -- an entry with a success, a member that was abandoned, and an entry that was aborted
 abbrev pub one_abandoned_member : List FateRow

@@ -1,4 +1,5 @@
-//! Answers: which of two queues an engine takes from, slots and buffers, what is stored, and answers that may never come.
+//! Answers: which of two queues an engine takes from, slots and buffers, what is stored, and
+//! answers that may never come.
 
 ghost use Rattle.std.specs.Prelude.{◌≡◌, ◌++◌, [], ◌∷◌, Some, None, true, false, take};
 ghost use Rattle.dsa_desc.specs.declared.Outcome.TheVariants.{Success};
@@ -20,51 +21,117 @@ ghost use Rattle.dsa_book.specs.declared.event.Kind.TheVariants.{Enqcmd, Movdir6
 ghost use Rattle.dsa_book.specs.declared.event.Portal.TheVariants.{Limited, Unlimited};
 ghost use Rattle.dsa_book.specs.Machine.{is_run, is_legal, stored_steps};
 ghost use Rattle.dsa_regs.specs.Worked.{caps, shared_queue, dedicated_queue, first_group};
-ghost use Rattle.dsa_worked.specs.Setup.{room, setup, is_run_here, may_not_follow, state_after, no_op, move, batch, ticket, masked, step, written, enqcmd, movdir, dispatched, fetched, started, finished, issued, polled, cleared, queue_written, group_written};
+ghost use Rattle.dsa_worked.specs.Setup.{room, setup, is_run_here, may_not_follow, state_after, no_op, move, batch, ticket, masked, step, written, enqcmd, movdir, dispatched, step_of_a_fetch, started, finished, issued, polled, cleared, step_of_a_queue_write, step_of_a_group_write};
 ghost use Rattle.dsa_worked.specs.Submissions.{one_move, dedicated_queue_overflows};
 ghost use Rattle.dsa_worked.specs.Batches.{three_groups, fence_waits, failure_abandons};
 ghost use Rattle.dsa_worked.specs.Answers.{two_queues_of_a_group, a_choice_of_queues, one_of_two_queues_waits, slots_are_full, one_group, buffers_of_two_engines, engines_that_are_not_there, steps_not_stored, steps_stored, room_for_steps_not_stored, each_event_is_full};
 
 /// Of two queues with work an engine takes the front of either, and nothing else.
 pub fn a_choice_of_queues()
-    ensures from_the_first { is_run three_groups room (two_queues_of_a_group ++ a_choice_of_queues ++ dispatched 0 (Taken (ticket 0 0) 0) ∷ []) ≡ true }
-    ensures from_the_second { is_run three_groups room (two_queues_of_a_group ++ a_choice_of_queues ++ dispatched 0 (Taken (ticket 2 2) 1) ∷ []) ≡ true }
-    ensures one_after_the_other { is_run three_groups room (two_queues_of_a_group ++ a_choice_of_queues ++ dispatched 0 (Taken (ticket 2 2) 1) ∷ dispatched 0 (Taken (ticket 0 0) 0) ∷ []) ≡ true }
-    ensures the_other_engine_has_the_third { is_run three_groups room (two_queues_of_a_group ++ a_choice_of_queues ++ dispatched 1 (Taken (ticket 3 3) 2) ∷ []) ≡ true }
-    ensures an_engine_of_no_group_is_idle { is_run three_groups room (two_queues_of_a_group ++ a_choice_of_queues ++ dispatched 2 Idle ∷ []) ≡ true }
-    ensures not_from_the_third { is_run three_groups room (two_queues_of_a_group ++ a_choice_of_queues ++ dispatched 0 (Taken (ticket 3 3) 2) ∷ []) ≡ false }
-    ensures not_behind_the_front { is_run three_groups room (two_queues_of_a_group ++ a_choice_of_queues ++ dispatched 0 (Taken (ticket 1 1) 0) ∷ []) ≡ false }
-    ensures not_under_the_other_queue { is_run three_groups room (two_queues_of_a_group ++ a_choice_of_queues ++ dispatched 0 (Taken (ticket 0 0) 1) ∷ []) ≡ false }
-    ensures not_under_another_name { is_run three_groups room (two_queues_of_a_group ++ a_choice_of_queues ++ dispatched 0 (Taken (ticket 0 1) 0) ∷ []) ≡ false }
-    ensures not_idle { is_run three_groups room (two_queues_of_a_group ++ a_choice_of_queues ++ dispatched 0 Idle ∷ []) ≡ false }
+    ensures from_the_first { is_run three_groups room
+        (two_queues_of_a_group
+        ++ a_choice_of_queues
+        ++ dispatched 0 (Taken (ticket 0 0) 0)
+        ∷ [])
+        ≡ true }
+    ensures from_the_second { is_run three_groups room
+        (two_queues_of_a_group
+        ++ a_choice_of_queues
+        ++ dispatched 0 (Taken (ticket 2 2) 1)
+        ∷ [])
+        ≡ true }
+    ensures one_after_the_other { is_run three_groups room
+        (two_queues_of_a_group
+        ++ a_choice_of_queues
+        ++ dispatched 0 (Taken (ticket 2 2) 1)
+        ∷ dispatched 0 (Taken (ticket 0 0) 0)
+        ∷ [])
+        ≡ true }
+    ensures the_other_engine_has_the_third { is_run three_groups room
+        (two_queues_of_a_group
+        ++ a_choice_of_queues
+        ++ dispatched 1 (Taken (ticket 3 3) 2)
+        ∷ [])
+        ≡ true }
+    ensures an_engine_of_no_group_is_idle { is_run three_groups room
+        (two_queues_of_a_group ++ a_choice_of_queues ++ dispatched 2 Idle ∷ [])
+        ≡ true }
+    ensures not_from_the_third { is_run three_groups room
+        (two_queues_of_a_group
+        ++ a_choice_of_queues
+        ++ dispatched 0 (Taken (ticket 3 3) 2)
+        ∷ [])
+        ≡ false }
+    ensures not_behind_the_front { is_run three_groups room
+        (two_queues_of_a_group
+        ++ a_choice_of_queues
+        ++ dispatched 0 (Taken (ticket 1 1) 0)
+        ∷ [])
+        ≡ false }
+    ensures not_under_the_other_queue { is_run three_groups room
+        (two_queues_of_a_group
+        ++ a_choice_of_queues
+        ++ dispatched 0 (Taken (ticket 0 0) 1)
+        ∷ [])
+        ≡ false }
+    ensures not_under_another_name { is_run three_groups room
+        (two_queues_of_a_group
+        ++ a_choice_of_queues
+        ++ dispatched 0 (Taken (ticket 0 1) 0)
+        ∷ [])
+        ≡ false }
+    ensures not_idle { is_run three_groups room
+        (two_queues_of_a_group ++ a_choice_of_queues ++ dispatched 0 Idle ∷ [])
+        ≡ false }
 {}
 
 /// Where the front of one queue must wait, the other queue is the only choice.
 pub fn one_of_two_queues_waits()
-    ensures run { is_run three_groups room (two_queues_of_a_group ++ one_of_two_queues_waits ++ dispatched 0 (Taken (ticket 2 2) 1) ∷ []) ≡ true }
-    ensures no_second_batch { is_run three_groups room (two_queues_of_a_group ++ one_of_two_queues_waits ++ dispatched 0 (Taken (ticket 1 1) 0) ∷ []) ≡ false }
-    ensures not_idle { is_run three_groups room (two_queues_of_a_group ++ one_of_two_queues_waits ++ dispatched 0 Idle ∷ []) ≡ false }
+    ensures run { is_run three_groups room
+        (two_queues_of_a_group
+        ++ one_of_two_queues_waits
+        ++ dispatched 0 (Taken (ticket 2 2) 1)
+        ∷ [])
+        ≡ true }
+    ensures no_second_batch { is_run three_groups room
+        (two_queues_of_a_group
+        ++ one_of_two_queues_waits
+        ++ dispatched 0 (Taken (ticket 1 1) 0)
+        ∷ [])
+        ≡ false }
+    ensures not_idle { is_run three_groups room
+        (two_queues_of_a_group ++ one_of_two_queues_waits ++ dispatched 0 Idle ∷ [])
+        ≡ false }
 {}
 
 /// An engine has as many entries in progress as it has slots, members not counted.
 pub fn slots_are_full()
     ensures run { is_run_here slots_are_full ≡ true }
-    ensures members_take_no_slot { may_not_follow (take 5 slots_are_full) (dispatched 0 Idle) ≡ true }
-    ensures no_third_entry { may_not_follow (take 6 slots_are_full) (dispatched 0 (Taken (ticket 3 3) 0)) ≡ true }
+    ensures members_take_no_slot { may_not_follow (take 5 slots_are_full) (dispatched 0 Idle)
+        ≡ true }
+    ensures no_third_entry { may_not_follow (take 6 slots_are_full)
+        (dispatched 0 (Taken (ticket 3 3) 0))
+        ≡ true }
     ensures not_full_for_good { may_not_follow (take 8 slots_are_full) (dispatched 0 Idle) ≡ true }
 {}
 
 /// The engines of a group share its buffers, and take from any of its queues.
 pub fn buffers_of_two_engines()
     ensures run { is_run caps room (one_group ++ buffers_of_two_engines) ≡ true }
-    ensures no_more_than_the_group_may_use { is_run caps room (one_group ++ take 5 buffers_of_two_engines ++ dispatched 1 (Taken (ticket 2 2) 1) ∷ []) ≡ false }
-    ensures given_back { is_run caps room (one_group ++ take 8 buffers_of_two_engines ++ dispatched 1 Idle ∷ []) ≡ false }
+    ensures no_more_than_the_group_may_use { is_run caps room
+        (one_group ++ take 5 buffers_of_two_engines ++ dispatched 1 (Taken (ticket 2 2) 1) ∷ [])
+        ≡ false }
+    ensures given_back { is_run caps room
+        (one_group ++ take 8 buffers_of_two_engines ++ dispatched 1 Idle ∷ [])
+        ≡ false }
 {}
 
 /// An engine that the device does not have has nothing.
 pub fn engines_that_are_not_there()
     ensures run { is_run_here engines_that_are_not_there ≡ true }
-    ensures nothing_is_taken { may_not_follow (take 1 engines_that_are_not_there) (dispatched 2 (Taken (ticket 0 0) 0)) ≡ true }
+    ensures nothing_is_taken { may_not_follow (take 1 engines_that_are_not_there)
+        (dispatched 2 (Taken (ticket 0 0) 0))
+        ≡ true }
 {}
 
 /// A history keeps none of the first, and all of the second.
@@ -75,13 +142,15 @@ pub fn stored_kinds()
     ensures a_history { is_legal caps setup ≡ true }
 {}
 
-/// Steps that are not stored need no room and change nothing: with room for the stored ones alone, Full comes behind the last of these.
+/// Steps that are not stored need no room and change nothing: with room for the stored ones alone,
+/// Full comes behind the last of these.
 pub fn room_for_steps_not_stored()
     ensures run { is_run caps 17 (setup ++ room_for_steps_not_stored) ≡ true }
     ensures not_full_with_more_room { is_run caps 18 (setup ++ room_for_steps_not_stored) ≡ false }
     ensures full_with_less { is_run caps 16 (setup ++ room_for_steps_not_stored) ≡ false }
     ensures nothing_changes { state_after (take 5 room_for_steps_not_stored) ≡ state_after [] }
-    ensures nothing_changes_later { state_after (take 10 room_for_steps_not_stored) ≡ state_after (take 8 room_for_steps_not_stored) }
+    ensures nothing_changes_later { state_after (take 10 room_for_steps_not_stored)
+        ≡ state_after (take 8 room_for_steps_not_stored) }
 {}
 
 /// Each event has its own Full, which comes at a full history alone, and there nothing else may.
@@ -89,13 +158,13 @@ pub fn each_event_is_full()
     ensures run { is_run caps 7 (setup ++ each_event_is_full) ≡ true }
     ensures no_submission { is_run caps room (setup ++ take 1 each_event_is_full) ≡ false }
     ensures no_dispatch { may_not_follow [] (dispatched 0 Full) ≡ true }
-    ensures no_fetch { may_not_follow [] (fetched 0 no_op Full) ≡ true }
+    ensures no_fetch { may_not_follow [] (step_of_a_fetch 0 no_op Full) ≡ true }
     ensures no_start { may_not_follow [] (started 0 Full) ≡ true }
     ensures no_finish { may_not_follow [] (finished 0 (ticket 0 0) Full) ≡ true }
     ensures no_issue { may_not_follow [] (issued DrainAll Full) ≡ true }
     ensures no_poll { may_not_follow [] (polled Full) ≡ true }
-    ensures no_queue_write { may_not_follow [] (queue_written 2 shared_queue Full) ≡ true }
-    ensures no_group_write { may_not_follow [] (group_written 2 first_group Full) ≡ true }
+    ensures no_queue_write { may_not_follow [] (step_of_a_queue_write 2 shared_queue Full) ≡ true }
+    ensures no_group_write { may_not_follow [] (step_of_a_group_write 2 first_group Full) ≡ true }
     ensures no_clear { may_not_follow [] (cleared Full) ≡ true }
     ensures nothing_for_a_poll { is_run caps 7 (setup ++ polled Nothing ∷ []) ≡ false }
     ensures nothing_for_a_dispatch { is_run caps 7 (setup ++ dispatched 0 Idle ∷ []) ≡ false }
@@ -104,58 +173,120 @@ pub fn each_event_is_full()
 
 /// An event is answered by a reply of its own kind.
 pub fn replies_of_another_kind()
-    ensures submission { may_not_follow [] (step (Submit 0 0 Limited (Enqcmd 5) no_op) (Dispatch Idle)) ≡ true }
+    ensures submission { may_not_follow []
+        (step (Submit 0 0 Limited (Enqcmd 5) no_op) (Dispatch Idle))
+        ≡ true }
     ensures dispatch { may_not_follow [] (step (Dispatch 0) (Fetch NoBatch)) ≡ true }
     ensures fetch { may_not_follow [] (step (Fetch 0 no_op) (Start Nothing)) ≡ true }
     ensures start { may_not_follow [] (step (Start 0) (Finish Gone)) ≡ true }
-    ensures finish { may_not_follow [] (step (Finish 0 (ticket 0 0) Success) (Poll Nothing)) ≡ true }
+    ensures finish { may_not_follow [] (step (Finish 0 (ticket 0 0) Success) (Poll Nothing))
+        ≡ true }
     ensures issue { may_not_follow [] (step (Issue DrainAll) (Poll Finished)) ≡ true }
     ensures poll { may_not_follow [] (step Poll (Clear Nothing)) ≡ true }
-    ensures write { may_not_follow [] (step (WriteQueue 0 shared_queue) (Issue (Refused Locked))) ≡ true }
+    ensures write { may_not_follow [] (step (WriteQueue 0 shared_queue) (Issue (Refused Locked)))
+        ≡ true }
     ensures clear { may_not_follow [] (step ClearError (Poll Nothing)) ≡ true }
 {}
 
 /// A write that is refused has the fault of its first cause.
 pub fn faults_of_writes()
-    ensures run { is_run_here (queue_written 0 shared_queue (Refused Locked) ∷ queue_written 2 shared_queue (Refused BadIndex) ∷ group_written 0 first_group (Refused Locked) ∷ group_written 2 first_group (Refused BadIndex) ∷ []) ≡ true }
-    ensures locked_is_no_bad_index { may_not_follow [] (queue_written 0 shared_queue (Refused BadIndex)) ≡ true }
-    ensures locked_is_no_wrong_state { may_not_follow [] (queue_written 0 shared_queue (Refused WrongState)) ≡ true }
-    ensures a_bad_index_is_not_locked { may_not_follow [] (queue_written 2 shared_queue (Refused Locked)) ≡ true }
-    ensures of_a_group { may_not_follow [] (group_written 0 first_group (Refused BadIndex)) ≡ true }
-    ensures of_no_group { may_not_follow [] (group_written 2 first_group (Refused Locked)) ≡ true }
-    ensures not_written { may_not_follow [] (queue_written 0 shared_queue Written) ≡ true }
-    ensures no_group_is_written { may_not_follow [] (group_written 2 first_group Written) ≡ true }
+    ensures run { is_run_here
+        (step_of_a_queue_write 0 shared_queue (Refused Locked)
+        ∷ step_of_a_queue_write 2 shared_queue (Refused BadIndex)
+        ∷ step_of_a_group_write 0 first_group (Refused Locked)
+        ∷ step_of_a_group_write 2 first_group (Refused BadIndex)
+        ∷ [])
+        ≡ true }
+    ensures locked_is_no_bad_index { may_not_follow []
+        (step_of_a_queue_write 0 shared_queue (Refused BadIndex))
+        ≡ true }
+    ensures locked_is_no_wrong_state { may_not_follow []
+        (step_of_a_queue_write 0 shared_queue (Refused WrongState))
+        ≡ true }
+    ensures a_bad_index_is_not_locked { may_not_follow []
+        (step_of_a_queue_write 2 shared_queue (Refused Locked))
+        ≡ true }
+    ensures of_a_group { may_not_follow [] (step_of_a_group_write 0 first_group (Refused BadIndex))
+        ≡ true }
+    ensures of_no_group { may_not_follow [] (step_of_a_group_write 2 first_group (Refused Locked))
+        ≡ true }
+    ensures not_written { may_not_follow [] (step_of_a_queue_write 0 shared_queue Written) ≡ true }
+    ensures no_group_is_written { may_not_follow [] (step_of_a_group_write 2 first_group Written)
+        ≡ true }
 {}
 
 /// A descriptor that is dropped, and one that is to come again, has the first cause that stands.
 pub fn causes_of_drops()
-    ensures at_limit { may_not_follow (take 2 dedicated_queue_overflows) (movdir no_op (Dropped WrongKind)) ≡ true }
-    ensures at_limit_is_not_off { may_not_follow (take 2 dedicated_queue_overflows) (movdir no_op (Dropped NotEnabled)) ≡ true }
-    ensures a_drop_is_no_retry { may_not_follow (take 2 dedicated_queue_overflows) (movdir no_op (Retry AtLimit)) ≡ true }
-    ensures wrong_kind { may_not_follow [] (written 0 Limited Movdir64b no_op (Dropped AtLimit)) ≡ true }
-    ensures wrong_kind_before_the_limit { may_not_follow (take 2 dedicated_queue_overflows) (written 1 Limited (Enqcmd 5) no_op (Retry AtLimit)) ≡ true }
-    ensures a_retry_is_no_drop { may_not_follow [] (written 1 Limited (Enqcmd 5) no_op (Dropped WrongKind)) ≡ true }
-    ensures not_enabled { may_not_follow [] (written 9 Limited Movdir64b no_op (Dropped WrongKind)) ≡ true }
-    ensures not_enabled_is_no_limit { may_not_follow [] (written 9 Limited (Enqcmd 5) no_op (Retry AtLimit)) ≡ true }
-    ensures another_queue_is_not_noted { may_not_follow (take 3 dedicated_queue_overflows) (cleared (Cleared (record { queue = 0; cause = AtLimit; overflow = false }))) ≡ true }
-    ensures another_cause_is_not_noted { may_not_follow (take 3 dedicated_queue_overflows) (cleared (Cleared (record { queue = 1; cause = WrongKind; overflow = false }))) ≡ true }
-    ensures one_drop_is_no_overflow { may_not_follow (take 3 dedicated_queue_overflows) (cleared (Cleared (record { queue = 1; cause = AtLimit; overflow = true }))) ≡ true }
-    ensures something_is_noted { may_not_follow (take 3 dedicated_queue_overflows) (cleared Nothing) ≡ true }
+    ensures at_limit { may_not_follow (take 2 dedicated_queue_overflows)
+        (movdir no_op (Dropped WrongKind))
+        ≡ true }
+    ensures at_limit_is_not_off { may_not_follow (take 2 dedicated_queue_overflows)
+        (movdir no_op (Dropped NotEnabled))
+        ≡ true }
+    ensures a_drop_is_no_retry { may_not_follow (take 2 dedicated_queue_overflows)
+        (movdir no_op (Retry AtLimit))
+        ≡ true }
+    ensures wrong_kind { may_not_follow [] (written 0 Limited Movdir64b no_op (Dropped AtLimit))
+        ≡ true }
+    ensures wrong_kind_before_the_limit { may_not_follow (take 2 dedicated_queue_overflows)
+        (written 1 Limited (Enqcmd 5) no_op (Retry AtLimit))
+        ≡ true }
+    ensures a_retry_is_no_drop { may_not_follow []
+        (written 1 Limited (Enqcmd 5) no_op (Dropped WrongKind))
+        ≡ true }
+    ensures not_enabled { may_not_follow [] (written 9 Limited Movdir64b no_op (Dropped WrongKind))
+        ≡ true }
+    ensures not_enabled_is_no_limit { may_not_follow []
+        (written 9 Limited (Enqcmd 5) no_op (Retry AtLimit))
+        ≡ true }
+    ensures another_queue_is_not_noted { may_not_follow (take 3 dedicated_queue_overflows)
+        (cleared (Cleared (record { queue = 0; cause = AtLimit; overflow = false })))
+        ≡ true }
+    ensures another_cause_is_not_noted { may_not_follow (take 3 dedicated_queue_overflows)
+        (cleared (Cleared (record { queue = 1; cause = WrongKind; overflow = false })))
+        ≡ true }
+    ensures one_drop_is_no_overflow { may_not_follow (take 3 dedicated_queue_overflows)
+        (cleared (Cleared (record { queue = 1; cause = AtLimit; overflow = true })))
+        ≡ true }
+    ensures something_is_noted { may_not_follow (take 3 dedicated_queue_overflows) (cleared Nothing)
+        ≡ true }
 {}
 
 /// Tickets in answers are of the right cell and name.
 pub fn tickets_of_answers()
-    ensures fetched_under_another_name { may_not_follow (take 2 fence_waits) (fetched 0 no_op (Fetched (ticket 1 2))) ≡ true }
-    ensures fetched_in_a_cell_in_use { may_not_follow (take 2 fence_waits) (fetched 0 no_op (Fetched (ticket 0 1))) ≡ true }
-    ensures fetched_past_the_last_cell { may_not_follow (take 2 fence_waits) (fetched 0 no_op (Fetched (ticket 28 1))) ≡ true }
-    ensures started_under_another_name { may_not_follow (take 6 fence_waits) (started 0 (Started (ticket 1 2))) ≡ true }
-    ensures started_in_another_cell { may_not_follow (take 6 fence_waits) (started 0 (Started (ticket 2 1))) ≡ true }
-    ensures taken_under_another_name { may_not_follow (take 1 one_move) (dispatched 0 (Taken (ticket 0 1) 0)) ≡ true }
-    ensures taken_in_another_cell { may_not_follow (take 1 one_move) (dispatched 0 (Taken (ticket 1 0) 0)) ≡ true }
-    ensures nothing_is_started_twice { may_not_follow (take 7 fence_waits) (started 0 (Started (ticket 1 1))) ≡ true }
+    ensures fetched_under_another_name { may_not_follow (take 2 fence_waits)
+        (step_of_a_fetch 0 no_op (Fetched (ticket 1 2)))
+        ≡ true }
+    ensures fetched_in_a_cell_in_use { may_not_follow (take 2 fence_waits)
+        (step_of_a_fetch 0 no_op (Fetched (ticket 0 1)))
+        ≡ true }
+    ensures fetched_past_the_last_cell { may_not_follow (take 2 fence_waits)
+        (step_of_a_fetch 0 no_op (Fetched (ticket 28 1)))
+        ≡ true }
+    ensures started_under_another_name { may_not_follow (take 6 fence_waits)
+        (started 0 (Started (ticket 1 2)))
+        ≡ true }
+    ensures started_in_another_cell { may_not_follow (take 6 fence_waits)
+        (started 0 (Started (ticket 2 1)))
+        ≡ true }
+    ensures taken_under_another_name { may_not_follow (take 1 one_move)
+        (dispatched 0 (Taken (ticket 0 1) 0))
+        ≡ true }
+    ensures taken_in_another_cell { may_not_follow (take 1 one_move)
+        (dispatched 0 (Taken (ticket 1 0) 0))
+        ≡ true }
+    ensures nothing_is_started_twice { may_not_follow (take 7 fence_waits)
+        (started 0 (Started (ticket 1 1)))
+        ≡ true }
     ensures no_wait_without_a_member { may_not_follow [] (started 0 FenceWait) ≡ true }
-    ensures not_nothing_with_a_member { may_not_follow (take 6 fence_waits) (started 0 Nothing) ≡ true }
-    ensures not_all_fetched_before_the_count { may_not_follow (take 4 fence_waits) (fetched 0 no_op AllFetched) ≡ true }
-    ensures all_fetched_is_no_want_of_a_batch { may_not_follow (take 5 fence_waits) (fetched 0 no_op NoBatch) ≡ true }
-    ensures nothing_ends_twice { may_not_follow one_move (finished 0 (ticket 0 0) (Done 0x01)) ≡ true }
+    ensures not_nothing_with_a_member { may_not_follow (take 6 fence_waits) (started 0 Nothing)
+        ≡ true }
+    ensures not_all_fetched_before_the_count { may_not_follow (take 4 fence_waits)
+        (step_of_a_fetch 0 no_op AllFetched)
+        ≡ true }
+    ensures all_fetched_is_no_want_of_a_batch { may_not_follow (take 5 fence_waits)
+        (step_of_a_fetch 0 no_op NoBatch)
+        ≡ true }
+    ensures nothing_ends_twice { may_not_follow one_move (finished 0 (ticket 0 0) (Done 0x01))
+        ≡ true }
 {}

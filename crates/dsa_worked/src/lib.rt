@@ -1,4 +1,5 @@
-//! Worked histories, by computation: each is a run of a device, and leads to what is said. After a part of it a wrong answer may not come.
+//! Worked histories, by computation: each is a run of a device, and leads to what is said. After a
+//! part of it a wrong answer may not come.
 #![tactic(auto)]
 
 pub mod answers;

@@ -14,92 +14,166 @@ ghost use Rattle.dsa_book.specs.declared.fate.Fate.TheVariants.{Completed, Abort
 ghost use Rattle.dsa_book.specs.Machine.{is_run};
 ghost use Rattle.dsa_regs.specs.Worked.{caps, shared_queue, dedicated_queue, first_group};
 ghost use Rattle.dsa_regs.specs.Config.{zero_queue};
-ghost use Rattle.dsa_worked.specs.Setup.{room, is_run_here, may_not_follow, fates_after, content_after, phases_after, configs_after, row, slot, no_op, ticket, masked, enqcmd, movdir, issued, polled, cleared, queue_written, group_written};
+ghost use Rattle.dsa_worked.specs.Setup.{room, is_run_here, may_not_follow, fates_after, content_after, phases_after, configs_after, row, held_entry, no_op, ticket, masked, enqcmd, movdir, issued, polled, cleared, step_of_a_queue_write, step_of_a_group_write};
 ghost use Rattle.dsa_worked.specs.Phases.{commands_while_off, commands_of_a_queue_that_is_off, masks_with_a_missing_queue, commands_while_busy, drain_of_one_queue_of_two, abort_of_one_queue_of_two, disable_of_one_queue_of_two, enable_of_one_queue_of_two, disable_with_a_queue_that_is_off, reset_of_all, reset_of_one_queue_of_two, writes_and_locks};
 
 /// While the device is Off it may be enabled and reset, and nothing else.
 pub fn commands_while_off()
     ensures run { is_run caps room commands_while_off ≡ true }
-    ensures a_reset_is_not_refused { is_run caps room (issued ResetDevice (Refused WrongState) ∷ []) ≡ false }
-    ensures nothing_to_disable { is_run caps room (issued (DisableWq (masked 1)) (Ended 0) ∷ []) ≡ false }
+    ensures a_reset_is_not_refused { is_run caps room (issued ResetDevice (Refused WrongState) ∷ [])
+        ≡ false }
+    ensures nothing_to_disable { is_run caps room (issued (DisableWq (masked 1)) (Ended 0) ∷ [])
+        ≡ false }
     ensures nothing_to_drain { is_run caps room (issued DrainAll (Ended 0) ∷ []) ≡ false }
-    ensures no_reset_of_a_queue { is_run caps room (issued (ResetWq (masked 1)) (Ended 0) ∷ []) ≡ false }
-    ensures a_missing_queue_comes_first { is_run caps room (issued (EnableWq 2) (Refused WrongState) ∷ []) ≡ false }
-    ensures the_state_comes_before_the_check { is_run caps room (issued (EnableWq 0) (Refused SizeZero) ∷ []) ≡ false }
+    ensures no_reset_of_a_queue { is_run caps room (issued (ResetWq (masked 1)) (Ended 0) ∷ [])
+        ≡ false }
+    ensures a_missing_queue_comes_first { is_run caps room
+        (issued (EnableWq 2) (Refused WrongState) ∷ [])
+        ≡ false }
+    ensures the_state_comes_before_the_check { is_run caps room
+        (issued (EnableWq 0) (Refused SizeZero) ∷ [])
+        ≡ false }
 {}
 
-/// A queue that is On is not enabled again, and one that is Off is reset, but not disabled, drained or aborted.
+/// A queue that is On is not enabled again, and one that is Off is reset, but not disabled, drained
+/// or aborted.
 pub fn commands_of_a_queue_that_is_off()
     ensures run { is_run_here commands_of_a_queue_that_is_off ≡ true }
-    ensures phases { phases_after (take 2 commands_of_a_queue_that_is_off) ≡ Some (On, On ∷ Off ∷ []) }
-    ensures phases_after_resets { phases_after commands_of_a_queue_that_is_off ≡ Some (On, Off ∷ Off ∷ []) }
+    ensures phases { phases_after (take 2 commands_of_a_queue_that_is_off)
+        ≡ Some (On, On ∷ Off ∷ []) }
+    ensures phases_after_resets { phases_after commands_of_a_queue_that_is_off
+        ≡ Some (On, Off ∷ Off ∷ []) }
     ensures not_enabled_again { may_not_follow [] (issued (EnableWq 0) (Ended 0)) ≡ true }
-    ensures not_disabled_again { may_not_follow (take 2 commands_of_a_queue_that_is_off) (issued (DisableWq (masked 2)) (Ended 0)) ≡ true }
-    ensures not_drained { may_not_follow (take 2 commands_of_a_queue_that_is_off) (issued (DrainWq (masked 2)) (Ended 0)) ≡ true }
-    ensures not_aborted { may_not_follow (take 2 commands_of_a_queue_that_is_off) (issued (AbortWq (masked 2)) (Ended 0)) ≡ true }
-    ensures not_drained_beside_one_that_is_on { may_not_follow (take 2 commands_of_a_queue_that_is_off) (issued (DrainWq (masked 3)) (Ended 0)) ≡ true }
-    ensures not_aborted_beside_one_that_is_on { may_not_follow (take 2 commands_of_a_queue_that_is_off) (issued (AbortWq (masked 3)) (Ended 0)) ≡ true }
-    ensures a_reset_is_not_refused { may_not_follow (take 2 commands_of_a_queue_that_is_off) (issued (ResetWq (masked 2)) (Refused WrongState)) ≡ true }
+    ensures not_disabled_again { may_not_follow (take 2 commands_of_a_queue_that_is_off)
+        (issued (DisableWq (masked 2)) (Ended 0))
+        ≡ true }
+    ensures not_drained { may_not_follow (take 2 commands_of_a_queue_that_is_off)
+        (issued (DrainWq (masked 2)) (Ended 0))
+        ≡ true }
+    ensures not_aborted { may_not_follow (take 2 commands_of_a_queue_that_is_off)
+        (issued (AbortWq (masked 2)) (Ended 0))
+        ≡ true }
+    ensures not_drained_beside_one_that_is_on { may_not_follow
+        (take 2 commands_of_a_queue_that_is_off) (issued (DrainWq (masked 3)) (Ended 0))
+        ≡ true }
+    ensures not_aborted_beside_one_that_is_on { may_not_follow
+        (take 2 commands_of_a_queue_that_is_off) (issued (AbortWq (masked 3)) (Ended 0))
+        ≡ true }
+    ensures a_reset_is_not_refused { may_not_follow (take 2 commands_of_a_queue_that_is_off)
+        (issued (ResetWq (masked 2)) (Refused WrongState))
+        ≡ true }
 {}
 
 /// Every queue of a mask is one that the device has, and there is one.
 pub fn masks_with_a_missing_queue()
     ensures run { is_run_here masks_with_a_missing_queue ≡ true }
-    ensures no_disable_of_the_other { may_not_follow [] (issued (DisableWq (masked 5)) (Ended 0)) ≡ true }
-    ensures no_drain_of_the_other { may_not_follow [] (issued (DrainWq (masked 5)) (Ended 0)) ≡ true }
-    ensures no_abort_of_the_other { may_not_follow [] (issued (AbortWq (masked 5)) (Ended 0)) ≡ true }
-    ensures no_reset_of_the_other { may_not_follow [] (issued (ResetWq (masked 5)) (Ended 0)) ≡ true }
-    ensures no_wrong_state { may_not_follow [] (issued (DrainWq (masked 5)) (Refused WrongState)) ≡ true }
+    ensures no_disable_of_the_other { may_not_follow [] (issued (DisableWq (masked 5)) (Ended 0))
+        ≡ true }
+    ensures no_drain_of_the_other { may_not_follow [] (issued (DrainWq (masked 5)) (Ended 0))
+        ≡ true }
+    ensures no_abort_of_the_other { may_not_follow [] (issued (AbortWq (masked 5)) (Ended 0))
+        ≡ true }
+    ensures no_reset_of_the_other { may_not_follow [] (issued (ResetWq (masked 5)) (Ended 0))
+        ≡ true }
+    ensures no_wrong_state { may_not_follow [] (issued (DrainWq (masked 5)) (Refused WrongState))
+        ≡ true }
 {}
 
 /// While a command is active, no other may come.
 pub fn commands_while_busy()
     ensures run { is_run_here commands_while_busy ≡ true }
-    ensures no_reset { may_not_follow (take 2 commands_while_busy) (issued ResetDevice (Ended 1)) ≡ true }
-    ensures no_abort { may_not_follow (take 2 commands_while_busy) (issued AbortAll (Ended 1)) ≡ true }
-    ensures busy_comes_before_a_bad_mask { may_not_follow (take 2 commands_while_busy) (issued (DrainWq (masked 0)) (Refused BadQueue)) ≡ true }
-    ensures busy_comes_before_the_state { may_not_follow (take 2 commands_while_busy) (issued EnableDevice (Refused WrongState)) ≡ true }
+    ensures no_reset { may_not_follow (take 2 commands_while_busy) (issued ResetDevice (Ended 1))
+        ≡ true }
+    ensures no_abort { may_not_follow (take 2 commands_while_busy) (issued AbortAll (Ended 1))
+        ≡ true }
+    ensures busy_comes_before_a_bad_mask { may_not_follow (take 2 commands_while_busy)
+        (issued (DrainWq (masked 0)) (Refused BadQueue))
+        ≡ true }
+    ensures busy_comes_before_the_state { may_not_follow (take 2 commands_while_busy)
+        (issued EnableDevice (Refused WrongState))
+        ≡ true }
 {}
 
 /// A drain of a queue waits for that queue alone, and stops none.
 pub fn drain_of_one_queue_of_two()
     ensures run { is_run_here drain_of_one_queue_of_two ≡ true }
-    ensures fates { fates_after drain_of_one_queue_of_two ≡ Some (row 0 None (Completed 0x01) ∷ row 1 None (Completed 0x01) ∷ []) }
-    ensures phases_meanwhile { phases_after (take 4 drain_of_one_queue_of_two) ≡ Some (On, On ∷ On ∷ []) }
+    ensures fates { fates_after drain_of_one_queue_of_two
+        ≡ Some (row 0 None (Completed 0x01) ∷ row 1 None (Completed 0x01) ∷ []) }
+    ensures phases_meanwhile { phases_after (take 4 drain_of_one_queue_of_two)
+        ≡ Some (On, On ∷ On ∷ []) }
     ensures phases { phases_after drain_of_one_queue_of_two ≡ Some (On, On ∷ On ∷ []) }
-    ensures does_not_wait_for_the_other { may_not_follow (take 1 drain_of_one_queue_of_two) (issued (DrainWq (masked 1)) Active) ≡ true }
-    ensures waits_for_its_own { may_not_follow (take 3 drain_of_one_queue_of_two) (issued (DrainWq (masked 2)) (Ended 0)) ≡ true }
-    ensures waits_for_what_was_taken { may_not_follow (take 5 drain_of_one_queue_of_two) (polled Finished) ≡ true }
-    ensures no_longer_than_its_own { may_not_follow (take 7 drain_of_one_queue_of_two) (polled Active) ≡ true }
+    ensures does_not_wait_for_the_other { may_not_follow (take 1 drain_of_one_queue_of_two)
+        (issued (DrainWq (masked 1)) Active)
+        ≡ true }
+    ensures waits_for_its_own { may_not_follow (take 3 drain_of_one_queue_of_two)
+        (issued (DrainWq (masked 2)) (Ended 0))
+        ≡ true }
+    ensures waits_for_what_was_taken { may_not_follow
+        (take 5 drain_of_one_queue_of_two) (polled Finished)
+        ≡ true }
+    ensures no_longer_than_its_own { may_not_follow
+        (take 7 drain_of_one_queue_of_two) (polled Active)
+        ≡ true }
     ensures over_once { may_not_follow (take 8 drain_of_one_queue_of_two) (polled Finished) ≡ true }
-    ensures a_drain_of_all_waits_for_both { may_not_follow (take 9 drain_of_one_queue_of_two) (issued DrainAll (Ended 0)) ≡ true }
+    ensures a_drain_of_all_waits_for_both { may_not_follow (take 9 drain_of_one_queue_of_two)
+        (issued DrainAll (Ended 0))
+        ≡ true }
 {}
 
 /// An abort of a queue takes what it and its engine hold of that queue, and nothing of the other.
 pub fn abort_of_one_queue_of_two()
     ensures run { is_run_here abort_of_one_queue_of_two ≡ true }
-    ensures fates { fates_after abort_of_one_queue_of_two ≡ Some (row 2 None (Aborted 9) ∷ row 1 None (Aborted 9) ∷ []) }
-    ensures content { content_after (take 5 abort_of_one_queue_of_two) ≡ Some ((slot 0 0 None (record no_op { pasid = 5 }) 0 false ∷ []) ∷ [] ∷ [] ∷ [] ∷ [] ∷ [] ∷ []) }
+    ensures fates { fates_after abort_of_one_queue_of_two
+        ≡ Some (row 2 None (Aborted 9) ∷ row 1 None (Aborted 9) ∷ []) }
+    ensures content { content_after (take 5 abort_of_one_queue_of_two)
+        ≡ Some ((held_entry 0 0 None (record no_op { pasid = 5 }) 0 false ∷ [])
+        ∷ []
+        ∷ []
+        ∷ []
+        ∷ []
+        ∷ []
+        ∷ []) }
     ensures phases { phases_after abort_of_one_queue_of_two ≡ Some (On, On ∷ On ∷ []) }
-    ensures not_the_other { may_not_follow (take 4 abort_of_one_queue_of_two) (issued (AbortWq (masked 2)) (Ended 3)) ≡ true }
-    ensures not_what_waits_alone { may_not_follow (take 4 abort_of_one_queue_of_two) (issued (AbortWq (masked 2)) (Ended 1)) ≡ true }
+    ensures not_the_other { may_not_follow (take 4 abort_of_one_queue_of_two)
+        (issued (AbortWq (masked 2)) (Ended 3))
+        ≡ true }
+    ensures not_what_waits_alone { may_not_follow (take 4 abort_of_one_queue_of_two)
+        (issued (AbortWq (masked 2)) (Ended 1))
+        ≡ true }
 {}
 
 /// A disable of a queue goes from Active by Stopping to Off, and the other queue goes on.
 pub fn disable_of_one_queue_of_two()
     ensures run { is_run_here disable_of_one_queue_of_two ≡ true }
-    ensures fates { fates_after disable_of_one_queue_of_two ≡ Some (row 1 None (Completed 0x01) ∷ []) }
-    ensures stopping { phases_after (take 3 disable_of_one_queue_of_two) ≡ Some (On, On ∷ Stopping ∷ []) }
-    ensures still_stopping { phases_after (take 9 disable_of_one_queue_of_two) ≡ Some (On, On ∷ Stopping ∷ []) }
+    ensures fates { fates_after disable_of_one_queue_of_two
+        ≡ Some (row 1 None (Completed 0x01) ∷ []) }
+    ensures stopping { phases_after (take 3 disable_of_one_queue_of_two)
+        ≡ Some (On, On ∷ Stopping ∷ []) }
+    ensures still_stopping { phases_after (take 9 disable_of_one_queue_of_two)
+        ≡ Some (On, On ∷ Stopping ∷ []) }
     ensures off { phases_after (take 10 disable_of_one_queue_of_two) ≡ Some (On, On ∷ Off ∷ []) }
     ensures on_again { phases_after disable_of_one_queue_of_two ≡ Some (On, On ∷ On ∷ []) }
-    ensures not_at_once { may_not_follow (take 2 disable_of_one_queue_of_two) (issued (DisableWq (masked 2)) (Ended 0)) ≡ true }
-    ensures nothing_comes_in_meanwhile { may_not_follow (take 3 disable_of_one_queue_of_two) (movdir no_op (Accepted (ticket 2 2))) ≡ true }
-    ensures the_other_is_not_stopped { may_not_follow (take 4 disable_of_one_queue_of_two) (enqcmd no_op (Retry NotEnabled)) ≡ true }
-    ensures locked_until_off { may_not_follow (take 5 disable_of_one_queue_of_two) (queue_written 1 dedicated_queue Written) ≡ true }
-    ensures not_before_its_end { may_not_follow (take 7 disable_of_one_queue_of_two) (polled Finished) ≡ true }
-    ensures does_not_wait_for_the_other { may_not_follow (take 9 disable_of_one_queue_of_two) (polled Active) ≡ true }
-    ensures off_until_enabled { may_not_follow (take 11 disable_of_one_queue_of_two) (movdir no_op (Accepted (ticket 1 3))) ≡ true }
+    ensures not_at_once { may_not_follow (take 2 disable_of_one_queue_of_two)
+        (issued (DisableWq (masked 2)) (Ended 0))
+        ≡ true }
+    ensures nothing_comes_in_meanwhile { may_not_follow (take 3 disable_of_one_queue_of_two)
+        (movdir no_op (Accepted (ticket 2 2)))
+        ≡ true }
+    ensures the_other_is_not_stopped { may_not_follow (take 4 disable_of_one_queue_of_two)
+        (enqcmd no_op (Retry NotEnabled))
+        ≡ true }
+    ensures locked_until_off { may_not_follow (take 5 disable_of_one_queue_of_two)
+        (step_of_a_queue_write 1 dedicated_queue Written)
+        ≡ true }
+    ensures not_before_its_end { may_not_follow
+        (take 7 disable_of_one_queue_of_two) (polled Finished)
+        ≡ true }
+    ensures does_not_wait_for_the_other { may_not_follow
+        (take 9 disable_of_one_queue_of_two) (polled Active)
+        ≡ true }
+    ensures off_until_enabled { may_not_follow (take 11 disable_of_one_queue_of_two)
+        (movdir no_op (Accepted (ticket 1 3)))
+        ≡ true }
 {}
 
 /// An enable of a queue enables that queue alone.
@@ -107,54 +181,110 @@ pub fn enable_of_one_queue_of_two()
     ensures run { is_run_here enable_of_one_queue_of_two ≡ true }
     ensures off { phases_after (take 1 enable_of_one_queue_of_two) ≡ Some (On, Off ∷ Off ∷ []) }
     ensures on { phases_after enable_of_one_queue_of_two ≡ Some (On, Off ∷ On ∷ []) }
-    ensures the_other_is_off { may_not_follow enable_of_one_queue_of_two (enqcmd no_op (Accepted (ticket 0 0))) ≡ true }
+    ensures the_other_is_off { may_not_follow enable_of_one_queue_of_two
+        (enqcmd no_op (Accepted (ticket 0 0)))
+        ≡ true }
 {}
 
-/// A disable of the device stops the queues that are On. While it lasts, a queue that is Off may be written, but not its size.
+/// A disable of the device stops the queues that are On. While it lasts, a queue that is Off may be
+/// written, but not its size.
 pub fn disable_with_a_queue_that_is_off()
     ensures run { is_run_here disable_with_a_queue_that_is_off ≡ true }
-    ensures fates { fates_after disable_with_a_queue_that_is_off ≡ Some (row 0 None (Completed 0x01) ∷ []) }
-    ensures stopping { phases_after (take 3 disable_with_a_queue_that_is_off) ≡ Some (Stopping, Stopping ∷ Off ∷ []) }
+    ensures fates { fates_after disable_with_a_queue_that_is_off
+        ≡ Some (row 0 None (Completed 0x01) ∷ []) }
+    ensures stopping { phases_after (take 3 disable_with_a_queue_that_is_off)
+        ≡ Some (Stopping, Stopping ∷ Off ∷ []) }
     ensures off { phases_after disable_with_a_queue_that_is_off ≡ Some (Off, Off ∷ Off ∷ []) }
-    ensures configs { configs_after disable_with_a_queue_that_is_off ≡ Some (shared_queue ∷ record dedicated_queue { size = 1 } ∷ []) }
-    ensures no_size_meanwhile { may_not_follow (take 4 disable_with_a_queue_that_is_off) (queue_written 1 (record dedicated_queue { size = 1 }) Written) ≡ true }
-    ensures no_group_meanwhile { may_not_follow (take 6 disable_with_a_queue_that_is_off) (group_written 0 first_group Written) ≡ true }
-    ensures not_before_its_end { may_not_follow (take 8 disable_with_a_queue_that_is_off) (polled Finished) ≡ true }
-    ensures any_size_then { may_not_follow (take 11 disable_with_a_queue_that_is_off) (queue_written 1 (record dedicated_queue { size = 1 }) (Refused Locked)) ≡ true }
+    ensures configs { configs_after disable_with_a_queue_that_is_off
+        ≡ Some (shared_queue ∷ record dedicated_queue { size = 1 } ∷ []) }
+    ensures no_size_meanwhile { may_not_follow (take 4 disable_with_a_queue_that_is_off)
+        (step_of_a_queue_write 1 (record dedicated_queue { size = 1 }) Written)
+        ≡ true }
+    ensures no_group_meanwhile { may_not_follow (take 6 disable_with_a_queue_that_is_off)
+        (step_of_a_group_write 0 first_group Written)
+        ≡ true }
+    ensures not_before_its_end { may_not_follow
+        (take 8 disable_with_a_queue_that_is_off) (polled Finished)
+        ≡ true }
+    ensures any_size_then { may_not_follow (take 11 disable_with_a_queue_that_is_off)
+        (step_of_a_queue_write 1 (record dedicated_queue { size = 1 }) (Refused Locked))
+        ≡ true }
 {}
 
-/// A reset of the device leaves no noted error and no configuration, and may come while the device is Off.
+/// A reset of the device leaves no noted error and no configuration, and may come while the device
+/// is Off.
 pub fn reset_of_all()
     ensures run { is_run_here reset_of_all ≡ true }
-    ensures fates { fates_after reset_of_all ≡ Some (row 0 None (Aborted 5) ∷ row 1 None (Aborted 5) ∷ []) }
+    ensures fates { fates_after reset_of_all
+        ≡ Some (row 0 None (Aborted 5) ∷ row 1 None (Aborted 5) ∷ []) }
     ensures phases { phases_after (take 4 reset_of_all) ≡ Some (Off, Off ∷ Off ∷ []) }
     ensures configs { configs_after (take 4 reset_of_all) ≡ Some (zero_queue ∷ zero_queue ∷ []) }
-    ensures no_noted_error { may_not_follow (take 4 reset_of_all) (cleared (Cleared (record { queue = 1; cause = AtLimit; overflow = false }))) ≡ true }
-    ensures not_refused_while_off { may_not_follow (take 6 reset_of_all) (issued ResetDevice (Refused WrongState)) ≡ true }
-    ensures no_noted_error_while_off { may_not_follow (take 7 reset_of_all) (cleared (Cleared (record { queue = 1; cause = NotEnabled; overflow = false }))) ≡ true }
-    ensures no_size { may_not_follow (take 10 reset_of_all) (issued (EnableWq 1) (Refused PriorityZero)) ≡ true }
-    ensures no_group { may_not_follow (take 11 reset_of_all) (issued (EnableWq 0) (Ended 0)) ≡ true }
+    ensures no_noted_error { may_not_follow (take 4 reset_of_all)
+        (cleared (Cleared (record { queue = 1; cause = AtLimit; overflow = false })))
+        ≡ true }
+    ensures not_refused_while_off { may_not_follow (take 6 reset_of_all)
+        (issued ResetDevice (Refused WrongState))
+        ≡ true }
+    ensures no_noted_error_while_off { may_not_follow (take 7 reset_of_all)
+        (cleared (Cleared (record { queue = 1; cause = NotEnabled; overflow = false })))
+        ≡ true }
+    ensures no_size { may_not_follow (take 10 reset_of_all)
+        (issued (EnableWq 1) (Refused PriorityZero))
+        ≡ true }
+    ensures no_group { may_not_follow (take 11 reset_of_all) (issued (EnableWq 0) (Ended 0))
+        ≡ true }
 {}
 
-/// A reset of a queue takes its entries and all its configuration but the size; the other queue keeps all.
+/// A reset of a queue takes its entries and all its configuration but the size; the other queue
+/// keeps all.
 pub fn reset_of_one_queue_of_two()
     ensures run { is_run_here reset_of_one_queue_of_two ≡ true }
     ensures fates { fates_after reset_of_one_queue_of_two ≡ Some (row 0 None (Aborted 10) ∷ []) }
     ensures phases { phases_after (take 3 reset_of_one_queue_of_two) ≡ Some (On, Off ∷ On ∷ []) }
-    ensures configs { configs_after (take 3 reset_of_one_queue_of_two) ≡ Some (record zero_queue { size = 4 } ∷ dedicated_queue ∷ []) }
-    ensures not_the_other { may_not_follow (take 2 reset_of_one_queue_of_two) (issued (ResetWq (masked 1)) (Ended 2)) ≡ true }
-    ensures the_size_is_locked { may_not_follow (take 4 reset_of_one_queue_of_two) (queue_written 0 (record shared_queue { size = 3 }) Written) ≡ true }
-    ensures the_same_size_is_not { may_not_follow (take 4 reset_of_one_queue_of_two) (queue_written 0 shared_queue (Refused Locked)) ≡ true }
+    ensures configs { configs_after (take 3 reset_of_one_queue_of_two)
+        ≡ Some (record zero_queue { size = 4 } ∷ dedicated_queue ∷ []) }
+    ensures not_the_other { may_not_follow (take 2 reset_of_one_queue_of_two)
+        (issued (ResetWq (masked 1)) (Ended 2))
+        ≡ true }
+    ensures the_size_is_locked { may_not_follow (take 4 reset_of_one_queue_of_two)
+        (step_of_a_queue_write 0 (record shared_queue { size = 3 }) Written)
+        ≡ true }
+    ensures the_same_size_is_not { may_not_follow (take 4 reset_of_one_queue_of_two)
+        (step_of_a_queue_write 0 shared_queue (Refused Locked))
+        ≡ true }
 {}
 
-/// A queue that is Off may be written, its size while the device is Off; a group while the device is Off.
+/// A queue that is Off may be written, its size while the device is Off; a group while the device
+/// is Off.
 pub fn writes_and_locks()
     ensures run { is_run caps room writes_and_locks ≡ true }
-    ensures any_size_while_off { is_run caps room (take 1 writes_and_locks ++ queue_written 0 shared_queue (Refused Locked) ∷ []) ≡ false }
-    ensures no_queue_is_not_locked { is_run caps room (take 8 writes_and_locks ++ queue_written 2 shared_queue (Refused Locked) ∷ []) ≡ false }
-    ensures no_group_is_not_locked { is_run caps room (take 10 writes_and_locks ++ group_written 2 first_group (Refused Locked) ∷ []) ≡ false }
-    ensures locked_is_no_bad_index { is_run caps room (take 6 writes_and_locks ++ queue_written 0 (record shared_queue { size = 3 }) (Refused BadIndex) ∷ []) ≡ false }
-    ensures locked_is_no_wrong_state { is_run caps room (take 9 writes_and_locks ++ group_written 0 first_group (Refused WrongState) ∷ []) ≡ false }
-    ensures locked_while_on { is_run caps room (take 12 writes_and_locks ++ queue_written 0 (record shared_queue { threshold = 3 }) Written ∷ []) ≡ false }
-    ensures busy_is_no_cause { is_run caps room (take 12 writes_and_locks ++ queue_written 0 (record shared_queue { threshold = 3 }) (Refused Busy) ∷ []) ≡ false }
+    ensures any_size_while_off { is_run caps room
+        (take 1 writes_and_locks ++ step_of_a_queue_write 0 shared_queue (Refused Locked) ∷ [])
+        ≡ false }
+    ensures no_queue_is_not_locked { is_run caps room
+        (take 8 writes_and_locks ++ step_of_a_queue_write 2 shared_queue (Refused Locked) ∷ [])
+        ≡ false }
+    ensures no_group_is_not_locked { is_run caps room
+        (take 10 writes_and_locks ++ step_of_a_group_write 2 first_group (Refused Locked) ∷ [])
+        ≡ false }
+    ensures locked_is_no_bad_index { is_run caps room
+        (take 6 writes_and_locks
+        ++ step_of_a_queue_write 0 (record shared_queue { size = 3 }) (Refused BadIndex)
+        ∷ [])
+        ≡ false }
+    ensures locked_is_no_wrong_state { is_run caps room
+        (take 9 writes_and_locks
+        ++ step_of_a_group_write 0 first_group (Refused WrongState)
+        ∷ [])
+        ≡ false }
+    ensures locked_while_on { is_run caps room
+        (take 12 writes_and_locks
+        ++ step_of_a_queue_write 0 (record shared_queue { threshold = 3 }) Written
+        ∷ [])
+        ≡ false }
+    ensures busy_is_no_cause { is_run caps room
+        (take 12 writes_and_locks
+        ++ step_of_a_queue_write 0 (record shared_queue { threshold = 3 }) (Refused Busy)
+        ∷ [])
+        ≡ false }
 {}

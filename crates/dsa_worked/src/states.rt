@@ -1,4 +1,5 @@
-//! The words of the laws in states of worked histories: which entries came, which names stand where, what is in use, and what an engine works on.
+//! The words of the laws in states of worked histories: which entries came, which names stand
+//! where, what is in use, and what an engine works on.
 
 ghost use Rattle.std.specs.Prelude.{◌≡◌, [], ◌∷◌, Some, None, true, false, take, length};
 ghost use Rattle.dsa_book.specs.declared.fate.Fate.TheVariants.{Abandoned};
@@ -12,13 +13,15 @@ ghost use Rattle.dsa_worked.specs.Batches.{buffers_of_a_batch, fence_waits, fail
 ghost use Rattle.dsa_worked.specs.Commands.{abort_takes_members};
 ghost use Rattle.dsa_worked.specs.States.{seen_after, batches_on, covered_by, running_member, waiting_member, one_abandoned_member, one_abandoned_entry};
 
-/// A batch of which one member ended and one was abandoned: one entry was submitted, and two are members.
+/// A batch of which one member ended and one was abandoned: one entry was submitted, and two are
+/// members.
 pub fn entries_of_a_failed_batch()
     ensures submitted { seen_after submitted_entries failure_abandons ≡ Some 1 }
     ensures members { seen_after member_entries failure_abandons ≡ Some 2 }
 {}
 
-/// A batch with two members, and an entry of another PASID: two entries were submitted and two are members, before the abort and after it.
+/// A batch with two members, and an entry of another PASID: two entries were submitted and two are
+/// members, before the abort and after it.
 pub fn entries_of_an_aborted_batch()
     ensures submitted { seen_after submitted_entries abort_takes_members ≡ Some 2 }
     ensures members { seen_after member_entries abort_takes_members ≡ Some 2 }
@@ -31,7 +34,8 @@ pub fn places_of_a_name()
     ensures not_held_yet { seen_after (λ w. held_named w 2) (take 4 abort_takes_members) ≡ Some 0 }
     ensures no_fate_yet { seen_after (λ w. fates_named w 2) (take 4 abort_takes_members) ≡ Some 0 }
     ensures held { seen_after (λ w. held_named w 2) (take 7 abort_takes_members) ≡ Some 1 }
-    ensures held_without_fate { seen_after (λ w. fates_named w 2) (take 7 abort_takes_members) ≡ Some 0 }
+    ensures held_without_fate { seen_after (λ w. fates_named w 2) (take 7 abort_takes_members)
+        ≡ Some 0 }
     ensures not_held { seen_after (λ w. held_named w 2) abort_takes_members ≡ Some 0 }
     ensures fate { seen_after (λ w. fates_named w 2) abort_takes_members ≡ Some 1 }
 {}
@@ -44,7 +48,8 @@ pub fn abandoned_entries()
     ensures none { only_members_abandoned [] ≡ true }
 {}
 
-/// Eight buffers in each group cover all 16 of the device. Then the first group uses four and the second twelve.
+/// Eight buffers in each group cover all 16 of the device. Then the first group uses four and the
+/// second twelve.
 pub fn buffers_in_use()
     ensures in_first_group { seen_after (λ w. used w 0) (take 11 buffers_of_a_batch) ≡ Some 8 }
     ensures in_each_group { seen_after all_used (take 11 buffers_of_a_batch) ≡ Some (8 ∷ 8 ∷ []) }
@@ -58,13 +63,16 @@ pub fn buffers_in_use()
 pub fn members_in_order()
     ensures in_order { runs_first (running_member ∷ waiting_member ∷ []) ≡ true }
     ensures out_of_order { runs_first (waiting_member ∷ running_member ∷ []) ≡ false }
-    ensures out_of_order_behind { runs_first (running_member ∷ waiting_member ∷ running_member ∷ []) ≡ false }
+    ensures out_of_order_behind { runs_first (running_member ∷ waiting_member ∷ running_member ∷ [])
+        ≡ false }
     ensures none_runs { runs_first (waiting_member ∷ waiting_member ∷ []) ≡ true }
 {}
 
 /// Engine 0 works on batch 0, of which it has fetched three members, and engine 1 on none.
 pub fn batch_of_an_engine()
-    ensures note { seen_after (λ w. note_at w 0) (take 5 fence_waits) ≡ Some (Some (record { batch = 0; count = 3; fetched = 3; failed = false; closed = false })) }
+    ensures note { seen_after (λ w. note_at w 0) (take 5 fence_waits)
+        ≡ Some
+        (Some (record { batch = 0; count = 3; fetched = 3; failed = false; closed = false })) }
     ensures one_batch { seen_after (batches_on 0) (take 5 fence_waits) ≡ Some 1 }
     ensures members { seen_after (λ w. length (members w 0)) (take 5 fence_waits) ≡ Some 3 }
     ensures no_note { seen_after (λ w. note_at w 1) (take 5 fence_waits) ≡ Some None }

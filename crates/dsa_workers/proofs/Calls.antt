@@ -16,7 +16,8 @@ use Rattle.dsa_book.specs.declared.answer.Reply.{Reply}
 use Rattle.dsa_book.specs.declared.answer.Reply.TheVariants.{Submit, Dispatch, Fetch, Start, Finish, Issue, Poll}
 use Rattle.dsa_book.specs.declared.answer.Reply.TheVariants.{Write, Clear}
 use Rattle.dsa_book.specs.{Machine.{is_stored, history_after, stored_steps}, Totals.{total_accepted, is_accepted}}
-use Rattle.dsa_workers.specs.Calls.{InOrder, is_answer, is_full, goes_on, steps_done, found_full, waits, submission}
+use Rattle.dsa_workers.specs.Calls.{InOrder, is_answer, is_history_full, goes_on, steps_done, found_full}
+use Rattle.dsa_workers.specs.Calls.{is_worker_waiting, submission_of_client_step}
 use Rattle.dsa_workers.specs.Calls.{NextSubmission, NextCommand}
 use Rattle.dsa_workers.specs.Workers.{Grows, RunsScript, RunsClient, RunsAdmin}
 use Rattle.dsa_workers.specs.declared.scripts.{ClientStep.{ClientStep}, Stint.{Stint}}
@@ -48,10 +49,10 @@ pub steps_done-more : (calls : List Step) (call : Step)
 steps_done-more calls call = sum_by_push (λ (c : Step). cond (goes_on c.reply) 1 0) calls call
 
 pub found_more : (calls : List Step) (call : Step)
-    → found_full (calls ++ call ∷ []) ≡ found_full calls + cond (is_full call.reply) 1 0
-found_more calls call = sum_by_push (λ (c : Step). cond (is_full c.reply) 1 0) calls call
+    → found_full (calls ++ call ∷ []) ≡ found_full calls + cond (is_history_full call.reply) 1 0
+found_more calls call = sum_by_push (λ (c : Step). cond (is_history_full c.reply) 1 0) calls call
 
-pub waits_more : (calls : List Step) (call : Step) → waits (calls ++ call ∷ []) ≡ not (goes_on call.reply)
+pub waits_more : (calls : List Step) (call : Step) → is_worker_waiting (calls ++ call ∷ []) ≡ not (goes_on call.reply)
 waits_more calls call = fold-append (λ (b : Bool) (c : Step). not (goes_on c.reply)) false calls (call ∷ [])
 
 pub count_of : (b : Bool) (n : Bool) → b ≡ n → cond {A = ℕ} b 1 0 ≡ cond {A = ℕ} n 1 0
@@ -137,7 +138,7 @@ called next steps old mid new turn at call so follows is = record {
 }
 
 -- a worker that finds the history full does not go on
-full_stays : (reply : Reply) → is_full reply ≡ true → goes_on reply ≡ false
+full_stays : (reply : Reply) → is_history_full reply ≡ true → goes_on reply ≡ false
 full_stays (Submit (Accepted ticket)) full = absurd cc
 full_stays (Submit (Retry cause)) full = absurd cc
 full_stays (Submit (Dropped cause)) full = absurd cc
@@ -188,11 +189,11 @@ as_it_is next steps old new turn at so =
 pub so_far_more : (next : List Step → Step
     → Type 0) (steps : ℕ) (old mid new : List Step) (turn at after : ℕ) (call : Step)
     → (so : SoFar next steps old mid turn at) → next so.calls call → new ≡ history_after mid call
-    → is_full call.reply ≡ false → at < steps
+    → is_history_full call.reply ≡ false → at < steps
     → after ≡ at + cond (goes_on call.reply) 1 0 → SoFar next steps old new (turn + 1) after
 so_far_more next steps old mid new turn at after call so follows is room below next_at =
     let c = called next steps old mid new turn at call so follows is in
-    let none : cond {A = ℕ} (is_full call.reply) 1 0 ≡ 0 = count_of (is_full call.reply) false room in
+    let none : cond {A = ℕ} (is_history_full call.reply) 1 0 ≡ 0 = count_of (is_history_full call.reply) false room in
     let few : cond {A = ℕ} (goes_on call.reply) 1 0 ≤ 1 = at_most_one (goes_on call.reply) in
     record {
       calls = so.calls ++ call ∷ [];
@@ -213,10 +214,10 @@ so_far_more next steps old mid new turn at after call so follows is room below n
 pub ends_full : (next : List Step → Step
     → Type 0) (steps limit : ℕ) (old mid new : List Step) (turn at : ℕ) (call : Step)
     → (so : SoFar next steps old mid turn at) → next so.calls call → new ≡ history_after mid call
-    → is_full call.reply ≡ true → at < steps → turn < limit
+    → is_history_full call.reply ≡ true → at < steps → turn < limit
     → RunsScript next steps limit old new (record { turns = turn + 1; ended = HistoryFull })
 ends_full next steps limit old mid new turn at call so follows is full below within =
-    let one : cond {A = ℕ} (is_full call.reply) 1 0 ≡ 1 = count_of (is_full call.reply) true full in
+    let one : cond {A = ℕ} (is_history_full call.reply) 1 0 ≡ 1 = count_of (is_history_full call.reply) true full in
     let none : cond {A = ℕ} (goes_on call.reply) 1 0 ≡ 0 =
     count_of (goes_on call.reply) false (full_stays call.reply full) in
     let found = found_more so.calls call in
@@ -280,10 +281,12 @@ accepts_by old new calls is =
 
 pub client_next : (client mine : ℕ) (script : List ClientStep) (at : ℕ) (e : ClientStep) (calls : List Step)
     → mine ≡ client → steps_done calls ≡ at → at < length script
-    → (d : ClientStep) → submission mine (get_or script at e) ≡ submission client (get_or script (steps_done calls) d)
+    → (d : ClientStep) → submission_of_client_step mine (get_or script at e)
+    ≡ submission_of_client_step client (get_or script (steps_done calls) d)
 client_next client mine script at e calls same through below d =
-    ap (λ n. submission n (get_or script at e)) same
-    ∙ ap (submission client) (get_or_default script at e d below ∙ ap (λ n. get_or script n d) (sym through))
+    ap (λ n. submission_of_client_step n (get_or script at e)) same
+    ∙ ap (submission_of_client_step client) (get_or_default script at e d below
+    ∙ ap (λ n. get_or script n d) (sym through))
 
 pub client_runs : (script : List ClientStep) (limit : ℕ) (old new : SeatLog) (stint : Stint) → new.number ≡ old.number
     → RunsScript (NextSubmission old.number script) (length script) limit old.receipts new.receipts stint
@@ -299,19 +302,21 @@ client_runs script limit old new stint number runs = record {
 -- the administrator so far: whether its last call left it with a command that waits
 pub record AsksSoFar (script : List Command) (old new : List Step) (turn at : ℕ) (asks : Bool) : Type 0 where
   pub so_far : SoFar (NextCommand script) (length script) old new turn at
-  pub waits : waits so_far.calls ≡ asks
+  pub waits : is_worker_waiting so_far.calls ≡ asks
 
 pub asks_none : (script : List Command) (old : List Step) → AsksSoFar script old old 0 0 false
 unfolding so_far_none
 asks_none script old = record { so_far = so_far_none (NextCommand script) (length script) old; waits = refl }
 
-admin_next : (script : List Command) (at : ℕ) (asks : Bool) (e : Command) (calls : List Step) → waits calls ≡ asks
+admin_next : (script : List Command) (at : ℕ) (asks : Bool) (e : Command) (calls : List Step)
+    → is_worker_waiting calls ≡ asks
     → steps_done calls ≡ at → at < length script
     → (d : Command) → cond {A = Event} asks Poll (Issue (get_or script at e))
-    ≡ cond {A = Event} (waits calls) Poll (Issue (get_or script (steps_done calls) d))
+    ≡ cond {A = Event} (is_worker_waiting calls) Poll (Issue (get_or script (steps_done calls) d))
 admin_next script at asks e calls w through below d =
     ap (λ (b : Bool). cond {A = Event} b Poll (Issue (get_or script at e))) (sym w)
-    ∙ ap (λ (c : Command). cond {A = Event} (waits calls) Poll (Issue c)) (get_or_default script at e d below
+    ∙ ap (λ (c : Command). cond {A = Event} (is_worker_waiting calls) Poll (Issue c))
+    (get_or_default script at e d below
     ∙ ap (λ n. get_or script n d) (sym through))
 
 pub asks_more : (script : List Command) (old mid new : List Step) (turn at after : ℕ) (asks : Bool) (e : Command)
@@ -323,7 +328,7 @@ pub asks_more : (script : List Command) (old mid new : List Step) (turn at after
       reply =
           reply;
     })
-    → is_full reply ≡ false → at < length script → after ≡ at + cond {A = ℕ} (goes_on reply) 1 0
+    → is_history_full reply ≡ false → at < length script → after ≡ at + cond {A = ℕ} (goes_on reply) 1 0
     → AsksSoFar script old new (turn + 1) after (not (goes_on reply))
 unfolding so_far_more
 asks_more script old mid new turn at after asks e reply was answer is room below moved =
@@ -344,7 +349,7 @@ pub asks_full : (script : List Command) (limit : ℕ) (old mid new : List Step) 
       reply =
           reply;
     })
-    → is_full reply ≡ true → at < length script → turn < limit
+    → is_history_full reply ≡ true → at < length script → turn < limit
     → RunsAdmin script limit old new (record { turns = turn + 1; ended = HistoryFull })
 asks_full script limit old mid new turn at asks e reply was answer is full below within =
     ends_full (NextCommand script) (length script) limit old mid new turn at

@@ -8,7 +8,8 @@ use Rattle.dsa_book.specs.Machine.{history_after, stored_steps}
 use Rattle.dsa_shared.specs.Seat.{SeatLog}
 use Rattle.dsa_workers.specs.declared.scripts.EngineScript.{EngineScript}
 use Rattle.dsa_workers.specs.declared.scripts.WorkerEnd.TheVariants.{TurnsOut, HistoryFull}
-use Rattle.dsa_workers.specs.Calls.{InOrder, IsAnswered, is_full, found_full, tickets_after, calls_of, tickets_of}
+use Rattle.dsa_workers.specs.Calls.{InOrder, IsCallAnswered, is_history_full, found_full, tickets_after, calls_of}
+use Rattle.dsa_workers.specs.Calls.{tickets_of}
 use Rattle.dsa_workers.specs.Calls.{engine_event, call_of, after_turn, NextTurn}
 use Rattle.dsa_workers.specs.Workers.{Grows, RunsEngine}
 use Rattle.dsa_workers.proofs.Calls.{in_order_none, in_order_more, recorded_more, found_more, count_of, grows_by}
@@ -73,7 +74,7 @@ event_back (Some event) (Some reply) is = refl
 turn_more : (script : EngineScript) (old mid new : SeatLog) (turn : ℕ) (tickets : List Ticket) (reply : Option Reply)
     → (so : TurnsSoFar script old mid turn tickets)
     → is_some reply ≡ is_some (engine_event mid.number script turn tickets)
-    → IfSome (call_of (engine_event mid.number script turn tickets) reply) IsAnswered
+    → IfSome (call_of (engine_event mid.number script turn tickets) reply) IsCallAnswered
     → new ≡ after_turn mid (call_of (engine_event mid.number script turn tickets) reply)
     → Turns script old new (so.turns ++ call_of (engine_event mid.number script turn tickets) reply ∷ [])
 turn_more script old mid new turn tickets reply so called answer is =
@@ -104,7 +105,7 @@ tickets_more turns (Some call) =
 
 full_more : (turns : List (Option Step)) (call : Step)
     → found_full (calls_of (turns ++ Some call ∷ []))
-    ≡ found_full (calls_of turns) + cond {A = ℕ} (is_full call.reply) 1 0
+    ≡ found_full (calls_of turns) + cond {A = ℕ} (is_history_full call.reply) 1 0
 full_more turns call = ap found_full (calls_more turns (Some call)) ∙ found_more (calls_of turns) call
 
 calls-le : (turns : List (Option Step)) → length (calls_of turns) ≤ length turns
@@ -122,7 +123,7 @@ turns_grow old new turns n is count =
 pub turns_quiet : (script : EngineScript) (old mid new : SeatLog) (turn : ℕ) (tickets : List Ticket)
     → TurnsSoFar script old mid turn tickets
     → false ≡ is_some (engine_event mid.number script turn tickets)
-    → IfSome (call_of (engine_event mid.number script turn tickets) None) IsAnswered
+    → IfSome (call_of (engine_event mid.number script turn tickets) None) IsCallAnswered
     → new ≡ after_turn mid (call_of (engine_event mid.number script turn tickets) None)
     → TurnsSoFar script old new (turn + 1) tickets
 turns_quiet script old mid new turn tickets so called answer is =
@@ -153,13 +154,13 @@ called_by (Some event) reply is = (record { event = event; reply = reply }, refl
 pub turns_more : (script : EngineScript) (old mid new : SeatLog) (turn : ℕ) (tickets : List Ticket) (reply : Reply)
     → TurnsSoFar script old mid turn tickets
     → is_some (Some reply) ≡ is_some (engine_event mid.number script turn tickets)
-    → IfSome (call_of (engine_event mid.number script turn tickets) (Some reply)) IsAnswered
+    → IfSome (call_of (engine_event mid.number script turn tickets) (Some reply)) IsCallAnswered
     → new ≡ after_turn mid (call_of (engine_event mid.number script turn tickets) (Some reply))
-    → is_full reply ≡ false → TurnsSoFar script old new (turn + 1) (tickets_after tickets reply)
+    → is_history_full reply ≡ false → TurnsSoFar script old new (turn + 1) (tickets_after tickets reply)
 turns_more script old mid new turn tickets reply so called answer is room =
     let (call, was, said) = called_by (engine_event mid.number script turn tickets) reply called in
-    let none : cond {A = ℕ} (is_full call.reply) 1 0 ≡ 0 =
-    count_of (is_full call.reply) false (ap is_full said ∙ room) in
+    let none : cond {A = ℕ} (is_history_full call.reply) 1 0 ≡ 0 =
+    count_of (is_history_full call.reply) false (ap is_history_full said ∙ room) in
     record {
       turns = so.turns ++ Some call ∷ [];
       did = subst (λ (t : Option Step). Turns script old new (so.turns ++ t ∷ [])) was
@@ -174,13 +175,14 @@ turns_more script old mid new turn tickets reply so called answer is room =
 pub turns_full : (script : EngineScript) (limit : ℕ) (old mid new : SeatLog) (turn : ℕ) (tickets : List Ticket)
     (reply : Reply) → TurnsSoFar script old mid turn tickets
     → is_some (Some reply) ≡ is_some (engine_event mid.number script turn tickets)
-    → IfSome (call_of (engine_event mid.number script turn tickets) (Some reply)) IsAnswered
+    → IfSome (call_of (engine_event mid.number script turn tickets) (Some reply)) IsCallAnswered
     → new ≡ after_turn mid (call_of (engine_event mid.number script turn tickets) (Some reply))
-    → is_full reply ≡ true → turn < limit
+    → is_history_full reply ≡ true → turn < limit
     → RunsEngine script limit old new (record { turns = turn + 1; ended = HistoryFull })
 turns_full script limit old mid new turn tickets reply so called answer is full within =
     let (call, was, said) = called_by (engine_event mid.number script turn tickets) reply called in
-    let one : cond {A = ℕ} (is_full call.reply) 1 0 ≡ 1 = count_of (is_full call.reply) true (ap is_full said ∙ full) in
+    let one : cond {A = ℕ} (is_history_full call.reply) 1 0 ≡ 1 =
+    count_of (is_history_full call.reply) true (ap is_history_full said ∙ full) in
     let did = subst (λ (t : Option Step). Turns script old new (so.turns ++ t ∷ [])) was
     (turn_more script old mid new turn tickets (Some reply) so called answer is) in
     let count : length (so.turns ++ Some call ∷ []) ≡ turn + 1 =

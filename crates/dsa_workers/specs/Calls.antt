@@ -25,15 +25,15 @@ abbrev pub InOrder : {T : Type 0} → (List T → T → Type 0) → List T → T
 InOrder {T} next turns = (k : ℕ) (d : T) → k < length turns → next (take k turns) (slice_index_or turns k d)
 
 -- the history has no room
-abbrev pub is_full : Reply → Bool
-is_full (Submit Full) = true
-is_full (Dispatch Full) = true
-is_full (Fetch Full) = true
-is_full (Start Full) = true
-is_full (Finish Full) = true
-is_full (Issue Full) = true
-is_full (Poll Full) = true
-is_full _ = false
+abbrev pub is_history_full : Reply → Bool
+is_history_full (Submit Full) = true
+is_history_full (Dispatch Full) = true
+is_history_full (Fetch Full) = true
+is_history_full (Start Full) = true
+is_history_full (Finish Full) = true
+is_history_full (Issue Full) = true
+is_history_full (Poll Full) = true
+is_history_full _ = false
 
 -- the worker goes on to the next step of its script
 abbrev pub goes_on : Reply → Bool
@@ -58,8 +58,8 @@ is_answer Poll (Poll answer) = true
 is_answer _ _ = false
 
 -- the call was answered
-abbrev pub IsAnswered : Step → Type 0
-IsAnswered call = is_answer call.event call.reply ≡ true
+abbrev pub IsCallAnswered : Step → Type 0
+IsCallAnswered call = is_answer call.event call.reply ≡ true
 
 -- how many steps of its script the worker is through with after these calls
 abbrev pub steps_done : List Step → ℕ
@@ -67,26 +67,28 @@ steps_done calls = count_by (λ call. goes_on call.reply) calls
 
 -- how many of these calls found the history full
 abbrev pub found_full : List Step → ℕ
-found_full calls = count_by (λ call. is_full call.reply) calls
+found_full calls = count_by (λ call. is_history_full call.reply) calls
 
 -- the last of these calls, if there is one, left the worker with the same step
-abbrev pub waits : List Step → Bool
-waits calls = fold (λ before call. not (goes_on call.reply)) false calls
+abbrev pub is_worker_waiting : List Step → Bool
+is_worker_waiting calls = fold (λ before call. not (goes_on call.reply)) false calls
 
 -- the submission of a step of a client's script
-abbrev pub submission : ℕ → ClientStep → Event
-submission client step = Submit client step.queue step.portal step.kind (read step.bytes)
+abbrev pub submission_of_client_step : ℕ → ClientStep → Event
+submission_of_client_step client step = Submit client step.queue step.portal step.kind (read step.bytes)
 
 -- a client submits the first step of its script that it is not through with
 abbrev pub NextSubmission : ℕ → List ClientStep → List Step → Step → Type 0
 NextSubmission client script calls call =
-    IsAnswered call × ((d : ClientStep) → call.event ≡ submission client (slice_index_or script (steps_done calls) d))
+    IsCallAnswered call × ((d : ClientStep) → call.event
+    ≡ submission_of_client_step client (slice_index_or script (steps_done calls) d))
 
 -- the administrator asks after a command that waits, and else issues the first one that it is not
 -- through with
 abbrev pub NextCommand : List Command → List Step → Step → Type 0
-NextCommand script calls call = IsAnswered call
-    × ((d : Command) → call.event ≡ cond (waits calls) Poll (Issue (slice_index_or script (steps_done calls) d)))
+NextCommand script calls call = IsCallAnswered call
+    × ((d : Command) → call.event ≡ cond (is_worker_waiting calls) Poll
+    (Issue (slice_index_or script (steps_done calls) d)))
 
 -- the tickets of an engine's worker, oldest first, and the room for more
 pub record Pending : Type 0 where
@@ -94,8 +96,8 @@ pub record Pending : Type 0 where
   pub room : ℕ
 
 -- no ticket, and room for so many
-abbrev pub HasRoom : Pending → ℕ → Type 0
-HasRoom pending most = (pending.tickets ≡ []) × (most ≤ pending.room)
+abbrev pub HasRoomForTickets : Pending → ℕ → Type 0
+HasRoomForTickets pending most = (pending.tickets ≡ []) × (most ≤ pending.room)
 
 -- the tickets after an answer: a new one comes last, one that is not ready goes last, one that is over
 -- is dropped
@@ -135,5 +137,5 @@ after_turn seat turn = option_map_or (λ call. with_receipt seat call.event call
 
 -- the turn of an engine's worker after those before it
 abbrev pub NextTurn : ℕ → EngineScript → List (Option Step) → Option Step → Type 0
-NextTurn engine script turns turn = IfSome turn IsAnswered
+NextTurn engine script turns turn = IfSome turn IsCallAnswered
     × (option_map (λ call. call.event) turn ≡ engine_event engine script (length turns) (tickets_of turns))

@@ -1,13 +1,13 @@
 -- What workers do to the seats that they are lent.
 use Rattle.std.specs.Prelude.{◌≡◌, ◌≢◌, ◌↔◌, ℕ, ◌+◌, ◌<◌, ◌≤◌, ◌++◌, List, [], length, take, Option, IsSome}
 use Rattle.std.specs.Prelude.{slice_index_or}
-use Rattle.std.specs.Option.{option_map_or}
+use Rattle.std.specs.{Global.{Vec}, Option.{option_map_or}}
 use Rattle.dsa_regs.specs.declared.Command.{Command}
 use Rattle.dsa_book.specs.{declared.event.Step.{Step}, Machine.{stored_steps}, Totals.{total_accepted}}
 use Rattle.dsa_shared.specs.Seat.{SeatLog}
 use Rattle.dsa_workers.specs.declared.scripts.{ClientStep.{ClientStep}, EngineScript.{EngineScript}, Stint.{Stint}}
 use Rattle.dsa_workers.specs.declared.scripts.WorkerEnd.TheVariants.{ScriptDone, TurnsOut, HistoryFull}
-use Rattle.dsa_workers.specs.declared.scripts.RunReport.{RunReport}
+use Rattle.dsa_workers.specs.declared.{scripts.RunReport.{RunReport}, lanes.Lane.{Lane}}
 use Rattle.dsa_workers.specs.Calls.{InOrder, steps_done, found_full, NextSubmission, NextCommand, NextTurn, calls_of}
 
 -- the receipts begin with the old ones, and at most so many were added
@@ -73,3 +73,30 @@ stint_at report worker = record {
 -- the receipts of the administrator's seat
 abbrev pub receipts_in : Option (List Step) → List Step
 receipts_in seat = option_map_or (λ receipts. receipts) seat []
+
+-- in each lane, a client's worker runs the script of the same place, in at most `limit` turns
+abbrev pub RunsClients : {A : Type 0} → List (Vec ClientStep) → ℕ → (old new : List (Lane SeatLog A)) → Type 0
+RunsClients {A} scripts limit old new = (k : ℕ) (d : Lane SeatLog A) (e : Vec ClientStep) → k < length old
+    → RunsClient (slice_index_or scripts k e).items limit
+    (slice_index_or old k d).seat (slice_index_or new k d).seat (slice_index_or new k d).stint
+
+-- in each lane, an engine's worker runs the script of the same place, in at most `limit` turns
+abbrev pub RunsEngines : {A : Type 0} → List EngineScript → ℕ → (old new : List (Lane SeatLog A)) → Type 0
+RunsEngines {A} scripts limit old new = (k : ℕ) (d : Lane SeatLog A) (e : EngineScript) → k < length old
+    → RunsEngine (slice_index_or scripts k e) limit
+    (slice_index_or old k d).seat (slice_index_or new k d).seat (slice_index_or new k d).stint
+
+-- on each seat, a client's worker runs the script of the same place, and the report has its stint
+abbrev pub ReportsClients : {A : Type 0} → List (Vec ClientStep) → ℕ → (old new : List SeatLog)
+    → RunReport A → Type 0
+ReportsClients scripts limit old new report = (k : ℕ) (d : SeatLog) (e : Vec ClientStep) → k < length old
+    → RunsClient (slice_index_or scripts k e).items limit
+    (slice_index_or old k d) (slice_index_or new k d) (stint_at report k)
+
+-- on each seat, an engine's worker runs the script of the same place, and the report has its stint
+-- behind those of the clients
+abbrev pub ReportsEngines : {A : Type 0} → List EngineScript → ℕ → (clients : ℕ) → (old new : List SeatLog)
+    → RunReport A → Type 0
+ReportsEngines scripts limit clients old new report = (k : ℕ) (d : SeatLog) (e : EngineScript) → k < length old
+    → RunsEngine (slice_index_or scripts k e) limit
+    (slice_index_or old k d) (slice_index_or new k d) (stint_at report (clients + k))

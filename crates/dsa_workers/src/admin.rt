@@ -24,7 +24,8 @@ fn turn_once<S: EntryStore, L: Sharing, G: Gate, R: Wait>(
     waits: bool,
     seat: &mut AdminSeat<L>,
 ) -> Reply
-    ensures seat { seat.new ≡ with_step seat.old (cond waits event.Poll (event.Issue command)) result }
+    ensures seat { seat.new
+        ≡ with_step seat.old (cond waits event.Poll (event.Issue command)) result }
     ensures answer { is_answer (cond waits event.Poll (event.Issue command)) result ≡ true }
 {
     if waits {
@@ -34,8 +35,8 @@ fn turn_once<S: EntryStore, L: Sharing, G: Gate, R: Wait>(
     }
 }
 
-// Issues the script's commands one after the other. After one that is active it asks until that one is
-// finished.
+// Issues the script's commands one after the other. After one that is active it asks until that one
+// is finished.
 fn issue_all<S: EntryStore, L: Sharing, G: Gate, R: Wait>(
     rt: &R,
     run: &Run<S, L, G>,

@@ -2,8 +2,8 @@
 
 ghost use Rattle.std.specs.Prelude.{◌≡◌, true, ◌<◌, ℕ, length, slice_index_or};
 ghost use Rattle.dsa_shared.specs.Seat.{with_receipt};
-ghost use Rattle.dsa_workers.specs.Calls.{submission, is_answer};
-ghost use Rattle.dsa_workers.specs.Workers.{RunsClient};
+ghost use Rattle.dsa_workers.specs.Calls.{submission_of_client_step, is_answer};
+ghost use Rattle.dsa_workers.specs.Workers.{RunsClient, RunsClients};
 
 use crate::lanes::Lane;
 use crate::replies::{goes_on, is_full};
@@ -24,8 +24,9 @@ fn turn_once<S: EntryStore, L: Sharing, G: Gate, R: Wait>(
     step: &ClientStep,
     seat: &mut ClientSeat<L>,
 ) -> Reply
-    ensures seat { seat.new ≡ with_receipt seat.old (submission seat.old.number step.now) result }
-    ensures answer { is_answer (submission seat.old.number step.now) result ≡ true }
+    ensures seat { seat.new
+        ≡ with_receipt seat.old (submission_of_client_step seat.old.number step.now) result }
+    ensures answer { is_answer (submission_of_client_step seat.old.number step.now) result ≡ true }
 {
     let ClientStep {
         queue,
@@ -36,7 +37,8 @@ fn turn_once<S: EntryStore, L: Sharing, G: Gate, R: Wait>(
     Reply::Submit(run.shared.submit(rt, seat, *queue, *portal, *kind, bytes))
 }
 
-// Submits the script's steps one after the other. A step that was turned away for want of room comes again.
+// Submits the script's steps one after the other. A step that was turned away for want of room
+// comes again.
 fn submit_all<S: EntryStore, L: Sharing, G: Gate, R: Wait>(
     rt: &R,
     run: &Run<S, L, G>,
@@ -99,7 +101,7 @@ pub fn run_clients<
     R: Threads + Wait + Sync,
 >(rt: &R, run: &Run<S, L, G>, scripts: &[Vec<ClientStep>], lanes: &mut [Lane<ClientSeat<L>, A>])
     requires scripts { length lanes.old ≡ length scripts.now }
-    ensures { (k : ℕ) (d : _) (e : _) → k < length lanes.old → RunsClient (slice_index_or scripts.now k e).items run.now.turns (slice_index_or lanes.old k d).seat (slice_index_or lanes.new k d).seat (slice_index_or lanes.new k d).stint }
+    ensures { RunsClients scripts.now run.now.turns lanes.old lanes.new }
 {
     let count = lanes.len();
     if count == 0 {
@@ -107,7 +109,9 @@ pub fn run_clients<
     }
     let run_it = |i: usize, lane: &mut Lane<ClientSeat<L>, A>|
         requires { i < length scripts.now }
-        ensures { (e : _) → RunsClient (slice_index_or scripts.entry.now i e).items run.entry.now.turns lane.old.seat lane.new.seat lane.new.stint }
+        ensures { (e : _)
+            → RunsClient (slice_index_or scripts.entry.now i e).items run.entry.now.turns
+            lane.old.seat lane.new.seat lane.new.stint }
     { run_lane(rt, run, i, &scripts[i], lane) };
     thread::for_each_mut(rt, lanes, count, &run_it);
 }

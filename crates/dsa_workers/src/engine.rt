@@ -1,8 +1,8 @@
 //! The workers of engines.
 
 ghost use Rattle.std.specs.Prelude.{◌≡◌, ◌<◌, ◌+◌, ◌^◌, ℕ, All, IfSome, is_some, length, slice_index_or};
-ghost use Rattle.dsa_workers.specs.Calls.{IsAnswered, engine_event, call_of, after_turn, HasRoom};
-ghost use Rattle.dsa_workers.specs.Workers.{RunsEngine};
+ghost use Rattle.dsa_workers.specs.Calls.{IsCallAnswered, engine_event, call_of, after_turn, HasRoomForTickets};
+ghost use Rattle.dsa_workers.specs.Workers.{RunsEngine, RunsEngines};
 
 use crate::lanes::Lane;
 use crate::replies::is_full;
@@ -17,8 +17,8 @@ use std::sync::Wait;
 use std::thread;
 use std::thread::Threads;
 
-// Dispatches, fetches, starts or finishes, by the number of the turn. Finishes nothing where it has no
-// ticket.
+// Dispatches, fetches, starts or finishes, by the number of the turn. Finishes nothing where it has
+// no ticket.
 fn turn_once<S: EntryStore, L: Sharing, G: Gate, A: Allocator, R: Wait>(
     rt: &R,
     run: &Run<S, L, G>,
@@ -27,9 +27,14 @@ fn turn_once<S: EntryStore, L: Sharing, G: Gate, A: Allocator, R: Wait>(
     tickets: &Tickets<A>,
     seat: &mut EngineSeat<L>,
 ) -> Option<Reply>
-    ensures called { is_some result ≡ is_some (engine_event seat.old.number script.now turn tickets.now.tickets) }
-    ensures answer { IfSome (call_of (engine_event seat.old.number script.now turn tickets.now.tickets) result) IsAnswered }
-    ensures seat { seat.new ≡ after_turn seat.old (call_of (engine_event seat.old.number script.now turn tickets.now.tickets) result) }
+    ensures called { is_some result
+        ≡ is_some (engine_event seat.old.number script.now turn tickets.now.tickets) }
+    ensures answer { IfSome
+        (call_of (engine_event seat.old.number script.now turn tickets.now.tickets) result)
+        IsCallAnswered }
+    ensures seat { seat.new
+        ≡ after_turn seat.old
+        (call_of (engine_event seat.old.number script.now turn tickets.now.tickets) result) }
 {
     match turn % 4 {
         0 => Some(Reply::Dispatch(run.shared.dispatch(rt, seat))),
@@ -51,7 +56,7 @@ fn serve<S: EntryStore, L: Sharing, G: Gate, A: Allocator, R: Wait>(
     tickets: &mut Tickets<A>,
     seat: &mut EngineSeat<L>,
 ) -> Stint
-    requires { HasRoom tickets.old run.now.turns }
+    requires { HasRoomForTickets tickets.old run.now.turns }
     ensures { RunsEngine script.now run.now.turns seat.old seat.new result }
 {
     for turn in 0..run.turns {
@@ -80,7 +85,7 @@ fn run_lane<S: EntryStore, L: Sharing, G: Gate, A: Allocator, R: Wait>(
     script: &EngineScript,
     lane: &mut Lane<EngineSeat<L>, A>,
 )
-    requires { HasRoom lane.old.tickets run.now.turns }
+    requires { HasRoomForTickets lane.old.tickets run.now.turns }
     ensures { RunsEngine script.now run.now.turns lane.old.seat lane.new.seat lane.new.stint }
 {
     lane.stint = serve(rt, run, worker, script, &mut lane.tickets, &mut lane.seat);
@@ -103,8 +108,8 @@ pub fn run_engines<
 )
     requires scripts { length lanes.old ≡ length scripts.now }
     requires workers { first + length lanes.old < 2 ^ 64 }
-    requires tickets { All (λ l. HasRoom l.tickets run.now.turns) lanes.old }
-    ensures { (k : ℕ) (d : _) (e : _) → k < length lanes.old → RunsEngine (slice_index_or scripts.now k e) run.now.turns (slice_index_or lanes.old k d).seat (slice_index_or lanes.new k d).seat (slice_index_or lanes.new k d).stint }
+    requires tickets { All (λ l. HasRoomForTickets l.tickets run.now.turns) lanes.old }
+    ensures { RunsEngines scripts.now run.now.turns lanes.old lanes.new }
 {
     let count = lanes.len();
     if count == 0 {
@@ -113,8 +118,10 @@ pub fn run_engines<
     let run_it = |i: usize, lane: &mut Lane<EngineSeat<L>, A>|
         requires script { i < length scripts.now }
         requires worker { first + i < 2 ^ 64 }
-        requires tickets { HasRoom lane.old.tickets run.now.turns }
-        ensures { (e : _) → RunsEngine (slice_index_or scripts.entry.now i e) run.entry.now.turns lane.old.seat lane.new.seat lane.new.stint }
+        requires tickets { HasRoomForTickets lane.old.tickets run.now.turns }
+        ensures { (e : _)
+            → RunsEngine (slice_index_or scripts.entry.now i e) run.entry.now.turns lane.old.seat
+            lane.new.seat lane.new.stint }
     { run_lane(rt, run, first + i, &scripts[i], lane) };
     thread::for_each_mut(rt, lanes, count, &run_it);
 }

@@ -1,7 +1,7 @@
 //! Seats under way with their workers.
 
 ghost use Rattle.std.specs.Prelude.{◌≡◌, ◌+◌, ◌≤◌, ◌++◌, [], All, IfOk, map, vec_len, vec_capacity};
-ghost use Rattle.dsa_workers.specs.Calls.{HasRoom};
+ghost use Rattle.dsa_workers.specs.Calls.{HasRoomForTickets};
 
 use crate::scripts::{RunReport, Stint, WorkerEnd};
 use crate::tickets::Tickets;
@@ -42,7 +42,7 @@ impl<T: Drop, A: Allocator + Copy> Spare<T, A> {
     /// For so many workers, each with room for so many tickets.
     pub fn new(alloc: A, count: usize, room: usize) -> Result<Self, AllocError>
         ensures count { IfOk result (λ r. vec_len r.tickets ≡ count) }
-        ensures room { IfOk result (λ r. All (λ t. HasRoom t room) r.tickets.items) }
+        ensures room { IfOk result (λ r. All (λ t. HasRoomForTickets t room) r.tickets.items) }
     {
         let lanes = Vec::with_capacity(alloc, count)?;
         let tickets = ticket_rooms(alloc, count, room)?;
@@ -54,9 +54,9 @@ impl<T: Drop, A: Allocator> Spare<T, A> {
     /// Puts each seat in a lane. The room of the seats stays.
     pub fn load(self, seats: &mut Vec<T>, limit: u32) -> Vec<Lane<T, A>, A>
         requires count { vec_len self.tickets ≡ vec_len seats.old }
-        requires room { All (λ t. HasRoom t limit) self.tickets.items }
+        requires room { All (λ t. HasRoomForTickets t limit) self.tickets.items }
         ensures seats { map (λ l. l.seat) result.items ≡ seats.old.items }
-        ensures room { All (λ l. HasRoom l.tickets limit) result.items }
+        ensures room { All (λ l. HasRoomForTickets l.tickets limit) result.items }
         ensures none_left { seats.new.items ≡ [] }
         ensures room_left { vec_len seats.old ≤ vec_capacity seats.new }
     {
@@ -80,11 +80,15 @@ pub fn unload<T: Drop, A: Allocator>(
     report: &mut RunReport<A>,
 )
     requires seats { (seats.old.items ≡ []) × (vec_len lanes ≤ vec_capacity seats.old) }
-    requires report { (vec_len report.old.turns + vec_len lanes ≤ vec_capacity report.old.turns) × (vec_len report.old.ended + vec_len lanes ≤ vec_capacity report.old.ended) }
+    requires report { (vec_len report.old.turns + vec_len lanes ≤ vec_capacity report.old.turns)
+        × (vec_len report.old.ended + vec_len lanes ≤ vec_capacity report.old.ended) }
     ensures seats { seats.new.items ≡ map (λ l. l.seat) lanes.items }
-    ensures turns { report.new.turns.items ≡ report.old.turns.items ++ map (λ l. l.stint.turns) lanes.items }
-    ensures ended { report.new.ended.items ≡ report.old.ended.items ++ map (λ l. l.stint.ended) lanes.items }
-    ensures room { (vec_capacity report.old.turns ≤ vec_capacity report.new.turns) × (vec_capacity report.old.ended ≤ vec_capacity report.new.ended) }
+    ensures turns { report.new.turns.items
+        ≡ report.old.turns.items ++ map (λ l. l.stint.turns) lanes.items }
+    ensures ended { report.new.ended.items
+        ≡ report.old.ended.items ++ map (λ l. l.stint.ended) lanes.items }
+    ensures room { (vec_capacity report.old.turns ≤ vec_capacity report.new.turns)
+        × (vec_capacity report.old.ended ≤ vec_capacity report.new.ended) }
 {
     for lane in lanes {
         let Lane {
@@ -104,7 +108,7 @@ fn ticket_rooms<A: Allocator + Copy>(
     room: usize,
 ) -> Result<Vec<Tickets<A>, A>, AllocError>
     ensures count { IfOk result (λ r. vec_len r ≡ count) }
-    ensures room { IfOk result (λ r. All (λ t. HasRoom t room) r.items) }
+    ensures room { IfOk result (λ r. All (λ t. HasRoomForTickets t room) r.items) }
 {
     let mut rooms = Vec::new(alloc);
     for _i in 0..count {

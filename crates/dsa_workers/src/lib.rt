@@ -1,8 +1,8 @@
 //! Workers in threads, each with a seat of a shared device.
 //!
-//! [`run_threads`] lends each seat to a worker of its own, which does what its script says until the
-//! script is done, its turns are out or the history is full. Before each of its turns, and at its end,
-//! a worker passes a [`Gate`].
+//! [`run_threads`] lends each seat to a worker of its own, which does what its script says until
+//! the script is done, its turns are out or the history is full. Before each of its turns, and at
+//! its end, a worker passes a [`Gate`].
 //!
 //! [`run_program`] shares a device, runs what a [`Program`] says of each seat, and settles.
 #![tactic(auto)]

@@ -55,8 +55,9 @@ pub enum ProgramFault<S: EntryStore> {
     NotSettled(SettleFault),
 }
 
-/// Shares a device that has made no step yet among so many clients (1 to 64), its engines and an administrator, runs the
-/// program on it, and settles. A client or an engine whose thread the system refuses runs after another one.
+/// Shares a device that has made no step yet among so many clients (1 to 64), its engines and an
+/// administrator, runs the program on it, and settles. A client or an engine whose thread the
+/// system refuses runs after another one.
 pub fn run_program<S: EntryStore + Send, P: Program + Sync, R: Threads + Wait + Sync>(
     rt: &R,
     alloc: Global,
@@ -64,13 +65,16 @@ pub fn run_program<S: EntryStore + Send, P: Program + Sync, R: Threads + Wait + 
     clients: u16,
     program: &P,
 ) -> Result<Settled<S>, ProgramFault<S>>
-    ensures totals { IfOk result (λ s. s.totals ≡ totals_of s.device.history (held_count s.device.state.work.content)) }
+    ensures totals { IfOk result
+        (λ s. s.totals ≡ totals_of s.device.history (held_count s.device.state.work.content)) }
     ensures balance { IfOk result (λ s. Balance s.totals s.device.state.work) }
     ensures caps { IfOk result (λ s. s.device.caps ≡ device.caps) }
     ensures replay { IfOk result (λ s. IsReplay s.device) }
     ensures well_formed { IfOk result (λ s. IsWellFormed s.device.caps s.device.state) }
-    ensures bad_clients { (result ≡ Err (ProgramFault.NotShared ShareFault.BadClients device)) ↔ ((clients ≡ 0) ⊎ (64 < clients)) }
-    ensures not_fresh { (result ≡ Err (ProgramFault.NotShared ShareFault.NotFresh device)) ↔ ((0 < clients) × (clients ≤ 64) × (0 < length device.history)) }
+    ensures bad_clients { (result ≡ Err (ProgramFault.NotShared ShareFault.BadClients device))
+        ↔ ((clients ≡ 0) ⊎ (64 < clients)) }
+    ensures not_fresh { (result ≡ Err (ProgramFault.NotShared ShareFault.NotFresh device))
+        ↔ ((0 < clients) × (clients ≤ 64) × (0 < length device.history)) }
     ensures back { (f : _) (d : _) → result ≡ Err (ProgramFault.NotShared f d) → d ≡ device }
 {
     run_as::<S, Brand, P, R>(rt, alloc, device, Blanks::new(), clients, program)
@@ -92,13 +96,16 @@ fn run_as<
     requires blanks { (blanks ≡ L.name) × (L.parts ≡ 129) }
     requires device { (L.caps ≡ device.caps) × (L.capacity ≡ device.capacity) }
     requires clients { L.clients ≡ clients }
-    ensures totals { IfOk result (λ s. s.totals ≡ totals_of s.device.history (held_count s.device.state.work.content)) }
+    ensures totals { IfOk result
+        (λ s. s.totals ≡ totals_of s.device.history (held_count s.device.state.work.content)) }
     ensures balance { IfOk result (λ s. Balance s.totals s.device.state.work) }
     ensures caps { IfOk result (λ s. s.device.caps ≡ device.caps) }
     ensures replay { IfOk result (λ s. IsReplay s.device) }
     ensures well_formed { IfOk result (λ s. IsWellFormed s.device.caps s.device.state) }
-    ensures bad_clients { (result ≡ Err (ProgramFault.NotShared ShareFault.BadClients device)) ↔ ((clients ≡ 0) ⊎ (64 < clients)) }
-    ensures not_fresh { (result ≡ Err (ProgramFault.NotShared ShareFault.NotFresh device)) ↔ ((0 < clients) × (clients ≤ 64) × (0 < length device.history)) }
+    ensures bad_clients { (result ≡ Err (ProgramFault.NotShared ShareFault.BadClients device))
+        ↔ ((clients ≡ 0) ⊎ (64 < clients)) }
+    ensures not_fresh { (result ≡ Err (ProgramFault.NotShared ShareFault.NotFresh device))
+        ↔ ((0 < clients) × (clients ≤ 64) × (0 < length device.history)) }
     ensures back { (f : _) (d : _) → result ≡ Err (ProgramFault.NotShared f d) → d ≡ device }
 {
     match SharedDevice::<S, L>::new(alloc, device, blanks, clients) {

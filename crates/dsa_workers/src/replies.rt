@@ -1,7 +1,7 @@
 //! What an answer means to a worker.
 
 ghost use Rattle.std.specs.Prelude.{◌≡◌};
-ghost use Rattle.dsa_workers.specs.Calls.{goes_on, is_full};
+ghost use Rattle.dsa_workers.specs.Calls.{goes_on, is_history_full};
 
 use dsa_book::{
     Cause, DispatchAnswer, FetchAnswer, FinishAnswer, IssueAnswer, PollAnswer, Reply, StartAnswer,
@@ -27,7 +27,7 @@ pub fn goes_on(reply: &Reply) -> bool
 
 /// Whether the history has no room.
 pub fn is_full(reply: &Reply) -> bool
-    ensures { result ≡ is_full reply.now }
+    ensures { result ≡ is_history_full reply.now }
 {
     matches!(
         reply,

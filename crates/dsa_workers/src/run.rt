@@ -1,8 +1,8 @@
 //! All workers at once.
 
-ghost use Rattle.std.specs.Prelude.{◌≡◌, ◌<◌, ◌+◌, ◌^◌, ℕ, All, length, vec_len, slice_index_or};
-ghost use Rattle.dsa_workers.specs.Calls.{HasRoom};
-ghost use Rattle.dsa_workers.specs.Workers.{RunsClient, RunsEngine, RunsAdmin};
+ghost use Rattle.std.specs.Prelude.{◌≡◌, ◌<◌, ◌+◌, ◌^◌, All, length, vec_len};
+ghost use Rattle.dsa_workers.specs.Calls.{HasRoomForTickets};
+ghost use Rattle.dsa_workers.specs.Workers.{RunsClients, RunsEngines, RunsAdmin};
 
 use crate::admin::run_admin_lane;
 use crate::client::run_clients;
@@ -40,8 +40,8 @@ fn run_engine_lanes<
 )
     requires scripts { vec_len lanes.old ≡ length scripts.now }
     requires workers { first + vec_len lanes.old < 2 ^ 64 }
-    requires tickets { All (λ l. HasRoom l.tickets run.now.turns) lanes.old.items }
-    ensures runs { (k : ℕ) (d : _) (e : _) → k < length lanes.old.items → RunsEngine (slice_index_or scripts.now k e) run.now.turns (slice_index_or lanes.old.items k d).seat (slice_index_or lanes.new.items k d).seat (slice_index_or lanes.new.items k d).stint }
+    requires tickets { All (λ l. HasRoomForTickets l.tickets run.now.turns) lanes.old.items }
+    ensures runs { RunsEngines scripts.now run.now.turns lanes.old.items lanes.new.items }
     ensures len { vec_len lanes.new ≡ vec_len lanes.old }
 {
     run_engines(rt, run, first, scripts, lanes.as_mut_slice());
@@ -65,21 +65,25 @@ fn run_rest<
 )
     requires scripts { vec_len rest.old.engines ≡ length scripts.now }
     requires workers { first + vec_len rest.old.engines < 2 ^ 64 }
-    requires tickets { All (λ l. HasRoom l.tickets run.now.turns) rest.old.engines.items }
-    ensures engines { (k : ℕ) (d : _) (e : _) → k < length rest.old.engines.items → RunsEngine (slice_index_or scripts.now k e) run.now.turns (slice_index_or rest.old.engines.items k d).seat (slice_index_or rest.new.engines.items k d).seat (slice_index_or rest.new.engines.items k d).stint }
+    requires tickets { All (λ l. HasRoomForTickets l.tickets run.now.turns) rest.old.engines.items }
+    ensures engines { RunsEngines scripts.now run.now.turns rest.old.engines.items
+        rest.new.engines.items }
     ensures len { vec_len rest.new.engines ≡ vec_len rest.old.engines }
-    ensures admin { RunsAdmin commands.now run.now.turns rest.old.admin.seat rest.new.admin.seat rest.new.admin.stint }
+    ensures admin { RunsAdmin commands.now run.now.turns rest.old.admin.seat rest.new.admin.seat
+        rest.new.admin.stint }
 {
     let Rest { engines, admin } = rest;
     let run_them = |_at: usize, lanes: &mut Vec<Lane<EngineSeat<L>, A>, A>|
         requires scripts { vec_len lanes.old ≡ length scripts.now }
         requires workers { first + vec_len lanes.old < 2 ^ 64 }
-        requires tickets { All (λ l. HasRoom l.tickets run.now.turns) lanes.old.items }
-        ensures runs { (k : ℕ) (d : _) (e : _) → k < length lanes.old.items → RunsEngine (slice_index_or scripts.entry.now k e) run.entry.now.turns (slice_index_or lanes.old.items k d).seat (slice_index_or lanes.new.items k d).seat (slice_index_or lanes.new.items k d).stint }
+        requires tickets { All (λ l. HasRoomForTickets l.tickets run.now.turns) lanes.old.items }
+        ensures runs { RunsEngines scripts.entry.now run.entry.now.turns lanes.old.items
+            lanes.new.items }
         ensures len { vec_len lanes.new ≡ vec_len lanes.old }
     { run_engine_lanes(rt, run, first, scripts, lanes) };
     let run_it = |_at: usize, lane: &mut Lane<AdminSeat<L>, A>|
-        ensures { RunsAdmin commands.entry.now run.entry.now.turns lane.old.seat lane.new.seat lane.new.stint }
+        ensures { RunsAdmin commands.entry.now run.entry.now.turns lane.old.seat lane.new.seat
+            lane.new.stint }
     { run_admin_lane(rt, run, last, commands, lane) };
     join_pair(rt, &run_them, engines, &run_it, admin);
 }
@@ -97,7 +101,7 @@ fn run_client_lanes<
     lanes: &mut Vec<Lane<ClientSeat<L>, A>, A>,
 )
     requires { vec_len lanes.old ≡ length scripts.now }
-    ensures runs { (k : ℕ) (d : _) (e : _) → k < length lanes.old.items → RunsClient (slice_index_or scripts.now k e).items run.now.turns (slice_index_or lanes.old.items k d).seat (slice_index_or lanes.new.items k d).seat (slice_index_or lanes.new.items k d).stint }
+    ensures runs { RunsClients scripts.now run.now.turns lanes.old.items lanes.new.items }
     ensures len { vec_len lanes.new ≡ vec_len lanes.old }
 {
     run_clients(rt, run, scripts, lanes.as_mut_slice());
@@ -118,13 +122,18 @@ pub fn run_all<
     clients: &mut Vec<Lane<ClientSeat<L>, A>, A>,
     rest: &mut Rest<L, A>,
 )
-    requires scripts { (vec_len clients.old ≡ vec_len scripts.now.clients) × (vec_len rest.old.engines ≡ vec_len scripts.now.engines) }
+    requires scripts { (vec_len clients.old ≡ vec_len scripts.now.clients)
+        × (vec_len rest.old.engines ≡ vec_len scripts.now.engines) }
     requires workers { vec_len clients.old + vec_len rest.old.engines < 2 ^ 64 }
-    requires tickets { All (λ l. HasRoom l.tickets run.now.turns) rest.old.engines.items }
-    ensures clients { (k : ℕ) (d : _) (e : _) → k < length clients.old.items → RunsClient (slice_index_or scripts.now.clients.items k e).items run.now.turns (slice_index_or clients.old.items k d).seat (slice_index_or clients.new.items k d).seat (slice_index_or clients.new.items k d).stint }
-    ensures engines { (k : ℕ) (d : _) (e : _) → k < length rest.old.engines.items → RunsEngine (slice_index_or scripts.now.engines.items k e) run.now.turns (slice_index_or rest.old.engines.items k d).seat (slice_index_or rest.new.engines.items k d).seat (slice_index_or rest.new.engines.items k d).stint }
-    ensures len { (vec_len clients.new ≡ vec_len clients.old) × (vec_len rest.new.engines ≡ vec_len rest.old.engines) }
-    ensures admin { RunsAdmin scripts.now.admin.items run.now.turns rest.old.admin.seat rest.new.admin.seat rest.new.admin.stint }
+    requires tickets { All (λ l. HasRoomForTickets l.tickets run.now.turns) rest.old.engines.items }
+    ensures clients { RunsClients scripts.now.clients.items run.now.turns clients.old.items
+        clients.new.items }
+    ensures engines { RunsEngines scripts.now.engines.items run.now.turns rest.old.engines.items
+        rest.new.engines.items }
+    ensures len { (vec_len clients.new ≡ vec_len clients.old)
+        × (vec_len rest.new.engines ≡ vec_len rest.old.engines) }
+    ensures admin { RunsAdmin scripts.now.admin.items run.now.turns rest.old.admin.seat
+        rest.new.admin.seat rest.new.admin.stint }
 {
     let first = clients.len();
     let last = first + rest.engines.len();
@@ -133,16 +142,20 @@ pub fn run_all<
     let commands = scripts.admin.as_slice();
     let run_them = |_at: usize, lanes: &mut Vec<Lane<ClientSeat<L>, A>, A>|
         requires { vec_len lanes.old ≡ length client_scripts.now }
-        ensures runs { (k : ℕ) (d : _) (e : _) → k < length lanes.old.items → RunsClient (slice_index_or client_scripts.entry.now k e).items run.entry.now.turns (slice_index_or lanes.old.items k d).seat (slice_index_or lanes.new.items k d).seat (slice_index_or lanes.new.items k d).stint }
+        ensures runs { RunsClients client_scripts.entry.now run.entry.now.turns lanes.old.items
+            lanes.new.items }
         ensures len { vec_len lanes.new ≡ vec_len lanes.old }
     { run_client_lanes(rt, run, client_scripts, lanes) };
     let run_others = |_at: usize, rest: &mut Rest<L, A>|
         requires scripts { vec_len rest.old.engines ≡ length engine_scripts.now }
         requires workers { first + vec_len rest.old.engines < 2 ^ 64 }
-        requires tickets { All (λ l. HasRoom l.tickets run.now.turns) rest.old.engines.items }
-        ensures engines { (k : ℕ) (d : _) (e : _) → k < length rest.old.engines.items → RunsEngine (slice_index_or engine_scripts.entry.now k e) run.entry.now.turns (slice_index_or rest.old.engines.items k d).seat (slice_index_or rest.new.engines.items k d).seat (slice_index_or rest.new.engines.items k d).stint }
+        requires tickets { All (λ l. HasRoomForTickets l.tickets run.now.turns)
+            rest.old.engines.items }
+        ensures engines { RunsEngines engine_scripts.entry.now run.entry.now.turns
+            rest.old.engines.items rest.new.engines.items }
         ensures len { vec_len rest.new.engines ≡ vec_len rest.old.engines }
-        ensures admin { RunsAdmin commands.entry.now run.entry.now.turns rest.old.admin.seat rest.new.admin.seat rest.new.admin.stint }
+        ensures admin { RunsAdmin commands.entry.now run.entry.now.turns rest.old.admin.seat
+            rest.new.admin.seat rest.new.admin.stint }
     { run_rest(rt, run, first, last, engine_scripts, commands, rest) };
     join_pair(rt, &run_them, clients, &run_others, rest);
 }

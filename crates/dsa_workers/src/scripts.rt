@@ -8,8 +8,8 @@ use dsa_store::EntryStore;
 use std::alloc::{Allocator, Global};
 use thiserror::Error;
 
-/// Each worker passes it before each of its turns, counted from 0, and once more at its end, with the
-/// number of turns that it has had.
+/// Each worker passes it before each of its turns, counted from 0, and once more at its end, with
+/// the number of turns that it has had.
 pub trait Gate {
     fn pass(&self, worker: usize, turn: u32);
 }

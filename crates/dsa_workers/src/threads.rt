@@ -1,8 +1,8 @@
 //! Running all workers over the seats that are lent.
 
-ghost use Rattle.std.specs.Prelude.{◌≡◌, ◌≤◌, ◌<◌, ◌+◌, ◌^◌, ◌↔◌, ℕ, All, IsSome, OnOk, OnErr, IfOk, length, vec_len, vec_capacity, slice_index_or};
-ghost use Rattle.dsa_workers.specs.Calls.{HasRoom};
-ghost use Rattle.dsa_workers.specs.Workers.{RunsClient, RunsEngine, RunsAdmin, IsFitting, stint_at, receipts_in};
+ghost use Rattle.std.specs.Prelude.{◌≡◌, ◌≤◌, ◌<◌, ◌+◌, ◌^◌, ◌↔◌, All, IsSome, OnOk, OnErr, IfOk, length, vec_len, vec_capacity};
+ghost use Rattle.dsa_workers.specs.Calls.{HasRoomForTickets};
+ghost use Rattle.dsa_workers.specs.Workers.{ReportsClients, ReportsEngines, RunsAdmin, IsFitting, stint_at, receipts_in};
 
 use crate::lanes::{Lane, Spare, idle, unload};
 use crate::run::{Rest, run_all};
@@ -40,16 +40,27 @@ fn run_loaded<
     engines: &mut Vec<EngineSeat<L>>,
     admin: AdminSeat<L>,
 ) -> (AdminSeat<L>, RunReport<A>)
-    requires scripts { (vec_len clients.old ≡ vec_len scripts.now.clients) × (vec_len engines.old ≡ vec_len scripts.now.engines) }
+    requires scripts { (vec_len clients.old ≡ vec_len scripts.now.clients)
+        × (vec_len engines.old ≡ vec_len scripts.now.engines) }
     requires workers { vec_len clients.old + vec_len engines.old + 1 < 2 ^ 64 }
-    requires client_rooms { (vec_len rooms.clients.tickets ≡ vec_len clients.old) × All (λ t. HasRoom t 0) rooms.clients.tickets.items }
-    requires engine_rooms { (vec_len rooms.engines.tickets ≡ vec_len engines.old) × All (λ t. HasRoom t run.now.turns) rooms.engines.tickets.items }
-    requires report { (vec_len rooms.report.turns ≡ 0) × (vec_len rooms.report.ended ≡ 0) × (vec_len clients.old + vec_len engines.old + 1 ≤ vec_capacity rooms.report.turns) × (vec_len clients.old + vec_len engines.old + 1 ≤ vec_capacity rooms.report.ended) }
-    ensures clients { (k : ℕ) (d : _) (e : _) → k < length clients.old.items → RunsClient (slice_index_or scripts.now.clients.items k e).items run.now.turns (slice_index_or clients.old.items k d) (slice_index_or clients.new.items k d) (stint_at result.1 k) }
-    ensures engines { (k : ℕ) (d : _) (e : _) → k < length engines.old.items → RunsEngine (slice_index_or scripts.now.engines.items k e) run.now.turns (slice_index_or engines.old.items k d) (slice_index_or engines.new.items k d) (stint_at result.1 (vec_len clients.old + k)) }
-    ensures admin { RunsAdmin scripts.now.admin.items run.now.turns admin result.0 (stint_at result.1 (vec_len clients.old + vec_len engines.old)) }
-    ensures len { (length clients.new.items ≡ length clients.old.items) × (length engines.new.items ≡ length engines.old.items) }
-    ensures items { (vec_len result.1.turns ≡ vec_len clients.old + vec_len engines.old + 1) × (vec_len result.1.ended ≡ vec_len clients.old + vec_len engines.old + 1) }
+    requires client_rooms { (vec_len rooms.clients.tickets ≡ vec_len clients.old)
+        × All (λ t. HasRoomForTickets t 0) rooms.clients.tickets.items }
+    requires engine_rooms { (vec_len rooms.engines.tickets ≡ vec_len engines.old)
+        × All (λ t. HasRoomForTickets t run.now.turns) rooms.engines.tickets.items }
+    requires report { (vec_len rooms.report.turns ≡ 0)
+        × (vec_len rooms.report.ended ≡ 0)
+        × (vec_len clients.old + vec_len engines.old + 1 ≤ vec_capacity rooms.report.turns)
+        × (vec_len clients.old + vec_len engines.old + 1 ≤ vec_capacity rooms.report.ended) }
+    ensures clients { ReportsClients scripts.now.clients.items run.now.turns clients.old.items
+        clients.new.items result.1 }
+    ensures engines { ReportsEngines scripts.now.engines.items run.now.turns (vec_len clients.old)
+        engines.old.items engines.new.items result.1 }
+    ensures admin { RunsAdmin scripts.now.admin.items run.now.turns admin result.0
+        (stint_at result.1 (vec_len clients.old + vec_len engines.old)) }
+    ensures len { (length clients.new.items ≡ length clients.old.items)
+        × (length engines.new.items ≡ length engines.old.items) }
+    ensures items { (vec_len result.1.turns ≡ vec_len clients.old + vec_len engines.old + 1)
+        × (vec_len result.1.ended ≡ vec_len clients.old + vec_len engines.old + 1) }
 {
     let Rooms {
         clients: client_spare,
@@ -81,13 +92,14 @@ fn run_loaded<
     (seat, report)
 }
 
-/// Runs each worker in a thread of its own over the seat that it is lent. The administrator's is the
-/// caller's. Script k goes to the seat at place k of its kind. Workers are numbered clients first, then
-/// engines, then the administrator. A worker whose thread the system refuses runs after another one.
+/// Runs each worker in a thread of its own over the seat that it is lent. The administrator's is
+/// the caller's. Script k goes to the seat at place k of its kind. Workers are numbered clients
+/// first, then engines, then the administrator. A worker whose thread the system refuses runs after
+/// another one.
 ///
-/// Between the old receipts of a seat and the new ones stand the worker's calls that the history kept:
-/// at most one call a turn, each the next by the script after those before it. Whatever the fault,
-/// nothing ran and the seats are as they were.
+/// Between the old receipts of a seat and the new ones stand the worker's calls that the history
+/// kept: at most one call a turn, each the next by the script after those before it. Whatever the
+/// fault, nothing ran and the seats are as they were.
 pub fn run_threads<
     S: EntryStore + Send,
     L: Sharing + Send + Sync,
@@ -103,13 +115,30 @@ pub fn run_threads<
     gate: &G,
     turns: u32,
 ) -> Result<RunReport<A>, RunFault>
-    ensures script_count { (result ≡ Err RunFault.ScriptCount) ↔ ¬ IsFitting (vec_len seats.old.clients) (vec_len seats.old.engines) (vec_len scripts.now.clients) (vec_len scripts.now.engines) seats.old.admin }
-    ensures nothing_ran { OnErr result ((seats.new.clients.items ≡ seats.old.clients.items) × (seats.new.engines.items ≡ seats.old.engines.items) × (seats.new.admin ≡ seats.old.admin)) }
-    ensures back { OnOk result ((length seats.new.clients.items ≡ length seats.old.clients.items) × (length seats.new.engines.items ≡ length seats.old.engines.items) × IsSome seats.new.admin) }
-    ensures clients { IfOk result (λ r. (k : ℕ) (d : _) (e : _) → k < length seats.old.clients.items → RunsClient (slice_index_or scripts.now.clients.items k e).items turns (slice_index_or seats.old.clients.items k d) (slice_index_or seats.new.clients.items k d) (stint_at r k)) }
-    ensures engines { IfOk result (λ r. (k : ℕ) (d : _) (e : _) → k < length seats.old.engines.items → RunsEngine (slice_index_or scripts.now.engines.items k e) turns (slice_index_or seats.old.engines.items k d) (slice_index_or seats.new.engines.items k d) (stint_at r (vec_len seats.old.clients + k))) }
-    ensures admin { IfOk result (λ r. RunsAdmin scripts.now.admin.items turns (receipts_in seats.old.admin) (receipts_in seats.new.admin) (stint_at r (vec_len seats.old.clients + vec_len seats.old.engines))) }
-    ensures items { IfOk result (λ r. (vec_len r.turns ≡ vec_len seats.old.clients + vec_len seats.old.engines + 1) × (vec_len r.ended ≡ vec_len seats.old.clients + vec_len seats.old.engines + 1)) }
+    ensures script_count { (result ≡ Err RunFault.ScriptCount)
+        ↔ ¬ IsFitting (vec_len seats.old.clients) (vec_len seats.old.engines)
+        (vec_len scripts.now.clients) (vec_len scripts.now.engines) seats.old.admin }
+    ensures nothing_ran { OnErr result
+        ((seats.new.clients.items ≡ seats.old.clients.items)
+        × (seats.new.engines.items ≡ seats.old.engines.items)
+        × (seats.new.admin ≡ seats.old.admin)) }
+    ensures back { OnOk result
+        ((length seats.new.clients.items ≡ length seats.old.clients.items)
+        × (length seats.new.engines.items ≡ length seats.old.engines.items)
+        × IsSome seats.new.admin) }
+    ensures clients { IfOk result
+        (λ r. ReportsClients scripts.now.clients.items turns seats.old.clients.items
+        seats.new.clients.items r) }
+    ensures engines { IfOk result
+        (λ r. ReportsEngines scripts.now.engines.items turns (vec_len seats.old.clients)
+        seats.old.engines.items seats.new.engines.items r) }
+    ensures admin { IfOk result
+        (λ r. RunsAdmin scripts.now.admin.items turns (receipts_in seats.old.admin)
+        (receipts_in seats.new.admin)
+        (stint_at r (vec_len seats.old.clients + vec_len seats.old.engines))) }
+    ensures items { IfOk result
+        (λ r. (vec_len r.turns ≡ vec_len seats.old.clients + vec_len seats.old.engines + 1)
+        × (vec_len r.ended ≡ vec_len seats.old.clients + vec_len seats.old.engines + 1)) }
 {
     let Seats {
         clients,
@@ -144,9 +173,17 @@ pub fn run_threads<
 impl<L: Sharing, A: Allocator + Copy> Rooms<L, A> {
     fn new(alloc: A, clients: usize, engines: usize, turns: u32) -> Result<Self, AllocError>
         requires { clients + engines + 1 < 2 ^ 64 }
-        ensures clients { IfOk result (λ r. (vec_len r.clients.tickets ≡ clients) × All (λ t. HasRoom t 0) r.clients.tickets.items) }
-        ensures engines { IfOk result (λ r. (vec_len r.engines.tickets ≡ engines) × All (λ t. HasRoom t turns) r.engines.tickets.items) }
-        ensures report { IfOk result (λ r. (vec_len r.report.turns ≡ 0) × (vec_len r.report.ended ≡ 0) × (clients + engines + 1 ≤ vec_capacity r.report.turns) × (clients + engines + 1 ≤ vec_capacity r.report.ended)) }
+        ensures clients { IfOk result
+            (λ r. (vec_len r.clients.tickets ≡ clients)
+            × All (λ t. HasRoomForTickets t 0) r.clients.tickets.items) }
+        ensures engines { IfOk result
+            (λ r. (vec_len r.engines.tickets ≡ engines)
+            × All (λ t. HasRoomForTickets t turns) r.engines.tickets.items) }
+        ensures report { IfOk result
+            (λ r. (vec_len r.report.turns ≡ 0)
+            × (vec_len r.report.ended ≡ 0)
+            × (clients + engines + 1 ≤ vec_capacity r.report.turns)
+            × (clients + engines + 1 ≤ vec_capacity r.report.ended)) }
     {
         let client_rooms = Spare::new(alloc, clients, 0)?;
         let engine_rooms = Spare::new(alloc, engines, turns as usize)?;

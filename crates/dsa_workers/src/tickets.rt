@@ -8,7 +8,8 @@ use std::alloc::{AllocError, Allocator, Global};
 use std::marker::Model;
 
 /// Tickets in the order in which they came, and how many of them were taken.
-/// The room for all was taken when it was made. Contracts see those that are left, and the room for more.
+/// The room for all was taken when it was made. Contracts see those that are left, and the room for
+/// more.
 #[derive(Drop)]
 pub struct Tickets<A: Allocator = Global> {
     came: Vec<Ticket, A>,
@@ -21,7 +22,8 @@ impl<A: Allocator> Model for Tickets<A> {
 
     ghost Value = { Pending };
 
-    ghost view = { λ t. record { tickets = drop t.taken t.came.items; room = vec_capacity t.came - vec_len t.came } };
+    ghost view = { λ t. record
+        { tickets = drop t.taken t.came.items; room = vec_capacity t.came - vec_len t.came } };
 
     ghost invariant = { λ t. t.taken ≤ vec_len t.came };
 }
@@ -61,8 +63,8 @@ impl<A: Allocator> Tickets<A> {
         }
     }
 
-    /// Adds the ticket of an entry that was taken or started. Puts the oldest one last where its entry
-    /// was not ready, and drops it where that entry is over.
+    /// Adds the ticket of an entry that was taken or started. Puts the oldest one last where its
+    /// entry was not ready, and drops it where that entry is over.
     pub fn note(&mut self, reply: &Reply)
         requires { 0 < self.old.room }
         ensures tickets { self.new.tickets ≡ tickets_after self.old.tickets reply.now }

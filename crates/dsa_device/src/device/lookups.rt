@@ -3,11 +3,11 @@
 ghost use Rattle.std.specs.Prelude.{◌≡◌, true, false, MatchOption};
 ghost use Rattle.std.specs.Option.{option_map};
 ghost use Rattle.dsa_regs.specs.Caps.{list_use};
-ghost use Rattle.dsa_store.specs.Content.{entry_of, list_of};
+ghost use Rattle.dsa_store.specs.Content.{entry_of, list_of_cell};
 ghost use Rattle.dsa_book.specs.State.{need_of, is_batch_of, is_drain_of};
 ghost use Rattle.dsa_book.specs.declared.answer.DispatchAnswer.TheVariants.{Taken};
 ghost use Rattle.dsa_book.specs.Choice.{from_queue};
-ghost use Rattle.dsa_book.specs.Work.{group_of, qualifies, dispatch};
+ghost use Rattle.dsa_book.specs.Work.{group_of_engine, qualifies, dispatch};
 
 use super::Device;
 use dsa_book::Ticket;
@@ -17,13 +17,13 @@ use dsa_store::{Cell, Entry, EntryStore};
 impl<S: EntryStore> Device<S> {
     /// The group that the engine is of: the first that has it. `None` exactly where none has.
     pub fn group_of(&self, engine: u16) -> Option<u16>
-        ensures { result ≡ group_of self.now.state.work engine }
+        ensures { result ≡ group_of_engine self.now.state.work engine }
     {
         self.queues.group_of(engine)
     }
 
-    /// The ticket of the queue's front, where the engine may take it: what `dispatch_from` takes, once the history has room.
-    /// `None` exactly where the queue does not qualify.
+    /// The ticket of the queue's front, where the engine may take it: what `dispatch_from` takes,
+    /// once the history has room. `None` exactly where the queue does not qualify.
     pub fn offered(&self, engine: u16, queue: u16) -> Option<Ticket>
         ensures { MatchOption result (qualifies self.now.state.work engine queue ≡ false)
             (λ ticket. (qualifies self.now.state.work engine queue ≡ true)
@@ -42,7 +42,8 @@ impl<S: EntryStore> Device<S> {
 
     /// What the list is for that the cell stands in. `None` exactly where it stands in none.
     pub fn list_with(&self, cell: Cell) -> Option<ListUse>
-        ensures { result ≡ option_map (list_use self.now.caps) (list_of self.now.state.work.content cell) }
+        ensures { result
+            ≡ option_map (list_use self.now.caps) (list_of_cell self.now.state.work.content cell) }
     {
         let list = self.store.list_of(cell)?;
         Some(self.queues.list_use(list))

@@ -42,7 +42,8 @@ impl<S: EntryStore> Device<S> {
 
     /// The phase of the queue. `None` exactly when the device has no such queue.
     pub fn queue_phase(&self, queue: u16) -> Option<Phase>
-        ensures { result ≡ when (nat_lt queue self.now.caps.queues) (phase_at self.now.state.work.setup queue) }
+        ensures { result
+            ≡ when (nat_lt queue self.now.caps.queues) (phase_at self.now.state.work.setup queue) }
     {
         if queue >= self.caps.queues {
             return None;
@@ -52,7 +53,9 @@ impl<S: EntryStore> Device<S> {
 
     /// The configuration of the queue. `None` exactly when the device has no such queue.
     pub fn queue_config(&self, queue: u16) -> Option<QueueConfig>
-        ensures { result ≡ when (nat_lt queue self.now.caps.queues) (queue_at self.now.state.work.setup.configs queue) }
+        ensures { result
+            ≡ when (nat_lt queue self.now.caps.queues)
+            (queue_at self.now.state.work.setup.configs queue) }
     {
         if queue >= self.caps.queues {
             return None;
@@ -76,7 +79,9 @@ impl<S: EntryStore> Device<S> {
 
     /// The configuration of the group. `None` exactly when the device has no such group.
     pub fn group_config(&self, group: u16) -> Option<GroupConfig>
-        ensures { result ≡ when (nat_lt group self.now.caps.groups) (group_at self.now.state.work.setup.groups group) }
+        ensures { result
+            ≡ when (nat_lt group self.now.caps.groups)
+            (group_at self.now.state.work.setup.groups group) }
     {
         if group >= self.caps.groups {
             return None;
@@ -84,18 +89,21 @@ impl<S: EntryStore> Device<S> {
         Some(self.queues.group(group))
     }
 
-    /// The number of entries that wait in the queue; those that engines have taken are not counted (profile). `None`
-    /// exactly when the device has no such queue.
+    /// The number of entries that wait in the queue; those that engines have taken are not counted
+    /// (profile). `None` exactly when the device has no such queue.
     pub fn occupancy(&self, queue: u16) -> Option<u16>
-        ensures { result ≡ when (nat_lt queue self.now.caps.queues) (occupancy self.now.state.work.content queue) }
+        ensures { result
+            ≡ when (nat_lt queue self.now.caps.queues)
+            (occupancy self.now.state.work.content queue) }
     {
         self.queues.occupancy(&self.store, queue)
     }
 
-    /// The number of read buffers that the running entries of the group's engines hold. `None` exactly when the device has no
-    /// such group.
+    /// The number of read buffers that the running entries of the group's engines hold. `None`
+    /// exactly when the device has no such group.
     pub fn used(&self, group: u16) -> Option<u16>
-        ensures { result ≡ when (nat_lt group self.now.caps.groups) (used self.now.state.work group) }
+        ensures { result
+            ≡ when (nat_lt group self.now.caps.groups) (used self.now.state.work group) }
     {
         if group >= self.caps.groups {
             return None;
@@ -113,8 +121,8 @@ impl<S: EntryStore> Device<S> {
         self.queues.noted()
     }
 
-    /// What is noted of the batch that the engine works on. `None` exactly when it works on none, or the device has no such
-    /// engine.
+    /// What is noted of the batch that the engine works on. `None` exactly when it works on none,
+    /// or the device has no such engine.
     pub fn batch(&self, engine: u16) -> Option<BatchNote>
         ensures { result ≡ note_at self.now.state.work engine }
     {
@@ -138,8 +146,8 @@ impl<S: EntryStore> Device<S> {
         self.admin.active().map(|active| active.command)
     }
 
-    /// How many held entries the active command still waits for: of a drain's scope those that were submitted before it, all
-    /// of a disable's. `None` exactly when no command is active.
+    /// How many held entries the active command still waits for: of a drain's scope those that were
+    /// submitted before it, all of a disable's. `None` exactly when no command is active.
     pub fn awaited(&self) -> Option<u32>
         ensures { result ≡ awaited self.now.state }
     {
@@ -147,7 +155,8 @@ impl<S: EntryStore> Device<S> {
         Some(awaited as u32)
     }
 
-    /// Whether the active command still waits for the entry. It does for none where no command is active.
+    /// Whether the active command still waits for the entry. It does for none where no command is
+    /// active.
     pub fn awaits(&self, entry: &Entry) -> bool
         ensures { result ≡ is_awaited_by self.now.state.active entry.now }
     {
@@ -190,15 +199,19 @@ impl<S: EntryStore> Device<S> {
         self.book.fates()
     }
 
-    /// What became of the entry of that name. `None` exactly while it is held, or no entry has the name.
+    /// What became of the entry of that name. `None` exactly while it is held, or no entry has the
+    /// name.
     pub fn fate(&self, name: u32) -> Option<Fate>
-        ensures { result ≡ option_map (λ row. row.fate) (find (λ row. row.name == name) self.now.state.work.fates) }
+        ensures { result
+            ≡ option_map (λ row. row.fate)
+            (find (λ row. row.name == name) self.now.state.work.fates) }
     {
         self.book.fate(name).map(|row| row.fate)
     }
 
-    /// What holds of every device, for a caller to name: its history is a legal one within its capacity, its state is what
-    /// the machine comes to by that history, and so it is well formed. The call does nothing.
+    /// What holds of every device, for a caller to name: its history is a legal one within its
+    /// capacity, its state is what the machine comes to by that history, and so it is well formed.
+    /// The call does nothing.
     pub fn state_is_replay(&self)
         ensures replay { IsReplay self.now }
         ensures well_formed { IsWellFormed self.now.caps self.now.state }

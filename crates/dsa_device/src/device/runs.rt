@@ -39,10 +39,11 @@ impl<S: EntryStore> Device<S> {
         }
     }
 
-    /// Makes the step of each event in turn, and adds each step with its reply to `steps`. The vector takes the memory for
-    /// them first; where that is refused, nothing has changed.
+    /// Makes the step of each event in turn, and adds each step with its reply to `steps`. The
+    /// vector takes the memory for them first; where that is refused, nothing has changed.
     pub fn run(&mut self, events: &[Event], steps: &mut Vec<Step>) -> Result<(), AllocError>
-        ensures ok { OnOk result (IsRunOf self.old events.now steps.old.items steps.new.items self.new) }
+        ensures ok { OnOk result
+            (IsRunOf self.old events.now steps.old.items steps.new.items self.new) }
         ensures err { OnErr result ((self.new ≡ self.old) × (steps.new.items ≡ steps.old.items)) }
     {
         steps.reserve(events.len())?;

@@ -1,7 +1,7 @@
 //! The receipts of all seats against a history.
 
 ghost use Rattle.std.specs.Prelude.{◌≡◌, ◌≢◌, ◌==◌, ◌<◌, ◌↔◌, ℕ, All, Any, IsTrue, IfSome, IfNone, Some, count_by};
-ghost use Rattle.dsa_book.specs.Totals.{steps_of};
+ghost use Rattle.dsa_book.specs.Totals.{steps_of_actor};
 ghost use Rattle.dsa_shared.specs.Compare.{DiffersFirstAt};
 ghost use Rattle.dsa_shared.specs.Settle.{HasEach, AllMatch, FirstMismatch, IsComplete, Match, IsFirstMismatch};
 
@@ -12,10 +12,10 @@ use crate::settle::SettleFault;
 use dsa_book::{Actor, Step};
 use std::alloc::Allocator;
 
-/// The fault of settling with this history and these seats: `SeatMissing` exactly where they are not one
-/// for each of these numbers of clients and engines and the administrator's, and else what
-/// [`crate::compare_receipts`] gives for the first seat for which it gives anything: clients by number,
-/// engines by number, and the administrator.
+/// The fault of settling with this history and these seats: `SeatMissing` exactly where they are
+/// not one for each of these numbers of clients and engines and the administrator's, and else what
+/// [`crate::compare_receipts`] gives for the first seat for which it gives anything: clients by
+/// number, engines by number, and the administrator.
 pub fn check<L: Sharing, A: Allocator>(
     history: &[Step],
     seats: &Seats<L, A>,
@@ -23,12 +23,17 @@ pub fn check<L: Sharing, A: Allocator>(
     engines: u16,
 ) -> Option<SettleFault>
     ensures missing { (result ≡ Some SettleFault.SeatMissing)
-        ↔ ¬ IsComplete seats.now.clients.items seats.now.engines.items seats.now.admin clients engines }
+        ↔ ¬ IsComplete seats.now.clients.items seats.now.engines.items seats.now.admin clients
+        engines }
     ensures complete { (result ≢ Some SettleFault.SeatMissing)
-        → IsComplete seats.now.clients.items seats.now.engines.items seats.now.admin clients engines }
-    ensures mismatch { (i : ℕ) → (result ≡ Some (SettleFault.ReceiptMismatch i))
-        ↔ (IsComplete seats.now.clients.items seats.now.engines.items seats.now.admin clients engines
-        × IsFirstMismatch history.now seats.now.clients.items seats.now.engines.items seats.now.admin i) }
+        → IsComplete seats.now.clients.items seats.now.engines.items seats.now.admin clients
+        engines }
+    ensures mismatch { (i : ℕ)
+        → (result ≡ Some (SettleFault.ReceiptMismatch i))
+        ↔ (IsComplete seats.now.clients.items seats.now.engines.items seats.now.admin clients
+        engines
+        × IsFirstMismatch history.now seats.now.clients.items seats.now.engines.items
+        seats.now.admin i) }
     ensures none { IfNone result (Match history.now seats.now.clients.items seats.now.engines.items
         seats.now.admin) }
 {
@@ -62,7 +67,9 @@ fn mismatch<L: Sharing, A: Allocator>(
 ) -> Option<u64>
     requires { IsComplete seats.now.clients.items seats.now.engines.items
         seats.now.admin clients engines }
-    ensures some { IfSome result (IsFirstMismatch history.now seats.now.clients.items seats.now.engines.items seats.now.admin) }
+    ensures some { IfSome result
+        (IsFirstMismatch history.now seats.now.clients.items seats.now.engines.items
+        seats.now.admin) }
     ensures none { IfNone result (Match history.now seats.now.clients.items seats.now.engines.items
         seats.now.admin) }
 {
@@ -92,7 +99,8 @@ fn all_below<T: Numbered>(seats: &[T], count: u16) -> bool
 }
 
 fn has_one_of_each<T: Numbered>(seats: &[T], count: u16) -> bool
-    ensures { IsTrue result ↔ ((k : ℕ) → k < count → count_by (λ s. k == T.number s) seats.now ≡ 1) }
+    ensures { IsTrue result
+        ↔ ((k : ℕ) → k < count → count_by (λ s. k == T.number s) seats.now ≡ 1) }
 {
     for number in 0..count {
         if holders(seats, number) != 1 {
@@ -128,9 +136,9 @@ fn first_mismatch<T: Numbered>(history: &[Step], seats: &[T], count: u16) -> Opt
 // The mismatch of a seat with this number.
 fn mismatch_of<T: Numbered>(history: &[Step], seats: &[T], number: u16) -> Option<u64>
     ensures none { IfNone result (All (λ s. T.number s ≡ number
-        → T.receipts s ≡ steps_of history.now (T.actor s)) seats.now) }
+        → T.receipts s ≡ steps_of_actor history.now (T.actor s)) seats.now) }
     ensures some { IfSome result (λ i. Any (λ s. (T.number s ≡ number)
-        × DiffersFirstAt (T.receipts s) (steps_of history.now (T.actor s)) i) seats.now) }
+        × DiffersFirstAt (T.receipts s) (steps_of_actor history.now (T.actor s)) i) seats.now) }
 {
     for seat in seats {
         if seat.seat_number() == number {

@@ -8,8 +8,9 @@ use crate::blanks::Sharing;
 use crate::locked::Locked;
 use dsa_store::EntryStore;
 
-/// What holds whenever the lock is free, for a caller to name: the state of the device is the replay of its history, which is
-/// legal and within its capacity, and it is well formed. The call does nothing.
+/// What holds whenever the lock is free, for a caller to name: the state of the device is the
+/// replay of its history, which is legal and within its capacity, and it is well formed. The call
+/// does nothing.
 pub fn state_is_replay<S: EntryStore, L: Sharing>(locked: &Locked<S, L>)
     ensures replay { IsReplay locked.now }
     ensures well_formed { IsWellFormed locked.now.caps locked.now.state }

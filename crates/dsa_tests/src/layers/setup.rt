@@ -4,7 +4,7 @@ ghost use Rattle.std.specs.Prelude.{◌≡◌};
 ghost use Rattle.dsa_store.specs.Content.{Content, held_count};
 ghost use Rattle.dsa_queues.specs.Queues.{IsCounted};
 
-use dsa_book::{Book, FetchAnswer, Ticket, WriteAnswer};
+use dsa_book::{Book, WriteAnswer};
 use dsa_fixtures::{CAPS, CELLS, DEDICATED_QUEUE, LISTS, SHARED_QUEUE};
 use dsa_queues::Queues;
 use dsa_regs::{GroupConfig, Phase, check_caps};
@@ -54,19 +54,4 @@ pub fn numbers(rt: &impl Abort, queues: &Queues) -> [u32; 2] {
     assert!(rt; queues.has_queue(0));
     assert!(rt; queues.has_queue(1));
     [queues.held_of(0), queues.held_of(1)]
-}
-
-/// One entry fewer names the queue, once it is seen that one does.
-pub fn leave(rt: &impl Abort, queues: &mut Queues, queue: u16) {
-    assert!(rt; queues.has_queue(queue));
-    assert!(rt; queues.held_of(queue) > 0);
-    queues.left(queue);
-}
-
-/// The ticket of the member that was fetched.
-pub fn fetched(rt: &impl Abort, answer: FetchAnswer) -> Ticket {
-    match answer {
-        FetchAnswer::Fetched(member) => member,
-        _ => panic!(rt; "nothing was fetched"),
-    }
 }

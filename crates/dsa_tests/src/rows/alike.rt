@@ -1,6 +1,7 @@
 //! The same calls of two stores, whose answers agree wherever a contract fixes them.
 //!
-//! Which free cell a push takes is open. So cells are named here by their places, and told apart by their entries.
+//! Which free cell a push takes is open. So cells are named here by their places, and told apart by
+//! their entries.
 
 use crate::rows::calls::{cell_at, entry, give_back, len, linked, move_front, plain, push_back};
 use dsa_store::{Cell, Entry, EntryStore, ListId};

@@ -2,7 +2,7 @@
 
 use dsa_cells::LinkedStore;
 use dsa_desc::Descriptor;
-use dsa_store::{Cell, Entry, EntryStore, ListId, PlainStore, front_slot};
+use dsa_store::{Cell, Entry, EntryStore, ListId, PlainStore, front_entry};
 use std::alloc::Global;
 use std::process::Abort;
 
@@ -64,14 +64,14 @@ pub fn len<S: EntryStore>(rt: &impl Abort, store: &S, list: ListId) -> u32 {
     store.len(list)
 }
 
-/// The first cell of the list, and what `front_slot` gives, which is that cell with its entry.
+/// The first cell of the list, and what `front_entry` gives, which is that cell with its entry.
 pub fn front<S: EntryStore>(
     rt: &impl Abort,
     store: &S,
     list: ListId,
 ) -> (Option<Cell>, Option<(Cell, Entry)>) {
     assert!(rt; list.0 < store.lists());
-    (store.front(list), front_slot(store, list))
+    (store.front(list), front_entry(store, list))
 }
 
 /// The cell at a place of the list.

@@ -11,7 +11,8 @@ use std::alloc::{AllocError, Global};
 use std::process::Abort;
 use std::test::Fail;
 
-// A store in a heap that has room for all of it: no call takes or gives back memory until the store is dropped.
+// A store in a heap that has room for all of it: no call takes or gives back memory until the store
+// is dropped.
 fn takes_no_more<S: EntryStore>(rt: &impl Abort, heap: &LocalHeap, store: S) {
     let mut store = store;
     let used = heap.used();
@@ -40,9 +41,9 @@ fn is_served<S: EntryStore>(
     }
 }
 
-// `new` asks for 4, 7, 7 and 1 of the heap's smallest blocks: the lists, the slots of each list, and the free cells.
-// Each heap is one block larger than the one before, so each of the four requests is refused by some heap that met those before it.
-// What had been taken is given back.
+// `new` asks for 4, 7, 7 and 1 of the heap's smallest blocks: the lists, the entries of each list,
+// and the free cells. Each heap is one block larger than the one before, so each of the four
+// requests is refused by some heap that met those before it. What had been taken is given back.
 #[test]
 fn plain_store_is_refused_memory(rt: HostRuntime) {
     for blocks in 1..32 {
@@ -53,8 +54,9 @@ fn plain_store_is_refused_memory(rt: HostRuntime) {
     }
 }
 
-// `new` asks for 10 and 4 of the heap's smallest blocks: the array of the cells, and the headers of the lists and of the free cells.
-// As above, each of the two requests is refused by some heap that met those before it.
+// `new` asks for 10 and 4 of the heap's smallest blocks: the array of the cells, and the headers of
+// the lists and of the free cells. As above, each of the two requests is refused by some heap that
+// met those before it.
 #[test]
 fn linked_store_is_refused_memory(rt: HostRuntime) {
     for blocks in 1..32 {
@@ -65,7 +67,8 @@ fn linked_store_is_refused_memory(rt: HostRuntime) {
     }
 }
 
-// A device over the store. Where it is refused memory the store comes back as it was, and serves the next time.
+// A device over the store. Where it is refused memory the store comes back as it was, and serves
+// the next time.
 fn device_over<S: EntryStore>(
     rt: &impl Abort,
     alloc: Global,
@@ -83,7 +86,8 @@ fn device_over<S: EntryStore>(
     }
 }
 
-// Runs the events. Where that is refused memory, device and list are as they were, and it goes the next time.
+// Runs the events. Where that is refused memory, device and list are as they were, and it goes the
+// next time.
 fn run_over<S: EntryStore>(
     rt: &impl Abort,
     device: &mut Device<S>,

@@ -1,4 +1,5 @@
-//! Rows that each kind of store passes. Each takes an empty store of the numbers of lists and cells that it names.
+//! Rows that each kind of store passes. Each takes an empty store of the numbers of lists and cells
+//! that it names.
 
 use crate::rows::calls::{entry, front, give_back, is_cell, len, move_front, push, push_back};
 use dsa_store::{Cell, EntryStore, ListId, cells_stand_once};
@@ -20,7 +21,8 @@ fn counts<S: EntryStore>(rt: &impl Abort, store: &S) -> (u32, u32, u32) {
     (store.free(), len(rt, store, FIRST), len(rt, store, SECOND))
 }
 
-// Two lists and three cells: a list is full, its middle is taken, its front is moved to the other list.
+// Two lists and three cells: a list is full, its middle is taken, its front is moved to the other
+// list.
 pub fn middle_is_taken<S: EntryStore>(rt: &impl Abort, store: &mut S) {
     is_empty(rt, store, 3);
     let a = push(rt, store, FIRST, 10);
@@ -56,9 +58,9 @@ fn last_is_given_back<S: EntryStore>(rt: &impl Abort, store: &mut S) {
     claim!(rt; counts(rt, store) == (2, 1, 1));
     claim!(rt; give_back(rt, store, FIRST) == 1);
     claim!(rt; store.free() == 3);
-    let (cell, slot) = front(rt, store, FIRST);
+    let (cell, pair) = front(rt, store, FIRST);
     claim!(rt; cell.is_none());
-    claim!(rt; slot.is_none());
+    claim!(rt; pair.is_none());
 }
 
 // Two lists and three cells: one list is given back, and then again, and the other stays.
@@ -92,7 +94,8 @@ fn cell_is_used<S: EntryStore>(rt: &impl Abort, store: &S, cell: Cell, name: u32
     claim!(rt; store.list_of(cell) == Some(list));
 }
 
-// Two lists and two cells: a cell before, while and after it is in use, and one that the store has not.
+// Two lists and two cells: a cell before, while and after it is in use, and one that the store has
+// not.
 pub fn cell_is_written<S: EntryStore>(rt: &impl Abort, store: &mut S) {
     cells_stand_once(store);
     for number in 0..3 {

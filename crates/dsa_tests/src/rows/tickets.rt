@@ -193,8 +193,8 @@ fn forged_tickets(rt: HostRuntime) {
     all_are_forged(&rt, alloc, first, second);
 }
 
-// An engine takes the two entries, and two of three members are fetched, of which one is started. The tickets are those of
-// the members.
+// An engine takes the two entries, and two of three members are fetched, of which one is started.
+// The tickets are those of the members.
 fn batch_runs<S: EntryStore>(
     rt: &impl Abort,
     device: &mut Device<S>,
@@ -234,8 +234,8 @@ fn batch_is_gone<S: EntryStore>(rt: &impl Abort, device: &mut Device<S>, tickets
     claim!(rt; device.start(0) == StartAnswer::Nothing);
 }
 
-// Of two entries on an engine the first is a batch: two of its three members were fetched, and one runs. The abort of its
-// PASID takes all three, and the other entry goes on.
+// Of two entries on an engine the first is a batch: two of its three members were fetched, and one
+// runs. The abort of its PASID takes all three, and the other entry goes on.
 fn batch_is_aborted<S: EntryStore>(rt: &impl Abort, alloc: Global, store: S) {
     let mut device = enabled(rt, alloc, store, 64);
     let batch = given(rt, &mut device, submission(5, batch_of(3)));

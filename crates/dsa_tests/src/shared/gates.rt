@@ -21,7 +21,8 @@ impl Gate for Yielding {
     }
 }
 
-/// Counts how often each worker has passed, and the passes with another turn than the one that was due.
+/// Counts how often each worker has passed, and the passes with another turn than the one that was
+/// due.
 #[derive(Drop)]
 pub struct Passes {
     counts: Vec<AtomicU32>,
@@ -48,8 +49,8 @@ impl Passes {
         same!(rt; self.misplaced.load(Ordering::SeqCst), 0);
     }
 
-    /// Each worker has passed with the turns 0, 1 and so on up to the number of turns that the report
-    /// gives it.
+    /// Each worker has passed with the turns 0, 1 and so on up to the number of turns that the
+    /// report gives it.
     pub fn are_those_of(&self, rt: &impl Abort, report: &RunReport) {
         same!(rt; self.misplaced.load(Ordering::SeqCst), 0);
         same!(rt; self.counts.len(), report.turns.len());
@@ -72,8 +73,8 @@ impl Gate for Passes {
     }
 }
 
-/// Holds each of two clients before its first turn until the other has come there, and notes one that
-/// waited in vain.
+/// Holds each of two clients before its first turn until the other has come there, and notes one
+/// that waited in vain.
 #[derive(Drop)]
 pub struct Meeting<'a, R: Clock> {
     clock: &'a R,

@@ -16,8 +16,8 @@ use std::process::Abort;
 use std::sync::Wait;
 use std::thread::Threads;
 
-// What sharing with two clients and two engines asks for: for each kind the seats, a list of rooms for
-// receipts and these rooms, and then the administrator's room.
+// What sharing with two clients and two engines asks for: for each kind the seats, a list of rooms
+// for receipts and these rooms, and then the administrator's room.
 const REQUESTS_OF_SHARING: u32 = 9;
 
 // What a run of two clients and two engines asks for: for each kind lanes and a list of rooms for
@@ -30,8 +30,8 @@ where
     L: Sharing + Send + Sync,
     R: Threads + Wait + Abort + Sync,
 {
-    /// Each request of a run is refused in turn. Then no worker has passed the gate, and the seats have
-    /// no receipts.
+    /// Each request of a run is refused in turn. Then no worker has passed the gate, and the seats
+    /// have no receipts.
     pub fn run_without_memory(self) {
         let mut stage = self;
         let rt = stage.rt;
@@ -85,7 +85,8 @@ fn runs(rt: HostRuntime) {
     over_both_stores(&rt, rt.alloc(), Trial::RunWithoutMemory);
 }
 
-// What comes of sharing with so many requests granted, which has to ask once more where it is refused.
+// What comes of sharing with so many requests granted, which has to ask once more where it is
+// refused.
 fn shared_with<S: EntryStore, R: Abort>(
     rt: &R,
     alloc: Global,

@@ -219,7 +219,8 @@ impl<'a, S: EntryStore, L: Sharing, R: Wait + Abort> Stage<'a, S, L, R> {
         ]);
     }
 
-    /// One No-op of each client, and then settling: with a seat missing, and with seats in another order.
+    /// One No-op of each client, and then settling: with a seat missing, and with seats in another
+    /// order.
     pub fn seats_withheld(self) {
         let mut stage = self;
         stage.set_up();

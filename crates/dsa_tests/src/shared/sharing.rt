@@ -31,8 +31,8 @@ fn seats_of<S: EntryStore, L: Sharing, A: Allocator + Copy>(
     }
 }
 
-/// The numbers of seats of clients and of engines, or why the device is not shared, and then what comes
-/// back.
+/// The numbers of seats of clients and of engines, or why the device is not shared, and then what
+/// comes back.
 pub type Attempt<S> = (
     Result<(usize, usize), ShareFault>,
     Option<(Device<S>, Blanks)>,

@@ -1,4 +1,5 @@
-//! What a trial is made on: a shared device with its seats, and a record of the steps that they made.
+//! What a trial is made on: a shared device with its seats, and a record of the steps that they
+//! made.
 
 use crate::shared::accounts::add_up;
 use crate::shared::steps::{enables, writes};

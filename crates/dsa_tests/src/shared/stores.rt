@@ -34,7 +34,8 @@ pub enum Trial<'a> {
 }
 
 impl<'a> Trial<'a> {
-    // The device's capabilities, how many steps its history has room for, and how many clients it has.
+    // The device's capabilities, how many steps its history has room for, and how many clients it
+    // has.
     fn shape(self) -> (Caps, u64, u16) {
         match self {
             Trial::Play(play) | Trial::PlayEnabled(play) => (CAPS, play.capacity, 2),

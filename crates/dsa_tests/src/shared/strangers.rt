@@ -1,5 +1,5 @@
-//! Two shared devices, and a seat of each: a device takes a step of its own seats alone. That the seat of the other does not compile
-//! is tried by an edit of this file, in `must-not-compile`.
+//! Two shared devices, and a seat of each: a device takes a step of its own seats alone. That the
+//! seat of the other does not compile is tried by an edit of this file, in `must-not-compile`.
 
 use dsa_book::DispatchAnswer;
 use dsa_shared::{EngineSeat, SharedDevice, Sharing};

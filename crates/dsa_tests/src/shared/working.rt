@@ -203,8 +203,8 @@ where
         were_busy(rt, five);
     }
 
-    /// The same with a history that fills while they run: the clients alone have more steps to make than
-    /// it has room for.
+    /// The same with a history that fills while they run: the clients alone have more steps to make
+    /// than it has room for.
     pub fn history_fills(self) {
         let mut stage = self;
         let rt = stage.rt;

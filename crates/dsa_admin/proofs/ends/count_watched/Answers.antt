@@ -1,7 +1,7 @@
 use Rattle.dsa_admin.proofs.ends.count_watched.Goals as goal
 use Rattle.std.proofs.Common.{◌+◌, arith, ap, sym, ◌∙◌, ◌&&◌, Bool}
 use Rattle.std.proofs.lemmas.List.Sums.{count_by-le-length}
-use Rattle.dsa_store.specs.{declared.entry.Entry.{Entry}, Content.{Slot, all_held, count_where}}
+use Rattle.dsa_store.specs.{declared.entry.Entry.{Entry}, Content.{HeldEntry, all_held, count_where}}
 use Rattle.dsa_store.proofs.Sums.{held-counted}
 use Rattle.dsa_admin.specs.Admin.{is_counting, is_watched, is_waited_for}
 use Rattle.dsa_admin.proofs.Counting.{never-counts, first-few, first-more}
@@ -17,7 +17,7 @@ pub returns-then-free-cells : goal.returns-then-free-cells
 returns-then-free-cells g c =
     omega (
       arith,
-      count_by-le-length (λ (slot : Slot). is_watched c.args.active.now slot.1)
+      count_by-le-length (λ (pair : HeldEntry). is_watched c.args.active.now pair.1)
           (all_held (g.S.EntryStore.content c.args.store.now)),
       held-counted (g.S.EntryStore.content c.args.store.now),
       c.free.ensures,
@@ -31,9 +31,9 @@ overflow_add-count g c =
       arith,
       c.loop-list.invariant,
       c.count_in-count.ensures,
-      first-more (λ (slot : Slot). is_watched c.args.active.now slot.1) c.loop-list.list
+      first-more (λ (pair : HeldEntry). is_watched c.args.active.now pair.1) c.loop-list.list
           (g.S.EntryStore.content c.args.store.now) (omega (arith, c.lists-list-end.ensures, c.loop-list-test.true)),
-      first-few (λ (slot : Slot). is_watched c.args.active.now slot.1) (c.loop-list.list + 1)
+      first-few (λ (pair : HeldEntry). is_watched c.args.active.now pair.1) (c.loop-list.list + 1)
           (g.S.EntryStore.content c.args.store.now),
       held-counted (g.S.EntryStore.content c.args.store.now),
       c.free.ensures,

@@ -3,7 +3,7 @@ use Rattle.dsa_admin.proofs.withdrawal.withdraw.Goals.{in-Device, in_default}
 use Rattle.std.proofs.Common.{◌≡◌, ◌+◌, ◌<◌, List, Option, arith, length, refl, set, sym, ap, ◌∙◌}
 use Rattle.std.proofs.lemmas.List.{append-nil}
 use Rattle.dsa_regs.specs.{declared.Scope.{Scope}, Command.{scope_of}, Caps.{list_use}}
-use Rattle.dsa_store.specs.Content.{Slot, chain}
+use Rattle.dsa_store.specs.Content.{HeldEntry, chain}
 use Rattle.dsa_book.specs.declared.note.BatchNote.{BatchNote}
 use Rattle.dsa_admin.specs.Admin.{notes_left}
 use Rattle.dsa_admin.proofs.{Notes.{swept_notes}, Withdrawals.{spares-none}}
@@ -37,7 +37,7 @@ loop-list-preserved g c =
       | in-Device w ↦
           let all = sym c.scope.ensures ∙ w.in-Device.is in
           let left = w.give_back.ensures.left
-          ∙ ap (λ (l : List Slot). set (g.S.EntryStore.content c.loop-list.store) c.loop-list.list l)
+          ∙ ap (λ (l : List HeldEntry). set (g.S.EntryStore.content c.loop-list.store) c.loop-list.list l)
           (sym (spares-none c.args.command.now all
           (chain (g.S.EntryStore.content c.loop-list.store) c.loop-list.list))) in
           let notes = rw so_far.setup at w.give_back.ensures.notes in

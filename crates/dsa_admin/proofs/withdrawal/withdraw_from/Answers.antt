@@ -4,7 +4,7 @@ use Rattle.dsa_regs.specs.{declared.Scope.{Scope}, Command.{scope_of}}
 use Rattle.dsa_book.specs.{State.{Setup}, Commands.{is_in_scope}}
 use Rattle.dsa_store.{specs.Content.{chain}, proofs.Turns.{some-drop}}
 use Rattle.dsa_queues.proofs.Counts.{unlinked-leaves}
-use Rattle.dsa_engines.specs.Engines.{gear_after_removal}
+use Rattle.dsa_engines.specs.Engines.{engines_after_removal}
 use Rattle.dsa_engines.proofs.Leaving.{may-release, in_step-removed}
 use Rattle.dsa_admin.proofs.Notes.{notes-stay, notes-leave}
 use Rattle.dsa_admin.proofs.Withdrawals.{looks-at, withdrawn-room, withdrawn-stays, withdrawn-leaves, withdrawn-found}
@@ -85,7 +85,7 @@ loop-place-preserved g c =
     let scope = ap (λ (s : Scope). is_in_scope s c.in-Some-get.entry) (sym c.scope-scope.ensures)
     ∙ sym c.is_in_scope.ensures ∙ c.if-not-is_in_scope.false in
     let removed = c.removed.ensures
-    ∙ ap (λ (s : Setup). gear_after_removal s c.list_use-from.result c.in-Some-get.entry c.loop-place.engines)
+    ∙ ap (λ (s : Setup). engines_after_removal s c.list_use-from.result c.in-Some-get.entry c.loop-place.engines)
     c.loop-place.invariant.setup in
     let leaves = unlinked-leaves c.loop-place.queues (g.S.EntryStore.content c.loop-place.store) c.args.list.0 _
     c.in-Some.cell c.in-Some-get.entry (once c.in-Some.cell) (withdrawn-list w c.requires.list) t.now_stands

@@ -5,7 +5,7 @@ use Rattle.dsa_base.proofs.Tables.{when-some, table2}
 use Rattle.dsa_regs.specs.declared.{Phase.TheVariants.{Off}, Fault.TheVariants.{BadIndex, Locked}}
 use Rattle.dsa_book.specs.declared.answer.WriteAnswer.{WriteAnswer, TheVariants.{Written, Refused}}
 use Rattle.dsa_book.specs.declared.{event.Event.TheVariants.{WriteGroup}, answer.Reply.TheVariants.{Write}}
-use Rattle.dsa_book.specs.{Commands.{write_group}, Machine.{with_setup}, Same.{same_reply}, State.{Setup}}
+use Rattle.dsa_book.specs.{Commands.{write_group}, Machine.{state_with_setup}, Same.{same_reply}, State.{Setup}}
 use Rattle.dsa_answers.proofs.{Writes.{is-off}, Choices.{replies-alike}}
 
 pub returns-clause-written : goal.returns-clause-written
@@ -19,7 +19,7 @@ returns-clause-nothing_else c s s' g config reply below off h =
 pub returns-clause-no_other_group : goal.returns-clause-no_other_group
 returns-clause-no_other_group c s s' g config h =
     let p = when-some (same_reply (Write Written) (Write (write_group s.work.setup g config).0))
-    (with_setup s (write_group s.work.setup g config).1) s' h in
+    (state_with_setup s (write_group s.work.setup g config).1) s' h in
     table2 (λ (r : WriteAnswer × Setup). same_reply (Write Written) (Write r.0) ≡ true
     → (g < s.work.setup.caps.groups) × (s.work.setup.device ≡ Off)) _ _
     (Refused BadIndex, s.work.setup) (Refused Locked, s.work.setup)

@@ -5,7 +5,8 @@ use Rattle.dsa_base.proofs.Tables.{when-some, table3}
 use Rattle.dsa_regs.specs.declared.{Phase.TheVariants.{Off}, Fault.TheVariants.{BadIndex, Locked}}
 use Rattle.dsa_book.specs.declared.answer.WriteAnswer.{WriteAnswer, TheVariants.{Written, Refused}}
 use Rattle.dsa_book.specs.declared.{event.Event.TheVariants.{WriteQueue}, answer.Reply.TheVariants.{Write}}
-use Rattle.dsa_book.specs.{State.{Setup, phase_at}, Commands.{write_queue}, Machine.{with_setup}, Same.{same_reply}}
+use Rattle.dsa_book.specs.{State.{Setup, phase_at}, Commands.{write_queue}, Machine.{state_with_setup}}
+use Rattle.dsa_book.specs.Same.{same_reply}
 use Rattle.dsa_answers.proofs.{Writes.{is-off, free-size}, Choices.{replies-alike}}
 
 pub returns-clause-written : goal.returns-clause-written
@@ -20,7 +21,7 @@ returns-clause-nothing_else c s s' q config reply below off size h =
 pub returns-clause-no_other_queue : goal.returns-clause-no_other_queue
 returns-clause-no_other_queue c s s' q config h =
     let p = when-some (same_reply (Write Written) (Write (write_queue s.work.setup q config).0))
-    (with_setup s (write_queue s.work.setup q config).1) s' h in
+    (state_with_setup s (write_queue s.work.setup q config).1) s' h in
     table3 (λ (r : WriteAnswer × Setup). same_reply (Write Written) (Write r.0) ≡ true
     → (q < s.work.setup.caps.queues) × (phase_at s.work.setup q ≡ Off)) _ _ _
     (Refused BadIndex, s.work.setup) (Refused Locked, s.work.setup) (Refused Locked, s.work.setup)

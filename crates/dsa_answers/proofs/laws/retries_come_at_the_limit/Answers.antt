@@ -8,13 +8,13 @@ use Rattle.dsa_regs.specs.Config.{queue_at}
 use Rattle.dsa_book.specs.declared.answer.{SubmitAnswer.{SubmitAnswer, TheVariants.{Retry}}, Reply.{Reply}}
 use Rattle.dsa_book.specs.declared.{answer.Cause.TheVariants.{AtLimit}, event.Kind.TheVariants.{Enqcmd}}
 use Rattle.dsa_book.specs.{State.{Intake, State, occupancy, phase_at, is_on}, Submit.{limit_of, is_movdir64b, submit}}
-use Rattle.dsa_book.{specs.{Choice.{choice_of, cell_of}, Machine.{intake_of}}, proofs.Nexts.{next-is}}
+use Rattle.dsa_book.{specs.{Choice.{choice_of, chosen_cell}, Machine.{intake_of}}, proofs.Nexts.{next-is}}
 
 pub returns : goal.returns
 returns c s s' client queue pasid portal desc a on shared h =
     let kind = Enqcmd pasid in
     let config = queue_at s.work.setup.configs queue in
-    let r = submit (intake_of s) queue portal kind desc (cell_of (choice_of (reply.Submit a))) in
+    let r = submit (intake_of s) queue portal kind desc (chosen_cell (choice_of (reply.Submit a))) in
     let p = ap (λ (r : Reply × State). r.0)
     (next-is s s' (event.Submit client queue portal kind desc) (reply.Submit a) h).1 in
     let is : r.0 ≡ a = cc in

@@ -2,14 +2,16 @@ use Rattle.dsa_conform.proofs.rows.alike.Goals as goal
 use Rattle.std.proofs.Common.{◌≡◌, ℕ, Bool, true, false, List, Option, Some, None, codes, bytes_eq, refl, ap}
 use Rattle.std.specs.{Prelude.{◌&&◌}, Fmt.{digits}}
 use Rattle.dsa_book.specs.declared.answer.SubmitAnswer.TheVariants.{Accepted}
-use Rattle.dsa_scenario.specs.Worked.{ticket}
+use Rattle.dsa_scenario.specs.Worked.{record_ticket}
 use Rattle.dsa_conform.specs.Seen.{answer_shown, zf_shown}
 use Rattle.dsa_conform.specs.Worked.{from_first, from_second, flagged, by_enqcmd}
 
 -- the same is seen of an entry that comes into one cell or the other
 same_shown : (answer : Option (List ℕ)) (zf : Option Bool)
-    → (answer_shown answer (by_enqcmd (Accepted (ticket 3 12))) && zf_shown zf (by_enqcmd (Accepted (ticket 3 12))))
-    ≡ (answer_shown answer (by_enqcmd (Accepted (ticket 9 12))) && zf_shown zf (by_enqcmd (Accepted (ticket 9 12))))
+    → (answer_shown answer (by_enqcmd (Accepted (record_ticket 3 12)))
+    && zf_shown zf (by_enqcmd (Accepted (record_ticket 3 12))))
+    ≡ (answer_shown answer (by_enqcmd (Accepted (record_ticket 9 12)))
+    && zf_shown zf (by_enqcmd (Accepted (record_ticket 9 12))))
 same_shown None None = refl
 same_shown None (Some flag) = refl
 same_shown (Some text) None = refl

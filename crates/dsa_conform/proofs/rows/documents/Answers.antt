@@ -9,30 +9,31 @@ use Rattle.std.proofs.lemmas.List.Elements.{All-nil, All-cons, Contains-push}
 use Rattle.serde_json.{specs.{Data.{Data, Items}, Read.{read}}, proofs.OnLiterals.{serde_json_on_literals}}
 use Rattle.dsa_regs.specs.{declared.Caps.{Caps}, Caps.{check_caps}}
 use Rattle.dsa_scenario.specs.declared.{actions.Action.{Action, TheVariants.{Ask}}, run.Record.{Record}}
-use Rattle.dsa_scenario.specs.{Document.{HasHead, head_of, list_of}, Lines.{record_text}}
+use Rattle.dsa_scenario.specs.{Document.{HasHead, head_of, list_of_items}, Lines.{record_text}}
 use Rattle.dsa_scenario.specs.Worked.{smallest_caps, smallest_caps_text, no_caps_text, document_text, stepped}
 use Rattle.dsa_conform.specs.Allowed.{IsAllowed}
 use Rattle.dsa_conform.specs.Seen.{Seen, observation_of, shows}
 use Rattle.dsa_conform.specs.Lines.{conforms_text, seen_count}
 use Rattle.dsa_conform.specs.Run.{AreRead, IsShownRun, IsConformance}
-use Rattle.dsa_conform.specs.Worked.{answered, flagged, at_first, document_of, poll_with}
+use Rattle.dsa_conform.specs.Worked.{answered, flagged, smallest_device_at_first, document_of, poll_with}
 use Rattle.dsa_conform.proofs.{Alike.{only_entry}, Objects.{not_first, not_second}}
 
 -- a device before its first step answers a poll so, and in no other way
 abbrev nothing : Record
 nothing = stepped event.Poll (reply.Poll poll.Nothing)
 
-is_nothing : IsAllowed at_first (Ok event.Poll) nothing
+is_nothing : IsAllowed smallest_device_at_first (Ok event.Poll) nothing
 is_nothing = record { answers = refl; after = _; leads = refl }
 
-only_nothing : (entry : Record) → IsAllowed at_first (Ok event.Poll) entry → nothing ≡ entry
-only_nothing entry is = only_entry at_first _ is.after event.Poll (reply.Poll poll.Nothing) refl (λ b same. same) refl
+only_nothing : (entry : Record) → IsAllowed smallest_device_at_first (Ok event.Poll) entry → nothing ≡ entry
+only_nothing entry is = only_entry smallest_device_at_first _ is.after event.Poll (reply.Poll poll.Nothing) refl
+    (λ b same. same) refl
     entry is.answers is.leads
 
 -- a document on the smallest device, by what its text reads as
 has_head : (text : List ℕ) (d : Data) (room : ℕ) (items : Items) → all_scalars text ≡ true
     → encode_utf8_all text ≡ text → read text ≡ Some d → head_of d ≡ Some (smallest_caps, room, items)
-    → HasHead text smallest_caps room (list_of items)
+    → HasHead text smallest_caps room (list_of_items items)
 has_head text d room items characters bytes value head = record {
   document = d;
   items = items;
@@ -97,7 +98,8 @@ returns-clause-differs c = record {
       refused = record {
         allowed = nothing ∷ [];
         all = record {
-          each = All-cons (IsAllowed at_first (Ok event.Poll)) nothing [] is_nothing (All-nil (IsAllowed at_first (Ok event.Poll)));
+          each = All-cons (IsAllowed smallest_device_at_first (Ok event.Poll)) nothing [] is_nothing
+              (All-nil (IsAllowed smallest_device_at_first (Ok event.Poll)));
           all = λ entry is. subst (λ other. Contains (record_text nothing ∷ []) (record_text other)) (only_nothing entry is)
               (Contains-push [] (record_text nothing));
           order = (λ k d below. absurd (omega (arith, below)), tt);
@@ -139,7 +141,7 @@ pub returns-clause-second : goal.returns-clause-second
 unfolding serde_json_on_literals digits
 returns-clause-second c is =
     let head = same_head (document_of (codes "1,2")) _ _ _ _ refl is.0.head in
-    let steps = ap (λ o. option_map_or (λ (h : Head). list_of h.2) o []) head ∙ is.0.head.listed in
+    let steps = ap (λ o. option_map_or (λ (h : Head). list_of_items h.2) o []) head ∙ is.0.head.listed in
     not_first [] is.0.bad.done (ap (λ (l : List Data). map observation_of (take 1 l)) steps ∙ is.0.bad.before)
 
 pub returns-clause-unread_with_a_text : goal.returns-clause-unread_with_a_text
@@ -155,7 +157,7 @@ unfolding serde_json_on_literals digits
 returns-clause-unread_behind c is =
     let text = document_of (poll_with (codes "\"answer\":\"active\"") ++ codes "," ++ poll_with (codes "\"zf\":1")) in
     let head = same_head text _ _ _ _ refl is.head in
-    let steps = ap (λ o. option_map_or (λ (h : Head). list_of h.2) o []) head ∙ is.head.listed in
+    let steps = ap (λ o. option_map_or (λ (h : Head). list_of_items h.2) o []) head ∙ is.head.listed in
     not_second _ [] is.verdict.observed (ap (map observation_of) steps ∙ is.verdict.read)
 
 pub returns-clause-no_caps : goal.returns-clause-no_caps

@@ -6,7 +6,7 @@ use Rattle.std.{proofs.Common.{◌≡◌, map, Ok, subst, refl, ap, arith}, spec
 use Rattle.dsa_device.specs.Running.{running_at_first}
 use Rattle.dsa_scenario.specs.{declared.run.Record.{Record}, Lines.{record_text}, Worked.{smallest_caps, stepped}}
 use Rattle.dsa_conform.specs.Allowed.{IsAllowed}
-use Rattle.dsa_conform.specs.Worked.{at_first}
+use Rattle.dsa_conform.specs.Worked.{smallest_device_at_first}
 
 pub returns-clause-step : goal.returns-clause-step
 unfolding digits
@@ -37,14 +37,15 @@ returns-clause-not_allowed c is =
 pub returns-clause-another_state : goal.returns-clause-another_state
 unfolding digits
 returns-clause-another_state c is =
-    let other : (running_at_first smallest_caps 8).capacity ≡ at_first.capacity = ap (λ d. d.capacity) is.1 in
+    let other : (running_at_first smallest_caps 8).capacity ≡ smallest_device_at_first.capacity =
+    ap (λ d. d.capacity) is.1 in
     absurd (omega (arith, other))
 
 -- a device before its first step may answer a poll so
 abbrev nothing : Record
 nothing = stepped event.Poll (reply.Poll poll.Nothing)
 
-is_nothing : IsAllowed at_first (Ok event.Poll) nothing
+is_nothing : IsAllowed smallest_device_at_first (Ok event.Poll) nothing
 is_nothing = record { answers = refl; after = _; leads = refl }
 
 pub returns-clause-shown : goal.returns-clause-shown

@@ -6,7 +6,7 @@ use Rattle.serde_json.{specs.{Data.{Data, Items}, Read.{read}}, proofs.OnLiteral
 use Rattle.dsa_regs.specs.declared.Caps.{Caps}
 use Rattle.dsa_book.specs.declared.event.Event.TheVariants.{Poll}
 use Rattle.dsa_scenario.specs.declared.actions.Action.{Action, TheVariants.{Ask}}
-use Rattle.dsa_scenario.specs.Document.{IsJson, HasHead, head_of, list_of}
+use Rattle.dsa_scenario.specs.Document.{IsJson, HasHead, head_of, list_of_items}
 use Rattle.dsa_scenario.specs.Worked.{no_caps_text, document_text}
 use Rattle.dsa_conform.specs.{Seen.{Seen, observation_of}, Run.{IsUnreadAt}, Worked.{flagged, document_of, poll_with}}
 
@@ -17,19 +17,19 @@ is_json text d characters bytes e = record { utf8 = (text, (characters, bytes));
 
 -- and has the head of that value
 has_head : (text : List ℕ) (d : Data) (caps : Caps) (capacity : ℕ) (items : Items) → IsJson text d
-    → head_of d ≡ Some (caps, capacity, items) → HasHead text caps capacity (list_of items)
+    → head_of d ≡ Some (caps, capacity, items) → HasHead text caps capacity (list_of_items items)
 has_head text d caps capacity items json e =
     record { document = d; items = items; json = json; head = e; listed = refl }
 
 -- and no other objects
 same_steps : (text : List ℕ) (d : Data) (caps : Caps) (capacity : ℕ) (items : Items) (other : Caps) (room : ℕ)
     (steps : List Data) → read text ≡ Some d → head_of d ≡ Some (caps, capacity, items)
-    → HasHead text other room steps → list_of items ≡ steps
+    → HasHead text other room steps → list_of_items items ≡ steps
 same_steps text d caps capacity items other room steps value e has =
     let other_value = has.json.value in
     let same : d ≡ has.document = cc in
     let keys = sym e ∙ ap head_of same ∙ has.head in
-    ap (λ o. option_map_or (λ (keys : Caps × ℕ × Items). list_of keys.2) o []) keys ∙ has.listed
+    ap (λ o. option_map_or (λ (keys : Caps × ℕ × Items). list_of_items keys.2) o []) keys ∙ has.listed
 
 -- an object that is read is none that is not
 one_is_read : (d : Data) (o : Action × Seen) → observation_of d ≡ Some o → (i : ℕ) → ¬ IsUnreadAt (d ∷ []) i

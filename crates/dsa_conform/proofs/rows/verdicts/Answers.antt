@@ -16,11 +16,12 @@ use Rattle.dsa_device.{specs.Running.{Running, after_answer}, proofs.Steps.{answ
 use Rattle.dsa_scenario.specs.declared.{actions.Action.{Action, TheVariants.{Ask, Refuse}}, run.Record.{Record}}
 use Rattle.dsa_scenario.specs.declared.run.Record.TheVariants.{Stepped, Refused}
 use Rattle.dsa_scenario.specs.{Lines.{record_text}, Run.{answered_by, event_of, AreOf}, Steps.{standing}}
-use Rattle.dsa_scenario.specs.Worked.{smallest_caps, stepped, ticket, caps_of_a_run, group_of_a_run, records_of_a_run}
+use Rattle.dsa_scenario.specs.Worked.{smallest_caps, stepped, record_ticket, caps_of_a_run, group_of_a_run}
+use Rattle.dsa_scenario.specs.Worked.{records_of_a_run}
 use Rattle.dsa_conform.specs.Allowed.{IsAllowed, AreAllowed}
 use Rattle.dsa_conform.specs.Lines.{conforms_text, seen_count, difference_text}
 use Rattle.dsa_conform.specs.Run.{IsShownRun, IsRefusal}
-use Rattle.dsa_conform.specs.{Seen.{Seen, shows, AreShown}, Worked.{answered, nothing_seen, at_first}}
+use Rattle.dsa_conform.specs.{Seen.{Seen, shows, AreShown}, Worked.{answered, nothing_seen, smallest_device_at_first}}
 use Rattle.dsa_conform.proofs.{Alike.{only_entry}, Objects.{not_first, not_second, one_read}}
 
 -- where one answer may come, it is all that is allowed
@@ -80,7 +81,7 @@ holding = standing caps_of_a_run 7 (take 7 records_of_a_run)
 
 -- it answers the end of that entry so, and in no other way
 abbrev ending : Event
-ending = event.Finish 0 (ticket 3 0) Success
+ending = event.Finish 0 (record_ticket 3 0) Success
 
 abbrev ended : Record
 ended = stepped ending (reply.Finish (Done 1))
@@ -114,11 +115,12 @@ returns-clause-after_seven c = record {
 abbrev nothing : Record
 nothing = stepped event.Poll (reply.Poll poll.Nothing)
 
-is_nothing : IsAllowed at_first (Ok event.Poll) nothing
+is_nothing : IsAllowed smallest_device_at_first (Ok event.Poll) nothing
 is_nothing = record { answers = refl; after = _; leads = refl }
 
-only_nothing : (entry : Record) → IsAllowed at_first (Ok event.Poll) entry → nothing ≡ entry
-only_nothing entry is = only_entry at_first _ is.after event.Poll (reply.Poll poll.Nothing) refl (λ b same. same) refl
+only_nothing : (entry : Record) → IsAllowed smallest_device_at_first (Ok event.Poll) entry → nothing ≡ entry
+only_nothing entry is = only_entry smallest_device_at_first _ is.after event.Poll (reply.Poll poll.Nothing) refl
+    (λ b same. same) refl
     entry is.answers is.leads
 
 pub returns-clause-second : goal.returns-clause-second
@@ -133,7 +135,7 @@ returns-clause-second c = record {
     run = record { of_actions = (refl, tt); run = refl; shown = (refl, tt) };
     refused = record {
       allowed = nothing ∷ [];
-      all = only_allowed at_first (Ok event.Poll) nothing is_nothing only_nothing;
+      all = only_allowed smallest_device_at_first (Ok event.Poll) nothing is_nothing only_nothing;
       none = λ entry is. subst (λ other. shows (answered (codes "active")) other ≡ false) (only_nothing entry is) refl;
       told = refl;
     };
@@ -179,7 +181,8 @@ not_unseen : (observed : List (Action × Seen)) (here : Action × Seen) (records
 not_unseen observed here [] text read at of refused =
     let first = ap (λ l. slice_get l 0) read in
     let same : here ≡ (Ask event.Poll, nothing_seen) = cc in
-    let none = (subst (λ (o : Action × Seen). IsRefusal at_first 0 (event_of [] o.0) o.1 text) same refused).none
+    let none = (subst (λ (o : Action × Seen). IsRefusal smallest_device_at_first 0 (event_of [] o.0) o.1 text) same
+    refused).none
     nothing is_nothing in
     absurd cc
 not_unseen observed here (entry ∷ records) text read at of refused = absurd of

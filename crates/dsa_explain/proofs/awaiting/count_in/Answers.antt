@@ -2,7 +2,7 @@ use Rattle.dsa_explain.proofs.awaiting.count_in.Goals as goal
 use Rattle.std.proofs.Common.{arith, ap, length, length-append}
 use Rattle.std.proofs.lemmas.List.Sums.{count_by-le-length}
 use Rattle.dsa_regs.specs.Caps.{list_number}
-use Rattle.dsa_store.{specs.Content.{Slot}, proofs.Lists.{length-le-held}}
+use Rattle.dsa_store.{specs.Content.{HeldEntry}, proofs.Lists.{length-le-held}}
 use Rattle.dsa_admin.specs.Admin.{is_waited_for}
 use Rattle.std.proofs.lemmas.Grind.{common_steps}
 
@@ -11,7 +11,7 @@ overflow_add-count g c =
     omega (
       arith,
       c.loop-cell.invariant.count,
-      count_by-le-length (λ (slot : Slot). is_waited_for c.args.noted.now slot.1) c.loop-cell.yielded,
+      count_by-le-length (λ (pair : HeldEntry). is_waited_for c.args.noted.now pair.1) c.loop-cell.yielded,
       ap length c.loop-cell.invariant.parts,
       ap length c.in-Some.ensures.steps,
       length-append c.loop-cell.yielded c.loop-cell._cell-iterator,

@@ -2,12 +2,12 @@ use Rattle.dsa_explain.proofs.finish.first_waited_in.Goals as goal
 use Rattle.std.proofs.Common.{rules, sym, ◌∙◌, true}
 use Rattle.std.proofs.lemmas.Iterator.{Adapters.{option_map_id}, Search.{find_from_yields_List}}
 use Rattle.dsa_base.proofs.Tables.{when-some}
-use Rattle.dsa_store.{specs.Content.{Slot}, proofs.Walks.{walked}}
+use Rattle.dsa_store.{specs.Content.{HeldEntry}, proofs.Walks.{walked}}
 use Rattle.dsa_book.specs.Work.{waits_for}
 use borrow.Author.Tests.{tests}
 
 pub returns : goal.returns
 returns g c =
     sym (option_map_id c.find.result)
-    ∙ find_from_yields_List (λ (slot : Slot). waits_for c.args.drain.now slot.1) _ _ c.find.result c.find.ensures.ran
-    (walked (sym (when-some true _ _ (sym c.listed.ensures ∙ c.in_ok-slots.was)).1)) (λ x b q k. search (rules, tests))
+    ∙ find_from_yields_List (λ (pair : HeldEntry). waits_for c.args.drain.now pair.1) _ _ c.find.result c.find.ensures.ran
+    (walked (sym (when-some true _ _ (sym c.listed.ensures ∙ c.in_ok-entries.was)).1)) (λ x b q k. search (rules, tests))

@@ -2,7 +2,7 @@ use Rattle.dsa_explain.proofs.held.aborted_at.Goals as goal
 use Rattle.std.proofs.Common.{◌∙◌, sym, arith}
 use Rattle.dsa_regs.specs.Command.{scope_of}
 use Rattle.dsa_book.specs.Commands.{is_in_scope}
-use Rattle.dsa_explain.{specs.declared.held.Held.{Held}, proofs.Holding.{get-here, get-later}}
+use Rattle.dsa_explain.{specs.declared.held.ListedEntry.{ListedEntry}, proofs.Holding.{get-here, get-later}}
 use Rattle.std.proofs.lemmas.Grind.{common_steps}
 
 pub returns-in-Ok : goal.returns-in-Ok
@@ -11,7 +11,7 @@ returns-in-Ok g c =
     ∙ get-here c.args.device.now.state c.args.device.now.caps c.caps-caps.result
     c.state_is_replay.ensures.well_formed.shape c.caps-caps.ensures c.list_use.result c.loop-number.number
     (omega (arith, c.loop-number-test.true, c.list_count-number-end.ensures)) c.list_use.ensures.use_of
-    c.list_use.ensures.number (λ (h : Held). is_in_scope (scope_of c.args.command.now) h.entry) c.loop-number.left
+    c.list_use.ensures.number (λ (h : ListedEntry). is_in_scope (scope_of c.args.command.now) h.entry) c.loop-number.left
     c.in-Ok.held c.in-Ok.ensures.found)
 
 pub loop-number-preserved : goal.loop-number-preserved
@@ -20,7 +20,7 @@ loop-number-preserved g c =
     ∙ get-later c.args.device.now.state c.args.device.now.caps c.caps-caps.result
     c.state_is_replay.ensures.well_formed.shape c.caps-caps.ensures c.list_use.result c.loop-number.number
     (omega (arith, c.loop-number-test.true, c.list_count-number-end.ensures)) c.list_use.ensures.use_of
-    c.list_use.ensures.number (λ (h : Held). is_in_scope (scope_of c.args.command.now) h.entry) c.loop-number.left
+    c.list_use.ensures.number (λ (h : ListedEntry). is_in_scope (scope_of c.args.command.now) h.entry) c.loop-number.left
     c.in-Err.rest c.in-Err.ensures.left
 
 pub returns : goal.returns

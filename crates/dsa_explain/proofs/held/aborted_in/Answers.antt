@@ -2,7 +2,7 @@ use Rattle.dsa_explain.proofs.held.aborted_in.Goals as goal
 use Rattle.std.proofs.Common.{◌≡◌, ◌∙◌, ◌++◌, filter, length, true, sym, ap, arith}
 use Rattle.std.proofs.lemmas.List.{append-nil}
 use Rattle.dsa_regs.specs.Command.{scope_of}
-use Rattle.dsa_store.specs.{declared.entry.Entry.{Entry}, Content.{Slot}}
+use Rattle.dsa_store.specs.{declared.entry.Entry.{Entry}, Content.{HeldEntry}}
 use Rattle.dsa_book.specs.Commands.{is_in_scope}
 use Rattle.dsa_explain.proofs.Holding.{filter-hit, filter-count}
 use Rattle.std.proofs.lemmas.Grind.{common_steps}
@@ -12,7 +12,7 @@ returns-then-left-eq0-clause-found g c =
     let meant : is_in_scope (scope_of c.args.command.now) c.in-Some.entry ≡ true = rw (← c.scope-scope.ensures)
     (sym c.if-is_in_scope.ensures) in
     let index : c.args.index
-    ≡ length (filter (λ (slot : Slot). is_in_scope (scope_of c.args.command.now) slot.1) c.loop-cell.yielded) =
+    ≡ length (filter (λ (pair : HeldEntry). is_in_scope (scope_of c.args.command.now) pair.1) c.loop-cell.yielded) =
     omega (arith, c.loop-cell.invariant.count, c.if-left-eq0.true) in
     rw (c.loop-cell.invariant.parts, c.in-Some.ensures.steps, index)
     (filter-hit (λ (e : Entry). is_in_scope (scope_of c.args.command.now) e) c.args.list c.loop-cell.yielded _

@@ -3,6 +3,5 @@ use Rattle.std.proofs.lemmas.Result.{on_ok_weaker}
 use Rattle.dsa_explain_lines.proofs.Joining.{behind}
 
 pub returns : goal.returns
-returns c = on_ok_weaker c.add_counted_twice.result
-    (λ e. behind _ _ _ _ _ c.in_ok-add_name.ensures (rw (c.from-first.ensures, c.from-second.ensures) at e))
-    c.add_counted_twice.ensures
+returns c = on_ok_weaker c.add_two_groups.result (λ e. behind _ _ _ _ _ c.in_ok-add_name.ensures e)
+    c.add_two_groups.ensures

@@ -5,7 +5,7 @@ use Rattle.serde_json.{specs.{Data.{Data, Items}, Read.{read}}, proofs.OnLiteral
 use Rattle.dsa_regs.specs.declared.Caps.{Caps}
 use Rattle.dsa_book.specs.declared.event.Event.TheVariants.{Poll}
 use Rattle.dsa_scenario.specs.declared.actions.Action.TheVariants.{Ask}
-use Rattle.dsa_scenario.specs.Document.{IsJson, HasHead, head_of, list_of}
+use Rattle.dsa_scenario.specs.Document.{IsJson, HasHead, head_of, list_of_items}
 use Rattle.dsa_scenario.specs.Worked.{smallest_caps_text, no_caps_text, document_text}
 
 -- a text of ASCII is JSON by what it reads as
@@ -15,7 +15,7 @@ is_json text d characters bytes e = record { utf8 = (text, (characters, bytes));
 
 -- and its head is that of the value
 has_head : (text : List ℕ) (d : Data) (caps : Caps) (capacity : ℕ) (items : Items) → IsJson text d
-    → head_of d ≡ Some (caps, capacity, items) → HasHead text caps capacity (list_of items)
+    → head_of d ≡ Some (caps, capacity, items) → HasHead text caps capacity (list_of_items items)
 has_head text d caps capacity items json e =
     record { document = d; items = items; json = json; head = e; listed = refl }
 

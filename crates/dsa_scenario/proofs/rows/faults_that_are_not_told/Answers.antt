@@ -4,7 +4,7 @@ use Rattle.std.specs.Option.{option_map_or}
 use Rattle.serde_json.{specs.{Data.{Data, Items}, Read.{read}}, proofs.OnLiterals.{serde_json_on_literals}}
 use Rattle.dsa_regs.specs.{declared.Caps.{Caps}, Caps.{check_caps}}
 use Rattle.dsa_scenario.specs.{declared.actions.Action.{Action}, Actions.{action_of}}
-use Rattle.dsa_scenario.specs.Document.{HasHead, head_of, list_of}
+use Rattle.dsa_scenario.specs.Document.{HasHead, head_of, list_of_items}
 use Rattle.dsa_scenario.specs.Worked.{smallest_caps_text, no_caps_text, document_text}
 
 -- what is read of a document
@@ -34,7 +34,7 @@ pub returns-clause-second_step : goal.returns-clause-second_step
 unfolding serde_json_on_literals
 returns-clause-second_step c fault =
     let head = same_head (document_text smallest_caps_text (codes "9") (codes "1,2")) _ _ _ _ refl fault.head in
-    let steps = ap (λ o. option_map_or (λ (h : Head). list_of h.2) o []) head ∙ fault.head.listed in
+    let steps = ap (λ o. option_map_or (λ (h : Head). list_of_items h.2) o []) head ∙ fault.head.listed in
     not_asked fault.bad.done (ap (λ (l : List Data). map action_of (take 1 l)) steps ∙ fault.bad.before)
 
 pub returns-clause-step_before_caps : goal.returns-clause-step_before_caps
@@ -42,7 +42,7 @@ unfolding serde_json_on_literals
 returns-clause-step_before_caps c fault =
     let has = fault.document.head in
     let head = same_head (document_text no_caps_text (codes "9") (codes "1")) _ _ _ _ refl has in
-    let steps = ap (λ o. option_map_or (λ (h : Head). list_of h.2) o []) head ∙ has.listed in
+    let steps = ap (λ o. option_map_or (λ (h : Head). list_of_items h.2) o []) head ∙ has.listed in
     not_asked fault.actions (ap (map action_of) steps ∙ fault.document.asked)
 
 pub returns-clause-caps_before_capacity : goal.returns-clause-caps_before_capacity

@@ -9,6 +9,6 @@ returns g c =
     one_more (g.D.RenderSteps.is_page c.args.what.now) (g.D.RenderSteps.told_before c.args.what.now) caps capacity _ _
     done c.args.action c.args.number _ _ _ _ _ c.ask-entry.result c.event_for-asked.result
     (λ before t. c.event_for-asked.ensures before (rw c.deref.ensures.value t))
-    (λ before t. c.ask-entry.ensures.answers before (rw c.deref-2.ensures.value t))
-    c.ask-entry.ensures.leads c.in_ok-note_ticket.ensures (c.deref-3.ensures ∙ c.in_ok-told.ensures) adds h)
+    c.ask-entry.ensures.answers c.ask-entry.ensures.leads c.in_ok-note_ticket.ensures
+    (c.deref-2.ensures ∙ c.in_ok-told.ensures) adds h)
     c.add_step.ensures

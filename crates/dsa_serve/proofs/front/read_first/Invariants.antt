@@ -1,13 +1,14 @@
 use Rattle.dsa_serve.proofs.front.read_first.Given as goal
 use Rattle.std.{proofs.Common.{◌≡◌, ◌-◌, ◌+◌, ◌<◌, ◌≤◌, length, vec_len}, specs.Io.KnownBytes.{Consumes}}
-use Rattle.dsa_serve.specs.{Input.{IsLine}, Noted.{counted_remaining, asked_of, has_failed, IsSameReader}}
+use Rattle.dsa_scenario.specs.Counted.{counted_remaining, asked_of, has_reader_failed, IsSameReader}
+use Rattle.dsa_serve.specs.Input.{IsLine}
 
 abbrev pub invariant-reads : goal.invariant-reads
 invariant-reads g l = record {
   room : 0 < length l.chunk;
   same_reader : IsSameReader l.initial.reader l.reader;
   asked : asked_of l.reader ≤ asked_of l.initial.reader + length l.first.items;
-  well : has_failed l.reader ≡ has_failed l.initial.reader;
+  well : has_reader_failed l.reader ≡ has_reader_failed l.initial.reader;
   taken : Consumes (counted_remaining g.R.Read.remaining l.initial.reader)
       (counted_remaining g.R.Read.remaining l.reader) l.first.items;
   line : IsLine l.first.items;

@@ -8,7 +8,7 @@ use Rattle.serde_json.proofs.OnLiterals.{serde_json_on_literals}
 use Rattle.dsa_book.specs.declared.answer.PollAnswer.TheVariants.{Nothing}
 use Rattle.dsa_scenario.specs.declared.actions.Action.TheVariants.{Ask}
 use Rattle.dsa_book.specs.State.{opening}
-use Rattle.dsa_scenario.specs.{Document.{IsDocument}, Lines.{line_of}, Worked.{smallest_caps, stepped}}
+use Rattle.dsa_scenario.specs.{Document.{IsDocument}, Lines.{line_of_text}, Worked.{smallest_caps, stepped}}
 use Rattle.dsa_serve.specs.declared.requests.LineFault.TheVariants.{NotJson}
 use Rattle.dsa_serve.specs.declared.requests.Request.TheVariants.{Explain, Fault}
 use Rattle.dsa_serve.specs.{Input.{IsLine, AreLines, HasFirst}, Dialogue.{IsDialogue}}
@@ -102,7 +102,7 @@ open_brace : IsLine (codes "{")
 open_brace = line_by_test (codes "{") refl
 
 -- the first line of such an input, and the lines behind it
-split : (behind : List ℕ) → HasFirst (line_of (first_line []) ++ behind) (first_line []) behind
+split : (behind : List ℕ) → HasFirst (line_of_text (first_line []) ++ behind) (first_line []) behind
 split behind = record { ended = false; line = bare; short = lit≤ tt; front = refl }
 
 one_line : AreLines (codes "{\n{") (codes "{" ∷ []) (codes "{")

@@ -7,7 +7,8 @@ use Rattle.dsa_regs.specs.{declared.Caps.{Caps}, Caps.{check_caps}}
 use Rattle.dsa_book.specs.{State.{State, opening}}
 use Rattle.dsa_book.specs.declared.event.Event.TheVariants.{Poll}
 use Rattle.dsa_scenario.specs.declared.{actions.Action.{Action, TheVariants.{Ask}}, run.Record.{Record}}
-use Rattle.dsa_scenario.specs.{Actions.{action_of}, Document.{head_of, list_of}, Lines.{record_text, line_of}}
+use Rattle.dsa_scenario.specs.{Actions.{action_of}, Document.{head_of, list_of_items}}
+use Rattle.dsa_scenario.specs.Lines.{record_text, line_of_text}
 use Rattle.dsa_scenario.specs.{Run.{AreOf}, Steps.{visits}}
 use Rattle.dsa_scenario.specs.Worked.{smallest_caps, smallest_caps_text, no_caps_text, document_text}
 use Rattle.dsa_serve.specs.declared.requests.LineFault.TheVariants.{NotJson, NoStep, TooLong}
@@ -60,7 +61,7 @@ bare_actions : (lines : List (List ℕ)) (last : State) (output : List ℕ)
 unfolding serde_json_on_literals
 bare_actions lines last output is =
     let head = head_is (first_line []) lines last output _ refl is in
-    let steps = ap (λ o. option_map_or (λ (h : Head). list_of h.2) o []) head ∙ is.document.head.listed in
+    let steps = ap (λ o. option_map_or (λ (h : Head). list_of_items h.2) o []) head ∙ is.document.head.listed in
     no_action is.actions (ap (map action_of) steps ∙ is.document.asked)
 
 bare_caps : (lines : List (List ℕ)) (last : State) (output : List ℕ)
@@ -94,14 +95,14 @@ output_is : (last : State) (output : List ℕ) → IsDialogue (first_line []) []
 output_is last output is =
     is.answered ∙ ap (λ rs. answers rs (visits is.caps is.capacity [] is.records)) (bare_requests last output is)
 
-no_lines : (lines : List (List ℕ)) (rest : List ℕ) → [] ≡ flat_map line_of lines ++ rest
+no_lines : (lines : List (List ℕ)) (rest : List ℕ) → [] ≡ flat_map line_of_text lines ++ rest
     → (lines ≡ []) × (rest ≡ [])
 no_lines [] rest e = (refl, sym e)
 no_lines (l ∷ lines) rest e = absurd (omega (
   arith,
   ap length e,
-  length-append (flat_map line_of (l ∷ lines)) rest,
-  length-append (line_of l) (flat_map line_of lines),
+  length-append (flat_map line_of_text (l ∷ lines)) rest,
+  length-append (line_of_text l) (flat_map line_of_text lines),
   length-append l (10 ∷ []),
 ))
 
@@ -165,6 +166,6 @@ pub returns-clause-no_record : goal.returns-clause-no_record
 unfolding serde_json_on_literals
 returns-clause-no_record c last is =
     let head = head_is (first_line poll_line) [] last [] _ refl is in
-    let steps = ap (λ o. option_map_or (λ (h : Head). list_of h.2) o []) head ∙ is.document.head.listed in
+    let steps = ap (λ o. option_map_or (λ (h : Head). list_of_items h.2) o []) head ∙ is.document.head.listed in
     let actions = one_action is.actions (ap (map action_of) steps ∙ is.document.asked) in
     no_answer is.actions is.requests is.records is.caps is.capacity actions is.of_actions is.answered

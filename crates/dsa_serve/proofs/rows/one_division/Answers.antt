@@ -3,7 +3,7 @@ use Rattle.std.proofs.Common.{◌≡◌, ◌≢◌, ℕ, true, false, Bool, List
 use Rattle.std.proofs.Common.{length, length-append, append_assoc, flat_map}
 use Rattle.std.proofs.Math.Seq.{get_or-append_seam}
 use Rattle.std.proofs.lemmas.List.Elements.{All-head, All-tail}
-use Rattle.dsa_scenario.specs.Lines.{line_of}
+use Rattle.dsa_scenario.specs.Lines.{line_of_text}
 use Rattle.dsa_serve.specs.Input.{IsLine, IsFront}
 
 -- a line has no line feed behind it
@@ -47,24 +47,24 @@ one_first false false input first first' behind behind' line line' front front' 
 
 -- lines with what comes behind them, by the first of them
 behind_first : (line : List ℕ) (lines : List (List ℕ)) (rest : List ℕ)
-    → flat_map line_of (line ∷ lines) ++ rest ≡ line ++ 10 ∷ (flat_map line_of lines ++ rest)
+    → flat_map line_of_text (line ∷ lines) ++ rest ≡ line ++ 10 ∷ (flat_map line_of_text lines ++ rest)
 behind_first line lines rest =
-    append_assoc (line_of line) (flat_map line_of lines) rest
-    ∙ append_assoc line (10 ∷ []) (flat_map line_of lines ++ rest)
+    append_assoc (line_of_text line) (flat_map line_of_text lines) rest
+    ∙ append_assoc line (10 ∷ []) (flat_map line_of_text lines ++ rest)
 
 -- bytes fall into lines, and the rest of one, in one way
 one_division : (lines lines' : List (List ℕ)) (rest rest' : List ℕ) → All IsLine lines → All IsLine lines'
-    → IsLine rest → IsLine rest' → flat_map line_of lines ++ rest ≡ flat_map line_of lines' ++ rest'
+    → IsLine rest → IsLine rest' → flat_map line_of_text lines ++ rest ≡ flat_map line_of_text lines' ++ rest'
     → (lines ≡ lines') × (rest ≡ rest')
 one_division [] [] rest rest' each each' last last' e = (refl, e)
 one_division [] (l ∷ lines') rest rest' each each' last last' e =
-    absurd (no_feed_behind rest l (flat_map line_of lines' ++ rest') last
-    (e ∙ append_assoc (line_of l) (flat_map line_of lines') rest'))
+    absurd (no_feed_behind rest l (flat_map line_of_text lines' ++ rest') last
+    (e ∙ append_assoc (line_of_text l) (flat_map line_of_text lines') rest'))
 one_division (l ∷ lines) [] rest rest' each each' last last' e =
-    absurd (no_feed_behind rest' l (flat_map line_of lines ++ rest) last'
-    (sym e ∙ append_assoc (line_of l) (flat_map line_of lines) rest))
+    absurd (no_feed_behind rest' l (flat_map line_of_text lines ++ rest) last'
+    (sym e ∙ append_assoc (line_of_text l) (flat_map line_of_text lines) rest))
 one_division (l ∷ lines) (l' ∷ lines') rest rest' each each' last last' e =
-    let it = one_way l l' (flat_map line_of lines ++ rest) (flat_map line_of lines' ++ rest')
+    let it = one_way l l' (flat_map line_of_text lines ++ rest) (flat_map line_of_text lines' ++ rest')
     (All-head IsLine l lines each) (All-head IsLine l' lines' each')
     (sym (behind_first l lines rest) ∙ e ∙ behind_first l' lines' rest') in
     let more = one_division lines lines' rest rest' (All-tail IsLine l lines each) (All-tail IsLine l' lines' each')

@@ -1,15 +1,15 @@
 use Rattle.dsa_serve.proofs.serving.serve_lines.Given as goal
 use Rattle.std.proofs.Common.{◌≡◌, ◌<◌, ◌-◌, ◌^◌, ℕ, List, Option, false, length}
+use Rattle.dsa_scenario.specs.Counted.{counted_remaining, asked_of, has_reader_failed, IsSameReader, IsAskedFor}
 use Rattle.dsa_scenario.specs.Watched.{watched_contents, has_refused, IsSameWriter}
 use Rattle.dsa_serve.specs.Dialogue.{IsInCourse}
-use Rattle.dsa_serve.specs.Noted.{counted_remaining, asked_of, has_failed, IsSameReader, IsAskedFor}
 
 abbrev pub invariant-turns : goal.invariant-turns
 invariant-turns g l = record {
   room : 0 < length l.chunk;
   same_reader : IsSameReader l.initial.reader l.reader;
   same_writer : IsSameWriter l.initial.writer l.writer;
-  well : has_failed l.reader ≡ has_failed l.initial.reader;
+  well : has_reader_failed l.reader ≡ has_reader_failed l.initial.reader;
   taken : has_refused l.writer ≡ has_refused l.initial.writer;
   asked : IsAskedFor g.R.Read.remaining l.initial.reader l.reader 0;
   course : (had : Option (List ℕ)) → (held : Option (List ℕ))

@@ -1,7 +1,7 @@
 use Rattle.dsa_workers.proofs.client.submit_all.Goals as goal
 use Rattle.std.proofs.Common.{ℕ, ◌≡◌, ◌∙◌, ◌+◌, ap, sym, cond, refl, get_or, true, false, arith}
 use Rattle.dsa_book.specs.declared.event.Step.{Step}
-use Rattle.dsa_workers.specs.Calls.{goes_on, submission}
+use Rattle.dsa_workers.specs.Calls.{goes_on, submission_of_client_step}
 use Rattle.dsa_workers.proofs.Calls.{so_far_none, so_far_more, ends_full, ends_done, ends_out, moved_by, client_next}
 use Rattle.dsa_workers.proofs.Calls.{client_runs}
 use Rattle.dsa_workers.proofs.client.submit_all.Goals.{then-goes_on, else-goes_on}
@@ -20,7 +20,7 @@ pub returns-then-is_full : goal.returns-then-is_full
 returns-then-is_full g c =
     let was = c.loop-turn.invariant in
     let call : Step = record {
-      event = submission c.loop-turn.seat.number
+      event = submission_of_client_step c.loop-turn.seat.number
           (get_or c.args.script.now c.loop-turn.at _);
       reply = c.turn_once-reply.result;
     } in
@@ -35,7 +35,7 @@ pub loop-turn-preserved : goal.loop-turn-preserved
 loop-turn-preserved g c =
     let was = c.loop-turn.invariant in
     let call : Step = record {
-      event = submission c.loop-turn.seat.number
+      event = submission_of_client_step c.loop-turn.seat.number
           (get_or c.args.script.now c.loop-turn.at _);
       reply = c.turn_once-reply.result;
     } in

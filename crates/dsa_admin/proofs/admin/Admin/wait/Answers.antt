@@ -9,15 +9,15 @@ use Rattle.dsa_admin.{specs.Admin.{is_watched}, proofs.{Commands.{in_step-stoppe
 
 pub returns-then-is_at_end-clause-in_step : goal.returns-then-is_at_end-clause-in_step
 returns-then-is_at_end-clause-in_step g c =
-    λ gear come s. rw c.stop.ensures (in_step-stopped _ _ c.next_name.result Off c.args.queues.now.setup gear
+    λ engines_state come s. rw c.stop.ensures (in_step-stopped _ _ c.next_name.result Off c.args.queues.now.setup engines_state
     (g.S.EntryStore.content c.args.store.now) (λ x. come)
     (λ off. not-true _ (sym (c.is_at_end.ensures
     (g.S.EntryStore.content c.args.store.now) c.requires.counted c.count_watched-awaited.ensures)
     ∙ c.if-is_at_end.true)) s)
 
 pub returns-clause-in_step : goal.returns-clause-in_step
-returns-clause-in_step g c = λ gear come s.
-    rw c.stop-2.ensures (in_step-stopped _ _ 0 Stopping c.args.queues.now.setup gear
+returns-clause-in_step g c = λ engines_state come s.
+    rw c.stop-2.ensures (in_step-stopped _ _ 0 Stopping c.args.queues.now.setup engines_state
     (g.S.EntryStore.content c.args.store.now) (λ x. come) (λ off. absurd cc) s)
 
 pub returns-clause-awaiting : goal.returns-clause-awaiting

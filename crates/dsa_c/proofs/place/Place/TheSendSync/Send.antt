@@ -1,6 +1,6 @@
 -- A machine may go to another thread, and so may its place.
-use Rattle.dsa_machine.specs.contracts.Machine as Machine
-use Rattle.dsa_machine.proofs.Machine.TheSendSync.{the_send as machine}
+use Rattle.dsa_linked.specs.contracts.LinkedDevice as LinkedDevice
+use Rattle.dsa_linked.proofs.LinkedDevice.TheSendSync.{the_send as machine}
 use Rattle.dsa_c.specs.contracts.place.Place.{the_row, the_type}
 use mir.Raw.{raw}
 use base.Shift.{Keyless}
@@ -13,12 +13,12 @@ use Rattle.std.proofs.Crossing as heap
 use Rattle.std.specs.{Prelude.{None, Some}, Global.{Global}}
 use Rattle.std_alloc.proofs.SendSync.{quiet, lies}
 use Rattle.std_heap.proofs.Global.TheSendSync as handle
-use Rattle.dsa_c.specs.Place.{HeldMachine, place_owns}
+use Rattle.dsa_c.specs.Place.{HeldDevice, place_owns}
 
-owned : (alloc : Global) (at : Ptr) (held : HeldMachine) → Keyless (place_owns alloc at held)
+owned : (alloc : Global) (at : Ptr) (held : HeldDevice) → Keyless (place_owns alloc at held)
 owned alloc at None = tt
 owned alloc at (Some held) =
-    (lies Machine.the_row machine at held, heap.frees.frees alloc (raw (lone Machine.the_row.mir)) at)
+    (lies LinkedDevice.the_row machine at held, heap.frees.frees alloc (raw (lone LinkedDevice.the_row.mir)) at)
 
 pub send : IsSend the_row
 send =

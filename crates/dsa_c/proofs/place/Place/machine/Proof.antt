@@ -1,6 +1,6 @@
 -- `machine` gives the pointer its type back, and lends what lies there; what stays behind makes a place again with any
 -- machine that is left.
-use Rattle.dsa_machine.specs.contracts.Machine as Machine
+use Rattle.dsa_linked.specs.contracts.LinkedDevice as LinkedDevice
 use Rattle.dsa_c.specs.contracts.place.Place as Place
 use Rattle.dsa_c.specs.contracts.place.Place.machine as here
 use Rattle.dsa_c.proofs.place.Place.machine.Code as code
@@ -27,7 +27,7 @@ use Rattle.std.specs.Prelude.{IsSome}
 use Rattle.std_alloc.proofs.VecSteps.Shapes.{after}
 use Rattle.std_alloc.proofs.BoxSteps.{Form.{D, B, R, τ, word, handle}, Steps.{box_out, box_in}}
 use Rattle.dsa_c.proofs.{Machines.{machines, there_is}, place.Place.machine.Statement.{statement}}
-use Rattle.dsa_c.specs.{Lending.{with_machine}, Place.{HeldMachine}, contracts.place.Place.machine.Key.{name as #self}}
+use Rattle.dsa_c.specs.{Lending.{with_machine}, Place.{HeldDevice}, contracts.place.Place.machine.Key.{name as #self}}
 
 abbrev Given : Slot 1
 Given = plain (λ _. Place.the_row)
@@ -43,8 +43,8 @@ Rest given b o rb ro hv =
 
 module _ {M : Type 1} {𝓤 : Ura M} (𝓛 : Logic 𝓤) (given : Place.the_row.Denot) (b o rb ro : ℕ) (hv : Val) where
   -- with any machine at the pointer it is a place again
-  back : given.at ≡ block_ptr b o → (m : Machine.the_row.Denot)
-      → ent 𝓤 (sep 𝓤 (sem 𝓛 ((mem Machine.the_row).own_at m b o)) (sem 𝓛 (Rest given b o rb ro hv)))
+  back : given.at ≡ block_ptr b o → (m : LinkedDevice.the_row.Denot)
+      → ent 𝓤 (sep 𝓤 (sem 𝓛 ((mem LinkedDevice.the_row).own_at m b o)) (sem 𝓛 (Rest given b o rb ro hv)))
       (sem 𝓛 ((mem Place.the_row).own_at (with_machine given m) rb ro))
   unfolding part_of
   back lies m =
@@ -75,7 +75,7 @@ machine_spec 𝓤 𝓛 𝓜 𝓡 wired =
     -- [what was seen; the borrow; its token]
     enter ! _ _ _ _ _ $ alloc_all ! (λ l. pass_all ! refl ((tt, tt), tt) $
     opens ! tt Place.the_row {h = given} rb ro (λ vs. move ! (1 ∷ []) $
-    rewrite ! 0 (λ (o : HeldMachine). ‵
+    rewrite ! 0 (λ (o : HeldDevice). ‵
     (Place.the_row.own_val (record { at = given.at; alloc = given.alloc; machine = o }) vs)) held refl $
     use1 𝓛 (‵ ((B machines).own_val boxed vs)) (id⊢ 𝓤 _) $ box_out machines ! boxed vs (λ b o hv lies ws fits.
     move ! (1 ∷ 2 ∷ []) $ fjoin ! $ move ! (2 ∷ []) $
@@ -92,13 +92,13 @@ machine_spec 𝓤 𝓛 𝓜 𝓡 wired =
     let rest = sem 𝓛 (Rest given b o rb ro hv) in
     let whole_again = back 𝓛 given b o rb ro hv lies in
     use1 𝓛 (later (some (λ (γ' : GName). raw (
-    Part 𝓛 Place.the_row Machine.the_row makes (named 0) κ q rb ro b o γ rest whole_again m γ')))) (
-    lends_Part 𝓛 Place.the_row Machine.the_row makes (named 0) κ q rb ro b o γ rest whole_again value value m) $
+    Part 𝓛 Place.the_row LinkedDevice.the_row makes (named 0) κ q rb ro b o γ rest whole_again m γ')))) (
+    lends_Part 𝓛 Place.the_row LinkedDevice.the_row makes (named 0) κ q rb ro b o γ rest whole_again value value m) $
     await ! tt $ pick ! (λ γ'.
-    let loan : MutBor Machine.the_row.Denot = record { ref_ptr = (b, o); ghost_name = γ'; now = m } in
-    let out : Fml = (MutRef (named 0) κ Machine.the_row).own_val loan (vptr b o ∷ []) in
+    let loan : MutBor LinkedDevice.the_row.Denot = record { ref_ptr = (b, o); ghost_name = γ'; now = m } in
+    let out : Fml = (MutRef (named 0) κ LinkedDevice.the_row).own_val loan (vptr b o ∷ []) in
     returns ! (look_at ! 0 refl) $ free_all ! refl $
-    use1 𝓛 (‵ out ⊛ ‵ (flft κ q) ⊛ ‵ (follows Place.the_row Machine.the_row γ γ' makes)) (id⊢ 𝓤 _) $ split3 ! $
+    use1 𝓛 (‵ out ⊛ ‵ (flft κ q) ⊛ ‵ (follows Place.the_row LinkedDevice.the_row γ γ' makes)) (id⊢ 𝓤 _) $ split3 ! $
     suffices ! _ (ends_at 𝓛 here.ended stayed c y (vptr b o) loan (tt, tt) (tt, tt)) $
     keep ! (0 ∷ 1 ∷ 2 ∷ []) $ nothing ! $ nothing ! $ fjoin ! $ join ! $ nothing ! $
     move ! (2 ∷ 0 ∷ []) $ join ! $ join ! $ frame ! $ says ! held $ done !))))))

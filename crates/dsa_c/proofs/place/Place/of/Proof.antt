@@ -1,7 +1,7 @@
 -- `of` writes the pointer down under another type; what the parts own, the place owns.
 use Rattle.std_heap.specs.contracts.Global as Global
 use Rattle.std_heap.specs.contracts.GlobalAllocator.TheImpl as heap
-use Rattle.dsa_machine.specs.contracts.Machine as Machine
+use Rattle.dsa_linked.specs.contracts.LinkedDevice as LinkedDevice
 use Rattle.dsa_c.specs.contracts.unboxed.Unboxed as Unboxed
 use Rattle.dsa_c.specs.contracts.place.Place.of as here
 use Rattle.dsa_c.proofs.place.Place.of.Code as code
@@ -26,7 +26,7 @@ use Rattle.dsa_c.proofs.{Machines.{machines}, place.Place.of.Statement.{statemen
 use Rattle.dsa_c.specs.contracts.place.Place.of.Key.{name as #self}
 
 abbrev Given : Slot 0
-Given = plain (λ _. Unboxed.the_row Machine.the_row Global.the_row heap.ghosts)
+Given = plain (λ _. Unboxed.the_row LinkedDevice.the_row Global.the_row heap.ghosts)
 
 abbrev Made : RattleType
 Made = type_at (here.signature).result tt

@@ -21,7 +21,7 @@ use denote.Triple.Walked.{says, Stays, stay_dropped, walk_of, ends_at, Goes-drop
 use Rattle.std.{proofs.raw_atomic.Walks.{proved_at}, specs.Prelude.{IsSome}}
 use Rattle.std_alloc.proofs.BoxSteps.{Form.{D, B, word, box_typed}, Steps.{box_out, box_in}}
 use Rattle.dsa_c.proofs.{Machines.{machines, there_is}, place.Place.unboxed.Statement.{statement}}
-use Rattle.dsa_c.specs.{Place.{HeldMachine}, contracts.place.Place.unboxed.Key.{name as #self}}
+use Rattle.dsa_c.specs.{Place.{HeldDevice}, contracts.place.Place.unboxed.Key.{name as #self}}
 
 abbrev Given : Slot 0
 Given = plain (λ _. Place.the_row)
@@ -45,7 +45,7 @@ unboxed_spec 𝓤 𝓛 𝓜 𝓡 wired =
     let m = (there_is given.machine some).0 in let held = (there_is given.machine some).1 in
     let boxed : D machines = record { ptr = given.at; alloc = given.alloc; value = m } in
     let made : Made.Denot = record { to = given.at; alloc = given.alloc; value = m } in
-    rewrite ! 0 (λ (o : HeldMachine). ‵
+    rewrite ! 0 (λ (o : HeldDevice). ‵
     (Place.the_row.own_val (record { at = given.at; alloc = given.alloc; machine = o }) z.0.4.0)) held refl $
     use1 𝓛 (‵ ((B machines).own_val boxed z.0.4.0)) (id⊢ 𝓤 _) $ box_out machines ! boxed z.0.4.0 (λ b o hv lies is fits.
     let w = word machines hv b o in let typed = box_typed machines hv b o fits in

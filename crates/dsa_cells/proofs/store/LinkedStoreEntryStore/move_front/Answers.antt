@@ -1,6 +1,6 @@
 use Rattle.dsa_cells.proofs.store.LinkedStoreEntryStore.move_front.Goals as goal
 use Rattle.std.proofs.Common.{ap, sym, ◌∙◌}
-use Rattle.dsa_cells.specs.Content.{cell_of}
+use Rattle.dsa_cells.specs.Content.{cell_of_number}
 use Rattle.dsa_cells.proofs.Contents.{front, front-is, content-moved}
 
 pub transfer-requires-clause-cell_in : goal.transfer-requires-clause-cell_in
@@ -13,7 +13,8 @@ transfer-requires-clause-apart g c =
     λ e. c.requires.apart (sym f.owner ∙ e)
 
 pub returns-clause-value : goal.returns-clause-value
-returns-clause-value g c = sym (front-is _ _ _ c.requires.from ∙ ap cell_of (sym c.head.ensures ∙ c.in_ok-cell.was))
+returns-clause-value g c = sym (front-is _ _ _ c.requires.from
+    ∙ ap cell_of_number (sym c.head.ensures ∙ c.in_ok-cell.was))
 
 pub returns-clause-after : goal.returns-clause-after
 returns-clause-after g c =

@@ -2,7 +2,7 @@ use Rattle.dsa_book.specs.declared.event.Event.TheVariants as event
 use Rattle.dsa_book.specs.declared.answer.Reply.TheVariants as reply
 use Rattle.dsa_device.proofs.device.Device.fetch.Goals as goal
 use Rattle.std.proofs.Common.{◌∙◌, sym}
-use Rattle.dsa_book.specs.Choice.{choice_of, cell_of}
+use Rattle.dsa_book.specs.Choice.{choice_of, chosen_cell}
 use Rattle.dsa_admin.specs.Admin.{is_watched}
 use Rattle.dsa_laws.proofs.Awaits.{fetch-counts}
 use Rattle.dsa_device.proofs.Awaiting.{awaiting-kept, names-after}
@@ -37,7 +37,7 @@ invariant_of-self g c = record {
       (names-after _ _ _ (event.Fetch c.args.engine c.args.desc) (reply.Fetch c.fetch-answer.result)
       c.self.invariant.whole.replay c.self.view_is (returns g c))
       (λ active earlier past. fetch-counts (is_watched active) active.mark earlier _ c.args.engine c.args.desc
-      (cell_of (choice_of (reply.Fetch c.fetch-answer.result))) _ _ past
+      (chosen_cell (choice_of (reply.Fetch c.fetch-answer.result))) _ _ past
       (c.fetch-answer.ensures.step c.self.inside.book.fates))
       c.self.invariant.awaiting;
 }

@@ -1,11 +1,11 @@
 use Rattle.dsa_device.proofs.device.Device.offered.Goals as goal
 use Rattle.std.proofs.Common.{◌≡◌, ℕ, List, [], Option, Some, None, slice_get, refl}
-use Rattle.dsa_store.specs.Content.{Slot, chain}
+use Rattle.dsa_store.specs.Content.{HeldEntry, chain}
 use Rattle.dsa_book.specs.{declared.fate.FateRow.{FateRow}, State.{Work}, Work.{dispatch_of}}
 use Rattle.dsa_engines.specs.Engines.{work}
 
 -- the answer is the same whatever ended before
-same-answer : (w : Work) (fates : List FateRow) (e q : ℕ) (front : Option Slot)
+same-answer : (w : Work) (fates : List FateRow) (e q : ℕ) (front : Option HeldEntry)
     → (dispatch_of (record w { fates = fates }) e q front).0 ≡ (dispatch_of w e q front).0
 same-answer w fates e q None = refl
 same-answer w fates e q (Some front) = refl

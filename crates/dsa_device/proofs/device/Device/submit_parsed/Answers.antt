@@ -3,7 +3,7 @@ use Rattle.dsa_book.specs.declared.answer.Reply.TheVariants as reply
 use Rattle.dsa_device.proofs.device.Device.submit_parsed.Goals as goal
 use Rattle.std.proofs.Common.{◌∙◌, refl, sym, ap}
 use Rattle.dsa_regs.specs.Caps.{cell_count}
-use Rattle.dsa_book.specs.Choice.{choice_of, cell_of}
+use Rattle.dsa_book.specs.Choice.{choice_of, chosen_cell}
 use Rattle.dsa_queues.specs.Queues.{intake}
 use Rattle.dsa_admin.specs.Admin.{is_watched}
 use Rattle.dsa_laws.proofs.Awaits.{submit-counts}
@@ -35,7 +35,7 @@ invariant_of-self g c =
     let i = c.self.inside in
     let old = c.self.invariant in
     let content = g.S.EntryStore.content i.store in
-    let cell = cell_of (choice_of (reply.Submit c.submit-answer.result)) in
+    let cell = chosen_cell (choice_of (reply.Submit c.submit-answer.result)) in
     let keeps = submit-keeps (intake i.queues.setup content) c.args.queue c.args.portal c.args.kind c.args.desc
     cell _ _ c.submit-answer.ensures.answer in
     record {

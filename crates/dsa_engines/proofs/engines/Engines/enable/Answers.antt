@@ -1,6 +1,6 @@
 use Rattle.dsa_engines.proofs.engines.Engines.enable.Goals as goal
 use Rattle.std.proofs.Common.{◌≡◌, ◌∙◌, length, ap, arith}
-use Rattle.dsa_engines.{specs.Engines.{Gear}, proofs.Used.{buffers-at_rest}}
+use Rattle.dsa_engines.{specs.Engines.{EnginesState}, proofs.Used.{buffers-at_rest}}
 
 pub returns-clause-in_step : goal.returns-clause-in_step
 returns-clause-in_step c cells content store none = record {
@@ -8,7 +8,7 @@ returns-clause-in_step c cells content store none = record {
   store = store;
   idle = λ off. none;
   checked = λ on. c.requires.checked;
-  notes = ap (λ (x : Gear). length x.notes) c.self.view_is ∙ c.requires.notes;
+  notes = ap (λ (x : EnginesState). length x.notes) c.self.view_is ∙ c.requires.notes;
   homes = λ on. c.homes-self-inside.ensures;
   buffers = λ on.
       let len : length c.args.queues.now.setup.groups ≡ c.args.queues.now.setup.caps.groups = omega arith in

@@ -12,11 +12,10 @@ returns g c caps capacity requests written h =
     let asked = c.event_for-asked.result in
     rw c.in_ok-number.ensures
     (stepped part_of caps capacity requests (Explain c.args.action) c.args.action number c.args.self.now.device _ _ _
-    written _ _ (line_with c.deref-3.result.now number entry) c.deref-3.result.now entry asked refl
+    written _ _ (line_with c.deref-2.result.now number entry) c.deref-2.result.now entry asked refl
     (λ before t. c.event_for-asked.ensures before (rw c.deref.ensures.value t))
-    (λ before t. c.ask-entry.ensures.answers before (rw c.deref-2.ensures.value t))
-    c.ask-entry.ensures.leads c.in_ok-note_ticket.ensures
-    (c.deref-3.ensures ∙ c.in_ok-add_part.ensures
+    c.ask-entry.ensures.answers c.ask-entry.ensures.leads c.in_ok-note_ticket.ensures
+    (c.deref-2.ensures ∙ c.in_ok-add_part.ensures
     ∙ ap (λ l. l ++ part_of c.args.self.now.device asked) c.new-part.ensures.bytes)
     c.in_ok-add_line.ensures
     (λ before same. explained_line c.args.action (visit number before entry c.ask-entry.new.device)

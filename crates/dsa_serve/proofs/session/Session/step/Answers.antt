@@ -1,7 +1,7 @@
 use Rattle.dsa_serve.proofs.session.Session.step.Goals as goal
 use Rattle.std.proofs.Common.{[], refl}
 use Rattle.std.proofs.lemmas.Result.{on_ok_weaker}
-use Rattle.dsa_scenario.specs.{Lines.{record_text, line_of}, Run.{answered_by}, Steps.{visit}}
+use Rattle.dsa_scenario.specs.{Lines.{record_text, line_of_text}, Steps.{visit}}
 use Rattle.dsa_serve.specs.declared.requests.Request.TheVariants.{Step}
 use Rattle.dsa_serve.proofs.Sessions.{stepped, plain_line}
 
@@ -12,9 +12,8 @@ returns g c =
     (λ line caps capacity requests written h.
     rw c.in_ok-number.ensures
     (stepped (λ now asked. []) caps capacity requests (Step c.args.action) c.args.action c.args.self.now.number _ _ _ _
-    written _ _ (line_of (record_text entry)) [] entry (answered_by entry) refl
-    (λ before t. c.ask-entry.ensures.answers before (rw c.deref.ensures.value t))
-    (λ before t. c.ask-entry.ensures.answers before (rw c.deref.ensures.value t))
-    c.ask-entry.ensures.leads c.in_ok-note_ticket.ensures refl line
+    written _ _ (line_of_text (record_text entry)) [] entry c.event_for-asked.result refl
+    (λ before t. c.event_for-asked.ensures before (rw c.deref.ensures.value t))
+    c.ask-entry.ensures.answers c.ask-entry.ensures.leads c.in_ok-note_ticket.ensures refl line
     (λ before same. plain_line c.args.action (visit c.args.self.now.number before entry c.ask-entry.new.device)) h))
     c.add_record.ensures

@@ -4,7 +4,7 @@ use Rattle.dsa_regs.specs.{declared.Caps.{Caps}, Caps.{cell_count, list_count}}
 use Rattle.dsa_base.proofs.Tables.{not-both}
 use Rattle.dsa_store.specs.Content.{held_count}
 use Rattle.dsa_book.specs.State.{is_off}
-use Rattle.dsa_engines.specs.Engines.{Gear}
+use Rattle.dsa_engines.specs.Engines.{EnginesState}
 
 pub returns : goal.returns
 returns g c =
@@ -23,7 +23,7 @@ returns g c =
         };
         idle = λ is. none;
         checked = λ on. not-both _ off on;
-        notes = ap (λ (x : Gear). length x.notes) c.new.ensures.value
+        notes = ap (λ (x : EnginesState). length x.notes) c.new.ensures.value
             ∙ length-replicate c.caps-caps.result.engines None ∙ ap (λ (x : Caps). x.engines) c.caps-caps.ensures.value;
         homes = λ on. not-both _ off on;
         buffers = λ on. not-both _ off on;

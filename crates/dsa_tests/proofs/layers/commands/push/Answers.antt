@@ -4,12 +4,12 @@ use Rattle.std.proofs.lemmas.Bool.{ltb-true}
 use Rattle.dsa_store.specs.Content.{Content, chain}
 use Rattle.dsa_book.specs.State.{Setup, is_off, has_queue}
 use Rattle.dsa_queues.proofs.Counts.{counted-pushed, counted-setup}
-use Rattle.dsa_engines.{specs.Engines.{Gear, IsInStep}, proofs.Keeping.{in_step-queue}}
+use Rattle.dsa_engines.{specs.Engines.{EnginesState, IsInStep}, proofs.Keeping.{in_step-queue}}
 use Rattle.dsa_tests.proofs.Waiting.{awaiting-pushed}
 
 -- a name that is given changes nothing of it
-named : {cells : ℕ} {setup : Setup} {gear : Gear} {content : Content} (name : ℕ)
-    → IsInStep setup gear cells content → IsInStep (record setup { next_name = name }) gear cells content
+named : {cells : ℕ} {setup : Setup} {engines_state : EnginesState} {content : Content} (name : ℕ)
+    → IsInStep setup engines_state cells content → IsInStep (record setup { next_name = name }) engines_state cells content
 named name s = assumption
 
 pub entered-requires-clause-room : goal.entered-requires-clause-room

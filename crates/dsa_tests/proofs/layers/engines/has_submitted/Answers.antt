@@ -1,10 +1,10 @@
 use Rattle.dsa_tests.proofs.layers.engines.has_submitted.Goals as goal
 use Rattle.std.proofs.{Common.{rules, not}, lemmas.Iterator.Search.{any_from_yields_List}}
-use Rattle.dsa_store.{specs.Content.{Slot}, proofs.Walks.{walked}}
+use Rattle.dsa_store.{specs.Content.{HeldEntry}, proofs.Walks.{walked}}
 use Rattle.dsa_book.specs.State.{is_member}
 use borrow.Author.Tests.{tests}
 
 pub returns : goal.returns
 returns g c =
-    any_from_yields_List (λ (slot : Slot). not (is_member slot.1)) _ _ c.any.result c.any.ensures.ran
-    (walked c.slots.ensures) (λ x b q k. search (rules, tests))
+    any_from_yields_List (λ (pair : HeldEntry). not (is_member pair.1)) _ _ c.any.result c.any.ensures.ran
+    (walked c.held_entries.ensures) (λ x b q k. search (rules, tests))

@@ -1,0 +1,88 @@
+use Rattle.dsa_cli.proofs.options.read_words.Goals as goal
+use Rattle.std.proofs.Common.{◌≡◌, ◌∙◌, List, [], true, false, Some, option_map, codes, map, string_bytes, rules, sym, ap, subst}
+use Rattle.std.proofs.Common.{refl, inl, inr}
+use Rattle.clap.specs.{Matches.{found_of}, Walk.{Text, rows_of}, Simple.{App, is_simple, subcommand_of, subcommand_rows_of}}
+use Rattle.clap.specs.{Faults.{fault_of, is_simple_and_free}, Kinds.{HasKind}}
+use Rattle.clap.proofs.OnLiterals.{clap_on_literals}
+use Rattle.dsa_cli.specs.CommandLine.{program_app, command_in, faults_of_words}
+use Rattle.dsa_cli.proofs.OptionNumbers.{name-rows, some_pair}
+
+simple : is_simple program_app ≡ true
+unfolding clap_on_literals
+simple = refl
+
+free : is_simple_and_free program_app ≡ true
+unfolding clap_on_literals
+free = refl
+
+-- nothing is wrong with the words, where the command line that was made of the program finds nothing
+well : (words : List Text) (a : App) → a ≡ program_app → (is_simple_and_free a ≡ true → fault_of a words ≡ [])
+    → faults_of_words words ≡ []
+well words a same found = ap (λ app. fault_of app words) (sym same) ∙ found (ap is_simple_and_free same ∙ free)
+
+pub returns-in-Some-clause-faults : goal.returns-in-Some-clause-faults
+returns-in-Some-clause-faults c = well _ _ c.in_ok-command_line.ensures c.in_ok-matches.ensures.kinds
+
+pub returns-in-Some-clause-asked : goal.returns-in-Some-clause-asked
+returns-in-Some-clause-asked c =
+    let app = c.in_ok-command_line.ensures in
+    let met = (c.in_ok-matches.ensures.matches (ap is_simple app ∙ simple)).1
+    ∙ ap (λ (a : App). subcommand_of a (map string_bytes c.args.words.now)) app in
+    let name = name-rows c.in_ok-matches.matches ∙ c.in-Some.ensures.found.0 refl in
+    let rows = some_pair (subcommand_rows_of c.in_ok-matches.matches) (codes "threads")
+    (rows_of (found_of c.in-Some.given.now)) name c.in-Some.ensures.rows in (
+      rows_of (found_of c.in-Some.given.now),
+      (returns-in-Some-clause-faults c, sym met ∙ rows),
+      c.workload_of.ensures.numbers,
+    )
+
+pub returns-in-Some-report_of-clause-faults : goal.returns-in-Some-report_of-clause-faults
+returns-in-Some-report_of-clause-faults c = well _ _ c.in_ok-command_line.ensures c.in_ok-matches.ensures.kinds
+
+pub returns-in-Some-report_of-clause-asked : goal.returns-in-Some-report_of-clause-asked
+returns-in-Some-report_of-clause-asked c =
+    let app = c.in_ok-command_line.ensures in
+    let met = (c.in_ok-matches.ensures.matches (ap is_simple app ∙ simple)).1
+    ∙ ap (λ (a : App). subcommand_of a (map string_bytes c.args.words.now)) app in
+    let named = c.in-Some-report_of.ensures.some in
+    (named.0, (returns-in-Some-report_of-clause-faults c, sym met ∙ named.1, named.2), named.3)
+
+pub returns-then-is_named-clause-faults : goal.returns-then-is_named-clause-faults
+returns-then-is_named-clause-faults c = well _ _ c.in_ok-command_line.ensures c.in_ok-matches.ensures.kinds
+
+pub returns-then-is_named-clause-asked : goal.returns-then-is_named-clause-asked
+returns-then-is_named-clause-asked c =
+    let app = c.in_ok-command_line.ensures in
+    let met = (c.in_ok-matches.ensures.matches (ap is_simple app ∙ simple)).1
+    ∙ ap (λ (a : App). subcommand_of a (map string_bytes c.args.words.now)) app in
+    let found = c.is_named.ensures.named c.if-is_named.true in
+    (returns-then-is_named-clause-faults c, ap (option_map (λ found. found.0)) (sym met ∙ found.1))
+
+pub returns-clause-faults : goal.returns-clause-faults
+returns-clause-faults c = well _ _ c.in_ok-command_line.ensures c.in_ok-matches.ensures.kinds
+
+pub returns-in_err-matches-clause-faults : goal.returns-in_err-matches-clause-faults
+returns-in_err-matches-clause-faults c =
+    let app = c.in_ok-command_line.ensures in
+    let kinds : HasKind (fault_of program_app (map string_bytes c.args.words.now)) c.in_err-matches.field-0.0 =
+    subst (λ (a : App). HasKind (fault_of a (map string_bytes c.args.words.now)) c.in_err-matches.field-0.0) app
+    (c.in_err-matches.ensures.kinds (ap is_simple_and_free app ∙ free)) in
+    search (rules, kinds)
+
+pub returns-clause-asked : goal.returns-clause-asked
+returns-clause-asked c name is named =
+    let app = c.in_ok-command_line.ensures in
+    let met = (c.in_ok-matches.ensures.matches (ap is_simple app ∙ simple)).1
+    ∙ ap (λ (a : App). subcommand_of a (map string_bytes c.args.words.now)) app in
+    let found = ap (option_map (λ found. found.0)) met ∙ named in
+    elim is [
+      | inl report ↦ c.in_default-report_of.ensures.none name report found
+      | inr other ↦
+          elim other [
+            | inl serve ↦ c.is_named.ensures.other c.if-is_named.false (found ∙ ap Some serve)
+            | inr threads ↦
+                let none : false ≡ true =
+                c.in_default.ensures.found.1 (sym (name-rows c.in_ok-matches.matches) ∙ found ∙ ap Some threads) in
+                absurd cc
+          ]
+    ]

@@ -1,0 +1,113 @@
+use Rattle.dsa_cli.proofs.rows.workers_ran.Goals as goal
+use Rattle.std.proofs.Common.{inl, inr, ◌≡◌, ◌≢◌, ◌<◌, ◌⊎◌, ℕ, List, Bool, true, false, cond, length}
+use Rattle.std.proofs.Common.{refl, ap, subst, ◌∙◌, get_or, take, arith}
+use Rattle.std.proofs.lemmas.{Bool.{cases_Bool, cases_lt}, List.Sums.{get_or-le-sum_by}}
+use Rattle.dsa_book.specs.declared.answer.Reply.{Reply}
+use Rattle.dsa_book.specs.declared.answer.Reply.TheVariants.{Submit, Dispatch, Fetch, Start, Finish, Issue, Poll}
+use Rattle.dsa_book.specs.declared.answer.Reply.TheVariants.{Write, Clear}
+use Rattle.dsa_book.specs.declared.answer.SubmitAnswer.TheVariants.{Accepted, Retry, Dropped, Full}
+use Rattle.dsa_book.specs.declared.event.Event.{Event}
+use Rattle.dsa_book.specs.declared.event.{Kind.TheVariants.{Enqcmd}, Portal.TheVariants.{Limited}, Step.{Step}}
+use Rattle.dsa_book.specs.Machine.{is_stored, stored_steps}
+use Rattle.dsa_shared.specs.Seat.{SeatLog, fresh}
+use Rattle.dsa_workers.specs.Calls.{is_answer, is_history_full, steps_done, found_full, submission_of_client_step}
+use Rattle.dsa_workers.specs.declared.scripts.ClientStep.{ClientStep}
+use Rattle.dsa_workers.specs.declared.scripts.WorkerEnd.{WorkerEnd}
+use Rattle.dsa_workers.specs.declared.scripts.WorkerEnd.TheVariants.{ScriptDone, TurnsOut, HistoryFull}
+use Rattle.dsa_cli.specs.declared.options.Workload.{Workload}
+use Rattle.dsa_cli.specs.{Threads.{RanAsClient, RanAsEngine}, Worked.{load, page_move_bytes, two_retries}}
+use Rattle.dsa_cli.proofs.ThreadTotals.{filter_kept}
+
+-- the answer to a submission is stored unless the history is full
+stored_submit : (client : ℕ) (step : ClientStep) (reply : Reply)
+    → is_answer (submission_of_client_step client step) reply ≡ true → is_history_full reply ≡ false
+    → is_stored reply ≡ true
+stored_submit client step (Submit (Accepted ticket)) answer room = refl
+stored_submit client step (Submit (Retry cause)) answer room = refl
+stored_submit client step (Submit (Dropped cause)) answer room = refl
+stored_submit client step (Submit Full) answer room = absurd cc
+stored_submit client step (Dispatch reply) answer room = absurd cc
+stored_submit client step (Fetch reply) answer room = absurd cc
+stored_submit client step (Start reply) answer room = absurd cc
+stored_submit client step (Finish reply) answer room = absurd cc
+stored_submit client step (Issue reply) answer room = absurd cc
+stored_submit client step (Poll reply) answer room = absurd cc
+stored_submit client step (Write reply) answer room = absurd cc
+stored_submit client step (Clear reply) answer room = absurd cc
+
+-- where no call found the history full, none of them did
+none_found : (calls : List Step) → found_full calls ≡ 0 → (k : ℕ) (d : Step) → k < length calls
+    → is_history_full (get_or calls k d).reply ≡ false
+none_found calls none k d lt =
+    let f = λ (call : Step). cond {A = ℕ} (is_history_full call.reply) 1 0 in
+    let few = get_or-le-sum_by f calls k d lt in
+    elim (cases_Bool (is_history_full (get_or calls k d).reply)) [
+      | inl full ↦
+          let one : f (get_or calls k d) ≡ 1 = ap (λ (b : Bool). cond {A = ℕ} b 1 0) full in
+          absurd (omega (arith, few, none, one))
+      | inr room ↦ room
+    ]
+
+-- an end that is not one of the others
+ended_out : (end : WorkerEnd) → end ≢ ScriptDone → end ≢ HistoryFull → end ≡ TurnsOut
+ended_out ScriptDone not_done room = absurd (not_done refl)
+ended_out TurnsOut not_done room = refl
+ended_out HistoryFull not_done room = absurd (room refl)
+
+-- a client made a step in each turn, or is through with its script
+client_went_on : (load : Workload) (c : ℕ) (seat : SeatLog) → RanAsClient load c seat
+    → (length seat.receipts ≡ load.turns) ⊎ (steps_done seat.receipts ≡ load.each)
+client_went_on load c seat ran =
+    let script = ran.0 in
+    let stint = ran.1 in
+    let runs = ran.4.runs in
+    let calls = runs.calls in
+    let some : ClientStep = record { queue = 0; portal = Limited; kind = Enqcmd 0; bytes = page_move_bytes } in
+    let none : found_full calls ≡ 0 = no_full (found_full calls) (λ more. ran.5 (runs.full.1 more)) in
+    let kept : stored_steps calls ≡ calls = filter_kept (λ (call : Step). is_stored call.reply) calls (λ k d lt.
+    let next = runs.in_order k d lt in
+    stored_submit c (get_or script (steps_done (take k calls)) some) (get_or calls k d).reply
+    (subst (λ (e : Event). is_answer e (get_or calls k d).reply ≡ true) (next.1 some) next.0)
+    (none_found calls none k d lt)) in
+    let all : seat.receipts ≡ calls = runs.receipts ∙ kept in
+    ends stint.ended
+    (λ e. ap (λ (l : List Step). length l) all ∙ runs.turns ∙ runs.out_of_turns e)
+    (λ e. ap steps_done all ∙ runs.done.0 e ∙ ran.2)
+    (λ e. ran.5 e)
+  where
+    no_full : (n : ℕ) → (0 < n → ⊥) → n ≡ 0
+    no_full n not = elim (cases_lt 0 n) [
+      | inl more ↦ absurd (not more)
+      | inr past ↦ omega (arith, past)
+    ]
+
+    ends : (end : WorkerEnd) → (end ≡ TurnsOut → length seat.receipts ≡ load.turns)
+        → (end ≡ ScriptDone → steps_done seat.receipts ≡ load.each) → (end ≡ HistoryFull → ⊥)
+        → (length seat.receipts ≡ load.turns) ⊎ (steps_done seat.receipts ≡ load.each)
+    ends ScriptDone turns done full = inr (done refl)
+    ends TurnsOut turns done full = inl (turns refl)
+    ends HistoryFull turns done full = absurd (full refl)
+
+-- an engine had all its turns
+engine_went_on : (load : Workload) (e : ℕ) (seat : SeatLog) (ran : RanAsEngine load e seat)
+    → ran.0.turns ≡ load.turns
+engine_went_on load e seat ran = ran.1.out_of_turns (ended_out ran.0.ended ran.1.unscripted ran.2)
+
+pub returns-clause-client : goal.returns-clause-client
+returns-clause-client c asked client seat ran = client_went_on asked client seat ran
+
+pub returns-clause-engine : goal.returns-clause-engine
+returns-clause-engine c asked e seat ran = engine_went_on asked e seat ran
+
+pub returns-clause-idle_client : goal.returns-clause-idle_client
+returns-clause-idle_client c ran = elim (client_went_on (load 1 1 1 1) 0 (fresh 0) ran) [
+  | inl turns ↦ omega (arith, turns)
+  | inr done ↦ omega (arith, done)
+]
+
+pub returns-clause-half_the_turns : goal.returns-clause-half_the_turns
+returns-clause-half_the_turns c ran =
+    elim (client_went_on (load 1 1 3 4) 0 (record { number = 0; receipts = two_retries }) ran) [
+      | inl turns ↦ omega (arith, turns)
+      | inr done ↦ omega (arith, done)
+    ]

@@ -1,0 +1,119 @@
+use Rattle.dsa_cli.proofs.words.run_words.Goals as goal
+use Rattle.std.proofs.Common.{◌≡◌, ◌∙◌, ap, inl, inr, rules}
+
+pub returns-clause-done : goal.returns-clause-done
+returns-clause-done g c none zero =
+    let done = c.answer_words.ensures.done none zero in
+    search (rules, done)
+
+pub returns-clause-threads : goal.returns-clause-threads
+returns-clause-threads g c zero rows named =
+    let done = c.answer_words.ensures.threads zero rows named in
+    search (rules, done)
+
+pub returns-clause-failed : goal.returns-clause-failed
+returns-clause-failed g c none one =
+    let told = c.answer_words.ensures.failed none one in (
+      told.0,
+      told.1,
+      λ other.
+          let same : c.answer_words.new.out.writer.now ≡ c.args.out.now =
+          ap (λ watched. watched.writer.now) (told.2 other) ∙ c.new-out.ensures.writer in
+          search rules,
+      λ e.
+          let cut = told.3 e in
+          search (rules, cut),
+    )
+
+pub returns-clause-threads_failed : goal.returns-clause-threads_failed
+returns-clause-threads_failed g c one rows named =
+    elim (c.answer_words.ensures.threads_failed one rows named) [
+      | inl kept ↦
+          let same : c.answer_words.new.out.writer.now ≡ c.args.out.now =
+          ap (λ watched. watched.writer.now) kept ∙ c.new-out.ensures.writer in
+          inl (search rules)
+      | inr cut ↦ inr (search (rules, cut))
+    ]
+
+pub returns-clause-refused : goal.returns-clause-refused
+returns-clause-refused g c two =
+    let both = c.answer_words.ensures.refused two in
+    let same : c.answer_words.new.out.writer.now ≡ c.args.out.now =
+    ap (λ watched. watched.writer.now) both.0 ∙ c.new-out.ensures.writer in
+    (search rules, both.1)
+
+pub returns-clause-mistake : goal.returns-clause-mistake
+returns-clause-mistake g c = c.answer_words.ensures.mistake
+
+pub returns-clause-quiet : goal.returns-clause-quiet
+returns-clause-quiet g c zero =
+    let same : c.answer_words.new.err.writer.now ≡ c.args.err.now =
+    ap (λ watched. watched.writer.now) (c.answer_words.ensures.quiet zero) ∙ c.new-err.ensures.writer in
+    search rules
+
+pub returns-clause-statuses : goal.returns-clause-statuses
+returns-clause-statuses g c = c.answer_words.ensures.statuses
+
+pub returns-clause-reports : goal.returns-clause-reports
+returns-clause-reports g c zero found named =
+    let done = c.answer_words.ensures.reports zero found named in
+    search (rules, done)
+
+pub returns-clause-reports_failed : goal.returns-clause-reports_failed
+returns-clause-reports_failed g c one found named =
+    let told = c.answer_words.ensures.reports_failed one found named in (
+      told.0,
+      elim told.1 [
+        | inl all ↦ inl (search (rules, all))
+        | inr none ↦
+            inr (
+              none.0,
+              λ other.
+                  let same : c.answer_words.new.out.writer.now ≡ c.args.out.now =
+                  ap (λ watched. watched.writer.now) (none.1 other) ∙ c.new-out.ensures.writer in
+                  search rules,
+              λ e.
+                  let cut = none.2 e in
+                  let first = cut.2 in
+                  let more = first.7 in
+                  (cut.0, cut.1, (first.0, first.1, first.2, first.3, first.4, first.5, first.6, search (rules, more))),
+            )
+      ],
+    )
+
+pub returns-clause-serves : goal.returns-clause-serves
+returns-clause-serves g c zero named =
+    let done = c.answer_words.ensures.serves zero named in
+    search (rules, done)
+
+pub returns-clause-serve_failed : goal.returns-clause-serve_failed
+returns-clause-serve_failed g c one named =
+    let told = c.answer_words.ensures.serve_failed one named in (
+      told.0,
+      elim told.1 [
+        | inl kept ↦
+            let same : c.answer_words.new.out.writer.now ≡ c.args.out.now =
+            ap (λ watched. watched.writer.now) kept.1 ∙ c.new-out.ensures.writer in
+            inl (kept.0, search rules)
+        | inr stopped ↦ inr (search (rules, stopped))
+      ],
+    )
+
+pub returns-clause-plain : goal.returns-clause-plain
+returns-clause-plain g c plain zero =
+    let done = c.answer_words.ensures.plain plain zero in
+    search (rules, done)
+
+pub returns-clause-plain_failed : goal.returns-clause-plain_failed
+returns-clause-plain_failed g c plain one =
+    let told = c.answer_words.ensures.plain_failed plain one in (
+      told.0,
+      told.1,
+      λ other.
+          let same : c.answer_words.new.out.writer.now ≡ c.args.out.now =
+          ap (λ watched. watched.writer.now) (told.2 other) ∙ c.new-out.ensures.writer in
+          search rules,
+      λ e.
+          let cut = told.3 e in
+          search (rules, cut),
+    )

@@ -1,0 +1,5 @@
+use Rattle.dsa_cli.proofs.words.run_workers.Goals as goal
+
+pub returns-in-Err-clause-told : goal.returns-in-Err-clause-told
+returns-in-Err-clause-told g c one closed refused =
+    (c.in-Err.fault, c.in-Err.ensures.nothing, c.tell_reader.ensures.line closed refused)

@@ -1,0 +1,165 @@
+-- The words of the command line, by clap's own definitions of what words say.
+use Rattle.dsa_cli.specs.declared.reports.Report.TheVariants as report
+use Rattle.dsa_cli.specs.declared.options.Asked.TheVariants as asked
+use Rattle.std.specs.Prelude.{◌≡◌, ◌≢◌, ◌⊎◌, ◌<◌, ◌≤◌, ℕ, pos, true, List, [], ◌∷◌, length, take, codes, Option, Some, None}
+use Rattle.std.specs.Prelude.{option_map}
+use Rattle.std.specs.Io.KnownBytes.{Consumes, IsAtEnd, Appends}
+use Rattle.std.specs.Str.Parse.{IsNumeral, digits_value, without_leading_plus}
+use Rattle.clap.specs.declared.builder.action.ArgAction.TheVariants.{SetTrue}
+use Rattle.clap.specs.declared.builder.value_parser.ValueParser.TheVariants.{Signed}
+use Rattle.clap.specs.declared.error.kind.ErrorKind.{ErrorKind, TheVariants.{DisplayHelp, DisplayVersion}}
+use Rattle.clap.specs.{Walk.{Row, Rule, Text, one_of}, Faults.{fault_of}, Kinds.{Kinds, IsAmong}}
+use Rattle.clap.specs.Simple.{App, new_app, new_rule, on_top, subcommand_of, with_rule, with_subcommand}
+use Rattle.dsa_shared.specs.declared.settle.Totals.{Totals}
+use Rattle.dsa_scenario.specs.declared.faults.ScenarioFault.{ScenarioFault}
+use Rattle.dsa_trace.specs.declared.form.Trace.{Trace, TheVariants.{Table, Json}}
+use Rattle.dsa_serve.specs.Dialogue.{AnswersAll}
+use Rattle.dsa_cli.specs.Reports.{IsReported, IsReportCutShort}
+use Rattle.dsa_cli.specs.declared.reports.Report.{Report}
+use Rattle.dsa_cli.specs.Threads.{IsInRange, AreTotalsOf, totals_text}
+use Rattle.dsa_cli.specs.declared.options.{Workload.{Workload}, Asked.{Asked, TheVariants.{Scenario, Serve, Threads}}}
+
+-- the option `--name`, whose value is a number from 1 to `most`, and `default` where it is not given
+abbrev pub number_rule : Text → ℕ → Text → Rule
+number_rule name most default = record (new_rule name) {
+  long = Some name;
+  value_names = 1;
+  defaults = default ∷ [];
+  parser = Some (Signed (pos 1) (pos most));
+}
+
+-- `threads`, with its options (profile)
+abbrev pub threads_app : App
+threads_app =
+    with_rule (with_rule (with_rule (with_rule (new_app (codes "threads"))
+    (number_rule (codes "clients") 16 (codes "2")))
+    (number_rule (codes "engines") 8 (codes "2")))
+    (number_rule (codes "each") 1_000 (codes "100")))
+    (number_rule (codes "turns") 40_000 (codes "10000"))
+
+-- the option `--name`, which has no value
+abbrev pub flag_rule : Text → Rule
+flag_rule name = record (new_rule name) { long = Some name; action = Some SetTrue }
+
+-- `trace`, with its option (profile)
+abbrev pub trace_app : App
+trace_app = with_rule (new_app (codes "trace")) (flag_rule (codes "json"))
+
+-- the program, by the words after its name; it has a version (profile)
+abbrev pub top_app : App
+top_app = on_top (λ top. record top { no_binary_name = true; has_version = true }) (new_app (codes "dsa_run"))
+
+-- the program with its commands (profile)
+abbrev pub program_app : App
+program_app =
+    with_subcommand (with_subcommand (with_subcommand (with_subcommand (with_subcommand (with_subcommand
+    (with_subcommand top_app (new_app (codes "check")).top) (new_app (codes "explain")).top)
+    trace_app.top) (new_app (codes "draw")).top) (new_app (codes "conform")).top) (new_app (codes "serve")).top)
+    threads_app.top
+
+-- what is wrong with the words, if anything; to ask for help counts too
+abbrev pub faults_of_words : List Text → Kinds
+faults_of_words words = fault_of program_app words
+
+-- something is wrong with the words
+abbrev pub IsMistaken : List Text → Type 0
+IsMistaken words = (kind : ErrorKind) × IsAmong kind (faults_of_words words) × (kind ≢ DisplayHelp)
+    × (kind ≢ DisplayVersion)
+
+-- nothing is wrong with the words, or they ask for help or for the version
+abbrev pub IsUnderstood : List Text → Type 0
+IsUnderstood words = (faults_of_words words ≡ []) ⊎ IsAmong DisplayHelp (faults_of_words words)
+    ⊎ IsAmong DisplayVersion (faults_of_words words)
+
+-- the words name the command `threads`, whose options have these matches, and nothing is wrong with them
+abbrev pub NameThreads : List Text → List Row → Type 0
+NameThreads words rows = (faults_of_words words ≡ []) × (subcommand_of program_app words ≡ Some (codes "threads", rows))
+
+-- the text that the option has reads as n, where it reads as a number from 1 to `most`
+abbrev pub IsNumberOf : List Row → Text → ℕ → ℕ → Type 0
+IsNumberOf rows name most n = (text : Text) → one_of name rows ≡ Some text
+    → IsNumeral 10 (without_leading_plus text) → 1 ≤ digits_value 10 (without_leading_plus text)
+    → digits_value 10 (without_leading_plus text) ≤ most → n ≡ digits_value 10 (without_leading_plus text)
+
+-- the numbers are those that the options have in these matches
+pub record AreNumbersOf (rows : List Row) (load : Workload) : Type 0 where
+  pub clients : IsNumberOf rows (codes "clients") 16 load.clients
+  pub engines : IsNumberOf rows (codes "engines") 8 load.engines
+  pub each : IsNumberOf rows (codes "each") 1_000 load.each
+  pub turns : IsNumberOf rows (codes "turns") 40_000 load.turns
+
+-- what was written is the totals of a run of workers with these numbers
+abbrev pub AreTotalsWritten : List Row → Option (List ℕ) → Option (List ℕ) → Type 0
+AreTotalsWritten rows old new = (load : Workload) × (totals : Totals) × AreNumbersOf rows load × IsInRange load
+    × AreTotalsOf load totals × Appends old new (totals_text totals)
+
+-- what was written is only the first bytes of such totals
+abbrev pub AreTotalsCutShort : List Row → Option (List ℕ) → Option (List ℕ) → Type 0
+AreTotalsCutShort rows old new = (load : Workload) × (totals : Totals) × (count : ℕ) × AreNumbersOf rows load
+    × IsInRange load × AreTotalsOf load totals × (count < length (totals_text totals))
+    × Appends old new (take count (totals_text totals))
+
+-- ---- reports
+
+-- the form of a trace is the one that the option `--json` asks for
+pub record IsFormOf (rows : List Row) (form : Trace) : Type 0 where
+  pub json : one_of (codes "json") rows ≡ Some (codes "true") → form ≡ Json
+  pub table : one_of (codes "json") rows ≡ Some (codes "false") → form ≡ Table
+
+-- the command with these matches asks for the report (profile)
+abbrev pub IsAskedBy : Text × List Row → Report → Type 0
+IsAskedBy found report.Check = found.0 ≡ codes "check"
+IsAskedBy found report.Explain = found.0 ≡ codes "explain"
+IsAskedBy found (report.Trace form) = (found.0 ≡ codes "trace") × IsFormOf found.1 form
+IsAskedBy found report.Draw = found.0 ≡ codes "draw"
+IsAskedBy found report.Conform = found.0 ≡ codes "conform"
+
+-- the command is one that asks for a report
+abbrev pub IsReportName : Text → Type 0
+IsReportName name =
+    (name ≡ codes "check") ⊎ (name ≡ codes "explain") ⊎ (name ≡ codes "trace") ⊎ (name ≡ codes "draw")
+    ⊎ (name ≡ codes "conform")
+
+-- the words name a command that asks for a report, with these matches, and nothing is wrong with them
+abbrev pub NameReport : List Text → Text × List Row → Type 0
+NameReport words found =
+    (faults_of_words words ≡ []) × (subcommand_of program_app words ≡ Some found) × IsReportName found.0
+
+-- all of the report that the command asks for was written; then this fault is told
+abbrev pub IsReportWritten : Text × List Row → Option ScenarioFault → Option (List ℕ) → Option (List ℕ)
+    → Option (List ℕ) → Option (List ℕ) → Type 0
+IsReportWritten found fault had left held holds =
+    (report : Report) × IsAskedBy found report × IsReported report fault had left held holds
+
+-- only the first bytes of it were written
+abbrev pub IsReportCut : Text × List Row → Option (List ℕ) → Option (List ℕ) → Option (List ℕ) → Option (List ℕ)
+    → Type 0
+IsReportCut found had left held holds =
+    (report : Report) × IsAskedBy found report × IsReportCutShort report had left held holds
+
+-- ---- what is asked
+
+-- the command that the words name
+abbrev pub command_in : List Text → Option Text
+command_in words = option_map (λ found. found.0) (subcommand_of program_app words)
+
+-- the words name no command, and nothing is wrong with them, as where there are none
+abbrev pub NameNothing : List Text → Type 0
+NameNothing words = (faults_of_words words ≡ []) × (command_in words ≡ None)
+
+-- the words name the command `serve`, and nothing is wrong with them
+abbrev pub NameServe : List Text → Type 0
+NameServe words = (faults_of_words words ≡ []) × (command_in words ≡ Some (codes "serve"))
+
+-- the reader gave all of a dialogue, and all answers to it were written
+abbrev pub IsServed : Option (List ℕ) → Option (List ℕ) → Option (List ℕ) → Option (List ℕ) → Type 0
+IsServed had left held holds = (input : List ℕ) × (output : List ℕ) × Consumes had left input × IsAtEnd left
+    × AnswersAll input output × Appends held holds output
+
+-- what the words ask for: workers, a report, a dialogue, or else a scenario
+abbrev pub AsksFor : List Text → Asked → Type 0
+AsksFor words Scenario = (name : Text) → IsReportName name ⊎ (name ≡ codes "serve") ⊎ (name ≡ codes "threads")
+    → command_in words ≢ Some name
+AsksFor words (asked.Report report) = (found : Text × List Row) × NameReport words found × IsAskedBy found report
+AsksFor words Serve = NameServe words
+AsksFor words (Threads load) = (rows : List Row) × NameThreads words rows × AreNumbersOf rows load

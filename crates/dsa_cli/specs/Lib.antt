@@ -1,0 +1,4 @@
+pub mod Reports
+pub mod Threads
+pub mod CommandLine
+pub mod Worked

@@ -1,0 +1,30 @@
+-- Texts that are made of a document in place of its lines.
+use Rattle.std.specs.Prelude.{◌≡◌, ◌<◌, ℕ, List, length, take, Option, None}
+use Rattle.std.specs.Io.KnownBytes.{Appends}
+use Rattle.dsa_scenario.specs.{declared.faults.ScenarioFault.{ScenarioFault}, Scenario.{IsWholeDocument}}
+use Rattle.dsa_check.specs.Check.{IsCheckReportOf as IsCheckOf}
+use Rattle.dsa_conform.specs.Run.{IsConformance}
+use Rattle.dsa_explain_lines.specs.Run.{IsExplanation}
+use Rattle.dsa_trace.specs.Run.{IsTrace}
+use Rattle.dsa_draw.specs.Drawings.{IsDrawingOf}
+use Rattle.dsa_cli.specs.declared.reports.Report.{Report, TheVariants.{Check, Explain, Trace, Draw, Conform}}
+
+-- the text, and the fault that is told after it, are this report on a document (profile)
+abbrev pub IsReportOf : Report → List ℕ → Option ScenarioFault → List ℕ → Type 0
+IsReportOf Check bytes fault text = IsCheckOf bytes fault text
+IsReportOf Explain bytes fault text = (fault ≡ None) × IsExplanation bytes text
+IsReportOf (Trace form) bytes fault text = (fault ≡ None) × IsTrace form bytes text
+IsReportOf Draw bytes fault text = (fault ≡ None) × IsDrawingOf bytes text
+IsReportOf Conform bytes fault text = IsConformance bytes fault text
+
+-- the reader gave a document, and all of the report on it was written; then this fault is told
+abbrev pub IsReported : Report → Option ScenarioFault → Option (List ℕ) → Option (List ℕ) → Option (List ℕ)
+    → Option (List ℕ) → Type 0
+IsReported report fault had left held holds = (bytes : List ℕ) × (text : List ℕ) × IsWholeDocument had left bytes
+    × IsReportOf report bytes fault text × Appends held holds text
+
+-- the same, and only the first bytes of the report were written
+abbrev pub IsReportCutShort : Report → Option (List ℕ) → Option (List ℕ) → Option (List ℕ) → Option (List ℕ) → Type 0
+IsReportCutShort report had left held holds = (bytes : List ℕ) × (text : List ℕ) × (fault : Option ScenarioFault)
+    × (count : ℕ) × IsWholeDocument had left bytes × IsReportOf report bytes fault text × (count < length text)
+    × Appends held holds (take count text)

@@ -1,0 +1,354 @@
+//! The words of the command line, read with `clap`.
+
+ghost use Rattle.std.specs.Prelude.{◌≡◌, ◌≢◌, ◌≤◌, true, false, List, Some, IfSome, IfNone, IfOk, codes, map, option_map, string_bytes};
+ghost use Rattle.clap.specs.Words.{Row, Text, app_of, rule_of, found_of, rows_of, FailsBy};
+ghost use Rattle.clap.specs.Simple.{new_app, subcommand_rows_of};
+ghost use Rattle.clap.specs.declared.builder.command.Command.TheViews.{out-Command as fields_of};
+ghost use Rattle.dsa_cli.specs.Threads.{IsInRange, IsAskedInRange};
+ghost use Rattle.dsa_cli.specs.CommandLine.{number_rule, flag_rule, threads_app, trace_app, top_app, program_app, IsNumberOf, AreNumbersOf, IsFormOf, IsReportName, IsAskedBy, AsksFor, faults_of_words};
+
+use crate::reports::Report;
+use clap::{Arg, ArgAction, ArgMatches, Command, Error, value_parser};
+use dsa_release::version_text;
+use dsa_trace::Trace;
+use std::alloc::{AllocError, Global};
+
+/// How many workers run in threads, and how long.
+#[derive(Clone, Copy, Debug, PartialEq, Eq)]
+pub struct Workload {
+    /// 1 to 16.
+    pub clients: u16,
+    /// 1 to 8.
+    pub engines: u16,
+    /// How many descriptors each client submits, 1 to 1,000.
+    pub each: u32,
+    /// How many turns each worker has at most, 1 to 40,000.
+    pub turns: u32,
+}
+
+/// What the words ask for.
+#[derive(Clone, Copy, Debug, PartialEq, Eq)]
+pub enum Asked {
+    /// A scenario from standard input.
+    Scenario,
+    /// A report on the scenario from standard input.
+    Report(Report),
+    /// A dialogue: a scenario in the first line of standard input, and then a step in each line.
+    Serve,
+    /// Workers in threads.
+    Threads(Workload),
+}
+
+const MOST_CLIENTS: u32 = 16;
+
+const MOST_ENGINES: u32 = 8;
+
+const MOST_EACH: u32 = 1_000;
+
+const MOST_TURNS: u32 = 40_000;
+
+const SCENARIO_HELP: &str = "\
+Without a command: what does the device answer to each step? Reads one scenario document
+(JSON) from standard input, makes its steps on a model of a device, and writes a line for
+each step and for each descriptor that ended.
+
+Exit status: 0 done, 1 a fault (its line goes to standard error), 2 a usage error.";
+
+const CHECK_HELP: &str = "\
+Reads one scenario document (JSON) from standard input, and writes a line for each fault,
+with its place. No step is made. The fault that a run would report goes to standard error.
+
+Exit status: 0 no fault, 1 a fault, 2 a usage error.";
+
+const EXPLAIN_HELP: &str = "\
+Reads one scenario document (JSON) from standard input, makes its steps on a model of a
+device, and writes a line for each step: its number, the event and the answer, and the
+reason where the device turned the step down or the step has to wait.
+
+Exit status: 0 done, 1 a fault (its line goes to standard error), 2 a usage error.";
+
+const TRACE_HELP: &str = "\
+Reads one scenario document (JSON) from standard input, makes its steps on a model of a
+device, and writes a line for each step: its number, the event, the answer, and what the
+device shows after it. A line follows for each entry that the device still holds.
+
+Exit status: 0 done, 1 a fault (its line goes to standard error), 2 a usage error.";
+
+const DRAW_HELP: &str = "\
+Reads one scenario document (JSON) from standard input, makes its steps on a model of a
+device, and writes a drawing of the run, as SVG.
+
+Exit status: 0 done, 1 a fault (its line goes to standard error), 2 a usage error.";
+
+const CONFORM_HELP: &str = "\
+Reads one scenario document (JSON) from standard input. Its steps also have what another
+device was seen to answer: \"answer\", the line of the step with or without the name of the
+entry, or \"zf\", the zero flag that ENQCMD left. The model follows as long as the rules
+allow these answers. At the first step where they do not, the program writes the step and
+all answers that they allow.
+
+Exit status: 0 all answers are allowed, 1 one is not, or a fault (its line goes to
+standard error), 2 a usage error.";
+
+const SERVE_HELP: &str = "\
+Reads one scenario document (JSON) from the first line of standard input, and then a step
+from each line. Each step is made as it comes, on one model of a device, and answered with
+its line before the next is read. A line that is no step is answered with its fault, and
+changes nothing. At the end of input comes a line for each descriptor that ended.
+
+Exit status: 0 done, 1 a fault (its line goes to standard error), 2 a usage error.";
+
+const THREADS_HELP: &str = "\
+Reads nothing. Clients, engines and an administrator share one device, each in a thread
+of its own. Each client submits Moves of 4096 bytes to one queue, the engines take and
+end them, and the administrator sets the device up. At the end seven lines are written:
+accepted, fetched, retried, done, lost and held, each with its number, and balanced, since
+accepted + fetched = done + lost + held.
+
+Exit status: 0 done, 1 a fault (its line goes to standard error), 2 a usage error.";
+
+// An option that takes a number from 1 to `most`.
+fn number_option<'a>(
+    alloc: Global,
+    name: &'a str,
+    most: u32,
+    default: &'a str,
+    help: &'a str,
+) -> Arg<'a>
+    requires { most ≤ 40_000 }
+    ensures rule { rule_of result ≡ number_rule name.entry.now most default.entry.now }
+    ensures local { result.global ≡ false }
+{
+    Arg::new(alloc, name)
+        .long(name)
+        .value_name("NUMBER")
+        .value_parser(value_parser!(u32).range(1..=i64::from(most)))
+        .default_value(default)
+        .help(help)
+}
+
+fn threads_command<'a>(alloc: Global) -> Result<Command<'a>, AllocError>
+    ensures app { IfOk result (λ c. app_of c ≡ threads_app) }
+    ensures local { IfOk result (λ c. (fields_of c).has_globals ≡ false) }
+{
+    Command::new(alloc, "threads")
+        .about("Do the totals balance where threads share one device?")
+        .after_help(THREADS_HELP)
+        .arg(number_option(
+            alloc,
+            "clients",
+            MOST_CLIENTS,
+            "2",
+            "How many clients submit, 1 to 16",
+        ))?
+        .arg(number_option(
+            alloc,
+            "engines",
+            MOST_ENGINES,
+            "2",
+            "How many engines work, 1 to 8",
+        ))?
+        .arg(number_option(
+            alloc,
+            "each",
+            MOST_EACH,
+            "100",
+            "How many descriptors each client submits, 1 to 1000",
+        ))?
+        .arg(number_option(
+            alloc,
+            "turns",
+            MOST_TURNS,
+            "10000",
+            "How many turns each worker has at most, 1 to 40000",
+        ))
+}
+
+// An option that takes no value.
+fn flag<'a>(alloc: Global, name: &'a str, help: &'a str) -> Arg<'a>
+    ensures rule { rule_of result ≡ flag_rule name.entry.now }
+    ensures local { result.global ≡ false }
+{
+    Arg::new(alloc, name)
+        .long(name)
+        .action(ArgAction::SetTrue)
+        .help(help)
+}
+
+fn trace_command<'a>(alloc: Global) -> Result<Command<'a>, AllocError>
+    ensures app { IfOk result (λ c. app_of c ≡ trace_app) }
+    ensures local { IfOk result (λ c. (fields_of c).has_globals ≡ false) }
+{
+    Command::new(alloc, "trace")
+        .about("What does the device hold after each step?")
+        .after_help(TRACE_HELP)
+        .arg(flag(alloc, "json", "Write a JSON object in each line"))
+}
+
+// A command that takes no options.
+fn plain_command<'a>(
+    alloc: Global,
+    name: &'a str,
+    about: &'a str,
+    after_help: &'a str,
+) -> Command<'a>
+    ensures app { app_of result ≡ new_app name.entry.now }
+    ensures local { (fields_of result).has_globals ≡ false }
+{
+    Command::new(alloc, name)
+        .about(about)
+        .after_help(after_help)
+}
+
+fn check_command<'a>(alloc: Global) -> Command<'a>
+    ensures app { app_of result ≡ new_app (codes "check") }
+    ensures local { (fields_of result).has_globals ≡ false }
+{
+    let about = "What is wrong with the document, and where?";
+    plain_command(alloc, "check", about, CHECK_HELP)
+}
+
+fn explain_command<'a>(alloc: Global) -> Command<'a>
+    ensures app { app_of result ≡ new_app (codes "explain") }
+    ensures local { (fields_of result).has_globals ≡ false }
+{
+    let about = "Why was each step answered as it was?";
+    plain_command(alloc, "explain", about, EXPLAIN_HELP)
+}
+
+fn draw_command<'a>(alloc: Global) -> Command<'a>
+    ensures app { app_of result ≡ new_app (codes "draw") }
+    ensures local { (fields_of result).has_globals ≡ false }
+{
+    let about = "What does the whole run look like?";
+    plain_command(alloc, "draw", about, DRAW_HELP)
+}
+
+fn conform_command<'a>(alloc: Global) -> Command<'a>
+    ensures app { app_of result ≡ new_app (codes "conform") }
+    ensures local { (fields_of result).has_globals ≡ false }
+{
+    let about = "May a device answer as another one was seen to answer?";
+    plain_command(alloc, "conform", about, CONFORM_HELP)
+}
+
+fn serve_command<'a>(alloc: Global) -> Command<'a>
+    ensures app { app_of result ≡ new_app (codes "serve") }
+    ensures local { (fields_of result).has_globals ≡ false }
+{
+    let about = "What does the device answer to my next step?";
+    plain_command(alloc, "serve", about, SERVE_HELP)
+}
+
+// The program without its commands.
+fn top_command<'a>(alloc: Global) -> Result<Command<'a>, AllocError>
+    ensures { IfOk result (λ c. app_of c ≡ top_app) }
+{
+    let command = Command::new(alloc, "dsa_run")
+        .about("Runs a model of the shared part of an Intel Data Streaming Accelerator")
+        .after_help(SCENARIO_HELP)
+        .version(version_text())
+        .bin_name("dsa_run")?
+        .no_binary_name(true);
+    Ok(command)
+}
+
+fn command_line<'a>(alloc: Global) -> Result<Command<'a>, AllocError>
+    ensures { IfOk result (λ c. app_of c ≡ program_app) }
+{
+    top_command(alloc)?
+        .subcommand(check_command(alloc))?
+        .subcommand(explain_command(alloc))?
+        .subcommand(trace_command(alloc)?)?
+        .subcommand(draw_command(alloc))?
+        .subcommand(conform_command(alloc))?
+        .subcommand(serve_command(alloc))?
+        .subcommand(threads_command(alloc)?)
+}
+
+// The number of an option, which the parser has checked.
+fn number_of(matches: &ArgMatches<'_>, name: &str, most: u32) -> u32
+    requires { 1 ≤ most }
+    ensures range { (1 ≤ result) × (result ≤ most) }
+    ensures number { IsNumberOf (rows_of (found_of matches.now)) name.now most result }
+{
+    matches.get_one::<u32>(name).unwrap_or(1).clamp(1, most)
+}
+
+// The numbers of the options of `threads`.
+fn workload_of(given: &ArgMatches<'_>) -> Workload
+    ensures range { IsInRange result }
+    ensures numbers { AreNumbersOf (rows_of (found_of given.now)) result }
+{
+    Workload {
+        clients: number_of(given, "clients", MOST_CLIENTS) as u16,
+        engines: number_of(given, "engines", MOST_ENGINES) as u16,
+        each: number_of(given, "each", MOST_EACH),
+        turns: number_of(given, "turns", MOST_TURNS),
+    }
+}
+
+// The form that the option of `trace` asks for.
+fn form_of(given: &ArgMatches<'_>) -> Trace
+    ensures { IsFormOf (rows_of (found_of given.now)) result }
+{
+    if given.get_flag("json") {
+        Trace::Json
+    } else {
+        Trace::Table
+    }
+}
+
+// Whether the words name this command.
+fn is_named(matches: &ArgMatches<'_>, name: &str) -> bool
+    ensures named { result ≡ true
+        → (rows : List Row) × (subcommand_rows_of matches.now ≡ Some (name.now, rows)) }
+    ensures other { result ≡ false
+        → option_map (λ found. found.0) (subcommand_rows_of matches.now) ≢ Some name.now }
+{
+    matches.subcommand_matches(name).is_some()
+}
+
+// The report that the words name.
+fn report_of(matches: &ArgMatches<'_>) -> Option<Report>
+    ensures some { IfSome result
+        (λ report. (found : Text × List Row)
+        × (subcommand_rows_of matches.now ≡ Some found)
+        × IsReportName found.0
+        × IsAskedBy found report) }
+    ensures none { IfNone result ((name : Text) → IsReportName name
+        → option_map (λ found. found.0) (subcommand_rows_of matches.now) ≢ Some name) }
+{
+    if let Some(given) = matches.subcommand_matches("trace") {
+        return Some(Report::Trace(form_of(given)));
+    }
+    if is_named(matches, "check") {
+        return Some(Report::Check);
+    }
+    if is_named(matches, "explain") {
+        return Some(Report::Explain);
+    }
+    if is_named(matches, "draw") {
+        return Some(Report::Draw);
+    }
+    is_named(matches, "conform").then_some(Report::Conform)
+}
+
+/// What the words ask for, or what `clap` has to say.
+pub fn read_words<'a>(alloc: Global, words: &'a [String]) -> Result<Asked, Error>
+    ensures range { IfOk result (λ asked. IsAskedInRange asked) }
+    ensures asked { IfOk result (AsksFor (map string_bytes words.now)) }
+    ensures faults { FailsBy (faults_of_words (map string_bytes words.now)) result }
+{
+    let matches = command_line(alloc)?.try_get_matches_from(words)?;
+    if let Some(given) = matches.subcommand_matches("threads") {
+        return Ok(Asked::Threads(workload_of(given)));
+    }
+    if let Some(report) = report_of(&matches) {
+        return Ok(Asked::Report(report));
+    }
+    if is_named(&matches, "serve") {
+        return Ok(Asked::Serve);
+    }
+    Ok(Asked::Scenario)
+}

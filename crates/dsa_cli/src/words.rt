@@ -1,0 +1,558 @@
+//! What the words of the command line make the program do.
+
+ghost use Rattle.std.specs.Prelude.{◌≡◌, ◌≢◌, ◌⊎◌, ◌≤◌, ◌<◌, ◌++◌, ◌^◌, true, false, ℕ, List, Option, Some, None, [], length, take, codes, map, string_bytes, IfSome, IfOk, IfErr, IsErrOf};
+ghost use Rattle.std.specs.Io.KnownBytes.{Consumes, Appends};
+ghost use Rattle.clap.specs.Words.{Row, Text, kind_of};
+ghost use Rattle.dsa_shared.specs.declared.settle.Totals.{Totals};
+ghost use Rattle.dsa_cli.specs.declared.options.Workload.{Workload};
+ghost use Rattle.dsa_scenario.specs.declared.faults.ScenarioFault.{ScenarioFault};
+ghost use Rattle.dsa_scenario.specs.Document.{IsFaultOf};
+ghost use Rattle.dsa_scenario.specs.Faults.{fault_line};
+ghost use Rattle.dsa_scenario.specs.Scenario.{IsWholeDocument, IsRenderingOf, HasFault, IsCutShort};
+ghost use Rattle.dsa_serve.specs.Dialogue.{IsStopped};
+ghost use Rattle.dsa_cli.specs.declared.threads.ThreadsFault.{ThreadsFault};
+ghost use Rattle.dsa_cli.specs.Threads.{IsInRange, AreTotalsOf, threads_fault_line, totals_text};
+ghost use Rattle.dsa_scenario.specs.Watched.{watched_contents, has_refused, is_closed, IsSameWriter};
+ghost use Rattle.dsa_cli.specs.Reports.{IsReported, IsReportCutShort};
+ghost use Rattle.dsa_cli.specs.CommandLine.{IsMistaken, IsUnderstood, faults_of_words, IsServed, NameNothing, NameThreads, NameReport, NameServe, IsReportWritten, IsReportCut, AreTotalsWritten, AreTotalsCutShort};
+
+use crate::options::{Asked, Workload, read_words};
+use crate::reports::Report;
+use crate::threads::run_workload;
+use clap::Error;
+use clap::error::ErrorKind;
+use dsa_scenario::{CountedReader, PlainRun, Render, ScenarioFault, WatchedWriter, render_counted};
+use dsa_serve::serve_watched;
+use std::alloc::Global;
+use std::fmt::Display;
+use std::io::{Read, Write};
+use std::marker::Sync;
+use std::sync::Wait;
+use std::thread::Threads;
+
+/// The exit status of a run that was done.
+const DONE: u8 = 0;
+
+/// The exit status of a fault.
+const FAILED: u8 = 1;
+
+/// The exit status of a usage error.
+const REFUSED: u8 = 2;
+
+// Writes the line of a fault, and gives the exit status.
+fn tell_watched<E: Write, F: Display>(err: &mut WatchedWriter<'_, E>, fault: &F) -> u8
+    ensures status { result ≡ 1 }
+    ensures same_writer { IsSameWriter err.old err.new }
+    ensures line { has_refused err.new ≡ false
+        → IfSome (F.output fault.now)
+        (λ text. Appends (watched_contents E.contents err.old)
+        (watched_contents E.contents err.new)
+        (codes "dsa_run: " ++ text ++ codes "\n")) }
+{
+    let _ = err.print(format_args!("dsa_run: {fault}\n"));
+    FAILED
+}
+
+/// Writes the line of a fault, and gives the exit status. A line that `err` does not take changes
+/// nothing.
+pub fn tell<E: Write, F: Display>(err: &mut E, fault: &F) -> u8
+    ensures { result ≡ 1 }
+{
+    tell_watched(&mut WatchedWriter::new(err), fault)
+}
+
+// As `tell_watched`, but silent once the reader of the output is gone.
+fn tell_reader<O: Write, E: Write, F: Display>(
+    out: &WatchedWriter<'_, O>,
+    err: &mut WatchedWriter<'_, E>,
+    fault: &F,
+) -> u8
+    ensures status { result ≡ 1 }
+    ensures same_writer { IsSameWriter err.old err.new }
+    ensures silent { is_closed out.now ≡ true → err.new ≡ err.old }
+    ensures line { is_closed out.now ≡ false
+        → has_refused err.new ≡ false
+        → IfSome (F.output fault.now)
+        (λ text. Appends (watched_contents E.contents err.old)
+        (watched_contents E.contents err.new)
+        (codes "dsa_run: " ++ text ++ codes "\n")) }
+{
+    if out.is_closed() {
+        return FAILED;
+    }
+    tell_watched(err, fault)
+}
+
+// Writes what `what` makes of the document that the reader gives, as `render_input` does, to a
+// writer that is watched.
+fn render_watched<D: Render, R: Read, O: Write>(
+    alloc: Global,
+    what: &D,
+    reader: &mut R,
+    out: &mut WatchedWriter<'_, O>,
+) -> Result<Option<ScenarioFault>, ScenarioFault>
+    ensures same_output { IsSameWriter out.old out.new }
+    ensures ok { IfOk result
+        (λ fault. (bytes : List ℕ)
+        × (text : List ℕ)
+        × IsWholeDocument (R.remaining reader.old) (R.remaining reader.new) bytes
+        × D.is_rendering what.now bytes fault text
+        × Appends (watched_contents O.contents out.old)
+        (watched_contents O.contents out.new) text) }
+    ensures nothing { IfErr result (λ e. e ≢ ScenarioFault.Write → out.new ≡ out.old) }
+    ensures prefix { IsErrOf result ScenarioFault.Write
+        → (bytes : List ℕ)
+        × (text : List ℕ)
+        × (fault : Option ScenarioFault)
+        × (count : ℕ)
+        × IsWholeDocument (R.remaining reader.old) (R.remaining reader.new) bytes
+        × D.is_rendering what.now bytes fault text
+        × (count < length text)
+        × Appends (watched_contents O.contents out.old)
+        (watched_contents O.contents out.new) (take count text) }
+    ensures document { IfErr result (λ e. (e ≡ ScenarioFault.Read) ⊎ (e ≡ ScenarioFault.TooLong)
+        ⊎ (e ≡ ScenarioFault.Write) ⊎ (e ≡ ScenarioFault.OutOfMemory)
+        ⊎ ((bytes : List ℕ)
+        × IsWholeDocument (R.remaining reader.old) (R.remaining reader.new) bytes
+        × IsFaultOf bytes e)) }
+    ensures too_long { IsErrOf result ScenarioFault.TooLong
+        → (bytes : List ℕ)
+        × Consumes (R.remaining reader.old) (R.remaining reader.new) bytes
+        × (2 ^ 20 < length bytes) }
+    ensures read { IsErrOf result ScenarioFault.Read
+        → (bytes : List ℕ)
+        × Consumes (R.remaining reader.old) (R.remaining reader.new) bytes
+        × (length bytes ≤ 2 ^ 20) }
+{
+    let mut counted = CountedReader::new(reader);
+    render_counted(alloc, what, &mut counted, out)
+}
+
+// Runs the scenario that the reader gives.
+fn run_input<R: Read, O: Write, E: Write>(
+    alloc: Global,
+    reader: &mut R,
+    out: &mut WatchedWriter<'_, O>,
+    err: &mut WatchedWriter<'_, E>,
+) -> u8
+    ensures same_output { IsSameWriter out.old out.new }
+    ensures same_writer { IsSameWriter err.old err.new }
+    ensures done { result ≡ 0
+        → (bytes : List ℕ)
+        × (lines : List ℕ)
+        × IsWholeDocument (R.remaining reader.old) (R.remaining reader.new) bytes
+        × IsRenderingOf bytes lines
+        × Appends (watched_contents O.contents out.old)
+        (watched_contents O.contents out.new) lines }
+    ensures failed { result ≡ 1
+        → (fault : ScenarioFault)
+        × HasFault (R.remaining reader.old) (R.remaining reader.new) fault
+        × (fault ≢ ScenarioFault.Write → out.new ≡ out.old)
+        × (fault ≡ ScenarioFault.Write
+        → IsCutShort (R.remaining reader.old) (R.remaining reader.new)
+        (watched_contents O.contents out.old) (watched_contents O.contents out.new))
+        × (is_closed out.new ≡ false
+        → has_refused err.new ≡ false
+        → Appends (watched_contents E.contents err.old)
+        (watched_contents E.contents err.new) (fault_line fault)) }
+    ensures quiet { result ≡ 0 → err.new ≡ err.old }
+    ensures silent { result ≡ 1 → is_closed out.new ≡ true → err.new ≡ err.old }
+    ensures statuses { (result ≡ 0) ⊎ (result ≡ 1) }
+{
+    match render_watched(alloc, &PlainRun, reader, out) {
+        Ok(_) => DONE,
+        Err(fault) => tell_reader(out, err, &fault),
+    }
+}
+
+// Writes the report on the scenario that the reader gives.
+fn report_input<R: Read, O: Write, E: Write>(
+    alloc: Global,
+    report: &Report,
+    reader: &mut R,
+    out: &mut WatchedWriter<'_, O>,
+    err: &mut WatchedWriter<'_, E>,
+) -> u8
+    ensures same_output { IsSameWriter out.old out.new }
+    ensures same_writer { IsSameWriter err.old err.new }
+    ensures done { result ≡ 0
+        → IsReported report.now None (R.remaining reader.old) (R.remaining reader.new)
+        (watched_contents O.contents out.old) (watched_contents O.contents out.new) }
+    ensures failed { result ≡ 1
+        → (fault : ScenarioFault)
+        × (IsReported report.now (Some fault) (R.remaining reader.old) (R.remaining reader.new)
+        (watched_contents O.contents out.old) (watched_contents O.contents out.new)
+        ⊎ (HasFault (R.remaining reader.old) (R.remaining reader.new) fault
+        × (fault ≢ ScenarioFault.Write → out.new ≡ out.old)
+        × (fault ≡ ScenarioFault.Write
+        → IsReportCutShort report.now (R.remaining reader.old)
+        (R.remaining reader.new)
+        (watched_contents O.contents out.old)
+        (watched_contents O.contents out.new))))
+        × (is_closed out.new ≡ false
+        → has_refused err.new ≡ false
+        → Appends (watched_contents E.contents err.old)
+        (watched_contents E.contents err.new) (fault_line fault)) }
+    ensures quiet { result ≡ 0 → err.new ≡ err.old }
+    ensures silent { result ≡ 1 → is_closed out.new ≡ true → err.new ≡ err.old }
+    ensures statuses { (result ≡ 0) ⊎ (result ≡ 1) }
+{
+    match render_watched(alloc, report, reader, out) {
+        Ok(None) => DONE,
+        Ok(Some(fault)) => tell_reader(out, err, &fault),
+        Err(fault) => tell_reader(out, err, &fault),
+    }
+}
+
+// Answers the dialogue that the reader gives.
+fn serve_input<R: Read, O: Write, E: Write>(
+    alloc: Global,
+    reader: &mut R,
+    out: &mut WatchedWriter<'_, O>,
+    err: &mut WatchedWriter<'_, E>,
+) -> u8
+    ensures same_output { IsSameWriter out.old out.new }
+    ensures same_writer { IsSameWriter err.old err.new }
+    ensures done { result ≡ 0 → IsServed (R.remaining reader.old) (R.remaining reader.new)
+        (watched_contents O.contents out.old) (watched_contents O.contents out.new) }
+    ensures failed { result ≡ 1
+        → (fault : ScenarioFault)
+        × IsStopped fault (R.remaining reader.old) (R.remaining reader.new)
+        (watched_contents O.contents out.old) (watched_contents O.contents out.new)
+        × (is_closed out.new ≡ false
+        → has_refused err.new ≡ false
+        → Appends (watched_contents E.contents err.old)
+        (watched_contents E.contents err.new) (fault_line fault)) }
+    ensures quiet { result ≡ 0 → err.new ≡ err.old }
+    ensures silent { result ≡ 1 → is_closed out.new ≡ true → err.new ≡ err.old }
+    ensures statuses { (result ≡ 0) ⊎ (result ≡ 1) }
+{
+    match serve_watched(alloc, reader, out) {
+        Ok(()) => DONE,
+        Err(fault) => tell_reader(out, err, &fault),
+    }
+}
+
+// Runs workers in threads, and writes their totals.
+fn run_workers<T: Threads + Wait + Sync, O: Write, E: Write>(
+    rt: &T,
+    alloc: Global,
+    load: &Workload,
+    out: &mut WatchedWriter<'_, O>,
+    err: &mut WatchedWriter<'_, E>,
+) -> u8
+    requires { IsInRange load.now }
+    ensures same_output { IsSameWriter out.old out.new }
+    ensures same_writer { IsSameWriter err.old err.new }
+    ensures done { result ≡ 0
+        → (totals : Totals)
+        × AreTotalsOf load.now totals
+        × Appends (watched_contents O.contents out.old) (watched_contents O.contents out.new)
+        (totals_text totals) }
+    ensures failed { result ≡ 1
+        → (out.new ≡ out.old)
+        ⊎ ((totals : Totals)
+        × (count : ℕ)
+        × AreTotalsOf load.now totals
+        × (count < length (totals_text totals))
+        × Appends (watched_contents O.contents out.old)
+        (watched_contents O.contents out.new) (take count (totals_text totals))) }
+    ensures told { result ≡ 1
+        → is_closed out.new ≡ false
+        → has_refused err.new ≡ false
+        → (fault : ThreadsFault)
+        × (fault ≢ ThreadsFault.Write → out.new ≡ out.old)
+        × Appends (watched_contents E.contents err.old)
+        (watched_contents E.contents err.new) (threads_fault_line fault) }
+    ensures quiet { result ≡ 0 → err.new ≡ err.old }
+    ensures silent { result ≡ 1 → is_closed out.new ≡ true → err.new ≡ err.old }
+    ensures statuses { (result ≡ 0) ⊎ (result ≡ 1) }
+{
+    match run_workload(rt, alloc, load, out) {
+        Ok(()) => DONE,
+        Err(fault) => tell_reader(out, err, &fault),
+    }
+}
+
+// Shows what `clap` has to say, and gives the exit status: help goes to `out`, all else to `err`.
+fn show<O: Write, E: Write>(
+    out: &mut WatchedWriter<'_, O>,
+    err: &mut WatchedWriter<'_, E>,
+    error: &Error,
+) -> u8
+    ensures same_output { IsSameWriter out.old out.new }
+    ensures same_writer { IsSameWriter err.old err.new }
+    ensures refused { result ≡ 2 → out.new ≡ out.old }
+    ensures mistake { result ≡ 2
+        → (kind_of error.now ≢ ErrorKind.OutOfMemory)
+        × (kind_of error.now ≢ ErrorKind.DisplayHelp)
+        × (kind_of error.now ≢ ErrorKind.DisplayVersion) }
+    ensures all_mistakes { kind_of error.now ≢ ErrorKind.OutOfMemory
+        → kind_of error.now ≢ ErrorKind.DisplayHelp
+        → kind_of error.now ≢ ErrorKind.DisplayVersion
+        → result ≡ 2 }
+    ensures memory { kind_of error.now ≡ ErrorKind.OutOfMemory
+        → (result ≡ 1) × (out.new ≡ out.old) }
+    ensures told { kind_of error.now ≡ ErrorKind.OutOfMemory
+        → is_closed out.new ≡ false
+        → has_refused err.new ≡ false
+        → Appends (watched_contents E.contents err.old) (watched_contents E.contents err.new)
+        (fault_line ScenarioFault.OutOfMemory) }
+    ensures quiet { result ≡ 0 → err.new ≡ err.old }
+    ensures silent { result ≡ 1 → is_closed out.new ≡ true → err.new ≡ err.old }
+    ensures statuses { result ≤ 2 }
+{
+    if error.kind() == ErrorKind::OutOfMemory {
+        return tell_reader(out, err, &ScenarioFault::OutOfMemory);
+    }
+    if error.use_stderr() {
+        let _ = err.print(error);
+        return REFUSED;
+    }
+    match out.print(error) {
+        Ok(()) => DONE,
+        Err(_) => tell_reader(out, err, &ScenarioFault::Write),
+    }
+}
+
+/// Does what the words after the program's name ask, and gives the exit status.
+///
+/// Without words it reads a document from `reader` and writes its lines to `out`. With the word
+/// `threads` it runs workers in threads on one shared device, and writes their totals to `out`.
+/// With the word of a report it reads a document, and writes that to `out`. With the word `serve`
+/// it reads a document in one line and then a step in each line, and answers each before it reads
+/// on. Help goes to `out`.
+///
+/// The status is 0 where all of it was written, and 1 on a fault, whose line goes to `err` unless
+/// nobody reads `out` any more. It is 2 on a usage error, and `err` gets what `clap` says of it.
+pub fn answer_words<T: Threads + Wait + Sync, R: Read, O: Write, E: Write>(
+    rt: &T,
+    alloc: Global,
+    words: &[String],
+    reader: &mut R,
+    out: &mut WatchedWriter<'_, O>,
+    err: &mut WatchedWriter<'_, E>,
+) -> u8
+    ensures same_output { IsSameWriter out.old out.new }
+    ensures same_writer { IsSameWriter err.old err.new }
+    ensures done { length words.now ≡ 0
+        → result ≡ 0
+        → (bytes : List ℕ)
+        × (lines : List ℕ)
+        × IsWholeDocument (R.remaining reader.old) (R.remaining reader.new) bytes
+        × IsRenderingOf bytes lines
+        × Appends (watched_contents O.contents out.old)
+        (watched_contents O.contents out.new) lines }
+    ensures plain { NameNothing (map string_bytes words.now)
+        → result ≡ 0
+        → (bytes : List ℕ)
+        × (lines : List ℕ)
+        × IsWholeDocument (R.remaining reader.old) (R.remaining reader.new) bytes
+        × IsRenderingOf bytes lines
+        × Appends (watched_contents O.contents out.old)
+        (watched_contents O.contents out.new) lines }
+    ensures threads { result ≡ 0
+        → (rows : List Row)
+        → NameThreads (map string_bytes words.now) rows
+        → AreTotalsWritten rows (watched_contents O.contents out.old)
+        (watched_contents O.contents out.new) }
+    ensures reports { result ≡ 0
+        → (found : Text × List Row)
+        → NameReport (map string_bytes words.now) found
+        → IsReportWritten found None (R.remaining reader.old) (R.remaining reader.new)
+        (watched_contents O.contents out.old) (watched_contents O.contents out.new) }
+    ensures serves { result ≡ 0
+        → NameServe (map string_bytes words.now)
+        → IsServed (R.remaining reader.old) (R.remaining reader.new)
+        (watched_contents O.contents out.old) (watched_contents O.contents out.new) }
+
+    // Where it fails, the output is as it was, or has the first of the lines.
+    ensures failed { length words.now ≡ 0
+        → result ≡ 1
+        → (fault : ScenarioFault)
+        × HasFault (R.remaining reader.old) (R.remaining reader.new) fault
+        × (fault ≢ ScenarioFault.Write → out.new ≡ out.old)
+        × (fault ≡ ScenarioFault.Write
+        → IsCutShort (R.remaining reader.old) (R.remaining reader.new)
+        (watched_contents O.contents out.old) (watched_contents O.contents out.new))
+        × (is_closed out.new ≡ false
+        → has_refused err.new ≡ false
+        → Appends (watched_contents E.contents err.old)
+        (watched_contents E.contents err.new) (fault_line fault)) }
+    ensures plain_failed { NameNothing (map string_bytes words.now)
+        → result ≡ 1
+        → (fault : ScenarioFault)
+        × HasFault (R.remaining reader.old) (R.remaining reader.new) fault
+        × (fault ≢ ScenarioFault.Write → out.new ≡ out.old)
+        × (fault ≡ ScenarioFault.Write
+        → IsCutShort (R.remaining reader.old) (R.remaining reader.new)
+        (watched_contents O.contents out.old) (watched_contents O.contents out.new))
+        × (is_closed out.new ≡ false
+        → has_refused err.new ≡ false
+        → Appends (watched_contents E.contents err.old)
+        (watched_contents E.contents err.new) (fault_line fault)) }
+    ensures threads_failed { result ≡ 1
+        → (rows : List Row)
+        → NameThreads (map string_bytes words.now) rows
+        → (out.new ≡ out.old)
+        ⊎ AreTotalsCutShort rows (watched_contents O.contents out.old)
+        (watched_contents O.contents out.new) }
+    ensures threads_told { result ≡ 1
+        → (rows : List Row)
+        → NameThreads (map string_bytes words.now) rows
+        → is_closed out.new ≡ false
+        → has_refused err.new ≡ false
+        → (fault : ThreadsFault)
+        × (fault ≢ ThreadsFault.Write → out.new ≡ out.old)
+        × Appends (watched_contents E.contents err.old)
+        (watched_contents E.contents err.new) (threads_fault_line fault) }
+    ensures reports_failed { result ≡ 1
+        → (found : Text × List Row)
+        → NameReport (map string_bytes words.now) found
+        → (fault : ScenarioFault)
+        × (IsReportWritten found (Some fault) (R.remaining reader.old) (R.remaining reader.new)
+        (watched_contents O.contents out.old) (watched_contents O.contents out.new)
+        ⊎ (HasFault (R.remaining reader.old) (R.remaining reader.new) fault
+        × (fault ≢ ScenarioFault.Write → out.new ≡ out.old)
+        × (fault ≡ ScenarioFault.Write
+        → IsReportCut found (R.remaining reader.old)
+        (R.remaining reader.new)
+        (watched_contents O.contents out.old)
+        (watched_contents O.contents out.new))))
+        × (is_closed out.new ≡ false
+        → has_refused err.new ≡ false
+        → Appends (watched_contents E.contents err.old)
+        (watched_contents E.contents err.new) (fault_line fault)) }
+    ensures serve_failed { result ≡ 1
+        → NameServe (map string_bytes words.now)
+        → (fault : ScenarioFault)
+        × ((fault ≡ ScenarioFault.OutOfMemory) × (out.new ≡ out.old)
+        ⊎ IsStopped fault (R.remaining reader.old) (R.remaining reader.new)
+        (watched_contents O.contents out.old) (watched_contents O.contents out.new))
+        × (is_closed out.new ≡ false
+        → has_refused err.new ≡ false
+        → Appends (watched_contents E.contents err.old)
+        (watched_contents E.contents err.new) (fault_line fault)) }
+
+    // A usage error, and words that ask for no input.
+    ensures refused { result ≡ 2 → (out.new ≡ out.old) × (reader.new ≡ reader.old) }
+    ensures understood { 1 ≤ length words.now
+        → result ≡ 0
+        → IsUnderstood (map string_bytes words.now) }
+    ensures unread { (rows : List Row)
+        → NameThreads (map string_bytes words.now) rows
+        → reader.new ≡ reader.old }
+    ensures not_read { 1 ≤ length words.now
+        → faults_of_words (map string_bytes words.now) ≢ []
+        → reader.new ≡ reader.old }
+    ensures mistake { result ≡ 2 → IsMistaken (map string_bytes words.now) }
+    ensures quiet { result ≡ 0 → err.new ≡ err.old }
+    ensures silent { result ≡ 1 → is_closed out.new ≡ true → err.new ≡ err.old }
+    ensures statuses { (result ≡ 0) ⊎ (result ≡ 1) ⊎ ((result ≡ 2) × (1 ≤ length words.now)) }
+{
+    if words.is_empty() {
+        return run_input(alloc, reader, out, err);
+    }
+    match read_words(alloc, words) {
+        Ok(Asked::Scenario) => run_input(alloc, reader, out, err),
+        Ok(Asked::Report(report)) => report_input(alloc, &report, reader, out, err),
+        Ok(Asked::Serve) => serve_input(alloc, reader, out, err),
+        Ok(Asked::Threads(load)) => run_workers(rt, alloc, &load, out, err),
+        Err(error) => show(out, err, &error),
+    }
+}
+
+/// Does what the words after the program's name ask, and gives the exit status.
+///
+/// All of it is the work of [`answer_words`], which is lent `out` and `err` as writers that are
+/// watched.
+pub fn run_words<T: Threads + Wait + Sync, R: Read, O: Write, E: Write>(
+    rt: &T,
+    alloc: Global,
+    words: &[String],
+    reader: &mut R,
+    out: &mut O,
+    err: &mut E,
+) -> u8
+    ensures done { length words.now ≡ 0 → result ≡ 0 → (bytes : List ℕ) × (lines : List ℕ)
+        × IsWholeDocument (R.remaining reader.old) (R.remaining reader.new) bytes
+        × IsRenderingOf bytes lines
+        × Appends (O.contents out.old) (O.contents out.new) lines }
+    ensures plain { NameNothing (map string_bytes words.now)
+        → result ≡ 0
+        → (bytes : List ℕ)
+        × (lines : List ℕ)
+        × IsWholeDocument (R.remaining reader.old) (R.remaining reader.new) bytes
+        × IsRenderingOf bytes lines
+        × Appends (O.contents out.old) (O.contents out.new) lines }
+    ensures threads { result ≡ 0 → (rows : List Row) → NameThreads (map string_bytes words.now) rows
+        → AreTotalsWritten rows (O.contents out.old) (O.contents out.new) }
+    ensures reports { result ≡ 0
+        → (found : Text × List Row)
+        → NameReport (map string_bytes words.now) found
+        → IsReportWritten found None (R.remaining reader.old) (R.remaining reader.new)
+        (O.contents out.old) (O.contents out.new) }
+    ensures serves { result ≡ 0
+        → NameServe (map string_bytes words.now)
+        → IsServed (R.remaining reader.old) (R.remaining reader.new) (O.contents out.old)
+        (O.contents out.new) }
+
+    // Where it fails, the output is as it was, or has the first of the lines.
+    ensures failed { length words.now ≡ 0
+        → result ≡ 1
+        → (fault : ScenarioFault)
+        × HasFault (R.remaining reader.old) (R.remaining reader.new) fault
+        × (fault ≢ ScenarioFault.Write → out.new ≡ out.old)
+        × (fault ≡ ScenarioFault.Write
+        → IsCutShort (R.remaining reader.old) (R.remaining reader.new)
+        (O.contents out.old) (O.contents out.new)) }
+    ensures plain_failed { NameNothing (map string_bytes words.now)
+        → result ≡ 1
+        → (fault : ScenarioFault)
+        × HasFault (R.remaining reader.old) (R.remaining reader.new) fault
+        × (fault ≢ ScenarioFault.Write → out.new ≡ out.old)
+        × (fault ≡ ScenarioFault.Write
+        → IsCutShort (R.remaining reader.old) (R.remaining reader.new)
+        (O.contents out.old) (O.contents out.new)) }
+    ensures threads_failed { result ≡ 1
+        → (rows : List Row)
+        → NameThreads (map string_bytes words.now) rows
+        → (out.new ≡ out.old) ⊎ AreTotalsCutShort rows (O.contents out.old) (O.contents out.new) }
+    ensures reports_failed { result ≡ 1
+        → (found : Text × List Row)
+        → NameReport (map string_bytes words.now) found
+        → (fault : ScenarioFault)
+        × (IsReportWritten found (Some fault) (R.remaining reader.old) (R.remaining reader.new)
+        (O.contents out.old) (O.contents out.new)
+        ⊎ (HasFault (R.remaining reader.old) (R.remaining reader.new) fault
+        × (fault ≢ ScenarioFault.Write → out.new ≡ out.old)
+        × (fault ≡ ScenarioFault.Write
+        → IsReportCut found (R.remaining reader.old)
+        (R.remaining reader.new) (O.contents out.old)
+        (O.contents out.new)))) }
+    ensures serve_failed { result ≡ 1
+        → NameServe (map string_bytes words.now)
+        → (fault : ScenarioFault)
+        × ((fault ≡ ScenarioFault.OutOfMemory) × (out.new ≡ out.old)
+        ⊎ IsStopped fault (R.remaining reader.old) (R.remaining reader.new)
+        (O.contents out.old) (O.contents out.new)) }
+
+    // A usage error, and words that ask for no input.
+    ensures refused { result ≡ 2 → (out.new ≡ out.old) × (reader.new ≡ reader.old) }
+    ensures understood { 1 ≤ length words.now
+        → result ≡ 0
+        → IsUnderstood (map string_bytes words.now) }
+    ensures unread { (rows : List Row)
+        → NameThreads (map string_bytes words.now) rows
+        → reader.new ≡ reader.old }
+    ensures not_read { 1 ≤ length words.now
+        → faults_of_words (map string_bytes words.now) ≢ []
+        → reader.new ≡ reader.old }
+    ensures mistake { result ≡ 2 → IsMistaken (map string_bytes words.now) }
+    ensures quiet { result ≡ 0 → err.new ≡ err.old }
+    ensures statuses { (result ≡ 0) ⊎ (result ≡ 1) ⊎ ((result ≡ 2) × (1 ≤ length words.now)) }
+{
+    let mut out = WatchedWriter::new(out);
+    let mut err = WatchedWriter::new(err);
+    answer_words(rt, alloc, words, reader, &mut out, &mut err)
+}

@@ -1,0 +1,112 @@
+-- An event in words.
+use Rattle.dsa_book.specs.declared.event.Event.TheVariants as event
+use Rattle.dsa_regs.specs.declared.layout.ListUse.TheVariants as list
+use Rattle.std.specs.Prelude.{ℕ, ◌+◌, false, ◌==◌, ◌&&◌, nat_lt, if◌then◌else◌, List, [], ◌∷◌, ◌++◌, map, Option, unwrap_or}
+use Rattle.std.specs.Prelude.{codes, decimal}
+use Rattle.std.specs.Fmt.{digits}
+use Rattle.dsa_base.specs.Rows.{first_row}
+use Rattle.dsa_desc.specs.declared.{Descriptor.{Descriptor}, Outcome.{Outcome, TheVariants.{Success, PageFault}}}
+use Rattle.dsa_desc.specs.Descriptor.{is_batch, is_transfer, is_fenced}
+use Rattle.dsa_regs.specs.declared.{Command.{Command}, layout.ListUse.{ListUse}}
+use Rattle.dsa_regs.specs.declared.Scope.{Scope, TheVariants.{Device, Queue, Queues, Pasid}}
+use Rattle.dsa_regs.specs.Command.{command_name, scope_of, operand_of_scope}
+use Rattle.dsa_book.specs.declared.event.{Event.{Event}, Portal.{Portal, TheVariants.{Limited, Unlimited}}}
+use Rattle.dsa_book.specs.declared.event.Kind.{Kind, TheVariants.{Enqcmd, Movdir64b}}
+
+-- ---- numbers (profile)
+
+-- `one` after the number 1, and `many` after any other
+abbrev pub one_or_many : ℕ → List ℕ → List ℕ → List ℕ
+one_or_many n one many = if n == 1 then one else many
+
+-- a text, a number, and what is counted: `1 entry`, `2 entries`
+abbrev pub count_text : List ℕ → ℕ → List ℕ → List ℕ → List ℕ
+count_text before n one many = before ++ decimal n ++ codes " " ++ one_or_many n one many
+
+-- ---- descriptors (profile)
+
+-- the word of an operation code
+abbrev pub named_operation : ℕ → Option (List ℕ)
+named_operation op = first_row (
+    (op == 0x00, codes "no-op") ∷
+    (op == 0x01, codes "batch") ∷
+    (op == 0x02, codes "drain") ∷
+    (op == 0x03, codes "move") ∷
+    (op == 0x04, codes "fill") ∷
+    (op == 0x05, codes "compare") ∷ [])
+
+-- that word, or the code where it has none
+abbrev pub operation_label : ℕ → List ℕ
+operation_label op = unwrap_or (named_operation op) (codes "operation 0x" ++ digits 16 false op)
+
+-- what a batch or a transfer says of its size
+abbrev pub size_text : Descriptor → List ℕ
+size_text d =
+    if is_batch d then codes " of " ++ decimal d.size
+    else (if is_transfer d then count_text (codes " ") d.size (codes "byte") (codes "bytes") else [])
+
+-- a mark on a descriptor with a fence
+abbrev pub fence_text : Descriptor → List ℕ
+fence_text d = if is_fenced d then codes " fence" else []
+
+abbrev pub descriptor_text : Descriptor → List ℕ
+descriptor_text d = operation_label d.op ++ size_text d ++ fence_text d
+
+-- ---- commands (profile)
+
+-- a capital letter as the small one, and a space as a hyphen
+abbrev pub label_letter : ℕ → ℕ
+label_letter c = if c == 32 then 45 else (if nat_lt 64 c && nat_lt c 91 then c + 32 else c)
+
+-- the name of the command, as one word
+abbrev pub command_label : Command → List ℕ
+command_label command = map label_letter (command_name command)
+
+-- the operand, where there is one: of a mask in hexadecimal
+abbrev pub scope_text : Scope → List ℕ
+scope_text Device = []
+scope_text (Queue queue) = codes " " ++ decimal queue
+scope_text (Queues queues) = codes " 0x" ++ digits 16 false (operand_of_scope (Queues queues))
+scope_text (Pasid pasid) = codes " " ++ decimal pasid
+
+abbrev pub command_with_operand : Command → List ℕ
+command_with_operand command = command_label command ++ scope_text (scope_of command)
+
+-- ---- lists (profile)
+
+-- a queue, an engine for its entries in progress, or the members of the batch that it works on
+abbrev pub list_text : ListUse → List ℕ
+list_text (list.Queue queue) = codes "q" ++ decimal queue
+list_text (list.Progress engine) = codes "e" ++ decimal engine
+list_text (list.Members engine) = codes "batch of e" ++ decimal engine
+
+-- ---- events (profile)
+
+abbrev pub portal_label : Portal → List ℕ
+portal_label Limited = codes "limited"
+portal_label Unlimited = codes "unlimited"
+
+-- the instruction, with the PASID that ENQCMD brings
+abbrev pub instruction_text : Kind → List ℕ
+instruction_text (Enqcmd pasid) = codes "enqcmd pasid " ++ decimal pasid
+instruction_text Movdir64b = codes "movdir"
+
+abbrev pub outcome_label : Outcome → List ℕ
+outcome_label Success = codes "success"
+outcome_label PageFault = codes "page-fault"
+
+-- what is asked of the device, in one line without its end
+abbrev pub event_text : Event → List ℕ
+event_text (event.Submit client queue portal kind desc) =
+    codes "submit q" ++ decimal queue ++ codes " " ++ portal_label portal ++ codes " " ++ instruction_text kind
+    ++ codes " client " ++ decimal client ++ codes " " ++ descriptor_text desc
+event_text (event.Dispatch engine) = codes "dispatch e" ++ decimal engine
+event_text (event.Fetch engine desc) = codes "fetch e" ++ decimal engine ++ codes " " ++ descriptor_text desc
+event_text (event.Start engine) = codes "start e" ++ decimal engine
+event_text (event.Finish engine ticket outcome) =
+    codes "finish e" ++ decimal engine ++ codes " name " ++ decimal ticket.name ++ codes " " ++ outcome_label outcome
+event_text (event.Issue command) = codes "command " ++ command_with_operand command
+event_text event.Poll = codes "poll"
+event_text (event.WriteQueue queue config) = codes "write queue " ++ decimal queue
+event_text (event.WriteGroup group config) = codes "write group " ++ decimal group
+event_text event.ClearError = codes "clear"

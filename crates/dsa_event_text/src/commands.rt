@@ -1,0 +1,52 @@
+//! Commands in words.
+
+ghost use Rattle.std.specs.Prelude.{◌≡◌, ◌++◌, OnOk, string_bytes};
+ghost use Rattle.dsa_event_text.specs.Text.{command_label, command_with_operand, scope_text};
+
+use crate::numbers::add_number;
+use dsa_regs::{Command, Scope};
+use std::alloc::AllocError;
+use std::fmt::Write;
+
+/// The name of a command, as one word.
+pub fn command_label(command: &Command) -> &'static str
+    ensures { result.now ≡ command_label command.now }
+{
+    match command {
+        Command::EnableDevice => "enable-device",
+        Command::DisableDevice => "disable-device",
+        Command::DrainAll => "drain-all",
+        Command::AbortAll => "abort-all",
+        Command::ResetDevice => "reset-device",
+        Command::EnableWq(_) => "enable-wq",
+        Command::DisableWq(_) => "disable-wq",
+        Command::DrainWq(_) => "drain-wq",
+        Command::AbortWq(_) => "abort-wq",
+        Command::ResetWq(_) => "reset-wq",
+        Command::DrainPasid(_) => "drain-pasid",
+        Command::AbortPasid(_) => "abort-pasid",
+    }
+}
+
+fn add_scope(text: &mut String, scope: Scope) -> Result<(), AllocError>
+    ensures { OnOk result (string_bytes text.new ≡ string_bytes text.old ++ scope_text scope) }
+{
+    match scope {
+        Scope::Device => Ok(()),
+        Scope::Queue(queue) => add_number(text, " ", queue),
+        Scope::Queues(_) => {
+            let operand = scope.operand();
+            write!(text, " 0x{operand:x}")
+        }
+        Scope::Pasid(pasid) => add_number(text, " ", pasid),
+    }
+}
+
+/// Adds the words of a command.
+pub fn add_command(text: &mut String, command: &Command) -> Result<(), AllocError>
+    ensures { OnOk result
+        (string_bytes text.new ≡ string_bytes text.old ++ command_with_operand command.now) }
+{
+    text.push_str(command_label(command))?;
+    add_scope(text, command.scope())
+}

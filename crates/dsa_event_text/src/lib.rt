@@ -1,0 +1,19 @@
+//! An event of the device in words, as part of a line: `finish e1 name 7 success`.
+//!
+//! [`add_event`] adds them to a text, and takes no memory but the text's. The kinds of steps, the
+//! portals and the instructions are spelled as in a scenario document, and the commands as the
+//! Intel DSA specification does, in lower case with dashes.
+#![tactic(auto)]
+
+mod commands;
+mod descriptors;
+mod events;
+mod lists;
+mod numbers;
+pub mod rows;
+
+pub use commands::{add_command, command_label};
+pub use descriptors::add_descriptor;
+pub use events::{add_event, portal_label};
+pub use lists::add_list;
+pub use numbers::{add_count, add_number, one_or_many};

@@ -1,5 +1,0 @@
-use Rattle.dsa_event_words.proofs.events.add_event.Goals as goal
-
-pub returns-in-WriteGroup : goal.returns-in-WriteGroup
-returns-in-WriteGroup c =
-    rw (c.in-WriteGroup.is, ← c.from-in-WriteGroup.ensures) c.add_number-in-WriteGroup.ensures

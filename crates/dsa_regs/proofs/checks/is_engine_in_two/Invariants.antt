@@ -1,6 +1,0 @@
-use Rattle.dsa_regs.proofs.checks.is_engine_in_two.Given as goal
-use Rattle.std.proofs.Common.{◌≡◌, false}
-use Rattle.dsa_regs.specs.Config.{is_in_two}
-
-abbrev pub invariant-loop-engine : goal.invariant-loop-engine
-invariant-loop-engine l = is_in_two (λ g. g.engines) l.groups l.engine ≡ false

@@ -1,6 +1,0 @@
-use Rattle.dsa_regs.proofs.checks.is_queue_in_two.Given as goal
-use Rattle.std.proofs.Common.{◌≡◌, false}
-use Rattle.dsa_regs.specs.Config.{is_in_two}
-
-abbrev pub invariant-loop-queue : goal.invariant-loop-queue
-invariant-loop-queue l = is_in_two (λ g. g.queues) l.groups l.queue ≡ false

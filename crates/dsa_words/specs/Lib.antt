@@ -1,4 +1,0 @@
-pub mod Reports
-pub mod Threads
-pub mod Words
-pub mod Worked
