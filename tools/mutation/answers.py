@@ -2,9 +2,10 @@
 from __future__ import annotations
 
 import re
-from typing import Optional, Set, Tuple
+from typing import List, Optional, Set, Tuple
 
 from .mutant import Mutant
+from .source import declared_in
 
 # The searches that the checker tries first on a goal without an answer, in turn. It goes on with
 # more lemmas and more steps.
@@ -35,13 +36,28 @@ def name_of(item: str) -> Optional[str]:
     return found[1] if found else None
 
 
+def items_of(text: str) -> List[str]:
+    """The imports, declarations and definitions of a proof."""
+    items = re.split(r"^(?=[^\s\])}])", text, flags=re.M)
+    return [it for it in items if it and not it.startswith("--")]
+
+
 def answers_of_goal(text: str, goal: str) -> Tuple[str, bool]:
     """The answers that this goal's needs, and whether its own is among them."""
-    items = re.split(r"^(?=[^\s\])}])", text, flags=re.M)
-    items = [it for it in items if it and not it.startswith("--")]
+    return only_for(text, {goal}), goal in declared_in(text)
+
+
+def answers_without(text: str, goals: Set[str]) -> str:
+    """The answers to all goals but these."""
+    return only_for(text, declared_in(text) - goals)
+
+
+def only_for(text: str, goals: Set[str]) -> str:
+    """What these answers need, and they themselves."""
+    items = items_of(text)
     names = {name_of(it) for it in items}
-    needed: Set[Optional[str]] = {goal}
-    left: Set[Optional[str]] = {goal}
+    needed: Set[Optional[str]] = {*goals}
+    left: Set[Optional[str]] = {*goals}
     while left:
         said = "".join(it for it in items if name_of(it) in left)
         words = {*re.findall(r"[^\s()\[\]{},.]+", said)}
@@ -57,7 +73,7 @@ def answers_of_goal(text: str, goal: str) -> Tuple[str, bool]:
         names = re.findall(r"[^\s{},]+", item.partition(".Goals.{")[2])
         return ".Goals.{" not in item or bool(words & {*names})
 
-    return "".join(it for it in items if is_kept(it)), goal in names
+    return "".join(it for it in items if is_kept(it))
 
 
 def with_search(text: str, goals: str, mutant: Mutant) -> str:

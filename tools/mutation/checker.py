@@ -14,8 +14,8 @@ from .toolchain import Crate, Toolchain
 
 
 class Checker:
-    def __init__(self, toolchain: Toolchain, is_baseline: bool) -> None:
-        self.toolchain, self.is_baseline = toolchain, is_baseline
+    def __init__(self, toolchain: Toolchain) -> None:
+        self.toolchain = toolchain
         # The processor seconds of each run, by crate.
         self.seconds: Dict[str, List[float]] = {}
 
@@ -44,7 +44,7 @@ class Checker:
             return self.run(crate, folder, ["--allow-holes", *words], over)
 
     def room(self, folder: str, source: Source) -> Room:
-        return Room(pathlib.Path(folder), source, self.toolchain.parts, self.is_baseline)
+        return Room(pathlib.Path(folder), source, self.toolchain.parts)
 
     def run(
         self, crate: Crate, folder: str, flags: Sequence[str], over: Optional[str]

@@ -15,7 +15,7 @@ from .trial import Trial, say
 
 TOP = pathlib.Path(__file__).resolve().parent.parent.parent
 
-USAGE = """usage: tools/mutants [--anew] [--whole] [--baseline]
+USAGE = """usage: tools/mutants [--anew] [--whole] [--baseline] [--sample SEED]
                      [--libraries FOLDER [--while LOG]] [CRATE]...
 """
 
@@ -35,6 +35,9 @@ options:
   --baseline          change nothing, and show that the functions and goals that the mutants name
                       are proved then, so that a refusal comes from the change. For 'new goal' all
                       goals are asked for
+  --sample SEED       of a tenth of the mutants ask for all goals, and show that their functions are
+                      proved unchanged, as --whole and --baseline do. SEED is a whole number. Ten in
+                      a row choose each mutant once
   --libraries FOLDER  use the libraries that 'rt ci' has built in FOLDER, a copy of the repository.
                       By default they are built here, where they have changed
   --while LOG         'rt ci' is still at work in FOLDER and writes to LOG: try a crate's mutants
@@ -59,8 +62,8 @@ The lines of a mutant's file:
 
 How to write one:
   Change code that runs, and name the file after what is wrong then. The new text has to compile.
-  Change a value and keep the names: a proof that names what is gone is refused for that alone,
-  which says little of the contract and is reported.
+  Change a value and keep the names: a proof by hand that names what is gone is refused for that
+  alone, which says nothing of the contract and does not count.
 
   Name the goal. If several goals fail, take the one that the change breaks: another may fail only
   because its answer names what is gone. Then run 'tools/mutants --baseline CRATE'. If it does not
@@ -83,15 +86,24 @@ How mutants are tried:
 
   A goal is proved by its answer in the function's proof, or else by the search that the checker
   tries first ('new goal': the first two). If it is proved, the mutant is tried again with all
-  goals. A mutant that its function does not refuse is tried on the whole crate, and then reported.
+  goals. What is changed in place is then tried on the whole crate.
+
+  Three refusals do not count as they are, since what changes nothing could meet them too:
+    - A search ended at its number of steps. Then the unchanged function has to be proved in as
+      many. If it is not, all goals are asked for.
+    - A proof by hand names what is gone, or the change takes away or moves what a proof can name,
+      as a 'let' or a call. Then the mutant is tried again without that answer. If a name was gone,
+      the unchanged function has to be proved without the answer too.
+    - The checker has no rule for the changed text, as the borrow checker for some loans, or asks
+      for a measure of a new loop. Such a mutant is bad.
 
 What is reported of a mutant:
   refused             as it must be
-  NOT REFUSED         the whole crate is proved with it
-  BAD MUTANT            its lines are not understood, do not apply or change nothing, or the checker
-                      cannot read the new text. The rest of the line says which
+  NOT REFUSED         its function or the whole crate is proved with it
+  BAD MUTANT          its lines are not understood, do not apply or change nothing, the new text
+                      does not compile, or its refusal says nothing. The rest of the line says which
   NOT TRIED           a library below its crate is not proved
-  proved, NOT PROVED  with --baseline: whether its function is proved without the change
+  proved, NOT PROVED  with --baseline or --sample: whether its function is proved unchanged
 
   A refusal is kept in the user's cache. The mutant is not tried again until one of these changes:
   the sources of its crate or of a crate below it, its file, this program or the toolchain.
@@ -111,6 +123,7 @@ def parser() -> Parser:
     found = Parser(prog="mutants", allow_abbrev=False)
     for option in ("--anew", "--whole", "--baseline"):
         found.add_argument(option, action="store_true")
+    found.add_argument("--sample", type=int)
     found.add_argument("--libraries", type=pathlib.Path)
     found.add_argument("--while", type=pathlib.Path, dest="log")
     found.add_argument("crates", nargs="*")
@@ -120,7 +133,7 @@ def parser() -> Parser:
 def trials_of(given: argparse.Namespace, toolchain: Toolchain) -> Optional[List[Trial]]:
     """The trials of the crates that have mutants, lowest first. None where a library below one is
     not built."""
-    options = Options(given.baseline, given.whole, given.anew)
+    options = Options(given.baseline, given.whole, given.anew, given.sample)
     own = {it.name: it for it in toolchain.crates(TOP)}
     program, trials = sum_of_program(), []
     for crate in toolchain.crates(given.libraries or TOP):
@@ -166,7 +179,10 @@ def main(words: List[str]) -> int:
     trials = trials_of(given, toolchain)
     if trials is None:
         return 1
-    checker = Checker(toolchain, given.baseline)
+    checker = Checker(toolchain)
+    if given.sample is not None:
+        sampled = sum(it.number_sampled() for it in trials)
+        say(f"sample {given.sample}: {sampled} mutants are tried with all goals, and unchanged too")
     results = Lanes(trials, Libraries(given.log), checker).run()
     for name, seconds in checker.seconds.items():
         say(f"{name}: {len(seconds)} runs of the checker, {sum(seconds):.0f} processor seconds")

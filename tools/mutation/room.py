@@ -6,7 +6,7 @@ import re
 import shutil
 from typing import Collection, Dict, List, Sequence, Tuple
 
-from .answers import answers_of_clause, answers_of_goal, with_search
+from .answers import answers_of_clause, answers_of_goal, answers_without, with_search
 from .edit import Change
 from .mutant import NO_SEARCH, Copy, Mutant
 from .source import FUNCTION, ProofPath, Source, last_before, without_body
@@ -22,10 +22,8 @@ HOLE = "pub left_open {ℓ} : {A : Type ℓ} → A\nleft_open = ?\n"
 
 
 class Room:
-    def __init__(
-        self, folder: pathlib.Path, source: Source, parts: Sequence[str], is_baseline: bool
-    ) -> None:
-        self.folder, self.source, self.is_baseline = folder, source, is_baseline
+    def __init__(self, folder: pathlib.Path, source: Source, parts: Sequence[str]) -> None:
+        self.folder, self.source = folder, source
         for part in parts:
             if (source.folder / part).is_dir():
                 shutil.copytree(source.folder / part, folder / part)
@@ -51,8 +49,9 @@ class Room:
         by_goal = [it for it in in_place if it.goal]
         self.add_copies(copies)
         self.change_in_place(in_place, by_goal)
-        for mutant in by_goal:
-            self.cut_answers(mutant)
+        for mutant in in_place:
+            if mutant.goal or mutant.without:
+                self.cut_answers(mutant)
         for mutant in copies:
             self.fill_place(mutant)
         self.leave_open(only)
@@ -81,20 +80,25 @@ class Room:
             text = old_module.sub(f"{'.'.join(target)}.", text)
             if mutant.clause:
                 text = answers_of_clause(text, mutant.clause)
-            if mutant.goal and name == "Answers.antt":
+            if name == "Answers.antt":
                 text = self.answers_for(mutant, target, text)
             file = "/".join(("proofs", *target, name))
             self.write(file, old_name.sub(f"{copy.name}_spec", text))
 
     def cut_answers(self, mutant: Mutant) -> None:
-        """Leaves the answers to the goal that a mutant names, which is tried in its place."""
-        path = self.source.proofs[next(iter(mutant.functions))]
-        file = "/".join(("proofs", *path, "Answers.antt"))
-        self.write(file, self.answers_for(mutant, path, self.read(file)))
+        """Leaves the answers that a mutant asks for, which is tried in its place."""
+        path = self.source.proofs.get(next(iter(mutant.functions)))
+        file = "/".join(("proofs", *(path or ()), "Answers.antt"))
+        if path and (mutant.goal or self.read(file)):
+            self.write(file, self.answers_for(mutant, path, self.read(file)))
 
     def answers_for(self, mutant: Mutant, path: ProofPath, text: str) -> str:
-        """The answers to the mutant's goal, of the proof with this path."""
-        text, has_own = answers_of_goal(text, mutant.goal or "")
+        """The answers that the mutant asks for, of the proof with this path."""
+        if mutant.without:
+            text = answers_without(text, mutant.without)
+        if not mutant.goal:
+            return text
+        text, has_own = answers_of_goal(text, mutant.goal)
         goals = ".".join(("Rattle", self.source.crate, "proofs", *path, "Goals"))
         return text if has_own else with_search(text, goals, mutant)
 
@@ -107,9 +111,9 @@ class Room:
             for change in mutant.changes:
                 at = self.read(change.file).find(change.old)
                 if at == -1:  # it replaces what an earlier change of the same mutant puts there
-                    later.append(change)
+                    later += [] if mutant.is_unchanged else [change]
                     continue
-                new = change.old if self.is_baseline else change.new
+                new = change.old if mutant.is_unchanged else change.new
                 parts.setdefault(change.file, []).append((at, at + len(change.old), new))
             if mutant in by_goal:
                 parts[mutant.changes[0].file].append(self.no_search_at(mutant.changes[0]))
@@ -118,7 +122,7 @@ class Room:
             for begin, end, new in sorted(places, reverse=True):
                 text = text[:begin] + new + text[end:]
             for change in later:
-                if change.file == file and not self.is_baseline:
+                if change.file == file:
                     text = text.replace(change.old, change.new)
             self.write(file, text)
 

@@ -75,6 +75,11 @@ def with_one_clause(text: str, name: str) -> Optional[str]:
     return text if any(it[1] == name for it in clauses) else None
 
 
+def declared_in(text: str) -> Set[str]:
+    """The names of the answers in a proof: what it declares for all to use."""
+    return {*re.findall(r"^(?:abbrev |unfoldable )?pub (?!use |mod )(\S+)", text, re.M)}
+
+
 def without_body(text: str, start: Match[str]) -> str:
     """The text, where the function that starts here has a body that never ends."""
     indent = start[1]
@@ -176,6 +181,12 @@ class Source:
         close = f"\n{start[1]}}}\n"
         end = text.find(close, start.end()) + len(close)
         return Span(name, file, begin, end) if begin <= at <= end else None
+
+    def answers_of(self, function: str) -> Set[str]:
+        """The goals of this function that have an answer by hand."""
+        path = self.proofs.get(function)
+        file = self.folder.joinpath("proofs", *(path or ()), "Answers.antt")
+        return declared_in(file.read_text(encoding="utf-8")) if path and file.is_file() else set()
 
     def next_copy_of(self, function: str) -> str:
         """A name for one more copy of this function."""

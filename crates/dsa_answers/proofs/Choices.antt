@@ -56,7 +56,7 @@ fronts w e q p (Some f) (Some g) n m may might = λ same.
     ap ticket_of_entry (same_Some f g (sym n ∙ ap (front_of w) same ∙ m))
 
 -- where a queue qualifies, nothing may not be chosen
-not-idle : (w : Work) (e q : ℕ) {X : Type 0} → qualifies w e q ≡ true → may_leave w e nothing ≡ true → X
+pub not-idle : (w : Work) (e q : ℕ) {X : Type 0} → qualifies w e q ≡ true → may_leave w e nothing ≡ true → X
 not-idle w e q may none =
     let below : q < w.setup.caps.queues = ltb-true q w.setup.caps.queues (and_parts _ _ (and_parts _ _ may).0).1 in
     not-both (list_any (qualifies w e) (numbers_below w.setup.caps.queues))

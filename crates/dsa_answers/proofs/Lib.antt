@@ -1,3 +1,10 @@
 pub mod Choices
 pub mod Stops
 pub mod Writes
+pub mod Bare
+pub mod BareWork
+pub mod Named
+pub mod Shown
+pub mod ShownCommands
+pub mod Alike
+pub mod Given

@@ -1,3 +1,4 @@
 pub mod Choices
 pub mod Stops
 pub mod Writes
+pub mod Alike

@@ -21,6 +21,8 @@ use Rattle.dsa_book.specs.declared.event.Step.{Step}
 use Rattle.dsa_book.specs.declared.fate.{Fate.{Fate, TheVariants.{Completed, Aborted, Abandoned}}, FateRow.{FateRow}}
 use Rattle.dsa_c.specs.declared.answer.{AnswerKind.{AnswerKind}, Answer.{Answer}, Ending.{Ending}}
 use Rattle.dsa_c.specs.declared.answer.AnswerKind.TheVariants as kind
+use Rattle.dsa_c.specs.declared.numbers.TheConstants.{AT_LIMIT, NOT_ENABLED, WRONG_KIND, NOT_ENDED, COMPLETED, ABORTED}
+use Rattle.dsa_c.specs.declared.numbers.TheConstants.{BEHIND_FENCE}
 
 -- the number of each kind of answer (enum dsa_kind of the header)
 abbrev pub kind_number : AnswerKind → ℕ
@@ -60,9 +62,9 @@ of_ticket kind ticket more =
     record { kind = kind_number kind; name = ticket.name; cell = ticket.cell.0; more = more }
 
 abbrev pub cause_number : Cause → ℕ
-cause_number AtLimit = 1
-cause_number NotEnabled = 2
-cause_number WrongKind = 3
+cause_number AtLimit = AT_LIMIT
+cause_number NotEnabled = NOT_ENABLED
+cause_number WrongKind = WRONG_KIND
 
 abbrev pub bit_number : Bool → ℕ
 bit_number true = 1
@@ -131,12 +133,11 @@ abbrev pub noted_answer : Option NotedError → Answer
 noted_answer None = plain kind.Nothing 0
 noted_answer (Some noted) = of_noted noted
 
--- how an entry ended: the kind is 1 with a status, 2 with the number of a command, 3 behind a
--- fence, and 0 where it has not ended
+-- how an entry ended: with a status, by a command, or behind a fence
 abbrev pub fate_kind : Fate → ℕ
-fate_kind (Completed status) = 1
-fate_kind (Aborted command) = 2
-fate_kind Abandoned = 3
+fate_kind (Completed status) = COMPLETED
+fate_kind (Aborted command) = ABORTED
+fate_kind Abandoned = BEHIND_FENCE
 
 abbrev pub fate_number : Fate → ℕ
 fate_number (Completed status) = status
@@ -149,7 +150,7 @@ parent_number None = 4294967295
 parent_number (Some name) = name
 
 abbrev pub ending_of : Option FateRow → Ending
-ending_of None = record { kind = 0; name = 0; parent = 0; number = 0 }
+ending_of None = record { kind = NOT_ENDED; name = 0; parent = 0; number = 0 }
 ending_of (Some row) = record {
   kind = fate_kind row.fate;
   name = row.name;

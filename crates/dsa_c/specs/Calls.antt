@@ -1,6 +1,6 @@
 -- What the calls do to the device behind a handle.
 use Rattle.dsa_book.specs.declared.event.Event.TheVariants as event
-use Rattle.std.specs.Prelude.{◌≡◌, ℕ, ◌^◌, ◌-◌, Bool, true, false, ◌==◌, cond, List, slice_get, Option, None, Some}
+use Rattle.std.specs.Prelude.{◌≡◌, ℕ, Bool, true, false, ◌==◌, cond, List, slice_get, Option, None, Some}
 use Rattle.std.specs.Prelude.{IsSomeAnd, option_map, Result, Ok, Err}
 use Rattle.dsa_desc.specs.declared.{Outcome.{Outcome, TheVariants.{Success, PageFault}}, Descriptor.{Descriptor}}
 use Rattle.dsa_desc.specs.declared.QueueLimits.{QueueLimits}
@@ -13,10 +13,14 @@ use Rattle.dsa_book.specs.declared.event.Portal.{Portal, TheVariants.{Limited, U
 use Rattle.dsa_device.specs.declared.faults.MakeFault.{MakeFault}
 use Rattle.dsa_device.specs.declared.faults.MakeFault.TheVariants.{BadCaps, BadCapacity, BadStore, OutOfMemory}
 use Rattle.dsa_device.specs.Running.{Running, after_answer}
-use Rattle.dsa_c.specs.declared.{answer.Answer.{Answer}, words.DeviceLimits.{DeviceLimits}}
+use Rattle.dsa_book.specs.declared.fate.FateRow.{FateRow}
+use Rattle.dsa_c.specs.declared.{answer.{Answer.{Answer}, Ending.{Ending}}, words.DeviceLimits.{DeviceLimits}}
 use Rattle.dsa_c.specs.declared.steps.{DeviceQueue.{DeviceQueue}, DeviceGroup.{DeviceGroup}}
 use Rattle.dsa_c.specs.Answers.{answer_of, no_device, bad_argument, refusal_answer, noted_answer, step_answer}
+use Rattle.dsa_c.specs.Answers.{ending_of}
 use Rattle.dsa_c.specs.Place.{HeldDevice}
+use Rattle.dsa_c.specs.declared.numbers.TheConstants.{LIMITED, UNLIMITED, SUCCESS, PAGE_FAULT, BAD_CAPS, BAD_CAPACITY, BAD_STORE}
+use Rattle.dsa_c.specs.declared.numbers.TheConstants.{OUT_OF_MEMORY, NONE}
 
 -- the device behind a handle made exactly this step, and the answer is its reply's; a handle of no device stays one
 abbrev pub IsStep : HeldDevice → Event → Answer → HeldDevice → Type 0
@@ -38,10 +42,10 @@ IsIssue (Err fault) before answer after = (answer ≡ refusal_answer fault) × (
 -- ---- numbers of arguments
 
 abbrev pub portal_from_c : ℕ → Option Portal
-portal_from_c number = cond (number == 0) (Some Limited) (cond (number == 1) (Some Unlimited) None)
+portal_from_c number = cond (number == LIMITED) (Some Limited) (cond (number == UNLIMITED) (Some Unlimited) None)
 
 abbrev pub outcome_from_c : ℕ → Option Outcome
-outcome_from_c number = cond (number == 0) (Some Success) (cond (number == 1) (Some PageFault) None)
+outcome_from_c number = cond (number == SUCCESS) (Some Success) (cond (number == PAGE_FAULT) (Some PageFault) None)
 
 abbrev pub bit_of : ℕ → Option Bool
 bit_of number = cond (number == 0) (Some false) (cond (number == 1) (Some true) None)
@@ -85,36 +89,48 @@ queue_write queue config = option_map (λ dedicated. event.WriteQueue queue (que
 
 -- the number of a fault that kept a device from being opened
 abbrev pub opening_number : MakeFault → ℕ
-opening_number BadCaps = 1
-opening_number BadCapacity = 2
-opening_number BadStore = 3
-opening_number OutOfMemory = 4
+opening_number BadCaps = BAD_CAPS
+opening_number BadCapacity = BAD_CAPACITY
+opening_number BadStore = BAD_STORE
+opening_number OutOfMemory = OUT_OF_MEMORY
 
 -- ---- reads
 
--- a number that may not be there: the largest number of 64 bits where it is not
+-- a read of what lies behind a handle, which stays as it was
+abbrev pub IsReadAs : {X : Type 0} → (HeldDevice → X) → HeldDevice → X → HeldDevice → Type 0
+IsReadAs read before answer after = (answer ≡ read before) × (after ≡ before)
+
+-- a number that may not be there
 abbrev pub or_none : Option ℕ → ℕ
-or_none None = 2 ^ 64 - 1
+or_none None = NONE
 or_none (Some number) = number
 
--- what the device behind a handle says, where there is one
-abbrev pub asked : {X : Type 0} → HeldDevice → (Running → X) → Option X
-asked before f = option_map (λ machine. f machine.device) before
+-- what the device behind a handle says, where there is one and it is not silent
+abbrev pub asked_for : {X : Type 0} → (Running → Option X) → HeldDevice → Option X
+asked_for f None = None
+asked_for f (Some machine) = f machine.device
+
+-- the number that it says
+abbrev pub number_told_for : (Running → Option ℕ) → HeldDevice → ℕ
+number_told_for f before = or_none (asked_for f before)
+
+-- the number that each device says
+abbrev pub number_told : (Running → ℕ) → HeldDevice → ℕ
+number_told f = number_told_for (λ d. Some (f d))
+
+-- the row that it says, or that there is none
+abbrev pub ending_for : (Running → Option FateRow) → HeldDevice → Ending
+ending_for f before = ending_of (asked_for f before)
 
 -- the noted error of the device behind a handle
 abbrev pub noted_of : HeldDevice → Answer
 noted_of None = no_device
 noted_of (Some machine) = noted_answer machine.device.state.work.setup.noted
 
--- the same where it may be silent
-abbrev pub asked_for : {X : Type 0} → HeldDevice → (Running → Option X) → Option X
-asked_for None f = None
-asked_for (Some machine) f = f machine.device
-
 -- the answer of the stored step at a position, the first one at 0
-abbrev pub reply_at : HeldDevice → ℕ → Answer
-reply_at None position = no_device
-reply_at (Some machine) position = step_answer (slice_get machine.device.history position)
+abbrev pub reply_at : ℕ → HeldDevice → Answer
+reply_at position None = no_device
+reply_at position (Some machine) = step_answer (slice_get machine.device.history position)
 
 -- ---- descriptors
 

@@ -9,15 +9,20 @@ use Rattle.dsa_book.specs.declared.event.Kind.{Kind, TheVariants.{Enqcmd, Movdir
 use Rattle.dsa_book.specs.declared.event.Event.{Event}
 use Rattle.dsa_book.specs.declared.event.Event.TheVariants.{Submit, Dispatch, Fetch, Start, Finish, Issue, Poll}
 use Rattle.dsa_book.specs.declared.event.Event.TheVariants.{WriteQueue, WriteGroup, ClearError}
-use Rattle.dsa_c.specs.{declared.events.DeviceEvent.{DeviceEvent}, Calls.{asked_for}, Place.{HeldDevice}}
+use Rattle.dsa_device.specs.Running.{Running}
+use Rattle.dsa_c.specs.declared.events.DeviceEvent.{DeviceEvent}
+use Rattle.dsa_c.specs.declared.numbers.TheConstants.{LIMITED, UNLIMITED, SUCCESS, PAGE_FAULT}
+use Rattle.dsa_c.specs.declared.numbers.TheConstants.{EVENT_ENQCMD, EVENT_MOVDIR64B, EVENT_DISPATCH, EVENT_FETCH}
+use Rattle.dsa_c.specs.declared.numbers.TheConstants.{EVENT_START, EVENT_FINISH, EVENT_COMMAND, EVENT_POLL, EVENT_WRITE_QUEUE}
+use Rattle.dsa_c.specs.declared.numbers.TheConstants.{EVENT_WRITE_GROUP, EVENT_CLEAR_ERROR}
 
 abbrev pub portal_number : Portal → ℕ
-portal_number Limited = 0
-portal_number Unlimited = 1
+portal_number Limited = LIMITED
+portal_number Unlimited = UNLIMITED
 
 abbrev pub outcome_number : Outcome → ℕ
-outcome_number Success = 0
-outcome_number PageFault = 1
+outcome_number Success = SUCCESS
+outcome_number PageFault = PAGE_FAULT
 
 -- an event of this kind, of which nothing more is said
 abbrev pub of_kind : ℕ → DeviceEvent
@@ -47,12 +52,16 @@ abbrev pub with_descriptor : Descriptor → DeviceEvent → DeviceEvent
 with_descriptor desc event = record event { operation = desc.op; flags = desc.flags; size = desc.size }
 
 abbrev pub of_instruction : Kind → DeviceEvent
-of_instruction (Enqcmd pasid) = record (of_kind 1) { pasid = pasid }
-of_instruction Movdir64b = of_kind 2
+of_instruction (Enqcmd pasid) = record (of_kind EVENT_ENQCMD) { pasid = pasid }
+of_instruction Movdir64b = of_kind EVENT_MOVDIR64B
 
 abbrev pub of_finish : ℕ → Ticket → Outcome → DeviceEvent
 of_finish engine ticket outcome =
-    record (of_engine 6 engine) { name = ticket.name; cell = ticket.cell.0; outcome = outcome_number outcome }
+    record (of_engine EVENT_FINISH engine) {
+      name = ticket.name;
+      cell = ticket.cell.0;
+      outcome = outcome_number outcome;
+    }
 
 -- what each event of the machine is to C
 abbrev pub event_for_c : Event → DeviceEvent
@@ -62,21 +71,23 @@ event_for_c (Submit client queue portal kind desc) =
       queue = queue;
       portal = portal_number portal;
     }
-event_for_c (Dispatch engine) = of_engine 3 engine
-event_for_c (Fetch engine desc) = with_descriptor desc (of_engine 4 engine)
-event_for_c (Start engine) = of_engine 5 engine
+event_for_c (Dispatch engine) = of_engine EVENT_DISPATCH engine
+event_for_c (Fetch engine desc) = with_descriptor desc (of_engine EVENT_FETCH engine)
+event_for_c (Start engine) = of_engine EVENT_START engine
 event_for_c (Finish engine ticket outcome) = of_finish engine ticket outcome
 event_for_c (Issue command) =
-    record (of_kind 7) { command = number_of_command command; operand = operand_of_scope (scope_of command) }
-event_for_c Poll = of_kind 8
-event_for_c (WriteQueue queue config) = record (of_kind 9) { queue = queue }
-event_for_c (WriteGroup group config) = record (of_kind 10) { group = group }
-event_for_c ClearError = of_kind 11
+    record (of_kind EVENT_COMMAND) {
+      command = number_of_command command;
+      operand = operand_of_scope (scope_of command);
+    }
+event_for_c Poll = of_kind EVENT_POLL
+event_for_c (WriteQueue queue config) = record (of_kind EVENT_WRITE_QUEUE) { queue = queue }
+event_for_c (WriteGroup group config) = record (of_kind EVENT_WRITE_GROUP) { group = group }
+event_for_c ClearError = of_kind EVENT_CLEAR_ERROR
 
 -- the event of the stored step at a position, the first one at 0
-abbrev pub event_at : HeldDevice → ℕ → Option Event
-event_at before position =
-    option_map (λ step. step.event) (asked_for before (λ d. slice_get d.history position))
+abbrev pub event_at : ℕ → Running → Option Event
+event_at position d = option_map (λ step. step.event) (slice_get d.history position)
 
 -- the configuration that an event writes to a queue
 abbrev pub queue_written : Event → Option QueueConfig

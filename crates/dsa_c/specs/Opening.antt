@@ -6,6 +6,7 @@ use Rattle.dsa_device.specs.declared.faults.MakeFault.{MakeFault}
 use Rattle.dsa_device.specs.Running.{running_at_first}
 use Rattle.dsa_device.specs.Made.{opening_table, opening_fault}
 use Rattle.dsa_c.specs.{declared.opening.DeviceCaps.{DeviceCaps}, Calls.{opening_number}, Place.{HeldDevice}}
+use Rattle.dsa_c.specs.declared.numbers.TheConstants.{OPENED, ALREADY_OPEN}
 
 abbrev pub caps_from_c : DeviceCaps → Caps
 caps_from_c caps = record {
@@ -19,19 +20,18 @@ caps_from_c caps = record {
   max_xfer_shift = caps.max_xfer_shift;
 }
 
--- after an opening that ended with this number, where there was no device: an opened one exactly
--- with 0, and else none, for the first fault
+-- after an opening that ended with this number, where there was no device: an opened one, or none for the first fault
 -- that stands, or for want of memory where none does
 abbrev pub IsOpened : Caps → ℕ → ℕ → HeldDevice → Type 0
 IsOpened caps capacity number None = number ≡ opening_number (opening_fault caps capacity)
 IsOpened caps capacity number (Some machine) =
-    (number ≡ 0) × ((first_row (opening_table caps capacity) ≡ None)
+    (number ≡ OPENED) × ((first_row (opening_table caps capacity) ≡ None)
     × (machine.device ≡ running_at_first caps capacity))
 
--- a device that is open stays as it is, and 5 says so
+-- a device that is open stays as it is, and the number says so
 abbrev pub IsOpening : HeldDevice → Caps → ℕ → ℕ → HeldDevice → Type 0
 IsOpening None caps capacity number after = IsOpened caps capacity number after
-IsOpening (Some machine) caps capacity number after = (number ≡ 5) × (after ≡ Some machine)
+IsOpening (Some machine) caps capacity number after = (number ≡ ALREADY_OPEN) × (after ≡ Some machine)
 
 -- the bytes of a device with its store and its book, where nothing keeps it from being opened: a
 -- store has one list more than the device, for its free cells

@@ -10,16 +10,23 @@ use Rattle.dsa_book.specs.declared.note.BatchNote.{BatchNote}
 use Rattle.dsa_device.specs.Running.{Running}
 use Rattle.dsa_c.specs.declared.steps.{DeviceQueue.{DeviceQueue}, DeviceGroup.{DeviceGroup}}
 use Rattle.dsa_c.specs.declared.standing.{DeviceEntry.{DeviceEntry}, DeviceBatch.{DeviceBatch}}
-use Rattle.dsa_c.specs.{Answers.{bit_number, parent_number}, Place.{HeldDevice}}
+use Rattle.dsa_c.specs.{Answers.{bit_number, parent_number}, Calls.{asked_for}, Place.{HeldDevice}}
+use Rattle.dsa_c.specs.declared.numbers.TheConstants.{OFF, ON, STOPPING}
 
 -- 1 where there is something to read, and it is written in C's form; 0 where there is not, and nothing is written
 abbrev pub IsWrittenForC : {X Y : Type 0} → (X → Y) → Option X → ℕ → Y → Y → Type 0
 IsWrittenForC form None said before after = (said ≡ 0) × (after ≡ before)
 IsWrittenForC form (Some x) said before after = (said ≡ 1) × (after ≡ form x)
 
+-- a read of what the device says, where there is one, that writes it so; the device stays as it was
+abbrev pub IsReadForC
+    : {X Y : Type 0} → (X → Y) → (Running → Option X) → HeldDevice → ℕ → Y → Y → HeldDevice → Type 0
+IsReadForC form f held said before after held_after =
+    IsWrittenForC form (asked_for f held) said before after × (held_after ≡ held)
+
 -- whether there is a device behind the handle, and it passes
-abbrev pub bit_asked : HeldDevice → (Running → Bool) → ℕ
-bit_asked before test = bit_number (passes (λ machine. test machine.device) before)
+abbrev pub bit_asked : (Running → Bool) → HeldDevice → ℕ
+bit_asked test before = bit_number (passes (λ machine. test machine.device) before)
 
 -- the entries of a list, where the device has such a list
 abbrev pub entries_of_list_for_c : Running → ListUse → Option (List HeldEntry)
@@ -28,9 +35,9 @@ entries_of_list_for_c d (Progress engine) = when (nat_lt engine d.caps.engines) 
 entries_of_list_for_c d (Members engine) = when (nat_lt engine d.caps.engines) (members d.state.work engine)
 
 abbrev pub phase_number : Phase → ℕ
-phase_number Off = 0
-phase_number On = 1
-phase_number Stopping = 2
+phase_number Off = OFF
+phase_number On = ON
+phase_number Stopping = STOPPING
 
 abbrev pub queue_for_c : QueueConfig → DeviceQueue
 queue_for_c config = record {

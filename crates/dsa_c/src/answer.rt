@@ -7,6 +7,9 @@ ghost use Rattle.dsa_c.specs.Answers.{no_device, bad_argument, refusal_answer, a
 ghost use Rattle.dsa_c.specs.Answers.{noted_answer, fate_kind, fate_number, parent_number};
 ghost use Rattle.dsa_c.specs.Answers.{ending_of};
 
+use crate::numbers::{
+    ABORTED, AT_LIMIT, BEHIND_FENCE, COMPLETED, NOT_ENABLED, NOT_ENDED, WRONG_KIND,
+};
 use dsa_book::{
     Cause, ClearAnswer, DispatchAnswer, Fate, FateRow, FetchAnswer, FinishAnswer, IssueAnswer,
     NotedError, PollAnswer, Reply, StartAnswer, Step, SubmitAnswer, Ticket, WriteAnswer,
@@ -67,9 +70,9 @@ fn cause_number(cause: Cause) -> u32
     ensures { result ≡ cause_number cause }
 {
     match cause {
-        Cause::AtLimit => 1,
-        Cause::NotEnabled => 2,
-        Cause::WrongKind => 3,
+        Cause::AtLimit => AT_LIMIT,
+        Cause::NotEnabled => NOT_ENABLED,
+        Cause::WrongKind => WRONG_KIND,
     }
 }
 
@@ -292,16 +295,16 @@ impl Ending {
     {
         let Some(row) = row else {
             return Ending {
-                kind: 0,
+                kind: NOT_ENDED,
                 name: 0,
                 parent: 0,
                 number: 0,
             };
         };
         let (kind, number) = match row.fate {
-            Fate::Completed(status) => (1, u32::from(status)),
-            Fate::Aborted(command) => (2, u32::from(command)),
-            Fate::Abandoned => (3, 0),
+            Fate::Completed(status) => (COMPLETED, u32::from(status)),
+            Fate::Aborted(command) => (ABORTED, u32::from(command)),
+            Fate::Abandoned => (BEHIND_FENCE, 0),
         };
         Ending {
             kind,

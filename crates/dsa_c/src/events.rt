@@ -1,12 +1,18 @@
 //! The events of the history as numbers.
 
 ghost use Rattle.std.specs.Prelude.{◌≡◌, option_and_then};
-ghost use Rattle.dsa_c.specs.Reads.{IsWrittenForC, queue_for_c, group_for_c};
+ghost use Rattle.dsa_c.specs.Calls.{IsReadAs, asked_for};
+ghost use Rattle.dsa_c.specs.Reads.{IsReadForC, queue_for_c, group_for_c};
 ghost use Rattle.dsa_c.specs.Events.{portal_number, outcome_number, of_kind, of_engine};
 ghost use Rattle.dsa_c.specs.Events.{with_descriptor, of_instruction, of_finish, event_for_c};
 ghost use Rattle.dsa_c.specs.Events.{event_at, queue_written, group_written};
 
 use crate::handle::{Handle, let_device};
+use crate::numbers::{
+    EVENT_CLEAR_ERROR, EVENT_COMMAND, EVENT_DISPATCH, EVENT_ENQCMD, EVENT_FETCH, EVENT_FINISH,
+    EVENT_MOVDIR64B, EVENT_POLL, EVENT_START, EVENT_WRITE_GROUP, EVENT_WRITE_QUEUE, LIMITED,
+    PAGE_FAULT, SUCCESS, UNLIMITED,
+};
 use crate::standing::{write_group, write_queue};
 use crate::steps::{DeviceGroup, DeviceQueue};
 use dsa_book::{Event, Kind, Portal, Ticket};
@@ -38,8 +44,8 @@ fn portal_number(portal: Portal) -> u8
     ensures { result ≡ portal_number portal }
 {
     match portal {
-        Portal::Limited => 0,
-        Portal::Unlimited => 1,
+        Portal::Limited => LIMITED as u8,
+        Portal::Unlimited => UNLIMITED as u8,
     }
 }
 
@@ -47,8 +53,8 @@ fn outcome_number(outcome: Outcome) -> u8
     ensures { result ≡ outcome_number outcome }
 {
     match outcome {
-        Outcome::Success => 0,
-        Outcome::PageFault => 1,
+        Outcome::Success => SUCCESS as u8,
+        Outcome::PageFault => PAGE_FAULT as u8,
     }
 }
 
@@ -100,9 +106,9 @@ fn of_instruction(kind: Kind) -> DeviceEvent
     match kind {
         Kind::Enqcmd { pasid } => DeviceEvent {
             pasid,
-            ..of_kind(1)
+            ..of_kind(EVENT_ENQCMD)
         },
-        Kind::Movdir64b => of_kind(2),
+        Kind::Movdir64b => of_kind(EVENT_MOVDIR64B),
     }
 }
 
@@ -113,7 +119,7 @@ fn of_finish(engine: u16, ticket: Ticket, outcome: Outcome) -> DeviceEvent
         name: ticket.name,
         cell: ticket.cell.0,
         outcome: outcome_number(outcome),
-        ..of_engine(6, engine)
+        ..of_engine(EVENT_FINISH, engine)
     }
 }
 
@@ -133,9 +139,9 @@ fn event_for_c(event: Event) -> DeviceEvent
             portal: portal_number(portal),
             ..with_descriptor(desc, of_instruction(kind))
         },
-        Event::Dispatch { engine } => of_engine(3, engine),
-        Event::Fetch { engine, desc } => with_descriptor(desc, of_engine(4, engine)),
-        Event::Start { engine } => of_engine(5, engine),
+        Event::Dispatch { engine } => of_engine(EVENT_DISPATCH, engine),
+        Event::Fetch { engine, desc } => with_descriptor(desc, of_engine(EVENT_FETCH, engine)),
+        Event::Start { engine } => of_engine(EVENT_START, engine),
         Event::Finish {
             engine,
             ticket,
@@ -144,18 +150,18 @@ fn event_for_c(event: Event) -> DeviceEvent
         Event::Issue { command } => DeviceEvent {
             command: command.number(),
             operand: command.scope().operand(),
-            ..of_kind(7)
+            ..of_kind(EVENT_COMMAND)
         },
-        Event::Poll => of_kind(8),
+        Event::Poll => of_kind(EVENT_POLL),
         Event::WriteQueue { queue, .. } => DeviceEvent {
             queue,
-            ..of_kind(9)
+            ..of_kind(EVENT_WRITE_QUEUE)
         },
         Event::WriteGroup { group, .. } => DeviceEvent {
             group,
-            ..of_kind(10)
+            ..of_kind(EVENT_WRITE_GROUP)
         },
-        Event::ClearError => of_kind(11),
+        Event::ClearError => of_kind(EVENT_CLEAR_ERROR),
     }
 }
 
@@ -179,8 +185,8 @@ fn group_written(event: Event) -> Option<GroupConfig>
 
 // The event of the stored step at this position.
 fn event_at(handle: &mut Handle, position: u64) -> Option<Event>
-    ensures value { result ≡ event_at handle.old.place.machine position }
-    ensures same { handle.new.place.machine ≡ handle.old.place.machine }
+    ensures { IsReadAs (asked_for (event_at position))
+        handle.old.place.machine result handle.new.place.machine }
 {
     let_device!(device, handle, None);
     let step = device.history().get(position as usize).copied();
@@ -194,9 +200,8 @@ pub extern "C" fn dsa_history_event(
     position: u64,
     event: &mut DeviceEvent,
 ) -> u32
-    ensures value { IsWrittenForC event_for_c (event_at handle.old.place.machine position)
-        result event.old event.new }
-    ensures same { handle.new.place.machine ≡ handle.old.place.machine }
+    ensures { IsReadForC event_for_c (event_at position)
+        handle.old.place.machine result event.old event.new handle.new.place.machine }
 {
     let Some(found) = event_at(handle, position) else {
         return 0;
@@ -212,10 +217,8 @@ pub extern "C" fn dsa_history_queue_config(
     position: u64,
     config: &mut DeviceQueue,
 ) -> u32
-    ensures value { IsWrittenForC queue_for_c
-        (option_and_then queue_written (event_at handle.old.place.machine position))
-        result config.old config.new }
-    ensures same { handle.new.place.machine ≡ handle.old.place.machine }
+    ensures { IsReadForC queue_for_c (λ d. option_and_then queue_written (event_at position d))
+        handle.old.place.machine result config.old config.new handle.new.place.machine }
 {
     let written = event_at(handle, position).and_then(|event| queue_written(event));
     write_queue(written, config)
@@ -228,10 +231,8 @@ pub extern "C" fn dsa_history_group_config(
     position: u64,
     config: &mut DeviceGroup,
 ) -> u32
-    ensures value { IsWrittenForC group_for_c
-        (option_and_then group_written (event_at handle.old.place.machine position))
-        result config.old config.new }
-    ensures same { handle.new.place.machine ≡ handle.old.place.machine }
+    ensures { IsReadForC group_for_c (λ d. option_and_then group_written (event_at position d))
+        handle.old.place.machine result config.old config.new handle.new.place.machine }
 {
     let written = event_at(handle, position).and_then(|event| group_written(event));
     write_group(written, config)

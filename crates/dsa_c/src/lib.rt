@@ -5,6 +5,7 @@
 mod answer;
 mod events;
 mod handle;
+mod numbers;
 mod opening;
 mod place;
 mod reads;

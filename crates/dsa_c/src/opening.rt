@@ -7,6 +7,7 @@ ghost use Rattle.dsa_c.specs.Opening.{IsOpening, caps_from_c, bytes_taken};
 ghost use Rattle.dsa_c.specs.Calls.{opening_number};
 
 use crate::handle::Handle;
+use crate::numbers::{ALREADY_OPEN, BAD_CAPACITY, BAD_CAPS, BAD_STORE, OPENED, OUT_OF_MEMORY};
 use dsa_book::{FateRow, Step};
 use dsa_device::{MakeFault, check_opening};
 use dsa_linked::LinkedDevice;
@@ -46,10 +47,10 @@ fn fault_number(fault: MakeFault) -> u32
     ensures { result ≡ opening_number fault }
 {
     match fault {
-        MakeFault::BadCaps => 1,
-        MakeFault::BadCapacity => 2,
-        MakeFault::BadStore => 3,
-        MakeFault::OutOfMemory => 4,
+        MakeFault::BadCaps => BAD_CAPS,
+        MakeFault::BadCapacity => BAD_CAPACITY,
+        MakeFault::BadStore => BAD_STORE,
+        MakeFault::OutOfMemory => OUT_OF_MEMORY,
     }
 }
 
@@ -96,17 +97,17 @@ pub extern "C" fn dsa_open(
         result handle.new.place.machine }
 {
     if handle.holds {
-        return 5;
+        return ALREADY_OPEN;
     }
     let machine = match LinkedDevice::new(alloc, caps_of(caps), capacity) {
         Ok(machine) => machine,
         Err(fault) => return fault_number(fault),
     };
     let Ok(machine) = Box::new(alloc, machine) else {
-        return 4;
+        return OUT_OF_MEMORY;
     };
     handle.put(machine);
-    0
+    OPENED
 }
 
 /// Closes the device behind a handle, and frees what it took. A handle of no device stays one.

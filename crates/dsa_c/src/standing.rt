@@ -8,12 +8,14 @@ ghost use Rattle.dsa_store.specs.Content.{chain};
 ghost use Rattle.dsa_book.specs.State.{phase_at};
 ghost use Rattle.dsa_book.specs.Work.{in_progress, members, note_at};
 ghost use Rattle.dsa_device.specs.Reads.{awaited, is_held, entry_at};
-ghost use Rattle.dsa_c.specs.Calls.{asked, asked_for, or_none};
-ghost use Rattle.dsa_c.specs.Reads.{IsWrittenForC, bit_asked, phase_number, entries_of_list_for_c, queue_for_c};
+ghost use Rattle.dsa_c.specs.Calls.{IsReadAs, number_told, number_told_for};
+ghost use Rattle.dsa_c.specs.Reads.{IsWrittenForC, IsReadForC, bit_asked, phase_number, entries_of_list_for_c};
+ghost use Rattle.dsa_c.specs.Reads.{queue_for_c};
 ghost use Rattle.dsa_c.specs.Reads.{group_for_c, entry_for_c, batch_for_c};
 ghost use Rattle.dsa_c.specs.Answers.{bit_number};
 
 use crate::handle::{Handle, let_device};
+use crate::numbers::{NONE, OFF, ON, STOPPING};
 use crate::reads::or_none;
 use crate::steps::{DeviceGroup, DeviceQueue};
 use dsa_book::{BatchNote, Ticket};
@@ -50,9 +52,9 @@ fn phase_number(phase: Phase) -> u64
     ensures { result ≡ phase_number phase }
 {
     match phase {
-        Phase::Off => 0,
-        Phase::On => 1,
-        Phase::Stopping => 2,
+        Phase::Off => OFF,
+        Phase::On => ON,
+        Phase::Stopping => STOPPING,
     }
 }
 
@@ -133,10 +135,8 @@ fn entry_for_c(cell: Cell, entry: &Entry) -> DeviceEntry
 
 // Writes the entry at this place of one of the device's lists, where there is one.
 fn write_entry(handle: &mut Handle, list: ListUse, place: u64, entry: &mut DeviceEntry) -> u32
-    ensures value { IsWrittenForC entry_for_c
-        (asked_for handle.old.place.machine (λ d. entry_at (entries_of_list_for_c d list) place))
-        result entry.old entry.new }
-    ensures same { handle.new.place.machine ≡ handle.old.place.machine }
+    ensures { IsReadForC entry_for_c (λ d. entry_at (entries_of_list_for_c d list) place)
+        handle.old.place.machine result entry.old entry.new handle.new.place.machine }
 {
     let_device!(device, handle, 0);
     let pair = match list {
@@ -154,33 +154,30 @@ fn write_entry(handle: &mut Handle, list: ListUse, place: u64, entry: &mut Devic
 /// The phase of the device.
 #[unsafe(no_mangle)]
 pub extern "C" fn dsa_phase(handle: &mut Handle) -> u64
-    ensures value { result ≡ or_none
-        (asked handle.old.place.machine (λ d. phase_number d.state.work.setup.device)) }
-    ensures same { handle.new.place.machine ≡ handle.old.place.machine }
+    ensures { IsReadAs (number_told (λ d. phase_number d.state.work.setup.device))
+        handle.old.place.machine result handle.new.place.machine }
 {
-    let_device!(device, handle, or_none(None));
+    let_device!(device, handle, NONE);
     phase_number(device.phase())
 }
 
 /// The phase of the queue.
 #[unsafe(no_mangle)]
 pub extern "C" fn dsa_queue_phase(handle: &mut Handle, queue: u16) -> u64
-    ensures value { result ≡ or_none (asked_for handle.old.place.machine
-        (λ d. when (nat_lt queue d.caps.queues)
-        (phase_number (phase_at d.state.work.setup queue)))) }
-    ensures same { handle.new.place.machine ≡ handle.old.place.machine }
+    ensures { IsReadAs (number_told_for (λ d. when (nat_lt queue d.caps.queues)
+        (phase_number (phase_at d.state.work.setup queue))))
+        handle.old.place.machine result handle.new.place.machine }
 {
-    let_device!(device, handle, or_none(None));
+    let_device!(device, handle, NONE);
     or_none(device.queue_phase(queue).map(phase_number))
 }
 
 /// The configuration of the queue.
 #[unsafe(no_mangle)]
 pub extern "C" fn dsa_queue_config(handle: &mut Handle, queue: u16, config: &mut DeviceQueue) -> u32
-    ensures value { IsWrittenForC queue_for_c (asked_for handle.old.place.machine
-        (λ d. when (nat_lt queue d.caps.queues) (queue_at d.state.work.setup.configs queue)))
-        result config.old config.new }
-    ensures same { handle.new.place.machine ≡ handle.old.place.machine }
+    ensures { IsReadForC queue_for_c
+        (λ d. when (nat_lt queue d.caps.queues) (queue_at d.state.work.setup.configs queue))
+        handle.old.place.machine result config.old config.new handle.new.place.machine }
 {
     let_device!(device, handle, 0);
     write_queue(device.queue_config(queue), config)
@@ -189,10 +186,9 @@ pub extern "C" fn dsa_queue_config(handle: &mut Handle, queue: u16, config: &mut
 /// The configuration of the group.
 #[unsafe(no_mangle)]
 pub extern "C" fn dsa_group_config(handle: &mut Handle, group: u16, config: &mut DeviceGroup) -> u32
-    ensures value { IsWrittenForC group_for_c (asked_for handle.old.place.machine
-        (λ d. when (nat_lt group d.caps.groups) (group_at d.state.work.setup.groups group)))
-        result config.old config.new }
-    ensures same { handle.new.place.machine ≡ handle.old.place.machine }
+    ensures { IsReadForC group_for_c
+        (λ d. when (nat_lt group d.caps.groups) (group_at d.state.work.setup.groups group))
+        handle.old.place.machine result config.old config.new handle.new.place.machine }
 {
     let_device!(device, handle, 0);
     write_group(device.group_config(group), config)
@@ -201,22 +197,22 @@ pub extern "C" fn dsa_group_config(handle: &mut Handle, group: u16, config: &mut
 /// The number of submitted entries that the engine has in progress.
 #[unsafe(no_mangle)]
 pub extern "C" fn dsa_in_progress(handle: &mut Handle, engine: u16) -> u64
-    ensures value { result ≡ or_none (asked_for handle.old.place.machine
-        (λ d. when (nat_lt engine d.caps.engines) (length (in_progress d.state.work engine)))) }
-    ensures same { handle.new.place.machine ≡ handle.old.place.machine }
+    ensures { IsReadAs (number_told_for
+        (λ d. when (nat_lt engine d.caps.engines) (length (in_progress d.state.work engine))))
+        handle.old.place.machine result handle.new.place.machine }
 {
-    let_device!(device, handle, or_none(None));
+    let_device!(device, handle, NONE);
     or_none(device.in_progress_count(engine).map(u64::from))
 }
 
 /// The number of members of the engine's batch that have not ended.
 #[unsafe(no_mangle)]
 pub extern "C" fn dsa_members(handle: &mut Handle, engine: u16) -> u64
-    ensures value { result ≡ or_none (asked_for handle.old.place.machine
-        (λ d. when (nat_lt engine d.caps.engines) (length (members d.state.work engine)))) }
-    ensures same { handle.new.place.machine ≡ handle.old.place.machine }
+    ensures { IsReadAs (number_told_for
+        (λ d. when (nat_lt engine d.caps.engines) (length (members d.state.work engine))))
+        handle.old.place.machine result handle.new.place.machine }
 {
-    let_device!(device, handle, or_none(None));
+    let_device!(device, handle, NONE);
     or_none(device.member_count(engine).map(u64::from))
 }
 
@@ -228,12 +224,9 @@ pub extern "C" fn dsa_waiting_at(
     place: u64,
     entry: &mut DeviceEntry,
 ) -> u32
-    ensures value { IsWrittenForC entry_for_c
-        (asked_for handle.old.place.machine
-        (λ d. entry_at
-        (when (nat_lt queue d.caps.queues) (chain d.state.work.content queue)) place))
-        result entry.old entry.new }
-    ensures same { handle.new.place.machine ≡ handle.old.place.machine }
+    ensures { IsReadForC entry_for_c (λ d. entry_at
+        (when (nat_lt queue d.caps.queues) (chain d.state.work.content queue)) place)
+        handle.old.place.machine result entry.old entry.new handle.new.place.machine }
 {
     write_entry(handle, ListUse::Queue(queue), place, entry)
 }
@@ -247,11 +240,9 @@ pub extern "C" fn dsa_in_progress_at(
     place: u64,
     entry: &mut DeviceEntry,
 ) -> u32
-    ensures value { IsWrittenForC entry_for_c (asked_for handle.old.place.machine
-        (λ d. entry_at (when (nat_lt engine d.caps.engines) (in_progress d.state.work engine))
-        place))
-        result entry.old entry.new }
-    ensures same { handle.new.place.machine ≡ handle.old.place.machine }
+    ensures { IsReadForC entry_for_c (λ d. entry_at
+        (when (nat_lt engine d.caps.engines) (in_progress d.state.work engine)) place)
+        handle.old.place.machine result entry.old entry.new handle.new.place.machine }
 {
     write_entry(handle, ListUse::Progress(engine), place, entry)
 }
@@ -265,10 +256,9 @@ pub extern "C" fn dsa_member_at(
     place: u64,
     entry: &mut DeviceEntry,
 ) -> u32
-    ensures value { IsWrittenForC entry_for_c (asked_for handle.old.place.machine
-        (λ d. entry_at (when (nat_lt engine d.caps.engines) (members d.state.work engine)) place))
-        result entry.old entry.new }
-    ensures same { handle.new.place.machine ≡ handle.old.place.machine }
+    ensures { IsReadForC entry_for_c (λ d. entry_at
+        (when (nat_lt engine d.caps.engines) (members d.state.work engine)) place)
+        handle.old.place.machine result entry.old entry.new handle.new.place.machine }
 {
     write_entry(handle, ListUse::Members(engine), place, entry)
 }
@@ -276,10 +266,8 @@ pub extern "C" fn dsa_member_at(
 /// What is noted of the batch that the engine works on.
 #[unsafe(no_mangle)]
 pub extern "C" fn dsa_batch(handle: &mut Handle, engine: u16, batch: &mut DeviceBatch) -> u32
-    ensures value { IsWrittenForC batch_for_c
-        (asked_for handle.old.place.machine (λ d. note_at d.state.work engine))
-        result batch.old batch.new }
-    ensures same { handle.new.place.machine ≡ handle.old.place.machine }
+    ensures { IsReadForC batch_for_c (λ d. note_at d.state.work engine)
+        handle.old.place.machine result batch.old batch.new handle.new.place.machine }
 {
     let_device!(device, handle, 0);
     let Some(note) = device.batch(engine) else {
@@ -292,19 +280,19 @@ pub extern "C" fn dsa_batch(handle: &mut Handle, engine: u16, batch: &mut Device
 /// The number of held entries that the active command still waits for.
 #[unsafe(no_mangle)]
 pub extern "C" fn dsa_awaited(handle: &mut Handle) -> u64
-    ensures value { result ≡ or_none (asked_for handle.old.place.machine (λ d. awaited d.state)) }
-    ensures same { handle.new.place.machine ≡ handle.old.place.machine }
+    ensures { IsReadAs (number_told_for (λ d. awaited d.state))
+        handle.old.place.machine result handle.new.place.machine }
 {
-    let_device!(device, handle, or_none(None));
+    let_device!(device, handle, NONE);
     or_none(device.awaited().map(u64::from))
 }
 
 /// Whether the device holds the entry of that cell and name still: 1 or 0.
 #[unsafe(no_mangle)]
 pub extern "C" fn dsa_holds(handle: &mut Handle, cell: u32, name: u32) -> u32
-    ensures value { result ≡ bit_asked handle.old.place.machine
-        (λ d. is_held d.state.work.content (record { cell = record { 0 = cell }; name = name })) }
-    ensures same { handle.new.place.machine ≡ handle.old.place.machine }
+    ensures { IsReadAs (bit_asked
+        (λ d. is_held d.state.work.content (record { cell = record { 0 = cell }; name = name })))
+        handle.old.place.machine result handle.new.place.machine }
 {
     let ticket = Ticket {
         cell: Cell(cell),
@@ -317,9 +305,8 @@ pub extern "C" fn dsa_holds(handle: &mut Handle, cell: u32, name: u32) -> u32
 /// Whether the history has no room left: 1 or 0.
 #[unsafe(no_mangle)]
 pub extern "C" fn dsa_history_is_full(handle: &mut Handle) -> u32
-    ensures value { result ≡ bit_asked handle.old.place.machine
-        (λ d. length d.history == d.capacity) }
-    ensures same { handle.new.place.machine ≡ handle.old.place.machine }
+    ensures { IsReadAs (bit_asked (λ d. length d.history == d.capacity))
+        handle.old.place.machine result handle.new.place.machine }
 {
     let_device!(device, handle, 0);
     u32::from(device.is_full())

@@ -10,6 +10,7 @@ ghost use Rattle.dsa_c.specs.Calls.{submission_from_c, finishing, queue_write, g
 
 use crate::answer::Answer;
 use crate::handle::{Handle, let_device};
+use crate::numbers::{LIMITED, PAGE_FAULT, SUCCESS, UNLIMITED};
 use dsa_book::{Kind, Portal, Ticket};
 use dsa_desc::{Descriptor, Outcome};
 use dsa_regs::{Command, CommandWord, GroupConfig, QueueConfig};
@@ -49,8 +50,8 @@ fn portal_of(number: u32) -> Option<Portal>
     ensures { result ≡ portal_from_c number }
 {
     match number {
-        0 => Some(Portal::Limited),
-        1 => Some(Portal::Unlimited),
+        LIMITED => Some(Portal::Limited),
+        UNLIMITED => Some(Portal::Unlimited),
         _ => None,
     }
 }
@@ -69,8 +70,8 @@ pub(crate) fn outcome_of(number: u32) -> Option<Outcome>
     ensures { result ≡ outcome_from_c number }
 {
     match number {
-        0 => Some(Outcome::Success),
-        1 => Some(Outcome::PageFault),
+        SUCCESS => Some(Outcome::Success),
+        PAGE_FAULT => Some(Outcome::PageFault),
         _ => None,
     }
 }

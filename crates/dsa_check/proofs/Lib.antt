@@ -1,5 +1,8 @@
 pub mod Firsts
 pub mod Keys
+pub mod ReadTexts
+pub mod Shallow
+pub mod Spots
 pub mod Steps
 pub mod TableLaws
 pub mod Texts

@@ -1,6 +1,6 @@
 -- What is added to a list, one part more.
 use Rattle.std.proofs.Common.{◌≡◌, ◌<◌, ◌+◌, ℕ, Bool, true, List, [], ◌∷◌, ◌++◌, map, length, take}
-use Rattle.std.proofs.Common.{get_or, refl, sym, ap, ◌∙◌}
+use Rattle.std.proofs.Common.{get_or, refl, sym, ap, subst, ◌∙◌}
 use Rattle.std.proofs.Math.ListN.{get_or-map}
 use Rattle.std.specs.Prelude.{filter, is_some, Some, None, String, string_bytes, Result, Ok, Err, OnOk}
 use Rattle.std.specs.declared.alloc.Global.{Global}
@@ -16,7 +16,7 @@ use Rattle.dsa_check.specs.declared.{fields.Field.{Field}, fields.Key.{Key}}
 use Rattle.dsa_check.specs.declared.finding.Reason.{Reason, TheVariants.{Missing, Misspelled}}
 use Rattle.dsa_check.specs.declared.finding.Finding.{Finding}
 use Rattle.dsa_check.specs.Findings.{Appends, AppendsAll, AreInCaps, IsFindingOf, IsFindingIn, IsFounded}
-use Rattle.dsa_check.specs.Findings.{AreFounded}
+use Rattle.dsa_check.specs.Findings.{AreFounded, TellsWhy}
 use Rattle.dsa_check.specs.Judgement.{step_items_of}
 use Rattle.dsa_check.specs.Reasons.{is_unfit, IsStrayKey, IsReasonAt, AreReasonsAt, AreReasonsOf}
 use Rattle.dsa_check.specs.Steps.{Row, row_of_field, caps_rows}
@@ -84,23 +84,24 @@ inside_caps (array ds) e reasons h = cc
 inside_caps (object ms) e reasons h = h
 
 -- a finding of an item is one of the items
-pub finding_in : (vs : List Value) (i : ℕ) (v : Value) → i < length vs → v ≡ get_or vs i v
-    → (finding : Finding) → IsFindingOf i (view v) finding → IsFindingIn (map view vs) finding
-finding_in vs i v inside is finding h =
+pub finding_in : (bytes : List ℕ) (vs : List Value) (i : ℕ) (v : Value) → i < length vs → v ≡ get_or vs i v
+    → (finding : Finding) → IsFindingOf bytes i (view v) finding → IsFindingIn bytes (map view vs) finding
+finding_in bytes vs i v inside is finding h =
     let inside' : i < length (map view vs) = rw (length-map vs view) inside in
     let item : get_or (map view vs) i (view v) ≡ view v = get_or-map view vs i v ∙ ap view (sym is) in
     (i, h.0, rw (slice_get-get_or (map view vs) i (view v) inside', item) h.1)
 
 -- a finding of one of the items of a document
-pub founded_in : (d : Data) (finding : Finding) → IsFindingIn (step_items_of d) finding → IsFounded d finding
-founded_in d finding h = rw h.1 h.2
+pub founded_in : (bytes : List ℕ) (d : Data) (finding : Finding) → IsFindingIn bytes (step_items_of d) finding
+    → IsFounded bytes d finding
+founded_in bytes d finding h = subst (TellsWhy bytes d finding) (sym h.1) h.2
 
 -- the bytes are no other value
-same_value : (bytes : List ℕ) (d other : Data) → read bytes ≡ Some d → read bytes ≡ Some other → d ≡ other
+pub same_value : (bytes : List ℕ) (d other : Data) → read bytes ≡ Some d → read bytes ≡ Some other → d ≡ other
 same_value bytes d other is are = cc
 
 pub founded_as : (bytes : List ℕ) (d : Data) → IsJson bytes d → (findings : List Finding)
-    → AllByRecursion (IsFounded d) findings → AreFounded bytes findings
+    → AllByRecursion (IsFounded bytes d) findings → AreFounded bytes findings
 founded_as bytes d is findings h = record {
   json = λ other json. rw (← same_value bytes d other is.value json.value) h;
   text = λ none. let no : Some d ≡ None = sym is.value ∙ none is.utf8 in absurd cc;

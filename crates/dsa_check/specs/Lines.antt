@@ -13,7 +13,7 @@ use Rattle.dsa_scenario.specs.declared.faults.ScenarioFault.{ScenarioFault, TheV
 use Rattle.dsa_scenario.specs.declared.faults.ScenarioFault.TheVariants.{BadCaps, BadCapacity}
 use Rattle.dsa_check.specs.declared.fields.{Key.{Key}, Form.{Form}, Found.{Found}}
 use Rattle.dsa_check.specs.declared.finding.{Finding.{Finding}, Reason.{Reason}}
-use Rattle.dsa_check.specs.declared.syntax.Syntax.{Syntax, TheVariants.{NotUtf8, TooDeep, CommaBefore, Comment, Unwanted}}
+use Rattle.dsa_check.specs.declared.syntax.Syntax.{Syntax, TheVariants.{TooDeep, CommaBefore, Comment, Unwanted}}
 use Rattle.dsa_check.specs.declared.syntax.Piece.{Piece, TheVariants.{End, LineBreak, Tab, Control, Character}}
 use Rattle.dsa_check.specs.declared.syntax.Piece.TheVariants.{ByteOrderMark, Told, Text, Number, Word}
 use Rattle.dsa_check.specs.declared.syntax.Wanted.{Wanted}
@@ -131,7 +131,6 @@ wanted_text wanted.Pair = codes "a whole surrogate pair"
 wanted_text wanted.Depth = codes "less nesting"
 
 abbrev pub syntax_text : Syntax → List ℕ
-syntax_text NotUtf8 = codes "the bytes are no UTF-8"
 syntax_text TooDeep = codes "nested more than 127 deep"
 syntax_text (CommaBefore what) = codes "a comma before " ++ what.now
 syntax_text Comment = codes "a comment, of which JSON has none"
@@ -167,6 +166,7 @@ reason_text (reason.ManyDigits key count) =
 reason_text (reason.NoDigit key at) = key_text key ++ (codes " has no hexadecimal digit at character " ++ decimal at)
 reason_text (reason.NoObject found) = found_text found ++ codes " stands here, an object is wanted"
 reason_text (reason.UnknownKind name near) = no_kind_text name near
+reason_text reason.NotUtf8 = codes "the bytes are no UTF-8"
 reason_text (reason.Syntax syntax) = syntax_text syntax
 
 -- ---- where it is (profile)

@@ -68,6 +68,8 @@ pub enum Reason {
         found: Option<String>,
         near: Option<StepKind>,
     },
+    /// The bytes are no text.
+    NotUtf8,
     /// The text is no JSON.
     Syntax(Syntax),
 }

@@ -1,21 +1,22 @@
 //! The faults of a document.
 
-ghost use Rattle.std.specs.Prelude.{◌≡◌, ◌++◌, [], ◌∷◌, map, IfOk, OnOk};
+ghost use Rattle.std.specs.Prelude.{◌≡◌, ℕ, true, List, ◌++◌, [], ◌∷◌, map, take, slice_range, IfOk, IfSome, OnOk};
 ghost use Rattle.serde_json.specs.View.{view};
-ghost use Rattle.std.specs.List.{AllByRecursion};
+ghost use Rattle.std.specs.List.{All, AllByRecursion};
 ghost use Rattle.dsa_scenario.specs.Actions.{action_of};
-ghost use Rattle.dsa_check.specs.Findings.{AppendsAll, IsFounded, IsOfText, IsInText, IsFindingOf, IsFindingIn, AreFounded};
+ghost use Rattle.dsa_check.specs.Findings.{AppendsAll, IsFounded, IsWrongAfter, IsInText, IsFindingOf, IsFindingIn, AreFounded};
+ghost use Rattle.dsa_check.specs.Places.{IsSpot, IsShallow, AreTextOf, BeginsOnLine};
 ghost use Rattle.dsa_check.specs.Judgement.{faults_told, AreFaultsOf, IsJudged, head_faults, step_items_of, caps_at, capacity_at, fault_of_step, bad_steps, caps_faults, capacity_faults, faults_of_value};
 
 use crate::finding::{Finding, Place, Reason};
 use crate::kinds::MAX_CAPACITY;
-use crate::places::find_steps;
+use crate::places::{START, Spot};
 use crate::reasons::{capacity_reasons, caps_reasons, document_reasons, kind_of, step_reasons};
-use crate::scan::first_flaw;
-use crate::syntax::{Syntax, syntax_of};
+use crate::scan::{Extent, Flaw, scan_text};
+use crate::syntax::syntax_of;
 use dsa_regs::check_caps;
-use dsa_scenario::{ScenarioFault, parse_action, parse_caps, parse_head, u64_field};
-use serde_json::{Error, Value};
+use dsa_scenario::{ScenarioFault, parse_action, parse_caps, parse_head, parse_json, u64_field};
+use serde_json::Value;
 use std::alloc::{AllocError, Global};
 use std::str;
 
@@ -37,52 +38,47 @@ fn whole(fault: ScenarioFault, reasons: Vec<Reason>) -> Finding
     }
 }
 
-// Line, column and reason of the first error. For bytes that are not UTF-8 serde_json gives the
-// place.
-fn flaw_of(
-    alloc: Global,
-    bytes: &[u8],
-    error: &Error,
-) -> Result<(usize, usize, Vec<Reason>), AllocError>
-    ensures { IfOk result (λ flaw. AllByRecursion IsOfText flaw.2.items) }
+// The first place where the bytes are no JSON, and what is wrong there. It is told only where all
+// before it is right.
+fn flaw_of(alloc: Global, bytes: &[u8]) -> Result<(Spot, Vec<Reason>), AllocError>
+    ensures spot { IfOk result (λ flaw. IsSpot bytes.now flaw.0) }
+    ensures told { IfOk result
+        (λ flaw. AllByRecursion (IsWrongAfter (take flaw.0.at bytes.now)) flaw.1.items) }
 {
-    let (line, column) = (error.line(), error.column());
-    if str::from_utf8(bytes).is_err() {
-        return Ok((
-            line,
-            column,
-            vec![in alloc; Reason::Syntax(Syntax::NotUtf8)]?,
-        ));
+    if let Err(error) = str::from_utf8(bytes) {
+        let spot = START.moved_to(bytes, error.valid_up_to());
+        return Ok((spot, vec![in alloc; Reason::NotUtf8]?));
     }
-    match first_flaw(alloc, bytes)? {
-        Some(flaw) => {
-            let syntax = syntax_of(alloc, bytes, flaw)?;
-            Ok((
-                flaw.line,
-                flaw.column,
-                vec![in alloc; Reason::Syntax(syntax)]?,
-            ))
-        }
-        None => Ok((line, column, Vec::new(alloc))),
+    let scan = scan_text(alloc, bytes)?;
+    let Some(Flaw { at, wanted }) = scan.flaw else {
+        return Ok((START, Vec::new(alloc)));
+    };
+    let spot = START.moved_to(bytes, at);
+    let (before, rest) = bytes.split_at(spot.at);
+    if !scan.begins_json(alloc, before, wanted)? {
+        return Ok((START, Vec::new(alloc)));
     }
+    let begin = START.moved_to(bytes, scan.last_begun());
+    let syntax = syntax_of(alloc, rest, wanted, begin)?;
+    Ok((spot, vec![in alloc; Reason::Syntax(syntax)]?))
 }
 
 // What is wrong with bytes that are no JSON.
-fn no_json(alloc: Global, bytes: &[u8], error: &Error) -> Result<Vec<Finding>, AllocError>
+fn no_json(alloc: Global, bytes: &[u8]) -> Result<Vec<Finding>, AllocError>
     ensures faults { IfOk result
         (λ findings. faults_told findings.items ≡ ScenarioFault.NotJson ∷ []) }
-    ensures told { IfOk result (λ findings. AllByRecursion IsInText findings.items) }
+    ensures told { IfOk result (λ findings. AllByRecursion (IsInText bytes.now) findings.items) }
 {
-    let (line, column, reasons) = flaw_of(alloc, bytes, error)?;
+    let flaw = flaw_of(alloc, bytes)?;
     let place = Place {
-        line: Some(line),
-        column: Some(column),
+        line: Some(flaw.0.line),
+        column: Some(flaw.0.column),
         kind: None,
     };
     let finding = Finding {
         fault: ScenarioFault::NotJson,
         place,
-        reasons,
+        reasons: flaw.1,
     };
     Ok(vec![in alloc; finding]?)
 }
@@ -97,8 +93,8 @@ fn judge_head(
     ensures faults { OnOk result
         (faults_told findings.new.items
         ≡ faults_told findings.old.items ++ head_faults (view document.now)) }
-    ensures told { OnOk result
-        (AppendsAll (IsFounded (view document.now)) findings.old.items findings.new.items) }
+    ensures told { (bytes : List ℕ) → OnOk result
+        (AppendsAll (IsFounded bytes (view document.now)) findings.old.items findings.new.items) }
 {
     if parse_head(document).is_none() {
         let reasons = document_reasons(alloc, document)?;
@@ -107,12 +103,118 @@ fn judge_head(
     Ok(())
 }
 
+// The items of a document's steps in its text, as far as they have been asked for.
+#[derive(Drop)]
+struct Steps {
+    extents: Option<Vec<Extent>>,
+    // Where the last one that was asked for begins.
+    spot: Spot,
+}
+
+// Where an item of the steps stands, by the only walk over a document that is JSON.
+fn extent_of(
+    alloc: Global,
+    bytes: &[u8],
+    steps: &mut Steps,
+    i: usize,
+) -> Result<Option<Extent>, AllocError>
+    ensures { steps.new.spot ≡ steps.old.spot }
+{
+    if steps.extents.is_none() {
+        steps.extents = Some(scan_text(alloc, bytes)?.steps);
+    }
+    match &steps.extents {
+        Some(extents) => Ok(extents.get(i).copied()),
+        None => Ok(None),
+    }
+}
+
+// Whether two values are the same, by their texts.
+fn is_same(alloc: Global, value: &Value, other: &Value) -> Result<bool, AllocError>
+    requires value { IsShallow (view value.now) }
+    requires other { IsShallow (view other.now) }
+    ensures { IfOk result (λ same. same ≡ true → view value.now ≡ view other.now) }
+{
+    let text = value.to_string(alloc)?;
+    let other_text = other.to_string(alloc)?;
+    Ok(text.as_str() == other_text.as_str())
+}
+
+// Whether the bytes are a text of the value, from its first byte on.
+fn is_text_of(alloc: Global, bytes: &[u8], value: &Value) -> Result<bool, AllocError>
+    requires { IsShallow (view value.now) }
+    ensures { IfOk result (λ is. is ≡ true → AreTextOf (view value.now) bytes.now) }
+{
+    match bytes.first() {
+        Some(first) if *first > b' ' => {}
+        _ => return Ok(false),
+    }
+    match parse_json(alloc, bytes) {
+        Ok(read) => is_same(alloc, &read, value),
+        Err(ScenarioFault::OutOfMemory) => Err(AllocError),
+        Err(_) => Ok(false),
+    }
+}
+
+// Whether the bytes between these places are a text of the value.
+fn is_text_at(
+    alloc: Global,
+    bytes: &[u8],
+    at: usize,
+    end: usize,
+    value: &Value,
+) -> Result<bool, AllocError>
+    requires { IsShallow (view value.now) }
+    ensures { IfOk result
+        (λ is. is ≡ true → AreTextOf (view value.now) (slice_range bytes.now at end)) }
+{
+    match bytes.get(at..end) {
+        Some(text) => is_text_of(alloc, text, value),
+        None => Ok(false),
+    }
+}
+
+// The line on which a step begins, where its text is found.
+fn line_of(
+    alloc: Global,
+    bytes: &[u8],
+    steps: &mut Steps,
+    i: usize,
+    step: &Value,
+) -> Result<Option<usize>, AllocError>
+    requires spot { IsSpot bytes.now steps.old.spot }
+    requires shallow { IsShallow (view step.now) }
+    ensures spot { IsSpot bytes.now steps.new.spot }
+    ensures line { IfOk result (λ line. IfSome line (BeginsOnLine bytes.now (view step.now))) }
+{
+    let Some(Extent { begin, end }) = extent_of(alloc, bytes, steps, i)? else {
+        return Ok(None);
+    };
+    let spot = steps.spot.moved_to(bytes, begin);
+    steps.spot = spot;
+    let is_found = is_text_at(alloc, bytes, spot.at, end, step)?;
+    if is_found {
+        Ok(Some(spot.line))
+    } else {
+        Ok(None)
+    }
+}
+
 // A step that is no step object.
-fn bad_step(alloc: Global, lines: &[usize], i: usize, step: &Value) -> Result<Finding, AllocError>
-    ensures { IfOk result (IsFindingOf i (view step.now)) }
+fn bad_step(
+    alloc: Global,
+    bytes: &[u8],
+    steps: &mut Steps,
+    i: usize,
+    step: &Value,
+) -> Result<Finding, AllocError>
+    requires spot { IsSpot bytes.now steps.old.spot }
+    requires shallow { IsShallow (view step.now) }
+    ensures spot { IsSpot bytes.now steps.new.spot }
+    ensures told { IfOk result (IsFindingOf bytes.now i (view step.now)) }
 {
     let place = Place {
-        line: lines.get(i).copied(),
+        line: line_of(alloc, bytes, steps, i, step)?,
         column: None,
         kind: kind_of(step),
     };
@@ -126,19 +228,24 @@ fn bad_step(alloc: Global, lines: &[usize], i: usize, step: &Value) -> Result<Fi
 // One item, where it is no step object.
 fn judge_item(
     alloc: Global,
-    lines: &[usize],
+    bytes: &[u8],
+    steps: &mut Steps,
     i: usize,
     step: &Value,
     findings: &mut Vec<Finding>,
 ) -> Result<(), AllocError>
+    requires spot { IsSpot bytes.now steps.old.spot }
+    requires shallow { IsShallow (view step.now) }
+    ensures spot { IsSpot bytes.now steps.new.spot }
     ensures faults { OnOk result
         (faults_told findings.new.items
         ≡ faults_told findings.old.items ++ fault_of_step i (action_of (view step.now))) }
     ensures told { OnOk result
-        (AppendsAll (IsFindingOf i (view step.now)) findings.old.items findings.new.items) }
+        (AppendsAll (IsFindingOf bytes.now i (view step.now)) findings.old.items
+        findings.new.items) }
 {
     if parse_action(step).is_none() {
-        findings.push(bad_step(alloc, lines, i, step)?)?;
+        findings.push(bad_step(alloc, bytes, steps, i, step)?)?;
     }
     Ok(())
 }
@@ -146,18 +253,24 @@ fn judge_item(
 // The items that are no step objects.
 fn judge_items(
     alloc: Global,
-    lines: &[usize],
-    steps: &[Value],
+    bytes: &[u8],
+    items: &[Value],
     findings: &mut Vec<Finding>,
 ) -> Result<(), AllocError>
+    requires { All (λ item. IsShallow (view item)) items.now }
     ensures faults { OnOk result
         (faults_told findings.new.items
-        ≡ faults_told findings.old.items ++ bad_steps 0 (map view steps.now)) }
+        ≡ faults_told findings.old.items ++ bad_steps 0 (map view items.now)) }
     ensures told { OnOk result
-        (AppendsAll (IsFindingIn (map view steps.now)) findings.old.items findings.new.items) }
+        (AppendsAll (IsFindingIn bytes.now (map view items.now)) findings.old.items
+        findings.new.items) }
 {
-    for (i, step) in steps.iter().enumerate() {
-        judge_item(alloc, lines, i, step, findings)?;
+    let mut steps = Steps {
+        extents: None,
+        spot: START,
+    };
+    for (i, item) in items.iter().enumerate() {
+        judge_item(alloc, bytes, &mut steps, i, item, findings)?;
     }
     Ok(())
 }
@@ -169,20 +282,21 @@ fn judge_steps(
     document: &Value,
     findings: &mut Vec<Finding>,
 ) -> Result<(), AllocError>
+    requires { IsShallow (view document.now) }
     ensures faults { OnOk result
         (faults_told findings.new.items
         ≡ faults_told findings.old.items ++ bad_steps 0 (step_items_of (view document.now))) }
     ensures told { OnOk result
-        (AppendsAll (IsFounded (view document.now)) findings.old.items findings.new.items) }
+        (AppendsAll (IsFounded bytes.now (view document.now)) findings.old.items
+        findings.new.items) }
 {
     let Some(value) = document.get("steps") else {
         return Ok(());
     };
-    let Some(steps) = value.as_array() else {
+    let Some(items) = value.as_array() else {
         return Ok(());
     };
-    let lines = find_steps(alloc, bytes)?;
-    judge_items(alloc, lines.as_slice(), steps.as_slice(), findings)
+    judge_items(alloc, bytes, items.as_slice(), findings)
 }
 
 // The caps, where they are read, and no device has them.
@@ -194,8 +308,8 @@ fn judge_caps(
     ensures faults { OnOk result
         (faults_told findings.new.items
         ≡ faults_told findings.old.items ++ caps_faults (caps_at (view document.now))) }
-    ensures told { OnOk result
-        (AppendsAll (IsFounded (view document.now)) findings.old.items findings.new.items) }
+    ensures told { (bytes : List ℕ) → OnOk result
+        (AppendsAll (IsFounded bytes (view document.now)) findings.old.items findings.new.items) }
 {
     let Some(object) = document.get("caps") else {
         return Ok(());
@@ -218,8 +332,8 @@ fn judge_capacity(
     ensures faults { OnOk result
         (faults_told findings.new.items
         ≡ faults_told findings.old.items ++ capacity_faults (capacity_at (view document.now))) }
-    ensures told { OnOk result
-        (AppendsAll (IsFounded (view document.now)) findings.old.items findings.new.items) }
+    ensures told { (bytes : List ℕ) → OnOk result
+        (AppendsAll (IsFounded bytes (view document.now)) findings.old.items findings.new.items) }
 {
     if let Some(capacity) = u64_field(document, "capacity") {
         if capacity > MAX_CAPACITY {
@@ -232,10 +346,11 @@ fn judge_capacity(
 
 // All faults of a JSON value.
 fn judge_value(alloc: Global, bytes: &[u8], document: &Value) -> Result<Vec<Finding>, AllocError>
+    requires { IsShallow (view document.now) }
     ensures faults { IfOk result
         (λ findings. faults_told findings.items ≡ faults_of_value (view document.now)) }
     ensures told { IfOk result
-        (λ findings. AllByRecursion (IsFounded (view document.now)) findings.items) }
+        (λ findings. AllByRecursion (IsFounded bytes.now (view document.now)) findings.items) }
 {
     let mut findings = Vec::new(alloc);
     judge_head(alloc, document, &mut findings)?;
@@ -252,9 +367,9 @@ pub fn judge_document(alloc: Global, bytes: &[u8]) -> Result<Vec<Finding>, Alloc
     ensures first { IfOk result (λ findings. IsJudged bytes.now (faults_told findings.items)) }
     ensures told { IfOk result (λ findings. AreFounded bytes.now findings.items) }
 {
-    match Value::from_slice(alloc, bytes) {
+    match parse_json(alloc, bytes) {
         Ok(document) => judge_value(alloc, bytes, &document),
-        Err(error) if error.is_memory() => Err(AllocError),
-        Err(error) => no_json(alloc, bytes, &error),
+        Err(ScenarioFault::OutOfMemory) => Err(AllocError),
+        Err(_) => no_json(alloc, bytes),
     }
 }

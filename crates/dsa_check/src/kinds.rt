@@ -26,321 +26,105 @@ pub enum StepKind {
     Clear,
 }
 
-const BYTE: Form = Form::Whole {
-    least: 0,
-    most: 0xff,
-};
+// A table of keys, each with what may stand there.
+macro_rules! fields {
+    ($($name:literal: $form:expr),*) => { [$(Field { name: $name, form: $form }),*] };
+}
 
-const SHORT: Form = Form::Whole {
-    least: 0,
-    most: 0xffff,
-};
+// A whole number without sign of so many bits.
+macro_rules! bits {
+    ($bits:literal) => { Form::Whole { least: 0, most: u64::MAX >> (64 - $bits) } };
+}
 
-const WORD: Form = Form::Whole {
-    least: 0,
-    most: 0xffff_ffff,
-};
+// A capability, by the greatest number that its field holds and the numbers of a device (profile).
+macro_rules! of_a_document {
+    ($field:expr, $least:expr, $most:expr) => {
+        Form::Bounded { field: $field, least: $least, most: $most as u64 }
+    };
+}
 
-const LONG: Form = Form::Whole {
-    least: 0,
-    most: u64::MAX,
-};
+// The same, where other numbers than those of a device are no capabilities.
+macro_rules! of_a_device {
+    ($field:expr, $least:expr, $most:expr) => { Form::Whole { least: $least, most: $most as u64 } };
+}
 
-const QUEUE: [Field; 8] = [
-    Field {
-        name: "queue",
-        form: SHORT,
-    },
-    Field {
-        name: "size",
-        form: SHORT,
-    },
-    Field {
-        name: "threshold",
-        form: SHORT,
-    },
-    Field {
-        name: "dedicated",
-        form: Form::Truth,
-    },
-    Field {
-        name: "priority",
-        form: BYTE,
-    },
-    Field {
-        name: "pasid",
-        form: WORD,
-    },
-    Field {
-        name: "batch",
-        form: BYTE,
-    },
-    Field {
-        name: "xfer",
-        form: BYTE,
-    },
-];
+// The table of capabilities.
+macro_rules! capabilities {
+    ($number:ident) => {
+        fields!(
+            "queues": $number!(0xffff, 1, MAX_QUEUES),
+            "groups": $number!(0xffff, 1, MAX_GROUPS),
+            "engines": $number!(0xffff, 1, MAX_ENGINES),
+            "total_size": $number!(0xffff, 1, MAX_TOTAL_SIZE),
+            "read_buffers": $number!(0xffff, 1, MAX_READ_BUFFERS),
+            "slots": $number!(0xffff, 1, MAX_SLOTS),
+            "max_batch_shift": $number!(0xff, 1, MAX_BATCH_SHIFT),
+            "max_xfer_shift": $number!(0xff, 0, MAX_TRANSFER_SHIFT)
+        )
+    };
+}
 
-const GROUP: [Field; 5] = [
-    Field {
-        name: "group",
-        form: SHORT,
-    },
-    Field {
-        name: "queues",
-        form: LONG,
-    },
-    Field {
-        name: "engines",
-        form: LONG,
-    },
-    Field {
-        name: "reserved",
-        form: SHORT,
-    },
-    Field {
-        name: "allowed",
-        form: SHORT,
-    },
-];
+const QUEUE: [Field; 8] = fields!(
+    "queue": bits!(16),
+    "size": bits!(16),
+    "threshold": bits!(16),
+    "dedicated": Form::Truth,
+    "priority": bits!(8),
+    "pasid": bits!(32),
+    "batch": bits!(8),
+    "xfer": bits!(8)
+);
 
-const ENQCMD: [Field; 5] = [
-    Field {
-        name: "client",
-        form: SHORT,
-    },
-    Field {
-        name: "queue",
-        form: SHORT,
-    },
-    Field {
-        name: "limited",
-        form: Form::Truth,
-    },
-    Field {
-        name: "pasid",
-        form: WORD,
-    },
-    Field {
-        name: "desc",
-        form: Form::Digits,
-    },
-];
+const GROUP: [Field; 5] = fields!(
+    "group": bits!(16),
+    "queues": bits!(64),
+    "engines": bits!(64),
+    "reserved": bits!(16),
+    "allowed": bits!(16)
+);
 
-const MOVDIR: [Field; 4] = [
-    Field {
-        name: "client",
-        form: SHORT,
-    },
-    Field {
-        name: "queue",
-        form: SHORT,
-    },
-    Field {
-        name: "limited",
-        form: Form::Truth,
-    },
-    Field {
-        name: "desc",
-        form: Form::Digits,
-    },
-];
+const ENQCMD: [Field; 5] = fields!(
+    "client": bits!(16),
+    "queue": bits!(16),
+    "limited": Form::Truth,
+    "pasid": bits!(32),
+    "desc": Form::Digits
+);
 
-const ENGINE: [Field; 1] = [Field {
-    name: "engine",
-    form: SHORT,
-}];
+const MOVDIR: [Field; 4] = fields!(
+    "client": bits!(16),
+    "queue": bits!(16),
+    "limited": Form::Truth,
+    "desc": Form::Digits
+);
 
-const FETCH: [Field; 2] = [
-    Field {
-        name: "engine",
-        form: SHORT,
-    },
-    Field {
-        name: "desc",
-        form: Form::Digits,
-    },
-];
+const ENGINE: [Field; 1] = fields!("engine": bits!(16));
 
-const FINISH: [Field; 3] = [
-    Field {
-        name: "engine",
-        form: SHORT,
-    },
-    Field {
-        name: "name",
-        form: WORD,
-    },
-    Field {
-        name: "fault",
-        form: Form::Truth,
-    },
-];
+const FETCH: [Field; 2] = fields!("engine": bits!(16), "desc": Form::Digits);
 
-const COMMAND: [Field; 1] = [Field {
-    name: "word",
-    form: WORD,
-}];
+const FINISH: [Field; 3] = fields!("engine": bits!(16), "name": bits!(32), "fault": Form::Truth);
 
-/// The keys of a document.
-pub const DOCUMENT: [Field; 3] = [
-    Field {
-        name: "caps",
-        form: Form::Object,
-    },
-    Field {
-        name: "capacity",
-        form: Form::Bounded {
-            field: u64::MAX,
-            least: 0,
-            most: MAX_CAPACITY,
-        },
-    },
-    Field {
-        name: "steps",
-        form: Form::Array,
-    },
-];
-
-/// The keys of its object `caps`, with what a device may have (profile).
-pub const CAPS: [Field; 8] = [
-    Field {
-        name: "queues",
-        form: Form::Bounded {
-            field: 0xffff,
-            least: 1,
-            most: MAX_QUEUES as u64,
-        },
-    },
-    Field {
-        name: "groups",
-        form: Form::Bounded {
-            field: 0xffff,
-            least: 1,
-            most: MAX_GROUPS as u64,
-        },
-    },
-    Field {
-        name: "engines",
-        form: Form::Bounded {
-            field: 0xffff,
-            least: 1,
-            most: MAX_ENGINES as u64,
-        },
-    },
-    Field {
-        name: "total_size",
-        form: Form::Bounded {
-            field: 0xffff,
-            least: 1,
-            most: MAX_TOTAL_SIZE as u64,
-        },
-    },
-    Field {
-        name: "read_buffers",
-        form: Form::Bounded {
-            field: 0xffff,
-            least: 1,
-            most: MAX_READ_BUFFERS as u64,
-        },
-    },
-    Field {
-        name: "slots",
-        form: Form::Bounded {
-            field: 0xffff,
-            least: 1,
-            most: MAX_SLOTS as u64,
-        },
-    },
-    Field {
-        name: "max_batch_shift",
-        form: Form::Bounded {
-            field: 0xff,
-            least: 1,
-            most: MAX_BATCH_SHIFT as u64,
-        },
-    },
-    Field {
-        name: "max_xfer_shift",
-        form: Form::Bounded {
-            field: 0xff,
-            least: 0,
-            most: MAX_TRANSFER_SHIFT as u64,
-        },
-    },
-];
-
-/// The same, where other numbers than those of a device are no capabilities.
-pub const DEVICE_CAPS: [Field; 8] = [
-    Field {
-        name: "queues",
-        form: Form::Whole {
-            least: 1,
-            most: MAX_QUEUES as u64,
-        },
-    },
-    Field {
-        name: "groups",
-        form: Form::Whole {
-            least: 1,
-            most: MAX_GROUPS as u64,
-        },
-    },
-    Field {
-        name: "engines",
-        form: Form::Whole {
-            least: 1,
-            most: MAX_ENGINES as u64,
-        },
-    },
-    Field {
-        name: "total_size",
-        form: Form::Whole {
-            least: 1,
-            most: MAX_TOTAL_SIZE as u64,
-        },
-    },
-    Field {
-        name: "read_buffers",
-        form: Form::Whole {
-            least: 1,
-            most: MAX_READ_BUFFERS as u64,
-        },
-    },
-    Field {
-        name: "slots",
-        form: Form::Whole {
-            least: 1,
-            most: MAX_SLOTS as u64,
-        },
-    },
-    Field {
-        name: "max_batch_shift",
-        form: Form::Whole {
-            least: 1,
-            most: MAX_BATCH_SHIFT as u64,
-        },
-    },
-    Field {
-        name: "max_xfer_shift",
-        form: Form::Whole {
-            least: 0,
-            most: MAX_TRANSFER_SHIFT as u64,
-        },
-    },
-];
+const COMMAND: [Field; 1] = fields!("word": bits!(32));
 
 /// The most steps that a history has room for (profile).
 pub const MAX_CAPACITY: u64 = 1_048_576;
 
+/// The keys of a document.
+pub const DOCUMENT: [Field; 3] = fields!(
+    "caps": Form::Object,
+    "capacity": of_a_document!(u64::MAX, 0, MAX_CAPACITY),
+    "steps": Form::Array
+);
+
+/// The keys of its object `caps`.
+pub const CAPS: [Field; 8] = capabilities!(of_a_document);
+
+/// The same, where other numbers than those of a device are no capabilities.
+pub const DEVICE_CAPS: [Field; 8] = capabilities!(of_a_device);
+
 /// The capacity that a history may have (profile).
-pub const HISTORY_CAPACITY: [Field; 1] = [Field {
-    name: "capacity",
-    form: Form::Whole {
-        least: 0,
-        most: MAX_CAPACITY,
-    },
-}];
+pub const HISTORY_CAPACITY: [Field; 1] =
+    fields!("capacity": of_a_device!(u64::MAX, 0, MAX_CAPACITY));
 
 /// All kinds of steps.
 pub const KINDS: [StepKind; 11] = [

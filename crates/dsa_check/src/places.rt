@@ -1,125 +1,57 @@
-//! On which lines the steps of a document begin.
+//! The line and the column of a place in a text.
 
-use std::alloc::{AllocError, Global};
+ghost use Rattle.std.specs.Prelude.{◌≡◌, ◌+◌, ◌<◌, ◌≤◌, length};
+ghost use Rattle.dsa_check.specs.Places.{IsSpot};
 
-// What the bytes of a JSON text are in the middle of.
-#[derive(Clone, Copy, PartialEq, Eq)]
-enum Mode {
-    Plain,
-    Text,
-    // Behind a backslash in a text.
-    Escape,
+/// A place in a text: its offset, and its line and its column, counted from 1.
+#[derive(Clone, Copy)]
+pub struct Spot {
+    pub at: usize,
+    pub line: usize,
+    pub column: usize,
 }
 
-// A walk over the bytes of a JSON text that is an object.
-#[derive(Drop)]
-struct Walk {
-    mode: Mode,
-    line: usize,
-    // How many arrays and objects the byte stands in.
-    depth: usize,
-    // Where the last text of the outermost object began.
-    text_start: usize,
-    // Whether the last text of the outermost object was `steps`.
-    is_steps: bool,
-    // Whether the byte stands in the array of the steps, and whether an item is to come there.
-    in_steps: bool,
-    item_comes: bool,
-    found: Vec<usize>,
-}
+/// Where each text begins.
+pub const START: Spot = Spot {
+    at: 0,
+    line: 1,
+    column: 1,
+};
 
-impl Walk {
-    fn new(alloc: Global) -> Walk {
-        Walk {
-            mode: Mode::Plain,
-            line: 1,
-            depth: 0,
-            text_start: 0,
-            is_steps: false,
-            in_steps: false,
-            item_comes: false,
-            found: Vec::new(alloc),
-        }
-    }
-
-    // A byte of a text; its last one is at `end`.
-    fn text_byte(&mut self, bytes: &[u8], end: usize, byte: u8) {
-        match (self.mode, byte) {
-            (Mode::Escape, _) => self.mode = Mode::Text,
-            (_, b'\\') => self.mode = Mode::Escape,
-            (_, b'"') => {
-                self.mode = Mode::Plain;
-                if self.depth == 1 {
-                    self.is_steps = bytes.get(self.text_start..end) == Some(b"\"steps");
-                }
+impl Spot {
+    // The place one byte on.
+    fn next(self, bytes: &[u8]) -> Spot
+        requires spot { IsSpot bytes.now self }
+        requires inside { self.at < length bytes.now }
+        ensures spot { IsSpot bytes.now result }
+        ensures at { result.at ≡ self.at + 1 }
+    {
+        let at = self.at + 1;
+        if bytes[self.at] == b'\n' {
+            Spot {
+                at,
+                line: self.line + 1,
+                column: 1,
             }
-            _ => {}
-        }
-    }
-
-    // The start of an array or an object. If `steps` comes twice, the last one counts.
-    fn open(&mut self, byte: u8) {
-        if self.depth == 1 && self.is_steps && byte == b'[' {
-            self.in_steps = true;
-            self.item_comes = true;
-            self.found.clear();
-        }
-        self.depth = self.depth.saturating_add(1);
-    }
-
-    fn close(&mut self) {
-        self.depth = self.depth.saturating_sub(1);
-        if self.depth <= 1 {
-            self.in_steps = false;
-        }
-    }
-
-    // Notes the line where an item of the steps begins.
-    fn note_item(&mut self, byte: u8) -> Result<(), AllocError> {
-        if self.in_steps && self.depth == 2 {
-            if byte == b',' {
-                self.item_comes = true;
-            } else if self.item_comes && byte != b']' {
-                self.item_comes = false;
-                self.found.push(self.line)?;
-            }
-        }
-        Ok(())
-    }
-
-    // A byte that stands in no text.
-    fn plain_byte(&mut self, at: usize, byte: u8) -> Result<(), AllocError> {
-        if byte.is_ascii_whitespace() {
-            return Ok(());
-        }
-        self.note_item(byte)?;
-        match byte {
-            b'"' => {
-                self.mode = Mode::Text;
-                self.text_start = at;
-            }
-            b'{' | b'[' => self.open(byte),
-            b'}' | b']' => self.close(),
-            _ => {}
-        }
-        Ok(())
-    }
-}
-
-/// The lines on which the steps of this document begin, in order, counted from 1. The bytes are a
-/// JSON object with an array `steps`; where that key is written with an escape its lines are not
-/// found.
-pub fn find_steps(alloc: Global, bytes: &[u8]) -> Result<Vec<usize>, AllocError> {
-    let mut walk = Walk::new(alloc);
-    for (at, byte) in bytes.iter().enumerate() {
-        if *byte == b'\n' {
-            walk.line = walk.line.saturating_add(1);
-        }
-        if walk.mode == Mode::Plain {
-            walk.plain_byte(at, *byte)?;
         } else {
-            walk.text_byte(bytes, at, *byte);
+            Spot {
+                at,
+                line: self.line,
+                column: self.column + 1,
+            }
         }
     }
-    Ok(walk.found)
+
+    /// The place at this offset, or this place where that one comes before it.
+    pub fn moved_to(self, bytes: &[u8], at: usize) -> Spot
+        requires { IsSpot bytes.now self }
+        ensures spot { IsSpot bytes.now result }
+        ensures at { self.at ≤ at → at ≤ length bytes.now → result.at ≡ at }
+    {
+        let mut spot = self;
+        for i in self.at..at.min(bytes.len()) {
+            spot = spot.next(bytes);
+        }
+        spot
+    }
 }

@@ -185,7 +185,6 @@ fn add_syntax(text: &mut String, syntax: &Syntax) -> Result<(), AllocError>
         (string_bytes text.new ≡ string_bytes text.old ++ syntax_text syntax.now) }
 {
     match syntax {
-        Syntax::NotUtf8 => text.push_str("the bytes are no UTF-8"),
         Syntax::TooDeep => text.push_str("nested more than 127 deep"),
         Syntax::CommaBefore { what } => write!(text, "a comma before {what}"),
         Syntax::Comment => text.push_str("a comment, of which JSON has none"),
@@ -293,6 +292,7 @@ fn add_reason(text: &mut String, reason: &Reason) -> Result<(), AllocError>
         Reason::NoDigit { key, at } => add_no_digit(text, *key, *at),
         Reason::NoObject { found } => add_no_object(text, *found),
         Reason::UnknownKind { found, near } => add_kind(text, found, *near),
+        Reason::NotUtf8 => text.push_str("the bytes are no UTF-8"),
         Reason::Syntax(syntax) => add_syntax(text, syntax),
     }
 }

@@ -1,28 +1,34 @@
-//! Where a text is no JSON.
+//! One walk over the bytes of a text: where it is no JSON, and where its steps are.
 
-ghost use Rattle.std.specs.Prelude.{◌≡◌, is_some};
+ghost use Rattle.std.specs.Prelude.{◌≡◌, true, is_some, IfOk};
 ghost use Rattle.std.specs.Char.{is_ascii_hexdigit};
+ghost use Rattle.dsa_check.specs.Places.{AreJson, BeginJson};
 
-use crate::syntax::Wanted;
-use serde_json::Value;
+use crate::syntax::{Wanted, is_in_text};
+use dsa_scenario::{ScenarioFault, parse_json};
 use std::alloc::{AllocError, Global};
 
-/// The first place of a text where it is no JSON: its offset, its line and its column, counted from
-/// 1, and what may stand there.
+/// The first place of a text where it is no JSON, and what may stand there.
 #[derive(Clone, Copy)]
 pub struct Flaw {
     pub at: usize,
-    pub line: usize,
-    pub column: usize,
     pub wanted: Wanted,
 }
 
-// Where an array or an object begins.
+/// Where an item of the steps begins, and where it has ended.
+#[derive(Clone, Copy)]
+pub struct Extent {
+    pub begin: usize,
+    pub end: usize,
+}
+
+// An array or an object that has not ended.
 #[derive(Clone, Copy)]
 struct Opening {
     is_array: bool,
-    line: usize,
-    column: usize,
+    // Whether it is the array `steps` of the document.
+    is_steps: bool,
+    at: usize,
 }
 
 /// How deep a text may be nested.
@@ -51,9 +57,9 @@ enum Mode {
     Word,
     Number(Numeral),
     Text,
-    // Behind a backslash.
+    // After a backslash.
     Escape,
-    // Behind `\u`, with so many digits to come.
+    // After `\u`, with so many digits to come.
     Digits(usize),
 }
 
@@ -73,11 +79,13 @@ fn numeral_after(numeral: Numeral, byte: u8) -> Option<Numeral> {
     }
 }
 
-// Whether the floats of 64 bits reach this number.
-fn is_in_range(alloc: Global, number: &[u8]) -> Result<bool, AllocError> {
-    match Value::from_slice(alloc, number) {
+// Whether these bytes are JSON.
+fn is_json(alloc: Global, bytes: &[u8]) -> Result<bool, AllocError>
+    ensures { IfOk result (λ is. is ≡ true → AreJson bytes.now) }
+{
+    match parse_json(alloc, bytes) {
         Ok(_) => Ok(true),
-        Err(error) if error.is_memory() => Err(AllocError),
+        Err(ScenarioFault::OutOfMemory) => Err(AllocError),
         Err(_) => Ok(false),
     }
 }
@@ -93,69 +101,68 @@ fn hex_value(byte: u8) -> Option<u32>
     }
 }
 
-// A walk over the bytes of a text, up to the first that may not stand where it does.
+/// A walk over the bytes of a text, up to the first that may not stand where it does.
 #[derive(Drop)]
-struct Scan {
+pub struct Scan {
+    pub flaw: Option<Flaw>,
+    /// The items of the steps. Where the key `steps` is written with an escape they are not found.
+    pub steps: Vec<Extent>,
     mode: Mode,
-    line: usize,
-    // Where the line begins.
-    line_start: usize,
     open: Vec<Opening>,
     // Where the last text, word or number begins.
     start: usize,
-    start_line: usize,
-    start_column: usize,
     is_key: bool,
+    // Whether the last key of the document was `steps`.
+    is_steps: bool,
     // Where the last escape begins, the number that its digits have so far, and where the first
     // half of a pair begins.
     escape: usize,
     unit: u32,
     half: Option<usize>,
-    flaw: Option<Flaw>,
 }
 
 impl Scan {
     fn new(alloc: Global) -> Scan {
         Scan {
+            flaw: None,
+            steps: Vec::new(alloc),
             mode: Mode::Between(Wanted::Document),
-            line: 1,
-            line_start: 0,
             open: Vec::new(alloc),
             start: 0,
-            start_line: 1,
-            start_column: 1,
             is_key: false,
+            is_steps: false,
             escape: 0,
             unit: 0,
             half: None,
-            flaw: None,
         }
     }
 
-    fn column_of(&self, at: usize) -> usize {
-        at.saturating_sub(self.line_start).saturating_add(1)
-    }
-
-    // Notes a place on this line where something else is wanted.
+    // Notes a place where something else is wanted.
     fn refuse(&mut self, at: usize, wanted: Wanted) {
-        self.flaw = Some(Flaw {
-            at,
-            line: self.line,
-            column: self.column_of(at),
-            wanted,
-        });
+        self.flaw = Some(Flaw { at, wanted });
     }
 
     // A text, a word or a number begins.
     fn begin(&mut self, at: usize, mode: Mode) {
         self.start = at;
-        self.start_line = self.line;
-        self.start_column = self.column_of(at);
         self.mode = mode;
     }
 
-    // A value has ended.
-    fn end_value(&mut self) {
+    // Whether a value is an item of the steps.
+    fn is_in_steps(&self) -> bool {
+        match self.open.last() {
+            Some(opening) => opening.is_steps,
+            None => false,
+        }
+    }
+
+    // A value has ended before this place.
+    fn end_value(&mut self, end: usize) {
+        if self.is_in_steps()
+            && let Some(step) = self.steps.last_mut()
+        {
+            step.end = end;
+        }
         let wanted = match self.open.last() {
             Some(opening) => Wanted::More {
                 in_array: opening.is_array,
@@ -165,28 +172,20 @@ impl Scan {
         self.mode = Mode::Between(wanted);
     }
 
-    // The end of what was opened last, where it is wanted.
-    fn closing(&self, wanted: Wanted) -> Wanted {
-        match self.open.last() {
-            Some(opening) if matches!(wanted, Wanted::More { .. }) => Wanted::Closing {
-                is_array: opening.is_array,
-                line: opening.line,
-                column: opening.column,
-            },
-            _ => wanted,
-        }
-    }
-
+    // An array or an object begins. If `steps` comes twice, the last one counts.
     fn open_at(&mut self, at: usize, is_array: bool) -> Result<(), AllocError> {
         if self.open.len() >= MOST_NESTED {
             self.refuse(at, Wanted::Depth);
             return Ok(());
         }
-        let (line, column) = (self.line, self.column_of(at));
+        let is_steps = is_array && self.is_steps && self.open.len() == 1;
+        if is_steps {
+            self.steps.clear();
+        }
         self.open.push(Opening {
             is_array,
-            line,
-            column,
+            is_steps,
+            at,
         })?;
         self.mode = Mode::Between(if is_array {
             Wanted::FirstItem
@@ -196,13 +195,16 @@ impl Scan {
         Ok(())
     }
 
-    fn close(&mut self) {
+    fn close(&mut self, at: usize) {
         let _ = self.open.pop();
-        self.end_value();
+        self.end_value(at.saturating_add(1));
     }
 
     // The first byte of a value.
     fn value_byte(&mut self, at: usize, byte: u8, wanted: Wanted) -> Result<(), AllocError> {
+        if self.is_in_steps() {
+            self.steps.push(Extent { begin: at, end: at })?;
+        }
         match byte {
             b'[' => self.open_at(at, true)?,
             b'{' => self.open_at(at, false)?,
@@ -228,9 +230,8 @@ impl Scan {
             (Wanted::Colon, b':') => self.mode = Mode::Between(Wanted::Value),
             (Wanted::More { in_array: true }, b',') => self.mode = Mode::Between(Wanted::Item),
             (Wanted::More { in_array: false }, b',') => self.mode = Mode::Between(Wanted::Key),
-            (Wanted::More { in_array: true } | Wanted::FirstItem, b']') => self.close(),
-            (Wanted::More { in_array: false } | Wanted::FirstKey, b'}') => self.close(),
-            (Wanted::More { .. }, b']' | b'}') => self.refuse(at, self.closing(wanted)),
+            (Wanted::More { in_array: true } | Wanted::FirstItem, b']') => self.close(at),
+            (Wanted::More { in_array: false } | Wanted::FirstKey, b'}') => self.close(at),
             (Wanted::Key | Wanted::FirstKey, b'"') => self.begin_text(at, true),
             (Wanted::Document | Wanted::Value | Wanted::Item | Wanted::FirstItem, _) =>
                 self.value_byte(at, byte, wanted)?,
@@ -239,9 +240,9 @@ impl Scan {
         Ok(())
     }
 
-    fn end_word(&mut self, word: &[u8]) {
+    fn end_word(&mut self, word: &[u8], at: usize) {
         match word {
-            b"true" | b"false" | b"null" => self.end_value(),
+            b"true" | b"false" | b"null" => self.end_value(at),
             _ => self.refuse(self.start, Wanted::Word),
         }
     }
@@ -261,8 +262,8 @@ impl Scan {
             Numeral::Zero if byte.is_ascii_digit() => self.refuse(self.start, Wanted::NoZero),
             _ => {
                 let is_sure = numeral != Numeral::Power && number.len() <= SURELY_IN_RANGE;
-                if is_sure || is_in_range(alloc, number)? {
-                    self.end_value();
+                if is_sure || is_json(alloc, number)? {
+                    self.end_value(at);
                 } else {
                     self.refuse(self.start, Wanted::InRange);
                 }
@@ -282,17 +283,26 @@ impl Scan {
         }
     }
 
-    fn text_byte(&mut self, at: usize, byte: u8) {
+    fn text_byte(&mut self, at: usize, byte: u8, begun: &[u8]) {
         if byte == b'\\' {
             self.escape = at;
             self.mode = Mode::Escape;
         } else if !self.refuse_half() {
             match byte {
-                b'"' if self.is_key => self.mode = Mode::Between(Wanted::Colon),
-                b'"' => self.end_value(),
+                b'"' => self.end_text(at, begun),
                 0..=0x1f => self.refuse(at, Wanted::Escaped),
                 _ => {}
             }
+        }
+    }
+
+    // The last byte of a text, which follows these.
+    fn end_text(&mut self, at: usize, begun: &[u8]) {
+        if self.is_key {
+            self.is_steps = self.open.len() == 1 && begun == b"\"steps".as_slice();
+            self.mode = Mode::Between(Wanted::Colon);
+        } else {
+            self.end_value(at.saturating_add(1));
         }
     }
 
@@ -308,38 +318,39 @@ impl Scan {
         }
     }
 
-    // A digit behind `\u`.
+    // A digit after `\u`. The first two tell whether it is the second half of a pair.
     fn digit_byte(&mut self, at: usize, byte: u8, left: usize) {
         let Some(value) = hex_value(byte) else {
-            self.refuse(at, Wanted::HexDigit);
+            if !self.refuse_half() {
+                self.refuse(at, Wanted::HexDigit);
+            }
             return;
         };
         self.unit = self.unit.wrapping_mul(16).wrapping_add(value);
-        if left > 1 {
+        if left == 3 && self.half.is_none() && matches!(self.unit, 0xdc..=0xdf) {
+            self.refuse(self.escape, Wanted::Pair);
+        } else if left > 1 {
             self.mode = Mode::Digits(left - 1);
         } else {
             self.end_escape();
         }
     }
 
-    // The last digit behind `\u` was read.
+    // The last digit after `\u` was read.
     fn end_escape(&mut self) {
         self.mode = Mode::Text;
-        let is_second = matches!(self.unit, 0xdc00..=0xdfff);
-        if is_second && self.half.is_some() {
+        if self.half.is_some() && matches!(self.unit, 0xdc00..=0xdfff) {
             self.half = None;
-        } else if is_second {
-            self.refuse(self.escape, Wanted::Pair);
         } else if !self.refuse_half() && matches!(self.unit, 0xd800..=0xdbff) {
             self.half = Some(self.escape);
         }
     }
 
     // A byte that ends a word or a number, or stands in neither.
-    fn next_byte(&mut self, at: usize, byte: u8) -> Result<(), AllocError> {
+    fn next_byte(&mut self, at: usize, byte: u8, begun: &[u8]) -> Result<(), AllocError> {
         match self.mode {
             Mode::Between(wanted) => self.plain_byte(at, byte, wanted)?,
-            Mode::Text => self.text_byte(at, byte),
+            Mode::Text => self.text_byte(at, byte, begun),
             Mode::Escape => self.escape_byte(at, byte),
             Mode::Digits(left) => self.digit_byte(at, byte, left),
             Mode::Word | Mode::Number(_) => {}
@@ -353,7 +364,7 @@ impl Scan {
         let begun = before.get(self.start..).unwrap_or(&[]);
         match self.mode {
             Mode::Word if byte.is_ascii_alphanumeric() => return Ok(()),
-            Mode::Word => self.end_word(begun),
+            Mode::Word => self.end_word(begun, at),
             Mode::Number(numeral) => match numeral_after(numeral, byte) {
                 Some(next) => {
                     self.mode = Mode::Number(next);
@@ -364,11 +375,7 @@ impl Scan {
             _ => {}
         }
         if self.flaw.is_none() {
-            self.next_byte(at, byte)?;
-        }
-        if byte == b'\n' {
-            self.line = self.line.saturating_add(1);
-            self.line_start = at.saturating_add(1);
+            self.next_byte(at, byte, begun)?;
         }
         Ok(())
     }
@@ -377,22 +384,84 @@ impl Scan {
     fn end(&mut self, at: usize) {
         match self.mode {
             Mode::Between(Wanted::Nothing) => {}
-            Mode::Between(wanted) => self.refuse(at, self.closing(wanted)),
-            _ => {
-                let (line, column) = (self.start_line, self.start_column);
-                self.refuse(at, Wanted::Quote { line, column });
+            Mode::Between(wanted) => self.refuse(at, wanted),
+            _ => self.refuse(at, Wanted::Escaped),
+        }
+    }
+
+    /// Where the text begins that has not ended, or else what was opened last.
+    pub fn last_begun(&self) -> usize {
+        match (self.mode, self.open.last()) {
+            (Mode::Text, _) => self.start,
+            (_, Some(opening)) => opening.at,
+            (_, None) => 0,
+        }
+    }
+
+    // Adds digits that are still to come, and the second half of a pair where they are the first.
+    fn add_digits_left(&self, text: &mut Vec<u8>) -> Result<(), AllocError> {
+        let mut unit = self.unit;
+        if let Mode::Digits(left) = self.mode {
+            for _ in 0..left {
+                text.push(b'0')?;
+                unit = unit.wrapping_mul(16);
             }
         }
+        if matches!(unit, 0xd800..=0xdbff) {
+            text.extend_from_slice(b"\\udc00")?;
+        }
+        Ok(())
+    }
+
+    // Adds what may stand at a flaw and ends what has begun there.
+    fn add_wanted(&self, text: &mut Vec<u8>, wanted: Wanted) -> Result<(), AllocError> {
+        let end: &[u8] = match wanted {
+            Wanted::Escaped | Wanted::Pair => b"\"",
+            Wanted::Escape => b"n\"",
+            Wanted::HexDigit => {
+                self.add_digits_left(text)?;
+                b"\""
+            }
+            Wanted::FirstKey | Wanted::Key => b"\"\":0",
+            Wanted::Colon => b":0",
+            Wanted::More { .. } | Wanted::Nothing => b"",
+            _ => b"0",
+        };
+        text.extend_from_slice(end)
+    }
+
+    /// Whether some JSON text begins with these bytes, which come before the flaw: they are one
+    /// with an end to all that is open.
+    pub fn begins_json(
+        &self,
+        alloc: Global,
+        before: &[u8],
+        wanted: Wanted,
+    ) -> Result<bool, AllocError>
+        ensures { IfOk result (λ begins. begins ≡ true → BeginJson before.now) }
+    {
+        let mut rest = Vec::new(alloc);
+        self.add_wanted(&mut rest, wanted)?;
+        if self.is_key && is_in_text(wanted) {
+            rest.extend_from_slice(b":0")?;
+        }
+        for opening in self.open.iter().rev() {
+            rest.push(if opening.is_array { b']' } else { b'}' })?;
+        }
+        let mut text = Vec::new(alloc);
+        text.extend_from_slice(before)?;
+        text.extend_from_slice(rest.as_slice())?;
+        is_json(alloc, text.as_slice())
     }
 }
 
-/// The first flaw of these bytes, which are UTF-8, or none where they are JSON.
-pub fn first_flaw(alloc: Global, bytes: &[u8]) -> Result<Option<Flaw>, AllocError> {
+/// Walks over these bytes, which are UTF-8.
+pub fn scan_text(alloc: Global, bytes: &[u8]) -> Result<Scan, AllocError> {
     let mut scan = Scan::new(alloc);
     for (at, byte) in bytes.iter().enumerate() {
         scan.pass(alloc, &bytes[..at], *byte)?;
         if scan.flaw.is_some() {
-            return Ok(scan.flaw);
+            return Ok(scan);
         }
     }
     // A space ends a word or a number, and changes nothing else.
@@ -400,5 +469,5 @@ pub fn first_flaw(alloc: Global, bytes: &[u8]) -> Result<Option<Flaw>, AllocErro
     if scan.flaw.is_none() {
         scan.end(bytes.len());
     }
-    Ok(scan.flaw)
+    Ok(scan)
 }

@@ -3,7 +3,7 @@
 ghost use Rattle.std.specs.Prelude.{◌≡◌};
 ghost use Rattle.dsa_check.specs.Reasons.{is_plain};
 
-use crate::scan::Flaw;
+use crate::places::Spot;
 use std::alloc::{AllocError, Global};
 use std::str;
 
@@ -13,7 +13,6 @@ const MOST_TOLD: usize = 40;
 /// What is wrong at a place of a text that is no JSON.
 #[derive(Drop)]
 pub enum Syntax {
-    NotUtf8,
     /// Arrays and objects are nested more than 127 deep.
     TooDeep,
     /// A comma stands before the end of an array or an object.
@@ -48,15 +47,15 @@ pub enum Piece {
 pub enum Wanted {
     /// The object that a document is.
     Document,
-    /// A value, behind a colon.
+    /// A value, after a colon.
     Value,
     /// The first item of an array, or its end.
     FirstItem,
-    /// An item, behind a comma.
+    /// An item, after a comma.
     Item,
     /// The first key of an object, or its end.
     FirstKey,
-    /// A key, behind a comma.
+    /// A key, after a comma.
     Key,
     Colon,
     /// What follows a value in an array or an object.
@@ -86,7 +85,7 @@ pub enum Wanted {
     },
     /// A character in a text.
     Escaped,
-    /// What stands behind a backslash.
+    /// What may follow a backslash.
     Escape,
     HexDigit,
     /// Both halves of a surrogate pair.
@@ -95,14 +94,17 @@ pub enum Wanted {
     Depth,
 }
 
-// Whether it may stand inside a text.
-fn is_in_text(wanted: Wanted) -> bool {
-    matches!(wanted, Wanted::Escaped | Wanted::Escape | Wanted::HexDigit)
+/// Whether it may stand inside a text.
+pub fn is_in_text(wanted: Wanted) -> bool {
+    matches!(
+        wanted,
+        Wanted::Escaped | Wanted::Escape | Wanted::HexDigit | Wanted::Pair
+    )
 }
 
 // Whether it may stand between two values.
 fn is_between(wanted: Wanted) -> bool {
-    !is_in_text(wanted) && !matches!(wanted, Wanted::Pair | Wanted::Digit)
+    !is_in_text(wanted) && wanted != Wanted::Digit
 }
 
 /// Whether a text can be told as it stands.
@@ -163,7 +165,7 @@ fn told_piece(alloc: Global, piece: &[u8], first: u8) -> Result<Piece, AllocErro
     }
 }
 
-// What stands at the begin of these bytes.
+// What stands at the start of these bytes.
 fn piece_of(alloc: Global, bytes: &[u8], wanted: Wanted) -> Result<Piece, AllocError> {
     let Some(first) = bytes.first().copied() else {
         return Ok(Piece::End);
@@ -181,22 +183,41 @@ fn piece_of(alloc: Global, bytes: &[u8], wanted: Wanted) -> Result<Piece, AllocE
     }
 }
 
-/// What is wrong at this flaw of a text.
-pub fn syntax_of(alloc: Global, bytes: &[u8], flaw: Flaw) -> Result<Syntax, AllocError> {
-    let rest = bytes.get(flaw.at..).unwrap_or(&[]);
-    let wanted = flaw.wanted;
-    match (wanted, rest.first()) {
+// What is wanted before this byte, or at the end. The end of what begins at the place is told with
+// the place.
+fn wanted_before(wanted: Wanted, next: Option<u8>, begin: Spot) -> Wanted {
+    let Spot { line, column, .. } = begin;
+    match (wanted, next) {
+        (Wanted::Escaped, None) => Wanted::Quote { line, column },
+        (Wanted::More { in_array }, None | Some(b']' | b'}')) => Wanted::Closing {
+            is_array: in_array,
+            line,
+            column,
+        },
+        _ => wanted,
+    }
+}
+
+/// What is wrong where these bytes stand and something else is wanted, in what begins at the place.
+pub fn syntax_of(
+    alloc: Global,
+    bytes: &[u8],
+    wanted: Wanted,
+    begin: Spot,
+) -> Result<Syntax, AllocError> {
+    let next = bytes.first().copied();
+    match (wanted, next) {
         (Wanted::Depth, _) => Ok(Syntax::TooDeep),
         (Wanted::Item | Wanted::Key, Some(b'}')) => Ok(Syntax::CommaBefore { what: "}" }),
         (Wanted::Item | Wanted::Key, Some(b']')) => Ok(Syntax::CommaBefore { what: "]" }),
         (_, Some(b'/')) if is_between(wanted) => Ok(Syntax::Comment),
         (_, Some(b'\'')) if is_between(wanted) => Ok(Syntax::Unwanted {
-            found: piece_of(alloc, rest, wanted)?,
+            found: piece_of(alloc, bytes, wanted)?,
             wanted: Wanted::DoubleQuote,
         }),
         _ => Ok(Syntax::Unwanted {
-            found: piece_of(alloc, rest, wanted)?,
-            wanted,
+            found: piece_of(alloc, bytes, wanted)?,
+            wanted: wanted_before(wanted, next, begin),
         }),
     }
 }

@@ -7,7 +7,7 @@ ghost use Rattle.dsa_shared.specs.declared.settle.Totals.{Totals};
 ghost use Rattle.dsa_book.specs.Totals.{actor_of};
 ghost use Rattle.dsa_shared.specs.Seat.{AllFresh};
 ghost use Rattle.dsa_device.specs.Running.{running_at_first};
-ghost use Rattle.dsa_scenario.specs.Watched.{watched_contents, IsSameWriter};
+ghost use Rattle.dsa_scenario.specs.Watched.{watched_contents, has_refused, IsSameWriter};
 ghost use Rattle.dsa_cli.specs.Threads.{IsInRange, AreTotalsOf, AreScriptsOf, HaveWorked, IsClientScript, Submits, caps_for, capacity_for, setup_steps, engine_script, totals_text};
 
 use crate::options::Workload;
@@ -302,6 +302,7 @@ pub fn run_workload<R: Threads + Wait + Sync, W: Write>(
         × Appends (watched_contents W.contents writer.old)
         (watched_contents W.contents writer.new) (totals_text totals)) }
     ensures nothing { IfErr result (λ e. e ≢ ThreadsFault.Write → writer.new ≡ writer.old) }
+    ensures refused { IsErrOf result ThreadsFault.Write → has_refused writer.new ≡ true }
     ensures prefix { IsErrOf result ThreadsFault.Write
         → (totals : Totals)
         × (count : ℕ)

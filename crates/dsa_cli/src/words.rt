@@ -9,7 +9,7 @@ ghost use Rattle.dsa_scenario.specs.declared.faults.ScenarioFault.{ScenarioFault
 ghost use Rattle.dsa_scenario.specs.Document.{IsFaultOf};
 ghost use Rattle.dsa_scenario.specs.Faults.{fault_line};
 ghost use Rattle.dsa_scenario.specs.Scenario.{IsWholeDocument, IsRenderingOf, HasFault, IsCutShort};
-ghost use Rattle.dsa_serve.specs.Dialogue.{IsStopped};
+ghost use Rattle.dsa_serve.specs.Dialogue.{IsLate, IsStopped};
 ghost use Rattle.dsa_cli.specs.declared.threads.ThreadsFault.{ThreadsFault};
 ghost use Rattle.dsa_cli.specs.Threads.{IsInRange, AreTotalsOf, threads_fault_line, totals_text};
 ghost use Rattle.dsa_scenario.specs.Watched.{watched_contents, has_refused, is_closed, IsSameWriter};
@@ -100,6 +100,7 @@ fn render_watched<D: Render, R: Read, O: Write>(
         × Appends (watched_contents O.contents out.old)
         (watched_contents O.contents out.new) text) }
     ensures nothing { IfErr result (λ e. e ≢ ScenarioFault.Write → out.new ≡ out.old) }
+    ensures refused { IsErrOf result ScenarioFault.Write → has_refused out.new ≡ true }
     ensures prefix { IsErrOf result ScenarioFault.Write
         → (bytes : List ℕ)
         × (text : List ℕ)
@@ -149,7 +150,8 @@ fn run_input<R: Read, O: Write, E: Write>(
         × HasFault (R.remaining reader.old) (R.remaining reader.new) fault
         × (fault ≢ ScenarioFault.Write → out.new ≡ out.old)
         × (fault ≡ ScenarioFault.Write
-        → IsCutShort (R.remaining reader.old) (R.remaining reader.new)
+        → (has_refused out.new ≡ true)
+        × IsCutShort (R.remaining reader.old) (R.remaining reader.new)
         (watched_contents O.contents out.old) (watched_contents O.contents out.new))
         × (is_closed out.new ≡ false
         → has_refused err.new ≡ false
@@ -185,7 +187,8 @@ fn report_input<R: Read, O: Write, E: Write>(
         ⊎ (HasFault (R.remaining reader.old) (R.remaining reader.new) fault
         × (fault ≢ ScenarioFault.Write → out.new ≡ out.old)
         × (fault ≡ ScenarioFault.Write
-        → IsReportCutShort report.now (R.remaining reader.old)
+        → (has_refused out.new ≡ true)
+        × IsReportCutShort report.now (R.remaining reader.old)
         (R.remaining reader.new)
         (watched_contents O.contents out.old)
         (watched_contents O.contents out.new))))
@@ -219,6 +222,8 @@ fn serve_input<R: Read, O: Write, E: Write>(
         → (fault : ScenarioFault)
         × IsStopped fault (R.remaining reader.old) (R.remaining reader.new)
         (watched_contents O.contents out.old) (watched_contents O.contents out.new)
+        × (¬ IsLate fault → out.new ≡ out.old)
+        × (fault ≡ ScenarioFault.Write → has_refused out.new ≡ true)
         × (is_closed out.new ≡ false
         → has_refused err.new ≡ false
         → Appends (watched_contents E.contents err.old)
@@ -262,6 +267,7 @@ fn run_workers<T: Threads + Wait + Sync, O: Write, E: Write>(
         → has_refused err.new ≡ false
         → (fault : ThreadsFault)
         × (fault ≢ ThreadsFault.Write → out.new ≡ out.old)
+        × (fault ≡ ThreadsFault.Write → has_refused out.new ≡ true)
         × Appends (watched_contents E.contents err.old)
         (watched_contents E.contents err.new) (threads_fault_line fault) }
     ensures quiet { result ≡ 0 → err.new ≡ err.old }
@@ -298,6 +304,14 @@ fn show<O: Write, E: Write>(
         → has_refused err.new ≡ false
         → Appends (watched_contents E.contents err.old) (watched_contents E.contents err.new)
         (fault_line ScenarioFault.OutOfMemory) }
+    ensures failed { result ≡ 1
+        → is_closed out.new ≡ false
+        → has_refused err.new ≡ false
+        → (fault : ScenarioFault)
+        × ((fault ≡ ScenarioFault.OutOfMemory) × (out.new ≡ out.old)
+        ⊎ (fault ≡ ScenarioFault.Write) × (has_refused out.new ≡ true))
+        × Appends (watched_contents E.contents err.old)
+        (watched_contents E.contents err.new) (fault_line fault) }
     ensures quiet { result ≡ 0 → err.new ≡ err.old }
     ensures silent { result ≡ 1 → is_closed out.new ≡ true → err.new ≡ err.old }
     ensures statuses { result ≤ 2 }
@@ -373,7 +387,8 @@ pub fn answer_words<T: Threads + Wait + Sync, R: Read, O: Write, E: Write>(
         × HasFault (R.remaining reader.old) (R.remaining reader.new) fault
         × (fault ≢ ScenarioFault.Write → out.new ≡ out.old)
         × (fault ≡ ScenarioFault.Write
-        → IsCutShort (R.remaining reader.old) (R.remaining reader.new)
+        → (has_refused out.new ≡ true)
+        × IsCutShort (R.remaining reader.old) (R.remaining reader.new)
         (watched_contents O.contents out.old) (watched_contents O.contents out.new))
         × (is_closed out.new ≡ false
         → has_refused err.new ≡ false
@@ -385,7 +400,8 @@ pub fn answer_words<T: Threads + Wait + Sync, R: Read, O: Write, E: Write>(
         × HasFault (R.remaining reader.old) (R.remaining reader.new) fault
         × (fault ≢ ScenarioFault.Write → out.new ≡ out.old)
         × (fault ≡ ScenarioFault.Write
-        → IsCutShort (R.remaining reader.old) (R.remaining reader.new)
+        → (has_refused out.new ≡ true)
+        × IsCutShort (R.remaining reader.old) (R.remaining reader.new)
         (watched_contents O.contents out.old) (watched_contents O.contents out.new))
         × (is_closed out.new ≡ false
         → has_refused err.new ≡ false
@@ -404,6 +420,7 @@ pub fn answer_words<T: Threads + Wait + Sync, R: Read, O: Write, E: Write>(
         → has_refused err.new ≡ false
         → (fault : ThreadsFault)
         × (fault ≢ ThreadsFault.Write → out.new ≡ out.old)
+        × (fault ≡ ThreadsFault.Write → has_refused out.new ≡ true)
         × Appends (watched_contents E.contents err.old)
         (watched_contents E.contents err.new) (threads_fault_line fault) }
     ensures reports_failed { result ≡ 1
@@ -415,7 +432,8 @@ pub fn answer_words<T: Threads + Wait + Sync, R: Read, O: Write, E: Write>(
         ⊎ (HasFault (R.remaining reader.old) (R.remaining reader.new) fault
         × (fault ≢ ScenarioFault.Write → out.new ≡ out.old)
         × (fault ≡ ScenarioFault.Write
-        → IsReportCut found (R.remaining reader.old)
+        → (has_refused out.new ≡ true)
+        × IsReportCut found (R.remaining reader.old)
         (R.remaining reader.new)
         (watched_contents O.contents out.old)
         (watched_contents O.contents out.new))))
@@ -426,13 +444,26 @@ pub fn answer_words<T: Threads + Wait + Sync, R: Read, O: Write, E: Write>(
     ensures serve_failed { result ≡ 1
         → NameServe (map string_bytes words.now)
         → (fault : ScenarioFault)
-        × ((fault ≡ ScenarioFault.OutOfMemory) × (out.new ≡ out.old)
-        ⊎ IsStopped fault (R.remaining reader.old) (R.remaining reader.new)
-        (watched_contents O.contents out.old) (watched_contents O.contents out.new))
+        × IsStopped fault (R.remaining reader.old) (R.remaining reader.new)
+        (watched_contents O.contents out.old) (watched_contents O.contents out.new)
+        × (¬ IsLate fault → out.new ≡ out.old)
+        × (fault ≡ ScenarioFault.Write → has_refused out.new ≡ true)
         × (is_closed out.new ≡ false
         → has_refused err.new ≡ false
         → Appends (watched_contents E.contents err.old)
         (watched_contents E.contents err.new) (fault_line fault)) }
+
+    // Help or the version, of which some could not be written.
+    ensures help_failed { result ≡ 1
+        → 1 ≤ length words.now
+        → faults_of_words (map string_bytes words.now) ≢ []
+        → is_closed out.new ≡ false
+        → has_refused err.new ≡ false
+        → (fault : ScenarioFault)
+        × ((fault ≡ ScenarioFault.OutOfMemory) × (out.new ≡ out.old)
+        ⊎ (fault ≡ ScenarioFault.Write) × (has_refused out.new ≡ true))
+        × Appends (watched_contents E.contents err.old)
+        (watched_contents E.contents err.new) (fault_line fault) }
 
     // A usage error, and words that ask for no input.
     ensures refused { result ≡ 2 → (out.new ≡ out.old) × (reader.new ≡ reader.old) }
@@ -533,9 +564,9 @@ pub fn run_words<T: Threads + Wait + Sync, R: Read, O: Write, E: Write>(
     ensures serve_failed { result ≡ 1
         → NameServe (map string_bytes words.now)
         → (fault : ScenarioFault)
-        × ((fault ≡ ScenarioFault.OutOfMemory) × (out.new ≡ out.old)
-        ⊎ IsStopped fault (R.remaining reader.old) (R.remaining reader.new)
-        (O.contents out.old) (O.contents out.new)) }
+        × IsStopped fault (R.remaining reader.old) (R.remaining reader.new)
+        (O.contents out.old) (O.contents out.new)
+        × (¬ IsLate fault → out.new ≡ out.old) }
 
     // A usage error, and words that ask for no input.
     ensures refused { result ≡ 2 → (out.new ≡ out.old) × (reader.new ≡ reader.old) }

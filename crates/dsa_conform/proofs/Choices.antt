@@ -10,7 +10,7 @@ use Rattle.std.proofs.lemmas.List.Elements.{All-weaker, Contains-append_left, Co
 use Rattle.std.proofs.lemmas.List.Elements.{filter_map-append}
 use Rattle.std.proofs.Math.ListN.{get_or-map}
 use Rattle.std.specs.{Prelude.{All, Contains}, List.{list_any}}
-use Rattle.dsa_base.{specs.{Numbers.{numbers_below}, Rows.{passes}}, proofs.NumberLemmas.{numbers_below-miss}}
+use Rattle.dsa_base.{specs.{Lists.{In}, Numbers.{numbers_below}, Rows.{passes}}, proofs.NumberLemmas.{numbers_below-miss}}
 use Rattle.dsa_base.proofs.Tables.{not-both}
 use Rattle.dsa_store.specs.Content.{HeldEntry}
 use Rattle.dsa_regs.specs.declared.Fault.{Fault}
@@ -28,8 +28,8 @@ use Rattle.dsa_scenario.specs.declared.run.Record.{Record, TheVariants.{Stepped,
 use Rattle.dsa_scenario.specs.Lines.{record_text}
 use Rattle.dsa_conform.specs.Allowed.{IsAllowed, AreAllowed, IsAscending, HasOneAnswer, IsNoDispatch}
 use Rattle.dsa_conform.specs.Allowed.{queue_taken, taken_from, offer, offers}
-use Rattle.dsa_conform.specs.Seen.{Seen, shows}
-use Rattle.dsa_conform.proofs.Alike.{stepped, NoneTaken, event_in, one_answer}
+use Rattle.dsa_conform.specs.{Seen.{Seen, shows}, Ways.{queue_of_record}}
+use Rattle.dsa_conform.proofs.SeenAlike.{stepped, NoneTaken, event_in, one_answer}
 
 -- ---- what a function gives of the numbers below a bound
 
@@ -47,7 +47,7 @@ given-behind f n k x false other below h before =
     (before (omega (arith, below, eqb-false k n other)))
 
 -- what it gives of one of them
-given : {X : Type 0} (f : ℕ → Option X) (n k : ℕ) (x : X) → k < n → f k ≡ Some x
+pub given : {X : Type 0} (f : ℕ → Option X) (n k : ℕ) (x : X) → k < n → f k ≡ Some x
     → Contains (filter_map f (numbers_below n)) x
 given f zero k x below h = absurd (omega (arith, below))
 given f (suc n) k x below h =
@@ -124,12 +124,25 @@ offered_is_allowed now e q entry room h =
     })
 
 -- what qualifies has a front
-taken-offer : (w : Work) (e q : ℕ) (o : Option HeldEntry) → front_of w q ≡ o → qualifies w e q ≡ true
+pub taken-offer : (w : Work) (e q : ℕ) (o : Option HeldEntry) → front_of w q ≡ o → qualifies w e q ≡ true
     → (entry : Record) × (offer w e q ≡ Some entry) × (stepped (Dispatch e) (Dispatch (dispatch_of w e q o).0) ≡ entry)
 taken-offer w e q None is may =
     let front : passes (may_take w e) (front_of w q) ≡ true = (and_parts _ _ (and_parts _ _ may).1).1 in
     let bad : false ≡ true = sym (ap (passes (may_take w e)) is) ∙ front in absurd cc
 taken-offer w e q (Some front) is may = (taken_from e q (ticket_of_entry front), rw (may, is) refl, refl)
+
+-- the engine may take the front of a queue that qualifies
+pub takes_from : (now : Running) (e q : ℕ) → (length now.history == now.capacity) ≡ false
+    → qualifies now.state.work e q ≡ true
+    → (entry : Record) × IsAllowed now (Ok (Dispatch e)) entry × (queue_of_record entry ≡ Some q)
+takes_from now e q room may =
+    let found = taken-offer now.state.work e q (front_of now.state.work q) refl may in
+    let is = is_offer now.state.work e q found.0 found.1 in
+    (found.0, offered_is_allowed now e q found.0 room is, ap queue_of_record is.is)
+
+-- an offer tells its queue
+pub offer_tells : (w : Work) (e q : ℕ) (entry : Record) → offer w e q ≡ Some entry → queue_of_record entry ≡ Some q
+offer_tells w e q entry h = ap queue_of_record (is_offer w e q entry h).is
 
 -- a queue that qualifies is one of the device's
 pub below_queues : (w : Work) (e q : ℕ) → qualifies w e q ≡ true → q < w.setup.caps.queues
@@ -159,7 +172,7 @@ is_offered s s' e reply h = next-each (λ r t. IsOffered s e r) s s' (Dispatch e
     at (in_cell cell) may same = absurd cc
 
 -- where there are no offers no entry is taken
-contains-nothing : {X Y : Type 0} (xs : List X) (x : X) → xs ≡ [] → Contains xs x → Y
+pub contains-nothing : {X Y : Type 0} (xs : List X) (x : X) → xs ≡ [] → Contains xs x → Y
 contains-nothing xs x h c = let c : Contains [] x = rw h at c in absurd (omega (arith, c.1))
 
 pub none_offered : (now : Running) (e : ℕ) → offers now.state.work e ≡ [] → NoneTaken now (Dispatch e)
@@ -263,12 +276,12 @@ idle_answer now e empty =
     one_answer now (Ok (Dispatch e))
     (λ event is. subst (NoneTaken now) (ap (event_in (Dispatch e)) is) (none_offered now e empty))
 
-abbrev is_dispatch : Reply → Bool
+abbrev pub is_dispatch : Reply → Bool
 is_dispatch (Dispatch answer) = true
 is_dispatch _ = false
 
 -- no other event is answered as a dispatch is
-answered_otherwise : (s : State) (e : Event) (choice : Choice) → IsNoDispatch (Ok e)
+pub answered_otherwise : (s : State) (e : Event) (choice : Choice) → IsNoDispatch (Ok e)
     → is_dispatch (reply_of s e choice).0 ≡ false
 answered_otherwise s (Dispatch e) choice h = absurd h
 answered_otherwise s _ choice h = refl
@@ -304,3 +317,31 @@ none_shows now e seen room some fails entry h =
     (each (λ other. shows seen other ≡ false) (offer now.state.work e) now.state.work.setup.caps.queues
     (λ q other below g. fails q other below g))
     (allowed_is_offered now e entry room some h)
+
+-- ---- one of a list
+
+pub all_of : {X : Type 0} (P : X → Type 0) (xs : List X) → ((x : X) → In x xs → P x) → All P xs
+all_of P [] h = All-nil P
+all_of P (x ∷ xs) h = All-cons P x xs (h x (inl refl)) (all_of P xs (λ y i. h y (inr i)))
+
+pub all_in : {X : Type 0} (P : X → Type 0) (xs : List X) (x : X) → All P xs → In x xs → P x
+all_in P [] x all i = absurd i
+all_in P (y ∷ ys) x all (inl same) = subst P same (All-head P y ys all)
+all_in P (y ∷ ys) x all (inr i) = all_in P ys x (All-tail P y ys all) i
+
+pub contains_in : {X : Type 0} (xs : List X) (x : X) → Contains xs x → In x xs
+contains_in xs x c = All-contains (λ y. In y xs) xs x (all_of (λ y. In y xs) xs (λ y i. i)) c
+
+pub in_map : {X Y : Type 0} (f : X → Y) (xs : List X) (y : Y) → In y (map f xs) → (x : X) × In x xs × (f x ≡ y)
+in_map f [] y i = absurd i
+in_map f (x ∷ xs) y (inl same) = (x, inl refl, same)
+in_map f (x ∷ xs) y (inr i) = let r = in_map f xs y i in (r.0, inr r.1, r.2)
+
+pub map_in : {X Y : Type 0} (f : X → Y) (xs : List X) (x : X) → In x xs → In (f x) (map f xs)
+map_in f [] x i = absurd i
+map_in f (y ∷ ys) x (inl same) = inl (ap f same)
+map_in f (y ∷ ys) x (inr i) = inr (map_in f ys x i)
+
+pub some_of : {X : Type 0} (xs : List X) → (xs ≡ [] → ⊥) → (x : X) × In x xs
+some_of [] full = absurd (full refl)
+some_of (x ∷ xs) full = (x, inl refl)

@@ -16,54 +16,70 @@ use Rattle.dsa_scenario.specs.declared.{run.Record.{Record}, faults.ScenarioFaul
 use Rattle.dsa_scenario.specs.declared.faults.ScenarioFault.TheVariants as fault
 use Rattle.dsa_scenario.specs.{Document.{HasHead}, Run.{ticket_given_by, event_of, IsTable}}
 use Rattle.dsa_explain_lines.specs.Parts.{part_of}
-use Rattle.dsa_conform.specs.declared.following.Followed.{Followed, TheVariants.{Shown, Differs}}
-use Rattle.dsa_conform.specs.Allowed.{IsFollowed}
+use Rattle.dsa_conform.specs.declared.way.Way.{Way}
 use Rattle.dsa_scenario.specs.declared.actions.Action.{Action}
-use Rattle.dsa_conform.specs.Lines.{conforms_text, seen_count, difference_text, difference_of, records_of}
-use Rattle.dsa_conform.specs.Run.{AreRead, IsConforming, IsDifference, IsDiffering, IsFollowedTo, IsStepped}
-use Rattle.dsa_conform.specs.Run.{IsVerdict, IsConformance}
+use Rattle.dsa_conform.specs.Lines.{conforms_text, seen_count}
+use Rattle.dsa_conform.specs.Run.{AreRead, IsConforming, IsDifference, IsDiffering, IsFollowedTo, IsVerdict, IsConformance}
 use Rattle.dsa_conform.specs.Seen.{Seen, is_seen, observation_of}
-use Rattle.dsa_conform.proofs.{Objects.{IsReadAt, read_at, count_read}, Walks.{reached, followed_more, goes_no_further}}
-
--- what one step has come to, after those before
-abbrev pub Goes : ℕ → Running → List Ticket → Running → List Ticket → Action × Seen → Option (List ℕ) → Type 0
-Goes i now tickets new more here differs = (caps : Caps) → (capacity : ℕ) → (done : List (Action × Seen))
-    → IsFollowedTo caps capacity done i now tickets → IsStepped caps capacity done here i new more differs
+use Rattle.dsa_conform.specs.Ways.{AreFollowed, IsReadTo}
+use Rattle.dsa_conform.proofs.{Objects.{IsReadAt, read_at, count_read}, Walks.{reached}}
+use Rattle.dsa_conform.proofs.NamedEnds.{observed_named, all_named, take_named}
 
 -- what is read of an item is what was parsed of it
 parsed : (observed : List (Action × Seen)) (i : ℕ) (v : Value) (here : Action × Seen) (at : IsReadAt observed i v)
     → Some here ≡ observation_of (view v) → at.here ≡ here
 parsed observed i v here at h = same_Some at.here here (sym at.reads ∙ sym h)
 
--- a step that is followed
-pub step_followed : (vs : List Value) (observed : List (Action × Seen)) (i : ℕ) (v : Value) (here : Action × Seen)
-    (caps : Caps) (capacity : ℕ) (now new : Running) (tickets more : List Ticket) (differs : Option (List ℕ))
-    → AreRead (map view vs) observed → i < length vs → v ≡ get_or vs i v → Some here ≡ observation_of (view v)
-    → Goes i now tickets new more here differs → differs ≡ None
+-- a device that has come by one step more of those that are read
+pub come_on : (vs : List Value) (observed : List (Action × Seen)) (i : ℕ) (v : Value) (here : Action × Seen) (caps : Caps)
+    (capacity : ℕ) (now new : Running) (tickets more : List Ticket) → AreRead (map view vs) observed → i < length vs
+    → v ≡ get_or vs i v → Some here ≡ observation_of (view v)
+    → ((caps : Caps) → (capacity : ℕ) → (done : List (Action × Seen)) → (number : ℕ)
+    → IsFollowedTo caps capacity done number now tickets
+    → IsFollowedTo caps capacity (done ++ here ∷ []) (number + 1) new more)
     → IsFollowedTo caps capacity (take i observed) i now tickets
     → IsFollowedTo caps capacity (take (i + 1) observed) (i + 1) new more
-step_followed vs observed i v here caps capacity now new tickets more differs read inside is reads goes none h =
+come_on vs observed i v here caps capacity now new tickets more read inside is reads goes h =
     let at = read_at vs observed i v read inside is in
-    let same = parsed observed i v here at reads in
-    let on : IsStepped caps capacity (take i observed) here i new more None =
-    subst (λ o. IsStepped caps capacity (take i observed) here i new more o) none
-    (goes caps capacity (take i observed) h) in
     subst (λ done. IsFollowedTo caps capacity done (i + 1) new more)
-    (sym (at.more ∙ ap (λ o. take i observed ++ o ∷ []) same)) on
+    (sym (at.more ∙ ap (λ o. take i observed ++ o ∷ []) (parsed observed i v here at reads)))
+    (goes caps capacity (take i observed) i h)
 
--- a step that is not
-pub step_differs : (vs : List Value) (observed : List (Action × Seen)) (i : ℕ) (v : Value) (here : Action × Seen)
-    (caps : Caps) (capacity : ℕ) (now new : Running) (tickets more : List Ticket) (differs : Option (List ℕ))
-    (text : List ℕ) → AreRead (map view vs) observed → i < length vs → v ≡ get_or vs i v
-    → Some here ≡ observation_of (view v) → Goes i now tickets new more here differs → differs ≡ Some text
-    → IsFollowedTo caps capacity (take i observed) i now tickets → IsDiffering caps capacity (map view vs) i text
-step_differs vs observed i v here caps capacity now new tickets more differs text read inside is reads goes some h =
+-- what is read at a place
+pub read_to : (vs : List Value) (observed : List (Action × Seen)) (i : ℕ) (v : Value) (here : Action × Seen)
+    → AreRead (map view vs) observed → i < length vs → v ≡ get_or vs i v → Some here ≡ observation_of (view v)
+    → IsReadTo (map view vs) observed i here
+read_to vs observed i v here read inside is reads =
     let at = read_at vs observed i v read inside is in
-    let same = parsed observed i v here at reads in
-    let on : IsDifference caps capacity (take i observed) here i text =
-    subst (λ o. IsStepped caps capacity (take i observed) here i new more o) some
-    (goes caps capacity (take i observed) h) in
-    record { observed = observed; read = read; here = here; at = at.at ∙ ap (λ o. Some o) same; differs = on }
+    record {
+      read = read;
+      more = at.more ∙ ap (λ o. take i observed ++ o ∷ []) (parsed observed i v here at reads);
+      named = take_named i observed (all_named (map view vs) observed read);
+      is_named = observed_named (view v) here (sym reads);
+    }
+
+-- the same devices, one step later
+pub stepped_to : (vs : List Value) (observed : List (Action × Seen)) (i : ℕ) (here : Action × Seen) (caps : Caps)
+    (capacity : ℕ) (ways : List Way) → IsReadTo (map view vs) observed i here
+    → AreFollowed caps capacity (take i observed ++ here ∷ []) (i + 1) ways
+    → AreFollowed caps capacity (take (i + 1) observed) (i + 1) ways
+stepped_to vs observed i here caps capacity ways read h =
+    subst (λ done. AreFollowed caps capacity done (i + 1) ways) (sym read.more) h
+
+-- the step that differs
+pub differs_at : (vs : List Value) (observed : List (Action × Seen)) (i : ℕ) (v : Value) (here : Action × Seen)
+    (caps : Caps) (capacity : ℕ) (text : List ℕ) → AreRead (map view vs) observed → i < length vs → v ≡ get_or vs i v
+    → Some here ≡ observation_of (view v) → IsDifference caps capacity (take i observed) here i text
+    → IsDiffering caps capacity (map view vs) i text
+differs_at vs observed i v here caps capacity text read inside is reads h =
+    let at = read_at vs observed i v read inside is in
+    record {
+      observed = observed;
+      read = read;
+      here = here;
+      at = at.at ∙ ap (λ o. Some o) (parsed observed i v here at reads);
+      differs = h;
+    }
 
 -- one observation more is counted
 pub count_more : (vs : List Value) (observed : List (Action × Seen)) (i : ℕ) (v : Value) (here : Action × Seen)
@@ -85,15 +101,16 @@ reads_item vs observed i v read inside is none =
     let bad : None ≡ Some at.here = none ∙ at.reads in absurd cc
 
 -- all of them were followed
-pub conforms : (vs : List Value) (observed : List (Action × Seen)) (i : ℕ) (caps : Caps) (capacity : ℕ) (now : Running)
-    (tickets : List Ticket) (answers : ℕ) (text : List ℕ) → AreRead (map view vs) observed → length vs ≤ i
-    → IsFollowedTo caps capacity (take i observed) i now tickets → answers ≡ seen_count (take i observed)
+pub conforms : (vs : List Value) (observed : List (Action × Seen)) (i : ℕ) (caps : Caps) (capacity : ℕ)
+    (ways : List Way) (answers : ℕ) (text : List ℕ) → AreRead (map view vs) observed → length vs ≤ i
+    → AreFollowed caps capacity (take i observed) i ways → answers ≡ seen_count (take i observed)
     → text ≡ conforms_text (length vs) answers → IsConforming caps capacity (map view vs) text
-conforms vs observed i caps capacity now tickets answers text read past h counted told =
+conforms vs observed i caps capacity ways answers text read past h counted told =
     let count = count_read vs observed read in
     let all : take i observed ≡ observed = take_all i observed (rw count past) in
-    let h : IsFollowedTo caps capacity observed i now tickets = rw all at h in
-    let at = reached caps capacity now observed i tickets h in
+    let way = h.some in
+    let at = reached caps capacity way.0.device observed i way.0.tickets.items
+    (subst (λ done. IsFollowedTo caps capacity done i way.0.device way.0.tickets.items) all (h.each way.0 way.1)) in
     record {
       observed = observed;
       read = read;
@@ -116,23 +133,3 @@ conformance_of bytes caps capacity steps None text head good small h =
 conformance_of bytes caps capacity steps (Some (fault.Differs i)) text head good small h =
     record { caps = caps; capacity = capacity; steps = steps; head = head; good = good; small = small; verdict = h }
 conformance_of bytes caps capacity steps (Some _) text head good small h = absurd h
-
--- a step of which something was seen
-pub stepped_on : (caps : Caps) (capacity : ℕ) (now new : Running) (done : List (Action × Seen)) (here : Action × Seen)
-    (number : ℕ) (tickets more : List Ticket) (asked : Result Event Fault) (told : List ℕ) (followed : Followed)
-    (differing : Option (List ℕ))
-    → ((before : List Record) → IsTable (slice_get tickets) before → asked ≡ event_of before here.0)
-    → IsFollowed now asked here.1 new followed → told ≡ part_of now asked
-    → more ≡ tickets ++ filter_map ticket_given_by (records_of followed)
-    → differing ≡ difference_of number here.1 told followed → IsFollowedTo caps capacity done number now tickets
-    → IsStepped caps capacity done here number new more differing
-stepped_on caps capacity now new done here number tickets more asked told (Shown entry) differing asks goes why noted
-    says h =
-    rw says (followed_more caps capacity now new done here number tickets more entry
-    (λ before t. goes.0 ∙ asks before t) goes.1 noted goes.2 h)
-stepped_on caps capacity now new done here number tickets more asked told (Differs allowed) differing asks goes why
-    noted
-    says h =
-    rw says (goes_no_further caps capacity now done here number tickets asked allowed.items
-    (difference_text number here.1 told allowed.items) asks goes.0 goes.1
-    (ap (λ reason. difference_text number here.1 reason allowed.items) why) h)

@@ -11,10 +11,7 @@ use Rattle.dsa_scenario.specs.declared.{actions.Action.{Action}, run.Record.{Rec
 use Rattle.dsa_scenario.specs.Run.{ticket_given_by, event_of, answered_by, Leads, IsTable}
 use Rattle.dsa_scenario.specs.Steps.{standing, Visit, visit, visits, IsWalkTo}
 use Rattle.dsa_scenario.proofs.Walks.{stands, one_more, opened}
-use Rattle.dsa_explain_lines.specs.Parts.{part_of}
-use Rattle.dsa_conform.specs.Allowed.{AreAllowed, NoneShows}
-use Rattle.dsa_conform.specs.Lines.{difference_text}
-use Rattle.dsa_conform.specs.Run.{IsShownRun, IsRefusal, IsDifference, IsFollowedTo}
+use Rattle.dsa_conform.specs.Run.{IsShownRun, IsFollowedTo}
 use Rattle.dsa_conform.specs.Seen.{Seen, is_seen, answer_shown, zf_shown, shows, AreShown}
 
 -- the records of a run's steps are its records
@@ -84,24 +81,20 @@ reached caps capacity now done number tickets h = record {
   table = h.table;
 }
 
--- a walk that goes no further
-pub goes_no_further : (caps : Caps) (capacity : ℕ) (now : Running) (done : List (Action × Seen)) (here : Action × Seen)
-    (number : ℕ) (tickets : List Ticket) (asked : Result Event Fault) (allowed : List Record) (text : List ℕ)
-    → ((before : List Record) → IsTable (slice_get tickets) before → asked ≡ event_of before here.0)
-    → AreAllowed now asked allowed → NoneShows now asked here.1
-    → text ≡ difference_text number here.1 (part_of now asked) allowed
-    → IsFollowedTo caps capacity done number now tickets → IsDifference caps capacity done here number text
-goes_no_further caps capacity now done here number tickets asked allowed text asks all none told h =
-    let at = reached caps capacity now done number tickets h in
-    let here_asked : asked ≡ event_of at.records here.0 = asks at.records at.table in
-    let refused : IsRefusal now number asked here.1 text =
-    record { allowed = allowed; all = all; none = none; told = told } in
-    record {
-      records = at.records;
-      run = at.run;
-      refused = subst (λ d. IsRefusal d number (event_of at.records here.0) here.1 text) (sym at.stands)
-          (subst (λ q. IsRefusal now number q here.1 text) here_asked refused);
-    }
+-- the records of a walk are a run, and lead to where the device stands
+pub shown_run : (caps : Caps) (capacity : ℕ) (done : List (Action × Seen)) (number : ℕ) (now : Running)
+    (tickets : List Ticket) (h : IsFollowedTo caps capacity done number now tickets)
+    → IsShownRun caps capacity done h.records
+shown_run caps capacity done number now tickets h = record {
+  of_actions = h.of_actions;
+  run = rw h.run.added h.run.allowed;
+  shown = subst (λ rs. AreShown (map (λ o. o.1) done) rs) (entries-visits caps capacity [] h.records) h.made;
+}
+
+pub stands_at : (caps : Caps) (capacity : ℕ) (done : List (Action × Seen)) (number : ℕ) (now : Running)
+    (tickets : List Ticket) (h : IsFollowedTo caps capacity done number now tickets)
+    → standing caps capacity h.records ≡ now
+stands_at caps capacity done number now tickets h = stands caps capacity h.records now h.run
 
 -- a new device has come by nothing
 pub followed_none : (caps : Caps) (capacity : ℕ) (now : Running) (tickets : List Ticket)

@@ -79,4 +79,5 @@ HasOneAnswer now asked = (first second : Record) → IsAllowed now asked first �
 abbrev pub IsFollowed : Running → Result Event Fault → Seen → Running → Followed → Type 0
 IsFollowed now asked seen new (Shown entry) =
     (answered_by entry ≡ asked) × Leads now entry new × (shows seen entry ≡ true)
-IsFollowed now asked seen new (Differs allowed) = AreAllowed now asked allowed.items × NoneShows now asked seen
+IsFollowed now asked seen new (Differs allowed) =
+    AreAllowed now asked allowed.items × NoneShows now asked seen × ((entry : Record) × IsAllowed now asked entry)

@@ -1,12 +1,12 @@
 -- What is told of a document whose steps say what was seen.
 use Rattle.std.specs.Prelude.{ℕ, Bool, true, false, List, [], ◌∷◌, ◌++◌, count_by, flat_map, codes, decimal}
-use Rattle.std.specs.Prelude.{Option, Some, None}
+use Rattle.std.specs.Prelude.{Option, Some, None, ◌≡◌, ◌≤◌, ⊤}
+use Rattle.dsa_base.specs.Lists.{In}
 use Rattle.dsa_event_text.specs.Text.{count_text}
 use Rattle.dsa_scenario.specs.declared.{actions.Action.{Action}, run.Record.{Record}}
 use Rattle.dsa_scenario.specs.Lines.{record_text}
 use Rattle.dsa_explain_lines.specs.Lines.{asked_words, shown}
-use Rattle.dsa_conform.specs.declared.following.Followed.{Followed, TheVariants.{Shown, Differs}}
-use Rattle.dsa_conform.specs.Seen.{Seen, is_seen}
+use Rattle.dsa_conform.specs.{Allowed.{queue_taken}, Seen.{Seen, is_seen}}
 
 -- how many steps there are, and of how many something was seen (profile)
 abbrev pub conforms_text : ℕ → ℕ → List ℕ
@@ -39,18 +39,26 @@ allowed_line told entry = codes "allowed: " ++ record_text entry ++ (shown told 
 abbrev pub asked_step_line : ℕ → Record → List ℕ
 asked_step_line number entry = codes "step " ++ decimal number ++ codes ": " ++ asked_words entry ++ codes "\n"
 
--- the step, what was seen of it, and what was allowed (profile)
-abbrev pub difference_text : ℕ → Seen → List ℕ → List Record → List ℕ
-difference_text number seen told [] = []
-difference_text number seen told (entry ∷ entries) =
-    asked_step_line number entry ++ seen_line seen ++ flat_map (allowed_line told) (entry ∷ entries)
+-- the step, what was seen of it, and the lines of what was allowed (profile)
+abbrev pub difference_text : ℕ → Seen → List (Record × List ℕ) → List ℕ
+difference_text number seen [] = []
+difference_text number seen (line ∷ lines) =
+    asked_step_line number line.0 ++ seen_line seen ++ flat_map (λ l. l.1) (line ∷ lines)
 
--- what is told of a step that does not go on
-abbrev pub difference_of : ℕ → Seen → List ℕ → Followed → Option (List ℕ)
-difference_of number seen told (Shown entry) = None
-difference_of number seen told (Differs allowed) = Some (difference_text number seen told allowed.items)
+-- each element is so related to every later one
+abbrev pub IsPairwise : {X : Type 0} → (X → X → Type 0) → List X → Type 0
+IsPairwise R [] = ⊤
+IsPairwise R (x ∷ xs) = ((later : _) → In later xs → R x later) × IsPairwise R xs
 
--- the answer of a step that goes on
-abbrev pub records_of : Followed → List Record
-records_of (Shown entry) = entry ∷ []
-records_of (Differs allowed) = []
+-- no line tells of a higher queue to take from than a later one
+abbrev pub AreInOrder : List (Record × List ℕ) → Type 0
+AreInOrder lines = IsPairwise (λ line later. queue_taken line.0 ≤ queue_taken later.0) lines
+
+-- no two lines have the same text
+abbrev pub AreDifferent : List (Record × List ℕ) → Type 0
+AreDifferent lines = IsPairwise (λ line later. ¬ (line.1 ≡ later.1)) lines
+
+-- the lines are in ascending order of the queue taken from, and none comes twice (profile)
+pub record AreListed (lines : List (Record × List ℕ)) : Type 0 where
+  pub order : AreInOrder lines
+  pub once : AreDifferent lines

@@ -3,7 +3,8 @@ use Rattle.std.specs.Prelude.{◌≡◌, ℕ, ◌+◌, ◌≤◌, ◌^◌, true,
 use Rattle.std.specs.Prelude.{[], ◌∷◌, ◌++◌, length, map, take, slice_get, option_map}
 use Rattle.std.specs.Prelude.{Option, Some, None, Result}
 use Rattle.serde_json.specs.Data.{Data}
-use Rattle.dsa_regs.specs.{declared.Caps.{Caps}, declared.Fault.{Fault}, Caps.{check_caps}}
+use Rattle.dsa_base.specs.Lists.{In}
+use Rattle.dsa_regs.specs.{declared.Caps.{Caps}, Caps.{check_caps}}
 use Rattle.dsa_book.specs.{declared.{answer.Ticket.{Ticket}, event.Event.{Event}}, Machine.{is_run}}
 use Rattle.dsa_device.specs.Running.{Running}
 use Rattle.dsa_scenario.specs.declared.{actions.Action.{Action}, run.Record.{Record}}
@@ -11,8 +12,8 @@ use Rattle.dsa_scenario.specs.declared.faults.ScenarioFault.{ScenarioFault, TheV
 use Rattle.dsa_scenario.specs.{Document.{HasHead, IsFaultOf}, Run.{event_of, steps_of_records, AreOf}}
 use Rattle.dsa_scenario.specs.Steps.{standing, IsWalkTo}
 use Rattle.dsa_explain_lines.specs.Parts.{part_of}
-use Rattle.dsa_conform.specs.Allowed.{AreAllowed, NoneShows}
-use Rattle.dsa_conform.specs.Lines.{conforms_text, seen_count, difference_text}
+use Rattle.dsa_conform.specs.Allowed.{IsAllowed}
+use Rattle.dsa_conform.specs.Lines.{AreListed, conforms_text, seen_count, allowed_line, difference_text}
 use Rattle.dsa_conform.specs.Seen.{Seen, observation_of, AreShown}
 
 -- ---- runs
@@ -24,21 +25,44 @@ pub record IsShownRun (caps : Caps) (capacity : ℕ) (observed : List (Action ×
   pub run : is_run caps capacity (steps_of_records records) ≡ true
   pub shown : AreShown (map (λ o. o.1) observed) records
 
--- none of the answers that are allowed where the device stands so shows what was seen, and the text tells of them
--- with their reasons (profile)
-pub record IsRefusal (now : Running) (number : ℕ) (asked : Result Event Fault) (seen : Seen) (text : List ℕ)
-    : Type 0 where
-  pub allowed : List Record
-  pub all : AreAllowed now asked allowed
-  pub none : NoneShows now asked seen
-  pub told : text ≡ difference_text number seen (part_of now asked) allowed
-
--- a run shows what was seen before, and where it leads to no answer shows what was seen of this step (profile)
-pub record IsDifference (caps : Caps) (capacity : ℕ) (before : List (Action × Seen)) (here : Action × Seen)
-    (number : ℕ) (text : List ℕ) : Type 0 where
+-- an answer that is allowed after a run that shows what was seen before, and its line with the reason that
+-- a device has there (profile)
+pub record IsAllowedLine (caps : Caps) (capacity : ℕ) (before : List (Action × Seen)) (action : Action) (entry : Record)
+    (line : List ℕ) : Type 0 where
   pub records : List Record
   pub run : IsShownRun caps capacity before records
-  pub refused : IsRefusal (standing caps capacity records) number (event_of records here.0) here.1 text
+  pub allowed : IsAllowed (standing caps capacity records) (event_of records action) entry
+  pub told : line ≡ allowed_line (part_of (standing caps capacity records) (event_of records action)) entry
+
+-- a device has this reason after a run that shows what was seen before (profile)
+pub record IsReason (caps : Caps) (capacity : ℕ) (before : List (Action × Seen)) (action : Action) (reason : List ℕ)
+    : Type 0 where
+  pub records : List Record
+  pub run : IsShownRun caps capacity before records
+  pub is : reason ≡ part_of (standing caps capacity records) (event_of records action)
+
+-- the lines are those of answers that are allowed, in ascending order of the queue taken from and none twice, and
+-- whatever is allowed after a run that shows what was seen before has its line, with the reason after some such run
+-- (profile)
+pub record AreAllLines (caps : Caps) (capacity : ℕ) (before : List (Action × Seen)) (action : Action)
+    (lines : List (Record × List ℕ)) : Type 0 where
+  pub each : (line : Record × List ℕ) → In line lines → IsAllowedLine caps capacity before action line.0 line.1
+  pub all : (records : List Record) → IsShownRun caps capacity before records → (entry : Record)
+      → IsAllowed (standing caps capacity records) (event_of records action) entry
+      → (line : Record × List ℕ) × In line lines
+      × ((reason : List ℕ) × IsReason caps capacity before action reason × (line.1 ≡ allowed_line reason entry))
+  pub listed : AreListed lines
+
+-- some run shows what was seen before, none shows what was seen of this step too, and the text tells what
+-- was allowed (profile)
+pub record IsDifference (caps : Caps) (capacity : ℕ) (before : List (Action × Seen)) (here : Action × Seen)
+    (number : ℕ) (text : List ℕ) : Type 0 where
+  pub some : List Record
+  pub run : IsShownRun caps capacity before some
+  pub none : (records : List Record) → ¬ IsShownRun caps capacity (before ++ here ∷ []) records
+  pub lines : List (Record × List ℕ)
+  pub told : AreAllLines caps capacity before here.0 lines
+  pub is : text ≡ difference_text number here.1 lines
 
 -- ---- the steps of a document
 
@@ -60,7 +84,7 @@ pub record IsConforming (caps : Caps) (capacity : ℕ) (steps : List Data) (text
   pub run : IsShownRun caps capacity observed records
   pub told : text ≡ conforms_text (length observed) (seen_count observed)
 
--- a device has a run whose answers show what was seen before step i, and then none (profile)
+-- some run shows what was seen before step i, and none shows what was seen up to it (profile)
 pub record IsDiffering (caps : Caps) (capacity : ℕ) (steps : List Data) (i : ℕ) (text : List ℕ) : Type 0 where
   pub observed : List (Action × Seen)
   pub read : AreRead steps observed
@@ -108,18 +132,3 @@ abbrev pub IsFollowedTo : Caps → ℕ → List (Action × Seen) → ℕ → Run
 IsFollowedTo caps capacity done number now tickets =
     IsWalkTo (λ steps seens. AreShown seens (map (λ step. step.entry) steps)) caps capacity (map (λ o. o.0) done)
     number now tickets (map (λ o. o.1) done)
-
--- after one step more: it has come by that too, or the text tells of the difference
-abbrev pub IsStepped : Caps → ℕ → List (Action × Seen) → Action × Seen → ℕ → Running → List Ticket
-    → Option (List ℕ) → Type 0
-IsStepped caps capacity done here number now tickets None =
-    IsFollowedTo caps capacity (done ++ here ∷ []) (number + 1) now tickets
-IsStepped caps capacity done here number now tickets (Some text) =
-    IsDifference caps capacity done here number text
-
--- by one step more a device comes from where some steps have led to one of the two
-abbrev pub IsNextStep : Action × Seen → ℕ → Running → List Ticket → Running → List Ticket → Option (List ℕ) → Type 0
-IsNextStep here number now tickets new more differs =
-    (caps : Caps) → (capacity : ℕ) → (done : List (Action × Seen))
-    → IsFollowedTo caps capacity done number now tickets
-    → IsStepped caps capacity done here number new more differs

@@ -1,9 +1,10 @@
 -- Observations and answers that the worked rows speak of.
 use Rattle.dsa_book.specs.declared.answer.Reply.TheVariants as reply
 use Rattle.dsa_book.specs.declared.event.Event.TheVariants as event
-use Rattle.std.specs.Prelude.{ℕ, Bool, false, List, [], ◌∷◌, ◌++◌, take, Some, None, codes}
+use Rattle.std.specs.Prelude.{ℕ, Bool, false, List, [], ◌∷◌, ◌++◌, map, take, Some, None, codes}
 use Rattle.dsa_book.specs.declared.answer.{Ticket.{Ticket}, DispatchAnswer.TheVariants.{Taken}}
 use Rattle.dsa_book.specs.declared.answer.{SubmitAnswer.{SubmitAnswer, TheVariants.{Accepted}}}
+use Rattle.dsa_book.specs.declared.answer.FinishAnswer.TheVariants.{Done}
 use Rattle.dsa_book.specs.declared.answer.{IssueAnswer.TheVariants.{Ended}, WriteAnswer.TheVariants.{Written}}
 use Rattle.dsa_book.specs.declared.event.{Kind.TheVariants.{Enqcmd, Movdir64b}, Portal.TheVariants.{Limited}}
 use Rattle.dsa_desc.specs.declared.Outcome.TheVariants.{Success}
@@ -11,7 +12,7 @@ use Rattle.dsa_device.specs.Running.{Running, running_at_first}
 use Rattle.dsa_regs.specs.declared.{Caps.{Caps}, QueueConfig.{QueueConfig}, Fault.TheVariants.{BadCommand}}
 use Rattle.dsa_regs.specs.declared.Command.TheVariants.{EnableDevice, EnableWq}
 use Rattle.dsa_scenario.specs.declared.actions.Action.{Action, TheVariants.{Ask, Finish, Refuse}}
-use Rattle.dsa_scenario.specs.declared.run.Record.{Record}
+use Rattle.dsa_scenario.specs.declared.run.Record.{Record, TheVariants.{Stepped, Refused}}
 use Rattle.dsa_scenario.specs.{Steps.{standing}, Worked.{record_ticket, stepped, fill, caps_of_a_run, queue_of_a_run}}
 use Rattle.dsa_scenario.specs.Worked.{group_of_a_run, submission_of_a_run, smallest_caps, smallest_caps_text, document_text}
 use Rattle.dsa_conform.specs.Seen.{Seen}
@@ -41,6 +42,11 @@ by_movdir answer = stepped (event.Submit 0 0 Limited Movdir64b fill) (reply.Subm
 -- engine 0 takes the entry of this name from the queue
 abbrev pub record_of_a_take : ℕ → ℕ → Record
 record_of_a_take name queue = stepped (event.Dispatch 0) (reply.Dispatch (Taken (record_ticket 3 name) queue))
+
+-- what a record answers, where it is of a step that names no entry
+abbrev pub action_of_record : Record → Action
+action_of_record (Stepped step) = Ask step.event
+action_of_record (Refused fault) = Refuse fault
 
 -- why a queue is not taken from
 abbrev pub idle_words : List ℕ
@@ -93,6 +99,16 @@ from_second = stepped (event.Dispatch 0) (reply.Dispatch (Taken (record_ticket 5
 
 abbrev pub from_third : Record
 from_third = stepped (event.Dispatch 0) (reply.Dispatch (Taken (record_ticket 7 2) 3))
+
+-- the entry of the second queue ends, which the engine has only if it took from there
+abbrev pub end_of_second : Record
+end_of_second = stepped (event.Finish 0 (record_ticket 5 1) Success) (reply.Finish (Done 1))
+
+-- a recording of it, without the answer of the dispatch
+abbrev pub observed_of_two_queues : List (Action × Seen)
+observed_of_two_queues =
+    map (λ entry. (action_of_record entry, nothing_seen)) (records_of_two_queues ++ from_first ∷ [])
+    ++ (Finish 0 1 Success, answered (codes "done 01")) ∷ []
 
 -- how the device stands after so many of these records, and after all
 abbrev pub after_some : ℕ → Running

@@ -1,17 +1,17 @@
-//! What is told of a step that differs.
+//! The lines of a step that differs.
 
-ghost use Rattle.std.specs.Prelude.{◌≡◌, ◌++◌, OnOk, IfOk, flat_map, string_bytes};
-ghost use Rattle.dsa_conform.specs.Lines.{flag_text, seen_words, seen_line, allowed_line, asked_step_line, difference_text};
+ghost use Rattle.std.specs.Prelude.{◌≡◌, ◌++◌, OnOk, string_bytes};
+ghost use Rattle.dsa_conform.specs.Lines.{flag_text, seen_words, seen_line, allowed_line, asked_step_line};
 ghost use Rattle.dsa_conform.specs.Seen.{seen_as};
 
 use crate::observed::Observed;
 use dsa_explain_lines::{add_asked, add_shown};
 use dsa_scenario::{Record, add_answer};
 use itoa::Buffer;
-use std::alloc::{AllocError, Global};
+use std::alloc::AllocError;
 
-// The number of the step, and what was asked.
-fn add_step(text: &mut String, number: usize, entry: &Record) -> Result<(), AllocError>
+/// Adds the number of the step, and what was asked.
+pub fn add_step(text: &mut String, number: usize, entry: &Record) -> Result<(), AllocError>
     ensures { OnOk result
         (string_bytes text.new ≡ string_bytes text.old ++ asked_step_line number entry.now) }
 {
@@ -46,7 +46,8 @@ fn add_seen_words(text: &mut String, seen: &Observed<'_>) -> Result<(), AllocErr
     }
 }
 
-fn add_seen(text: &mut String, seen: &Observed<'_>) -> Result<(), AllocError>
+/// Adds what was seen.
+pub fn add_seen(text: &mut String, seen: &Observed<'_>) -> Result<(), AllocError>
     ensures { OnOk result
         (string_bytes text.new ≡ string_bytes text.old ++ seen_line (seen_as seen.now)) }
 {
@@ -55,44 +56,12 @@ fn add_seen(text: &mut String, seen: &Observed<'_>) -> Result<(), AllocError>
     text.push_str("\n")
 }
 
-fn add_allowed(text: &mut String, told: &str, entry: &Record) -> Result<(), AllocError>
+/// Adds an answer that is allowed, and why it comes.
+pub fn add_allowed(text: &mut String, told: &str, entry: &Record) -> Result<(), AllocError>
     ensures { OnOk result
         (string_bytes text.new ≡ string_bytes text.old ++ allowed_line told.now entry.now) }
 {
     text.push_str("allowed: ")?;
     add_answer(text, entry)?;
     add_shown(text, entry, told)
-}
-
-fn add_all(text: &mut String, told: &str, allowed: &[Record]) -> Result<(), AllocError>
-    ensures { OnOk result
-        (string_bytes text.new
-        ≡ string_bytes text.old ++ flat_map (allowed_line told.now) allowed.now) }
-{
-    for entry in allowed {
-        add_allowed(text, told, entry)?;
-    }
-    Ok(())
-}
-
-/// The step of this number, what was seen of it, and the answers that were allowed, with why they
-/// come.
-pub fn difference_text(
-    alloc: Global,
-    number: usize,
-    seen: &Observed<'_>,
-    told: &str,
-    allowed: &[Record],
-) -> Result<String, AllocError>
-    ensures { IfOk result
-        (λ text. string_bytes text
-        ≡ difference_text number (seen_as seen.now) told.now allowed.now) }
-{
-    let mut text = String::new(alloc);
-    if let Some(first) = allowed.first() {
-        add_step(&mut text, number, first)?;
-        add_seen(&mut text, seen)?;
-        add_all(&mut text, told, allowed)?;
-    }
-    Ok(text)
 }

@@ -1,14 +1,14 @@
 //! One step by what was seen of it.
 
-ghost use Rattle.std.specs.Prelude.{◌≡◌, ◌==◌, true, false, Some, Ok, IfOk, MatchOption, length};
+ghost use Rattle.std.specs.Prelude.{◌≡◌, ◌==◌, true, false, Some, Ok, IfOk, length};
 ghost use Rattle.dsa_book.specs.declared.event.Event.TheVariants as event;
 ghost use Rattle.dsa_book.specs.Work.{qualifies};
 ghost use Rattle.dsa_scenario.specs.Run.{Leads};
 ghost use Rattle.dsa_conform.specs.Seen.{seen_as};
-ghost use Rattle.dsa_conform.specs.Allowed.{HasOneAnswer, IsFollowed, IsNoDispatch, offer};
+ghost use Rattle.dsa_conform.specs.Allowed.{HasOneAnswer, IsFollowed, offer};
 
 use crate::observed::Observed;
-use crate::offering::{find_shown, offers};
+use crate::offering::{asked_engine, find_shown, offers};
 use crate::shown::is_shown;
 use dsa_book::{Event, Reply, Step};
 use dsa_device::Device;
@@ -98,17 +98,6 @@ fn follow_engine<S: EntryStore>(
         return follow_only(alloc, device, &Ok(Event::Dispatch { engine }), seen);
     }
     follow_dispatch(alloc, device, engine, seen)
-}
-
-// The engine that is asked to take an entry.
-fn asked_engine(asked: &Result<Event, Fault>) -> Option<u16>
-    ensures { MatchOption result (IsNoDispatch asked.now)
-        (λ engine. asked.now ≡ Ok (event.Dispatch engine)) }
-{
-    match *asked {
-        Ok(Event::Dispatch { engine }) => Some(engine),
-        _ => None,
-    }
 }
 
 /// Goes on by an answer that is allowed and shows what was seen, or tells all that are allowed

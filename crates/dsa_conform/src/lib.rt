@@ -6,6 +6,7 @@
 //! and each answer that was allowed, with its reason.
 #![tactic(auto)]
 
+mod alike;
 mod difference;
 mod following;
 mod observed;
@@ -13,7 +14,11 @@ mod offering;
 mod rendering;
 pub mod rows;
 mod shown;
+mod step;
+mod told;
 mod walk;
+mod way;
+mod ways;
 
 pub use following::{Followed, follow};
 pub use observed::{Observed, parse_observed, parse_step};

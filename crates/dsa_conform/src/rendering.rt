@@ -5,8 +5,6 @@ ghost use Rattle.dsa_conform.specs.Run.{IsConformance, IsOtherFault};
 
 use crate::observed::first_unread;
 use crate::walk::walk_steps;
-use dsa_cells::LinkedStore;
-use dsa_regs::{cell_count, list_count};
 use dsa_scenario::{Render, Rendering, ScenarioFault, check_head, parse_head, parse_json};
 use std::alloc::Global;
 
@@ -43,9 +41,7 @@ pub fn render_conformance(alloc: Global, bytes: &[u8]) -> Result<Rendering, Scen
         });
     }
     check_head(&head.caps, head.capacity)?;
-    let lists = list_count(&head.caps);
-    let store = LinkedStore::new(alloc, lists, cell_count(&head.caps))?;
-    let verdict = walk_steps(alloc, store, &head)?;
+    let verdict = walk_steps(alloc, &head)?;
     Ok(Rendering {
         text: verdict.text,
         fault: verdict.fault,

@@ -13,10 +13,9 @@ ghost use Rattle.dsa_book.specs.declared.answer.PollAnswer.TheVariants.{Active, 
 ghost use Rattle.dsa_book.specs.declared.answer.Reply.TheVariants as reply;
 ghost use Rattle.dsa_book.specs.declared.event.Event.TheVariants as event;
 ghost use Rattle.dsa_book.specs.declared.event.Kind.TheVariants.{Enqcmd, Movdir64b};
-ghost use Rattle.dsa_desc.specs.declared.Outcome.TheVariants.{Success};
 ghost use Rattle.dsa_regs.specs.declared.Fault.TheVariants.{BadCommand, Busy};
 ghost use Rattle.dsa_device.specs.Running.{running_at_first};
-ghost use Rattle.dsa_scenario.specs.declared.actions.Action.TheVariants.{Ask, Finish, Refuse};
+ghost use Rattle.dsa_scenario.specs.declared.actions.Action.TheVariants.{Ask, Refuse};
 ghost use Rattle.dsa_scenario.specs.declared.faults.ScenarioFault.TheVariants.{NotJson, BadStep, BadCaps, Differs};
 ghost use Rattle.dsa_scenario.specs.declared.run.Record.{Record, TheVariants.{Refused}};
 ghost use Rattle.dsa_scenario.specs.Worked.{whole, object_of, changed, command_step, poll_step, record_ticket, stepped, fill, smallest_caps, smallest_caps_text, no_caps_text, document_text, caps_of_a_run, group_of_a_run, records_of_a_run};
@@ -24,9 +23,10 @@ ghost use Rattle.dsa_conform.specs.declared.following.Followed.TheVariants as fo
 ghost use Rattle.dsa_conform.specs.declared.following.Followed.TheVariants.{Shown};
 ghost use Rattle.dsa_conform.specs.Seen.{seen_of, observation_of, seen_as, shows, zf_of, is_seen, AreShown};
 ghost use Rattle.dsa_conform.specs.Allowed.{IsAllowed, AreAllowed, IsAscending, NoneShows, AreSeenAlike, HasOneAnswer, IsNoDispatch, IsFollowed, offers, queue_taken};
-ghost use Rattle.dsa_conform.specs.Lines.{conforms_text, seen_count, seen_line, difference_text, difference_of, records_of};
-ghost use Rattle.dsa_conform.specs.Run.{IsShownRun, IsRefusal, IsDifference, AreRead, IsUnreadAt, IsConforming, IsDiffering, IsConformance, IsOtherFault};
-ghost use Rattle.dsa_conform.specs.Worked.{answered, flagged, answered_with, nothing_seen, by_enqcmd, by_movdir, observed_of_a_run, record_of_a_take, idle_words, from_first, from_second, from_third, after_some, after_all, smallest_device_at_first, document_of, poll_with};
+ghost use Rattle.dsa_conform.specs.Lines.{allowed_line, conforms_text, seen_count, seen_line, difference_text};
+ghost use Rattle.dsa_conform.specs.Run.{IsShownRun, IsDifference, AreRead, IsUnreadAt, IsConforming, IsDiffering, IsConformance, IsOtherFault};
+ghost use Rattle.dsa_conform.specs.Ways.{queue_of_record, queues_taken};
+ghost use Rattle.dsa_conform.specs.Worked.{records_of_two_queues, observed_of_two_queues, end_of_second, caps_of_three_queues, answered, flagged, answered_with, nothing_seen, by_enqcmd, by_movdir, observed_of_a_run, record_of_a_take, idle_words, from_first, from_second, from_third, after_some, after_all, smallest_device_at_first, document_of, poll_with};
 
 /// What a step object says was seen.
 pub fn observations()
@@ -222,6 +222,10 @@ pub fn followed()
 #[tactic(auto, unfolding(dsa_scenario::specs::Worked::digits_on_literals))]
 pub fn a_run()
     ensures conforms { IsShownRun caps_of_a_run 7 observed_of_a_run records_of_a_run }
+    ensures second_queue { IsShownRun caps_of_three_queues 10 observed_of_two_queues
+        (records_of_two_queues ++ from_second ∷ end_of_second ∷ []) }
+    ensures first_queue { ¬ IsShownRun caps_of_three_queues 10 observed_of_two_queues
+        (records_of_two_queues ++ from_first ∷ end_of_second ∷ []) }
     ensures fewer { ¬ AreShown (nothing_seen ∷ []) [] }
     ensures more { ¬ AreShown [] (Refused BadCommand ∷ []) }
     ensures second_not_shown { ¬ AreShown (nothing_seen ∷ answered (codes "idle") ∷ [])
@@ -240,26 +244,39 @@ pub fn a_run()
 pub fn texts()
     ensures conforms { conforms_text 9 4 ≡ codes "conforms: 9 steps, 4 answers seen\n" }
     ensures one { conforms_text 1 1 ≡ codes "conforms: 1 step, 1 answer seen\n" }
-    ensures idle { difference_text 17 (answered (codes "idle")) idle_words
-        (record_of_a_take 7 0 ∷ record_of_a_take 9 2 ∷ [])
+    ensures idle { difference_text 17 (answered (codes "idle"))
+        ((record_of_a_take 7 0, allowed_line idle_words (record_of_a_take 7 0))
+        ∷ (record_of_a_take 9 2, allowed_line [] (record_of_a_take 9 2))
+        ∷ [])
         ≡ codes
         "step 17: dispatch e0\nseen: idle\nallowed: taken 7 from 0\nallowed: taken 9 from 2\n" }
-    ensures poll { difference_text 3 (answered (codes "active")) (codes ": no command is active")
-        (stepped event.Poll (reply.Poll Nothing) ∷ [])
+    ensures poll { difference_text 3 (answered (codes "active"))
+        ((
+          stepped event.Poll (reply.Poll Nothing),
+          allowed_line (codes ": no command is active") (stepped event.Poll (reply.Poll Nothing)),
+        )
+        ∷ [])
         ≡ codes "step 3: poll\nseen: active\nallowed: nothing: no command is active\n" }
     ensures both { seen_line (answered_with (codes "accepted 3") false)
         ≡ codes "seen: accepted 3, zf false\n" }
     ensures nothing { seen_line nothing_seen ≡ codes "seen: \n" }
-    ensures none { difference_text 3 (answered (codes "active")) [] [] ≡ [] }
-    ensures goes_on { difference_of 3 nothing_seen [] (Shown (record_of_a_take 7 0)) ≡ None }
-    ensures record { records_of (Shown (record_of_a_take 7 0)) ≡ record_of_a_take 7 0 ∷ [] }
-    ensures differs { (v : Vec Record Global)
-        → v.items ≡ record_of_a_take 7 0 ∷ []
-        → difference_of 3 (answered (codes "idle")) [] (followed.Differs v)
-        ≡ Some (codes "step 3: dispatch e0\nseen: idle\nallowed: taken 7 from 0\n") }
-    ensures no_record { (v : Vec Record Global) → records_of (followed.Differs v) ≡ [] }
-    ensures flag { difference_text 0 (flagged true) [] (Refused BadCommand ∷ [])
+    ensures none { difference_text 3 (answered (codes "active")) [] ≡ [] }
+    ensures flag { difference_text 0 (flagged true)
+        ((Refused BadCommand, allowed_line [] (Refused BadCommand)) ∷ [])
         ≡ codes "step 0: command\nseen: zf true\nallowed: refused 13 BadCommand\n" }
+{}
+
+/// Which queue an answer tells, and the queues that steps took from.
+pub fn queues()
+    ensures taken { map queue_of_record
+        (record_of_a_take 7 2 ∷ by_enqcmd Full ∷ Refused BadCommand ∷ [])
+        ≡ Some 2 ∷ None ∷ None ∷ [] }
+    ensures in_turn { queues_taken
+        (record { event = event.Dispatch 0; reply = reply.Dispatch (Taken (record_ticket 5 1) 2) }
+        ∷ record { event = event.Poll; reply = reply.Poll Nothing }
+        ∷ record { event = event.Dispatch 0; reply = reply.Dispatch (Taken (record_ticket 3 0) 0) }
+        ∷ [])
+        ≡ 2 ∷ 0 ∷ [] }
 {}
 
 /// The first object that is no step object with what was seen.
@@ -277,27 +294,23 @@ pub fn objects()
 {}
 
 /// A difference is told of a step that differs alone, with all that is allowed where the steps
-/// before have led to. Steps conform only where each is read and its answer shows what was seen,
-/// and all are counted.
+/// before may have led to. Steps conform only where each is read and its answer shows what was
+/// seen, and all are counted.
 #[tactic(auto, unfolding(dsa_scenario::specs::Worked::digits_on_literals))]
 pub fn verdicts()
     ensures after_one { IsDifference smallest_caps 1
         ((Ask (event.WriteGroup 0 group_of_a_run), nothing_seen) ∷ [])
         (Ask event.Poll, answered (codes "nothing")) 1
         (codes "step 1: poll\nseen: nothing\nallowed: full: the history has room for 1 step\n") }
-    ensures after_seven { IsDifference caps_of_a_run 7 (take 7 observed_of_a_run)
-        (Finish 0 0 Success, answered (codes "idle")) 7
-        (codes "step 7: finish e0 name 0 success\nseen: idle\nallowed: done 01\n") }
     ensures second { IsDiffering smallest_caps 9
         (changed (codes "word") (whole 0) command_step
         ∷ object_of ((codes "answer", string (codes "active")) ∷ poll_step)
         ∷ [])
         1 (codes "step 1: poll\nseen: active\nallowed: nothing: no command is active\n") }
-    ensures shown { ¬ IsRefusal smallest_device_at_first 0 (Ok event.Poll)
-        (answered (codes "nothing"))
-        (codes "step 0: poll\nseen: nothing\nallowed: nothing: no command is active\n") }
-    ensures untold { ¬ IsRefusal smallest_device_at_first 0 (Ok event.Poll)
-        (answered (codes "active")) [] }
+    ensures shown { ¬ IsDifference smallest_caps 9 [] (Ask event.Poll, answered (codes "nothing"))
+        0 (codes "step 0: poll\nseen: nothing\nallowed: nothing: no command is active\n") }
+    ensures untold { ¬ IsDifference smallest_caps 9 [] (Ask event.Poll, answered (codes "active")) 0
+        [] }
     ensures earlier { ¬ IsDifference smallest_caps 9
         ((Refuse BadCommand, answered (codes "nothing")) ∷ [])
         (Ask event.Poll, answered (codes "active")) 1

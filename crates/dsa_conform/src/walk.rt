@@ -1,26 +1,25 @@
 //! A run of a document's steps by what was seen of them.
 
-ghost use Rattle.std.specs.Prelude.{◌≡◌, ◌<◌, ◌+◌, ◌++◌, [], ◌∷◌, ℕ, List, Some, None, OnOk, IfOk, cond, filter_map, map, option_map, string_bytes, false};
-ghost use Rattle.dsa_scenario.specs.Run.{ticket_given_by};
+ghost use Rattle.std.specs.Prelude.{◌≡◌, ◌<◌, ◌≤◌, ◌+◌, [], ◌∷◌, ℕ, List, Some, IfOk, cond, map, take, length, string_bytes, false};
 ghost use Rattle.serde_json.specs.View.{view};
 ghost use Rattle.dsa_regs.specs.declared.Caps.{Caps};
-ghost use Rattle.dsa_device.specs.Made.{make_fault};
+ghost use Rattle.dsa_scenario.specs.Run.{event_of};
 ghost use Rattle.dsa_scenario.specs.declared.actions.Action.{Action};
+ghost use Rattle.dsa_scenario.specs.declared.faults.ScenarioFault.TheVariants.{Differs};
 ghost use Rattle.dsa_conform.specs.Seen.{Seen, seen_as, is_seen};
-ghost use Rattle.dsa_explain_lines.specs.Parts.{part_of};
-ghost use Rattle.dsa_conform.specs.Lines.{conforms_text, difference_of, records_of};
-ghost use Rattle.dsa_conform.specs.Run.{AreRead, IsVerdict, IsFollowedTo, IsNextStep};
+ghost use Rattle.dsa_conform.specs.Lines.{conforms_text, seen_count};
+ghost use Rattle.dsa_conform.specs.Run.{AreRead, IsFollowedTo, IsVerdict};
+ghost use Rattle.dsa_conform.specs.ToldLines.{IsTextTold};
+ghost use Rattle.dsa_conform.specs.Ways.{AreFollowed, IsOneWay};
 
-use crate::difference::difference_text;
-use crate::following::{Followed, follow};
 use crate::observed::{Observed, parse_step};
-use dsa_book::{Event, Ticket};
-use dsa_device::Device;
+use crate::offering::fork;
+use crate::step::walk_step;
+use crate::told::{Told, told_text};
+use crate::way::{Way, first_way};
+use crate::ways::walk_ways;
 use dsa_event_text::add_count;
-use dsa_explain_lines::add_part;
-use dsa_regs::Fault;
-use dsa_scenario::{Action, Head, ScenarioFault, ask, event_for, note_ticket};
-use dsa_store::EntryStore;
+use dsa_scenario::{Action, Head, ScenarioFault, event_for};
 use std::alloc::{AllocError, Global};
 
 /// What is told of a document's steps.
@@ -29,114 +28,6 @@ pub struct Verdict {
     pub text: String,
     /// The step that differs, if one does.
     pub fault: Option<ScenarioFault>,
-}
-
-// A step of which nothing was seen: any answer will do.
-fn walk_unseen<S: EntryStore>(
-    device: &mut Device<S>,
-    tickets: &mut Vec<Ticket>,
-    action: Action,
-    seen: &Observed<'_>,
-) -> Result<(), AllocError>
-    requires { is_seen (seen_as seen.now) ≡ false }
-    ensures { OnOk result
-        ((caps : Caps)
-        → (capacity : ℕ) → (done : List (Action × Seen))
-        → (number : ℕ) → IsFollowedTo caps capacity done number device.old tickets.old.items
-        → IsFollowedTo caps capacity (done ++ (action, seen_as seen.now) ∷ []) (number + 1)
-        device.new tickets.new.items) }
-{
-    let asked = event_for(tickets, action);
-    let entry = ask(device, &asked);
-    note_ticket(tickets, &entry)
-}
-
-// Why the device answers what is asked as it does.
-fn reason_of<S: EntryStore>(
-    alloc: Global,
-    device: &Device<S>,
-    asked: &Result<Event, Fault>,
-) -> Result<String, AllocError>
-    ensures { IfOk result (λ told. string_bytes told ≡ part_of device.now asked.now) }
-{
-    let mut told = String::new(alloc);
-    add_part(&mut told, device, asked)?;
-    Ok(told)
-}
-
-// What is told of a step that does not go on.
-fn difference_of(
-    alloc: Global,
-    number: usize,
-    seen: &Observed<'_>,
-    told: &str,
-    followed: &Followed,
-) -> Result<Option<String>, AllocError>
-    ensures { IfOk result
-        (λ differs. option_map string_bytes differs
-        ≡ difference_of number (seen_as seen.now) told.now followed.now) }
-{
-    match followed {
-        Followed::Shown(_) => Ok(None),
-        Followed::Differs(allowed) => {
-            let text = difference_text(alloc, number, seen, told, allowed)?;
-            Ok(Some(text))
-        }
-    }
-}
-
-// Notes the ticket that the answer of a step gives.
-fn note_followed(tickets: &mut Vec<Ticket>, followed: &Followed) -> Result<(), AllocError>
-    ensures { OnOk result
-        (tickets.new.items
-        ≡ tickets.old.items ++ filter_map ticket_given_by (records_of followed.now)) }
-{
-    match followed {
-        Followed::Shown(entry) => note_ticket(tickets, entry),
-        Followed::Differs(_) => Ok(()),
-    }
-}
-
-// A step of which something was seen, or what is told where none of the answers that are allowed
-// shows it.
-fn walk_seen<S: EntryStore>(
-    alloc: Global,
-    device: &mut Device<S>,
-    tickets: &mut Vec<Ticket>,
-    number: usize,
-    action: Action,
-    seen: &Observed<'_>,
-) -> Result<Option<String>, AllocError>
-    ensures { IfOk result
-        (λ differs. IsNextStep (action, seen_as seen.now) number device.old tickets.old.items
-        device.new tickets.new.items (option_map string_bytes differs)) }
-{
-    let asked = event_for(tickets, action);
-    let told = reason_of(alloc, device, &asked)?;
-    let followed = follow(alloc, device, &asked, seen)?;
-    let differs = difference_of(alloc, number, seen, &told, &followed)?;
-    note_followed(tickets, &followed)?;
-    Ok(differs)
-}
-
-// One step more.
-fn walk_step<S: EntryStore>(
-    alloc: Global,
-    device: &mut Device<S>,
-    tickets: &mut Vec<Ticket>,
-    number: usize,
-    action: Action,
-    seen: &Observed<'_>,
-) -> Result<Option<String>, AllocError>
-    ensures { IfOk result
-        (λ differs. IsNextStep (action, seen_as seen.now) number device.old tickets.old.items
-        device.new tickets.new.items (option_map string_bytes differs)) }
-{
-    if seen.is_seen() {
-        return walk_seen(alloc, device, tickets, number, action, seen);
-    }
-    walk_unseen(device, tickets, action, seen)?;
-    Ok(None)
 }
 
 // The line of a document that conforms.
@@ -158,35 +49,100 @@ fn count_more(answers: usize, seen: &Observed<'_>) -> usize
     if seen.is_seen() { answers + 1 } else { answers }
 }
 
-/// What is told of a run of the step objects on a new device over this store.
-pub fn walk_steps<S: EntryStore>(
+// Whether the step may be answered in more than one way that shows what was seen.
+fn is_fork(
     alloc: Global,
-    store: S,
-    head: &Head<'_>,
+    way: &Way,
+    action: Action,
+    seen: &Observed<'_>,
+) -> Result<bool, AllocError>
+    ensures { IfOk result (λ forks. forks ≡ false
+        → (caps : Caps) → (capacity : ℕ) → (done : List (Action × Seen)) → (number : ℕ)
+        → (h : IsFollowedTo caps capacity done number way.now.device way.now.tickets.items)
+        → IsOneWay way.now.device (event_of h.records action) (seen_as seen.now)) }
+{
+    let asked = event_for(way.tickets.as_slice(), action);
+    let queues = fork(alloc, &way.device, &asked, seen)?;
+    Ok(!queues.as_slice().is_empty())
+}
+
+// What is told of a step where the only device that is followed does not go on.
+fn differs_by(
+    alloc: Global,
+    number: usize,
+    seen: &Observed<'_>,
+    told: Told,
 ) -> Result<Verdict, AllocError>
-    requires fits { make_fault head.now.caps head.now.capacity (S.cells store) (S.content store)
-        ≡ None }
+    ensures { IfOk result
+        (λ verdict. (verdict.fault ≡ Some (Differs number))
+        × IsTextTold number (seen_as seen.now) (told ∷ []) (string_bytes verdict.text)) }
+{
+    let tolds = vec![in alloc; told]?;
+    let text = told_text(alloc, number, seen, tolds.as_slice())?;
+    Ok(Verdict {
+        text,
+        fault: Some(ScenarioFault::Differs(number as u64)),
+    })
+}
+
+// The steps from this one on, of several devices; so many answers were seen before.
+fn walk_forked(
+    alloc: Global,
+    head: &Head<'_>,
+    from: usize,
+    way: Way,
+    before: usize,
+) -> Result<Verdict, AllocError>
     requires read { (observed : List (Action × Seen))
-        × AreRead (map view head.now.steps.now) observed }
+        × AreRead (map view head.now.steps.now) observed
+        × AreFollowed head.now.caps head.now.capacity (take from observed) from (way ∷ [])
+        × (before ≡ seen_count (take from observed)) }
+    requires counted { before ≤ from }
+    requires inside { from ≤ length head.now.steps.now }
     ensures { IfOk result
         (λ verdict. IsVerdict head.now.caps head.now.capacity (map view head.now.steps.now)
         verdict.fault (string_bytes verdict.text)) }
 {
-    let made = Device::new(alloc, store, head.caps, head.capacity);
-    let Ok(mut device) = made else {
-        return Err(AllocError);
-    };
-    device.state_is_replay();
-    let mut tickets = Vec::new(alloc);
+    let mut answers = before;
+    let mut ways = vec![in alloc; way]?;
+    for i in from..head.steps.len() {
+        let step = &head.steps[i];
+        let Some((action, seen)) = parse_step(step) else {
+            unreachable!();
+        };
+        let differs = walk_ways(alloc, head, i, &mut ways, action, &seen)?;
+        if let Some(text) = differs {
+            let fault = Some(ScenarioFault::Differs(i as u64));
+            return Ok(Verdict { text, fault });
+        }
+        let more = count_more(answers, &seen);
+        answers = more;
+    }
+    let text = conforms_text(alloc, head.steps.len(), answers)?;
+    Ok(Verdict { text, fault: None })
+}
+
+/// What is told of a run of the step objects on a new device.
+///
+/// One device is followed up to the first step that more than one queue may have been taken at.
+pub fn walk_steps(alloc: Global, head: &Head<'_>) -> Result<Verdict, AllocError>
+    requires { (observed : List (Action × Seen)) × AreRead (map view head.now.steps.now) observed }
+    ensures { IfOk result
+        (λ verdict. IsVerdict head.now.caps head.now.capacity (map view head.now.steps.now)
+        verdict.fault (string_bytes verdict.text)) }
+{
+    let mut way = first_way(alloc, head)?;
     let mut answers = 0;
     for (i, step) in head.steps.iter().enumerate() {
         let Some((action, seen)) = parse_step(step) else {
             unreachable!();
         };
-        let differs = walk_step(alloc, &mut device, &mut tickets, i, action, &seen)?;
-        if let Some(text) = differs {
-            let fault = Some(ScenarioFault::Differs(i as u64));
-            return Ok(Verdict { text, fault });
+        if is_fork(alloc, &way, action, &seen)? {
+            return walk_forked(alloc, head, i, way, answers);
+        }
+        let differs = walk_step(alloc, &mut way, action, &seen)?;
+        if let Some(told) = differs {
+            return differs_by(alloc, i, &seen, told);
         }
         let more = count_more(answers, &seen);
         answers = more;

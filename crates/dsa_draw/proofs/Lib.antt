@@ -1,2 +1,4 @@
+pub mod Changes
 pub mod Drawn
+pub mod Rows
 pub mod Turns

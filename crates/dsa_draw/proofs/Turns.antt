@@ -6,11 +6,11 @@ use Rattle.std.proofs.Math.ListN.{get_or-map}
 use Rattle.std.specs.Prelude.{◌==◌}
 use Rattle.dsa_draw.specs.declared.{bands.Band.{Band}, moment.Moment.{Moment}}
 use Rattle.dsa_draw.specs.Bands.{level_in, highest, highest_of, next_step, turn_text, turns}
-use Rattle.dsa_draw.specs.Bands.{band_part_text, next_top, bands_text}
+use Rattle.dsa_draw.specs.Bands.{band_part_text, next_top, bands_text, bands_end}
 use Rattle.dsa_draw.specs.Columns.{fifth_text, column_text, columns_text}
 
 -- what is left of a list, from one of its moments on
-left : (ms : List Moment) (i : ℕ) (m : Moment) → i < length ms → m ≡ get_or ms i m → drop i ms ≡ m ∷ drop (i + 1) ms
+pub left : (ms : List Moment) (i : ℕ) (m : Moment) → i < length ms → m ≡ get_or ms i m → drop i ms ≡ m ∷ drop (i + 1) ms
 left ms i m inside is = drop_more ms i m inside ∙ ap (λ x. x ∷ drop (i + 1) ms) (sym is)
 
 -- and of what these have
@@ -72,6 +72,21 @@ banded_at_end bands i steps top moments text whole past h =
     let h' : text ++ bands_text steps top [] moments ≡ whole = rw (drop_all i bands past) at h in
     let h'' : text ≡ whole = rw (append-nil text) at h' in
     h''
+
+-- one band more above what follows, and no band more
+pub banded_to : (bands : List Band) (i : ℕ) (d : Band) (top next : ℕ) (moments : List Moment) (end : ℕ)
+    → i < length bands → next ≡ next_top top (get_or bands i d) moments
+    → bands_end top (drop i bands) moments ≡ end → bands_end next (drop (i + 1) bands) moments ≡ end
+banded_to bands i d top next moments end inside is h =
+    let h' : bands_end top (get_or bands i d ∷ drop (i + 1) bands) moments ≡ end =
+    rw (drop_more bands i d inside) at h in
+    rw is h'
+
+pub banded_to_end : (bands : List Band) (i top : ℕ) (moments : List Moment) (end : ℕ) → length bands ≤ i
+    → bands_end top (drop i bands) moments ≡ end → top ≡ end
+banded_to_end bands i top moments end past h =
+    let h' : bands_end top [] moments ≡ end = rw (drop_all i bands past) at h in
+    h'
 
 -- one column more
 pub columned : (ms : List Moment) (i : ℕ) (m : Moment) (height step : ℕ) (text middle longer whole : List ℕ)

@@ -125,6 +125,11 @@ bands_text steps top [] moments = []
 bands_text steps top (band ∷ bands) moments =
     band_part_text steps top band moments ++ bands_text steps (next_top top band moments) bands moments
 
+-- where the bands end
+abbrev pub bands_end : ℕ → List Band → List Moment → ℕ
+bands_end top [] moments = top
+bands_end top (band ∷ bands) moments = bands_end (next_top top band moments) bands moments
+
 -- the bands of a device: its queues, and then its groups
 abbrev pub bands_of : Caps → List Band
 bands_of caps = map Queue (range_with_len 0 caps.queues) ++ map Group (range_with_len 0 caps.groups)

@@ -1,5 +1,9 @@
 pub mod Bands
+pub mod Bars
 pub mod Columns
 pub mod Drawings
+pub mod Engines
 pub mod Marks
 pub mod Moments
+pub mod Pages
+pub mod Rows

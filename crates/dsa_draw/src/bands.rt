@@ -2,7 +2,7 @@
 
 ghost use Rattle.std.specs.Prelude.{◌≡◌, ◌++◌, ◌==◌, [], cond, map, IfOk, OnOk, string_bytes};
 ghost use Rattle.std.specs.List.{range_with_len};
-ghost use Rattle.dsa_draw.specs.Bands.{level_in, value_of, highest_of, turn_text, turns, levels_of, path_text, class_text, close_text, line_text, lines_text, frame_text, name_text, band_range_text, band_text, band_part_text, next_top, bands_text, bands_of};
+ghost use Rattle.dsa_draw.specs.Bands.{level_in, value_of, highest_of, turn_text, turns, levels_of, path_text, class_text, close_text, line_text, lines_text, frame_text, name_text, band_range_text, band_text, band_part_text, next_top, bands_text, bands_end, bands_of};
 
 use crate::geometry::{column_left, level_high};
 use crate::moment::{Level, Moment};
@@ -283,9 +283,10 @@ pub fn add_bands(
     bands: &[Band],
     top: u32,
 ) -> Result<u32, AllocError>
-    ensures { OnOk result
+    ensures text { OnOk result
         (string_bytes text.new
         ≡ string_bytes text.old ++ bands_text steps top bands.now moments.now) }
+    ensures end { IfOk result (λ end. end ≡ bands_end top bands.now moments.now) }
 {
     let mut top = top;
     for band in bands {

@@ -1,5 +1,10 @@
 //! How long engines had entries, by steps.
 
+ghost use Rattle.std.specs.Prelude.{◌≡◌, [], ◌∷◌, ◌++◌, cond, nat_lt, set, length, IfOk, OnOk};
+ghost use Rattle.dsa_draw.specs.Rows.{rows_between};
+ghost use Rattle.dsa_draw.specs.Bars.{noted_in, with_name, with_bar, with_change, changed_at, place_of, started_at, ended_at, with_ends, is_batch_named, taken_bar, fetched_bar, engine_of_actor, noted_submit, noted_dispatch, noted_fetch, noted_start, noted_reply, noted_record, noted_moment, bars_of, end_step, is_kind, is_bar_of, free_place, lane_number, in_lane, lanes_after, in_lanes, all_lanes, lane_count};
+ghost use Rattle.dsa_book.specs.Totals.{actor_of};
+
 use crate::moment::Moment;
 use dsa_book::{
     Actor, DispatchAnswer, Fate, FateRow, FetchAnswer, Reply, StartAnswer, Step, SubmitAnswer,
@@ -40,82 +45,215 @@ struct Table {
 }
 
 impl Table {
-    fn bar_of(&mut self, name: u32) -> Option<&mut Bar> {
-        let place = self.places.get(name as usize).copied()??;
-        self.bars.get_mut(place)
+    fn place_of(&self, name: u32) -> Option<usize>
+        ensures { result ≡ place_of name self.now.places.items }
+    {
+        self.places.get(name as usize).copied()?
     }
 
     // An entry that waits in its queue has a name, and no bar yet.
-    fn name(&mut self, place: Option<usize>) -> Result<(), AllocError> {
+    fn name(&mut self, place: Option<usize>) -> Result<(), AllocError>
+        ensures { OnOk result (noted_in self.new ≡ with_name place (noted_in self.old)) }
+    {
         self.places.push(place)?;
         Ok(())
     }
 
-    fn take(&mut self, bar: Bar) -> Result<(), AllocError> {
+    fn take(&mut self, bar: Bar) -> Result<(), AllocError>
+        ensures { OnOk result (noted_in self.new ≡ with_bar bar (noted_in self.old)) }
+    {
         let place = self.bars.len();
-        if let Some(pair) = self.places.get_mut(bar.name as usize) {
-            *pair = Some(place);
+        let name = bar.name as usize;
+        if name < self.places.len() {
+            self.places[name] = Some(place);
         }
         self.bars.push(bar)?;
         Ok(())
     }
 
-    fn start(&mut self, name: u32, step: u32) {
-        if let Some(bar) = self.bar_of(name) {
-            bar.started = Some(step);
+    fn start_at(&mut self, place: usize, step: u32)
+        ensures bars { self.new.bars.items
+            ≡ changed_at (started_at step) place self.old.bars.items }
+        ensures places { self.new.places ≡ self.old.places }
+    {
+        if place < self.bars.len() {
+            self.bars[place].started = Some(step);
         }
     }
 
-    fn end(&mut self, row: &FateRow, step: u32) {
-        if let Some(bar) = self.bar_of(row.name) {
-            bar.end = Some(End {
+    fn start(&mut self, name: u32, step: u32)
+        ensures { noted_in self.new ≡ with_change (started_at step) name (noted_in self.old) }
+    {
+        match self.place_of(name) {
+            Some(place) => self.start_at(place, step),
+            None => {}
+        }
+    }
+
+    fn end_at(&mut self, place: usize, row: &FateRow, step: u32)
+        ensures bars { self.new.bars.items
+            ≡ changed_at (ended_at step row.now) place self.old.bars.items }
+        ensures places { self.new.places ≡ self.old.places }
+    {
+        if place < self.bars.len() {
+            self.bars[place].end = Some(End {
                 step,
                 fate: row.fate,
             });
         }
     }
 
-    fn end_all(&mut self, rows: &[FateRow], step: u32) {
+    fn end(&mut self, row: &FateRow, step: u32)
+        ensures { noted_in self.new
+            ≡ with_change (ended_at step row.now) row.now.name (noted_in self.old) }
+    {
+        match self.place_of(row.name) {
+            Some(place) => self.end_at(place, row, step),
+            None => {}
+        }
+    }
+
+    fn end_all(&mut self, rows: &[FateRow], step: u32)
+        ensures { noted_in self.new ≡ with_ends step rows.now (noted_in self.old) }
+    {
         for row in rows {
             self.end(row, step);
         }
     }
 
-    // What the step brought to its engine.
-    fn note_step(&mut self, made: &Step, step: u32, batch: Option<u32>) -> Result<(), AllocError> {
-        let engine = engine_of(made);
-        match made.reply {
-            Reply::Submit(SubmitAnswer::Accepted(_)) => self.name(None),
-            Reply::Dispatch(DispatchAnswer::Taken { ticket, .. }) => {
+    fn note_submit(&mut self, answer: SubmitAnswer) -> Result<(), AllocError>
+        ensures { OnOk result (noted_in self.new ≡ noted_submit answer (noted_in self.old)) }
+    {
+        match answer {
+            SubmitAnswer::Accepted(_) => self.name(None),
+            _ => Ok(()),
+        }
+    }
+
+    fn note_dispatch(
+        &mut self,
+        answer: DispatchAnswer,
+        engine: u16,
+        step: u32,
+        batch: Option<u32>,
+    ) -> Result<(), AllocError>
+        ensures { OnOk result
+            (noted_in self.new ≡ noted_dispatch step engine batch answer (noted_in self.old)) }
+    {
+        match answer {
+            DispatchAnswer::Taken { ticket, .. } => {
                 self.take(taken_bar(ticket.name, engine, step, batch))
             }
-            Reply::Fetch(FetchAnswer::Fetched(ticket)) => {
+            _ => Ok(()),
+        }
+    }
+
+    fn note_fetch(
+        &mut self,
+        answer: FetchAnswer,
+        engine: u16,
+        step: u32,
+        batch: Option<u32>,
+    ) -> Result<(), AllocError>
+        ensures { OnOk result
+            (noted_in self.new ≡ noted_fetch step engine batch answer (noted_in self.old)) }
+    {
+        match answer {
+            FetchAnswer::Fetched(ticket) => {
                 self.name(None)?;
                 self.take(fetched_bar(ticket.name, engine, step, batch))
             }
-            Reply::Start(StartAnswer::Started(ticket)) => {
-                self.start(ticket.name, step);
+            _ => Ok(()),
+        }
+    }
+
+    fn note_start(&mut self, answer: StartAnswer, step: u32)
+        ensures { noted_in self.new ≡ noted_start step answer (noted_in self.old) }
+    {
+        match answer {
+            StartAnswer::Started(ticket) => self.start(ticket.name, step),
+            _ => {}
+        }
+    }
+
+    // What the step brought to its engine.
+    fn note_step(&mut self, made: &Step, step: u32, batch: Option<u32>) -> Result<(), AllocError>
+        ensures { OnOk result (noted_in self.new
+            ≡ noted_reply step (engine_of_actor (actor_of made.now.event)) batch made.now.reply
+            (noted_in self.old)) }
+    {
+        let engine = engine_of(made);
+        match made.reply {
+            Reply::Submit(answer) => self.note_submit(answer),
+            Reply::Dispatch(answer) => self.note_dispatch(answer, engine, step, batch),
+            Reply::Fetch(answer) => self.note_fetch(answer, engine, step, batch),
+            Reply::Start(answer) => {
+                self.note_start(answer, step);
                 Ok(())
             }
             _ => Ok(()),
         }
     }
+
+    fn note_record(
+        &mut self,
+        entry: &Record,
+        step: u32,
+        batch: Option<u32>,
+    ) -> Result<(), AllocError>
+        ensures { OnOk result
+            (noted_in self.new ≡ noted_record step batch entry.now (noted_in self.old)) }
+    {
+        match entry {
+            Record::Stepped(made) => self.note_step(made, step, batch),
+            Record::Refused(_) => Ok(()),
+        }
+    }
+
+    // What a moment brought, and then what ended in it; before it so many entries had ended.
+    fn note_moment(
+        &mut self,
+        fates: &[FateRow],
+        moment: &Moment,
+        step: u32,
+        ended: usize,
+    ) -> Result<(), AllocError>
+        ensures { OnOk result (noted_in self.new
+            ≡ noted_moment fates.now step ended moment.now (noted_in self.old)) }
+    {
+        self.note_record(&moment.entry, step, moment.batch)?;
+        self.end_all(rows_between(fates, ended, moment.ended), step);
+        Ok(())
+    }
 }
 
 // The engine whose step it was; 0 where it was of none.
-fn engine_of(made: &Step) -> u16 {
+fn engine_of(made: &Step) -> u16
+    ensures { result ≡ engine_of_actor (actor_of made.now.event) }
+{
     match made.event.actor() {
         Actor::Engine(engine) => engine,
         _ => 0,
     }
 }
 
-fn taken_bar(name: u32, engine: u16, step: u32, batch: Option<u32>) -> Bar {
+fn is_batch_named(batch: Option<u32>, name: u32) -> bool
+    ensures { result ≡ is_batch_named name batch }
+{
+    match batch {
+        Some(batch) => batch == name,
+        None => false,
+    }
+}
+
+fn taken_bar(name: u32, engine: u16, step: u32, batch: Option<u32>) -> Bar
+    ensures { result ≡ taken_bar name engine step batch }
+{
     Bar {
         name,
         engine,
         parent: None,
-        is_batch: batch == Some(name),
+        is_batch: is_batch_named(batch, name),
         begin: step,
         started: Some(step),
         end: None,
@@ -123,7 +261,9 @@ fn taken_bar(name: u32, engine: u16, step: u32, batch: Option<u32>) -> Bar {
     }
 }
 
-fn fetched_bar(name: u32, engine: u16, step: u32, batch: Option<u32>) -> Bar {
+fn fetched_bar(name: u32, engine: u16, step: u32, batch: Option<u32>) -> Bar
+    ensures { result ≡ fetched_bar name engine step batch }
+{
     Bar {
         name,
         engine,
@@ -137,18 +277,18 @@ fn fetched_bar(name: u32, engine: u16, step: u32, batch: Option<u32>) -> Bar {
 }
 
 /// The rows from one number on to before another.
-pub fn rows_between(fates: &[FateRow], from: usize, to: usize) -> &[FateRow] {
+pub fn rows_between(fates: &[FateRow], from: usize, to: usize) -> &[FateRow]
+    ensures { result.now ≡ rows_between fates.now from to }
+{
     let to = to.min(fates.len());
     let from = from.min(to);
     &fates[from..to]
 }
 
 /// The bars of a run, in the order in which they begin.
-pub fn bars_of(
-    alloc: Global,
-    moments: &[Moment],
-    fates: &[FateRow],
-) -> Result<Vec<Bar>, AllocError> {
+pub fn bars_of(alloc: Global, moments: &[Moment], fates: &[FateRow]) -> Result<Vec<Bar>, AllocError>
+    ensures { IfOk result (λ bars. bars.items ≡ bars_of moments.now fates.now) }
+{
     let mut table = Table {
         bars: Vec::new(alloc),
         places: Vec::new(alloc),
@@ -156,10 +296,7 @@ pub fn bars_of(
     let mut step = 0u32;
     let mut ended = 0;
     for moment in moments {
-        if let Record::Stepped(made) = &moment.entry {
-            table.note_step(made, step, moment.batch)?;
-        }
-        table.end_all(rows_between(fates, ended, moment.ended), step);
+        table.note_moment(fates, moment, step, ended)?;
         ended = moment.ended;
         step = step.saturating_add(1);
     }
@@ -168,48 +305,114 @@ pub fn bars_of(
 
 impl Bar {
     /// The step whose column the bar does not reach, `last` where it has no end.
-    pub fn end_step(&self, last: u32) -> u32 {
+    pub fn end_step(&self, last: u32) -> u32
+        ensures { result ≡ end_step last self.now }
+    {
         match self.end {
             Some(end) => end.step,
             None => last,
         }
     }
 
-    fn is_in(&self, engine: u16, members: bool) -> bool {
-        self.engine == engine && self.parent.is_some() == members
-    }
-}
-
-// The first lane that is free from `begin` on; it is then taken until `end`.
-fn take_lane(lanes: &mut Vec<u32>, begin: u32, end: u32) -> Result<u32, AllocError> {
-    let mut lane = 0u32;
-    for free_from in lanes.iter_mut() {
-        if *free_from <= begin {
-            *free_from = end;
-            return Ok(lane);
+    fn is_kind(&self, members: bool) -> bool
+        ensures { result ≡ is_kind members self.now.parent }
+    {
+        match self.parent {
+            Some(_) => members,
+            None => !members,
         }
-        lane = lane.saturating_add(1);
     }
-    lanes.push(end)?;
-    Ok(lane)
+
+    fn is_in(&self, engine: u16, members: bool) -> bool
+        ensures { result ≡ is_bar_of engine members self.now }
+    {
+        self.engine == engine && self.is_kind(members)
+    }
 }
 
-/// Gives each bar of the engine a lane in which it is alone, the members apart from the others, and
-/// says how many lanes that takes.
-pub fn set_lanes(
-    alloc: Global,
-    bars: &mut [Bar],
+// The place of the first lane that is free from `begin` on, or the one after all of them.
+fn free_place(lanes: &[u32], begin: u32) -> usize
+    ensures { result ≡ free_place begin lanes.now }
+{
+    for (place, free_from) in lanes.iter().enumerate() {
+        if *free_from <= begin {
+            return place;
+        }
+    }
+    lanes.len()
+}
+
+// That lane is taken until `end`.
+fn take_place(lanes: &mut Vec<u32>, place: usize, end: u32) -> Result<(), AllocError>
+    ensures { OnOk result (lanes.new.items ≡ cond (nat_lt place (length lanes.old.items))
+        (set lanes.old.items place end) (lanes.old.items ++ end ∷ [])) }
+{
+    if place < lanes.len() {
+        lanes[place] = end;
+    } else {
+        lanes.push(end)?;
+    }
+    Ok(())
+}
+
+fn lane_number(place: usize) -> u32
+    ensures { result ≡ lane_number place }
+{
+    u32::try_from(place).unwrap_or(u32::MAX)
+}
+
+// The bar in its lane, if it is of this engine, and of its members or not.
+fn lay(
+    lanes: &mut Vec<u32>,
+    bar: &Bar,
     engine: u16,
     members: bool,
     last: u32,
-) -> Result<u32, AllocError> {
-    let mut lanes = Vec::new(alloc);
-    let mut count = 0u32;
-    for bar in bars.iter_mut() {
-        if bar.is_in(engine, members) {
-            bar.lane = take_lane(&mut lanes, bar.begin, bar.end_step(last))?;
-            count = count.max(bar.lane.saturating_add(1));
-        }
+) -> Result<Bar, AllocError>
+    ensures bar { IfOk result
+        (λ laid. laid ≡ in_lane engine members lanes.old.items bar.now) }
+    ensures lanes { OnOk result
+        (lanes.new.items ≡ lanes_after engine members last lanes.old.items bar.now) }
+{
+    if !bar.is_in(engine, members) {
+        return Ok(*bar);
     }
-    Ok(count)
+    let place = free_place(lanes, bar.begin);
+    take_place(lanes, place, bar.end_step(last))?;
+    Ok(Bar {
+        lane: lane_number(place),
+        ..*bar
+    })
+}
+
+/// Bars with lanes, and how many lanes they take.
+#[derive(Drop)]
+pub struct Laid {
+    pub bars: Vec<Bar>,
+    pub lanes: u32,
+}
+
+/// Gives each bar of the engine a lane in which it is alone, the members apart from the others.
+pub fn lay_bars(
+    alloc: Global,
+    bars: &[Bar],
+    engine: u16,
+    members: bool,
+    last: u32,
+) -> Result<Laid, AllocError>
+    ensures bars { IfOk result
+        (λ laid. laid.bars.items ≡ in_lanes engine members last [] bars.now) }
+    ensures lanes { IfOk result
+        (λ laid. laid.lanes ≡ lane_count (all_lanes engine members last [] bars.now)) }
+{
+    let mut lanes = Vec::new(alloc);
+    let mut laid = Vec::new(alloc);
+    for bar in bars {
+        let next = lay(&mut lanes, bar, engine, members, last)?;
+        laid.push(next)?;
+    }
+    Ok(Laid {
+        bars: laid,
+        lanes: lane_number(lanes.len()),
+    })
 }

@@ -1,11 +1,14 @@
 //! The whole drawing.
 
-ghost use Rattle.std.specs.Prelude.{◌≡◌, ◌++◌, IfOk, OnOk, string_bytes};
+ghost use Rattle.std.specs.Prelude.{◌≡◌, ◌++◌, ◌==◌, cond, nat_lt, [], IfOk, OnOk, string_bytes};
+ghost use Rattle.std.specs.List.{range_with_len};
 ghost use Rattle.dsa_draw.specs.Columns.{asked_text, title_text, left_text, high_text, column_text, grid_text, label_text, step_number_text, fifth_text, columns_text};
+ghost use Rattle.dsa_draw.specs.Rows.{command_name_text, event_name_text, label_above_text, asker_of, asker_text, fate_mark, ended_head_text, ended_title_text, ended_box_text, ended_count_text, ended_text, fates_text, marks_of_step_text, marks_above_text, names_above_text, rows_above_text};
+ghost use Rattle.dsa_draw.specs.Engines.{engines_text, engines_end};
 ghost use Rattle.dsa_draw.specs.Drawings.{step_count, IsTextOf};
 
 use crate::bands::{add_bands, bands_of};
-use crate::bars::{bars_of, rows_between};
+use crate::bars::{Bar, bars_of, rows_between};
 use crate::engines::add_engine;
 use crate::geometry::column_left;
 use crate::marks::{Mark, mark_of};
@@ -14,13 +17,12 @@ use crate::page::{add_foot, add_head, add_mark, add_name, add_rule};
 use crate::run::Story;
 use dsa_book::{Actor, Event, Fate, FateRow};
 use dsa_event_text::{add_event, command_label};
+use dsa_regs::Command;
 use dsa_scenario::{Record, add_answer, add_rows};
 use std::alloc::{AllocError, Global};
 use std::fmt::Write;
 
 // The rows above the bands.
-const LABELS: u32 = 76;
-
 const NUMBERS: u32 = 80;
 
 const CLIENTS: u32 = 96;
@@ -135,86 +137,206 @@ fn add_columns(text: &mut String, moments: &[Moment], height: u32) -> Result<(),
 // ---- the rows above the bands
 
 // The name of a command stands above its column.
-fn add_label(text: &mut String, entry: &Record, step: u32) -> Result<(), AllocError> {
-    let Record::Stepped(made) = entry else {
-        return Ok(());
-    };
-    let Event::Issue { command } = made.event else {
-        return Ok(());
-    };
+#[tactic(auto, unfolding(crate::specs::Rows::command_name_text))]
+fn add_command_name(text: &mut String, command: &Command, step: u32) -> Result<(), AllocError>
+    ensures { OnOk result
+        (string_bytes text.new ≡ string_bytes text.old ++ command_name_text step command.now) }
+{
     let x = column_left(step) + 10;
-    let name = command_label(&command);
-    writeln!(
+    let name = command_label(command);
+    write!(
         text,
-        "<text transform=\"translate({x} {LABELS}) rotate(-60)\">{name}</text>"
+        "<text transform=\"translate({x} 76) rotate(-60)\">{name}</text>\n"
     )
 }
 
-fn add_asker(text: &mut String, entry: &Record, step: u32) -> Result<(), AllocError> {
-    let actor = match entry {
+fn add_event_name(text: &mut String, event: &Event, step: u32) -> Result<(), AllocError>
+    ensures { OnOk result
+        (string_bytes text.new ≡ string_bytes text.old ++ event_name_text step event.now) }
+{
+    match event {
+        Event::Issue { command } => add_command_name(text, command, step),
+        _ => Ok(()),
+    }
+}
+
+fn add_label(text: &mut String, entry: &Record, step: u32) -> Result<(), AllocError>
+    ensures { OnOk result
+        (string_bytes text.new ≡ string_bytes text.old ++ label_above_text step entry.now) }
+{
+    match entry {
+        Record::Stepped(made) => add_event_name(text, &made.event, step),
+        Record::Refused(_) => Ok(()),
+    }
+}
+
+// A word that is no command is the administrator's.
+fn asker_of(entry: &Record) -> Actor
+    ensures { result ≡ asker_of entry.now }
+{
+    match entry {
         Record::Stepped(made) => made.event.actor(),
         Record::Refused(_) => Actor::Admin,
-    };
-    match actor {
+    }
+}
+
+fn add_asker(text: &mut String, entry: &Record, step: u32) -> Result<(), AllocError>
+    ensures { OnOk result
+        (string_bytes text.new ≡ string_bytes text.old ++ asker_text step entry.now) }
+{
+    match asker_of(entry) {
         Actor::Client(_) => add_mark(text, mark_of(entry), step, CLIENTS),
         Actor::Admin => add_mark(text, mark_of(entry), step, ADMINISTRATOR),
         Actor::Engine(_) => Ok(()),
     }
 }
 
-fn fate_mark(fate: Fate) -> Mark {
+fn status_mark(status: u8) -> Mark
+    ensures { result ≡ cond (status == 1) Mark.Done Mark.Failed }
+{
+    if status == 0x01 {
+        Mark::Done
+    } else {
+        Mark::Failed
+    }
+}
+
+fn fate_mark(fate: Fate) -> Mark
+    ensures { result ≡ fate_mark fate }
+{
     match fate {
-        Fate::Completed(0x01) => Mark::Done,
+        Fate::Completed(status) => status_mark(status),
         _ => Mark::Failed,
     }
 }
 
-// A mark for the last entry that ended in this step, and how many did where it was not alone.
-fn add_fates(text: &mut String, rows: &[FateRow], step: u32) -> Result<(), AllocError> {
-    let Some(row) = rows.last() else {
-        return Ok(());
-    };
-    let x = column_left(step);
-    write!(text, "<g><title>step {step}\n")?;
+#[tactic(auto, unfolding(crate::specs::Rows::ended_head_text))]
+fn add_ended_head(text: &mut String, step: u32) -> Result<(), AllocError>
+    ensures { OnOk result (string_bytes text.new ≡ string_bytes text.old ++ ended_head_text step) }
+{
+    write!(text, "<g><title>step {step}\n")
+}
+
+fn add_ended_title(text: &mut String, rows: &[FateRow], step: u32) -> Result<(), AllocError>
+    ensures { OnOk result
+        (string_bytes text.new ≡ string_bytes text.old ++ ended_title_text step rows.now) }
+{
+    add_ended_head(text, step)?;
     add_rows(text, rows)?;
+    text.push_str("</title>")
+}
+
+#[tactic(auto, unfolding(crate::specs::Rows::ended_box_text))]
+fn add_ended_box(text: &mut String, step: u32) -> Result<(), AllocError>
+    ensures { OnOk result (string_bytes text.new ≡ string_bytes text.old ++ ended_box_text step) }
+{
+    let x = column_left(step);
     write!(
         text,
-        "</title><rect class=\"column\" x=\"{x}\" y=\"{FATES}\" width=\"14\" height=\"16\"/>"
-    )?;
-    if rows.len() > 1 {
-        let x = x + 2;
-        let count = rows.len();
-        write!(
-            text,
-            "<text class=\"label\" x=\"{x}\" y=\"151\">{count}</text>"
-        )?;
+        "<rect class=\"column\" x=\"{x}\" y=\"128\" width=\"14\" height=\"16\"/>"
+    )
+}
+
+#[tactic(auto, unfolding(crate::specs::Rows::ended_count_text))]
+fn add_ended_count(text: &mut String, step: u32, count: usize) -> Result<(), AllocError>
+    ensures { OnOk result
+        (string_bytes text.new ≡ string_bytes text.old ++ ended_count_text step count) }
+{
+    let x = column_left(step) + 2;
+    write!(
+        text,
+        "<text class=\"label\" x=\"{x}\" y=\"151\">{count}</text>"
+    )
+}
+
+fn add_ended_many(text: &mut String, step: u32, count: usize) -> Result<(), AllocError>
+    ensures { OnOk result (string_bytes text.new ≡ string_bytes text.old
+        ++ cond (nat_lt 1 count) (ended_count_text step count) []) }
+{
+    if count > 1 {
+        add_ended_count(text, step, count)
+    } else {
+        Ok(())
     }
-    add_mark(text, fate_mark(row.fate), step, FATES)?;
+}
+
+fn add_ended(text: &mut String, rows: &[FateRow], mark: Mark, step: u32) -> Result<(), AllocError>
+    ensures { OnOk result
+        (string_bytes text.new ≡ string_bytes text.old ++ ended_text step rows.now mark) }
+{
+    add_ended_title(text, rows, step)?;
+    add_ended_box(text, step)?;
+    add_ended_many(text, step, rows.len())?;
+    add_mark(text, mark, step, FATES)?;
     text.push_str("</g>\n")
 }
 
-fn add_marks(text: &mut String, story: &Story) -> Result<(), AllocError> {
+// A mark for the last entry that ended in this step, and how many did where it was not alone.
+fn add_fates(text: &mut String, rows: &[FateRow], step: u32) -> Result<(), AllocError>
+    ensures { OnOk result
+        (string_bytes text.new ≡ string_bytes text.old ++ fates_text step rows.now) }
+{
+    match rows.last() {
+        Some(row) => add_ended(text, rows, fate_mark(row.fate), step),
+        None => Ok(()),
+    }
+}
+
+// What a step has in these rows; before it so many entries had ended.
+fn add_marks_of_step(
+    text: &mut String,
+    fates: &[FateRow],
+    moment: &Moment,
+    step: u32,
+    ended: usize,
+) -> Result<(), AllocError>
+    ensures { OnOk result (string_bytes text.new ≡ string_bytes text.old
+        ++ marks_of_step_text fates.now step ended moment.now) }
+{
+    add_label(text, &moment.entry, step)?;
+    add_asker(text, &moment.entry, step)?;
+    add_fates(text, rows_between(fates, ended, moment.ended), step)
+}
+
+fn add_marks(text: &mut String, fates: &[FateRow], moments: &[Moment]) -> Result<(), AllocError>
+    ensures { OnOk result (string_bytes text.new ≡ string_bytes text.old
+        ++ marks_above_text fates.now 0 0 moments.now) }
+{
     let mut step = 0u32;
     let mut ended = 0;
-    for moment in &story.moments {
-        add_label(text, &moment.entry, step)?;
-        add_asker(text, &moment.entry, step)?;
-        add_fates(text, rows_between(&story.fates, ended, moment.ended), step)?;
+    for moment in moments {
+        add_marks_of_step(text, fates, moment, step, ended)?;
         ended = moment.ended;
         step = step.saturating_add(1);
     }
     Ok(())
 }
 
-fn add_rows_above(text: &mut String, story: &Story, steps: u32) -> Result<(), AllocError> {
+#[tactic(auto, unfolding(crate::specs::Rows::names_above_text))]
+fn add_names_above(text: &mut String, steps: u32) -> Result<(), AllocError>
+    ensures { OnOk result
+        (string_bytes text.new ≡ string_bytes text.old ++ names_above_text steps) }
+{
     add_name(text, "step", NUMBERS)?;
     add_name(text, "clients", CLIENTS)?;
     add_name(text, "administrator", ADMINISTRATOR)?;
     add_name(text, "fates", FATES)?;
     add_rule(text, steps, CLIENTS)?;
     add_rule(text, steps, ADMINISTRATOR)?;
-    add_rule(text, steps, FATES)?;
-    add_marks(text, story)
+    add_rule(text, steps, FATES)
+}
+
+fn add_rows_above(
+    text: &mut String,
+    fates: &[FateRow],
+    moments: &[Moment],
+    steps: u32,
+) -> Result<(), AllocError>
+    ensures { OnOk result (string_bytes text.new ≡ string_bytes text.old
+        ++ rows_above_text steps fates.now moments.now) }
+{
+    add_names_above(text, steps)?;
+    add_marks(text, fates, moments)
 }
 
 // ---- bands and engines
@@ -222,14 +344,20 @@ fn add_rows_above(text: &mut String, story: &Story, steps: u32) -> Result<(), Al
 fn add_engines(
     alloc: Global,
     text: &mut String,
-    story: &Story,
+    moments: &[Moment],
+    bars: &[Bar],
+    engines: u16,
     steps: u32,
     top: u32,
-) -> Result<u32, AllocError> {
-    let mut bars = bars_of(alloc, &story.moments, &story.fates)?;
+) -> Result<u32, AllocError>
+    ensures text { OnOk result (string_bytes text.new ≡ string_bytes text.old
+        ++ engines_text steps top (range_with_len 0 engines) moments.now bars.now) }
+    ensures end { IfOk result
+        (λ end. end ≡ engines_end steps top (range_with_len 0 engines) moments.now bars.now) }
+{
     let mut top = top;
-    for engine in 0..story.caps.engines {
-        top = add_engine(alloc, text, &story.moments, &mut bars, engine, steps, top)?;
+    for engine in 0..engines {
+        top = add_engine(alloc, text, moments, bars, engine, steps, top)?;
     }
     Ok(top)
 }
@@ -254,14 +382,17 @@ pub fn draw(alloc: Global, story: &Story) -> Result<String, AllocError>
     ensures { IfOk result (λ text. IsTextOf story.now (string_bytes text)) }
 {
     let moments = story.moments.as_slice();
+    let fates = story.fates.as_slice();
     let steps = count_of(moments);
     let mut above = String::new(alloc);
-    add_rows_above(&mut above, story, steps)?;
+    add_rows_above(&mut above, fates, moments, steps)?;
     let list = bands_of(alloc, &story.caps)?;
     let mut bands = String::new(alloc);
     let top = add_bands(&mut bands, moments, steps, &list, BANDS)?;
+    let bars = bars_of(alloc, moments, fates)?;
     let mut below = String::new(alloc);
-    let height = add_engines(alloc, &mut below, story, steps, top)?;
+    let engines = story.caps.engines;
+    let height = add_engines(alloc, &mut below, moments, &bars, engines, steps, top)?;
     add_foot(&mut below)?;
     let mut text = String::new(alloc);
     add_head(&mut text, steps, height)?;

@@ -1,6 +1,12 @@
 //! Engines: what they asked for, and how long they had which entries.
 
-use crate::bars::{Bar, set_lanes};
+ghost use Rattle.std.specs.Prelude.{◌≡◌, ◌++◌, ◌<◌, ◌^◌, ◌==◌, ◌&&◌, [], cond, false, Some, IfOk, OnOk, string_bytes, codes};
+ghost use Rattle.std.specs.Fmt.{digit_glyph};
+ghost use Rattle.dsa_scenario.specs.Lines.{two_digits};
+ghost use Rattle.dsa_draw.specs.Bars.{end_step};
+ghost use Rattle.dsa_draw.specs.Engines.{is_step_by, has_steps, engine_mark_text, engine_marks_text, class_of_fate, class_of_end, fate_phrase, kind_phrase, holder_phrase, parent_phrase, begin_phrase, end_phrase, bar_title_text, box_text, box_part_text, name_room, bar_label_text, bar_name_text, lane_by, bar_top, boxes_text, bar_text, bars_text, lanes_bottom, batch_box_text, batch_title_text, batch_text, batches_text, taken_in_lanes, bars_in_lanes, lanes_of, engine_bottom, engine_rows_text, engine_part_text, engine_end};
+
+use crate::bars::{Bar, End, lay_bars};
 use crate::geometry::{column_left, columns_wide, lane_top};
 use crate::marks::mark_of;
 use crate::moment::Moment;
@@ -19,72 +25,177 @@ struct Lanes {
     last: u32,
 }
 
-fn is_of(entry: &Record, engine: u16) -> bool {
+fn is_of(entry: &Record, engine: u16) -> bool
+    ensures { result ≡ is_step_by engine entry.now }
+{
     match entry {
         Record::Stepped(step) => step.event.actor() == Actor::Engine(engine),
         Record::Refused(_) => false,
     }
 }
 
-fn has_steps(moments: &[Moment], engine: u16) -> bool {
-    moments.iter().any(|moment| is_of(&moment.entry, engine))
-}
-
-fn add_marks(
-    text: &mut String,
-    moments: &[Moment],
-    engine: u16,
-    top: u32,
-) -> Result<(), AllocError> {
-    let mut step = 0u32;
+fn has_steps(moments: &[Moment], engine: u16) -> bool
+    ensures { result ≡ has_steps engine moments.now }
+{
     for moment in moments {
         if is_of(&moment.entry, engine) {
-            add_mark(text, mark_of(&moment.entry), step, top)?;
+            return true;
         }
+    }
+    false
+}
+
+fn add_engine_mark(
+    text: &mut String,
+    entry: &Record,
+    engine: u16,
+    step: u32,
+    top: u32,
+) -> Result<(), AllocError>
+    ensures { OnOk result (string_bytes text.new
+        ≡ string_bytes text.old ++ engine_mark_text engine top step entry.now) }
+{
+    if is_of(entry, engine) {
+        add_mark(text, mark_of(entry), step, top)
+    } else {
+        Ok(())
+    }
+}
+
+fn add_marks(text: &mut String, moments: &[Moment], engine: u16, top: u32) -> Result<(), AllocError>
+    ensures { OnOk result (string_bytes text.new
+        ≡ string_bytes text.old ++ engine_marks_text engine top 0 moments.now) }
+{
+    let mut step = 0u32;
+    for moment in moments {
+        add_engine_mark(text, &moment.entry, engine, step, top)?;
         step = step.saturating_add(1);
     }
     Ok(())
 }
 
-fn class_of(bar: &Bar) -> &'static str {
-    match bar.end {
+// ---- bars
+
+fn class_of_status(status: u8) -> &'static str
+    ensures { result.now ≡ cond (status == 1) (codes "success") (codes "failure") }
+{
+    if status == 0x01 { "success" } else { "failure" }
+}
+
+fn class_of(end: Option<End>) -> &'static str
+    ensures { result.now ≡ class_of_end end }
+{
+    match end {
         None => "held",
         Some(end) => match end.fate {
-            Fate::Completed(0x01) => "success",
-            Fate::Completed(_) => "failure",
+            Fate::Completed(status) => class_of_status(status),
             _ => "lost",
         },
     }
 }
 
-fn add_fate(text: &mut String, fate: Fate) -> Result<(), AllocError> {
+fn hex_digit(n: u8) -> char
+    requires { n < 16 }
+    ensures { result ≡ digit_glyph false n }
+{
+    char::from(if n < 10 { b'0' + n } else { b'a' + (n - 10) })
+}
+
+fn add_status(text: &mut String, status: u8) -> Result<(), AllocError>
+    ensures { OnOk result (string_bytes text.new ≡ string_bytes text.old ++ two_digits status) }
+{
+    text.push(hex_digit(status / 16))?;
+    text.push(hex_digit(status % 16))
+}
+
+// A word and a status.
+fn add_completed(text: &mut String, word: &str, status: u8) -> Result<(), AllocError>
+    ensures { OnOk result
+        (string_bytes text.new ≡ string_bytes text.old ++ (word.now ++ two_digits status)) }
+{
+    text.push_str(word)?;
+    add_status(text, status)
+}
+
+fn add_fate(text: &mut String, fate: Fate) -> Result<(), AllocError>
+    ensures { OnOk result (string_bytes text.new ≡ string_bytes text.old ++ fate_phrase fate) }
+{
     match fate {
-        Fate::Completed(status) => write!(text, "completed {status:02x}"),
+        Fate::Completed(status) => add_completed(text, "completed ", status),
         Fate::Aborted(command) => write!(text, "aborted by command {command}"),
         Fate::Abandoned => text.push_str("abandoned"),
     }
 }
 
+#[tactic(auto, unfolding(crate::specs::Engines::kind_phrase))]
+fn kind_of(is_batch: bool) -> &'static str
+    ensures { result.now ≡ kind_phrase is_batch }
+{
+    if is_batch { "batch" } else { "entry" }
+}
+
+#[tactic(auto, unfolding(crate::specs::Engines::holder_phrase))]
+fn add_holder(text: &mut String, name: u32, engine: u16) -> Result<(), AllocError>
+    ensures { OnOk result
+        (string_bytes text.new ≡ string_bytes text.old ++ holder_phrase name engine) }
+{
+    write!(text, " {name} on e{engine}")
+}
+
+fn add_parent(text: &mut String, parent: Option<u32>) -> Result<(), AllocError>
+    ensures { OnOk result (string_bytes text.new ≡ string_bytes text.old ++ parent_phrase parent) }
+{
+    match parent {
+        Some(parent) => write!(text, ", member of batch {parent}"),
+        None => Ok(()),
+    }
+}
+
+#[tactic(auto, unfolding(crate::specs::Engines::begin_phrase))]
+fn add_begin(text: &mut String, begin: u32) -> Result<(), AllocError>
+    ensures { OnOk result (string_bytes text.new ≡ string_bytes text.old ++ begin_phrase begin) }
+{
+    write!(text, ", from step {begin}")
+}
+
+fn add_end(text: &mut String, end: End) -> Result<(), AllocError>
+    ensures { OnOk result
+        (string_bytes text.new ≡ string_bytes text.old ++ end_phrase (Some end)) }
+{
+    let step = end.step;
+    write!(text, " to {step}: ")?;
+    add_fate(text, end.fate)
+}
+
+fn add_end_part(text: &mut String, end: Option<End>) -> Result<(), AllocError>
+    ensures { OnOk result (string_bytes text.new ≡ string_bytes text.old ++ end_phrase end) }
+{
+    match end {
+        Some(end) => add_end(text, end),
+        None => text.push_str(", still held"),
+    }
+}
+
 // What the bar is of, and how it ended.
-fn add_bar_title(text: &mut String, bar: &Bar) -> Result<(), AllocError> {
-    let kind = if bar.is_batch { "batch" } else { "entry" };
-    let (name, engine, begin) = (bar.name, bar.engine, bar.begin);
-    write!(text, "<title>{kind} {name} on e{engine}")?;
-    if let Some(parent) = bar.parent {
-        write!(text, ", member of batch {parent}")?;
-    }
-    write!(text, ", from step {begin}")?;
-    if let Some(end) = bar.end {
-        let step = end.step;
-        write!(text, " to {step}: ")?;
-        add_fate(text, end.fate)?;
-    } else {
-        text.push_str(", still held")?;
-    }
+#[tactic(auto, unfolding(crate::specs::Engines::bar_title_text))]
+fn add_bar_title(text: &mut String, bar: &Bar) -> Result<(), AllocError>
+    ensures { OnOk result
+        (string_bytes text.new ≡ string_bytes text.old ++ bar_title_text bar.now) }
+{
+    text.push_str("<title>")?;
+    text.push_str(kind_of(bar.is_batch))?;
+    add_holder(text, bar.name, bar.engine)?;
+    add_parent(text, bar.parent)?;
+    add_begin(text, bar.begin)?;
+    add_end_part(text, bar.end)?;
     text.push_str("</title>")
 }
 
-fn add_box(text: &mut String, class: &str, begin: u32, end: u32, y: u64) -> Result<(), AllocError> {
+#[tactic(auto, unfolding(crate::specs::Engines::box_text))]
+fn add_box(text: &mut String, class: &str, begin: u32, end: u32, y: u64) -> Result<(), AllocError>
+    ensures { OnOk result
+        (string_bytes text.new ≡ string_bytes text.old ++ box_text class.now begin end y) }
+{
     let x = column_left(begin);
     let wide = columns_wide(begin, end);
     write!(
@@ -93,85 +204,203 @@ fn add_box(text: &mut String, class: &str, begin: u32, end: u32, y: u64) -> Resu
     )
 }
 
-// The name stands in a bar that is wide enough for it.
-fn add_bar_name(text: &mut String, bar: &Bar, end: u32, y: u64) -> Result<(), AllocError> {
-    let wide = columns_wide(bar.begin, end);
-    let needed = match bar.name {
-        0..100 => 14,
-        100..10_000 => 28,
-        _ => 56,
-    };
-    if wide < needed {
-        return Ok(());
+// A box has a column at least.
+fn add_box_part(
+    text: &mut String,
+    class: &str,
+    begin: u32,
+    end: u32,
+    y: u64,
+) -> Result<(), AllocError>
+    ensures { OnOk result
+        (string_bytes text.new ≡ string_bytes text.old ++ box_part_text class.now begin end y) }
+{
+    if begin < end {
+        add_box(text, class, begin, end, y)
+    } else {
+        Ok(())
     }
-    let x = column_left(bar.begin) + 2;
-    let base = y.saturating_add(9);
-    let name = bar.name;
+}
+
+fn name_room(name: u32) -> u64
+    ensures { result ≡ name_room name }
+{
+    if name < 100 {
+        14
+    } else if name < 10_000 {
+        28
+    } else {
+        56
+    }
+}
+
+#[tactic(auto, unfolding(crate::specs::Engines::bar_label_text))]
+fn add_bar_label(text: &mut String, name: u32, begin: u32, base: u64) -> Result<(), AllocError>
+    ensures { OnOk result
+        (string_bytes text.new ≡ string_bytes text.old ++ bar_label_text name begin base) }
+{
+    let x = column_left(begin) + 2;
     write!(
         text,
         "<text class=\"label\" x=\"{x}\" y=\"{base}\">{name}</text>"
     )
 }
 
-fn add_bar(text: &mut String, bar: &Bar, lanes: Lanes) -> Result<(), AllocError> {
-    let lane = match bar.parent {
+// The name stands in a bar that is wide enough for it.
+fn add_bar_name(text: &mut String, bar: &Bar, end: u32, base: u64) -> Result<(), AllocError>
+    ensures { OnOk result
+        (string_bytes text.new ≡ string_bytes text.old ++ bar_name_text bar.now end base) }
+{
+    if columns_wide(bar.begin, end) < name_room(bar.name) {
+        return Ok(());
+    }
+    add_bar_label(text, bar.name, bar.begin, base)
+}
+
+fn lane_of(bar: &Bar, lanes: Lanes) -> u32
+    ensures { result ≡ lane_by lanes bar.now.lane bar.now.parent }
+{
+    match bar.parent {
         Some(_) => lanes.taken.saturating_add(bar.lane),
         None => bar.lane,
-    };
-    let y = lane_top(lanes.top, lane);
+    }
+}
+
+fn add_boxes(text: &mut String, bar: &Bar, runs: u32, end: u32, y: u64) -> Result<(), AllocError>
+    requires { y < 2 ^ 40 }
+    ensures { OnOk result
+        (string_bytes text.new ≡ string_bytes text.old ++ boxes_text bar.now runs end y) }
+{
+    add_box_part(text, "waits", bar.begin, runs, y)?;
+    add_box_part(text, class_of(bar.end), runs, end, y)?;
+    add_bar_name(text, bar, end, y + 9)
+}
+
+fn add_bar(text: &mut String, bar: &Bar, lanes: Lanes) -> Result<(), AllocError>
+    ensures { OnOk result
+        (string_bytes text.new ≡ string_bytes text.old ++ bar_text lanes bar.now) }
+{
+    let y = lane_top(lanes.top, lane_of(bar, lanes));
     let end = bar.end_step(lanes.last);
+    let runs = bar.started.unwrap_or(end);
     text.push_str("<g>")?;
     add_bar_title(text, bar)?;
-    let runs = bar.started.unwrap_or(end);
-    if bar.begin < runs {
-        add_box(text, "waits", bar.begin, runs, y)?;
-    }
-    if runs < end {
-        add_box(text, class_of(bar), runs, end, y)?;
-    }
-    add_bar_name(text, bar, end, y)?;
+    add_boxes(text, bar, runs, end, y)?;
     text.push_str("</g>\n")
 }
 
-// A batch stands around its members.
-fn add_batch(text: &mut String, bar: &Bar, lanes: Lanes) -> Result<(), AllocError> {
-    let x = column_left(bar.begin);
-    let wide = columns_wide(bar.begin, bar.end_step(lanes.last));
-    let y = lane_top(lanes.top, bar.lane);
-    let below = lane_top(lanes.top, lanes.taken.saturating_add(lanes.members));
-    let high = below.saturating_sub(y);
-    let (name, engine) = (bar.name, bar.engine);
+fn add_bar_of(text: &mut String, bar: &Bar, engine: u16, lanes: Lanes) -> Result<(), AllocError>
+    ensures { OnOk result (string_bytes text.new
+        ≡ string_bytes text.old ++ cond (bar.now.engine == engine) (bar_text lanes bar.now) []) }
+{
+    if bar.engine == engine {
+        add_bar(text, bar, lanes)
+    } else {
+        Ok(())
+    }
+}
+
+fn add_bars(text: &mut String, bars: &[Bar], engine: u16, lanes: Lanes) -> Result<(), AllocError>
+    ensures { OnOk result
+        (string_bytes text.new ≡ string_bytes text.old ++ bars_text engine lanes bars.now) }
+{
+    for bar in bars {
+        add_bar_of(text, bar, engine, lanes)?;
+    }
+    Ok(())
+}
+
+// ---- batches
+
+#[tactic(auto, unfolding(crate::specs::Engines::batch_box_text))]
+fn add_batch_box(
+    text: &mut String,
+    begin: u32,
+    end: u32,
+    y: u64,
+    bottom: u64,
+) -> Result<(), AllocError>
+    ensures { OnOk result
+        (string_bytes text.new ≡ string_bytes text.old ++ batch_box_text begin end y bottom) }
+{
+    let x = column_left(begin);
+    let wide = columns_wide(begin, end);
+    let high = bottom.saturating_sub(y);
     write!(
         text,
         "<rect class=\"batch\" x=\"{x}\" y=\"{y}\" width=\"{wide}\" height=\"{high}\">"
-    )?;
-    writeln!(
-        text,
-        "<title>batch of e{engine}: batch {name} and its members</title></rect>"
     )
 }
 
-fn add_batches(
-    text: &mut String,
-    bars: &[Bar],
-    engine: u16,
-    lanes: Lanes,
-) -> Result<(), AllocError> {
+#[tactic(auto, unfolding(crate::specs::Engines::batch_title_text))]
+fn add_batch_title(text: &mut String, engine: u16, name: u32) -> Result<(), AllocError>
+    ensures { OnOk result
+        (string_bytes text.new ≡ string_bytes text.old ++ batch_title_text engine name) }
+{
+    write!(
+        text,
+        "<title>batch of e{engine}: batch {name} and its members</title></rect>\n"
+    )
+}
+
+// A batch stands around its members.
+fn add_batch(text: &mut String, bar: &Bar, lanes: Lanes) -> Result<(), AllocError>
+    ensures { OnOk result
+        (string_bytes text.new ≡ string_bytes text.old ++ batch_text lanes bar.now) }
+{
+    let y = lane_top(lanes.top, bar.lane);
+    let bottom = lane_top(lanes.top, lanes.taken.saturating_add(lanes.members));
+    add_batch_box(text, bar.begin, bar.end_step(lanes.last), y, bottom)?;
+    add_batch_title(text, bar.engine, bar.name)
+}
+
+fn add_batch_of(text: &mut String, bar: &Bar, engine: u16, lanes: Lanes) -> Result<(), AllocError>
+    ensures { OnOk result (string_bytes text.new ≡ string_bytes text.old
+        ++ cond (bar.now.engine == engine && bar.now.is_batch) (batch_text lanes bar.now) []) }
+{
+    if bar.engine == engine && bar.is_batch {
+        add_batch(text, bar, lanes)
+    } else {
+        Ok(())
+    }
+}
+
+fn add_batches(text: &mut String, bars: &[Bar], engine: u16, lanes: Lanes) -> Result<(), AllocError>
+    ensures { OnOk result
+        (string_bytes text.new ≡ string_bytes text.old ++ batches_text engine lanes bars.now) }
+{
     for bar in bars {
-        if bar.engine == engine && bar.is_batch {
-            add_batch(text, bar, lanes)?;
-        }
+        add_batch_of(text, bar, engine, lanes)?;
     }
     Ok(())
 }
 
-fn add_bars(text: &mut String, bars: &[Bar], engine: u16, lanes: Lanes) -> Result<(), AllocError> {
-    for bar in bars {
-        if bar.engine == engine {
-            add_bar(text, bar, lanes)?;
-        }
-    }
-    Ok(())
+// ---- engines
+
+// Where the rows of an engine end.
+fn bottom_of(lanes: Lanes) -> u32
+    ensures { result ≡ engine_bottom lanes }
+{
+    let rows = lanes.taken.saturating_add(lanes.members).saturating_mul(13);
+    lanes.top.saturating_add(rows).saturating_add(4)
+}
+
+fn add_engine_rows(
+    text: &mut String,
+    moments: &[Moment],
+    bars: &[Bar],
+    engine: u16,
+    lanes: Lanes,
+    top: u32,
+) -> Result<(), AllocError>
+    ensures { OnOk result (string_bytes text.new ≡ string_bytes text.old
+        ++ engine_rows_text engine lanes.last top moments.now lanes bars.now) }
+{
+    add_numbered(text, "engine", engine, top)?;
+    add_marks(text, moments, engine, top)?;
+    add_batches(text, bars, engine, lanes)?;
+    add_bars(text, bars, engine, lanes)?;
+    add_rule(text, lanes.last, bottom_of(lanes))
 }
 
 /// Draws the engine from `top` on, where it made a step, and says where the next one begins.
@@ -179,26 +408,26 @@ pub fn add_engine(
     alloc: Global,
     text: &mut String,
     moments: &[Moment],
-    bars: &mut [Bar],
+    bars: &[Bar],
     engine: u16,
     steps: u32,
     top: u32,
-) -> Result<u32, AllocError> {
+) -> Result<u32, AllocError>
+    ensures text { OnOk result (string_bytes text.new
+        ≡ string_bytes text.old ++ engine_part_text engine steps top moments.now bars.now) }
+    ensures end { IfOk result (λ end. end ≡ engine_end engine steps top moments.now bars.now) }
+{
     if !has_steps(moments, engine) {
         return Ok(top);
     }
+    let taken = lay_bars(alloc, bars, engine, false, steps)?;
+    let all = lay_bars(alloc, &taken.bars, engine, true, steps)?;
     let lanes = Lanes {
         top: top.saturating_add(18),
-        taken: set_lanes(alloc, bars, engine, false, steps)?,
-        members: set_lanes(alloc, bars, engine, true, steps)?,
+        taken: taken.lanes,
+        members: all.lanes,
         last: steps,
     };
-    add_numbered(text, "engine", engine, top)?;
-    add_marks(text, moments, engine, top)?;
-    add_batches(text, bars, engine, lanes)?;
-    add_bars(text, bars, engine, lanes)?;
-    let rows = lanes.taken.saturating_add(lanes.members).saturating_mul(13);
-    let bottom = lanes.top.saturating_add(rows).saturating_add(4);
-    add_rule(text, steps, bottom)?;
-    Ok(bottom.saturating_add(4))
+    add_engine_rows(text, moments, &all.bars, engine, lanes, top)?;
+    Ok(bottom_of(lanes).saturating_add(4))
 }

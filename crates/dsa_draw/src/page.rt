@@ -2,6 +2,7 @@
 
 ghost use Rattle.std.specs.Prelude.{◌≡◌, ◌++◌, OnOk, string_bytes};
 ghost use Rattle.dsa_draw.specs.Bands.{numbered_text};
+ghost use Rattle.dsa_draw.specs.Pages.{svg_text, page_size_text, view_text, style_text, sheet_text, head_text, foot_text, row_name_text, rule_text, dot_text, cross_text, mark_text};
 
 use crate::geometry::{column_left, columns_wide};
 use crate::marks::Mark;
@@ -27,28 +28,75 @@ text{font:10px ui-monospace,monospace;fill:#1f2328}
 </style>
 ";
 
-/// Begins a page for so many steps, so high.
-pub fn add_head(text: &mut String, steps: u32, height: u32) -> Result<(), AllocError> {
-    let width = column_left(steps).saturating_add(56);
-    text.push_str("<svg xmlns=\"http://www.w3.org/2000/svg\"")?;
-    write!(text, " width=\"{width}\" height=\"{height}\"")?;
-    writeln!(text, " viewBox=\"0 0 {width} {height}\">")?;
-    text.push_str(STYLE)?;
-    writeln!(
+#[tactic(auto, unfolding(crate::specs::Pages::svg_text))]
+fn add_svg(text: &mut String) -> Result<(), AllocError>
+    ensures { OnOk result (string_bytes text.new ≡ string_bytes text.old ++ svg_text) }
+{
+    text.push_str("<svg xmlns=\"http://www.w3.org/2000/svg\"")
+}
+
+#[tactic(auto, unfolding(crate::specs::Pages::page_size_text))]
+fn add_size(text: &mut String, width: u64, height: u32) -> Result<(), AllocError>
+    ensures { OnOk result
+        (string_bytes text.new ≡ string_bytes text.old ++ page_size_text width height) }
+{
+    write!(text, " width=\"{width}\" height=\"{height}\"")
+}
+
+#[tactic(auto, unfolding(crate::specs::Pages::view_text))]
+fn add_view(text: &mut String, width: u64, height: u32) -> Result<(), AllocError>
+    ensures { OnOk result
+        (string_bytes text.new ≡ string_bytes text.old ++ view_text width height) }
+{
+    write!(text, " viewBox=\"0 0 {width} {height}\">\n")
+}
+
+#[tactic(auto, unfolding(crate::specs::Pages::style_text))]
+fn add_style(text: &mut String) -> Result<(), AllocError>
+    ensures { OnOk result (string_bytes text.new ≡ string_bytes text.old ++ style_text) }
+{
+    text.push_str(STYLE)
+}
+
+#[tactic(auto, unfolding(crate::specs::Pages::sheet_text))]
+fn add_sheet(text: &mut String, width: u64, height: u32) -> Result<(), AllocError>
+    ensures { OnOk result
+        (string_bytes text.new ≡ string_bytes text.old ++ sheet_text width height) }
+{
+    write!(
         text,
-        "<rect class=\"sheet\" width=\"{width}\" height=\"{height}\"/>"
+        "<rect class=\"sheet\" width=\"{width}\" height=\"{height}\"/>\n"
     )
 }
 
+/// Begins a page for so many steps, so high.
+pub fn add_head(text: &mut String, steps: u32, height: u32) -> Result<(), AllocError>
+    ensures { OnOk result
+        (string_bytes text.new ≡ string_bytes text.old ++ head_text steps height) }
+{
+    let width = column_left(steps) + 56;
+    add_svg(text)?;
+    add_size(text, width, height)?;
+    add_view(text, width, height)?;
+    add_style(text)?;
+    add_sheet(text, width, height)
+}
+
 /// Ends a page.
-pub fn add_foot(text: &mut String) -> Result<(), AllocError> {
+pub fn add_foot(text: &mut String) -> Result<(), AllocError>
+    ensures { OnOk result (string_bytes text.new ≡ string_bytes text.old ++ foot_text) }
+{
     text.push_str("</svg>\n")
 }
 
 /// The name of a row, at the left.
-pub fn add_name(text: &mut String, name: &str, top: u32) -> Result<(), AllocError> {
+#[tactic(auto, unfolding(crate::specs::Pages::row_name_text))]
+pub fn add_name(text: &mut String, name: &str, top: u32) -> Result<(), AllocError>
+    ensures { OnOk result
+        (string_bytes text.new ≡ string_bytes text.old ++ row_name_text name.now top) }
+{
     let base = u64::from(top) + 11;
-    writeln!(text, "<text x=\"4\" y=\"{base}\">{name}</text>")
+    write!(text, "<text x=\"4\" y=\"{base}\">{name}</text>\n")
 }
 
 /// The same with a number.
@@ -61,31 +109,47 @@ pub fn add_numbered(text: &mut String, name: &str, number: u16, top: u32) -> Res
 }
 
 /// A line below a row, over all columns.
-pub fn add_rule(text: &mut String, steps: u32, y: u32) -> Result<(), AllocError> {
+#[tactic(auto, unfolding(crate::specs::Pages::rule_text))]
+pub fn add_rule(text: &mut String, steps: u32, y: u32) -> Result<(), AllocError>
+    ensures { OnOk result (string_bytes text.new ≡ string_bytes text.old ++ rule_text steps y) }
+{
     let wide = columns_wide(0, steps);
-    writeln!(text, "<path class=\"grid\" d=\"M112 {y}h{wide}\"/>")
+    write!(text, "<path class=\"grid\" d=\"M112 {y}h{wide}\"/>\n")
+}
+
+#[tactic(auto, unfolding(crate::specs::Pages::dot_text))]
+fn add_dot(text: &mut String, class: &str, step: u32, top: u32) -> Result<(), AllocError>
+    ensures { OnOk result
+        (string_bytes text.new ≡ string_bytes text.old ++ dot_text class.now step top) }
+{
+    let x = column_left(step) + 7;
+    let y = u64::from(top) + 8;
+    write!(
+        text,
+        "<circle class=\"{class}\" cx=\"{x}\" cy=\"{y}\" r=\"3\"/>\n"
+    )
+}
+
+#[tactic(auto, unfolding(crate::specs::Pages::cross_text))]
+fn add_cross(text: &mut String, step: u32, top: u32) -> Result<(), AllocError>
+    ensures { OnOk result (string_bytes text.new ≡ string_bytes text.old ++ cross_text step top) }
+{
+    let left = column_left(step) + 4;
+    let upper = u64::from(top) + 5;
+    write!(
+        text,
+        "<path class=\"failed\" d=\"M{left} {upper}l6 6m0-6l-6 6\"/>\n"
+    )
 }
 
 /// A mark in the column of a step, in a row that begins at `top`.
-pub fn add_mark(text: &mut String, mark: Mark, step: u32, top: u32) -> Result<(), AllocError> {
-    let x = column_left(step) + 7;
-    let y = u64::from(top) + 8;
+pub fn add_mark(text: &mut String, mark: Mark, step: u32, top: u32) -> Result<(), AllocError>
+    ensures { OnOk result
+        (string_bytes text.new ≡ string_bytes text.old ++ mark_text mark step top) }
+{
     match mark {
-        Mark::Done => writeln!(
-            text,
-            "<circle class=\"done\" cx=\"{x}\" cy=\"{y}\" r=\"3\"/>"
-        ),
-        Mark::Wait => writeln!(
-            text,
-            "<circle class=\"wait\" cx=\"{x}\" cy=\"{y}\" r=\"3\"/>"
-        ),
-        Mark::Failed => {
-            let left = column_left(step) + 4;
-            let upper = u64::from(top) + 5;
-            writeln!(
-                text,
-                "<path class=\"failed\" d=\"M{left} {upper}l6 6m0-6l-6 6\"/>"
-            )
-        }
+        Mark::Done => add_dot(text, "done", step, top),
+        Mark::Wait => add_dot(text, "wait", step, top),
+        Mark::Failed => add_cross(text, step, top),
     }
 }

@@ -78,6 +78,12 @@ pub fn names_of_two_groups()
     ensures third_engine { groups_reason (record caps { engines = 3 }) 6
         (pair (record first_group { engines = 5 }) (record second_group { engines = 6 }))
         ≡ Some (TwoGroups (Engine 2) 0 1) }
+    ensures more_queues_than_engines { groups_reason (record caps { queues = 4 }) 6
+        (pair (record first_group { queues = 13 }) (record second_group { queues = 10 }))
+        ≡ Some (TwoGroups (Queue 3) 0 1) }
+    ensures more_engines_than_queues { groups_reason (record caps { engines = 4 }) 6
+        (pair (record first_group { engines = 13 }) (record second_group { engines = 10 }))
+        ≡ Some (TwoGroups (Engine 3) 0 1) }
     ensures before_the_reserve { groups_reason caps 6
         (pair_with (record second_group { engines = 3; reserved = 13 }))
         ≡ Some (TwoGroups (Engine 0) 0 1) }

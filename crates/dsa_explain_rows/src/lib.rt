@@ -4,8 +4,10 @@
 pub mod checks;
 pub mod commands;
 pub mod dispatch;
+pub mod faults;
 pub mod lines;
 pub mod members;
 pub mod parts;
 pub mod sentences;
 pub mod submissions;
+pub mod uneven;

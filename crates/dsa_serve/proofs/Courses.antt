@@ -102,14 +102,14 @@ dialogue_of first behind output number now tickets kept h =
 -- the answers to whole lines
 pub whole_answered : (first behind output : List ℕ) (number : ℕ) (now : Running) (tickets : List Ticket) (kept : List ℕ)
     (ended : Bool) (input : List ℕ) → IsLine first → length first ≤ 2 ^ 20 → IsFront ended input first behind
-    → IsServing first behind output number now tickets kept → AnswersWhole input output
+    → IsServing first behind output number now tickets kept → AnswersWhole ended input output
 whole_answered first behind output number now tickets kept ended input line short front h = record {
   first = first;
   behind = behind;
   lines = h.lines;
   rest = h.rest;
   last = now.state;
-  split = record { ended = ended; line = line; short = short; front = front };
+  split = record { line = line; short = short; front = front };
   lines_are = h.lines_are;
   dialogue = dialogue_of first behind output number now tickets kept h;
 }

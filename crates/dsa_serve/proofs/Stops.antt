@@ -3,9 +3,9 @@ use Rattle.std.proofs.Common.{◌≡◌, ◌≢◌, ◌⊎◌, ◌<◌, ◌≤�
 use Rattle.std.proofs.Common.{Option, length, take, refl, ap, ◌∙◌, arith, Result, Ok, Err, IfErr}
 use Rattle.std.proofs.Common.{append_assoc, append-nil, length-append, length-take, drop, inl, inr}
 use Rattle.std.proofs.{Math.Seq.{take-append-add}}
-use Rattle.std.proofs.lemmas.List.{take-append-drop}
+use Rattle.std.proofs.lemmas.List.{take-append-drop, Elements.{All-nil}}
 use Rattle.memchr.specs.Find.{NoneBefore, Passes, is_byte}
-use Rattle.std.specs.Io.KnownBytes.{Consumes, Appends, Keeps}
+use Rattle.std.specs.Io.KnownBytes.{Consumes, IsAtEnd, Appends, Keeps}
 use Rattle.std.proofs.KnownBytes.{Consumes-nil, Consumes-trans, Consumes-kept, Appends-nil, Appends-trans}
 use Rattle.dsa_book.specs.declared.answer.Ticket.{Ticket}
 use Rattle.dsa_device.specs.Running.{Running}
@@ -16,7 +16,7 @@ use Rattle.dsa_scenario.specs.declared.faults.ScenarioFault.TheVariants.{Differs
 use Rattle.dsa_scenario.specs.declared.faults.ScenarioFault.TheVariants.{BadCaps, BadCapacity}
 use Rattle.dsa_scenario.specs.Document.{IsFaultOf}
 use Rattle.dsa_serve.specs.Input.{IsLine, IsFront}
-use Rattle.dsa_serve.specs.Dialogue.{IsDialogueEnded, AnswersWhole, AnswersAll, IsServing, IsInCourse, IsLate}
+use Rattle.dsa_serve.specs.Dialogue.{IsDialogueEnded, AnswersWhole, AnswersAll, IsServing, IsInCourse}
 use Rattle.dsa_serve.specs.Dialogue.{IsStoppedWithin, IsStopped}
 use Rattle.dsa_serve.proofs.{Courses.{whole_answered}, Lines.{front_cut}}
 
@@ -66,34 +66,50 @@ course_on had left left' held holds holds' bytes text number now tickets kept nu
 -- what is answered in its course
 pub course_answered : (ended : Bool) (had left held holds : Option (List ℕ)) (number : ℕ) (now : Running)
     (tickets : List Ticket) (kept : List ℕ) → (h : IsInCourse ended had left held holds number now tickets kept)
-    → AnswersWhole h.input h.output
+    → AnswersWhole ended h.input h.output
 course_answered ended had left held holds number now tickets kept h =
     whole_answered h.first h.behind h.output number now tickets kept ended h.input h.line h.short h.front h.serving
 
 -- an error of the reader
-pub read_stops : (ended : Bool) (had left left' held holds : Option (List ℕ)) (number : ℕ) (now : Running)
+pub read_stops : (had left left' held holds : Option (List ℕ)) (number : ℕ) (now : Running)
     (tickets : List Ticket) (kept : List ℕ) → Keeps left left'
-    → IsInCourse ended had left held holds number now tickets kept → IsStopped Read had left' held holds
-read_stops ended had left left' held holds number now tickets kept keeps h = (
+    → IsInCourse false had left held holds number now tickets kept → IsStopped Read had left' held holds
+read_stops had left left' held holds number now tickets kept keeps h = (
   h.input,
   h.output,
   Consumes-kept had left left' h.input h.read keeps,
-  inr (course_answered ended had left held holds number now tickets kept h),
+  inr (course_answered false had left held holds number now tickets kept h),
   h.written,
 )
 
 -- want of memory
-pub memory_stops : (room : ℕ) (ended : Bool) (had left left' held holds : Option (List ℕ)) (bytes : List ℕ)
+pub memory_stops : (room : ℕ) (had left left' held holds : Option (List ℕ)) (bytes : List ℕ)
     (number : ℕ) (now : Running) (tickets : List Ticket) (kept : List ℕ) → Consumes left left' bytes
-    → length bytes ≤ room → IsInCourse ended had left held holds number now tickets kept
+    → length bytes ≤ room → IsInCourse false had left held holds number now tickets kept
     → IsStoppedWithin room OutOfMemory had left' held holds
-memory_stops room ended had left left' held holds bytes number now tickets kept reads few h = (
+memory_stops room had left left' held holds bytes number now tickets kept reads few h = (
   h.input,
   bytes,
   h.output,
   Consumes-trans had left left' h.input bytes h.read reads,
   few,
-  inr (course_answered ended had left held holds number now tickets kept h),
+  inl (inr (course_answered false had left held holds number now tickets kept h)),
+  h.written,
+)
+
+-- want of memory at the end of the input
+pub end_memory_stops : (ended : Bool) (had left held holds : Option (List ℕ)) (number : ℕ) (now : Running)
+    (tickets : List Ticket) (kept : List ℕ) → IsAtEnd left
+    → IsInCourse ended had left held holds number now tickets kept → IsStopped OutOfMemory had left held holds
+end_memory_stops false had left held holds number now tickets kept at_end h =
+    memory_stops (2 ^ 16) had left left held holds [] number now tickets kept (Consumes-nil left) (omega arith) h
+end_memory_stops true had left held holds number now tickets kept at_end h = (
+  h.input,
+  [],
+  h.output,
+  rw (append-nil h.input) h.read,
+  omega arith,
+  inr (at_end, rw (append-nil h.input) (course_answered true had left held holds number now tickets kept h)),
   h.written,
 )
 
@@ -103,10 +119,10 @@ pub unread_stops : (room : ℕ) (had left left' held holds : Option (List ℕ)) 
     → (e ≡ Read) ⊎ (e ≡ OutOfMemory) → IsInCourse false had left held holds number now tickets kept
     → IsStoppedWithin room e had left' held holds
 unread_stops room had left left' held holds e number now tickets kept keeps (inl is) h =
-    rw is (read_stops false had left left' held holds number now tickets kept keeps h)
+    rw is (read_stops had left left' held holds number now tickets kept keeps h)
 unread_stops room had left left' held holds e number now tickets kept keeps (inr is) h =
     let reads = Consumes-kept left left left' [] (Consumes-nil left) keeps in
-    rw is (memory_stops room false had left left' held holds [] number now tickets kept reads (omega arith) h)
+    rw is (memory_stops room had left left' held holds [] number now tickets kept reads (omega arith) h)
 
 -- a write that is refused in a turn
 pub write_stops : (had left left' held holds holds' : Option (List ℕ)) (bytes text : List ℕ) (count : ℕ)
@@ -146,9 +162,10 @@ all_answered ended had left held holds holds' text number now tickets kept ends 
   h.output ++ text,
   h.read,
   record {
+    without_feed = ended;
     first = h.first;
     behind = h.behind;
-    split = record { ended = ended; line = h.line; short = h.short; front = h.front };
+    split = record { line = h.line; short = h.short; front = h.front };
     ended = ends h.first h.behind h.output h.serving;
   },
   Appends-trans held holds holds' h.output text h.written writes,
@@ -156,21 +173,25 @@ all_answered ended had left held holds holds' text number now tickets kept ends 
 
 -- a write that is refused at the end
 pub end_stops : (ended : Bool) (had left held holds holds' : Option (List ℕ)) (text : List ℕ) (count : ℕ) (number : ℕ)
-    (now : Running) (tickets : List Ticket) (kept : List ℕ) → Ends text number now tickets kept
+    (now : Running) (tickets : List Ticket) (kept : List ℕ) → IsAtEnd left → Ends text number now tickets kept
     → count < length text → Appends holds holds' (take count text)
     → IsInCourse ended had left held holds number now tickets kept → IsStopped Write had left held holds'
-end_stops ended had left held holds holds' text count number now tickets kept ends less writes h =
+end_stops ended had left held holds holds' text count number now tickets kept at_end ends less writes h =
     let cut = cut_short held holds holds' h.output text count h.written less writes in (
       h.input,
       h.output ++ text,
       length h.output + count,
       h.read,
-      inr (record {
-        first = h.first;
-        behind = h.behind;
-        split = record { ended = ended; line = h.line; short = h.short; front = h.front };
-        ended = ends h.first h.behind h.output h.serving;
-      }),
+      inr (inr (
+        at_end,
+        record {
+          without_feed = ended;
+          first = h.first;
+          behind = h.behind;
+          split = record { line = h.line; short = h.short; front = h.front };
+          ended = ends h.first h.behind h.output h.serving;
+        },
+      )),
       cut.0,
       cut.1,
     )
@@ -199,36 +220,41 @@ pub memory_before : (room : ℕ) (had left held : Option (List ℕ)) (first more
     → Consumes had left (first ++ more) → IsLine first → length first ≤ 2 ^ 20 → length more ≤ room
     → IsStoppedWithin room OutOfMemory had left held held
 memory_before room had left held first more reads line short few =
-    (first, more, [], reads, few, inl (line, short, refl), Appends-nil held)
+    (first, more, [], reads, few, inl (inl (line, short, refl)), Appends-nil held)
+
+-- want of memory before anything is read
+pub unread_memory : (had held : Option (List ℕ)) → IsStopped OutOfMemory had had held held
+unread_memory had held =
+    memory_before (2 ^ 16) had had held [] [] (Consumes-nil had) (All-nil (λ byte. byte ≢ 10)) (omega arith) (omega arith)
 
 -- a first line that is no document, or want of memory before one is
 pub opening_stops : (room : ℕ) (had left held : Option (List ℕ)) (input first behind : List ℕ) (ended : Bool)
     (e : ScenarioFault)
     → Consumes had left input → IsLine first → length first ≤ 2 ^ 20 → IsFront ended input first behind
-    → (ended ≡ false → length behind < room) → (e ≡ OutOfMemory) ⊎ IsFaultOf first e
+    → (ended ≡ false → length behind < room) → (ended ≡ true → IsAtEnd left) → (e ≡ OutOfMemory) ⊎ IsFaultOf first e
     → IsStoppedWithin room e had left held held
-opening_stops room had left held input first behind false e reads line short front few (inl h) =
+opening_stops room had left held input first behind false e reads line short front few at_end (inl h) =
     let split : input ≡ first ++ 10 ∷ behind = front ∙ append_assoc first (10 ∷ []) behind in
     rw h (memory_before room had left held first (10 ∷ behind) (rw split at reads) line short
     (let some = few refl in omega (arith, some)))
-opening_stops room had left held input first behind true e reads line short front few (inl h) =
+opening_stops room had left held input first behind true e reads line short front few at_end (inl h) =
     let all = rw (front.0, ← append-nil first) at reads in
     rw h (memory_before room had left held first [] all line short (omega arith))
-opening_stops room had left held input first behind ended Read reads line short front few (inr h) = absurd h
-opening_stops room had left held input first behind ended TooLong reads line short front few (inr h) = absurd h
-opening_stops room had left held input first behind ended Write reads line short front few (inr h) = absurd h
-opening_stops room had left held input first behind ended (Differs i) reads line short front few (inr h) = absurd h
-opening_stops room had left held input first behind ended OutOfMemory reads line short front few (inr h) = absurd h
-opening_stops room had left held input first behind ended NotJson reads line short front few (inr h) =
-    (input, first, behind, reads, record { ended = ended; line = line; short = short; front = front }, h)
-opening_stops room had left held input first behind ended BadDocument reads line short front few (inr h) =
-    (input, first, behind, reads, record { ended = ended; line = line; short = short; front = front }, h)
-opening_stops room had left held input first behind ended (BadStep i) reads line short front few (inr h) =
-    (input, first, behind, reads, record { ended = ended; line = line; short = short; front = front }, h)
-opening_stops room had left held input first behind ended BadCaps reads line short front few (inr h) =
-    (input, first, behind, reads, record { ended = ended; line = line; short = short; front = front }, h)
-opening_stops room had left held input first behind ended BadCapacity reads line short front few (inr h) =
-    (input, first, behind, reads, record { ended = ended; line = line; short = short; front = front }, h)
+opening_stops room had left held input first behind ended Read reads line short front few at_end (inr h) = absurd h
+opening_stops room had left held input first behind ended TooLong reads line short front few at_end (inr h) = absurd h
+opening_stops room had left held input first behind ended Write reads line short front few at_end (inr h) = absurd h
+opening_stops room had left held input first behind ended (Differs i) reads line short front few at_end (inr h) = absurd h
+opening_stops room had left held input first behind ended OutOfMemory reads line short front few at_end (inr h) = absurd h
+opening_stops room had left held input first behind ended NotJson reads line short front few at_end (inr h) =
+    (input, first, behind, ended, reads, record { line = line; short = short; front = front }, at_end, h, Appends-nil held)
+opening_stops room had left held input first behind ended BadDocument reads line short front few at_end (inr h) =
+    (input, first, behind, ended, reads, record { line = line; short = short; front = front }, at_end, h, Appends-nil held)
+opening_stops room had left held input first behind ended (BadStep i) reads line short front few at_end (inr h) =
+    (input, first, behind, ended, reads, record { line = line; short = short; front = front }, at_end, h, Appends-nil held)
+opening_stops room had left held input first behind ended BadCaps reads line short front few at_end (inr h) =
+    (input, first, behind, ended, reads, record { line = line; short = short; front = front }, at_end, h, Appends-nil held)
+opening_stops room had left held input first behind ended BadCapacity reads line short front few at_end (inr h) =
+    (input, first, behind, ended, reads, record { line = line; short = short; front = front }, at_end, h, Appends-nil held)
 
 -- an error of the reader, or want of memory, where the first line is not whole
 pub first_read_stops : (room : ℕ) (had left left' held : Option (List ℕ)) (first : List ℕ) (e : ScenarioFault)
@@ -263,25 +289,31 @@ cut_stops room had left held first piece at e found line fits few reads (inr h) 
       rw whole reads,
       (front_cut first piece at found line).0,
       omega (arith, h.1, length-append first short, length-take at piece, inside),
+      Appends-nil held,
     )
+
+-- more bytes than a line has before its line feed
+pub long_stops : (room : ℕ) (had left held : Option (List ℕ)) (first : List ℕ) → Consumes had left first → IsLine first
+    → 2 ^ 20 < length first → IsStoppedWithin room TooLong had left held held
+long_stops room had left held first reads line long =
+    (first, [], rw (append-nil first) reads, line, long, Appends-nil held)
 
 -- a write that is refused of the answers to the first line and to the lines that came with it
 pub first_write_stops : (had left held holds : Option (List ℕ)) (ended : Bool) (input first behind text seen : List ℕ)
     (count number : ℕ) (now : Running) (tickets : List Ticket) (kept : List ℕ) → Consumes had left input → IsLine first
-    → length first ≤ 2 ^ 20 → IsFront ended input first behind → seen ≡ text
-    → IsServing first behind text number now tickets kept → count < length seen
+    → length first ≤ 2 ^ 20 → IsFront ended input first behind → (ended ≡ true → IsAtEnd left)
+    → seen ≡ text → IsServing first behind text number now tickets kept → count < length seen
     → Appends held holds (take count seen) → IsStopped Write had left held holds
-first_write_stops had left held holds ended input first behind text seen count number now tickets kept reads line short
-    front same serving less writes =
-    let whole : AnswersWhole input seen =
-    rw same (whole_answered first behind text number now tickets kept ended input line short front serving) in
+first_write_stops had left held holds false input first behind text seen count number now tickets kept reads line short
+    front at_end same serving less writes =
+    let whole : AnswersWhole false input seen =
+    rw same (whole_answered first behind text number now tickets kept false input line short front serving) in
     (input, seen, count, reads, inl whole, less, writes)
-
--- a late fault is one of three
-pub late_is : {A : Type 0} (e : ScenarioFault) → IsLate e → e ≢ Read → e ≢ Write → e ≢ OutOfMemory → A
-late_is e (inl h) read write memory = absurd (read h)
-late_is e (inr (inl h)) read write memory = absurd (write h)
-late_is e (inr (inr h)) read write memory = absurd (memory h)
+first_write_stops had left held holds true input first behind text seen count number now tickets kept reads line short
+    front at_end same serving less writes =
+    let whole : AnswersWhole true input seen =
+    rw same (whole_answered first behind text number now tickets kept true input line short front serving) in
+    (input, seen, count, reads, inr (inl (at_end refl, whole)), less, writes)
 
 -- two things that are told of an error
 pub of_both : {T E : Type 0} (r : Result T E) (P Q R : E → Type 0) → ((e : E) → P e → Q e → R e) → IfErr r P → IfErr r Q

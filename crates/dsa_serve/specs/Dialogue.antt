@@ -1,7 +1,7 @@
 -- A dialogue: what is answered to an input, and how far that is written.
-use Rattle.std.specs.Prelude.{◌≡◌, ◌⊎◌, ◌≤◌, ◌<◌, ◌+◌, ℕ, ◌^◌, Bool, true, List, [], ◌++◌, flat_map}
+use Rattle.std.specs.Prelude.{◌≡◌, ◌⊎◌, ◌≤◌, ◌<◌, ◌+◌, ℕ, ◌^◌, Bool, true, false, List, [], ◌++◌, flat_map}
 use Rattle.std.specs.Prelude.{length, map, take, Option, Some}
-use Rattle.std.specs.Io.KnownBytes.{Consumes, Appends}
+use Rattle.std.specs.Io.KnownBytes.{Consumes, IsAtEnd, Appends}
 use Rattle.dsa_regs.specs.{declared.Caps.{Caps}, Caps.{check_caps}}
 use Rattle.dsa_book.specs.{declared.answer.Ticket.{Ticket}, State.{State}, Machine.{is_run, replay, stored_steps}}
 use Rattle.dsa_device.specs.Running.{Running}
@@ -36,14 +36,15 @@ pub record IsDialogue (first : List ℕ) (lines : List (List ℕ)) (last : State
   pub replayed : replay caps (stored_steps (steps_of_records records)) ≡ Some last
   pub answered : output ≡ answers (from_document actions requests) (visits caps capacity [] records)
 
--- the output answers all whole lines of the input, and no more (profile)
-pub record AnswersWhole (input output : List ℕ) : Type 0 where
+-- the output answers all whole lines of the input, and no more; where the end of the input `ended` the first line,
+-- that one alone (profile)
+pub record AnswersWhole (ended : Bool) (input output : List ℕ) : Type 0 where
   pub first : List ℕ
   pub behind : List ℕ
   pub lines : List (List ℕ)
   pub rest : List ℕ
   pub last : State
-  pub split : HasFirst input first behind
+  pub split : HasFirst ended input first behind
   pub lines_are : AreLines behind lines rest
   pub dialogue : IsDialogue first lines last output
 
@@ -59,16 +60,21 @@ pub record IsDialogueEnded (first behind output : List ℕ) : Type 0 where
 
 -- the output answers all lines of the input, and ends with the fates (profile)
 pub record AnswersAll (input output : List ℕ) : Type 0 where
+  pub without_feed : Bool
   pub first : List ℕ
   pub behind : List ℕ
-  pub split : HasFirst input first behind
+  pub split : HasFirst without_feed input first behind
   pub ended : IsDialogueEnded first behind output
 
--- nothing is written before the first line is whole, which it is by 2^20 bytes, and then what answers the whole lines
--- (profile)
+-- nothing is written before the line feed of the first line, which comes after at most 2^20 bytes, and then what
+-- answers the whole lines (profile)
 abbrev pub AnswersSoFar : List ℕ → List ℕ → Type 0
 AnswersSoFar input output =
-    (IsLine input × (length input ≤ 2 ^ 20) × (output ≡ [])) ⊎ AnswersWhole input output
+    (IsLine input × (length input ≤ 2 ^ 20) × (output ≡ [])) ⊎ AnswersWhole false input output
+
+-- the reader has no more, and the input is a first line without a line feed, which the output answers (profile)
+abbrev pub AnswersOnlyLine : Option (List ℕ) → List ℕ → List ℕ → Type 0
+AnswersOnlyLine left input output = IsAtEnd left × AnswersWhole true input output
 
 -- ---- a dialogue in its course
 
@@ -121,16 +127,18 @@ IsStoppedWithin room Read had left held holds =
     × Appends held holds output
 IsStoppedWithin room TooLong had left held holds =
     (first : List ℕ) × (more : List ℕ) × Consumes had left (first ++ more) × IsLine first × (2 ^ 20 < length first)
+    × Appends held holds []
 IsStoppedWithin room Write had left held holds =
     (input : List ℕ) × (output : List ℕ) × (count : ℕ) × Consumes had left input
-    × (AnswersWhole input output ⊎ AnswersAll input output) × (count < length output)
-    × Appends held holds (take count output)
+    × (AnswersWhole false input output ⊎ AnswersOnlyLine left input output ⊎ (IsAtEnd left × AnswersAll input output))
+    × (count < length output) × Appends held holds (take count output)
 IsStoppedWithin room OutOfMemory had left held holds =
     (input : List ℕ) × (more : List ℕ) × (output : List ℕ) × Consumes had left (input ++ more)
-    × (length more ≤ room) × AnswersSoFar input output × Appends held holds output
+    × (length more ≤ room) × (AnswersSoFar input output ⊎ AnswersOnlyLine left (input ++ more) output)
+    × Appends held holds output
 IsStoppedWithin room fault had left held holds =
-    (input : List ℕ) × (first : List ℕ) × (behind : List ℕ) × Consumes had left input × HasFirst input first behind
-    × IsFaultOf first fault
+    (input : List ℕ) × (first : List ℕ) × (behind : List ℕ) × (ended : Bool) × Consumes had left input
+    × HasFirst ended input first behind × (ended ≡ true → IsAtEnd left) × IsFaultOf first fault × Appends held holds []
 
 -- the same where a read gives at most 2^16 bytes (profile)
 abbrev pub IsStopped : ScenarioFault → Option (List ℕ) → Option (List ℕ) → Option (List ℕ) → Option (List ℕ) → Type 0

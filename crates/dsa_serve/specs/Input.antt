@@ -23,9 +23,9 @@ abbrev pub IsFront : Bool → List ℕ → List ℕ → List ℕ → Type 0
 IsFront false input first behind = input ≡ line_of_text first ++ behind
 IsFront true input first behind = (input ≡ first) × (behind ≡ [])
 
--- the input has this first line, which is no longer than a line may be, and this behind it (profile)
-pub record HasFirst (input first behind : List ℕ) : Type 0 where
-  pub ended : Bool
+-- the input has this first line, which is no longer than a line may be, and this behind it; where the end of the
+-- input `ended` the line, it has no line feed (profile)
+pub record HasFirst (ended : Bool) (input first behind : List ℕ) : Type 0 where
   pub line : IsLine first
   pub short : length first ≤ 2 ^ 20
   pub front : IsFront ended input first behind

@@ -1,6 +1,6 @@
 //! Worked lines and answers: what the definitions say at chosen values, by computation.
 
-ghost use Rattle.std.specs.Prelude.{◌≡◌, ℕ, Option, Some, List, [], ◌∷◌, ◌++◌, ◌+◌, Ok, Err, true, false, length, codes};
+ghost use Rattle.std.specs.Prelude.{◌≡◌, ℕ, Option, Some, List, [], ◌∷◌, ◌++◌, ◌+◌, Ok, Err, Bool, true, false, length, codes};
 ghost use Rattle.dsa_regs.specs.declared.Fault.TheVariants.{BadCommand};
 ghost use Rattle.dsa_book.specs.declared.event.Event.TheVariants.{Poll};
 ghost use Rattle.dsa_book.specs.State.{State, opening};
@@ -89,7 +89,7 @@ pub fn a_dialogue()
 #[tactic(auto, unfolding(serde_json::proofs::OnLiterals::serde_json_on_literals, dsa_scenario::specs::Worked::digits_on_literals))]
 pub fn dialogues()
     ensures no_lines { IsDialogue (first_line []) [] (opening smallest_caps) [] }
-    ensures whole { AnswersWhole (line_of_text (first_line []) ++ codes "{\n{")
+    ensures whole { AnswersWhole false (line_of_text (first_line []) ++ codes "{\n{")
         (codes "fault not JSON\n") }
     ensures all { AnswersAll (line_of_text (first_line []) ++ codes "{")
         (codes "fault not JSON\n") }
@@ -111,25 +111,27 @@ pub fn inputs()
     ensures front_with_more { ¬ IsFront true (codes "1") (codes "1") (codes "2") }
     ensures front_without_line_feed { ¬ IsFront false (codes "12") (codes "1") (codes "2") }
     ensures front_is_all { ¬ IsFront true (codes "1\n2") (codes "1") (codes "2") }
-    ensures first { HasFirst (codes "1\n2") (codes "1") (codes "2") }
-    ensures first_alone { HasFirst (codes "1") (codes "1") [] }
+    ensures first { HasFirst false (codes "1\n2") (codes "1") (codes "2") }
+    ensures first_alone { HasFirst true (codes "1") (codes "1") [] }
     ensures longest_first { (first : List ℕ)
         → IsLine first
         → length first ≡ 1_048_576
-        → HasFirst first first [] }
-    ensures too_long_first { (input : List ℕ) (first : List ℕ) (behind : List ℕ)
+        → HasFirst true first first [] }
+    ensures too_long_first { (ended : Bool) (input : List ℕ) (first : List ℕ) (behind : List ℕ)
         → length first ≡ 1_048_577
-        → ¬ HasFirst input first behind }
-    ensures first_of_two_lines { ¬ HasFirst (codes "1\n2\n") (codes "1\n2") [] }
-    ensures first_without_the_rest { ¬ HasFirst (codes "1\n2") (codes "1") [] }
+        → ¬ HasFirst ended input first behind }
+    ensures first_of_two_lines { (ended : Bool)
+        → ¬ HasFirst ended (codes "1\n2\n") (codes "1\n2") [] }
+    ensures first_without_the_rest { (ended : Bool)
+        → ¬ HasFirst ended (codes "1\n2") (codes "1") [] }
 {}
 
 /// An input has one first line, and bytes fall into lines in one way.
 pub fn one_division()
-    ensures first { (input : List ℕ) (first : List ℕ) (behind : List ℕ)
-        (other : List ℕ) (more : List ℕ)
-        → HasFirst input first behind
-        → HasFirst input other more
+    ensures first { (ended : Bool) (also : Bool) (input : List ℕ) (first : List ℕ)
+        (behind : List ℕ) (other : List ℕ) (more : List ℕ)
+        → HasFirst ended input first behind
+        → HasFirst also input other more
         → (first ≡ other) × (behind ≡ more) }
     ensures lines { (bytes : List ℕ) (lines : List (List ℕ)) (rest : List ℕ)
         (others : List (List ℕ)) (other : List ℕ)
@@ -193,6 +195,17 @@ pub fn stops()
         (Some []) (Some []) }
     ensures other_fault { ¬ IsStopped ScenarioFault.NotJson (Some (codes "1")) (Some [])
         (Some []) (Some []) }
+    ensures unfinished_line_is_answered { (input : List ℕ) (output : List ℕ)
+        → IsLine input
+        → IsStopped ScenarioFault.Read (Some input) (Some []) (Some []) (Some output)
+        → output ≡ [] }
+    ensures fault_is_answered { ¬ IsStopped ScenarioFault.BadDocument (Some (codes "1")) (Some [])
+        (Some []) (Some (codes "2")) }
+    ensures long_line_is_answered { (first : List ℕ)
+        → ¬ IsStopped ScenarioFault.TooLong (Some first) (Some []) (Some [])
+        (Some (codes "2")) }
+    ensures unfinished_line_is_judged { ¬ IsStopped ScenarioFault.BadDocument (Some (codes "12"))
+        (Some (codes "2")) (Some []) (Some []) }
 {}
 
 /// Which faults are told of what was noted of a writer.

@@ -180,6 +180,7 @@ fn finish<S: EntryStore, W: Write>(
     ensures stopped { IfErr result
         (λ e. (ended : Bool) (had : Option (List ℕ)) (left : Option (List ℕ))
         (held : Option (List ℕ))
+        → IsAtEnd left
         → IsInCourse ended had left held (watched_contents W.contents writer.old)
         dialogue.old.session.number dialogue.old.session.device
         dialogue.old.session.tickets.items dialogue.old.kept.items
@@ -197,9 +198,9 @@ fn finish<S: EntryStore, W: Write>(
 /// the fates, as at the end of a document's run.
 ///
 /// A fault of the document is the same as that of [`run_scenario`](dsa_scenario::run_scenario), and
-/// nothing is written then. On `Read` an answer of the reader was an error, and what was read is
-/// answered; on `OutOfMemory` what was read before the last read. On `Write` a write was refused,
-/// and the writer has got a proper prefix of the answers.
+/// nothing is written then. On `Read` an answer of the reader was an error, and all whole lines
+/// that were read are answered; on `OutOfMemory` those before the last read. On `Write` a write was
+/// refused, and the writer has got a proper prefix of the answers.
 pub fn serve_counted<R: Read, W: Write>(
     alloc: Global,
     reader: &mut CountedReader<'_, R>,
@@ -224,10 +225,7 @@ pub fn serve_counted<R: Read, W: Write>(
         (counted_remaining R.remaining reader.new) (watched_contents W.contents writer.old)
         (watched_contents W.contents writer.new)) }
     ensures nothing { IfErr result
-        (λ e. e ≢ ScenarioFault.Read
-        → e ≢ ScenarioFault.Write
-        → e ≢ ScenarioFault.OutOfMemory
-        → writer.new ≡ writer.old) }
+        (λ e. ¬ IsLate e → writer.new ≡ writer.old) }
 {
     let mut chunk = [0u8; CHUNK];
     let mut it = start(alloc, reader, &mut chunk, writer)?;
@@ -259,10 +257,7 @@ pub fn serve_watched<R: Read, W: Write>(
         (λ e. IsStopped e (R.remaining reader.old) (R.remaining reader.new)
         (watched_contents W.contents writer.old) (watched_contents W.contents writer.new)) }
     ensures nothing { IfErr result
-        (λ e. e ≢ ScenarioFault.Read
-        → e ≢ ScenarioFault.Write
-        → e ≢ ScenarioFault.OutOfMemory
-        → writer.new ≡ writer.old) }
+        (λ e. ¬ IsLate e → writer.new ≡ writer.old) }
 {
     let mut reader = CountedReader::new(reader);
     serve_counted(alloc, &mut reader, writer)

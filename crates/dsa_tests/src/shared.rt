@@ -5,6 +5,8 @@ mod accounts;
 #[cfg(test)]
 mod configuring;
 #[cfg(test)]
+mod crowd;
+#[cfg(test)]
 mod gates;
 #[cfg(test)]
 mod histories;

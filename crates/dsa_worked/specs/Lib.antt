@@ -9,3 +9,8 @@ pub mod Answers
 pub mod States
 pub mod Drains
 pub mod Largest
+pub mod Uneven
+pub mod Beside
+pub mod Values
+pub mod Kept
+pub mod Statements

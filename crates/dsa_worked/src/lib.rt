@@ -4,11 +4,16 @@
 
 pub mod answers;
 pub mod batches;
+pub mod beside;
 pub mod commands;
 pub mod counts;
 pub mod drains;
+pub mod kept;
 pub mod largest;
 pub mod members;
 pub mod phases;
+pub mod statements;
 pub mod states;
 pub mod submissions;
+pub mod uneven;
+pub mod values;

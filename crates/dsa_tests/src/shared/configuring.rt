@@ -12,6 +12,8 @@ const WRITTEN: WriteAnswer = WriteAnswer::Written;
 
 const LOCKED: WriteAnswer = WriteAnswer::Refused(Fault::Locked);
 
+const BAD_INDEX: WriteAnswer = WriteAnswer::Refused(Fault::BadIndex);
+
 fn refused(command: Command, fault: Fault) -> Step {
     issued(command, IssueAnswer::Refused(fault))
 }
@@ -21,7 +23,7 @@ fn group(number: u16, config: GroupConfig) -> Step {
 }
 
 // One of the four writes is changed, and the fault that enabling the device then has.
-fn changes() -> [(usize, Step, Fault); 5] {
+fn changes() -> [(usize, Step, Fault); 7] {
     let reserves = GroupConfig {
         reserved: 13,
         ..SECOND_GROUP
@@ -33,6 +35,14 @@ fn changes() -> [(usize, Step, Fault); 5] {
     let serves_none = GroupConfig {
         queues: 0,
         ..SECOND_GROUP
+    };
+    let names_a_third = GroupConfig {
+        queues: 6,
+        ..SECOND_GROUP
+    };
+    let is_not_served = GroupConfig {
+        engines: 0,
+        ..FIRST_GROUP
     };
     let allows = GroupConfig {
         allowed: 9,
@@ -46,6 +56,8 @@ fn changes() -> [(usize, Step, Fault); 5] {
         (3, group(1, reserves), Fault::ReservedTooMany),
         (3, group(1, shares), Fault::TwoGroups),
         (3, group(1, serves_none), Fault::GroupWithoutQueue),
+        (3, group(1, names_a_third), Fault::BadIndex),
+        (2, group(0, is_not_served), Fault::GroupWithoutEngine),
         (2, group(0, allows), Fault::AllowedOutOfRange),
         (1, queue_written(1, large, WRITTEN), Fault::SizesTooLarge),
     ]
@@ -73,13 +85,31 @@ fn device_is_not_enabled(rt: HostRuntime) {
     }
 }
 
-// The shared queue is written with this threshold.
+// The shared queue is written with this configuration.
+fn queue(config: QueueConfig) -> Step {
+    queue_written(0, config, WRITTEN)
+}
+
 fn threshold(threshold: u16) -> Step {
-    let config = QueueConfig {
+    queue(QueueConfig {
         threshold,
         ..SHARED_QUEUE
-    };
-    queue_written(0, config, WRITTEN)
+    })
+}
+
+fn priority(priority: u8) -> Step {
+    queue(QueueConfig {
+        priority,
+        ..SHARED_QUEUE
+    })
+}
+
+fn shifts(max_batch_shift: u8, max_xfer_shift: u8) -> Step {
+    queue(QueueConfig {
+        max_batch_shift,
+        max_xfer_shift,
+        ..SHARED_QUEUE
+    })
 }
 
 #[test]
@@ -89,10 +119,18 @@ fn queue_is_not_enabled(rt: HostRuntime) {
         capacity: 100,
         steps: &[
             ended(Command::DisableWq(FIRST_QUEUE), 0),
+            priority(0),
+            refused(enable, Fault::PriorityZero),
+            priority(16),
+            refused(enable, Fault::PriorityTooLarge),
             threshold(0),
             refused(enable, Fault::ThresholdZero),
             threshold(5),
             refused(enable, Fault::ThresholdAboveSize),
+            shifts(4, 20),
+            refused(enable, Fault::BatchTooLarge),
+            shifts(3, 21),
+            refused(enable, Fault::TransferTooLarge),
             threshold(4),
             ended(enable, 0),
             queue_written(0, SHARED_QUEUE, LOCKED),
@@ -100,7 +138,28 @@ fn queue_is_not_enabled(rt: HostRuntime) {
             refused(Command::EnableDevice, Fault::WrongState),
         ],
         fates: &[],
-        totals: totals(0, 0, 0, 0, 0, 0, 12),
+        totals: totals(0, 0, 0, 0, 0, 0, 16),
     };
     over_both_stores(&rt, rt.alloc(), Trial::PlayEnabled(play));
+}
+
+// The first queue is in no group, the second was not written, and there is no third, nor a third
+// group.
+#[test]
+fn queues_that_are_not_there(rt: HostRuntime) {
+    let play = Play {
+        capacity: 100,
+        steps: &[
+            queue(SHARED_QUEUE),
+            ended(Command::EnableDevice, 0),
+            refused(Command::EnableWq(0), Fault::NoGroup),
+            refused(Command::EnableWq(1), Fault::SizeZero),
+            refused(Command::EnableWq(2), Fault::BadQueue),
+            queue_written(2, SHARED_QUEUE, BAD_INDEX),
+            group_written(2, FIRST_GROUP, BAD_INDEX),
+        ],
+        fates: &[],
+        totals: totals(0, 0, 0, 0, 0, 0, 2),
+    };
+    over_both_stores(&rt, rt.alloc(), Trial::Play(play));
 }

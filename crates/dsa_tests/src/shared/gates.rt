@@ -41,6 +41,14 @@ impl Passes {
         })
     }
 
+    // Whether each of the first so many workers has passed so often.
+    fn have_come(&self, workers: usize, often: u32) -> bool {
+        self.counts
+            .iter()
+            .take(workers)
+            .all(|count| count.load(Ordering::SeqCst) >= often)
+    }
+
     /// No worker has passed.
     pub fn are_none(&self, rt: &impl Abort) {
         for count in &self.counts {
@@ -73,14 +81,13 @@ impl Gate for Passes {
     }
 }
 
-/// Holds each of two clients before its first turn until the other has come there, and notes one
-/// that waited in vain.
+/// Holds two clients, two engines and an administrator at their first pass until all five have come
+/// there, and then the engines until each client has come there once more. It notes one that waited
+/// in vain, and then holds none.
 #[derive(Drop)]
 pub struct Meeting<'a, R: Clock> {
     clock: &'a R,
     pub passes: Passes,
-    first_has_come: AtomicU32,
-    second_has_come: AtomicU32,
     missed: AtomicU32,
 }
 
@@ -89,38 +96,38 @@ impl<'a, R: Clock + Abort> Meeting<'a, R> {
         Ok(Meeting {
             clock,
             passes: Passes::new(alloc, 5)?,
-            first_has_come: AtomicU32::new(0),
-            second_has_come: AtomicU32::new(0),
             missed: AtomicU32::new(0),
         })
     }
 
-    /// Each has come once, and none waited in vain.
+    /// None waited in vain.
     pub fn was_kept(&self, rt: &R) {
-        same!(rt; self.first_has_come.load(Ordering::SeqCst), 1);
-        same!(rt; self.second_has_come.load(Ordering::SeqCst), 1);
         same!(rt; self.missed.load(Ordering::SeqCst), 0);
+    }
+}
+
+impl<'a, R: Clock> Meeting<'a, R> {
+    // Waits until each of the first so many workers has passed so often.
+    fn wait(&self, workers: usize, often: u32) {
+        for _look in 0..20_000u32 {
+            if self.passes.have_come(workers, often) || self.missed.load(Ordering::SeqCst) != 0 {
+                return;
+            }
+            thread::sleep(self.clock, Duration::from_millis(1));
+        }
+        self.missed.fetch_add(1, Ordering::SeqCst);
     }
 }
 
 impl<'a, R: Clock> Gate for Meeting<'a, R> {
     fn pass(&self, worker: usize, turn: u32) {
         self.passes.pass(worker, turn);
-        if worker >= 2 || turn != 0 {
+        if turn != 0 {
             return;
         }
-        let (mine, other) = if worker == 0 {
-            (&self.first_has_come, &self.second_has_come)
-        } else {
-            (&self.second_has_come, &self.first_has_come)
-        };
-        mine.fetch_add(1, Ordering::SeqCst);
-        for _look in 0..20_000u32 {
-            if other.load(Ordering::SeqCst) != 0 {
-                return;
-            }
-            thread::sleep(self.clock, Duration::from_millis(1));
+        self.wait(5, 1);
+        if worker == 2 || worker == 3 {
+            self.wait(2, 2);
         }
-        self.missed.fetch_add(1, Ordering::SeqCst);
     }
 }

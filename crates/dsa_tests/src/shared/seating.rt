@@ -249,19 +249,19 @@ where
 
     fn submit_and_read(&mut self) {
         self.make(&[limited(NO_OP, accepted(0))]);
-        self.tells(0, None, 1);
+        self.tells_of(0, None, 1);
     }
 
     fn finish_and_read(&mut self) {
         self.make(&[taken(0, 0), done(0, 0x01)]);
         let completed = Some(Fate::Completed(0x01));
         same!(self.rt; self.fate_by_two(), (completed, completed));
-        self.tells(1, None, 0);
+        self.tells_of(1, None, 0);
         are_counted(self.rt, &self.seats);
     }
 
     // What became of an entry, and how many are held.
-    fn tells(&self, name: u32, fate: Option<Fate>, held: u32) {
+    fn tells_of(&self, name: u32, fate: Option<Fate>, held: u32) {
         same!(self.rt; self.shared.fate(self.rt, name), fate);
         same!(self.rt; self.shared.held(self.rt), held);
     }

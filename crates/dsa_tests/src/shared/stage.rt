@@ -32,7 +32,7 @@ pub struct Stage<'a, S: EntryStore, L: Sharing, R> {
 #[derive(Drop)]
 pub struct Record {
     pub kept: Vec<Step>,
-    tickets: Vec<Ticket>,
+    pub tickets: Vec<Ticket>,
 }
 
 // The ticket that a table means: its cell stands for the one that the entry of that name was given.

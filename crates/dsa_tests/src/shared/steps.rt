@@ -20,7 +20,7 @@ pub fn ticket(name: u32) -> Ticket {
     }
 }
 
-fn submitted(
+pub fn submitted(
     client: u16,
     queue: u16,
     portal: Portal,

@@ -2,6 +2,7 @@
 
 ghost use Rattle.std.specs.Prelude.{◌≡◌};
 
+use crate::shared::crowd::{CROWD, CROWDED_CAPS};
 use crate::shared::playing::Play;
 use crate::shared::soak::{SOAKED_CAPACITY, SOAKED_CAPS, SOAKING_CLIENTS};
 use crate::shared::stage::Stage;
@@ -23,11 +24,12 @@ use std::time::Clock;
 pub enum Trial<'a> {
     Play(Play<'a>),
     PlayEnabled(Play<'a>),
+    Crowd(Play<'a>),
     SeatsWithheld,
     FateIsRead,
     BusyRun,
     HistoryFills,
-    ClientsMeet,
+    WorkersMeet,
     NothingIsDone,
     RunWithoutMemory,
     Soak,
@@ -39,6 +41,7 @@ impl<'a> Trial<'a> {
     fn shape(self) -> (Caps, u64, u16) {
         match self {
             Trial::Play(play) | Trial::PlayEnabled(play) => (CAPS, play.capacity, 2),
+            Trial::Crowd(play) => (CROWDED_CAPS, play.capacity, CROWD),
             Trial::BusyRun => (CAPS, 12_000, 2),
             Trial::HistoryFills => (CAPS, 40, 2),
             Trial::Soak => (SOAKED_CAPS, SOAKED_CAPACITY, SOAKING_CLIENTS),
@@ -55,13 +58,13 @@ where
 {
     fn try_on(self, trial: Trial) {
         match trial {
-            Trial::Play(play) => self.played(play),
+            Trial::Play(play) | Trial::Crowd(play) => self.played(play),
             Trial::PlayEnabled(play) => self.played_enabled(play),
             Trial::SeatsWithheld => self.seats_withheld(),
             Trial::FateIsRead => self.fate_is_read(),
             Trial::BusyRun => self.busy_run(),
             Trial::HistoryFills => self.history_fills(),
-            Trial::ClientsMeet => self.clients_meet(),
+            Trial::WorkersMeet => self.workers_meet(),
             Trial::NothingIsDone => self.nothing_is_done(),
             Trial::RunWithoutMemory => self.run_without_memory(),
             Trial::Soak => self.soaked(),

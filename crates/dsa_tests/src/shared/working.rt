@@ -214,14 +214,15 @@ where
         claim!(rt; client.1 == WorkerEnd::HistoryFull || poster.1 == WorkerEnd::HistoryFull);
     }
 
-    /// One No-op of each of two clients, neither of which submits before the other has come.
-    pub fn clients_meet(self) {
+    /// One No-op of each of two clients. No worker begins before all have come, and the engines
+    /// work once the clients are done.
+    pub fn workers_meet(self) {
         let mut stage = self;
         let rt = stage.rt;
         let five = stage.work_to_meet();
         have_met(rt, five);
         let totals = stage.totals();
-        same!(rt; totals.accepted, 2);
+        same!(rt; (totals.accepted, totals.done, totals.held), (2, 2, 0));
     }
 
     fn work_to_meet(&mut self) -> Five {
@@ -303,8 +304,8 @@ fn history_fills_meanwhile(rt: HostRuntime) {
 }
 
 #[test]
-fn clients_at_the_same_time(rt: HostRuntime) {
-    over_both_stores(&rt, rt.alloc(), Trial::ClientsMeet);
+fn workers_at_the_same_time(rt: HostRuntime) {
+    over_both_stores(&rt, rt.alloc(), Trial::WorkersMeet);
 }
 
 #[test]

@@ -1,9 +1,11 @@
 use Rattle.dsa_cli.proofs.words.answer_words.Goals as goal
 use Rattle.dsa_cli.specs.declared.options.Asked.TheVariants as asked
 use Rattle.dsa_cli.specs.declared.threads.ThreadsFault.TheVariants as threads_fault
-use Rattle.std.proofs.Common.{◌≡◌, refl, inl, inr, rules, subst, map, string_bytes, arith}
+use Rattle.std.proofs.Common.{◌≡◌, inl, inr, rules, subst, sym, map, string_bytes, arith}
 use Rattle.clap.specs.{Values.{kind_of}, Kinds.{IsAmong}}
 use Rattle.dsa_scenario.specs.declared.faults.ScenarioFault.TheVariants.{OutOfMemory}
+use Rattle.dsa_scenario.specs.declared.watched.WatchedWriter.{WatchedWriter}
+use Rattle.dsa_serve.{specs.Dialogue.{IsStopped}, proofs.Stops.{unread_memory}}
 use Rattle.dsa_cli.{specs.CommandLine.{AsksFor, IsAskedBy}, proofs.ReportCommands.{names_nothing, same_found}}
 use Rattle.std.proofs.lemmas.Grind.{common_steps}
 
@@ -42,7 +44,7 @@ returns-in-Err-clause-threads_told g c one rows named closed told =
     elim c.in-Err.ensures.faults [
       | inl memory ↦
           let kept = c.show.ensures.memory memory in
-          (threads_fault.OutOfMemory, (λ other. kept.1), c.show.ensures.told memory closed told)
+          (threads_fault.OutOfMemory, (λ other. kept.1), (λ e. absurd cc), c.show.ensures.told memory closed told)
       | inr among ↦ absurd (subst (λ faults. IsAmong (kind_of c.in-Err.error) faults) named.0 among)
     ]
 
@@ -60,7 +62,8 @@ returns-in-Ok-Report-clause-reports_failed g c one found named =
       told.0,
       elim told.1 [
         | inl all ↦ inl (c.in-Ok-Report.report, by, all)
-        | inr none ↦ inr (none.0, none.1, λ e. (c.in-Ok-Report.report, by, none.2 e))
+        | inr none ↦
+            inr (none.0, none.1, λ e. let cut = none.2 e in (cut.0, (c.in-Ok-Report.report, by, cut.1)))
       ],
       told.2,
     )
@@ -78,16 +81,22 @@ pub returns-then-is_empty-clause-serve_failed : goal.returns-then-is_empty-claus
 returns-then-is_empty-clause-serve_failed = grind (arith, common_steps)
 
 pub returns-in-Ok-Serve-clause-serve_failed : goal.returns-in-Ok-Serve-clause-serve_failed
-returns-in-Ok-Serve-clause-serve_failed g c one named =
-    let told = c.serve_input.ensures.failed one in
-    (told.0, inr told.1, told.2)
+returns-in-Ok-Serve-clause-serve_failed g c one named = c.serve_input.ensures.failed one
 
 pub returns-in-Err-clause-serve_failed : goal.returns-in-Err-clause-serve_failed
 returns-in-Err-clause-serve_failed g c one named =
     elim c.in-Err.ensures.faults [
       | inl memory ↦
           let kept = c.show.ensures.memory memory in
-          (OutOfMemory, inl (refl, kept.1), c.show.ensures.told memory)
+          let had = g.R.Read.remaining c.args.reader.now in
+          let held = g.O.Write.contents c.args.out.now.writer.now in (
+            OutOfMemory,
+            subst (λ (w : WatchedWriter g.row.O.Denot). IsStopped OutOfMemory had had held (g.O.Write.contents w.writer.now)) (sym kept.1)
+                (unread_memory had held),
+            λ early. kept.1,
+            λ e. absurd cc,
+            c.show.ensures.told memory,
+          )
       | inr among ↦ absurd (subst (λ faults. IsAmong (kind_of c.in-Err.error) faults) named.0 among)
     ]
 
@@ -172,3 +181,6 @@ returns-in-Err-clause-plain_failed g c plain one =
           (OutOfMemory, tt, (λ other. kept.1), (λ e. absurd cc), c.show.ensures.told memory)
       | inr among ↦ absurd (subst (λ faults. IsAmong (kind_of c.in-Err.error) faults) plain.0 among)
     ]
+
+pub returns-in-Err-clause-help_failed : goal.returns-in-Err-clause-help_failed
+returns-in-Err-clause-help_failed g c one some faulty = c.show.ensures.failed one

@@ -9,7 +9,7 @@ returns-in-Err-clause-failed g c one = (
     has_fault _ _ c.in-Err.fault c.in-Err.ensures.document (λ e. c.in-Err.ensures.too_long (ap Err e))
         (λ e. c.in-Err.ensures.read (ap Err e)),
     c.in-Err.ensures.nothing,
-    λ e. c.in-Err.ensures.prefix (ap Err e),
+    λ e. (c.in-Err.ensures.refused (ap Err e), c.in-Err.ensures.prefix (ap Err e)),
   ),
   c.tell_reader-in-Err.ensures.line,
 )

@@ -10,6 +10,6 @@ returns-in-Err-clause-failed g c one = (
   c.in-Err.ensures.nothing,
   λ e.
       let cut = c.in-Err.ensures.prefix (ap Err e) in
-      (cut.0, cut.1, cut.3, cut.4, cut.5.1, cut.6, cut.7),
+      (c.in-Err.ensures.refused (ap Err e), (cut.0, cut.1, cut.3, cut.4, cut.5.1, cut.6, cut.7)),
   c.tell_reader.ensures.line,
 )

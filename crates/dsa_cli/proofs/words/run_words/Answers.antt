@@ -21,7 +21,7 @@ returns-clause-failed g c none one =
           ap (λ watched. watched.writer.now) (told.2 other) ∙ c.new-out.ensures.writer in
           search rules,
       λ e.
-          let cut = told.3 e in
+          let cut = (told.3 e).1 in
           search (rules, cut),
     )
 
@@ -73,7 +73,7 @@ returns-clause-reports_failed g c one found named =
                   ap (λ watched. watched.writer.now) (none.1 other) ∙ c.new-out.ensures.writer in
                   search rules,
               λ e.
-                  let cut = none.2 e in
+                  let cut = (none.2 e).1 in
                   let first = cut.2 in
                   let more = first.7 in
                   (cut.0, cut.1, (first.0, first.1, first.2, first.3, first.4, first.5, first.6, search (rules, more))),
@@ -88,15 +88,14 @@ returns-clause-serves g c zero named =
 
 pub returns-clause-serve_failed : goal.returns-clause-serve_failed
 returns-clause-serve_failed g c one named =
-    let told = c.answer_words.ensures.serve_failed one named in (
+    let told = c.answer_words.ensures.serve_failed one named in
+    let stopped = told.1 in (
       told.0,
-      elim told.1 [
-        | inl kept ↦
-            let same : c.answer_words.new.out.writer.now ≡ c.args.out.now =
-            ap (λ watched. watched.writer.now) kept.1 ∙ c.new-out.ensures.writer in
-            inl (kept.0, search rules)
-        | inr stopped ↦ inr (search (rules, stopped))
-      ],
+      search (rules, stopped),
+      λ early.
+          let same : c.answer_words.new.out.writer.now ≡ c.args.out.now =
+          ap (λ watched. watched.writer.now) (told.2 early) ∙ c.new-out.ensures.writer in
+          search rules,
     )
 
 pub returns-clause-plain : goal.returns-clause-plain
@@ -114,6 +113,6 @@ returns-clause-plain_failed g c plain one =
           ap (λ watched. watched.writer.now) (told.2 other) ∙ c.new-out.ensures.writer in
           search rules,
       λ e.
-          let cut = told.3 e in
+          let cut = (told.3 e).1 in
           search (rules, cut),
     )

@@ -1,10 +1,11 @@
 use Rattle.dsa_conform.proofs.following.follow_dispatch.Goals as goal
-use Rattle.std.proofs.Common.{◌≡◌, ◌∙◌, sym, ap, subst, [], true}
+use Rattle.dsa_book.specs.declared.event.Event.TheVariants as event
+use Rattle.std.proofs.Common.{◌≡◌, ◌∙◌, sym, ap, subst, [], true, Ok}
 use Rattle.std.proofs.lemmas.Option.{same_Some}
 use Rattle.dsa_scenario.specs.declared.run.Record.{Record}
 use Rattle.dsa_scenario.specs.Run.{answered_by}
-use Rattle.dsa_conform.specs.{Allowed.{offer, offers}, Seen.{seen_as, shows}}
-use Rattle.dsa_conform.proofs.Choices.{is_offer, all_offers, none_shows, idle_answer, empty_list, filled_list}
+use Rattle.dsa_conform.specs.{Allowed.{IsAllowed, offer, offers}, Seen.{seen_as, shows}}
+use Rattle.dsa_conform.proofs.Choices.{is_offer, all_offers, none_shows, idle_answer, empty_list, filled_list, some_of, all_in}
 
 pub returns-in-Some : goal.returns-in-Some
 returns-in-Some g c =
@@ -24,10 +25,18 @@ follow_only-requires g c =
 
 pub returns : goal.returns
 returns g c =
-    let some : offers c.args.device.now.state.work c.args.engine ≡ []
+    let now = c.args.device.now in
+    let some : offers now.state.work c.args.engine ≡ []
     → ⊥ = λ none. filled_list c.in_ok-found.found.items
-    (rw c.as_slice.ensures.value at (sym c.is_empty.ensures ∙ c.if-is_empty.false)) (c.in_ok-found.ensures ∙ none) in (
-      rw c.in_ok-found.ensures (all_offers c.args.device.now c.args.engine c.requires some),
-      none_shows c.args.device.now c.args.engine (seen_as c.args.seen.now) c.requires some
+    (rw c.as_slice.ensures.value at (sym c.is_empty.ensures ∙ c.if-is_empty.false)) (c.in_ok-found.ensures ∙ none) in
+    let all = all_offers now c.args.engine c.requires some in
+    let first = some_of (offers now.state.work c.args.engine) some in (
+      rw c.in_ok-found.ensures all,
+      none_shows now c.args.engine (seen_as c.args.seen.now) c.requires some
           (rw c.in_default.is at c.in_ok-queue.ensures),
+      (
+        first.0,
+        all_in (IsAllowed now (Ok (event.Dispatch c.args.engine))) (offers now.state.work c.args.engine) first.0 all.each
+            first.1,
+      ),
     )

@@ -11,4 +11,5 @@ returns g c =
       rw c.in_ok-vec.ensures.items (only_answer now c.args.asked.now c.ask-entry.result c.requires allowed),
       λ entry may. (c.requires entry c.ask-entry.result may allowed).shown (seen_as c.args.seen.now)
           ∙ sym c.in_ok-is_shown.ensures ∙ c.if-branch.false,
+      (c.ask-entry.result, allowed),
     )

@@ -1,6 +1,6 @@
 use Rattle.dsa_conform.proofs.offering.find_shown.Goals as goal
 use Rattle.dsa_conform.proofs.offering.find_shown.Goals.{in-Some+in_ok-is_shown+else-branch, in_default}
-use Rattle.std.proofs.Common.{◌≡◌, ◌∙◌, sym, ap, subst, false, Some, None, arith}
+use Rattle.std.proofs.Common.{◌≡◌, ◌∙◌, sym, subst, false, Some, arith}
 use Rattle.std.proofs.lemmas.Option.{same_Some}
 use Rattle.dsa_scenario.specs.declared.run.Record.{Record}
 use Rattle.dsa_conform.specs.{Allowed.{offer}, Seen.{seen_as, shows}}

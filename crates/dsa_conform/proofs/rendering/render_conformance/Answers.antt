@@ -1,6 +1,5 @@
 use Rattle.dsa_conform.proofs.rendering.render_conformance.Goals as goal
 use Rattle.std.proofs.lemmas.Result.{err_from_is_err_and}
-use Rattle.dsa_device.proofs.NewStore.{new-make_fault}
 use Rattle.dsa_scenario.proofs.Whole.{has_head}
 use Rattle.dsa_conform.proofs.{Faults.{bad_keys}, Steps.{conformance_of}}
 
@@ -21,12 +20,6 @@ returns-in_err-check_head-clause-err c =
     let p = err_from_is_err_and c.from_residual-in_err-check_head.result c.from_residual-in_err-check_head.ensures.1 in
     rw (p.1, p.2) (bad_keys _ _ _ _ _ _ (has_head _ _ _ _ _ c.in_ok-value.ensures.ok c.in-Some.ensures)
     c.in_default-first_unread.ensures.1 c.in_err-check_head.ensures.bad)
-
-pub walk_steps-requires-clause-fits : goal.walk_steps-requires-clause-fits
-walk_steps-requires-clause-fits c = new-make_fault c.in-Some.head.caps c.in-Some.head.capacity
-    c.list_count-lists.result c.cell_count.result _ _ c.in_ok-check_head.ensures.caps
-    c.in_ok-check_head.ensures.capacity
-    c.list_count-lists.ensures c.cell_count.ensures.number c.in_ok-store.ensures.empty c.in_ok-store.ensures.cells
 
 pub returns-clause-ok : goal.returns-clause-ok
 returns-clause-ok c =

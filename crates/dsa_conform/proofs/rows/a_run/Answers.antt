@@ -32,3 +32,17 @@ unfolding digits
 returns-clause-second_not_shown c are =
     let shown = are.1.0 in
     absurd cc
+
+pub returns-clause-second_queue : goal.returns-clause-second_queue
+unfolding digits
+returns-clause-second_queue c = record {
+  of_actions = (refl, (refl, (refl, (refl, (refl, (refl, (refl, (refl, (refl, (refl, tt))))))))));
+  run = refl;
+  shown = (refl, (refl, (refl, (refl, (refl, (refl, (refl, (refl, (refl, (refl, tt))))))))));
+}
+
+pub returns-clause-first_queue : goal.returns-clause-first_queue
+unfolding digits
+returns-clause-first_queue c is =
+    let run = is.run in
+    absurd cc

@@ -16,19 +16,7 @@ use Rattle.dsa_conform.specs.Seen.{Seen, observation_of, shows}
 use Rattle.dsa_conform.specs.Lines.{conforms_text, seen_count}
 use Rattle.dsa_conform.specs.Run.{AreRead, IsShownRun, IsConformance}
 use Rattle.dsa_conform.specs.Worked.{answered, flagged, smallest_device_at_first, document_of, poll_with}
-use Rattle.dsa_conform.proofs.{Alike.{only_entry}, Objects.{not_first, not_second}}
-
--- a device before its first step answers a poll so, and in no other way
-abbrev nothing : Record
-nothing = stepped event.Poll (reply.Poll poll.Nothing)
-
-is_nothing : IsAllowed smallest_device_at_first (Ok event.Poll) nothing
-is_nothing = record { answers = refl; after = _; leads = refl }
-
-only_nothing : (entry : Record) → IsAllowed smallest_device_at_first (Ok event.Poll) entry → nothing ≡ entry
-only_nothing entry is = only_entry smallest_device_at_first _ is.after event.Poll (reply.Poll poll.Nothing) refl
-    (λ b same. same) refl
-    entry is.answers is.leads
+use Rattle.dsa_conform.proofs.{RowRuns.{nothing, poll_differs}, Objects.{not_first, not_second}}
 
 -- a document on the smallest device, by what its text reads as
 has_head : (text : List ℕ) (d : Data) (room : ℕ) (items : Items) → all_scalars text ≡ true
@@ -92,22 +80,7 @@ returns-clause-differs c = record {
     read = refl;
     here = _;
     at = refl;
-    differs = record {
-      records = [];
-      run = record { of_actions = tt; run = refl; shown = tt };
-      refused = record {
-        allowed = nothing ∷ [];
-        all = record {
-          each = All-cons (IsAllowed smallest_device_at_first (Ok event.Poll)) nothing [] is_nothing
-              (All-nil (IsAllowed smallest_device_at_first (Ok event.Poll)));
-          all = λ entry is. subst (λ other. Contains (record_text nothing ∷ []) (record_text other)) (only_nothing entry is)
-              (Contains-push [] (record_text nothing));
-          order = (λ k d below. absurd (omega (arith, below)), tt);
-        };
-        none = λ entry is. subst (λ other. shows (answered (codes "active")) other ≡ false) (only_nothing entry is) refl;
-        told = refl;
-      };
-    };
+    differs = poll_differs;
   };
 }
 

@@ -2,37 +2,25 @@ use Rattle.dsa_conform.proofs.rows.verdicts.Goals as goal
 use Rattle.dsa_book.specs.declared.answer.Reply.TheVariants as reply
 use Rattle.dsa_book.specs.declared.event.Event.TheVariants as event
 use Rattle.dsa_book.specs.declared.answer.PollAnswer.TheVariants as poll
-use Rattle.std.proofs.Common.{◌≡◌, ℕ, true, false, List, [], ◌∷◌, Some, Ok, length, map, take, codes, bytes_eq, refl}
-use Rattle.std.proofs.Common.{Result, sym, ap, subst, arith}
-use Rattle.std.specs.{Prelude.{Contains, slice_get}, Fmt.{digits}}
-use Rattle.std.proofs.lemmas.List.Elements.{All-nil, All-cons, Contains-push}
-use Rattle.dsa_desc.specs.declared.Outcome.TheVariants.{Success}
+use Rattle.std.proofs.Common.{◌≡◌, ◌∙◌, ℕ, true, false, List, [], ◌∷◌, Some, Ok, length, map, take, codes, bytes_eq, refl}
+use Rattle.std.proofs.Common.{Result, sym, ap, subst, arith, lit≤}
+use Rattle.std.{specs.{Prelude.{slice_get}, Fmt.{digits}}, proofs.lemmas.Option.{same_Some}}
+use Rattle.dsa_base.specs.Lists.{In}
 use Rattle.dsa_regs.specs.declared.Fault.{Fault, TheVariants.{BadCommand}}
 use Rattle.dsa_book.specs.declared.{answer.{Reply.{Reply}, WriteAnswer.TheVariants.{Written}}, event.Event.{Event}}
-use Rattle.dsa_book.specs.declared.answer.FinishAnswer.TheVariants.{Done}
 use Rattle.dsa_book.specs.Machine.{full_reply}
 use Rattle.dsa_book.proofs.EqualReplies.{equal-replies}
-use Rattle.dsa_device.{specs.Running.{Running, after_answer}, proofs.Steps.{answered_by_cases}}
+use Rattle.dsa_device.{specs.Running.{Running, running_at_first, after_answer}, proofs.Steps.{answered_by_cases}}
 use Rattle.dsa_scenario.specs.declared.{actions.Action.{Action, TheVariants.{Ask, Refuse}}, run.Record.{Record}}
 use Rattle.dsa_scenario.specs.declared.run.Record.TheVariants.{Stepped, Refused}
-use Rattle.dsa_scenario.specs.{Lines.{record_text}, Run.{answered_by, event_of, AreOf}, Steps.{standing}}
-use Rattle.dsa_scenario.specs.Worked.{smallest_caps, stepped, record_ticket, caps_of_a_run, group_of_a_run}
-use Rattle.dsa_scenario.specs.Worked.{records_of_a_run}
-use Rattle.dsa_conform.specs.Allowed.{IsAllowed, AreAllowed}
+use Rattle.dsa_scenario.specs.{Run.{answered_by, AreOf, Leads}, Steps.{standing}}
+use Rattle.dsa_scenario.specs.Worked.{smallest_caps, stepped, group_of_a_run}
+use Rattle.dsa_conform.specs.Allowed.{IsAllowed}
 use Rattle.dsa_conform.specs.Lines.{conforms_text, seen_count, difference_text}
-use Rattle.dsa_conform.specs.Run.{IsShownRun, IsRefusal}
+use Rattle.dsa_conform.specs.Run.{IsShownRun, IsDifference}
 use Rattle.dsa_conform.specs.{Seen.{Seen, shows, AreShown}, Worked.{answered, nothing_seen, smallest_device_at_first}}
-use Rattle.dsa_conform.proofs.{Alike.{only_entry}, Objects.{not_first, not_second, one_read}}
-
--- where one answer may come, it is all that is allowed
-only_allowed : (now : Running) (asked : Result Event Fault) (entry : Record) → IsAllowed now asked entry
-    → ((other : Record) → IsAllowed now asked other → entry ≡ other) → AreAllowed now asked (entry ∷ [])
-only_allowed now asked entry may only = record {
-  each = All-cons (IsAllowed now asked) entry [] may (All-nil (IsAllowed now asked));
-  all = λ other is. subst (λ found. Contains (record_text entry ∷ []) (record_text found)) (only other is)
-      (Contains-push [] (record_text entry));
-  order = (λ k d below. absurd (omega (arith, below)), tt);
-}
+use Rattle.dsa_conform.proofs.{SeenAlike.{only_entry}, Objects.{not_first, not_second, one_read}}
+use Rattle.dsa_conform.proofs.RowRuns.{LeadTo, differs, smallest_replay, word_leads, nothing, is_nothing, only_nothing}
 
 -- ---- a device whose history has no room
 
@@ -61,67 +49,33 @@ only_full : (entry : Record) → IsAllowed filled (Ok event.Poll) entry → full
 only_full (Refused fault) is = absurd (let other = is.answers in cc)
 only_full (Stepped step) is = full_step step.event step.reply is.after is.answers is.leads
 
+only_written : (entry : Record) → IsAllowed (running_at_first smallest_caps 1) (Ok (event.WriteGroup 0 group_of_a_run)) entry
+    → written ≡ entry
+only_written entry is = only_entry (running_at_first smallest_caps 1) _ is.after (event.WriteGroup 0 group_of_a_run)
+    (reply.Write Written) refl
+    (λ b same. same) refl entry is.answers is.leads
+
+-- the write leads there alone
+write_leads : LeadTo smallest_caps 1 ((Ask (event.WriteGroup 0 group_of_a_run), nothing_seen) ∷ []) (Ask event.Poll) filled
+    (Ok event.Poll)
+write_leads [] after h = absurd h
+write_leads (r ∷ []) after h =
+    let is : IsAllowed (running_at_first smallest_caps 1) (Ok (event.WriteGroup 0 group_of_a_run)) r =
+    record { answers = h.1.answers; after = h.0; leads = h.1.leads } in
+    let leads : Leads (running_at_first smallest_caps 1) written h.0 =
+    subst (λ x. Leads (running_at_first smallest_caps 1) x h.0) (sym (only_written r is)) h.1.leads in
+    (sym h.2 ∙ sym (same_Some filled h.0 leads), refl)
+write_leads (r ∷ q ∷ rs) after h = absurd h.2
+
 pub returns-clause-after_one : goal.returns-clause-after_one
 unfolding digits
-returns-clause-after_one c = record {
-  records = written ∷ [];
-  run = record { of_actions = (refl, tt); run = refl; shown = (refl, tt) };
-  refused = record {
-    allowed = full ∷ [];
-    all = only_allowed filled (Ok event.Poll) full is_full only_full;
-    none = λ entry is. subst (λ other. shows (answered (codes "nothing")) other ≡ false) (only_full entry is) refl;
-    told = refl;
-  };
-}
-
--- ---- one whose engine has taken an entry
-
-abbrev holding : Running
-holding = standing caps_of_a_run 7 (take 7 records_of_a_run)
-
--- it answers the end of that entry so, and in no other way
-abbrev ending : Event
-ending = event.Finish 0 (record_ticket 3 0) Success
-
-abbrev ended : Record
-ended = stepped ending (reply.Finish (Done 1))
-
-is_ended : IsAllowed holding (Ok ending) ended
-is_ended = record { answers = refl; after = _; leads = refl }
-
-only_ended : (entry : Record) → IsAllowed holding (Ok ending) entry → ended ≡ entry
-only_ended entry is = only_entry holding _ is.after ending (reply.Finish (Done 1)) refl (λ b same. same) refl entry
-    is.answers is.leads
-
-pub returns-clause-after_seven : goal.returns-clause-after_seven
-unfolding digits
-returns-clause-after_seven c = record {
-  records = take 7 records_of_a_run;
-  run = record {
-    of_actions = (refl, (refl, (refl, (refl, (refl, (refl, (refl, tt)))))));
-    run = refl;
-    shown = (refl, (refl, (refl, (refl, (refl, (refl, (refl, tt)))))));
-  };
-  refused = record {
-    allowed = ended ∷ [];
-    all = only_allowed holding (Ok ending) ended is_ended only_ended;
-    none = λ entry is. subst (λ other. shows (answered (codes "idle")) other ≡ false) (only_ended entry is) refl;
-    told = refl;
-  };
-}
+returns-clause-after_one c =
+    differs smallest_caps 1 ((Ask (event.WriteGroup 0 group_of_a_run), nothing_seen) ∷ [])
+    (Ask event.Poll, answered (codes "nothing")) 1 filled (Ok event.Poll) full (written ∷ [])
+    (smallest_replay 1 (lit≤ tt)) (record { of_actions = (refl, tt); run = refl; shown = (refl, tt) }) write_leads is_full
+    only_full refl
 
 -- ---- one that has made no step
-
-abbrev nothing : Record
-nothing = stepped event.Poll (reply.Poll poll.Nothing)
-
-is_nothing : IsAllowed smallest_device_at_first (Ok event.Poll) nothing
-is_nothing = record { answers = refl; after = _; leads = refl }
-
-only_nothing : (entry : Record) → IsAllowed smallest_device_at_first (Ok event.Poll) entry → nothing ≡ entry
-only_nothing entry is = only_entry smallest_device_at_first _ is.after event.Poll (reply.Poll poll.Nothing) refl
-    (λ b same. same) refl
-    entry is.answers is.leads
 
 pub returns-clause-second : goal.returns-clause-second
 unfolding digits
@@ -130,32 +84,29 @@ returns-clause-second c = record {
   read = refl;
   here = _;
   at = refl;
-  differs = record {
-    records = Refused BadCommand ∷ [];
-    run = record { of_actions = (refl, tt); run = refl; shown = (refl, tt) };
-    refused = record {
-      allowed = nothing ∷ [];
-      all = only_allowed smallest_device_at_first (Ok event.Poll) nothing is_nothing only_nothing;
-      none = λ entry is. subst (λ other. shows (answered (codes "active")) other ≡ false) (only_nothing entry is) refl;
-      told = refl;
-    };
-  };
+  differs = differs smallest_caps 9 ((Refuse BadCommand, nothing_seen) ∷ []) (Ask event.Poll, answered (codes "active")) 1
+      smallest_device_at_first (Ok event.Poll) nothing (Refused BadCommand ∷ []) (smallest_replay 9 (lit≤ tt))
+      (record { of_actions = (refl, tt); run = refl; shown = (refl, tt) }) word_leads is_nothing only_nothing refl;
 }
+
+-- a poll of which this was seen is a run
+poll_run : (seen : Seen) → shows seen nothing ≡ true → IsShownRun smallest_caps 9 ((Ask event.Poll, seen) ∷ []) (nothing ∷ [])
+poll_run seen shown = record { of_actions = (refl, tt); run = refl; shown = (shown, tt) }
 
 pub returns-clause-shown : goal.returns-clause-shown
 unfolding digits
-returns-clause-shown c is =
-    let shown = is.none nothing is_nothing in
-    absurd cc
+returns-clause-shown c is = is.none (nothing ∷ []) (poll_run (answered (codes "nothing")) refl)
 
--- a text that has all that is allowed is not empty
-not_empty : (allowed : List Record) (reason : List ℕ) → Contains (map record_text allowed) (record_text nothing)
-    → [] ≡ difference_text 0 (answered (codes "active")) reason allowed → ⊥
-not_empty [] reason among told = absurd (omega (arith, among.1))
-not_empty (entry ∷ entries) reason among told = absurd cc
+-- a text with a line is not empty
+not_empty : (lines : List (Record × List ℕ)) (line : Record × List ℕ) → In line lines
+    → [] ≡ difference_text 0 (answered (codes "active")) lines → ⊥
+not_empty [] line among told = absurd among
+not_empty (line ∷ lines) other among told = absurd cc
 
 pub returns-clause-untold : goal.returns-clause-untold
-returns-clause-untold c is = not_empty is.allowed _ (is.all.all nothing is_nothing) is.told
+returns-clause-untold c is =
+    let line = is.told.all [] (record { of_actions = tt; run = refl; shown = tt }) nothing is_nothing in
+    not_empty is.lines line.0 line.1 is.is
 
 -- a word that is no command is not answered `nothing`
 not_so : (records : List Record) → AreOf [] (Refuse BadCommand ∷ []) records
@@ -171,26 +122,21 @@ not_so (Refused fault ∷ records) of shown =
     absurd cc
 
 pub returns-clause-earlier : goal.returns-clause-earlier
-returns-clause-earlier c is = not_so is.records is.run.of_actions is.run.shown
+returns-clause-earlier c is = not_so is.some is.run.of_actions is.run.shown
 
 -- no difference is told of a step of which nothing was seen
-not_unseen : (observed : List (Action × Seen)) (here : Action × Seen) (records : List Record) (text : List ℕ)
+not_unseen : (observed : List (Action × Seen)) (here : Action × Seen) (text : List ℕ)
     → observed ≡ (Ask event.Poll, nothing_seen) ∷ [] → slice_get observed 0 ≡ Some here
-    → AreOf [] (map (λ o. o.0) (take 0 observed)) records
-    → IsRefusal (standing smallest_caps 9 records) 0 (event_of records here.0) here.1 text → ⊥
-not_unseen observed here [] text read at of refused =
-    let first = ap (λ l. slice_get l 0) read in
-    let same : here ≡ (Ask event.Poll, nothing_seen) = cc in
-    let none = (subst (λ (o : Action × Seen). IsRefusal smallest_device_at_first 0 (event_of [] o.0) o.1 text) same
-    refused).none
-    nothing is_nothing in
-    absurd cc
-not_unseen observed here (entry ∷ records) text read at of refused = absurd of
+    → IsDifference smallest_caps 9 (take 0 observed) here 0 text → ⊥
+not_unseen observed here text read at differs =
+    let first : slice_get observed 0 ≡ Some (Ask event.Poll, nothing_seen) = ap (λ l. slice_get l 0) read in
+    let same : (Ask event.Poll, nothing_seen) ≡ here = same_Some (Ask event.Poll, nothing_seen) here (sym first ∙ at) in
+    differs.none (nothing ∷ []) (subst (λ (o : Action × Seen). IsShownRun smallest_caps 9 (o ∷ []) (nothing ∷ [])) same
+    (poll_run nothing_seen refl))
 
 pub returns-clause-other_step : goal.returns-clause-other_step
 returns-clause-other_step c is =
-    not_unseen is.observed is.here is.differs.records _ (one_read (Ask event.Poll, nothing_seen) is.observed is.read)
-    is.at is.differs.run.of_actions is.differs.refused
+    not_unseen is.observed is.here _ (one_read (Ask event.Poll, nothing_seen) is.observed is.read) is.at is.differs
 
 pub returns-clause-unread_behind : goal.returns-clause-unread_behind
 returns-clause-unread_behind c is = not_second _ [] is.observed is.read

@@ -2,7 +2,7 @@ use Rattle.dsa_serve.proofs.front.read_first.Goals as goal
 use Rattle.std.proofs.Common.{◌≢◌, ◌++◌, take, arith, length-append, ◌∙◌}
 use Rattle.std.proofs.{KnownBytes.{Consumes-trans}, lemmas.Result.{err_from_is_err_and}}
 use Rattle.std.proofs.lemmas.List.Elements.{All-append}
-use Rattle.dsa_serve.proofs.{Lines.{no_feed, front_cut}, Stops.{memory_before, first_read_stops, cut_stops}}
+use Rattle.dsa_serve.proofs.{Lines.{no_feed, front_cut}, Stops.{memory_before, first_read_stops, cut_stops, long_stops}}
 
 pub returns-in_err-count-clause-stopped : goal.returns-in_err-count-clause-stopped
 returns-in_err-count-clause-stopped g c =
@@ -111,3 +111,8 @@ reads-preserved g c =
       taken = rw items (Consumes-trans _ _ _ _ _ c.reads.invariant.taken c.in_ok-count.ensures.bytes.0);
       line = rw items (All-append (λ b. b ≢ 10) _ _ c.reads.invariant.line (no_feed _ c.in_default.ensures));
     }
+
+pub returns-clause-stopped : goal.returns-clause-stopped
+returns-clause-stopped g c held =
+    long_stops 0 _ _ held c.reads.first.items c.reads.invariant.taken c.reads.invariant.line
+    (omega (arith, c.reads-test.false, c.len.ensures, c.reads.first.ok.0))

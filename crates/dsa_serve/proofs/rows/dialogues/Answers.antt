@@ -102,8 +102,8 @@ open_brace : IsLine (codes "{")
 open_brace = line_by_test (codes "{") refl
 
 -- the first line of such an input, and the lines behind it
-split : (behind : List ℕ) → HasFirst (line_of_text (first_line []) ++ behind) (first_line []) behind
-split behind = record { ended = false; line = bare; short = lit≤ tt; front = refl }
+split : (behind : List ℕ) → HasFirst false (line_of_text (first_line []) ++ behind) (first_line []) behind
+split behind = record { line = bare; short = lit≤ tt; front = refl }
 
 one_line : AreLines (codes "{\n{") (codes "{" ∷ []) (codes "{")
 one_line = record {
@@ -147,6 +147,7 @@ returns-clause-whole c = record {
 
 pub returns-clause-all : goal.returns-clause-all
 returns-clause-all c = record {
+  without_feed = false;
   first = first_line [];
   behind = codes "{";
   split = split (codes "{");

@@ -60,20 +60,20 @@ returns-clause-front_with_more c is =
     absurd cc
 
 pub returns-clause-first : goal.returns-clause-first
-returns-clause-first c = record { ended = false; line = one; short = lit≤ tt; front = refl }
+returns-clause-first c = record { line = one; short = lit≤ tt; front = refl }
 
 pub returns-clause-first_alone : goal.returns-clause-first_alone
-returns-clause-first_alone c = record { ended = true; line = one; short = lit≤ tt; front = (refl, refl) }
+returns-clause-first_alone c = record { line = one; short = lit≤ tt; front = (refl, refl) }
 
 pub returns-clause-longest_first : goal.returns-clause-longest_first
 returns-clause-longest_first c first line long =
-    record { ended = true; line = line; short = omega (arith, long); front = (refl, refl) }
+    record { line = line; short = omega (arith, long); front = (refl, refl) }
 
 pub returns-clause-too_long_first : goal.returns-clause-too_long_first
-returns-clause-too_long_first c input first behind long is = absurd (let short = is.short in omega (arith, long, short))
+returns-clause-too_long_first c ended input first behind long is = absurd (let short = is.short in omega (arith, long, short))
 
 pub returns-clause-first_of_two_lines : goal.returns-clause-first_of_two_lines
-returns-clause-first_of_two_lines c is = is.line 1 0 (omega arith) refl
+returns-clause-first_of_two_lines c ended is = is.line 1 0 (omega arith) refl
 
 left_out : (ended : Bool) → ¬ IsFront ended (codes "1\n2") (codes "1") []
 left_out true front =
@@ -82,4 +82,4 @@ left_out true front =
 left_out false front = absurd cc
 
 pub returns-clause-first_without_the_rest : goal.returns-clause-first_without_the_rest
-returns-clause-first_without_the_rest c is = left_out is.ended is.front
+returns-clause-first_without_the_rest c ended is = left_out ended is.front

@@ -74,8 +74,8 @@ one_division (l ∷ lines) (l' ∷ lines') rest rest' each each' last last' e =
     (cc, more.1)
 
 pub returns-clause-first : goal.returns-clause-first
-returns-clause-first c input first behind other more h h' =
-    one_first h.ended h'.ended input first other behind more h.line h'.line h.front h'.front
+returns-clause-first c ended also input first behind other more h h' =
+    one_first ended also input first other behind more h.line h'.line h.front h'.front
 
 pub returns-clause-lines : goal.returns-clause-lines
 returns-clause-lines c bytes lines rest others other h h' =

@@ -2,7 +2,7 @@ use Rattle.dsa_serve.proofs.rows.stops.Goals as goal
 use Rattle.std.proofs.Common.{◌≡◌, ◌≢◌, ◌≤◌, ◌^◌, ◌∙◌, ◌++◌, ℕ, true, false, Bool, List, []}
 use Rattle.std.proofs.Common.{◌∷◌, None, codes, refl, sym, ap, arith, subst}
 use Rattle.std.proofs.Common.{length, length-append, append_assoc, append-nil, inl, inr}
-use Rattle.std.specs.Prelude.{IsUtf8}
+use Rattle.std.specs.{Prelude.{Some, IsUtf8}, Io.KnownBytes.{IsAtEnd}}
 use Rattle.std.proofs.{Math.{ListN.{get_or-append}, Seq.{get_or-append_seam}}, lemmas.List.Elements.{All-nil, All-cons}}
 use Rattle.dsa_scenario.specs.{Document.{head_of}}
 use Rattle.dsa_book.specs.State.{State}
@@ -13,14 +13,18 @@ use Rattle.dsa_serve.specs.Dialogue.{IsDialogue, AnswersWhole, AnswersAll, Answe
 one : IsLine (codes "1")
 one = All-cons (λ byte. byte ≢ 10) 49 [] (λ same. absurd (omega (arith, same))) (All-nil (λ byte. byte ≢ 10))
 
+-- a line has no line feed behind it
+no_feed_behind : (input first behind : List ℕ) → IsLine input → ¬ IsFront false input first behind
+no_feed_behind input first behind line front =
+    let split : input ≡ first ++ 10 ∷ behind = front ∙ append_assoc first (10 ∷ []) behind in
+    let feed = (rw split at line) (length first) 0 (omega (arith, length-append first (10 ∷ behind))) in
+    feed (get_or-append_seam first 10 behind 0)
+
 -- a line is all of its first line
 only_first : (ended : Bool) (input first behind : List ℕ) → IsLine input → IsFront ended input first behind
     → input ≡ first
 only_first true input first behind line front = front.0
-only_first false input first behind line front =
-    let split : input ≡ first ++ 10 ∷ behind = front ∙ append_assoc first (10 ∷ []) behind in
-    let feed = (rw split at line) (length first) 0 (omega (arith, length-append first (10 ∷ behind))) in
-    absurd (feed (get_or-append_seam first 10 behind 0))
+only_first false input first behind line front = absurd (no_feed_behind input first behind line front)
 
 pub returns-clause-read : goal.returns-clause-read
 returns-clause-read c = (codes "1", [], refl, inl (one, omega arith, refl), refl)
@@ -35,25 +39,26 @@ no_dialogue lines last output is =
     absurd cc
 
 -- so nothing is an answer to it
-no_first : (input first behind : List ℕ) → codes "1" ≡ input → HasFirst input first behind → codes "1" ≡ first
-no_first input first behind is h =
-    is ∙ only_first h.ended input first behind (subst IsLine is one) h.front
+no_first : (ended : Bool) (input first behind : List ℕ) → codes "1" ≡ input → HasFirst ended input first behind
+    → codes "1" ≡ first
+no_first ended input first behind is h =
+    is ∙ only_first ended input first behind (subst IsLine is one) h.front
 
-no_whole : (input output : List ℕ) → codes "1" ≡ input → ¬ AnswersWhole input output
-no_whole input output is h =
-    let first = no_first input h.first h.behind is h.split in
+no_whole : (ended : Bool) (input output : List ℕ) → codes "1" ≡ input → ¬ AnswersWhole ended input output
+no_whole ended input output is h =
+    let first = no_first ended input h.first h.behind is h.split in
     no_dialogue h.lines h.last output (subst (λ f. IsDialogue f h.lines h.last output) (sym first) h.dialogue)
 
 no_all : (input output : List ℕ) → codes "1" ≡ input → ¬ AnswersAll input output
 no_all input output is h =
     let e = h.ended in
-    let first = no_first input h.first h.behind is h.split in
+    let first = no_first h.without_feed input h.first h.behind is h.split in
     let lines = with_rest e.lines e.rest in
     no_dialogue lines e.last e.answered (subst (λ f. IsDialogue f lines e.last e.answered) (sym first) e.dialogue)
 
 nothing_so_far : (input output : List ℕ) → codes "1" ≡ input → AnswersSoFar input output → output ≡ []
 nothing_so_far input output is (inl h) = h.2
-nothing_so_far input output is (inr h) = absurd (no_whole input output is h)
+nothing_so_far input output is (inr h) = absurd (no_whole false input output is h)
 
 pub returns-clause-answered_too_early : goal.returns-clause-answered_too_early
 returns-clause-answered_too_early c is =
@@ -63,7 +68,7 @@ returns-clause-answered_too_early c is =
 
 pub returns-clause-too_long : goal.returns-clause-too_long
 returns-clause-too_long c first line long =
-    (first, [], sym (append-nil (first ++ []) ∙ append-nil first), line, omega (arith, long))
+    (first, [], sym (append-nil (first ++ []) ∙ append-nil first), line, omega (arith, long), refl)
 
 pub returns-clause-longest : goal.returns-clause-longest
 returns-clause-longest c first long is = absurd (omega (
@@ -79,12 +84,13 @@ pub returns-clause-nothing_to_write : goal.returns-clause-nothing_to_write
 returns-clause-nothing_to_write c is =
     let input = is.3 ∙ append-nil is.0 in
     elim is.4 [
-      | inl whole ↦ no_whole is.0 is.1 input whole
-      | inr all ↦ no_all is.0 is.1 input all
+      | inl whole ↦ no_whole false is.0 is.1 input whole
+      | inr (inl only) ↦ no_whole true is.0 is.1 input only.1
+      | inr (inr all) ↦ no_all is.0 is.1 input all.1
     ]
 
 pub returns-clause-memory : goal.returns-clause-memory
-returns-clause-memory c = (codes "1", [], [], refl, omega arith, inl (one, omega arith, refl), refl)
+returns-clause-memory c = (codes "1", [], [], refl, omega arith, inl (inl (one, omega arith, refl)), refl)
 
 pub returns-clause-document : goal.returns-clause-document
 unfolding serde_json_on_literals
@@ -92,16 +98,19 @@ returns-clause-document c = (
   codes "1",
   codes "1",
   [],
+  true,
   refl,
-  record { ended = true; line = one; short = omega arith; front = (refl, refl) },
+  record { line = one; short = omega arith; front = (refl, refl) },
+  λ ended. refl,
   record { document = _; json = record { utf8 = (codes "1", (refl, refl)); value = refl }; none = refl },
+  refl,
 )
 
 pub returns-clause-other_fault : goal.returns-clause-other_fault
 unfolding serde_json_on_literals
 returns-clause-other_fault c is =
-    let first = no_first is.0 is.1 is.2 (is.3 ∙ append-nil is.0) is.4 in
-    let none = subst (λ f. IsUtf8 f → read f ≡ None) (sym first) is.5 (codes "1", (refl, refl)) in
+    let first = no_first is.3 is.0 is.1 is.2 (is.4 ∙ append-nil is.0) is.5 in
+    let none = subst (λ f. IsUtf8 f → read f ≡ None) (sym first) is.7 (codes "1", (refl, refl)) in
     absurd cc
 
 pub returns-clause-nothing_yet : goal.returns-clause-nothing_yet
@@ -111,7 +120,7 @@ returns-clause-nothing_yet c = inl (one, omega arith, refl)
 no_longer : (input output : List ℕ) → IsLine input → AnswersSoFar input output → length input ≤ 2 ^ 20
 no_longer input output line (inl h) = h.1
 no_longer input output line (inr h) =
-    rw (only_first h.split.ended input h.first h.behind line h.split.front) h.split.short
+    rw (only_first false input h.first h.behind line h.split.front) h.split.short
 
 pub returns-clause-too_long_so_far : goal.returns-clause-too_long_so_far
 returns-clause-too_long_so_far c input output line long is =
@@ -125,5 +134,51 @@ front_line bytes more line k d inside feed =
 pub returns-clause-memory_after_a_long_line : goal.returns-clause-memory_after_a_long_line
 returns-clause-memory_after_a_long_line c input line long is =
     let all : input ≡ is.0 ++ is.1 = is.3 ∙ append-nil (is.0 ++ is.1) in
-    let short = no_longer is.0 is.2 (front_line is.0 is.1 (rw all at line)) is.5 in
-    absurd (omega (arith, long, is.4, short, ap length all, length-append is.0 is.1))
+    elim is.5 [
+      | inl so_far ↦
+          let short = no_longer is.0 is.2 (front_line is.0 is.1 (rw all at line)) so_far in
+          absurd (omega (arith, long, is.4, short, ap length all, length-append is.0 is.1))
+      | inr only ↦
+          let whole = only.1 in
+          let first : is.0 ++ is.1 ≡ whole.first =
+          only_first true (is.0 ++ is.1) whole.first whole.behind (rw all at line) whole.split.front in
+          let short = whole.split.short in
+          absurd (omega (arith, long, ap length all, ap length first, short))
+    ]
+
+-- what has no line feed is not answered
+nothing_to_a_line : (input output : List ℕ) → IsLine input → AnswersSoFar input output → output ≡ []
+nothing_to_a_line input output line (inl h) = h.2
+nothing_to_a_line input output line (inr h) =
+    absurd (no_feed_behind input h.first h.behind line h.split.front)
+
+pub returns-clause-unfinished_line_is_answered : goal.returns-clause-unfinished_line_is_answered
+returns-clause-unfinished_line_is_answered c input output line is =
+    let all : input ≡ is.0 = is.2 ∙ append-nil is.0 in
+    is.4 ∙ nothing_to_a_line is.0 is.1 (rw all at line) is.3
+
+pub returns-clause-fault_is_answered : goal.returns-clause-fault_is_answered
+returns-clause-fault_is_answered c is =
+    let holds = is.8 in
+    absurd cc
+
+pub returns-clause-long_line_is_answered : goal.returns-clause-long_line_is_answered
+returns-clause-long_line_is_answered c first is =
+    let holds = is.5 in
+    absurd cc
+
+-- a first line that the input did not end has its line feed
+with_more : (ended : Bool) (input first behind : List ℕ) → codes "12" ≡ input ++ codes "2"
+    → HasFirst ended input first behind → (ended ≡ true → IsAtEnd (Some (codes "2"))) → ⊥
+with_more true input first behind is h at_end =
+    let none : codes "2" ≡ [] = at_end refl in
+    absurd cc
+with_more false [] first behind is h at_end = absurd cc
+with_more false (b ∷ []) first behind is h at_end =
+    let byte : 49 ≡ b = cc in
+    no_feed_behind (b ∷ []) first behind (subst (λ d. IsLine (d ∷ [])) byte one) h.front
+with_more false (b ∷ (d ∷ input)) first behind is h at_end =
+    absurd (omega (arith, ap length is, length-append input (codes "2")))
+
+pub returns-clause-unfinished_line_is_judged : goal.returns-clause-unfinished_line_is_judged
+returns-clause-unfinished_line_is_judged c is = with_more is.3 is.0 is.1 is.2 is.4 is.5 is.6

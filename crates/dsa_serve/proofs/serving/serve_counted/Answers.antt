@@ -1,7 +1,7 @@
 use Rattle.dsa_serve.proofs.serving.serve_counted.Goals as goal
-use Rattle.std.proofs.Common.{◌≡◌, ◌^◌, true, false, length, arith, ◌∙◌}
+use Rattle.std.proofs.Common.{◌≡◌, ◌^◌, true, false, length, arith, ◌∙◌, inl, inr}
 use Rattle.std.proofs.lemmas.Result.{err_from_is_err_and, on_ok_weaker, IfErr-weaker}
-use Rattle.dsa_serve.proofs.{Counts.{asked_on, not_failed, refused_on}, Stops.{late_is}}
+use Rattle.dsa_serve.proofs.Counts.{asked_on, not_failed, refused_on}
 use Rattle.dsa_serve.proofs.serving.serve_counted.Goals.{then-not-it+in_ok-serve_lines, else-not-it}
 
 pub returns-in_err-serve_lines-clause-stopped : goal.returns-in_err-serve_lines-clause-stopped
@@ -40,12 +40,14 @@ returns-clause-stopped g c =
     elim c.if-not-it.branch [
       | then-not-it+in_ok-serve_lines w ↦
           IfErr-weaker c.finish.result _ _
-          (λ e stops. stops false had left held (rw (w.reader-is, w.writer-is, w.it-is)
+          (λ e stops. stops false had left held (rw w.reader-is w.in_ok-serve_lines.ensures.end)
+          (rw (w.reader-is, w.writer-is, w.it-is)
           (w.in_ok-serve_lines.ensures.ok had held (rw w.if-not-it.true at c.in_ok-it.ensures.ok))))
           c.finish.ensures.stopped
       | else-not-it w ↦
           IfErr-weaker c.finish.result _ _
-          (λ e stops. stops true had left held (rw (w.reader-is, w.writer-is, w.it-is)
+          (λ e stops. stops true had left held (rw w.reader-is (c.in_ok-it.ensures.end w.if-not-it.false))
+          (rw (w.reader-is, w.writer-is, w.it-is)
           (rw w.if-not-it.false at c.in_ok-it.ensures.ok))) c.finish.ensures.stopped
     ]
 
@@ -86,7 +88,7 @@ returns-in_err-it-clause-ok g c =
 pub returns-in_err-it-clause-nothing : goal.returns-in_err-it-clause-nothing
 returns-in_err-it-clause-nothing g c =
     let p = err_from_is_err_and c.from_residual.result c.from_residual.ensures.1 in
-    rw (p.1, p.2) (λ _ write _. c.in_err-it.ensures.nothing write)
+    rw (p.1, p.2) (λ early. c.in_err-it.ensures.nothing (λ write. early (inr (inl write))))
 
 pub returns-in_err-serve_lines-clause-same_reader : goal.returns-in_err-serve_lines-clause-same_reader
 returns-in_err-serve_lines-clause-same_reader g c =
@@ -119,7 +121,7 @@ pub returns-in_err-serve_lines-clause-nothing : goal.returns-in_err-serve_lines-
 returns-in_err-serve_lines-clause-nothing g c =
     let p = err_from_is_err_and c.from_residual-in_err-serve_lines.result
     c.from_residual-in_err-serve_lines.ensures.1 in
-    rw (p.1, p.2) (λ read write memory. late_is _ c.in_err-serve_lines.ensures.late read write memory)
+    rw (p.1, p.2) (λ early. absurd (early c.in_err-serve_lines.ensures.late))
 
 pub returns-clause-same_reader : goal.returns-clause-same_reader
 returns-clause-same_reader g c = elim c.if-not-it.branch [
@@ -146,5 +148,5 @@ returns-clause-refused g c =
 
 pub returns-clause-nothing : goal.returns-clause-nothing
 returns-clause-nothing g c =
-    IfErr-weaker c.finish.result _ _ (λ e late read write memory. late_is e late read write memory)
+    IfErr-weaker c.finish.result _ _ (λ e late early. absurd (early late))
     c.finish.ensures.late

@@ -10,7 +10,7 @@ returns-in_err-dialogue-clause-stopped g c =
     omega (arith, c.in_ok-front.ensures.fits, c.in_ok-front.front.first.ok.0) in
     rw (p.1, p.2) (opening_stops _ _ _ _ bytes.0 _ _ _ _ bytes.1 bytes.2 short bytes.3
     (λ going. let last = c.in_ok-front.ensures.last_read going in let room = c.in_ok-front.ensures.room going in
-    omega (arith, last, room)) c.in_err-dialogue.ensures.err)
+    omega (arith, last, room)) c.in_ok-front.ensures.end c.in_err-dialogue.ensures.err)
 
 pub returns-in_err-write_text-clause-stopped : goal.returns-in_err-write_text-clause-stopped
 returns-in_err-write_text-clause-stopped g c =
@@ -21,7 +21,7 @@ returns-in_err-write_text-clause-stopped g c =
     omega (arith, c.in_ok-front.ensures.fits, c.in_ok-front.front.first.ok.0) in
     let cut = c.in_err-write_text.ensures.prefix in
     rw (p.1, p.2, c.in_err-write_text.ensures.fault) (first_write_stops _ _ _ _ _ bytes.0 _ _ _ _ cut.0 _ _ _ _
-    bytes.1 bytes.2 short bytes.3 c.as_bytes.ensures.value (c.in_ok-dialogue.ensures.ok c.new-text.ensures.bytes) cut.1
+    bytes.1 bytes.2 short bytes.3 c.in_ok-front.ensures.end c.as_bytes.ensures.value (c.in_ok-dialogue.ensures.ok c.new-text.ensures.bytes) cut.1
     cut.2)
 
 pub returns-in_err-front-clause-refused : goal.returns-in_err-front-clause-refused

@@ -11,7 +11,7 @@ returns-in_err-count-clause-stopped g c =
 pub returns-in_err-feed-clause-stopped : goal.returns-in_err-feed-clause-stopped
 returns-in_err-feed-clause-stopped g c =
     let p = err_from_is_err_and c.from_residual-in_err-feed.result c.from_residual-in_err-feed.ensures.1 in
-    rw (p.1, p.2) (λ had held h. memory_stops _ false had _ _ held _
+    rw (p.1, p.2) (λ had held h. memory_stops _ had _ _ held _
     (take c.in_ok-count.count c.read_once.new.chunk) _ _ _ _ c.in_ok-count.ensures.bytes.0
     (omega (arith, c.in_ok-count.ensures.bound.0, c.in_ok-count.ensures.bound.1, c.read_once.auto.chunk)) h)
 

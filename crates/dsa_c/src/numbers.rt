@@ -1,0 +1,73 @@
+//! The numbers that C reads and writes beside those of answers, each by its name in the header.
+
+/// Why a submission was not accepted.
+pub(crate) const AT_LIMIT: u32 = 1;
+
+pub(crate) const NOT_ENABLED: u32 = 2;
+
+pub(crate) const WRONG_KIND: u32 = 3;
+
+/// How an entry ended.
+pub(crate) const NOT_ENDED: u32 = 0;
+
+pub(crate) const COMPLETED: u32 = 1;
+
+pub(crate) const ABORTED: u32 = 2;
+
+pub(crate) const BEHIND_FENCE: u32 = 3;
+
+/// The phase of a device or of a queue.
+pub(crate) const OFF: u64 = 0;
+
+pub(crate) const ON: u64 = 1;
+
+pub(crate) const STOPPING: u64 = 2;
+
+/// The portal of a submission.
+pub(crate) const LIMITED: u32 = 0;
+
+pub(crate) const UNLIMITED: u32 = 1;
+
+/// What became of an entry's work.
+pub(crate) const SUCCESS: u32 = 0;
+
+pub(crate) const PAGE_FAULT: u32 = 1;
+
+/// The kind of an event.
+pub(crate) const EVENT_ENQCMD: u32 = 1;
+
+pub(crate) const EVENT_MOVDIR64B: u32 = 2;
+
+pub(crate) const EVENT_DISPATCH: u32 = 3;
+
+pub(crate) const EVENT_FETCH: u32 = 4;
+
+pub(crate) const EVENT_START: u32 = 5;
+
+pub(crate) const EVENT_FINISH: u32 = 6;
+
+pub(crate) const EVENT_COMMAND: u32 = 7;
+
+pub(crate) const EVENT_POLL: u32 = 8;
+
+pub(crate) const EVENT_WRITE_QUEUE: u32 = 9;
+
+pub(crate) const EVENT_WRITE_GROUP: u32 = 10;
+
+pub(crate) const EVENT_CLEAR_ERROR: u32 = 11;
+
+/// What an opening came to.
+pub(crate) const OPENED: u32 = 0;
+
+pub(crate) const BAD_CAPS: u32 = 1;
+
+pub(crate) const BAD_CAPACITY: u32 = 2;
+
+pub(crate) const BAD_STORE: u32 = 3;
+
+pub(crate) const OUT_OF_MEMORY: u32 = 4;
+
+pub(crate) const ALREADY_OPEN: u32 = 5;
+
+/// Where a number of 64 bits is not to be had.
+pub(crate) const NONE: u64 = u64::MAX;

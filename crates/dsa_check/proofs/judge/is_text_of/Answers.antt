@@ -1,0 +1,12 @@
+use Rattle.serde_json.proofs.Nesting.{depth-read}
+use Rattle.serde_json.specs.View.{view}
+use Rattle.dsa_check.proofs.ReadTexts.{text_of_same}
+use Rattle.dsa_check.proofs.judge.is_text_of.Goals as goal
+
+pub is_same-requires-clause-value : goal.is_same-requires-clause-value
+is_same-requires-clause-value c = depth-read c.args.bytes.now (view c.in-Ok.read) c.in-Ok.ensures.ok.value
+
+pub returns-in-Ok : goal.returns-in-Ok
+returns-in-Ok c =
+    text_of_same c.args.bytes.now (view c.in-Ok.read) (view c.args.value.now) c.is_same.result c.in-Ok.ensures.ok
+    (rw (← c.in-Some.ensures.value) c.if-first-gt32.true) c.is_same.ensures

@@ -1,9 +1,0 @@
-use Rattle.dsa_conform.proofs.difference.add_all.Goals as goal
-use Rattle.std.proofs.Common.{arith}
-use Rattle.std.proofs.lemmas.Grind.{common_steps}
-
-pub loop-entry-preserved : goal.loop-entry-preserved
-loop-entry-preserved = grind (arith, common_steps)
-
-pub returns : goal.returns
-returns = grind (arith, common_steps)

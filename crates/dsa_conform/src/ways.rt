@@ -1,0 +1,175 @@
+//! A step of several devices that answer as was seen so far.
+
+ghost use Rattle.std.specs.Prelude.{◌≡◌, ◌+◌, ◌<◌, [], ◌∷◌, ◌++◌, List, true, OnOk, IfOk, map, length, option_map, string_bytes};
+ghost use Rattle.serde_json.specs.View.{view};
+ghost use Rattle.dsa_scenario.specs.declared.actions.Action.{Action};
+ghost use Rattle.dsa_conform.specs.Seen.{Seen, seen_as};
+ghost use Rattle.dsa_conform.specs.Run.{AreRead};
+ghost use Rattle.dsa_conform.specs.Ways.{AreAdded, AreGoneOn, AreOn, IsAdded, IsAmong, IsGoneOn, IsWayBy};
+
+use crate::alike::is_alike;
+use crate::observed::Observed;
+use crate::offering::fork;
+use crate::step::walk_step;
+use crate::told::{Told, told_text};
+use crate::way::{Way, queues_taken, walk_again};
+use dsa_scenario::{Action, Head, event_for};
+use std::alloc::{AllocError, Global};
+use std::mem;
+
+// Whether the device is alike one of those that are followed.
+fn is_among(ways: &[Way], way: &Way) -> bool
+    ensures { result ≡ true → IsAmong way.now.device ways.now }
+{
+    for other in ways {
+        if is_alike(&way.device, &other.device) {
+            return true;
+        }
+    }
+    false
+}
+
+// Adds the device, where none of those that are followed is alike.
+fn add_way(ways: &mut Vec<Way>, way: Way) -> Result<(), AllocError>
+    ensures { OnOk result (IsAdded ways.old.items way ways.new.items) }
+{
+    if is_among(ways.as_slice(), &way) {
+        return Ok(());
+    }
+    ways.push(way)?;
+    Ok(())
+}
+
+// A device that takes from the queue in this step, and before from those that are in `choices`.
+fn way_by(
+    alloc: Global,
+    head: &Head<'_>,
+    number: usize,
+    choices: &[u16],
+    queue: u16,
+) -> Result<Way, AllocError>
+    requires inside { number < length head.now.steps.now }
+    requires read { (observed : List (Action × Seen))
+        × AreRead (map view head.now.steps.now) observed }
+    ensures { IfOk result
+        (λ way. IsWayBy head.now.caps head.now.capacity (map view head.now.steps.now)
+        (number + 1) (choices.now ++ queue ∷ []) way) }
+{
+    let mut queues = Vec::from_slice(alloc, choices)?;
+    queues.push(queue)?;
+    walk_again(alloc, head, number + 1, queues.as_slice())
+}
+
+// Adds a device for each of these queues.
+fn add_forks(
+    alloc: Global,
+    head: &Head<'_>,
+    number: usize,
+    choices: &[u16],
+    queues: &[u16],
+    ways: &mut Vec<Way>,
+) -> Result<(), AllocError>
+    requires inside { number < length head.now.steps.now }
+    requires read { (observed : List (Action × Seen))
+        × AreRead (map view head.now.steps.now) observed }
+    ensures { OnOk result
+        (AreAdded head.now.caps head.now.capacity (map view head.now.steps.now) number choices.now
+        queues.now ways.old.items ways.new.items) }
+{
+    for queue in queues {
+        let way = way_by(alloc, head, number, choices, *queue)?;
+        add_way(ways, way)?;
+    }
+    Ok(())
+}
+
+// One step of one device, by each queue that it may take from.
+fn go_on(
+    alloc: Global,
+    head: &Head<'_>,
+    number: usize,
+    mut way: Way,
+    action: Action,
+    seen: &Observed<'_>,
+    ways: &mut Vec<Way>,
+    tolds: &mut Vec<Told>,
+) -> Result<(), AllocError>
+    requires inside { number < length head.now.steps.now }
+    requires read { (observed : List (Action × Seen))
+        × AreRead (map view head.now.steps.now) observed }
+    ensures { OnOk result
+        (IsGoneOn head.now.caps head.now.capacity (map view head.now.steps.now)
+        (action, seen_as seen.now) number way ways.old.items tolds.old.items ways.new.items
+        tolds.new.items) }
+{
+    let asked = event_for(way.tickets.as_slice(), action);
+    let queues = fork(alloc, &way.device, &asked, seen)?;
+    if !queues.as_slice().is_empty() {
+        let choices = queues_taken(alloc, way.device.history())?;
+        return add_forks(
+            alloc,
+            head,
+            number,
+            choices.as_slice(),
+            queues.as_slice(),
+            ways,
+        );
+    }
+    if let Some(told) = walk_step(alloc, &mut way, action, seen)? {
+        tolds.push(told)?;
+        return Ok(());
+    }
+    add_way(ways, way)
+}
+
+// One step of these devices, one after the other.
+fn go_all(
+    alloc: Global,
+    head: &Head<'_>,
+    number: usize,
+    mut old: Vec<Way>,
+    action: Action,
+    seen: &Observed<'_>,
+    ways: &mut Vec<Way>,
+) -> Result<Vec<Told>, AllocError>
+    requires inside { number < length head.now.steps.now }
+    requires read { (observed : List (Action × Seen))
+        × AreRead (map view head.now.steps.now) observed }
+    requires none { ways.old.items ≡ [] }
+    ensures { IfOk result
+        (λ tolds. AreGoneOn head.now.caps head.now.capacity (map view head.now.steps.now)
+        (action, seen_as seen.now) number old.items ways.new.items tolds.items) }
+{
+    let mut tolds = Vec::new(alloc);
+    while !old.as_slice().is_empty() {
+        let way = old.remove(0);
+        go_on(alloc, head, number, way, action, seen, ways, &mut tolds)?;
+    }
+    Ok(tolds)
+}
+
+/// One step of all devices that are followed, and what is told where none of them goes on.
+pub fn walk_ways(
+    alloc: Global,
+    head: &Head<'_>,
+    number: usize,
+    ways: &mut Vec<Way>,
+    action: Action,
+    seen: &Observed<'_>,
+) -> Result<Option<String>, AllocError>
+    requires inside { number < length head.now.steps.now }
+    requires read { (observed : List (Action × Seen))
+        × AreRead (map view head.now.steps.now) observed }
+    ensures { IfOk result
+        (λ differs. AreOn head.now.caps head.now.capacity (map view head.now.steps.now)
+        (action, seen_as seen.now) number ways.old.items ways.new.items
+        (option_map string_bytes differs)) }
+{
+    let old = mem::replace(ways, Vec::new(alloc));
+    let tolds = go_all(alloc, head, number, old, action, seen, ways)?;
+    if !ways.as_slice().is_empty() {
+        return Ok(None);
+    }
+    let text = told_text(alloc, number, seen, tolds.as_slice())?;
+    Ok(Some(text))
+}

@@ -1,0 +1,16 @@
+use Rattle.dsa_draw.proofs.bars.Table.end_at.Goals as goal
+use Rattle.std.proofs.Common.{◌∙◌, set, sym, ap, arith}
+use Rattle.dsa_draw.specs.Bars.{ended_at}
+use Rattle.dsa_draw.proofs.Changes.{changed_inside, changed_past}
+
+pub returns-then-place-len-clause-bars : goal.returns-then-place-len-clause-bars
+returns-then-place-len-clause-bars c =
+    let bars = c.args.self.now.bars.items in
+    let changed = changed_inside (ended_at c.args.step c.args.row.now) bars c.args.place c.index_mut.result.now
+    (omega (arith, c.if-place-len.true, c.len.ensures, c.args.self.now.bars.ok.0)) in
+    sym (changed ∙ ap (λ b. set bars c.args.place (ended_at c.args.step c.args.row.now b)) (sym c.index_mut.ensures.value))
+
+pub returns-else-place-len-clause-bars : goal.returns-else-place-len-clause-bars
+returns-else-place-len-clause-bars c =
+    sym (changed_past (ended_at c.args.step c.args.row.now) c.args.self.now.bars.items c.args.place
+    (omega (arith, c.if-place-len.false, c.len.ensures, c.args.self.now.bars.ok.0)))

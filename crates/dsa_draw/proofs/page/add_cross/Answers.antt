@@ -1,0 +1,8 @@
+use Rattle.dsa_draw.proofs.page.add_cross.Goals as goal
+use Rattle.std.proofs.Common.{◌∙◌, append_assoc}
+use Rattle.std.proofs.lemmas.Result.{on_ok_weaker}
+use Rattle.dsa_draw.specs.Pages.{cross_text}
+
+pub returns : goal.returns
+unfolding cross_text
+returns c = on_ok_weaker c.write.result (λ added. added ∙ rw (c.column_left.ensures, c.from.ensures) (simp append_assoc)) c.write.ensures.bytes

@@ -1,0 +1,63 @@
+-- Pieces of a page, as text: its head and its foot, names, lines and marks.
+use Rattle.std.specs.Prelude.{ℕ, ◌+◌, ◌-◌, ◌*◌, List, ◌++◌, codes, decimal}
+use Rattle.dsa_draw.specs.declared.{page.TheConstants.{STYLE}, marks.Mark.{Mark, TheVariants.{Done, Wait, Failed}}}
+
+-- ---- head and foot
+
+-- how wide a page of so many steps is
+abbrev pub page_width : ℕ → ℕ
+page_width steps = 112 + 14 * steps + 56
+
+unfoldable pub page_size_text : ℕ → ℕ → List ℕ
+page_size_text width height = codes " width=\"" ++ decimal width ++ codes "\" height=\"" ++ decimal height ++ codes "\""
+
+unfoldable pub view_text : ℕ → ℕ → List ℕ
+view_text width height = codes " viewBox=\"0 0 " ++ decimal width ++ codes " " ++ decimal height ++ codes "\">\n"
+
+unfoldable pub svg_text : List ℕ
+svg_text = codes "<svg xmlns=\"http://www.w3.org/2000/svg\""
+
+-- the colours, for light and for dark
+unfoldable pub style_text : List ℕ
+style_text = STYLE.now
+
+unfoldable pub sheet_text : ℕ → ℕ → List ℕ
+sheet_text width height =
+    codes "<rect class=\"sheet\" width=\"" ++ decimal width ++ codes "\" height=\"" ++ decimal height ++ codes "\"/>\n"
+
+-- the head of a page of so many steps, so high
+abbrev pub head_text : ℕ → ℕ → List ℕ
+head_text steps height =
+    svg_text ++ page_size_text (page_width steps) height ++ view_text (page_width steps) height ++ style_text
+    ++ sheet_text (page_width steps) height
+
+abbrev pub foot_text : List ℕ
+foot_text = codes "</svg>\n"
+
+-- ---- rows
+
+-- the name of a row that begins at `top`
+unfoldable pub row_name_text : List ℕ → ℕ → List ℕ
+row_name_text name top =
+    codes "<text x=\"4\" y=\"" ++ decimal (top + 11) ++ codes "\">" ++ name ++ codes "</text>\n"
+
+-- a line over all columns
+unfoldable pub rule_text : ℕ → ℕ → List ℕ
+rule_text steps y =
+    codes "<path class=\"grid\" d=\"M112 " ++ decimal y ++ codes "h" ++ decimal (14 * (steps - 0)) ++ codes "\"/>\n"
+
+unfoldable pub dot_text : List ℕ → ℕ → ℕ → List ℕ
+dot_text class step top =
+    codes "<circle class=\"" ++ class ++ codes "\" cx=\"" ++ decimal (112 + 14 * step + 7) ++ codes "\" cy=\""
+    ++ decimal (top + 8) ++ codes "\" r=\"3\"/>\n"
+
+unfoldable pub cross_text : ℕ → ℕ → List ℕ
+cross_text step top =
+    codes "<path class=\"failed\" d=\"M" ++ decimal (112 + 14 * step + 4) ++ codes " " ++ decimal (top + 5)
+    ++ codes "l6 6m0-6l-6 6\"/>\n"
+
+-- a dot, a ring or a cross in the column of a step, in a row that begins at `top`
+abbrev pub mark_text : Mark → ℕ → ℕ → List ℕ
+mark_text Done step top = dot_text (codes "done") step top
+mark_text Wait step top = dot_text (codes "wait") step top
+mark_text Failed step top = cross_text step top

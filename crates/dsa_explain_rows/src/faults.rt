@@ -1,0 +1,34 @@
+//! Faults of a document in words.
+
+ghost use Rattle.std.specs.Prelude.{◌≡◌, [], ◌∷◌, codes, map};
+ghost use Rattle.dsa_scenario.specs.declared.faults.ScenarioFault.TheVariants.{Read, TooLong, NotJson, BadDocument, BadStep, BadCaps, BadCapacity, Differs, Write, OutOfMemory};
+ghost use Rattle.dsa_scenario.specs.Faults.{fault_line, fault_text};
+
+/// The line of each fault of a document.
+#[tactic(auto, unfolding(dsa_scenario::specs::Worked::digits_on_literals))]
+pub fn faults_in_words()
+    ensures line { fault_line BadCapacity ≡ codes "dsa_run: bad capacity\n" }
+    ensures texts { map fault_text
+        (Read
+        ∷ TooLong
+        ∷ NotJson
+        ∷ BadDocument
+        ∷ BadStep 3
+        ∷ BadCaps
+        ∷ BadCapacity
+        ∷ Differs 4
+        ∷ Write
+        ∷ OutOfMemory
+        ∷ [])
+        ≡ codes "read failed"
+        ∷ codes "document too long"
+        ∷ codes "not JSON"
+        ∷ codes "bad document"
+        ∷ codes "bad step 3"
+        ∷ codes "bad caps"
+        ∷ codes "bad capacity"
+        ∷ codes "step 4 differs"
+        ∷ codes "write failed"
+        ∷ codes "out of memory"
+        ∷ [] }
+{}

@@ -1,0 +1,69 @@
+//! A document from a reader, and its lines to a writer.
+
+use crate::streams::fakes::ALL;
+use crate::streams::{READ, Row, WRITE, Way};
+use dsa_scenario::ScenarioFault;
+use std::alloc::Global;
+use std::process::Abort;
+
+pub const DOCUMENT: &str =
+    r#"{"caps":{"queues":2,"groups":2,"engines":2,"total_size":8,"read_buffers":16,
+"slots":2,"max_batch_shift":3,"max_xfer_shift":20},"capacity":100,"steps":[
+{"do":"queue","queue":0,"size":4,"threshold":2,"dedicated":false,"priority":1,"pasid":0,
+"batch":3,"xfer":20},
+{"do":"group","group":0,"queues":1,"engines":1,"reserved":4,"allowed":8},
+{"do":"command","word":1048576},{"do":"command","word":6291456},
+{"do":"enqcmd","client":0,"queue":0,"limited":true,"pasid":5,"desc":""},
+{"do":"dispatch","engine":0},{"do":"finish","engine":0,"name":0,"fault":false}]}"#;
+
+const LINES: &str =
+    "written\nwritten\nended 0\nended 0\naccepted 0\ntaken 0 from 0\ndone 01\nfate 0 - completed 01\n";
+
+// A reader that has given the last byte may still fail, in place of the end of input.
+#[test]
+fn little_by_little(rt: HostRuntime) {
+    const READS: u32 = DOCUMENT.len() as u32 + 1;
+    const WRITES: u32 = LINES.len() as u32;
+    const ROWS: [Row; 10] = [
+        ((ALL, ALL), (ALL, ALL), Ok(()), LINES, (2, 1)),
+        ((1, ALL), (ALL, ALL), Ok(()), LINES, (READS, 1)),
+        ((ALL, 10), (ALL, ALL), READ, "", (2, 0)),
+        ((1, 10), (ALL, ALL), READ, "", (11, 0)),
+        ((1, DOCUMENT.len()), (ALL, ALL), READ, "", (READS, 0)),
+        ((ALL, 0), (ALL, 0), READ, "", (1, 0)),
+        ((ALL, ALL), (1, ALL), Ok(()), LINES, (2, WRITES)),
+        ((ALL, ALL), (ALL, 5), WRITE, "writt", (2, 2)),
+        ((1, ALL), (1, 5), WRITE, "writt", (READS, 6)),
+        ((ALL, ALL), (0, ALL), WRITE, "", (2, 1)),
+    ];
+    Way::Document.leads_each(&rt, rt.alloc(), DOCUMENT.as_bytes(), &ROWS);
+}
+
+// The reader's second call fails, or the writer's third.
+#[test]
+fn one_error(rt: HostRuntime) {
+    const ROWS: [Row; 2] = [
+        ((10, 10), (10, ALL), READ, "", (2, 0)),
+        (
+            (ALL, ALL),
+            (10, 20),
+            WRITE,
+            "written\nwritten\nende",
+            (2, 3),
+        ),
+    ];
+    Way::Document.leads_each(&rt, rt.alloc(), DOCUMENT.as_bytes(), &ROWS);
+}
+
+// A reader of one byte a call is asked once for each byte up to the first that is too many.
+#[test]
+fn too_long(rt: HostRuntime) {
+    const TOO_LONG: Result<(), ScenarioFault> = Err(ScenarioFault::TooLong);
+    const ROW: Row = ((1, ALL), (ALL, ALL), TOO_LONG, "", (1_048_577, 0));
+    let spaces = spaces(&rt, rt.alloc(), 1_048_600);
+    Way::Document.leads(&rt, rt.alloc(), &spaces, (0, &ROW), false);
+}
+
+fn spaces(rt: &impl Abort, alloc: Global, count: usize) -> Vec<u8> {
+    Vec::from_elem(alloc, b' ', count).expect(rt, "memory for spaces")
+}

@@ -1,0 +1,485 @@
+"""Computes definitions, so that a mutant is tried at once. What it says is a guess: the checker decides."""
+
+import sys
+
+from definitions import Node, names_used, term_of
+
+sys.setrecursionlimit(20000)
+
+
+class Stuck(Exception):
+    """What cannot be computed here."""
+
+
+class Made:
+    """A constructor with its arguments."""
+
+    __slots__ = ("name", "arguments")
+
+    def __init__(self, name, arguments=()):
+        self.name, self.arguments = name, arguments
+
+    def __call__(self, argument):
+        return Made(self.name, (*self.arguments, argument))
+
+    def __eq__(self, other):
+        return isinstance(other, Made) and self.name == other.name and self.arguments == other.arguments
+
+    def __repr__(self):
+        return f"({self.name} {self.arguments})" if self.arguments else self.name
+
+
+NONE = Made("None")
+
+
+def some(x):
+    return Made("Some", (x,))
+
+
+def same(a, b):
+    """Whether two values are the same."""
+    if callable(a) and not isinstance(a, Made) or callable(b) and not isinstance(b, Made):
+        raise Stuck("functions")
+    return a == b
+
+
+def put(xs, i, x):
+    return xs[:i] + [x] + xs[i + 1:] if i < len(xs) else xs
+
+
+def first_place(test, xs):
+    return next((i for i, x in enumerate(xs) if test(x)), len(xs))
+
+
+def in_digits(base, upper, n):
+    glyphs = "0123456789ABCDEF" if upper else "0123456789abcdef"
+    found = ""
+    while True:
+        found = glyphs[n % base] + found
+        n //= base
+        if not n:
+            return [ord(it) for it in found]
+
+
+def fold(f, a, xs):
+    for x in xs:
+        a = f(a)(x)
+    return a
+
+
+def found_first(test, xs):
+    place = first_place(test, xs)
+    return some(xs[place]) if place < len(xs) else NONE
+
+
+def place_of(test, xs):
+    place = first_place(test, xs)
+    return some(place) if place < len(xs) else NONE
+
+
+def at_place(xs, i, other):
+    return xs[i] if i < len(xs) else other
+
+
+def chosen(option, default):
+    return option.arguments[0] if option.name == "Some" else default
+
+
+def all_chosen(xs):
+    return [x.arguments[0] for x in xs if x.name == "Some"]
+
+
+def little(n, xs):
+    return sum((xs[i] if i < len(xs) else 0) << (8 * i) for i in range(n))
+
+
+def padded(form, negative, prefix, digits):
+    """A number under a format with zeros in front, or with fill."""
+    fill, flags, width = form
+    sign = [45] if negative else [43] * (flags & 1)
+    front = sign + (prefix if flags & 2 else [])
+    padding = width - len(front) - len(digits)
+    return front + [48] * padding + digits if flags & 4 else [fill] * padding + front + digits
+
+
+# What the toolchain's own library has, by name: how many arguments, and what they give.
+LIBRARY = {
+    "not": (1, lambda a: not a), "map": (2, lambda f, xs: [f(x) for x in xs]),
+    "filter": (2, lambda f, xs: [x for x in xs if f(x)]), "length": (1, len),
+    "min": (2, min), "max": (2, max), "nat_lt": (2, lambda a, b: a < b), "nat_le": (2, lambda a, b: a <= b),
+    "nat_eq": (2, lambda a, b: a == b), "beq": (2, lambda a, b: a == b), "bytes_eq": (2, lambda a, b: a == b),
+    "get_or": (3, at_place), "slice_index_or": (3, at_place), "slice_index": (2, lambda xs, i: at_place(xs, i, 0)),
+    "slice_get": (2, lambda xs, i: some(xs[i]) if i < len(xs) else NONE), "slice_set": (3, put),
+    "take": (2, lambda n, xs: xs[:n]), "drop": (2, lambda n, xs: xs[n:]), "replicate": (2, lambda n, x: [x] * n),
+    "sum_by": (2, lambda f, xs: sum(f(x) for x in xs)), "count_by": (2, lambda f, xs: sum(1 for x in xs if f(x))),
+    "list_any": (2, lambda f, xs: any(f(x) for x in xs)), "list_all": (2, lambda f, xs: all(f(x) for x in xs)),
+    "find": (2, found_first), "position": (2, place_of), "position_or_len": (2, first_place),
+    "flat_map": (2, lambda f, xs: [y for x in xs for y in f(x)]), "reverse": (1, lambda xs: xs[::-1]),
+    "filter_map": (2, lambda f, xs: all_chosen([f(x) for x in xs])), "fold": (3, fold),
+    "is_some": (1, lambda x: x.name == "Some"), "is_none": (1, lambda x: x.name == "None"),
+    "option_map": (2, lambda f, x: some(f(x.arguments[0])) if x.name == "Some" else NONE),
+    "option_map_or": (3, lambda f, x, d: f(x.arguments[0]) if x.name == "Some" else d),
+    "option_and_then": (2, lambda f, x: f(x.arguments[0]) if x.name == "Some" else NONE),
+    "unwrap_or": (2, chosen), "codes": (1, lambda x: x), "suc": (1, lambda n: n + 1), "bit_at": (2, lambda n, i: n >> i & 1),
+    "decimal": (1, lambda n: in_digits(10, False, n)), "digits": (3, in_digits),
+    "little_number": (2, little), "little_bytes": (2, lambda n, x: [x >> (8 * i) & 255 for i in range(n)]),
+    "format_spec": (5, lambda fill, align, flags, width, precision: (fill, flags, width)), "padded_integral": (4, padded),
+    "zip": (2, lambda xs, ys: [(x, y) for x, y in zip(xs, ys)]), "digit_glyph": (2, lambda u, d: in_digits(16, u, d)[0]),
+}
+# What many rows come to again with the same values: computed once for each mutant.
+AGAIN = {("dsa_book", "Machine", "next"), ("dsa_book", "State", "opening")}
+VALUES = {"true": True, "false": False, "[]": [], "zero": 0, "tt": None, "⊤": True, "⊥": False, "Unit": True}
+# As many numbers are tried where something is said of all.
+MANY = 70
+
+
+def curried(arity, function, given=()):
+    """A function that takes its arguments one at a time."""
+    if arity == len(given):
+        return function(*given)
+    return lambda x: curried(arity, function, (*given, x))
+
+
+def applied(f, *arguments):
+    for it in arguments:
+        f = f(it)
+    return f
+
+
+class Computer:
+    """Modules whose definitions are computed. A mutant takes the place of one module for a while."""
+
+    def __init__(self, modules):
+        self.modules = modules
+        self.reached, self.values, self.known = set(), {}, {}
+        self.code = {}
+        for module in modules.values():
+            self.load(module, self.code)
+        self.basic = dict(self.code)
+
+    def load(self, module, code):
+        for it in module.definitions.values():
+            if it.kind in ("value", "record"):
+                code[(module.crate, module.name, it.name)] = Defined(self, module, it)
+
+    def replaced(self, module, only):
+        """Takes this module's definition of that name in place of the one that is there."""
+        self.code = dict(self.basic)
+        self.code[(module.crate, module.name, only)] = Defined(self, module, module.definitions[only])
+        self.forget()
+
+    def restore(self):
+        self.code = self.basic
+        self.forget()
+
+    def forget(self):
+        """Leaves what was computed."""
+        self.values, self.known = {}, {}
+
+    def once(self, key, function):
+        """A function that computes the same arguments once. They are kept, so that no others are taken for them."""
+
+        def known(*arguments):
+            place = (key, *map(id, arguments))
+            if place not in self.known:
+                self.known[place] = (arguments, function(*arguments))
+            return self.known[place][1]
+
+        return known
+
+    def value(self, key):
+        """What a name with no arguments means."""
+        if key not in self.values:
+            self.values[key] = self.code[key].function()
+        return self.values[key]
+
+    def resolve(self, module, name):
+        """What a name means in a module."""
+        if name in module.definitions and module.definitions[name].kind in ("value", "record"):
+            return "own", (module.crate, module.name, name)
+        if name in module.definitions:
+            raise Stuck(name)
+        for it in module.definitions.values():
+            if it.kind == "data" and any(label == name for label, *_ in it.fields):
+                return "made", name
+        for path in module.uses.get(name, []):
+            parts = path.split(".")
+            if "TheVariants" in parts[:-1] or parts[-1] in ("Some", "None", "Ok", "Err"):
+                return "made", parts[-1]
+            if parts[0] == "Rattle" and len(parts) == 5 and parts[2] == "specs":
+                key = (parts[1], parts[3], parts[4])
+                if key in self.code:
+                    return "own", key
+                other = self.modules.get((parts[1], parts[3]))
+                if other and any(
+                    it.kind == "data" and any(label == parts[4] for label, *_ in it.fields) for it in other.definitions.values()
+                ):
+                    return "made", parts[4]
+            if parts[-1] in VALUES:
+                return "value", parts[-1]
+            if parts[-1] in LIBRARY:
+                return "library", parts[-1]
+        if name in VALUES:
+            return "value", name
+        raise Stuck(f"{name} in {module.crate}.{module.name}")
+
+
+class Defined:
+    """A definition as a function, made when it is first used."""
+
+    def __init__(self, computer, module, definition):
+        self.computer, self.module, self.definition = computer, module, definition
+        self.key = (module.crate, module.name, definition.name)
+        self.arity = len(definition.clauses[0].patterns) if definition.clauses else None
+        if definition.kind == "record":
+            self.arity = len(definition.parameters)
+        self.made = None
+
+    @property
+    def function(self):
+        if self.made is None:
+            self.made = self.make()
+        self.computer.reached.add(self.key)
+        return self.made
+
+    def make(self):
+        if self.arity is None:
+            raise Stuck(self.definition.name)
+        writer = Writer(self.computer, self.module)
+        if self.definition.kind == "record":
+            return self.holds(writer)
+        names = [f"a{i}" for i in range(self.arity)]
+        lines = [f"def it({', '.join(names)}):"]
+        for clause in self.definition.clauses:
+            tests, local = [], {}
+            for name, pattern in zip(names, clause.patterns):
+                writer.pattern(pattern, name, tests, local)
+            body = writer.term(clause.body, local)
+            lines.append(f"    if {' and '.join(tests) or 'True'}: return {body}")
+        lines.append("    raise Stuck('no clause')")
+        space = {
+            "Stuck": Stuck, "Made": Made, "C": self.computer, "L": LIBRARY, "V": VALUES, "curried": curried,
+            "applied": applied, "same": same, "field": field_of, "record": dict,
+        }
+        exec("\n".join(lines), space)
+        return self.computer.once(self.key, space["it"]) if self.key in AGAIN else space["it"]
+
+
+    def holds(self, writer):
+        """Of a record whose fields say something: whether all of it holds."""
+        names = [f"a{i}" for i in range(self.arity)]
+        local = dict(zip(self.definition.parameters, names))
+        parts = [writer.term(node, local) for _, node, *_ in self.definition.fields]
+        space = {
+            "Stuck": Stuck, "Made": Made, "C": self.computer, "L": LIBRARY, "V": VALUES, "curried": curried,
+            "applied": applied, "same": same, "field": field_of,
+        }
+        return eval(f"lambda {', '.join(names)}: {' and '.join(parts) or 'True'}", space)
+
+
+def field_of(x, name):
+    if isinstance(x, dict):
+        return x[name]
+    if isinstance(x, tuple):
+        return x[int(name)]
+    raise Stuck(f"{name} of {x!r}")
+
+
+class Writer:
+    """Writes terms as Python."""
+
+    def __init__(self, computer, module):
+        self.computer, self.module, self.count = computer, module, 0
+
+    def pattern(self, node, place, tests, local):
+        if node.kind == "brackets":
+            self.pattern(node.parts[0], place, tests, local)
+        elif node.kind == "tuple":
+            for i, part in enumerate(node.parts):
+                self.pattern(part, f"{place}[{i}]", tests, local)
+        elif node.kind == "operator" and node.value[0] == "∷":
+            tests.append(f"{place} != []")
+            self.pattern(node.parts[0], f"{place}[0]", tests, local)
+            self.pattern(node.parts[1], f"{place}[1:]", tests, local)
+        elif node.kind == "name":
+            self.named(node.value, [], place, tests, local)
+        elif node.kind == "apply" and node.parts[0].kind in ("name", "field"):
+            self.named(node.parts[0].value, node.parts[1:], place, tests, local)
+        elif node.kind == "field":
+            self.constructor(node.value[0], [], place, tests, local)
+        else:
+            raise Stuck(node.kind)
+
+    def named(self, name, arguments, place, tests, local):
+        if isinstance(name, tuple):
+            return self.constructor(name[0], arguments, place, tests, local)
+        if name == "_":
+            return None
+        if name == "suc":
+            tests.append(f"{place} > 0")
+            return self.pattern(arguments[0], f"({place} - 1)", tests, local)
+        if name in VALUES:
+            tests.append(f"{place} == V[{name!r}]")
+            return None
+        try:
+            kind, _ = self.computer.resolve(self.module, name)
+        except Stuck:
+            kind = None
+        if kind == "made":
+            return self.constructor(name, arguments, place, tests, local)
+        if arguments:
+            raise Stuck(name)
+        local[name] = place
+        return None
+
+    def constructor(self, name, arguments, place, tests, local):
+        name = next((p.split(".")[-1] for p in self.module.uses.get(name, []) if "TheVariants." in p), name)
+        tests.append(f"{place}.name == {name!r}")
+        for i, part in enumerate(arguments):
+            self.pattern(part, f"{place}.arguments[{i}]", tests, local)
+
+    def term(self, node, local):
+        if not hasattr(self, f"of_{node.kind}"):
+            raise Stuck(node.kind)
+        return getattr(self, f"of_{node.kind}")(node, local)
+
+    def of_number(self, node, local):
+        return str(node.value)
+
+    def of_text(self, node, local):
+        text = node.value[1:-1].encode().decode("unicode_escape") if "\\" in node.value else node.value[1:-1]
+        return repr(list(text.encode("utf-8")))
+
+    def of_brackets(self, node, local):
+        return self.term(node.parts[0], local)
+
+    def of_tuple(self, node, local):
+        return "(" + "".join(self.term(it, local) + ", " for it in node.parts) + ")"
+
+    def of_if(self, node, local):
+        test, yes, no = (self.term(it, local) for it in node.parts)
+        return f"({yes} if {test} else {no})"
+
+    def of_let(self, node, local):
+        self.count += 1
+        name = f"x{self.count}"
+        value = self.term(node.parts[0], local)
+        return f"(lambda {name}: {self.term(node.parts[1], {**local, node.value: name})})({value})"
+
+    def of_function(self, node, local):
+        names = {}
+        for it in node.value:
+            self.count += 1
+            names[it] = f"x{self.count}"
+        body = self.term(node.parts[0], {**local, **{k: v for k, v in names.items() if k != "_"}})
+        return "(" + "".join(f"lambda {it}: " for it in names.values()) + body + ")"
+
+    def of_record(self, node, local):
+        base = len(node.parts) > len(node.value)
+        parts = [self.term(it, local) for it in node.parts]
+        values = ", ".join(f"{name[0]!r}: {it}" for name, it in zip(node.value, parts[base:]))
+        return f"{{**{parts[0]}, {values}}}" if base else f"{{{values}}}"
+
+    def of_field(self, node, local):
+        inner = node.parts[0]
+        if inner.kind == "name" and inner.value not in local:
+            paths = self.module.uses.get(inner.value, [])
+            if any(path.endswith("TheVariants") for path in paths):
+                return f"Made({node.value[0]!r})"
+        return f"field({self.term(inner, local)}, {node.value[0]!r})"
+
+    def of_operator(self, node, local):
+        word = node.value[0]
+        left, right = (self.term(it, local) for it in node.parts)
+        if word == "∷":
+            return f"([{left}] + {right})"
+        if word == "→":
+            return f"(not {left} or {right})"
+        simple = {"&&": "and", "||": "or", "×": "and", "⊎": "or", "++": "+", "+": "+", "*": "*", "^": "**", "≤": "<=", "<": "<"}
+        if word in simple:
+            return f"({left} {simple[word]} {right})"
+        if word == "==" or word == "≡":
+            return f"same({left}, {right})"
+        if word == "≢":
+            return f"(not same({left}, {right}))"
+        if word == "-":
+            return f"max(0, {left} - {right})"
+        if word in "/%":
+            return f"(lambda a, b: (a {'//' if word == '/' else '%'} b) if b else {'0' if word == '/' else 'a'})({left}, {right})"
+        raise Stuck(word)
+
+    def of_binder(self, node, local):
+        """Of all numbers: those up to a bound that no row comes to."""
+        names, _ = node.value
+        if node.parts[0].kind != "name" or node.parts[0].value != "ℕ":
+            raise Stuck("all values of a type")
+        inner = dict(local)
+        for it in names:
+            self.count += 1
+            inner[it] = f"x{self.count}"
+        loops = " ".join(f"for {inner[it]} in range({MANY})" for it in names)
+        return f"all({self.term(node.parts[1], inner)} {loops})"
+
+    def of_name(self, node, local):
+        return self.called(node.value, [], local)
+
+    def of_apply(self, node, local):
+        head, arguments = node.parts[0], node.parts[1:]
+        if head.kind == "name" and head.value not in local:
+            return self.called(head.value, arguments, local)
+        return f"applied({', '.join(self.term(it, local) for it in node.parts)})"
+
+    def called(self, name, arguments, local):
+        if name == "¬" and name not in local:
+            inner = arguments[0]
+            if len(arguments) > 1:
+                inner = Node("apply", inner.start, arguments[-1].end, None, arguments)
+            return f"(not {self.term(inner, local)})"
+        given = [self.term(it, local) for it in arguments]
+        if name in local:
+            return f"applied({', '.join([local[name], *given])})" if given else local[name]
+        if name == "cond" and len(given) >= 3:
+            chosen = f"({given[1]} if {given[0]} else {given[2]})"
+            return f"applied({', '.join([chosen, *given[3:]])})" if given[3:] else chosen
+        if name.startswith("◌") and len(given) == 2:
+            raise Stuck(name)
+        kind, key = self.computer.resolve(self.module, name)
+        if kind == "value":
+            return f"V[{key!r}]"
+        if kind == "made":
+            return f"Made({key!r}, ({''.join(it + ', ' for it in given)}))"
+        if kind == "library":
+            arity, function = LIBRARY[key][0], f"L[{key!r}][1]"
+        else:
+            arity, function = self.computer.code[key].arity, f"C.code[{key!r}].function"
+            if arity is None:
+                raise Stuck(name)
+            if arity == 0:
+                whole = f"C.value({key!r})"
+                return f"applied({', '.join([whole, *given])})" if given else whole
+        if len(given) == arity:
+            return f"{function}({', '.join(given)})"
+        if len(given) > arity:
+            return f"applied({function}({', '.join(given[:arity])}), {', '.join(given[arity:])})"
+        return f"applied(curried({arity}, {function}), {', '.join(given)})" if given else f"curried({arity}, {function})"
+
+
+class Uses:
+    """The names that a module of rows uses, as a module of definitions."""
+
+    def __init__(self, lines):
+        self.crate, self.name, self.uses, self.definitions = "", "", {}, {}
+        for line in lines:
+            for name, path in names_used(line):
+                self.uses.setdefault(name, []).append(path)
+
+
+def computed(computer, uses, text):
+    """Whether the clause of a row holds, as it computes."""
+    writer = Writer(computer, uses)
+    code = writer.term(term_of(text), {})
+    space = {
+        "Stuck": Stuck, "Made": Made, "C": computer, "L": LIBRARY, "V": VALUES, "curried": curried, "applied": applied,
+        "same": same, "field": field_of,
+    }
+    return compile(code, "row", "eval"), space
