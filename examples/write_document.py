@@ -7,14 +7,11 @@ checked here; what else is wrong with a document is told by the program that run
 """
 
 import json
+import os
+import sys
 
-# by their codes, from 0 on
-OPERATIONS = ["no-op", "batch", "drain", "memory move", "fill", "compare"]
-
-# by their numbers, from 1 on
-COMMANDS = ["enable device", "disable device", "drain all", "abort all", "reset device"]
-COMMANDS += ["enable wq", "disable wq", "drain wq", "abort wq", "reset wq"]
-COMMANDS += ["drain pasid", "abort pasid"]
+sys.path.insert(0, os.path.join(os.path.dirname(os.path.abspath(__file__)), "..", "python"))
+from dsa_model import Command, Operation  # needs no library: only the numbers are used here
 
 
 def bits(numbers):
@@ -34,19 +31,19 @@ def word(name, operand=0, interrupt=False):
     """The command word: operand in bits 19:0, number in bits 24:20, interrupt request in bit 31."""
     if not 0 <= operand < 1 << 20:
         raise ValueError("an operand has 20 bits")
-    number = COMMANDS.index(name.lower()) + 1
+    number = Command[name.upper().replace(" ", "_")]
     return interrupt << 31 | number << 20 | operand
 
 
 def descriptor(operation, size=0, flags=0):
     """The text of the first 36 bytes; all others are zero, and so is the PASID."""
-    code = OPERATIONS.index(operation.lower()).to_bytes(1, "little")
+    code = Operation[operation.upper()].to_bytes(1, "little")
     head = bytes(4) + flags.to_bytes(3, "little") + code
     return (head + bytes(24) + size.to_bytes(4, "little")).hex()
 
 
 def move(size, fence=False):
-    return descriptor("memory move", size, int(fence))
+    return descriptor("memmove", size, int(fence))
 
 
 class Document:

@@ -84,7 +84,7 @@ struct dsa_limits {
 enum dsa_portal { DSA_LIMITED = 0, DSA_UNLIMITED = 1 };
 enum dsa_outcome { DSA_SUCCESS = 0, DSA_PAGE_FAULT = 1 };
 
-/* The word of a command, to be written by dsa_command: its number, 1 to 12, and an operand of 20 bits. */
+/* The word of a command, to be written by dsa_command: its number and an operand of 20 bits. */
 #define DSA_COMMAND(number, operand) (((uint32_t)(number) << 20) | ((uint32_t)(operand) & 0xfffffu))
 enum dsa_command_number {
 	DSA_ENABLE_DEVICE = 1, DSA_DISABLE_DEVICE, DSA_DRAIN_ALL, DSA_ABORT_ALL, DSA_RESET_DEVICE,

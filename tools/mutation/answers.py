@@ -2,10 +2,12 @@
 from __future__ import annotations
 
 import re
-from typing import List, Optional, Set, Tuple
+from typing import TYPE_CHECKING, List, Optional, Set, Tuple
 
-from .mutant import Mutant
 from .source import declared_in
+
+if TYPE_CHECKING:
+    from .mutant import Mutant
 
 # The searches that the checker tries first on a goal without an answer, in turn. It goes on with
 # more lemmas and more steps.
@@ -52,17 +54,27 @@ def answers_without(text: str, goals: Set[str]) -> str:
     return only_for(text, declared_in(text) - goals)
 
 
-def only_for(text: str, goals: Set[str]) -> str:
-    """What these answers need, and they themselves."""
+def resting_on(text: str, goals: Set[str]) -> Set[str]:
+    """The other answers that use one of these, or use what does."""
+    return {it for it in declared_in(text) - goals if goals & needed_by(text, {it})}
+
+
+def needed_by(text: str, goals: Set[str]) -> Set[str]:
+    """The names of these answers, and of all that they need of this text."""
     items = items_of(text)
-    names = {name_of(it) for it in items}
-    needed: Set[Optional[str]] = {*goals}
-    left: Set[Optional[str]] = {*goals}
+    names = {it for it in map(name_of, items) if it}
+    needed, left = {*goals}, {*goals}
     while left:
         said = "".join(it for it in items if name_of(it) in left)
         words = {*re.findall(r"[^\s()\[\]{},.]+", said)}
         left = {it for it in names if it in words and it not in needed}
         needed |= left
+    return needed
+
+
+def only_for(text: str, goals: Set[str]) -> str:
+    """What these answers need, and they themselves."""
+    items, needed = items_of(text), needed_by(text, goals)
     said = "".join(it for it in items if name_of(it) in needed)
     words = {*re.findall(r"[^\s()\[\]{},.]+", said)}
 

@@ -36,8 +36,9 @@ options:
                       are proved then, so that a refusal comes from the change. For 'new goal' all
                       goals are asked for
   --sample SEED       of a tenth of the mutants ask for all goals, and show that their functions are
-                      proved unchanged, as --whole and --baseline do. SEED is a whole number. Ten in
-                      a row choose each mutant once
+                      proved unchanged, as --whole and --baseline do. A refusal by an answer by hand
+                      is tried again without that answer. SEED is a whole number. Ten in a row
+                      choose each mutant once
   --libraries FOLDER  use the libraries that 'rt ci' has built in FOLDER, a copy of the repository.
                       By default they are built here, where they have changed
   --while LOG         'rt ci' is still at work in FOLDER and writes to LOG: try a crate's mutants

@@ -6,9 +6,10 @@ import pathlib
 from dataclasses import dataclass
 from typing import Dict, List, Optional, Set
 
+from .answers import resting_on
 from .edit import BadMutant, Change, read_edit
 from .shape import Moves, is_same_code, moves_of
-from .source import FUNCTION, Source, Span, with_one_clause
+from .source import FUNCTION, Source, Span, declared_in, with_one_clause
 
 # The checker leaves the goals open that have no answer.
 NO_SEARCH = "#[tactic(none)]\n"
@@ -63,10 +64,11 @@ class Mutant:
         self.is_new_goal = edit.is_new_goal
         self.goal = None if self.needs_all_goals(options) else edit.goal
         self.moves = moves_of(edit.changes)
-        # The goals with an answer by hand, those of which it is left out, and those of which it
-        # names what the change takes away.
-        self.answers: Set[str] = set()
+        # The goals with an answer by hand, those of which it is left out, those of these whose
+        # answer only rests on another that is, and those of which it names what is gone.
+        self.proof = ""
         self.without: Set[str] = set()
+        self.resting: Set[str] = set()
         self.gone: Set[str] = set()
         self.copy: Optional[Copy] = None
         self.was_tried_in_vain = False
@@ -77,7 +79,8 @@ class Mutant:
         if len({*changed}) == 1 and known and is_named(next(iter(known)), edit.refuses):
             self.make_copy(source)
         if len(known) == 1:
-            self.answers = source.answers_of(next(iter(known)))
+            self.proof = source.answers_of(next(iter(known)))
+        self.answers = declared_in(self.proof)
         self.names = {it.rpartition("::")[2] for it in self.functions}
         self.changed = self.functions | known
         # What is in no function, as a constant, may change any.
@@ -130,6 +133,11 @@ class Mutant:
         self.goal = None
         if self.copy:
             self.copy.text = self.copy.text.partition("\n")[2]
+
+    def leave_out(self, goals: Set[str]) -> None:
+        """Leaves out the answers by hand to these goals, and those that rest on them."""
+        self.resting |= resting_on(self.proof, goals) - self.without - goals
+        self.without |= goals | self.resting
 
     def decides_alone(self) -> bool:
         """Whether its function alone has to refuse it: nothing else rests on that one's body, and

@@ -182,11 +182,11 @@ class Source:
         end = text.find(close, start.end()) + len(close)
         return Span(name, file, begin, end) if begin <= at <= end else None
 
-    def answers_of(self, function: str) -> Set[str]:
-        """The goals of this function that have an answer by hand."""
+    def answers_of(self, function: str) -> str:
+        """The answers by hand to goals of this function."""
         path = self.proofs.get(function)
         file = self.folder.joinpath("proofs", *(path or ()), "Answers.antt")
-        return declared_in(file.read_text(encoding="utf-8")) if path and file.is_file() else set()
+        return file.read_text(encoding="utf-8") if path and file.is_file() else ""
 
     def next_copy_of(self, function: str) -> str:
         """A name for one more copy of this function."""

@@ -222,13 +222,15 @@ class Trial:
         steps, the unchanged function has to be proved in as many."""
         case = self.cases[mutant]
         unfit = self.unfit_goals(mutant, finding)
-        is_firm = bool((finding.by_hand - unfit) | (finding.open_goals - mutant.gone))
+        is_firm = bool(
+            (finding.by_hand - unfit) | (finding.open_goals - mutant.gone - mutant.resting)
+        )
         if unfit and not is_firm:
             new = unfit & mutant.answers - mutant.without
             if not new:
                 return self.conclude(case, NAMES_GONE)
             mutant.gone |= finding.gone
-            mutant.without |= new
+            mutant.leave_out(new)
             return True
         case.refusal = "refused"
         if case.sampled:
@@ -244,7 +246,7 @@ class Trial:
     def add_control(self, case: Case) -> None:
         """Has the function tried without the change, as the mutant was tried last."""
         control = self.unchanged(case.path)
-        control.without = {*case.mutant.without}
+        control.leave_out(case.mutant.without)
         if control.goal and not case.mutant.goal:
             control.ask_all_goals()
         self.cases[control] = case
@@ -252,9 +254,10 @@ class Trial:
         self.left.append(control)
 
     def unfit_goals(self, mutant: Mutant, finding: Finding) -> Set[str]:
-        """The goals whose proof by hand may be refused for what it names."""
-        is_moved = mutant.moves is Moves.TAKES
-        if is_moved or mutant.is_sampled and mutant.moves is not Moves.NONE:
+        """The goals whose proof by hand may be refused for how it was written, and not for what it
+        says: it may name what is gone, or fit one way only to say the same. The latter is tried in
+        a sample."""
+        if mutant.moves is Moves.TAKES or mutant.is_sampled:
             return finding.gone | finding.by_hand & mutant.answers
         return finding.gone
 
@@ -270,7 +273,7 @@ class Trial:
         case = self.cases[mutant]
         if mutant.goal and mutant.goal in finding.gone and mutant.takes_answer_to_goal():
             mutant.gone.add(mutant.goal)
-            mutant.without.add(mutant.goal)
+            mutant.leave_out({mutant.goal})
         elif mutant.goal:
             mutant.ask_all_goals()
         elif is_single and Verdict.LIMIT in finding.verdicts:

@@ -1,8 +1,8 @@
 -- Numbers of held entries: what commands read from them, and what one entry less leaves.
 use Rattle.std.proofs.Common.{◌≡◌, ℕ, ◌+◌, ◌<◌, ◌≤◌, ◌==◌, Bool, true, false, not, cond, List, [], ◌∷◌, ◌++◌}
-use Rattle.std.proofs.Common.{take, length, get_or, set, length-append, zero, suc, refl, sym, ap, ◌∙◌, subst, arith}
-use Rattle.std.proofs.Common.{inl, inr, eq-eqb}
-use Rattle.std.proofs.lemmas.{Grind.{flat_map-append}, Bool.{cases_Bool, ltb-true, eqb-true}}
+use Rattle.std.proofs.Common.{take, length, get_or, set, length-append, zero, suc, refl, ap, ◌∙◌, subst, arith}
+use Rattle.std.proofs.Common.{inl, inr}
+use Rattle.std.proofs.lemmas.{Grind.{flat_map-append}, Bool.{cases_Bool}}
 use Rattle.std.proofs.lemmas.List.{get_or-set_same, set-set, append-nil, take_more}
 use Rattle.std.proofs.lemmas.List.Sums.{sum_by-cons, sum_by-append, count_by-le-length}
 use Rattle.std.specs.List.{count_by, list_any}
@@ -14,11 +14,11 @@ use Rattle.dsa_regs.specs.{Caps.{HasList, engine_of_list, list_number}}
 use Rattle.dsa_store.specs.declared.entry.{Cell.{Cell}, Entry.{Entry}}
 use Rattle.dsa_store.specs.Content.{HeldEntry, Content, chain, all_held, place_count, use_count, count_where}
 use Rattle.dsa_store.proofs.{Places.{count-append}, Lists.{uses-set}, Turns.{Seam, seam}}
-use Rattle.dsa_book.specs.{State.{Setup, has_queue, holds_any}, Commands.{is_in_scope, after_stop, after_enable, reset}}
+use Rattle.dsa_book.specs.{State.{Setup, holds_any}, Commands.{is_in_scope, after_stop, after_enable, reset}}
 use Rattle.dsa_queues.{specs.Queues.{Kept, IsCounted, held_of}, proofs.Counts.{counted-setup}}
 use Rattle.dsa_engines.specs.Engines.{EnginesState, IsInStep, MayRelease, engines_after_removal}
 use Rattle.dsa_engines.proofs.Leaving.{may-release, in_step-removed}
-use Rattle.dsa_admin.specs.Admin.{is_counting, names_queue, names_queues}
+use Rattle.dsa_admin.specs.Admin.{names_queue, names_queues}
 
 -- ---- numbers that are 0
 
@@ -47,60 +47,6 @@ pub names-scope : (scope : Scope) (e : Entry) → names_queues scope ≡ true
 names-scope Device e h = refl
 names-scope (Pasid pasid) e h = absurd cc
 names-scope _ e h = refl
-
--- all but a disable count
-pub counts-others : (deed : Deed) → (deed ≡ Disable → ⊥) → is_counting deed ≡ true
-counts-others Disable n = absurd (n refl)
-counts-others _ n = refl
-
-module _ (scope : Scope) (named : names_queues scope ≡ true) where
-  -- where an entry names a queue of the scope, one of the scope is held
-  named-some : (q : ℕ) → names_queue scope q ≡ true → (l : List HeldEntry)
-      → 0 < count_by (λ (s : HeldEntry). s.1.queue == q) l → list_any (λ (s : HeldEntry). is_in_scope scope s.1) l ≡ true
-  named-some q has [] h = absurd (omega (arith, h))
-  named-some q has (s ∷ l) h =
-      let one = sum_by-cons (λ (x : HeldEntry). cond (x.1.queue == q) 1 0) s l in
-      let inside = names-scope scope s.1 named in
-      elim (cases_Bool (s.1.queue == q)) [
-        | inl same ↦
-            let is : s.1.queue ≡ q = eqb-true s.1.queue q same in
-            let here : is_in_scope scope s.1 ≡ true = inside ∙ ap (names_queue scope) is ∙ has in
-            grind (arith, here)
-        | inr other ↦
-            let rest = named-some q has l (grind (arith, one, other, h)) in
-            grind (arith, rest)
-      ]
-
-  pub clear-not : (k : Kept) (content : Content) (q : ℕ) → q < k.setup.caps.queues → names_queue scope q ≡ true
-      → 0 < get_or k.held q 0 → IsCounted k content → holds_any (is_in_scope scope) content ≡ true
-  clear-not k content q below has some c =
-      named-some q has (all_held content) (omega (arith, some, number-held k content q below c))
-
-  -- where none of its queues is named, none of the scope is held
-  named-none : (setup : Setup) (l : List HeldEntry) → count_by (λ (s : HeldEntry). not (has_queue setup s.1.queue)) l ≡ 0
-      → ((q : ℕ) → q < setup.caps.queues → names_queue scope q ≡ true
-      → count_by (λ (s : HeldEntry). s.1.queue == q) l ≡ 0)
-      → list_any (λ (s : HeldEntry). is_in_scope scope s.1) l ≡ false
-  named-none setup [] there none = refl
-  named-none setup (s ∷ l) there none =
-      let known = sum_by-cons (λ (x : HeldEntry). cond (not (has_queue setup x.1.queue)) 1 0) s l in
-      let inside = names-scope scope s.1 named in
-      let has : has_queue setup s.1.queue ≡ true = grind (arith, known, there) in
-      let mine = none s.1.queue (ltb-true s.1.queue setup.caps.queues has) in
-      let one = sum_by-cons (λ (x : HeldEntry). cond (x.1.queue == s.1.queue) 1 0) s l in
-      let same = eq-eqb s.1.queue s.1.queue refl in
-      elim (cases_Bool (names_queue scope s.1.queue)) [
-        | inl hit ↦ let zero = mine hit in absurd (grind (arith, zero, one, same))
-        | inr miss ↦
-            let rest = named-none setup l (omega (arith, known, there)) (λ q h n.
-            omega (arith, none q h n, sum_by-cons (λ (x : HeldEntry). cond (x.1.queue == q) 1 0) s l)) in
-            grind (arith, inside, miss, rest)
-      ]
-
-  pub clear : (k : Kept) (content : Content) → ((q : ℕ) → q < k.setup.caps.queues → names_queue scope q ≡ true
-      → get_or k.held q 0 ≡ 0) → IsCounted k content → holds_any (is_in_scope scope) content ≡ false
-  clear k content none c = named-none k.setup (all_held content) c.named (λ q h n.
-      sym (number-held k content q h c) ∙ none q h n)
 
 -- ---- the first of what is left of a list
 

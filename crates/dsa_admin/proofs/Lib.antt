@@ -4,3 +4,4 @@ pub mod Commands
 pub mod Resizing
 pub mod Counting
 mod Naming
+pub mod Refusing

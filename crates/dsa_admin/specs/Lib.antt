@@ -1,2 +1,3 @@
 pub mod Admin
+pub mod Command
 pub mod Worked

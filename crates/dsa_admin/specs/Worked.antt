@@ -1,6 +1,6 @@
 -- A few entries that are held, and commands that wait for them.
-use Rattle.std.specs.Prelude.{ℕ, Bool, false, List, [], ◌∷◌, map, Option, None, Some}
-use Rattle.dsa_regs.specs.declared.{Command.{Command, TheVariants.{DisableWq, DrainWq, DrainPasid}}}
+use Rattle.std.specs.Prelude.{ℕ, false, List, [], ◌∷◌, map, Option, None, Some}
+use Rattle.dsa_regs.specs.declared.{Command.{TheVariants.{DisableWq, DrainWq, DrainPasid}}}
 use Rattle.dsa_store.specs.{declared.entry.Entry.{Entry}, Content.{HeldEntry, Content}}
 use Rattle.dsa_book.specs.declared.note.ActiveCommand.{ActiveCommand}
 

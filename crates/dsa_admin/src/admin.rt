@@ -9,19 +9,21 @@ ghost use Rattle.dsa_regs.specs.Caps.{check_caps};
 ghost use Rattle.dsa_regs.specs.declared.Deed.TheVariants.{Enable};
 ghost use Rattle.dsa_regs.specs.Command.{scope_of, deed_of};
 ghost use Rattle.dsa_book.specs.State.{State};
-ghost use Rattle.dsa_book.specs.Commands.{issue, poll, refusal_or, command_done_of, wait_of, after_stop, after_enable, may_come};
+ghost use Rattle.dsa_book.specs.Commands.{issue, poll, command_done_of, wait_of, after_stop, after_enable, may_come};
 ghost use Rattle.dsa_engines.specs.Engines.{EnginesState, IsInStep};
 ghost use Rattle.dsa_queues.specs.Queues.{IsCounted};
 ghost use Rattle.dsa_admin.specs.Admin.{IsAwaiting, IsUnrefused, is_awaited_by, is_counted_by, is_waited_for, state};
+ghost use Rattle.dsa_admin.specs.Command.{issue_reason, poll_reason};
 
 use crate::abort::{abort_alone, reset};
 use crate::ends::{count_awaited, count_watched, is_at_end};
-use crate::refusals::{check, is_bad_queues, may_come};
+use crate::refusals::{found_by_check, phase_reason, queue_reason};
 use crate::scope::{is_waited_for, is_watched};
+use crate::{IssueReason, PollReason};
 use dsa_book::{ActiveCommand, Book, IssueAnswer, PollAnswer};
 use dsa_engines::Engines;
 use dsa_queues::Queues;
-use dsa_regs::{Command, Deed, Fault, Phase, Scope};
+use dsa_regs::{Command, Deed, Phase, Scope};
 use dsa_store::{Entry, EntryStore};
 use std::marker::Model;
 
@@ -127,28 +129,34 @@ impl Admin {
         }
     }
 
-    // The first refusal that stands.
-    fn refusal(&self, queues: &Queues, command: &Command) -> Option<Fault>
-        ensures refused { (s : State)
+    /// Why the command would be refused: the first reason that holds. `None` exactly where it would
+    /// be carried out.
+    pub fn why_issue(&self, queues: &Queues, command: &Command) -> Option<IssueReason>
+        ensures reason { (s : State)
             → s.active ≡ self.now.active
             → s.work.setup ≡ queues.now.setup
-            → issue s command.now ≡ refusal_or s result (command_done_of s command.now) }
+            → IsCounted queues.now s.work.content
+            → IsAwaiting self.now queues.now.setup.next_name s.work.content
+            → result ≡ issue_reason s command.now }
         ensures idle { result ≡ None → self.now.active ≡ None }
         ensures unrefused { result ≡ None
             → IsUnrefused queues.now.setup (deed_of command.now) (scope_of command.now) }
     {
-        if self.active.is_some() {
-            return Some(Fault::Busy);
+        if let Some(active) = self.active {
+            return Some(IssueReason::Busy {
+                active: active.command,
+                awaited: count_awaited(queues, &active, self.awaited),
+            });
         }
-        let deed = command.deed();
-        let scope = command.scope();
-        if is_bad_queues(queues, &scope) {
-            return Some(Fault::BadQueue);
+        let (deed, scope) = (command.deed(), command.scope());
+        if let Some(reason) = queue_reason(queues, &scope) {
+            return Some(reason);
         }
-        if !may_come(queues, deed, &scope) {
-            return Some(Fault::WrongState);
+        if let Some(reason) = phase_reason(queues, deed, &scope) {
+            return Some(reason);
         }
-        check(queues, deed, &scope)
+        let reason = found_by_check(queues, deed, &scope)?;
+        Some(IssueReason::Check(reason))
     }
 
     // The command ends at once where nothing is to be waited for, else it is active from here on.
@@ -237,10 +245,8 @@ impl Admin {
 
     /// Issues a command.
     ///
-    /// The first refusal that stands answers it, and then nothing changes: `Busy` while another
-    /// command is active, `BadQueue` where it names no queue or one that the device does not have,
-    /// `WrongState` where the device or the queues do not stand as it needs, then the fault of the
-    /// check of Enable Device or Enable WQ. The order is this model's own.
+    /// Where there is a reason ([`Admin::why_issue`]), its fault answers the command, and nothing
+    /// changes.
     ///
     /// Enables, aborts and resets are over at once, and so is a drain or a disable that nothing is
     /// held for; `Ended` gives the number of aborted entries, each of which has a new row in the
@@ -277,16 +283,31 @@ impl Admin {
         ensures counted { IsCounted queues.new (S.content store.new) }
         ensures awaiting { IsAwaiting self.new queues.new.setup.next_name (S.content store.new) }
     {
-        if let Some(fault) = self.refusal(queues, &command) {
-            return IssueAnswer::Refused(fault);
+        if let Some(reason) = self.why_issue(queues, &command) {
+            return IssueAnswer::Refused(reason.fault());
         }
         self.carry_out(queues, engines, store, book, command)
     }
 
+    /// Why one who asks after the active command would not be told that it is over. `None` exactly
+    /// where that would be told. Looks at numbers that are kept, and at no list.
+    pub fn why_poll(&self, queues: &Queues) -> Option<PollReason>
+        ensures { (s : State)
+            → s.active ≡ self.now.active
+            → IsCounted queues.now s.work.content
+            → IsAwaiting self.now queues.now.setup.next_name s.work.content
+            → result ≡ poll_reason s }
+    {
+        match self.awaited(queues) {
+            None => Some(PollReason::Nothing),
+            Some(0) => None,
+            Some(awaited) => Some(PollReason::Waits { awaited }),
+        }
+    }
+
     /// Asks after the active command. It is over, and no more active, when nothing is held that it
     /// waits for: a drain waits for the entries of its scope that were submitted before it, a
-    /// disable for all of its scope. Looks at the number that is kept, or at those of the queues,
-    /// and at no list.
+    /// disable for all of its scope. Looks at no list.
     pub fn poll(&mut self, queues: &mut Queues) -> PollAnswer
         ensures polled { (engines_state : EnginesState) (content : Content) (fates : List FateRow)
             → IsCounted queues.old content
@@ -305,14 +326,12 @@ impl Admin {
             → IsAwaiting self.old queues.old.setup.next_name content
             → IsAwaiting self.new queues.new.setup.next_name content }
     {
-        let Some(active) = self.active else {
-            return PollAnswer::Nothing;
-        };
-        if !is_at_end(queues, &active, self.awaited) {
-            return PollAnswer::Active;
+        if let Some(reason) = self.why_poll(queues) {
+            return reason.answer();
         }
-        stop(queues, &active.command, Phase::Off);
-        self.active = None;
+        if let Some(active) = self.active.take() {
+            stop(queues, &active.command, Phase::Off);
+        }
         PollAnswer::Finished
     }
 

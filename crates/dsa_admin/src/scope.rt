@@ -22,7 +22,7 @@ pub fn is_in_scope(scope: &Scope, entry: &Entry) -> bool
 
 /// Whether the entry keeps the command from its end: for a disable any entry of its scope, for a
 /// drain those that were submitted before it.
-pub(crate) fn is_waited_for(active: &ActiveCommand, entry: &Entry) -> bool
+pub fn is_waited_for(active: &ActiveCommand, entry: &Entry) -> bool
     ensures { result ≡ is_waited_for active.now entry.now }
 {
     let is_meant = is_in_scope(&active.command.scope(), entry);

@@ -37,7 +37,7 @@ use Rattle.dsa_book.specs.Work.{note_at, batch_on, is_all_fetched, start_of, sta
 use Rattle.dsa_book.specs.Work.{first_waiting, member_list, progress_list, finish_of, running_on, must_wait, last_status, after_end}
 use Rattle.dsa_book.specs.Work.{after_abandon, with_running_entry}
 use Rattle.dsa_book.proofs.Nexts.{next-each}
-use Rattle.dsa_laws.proofs.{Contents.{In-chain, all_held-empty}, Effects.{stopped-keeps}}
+use Rattle.dsa_laws.proofs.{Contents.{In-chain, all_held-empty}, Effects.{stopped-keeps, reset-same}}
 use Rattle.dsa_answers.specs.Alike.{AskAlike, HeldAsGiven, given_after, ticket_named, IsTicketIn}
 use Rattle.dsa_answers.proofs.Named.{In-members}
 
@@ -278,10 +278,6 @@ enabled-name Device setup = refl
 enabled-name (Queue q) setup = refl
 enabled-name _ setup = refl
 
-reset-name : (scope : Scope) (setup : Setup) → (reset scope setup).next_name ≡ setup.next_name
-reset-name Device setup = refl
-reset-name _ setup = refl
-
 by-test : {X : Type 0} (P : X → Type 0) (b : Bool) (x y : X) → P x → P y → P (cond b x y)
 by-test P true x y p q = p
 by-test P false x y p q = q
@@ -308,7 +304,7 @@ deed-given given s command Enable scope h =
     set-given given s (after_enable scope s.work.setup) s.active h (enabled-name scope s.work.setup)
 deed-given given s command Abort scope h = abort-given given s (number_of_command command) scope (λ setup. setup) h refl
 deed-given given s command Reset scope h =
-    abort-given given s (number_of_command command) scope (reset scope) h (reset-name scope s.work.setup)
+    abort-given given s (number_of_command command) scope (reset scope) h (reset-same scope s.work.setup).1
 deed-given given s command _ scope h = wait-given given s command h
 
 refused-given : (given : List Ticket) (s : State) (o : Option Fault) (r : IssueAnswer × State) → HeldAsGiven given s

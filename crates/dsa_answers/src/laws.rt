@@ -1,8 +1,7 @@
 //! Laws of single steps, each on a function with nothing to do: what may be answered, and what is
 //! Stopping.
 
-ghost use Rattle.std.specs.Prelude.{◌≡◌, ◌⊎◌, ◌↔◌, ℕ, ◌<◌, ◌≤◌, [], ◌∷◌, ◌++◌, List, slice_set, None, true, false, IsTrue, option_and_then};
-ghost use Rattle.dsa_desc.specs.declared.Descriptor.{Descriptor};
+ghost use Rattle.std.specs.Prelude.{◌≡◌, ◌⊎◌, ℕ, ◌<◌, [], ◌∷◌, ◌++◌, List, slice_set, None, true, false, option_and_then};
 ghost use Rattle.dsa_desc.specs.declared.Outcome.{Outcome};
 ghost use Rattle.dsa_regs.specs.declared.Caps.{Caps};
 ghost use Rattle.dsa_regs.specs.declared.Phase.TheVariants.{Off};
@@ -14,20 +13,15 @@ ghost use Rattle.dsa_book.specs.declared.event.Event.TheVariants as event;
 ghost use Rattle.dsa_book.specs.declared.event.Event.TheVariants.{WriteQueue, WriteGroup};
 ghost use Rattle.dsa_book.specs.declared.answer.WriteAnswer.TheVariants.{Written};
 ghost use Rattle.dsa_book.specs.declared.answer.Reply.TheVariants.{Write};
-ghost use Rattle.dsa_book.specs.declared.event.Kind.TheVariants as kind;
-ghost use Rattle.dsa_book.specs.declared.event.Portal.{Portal};
 ghost use Rattle.dsa_book.specs.declared.event.Step.{Step};
-ghost use Rattle.dsa_book.specs.declared.answer.Cause.{Cause};
-ghost use Rattle.dsa_book.specs.declared.answer.SubmitAnswer.{SubmitAnswer};
 ghost use Rattle.dsa_book.specs.declared.answer.Ticket.{Ticket};
 ghost use Rattle.dsa_book.specs.declared.answer.DispatchAnswer.TheVariants.{Taken, Idle};
 ghost use Rattle.dsa_book.specs.declared.answer.Reply.{Reply};
 ghost use Rattle.dsa_book.specs.declared.answer.Reply.TheVariants as reply;
 ghost use Rattle.dsa_book.specs.Same.{same_reply};
 ghost use Rattle.dsa_book.specs.Choice.{choice_of};
-ghost use Rattle.dsa_book.specs.State.{State, opening, is_on, occupancy, phase_at};
+ghost use Rattle.dsa_book.specs.State.{State, opening, phase_at};
 ghost use Rattle.dsa_book.specs.Machine.{next, replay, LeadsTo, Reaches};
-ghost use Rattle.dsa_book.specs.Submit.{limit_of};
 ghost use Rattle.dsa_book.specs.Work.{qualifies};
 ghost use Rattle.dsa_answers.specs.Choices.{AreAlike};
 ghost use Rattle.dsa_answers.specs.Alike.{AreStatesAlike, AskAlike, TakeAlike, without_cell};
@@ -40,20 +34,6 @@ pub fn histories_grow_at_the_end()
     ensures { (caps : Caps) (history : List Step) (step : Step)
         → replay caps (history ++ step ∷ [])
         ≡ option_and_then (λ s. next s step.event step.reply) (replay caps history) }
-{}
-
-/// By ENQCMD a shared queue that is On answers Retry for want of room exactly where it holds as
-/// many entries as the portal's limit.
-pub fn retries_come_at_the_limit()
-    ensures { (s s' : State) (client queue pasid : ℕ) (portal : Portal) (desc : Descriptor)
-        (answer : SubmitAnswer)
-        → IsTrue (is_on (phase_at s.work.setup queue))
-        → (queue_at s.work.setup.configs queue).dedicated ≡ false
-        → LeadsTo s (event.Submit client queue portal (kind.Enqcmd pasid) desc)
-        (reply.Submit answer) s'
-        → (answer ≡ SubmitAnswer.Retry Cause.AtLimit)
-        ↔ (limit_of (queue_at s.work.setup.configs queue) portal
-        ≤ occupancy s.work.content queue) }
 {}
 
 /// Replies that pass for the same are equal, and each reply passes for itself.

@@ -5,7 +5,7 @@ use Rattle.dsa_desc.specs.contracts.OutcomePartialEq.TheImpl as outcome_eq
 use Rattle.dsa_regs.specs.contracts.QueueConfigPartialEq.TheImpl as queue_config_eq
 use Rattle.dsa_regs.specs.contracts.GroupConfigPartialEq.TheImpl as group_config_eq
 use Rattle.dsa_regs.specs.contracts.QueueMaskPartialEq.TheImpl as queue_mask_eq
-use Rattle.dsa_regs.specs.declared.Command.TheVariants as command
+use Rattle.dsa_regs.specs.contracts.Command as command
 use Rattle.dsa_regs.specs.contracts.CommandPartialEq.TheImpl as command_eq
 use Rattle.dsa_regs.specs.declared.Fault.TheVariants as fault
 use Rattle.dsa_regs.specs.contracts.FaultPartialEq.TheImpl as fault_eq
@@ -25,6 +25,7 @@ use Rattle.dsa_regs.specs.declared.{QueueConfig.{QueueConfig}, GroupConfig.{Grou
 use Rattle.dsa_regs.specs.{declared.{Command.{Command}, Fault.{Fault}}, Fault.{same_fault}}
 use Rattle.dsa_store.specs.declared.entry.Cell.{Cell}
 use Rattle.dsa_book.specs.declared.answer.{Ticket.{Ticket}, Cause.{Cause}, NotedError.{NotedError}}
+use Rattle.dsa_book.proofs.Derived.{same-enum}
 use Rattle.dsa_book.specs.{declared.event.{Portal.{Portal}, Kind.{Kind}}, Same.{same_ticket, same_cause, same_noted}}
 
 -- what cannot be
@@ -87,20 +88,19 @@ same-queue_mask a b h =
     let p = field same-number a.group b.group _ h in
     λ i. record { group = p.0 i; mask = same-number a.mask b.mask p.1 i }
 
+-- the same where a variant has one field
+one : {T : Type 0} {eq : T → T → Bool} → ((a b : T) → eq a b ≡ true → a ≡ b) → (x y : T × Unit {0})
+    → eq x.0 y.0 ≡ true → x ≡ y
+one same x y h = λ i. (same x.0 y.0 h i, record {})
+
+one-number : (x y : ℕ × Unit {0}) → (x.0 == y.0) ≡ true → x ≡ y
+one-number = one same-number
+
+one-queue_mask : (x y : QueueMask × Unit {0}) → queue_mask_eq.eq-value.it x.0 y.0 ≡ true → x ≡ y
+one-queue_mask = one same-queue_mask
+
 pub same-command : (a b : Command) → command_eq.eq-value.it a b ≡ true → a ≡ b
-same-command command.EnableDevice command.EnableDevice h = refl
-same-command command.DisableDevice command.DisableDevice h = refl
-same-command command.DrainAll command.DrainAll h = refl
-same-command command.AbortAll command.AbortAll h = refl
-same-command command.ResetDevice command.ResetDevice h = refl
-same-command (command.EnableWq x0) (command.EnableWq y0) h = ap command.EnableWq (same-number x0 y0 h)
-same-command (command.DisableWq x0) (command.DisableWq y0) h = ap command.DisableWq (same-queue_mask x0 y0 h)
-same-command (command.DrainWq x0) (command.DrainWq y0) h = ap command.DrainWq (same-queue_mask x0 y0 h)
-same-command (command.AbortWq x0) (command.AbortWq y0) h = ap command.AbortWq (same-queue_mask x0 y0 h)
-same-command (command.ResetWq x0) (command.ResetWq y0) h = ap command.ResetWq (same-queue_mask x0 y0 h)
-same-command (command.DrainPasid x0) (command.DrainPasid y0) h = ap command.DrainPasid (same-number x0 y0 h)
-same-command (command.AbortPasid x0) (command.AbortPasid y0) h = ap command.AbortPasid (same-number x0 y0 h)
-same-command _ _ h = never h
+same-command a b h = same-enum command.enum _ a b h (search (one-number, one-queue_mask))
 
 pub same-cell : (a b : Cell) → cell_eq.eq-value.it a b ≡ true → a ≡ b
 same-cell a b h = λ i. record { 0 = same-number a.0 b.0 h i }

@@ -1,3 +1,4 @@
+pub mod Derived
 pub mod EqualParts
 pub mod EqualReplies
 pub mod EqualSteps

@@ -91,10 +91,9 @@ limits_then bytes caps capacity actions document true fits true beyond =
     rw (fits, beyond) (record {
       caps = caps;
       capacity = capacity;
-      actions = actions;
-      document = document;
-      good = fits;
-      large = beyond_of (2 ^ 20) capacity beyond;
+      steps = document.steps;
+      head = document.head;
+      bad = ((actions, document.asked), (fits, beyond_of (2 ^ 20) capacity beyond));
     })
 limits_then bytes caps capacity actions document true fits false within =
     rw (fits, within) (record {
@@ -102,11 +101,16 @@ limits_then bytes caps capacity actions document true fits false within =
       capacity = capacity;
       actions = actions;
       document = document;
-      good = fits;
-      small = within_of (2 ^ 20) capacity within;
+      opening = record { good = fits; small = within_of (2 ^ 20) capacity within };
     })
 limits_then bytes caps capacity actions document false fits large e =
-    rw fits (record { caps = caps; capacity = capacity; actions = actions; document = document; bad = fits })
+    rw fits (record {
+      caps = caps;
+      capacity = capacity;
+      steps = document.steps;
+      head = document.head;
+      bad = ((actions, document.asked), fits);
+    })
 
 abbrev head_by : Option Caps → Option ℕ → Option Items → Option (Caps × ℕ × Items)
 head_by a b c = do

@@ -1,5 +1,5 @@
 -- All faults of a document, in the order in which a run would tell each where no other came before it.
-use Rattle.std.specs.Prelude.{◌≡◌, ◌⊎◌, ◌≤◌, ℕ, suc, ◌^◌, true, cond, nat_lt, List, [], ◌∷◌, ◌++◌, map, codes}
+use Rattle.std.specs.Prelude.{◌≡◌, ◌⊎◌, ℕ, suc, ◌^◌, cond, nat_lt, List, [], ◌∷◌, ◌++◌, map, codes}
 use Rattle.std.specs.Prelude.{Option, Some, None, option_and_then}
 use Rattle.serde_json.specs.{Data.{Data, Items}, Find.{get, as_array}}
 use Rattle.dsa_regs.specs.{declared.Caps.{Caps}, Caps.{check_caps}}
@@ -7,7 +7,7 @@ use Rattle.dsa_scenario.specs.declared.actions.Action.{Action}
 use Rattle.dsa_scenario.specs.declared.faults.ScenarioFault.{ScenarioFault, TheVariants.{NotJson, BadDocument, BadStep}}
 use Rattle.dsa_scenario.specs.declared.faults.ScenarioFault.TheVariants.{BadCaps, BadCapacity}
 use Rattle.dsa_scenario.specs.{Fields.{whole_of}, Actions.{caps_of, action_of}}
-use Rattle.dsa_scenario.specs.Document.{head_of, list_of_items, IsJson, IsNoJson, IsDocument, IsFaultOf}
+use Rattle.dsa_scenario.specs.Document.{head_of, list_of_items, IsJson, IsNoJson, IsDocument, IsOpenable, IsFaultOf}
 use Rattle.dsa_check.specs.declared.finding.Finding.{Finding}
 
 -- ---- the parts of a document
@@ -76,8 +76,7 @@ pub record IsRight (bytes : List ℕ) : Type 0 where
   pub capacity : ℕ
   pub actions : List Action
   pub document : IsDocument bytes caps capacity actions
-  pub good : check_caps caps ≡ true
-  pub small : capacity ≤ 2 ^ 20
+  pub opening : IsOpenable caps capacity
 
 -- where no fault is told the document has none, and else the first is the one that a run tells
 abbrev pub IsJudged : List ℕ → List ScenarioFault → Type 0

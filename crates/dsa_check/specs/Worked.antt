@@ -1,7 +1,10 @@
 -- A document and keys that the worked rows speak of.
-use Rattle.std.specs.Prelude.{ℕ, List, [], ◌∷◌, map, filter, codes, Option, option_map}
+use Rattle.std.specs.Prelude.{ℕ, true, false, List, [], ◌∷◌, map, filter, codes, Option, None, option_map}
 use Rattle.serde_json.specs.Data.{Data}
 use Rattle.dsa_scenario.specs.Worked.{Fields, whole, object_of, array_of_one, some_caps, poll_step}
+use Rattle.std.specs.declared.{alloc.Global.{Global}, vec.Vec.{Vec}}
+use Rattle.dsa_scenario.specs.declared.faults.ScenarioFault.TheVariants.{BadCapacity}
+use Rattle.dsa_check.specs.declared.{fields.Key.{Key}, finding.{Finding.{Finding}, Reason.{Reason}}}
 use Rattle.dsa_check.specs.{Reasons.{is_unfit}, Steps.{Row, rows_of_kind, kind_of}}
 
 abbrev pub right_document : Fields
@@ -18,3 +21,16 @@ unfit_keys d rows = map (λ row. row.0) (filter (is_unfit d) rows)
 abbrev pub unfit_keys_of : Fields → Option (List (List ℕ))
 unfit_keys_of fields = option_map (λ kind. unfit_keys (object_of fields) (rows_of_kind kind))
     (kind_of (object_of fields))
+
+-- a key of the caps of a document
+abbrev pub key_of_caps : Key
+key_of_caps = record { name = record { ref_ptr = (0, 0); now = codes "slots" }; in_caps = true }
+
+-- a key of a step
+abbrev pub key_of_a_step : Key
+key_of_a_step = record { name = record { ref_ptr = (0, 0); now = codes "desc" }; in_caps = false }
+
+-- a capacity that is too large, told at this line and this column
+abbrev pub found_at : Option ℕ → Option ℕ → Vec Reason Global → Finding
+found_at line column reasons =
+    record { fault = BadCapacity; place = record { line = line; column = column; kind = None }; reasons = reasons }

@@ -1,33 +1,33 @@
 //! The lines that are told of the faults of a document.
 
-ghost use Rattle.std.specs.Prelude.{◌≡◌, ◌++◌, IfOk, OnOk, codes, decimal, string_bytes, flat_map};
+ghost use Rattle.std.specs.Prelude.{◌≡◌, ◌++◌, IfOk, codes, decimal, string_bytes, flat_map};
+ghost use Rattle.dsa_event_text.specs.Added.{Adds};
 ghost use Rattle.dsa_check.specs.Lines.{digits_text, key_text, whole_range_text, form_text, found_text, bound_text, wanted_of, piece_text, closing_text, wanted_text, syntax_text, near_kind_text, no_kind_text, reason_text, known_number_text, step_text, fault_part_text, place_text, line_of_finding, bare_line, finding_text, report_text};
 
 use crate::fields::{Form, Found, Key};
 use crate::finding::{Finding, Reason};
 use crate::kinds::StepKind;
 use crate::syntax::{Piece, Syntax, Wanted};
-use dsa_event_text::add_count;
+use dsa_event_text::{Added, add_count};
 use dsa_scenario::ScenarioFault;
 use std::alloc::{AllocError, Global};
 use std::fmt::Write;
 
-fn add_key(text: &mut String, key: Key) -> Result<(), AllocError>
-    ensures { OnOk result (string_bytes text.new ≡ string_bytes text.old ++ key_text key) }
+fn add_key(text: &mut String, key: Key) -> Added
+    ensures { Adds result text.old text.new (key_text key) }
 {
     let holder = if key.in_caps { " of \"caps\"" } else { "" };
     write!(text, "\"{}\"{holder}", key.name)
 }
 
-fn add_range(text: &mut String, least: u64, most: u64) -> Result<(), AllocError>
-    ensures { OnOk result
-        (string_bytes text.new ≡ string_bytes text.old ++ whole_range_text least most) }
+fn add_range(text: &mut String, least: u64, most: u64) -> Added
+    ensures { Adds result text.old text.new (whole_range_text least most) }
 {
     write!(text, "a whole number from {least} to {most}")
 }
 
-fn add_form(text: &mut String, form: Form) -> Result<(), AllocError>
-    ensures { OnOk result (string_bytes text.new ≡ string_bytes text.old ++ form_text form) }
+fn add_form(text: &mut String, form: Form) -> Added
+    ensures { Adds result text.old text.new (form_text form) }
 {
     match form {
         Form::Whole { least, most } => add_range(text, least, most),
@@ -40,8 +40,8 @@ fn add_form(text: &mut String, form: Form) -> Result<(), AllocError>
     }
 }
 
-fn add_found(text: &mut String, found: Found) -> Result<(), AllocError>
-    ensures { OnOk result (string_bytes text.new ≡ string_bytes text.old ++ found_text found) }
+fn add_found(text: &mut String, found: Found) -> Added
+    ensures { Adds result text.old text.new (found_text found) }
 {
     match found {
         Found::Null => text.push_str("null"),
@@ -59,9 +59,8 @@ fn add_found(text: &mut String, found: Found) -> Result<(), AllocError>
 }
 
 // What may stand there, of a number that is too large or too small its bound.
-fn add_bound(text: &mut String, found: Found, least: u64, most: u64) -> Result<(), AllocError>
-    ensures { OnOk result
-        (string_bytes text.new ≡ string_bytes text.old ++ bound_text found least most) }
+fn add_bound(text: &mut String, found: Found, least: u64, most: u64) -> Added
+    ensures { Adds result text.old text.new (bound_text found least most) }
 {
     match found {
         Found::Whole(number) if number > most => write!(text, "at most {most}"),
@@ -70,8 +69,8 @@ fn add_bound(text: &mut String, found: Found, least: u64, most: u64) -> Result<(
     }
 }
 
-fn add_wanted(text: &mut String, found: Found, form: Form) -> Result<(), AllocError>
-    ensures { OnOk result (string_bytes text.new ≡ string_bytes text.old ++ wanted_of found form) }
+fn add_wanted(text: &mut String, found: Found, form: Form) -> Added
+    ensures { Adds result text.old text.new (wanted_of found form) }
 {
     match form {
         Form::Whole { least, most } => add_bound(text, found, least, most),
@@ -80,16 +79,10 @@ fn add_wanted(text: &mut String, found: Found, form: Form) -> Result<(), AllocEr
     }
 }
 
-fn add_unfit(text: &mut String, key: Key, found: Found, wanted: Form) -> Result<(), AllocError>
-    ensures { OnOk result
-        (string_bytes text.new
-        ≡ string_bytes text.old
-        ++ (key_text key
-        ++ codes " is "
-        ++ found_text found
-        ++ codes ", "
-        ++ wanted_of found wanted
-        ++ codes " is wanted")) }
+fn add_unfit(text: &mut String, key: Key, found: Found, wanted: Form) -> Added
+    ensures { Adds result text.old text.new
+        (key_text key ++ codes " is " ++ found_text found ++ codes ", " ++ wanted_of found wanted
+        ++ codes " is wanted") }
 {
     add_key(text, key)?;
     text.push_str(" is ")?;
@@ -99,8 +92,8 @@ fn add_unfit(text: &mut String, key: Key, found: Found, wanted: Form) -> Result<
     text.push_str(" is wanted")
 }
 
-fn add_piece(text: &mut String, piece: &Piece) -> Result<(), AllocError>
-    ensures { OnOk result (string_bytes text.new ≡ string_bytes text.old ++ piece_text piece.now) }
+fn add_piece(text: &mut String, piece: &Piece) -> Added
+    ensures { Adds result text.old text.new (piece_text piece.now) }
 {
     match piece {
         Piece::End => text.push_str("the document ends here"),
@@ -117,14 +110,8 @@ fn add_piece(text: &mut String, piece: &Piece) -> Result<(), AllocError>
 }
 
 // The end of an array or an object, and where that begins.
-fn add_closing(
-    text: &mut String,
-    is_array: bool,
-    line: usize,
-    column: usize,
-) -> Result<(), AllocError>
-    ensures { OnOk result
-        (string_bytes text.new ≡ string_bytes text.old ++ closing_text is_array line column) }
+fn add_closing(text: &mut String, is_array: bool, line: usize, column: usize) -> Added
+    ensures { Adds result text.old text.new (closing_text is_array line column) }
 {
     if is_array {
         write!(text, "a ] for the [ of line {line}, column {column}")
@@ -133,8 +120,8 @@ fn add_closing(
     }
 }
 
-fn add_syntax_wanted(text: &mut String, wanted: Wanted) -> Result<(), AllocError>
-    ensures { OnOk result (string_bytes text.new ≡ string_bytes text.old ++ wanted_text wanted) }
+fn add_syntax_wanted(text: &mut String, wanted: Wanted) -> Added
+    ensures { Adds result text.old text.new (wanted_text wanted) }
 {
     match wanted {
         Wanted::Document => text.push_str("an object"),
@@ -170,9 +157,9 @@ fn add_syntax_wanted(text: &mut String, wanted: Wanted) -> Result<(), AllocError
     }
 }
 
-fn add_unwanted(text: &mut String, found: &Piece, wanted: Wanted) -> Result<(), AllocError>
-    ensures { OnOk result (string_bytes text.new ≡ string_bytes text.old
-        ++ (piece_text found.now ++ codes ", " ++ wanted_text wanted ++ codes " is wanted")) }
+fn add_unwanted(text: &mut String, found: &Piece, wanted: Wanted) -> Added
+    ensures { Adds result text.old text.new
+        (piece_text found.now ++ codes ", " ++ wanted_text wanted ++ codes " is wanted") }
 {
     add_piece(text, found)?;
     text.push_str(", ")?;
@@ -180,9 +167,8 @@ fn add_unwanted(text: &mut String, found: &Piece, wanted: Wanted) -> Result<(), 
     text.push_str(" is wanted")
 }
 
-fn add_syntax(text: &mut String, syntax: &Syntax) -> Result<(), AllocError>
-    ensures { OnOk result
-        (string_bytes text.new ≡ string_bytes text.old ++ syntax_text syntax.now) }
+fn add_syntax(text: &mut String, syntax: &Syntax) -> Added
+    ensures { Adds result text.old text.new (syntax_text syntax.now) }
 {
     match syntax {
         Syntax::TooDeep => text.push_str("nested more than 127 deep"),
@@ -193,17 +179,15 @@ fn add_syntax(text: &mut String, syntax: &Syntax) -> Result<(), AllocError>
 }
 
 // A key, and what is wrong there.
-fn add_at_key(text: &mut String, key: Key, what: &str) -> Result<(), AllocError>
-    ensures { OnOk result
-        (string_bytes text.new ≡ string_bytes text.old ++ (key_text key ++ what.now)) }
+fn add_at_key(text: &mut String, key: Key, what: &str) -> Added
+    ensures { Adds result text.old text.new (key_text key ++ what.now) }
 {
     add_key(text, key)?;
     text.push_str(what)
 }
 
-fn add_near_kind(text: &mut String, name: &str, near: StepKind) -> Result<(), AllocError>
-    ensures { OnOk result
-        (string_bytes text.new ≡ string_bytes text.old ++ near_kind_text name.now near) }
+fn add_near_kind(text: &mut String, name: &str, near: StepKind) -> Added
+    ensures { Adds result text.old text.new (near_kind_text name.now near) }
 {
     write!(
         text,
@@ -212,13 +196,8 @@ fn add_near_kind(text: &mut String, name: &str, near: StepKind) -> Result<(), Al
     )
 }
 
-fn add_kind(
-    text: &mut String,
-    name: &Option<String>,
-    near: Option<StepKind>,
-) -> Result<(), AllocError>
-    ensures { OnOk result
-        (string_bytes text.new ≡ string_bytes text.old ++ no_kind_text name.now near) }
+fn add_kind(text: &mut String, name: &Option<String>, near: Option<StepKind>) -> Added
+    ensures { Adds result text.old text.new (no_kind_text name.now near) }
 {
     match (name, near) {
         (Some(name), Some(kind)) => add_near_kind(text, name.as_str(), kind),
@@ -230,48 +209,41 @@ fn add_kind(
     }
 }
 
-fn add_digits(text: &mut String, key: Key, count: usize, wanted: &str) -> Result<(), AllocError>
-    ensures { OnOk result (string_bytes text.new ≡ string_bytes text.old
-        ++ (key_text key ++ digits_text count ++ wanted.now)) }
+fn add_digits(text: &mut String, key: Key, count: usize, wanted: &str) -> Added
+    ensures { Adds result text.old text.new (key_text key ++ digits_text count ++ wanted.now) }
 {
     add_key(text, key)?;
     add_count(text, " has ", count as u64, "digit", "digits")?;
     text.push_str(wanted)
 }
 
-fn add_no_digit(text: &mut String, key: Key, at: usize) -> Result<(), AllocError>
-    ensures { OnOk result (string_bytes text.new ≡ string_bytes text.old
-        ++ (key_text key ++ (codes " has no hexadecimal digit at character " ++ decimal at))) }
+fn add_no_digit(text: &mut String, key: Key, at: usize) -> Added
+    ensures { Adds result text.old text.new
+        (key_text key ++ (codes " has no hexadecimal digit at character " ++ decimal at)) }
 {
     add_key(text, key)?;
     write!(text, " has no hexadecimal digit at character {at}")
 }
 
-fn add_misspelled(text: &mut String, key: Key, found: &str) -> Result<(), AllocError>
-    ensures { OnOk result
-        (string_bytes text.new
-        ≡ string_bytes text.old
-        ++ (key_text key
-        ++ (codes " is missing, and \""
-        ++ (found.now ++ codes "\" is no key here")))) }
+fn add_misspelled(text: &mut String, key: Key, found: &str) -> Added
+    ensures { Adds result text.old text.new
+        (key_text key ++ (codes " is missing, and \"" ++ (found.now
+        ++ codes "\" is no key here"))) }
 {
     add_key(text, key)?;
     write!(text, " is missing, and \"{found}\" is no key here")
 }
 
-fn add_no_object(text: &mut String, found: Found) -> Result<(), AllocError>
-    ensures { OnOk result
-        (string_bytes text.new
-        ≡ string_bytes text.old
-        ++ (found_text found ++ codes " stands here, an object is wanted")) }
+fn add_no_object(text: &mut String, found: Found) -> Added
+    ensures { Adds result text.old text.new
+        (found_text found ++ codes " stands here, an object is wanted") }
 {
     add_found(text, found)?;
     text.push_str(" stands here, an object is wanted")
 }
 
-fn add_reason(text: &mut String, reason: &Reason) -> Result<(), AllocError>
-    ensures { OnOk result
-        (string_bytes text.new ≡ string_bytes text.old ++ reason_text reason.now) }
+fn add_reason(text: &mut String, reason: &Reason) -> Added
+    ensures { Adds result text.old text.new (reason_text reason.now) }
 {
     match reason {
         Reason::Missing { key } => add_at_key(text, *key, " is missing"),
@@ -298,15 +270,8 @@ fn add_reason(text: &mut String, reason: &Reason) -> Result<(), AllocError>
 }
 
 // A line or a column, where it is known.
-fn add_number(
-    text: &mut String,
-    word: &str,
-    number: Option<usize>,
-    after: &str,
-) -> Result<(), AllocError>
-    ensures { OnOk result
-        (string_bytes text.new
-        ≡ string_bytes text.old ++ known_number_text word.now number after.now) }
+fn add_number(text: &mut String, word: &str, number: Option<usize>, after: &str) -> Added
+    ensures { Adds result text.old text.new (known_number_text word.now number after.now) }
 {
     match number {
         Some(number) => write!(text, "{word}{number}{after}"),
@@ -314,8 +279,8 @@ fn add_number(
     }
 }
 
-fn add_step(text: &mut String, i: u64, kind: Option<StepKind>) -> Result<(), AllocError>
-    ensures { OnOk result (string_bytes text.new ≡ string_bytes text.old ++ step_text i kind) }
+fn add_step(text: &mut String, i: u64, kind: Option<StepKind>) -> Added
+    ensures { Adds result text.old text.new (step_text i kind) }
 {
     match kind {
         Some(kind) => write!(text, "step {i} ({}): ", kind.name()),
@@ -323,10 +288,9 @@ fn add_step(text: &mut String, i: u64, kind: Option<StepKind>) -> Result<(), All
     }
 }
 
-fn add_part(text: &mut String, finding: &Finding) -> Result<(), AllocError>
-    ensures { OnOk result
-        (string_bytes text.new
-        ≡ string_bytes text.old ++ fault_part_text finding.now.fault finding.now.place.kind) }
+fn add_part(text: &mut String, finding: &Finding) -> Added
+    ensures { Adds result text.old text.new
+        (fault_part_text finding.now.fault finding.now.place.kind) }
 {
     match finding.fault {
         ScenarioFault::NotJson => text.push_str("not JSON: "),
@@ -338,18 +302,16 @@ fn add_part(text: &mut String, finding: &Finding) -> Result<(), AllocError>
     }
 }
 
-fn add_place(text: &mut String, finding: &Finding) -> Result<(), AllocError>
-    ensures { OnOk result
-        (string_bytes text.new ≡ string_bytes text.old ++ place_text finding.now) }
+fn add_place(text: &mut String, finding: &Finding) -> Added
+    ensures { Adds result text.old text.new (place_text finding.now) }
 {
     add_number(text, "line ", finding.place.line, ", ")?;
     add_number(text, "column ", finding.place.column, ": ")?;
     add_part(text, finding)
 }
 
-fn add_line(text: &mut String, finding: &Finding, reason: &Reason) -> Result<(), AllocError>
-    ensures { OnOk result
-        (string_bytes text.new ≡ string_bytes text.old ++ line_of_finding finding.now reason.now) }
+fn add_line(text: &mut String, finding: &Finding, reason: &Reason) -> Added
+    ensures { Adds result text.old text.new (line_of_finding finding.now reason.now) }
 {
     add_place(text, finding)?;
     add_reason(text, reason)?;
@@ -357,16 +319,15 @@ fn add_line(text: &mut String, finding: &Finding, reason: &Reason) -> Result<(),
 }
 
 // A finding without a reason.
-fn add_bare(text: &mut String, finding: &Finding) -> Result<(), AllocError>
-    ensures { OnOk result (string_bytes text.new ≡ string_bytes text.old ++ bare_line finding.now) }
+fn add_bare(text: &mut String, finding: &Finding) -> Added
+    ensures { Adds result text.old text.new (bare_line finding.now) }
 {
     add_place(text, finding)?;
     text.push_str("not understood\n")
 }
 
-fn add_finding(text: &mut String, finding: &Finding) -> Result<(), AllocError>
-    ensures { OnOk result
-        (string_bytes text.new ≡ string_bytes text.old ++ finding_text finding.now) }
+fn add_finding(text: &mut String, finding: &Finding) -> Added
+    ensures { Adds result text.old text.new (finding_text finding.now) }
 {
     if finding.reasons.is_empty() {
         return add_bare(text, finding);

@@ -1,17 +1,25 @@
 //! Worked documents: the faults that the definitions find at chosen values, by computation.
 
-ghost use Rattle.std.specs.Prelude.{◌≡◌, [], ◌∷◌, true, false, Some, None, codes};
-ghost use Rattle.serde_json.specs.Data.{null, string, array, no_items, item};
-ghost use Rattle.dsa_scenario.specs.declared.faults.ScenarioFault.TheVariants.{BadDocument, BadStep, BadCaps, BadCapacity};
+ghost use Rattle.std.specs.Prelude.{◌≡◌, ◌++◌, [], ◌∷◌, true, false, Some, None, codes, map, replicate, negsuc, String, string_bytes};
+ghost use Rattle.std.specs.declared.{alloc.Global.{Global}, vec.Vec.{Vec}};
+ghost use Rattle.serde_json.specs.Data.{null, boolean, string, array, no_items, item};
+ghost use Rattle.dsa_scenario.specs.declared.faults.ScenarioFault.TheVariants.{NotJson, BadDocument, BadStep, BadCaps, BadCapacity, Read};
 ghost use Rattle.dsa_scenario.specs.Worked.{whole, object_of, fields_without, changed, step_of_kind, some_caps, poll_step, queue_step, group_step, enqcmd_step, dispatch_step, start_step, finish_step, command_step, clear_step};
 ghost use Rattle.dsa_check.specs.declared.fields.Key.{Key};
 ghost use Rattle.dsa_check.specs.declared.fields.Form.TheVariants as form;
 ghost use Rattle.dsa_check.specs.declared.fields.Found.TheVariants as found;
-ghost use Rattle.dsa_check.specs.declared.finding.Reason.TheVariants.{Missing, Unfit, OddDigits, ManyDigits, NoDigit, NoObject, UnknownKind};
-ghost use Rattle.dsa_check.specs.declared.kinds.StepKind.TheVariants.{Queue, Enqcmd, Fetch, Finish, Poll};
-ghost use Rattle.dsa_check.specs.{Judgement.{faults_of_value}, Worked.{right_document, unfit_keys, unfit_keys_of}};
-ghost use Rattle.dsa_check.specs.Reasons.{is_asked, IsReasonOf, IsKindReason, AreReasonsOf, AreStepReasons};
-ghost use Rattle.dsa_check.specs.Steps.{bits, rows_of_kind, kind_named, kind_of, caps_rows, device_rows};
+ghost use Rattle.dsa_check.specs.declared.finding.Reason.{Reason};
+ghost use Rattle.dsa_check.specs.declared.finding.Reason.TheVariants.{Missing, Misspelled, Unfit, OddDigits, ManyDigits, NoDigit, NoObject, UnknownKind, NotUtf8, Syntax};
+ghost use Rattle.dsa_check.specs.declared.kinds.StepKind.TheVariants.{Queue, Group, Enqcmd, Movdir, Dispatch, Fetch, Start, Finish, Command, Poll, Clear};
+ghost use Rattle.dsa_check.specs.declared.syntax.Piece.TheVariants.{End, LineBreak, Tab, Control, Character, ByteOrderMark, Told, Text, Number, Word};
+ghost use Rattle.dsa_check.specs.declared.syntax.Syntax.TheVariants.{TooDeep, CommaBefore, Comment, Unwanted};
+ghost use Rattle.dsa_check.specs.declared.syntax.Wanted.TheVariants as wanted;
+ghost use Rattle.dsa_check.specs.Judgement.{faults_of_value, fault_of_head, fault_of_step, caps_faults, capacity_faults};
+ghost use Rattle.dsa_check.specs.Lines.{kind_text, key_text, form_text, found_text, wanted_of, piece_text, wanted_text, syntax_text, no_kind_text, reason_text, fault_part_text, place_text, line_of_finding, bare_line};
+ghost use Rattle.dsa_check.specs.Places.{line_after, column_after, IsSpot};
+ghost use Rattle.dsa_check.specs.Reasons.{is_asked, is_between, is_plain, has_caps, is_step, kind_row, found_number, found_of, IsReasonOf, IsKindReason, AreReasonsOf, AreStepReasons};
+ghost use Rattle.dsa_check.specs.Steps.{bits, rows_of_kind, kinds, kind_named, kind_of, document_rows, caps_rows, device_rows, history_rows};
+ghost use Rattle.dsa_check.specs.Worked.{right_document, unfit_keys, unfit_keys_of, key_of_caps, key_of_a_step, found_at};
 
 /// Each part of a document has its fault; the others are looked at also where one is missing.
 pub fn faults_of_each_part()
@@ -163,4 +171,227 @@ pub fn reasons_that_are_not_so()
         (UnknownKind None (Some Poll))
         → ⊥ }
     ensures known { IsKindReason (object_of poll_step) (UnknownKind None None) → ⊥ }
+{}
+
+/// All kinds of steps with their names, and the keys of each.
+pub fn tables_of_steps()
+    ensures kinds { kinds
+        ≡ Queue ∷ Group ∷ Enqcmd ∷ Movdir ∷ Dispatch ∷ Fetch ∷ Start ∷ Finish ∷ Command ∷ Poll
+        ∷ Clear
+        ∷ [] }
+    ensures names { map kind_text kinds
+        ≡ codes "queue" ∷ codes "group" ∷ codes "enqcmd" ∷ codes "movdir" ∷ codes "dispatch"
+        ∷ codes "fetch" ∷ codes "start" ∷ codes "finish" ∷ codes "command" ∷ codes "poll"
+        ∷ codes "clear" ∷ [] }
+    ensures queue { rows_of_kind Queue
+        ≡ (codes "queue", form.Whole 0 65535) ∷ (codes "size", form.Whole 0 65535)
+        ∷ (codes "threshold", form.Whole 0 65535) ∷ (codes "dedicated", form.Truth)
+        ∷ (codes "priority", form.Whole 0 255) ∷ (codes "pasid", form.Whole 0 4294967295)
+        ∷ (codes "batch", form.Whole 0 255) ∷ (codes "xfer", form.Whole 0 255) ∷ [] }
+    ensures group { rows_of_kind Group
+        ≡ (codes "group", form.Whole 0 65535) ∷ (codes "queues", form.Whole 0 18446744073709551615)
+        ∷ (codes "engines", form.Whole 0 18446744073709551615)
+        ∷ (codes "reserved", form.Whole 0 65535) ∷ (codes "allowed", form.Whole 0 65535) ∷ [] }
+    ensures enqcmd { rows_of_kind Enqcmd
+        ≡ (codes "client", form.Whole 0 65535) ∷ (codes "queue", form.Whole 0 65535)
+        ∷ (codes "limited", form.Truth) ∷ (codes "pasid", form.Whole 0 4294967295)
+        ∷ (codes "desc", form.Digits) ∷ [] }
+    ensures movdir { rows_of_kind Movdir
+        ≡ (codes "client", form.Whole 0 65535) ∷ (codes "queue", form.Whole 0 65535)
+        ∷ (codes "limited", form.Truth) ∷ (codes "desc", form.Digits) ∷ [] }
+    ensures engines { map rows_of_kind (Dispatch ∷ Fetch ∷ Start ∷ Finish ∷ [])
+        ≡ ((codes "engine", form.Whole 0 65535) ∷ [])
+        ∷ ((codes "engine", form.Whole 0 65535) ∷ (codes "desc", form.Digits) ∷ [])
+        ∷ ((codes "engine", form.Whole 0 65535) ∷ [])
+        ∷ ((codes "engine", form.Whole 0 65535) ∷ (codes "name", form.Whole 0 4294967295)
+        ∷ (codes "fault", form.Truth) ∷ [])
+        ∷ [] }
+    ensures administrator { map rows_of_kind (Command ∷ Poll ∷ Clear ∷ [])
+        ≡ ((codes "word", form.Whole 0 4294967295) ∷ []) ∷ [] ∷ [] ∷ [] }
+{}
+
+/// The keys of a document, of its caps, of a device and of a history.
+pub fn tables_of_documents()
+    ensures document { document_rows
+        ≡ (codes "caps", form.Object)
+        ∷ (codes "capacity", form.Bounded 18446744073709551615 0 1048576)
+        ∷ (codes "steps", form.Array) ∷ [] }
+    ensures caps { caps_rows
+        ≡ (codes "queues", form.Bounded 65535 1 64) ∷ (codes "groups", form.Bounded 65535 1 8)
+        ∷ (codes "engines", form.Bounded 65535 1 64)
+        ∷ (codes "total_size", form.Bounded 65535 1 4096)
+        ∷ (codes "read_buffers", form.Bounded 65535 1 255)
+        ∷ (codes "slots", form.Bounded 65535 1 16)
+        ∷ (codes "max_batch_shift", form.Bounded 255 1 10)
+        ∷ (codes "max_xfer_shift", form.Bounded 255 0 31) ∷ [] }
+    ensures device { device_rows
+        ≡ (codes "queues", form.Whole 1 64) ∷ (codes "groups", form.Whole 1 8)
+        ∷ (codes "engines", form.Whole 1 64) ∷ (codes "total_size", form.Whole 1 4096)
+        ∷ (codes "read_buffers", form.Whole 1 255) ∷ (codes "slots", form.Whole 1 16)
+        ∷ (codes "max_batch_shift", form.Whole 1 10) ∷ (codes "max_xfer_shift", form.Whole 0 31)
+        ∷ [] }
+    ensures history { history_rows ≡ (codes "capacity", form.Whole 0 1048576) ∷ [] }
+    ensures kind { kind_row ≡ (codes "do", form.Text) }
+{}
+
+/// The faults of the parts of a document, at the bounds.
+pub fn faults_of_parts()
+    ensures no_head { fault_of_head None ≡ BadDocument ∷ [] }
+    ensures bad_step { fault_of_step 7 None ≡ BadStep 7 ∷ [] }
+    ensures no_caps { caps_faults None ≡ [] }
+    ensures no_capacity { capacity_faults None ≡ [] }
+    ensures most { capacity_faults (Some 1048576) ≡ [] }
+    ensures past { capacity_faults (Some 1048577) ≡ BadCapacity ∷ [] }
+{}
+
+/// Numbers between two, texts that can be told as they stand, and numbers as they are told.
+pub fn plain_texts_and_numbers()
+    ensures between { map (is_between 3 9) (None ∷ Some 2 ∷ Some 3 ∷ Some 9 ∷ Some 10 ∷ [])
+        ≡ false ∷ false ∷ true ∷ true ∷ false ∷ [] }
+    ensures plain { map is_plain
+        ([] ∷ replicate 40 65 ∷ replicate 41 65 ∷ (65 ∷ 31 ∷ []) ∷ (32 ∷ 65 ∷ []) ∷ (65 ∷ 126 ∷ [])
+        ∷ (127 ∷ 65 ∷ []) ∷ [])
+        ≡ true ∷ true ∷ false ∷ false ∷ true ∷ true ∷ false ∷ [] }
+    ensures whole { found_number (Some 5) (Some (negsuc 2)) ≡ found.Whole 5 }
+    ensures below { found_number None (Some (negsuc 2)) ≡ found.Below (negsuc 2) }
+    ensures neither { found_number None None ≡ found.Number }
+    ensures found { map found_of
+        (null ∷ boolean true ∷ string [] ∷ array no_items ∷ object_of [] ∷ whole 7 ∷ [])
+        ≡ found.Null ∷ found.Truth true ∷ found.Text ∷ found.Array ∷ found.Object ∷ found.Whole 7
+        ∷ [] }
+    ensures step { map is_step
+        (object_of poll_step ∷ object_of queue_step ∷ object_of [] ∷ null ∷ [])
+        ≡ true ∷ true ∷ false ∷ false ∷ [] }
+    ensures caps { map has_caps (Some (object_of some_caps) ∷ Some (object_of []) ∷ None ∷ [])
+        ≡ true ∷ false ∷ false ∷ [] }
+    ensures lines { map line_after ([] ∷ (65 ∷ []) ∷ (65 ∷ 10 ∷ 66 ∷ 10 ∷ []) ∷ [])
+        ≡ 1 ∷ 1 ∷ 3 ∷ [] }
+    ensures columns { map column_after
+        ([] ∷ (65 ∷ []) ∷ (10 ∷ []) ∷ (65 ∷ 10 ∷ 66 ∷ 9 ∷ []) ∷ [])
+        ≡ 1 ∷ 2 ∷ 1 ∷ 3 ∷ [] }
+{}
+
+/// What may stand at a key, what stands there, and what is wanted in its place.
+#[tactic(auto, unfolding(dsa_scenario::specs::Worked::digits_on_literals))]
+pub fn texts_of_values()
+    ensures forms { map form_text
+        (form.Whole 1 20 ∷ form.Bounded 99 3 40 ∷ form.Truth ∷ form.Text ∷ form.Digits ∷ form.Array
+        ∷ form.Object ∷ [])
+        ≡ codes "a whole number from 1 to 20" ∷ codes "a whole number from 3 to 40"
+        ∷ codes "true or false" ∷ codes "a text" ∷ codes "a text of hexadecimal digits"
+        ∷ codes "an array" ∷ codes "an object" ∷ [] }
+    ensures found { map found_text
+        (found.Null ∷ found.Truth true ∷ found.Truth false ∷ found.Whole 12 ∷ found.Below (negsuc 4)
+        ∷ found.Number ∷ found.Text ∷ found.Array ∷ found.Object ∷ [])
+        ≡ codes "null" ∷ codes "true" ∷ codes "false" ∷ codes "12" ∷ codes "-5"
+        ∷ codes "a number with a sign, a fraction, an exponent or past 64 bits" ∷ codes "a text"
+        ∷ codes "an array" ∷ codes "an object" ∷ [] }
+    ensures wanted { map (λ found. wanted_of found (form.Whole 1 20))
+        (found.Whole 21 ∷ found.Whole 20 ∷ found.Whole 0 ∷ found.Below (negsuc 4) ∷ found.Null ∷ [])
+        ≡ codes "at most 20" ∷ codes "at least 1" ∷ codes "at least 1" ∷ codes "at least 1"
+        ∷ codes "a whole number from 1 to 20" ∷ [] }
+    ensures of_a_device { map (λ found. wanted_of found (form.Bounded 99 3 40))
+        (found.Whole 41 ∷ found.Whole 2 ∷ found.Null ∷ [])
+        ≡ codes "at most 40" ∷ codes "at least 3" ∷ codes "a whole number from 3 to 40" ∷ [] }
+    ensures other { map (wanted_of (found.Whole 0)) (form.Truth ∷ form.Text ∷ [])
+        ≡ codes "true or false" ∷ codes "a text" ∷ [] }
+    ensures keys { map key_text (key_of_caps ∷ key_of_a_step ∷ [])
+        ≡ codes "\"slots\" of \"caps\"" ∷ codes "\"desc\"" ∷ [] }
+{}
+
+/// What stands at a place of a text that is no JSON, and what may stand there.
+#[tactic(auto, unfolding(dsa_scenario::specs::Worked::digits_on_literals))]
+pub fn texts_of_places()
+    ensures pieces { map piece_text
+        (End ∷ LineBreak ∷ Tab ∷ Control ∷ Character ∷ ByteOrderMark ∷ Text ∷ Number ∷ Word ∷ [])
+        ≡ codes "the document ends here" ∷ codes "a line break stands here"
+        ∷ codes "a tab stands here" ∷ codes "a control character stands here"
+        ∷ codes "a character beyond ASCII stands here" ∷ codes "a byte order mark stands here"
+        ∷ codes "a text stands here" ∷ codes "a number stands here" ∷ codes "a word stands here"
+        ∷ [] }
+    ensures told { (text : String Global)
+        → piece_text (Told text) ≡ string_bytes text ++ codes " stands here" }
+    ensures values { map wanted_text
+        (wanted.Document ∷ wanted.Value ∷ wanted.Item ∷ wanted.FirstItem ∷ wanted.FirstKey
+        ∷ wanted.Key ∷ wanted.Colon ∷ wanted.More true ∷ wanted.More false
+        ∷ wanted.Closing true 2 13 ∷ wanted.Closing false 4 15 ∷ wanted.Nothing ∷ wanted.Word ∷ [])
+        ≡ codes "an object" ∷ codes "a value" ∷ codes "a value" ∷ codes "a value or ]"
+        ∷ codes "a key in double quotes or }" ∷ codes "a key in double quotes" ∷ codes "a colon"
+        ∷ codes "a comma or ]" ∷ codes "a comma or }" ∷ codes "a ] for the [ of line 2, column 13"
+        ∷ codes "a } for the { of line 4, column 15" ∷ codes "the end of the document"
+        ∷ codes "true, false, null or a text in double quotes" ∷ [] }
+    ensures numbers_and_texts { map wanted_text
+        (wanted.Digit ∷ wanted.NoZero ∷ wanted.InRange ∷ wanted.DoubleQuote ∷ wanted.Quote 6 17
+        ∷ wanted.Escaped ∷ wanted.Escape ∷ wanted.HexDigit ∷ wanted.Pair ∷ wanted.Depth ∷ [])
+        ≡ codes "a digit" ∷ codes "a number with no 0 before its other digits"
+        ∷ codes "a number that floats of 64 bits reach" ∷ codes "a double quote"
+        ∷ codes "a double quote for the text of line 6, column 17"
+        ∷ codes "a double quote or an escape" ∷ codes "one of \" \\ / b f n r t u"
+        ∷ codes "a hexadecimal digit" ∷ codes "a whole surrogate pair" ∷ codes "less nesting" ∷ [] }
+    ensures syntax { map syntax_text
+        (TooDeep ∷ CommaBefore (record { ref_ptr = (0, 0); now = codes "]" }) ∷ Comment
+        ∷ Unwanted Tab wanted.Colon ∷ [])
+        ≡ codes "nested more than 127 deep" ∷ codes "a comma before ]"
+        ∷ codes "a comment, of which JSON has none"
+        ∷ codes "a tab stands here, a colon is wanted" ∷ [] }
+{}
+
+/// The reasons in words.
+#[tactic(auto, unfolding(dsa_scenario::specs::Worked::digits_on_literals))]
+pub fn texts_of_reasons()
+    ensures keys { map reason_text
+        (Missing key_of_caps ∷ Unfit key_of_a_step found.Null form.Digits
+        ∷ OddDigits key_of_a_step 3
+        ∷ OddDigits key_of_a_step 1 ∷ ManyDigits key_of_a_step 130 ∷ NoDigit key_of_a_step 4 ∷ [])
+        ≡ codes "\"slots\" of \"caps\" is missing"
+        ∷ codes "\"desc\" is null, a text of hexadecimal digits is wanted"
+        ∷ codes "\"desc\" has 3 digits, an even number is wanted"
+        ∷ codes "\"desc\" has 1 digit, an even number is wanted"
+        ∷ codes "\"desc\" has 130 digits, at most 128 are wanted"
+        ∷ codes "\"desc\" has no hexadecimal digit at character 4" ∷ [] }
+    ensures objects { map reason_text
+        (NoObject found.Text ∷ UnknownKind None None ∷ NotUtf8 ∷ Syntax TooDeep ∷ [])
+        ≡ codes "a text stands here, an object is wanted" ∷ codes "\"do\" names no kind of step"
+        ∷ codes "the bytes are no UTF-8" ∷ codes "nested more than 127 deep" ∷ [] }
+    ensures misspelled { (text : String Global)
+        → reason_text (Misspelled key_of_a_step text)
+        ≡ codes "\"desc\" is missing, and \"" ++ (string_bytes text ++ codes "\" is no key here") }
+    ensures near { (text : String Global)
+        → no_kind_text (Some text) (Some Poll)
+        ≡ codes "\"do\" is \""
+        ++ (string_bytes text ++ codes "\", which is no kind of step, but \"poll\" is") }
+    ensures unknown { (text : String Global)
+        → no_kind_text (Some text) None
+        ≡ codes "\"do\" is \"" ++ (string_bytes text
+        ++ (codes "\", none of queue, group, enqcmd, movdir, dispatch, fetch, start, finish, "
+        ++ codes "command, poll and clear")) }
+{}
+
+/// Where a fault is, in words, and its line.
+#[tactic(auto, unfolding(dsa_scenario::specs::Worked::digits_on_literals))]
+pub fn texts_of_findings()
+    ensures parts { map (λ fault. fault_part_text fault (Some Poll))
+        (NotJson ∷ BadDocument ∷ BadStep 3 ∷ BadCaps ∷ BadCapacity ∷ Read ∷ [])
+        ≡ codes "not JSON: " ∷ codes "document: " ∷ codes "step 3 (poll): " ∷ codes "caps: "
+        ∷ codes "capacity: " ∷ [] ∷ [] }
+    ensures no_kind { fault_part_text (BadStep 3) None ≡ codes "step 3: " }
+    ensures place { (reasons : Vec Reason Global)
+        → place_text (found_at (Some 2) (Some 15) reasons)
+        ≡ codes "line 2, column 15: capacity: " }
+    ensures line { (reasons : Vec Reason Global)
+        → place_text (found_at (Some 2) None reasons) ≡ codes "line 2, capacity: " }
+    ensures told { (reasons : Vec Reason Global)
+        → line_of_finding (found_at None None reasons) NotUtf8
+        ≡ codes "capacity: the bytes are no UTF-8\n" }
+    ensures bare { (reasons : Vec Reason Global)
+        → bare_line (found_at None None reasons) ≡ codes "capacity: not understood\n" }
+{}
+
+/// A place in a text, with its line and its column.
+pub fn places_in_texts()
+    ensures last { IsSpot (65 ∷ 10 ∷ 66 ∷ 67 ∷ []) (record { at = 4; line = 2; column = 3 }) }
+    ensures beyond { IsSpot (65 ∷ 10 ∷ 66 ∷ 67 ∷ []) (record { at = 5; line = 2; column = 3 }) → ⊥ }
+    ensures line { IsSpot (65 ∷ 10 ∷ 66 ∷ 67 ∷ []) (record { at = 4; line = 1; column = 3 }) → ⊥ }
+    ensures column { IsSpot (65 ∷ 10 ∷ 66 ∷ 67 ∷ []) (record { at = 4; line = 2; column = 4 })
+        → ⊥ }
 {}

@@ -1,6 +1,6 @@
 pub mod Accepted
-pub mod FaultCauses
 pub mod OptionNumbers
+pub mod PlainRuns
 pub mod Pushes
 pub mod ReportCommands
 pub mod Submissions

@@ -1,4 +1,5 @@
 pub mod Reports
 pub mod Threads
 pub mod CommandLine
+pub mod Endings
 pub mod Worked

@@ -1,7 +1,6 @@
 -- Texts that are made of a document in place of its lines.
-use Rattle.std.specs.Prelude.{◌≡◌, ◌<◌, ℕ, List, length, take, Option, None}
-use Rattle.std.specs.Io.KnownBytes.{Appends}
-use Rattle.dsa_scenario.specs.{declared.faults.ScenarioFault.{ScenarioFault}, Scenario.{IsWholeDocument}}
+use Rattle.std.specs.Prelude.{◌≡◌, ℕ, List, Option, None}
+use Rattle.dsa_scenario.specs.{declared.faults.ScenarioFault.{ScenarioFault}, Scenario.{IsTextWritten, IsTextCutShort}}
 use Rattle.dsa_check.specs.Check.{IsCheckReportOf as IsCheckOf}
 use Rattle.dsa_conform.specs.Run.{IsConformance}
 use Rattle.dsa_explain_lines.specs.Run.{IsExplanation}
@@ -20,11 +19,9 @@ IsReportOf Conform bytes fault text = IsConformance bytes fault text
 -- the reader gave a document, and all of the report on it was written; then this fault is told
 abbrev pub IsReported : Report → Option ScenarioFault → Option (List ℕ) → Option (List ℕ) → Option (List ℕ)
     → Option (List ℕ) → Type 0
-IsReported report fault had left held holds = (bytes : List ℕ) × (text : List ℕ) × IsWholeDocument had left bytes
-    × IsReportOf report bytes fault text × Appends held holds text
+IsReported report fault had left held holds =
+    IsTextWritten (λ bytes text. IsReportOf report bytes fault text) had left held holds
 
 -- the same, and only the first bytes of the report were written
 abbrev pub IsReportCutShort : Report → Option (List ℕ) → Option (List ℕ) → Option (List ℕ) → Option (List ℕ) → Type 0
-IsReportCutShort report had left held holds = (bytes : List ℕ) × (text : List ℕ) × (fault : Option ScenarioFault)
-    × (count : ℕ) × IsWholeDocument had left bytes × IsReportOf report bytes fault text × (count < length text)
-    × Appends held holds (take count text)
+IsReportCutShort report had left held holds = IsTextCutShort (IsReportOf report) had left held holds

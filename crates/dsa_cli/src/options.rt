@@ -1,6 +1,6 @@
 //! The words of the command line, read with `clap`.
 
-ghost use Rattle.std.specs.Prelude.{◌≡◌, ◌≢◌, ◌≤◌, true, false, List, Some, IfSome, IfNone, IfOk, codes, map, option_map, string_bytes};
+ghost use Rattle.std.specs.Prelude.{◌≡◌, ◌≢◌, ◌≤◌, true, false, List, Ok, Some, IfSome, IfNone, IfOk, length, map, option_map, string_bytes};
 ghost use Rattle.clap.specs.Words.{Row, Text, app_of, rule_of, found_of, rows_of, FailsBy};
 ghost use Rattle.clap.specs.Simple.{new_app, subcommand_rows_of};
 ghost use Rattle.clap.specs.declared.builder.command.Command.TheViews.{out-Command as fields_of};
@@ -200,46 +200,6 @@ fn plain_command<'a>(
         .after_help(after_help)
 }
 
-fn check_command<'a>(alloc: Global) -> Command<'a>
-    ensures app { app_of result ≡ new_app (codes "check") }
-    ensures local { (fields_of result).has_globals ≡ false }
-{
-    let about = "What is wrong with the document, and where?";
-    plain_command(alloc, "check", about, CHECK_HELP)
-}
-
-fn explain_command<'a>(alloc: Global) -> Command<'a>
-    ensures app { app_of result ≡ new_app (codes "explain") }
-    ensures local { (fields_of result).has_globals ≡ false }
-{
-    let about = "Why was each step answered as it was?";
-    plain_command(alloc, "explain", about, EXPLAIN_HELP)
-}
-
-fn draw_command<'a>(alloc: Global) -> Command<'a>
-    ensures app { app_of result ≡ new_app (codes "draw") }
-    ensures local { (fields_of result).has_globals ≡ false }
-{
-    let about = "What does the whole run look like?";
-    plain_command(alloc, "draw", about, DRAW_HELP)
-}
-
-fn conform_command<'a>(alloc: Global) -> Command<'a>
-    ensures app { app_of result ≡ new_app (codes "conform") }
-    ensures local { (fields_of result).has_globals ≡ false }
-{
-    let about = "May a device answer as another one was seen to answer?";
-    plain_command(alloc, "conform", about, CONFORM_HELP)
-}
-
-fn serve_command<'a>(alloc: Global) -> Command<'a>
-    ensures app { app_of result ≡ new_app (codes "serve") }
-    ensures local { (fields_of result).has_globals ≡ false }
-{
-    let about = "What does the device answer to my next step?";
-    plain_command(alloc, "serve", about, SERVE_HELP)
-}
-
 // The program without its commands.
 fn top_command<'a>(alloc: Global) -> Result<Command<'a>, AllocError>
     ensures { IfOk result (λ c. app_of c ≡ top_app) }
@@ -256,13 +216,18 @@ fn top_command<'a>(alloc: Global) -> Result<Command<'a>, AllocError>
 fn command_line<'a>(alloc: Global) -> Result<Command<'a>, AllocError>
     ensures { IfOk result (λ c. app_of c ≡ program_app) }
 {
+    let check = "What is wrong with the document, and where?";
+    let explain = "Why was each step answered as it was?";
+    let draw = "What does the whole run look like?";
+    let conform = "May a device answer as another one was seen to answer?";
+    let serve = "What does the device answer to my next step?";
     top_command(alloc)?
-        .subcommand(check_command(alloc))?
-        .subcommand(explain_command(alloc))?
+        .subcommand(plain_command(alloc, "check", check, CHECK_HELP))?
+        .subcommand(plain_command(alloc, "explain", explain, EXPLAIN_HELP))?
         .subcommand(trace_command(alloc)?)?
-        .subcommand(draw_command(alloc))?
-        .subcommand(conform_command(alloc))?
-        .subcommand(serve_command(alloc))?
+        .subcommand(plain_command(alloc, "draw", draw, DRAW_HELP))?
+        .subcommand(plain_command(alloc, "conform", conform, CONFORM_HELP))?
+        .subcommand(plain_command(alloc, "serve", serve, SERVE_HELP))?
         .subcommand(threads_command(alloc)?)
 }
 
@@ -339,7 +304,11 @@ pub fn read_words<'a>(alloc: Global, words: &'a [String]) -> Result<Asked, Error
     ensures range { IfOk result (λ asked. IsAskedInRange asked) }
     ensures asked { IfOk result (AsksFor (map string_bytes words.now)) }
     ensures faults { FailsBy (faults_of_words (map string_bytes words.now)) result }
+    ensures none { length words.now ≡ 0 → result ≡ Ok Asked.Scenario }
 {
+    if words.is_empty() {
+        return Ok(Asked::Scenario);
+    }
     let matches = command_line(alloc)?.try_get_matches_from(words)?;
     if let Some(given) = matches.subcommand_matches("threads") {
         return Ok(Asked::Threads(workload_of(given)));

@@ -17,7 +17,8 @@ ghost use Rattle.dsa_cli.specs.declared.options.Asked.TheVariants.{Scenario, Rep
 ghost use Rattle.clap.specs.declared.error.kind.ErrorKind.TheVariants.{UnknownArgument, InvalidSubcommand, ValueValidation, DisplayHelp, DisplayVersion};
 ghost use Rattle.dsa_cli.specs.declared.reports.Report.TheVariants.{Check, Explain, Trace, Draw, Conform};
 ghost use Rattle.dsa_trace.specs.declared.form.Trace.TheVariants.{Table, Json};
-ghost use Rattle.dsa_cli.specs.Threads.{AreTotalsOf, HaveWorked, IsInRange, RanAsClient, RanAsEngine, Submits, caps_for, capacity_for, engine_script, group_config, client_move, queue_config, setup_steps, submission_of, totals_text};
+ghost use Rattle.dsa_cli.specs.Threads.{AreTotalsOf, HaveWorked, IsInRange, RanAsClient, RanAsEngine, Submits, caps_for, capacity_for, engine_script, group_config, client_move, queue_config, setup_steps, submission_of, threads_fault_line, totals_text};
+ghost use Rattle.dsa_cli.specs.declared.threads.ThreadsFault.TheVariants as fault;
 ghost use Rattle.dsa_cli.specs.CommandLine.{AsksFor, IsMistaken, IsUnderstood, NameNothing, command_in, faults_of_words};
 ghost use Rattle.dsa_cli.specs.Worked.{page_move_bytes, load, threads_with, two_retries, value_in, json_trace};
 
@@ -226,4 +227,11 @@ pub fn asked()
     ensures not_understood { ¬ IsUnderstood (codes "scenario" ∷ []) }
     ensures nothing_named { NameNothing [] }
     ensures two_dashes { NameNothing (codes "--" ∷ []) }
+{}
+
+/// The line of a fault of the workers.
+pub fn lines_of_faults()
+    ensures { map threads_fault_line (fault.SettleRefused ∷ fault.Write ∷ fault.OutOfMemory ∷ [])
+        ≡ codes "dsa_run: settle refused\n" ∷ codes "dsa_run: write failed\n"
+        ∷ codes "dsa_run: out of memory\n" ∷ [] }
 {}

@@ -1,27 +1,25 @@
 //! What the words of the command line make the program do.
 
-ghost use Rattle.std.specs.Prelude.{◌≡◌, ◌≢◌, ◌⊎◌, ◌≤◌, ◌<◌, ◌++◌, ◌^◌, true, false, ℕ, List, Option, Some, None, [], length, take, codes, map, string_bytes, IfSome, IfOk, IfErr, IsErrOf};
-ghost use Rattle.std.specs.Io.KnownBytes.{Consumes, Appends};
+ghost use Rattle.std.specs.Prelude.{◌≡◌, ◌≢◌, ◌⊎◌, ◌≤◌, ◌<◌, ◌++◌, true, false, ℕ, List, Some, None, [], length, take, codes, map, string_bytes, IfSome};
+ghost use Rattle.std.specs.Io.KnownBytes.{Appends};
 ghost use Rattle.clap.specs.Words.{Row, Text, kind_of};
 ghost use Rattle.dsa_shared.specs.declared.settle.Totals.{Totals};
 ghost use Rattle.dsa_cli.specs.declared.options.Workload.{Workload};
 ghost use Rattle.dsa_scenario.specs.declared.faults.ScenarioFault.{ScenarioFault};
-ghost use Rattle.dsa_scenario.specs.Document.{IsFaultOf};
 ghost use Rattle.dsa_scenario.specs.Faults.{fault_line};
-ghost use Rattle.dsa_scenario.specs.Scenario.{IsWholeDocument, IsRenderingOf, HasFault, IsCutShort};
+ghost use Rattle.dsa_scenario.specs.Scenario.{HasFault, IsRenderingOf, IsTextWritten, IsTextCutShort, IsCutShort};
 ghost use Rattle.dsa_serve.specs.Dialogue.{IsLate, IsStopped};
 ghost use Rattle.dsa_cli.specs.declared.threads.ThreadsFault.{ThreadsFault};
 ghost use Rattle.dsa_cli.specs.Threads.{IsInRange, AreTotalsOf, threads_fault_line, totals_text};
 ghost use Rattle.dsa_scenario.specs.Watched.{watched_contents, has_refused, is_closed, IsSameWriter};
-ghost use Rattle.dsa_cli.specs.Reports.{IsReported, IsReportCutShort};
 ghost use Rattle.dsa_cli.specs.CommandLine.{IsMistaken, IsUnderstood, faults_of_words, IsServed, NameNothing, NameThreads, NameReport, NameServe, IsReportWritten, IsReportCut, AreTotalsWritten, AreTotalsCutShort};
+ghost use Rattle.dsa_cli.specs.Endings.{IsFaultTold, IsQuiet, IsWriteRefused, IsStoppedBy, IsUnwritten};
 
 use crate::options::{Asked, Workload, read_words};
-use crate::reports::Report;
 use crate::threads::run_workload;
 use clap::Error;
 use clap::error::ErrorKind;
-use dsa_scenario::{CountedReader, PlainRun, Render, ScenarioFault, WatchedWriter, render_counted};
+use dsa_scenario::{PlainRun, Render, ScenarioFault, WatchedWriter, render_input};
 use dsa_serve::serve_watched;
 use std::alloc::Global;
 use std::fmt::Display;
@@ -83,124 +81,34 @@ fn tell_reader<O: Write, E: Write, F: Display>(
     tell_watched(err, fault)
 }
 
-// Writes what `what` makes of the document that the reader gives, as `render_input` does, to a
-// writer that is watched.
-fn render_watched<D: Render, R: Read, O: Write>(
+// Writes what `what` makes of the document that the reader gives, and the line of the fault.
+fn write_text<D: Render, R: Read, O: Write, E: Write>(
     alloc: Global,
     what: &D,
     reader: &mut R,
     out: &mut WatchedWriter<'_, O>,
-) -> Result<Option<ScenarioFault>, ScenarioFault>
-    ensures same_output { IsSameWriter out.old out.new }
-    ensures ok { IfOk result
-        (λ fault. (bytes : List ℕ)
-        × (text : List ℕ)
-        × IsWholeDocument (R.remaining reader.old) (R.remaining reader.new) bytes
-        × D.is_rendering what.now bytes fault text
-        × Appends (watched_contents O.contents out.old)
-        (watched_contents O.contents out.new) text) }
-    ensures nothing { IfErr result (λ e. e ≢ ScenarioFault.Write → out.new ≡ out.old) }
-    ensures refused { IsErrOf result ScenarioFault.Write → has_refused out.new ≡ true }
-    ensures prefix { IsErrOf result ScenarioFault.Write
-        → (bytes : List ℕ)
-        × (text : List ℕ)
-        × (fault : Option ScenarioFault)
-        × (count : ℕ)
-        × IsWholeDocument (R.remaining reader.old) (R.remaining reader.new) bytes
-        × D.is_rendering what.now bytes fault text
-        × (count < length text)
-        × Appends (watched_contents O.contents out.old)
-        (watched_contents O.contents out.new) (take count text) }
-    ensures document { IfErr result (λ e. (e ≡ ScenarioFault.Read) ⊎ (e ≡ ScenarioFault.TooLong)
-        ⊎ (e ≡ ScenarioFault.Write) ⊎ (e ≡ ScenarioFault.OutOfMemory)
-        ⊎ ((bytes : List ℕ)
-        × IsWholeDocument (R.remaining reader.old) (R.remaining reader.new) bytes
-        × IsFaultOf bytes e)) }
-    ensures too_long { IsErrOf result ScenarioFault.TooLong
-        → (bytes : List ℕ)
-        × Consumes (R.remaining reader.old) (R.remaining reader.new) bytes
-        × (2 ^ 20 < length bytes) }
-    ensures read { IsErrOf result ScenarioFault.Read
-        → (bytes : List ℕ)
-        × Consumes (R.remaining reader.old) (R.remaining reader.new) bytes
-        × (length bytes ≤ 2 ^ 20) }
-{
-    let mut counted = CountedReader::new(reader);
-    render_counted(alloc, what, &mut counted, out)
-}
-
-// Runs the scenario that the reader gives.
-fn run_input<R: Read, O: Write, E: Write>(
-    alloc: Global,
-    reader: &mut R,
-    out: &mut WatchedWriter<'_, O>,
     err: &mut WatchedWriter<'_, E>,
 ) -> u8
     ensures same_output { IsSameWriter out.old out.new }
     ensures same_writer { IsSameWriter err.old err.new }
     ensures done { result ≡ 0
-        → (bytes : List ℕ)
-        × (lines : List ℕ)
-        × IsWholeDocument (R.remaining reader.old) (R.remaining reader.new) bytes
-        × IsRenderingOf bytes lines
-        × Appends (watched_contents O.contents out.old)
-        (watched_contents O.contents out.new) lines }
-    ensures failed { result ≡ 1
-        → (fault : ScenarioFault)
-        × HasFault (R.remaining reader.old) (R.remaining reader.new) fault
-        × (fault ≢ ScenarioFault.Write → out.new ≡ out.old)
-        × (fault ≡ ScenarioFault.Write
-        → (has_refused out.new ≡ true)
-        × IsCutShort (R.remaining reader.old) (R.remaining reader.new)
-        (watched_contents O.contents out.old) (watched_contents O.contents out.new))
-        × (is_closed out.new ≡ false
-        → has_refused err.new ≡ false
-        → Appends (watched_contents E.contents err.old)
-        (watched_contents E.contents err.new) (fault_line fault)) }
-    ensures quiet { result ≡ 0 → err.new ≡ err.old }
-    ensures silent { result ≡ 1 → is_closed out.new ≡ true → err.new ≡ err.old }
-    ensures statuses { (result ≡ 0) ⊎ (result ≡ 1) }
-{
-    match render_watched(alloc, &PlainRun, reader, out) {
-        Ok(_) => DONE,
-        Err(fault) => tell_reader(out, err, &fault),
-    }
-}
-
-// Writes the report on the scenario that the reader gives.
-fn report_input<R: Read, O: Write, E: Write>(
-    alloc: Global,
-    report: &Report,
-    reader: &mut R,
-    out: &mut WatchedWriter<'_, O>,
-    err: &mut WatchedWriter<'_, E>,
-) -> u8
-    ensures same_output { IsSameWriter out.old out.new }
-    ensures same_writer { IsSameWriter err.old err.new }
-    ensures done { result ≡ 0
-        → IsReported report.now None (R.remaining reader.old) (R.remaining reader.new)
+        → IsTextWritten (λ bytes text. D.is_rendering what.now bytes None text)
+        (R.remaining reader.old) (R.remaining reader.new)
         (watched_contents O.contents out.old) (watched_contents O.contents out.new) }
     ensures failed { result ≡ 1
         → (fault : ScenarioFault)
-        × (IsReported report.now (Some fault) (R.remaining reader.old) (R.remaining reader.new)
+        × (IsTextWritten (λ bytes text. D.is_rendering what.now bytes (Some fault) text)
+        (R.remaining reader.old) (R.remaining reader.new)
         (watched_contents O.contents out.old) (watched_contents O.contents out.new)
-        ⊎ (HasFault (R.remaining reader.old) (R.remaining reader.new) fault
-        × (fault ≢ ScenarioFault.Write → out.new ≡ out.old)
-        × (fault ≡ ScenarioFault.Write
-        → (has_refused out.new ≡ true)
-        × IsReportCutShort report.now (R.remaining reader.old)
-        (R.remaining reader.new)
-        (watched_contents O.contents out.old)
-        (watched_contents O.contents out.new))))
-        × (is_closed out.new ≡ false
-        → has_refused err.new ≡ false
-        → Appends (watched_contents E.contents err.old)
-        (watched_contents E.contents err.new) (fault_line fault)) }
-    ensures quiet { result ≡ 0 → err.new ≡ err.old }
-    ensures silent { result ≡ 1 → is_closed out.new ≡ true → err.new ≡ err.old }
+        ⊎ IsStoppedBy fault (IsTextCutShort (D.is_rendering what.now))
+        (R.remaining reader.old) (R.remaining reader.new)
+        (watched_contents O.contents) out.old out.new
+        × IsWriteRefused fault out.new)
+        × IsFaultTold out.new E.contents err.old err.new (fault_line fault) }
+    ensures quiet { IsQuiet result out.new err.old err.new }
     ensures statuses { (result ≡ 0) ⊎ (result ≡ 1) }
 {
-    match render_watched(alloc, report, reader, out) {
+    match render_input(alloc, what, reader, out) {
         Ok(None) => DONE,
         Ok(Some(fault)) => tell_reader(out, err, &fault),
         Err(fault) => tell_reader(out, err, &fault),
@@ -216,20 +124,17 @@ fn serve_input<R: Read, O: Write, E: Write>(
 ) -> u8
     ensures same_output { IsSameWriter out.old out.new }
     ensures same_writer { IsSameWriter err.old err.new }
-    ensures done { result ≡ 0 → IsServed (R.remaining reader.old) (R.remaining reader.new)
+    ensures done { result ≡ 0
+        → IsServed (R.remaining reader.old) (R.remaining reader.new)
         (watched_contents O.contents out.old) (watched_contents O.contents out.new) }
     ensures failed { result ≡ 1
         → (fault : ScenarioFault)
         × IsStopped fault (R.remaining reader.old) (R.remaining reader.new)
         (watched_contents O.contents out.old) (watched_contents O.contents out.new)
         × (¬ IsLate fault → out.new ≡ out.old)
-        × (fault ≡ ScenarioFault.Write → has_refused out.new ≡ true)
-        × (is_closed out.new ≡ false
-        → has_refused err.new ≡ false
-        → Appends (watched_contents E.contents err.old)
-        (watched_contents E.contents err.new) (fault_line fault)) }
-    ensures quiet { result ≡ 0 → err.new ≡ err.old }
-    ensures silent { result ≡ 1 → is_closed out.new ≡ true → err.new ≡ err.old }
+        × IsWriteRefused fault out.new
+        × IsFaultTold out.new E.contents err.old err.new (fault_line fault) }
+    ensures quiet { IsQuiet result out.new err.old err.new }
     ensures statuses { (result ≡ 0) ⊎ (result ≡ 1) }
 {
     match serve_watched(alloc, reader, out) {
@@ -263,15 +168,11 @@ fn run_workers<T: Threads + Wait + Sync, O: Write, E: Write>(
         × Appends (watched_contents O.contents out.old)
         (watched_contents O.contents out.new) (take count (totals_text totals))) }
     ensures told { result ≡ 1
-        → is_closed out.new ≡ false
-        → has_refused err.new ≡ false
         → (fault : ThreadsFault)
         × (fault ≢ ThreadsFault.Write → out.new ≡ out.old)
         × (fault ≡ ThreadsFault.Write → has_refused out.new ≡ true)
-        × Appends (watched_contents E.contents err.old)
-        (watched_contents E.contents err.new) (threads_fault_line fault) }
-    ensures quiet { result ≡ 0 → err.new ≡ err.old }
-    ensures silent { result ≡ 1 → is_closed out.new ≡ true → err.new ≡ err.old }
+        × IsFaultTold out.new E.contents err.old err.new (threads_fault_line fault) }
+    ensures quiet { IsQuiet result out.new err.old err.new }
     ensures statuses { (result ≡ 0) ⊎ (result ≡ 1) }
 {
     match run_workload(rt, alloc, load, out) {
@@ -300,20 +201,12 @@ fn show<O: Write, E: Write>(
     ensures memory { kind_of error.now ≡ ErrorKind.OutOfMemory
         → (result ≡ 1) × (out.new ≡ out.old) }
     ensures told { kind_of error.now ≡ ErrorKind.OutOfMemory
-        → is_closed out.new ≡ false
-        → has_refused err.new ≡ false
-        → Appends (watched_contents E.contents err.old) (watched_contents E.contents err.new)
-        (fault_line ScenarioFault.OutOfMemory) }
+        → IsFaultTold out.new E.contents err.old err.new (fault_line ScenarioFault.OutOfMemory) }
     ensures failed { result ≡ 1
-        → is_closed out.new ≡ false
-        → has_refused err.new ≡ false
         → (fault : ScenarioFault)
-        × ((fault ≡ ScenarioFault.OutOfMemory) × (out.new ≡ out.old)
-        ⊎ (fault ≡ ScenarioFault.Write) × (has_refused out.new ≡ true))
-        × Appends (watched_contents E.contents err.old)
-        (watched_contents E.contents err.new) (fault_line fault) }
-    ensures quiet { result ≡ 0 → err.new ≡ err.old }
-    ensures silent { result ≡ 1 → is_closed out.new ≡ true → err.new ≡ err.old }
+        × IsUnwritten fault out.old out.new
+        × IsFaultTold out.new E.contents err.old err.new (fault_line fault) }
+    ensures quiet { IsQuiet result out.new err.old err.new }
     ensures statuses { result ≤ 2 }
 {
     if error.kind() == ErrorKind::OutOfMemory {
@@ -349,22 +242,11 @@ pub fn answer_words<T: Threads + Wait + Sync, R: Read, O: Write, E: Write>(
 ) -> u8
     ensures same_output { IsSameWriter out.old out.new }
     ensures same_writer { IsSameWriter err.old err.new }
-    ensures done { length words.now ≡ 0
+    ensures done { (length words.now ≡ 0) ⊎ NameNothing (map string_bytes words.now)
         → result ≡ 0
-        → (bytes : List ℕ)
-        × (lines : List ℕ)
-        × IsWholeDocument (R.remaining reader.old) (R.remaining reader.new) bytes
-        × IsRenderingOf bytes lines
-        × Appends (watched_contents O.contents out.old)
-        (watched_contents O.contents out.new) lines }
-    ensures plain { NameNothing (map string_bytes words.now)
-        → result ≡ 0
-        → (bytes : List ℕ)
-        × (lines : List ℕ)
-        × IsWholeDocument (R.remaining reader.old) (R.remaining reader.new) bytes
-        × IsRenderingOf bytes lines
-        × Appends (watched_contents O.contents out.old)
-        (watched_contents O.contents out.new) lines }
+        → IsTextWritten IsRenderingOf
+        (R.remaining reader.old) (R.remaining reader.new)
+        (watched_contents O.contents out.old) (watched_contents O.contents out.new) }
     ensures threads { result ≡ 0
         → (rows : List Row)
         → NameThreads (map string_bytes words.now) rows
@@ -381,32 +263,13 @@ pub fn answer_words<T: Threads + Wait + Sync, R: Read, O: Write, E: Write>(
         (watched_contents O.contents out.old) (watched_contents O.contents out.new) }
 
     // Where it fails, the output is as it was, or has the first of the lines.
-    ensures failed { length words.now ≡ 0
+    ensures failed { (length words.now ≡ 0) ⊎ NameNothing (map string_bytes words.now)
         → result ≡ 1
         → (fault : ScenarioFault)
-        × HasFault (R.remaining reader.old) (R.remaining reader.new) fault
-        × (fault ≢ ScenarioFault.Write → out.new ≡ out.old)
-        × (fault ≡ ScenarioFault.Write
-        → (has_refused out.new ≡ true)
-        × IsCutShort (R.remaining reader.old) (R.remaining reader.new)
-        (watched_contents O.contents out.old) (watched_contents O.contents out.new))
-        × (is_closed out.new ≡ false
-        → has_refused err.new ≡ false
-        → Appends (watched_contents E.contents err.old)
-        (watched_contents E.contents err.new) (fault_line fault)) }
-    ensures plain_failed { NameNothing (map string_bytes words.now)
-        → result ≡ 1
-        → (fault : ScenarioFault)
-        × HasFault (R.remaining reader.old) (R.remaining reader.new) fault
-        × (fault ≢ ScenarioFault.Write → out.new ≡ out.old)
-        × (fault ≡ ScenarioFault.Write
-        → (has_refused out.new ≡ true)
-        × IsCutShort (R.remaining reader.old) (R.remaining reader.new)
-        (watched_contents O.contents out.old) (watched_contents O.contents out.new))
-        × (is_closed out.new ≡ false
-        → has_refused err.new ≡ false
-        → Appends (watched_contents E.contents err.old)
-        (watched_contents E.contents err.new) (fault_line fault)) }
+        × IsStoppedBy fault IsCutShort (R.remaining reader.old) (R.remaining reader.new)
+        (watched_contents O.contents) out.old out.new
+        × IsWriteRefused fault out.new
+        × IsFaultTold out.new E.contents err.old err.new (fault_line fault) }
     ensures threads_failed { result ≡ 1
         → (rows : List Row)
         → NameThreads (map string_bytes words.now) rows
@@ -416,77 +279,51 @@ pub fn answer_words<T: Threads + Wait + Sync, R: Read, O: Write, E: Write>(
     ensures threads_told { result ≡ 1
         → (rows : List Row)
         → NameThreads (map string_bytes words.now) rows
-        → is_closed out.new ≡ false
-        → has_refused err.new ≡ false
         → (fault : ThreadsFault)
         × (fault ≢ ThreadsFault.Write → out.new ≡ out.old)
         × (fault ≡ ThreadsFault.Write → has_refused out.new ≡ true)
-        × Appends (watched_contents E.contents err.old)
-        (watched_contents E.contents err.new) (threads_fault_line fault) }
+        × IsFaultTold out.new E.contents err.old err.new (threads_fault_line fault) }
     ensures reports_failed { result ≡ 1
         → (found : Text × List Row)
         → NameReport (map string_bytes words.now) found
         → (fault : ScenarioFault)
         × (IsReportWritten found (Some fault) (R.remaining reader.old) (R.remaining reader.new)
         (watched_contents O.contents out.old) (watched_contents O.contents out.new)
-        ⊎ (HasFault (R.remaining reader.old) (R.remaining reader.new) fault
-        × (fault ≢ ScenarioFault.Write → out.new ≡ out.old)
-        × (fault ≡ ScenarioFault.Write
-        → (has_refused out.new ≡ true)
-        × IsReportCut found (R.remaining reader.old)
-        (R.remaining reader.new)
-        (watched_contents O.contents out.old)
-        (watched_contents O.contents out.new))))
-        × (is_closed out.new ≡ false
-        → has_refused err.new ≡ false
-        → Appends (watched_contents E.contents err.old)
-        (watched_contents E.contents err.new) (fault_line fault)) }
+        ⊎ IsStoppedBy fault (IsReportCut found) (R.remaining reader.old) (R.remaining reader.new)
+        (watched_contents O.contents) out.old out.new
+        × IsWriteRefused fault out.new)
+        × IsFaultTold out.new E.contents err.old err.new (fault_line fault) }
     ensures serve_failed { result ≡ 1
         → NameServe (map string_bytes words.now)
         → (fault : ScenarioFault)
         × IsStopped fault (R.remaining reader.old) (R.remaining reader.new)
         (watched_contents O.contents out.old) (watched_contents O.contents out.new)
         × (¬ IsLate fault → out.new ≡ out.old)
-        × (fault ≡ ScenarioFault.Write → has_refused out.new ≡ true)
-        × (is_closed out.new ≡ false
-        → has_refused err.new ≡ false
-        → Appends (watched_contents E.contents err.old)
-        (watched_contents E.contents err.new) (fault_line fault)) }
+        × IsWriteRefused fault out.new
+        × IsFaultTold out.new E.contents err.old err.new (fault_line fault) }
 
     // Help or the version, of which some could not be written.
     ensures help_failed { result ≡ 1
-        → 1 ≤ length words.now
         → faults_of_words (map string_bytes words.now) ≢ []
-        → is_closed out.new ≡ false
-        → has_refused err.new ≡ false
         → (fault : ScenarioFault)
-        × ((fault ≡ ScenarioFault.OutOfMemory) × (out.new ≡ out.old)
-        ⊎ (fault ≡ ScenarioFault.Write) × (has_refused out.new ≡ true))
-        × Appends (watched_contents E.contents err.old)
-        (watched_contents E.contents err.new) (fault_line fault) }
+        × IsUnwritten fault out.old out.new
+        × IsFaultTold out.new E.contents err.old err.new (fault_line fault) }
 
     // A usage error, and words that ask for no input.
     ensures refused { result ≡ 2 → (out.new ≡ out.old) × (reader.new ≡ reader.old) }
-    ensures understood { 1 ≤ length words.now
-        → result ≡ 0
-        → IsUnderstood (map string_bytes words.now) }
+    ensures understood { result ≡ 0 → IsUnderstood (map string_bytes words.now) }
     ensures unread { (rows : List Row)
         → NameThreads (map string_bytes words.now) rows
         → reader.new ≡ reader.old }
-    ensures not_read { 1 ≤ length words.now
-        → faults_of_words (map string_bytes words.now) ≢ []
+    ensures not_read { faults_of_words (map string_bytes words.now) ≢ []
         → reader.new ≡ reader.old }
     ensures mistake { result ≡ 2 → IsMistaken (map string_bytes words.now) }
-    ensures quiet { result ≡ 0 → err.new ≡ err.old }
-    ensures silent { result ≡ 1 → is_closed out.new ≡ true → err.new ≡ err.old }
+    ensures quiet { IsQuiet result out.new err.old err.new }
     ensures statuses { (result ≡ 0) ⊎ (result ≡ 1) ⊎ ((result ≡ 2) × (1 ≤ length words.now)) }
 {
-    if words.is_empty() {
-        return run_input(alloc, reader, out, err);
-    }
     match read_words(alloc, words) {
-        Ok(Asked::Scenario) => run_input(alloc, reader, out, err),
-        Ok(Asked::Report(report)) => report_input(alloc, &report, reader, out, err),
+        Ok(Asked::Scenario) => write_text(alloc, &PlainRun, reader, out, err),
+        Ok(Asked::Report(report)) => write_text(alloc, &report, reader, out, err),
         Ok(Asked::Serve) => serve_input(alloc, reader, out, err),
         Ok(Asked::Threads(load)) => run_workers(rt, alloc, &load, out, err),
         Err(error) => show(out, err, &error),
@@ -505,17 +342,10 @@ pub fn run_words<T: Threads + Wait + Sync, R: Read, O: Write, E: Write>(
     out: &mut O,
     err: &mut E,
 ) -> u8
-    ensures done { length words.now ≡ 0 → result ≡ 0 → (bytes : List ℕ) × (lines : List ℕ)
-        × IsWholeDocument (R.remaining reader.old) (R.remaining reader.new) bytes
-        × IsRenderingOf bytes lines
-        × Appends (O.contents out.old) (O.contents out.new) lines }
-    ensures plain { NameNothing (map string_bytes words.now)
+    ensures done { (length words.now ≡ 0) ⊎ NameNothing (map string_bytes words.now)
         → result ≡ 0
-        → (bytes : List ℕ)
-        × (lines : List ℕ)
-        × IsWholeDocument (R.remaining reader.old) (R.remaining reader.new) bytes
-        × IsRenderingOf bytes lines
-        × Appends (O.contents out.old) (O.contents out.new) lines }
+        → IsTextWritten IsRenderingOf (R.remaining reader.old) (R.remaining reader.new)
+        (O.contents out.old) (O.contents out.new) }
     ensures threads { result ≡ 0 → (rows : List Row) → NameThreads (map string_bytes words.now) rows
         → AreTotalsWritten rows (O.contents out.old) (O.contents out.new) }
     ensures reports { result ≡ 0
@@ -529,22 +359,11 @@ pub fn run_words<T: Threads + Wait + Sync, R: Read, O: Write, E: Write>(
         (O.contents out.new) }
 
     // Where it fails, the output is as it was, or has the first of the lines.
-    ensures failed { length words.now ≡ 0
+    ensures failed { (length words.now ≡ 0) ⊎ NameNothing (map string_bytes words.now)
         → result ≡ 1
         → (fault : ScenarioFault)
-        × HasFault (R.remaining reader.old) (R.remaining reader.new) fault
-        × (fault ≢ ScenarioFault.Write → out.new ≡ out.old)
-        × (fault ≡ ScenarioFault.Write
-        → IsCutShort (R.remaining reader.old) (R.remaining reader.new)
-        (O.contents out.old) (O.contents out.new)) }
-    ensures plain_failed { NameNothing (map string_bytes words.now)
-        → result ≡ 1
-        → (fault : ScenarioFault)
-        × HasFault (R.remaining reader.old) (R.remaining reader.new) fault
-        × (fault ≢ ScenarioFault.Write → out.new ≡ out.old)
-        × (fault ≡ ScenarioFault.Write
-        → IsCutShort (R.remaining reader.old) (R.remaining reader.new)
-        (O.contents out.old) (O.contents out.new)) }
+        × IsStoppedBy fault IsCutShort (R.remaining reader.old) (R.remaining reader.new)
+        O.contents out.old out.new }
     ensures threads_failed { result ≡ 1
         → (rows : List Row)
         → NameThreads (map string_bytes words.now) rows
@@ -555,12 +374,8 @@ pub fn run_words<T: Threads + Wait + Sync, R: Read, O: Write, E: Write>(
         → (fault : ScenarioFault)
         × (IsReportWritten found (Some fault) (R.remaining reader.old) (R.remaining reader.new)
         (O.contents out.old) (O.contents out.new)
-        ⊎ (HasFault (R.remaining reader.old) (R.remaining reader.new) fault
-        × (fault ≢ ScenarioFault.Write → out.new ≡ out.old)
-        × (fault ≡ ScenarioFault.Write
-        → IsReportCut found (R.remaining reader.old)
-        (R.remaining reader.new) (O.contents out.old)
-        (O.contents out.new)))) }
+        ⊎ IsStoppedBy fault (IsReportCut found) (R.remaining reader.old) (R.remaining reader.new)
+        O.contents out.old out.new) }
     ensures serve_failed { result ≡ 1
         → NameServe (map string_bytes words.now)
         → (fault : ScenarioFault)
@@ -570,14 +385,11 @@ pub fn run_words<T: Threads + Wait + Sync, R: Read, O: Write, E: Write>(
 
     // A usage error, and words that ask for no input.
     ensures refused { result ≡ 2 → (out.new ≡ out.old) × (reader.new ≡ reader.old) }
-    ensures understood { 1 ≤ length words.now
-        → result ≡ 0
-        → IsUnderstood (map string_bytes words.now) }
+    ensures understood { result ≡ 0 → IsUnderstood (map string_bytes words.now) }
     ensures unread { (rows : List Row)
         → NameThreads (map string_bytes words.now) rows
         → reader.new ≡ reader.old }
-    ensures not_read { 1 ≤ length words.now
-        → faults_of_words (map string_bytes words.now) ≢ []
+    ensures not_read { faults_of_words (map string_bytes words.now) ≢ []
         → reader.new ≡ reader.old }
     ensures mistake { result ≡ 2 → IsMistaken (map string_bytes words.now) }
     ensures quiet { result ≡ 0 → err.new ≡ err.old }

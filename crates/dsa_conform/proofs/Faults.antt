@@ -4,14 +4,12 @@ use Rattle.std.proofs.Common.{option_map, subst}
 use Rattle.std.proofs.lemmas.Option.{slice_get-map}
 use Rattle.std.specs.{Prelude.{slice_get}, Option.{option_map_or}}
 use Rattle.serde_json.specs.Data.{Data, Items}
-use Rattle.dsa_regs.specs.{declared.Caps.{Caps}, Caps.{check_caps}}
+use Rattle.dsa_regs.specs.declared.Caps.{Caps}
 use Rattle.dsa_scenario.specs.declared.actions.Action.{Action}
 use Rattle.dsa_scenario.specs.declared.faults.ScenarioFault.{ScenarioFault, TheVariants.{OutOfMemory}}
-use Rattle.dsa_scenario.specs.declared.faults.ScenarioFault.TheVariants.{BadCaps, BadCapacity}
-use Rattle.dsa_scenario.specs.Document.{head_of, list_of_items, HasHead}
-use Rattle.dsa_scenario.proofs.Whole.{bad_head}
+use Rattle.dsa_scenario.specs.Document.{head_of, list_of_items, HasHead, IsFaultOfHead}
+use Rattle.dsa_scenario.proofs.Whole.{faulty_head}
 use Rattle.dsa_conform.specs.{Seen.{Seen, observation_of}, Run.{AreRead, IsUnreadAt, IsUnread, IsOtherFault}}
-use Rattle.dsa_conform.proofs.Objects.{asked_of}
 
 -- the keys of a document
 abbrev Keys : Type 0
@@ -51,10 +49,9 @@ none_where_read bytes caps capacity steps observed head read i unread =
 -- where no device can be made for it, that is its fault
 pub bad_keys : (bytes : List ℕ) (caps : Caps) (capacity : ℕ) (steps : List Data) (observed : List (Action × Seen))
     (e : ScenarioFault) → HasHead bytes caps capacity steps → AreRead steps observed
-    → ((e ≡ BadCaps) × (check_caps caps ≡ false)) ⊎ ((e ≡ BadCapacity) × (check_caps caps ≡ true) × (2 ^ 20 < capacity))
-    → (e ≡ OutOfMemory) ⊎ IsOtherFault bytes e
+    → IsFaultOfHead caps capacity steps e → (e ≡ OutOfMemory) ⊎ IsOtherFault bytes e
 bad_keys bytes caps capacity steps observed e head read fault =
-    elim (bad_head bytes caps capacity steps _ e head (asked_of steps observed read) fault) [
+    elim (faulty_head bytes caps capacity steps e head (inr fault)) [
       | inl memory ↦ inl memory
       | inr of ↦ inr (of, none_where_read bytes caps capacity steps observed head read)
     ]

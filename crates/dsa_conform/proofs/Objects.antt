@@ -89,31 +89,3 @@ pub read_next : {B : Type 0} (f : B → Action × Seen) (vs : List Value) (i : �
 read_next f vs i v None inside is reads some h = absurd cc
 read_next f vs i v (Some b) inside is reads some h =
     (h.0 ++ f b ∷ [], read_more vs i v (f b) h.0 inside is (sym reads) h.1)
-
--- what an object asks, where it is read
-action-read : (d : Data) (o : Action × Seen) → observation_of d ≡ Some o → action_of d ≡ Some o.0
-action-read d o h = at (action_of d) refl (seen_of d) h
-  where
-    at : (a : Option Action) → action_of d ≡ a → (s : Option Seen)
-        → option_and_then (λ action. option_and_then (λ seen. Some (action, seen)) s) a ≡ Some o → a ≡ Some o.0
-    at None is s h = absurd cc
-    at (Some action) is None h = absurd cc
-    at (Some action) is (Some seen) h = ap (λ (p : Action × Seen). Some p.0) (same_Some (action, seen) o h)
-
-abbrev first : {X : Type 0} → X → List X → X
-first x [] = x
-first x (y ∷ ys) = y
-
-abbrev rest : {X : Type 0} → List X → List X
-rest [] = []
-rest (y ∷ ys) = ys
-
--- what the objects ask, where they are read
-pub asked_of : (steps : List Data) (observed : List (Action × Seen)) → AreRead steps observed
-    → map action_of steps ≡ map Some (map (λ o. o.0) observed)
-asked_of [] [] h = refl
-asked_of [] (o ∷ os) h = absurd cc
-asked_of (d ∷ ds) [] h = absurd cc
-asked_of (d ∷ ds) (o ∷ os) h =
-    let here = action-read d o (ap (first (observation_of d)) h) in
-    rw here (ap (λ actions. Some o.0 ∷ actions) (asked_of ds os (ap rest h)))

@@ -14,7 +14,7 @@ use Rattle.dsa_regs.specs.{declared.Fault.{Fault}, Caps.{check_caps}}
 use Rattle.dsa_book.specs.declared.event.Event.{Event}
 use Rattle.dsa_scenario.specs.declared.{run.Record.{Record}, faults.ScenarioFault.{ScenarioFault}}
 use Rattle.dsa_scenario.specs.declared.faults.ScenarioFault.TheVariants as fault
-use Rattle.dsa_scenario.specs.{Document.{HasHead}, Run.{ticket_given_by, event_of, IsTable}}
+use Rattle.dsa_scenario.specs.{Document.{HasHead, IsOpenable}, Run.{ticket_given_by, event_of, IsTable}}
 use Rattle.dsa_explain_lines.specs.Parts.{part_of}
 use Rattle.dsa_conform.specs.declared.way.Way.{Way}
 use Rattle.dsa_scenario.specs.declared.actions.Action.{Action}
@@ -126,10 +126,10 @@ at_most false answers more i adds h = omega (arith, adds, h)
 
 -- a verdict on the steps of a document
 pub conformance_of : (bytes : List ℕ) (caps : Caps) (capacity : ℕ) (steps : List Data) (fault : Option ScenarioFault)
-    (text : List ℕ) → HasHead bytes caps capacity steps → check_caps caps ≡ true → capacity ≤ 2 ^ 20
+    (text : List ℕ) → HasHead bytes caps capacity steps → IsOpenable caps capacity
     → IsVerdict caps capacity steps fault text → IsConformance bytes fault text
-conformance_of bytes caps capacity steps None text head good small h =
-    record { caps = caps; capacity = capacity; steps = steps; head = head; good = good; small = small; verdict = h }
-conformance_of bytes caps capacity steps (Some (fault.Differs i)) text head good small h =
-    record { caps = caps; capacity = capacity; steps = steps; head = head; good = good; small = small; verdict = h }
-conformance_of bytes caps capacity steps (Some _) text head good small h = absurd h
+conformance_of bytes caps capacity steps None text head opening h =
+    record { caps = caps; capacity = capacity; steps = steps; head = head; opening = opening; verdict = h }
+conformance_of bytes caps capacity steps (Some (fault.Differs i)) text head opening h =
+    record { caps = caps; capacity = capacity; steps = steps; head = head; opening = opening; verdict = h }
+conformance_of bytes caps capacity steps (Some _) text head opening h = absurd h

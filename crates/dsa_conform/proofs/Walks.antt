@@ -9,7 +9,7 @@ use Rattle.dsa_book.specs.declared.{answer.Ticket.{Ticket}, event.Event.{Event}}
 use Rattle.dsa_device.specs.{Running.{Running, running_at_first, IsReplay}}
 use Rattle.dsa_scenario.specs.declared.{actions.Action.{Action}, run.Record.{Record}}
 use Rattle.dsa_scenario.specs.Run.{ticket_given_by, event_of, answered_by, Leads, IsTable}
-use Rattle.dsa_scenario.specs.Steps.{standing, Visit, visit, visits, IsWalkTo}
+use Rattle.dsa_scenario.specs.Steps.{standing, Visit, visit, visits, IsAtFirst, IsWalkTo}
 use Rattle.dsa_scenario.proofs.Walks.{stands, one_more, opened}
 use Rattle.dsa_conform.specs.Run.{IsShownRun, IsFollowedTo}
 use Rattle.dsa_conform.specs.Seen.{Seen, is_seen, answer_shown, zf_shown, shows, AreShown}
@@ -98,6 +98,5 @@ stands_at caps capacity done number now tickets h = stands caps capacity h.recor
 
 -- a new device has come by nothing
 pub followed_none : (caps : Caps) (capacity : ℕ) (now : Running) (tickets : List Ticket)
-    → now ≡ running_at_first caps capacity → IsReplay now → tickets ≡ [] → IsFollowedTo caps capacity [] 0 now tickets
-followed_none caps capacity now tickets is replay none =
-    opened ShowAll caps capacity now tickets [] is replay none tt
+    → IsAtFirst caps capacity now tickets → IsFollowedTo caps capacity [] 0 now tickets
+followed_none caps capacity now tickets first = opened ShowAll caps capacity now tickets [] first tt

@@ -1,15 +1,15 @@
 -- What it is that a document conforms, and where it does not.
-use Rattle.std.specs.Prelude.{◌≡◌, ℕ, ◌+◌, ◌≤◌, ◌^◌, true, List}
+use Rattle.std.specs.Prelude.{◌≡◌, ℕ, ◌+◌, true, List}
 use Rattle.std.specs.Prelude.{[], ◌∷◌, ◌++◌, length, map, take, slice_get, option_map}
 use Rattle.std.specs.Prelude.{Option, Some, None, Result}
 use Rattle.serde_json.specs.Data.{Data}
 use Rattle.dsa_base.specs.Lists.{In}
-use Rattle.dsa_regs.specs.{declared.Caps.{Caps}, Caps.{check_caps}}
+use Rattle.dsa_regs.specs.declared.Caps.{Caps}
 use Rattle.dsa_book.specs.{declared.{answer.Ticket.{Ticket}, event.Event.{Event}}, Machine.{is_run}}
 use Rattle.dsa_device.specs.Running.{Running}
 use Rattle.dsa_scenario.specs.declared.{actions.Action.{Action}, run.Record.{Record}}
 use Rattle.dsa_scenario.specs.declared.faults.ScenarioFault.{ScenarioFault, TheVariants.{BadStep, Differs}}
-use Rattle.dsa_scenario.specs.{Document.{HasHead, IsFaultOf}, Run.{event_of, steps_of_records, AreOf}}
+use Rattle.dsa_scenario.specs.{Document.{HasHead, IsOpenable, IsFaultOf}, Run.{event_of, steps_of_records, AreOf}}
 use Rattle.dsa_scenario.specs.Steps.{standing, IsWalkTo}
 use Rattle.dsa_explain_lines.specs.Parts.{part_of}
 use Rattle.dsa_conform.specs.Allowed.{IsAllowed}
@@ -104,8 +104,7 @@ pub record IsRunJudged (bytes : List ℕ) (fault : Option ScenarioFault) (text :
   pub capacity : ℕ
   pub steps : List Data
   pub head : HasHead bytes caps capacity steps
-  pub good : check_caps caps ≡ true
-  pub small : capacity ≤ 2 ^ 20
+  pub opening : IsOpenable caps capacity
   pub verdict : IsVerdict caps capacity steps fault text
 
 -- a document whose object i is the first that is no step object with what was seen (profile)

@@ -1,7 +1,8 @@
 -- Observations and answers that the worked rows speak of.
 use Rattle.dsa_book.specs.declared.answer.Reply.TheVariants as reply
 use Rattle.dsa_book.specs.declared.event.Event.TheVariants as event
-use Rattle.std.specs.Prelude.{ℕ, Bool, false, List, [], ◌∷◌, ◌++◌, map, take, Some, None, codes}
+use Rattle.std.specs.Prelude.{ℕ, Bool, String, false, List, [], ◌∷◌, ◌++◌, map, take, Some, None, codes}
+use Rattle.std.specs.declared.alloc.Global.{Global}
 use Rattle.dsa_book.specs.declared.answer.{Ticket.{Ticket}, DispatchAnswer.TheVariants.{Taken}}
 use Rattle.dsa_book.specs.declared.answer.{SubmitAnswer.{SubmitAnswer, TheVariants.{Accepted}}}
 use Rattle.dsa_book.specs.declared.answer.FinishAnswer.TheVariants.{Done}
@@ -15,7 +16,7 @@ use Rattle.dsa_scenario.specs.declared.actions.Action.{Action, TheVariants.{Ask,
 use Rattle.dsa_scenario.specs.declared.run.Record.{Record, TheVariants.{Stepped, Refused}}
 use Rattle.dsa_scenario.specs.{Steps.{standing}, Worked.{record_ticket, stepped, fill, caps_of_a_run, queue_of_a_run}}
 use Rattle.dsa_scenario.specs.Worked.{group_of_a_run, submission_of_a_run, smallest_caps, smallest_caps_text, document_text}
-use Rattle.dsa_conform.specs.Seen.{Seen}
+use Rattle.dsa_conform.specs.{declared.told.Line.{Line}, Seen.{Seen}}
 
 -- the text of an answer was seen
 abbrev pub answered : List ℕ → Seen
@@ -116,6 +117,14 @@ after_some count = standing caps_of_three_queues 9 (take count records_of_two_qu
 
 abbrev pub after_all : Running
 after_all = standing caps_of_three_queues 9 records_of_two_queues
+
+-- and after engine 0 took from the first queue
+abbrev pub after_a_take : Running
+after_a_take = standing caps_of_three_queues 9 (records_of_two_queues ++ from_first ∷ [])
+
+-- an answer with this text
+abbrev pub line_of : Record → String Global → Line
+line_of entry text = record { entry = entry; text = text }
 
 -- ---- the smallest device
 

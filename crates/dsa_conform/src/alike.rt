@@ -149,15 +149,15 @@ fn same_histories<S: EntryStore>(first: &Device<S>, second: &Device<S>) -> bool
     first.capacity() == second.capacity() && first.history().len() == second.history().len()
 }
 
-// Whether no command is active in either.
-fn are_both_idle<S: EntryStore>(first: &Device<S>, second: &Device<S>) -> bool
+// Whether the same command is active in both, or none in either.
+fn same_commands<S: EntryStore>(first: &Device<S>, second: &Device<S>) -> bool
     ensures { result ≡ true → first.now.state.active ≡ second.now.state.active }
 {
-    first.active().is_none() && second.active().is_none()
+    first.active_command() == second.active_command()
 }
 
 /// Whether the devices differ in the cells of their entries and in fates alone, so that they answer
-/// alike from now on. While a command is active the answer is no.
+/// alike from now on.
 pub fn is_alike<S: EntryStore>(first: &Device<S>, second: &Device<S>) -> bool
     ensures { result ≡ true → AreDevicesAlike first.now second.now }
 {
@@ -172,7 +172,7 @@ pub fn is_alike<S: EntryStore>(first: &Device<S>, second: &Device<S>) -> bool
     if !same_histories(first, second) {
         return false;
     }
-    if !are_both_idle(first, second) {
+    if !same_commands(first, second) {
         return false;
     }
     if !same_groups(first, second) {

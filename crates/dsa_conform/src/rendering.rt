@@ -40,7 +40,7 @@ pub fn render_conformance(alloc: Global, bytes: &[u8]) -> Result<Rendering, Scen
             document: None,
         });
     }
-    check_head(&head.caps, head.capacity)?;
+    check_head(&head)?;
     let verdict = walk_steps(alloc, &head)?;
     Ok(Rendering {
         text: verdict.text,

@@ -1,6 +1,6 @@
 //! Worked answers: which of them show what was seen, and what is told, by computation.
 
-ghost use Rattle.std.specs.Prelude.{◌≡◌, ◌++◌, ◌∷◌, [], Some, None, Ok, Err, true, false, map, take, codes, replicate};
+ghost use Rattle.std.specs.Prelude.{◌≡◌, ◌++◌, ◌∷◌, [], Some, None, Ok, Err, String, true, false, map, take, codes, replicate};
 ghost use Rattle.std.specs.declared.vec.Vec.{Vec};
 ghost use Rattle.std.specs.declared.alloc.Global.{Global};
 ghost use Rattle.serde_json.specs.Data.{null, boolean, string};
@@ -15,7 +15,8 @@ ghost use Rattle.dsa_book.specs.declared.event.Event.TheVariants as event;
 ghost use Rattle.dsa_book.specs.declared.event.Kind.TheVariants.{Enqcmd, Movdir64b};
 ghost use Rattle.dsa_regs.specs.declared.Fault.TheVariants.{BadCommand, Busy};
 ghost use Rattle.dsa_device.specs.Running.{running_at_first};
-ghost use Rattle.dsa_scenario.specs.declared.actions.Action.TheVariants.{Ask, Refuse};
+ghost use Rattle.dsa_scenario.specs.declared.actions.Action.TheVariants.{Ask, Finish, Refuse};
+ghost use Rattle.dsa_desc.specs.declared.Outcome.TheVariants.{Success};
 ghost use Rattle.dsa_scenario.specs.declared.faults.ScenarioFault.TheVariants.{NotJson, BadStep, BadCaps, Differs};
 ghost use Rattle.dsa_scenario.specs.declared.run.Record.{Record, TheVariants.{Refused}};
 ghost use Rattle.dsa_scenario.specs.Worked.{whole, object_of, changed, command_step, poll_step, record_ticket, stepped, fill, smallest_caps, smallest_caps_text, no_caps_text, document_text, caps_of_a_run, group_of_a_run, records_of_a_run};
@@ -23,10 +24,11 @@ ghost use Rattle.dsa_conform.specs.declared.following.Followed.TheVariants as fo
 ghost use Rattle.dsa_conform.specs.declared.following.Followed.TheVariants.{Shown};
 ghost use Rattle.dsa_conform.specs.Seen.{seen_of, observation_of, seen_as, shows, zf_of, is_seen, AreShown};
 ghost use Rattle.dsa_conform.specs.Allowed.{IsAllowed, AreAllowed, IsAscending, NoneShows, AreSeenAlike, HasOneAnswer, IsNoDispatch, IsFollowed, offers, queue_taken};
-ghost use Rattle.dsa_conform.specs.Lines.{allowed_line, conforms_text, seen_count, seen_line, difference_text};
-ghost use Rattle.dsa_conform.specs.Run.{IsShownRun, IsDifference, AreRead, IsUnreadAt, IsConforming, IsDiffering, IsConformance, IsOtherFault};
-ghost use Rattle.dsa_conform.specs.Ways.{queue_of_record, queues_taken};
-ghost use Rattle.dsa_conform.specs.Worked.{records_of_two_queues, observed_of_two_queues, end_of_second, caps_of_three_queues, answered, flagged, answered_with, nothing_seen, by_enqcmd, by_movdir, observed_of_a_run, record_of_a_take, idle_words, from_first, from_second, from_third, after_some, after_all, smallest_device_at_first, document_of, poll_with};
+ghost use Rattle.dsa_conform.specs.Lines.{AreListed, allowed_line, conforms_text, seen_count, seen_line, difference_text};
+ghost use Rattle.dsa_conform.specs.Run.{IsShownRun, IsReason, IsDifference, AreRead, IsUnreadAt, IsConforming, IsDiffering, IsConformance, IsOtherFault};
+ghost use Rattle.dsa_conform.specs.ToldLines.{HasText, IsLinePlaced, IsPlaceOf};
+ghost use Rattle.dsa_conform.specs.Ways.{queue_of_record, queues_taken, AreDevicesAlike, AreNamedEnds, Covers, IsEngineAlike, IsFork, IsNamedEnd, IsOneWay, IsQueueAlike, RunFrom};
+ghost use Rattle.dsa_conform.specs.Worked.{records_of_two_queues, observed_of_two_queues, end_of_second, caps_of_three_queues, answered, flagged, answered_with, nothing_seen, by_enqcmd, by_movdir, observed_of_a_run, record_of_a_take, idle_words, from_first, from_second, from_third, after_some, after_all, after_a_take, line_of, smallest_device_at_first, document_of, poll_with};
 
 /// What a step object says was seen.
 pub fn observations()
@@ -377,4 +379,106 @@ pub fn other_faults()
     ensures no_step_behind { ¬ IsOtherFault
         (document_of (poll_with (codes "\"zf\":1") ++ codes ",1")) (BadStep 1) }
     ensures no_such_fault { ¬ IsOtherFault (codes "{}") NotJson }
+{}
+
+/// Devices that answer alike, and devices that differ in one thing.
+pub fn devices_alike()
+    ensures same { AreDevicesAlike after_all after_all }
+    ensures caps { ¬ AreDevicesAlike smallest_device_at_first (record smallest_device_at_first {
+      caps = caps_of_a_run;
+    }) }
+    ensures capacity { ¬ AreDevicesAlike smallest_device_at_first
+        (running_at_first smallest_caps 8) }
+    ensures room { ¬ AreDevicesAlike after_all (record after_all { history = [] }) }
+    ensures states { ¬ AreDevicesAlike after_all
+        (record after_all { state = (after_some 7).state }) }
+    ensures queue { IsQueueAlike after_all.state.work (after_some 7).state.work 0 }
+    ensures config { ¬ IsQueueAlike (after_some 0).state.work (after_some 1).state.work 0 }
+    ensures phase { ¬ IsQueueAlike (after_some 4).state.work (after_some 5).state.work 0 }
+    ensures waiting { ¬ IsQueueAlike (after_some 6).state.work (after_some 7).state.work 0 }
+    ensures engine { IsEngineAlike after_a_take.state.work after_all.state.work 1 }
+    ensures note { ¬ IsEngineAlike after_all.state.work
+        (record after_all.state.work {
+          notes =
+              Some (record { batch = 0; count = 2; fetched = 0; failed = false; closed = false })
+              ∷ [];
+        })
+        0 }
+    ensures in_progress { ¬ IsEngineAlike after_a_take.state.work after_all.state.work 0 }
+    ensures members { ¬ IsEngineAlike
+        (record after_all.state.work {
+          content = [] ∷ [] ∷ [] ∷ [] ∷ [] ∷ after_all.state.work.content;
+        })
+        (record after_all.state.work { content = [] }) 0 }
+{}
+
+/// Which answers leave one way to go on, and which steps name the entry that they end.
+#[tactic(auto, unfolding(dsa_scenario::specs::Worked::digits_on_literals))]
+pub fn ways()
+    ensures two { ¬ IsOneWay after_all (Ok (event.Dispatch 0)) nothing_seen }
+    ensures fork { ¬ IsFork after_all (Ok (event.Dispatch 0)) nothing_seen (0 ∷ []) }
+    ensures no_fork { ¬ IsFork after_all (Ok (event.Dispatch 0)) nothing_seen [] }
+    ensures uncovered { ¬ Covers smallest_device_at_first (Ok event.Poll) nothing_seen [] }
+    ensures by_name { IsNamedEnd (Finish 0 1 Success) }
+    ensures no_end { IsNamedEnd (Ask event.Poll) }
+    ensures by_ticket { ¬ IsNamedEnd (Ask (event.Finish 0 (record_ticket 3 0) Success)) }
+    ensures all_by_name { AreNamedEnds
+        ((Finish 0 1 Success, nothing_seen) ∷ (Ask event.Poll, nothing_seen) ∷ []) }
+    ensures second_by_ticket { ¬ AreNamedEnds
+        ((Ask event.Poll, nothing_seen)
+        ∷ (Ask (event.Finish 0 (record_ticket 3 0) Success), nothing_seen)
+        ∷ []) }
+    ensures run { RunFrom [] smallest_device_at_first
+        ((Ask event.Poll, answered (codes "nothing")) ∷ [])
+        (stepped event.Poll (reply.Poll Nothing) ∷ [])
+        smallest_device_at_first }
+    ensures no_run { RunFrom [] smallest_device_at_first [] [] smallest_device_at_first }
+    ensures elsewhere { ¬ RunFrom [] smallest_device_at_first [] []
+        (running_at_first smallest_caps 8) }
+    ensures fewer { ¬ RunFrom [] smallest_device_at_first ((Ask event.Poll, nothing_seen) ∷ []) []
+        smallest_device_at_first }
+    ensures more { ¬ RunFrom [] smallest_device_at_first [] (Refused BadCommand ∷ [])
+        smallest_device_at_first }
+    ensures not_answered { ¬ RunFrom [] smallest_device_at_first
+        ((Ask event.Poll, nothing_seen) ∷ []) (Refused BadCommand ∷ []) smallest_device_at_first }
+    ensures not_seen { ¬ RunFrom [] smallest_device_at_first
+        ((Ask event.Poll, answered (codes "active")) ∷ [])
+        (stepped event.Poll (reply.Poll Nothing) ∷ [])
+        smallest_device_at_first }
+{}
+
+/// The reason that a device has after a run that shows what was seen.
+#[tactic(auto, unfolding(dsa_scenario::specs::Worked::digits_on_literals))]
+pub fn reasons()
+    ensures after_a_run { IsReason caps_of_a_run 9 (take 7 observed_of_a_run)
+        (Ask (event.Dispatch 0)) (codes ": q0 is empty") }
+    ensures at_first { IsReason smallest_caps 9 [] (Ask event.Poll)
+        (codes ": no command is active") }
+    ensures another { ¬ IsReason smallest_caps 9 [] (Ask event.Poll) (codes ": no command") }
+{}
+
+/// The order of lines, and where one comes among them.
+pub fn lines_in_order()
+    ensures listed { AreListed
+        ((from_first, codes "b") ∷ (from_first, codes "c") ∷ (from_second, codes "a") ∷ []) }
+    ensures wrong_order { ¬ AreListed ((from_second, codes "a") ∷ (from_first, codes "b") ∷ []) }
+    ensures last_order { ¬ AreListed
+        ((from_first, codes "a") ∷ (from_second, codes "b") ∷ (from_first, codes "c") ∷ []) }
+    ensures twice { ¬ AreListed ((from_first, codes "a") ∷ (from_second, codes "a") ∷ []) }
+    ensures place { (text : String Global)
+        → IsPlaceOf (line_of from_first text ∷ line_of from_second text ∷ []) 0 1 }
+    ensures end { (text : String Global) → IsPlaceOf (line_of from_second text ∷ []) 2 1 }
+    ensures beyond { (text : String Global) → ¬ IsPlaceOf (line_of from_second text ∷ []) 2 2 }
+    ensures too_late { (text : String Global) → ¬ IsPlaceOf (line_of from_second text ∷ []) 1 1 }
+    ensures too_early { (text : String Global) → ¬ IsPlaceOf (line_of from_first text ∷ []) 0 0 }
+    ensures placed { (text : String Global)
+        → IsLinePlaced [] (line_of from_first text) (line_of from_first text ∷ []) }
+    ensures lost { (text : String Global)
+        → ¬ IsLinePlaced (line_of from_first text ∷ []) (line_of from_second text)
+        (line_of from_second text ∷ []) }
+    ensures another { (text : String Global)
+        → ¬ IsLinePlaced [] (line_of from_first text)
+        (line_of from_second text ∷ line_of from_first text ∷ []) }
+    ensures not_there { (text : String Global)
+        → ¬ IsLinePlaced [] (line_of from_first text) [] }
 {}

@@ -15,8 +15,8 @@ use crate::shown::is_shown;
 use dsa_book::{DispatchAnswer, Event, Reply, Step, Ticket};
 use dsa_cells::LinkedStore;
 use dsa_device::Device;
-use dsa_regs::{Fault, cell_count, check_caps, list_count};
-use dsa_scenario::{Action, Head, Record, ask, event_for, note_ticket};
+use dsa_regs::Fault;
+use dsa_scenario::{Action, Head, Record, Run, ask, event_for, note_ticket, open_run};
 use dsa_store::EntryStore;
 use std::alloc::{AllocError, Global};
 
@@ -32,16 +32,10 @@ pub fn first_way(alloc: Global, head: &Head<'_>) -> Result<Way, AllocError>
     ensures { IfOk result
         (λ way. IsFollowedTo head.now.caps head.now.capacity [] 0 way.device way.tickets.items) }
 {
-    if !check_caps(&head.caps) {
-        return Err(AllocError);
-    }
-    let lists = list_count(&head.caps);
-    let store = LinkedStore::new(alloc, lists, cell_count(&head.caps))?;
-    let Ok(device) = Device::new(alloc, store, head.caps, head.capacity) else {
+    let Ok(run) = open_run::<LinkedStore>(alloc, head) else {
         return Err(AllocError);
     };
-    device.state_is_replay();
-    let tickets = Vec::new(alloc);
+    let Run { device, tickets } = run;
     Ok(Way { device, tickets })
 }
 

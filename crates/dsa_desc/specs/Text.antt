@@ -1,18 +1,11 @@
 -- The line that a descriptor prints as.
-use Rattle.std.specs.Prelude.{ℕ, ◌-◌, ◌^◌, false, ◌==◌, if◌then◌else◌, List, [], ◌∷◌, ◌++◌, Option, unwrap_or, codes}
+use Rattle.std.specs.Prelude.{ℕ, ◌-◌, ◌^◌, false, if◌then◌else◌, List, [], ◌++◌, Option, option_map, unwrap_or, codes}
 use Rattle.std.specs.Fmt.{decimal, digits, format_spec, padded_integral}
-use Rattle.dsa_desc.specs.{declared.Descriptor.{Descriptor}, Descriptor.{is_batch}}
-use Rattle.dsa_base.specs.Rows.{first_row}
+use Rattle.dsa_desc.specs.{declared.Descriptor.{Descriptor}, Descriptor.{is_batch, operation_row}}
 
 -- the name of an operation code (Intel DSA specification, operation codes)
 abbrev pub operation_name : ℕ → Option (List ℕ)
-operation_name op = first_row (
-    (op == 0x00, codes "No-op") ∷
-    (op == 0x01, codes "Batch") ∷
-    (op == 0x02, codes "Drain") ∷
-    (op == 0x03, codes "Memory Move") ∷
-    (op == 0x04, codes "Fill") ∷
-    (op == 0x05, codes "Compare") ∷ [])
+operation_name op = option_map (λ row. row.name) (operation_row op)
 
 -- the number in hexadecimal with zeros in front up to a width, as the format 06x writes it
 abbrev pub hexadecimal : ℕ → ℕ → List ℕ

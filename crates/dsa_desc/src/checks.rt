@@ -10,10 +10,7 @@ use crate::completion::{
     DSA_COMP_BAD_OPCODE, DSA_COMP_DESC_CNT_ERANGE, DSA_COMP_INVALID_FLAGS, DSA_COMP_NONE,
     DSA_COMP_PAGE_FAULT_NOBOF, DSA_COMP_SUCCESS, DSA_COMP_XFER_ERANGE,
 };
-use crate::opcode::{
-    DSA_OPCODE_BATCH, DSA_OPCODE_COMPARE, DSA_OPCODE_DRAIN, DSA_OPCODE_MEMFILL, DSA_OPCODE_MEMMOVE,
-    DSA_OPCODE_NOOP,
-};
+use crate::opcode::{DSA_OPCODE_BATCH, DSA_OPCODE_DRAIN, Operation};
 use crate::{Descriptor, Outcome, QueueLimits};
 
 /// A read buffer takes this many bytes.
@@ -46,23 +43,18 @@ impl Descriptor {
         self.op == DSA_OPCODE_DRAIN
     }
 
-    /// Whether the descriptor is a Memory Move, a Fill or a Compare.
+    /// Whether the operation is on as many bytes of memory as the size says.
     pub fn is_transfer(&self) -> bool
         ensures { result ≡ is_transfer self.now }
     {
-        matches!(
-            self.op,
-            DSA_OPCODE_MEMMOVE | DSA_OPCODE_MEMFILL | DSA_OPCODE_COMPARE
-        )
+        matches!(Operation::of(self.op), Some(operation) if operation.is_transfer)
     }
 
     /// Whether the operation code is supported there.
     fn is_supported(&self, member: bool) -> bool
         ensures { result ≡ is_supported self.now member }
     {
-        self.op == DSA_OPCODE_NOOP
-            || self.is_transfer()
-            || ((self.is_batch() || self.is_drain()) && !member)
+        matches!(Operation::of(self.op), Some(operation) if operation.is_for_batches || !member)
     }
 
     /// The status number of the first check that fails, `DSA_COMP_NONE` where none does.
@@ -104,12 +96,12 @@ impl Descriptor {
     }
 
     /// How many read buffers the descriptor holds while it runs, 0 to 4: one for each 4096 bytes
-    /// begun that a well-formed Memory Move or Compare reads.
+    /// begun, where an operation that reads is well formed.
     pub fn need(&self, limits: &QueueLimits, member: bool) -> u8
         ensures { result ≡ need self.now limits.now member }
     {
-        match self.op {
-            DSA_OPCODE_MEMMOVE | DSA_OPCODE_COMPARE if self.is_well_formed(limits, member) => {
+        match Operation::of(self.op) {
+            Some(operation) if operation.reads && self.is_well_formed(limits, member) => {
                 self.size.div_ceil(READ_BUFFER_BYTES).min(MOST_READ_BUFFERS) as u8
             }
             _ => 0,

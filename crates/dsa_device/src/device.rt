@@ -12,9 +12,11 @@ ghost use Rattle.dsa_base.specs.Rows.{first_row};
 ghost use Rattle.dsa_device.specs.Made.{is_store_of, opening_table, make_fault, fault_or_memory};
 ghost use Rattle.dsa_device.specs.Running.{running_at_first, after_answer, watched_in, awaited_end};
 
+mod engine_reasons;
 mod entries;
 mod lookups;
 mod reads;
+mod reasons;
 mod runs;
 
 use crate::MakeFault;

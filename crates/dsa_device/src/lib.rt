@@ -11,4 +11,6 @@ mod device;
 mod faults;
 
 pub use device::{Device, check_opening};
+pub use dsa_admin::{IssueReason, PollReason};
+pub use dsa_queues::{ClearReason, SubmitReason, WriteReason};
 pub use faults::MakeFault;

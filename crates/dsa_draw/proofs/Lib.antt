@@ -1,4 +1,4 @@
 pub mod Changes
 pub mod Drawn
-pub mod Rows
+pub mod RowTexts
 pub mod Turns

@@ -3,18 +3,23 @@ use Rattle.std.specs.Prelude.{ℕ, ◌+◌, ◌-◌, ◌*◌, ◌/◌, ◌^◌, 
 use Rattle.std.specs.Prelude.{slice_get, unwrap_or}
 use Rattle.std.specs.List.{range_with_len}
 use Rattle.dsa_regs.specs.declared.Caps.{Caps}
-use Rattle.dsa_draw.specs.declared.bands.{Band.{Band, TheVariants.{Queue, Group}}}
+use Rattle.dsa_draw.specs.Moments.{band_count}
+use Rattle.dsa_draw.specs.declared.bands.{Band.{Band}}
 use Rattle.dsa_draw.specs.declared.bands.{Line.{Line, TheVariants.{Filled, Mark, Limit}}}
 use Rattle.dsa_draw.specs.declared.moment.{Level.{Level}, Moment.{Moment}}
+use Rattle.dsa_draw.specs.declared.moment.BandKind.{BandKind, TheVariants.{Queue, Group}}
 
 -- ---- levels
 
+-- the levels of the queues or of the groups at a moment
+abbrev pub levels_in : BandKind → Moment → List Level
+levels_in Queue moment = moment.queues.items
+levels_in Group moment = moment.groups.items
+
 -- what a band has at a moment; all is 0 where the device has no such queue or group
 abbrev pub level_in : Band → Moment → Level
-level_in (Queue queue) moment =
-    unwrap_or (slice_get moment.queues.items queue) (record { filled = 0; mark = 0; limit = 0 })
-level_in (Group group) moment =
-    unwrap_or (slice_get moment.groups.items group) (record { filled = 0; mark = 0; limit = 0 })
+level_in band moment =
+    unwrap_or (slice_get (levels_in band.kind moment) band.number) (record { filled = 0; mark = 0; limit = 0 })
 
 -- what a line of it has
 abbrev pub value_of : Line → Level → ℕ
@@ -92,9 +97,12 @@ numbered_text name number top =
     codes "<text x=\"4\" y=\"" ++ decimal (top + 11) ++ codes "\">" ++ name ++ codes " " ++ decimal number
     ++ codes "</text>\n"
 
+abbrev pub name_of_kind : BandKind → List ℕ
+name_of_kind Queue = codes "queue"
+name_of_kind Group = codes "buffers"
+
 unfoldable pub name_text : Band → ℕ → List ℕ
-name_text (Queue queue) top = numbered_text (codes "queue") queue top
-name_text (Group group) top = numbered_text (codes "buffers") group top
+name_text band top = numbered_text (name_of_kind band.kind) band.number top
 
 -- from which level to which the band goes
 unfoldable pub band_range_text : ℕ → ℕ → List ℕ
@@ -130,6 +138,10 @@ abbrev pub bands_end : ℕ → List Band → List Moment → ℕ
 bands_end top [] moments = top
 bands_end top (band ∷ bands) moments = bands_end (next_top top band moments) bands moments
 
+-- a band of each queue, or of each group
+abbrev pub bands_of_kind : Caps → BandKind → List Band
+bands_of_kind caps kind = map (λ n. record { kind = kind; number = n }) (range_with_len 0 (band_count caps kind))
+
 -- the bands of a device: its queues, and then its groups
 abbrev pub bands_of : Caps → List Band
-bands_of caps = map Queue (range_with_len 0 caps.queues) ++ map Group (range_with_len 0 caps.groups)
+bands_of caps = bands_of_kind caps Queue ++ bands_of_kind caps Group

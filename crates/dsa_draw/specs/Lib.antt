@@ -7,3 +7,4 @@ pub mod Marks
 pub mod Moments
 pub mod Pages
 pub mod Rows
+pub mod Worked

@@ -1,12 +1,13 @@
 -- What is read of a device after a step.
 use Rattle.std.specs.Prelude.{◌≡◌, ℕ, length, map, Option, None, option_map, unwrap_or}
 use Rattle.std.specs.List.{range_with_len}
-use Rattle.dsa_regs.specs.Config.{queue_at, group_at}
+use Rattle.dsa_regs.specs.{declared.Caps.{Caps}, Config.{queue_at, group_at}}
 use Rattle.dsa_book.specs.declared.event.{Actor.{Actor, TheVariants.{Engine}}}
 use Rattle.dsa_book.specs.{State.{occupancy}, Work.{used, note_at}, Totals.{actor_of}}
 use Rattle.dsa_device.specs.Running.{Running}
 use Rattle.dsa_scenario.specs.declared.run.Record.{Record, TheVariants.{Stepped, Refused}}
 use Rattle.dsa_draw.specs.declared.moment.{Level.{Level}, Moment.{Moment}}
+use Rattle.dsa_draw.specs.declared.moment.BandKind.{BandKind, TheVariants.{Queue, Group}}
 
 -- so much is filled, or nothing where that is not known, of what has this mark and this limit
 abbrev pub level_with : Option ℕ → ℕ → ℕ → Level
@@ -28,6 +29,16 @@ group_level_of d group = record {
   limit = (group_at d.state.work.setup.groups group).allowed;
 }
 
+-- the level of a queue or of a group
+abbrev pub level_of : Running → BandKind → ℕ → Level
+level_of d Queue queue = queue_level_of d queue
+level_of d Group group = group_level_of d group
+
+-- how many queues or groups the device has
+abbrev pub band_count : Caps → BandKind → ℕ
+band_count caps Queue = caps.queues
+band_count caps Group = caps.groups
+
 -- the batch on the engine of this actor
 abbrev pub batch_of_actor : Running → Actor → Option ℕ
 batch_of_actor d (Engine engine) = option_map (λ note. note.batch) (note_at d.state.work engine)
@@ -41,7 +52,7 @@ batch_after d (Refused fault) = None
 -- the moment has what a device says of itself, and the record of the step before
 pub record IsMomentOf (d : Running) (entry : Record) (moment : Moment) : Type 0 where
   pub of_entry : moment.entry ≡ entry
-  pub queues : moment.queues.items ≡ map (queue_level_of d) (range_with_len 0 d.caps.queues)
-  pub groups : moment.groups.items ≡ map (group_level_of d) (range_with_len 0 d.caps.groups)
+  pub queues : moment.queues.items ≡ map (level_of d Queue) (range_with_len 0 (band_count d.caps Queue))
+  pub groups : moment.groups.items ≡ map (level_of d Group) (range_with_len 0 (band_count d.caps Group))
   pub batch : moment.batch ≡ batch_after d entry
   pub ended : moment.ended ≡ length d.state.work.fates

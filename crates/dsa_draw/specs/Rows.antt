@@ -6,7 +6,7 @@ use Rattle.dsa_book.specs.declared.event.Event.{Event, TheVariants.{Issue}}
 use Rattle.dsa_book.specs.declared.event.Actor.{Actor, TheVariants.{Client, Engine, Admin}}
 use Rattle.dsa_book.specs.declared.fate.{Fate.{Fate, TheVariants.{Completed}}, FateRow.{FateRow}}
 use Rattle.dsa_book.specs.Totals.{actor_of}
-use Rattle.dsa_event_text.specs.Text.{command_label}
+use Rattle.dsa_regs.specs.Command.{command_label}
 use Rattle.dsa_scenario.specs.declared.run.Record.{Record, TheVariants.{Stepped, Refused}}
 use Rattle.dsa_scenario.specs.Lines.{line_of_text, row_text}
 use Rattle.dsa_draw.specs.declared.{marks.Mark.{Mark, TheVariants.{Done, Failed}}, moment.Moment.{Moment}}

@@ -1,21 +1,22 @@
 //! Bands: how full a queue is, or a group's read buffers, step by step.
 
-ghost use Rattle.std.specs.Prelude.{◌≡◌, ◌++◌, ◌==◌, [], cond, map, IfOk, OnOk, string_bytes};
-ghost use Rattle.std.specs.List.{range_with_len};
-ghost use Rattle.dsa_draw.specs.Bands.{level_in, value_of, highest_of, turn_text, turns, levels_of, path_text, class_text, close_text, line_text, lines_text, frame_text, name_text, band_range_text, band_text, band_part_text, next_top, bands_text, bands_end, bands_of};
+ghost use Rattle.std.specs.Prelude.{◌≡◌, ◌++◌, ◌==◌, [], cond, IfOk, OnOk};
+ghost use Rattle.dsa_event_text.specs.Added.{Adds};
+ghost use Rattle.dsa_draw.specs.Bands.{level_in, value_of, highest_of, turn_text, turns, levels_of, path_text, class_text, close_text, line_text, lines_text, frame_text, name_text, band_range_text, band_text, band_part_text, next_top, bands_text, bands_end, bands_of, bands_of_kind};
 
 use crate::geometry::{column_left, level_high};
-use crate::moment::{Level, Moment};
+use crate::moment::{BandKind, Level, Moment, band_count};
 use crate::page::add_numbered;
+use dsa_event_text::Added;
 use dsa_regs::Caps;
 use std::alloc::{AllocError, Global};
 use std::fmt::Write;
 
 /// What a band is of.
 #[derive(Clone, Copy)]
-pub enum Band {
-    Queue(u16),
-    Group(u16),
+pub struct Band {
+    kind: BandKind,
+    number: u16,
 }
 
 /// The lines of a band.
@@ -37,10 +38,11 @@ struct Scale {
 fn level_in(band: Band, moment: &Moment) -> Level
     ensures { result ≡ level_in band moment.now }
 {
-    let level = match band {
-        Band::Queue(queue) => moment.queues.get(usize::from(queue)),
-        Band::Group(group) => moment.groups.get(usize::from(group)),
+    let levels = match band.kind {
+        BandKind::Queue => &moment.queues,
+        BandKind::Group => &moment.groups,
     };
+    let level = levels.get(usize::from(band.number));
     level.copied().unwrap_or(Level {
         filled: 0,
         mark: 0,
@@ -83,10 +85,8 @@ impl Line {
 }
 
 // A line goes to the column of a step, and there to the height of a level.
-fn add_turn(text: &mut String, step: u32, level: u16, scale: Scale) -> Result<(), AllocError>
-    ensures { OnOk result
-        (string_bytes text.new
-        ≡ string_bytes text.old ++ turn_text scale.bottom scale.most step level) }
+fn add_turn(text: &mut String, step: u32, level: u16, scale: Scale) -> Added
+    ensures { Adds result text.old text.new (turn_text scale.bottom scale.most step level) }
 {
     let x = column_left(step);
     let y = u64::from(scale.bottom).saturating_sub(level_high(level, scale.most));
@@ -94,15 +94,9 @@ fn add_turn(text: &mut String, step: u32, level: u16, scale: Scale) -> Result<()
 }
 
 // So it does where the level is another than before.
-fn add_level(
-    text: &mut String,
-    step: u32,
-    before: u16,
-    level: u16,
-    scale: Scale,
-) -> Result<(), AllocError>
-    ensures { OnOk result (string_bytes text.new ≡ string_bytes text.old
-        ++ cond (level == before) [] (turn_text scale.bottom scale.most step level)) }
+fn add_level(text: &mut String, step: u32, before: u16, level: u16, scale: Scale) -> Added
+    ensures { Adds result text.old text.new
+        (cond (level == before) [] (turn_text scale.bottom scale.most step level)) }
 {
     if level == before {
         return Ok(());
@@ -110,23 +104,17 @@ fn add_level(
     add_turn(text, step, level, scale)
 }
 
-fn add_right_end(text: &mut String, step: u32) -> Result<(), AllocError>
-    ensures { OnOk result (string_bytes text.new ≡ string_bytes text.old ++ turns 0 0 step 0 []) }
+fn add_right_end(text: &mut String, step: u32) -> Added
+    ensures { Adds result text.old text.new (turns 0 0 step 0 []) }
 {
     let x = column_left(step);
     write!(text, "H{x}")
 }
 
 // The turns of a line over all steps.
-fn add_turns(
-    text: &mut String,
-    moments: &[Moment],
-    band: Band,
-    line: Line,
-    scale: Scale,
-) -> Result<(), AllocError>
-    ensures { OnOk result (string_bytes text.new ≡ string_bytes text.old
-        ++ turns scale.bottom scale.most 0 0 (levels_of band line moments.now)) }
+fn add_turns(text: &mut String, moments: &[Moment], band: Band, line: Line, scale: Scale) -> Added
+    ensures { Adds result text.old text.new
+        (turns scale.bottom scale.most 0 0 (levels_of band line moments.now)) }
 {
     let mut step = 0u32;
     let mut before = 0;
@@ -140,15 +128,9 @@ fn add_turns(
 }
 
 // A line from its first step on.
-fn add_path(
-    text: &mut String,
-    moments: &[Moment],
-    band: Band,
-    line: Line,
-    scale: Scale,
-) -> Result<(), AllocError>
-    ensures { OnOk result (string_bytes text.new ≡ string_bytes text.old
-        ++ path_text scale.bottom scale.most (levels_of band line moments.now)) }
+fn add_path(text: &mut String, moments: &[Moment], band: Band, line: Line, scale: Scale) -> Added
+    ensures { Adds result text.old text.new
+        (path_text scale.bottom scale.most (levels_of band line moments.now)) }
 {
     let bottom = scale.bottom;
     write!(text, "M112 {bottom}")?;
@@ -156,9 +138,8 @@ fn add_path(
 }
 
 // Closes a filled path at the baseline.
-fn add_close(text: &mut String, line: Line, bottom: u32) -> Result<(), AllocError>
-    ensures { OnOk result
-        (string_bytes text.new ≡ string_bytes text.old ++ close_text bottom line) }
+fn add_close(text: &mut String, line: Line, bottom: u32) -> Added
+    ensures { Adds result text.old text.new (close_text bottom line) }
 {
     match line {
         Line::Filled => write!(text, "V{bottom}Z"),
@@ -167,15 +148,9 @@ fn add_close(text: &mut String, line: Line, bottom: u32) -> Result<(), AllocErro
 }
 
 // One line of a band over all steps.
-fn add_line(
-    text: &mut String,
-    moments: &[Moment],
-    band: Band,
-    line: Line,
-    scale: Scale,
-) -> Result<(), AllocError>
-    ensures { OnOk result (string_bytes text.new ≡ string_bytes text.old
-        ++ line_text scale.bottom scale.most band line moments.now) }
+fn add_line(text: &mut String, moments: &[Moment], band: Band, line: Line, scale: Scale) -> Added
+    ensures { Adds result text.old text.new
+        (line_text scale.bottom scale.most band line moments.now) }
 {
     let class = line.class();
     write!(text, "<path class=\"{class}\" d=\"")?;
@@ -185,8 +160,8 @@ fn add_line(
 }
 
 #[tactic(auto, unfolding(crate::specs::Bands::frame_text))]
-fn add_frame(text: &mut String, steps: u32, top: u32) -> Result<(), AllocError>
-    ensures { OnOk result (string_bytes text.new ≡ string_bytes text.old ++ frame_text steps top) }
+fn add_frame(text: &mut String, steps: u32, top: u32) -> Added
+    ensures { Adds result text.old text.new (frame_text steps top) }
 {
     let right = column_left(steps);
     let bottom = u64::from(top) + 48;
@@ -197,33 +172,26 @@ fn add_frame(text: &mut String, steps: u32, top: u32) -> Result<(), AllocError>
 }
 
 #[tactic(auto, unfolding(crate::specs::Bands::name_text))]
-fn add_band_name(text: &mut String, band: Band, top: u32) -> Result<(), AllocError>
-    ensures { OnOk result (string_bytes text.new ≡ string_bytes text.old ++ name_text band top) }
+fn add_band_name(text: &mut String, band: Band, top: u32) -> Added
+    ensures { Adds result text.old text.new (name_text band top) }
 {
-    match band {
-        Band::Queue(queue) => add_numbered(text, "queue", queue, top),
-        Band::Group(group) => add_numbered(text, "buffers", group, top),
+    match band.kind {
+        BandKind::Queue => add_numbered(text, "queue", band.number, top),
+        BandKind::Group => add_numbered(text, "buffers", band.number, top),
     }
 }
 
 #[tactic(auto, unfolding(crate::specs::Bands::band_range_text))]
-fn add_range(text: &mut String, most: u16, top: u32) -> Result<(), AllocError>
-    ensures { OnOk result
-        (string_bytes text.new ≡ string_bytes text.old ++ band_range_text most top) }
+fn add_range(text: &mut String, most: u16, top: u32) -> Added
+    ensures { Adds result text.old text.new (band_range_text most top) }
 {
     let base = u64::from(top) + 24;
     write!(text, "<text x=\"4\" y=\"{base}\">0 to {most}</text>\n")
 }
 
 #[tactic(auto, unfolding(crate::specs::Bands::lines_text))]
-fn add_lines(
-    text: &mut String,
-    moments: &[Moment],
-    band: Band,
-    scale: Scale,
-) -> Result<(), AllocError>
-    ensures { OnOk result (string_bytes text.new ≡ string_bytes text.old
-        ++ lines_text scale.bottom scale.most band moments.now) }
+fn add_lines(text: &mut String, moments: &[Moment], band: Band, scale: Scale) -> Added
+    ensures { Adds result text.old text.new (lines_text scale.bottom scale.most band moments.now) }
 {
     add_line(text, moments, band, Line::Filled, scale)?;
     add_line(text, moments, band, Line::Mark, scale)?;
@@ -239,10 +207,8 @@ fn draw_band(
     band: Band,
     most: u16,
     top: u32,
-) -> Result<(), AllocError>
-    ensures { OnOk result
-        (string_bytes text.new
-        ≡ string_bytes text.old ++ band_text steps top most band moments.now) }
+) -> Added
+    ensures { Adds result text.old text.new (band_text steps top most band moments.now) }
 {
     let scale = Scale {
         bottom: top.saturating_add(48),
@@ -262,9 +228,7 @@ fn add_band(
     band: Band,
     top: u32,
 ) -> Result<u32, AllocError>
-    ensures text { OnOk result
-        (string_bytes text.new
-        ≡ string_bytes text.old ++ band_part_text steps top band moments.now) }
+    ensures text { Adds result text.old text.new (band_part_text steps top band moments.now) }
     ensures next { IfOk result (λ next. next ≡ next_top top band moments.now) }
 {
     let most = highest_of(band, moments);
@@ -283,9 +247,7 @@ pub fn add_bands(
     bands: &[Band],
     top: u32,
 ) -> Result<u32, AllocError>
-    ensures text { OnOk result
-        (string_bytes text.new
-        ≡ string_bytes text.old ++ bands_text steps top bands.now moments.now) }
+    ensures text { Adds result text.old text.new (bands_text steps top bands.now moments.now) }
     ensures end { IfOk result (λ end. end ≡ bands_end top bands.now moments.now) }
 {
     let mut top = top;
@@ -295,22 +257,11 @@ pub fn add_bands(
     Ok(top)
 }
 
-fn push_queues(bands: &mut Vec<Band>, queues: u16) -> Result<(), AllocError>
-    ensures { OnOk result
-        (bands.new.items ≡ bands.old.items ++ map Band.Queue (range_with_len 0 queues)) }
+fn push_bands(bands: &mut Vec<Band>, kind: BandKind, caps: &Caps) -> Result<(), AllocError>
+    ensures { OnOk result (bands.new.items ≡ bands.old.items ++ bands_of_kind caps.now kind) }
 {
-    for queue in 0..queues {
-        bands.push(Band::Queue(queue))?;
-    }
-    Ok(())
-}
-
-fn push_groups(bands: &mut Vec<Band>, groups: u16) -> Result<(), AllocError>
-    ensures { OnOk result
-        (bands.new.items ≡ bands.old.items ++ map Band.Group (range_with_len 0 groups)) }
-{
-    for group in 0..groups {
-        bands.push(Band::Group(group))?;
+    for number in 0..band_count(caps, kind) {
+        bands.push(Band { kind, number })?;
     }
     Ok(())
 }
@@ -320,7 +271,7 @@ pub fn bands_of(alloc: Global, caps: &Caps) -> Result<Vec<Band>, AllocError>
     ensures { IfOk result (λ bands. bands.items ≡ bands_of caps.now) }
 {
     let mut bands = Vec::new(alloc);
-    push_queues(&mut bands, caps.queues)?;
-    push_groups(&mut bands, caps.groups)?;
+    push_bands(&mut bands, BandKind::Queue, caps)?;
+    push_bands(&mut bands, BandKind::Group, caps)?;
     Ok(bands)
 }

@@ -2,6 +2,7 @@
 
 ghost use Rattle.std.specs.Prelude.{◌≡◌, ◌++◌, ◌==◌, cond, nat_lt, [], IfOk, OnOk, string_bytes};
 ghost use Rattle.std.specs.List.{range_with_len};
+ghost use Rattle.dsa_event_text.specs.Added.{Adds};
 ghost use Rattle.dsa_draw.specs.Columns.{asked_text, title_text, left_text, high_text, column_text, grid_text, label_text, step_number_text, fifth_text, columns_text};
 ghost use Rattle.dsa_draw.specs.Rows.{command_name_text, event_name_text, label_above_text, asker_of, asker_text, fate_mark, ended_head_text, ended_title_text, ended_box_text, ended_count_text, ended_text, fates_text, marks_of_step_text, marks_above_text, names_above_text, rows_above_text};
 ghost use Rattle.dsa_draw.specs.Engines.{engines_text, engines_end};
@@ -16,7 +17,7 @@ use crate::moment::Moment;
 use crate::page::{add_foot, add_head, add_mark, add_name, add_rule};
 use crate::run::Story;
 use dsa_book::{Actor, Event, Fate, FateRow};
-use dsa_event_text::{add_event, command_label};
+use dsa_event_text::{Added, add_event};
 use dsa_regs::Command;
 use dsa_scenario::{Record, add_answer, add_rows};
 use std::alloc::{AllocError, Global};
@@ -35,8 +36,8 @@ const BANDS: u32 = 152;
 
 // ---- columns
 
-fn add_asked(text: &mut String, entry: &Record) -> Result<(), AllocError>
-    ensures { OnOk result (string_bytes text.new ≡ string_bytes text.old ++ asked_text entry.now) }
+fn add_asked(text: &mut String, entry: &Record) -> Added
+    ensures { Adds result text.old text.new (asked_text entry.now) }
 {
     match entry {
         Record::Stepped(step) => add_event(text, &step.event),
@@ -46,9 +47,8 @@ fn add_asked(text: &mut String, entry: &Record) -> Result<(), AllocError>
 
 // The title of a column.
 #[tactic(auto, unfolding(crate::specs::Columns::title_text))]
-fn add_title(text: &mut String, entry: &Record, step: u32) -> Result<(), AllocError>
-    ensures { OnOk result
-        (string_bytes text.new ≡ string_bytes text.old ++ title_text step entry.now) }
+fn add_title(text: &mut String, entry: &Record, step: u32) -> Added
+    ensures { Adds result text.old text.new (title_text step entry.now) }
 {
     write!(text, "step {step}: ")?;
     add_asked(text, entry)?;
@@ -57,25 +57,24 @@ fn add_title(text: &mut String, entry: &Record, step: u32) -> Result<(), AllocEr
 }
 
 #[tactic(auto, unfolding(crate::specs::Columns::left_text))]
-fn add_left(text: &mut String, step: u32) -> Result<(), AllocError>
-    ensures { OnOk result (string_bytes text.new ≡ string_bytes text.old ++ left_text step) }
+fn add_left(text: &mut String, step: u32) -> Added
+    ensures { Adds result text.old text.new (left_text step) }
 {
     let x = column_left(step);
     write!(text, "<rect class=\"column\" x=\"{x}\"")
 }
 
 #[tactic(auto, unfolding(crate::specs::Columns::high_text))]
-fn add_high(text: &mut String, height: u32) -> Result<(), AllocError>
-    ensures { OnOk result (string_bytes text.new ≡ string_bytes text.old ++ high_text height) }
+fn add_high(text: &mut String, height: u32) -> Added
+    ensures { Adds result text.old text.new (high_text height) }
 {
     let high = height.saturating_sub(NUMBERS);
     write!(text, " y=\"80\" width=\"14\" height=\"{high}\"><title>")
 }
 
 // A column has the step as its title.
-fn add_column(text: &mut String, entry: &Record, step: u32, height: u32) -> Result<(), AllocError>
-    ensures { OnOk result
-        (string_bytes text.new ≡ string_bytes text.old ++ column_text height step entry.now) }
+fn add_column(text: &mut String, entry: &Record, step: u32, height: u32) -> Added
+    ensures { Adds result text.old text.new (column_text height step entry.now) }
 {
     add_left(text, step)?;
     add_high(text, height)?;
@@ -84,8 +83,8 @@ fn add_column(text: &mut String, entry: &Record, step: u32, height: u32) -> Resu
 }
 
 #[tactic(auto, unfolding(crate::specs::Columns::grid_text))]
-fn add_grid(text: &mut String, step: u32, height: u32) -> Result<(), AllocError>
-    ensures { OnOk result (string_bytes text.new ≡ string_bytes text.old ++ grid_text height step) }
+fn add_grid(text: &mut String, step: u32, height: u32) -> Added
+    ensures { Adds result text.old text.new (grid_text height step) }
 {
     let x = column_left(step);
     let high = height.saturating_sub(NUMBERS);
@@ -93,26 +92,24 @@ fn add_grid(text: &mut String, step: u32, height: u32) -> Result<(), AllocError>
 }
 
 #[tactic(auto, unfolding(crate::specs::Columns::label_text))]
-fn add_step_label(text: &mut String, step: u32) -> Result<(), AllocError>
-    ensures { OnOk result (string_bytes text.new ≡ string_bytes text.old ++ label_text step) }
+fn add_step_label(text: &mut String, step: u32) -> Added
+    ensures { Adds result text.old text.new (label_text step) }
 {
     let x = column_left(step) + 2;
     write!(text, "<text x=\"{x}\" y=\"91\">{step}</text>\n")
 }
 
 // A line, and the number of the step.
-fn add_number(text: &mut String, step: u32, height: u32) -> Result<(), AllocError>
-    ensures { OnOk result
-        (string_bytes text.new ≡ string_bytes text.old ++ step_number_text height step) }
+fn add_number(text: &mut String, step: u32, height: u32) -> Added
+    ensures { Adds result text.old text.new (step_number_text height step) }
 {
     add_grid(text, step, height)?;
     add_step_label(text, step)
 }
 
 // That of every fifth step.
-fn add_fifth(text: &mut String, step: u32, height: u32) -> Result<(), AllocError>
-    ensures { OnOk result
-        (string_bytes text.new ≡ string_bytes text.old ++ fifth_text height step) }
+fn add_fifth(text: &mut String, step: u32, height: u32) -> Added
+    ensures { Adds result text.old text.new (fifth_text height step) }
 {
     if step % 5 == 0 {
         add_number(text, step, height)
@@ -121,9 +118,8 @@ fn add_fifth(text: &mut String, step: u32, height: u32) -> Result<(), AllocError
     }
 }
 
-fn add_columns(text: &mut String, moments: &[Moment], height: u32) -> Result<(), AllocError>
-    ensures { OnOk result
-        (string_bytes text.new ≡ string_bytes text.old ++ columns_text height 0 moments.now) }
+fn add_columns(text: &mut String, moments: &[Moment], height: u32) -> Added
+    ensures { Adds result text.old text.new (columns_text height 0 moments.now) }
 {
     let mut step = 0u32;
     for moment in moments {
@@ -138,21 +134,19 @@ fn add_columns(text: &mut String, moments: &[Moment], height: u32) -> Result<(),
 
 // The name of a command stands above its column.
 #[tactic(auto, unfolding(crate::specs::Rows::command_name_text))]
-fn add_command_name(text: &mut String, command: &Command, step: u32) -> Result<(), AllocError>
-    ensures { OnOk result
-        (string_bytes text.new ≡ string_bytes text.old ++ command_name_text step command.now) }
+fn add_command_name(text: &mut String, command: &Command, step: u32) -> Added
+    ensures { Adds result text.old text.new (command_name_text step command.now) }
 {
     let x = column_left(step) + 10;
-    let name = command_label(command);
+    let name = command.label();
     write!(
         text,
         "<text transform=\"translate({x} 76) rotate(-60)\">{name}</text>\n"
     )
 }
 
-fn add_event_name(text: &mut String, event: &Event, step: u32) -> Result<(), AllocError>
-    ensures { OnOk result
-        (string_bytes text.new ≡ string_bytes text.old ++ event_name_text step event.now) }
+fn add_event_name(text: &mut String, event: &Event, step: u32) -> Added
+    ensures { Adds result text.old text.new (event_name_text step event.now) }
 {
     match event {
         Event::Issue { command } => add_command_name(text, command, step),
@@ -160,9 +154,8 @@ fn add_event_name(text: &mut String, event: &Event, step: u32) -> Result<(), All
     }
 }
 
-fn add_label(text: &mut String, entry: &Record, step: u32) -> Result<(), AllocError>
-    ensures { OnOk result
-        (string_bytes text.new ≡ string_bytes text.old ++ label_above_text step entry.now) }
+fn add_label(text: &mut String, entry: &Record, step: u32) -> Added
+    ensures { Adds result text.old text.new (label_above_text step entry.now) }
 {
     match entry {
         Record::Stepped(made) => add_event_name(text, &made.event, step),
@@ -180,9 +173,8 @@ fn asker_of(entry: &Record) -> Actor
     }
 }
 
-fn add_asker(text: &mut String, entry: &Record, step: u32) -> Result<(), AllocError>
-    ensures { OnOk result
-        (string_bytes text.new ≡ string_bytes text.old ++ asker_text step entry.now) }
+fn add_asker(text: &mut String, entry: &Record, step: u32) -> Added
+    ensures { Adds result text.old text.new (asker_text step entry.now) }
 {
     match asker_of(entry) {
         Actor::Client(_) => add_mark(text, mark_of(entry), step, CLIENTS),
@@ -211,15 +203,14 @@ fn fate_mark(fate: Fate) -> Mark
 }
 
 #[tactic(auto, unfolding(crate::specs::Rows::ended_head_text))]
-fn add_ended_head(text: &mut String, step: u32) -> Result<(), AllocError>
-    ensures { OnOk result (string_bytes text.new ≡ string_bytes text.old ++ ended_head_text step) }
+fn add_ended_head(text: &mut String, step: u32) -> Added
+    ensures { Adds result text.old text.new (ended_head_text step) }
 {
     write!(text, "<g><title>step {step}\n")
 }
 
-fn add_ended_title(text: &mut String, rows: &[FateRow], step: u32) -> Result<(), AllocError>
-    ensures { OnOk result
-        (string_bytes text.new ≡ string_bytes text.old ++ ended_title_text step rows.now) }
+fn add_ended_title(text: &mut String, rows: &[FateRow], step: u32) -> Added
+    ensures { Adds result text.old text.new (ended_title_text step rows.now) }
 {
     add_ended_head(text, step)?;
     add_rows(text, rows)?;
@@ -227,8 +218,8 @@ fn add_ended_title(text: &mut String, rows: &[FateRow], step: u32) -> Result<(),
 }
 
 #[tactic(auto, unfolding(crate::specs::Rows::ended_box_text))]
-fn add_ended_box(text: &mut String, step: u32) -> Result<(), AllocError>
-    ensures { OnOk result (string_bytes text.new ≡ string_bytes text.old ++ ended_box_text step) }
+fn add_ended_box(text: &mut String, step: u32) -> Added
+    ensures { Adds result text.old text.new (ended_box_text step) }
 {
     let x = column_left(step);
     write!(
@@ -238,9 +229,8 @@ fn add_ended_box(text: &mut String, step: u32) -> Result<(), AllocError>
 }
 
 #[tactic(auto, unfolding(crate::specs::Rows::ended_count_text))]
-fn add_ended_count(text: &mut String, step: u32, count: usize) -> Result<(), AllocError>
-    ensures { OnOk result
-        (string_bytes text.new ≡ string_bytes text.old ++ ended_count_text step count) }
+fn add_ended_count(text: &mut String, step: u32, count: usize) -> Added
+    ensures { Adds result text.old text.new (ended_count_text step count) }
 {
     let x = column_left(step) + 2;
     write!(
@@ -249,9 +239,9 @@ fn add_ended_count(text: &mut String, step: u32, count: usize) -> Result<(), All
     )
 }
 
-fn add_ended_many(text: &mut String, step: u32, count: usize) -> Result<(), AllocError>
-    ensures { OnOk result (string_bytes text.new ≡ string_bytes text.old
-        ++ cond (nat_lt 1 count) (ended_count_text step count) []) }
+fn add_ended_many(text: &mut String, step: u32, count: usize) -> Added
+    ensures { Adds result text.old text.new
+        (cond (nat_lt 1 count) (ended_count_text step count) []) }
 {
     if count > 1 {
         add_ended_count(text, step, count)
@@ -260,9 +250,8 @@ fn add_ended_many(text: &mut String, step: u32, count: usize) -> Result<(), Allo
     }
 }
 
-fn add_ended(text: &mut String, rows: &[FateRow], mark: Mark, step: u32) -> Result<(), AllocError>
-    ensures { OnOk result
-        (string_bytes text.new ≡ string_bytes text.old ++ ended_text step rows.now mark) }
+fn add_ended(text: &mut String, rows: &[FateRow], mark: Mark, step: u32) -> Added
+    ensures { Adds result text.old text.new (ended_text step rows.now mark) }
 {
     add_ended_title(text, rows, step)?;
     add_ended_box(text, step)?;
@@ -272,9 +261,8 @@ fn add_ended(text: &mut String, rows: &[FateRow], mark: Mark, step: u32) -> Resu
 }
 
 // A mark for the last entry that ended in this step, and how many did where it was not alone.
-fn add_fates(text: &mut String, rows: &[FateRow], step: u32) -> Result<(), AllocError>
-    ensures { OnOk result
-        (string_bytes text.new ≡ string_bytes text.old ++ fates_text step rows.now) }
+fn add_fates(text: &mut String, rows: &[FateRow], step: u32) -> Added
+    ensures { Adds result text.old text.new (fates_text step rows.now) }
 {
     match rows.last() {
         Some(row) => add_ended(text, rows, fate_mark(row.fate), step),
@@ -289,18 +277,16 @@ fn add_marks_of_step(
     moment: &Moment,
     step: u32,
     ended: usize,
-) -> Result<(), AllocError>
-    ensures { OnOk result (string_bytes text.new ≡ string_bytes text.old
-        ++ marks_of_step_text fates.now step ended moment.now) }
+) -> Added
+    ensures { Adds result text.old text.new (marks_of_step_text fates.now step ended moment.now) }
 {
     add_label(text, &moment.entry, step)?;
     add_asker(text, &moment.entry, step)?;
     add_fates(text, rows_between(fates, ended, moment.ended), step)
 }
 
-fn add_marks(text: &mut String, fates: &[FateRow], moments: &[Moment]) -> Result<(), AllocError>
-    ensures { OnOk result (string_bytes text.new ≡ string_bytes text.old
-        ++ marks_above_text fates.now 0 0 moments.now) }
+fn add_marks(text: &mut String, fates: &[FateRow], moments: &[Moment]) -> Added
+    ensures { Adds result text.old text.new (marks_above_text fates.now 0 0 moments.now) }
 {
     let mut step = 0u32;
     let mut ended = 0;
@@ -313,9 +299,8 @@ fn add_marks(text: &mut String, fates: &[FateRow], moments: &[Moment]) -> Result
 }
 
 #[tactic(auto, unfolding(crate::specs::Rows::names_above_text))]
-fn add_names_above(text: &mut String, steps: u32) -> Result<(), AllocError>
-    ensures { OnOk result
-        (string_bytes text.new ≡ string_bytes text.old ++ names_above_text steps) }
+fn add_names_above(text: &mut String, steps: u32) -> Added
+    ensures { Adds result text.old text.new (names_above_text steps) }
 {
     add_name(text, "step", NUMBERS)?;
     add_name(text, "clients", CLIENTS)?;
@@ -326,14 +311,8 @@ fn add_names_above(text: &mut String, steps: u32) -> Result<(), AllocError>
     add_rule(text, steps, FATES)
 }
 
-fn add_rows_above(
-    text: &mut String,
-    fates: &[FateRow],
-    moments: &[Moment],
-    steps: u32,
-) -> Result<(), AllocError>
-    ensures { OnOk result (string_bytes text.new ≡ string_bytes text.old
-        ++ rows_above_text steps fates.now moments.now) }
+fn add_rows_above(text: &mut String, fates: &[FateRow], moments: &[Moment], steps: u32) -> Added
+    ensures { Adds result text.old text.new (rows_above_text steps fates.now moments.now) }
 {
     add_names_above(text, steps)?;
     add_marks(text, fates, moments)
@@ -350,8 +329,8 @@ fn add_engines(
     steps: u32,
     top: u32,
 ) -> Result<u32, AllocError>
-    ensures text { OnOk result (string_bytes text.new ≡ string_bytes text.old
-        ++ engines_text steps top (range_with_len 0 engines) moments.now bars.now) }
+    ensures text { Adds result text.old text.new
+        (engines_text steps top (range_with_len 0 engines) moments.now bars.now) }
     ensures end { IfOk result
         (λ end. end ≡ engines_end steps top (range_with_len 0 engines) moments.now bars.now) }
 {
@@ -368,7 +347,7 @@ fn count_of(moments: &[Moment]) -> u32
     u32::try_from(moments.len()).unwrap_or(u32::MAX)
 }
 
-fn add_parts(text: &mut String, above: &str, bands: &str, below: &str) -> Result<(), AllocError>
+fn add_parts(text: &mut String, above: &str, bands: &str, below: &str) -> Added
     ensures { OnOk result
         (string_bytes text.new ≡ (string_bytes text.old ++ above.now) ++ bands.now ++ below.now) }
 {

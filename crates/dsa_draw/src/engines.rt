@@ -1,7 +1,8 @@
 //! Engines: what they asked for, and how long they had which entries.
 
-ghost use Rattle.std.specs.Prelude.{◌≡◌, ◌++◌, ◌<◌, ◌^◌, ◌==◌, ◌&&◌, [], cond, false, Some, IfOk, OnOk, string_bytes, codes};
+ghost use Rattle.std.specs.Prelude.{◌≡◌, ◌++◌, ◌<◌, ◌^◌, ◌==◌, ◌&&◌, [], cond, false, Some, IfOk, codes};
 ghost use Rattle.std.specs.Fmt.{digit_glyph};
+ghost use Rattle.dsa_event_text.specs.Added.{Adds};
 ghost use Rattle.dsa_scenario.specs.Lines.{two_digits};
 ghost use Rattle.dsa_draw.specs.Bars.{end_step};
 ghost use Rattle.dsa_draw.specs.Engines.{is_step_by, has_steps, engine_mark_text, engine_marks_text, class_of_fate, class_of_end, fate_phrase, kind_phrase, holder_phrase, parent_phrase, begin_phrase, end_phrase, bar_title_text, box_text, box_part_text, name_room, bar_label_text, bar_name_text, lane_by, bar_top, boxes_text, bar_text, bars_text, lanes_bottom, batch_box_text, batch_title_text, batch_text, batches_text, taken_in_lanes, bars_in_lanes, lanes_of, engine_bottom, engine_rows_text, engine_part_text, engine_end};
@@ -12,6 +13,7 @@ use crate::marks::mark_of;
 use crate::moment::Moment;
 use crate::page::{add_mark, add_numbered, add_rule};
 use dsa_book::{Actor, Fate};
+use dsa_event_text::Added;
 use dsa_scenario::Record;
 use std::alloc::{AllocError, Global};
 use std::fmt::Write;
@@ -45,15 +47,8 @@ fn has_steps(moments: &[Moment], engine: u16) -> bool
     false
 }
 
-fn add_engine_mark(
-    text: &mut String,
-    entry: &Record,
-    engine: u16,
-    step: u32,
-    top: u32,
-) -> Result<(), AllocError>
-    ensures { OnOk result (string_bytes text.new
-        ≡ string_bytes text.old ++ engine_mark_text engine top step entry.now) }
+fn add_engine_mark(text: &mut String, entry: &Record, engine: u16, step: u32, top: u32) -> Added
+    ensures { Adds result text.old text.new (engine_mark_text engine top step entry.now) }
 {
     if is_of(entry, engine) {
         add_mark(text, mark_of(entry), step, top)
@@ -62,9 +57,8 @@ fn add_engine_mark(
     }
 }
 
-fn add_marks(text: &mut String, moments: &[Moment], engine: u16, top: u32) -> Result<(), AllocError>
-    ensures { OnOk result (string_bytes text.new
-        ≡ string_bytes text.old ++ engine_marks_text engine top 0 moments.now) }
+fn add_marks(text: &mut String, moments: &[Moment], engine: u16, top: u32) -> Added
+    ensures { Adds result text.old text.new (engine_marks_text engine top 0 moments.now) }
 {
     let mut step = 0u32;
     for moment in moments {
@@ -101,24 +95,23 @@ fn hex_digit(n: u8) -> char
     char::from(if n < 10 { b'0' + n } else { b'a' + (n - 10) })
 }
 
-fn add_status(text: &mut String, status: u8) -> Result<(), AllocError>
-    ensures { OnOk result (string_bytes text.new ≡ string_bytes text.old ++ two_digits status) }
+fn add_status(text: &mut String, status: u8) -> Added
+    ensures { Adds result text.old text.new (two_digits status) }
 {
     text.push(hex_digit(status / 16))?;
     text.push(hex_digit(status % 16))
 }
 
 // A word and a status.
-fn add_completed(text: &mut String, word: &str, status: u8) -> Result<(), AllocError>
-    ensures { OnOk result
-        (string_bytes text.new ≡ string_bytes text.old ++ (word.now ++ two_digits status)) }
+fn add_completed(text: &mut String, word: &str, status: u8) -> Added
+    ensures { Adds result text.old text.new (word.now ++ two_digits status) }
 {
     text.push_str(word)?;
     add_status(text, status)
 }
 
-fn add_fate(text: &mut String, fate: Fate) -> Result<(), AllocError>
-    ensures { OnOk result (string_bytes text.new ≡ string_bytes text.old ++ fate_phrase fate) }
+fn add_fate(text: &mut String, fate: Fate) -> Added
+    ensures { Adds result text.old text.new (fate_phrase fate) }
 {
     match fate {
         Fate::Completed(status) => add_completed(text, "completed ", status),
@@ -135,15 +128,14 @@ fn kind_of(is_batch: bool) -> &'static str
 }
 
 #[tactic(auto, unfolding(crate::specs::Engines::holder_phrase))]
-fn add_holder(text: &mut String, name: u32, engine: u16) -> Result<(), AllocError>
-    ensures { OnOk result
-        (string_bytes text.new ≡ string_bytes text.old ++ holder_phrase name engine) }
+fn add_holder(text: &mut String, name: u32, engine: u16) -> Added
+    ensures { Adds result text.old text.new (holder_phrase name engine) }
 {
     write!(text, " {name} on e{engine}")
 }
 
-fn add_parent(text: &mut String, parent: Option<u32>) -> Result<(), AllocError>
-    ensures { OnOk result (string_bytes text.new ≡ string_bytes text.old ++ parent_phrase parent) }
+fn add_parent(text: &mut String, parent: Option<u32>) -> Added
+    ensures { Adds result text.old text.new (parent_phrase parent) }
 {
     match parent {
         Some(parent) => write!(text, ", member of batch {parent}"),
@@ -152,23 +144,22 @@ fn add_parent(text: &mut String, parent: Option<u32>) -> Result<(), AllocError>
 }
 
 #[tactic(auto, unfolding(crate::specs::Engines::begin_phrase))]
-fn add_begin(text: &mut String, begin: u32) -> Result<(), AllocError>
-    ensures { OnOk result (string_bytes text.new ≡ string_bytes text.old ++ begin_phrase begin) }
+fn add_begin(text: &mut String, begin: u32) -> Added
+    ensures { Adds result text.old text.new (begin_phrase begin) }
 {
     write!(text, ", from step {begin}")
 }
 
-fn add_end(text: &mut String, end: End) -> Result<(), AllocError>
-    ensures { OnOk result
-        (string_bytes text.new ≡ string_bytes text.old ++ end_phrase (Some end)) }
+fn add_end(text: &mut String, end: End) -> Added
+    ensures { Adds result text.old text.new (end_phrase (Some end)) }
 {
     let step = end.step;
     write!(text, " to {step}: ")?;
     add_fate(text, end.fate)
 }
 
-fn add_end_part(text: &mut String, end: Option<End>) -> Result<(), AllocError>
-    ensures { OnOk result (string_bytes text.new ≡ string_bytes text.old ++ end_phrase end) }
+fn add_end_part(text: &mut String, end: Option<End>) -> Added
+    ensures { Adds result text.old text.new (end_phrase end) }
 {
     match end {
         Some(end) => add_end(text, end),
@@ -178,9 +169,8 @@ fn add_end_part(text: &mut String, end: Option<End>) -> Result<(), AllocError>
 
 // What the bar is of, and how it ended.
 #[tactic(auto, unfolding(crate::specs::Engines::bar_title_text))]
-fn add_bar_title(text: &mut String, bar: &Bar) -> Result<(), AllocError>
-    ensures { OnOk result
-        (string_bytes text.new ≡ string_bytes text.old ++ bar_title_text bar.now) }
+fn add_bar_title(text: &mut String, bar: &Bar) -> Added
+    ensures { Adds result text.old text.new (bar_title_text bar.now) }
 {
     text.push_str("<title>")?;
     text.push_str(kind_of(bar.is_batch))?;
@@ -192,9 +182,8 @@ fn add_bar_title(text: &mut String, bar: &Bar) -> Result<(), AllocError>
 }
 
 #[tactic(auto, unfolding(crate::specs::Engines::box_text))]
-fn add_box(text: &mut String, class: &str, begin: u32, end: u32, y: u64) -> Result<(), AllocError>
-    ensures { OnOk result
-        (string_bytes text.new ≡ string_bytes text.old ++ box_text class.now begin end y) }
+fn add_box(text: &mut String, class: &str, begin: u32, end: u32, y: u64) -> Added
+    ensures { Adds result text.old text.new (box_text class.now begin end y) }
 {
     let x = column_left(begin);
     let wide = columns_wide(begin, end);
@@ -205,15 +194,8 @@ fn add_box(text: &mut String, class: &str, begin: u32, end: u32, y: u64) -> Resu
 }
 
 // A box has a column at least.
-fn add_box_part(
-    text: &mut String,
-    class: &str,
-    begin: u32,
-    end: u32,
-    y: u64,
-) -> Result<(), AllocError>
-    ensures { OnOk result
-        (string_bytes text.new ≡ string_bytes text.old ++ box_part_text class.now begin end y) }
+fn add_box_part(text: &mut String, class: &str, begin: u32, end: u32, y: u64) -> Added
+    ensures { Adds result text.old text.new (box_part_text class.now begin end y) }
 {
     if begin < end {
         add_box(text, class, begin, end, y)
@@ -235,9 +217,8 @@ fn name_room(name: u32) -> u64
 }
 
 #[tactic(auto, unfolding(crate::specs::Engines::bar_label_text))]
-fn add_bar_label(text: &mut String, name: u32, begin: u32, base: u64) -> Result<(), AllocError>
-    ensures { OnOk result
-        (string_bytes text.new ≡ string_bytes text.old ++ bar_label_text name begin base) }
+fn add_bar_label(text: &mut String, name: u32, begin: u32, base: u64) -> Added
+    ensures { Adds result text.old text.new (bar_label_text name begin base) }
 {
     let x = column_left(begin) + 2;
     write!(
@@ -247,9 +228,8 @@ fn add_bar_label(text: &mut String, name: u32, begin: u32, base: u64) -> Result<
 }
 
 // The name stands in a bar that is wide enough for it.
-fn add_bar_name(text: &mut String, bar: &Bar, end: u32, base: u64) -> Result<(), AllocError>
-    ensures { OnOk result
-        (string_bytes text.new ≡ string_bytes text.old ++ bar_name_text bar.now end base) }
+fn add_bar_name(text: &mut String, bar: &Bar, end: u32, base: u64) -> Added
+    ensures { Adds result text.old text.new (bar_name_text bar.now end base) }
 {
     if columns_wide(bar.begin, end) < name_room(bar.name) {
         return Ok(());
@@ -266,19 +246,17 @@ fn lane_of(bar: &Bar, lanes: Lanes) -> u32
     }
 }
 
-fn add_boxes(text: &mut String, bar: &Bar, runs: u32, end: u32, y: u64) -> Result<(), AllocError>
+fn add_boxes(text: &mut String, bar: &Bar, runs: u32, end: u32, y: u64) -> Added
     requires { y < 2 ^ 40 }
-    ensures { OnOk result
-        (string_bytes text.new ≡ string_bytes text.old ++ boxes_text bar.now runs end y) }
+    ensures { Adds result text.old text.new (boxes_text bar.now runs end y) }
 {
     add_box_part(text, "waits", bar.begin, runs, y)?;
     add_box_part(text, class_of(bar.end), runs, end, y)?;
     add_bar_name(text, bar, end, y + 9)
 }
 
-fn add_bar(text: &mut String, bar: &Bar, lanes: Lanes) -> Result<(), AllocError>
-    ensures { OnOk result
-        (string_bytes text.new ≡ string_bytes text.old ++ bar_text lanes bar.now) }
+fn add_bar(text: &mut String, bar: &Bar, lanes: Lanes) -> Added
+    ensures { Adds result text.old text.new (bar_text lanes bar.now) }
 {
     let y = lane_top(lanes.top, lane_of(bar, lanes));
     let end = bar.end_step(lanes.last);
@@ -289,9 +267,9 @@ fn add_bar(text: &mut String, bar: &Bar, lanes: Lanes) -> Result<(), AllocError>
     text.push_str("</g>\n")
 }
 
-fn add_bar_of(text: &mut String, bar: &Bar, engine: u16, lanes: Lanes) -> Result<(), AllocError>
-    ensures { OnOk result (string_bytes text.new
-        ≡ string_bytes text.old ++ cond (bar.now.engine == engine) (bar_text lanes bar.now) []) }
+fn add_bar_of(text: &mut String, bar: &Bar, engine: u16, lanes: Lanes) -> Added
+    ensures { Adds result text.old text.new
+        (cond (bar.now.engine == engine) (bar_text lanes bar.now) []) }
 {
     if bar.engine == engine {
         add_bar(text, bar, lanes)
@@ -300,9 +278,8 @@ fn add_bar_of(text: &mut String, bar: &Bar, engine: u16, lanes: Lanes) -> Result
     }
 }
 
-fn add_bars(text: &mut String, bars: &[Bar], engine: u16, lanes: Lanes) -> Result<(), AllocError>
-    ensures { OnOk result
-        (string_bytes text.new ≡ string_bytes text.old ++ bars_text engine lanes bars.now) }
+fn add_bars(text: &mut String, bars: &[Bar], engine: u16, lanes: Lanes) -> Added
+    ensures { Adds result text.old text.new (bars_text engine lanes bars.now) }
 {
     for bar in bars {
         add_bar_of(text, bar, engine, lanes)?;
@@ -313,15 +290,8 @@ fn add_bars(text: &mut String, bars: &[Bar], engine: u16, lanes: Lanes) -> Resul
 // ---- batches
 
 #[tactic(auto, unfolding(crate::specs::Engines::batch_box_text))]
-fn add_batch_box(
-    text: &mut String,
-    begin: u32,
-    end: u32,
-    y: u64,
-    bottom: u64,
-) -> Result<(), AllocError>
-    ensures { OnOk result
-        (string_bytes text.new ≡ string_bytes text.old ++ batch_box_text begin end y bottom) }
+fn add_batch_box(text: &mut String, begin: u32, end: u32, y: u64, bottom: u64) -> Added
+    ensures { Adds result text.old text.new (batch_box_text begin end y bottom) }
 {
     let x = column_left(begin);
     let wide = columns_wide(begin, end);
@@ -333,9 +303,8 @@ fn add_batch_box(
 }
 
 #[tactic(auto, unfolding(crate::specs::Engines::batch_title_text))]
-fn add_batch_title(text: &mut String, engine: u16, name: u32) -> Result<(), AllocError>
-    ensures { OnOk result
-        (string_bytes text.new ≡ string_bytes text.old ++ batch_title_text engine name) }
+fn add_batch_title(text: &mut String, engine: u16, name: u32) -> Added
+    ensures { Adds result text.old text.new (batch_title_text engine name) }
 {
     write!(
         text,
@@ -344,9 +313,8 @@ fn add_batch_title(text: &mut String, engine: u16, name: u32) -> Result<(), Allo
 }
 
 // A batch stands around its members.
-fn add_batch(text: &mut String, bar: &Bar, lanes: Lanes) -> Result<(), AllocError>
-    ensures { OnOk result
-        (string_bytes text.new ≡ string_bytes text.old ++ batch_text lanes bar.now) }
+fn add_batch(text: &mut String, bar: &Bar, lanes: Lanes) -> Added
+    ensures { Adds result text.old text.new (batch_text lanes bar.now) }
 {
     let y = lane_top(lanes.top, bar.lane);
     let bottom = lane_top(lanes.top, lanes.taken.saturating_add(lanes.members));
@@ -354,9 +322,9 @@ fn add_batch(text: &mut String, bar: &Bar, lanes: Lanes) -> Result<(), AllocErro
     add_batch_title(text, bar.engine, bar.name)
 }
 
-fn add_batch_of(text: &mut String, bar: &Bar, engine: u16, lanes: Lanes) -> Result<(), AllocError>
-    ensures { OnOk result (string_bytes text.new ≡ string_bytes text.old
-        ++ cond (bar.now.engine == engine && bar.now.is_batch) (batch_text lanes bar.now) []) }
+fn add_batch_of(text: &mut String, bar: &Bar, engine: u16, lanes: Lanes) -> Added
+    ensures { Adds result text.old text.new
+        (cond (bar.now.engine == engine && bar.now.is_batch) (batch_text lanes bar.now) []) }
 {
     if bar.engine == engine && bar.is_batch {
         add_batch(text, bar, lanes)
@@ -365,9 +333,8 @@ fn add_batch_of(text: &mut String, bar: &Bar, engine: u16, lanes: Lanes) -> Resu
     }
 }
 
-fn add_batches(text: &mut String, bars: &[Bar], engine: u16, lanes: Lanes) -> Result<(), AllocError>
-    ensures { OnOk result
-        (string_bytes text.new ≡ string_bytes text.old ++ batches_text engine lanes bars.now) }
+fn add_batches(text: &mut String, bars: &[Bar], engine: u16, lanes: Lanes) -> Added
+    ensures { Adds result text.old text.new (batches_text engine lanes bars.now) }
 {
     for bar in bars {
         add_batch_of(text, bar, engine, lanes)?;
@@ -392,9 +359,9 @@ fn add_engine_rows(
     engine: u16,
     lanes: Lanes,
     top: u32,
-) -> Result<(), AllocError>
-    ensures { OnOk result (string_bytes text.new ≡ string_bytes text.old
-        ++ engine_rows_text engine lanes.last top moments.now lanes bars.now) }
+) -> Added
+    ensures { Adds result text.old text.new
+        (engine_rows_text engine lanes.last top moments.now lanes bars.now) }
 {
     add_numbered(text, "engine", engine, top)?;
     add_marks(text, moments, engine, top)?;
@@ -413,8 +380,8 @@ pub fn add_engine(
     steps: u32,
     top: u32,
 ) -> Result<u32, AllocError>
-    ensures text { OnOk result (string_bytes text.new
-        ≡ string_bytes text.old ++ engine_part_text engine steps top moments.now bars.now) }
+    ensures text { Adds result text.old text.new
+        (engine_part_text engine steps top moments.now bars.now) }
     ensures end { IfOk result (λ end. end ≡ engine_end engine steps top moments.now bars.now) }
 {
     if !has_steps(moments, engine) {

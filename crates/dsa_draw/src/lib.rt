@@ -15,6 +15,7 @@ mod geometry;
 mod marks;
 mod moment;
 mod page;
+pub mod rows;
 mod run;
 
 pub use geometry::{column_left, columns_wide, lane_top, level_high};

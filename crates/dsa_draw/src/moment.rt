@@ -2,10 +2,11 @@
 
 ghost use Rattle.std.specs.Prelude.{◌≡◌, ◌<◌, IfOk, map, option_map};
 ghost use Rattle.std.specs.List.{range_with_len};
-ghost use Rattle.dsa_draw.specs.Moments.{level_with, queue_level_of, group_level_of, batch_after, IsMomentOf};
+ghost use Rattle.dsa_draw.specs.Moments.{level_with, queue_level_of, group_level_of, level_of, band_count, batch_after, IsMomentOf};
 
 use dsa_book::{Actor, BatchNote};
 use dsa_device::Device;
+use dsa_regs::Caps;
 use dsa_scenario::Record;
 use dsa_store::EntryStore;
 use std::alloc::{AllocError, Global};
@@ -17,6 +18,13 @@ pub struct Level {
     pub filled: u16,
     pub mark: u16,
     pub limit: u16,
+}
+
+/// What has levels, by number.
+#[derive(Clone, Copy)]
+pub enum BandKind {
+    Queue,
+    Group,
 }
 
 /// What a step was, and what the device says of itself after it.
@@ -65,26 +73,38 @@ pub fn group_level<S: EntryStore>(device: &Device<S>, group: u16) -> Level
     }
 }
 
-fn queue_levels<S: EntryStore>(alloc: Global, device: &Device<S>) -> Result<Vec<Level>, AllocError>
-    ensures { IfOk result
-        (λ levels. levels.items
-        ≡ map (queue_level_of device.now) (range_with_len 0 device.now.caps.queues)) }
+fn level_of<S: EntryStore>(device: &Device<S>, kind: BandKind, number: u16) -> Level
+    requires { number < band_count device.now.caps kind }
+    ensures { result ≡ level_of device.now kind number }
 {
-    let mut levels = Vec::new(alloc);
-    for queue in 0..device.caps().queues {
-        levels.push(queue_level(device, queue))?;
+    match kind {
+        BandKind::Queue => queue_level(device, number),
+        BandKind::Group => group_level(device, number),
     }
-    Ok(levels)
 }
 
-fn group_levels<S: EntryStore>(alloc: Global, device: &Device<S>) -> Result<Vec<Level>, AllocError>
+/// How many of them the device has.
+pub fn band_count(caps: &Caps, kind: BandKind) -> u16
+    ensures { result ≡ band_count caps.now kind }
+{
+    match kind {
+        BandKind::Queue => caps.queues,
+        BandKind::Group => caps.groups,
+    }
+}
+
+fn levels<S: EntryStore>(
+    alloc: Global,
+    device: &Device<S>,
+    kind: BandKind,
+) -> Result<Vec<Level>, AllocError>
     ensures { IfOk result
         (λ levels. levels.items
-        ≡ map (group_level_of device.now) (range_with_len 0 device.now.caps.groups)) }
+        ≡ map (level_of device.now kind) (range_with_len 0 (band_count device.now.caps kind))) }
 {
     let mut levels = Vec::new(alloc);
-    for group in 0..device.caps().groups {
-        levels.push(group_level(device, group))?;
+    for number in 0..band_count(&device.caps(), kind) {
+        levels.push(level_of(device, kind, number))?;
     }
     Ok(levels)
 }
@@ -118,8 +138,8 @@ pub fn take_moment<S: EntryStore>(
 {
     Ok(Moment {
         entry,
-        queues: queue_levels(alloc, device)?,
-        groups: group_levels(alloc, device)?,
+        queues: levels(alloc, device, BandKind::Queue)?,
+        groups: levels(alloc, device, BandKind::Group)?,
         batch: batch_after(device, &entry),
         ended: device.fates().len(),
     })

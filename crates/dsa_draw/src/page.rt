@@ -1,12 +1,12 @@
 //! Pieces of a page: its head and foot, its style, names, lines and marks.
 
-ghost use Rattle.std.specs.Prelude.{◌≡◌, ◌++◌, OnOk, string_bytes};
+ghost use Rattle.dsa_event_text.specs.Added.{Adds};
 ghost use Rattle.dsa_draw.specs.Bands.{numbered_text};
 ghost use Rattle.dsa_draw.specs.Pages.{svg_text, page_size_text, view_text, style_text, sheet_text, head_text, foot_text, row_name_text, rule_text, dot_text, cross_text, mark_text};
 
 use crate::geometry::{column_left, columns_wide};
 use crate::marks::Mark;
-use std::alloc::AllocError;
+use dsa_event_text::Added;
 use std::fmt::Write;
 
 // Colours for light and for dark. Titles are those of columns and bars, so marks let the pointer
@@ -29,39 +29,36 @@ text{font:10px ui-monospace,monospace;fill:#1f2328}
 ";
 
 #[tactic(auto, unfolding(crate::specs::Pages::svg_text))]
-fn add_svg(text: &mut String) -> Result<(), AllocError>
-    ensures { OnOk result (string_bytes text.new ≡ string_bytes text.old ++ svg_text) }
+fn add_svg(text: &mut String) -> Added
+    ensures { Adds result text.old text.new svg_text }
 {
     text.push_str("<svg xmlns=\"http://www.w3.org/2000/svg\"")
 }
 
 #[tactic(auto, unfolding(crate::specs::Pages::page_size_text))]
-fn add_size(text: &mut String, width: u64, height: u32) -> Result<(), AllocError>
-    ensures { OnOk result
-        (string_bytes text.new ≡ string_bytes text.old ++ page_size_text width height) }
+fn add_size(text: &mut String, width: u64, height: u32) -> Added
+    ensures { Adds result text.old text.new (page_size_text width height) }
 {
     write!(text, " width=\"{width}\" height=\"{height}\"")
 }
 
 #[tactic(auto, unfolding(crate::specs::Pages::view_text))]
-fn add_view(text: &mut String, width: u64, height: u32) -> Result<(), AllocError>
-    ensures { OnOk result
-        (string_bytes text.new ≡ string_bytes text.old ++ view_text width height) }
+fn add_view(text: &mut String, width: u64, height: u32) -> Added
+    ensures { Adds result text.old text.new (view_text width height) }
 {
     write!(text, " viewBox=\"0 0 {width} {height}\">\n")
 }
 
 #[tactic(auto, unfolding(crate::specs::Pages::style_text))]
-fn add_style(text: &mut String) -> Result<(), AllocError>
-    ensures { OnOk result (string_bytes text.new ≡ string_bytes text.old ++ style_text) }
+fn add_style(text: &mut String) -> Added
+    ensures { Adds result text.old text.new style_text }
 {
     text.push_str(STYLE)
 }
 
 #[tactic(auto, unfolding(crate::specs::Pages::sheet_text))]
-fn add_sheet(text: &mut String, width: u64, height: u32) -> Result<(), AllocError>
-    ensures { OnOk result
-        (string_bytes text.new ≡ string_bytes text.old ++ sheet_text width height) }
+fn add_sheet(text: &mut String, width: u64, height: u32) -> Added
+    ensures { Adds result text.old text.new (sheet_text width height) }
 {
     write!(
         text,
@@ -70,9 +67,8 @@ fn add_sheet(text: &mut String, width: u64, height: u32) -> Result<(), AllocErro
 }
 
 /// Begins a page for so many steps, so high.
-pub fn add_head(text: &mut String, steps: u32, height: u32) -> Result<(), AllocError>
-    ensures { OnOk result
-        (string_bytes text.new ≡ string_bytes text.old ++ head_text steps height) }
+pub fn add_head(text: &mut String, steps: u32, height: u32) -> Added
+    ensures { Adds result text.old text.new (head_text steps height) }
 {
     let width = column_left(steps) + 56;
     add_svg(text)?;
@@ -83,26 +79,24 @@ pub fn add_head(text: &mut String, steps: u32, height: u32) -> Result<(), AllocE
 }
 
 /// Ends a page.
-pub fn add_foot(text: &mut String) -> Result<(), AllocError>
-    ensures { OnOk result (string_bytes text.new ≡ string_bytes text.old ++ foot_text) }
+pub fn add_foot(text: &mut String) -> Added
+    ensures { Adds result text.old text.new foot_text }
 {
     text.push_str("</svg>\n")
 }
 
 /// The name of a row, at the left.
 #[tactic(auto, unfolding(crate::specs::Pages::row_name_text))]
-pub fn add_name(text: &mut String, name: &str, top: u32) -> Result<(), AllocError>
-    ensures { OnOk result
-        (string_bytes text.new ≡ string_bytes text.old ++ row_name_text name.now top) }
+pub fn add_name(text: &mut String, name: &str, top: u32) -> Added
+    ensures { Adds result text.old text.new (row_name_text name.now top) }
 {
     let base = u64::from(top) + 11;
     write!(text, "<text x=\"4\" y=\"{base}\">{name}</text>\n")
 }
 
 /// The same with a number.
-pub fn add_numbered(text: &mut String, name: &str, number: u16, top: u32) -> Result<(), AllocError>
-    ensures { OnOk result
-        (string_bytes text.new ≡ string_bytes text.old ++ numbered_text name.now number top) }
+pub fn add_numbered(text: &mut String, name: &str, number: u16, top: u32) -> Added
+    ensures { Adds result text.old text.new (numbered_text name.now number top) }
 {
     let base = u64::from(top) + 11;
     write!(text, "<text x=\"4\" y=\"{base}\">{name} {number}</text>\n")
@@ -110,17 +104,16 @@ pub fn add_numbered(text: &mut String, name: &str, number: u16, top: u32) -> Res
 
 /// A line below a row, over all columns.
 #[tactic(auto, unfolding(crate::specs::Pages::rule_text))]
-pub fn add_rule(text: &mut String, steps: u32, y: u32) -> Result<(), AllocError>
-    ensures { OnOk result (string_bytes text.new ≡ string_bytes text.old ++ rule_text steps y) }
+pub fn add_rule(text: &mut String, steps: u32, y: u32) -> Added
+    ensures { Adds result text.old text.new (rule_text steps y) }
 {
     let wide = columns_wide(0, steps);
     write!(text, "<path class=\"grid\" d=\"M112 {y}h{wide}\"/>\n")
 }
 
 #[tactic(auto, unfolding(crate::specs::Pages::dot_text))]
-fn add_dot(text: &mut String, class: &str, step: u32, top: u32) -> Result<(), AllocError>
-    ensures { OnOk result
-        (string_bytes text.new ≡ string_bytes text.old ++ dot_text class.now step top) }
+fn add_dot(text: &mut String, class: &str, step: u32, top: u32) -> Added
+    ensures { Adds result text.old text.new (dot_text class.now step top) }
 {
     let x = column_left(step) + 7;
     let y = u64::from(top) + 8;
@@ -131,8 +124,8 @@ fn add_dot(text: &mut String, class: &str, step: u32, top: u32) -> Result<(), Al
 }
 
 #[tactic(auto, unfolding(crate::specs::Pages::cross_text))]
-fn add_cross(text: &mut String, step: u32, top: u32) -> Result<(), AllocError>
-    ensures { OnOk result (string_bytes text.new ≡ string_bytes text.old ++ cross_text step top) }
+fn add_cross(text: &mut String, step: u32, top: u32) -> Added
+    ensures { Adds result text.old text.new (cross_text step top) }
 {
     let left = column_left(step) + 4;
     let upper = u64::from(top) + 5;
@@ -143,9 +136,8 @@ fn add_cross(text: &mut String, step: u32, top: u32) -> Result<(), AllocError>
 }
 
 /// A mark in the column of a step, in a row that begins at `top`.
-pub fn add_mark(text: &mut String, mark: Mark, step: u32, top: u32) -> Result<(), AllocError>
-    ensures { OnOk result
-        (string_bytes text.new ≡ string_bytes text.old ++ mark_text mark step top) }
+pub fn add_mark(text: &mut String, mark: Mark, step: u32, top: u32) -> Added
+    ensures { Adds result text.old text.new (mark_text mark step top) }
 {
     match mark {
         Mark::Done => add_dot(text, "done", step, top),

@@ -1,77 +1,88 @@
--- What a Drain waits for, list by list.
-use Rattle.std.proofs.Common.{◌≡◌, ℕ, ◌+◌, ◌-◌, ◌<◌, ◌&&◌, Bool, true, false, nat_lt, length}
-use Rattle.std.proofs.Common.{[], ◌∷◌, List, inl, inr, sym, ◌∙◌, arith, add-one}
-use Rattle.std.proofs.lemmas.{Grind.{common_steps}, Bool.{cases_lt, cases_eq, cases_Bool}}
-use Rattle.std.proofs.lemmas.List.Folds.{list_any-append}
-use Rattle.std.specs.List.{list_any}
-use Rattle.dsa_base.specs.{Lists.{In}, Numbers.{numbers_below}}
-use Rattle.dsa_base.proofs.{Lists.{any-In}, NumberLemmas.{numbers_below-miss}}
-use Rattle.dsa_store.specs.{declared.entry.Entry.{Entry}, Content.{HeldEntry, Content, chain}}
-use Rattle.dsa_book.specs.State.{Setup, any_in, holds_any}
-use Rattle.dsa_book.{specs.Work.{waits_for}, proofs.Held.{holds-hit, holds-nowhere}}
+-- The first entry that a Drain waits for, list by list.
+use Rattle.std.proofs.Common.{◌≡◌, ◌≢◌, ℕ, ◌+◌, ◌-◌, ◌<◌, ◌≤◌, true, false, length, List, Option, Some, None}
+use Rattle.std.proofs.Common.{inl, inr, refl, sym, ◌∙◌, arith}
+use Rattle.std.proofs.lemmas.{Grind.{common_steps}, Bool.{cases_lt, cases_eq}}
+use Rattle.std.specs.Prelude.{find, is_some}
+use Rattle.dsa_base.{specs.Lists.{In}, proofs.Lists.{In-find}}
+use Rattle.dsa_store.specs.{declared.entry.Entry.{Entry}, Content.{HeldEntry, Content, chain, all_held}}
+use Rattle.dsa_book.specs.{State.{Setup}, Work.{waits_for}}
 use Rattle.dsa_queues.specs.Queues.{IsStoreFor}
 use Rattle.dsa_engines.specs.Engines.{IsInPlace}
+use Rattle.dsa_engines.proofs.Waiting.{first-held, none-held}
 
--- whether the Drain waits for one that is in progress on engine k
-abbrev pub waits_on : Setup → Content → Entry → ℕ → Bool
-waits_on setup content drain k = any_in (waits_for drain) (chain content (setup.caps.queues + k))
-
--- of one engine more nothing is waited for
-pub none-more : (p : ℕ → Bool) (n : ℕ) → list_any p (numbers_below n) ≡ false → p n ≡ false
-    → list_any p (numbers_below (n + 1)) ≡ false
-none-more p n before here = rw add-one
-    (grind (arith, common_steps, list_any-append p (numbers_below n) (n ∷ []), before, here))
+-- the first of the list that the Drain waits for
+abbrev pub waited_in : Content → Entry → ℕ → Option HeldEntry
+waited_in content drain i = find (λ (pair : HeldEntry). waits_for drain pair.1) (chain content i)
 
 -- a list of which none is waited for
 none-in : (drain : Entry) (l : List HeldEntry) → ((pair : HeldEntry) → In pair l → waits_for drain pair.1 ≡ false)
-    → any_in (waits_for drain) l ≡ false
-none-in drain l none = elim (cases_Bool (any_in (waits_for drain) l)) [
-  | inl one ↦
-      let found = any-In (λ (pair : HeldEntry). waits_for drain pair.1) l one in
-      let false_is_true : false ≡ true = sym (none found.0 found.1.0) ∙ found.1.1 in
-      absurd cc
-  | inr none ↦ none
-]
+    → find (λ (pair : HeldEntry). waits_for drain pair.1) l ≡ None
+none-in drain l none = go (find (λ (pair : HeldEntry). waits_for drain pair.1) l) refl
+  where
+    go : (o : Option HeldEntry) → find (λ (pair : HeldEntry). waits_for drain pair.1) l ≡ o → o ≡ None
+    go None is = refl
+    go (Some pair) is =
+        let found = In-find (λ (pair : HeldEntry). waits_for drain pair.1) pair l is in
+        let false_is_true : false ≡ true = sym (none pair found.0) ∙ found.1 in
+        absurd cc
 
 module _ (setup : Setup) {cells : ℕ} (content : Content) (drain : Entry) (store : IsStoreFor setup.caps cells content)
-  where
-    -- one that stands in a queue's list is held
-    pub waits-queued : drain.queue < setup.caps.queues → any_in (waits_for drain) (chain content drain.queue) ≡ true
-        → holds_any (waits_for drain) content ≡ true
-    waits-queued h hit = holds-hit (waits_for drain) content drain.queue (omega (arith, store.lists, h)) hit
+    (placed : IsInPlace setup content) where
+  -- another queue's list has none
+  other-queue : (i : ℕ) → i < setup.caps.queues → i ≢ drain.queue → waited_in content drain i ≡ None
+  other-queue i low other = none-in drain (chain content i) (λ pair at.
+      let its = placed.queued i pair low at in
+      grind (arith, common_steps, its, other))
 
-    -- and one that is in progress
-    pub waits-running : {k : ℕ} → k < setup.caps.engines → waits_on setup content drain k ≡ true
-        → holds_any (waits_for drain) content ≡ true
-    waits-running {k} h hit =
-        holds-hit (waits_for drain) content (setup.caps.queues + k) (omega (arith, store.lists, h)) hit
+  -- nor have members
+  member-list : (i : ℕ) → setup.caps.queues + setup.caps.engines ≤ i → i < length content
+      → waited_in content drain i ≡ None
+  member-list i high h =
+      let k = i - (setup.caps.queues + setup.caps.engines) in
+      let is : setup.caps.queues + setup.caps.engines + k ≡ i = omega (arith, high) in
+      rw (← is) (none-in drain (chain content (setup.caps.queues + setup.caps.engines + k)) (λ pair at.
+      let its = placed.members k pair (omega (arith, store.lists, h, high)) at in
+      grind (arith, common_steps, its)))
 
-    -- where there is none in the Drain's queue, and none in progress, none is held
-    pub waits-nowhere : IsInPlace setup content
-        → (nat_lt drain.queue setup.caps.queues && any_in (waits_for drain) (chain content drain.queue)) ≡ false
-        → list_any (waits_on setup content drain) (numbers_below setup.caps.engines) ≡ false
-        → holds_any (waits_for drain) content ≡ false
-    waits-nowhere placed queued running = holds-nowhere (waits_for drain) content by_list
-      where
-        by_list : (i : ℕ) → i < length content → any_in (waits_for drain) (chain content i) ≡ false
-        by_list i h = elim (cases_lt i setup.caps.queues) [
-          | inl low ↦ elim (cases_eq i drain.queue) [
-            | inl same ↦ rw same (grind (arith, common_steps, queued, low, same))
-            | inr other ↦ none-in drain (chain content i) (λ pair at.
-                let its = placed.queued i pair low at in
-                grind (arith, common_steps, its, other))
-          ]
-          | inr past ↦ elim (cases_lt i (setup.caps.queues + setup.caps.engines)) [
-            | inl low ↦
-                let k = i - setup.caps.queues in
-                let is : setup.caps.queues + k ≡ i = omega (arith, past) in
-                rw (← is) (numbers_below-miss (waits_on setup content drain) setup.caps.engines k running
-                (omega (arith, past, low)))
-            | inr high ↦
-                let k = i - (setup.caps.queues + setup.caps.engines) in
-                let is : setup.caps.queues + setup.caps.engines + k ≡ i = omega (arith, high) in
-                rw (← is) (none-in drain (chain content (setup.caps.queues + setup.caps.engines + k)) (λ pair at.
-                let its = placed.members k pair (omega (arith, store.lists, h, high)) at in
-                grind (arith, common_steps, its)))
-          ]
-        ]
+  -- one that stands in the Drain's queue is the first
+  pub first-queued : drain.queue < setup.caps.queues → is_some (waited_in content drain drain.queue) ≡ true
+      → waited_in content drain drain.queue ≡ find (λ (pair : HeldEntry). waits_for drain pair.1) (all_held content)
+  first-queued h hit =
+      first-held (λ (pair : HeldEntry). waits_for drain pair.1) content drain.queue (omega (arith, store.lists, h))
+      (λ j less. other-queue j (omega (arith, less, h)) (omega (arith, less))) hit
+
+  module _ (queued : drain.queue < setup.caps.queues → waited_in content drain drain.queue ≡ None) where
+    in-queues : (i : ℕ) → i < setup.caps.queues → waited_in content drain i ≡ None
+    in-queues i low = elim (cases_eq i drain.queue) [
+      | inl same ↦ rw same (queued (omega (arith, same, low)))
+      | inr other ↦ other-queue i low other
+    ]
+
+    up-to : (k : ℕ) → ((j : ℕ) → j < k → waited_in content drain (setup.caps.queues + j) ≡ None)
+        → (i : ℕ) → i < setup.caps.queues + k → waited_in content drain i ≡ None
+    up-to k before i h = elim (cases_lt i setup.caps.queues) [
+      | inl low ↦ in-queues i low
+      | inr past ↦
+          let is : setup.caps.queues + (i - setup.caps.queues) ≡ i = omega (arith, past) in
+          rw (← is) (before (i - setup.caps.queues) (omega (arith, past, h)))
+    ]
+
+    -- else the first that is in progress, by the engines in their order
+    pub first-running : {k : ℕ} → k < setup.caps.engines
+        → ((j : ℕ) → j < k → waited_in content drain (setup.caps.queues + j) ≡ None)
+        → is_some (waited_in content drain (setup.caps.queues + k)) ≡ true
+        → waited_in content drain (setup.caps.queues + k)
+        ≡ find (λ (pair : HeldEntry). waits_for drain pair.1) (all_held content)
+    first-running {k} h before hit =
+        first-held (λ (pair : HeldEntry). waits_for drain pair.1) content (setup.caps.queues + k)
+        (omega (arith, store.lists, h)) (up-to k before) hit
+
+    -- where there is none in progress either, none is held
+    pub none-waited : ((j : ℕ) → j < setup.caps.engines → waited_in content drain (setup.caps.queues + j) ≡ None)
+        → find (λ (pair : HeldEntry). waits_for drain pair.1) (all_held content) ≡ None
+    none-waited running =
+        none-held (λ (pair : HeldEntry). waits_for drain pair.1) content (λ i h.
+        elim (cases_lt i (setup.caps.queues + setup.caps.engines)) [
+          | inl low ↦ up-to setup.caps.engines running i low
+          | inr high ↦ member-list i high h
+        ])

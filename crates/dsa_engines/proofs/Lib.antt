@@ -8,3 +8,8 @@ pub mod Members
 pub mod Batches
 pub mod Keeping
 pub mod Draining
+pub mod Rows
+pub mod Waiting
+pub mod EndReasons
+pub mod StartReasons
+pub mod TakeReasons

@@ -27,14 +27,13 @@ work setup engines_state content fates =
 abbrev pub lists_alone : Setup → Content → Work
 lists_alone setup content = record { setup = setup; content = content; notes = []; fates = [] }
 
--- the read buffers that the running entries of the lists hold (profile)
+-- the read buffers of the groups, and how many of them the running entries hold (profile)
+abbrev pub buffers_at : Work → Buffers
+buffers_at w = record { total = w.setup.caps.read_buffers; groups = w.setup.groups; used = all_used w }
+
+-- those that the running entries of the lists hold (profile)
 abbrev pub buffers_of : Setup → Content → Buffers
-buffers_of setup content = record {
-  total = setup.caps.read_buffers;
-  groups = setup.groups;
-  used =
-      all_used (lists_alone setup content);
-}
+buffers_of setup content = buffers_at (lists_alone setup content)
 
 -- the read buffers of a device on which nothing runs (profile)
 abbrev pub buffers_at_rest : Setup → Buffers

@@ -6,13 +6,13 @@ ghost use Rattle.dsa_regs.specs.Caps.{check_caps};
 ghost use Rattle.dsa_regs.specs.Config.{check_device};
 ghost use Rattle.dsa_store.specs.Content.{Content, held_count};
 ghost use Rattle.dsa_book.specs.State.{opening_setup};
-ghost use Rattle.dsa_buffers.specs.Buffers.{IsRoom};
+ghost use Rattle.dsa_buffers.specs.Buffers.{IsRoom, want_of};
 ghost use Rattle.dsa_queues.specs.Queues.{IsStoreFor};
 ghost use Rattle.dsa_engines.specs.Engines.{IsInStep, engines_at_first, homes_of, buffers_at_rest, buffers_after_return, Holds};
 
 use arrayvec::ArrayVec;
 use dsa_book::BatchNote;
-use dsa_buffers::ReadBuffers;
+use dsa_buffers::{BufferWant, ReadBuffers};
 use dsa_queues::Queues;
 use dsa_regs::{Caps, MAX_ENGINES, MAX_GROUPS};
 use std::marker::Model;
@@ -146,6 +146,14 @@ impl Engines {
         ensures { IsRoom self.now.buffers group result }
     {
         self.buffers.room(group)
+    }
+
+    /// The numbers of the group that so many more read buffers are asked for.
+    pub(crate) fn want(&self, group: u16, asked: u8) -> BufferWant
+        requires { group < length self.now.buffers.groups }
+        ensures { result ≡ want_of self.now.buffers group asked }
+    {
+        self.buffers.want(group, asked)
     }
 
     /// Takes so many read buffers for the group.

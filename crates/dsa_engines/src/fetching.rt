@@ -1,15 +1,18 @@
 //! Fetch: an engine hands in the next member of its batch.
 
-ghost use Rattle.std.specs.Prelude.{◌≡◌, ℕ, ◌<◌, ◌+◌, ◌^◌, ◌==◌, true, List, [], length, find};
+ghost use Rattle.std.specs.Prelude.{◌≡◌, ℕ, ◌<◌, ◌+◌, ◌^◌, ◌==◌, true, false, List, [], length, find, get_or, Some, None, IfOk};
+ghost use Rattle.std.specs.Result.{result_err};
 ghost use Rattle.dsa_store.specs.Content.{chain, held_count};
 ghost use Rattle.dsa_book.specs.declared.fate.FateRow.{FateRow};
 ghost use Rattle.dsa_book.specs.declared.answer.Reply.TheVariants as reply;
 ghost use Rattle.dsa_book.specs.Choice.{choice_of, chosen_cell, may_enter};
-ghost use Rattle.dsa_book.specs.Work.{fetch, is_all_fetched};
+ghost use Rattle.dsa_book.specs.Work.{fetch, is_all_fetched, progress_list};
 ghost use Rattle.dsa_queues.specs.Queues.{IsCounted};
 ghost use Rattle.dsa_engines.specs.Engines.{work, IsInStep, is_fetching};
+ghost use Rattle.dsa_engines.specs.Batch.{fetch_reason};
 
 use crate::Engines;
+use crate::reasons::FetchReason;
 use dsa_book::{BatchNote, FetchAnswer, Ticket};
 use dsa_desc::Descriptor;
 use dsa_queues::Queues;
@@ -32,6 +35,63 @@ pub(crate) fn is_all_fetched(note: &BatchNote) -> bool
 }
 
 impl Engines {
+    // The note of the engine's batch and the batch, where a member of it is to be fetched; else why
+    // none is, the first cause that stands.
+    #[inline(always)]
+    fn batch_to_fetch<S: EntryStore>(
+        &self,
+        queues: &Queues,
+        store: &S,
+        engine: u16,
+    ) -> Result<(BatchNote, (Cell, Entry)), FetchReason>
+        requires in_step { IsInStep queues.now.setup self.now (S.cells store.now)
+            (S.content store.now) }
+        ensures reason { result_err result
+            ≡ fetch_reason (work queues.now.setup self.now (S.content store.now) []) engine }
+        ensures engine { IfOk result (λ found. engine < queues.now.setup.caps.engines) }
+        ensures found { IfOk result
+            (λ found. (Some found.0 ≡ get_or self.now.notes engine None)
+            × (find (λ pair. pair.1.name == found.0.batch)
+            (chain (S.content store.now) (progress_list queues.now.setup engine))
+            ≡ Some found.1)
+            × (false ≡ is_all_fetched found.0)) }
+    {
+        let caps = queues.caps();
+        if engine >= caps.engines {
+            return Err(FetchReason::NoEngine);
+        }
+        let Some(note) = self.note(engine) else {
+            return Err(FetchReason::NoBatch);
+        };
+        let progress = queues.list(ListUse::Progress(engine));
+        let Some(batch) = find_named(store, progress, note.batch) else {
+            return Err(FetchReason::NoBatch);
+        };
+        if is_all_fetched(&note) {
+            return Err(FetchReason::AllFetched {
+                count: note.count,
+                fetched: note.fetched,
+                closed: note.closed,
+            });
+        }
+        Ok((note, batch))
+    }
+
+    /// Why the engine fetches no member, the first cause that stands. `None` exactly where it
+    /// fetches one.
+    pub fn fetch_reason<S: EntryStore>(
+        &self,
+        queues: &Queues,
+        store: &S,
+        engine: u16,
+    ) -> Option<FetchReason>
+        requires { IsInStep queues.now.setup self.now (S.cells store.now) (S.content store.now) }
+        ensures { result
+            ≡ fetch_reason (work queues.now.setup self.now (S.content store.now) []) engine }
+    {
+        self.batch_to_fetch(queues, store, engine).err()
+    }
+
     /// The engine hands in the next member of the batch that it works on. It stands last among the
     /// members, waits, and has the next name, the PASID and the queue of the batch (profile).
     ///
@@ -65,20 +125,10 @@ impl Engines {
             (S.content store.new) }
         ensures counted { IsCounted queues.new (S.content store.new) }
     {
-        let caps = queues.caps();
-        if engine >= caps.engines {
-            return FetchAnswer::NoBatch;
-        }
-        let Some(note) = self.note(engine) else {
-            return FetchAnswer::NoBatch;
+        let (note, (_, batch)) = match self.batch_to_fetch(queues, store, engine) {
+            Ok(found) => found,
+            Err(reason) => return reason.answer(),
         };
-        let progress = queues.list(ListUse::Progress(engine));
-        let Some((_, batch)) = find_named(store, progress, note.batch) else {
-            return FetchAnswer::NoBatch;
-        };
-        if is_all_fetched(&note) {
-            return FetchAnswer::AllFetched;
-        }
         let name = queues.next_name();
         let member = Entry {
             name,

@@ -1,58 +1,80 @@
 //! Finish: an engine ends a running entry.
 
-ghost use Rattle.std.specs.Prelude.{◌≡◌, ℕ, ◌<◌, ◌&&◌, ◌||◌, ◌==◌, [], length, find, option_map};
+ghost use Rattle.std.specs.Prelude.{◌≡◌, ℕ, ◌<◌, ◌||◌, false, [], length, find, option_map, Some, IfOk, MatchResult};
+ghost use Rattle.std.specs.Result.{result_err, result_ok};
+ghost use Rattle.dsa_base.specs.Rows.{first_row};
 ghost use Rattle.dsa_store.specs.declared.entry.Cell.{Cell};
 ghost use Rattle.dsa_store.specs.Content.{Content, chain};
-ghost use Rattle.dsa_book.specs.State.{is_batch_of, is_ticket, any_in};
-ghost use Rattle.dsa_book.specs.Work.{running_on, is_unfinished, waits_for, waits, must_wait, last_status, note_after, with_note, finish};
+ghost use Rattle.dsa_book.specs.State.{is_batch_of, is_ticket};
+ghost use Rattle.dsa_book.specs.Work.{running_on, waits_for, must_wait, last_status, note_after, with_note, finish};
 ghost use Rattle.dsa_queues.specs.Queues.{IsCounted, IsStoreFor};
-ghost use Rattle.dsa_engines.specs.Engines.{work, lists_alone, IsInStep, IsInPlace};
+ghost use Rattle.dsa_engines.specs.Engines.{EnginesState, work, lists_alone, IsInStep, IsInPlace};
+ghost use Rattle.dsa_engines.specs.Finish.{batch_table, finish_reason, first_waited, gone_table, wait_table};
 
 use crate::Engines;
 use crate::fetching::is_all_fetched;
+use crate::reasons::FinishReason;
 use dsa_book::{BatchNote, Book, Fate, FateRow, FinishAnswer, Ticket};
 use dsa_desc::Outcome;
 use dsa_queues::Queues;
 use dsa_regs::ListUse;
-use dsa_store::{Entry, EntryStore, ListId, held_entries};
+use dsa_store::{Cell, Entry, EntryStore, ListId, held_entries};
 
-fn is_either(list: ListId, one: ListId, other: ListId) -> bool
-    ensures { result ≡ (list.0 == one.0 || list.0 == other.0) }
+// Why the entry, which stands in that list, is not the engine's to end, the first cause that
+// stands.
+#[inline(always)]
+fn gone_reason(engine: u16, name: u32, entry: &Entry, list: ListUse) -> Option<FinishReason>
+    ensures { result ≡ first_row (gone_table engine name entry.now list) }
 {
-    list.0 == one.0 || list.0 == other.0
+    if entry.name != name {
+        return Some(FinishReason::OtherName { name: entry.name });
+    }
+    if list.engine() != Some(engine) {
+        return Some(FinishReason::Elsewhere { list });
+    }
+    if !entry.running {
+        return Some(FinishReason::NotStarted);
+    }
+    None
 }
 
-// Whether the entry in the ticket's cell runs and has its name.
-fn is_meant(ticket: Ticket, entry: &Entry) -> bool
-    ensures { result ≡ (entry.now.running && entry.now.name == ticket.name) }
-{
-    entry.running && entry.name == ticket.name
-}
-
-// The running entry of the engine that has the ticket's cell and name.
+// The running entry of the engine that has the ticket's cell and name; else why there is none.
+#[inline(always)]
 fn find_running<S: EntryStore>(
     queues: &Queues,
     store: &S,
     engine: u16,
     ticket: Ticket,
-) -> Option<Entry>
+) -> Result<Entry, FinishReason>
     requires { IsStoreFor queues.now.setup.caps (S.cells store.now) (S.content store.now) }
-    ensures { find (is_ticket ticket)
+    ensures running { find (is_ticket ticket)
         (running_on (lists_alone queues.now.setup (S.content store.now)) engine)
-        ≡ option_map (λ entry. (ticket.cell, entry)) result }
+        ≡ option_map (λ entry. (ticket.cell, entry)) (result_ok result) }
+    ensures engine { IfOk result (λ entry. engine < queues.now.setup.caps.engines) }
+    ensures reason { (engines_state : EnginesState)
+        → MatchResult result
+        (λ entry. finish_reason (work queues.now.setup engines_state (S.content store.now) [])
+        engine ticket
+        ≡ first_row (wait_table
+        (work queues.now.setup engines_state (S.content store.now) []) engine entry))
+        (λ reason. finish_reason
+        (work queues.now.setup engines_state (S.content store.now) []) engine ticket
+        ≡ Some reason) }
 {
     let caps = queues.caps();
     if engine >= caps.engines {
-        return None;
+        return Err(FinishReason::NoEngine);
     }
-    let list = store.list_of(ticket.cell)?;
-    let progress = queues.list(ListUse::Progress(engine));
-    let members = queues.list(ListUse::Members(engine));
-    if !is_either(list, progress, members) {
-        return None;
+    let Some(list) = store.list_of(ticket.cell) else {
+        return Err(FinishReason::NoEntry);
+    };
+    let Some(entry) = store.get(ticket.cell) else {
+        return Err(FinishReason::NoEntry);
+    };
+    match gone_reason(engine, ticket.name, &entry, queues.list_use(list)) {
+        Some(reason) => Err(reason),
+        None => Ok(entry),
     }
-    let entry = store.get(ticket.cell)?;
-    is_meant(ticket, &entry).then_some(entry)
 }
 
 // Whether the Drain waits for this entry.
@@ -65,72 +87,150 @@ fn waits_for(drain: &Entry, other: &Entry) -> bool
         && other.name < drain.name
 }
 
-// Whether the Drain waits for an entry of the list.
-fn waits_in<S: EntryStore>(store: &S, list: ListId, drain: &Entry) -> bool
+// The first entry of the list that the Drain waits for.
+fn first_in<S: EntryStore>(store: &S, list: ListId, drain: &Entry) -> Option<(Cell, Entry)>
     requires { list.0 < length (S.content store.now) }
-    ensures { result ≡ any_in (waits_for drain.now) (chain (S.content store.now) list.0) }
+    ensures { result
+        ≡ find (λ pair. waits_for drain.now pair.1) (chain (S.content store.now) list.0) }
 {
-    held_entries(store, list).any(|pair| waits_for(drain, &pair.1))
+    held_entries(store, list).find(|pair| waits_for(drain, &pair.1))
 }
 
-// Whether an entry that the Drain waits for is held. It stands in the Drain's queue or is in
-// progress on an engine.
-fn waits<S: EntryStore>(queues: &Queues, store: &S, drain: &Entry) -> bool
+// The first held entry that the Drain waits for, by the lists in their order. It stands in the
+// Drain's queue or is in progress on an engine, so no other list is looked at.
+fn first_waited<S: EntryStore>(queues: &Queues, store: &S, drain: &Entry) -> Option<(Cell, Entry)>
     requires store { IsStoreFor queues.now.setup.caps (S.cells store.now) (S.content store.now) }
     requires placed { IsInPlace queues.now.setup (S.content store.now) }
-    ensures { result ≡ waits (lists_alone queues.now.setup (S.content store.now)) drain.now }
+    ensures { result
+        ≡ first_waited (lists_alone queues.now.setup (S.content store.now)) drain.now }
 {
-    if queues.has_queue(drain.queue) && waits_in(store, ListId(drain.queue), drain) {
-        return true;
-    }
-    for engine in 0..queues.caps().engines {
-        if waits_in(store, queues.list(ListUse::Progress(engine)), drain) {
-            return true;
+    if queues.has_queue(drain.queue) {
+        let queued = first_in(store, ListId(drain.queue), drain);
+        if queued.is_some() {
+            return queued;
         }
     }
-    false
+    for engine in 0..queues.caps().engines {
+        let found = first_in(store, queues.list(ListUse::Progress(engine)), drain);
+        if found.is_some() {
+            return found;
+        }
+    }
+    None
 }
 
 impl Engines {
-    // Whether members are left, or may still be fetched.
-    fn is_unfinished<S: EntryStore>(&self, queues: &Queues, store: &S, engine: u16) -> bool
+    // What the engine's batch waits for: members that are left, then those that are still to be
+    // fetched.
+    #[inline(always)]
+    fn batch_reason<S: EntryStore>(
+        &self,
+        queues: &Queues,
+        store: &S,
+        engine: u16,
+    ) -> Option<FinishReason>
         requires store { IsStoreFor queues.now.setup.caps (S.cells store.now)
             (S.content store.now) }
         requires engine { engine < queues.now.setup.caps.engines }
         ensures { result
-            ≡ is_unfinished (work queues.now.setup self.now (S.content store.now) []) engine }
+            ≡ first_row
+            (batch_table (work queues.now.setup self.now (S.content store.now) []) engine) }
     {
-        if store.len(queues.list(ListUse::Members(engine))) > 0 {
-            return true;
+        let left = store.len(queues.list(ListUse::Members(engine)));
+        if left > 0 {
+            return Some(FinishReason::MembersLeft { left });
         }
-        match self.note(engine) {
-            Some(note) => !is_all_fetched(&note),
-            None => false,
+        let note = self.note(engine)?;
+        if is_all_fetched(&note) {
+            return None;
         }
+        Some(FinishReason::StillToFetch {
+            fetched: note.fetched,
+            count: note.count,
+        })
     }
 
-    // Whether the entry is a batch that is not finished, or a Drain that waits.
+    // What the entry, a batch or not, has to wait for, the first cause that stands.
     #[inline(always)]
-    fn must_wait<S: EntryStore>(
+    fn wait_reason<S: EntryStore>(
         &self,
         queues: &Queues,
         store: &S,
         engine: u16,
         entry: &Entry,
         is_batch: bool,
-    ) -> bool
+    ) -> Option<FinishReason>
         requires batch { is_batch ≡ is_batch_of queues.now.setup entry.now }
         requires store { IsStoreFor queues.now.setup.caps (S.cells store.now)
             (S.content store.now) }
         requires placed { IsInPlace queues.now.setup (S.content store.now) }
         requires engine { engine < queues.now.setup.caps.engines }
         ensures { result
-            ≡ must_wait (work queues.now.setup self.now (S.content store.now) []) engine entry.now }
+            ≡ first_row
+            (wait_table (work queues.now.setup self.now (S.content store.now) []) engine
+            entry.now) }
     {
         if is_batch {
-            return self.is_unfinished(queues, store, engine);
+            return self.batch_reason(queues, store, engine);
         }
-        queues.is_drain(entry) && waits(queues, store, entry)
+        if !queues.is_drain(entry) {
+            return None;
+        }
+        let (_, waited) = first_waited(queues, store, entry)?;
+        Some(FinishReason::DrainWaits { first: waited.name })
+    }
+
+    // The entry of the ticket, and whether it is a batch, where the engine may end it; else why it
+    // may not, the first cause that stands.
+    #[inline(always)]
+    fn entry_to_end<S: EntryStore>(
+        &self,
+        queues: &Queues,
+        store: &S,
+        engine: u16,
+        ticket: Ticket,
+    ) -> Result<(Entry, bool), FinishReason>
+        requires store { IsStoreFor queues.now.setup.caps (S.cells store.now)
+            (S.content store.now) }
+        requires placed { IsInPlace queues.now.setup (S.content store.now) }
+        ensures reason { result_err result
+            ≡ finish_reason (work queues.now.setup self.now (S.content store.now) []) engine
+            ticket }
+        ensures running { IfOk result
+            (λ end. find (is_ticket ticket)
+            (running_on (lists_alone queues.now.setup (S.content store.now)) engine)
+            ≡ Some (ticket.cell, end.0)) }
+        ensures batch { IfOk result (λ end. end.1 ≡ is_batch_of queues.now.setup end.0) }
+        ensures ready { IfOk result
+            (λ end. must_wait (work queues.now.setup self.now (S.content store.now) []) engine
+            end.0
+            ≡ false) }
+    {
+        let entry = find_running(queues, store, engine, ticket)?;
+        let is_batch = queues.is_batch(&entry);
+        match self.wait_reason(queues, store, engine, &entry, is_batch) {
+            Some(reason) => Err(reason),
+            None => Ok((entry, is_batch)),
+        }
+    }
+
+    /// Why the engine does not end the entry of the ticket, the first cause that stands. `None`
+    /// exactly where it ends the entry. Looks at what `finish` looks at.
+    pub fn finish_reason<S: EntryStore>(
+        &self,
+        queues: &Queues,
+        store: &S,
+        engine: u16,
+        ticket: Ticket,
+    ) -> Option<FinishReason>
+        requires store { IsStoreFor queues.now.setup.caps (S.cells store.now)
+            (S.content store.now) }
+        requires placed { IsInPlace queues.now.setup (S.content store.now) }
+        ensures { result
+            ≡ finish_reason (work queues.now.setup self.now (S.content store.now) []) engine
+            ticket }
+    {
+        self.entry_to_end(queues, store, engine, ticket).err()
     }
 
     // The status of an entry that ends.
@@ -226,13 +326,10 @@ impl Engines {
             (S.content store.new) }
         ensures counted { IsCounted queues.new (S.content store.new) }
     {
-        let Some(entry) = find_running(queues, store, engine, ticket) else {
-            return FinishAnswer::Gone;
+        let (entry, is_batch) = match self.entry_to_end(queues, store, engine, ticket) {
+            Ok(end) => end,
+            Err(reason) => return reason.answer(),
         };
-        let is_batch = queues.is_batch(&entry);
-        if self.must_wait(queues, store, engine, &entry, is_batch) {
-            return FinishAnswer::NotReady;
-        }
         let status = self.last_status(queues, engine, &entry, is_batch, outcome);
         self.give_back(self.home(engine), queues.need(&entry));
         self.write_note_after(queues, engine, &entry, is_batch, outcome);

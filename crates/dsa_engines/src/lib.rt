@@ -7,10 +7,16 @@
 #![tactic(auto)]
 
 mod engines;
+mod failing;
 mod fetching;
 mod finishing;
+mod reasons;
 mod removing;
 mod starting;
 mod taking;
 
 pub use engines::Engines;
+pub use reasons::{
+    EngineReason, FetchReason, FinishReason, QueueReason, StartReason, idle_engines_have_reasons,
+};
+pub use taking::engine_reason;

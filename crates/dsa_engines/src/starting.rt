@@ -1,21 +1,27 @@
 //! Start: an engine starts the first of its members that does not run.
 
-ghost use Rattle.std.specs.Prelude.{◌≡◌, ℕ, ◌<◌, ◌≤◌, ◌+◌, ◌&&◌, ◌++◌, not, true, false, Some, None, [], map, length, find, get_or, slice_get, slice_set, option_map, MatchOption};
+ghost use Rattle.std.specs.Prelude.{◌≡◌, ℕ, ◌<◌, ◌≤◌, ◌+◌, ◌&&◌, ◌++◌, List, not, true, false, Some, None, map, length, find, get_or, slice_get, slice_set, option_map, IfErr, IfOk, MatchResult};
+ghost use Rattle.std.specs.Result.{result_err};
 ghost use Rattle.dsa_base.specs.Rows.{passes};
 ghost use Rattle.dsa_desc.specs.Descriptor.{is_fenced};
 ghost use Rattle.dsa_regs.specs.Buffers.{fits};
-ghost use Rattle.dsa_store.specs.Content.{after_give_back, chain, is_cell};
+ghost use Rattle.dsa_store.specs.Content.{Content, after_give_back, chain, is_cell};
 ghost use Rattle.dsa_book.specs.declared.note.BatchNote.{BatchNote};
 ghost use Rattle.dsa_book.specs.declared.fate.Fate.TheVariants.{Abandoned};
-ghost use Rattle.dsa_book.specs.Work.{members, start, fate_row, with_note};
-ghost use Rattle.dsa_queues.specs.Queues.{IsCounted};
+ghost use Rattle.dsa_book.specs.declared.fate.FateRow.{FateRow};
+ghost use Rattle.dsa_book.specs.State.{Setup, need_of};
+ghost use Rattle.dsa_book.specs.Work.{members, member_list, start, fate_row, with_note};
+ghost use Rattle.dsa_queues.specs.Queues.{IsCounted, IsStoreFor};
+ghost use Rattle.dsa_engines.specs.Batch.{MayStart, MayTell, block_of_group, failed_member, first_member, name_of_entry, start_reason, told_as};
 ghost use Rattle.dsa_engines.specs.Engines.{work, lists_alone, IsInStep, Holds, WaitInOrder};
 
 use crate::Engines;
+use crate::failing::first_failed;
+use crate::reasons::StartReason;
 use dsa_book::{BatchNote, Book, Fate, FateRow, StartAnswer, Ticket};
 use dsa_queues::Queues;
 use dsa_regs::ListUse;
-use dsa_store::{Cell, Entry, EntryStore, ListId, held_entries};
+use dsa_store::{Cell, Entry, EntryStore, ListId, front_entry, held_entries};
 
 // The first entry of the list that does not run. Looks at those before it.
 fn first_waiting<S: EntryStore>(store: &S, list: ListId) -> Option<(Cell, Entry)>
@@ -65,6 +71,52 @@ fn abandon_all<S: EntryStore>(queues: &mut Queues, store: &S, book: &mut Book, l
     }
 }
 
+// What keeps an engine from starting a member.
+#[derive(Clone, Copy)]
+enum StartBlock {
+    // No member waits.
+    Nothing,
+    // The member of that name waits at its fence.
+    Fence { member: u32 },
+    // A member before the fence of that one failed, and so many are left.
+    Failed { member: u32, left: u32 },
+    // So many read buffers do not fit the group.
+    Buffers { group: u16, need: u8 },
+    // The engine is of no group.
+    NoGroup,
+}
+
+// A member that is to be started, and the read buffers that it takes of its group.
+#[derive(Clone, Copy)]
+struct Startable {
+    cell: Cell,
+    entry: Entry,
+    group: u16,
+    need: u8,
+}
+
+// The first of the engine's members that have not ended.
+fn first_member<S: EntryStore>(queues: &Queues, store: &S, engine: u16) -> Option<(Cell, Entry)>
+    requires { IsStoreFor queues.now.setup.caps (S.cells store.now) (S.content store.now) }
+    ensures { result ≡ first_member (lists_alone queues.now.setup (S.content store.now)) engine }
+{
+    let caps = queues.caps();
+    if engine >= caps.engines {
+        return None;
+    }
+    front_entry(store, queues.list(ListUse::Members(engine)))
+}
+
+// The name of an entry that is there.
+fn name_of(pair: Option<(Cell, Entry)>) -> u32
+    ensures { result ≡ name_of_entry pair }
+{
+    match pair {
+        Some((_, entry)) => entry.name,
+        None => 0,
+    }
+}
+
 impl Engines {
     // Whether the entry is fenced, and a member of the engine's batch was not successful.
     fn fails_at_fence(&self, engine: u16, entry: &Entry) -> bool
@@ -83,24 +135,142 @@ impl Engines {
     }
 
     // The engine's group, where so many more buffers fit it.
-    fn roomy_group(&self, engine: u16, n: u8) -> Option<u16>
+    #[inline(always)]
+    fn roomy_group(&self, engine: u16, need: u8) -> Result<u16, StartBlock>
         requires { Holds (get_or self.now.homes engine None) 0 self.now.buffers }
-        ensures { MatchOption result
-            (passes
-            (λ g. fits self.now.buffers.total self.now.buffers.groups self.now.buffers.used
-            g n)
-            (get_or self.now.homes engine None)
-            ≡ false)
+        ensures { MatchResult result
             (λ group. (get_or self.now.homes engine None ≡ Some group)
             × (group < length self.now.buffers.groups)
             × (fits self.now.buffers.total self.now.buffers.groups self.now.buffers.used
-            group n
-            ≡ true)) }
+            group need
+            ≡ true))
+            (λ block. (passes
+            (λ g. fits self.now.buffers.total self.now.buffers.groups self.now.buffers.used
+            g need)
+            (get_or self.now.homes engine None)
+            ≡ false)
+            × (block ≡ block_of_group need (get_or self.now.homes engine None))
+            × MayTell self.now.buffers block) }
     {
-        match self.home(engine) {
-            Some(group) if self.fits(group, n) => Some(group),
-            _ => None,
+        let Some(group) = self.home(engine) else {
+            return Err(StartBlock::NoGroup);
+        };
+        if !self.fits(group, need) {
+            return Err(StartBlock::Buffers { group, need });
         }
+        Ok(group)
+    }
+
+    // The first member that does not run and the engine's group, where the member is to be started;
+    // else what keeps it from starting, the first cause that stands.
+    #[inline(always)]
+    fn member_to_start<S: EntryStore>(
+        &self,
+        queues: &Queues,
+        store: &S,
+        engine: u16,
+    ) -> Result<Startable, StartBlock>
+        requires in_step { IsInStep queues.now.setup self.now (S.cells store.now)
+            (S.content store.now) }
+        ensures reason { (fates : List FateRow)
+            → option_map (told_as
+            (work queues.now.setup self.now (S.content store.now) fates) self.now.buffers engine)
+            (result_err result)
+            ≡ start_reason (work queues.now.setup self.now (S.content store.now) fates) engine }
+        ensures told { IfErr result (MayTell self.now.buffers) }
+        ensures member { IfOk result
+            (λ found. MayStart queues.now.setup self.now (S.content store.now) engine
+            (found.cell, found.entry) found.group) }
+        ensures need { IfOk result
+            (λ found. found.need ≡ need_of queues.now.setup found.entry) }
+    {
+        let caps = queues.caps();
+        if engine >= caps.engines {
+            return Err(StartBlock::Nothing);
+        }
+        let list = queues.list(ListUse::Members(engine));
+        let Some((cell, entry)) = first_waiting(store, list) else {
+            return Err(StartBlock::Nothing);
+        };
+        let member = entry.name;
+        if waits_at_fence(store, list, cell, &entry) {
+            return Err(StartBlock::Fence { member });
+        }
+        if self.fails_at_fence(engine, &entry) {
+            let left = store.len(list);
+            return Err(StartBlock::Failed { member, left });
+        }
+        let need = queues.need(&entry);
+        match self.roomy_group(engine, need) {
+            Ok(group) => Ok(Startable {
+                cell,
+                entry,
+                group,
+                need,
+            }),
+            Err(block) => Err(block),
+        }
+    }
+
+    // The name of the first member of the engine's batch that was not successful.
+    fn failed_member(&self, book: &Book, engine: u16) -> Option<u32>
+        ensures { (setup : Setup) (content : Content)
+            → result ≡ failed_member (work setup self.now content book.now.fates) engine }
+    {
+        let note = self.note(engine)?;
+        let row = first_failed(book.fates(), note.batch)?;
+        Some(row.name)
+    }
+
+    // The reason that the block is told as, with its numbers.
+    fn told<S: EntryStore>(
+        &self,
+        queues: &Queues,
+        store: &S,
+        book: &Book,
+        engine: u16,
+        block: StartBlock,
+    ) -> StartReason
+        requires store { IsStoreFor queues.now.setup.caps (S.cells store.now)
+            (S.content store.now) }
+        requires told { MayTell self.now.buffers block }
+        ensures { result
+            ≡ told_as (work queues.now.setup self.now (S.content store.now) book.now.fates)
+            self.now.buffers engine block }
+    {
+        match block {
+            StartBlock::Nothing => StartReason::Nothing,
+            StartBlock::Fence { member } => StartReason::Fence {
+                member,
+                waits_for: name_of(first_member(queues, store, engine)),
+            },
+            StartBlock::Failed { member, left } => StartReason::Failed {
+                member,
+                failed: self.failed_member(book, engine),
+                left,
+            },
+            StartBlock::Buffers { group, need } => StartReason::NoBuffers(self.want(group, need)),
+            StartBlock::NoGroup => StartReason::NoGroup,
+        }
+    }
+
+    /// Why the engine starts no member, the first cause that stands. `None` exactly where it starts
+    /// one. Looks at what `start` looks at, and at the fates for the member that failed.
+    pub fn start_reason<S: EntryStore>(
+        &self,
+        queues: &Queues,
+        store: &S,
+        book: &Book,
+        engine: u16,
+    ) -> Option<StartReason>
+        requires in_step { IsInStep queues.now.setup self.now (S.cells store.now)
+            (S.content store.now) }
+        ensures { result
+            ≡ start_reason (work queues.now.setup self.now (S.content store.now) book.now.fates)
+            engine }
+    {
+        let block = self.member_to_start(queues, store, engine).err()?;
+        Some(self.told(queues, store, book, engine, block))
     }
 
     // The batch that the engine works on is closed.
@@ -121,6 +291,48 @@ impl Engines {
             None => None,
         };
         self.set_note(engine, note);
+    }
+
+    // All members that are left end as abandoned, and the batch is closed. How many they were.
+    fn abandon<S: EntryStore>(
+        &mut self,
+        queues: &mut Queues,
+        store: &mut S,
+        book: &mut Book,
+        engine: u16,
+    ) -> u32
+        requires engine { engine < queues.old.setup.caps.engines }
+        requires notes { length self.old.notes ≡ queues.old.setup.caps.engines }
+        requires store { IsStoreFor queues.old.setup.caps (S.cells store.old)
+            (S.content store.old) }
+        requires counted { IsCounted queues.old (S.content store.old) }
+        requires room { length book.old.fates
+            + length (chain (S.content store.old) (member_list queues.old.setup engine))
+            ≤ book.old.capacity }
+        ensures setup { queues.new.setup ≡ queues.old.setup }
+        ensures counted { IsCounted queues.new (S.content store.new) }
+        ensures left { result
+            ≡ length (chain (S.content store.old) (member_list queues.old.setup engine)) }
+        ensures content { S.content store.new
+            ≡ after_give_back (S.content store.old) (member_list queues.old.setup engine) }
+        ensures cells { S.cells store.new ≡ S.cells store.old }
+        ensures book { book.new
+            ≡ record book.old {
+              fates = book.old.fates
+                  ++ map (fate_row Abandoned)
+                  (chain (S.content store.old) (member_list queues.old.setup engine));
+            } }
+        ensures note { self.new
+            ≡ record self.old {
+              notes = with_note self.old.notes engine
+                  (option_map (λ (note : BatchNote). record note { closed = true })
+                  (get_or self.old.notes engine None));
+            } }
+    {
+        let list = queues.list(ListUse::Members(engine));
+        abandon_all(queues, store, book, list);
+        self.close_note(engine);
+        store.give_back(list)
     }
 
     /// The engine starts the first member of its batch that does not run.
@@ -153,26 +365,22 @@ impl Engines {
             (S.content store.new) }
         ensures counted { IsCounted queues.new (S.content store.new) }
     {
-        let caps = queues.caps();
-        if engine >= caps.engines {
-            return StartAnswer::Nothing;
-        }
-        let list = queues.list(ListUse::Members(engine));
-        let Some((cell, entry)) = first_waiting(store, list) else {
-            return StartAnswer::Nothing;
+        let member = match self.member_to_start(queues, store, engine) {
+            Ok(member) => member,
+            Err(StartBlock::Nothing) => return StartAnswer::Nothing,
+            Err(StartBlock::Fence { .. }) => return StartAnswer::FenceWait,
+            Err(StartBlock::Failed { .. }) => {
+                return StartAnswer::Abandoned(self.abandon(queues, store, book, engine));
+            }
+            Err(StartBlock::Buffers { .. }) => return StartAnswer::NoBuffers,
+            Err(StartBlock::NoGroup) => return StartAnswer::NoBuffers,
         };
-        if waits_at_fence(store, list, cell, &entry) {
-            return StartAnswer::FenceWait;
-        }
-        if self.fails_at_fence(engine, &entry) {
-            abandon_all(queues, store, book, list);
-            self.close_note(engine);
-            return StartAnswer::Abandoned(store.give_back(list));
-        }
-        let need = queues.need(&entry);
-        let Some(group) = self.roomy_group(engine, need) else {
-            return StartAnswer::NoBuffers;
-        };
+        let Startable {
+            cell,
+            entry,
+            group,
+            need,
+        } = member;
         let name = entry.name;
         let _ = store.set(
             cell,

@@ -1,20 +1,23 @@
 //! Dispatch: an engine takes an entry from a queue of its group.
 
-ghost use Rattle.std.specs.Prelude.{◌≡◌, ℕ, List, ◌<◌, ◌≢◌, nat_le, ◌&&◌, ◌||◌, not, is_none, true, false, Some, None, [], length, get_or, slice_get, slice_index, slice_set, cond, is_some, IfSome, IfNone, MatchOption};
+ghost use Rattle.std.specs.Prelude.{◌≡◌, ℕ, List, ◌<◌, ◌≢◌, nat_le, nat_lt, not, true, false, Some, None, [], length, get_or, slice_get, slice_index, slice_set, cond, find, is_some, IfSome, IfNone, MatchOption};
 ghost use Rattle.dsa_base.specs.Numbers.{has};
+ghost use Rattle.dsa_base.specs.Rows.{first_row, when};
 ghost use Rattle.dsa_buffers.specs.Buffers.{IsRoom};
 ghost use Rattle.dsa_regs.specs.Config.{group_at};
-ghost use Rattle.dsa_store.specs.Content.{chain, after_push, without_front};
+ghost use Rattle.dsa_store.specs.Content.{Content, chain, after_push, without_front};
 ghost use Rattle.dsa_book.specs.declared.fate.FateRow.{FateRow};
-ghost use Rattle.dsa_book.specs.State.{any_in, is_off, need_of, is_batch_of, is_drain_of};
+ghost use Rattle.dsa_book.specs.State.{is_off, need_of, is_batch_of, is_drain_of};
 ghost use Rattle.dsa_book.specs.declared.answer.DispatchAnswer.TheVariants.{Taken};
 ghost use Rattle.dsa_book.specs.declared.answer.Reply.TheVariants as reply;
 ghost use Rattle.dsa_book.specs.Choice.{choice_of, from_queue};
-ghost use Rattle.dsa_book.specs.Work.{qualifies, may_leave, dispatch, progress_list, as_running, opened_note, with_note};
+ghost use Rattle.dsa_book.specs.Work.{qualifies, may_leave, dispatch, group_in, progress_list, as_running, opened_note, with_note};
 ghost use Rattle.dsa_queues.specs.Queues.{IsCounted, IsStoreFor};
-ghost use Rattle.dsa_engines.specs.Engines.{work, IsInStep, IsOpen};
+ghost use Rattle.dsa_engines.specs.Engines.{EnginesState, work, IsInStep, IsOpen};
+ghost use Rattle.dsa_engines.specs.Dispatch.{block_table, engine_reason, is_offered, queue_reason};
 
 use crate::Engines;
+use crate::reasons::{EngineReason, QueueReason};
 use dsa_book::{BatchNote, DispatchAnswer, Ticket};
 use dsa_queues::Queues;
 use dsa_regs::ListUse;
@@ -50,16 +53,72 @@ fn run_front<S: EntryStore>(store: &mut S, from: ListId, to: ListId, front: (Cel
     );
 }
 
-// Whether a well-formed Drain is in progress on the engine.
-fn is_draining<S: EntryStore>(queues: &Queues, store: &S, engine: u16) -> bool
+// What keeps an engine with a slot left from taking a front: its read buffers, the batch or the
+// Drain of that name.
+#[derive(Clone, Copy)]
+enum TakeBlock {
+    Buffers,
+    Batch(u32),
+    Drain(u32),
+}
+
+// The first Drain in progress on the engine.
+fn drain_on<S: EntryStore>(queues: &Queues, store: &S, engine: u16) -> Option<(Cell, Entry)>
     requires store { IsStoreFor queues.now.setup.caps (S.cells store.now) (S.content store.now) }
     requires engine { engine < queues.now.setup.caps.engines }
     ensures { result
-        ≡ any_in (is_drain_of queues.now.setup)
+        ≡ find (λ pair. is_drain_of queues.now.setup pair.1)
         (chain (S.content store.now) (progress_list queues.now.setup engine)) }
 {
     let progress = queues.list(ListUse::Progress(engine));
-    held_entries(store, progress).any(|pair| queues.is_drain(&pair.1))
+    held_entries(store, progress).find(|pair| queues.is_drain(&pair.1))
+}
+
+// How many slots of the engine are taken, where all are.
+#[inline(always)]
+fn full_slots<S: EntryStore>(queues: &Queues, store: &S, engine: u16) -> Option<u32>
+    requires store { IsStoreFor queues.now.setup.caps (S.cells store.now) (S.content store.now) }
+    requires engine { engine < queues.now.setup.caps.engines }
+    ensures { result
+        ≡ when (not (nat_lt
+        (length (chain (S.content store.now) (progress_list queues.now.setup engine)))
+        queues.now.setup.caps.slots))
+        (length (chain (S.content store.now) (progress_list queues.now.setup engine))) }
+{
+    let used = store.len(queues.list(ListUse::Progress(engine)));
+    if used < u32::from(queues.caps().slots) {
+        return None;
+    }
+    Some(used)
+}
+
+/// Why no queue is looked at for the engine, the first cause that stands. `None` exactly where the
+/// engine is of a group.
+pub fn engine_reason(queues: &Queues, engine: u16) -> Option<EngineReason>
+    ensures { (engines_state : EnginesState) (content : Content)
+        → result ≡ engine_reason (work queues.now.setup engines_state content []) engine }
+{
+    if engine >= queues.caps().engines {
+        return Some(EngineReason::NoEngine);
+    }
+    match queues.group_of(engine) {
+        Some(_) => None,
+        None => Some(EngineReason::NoGroup),
+    }
+}
+
+// The group of the engine, where the queue is one of the group's and the device has both.
+fn offered_in(queues: &Queues, engine: u16, queue: u16) -> Option<u16>
+    ensures { (engines_state : EnginesState) (content : Content)
+        → result
+        ≡ cond (is_offered (work queues.now.setup engines_state content []) engine queue)
+        (group_in queues.now.setup.groups engine) None }
+{
+    if engine >= queues.caps().engines || !queues.has_queue(queue) {
+        return None;
+    }
+    let group = queues.group_of(engine)?;
+    queues.group(group).has_queue(queue).then_some(group)
 }
 
 impl Engines {
@@ -79,42 +138,44 @@ impl Engines {
         if engine >= caps.engines {
             return None;
         }
-        if store.len(queues.list(ListUse::Progress(engine))) >= u32::from(caps.slots) {
+        if full_slots(queues, store, engine).is_some() {
             return None;
         }
         self.home(engine)
     }
 
-    // Whether there is room for the buffers that the entry needs, and neither a second batch nor a
-    // second Drain would be begun.
+    // What keeps the engine, which has a slot left, from this front, where its group has room for
+    // so many read buffers: the first cause that stands.
     #[inline(always)]
-    fn may_run<S: EntryStore>(
+    fn take_block<S: EntryStore>(
         &self,
         queues: &Queues,
         store: &S,
         engine: u16,
         room: u16,
-        entry: &Entry,
-    ) -> bool
+        front: &Entry,
+    ) -> Option<TakeBlock>
         requires store { IsStoreFor queues.now.setup.caps (S.cells store.now)
             (S.content store.now) }
         requires engine { engine < queues.now.setup.caps.engines }
         ensures { result
-            ≡ (nat_le (need_of queues.now.setup entry.now) room
-            && (is_none (get_or self.now.notes engine None)
-            || not (is_batch_of queues.now.setup entry.now))
-            && not (is_drain_of queues.now.setup entry.now
-            && any_in (is_drain_of queues.now.setup)
-            (chain (S.content store.now)
-            (progress_list queues.now.setup engine)))) }
+            ≡ first_row (block_table
+            (work queues.now.setup self.now (S.content store.now) []) engine
+            (nat_le (need_of queues.now.setup front.now) room) front.now) }
     {
-        if u16::from(queues.need(entry)) > room {
-            return false;
+        if u16::from(queues.need(front)) > room {
+            return Some(TakeBlock::Buffers);
         }
-        if self.note(engine).is_some() && queues.is_batch(entry) {
-            return false;
+        if let Some(note) = self.note(engine) {
+            if queues.is_batch(front) {
+                return Some(TakeBlock::Batch(note.batch));
+            }
         }
-        !(queues.is_drain(entry) && is_draining(queues, store, engine))
+        if !queues.is_drain(front) {
+            return None;
+        }
+        let (_, drain) = drain_on(queues, store, engine)?;
+        Some(TakeBlock::Drain(drain.name))
     }
 
     // Whether the engine may take the front of the queue, which is one of the group's.
@@ -142,7 +203,8 @@ impl Engines {
         let Some((_, entry)) = front_entry(store, ListId(queue)) else {
             return false;
         };
-        self.may_run(queues, store, engine, share.room, &entry)
+        let block = self.take_block(queues, store, engine, share.room, &entry);
+        block.is_none()
     }
 
     // Whether the queue goes before the other: by priority, and among equals by whose turn is next.
@@ -219,6 +281,38 @@ impl Engines {
             from = queue + 1;
         }
         best
+    }
+
+    /// Why the engine does not take the front of the queue, the first cause that stands. `None`
+    /// exactly where the queue is not one of the engine's group, or the engine may take its front.
+    pub fn queue_reason<S: EntryStore>(
+        &self,
+        queues: &Queues,
+        store: &S,
+        engine: u16,
+        queue: u16,
+    ) -> Option<QueueReason>
+        requires in_step { IsInStep queues.now.setup self.now (S.cells store.now)
+            (S.content store.now) }
+        ensures { result
+            ≡ queue_reason (work queues.now.setup self.now (S.content store.now) []) engine
+            queue }
+    {
+        let group = offered_in(queues, engine, queue)?;
+        let Some((_, front)) = front_entry(store, ListId(queue)) else {
+            return Some(QueueReason::Empty);
+        };
+        if let Some(used) = full_slots(queues, store, engine) {
+            let slots = queues.caps().slots;
+            return Some(QueueReason::NoSlot { used, slots });
+        }
+        let need = queues.need(&front);
+        let block = self.take_block(queues, store, engine, self.room(group), &front)?;
+        match block {
+            TakeBlock::Buffers => Some(QueueReason::NoBuffers(self.want(group, need))),
+            TakeBlock::Batch(batch) => Some(QueueReason::OtherBatch { batch }),
+            TakeBlock::Drain(drain) => Some(QueueReason::OtherDrain { drain }),
+        }
     }
 
     // A well-formed Batch opens a note.

@@ -1,15 +1,14 @@
 -- An event in words.
 use Rattle.dsa_book.specs.declared.event.Event.TheVariants as event
 use Rattle.dsa_regs.specs.declared.layout.ListUse.TheVariants as list
-use Rattle.std.specs.Prelude.{ℕ, ◌+◌, false, ◌==◌, ◌&&◌, nat_lt, if◌then◌else◌, List, [], ◌∷◌, ◌++◌, map, Option, unwrap_or}
+use Rattle.std.specs.Prelude.{ℕ, false, ◌==◌, if◌then◌else◌, List, [], ◌++◌, option_map, unwrap_or}
 use Rattle.std.specs.Prelude.{codes, decimal}
 use Rattle.std.specs.Fmt.{digits}
-use Rattle.dsa_base.specs.Rows.{first_row}
 use Rattle.dsa_desc.specs.declared.{Descriptor.{Descriptor}, Outcome.{Outcome, TheVariants.{Success, PageFault}}}
-use Rattle.dsa_desc.specs.Descriptor.{is_batch, is_transfer, is_fenced}
+use Rattle.dsa_desc.specs.Descriptor.{is_batch, is_transfer, is_fenced, operation_row}
 use Rattle.dsa_regs.specs.declared.{Command.{Command}, layout.ListUse.{ListUse}}
 use Rattle.dsa_regs.specs.declared.Scope.{Scope, TheVariants.{Device, Queue, Queues, Pasid}}
-use Rattle.dsa_regs.specs.Command.{command_name, scope_of, operand_of_scope}
+use Rattle.dsa_regs.specs.Command.{command_label, scope_of, operand_of_scope}
 use Rattle.dsa_book.specs.declared.event.{Event.{Event}, Portal.{Portal, TheVariants.{Limited, Unlimited}}}
 use Rattle.dsa_book.specs.declared.event.Kind.{Kind, TheVariants.{Enqcmd, Movdir64b}}
 
@@ -25,19 +24,10 @@ count_text before n one many = before ++ decimal n ++ codes " " ++ one_or_many n
 
 -- ---- descriptors (profile)
 
--- the word of an operation code
-abbrev pub named_operation : ℕ → Option (List ℕ)
-named_operation op = first_row (
-    (op == 0x00, codes "no-op") ∷
-    (op == 0x01, codes "batch") ∷
-    (op == 0x02, codes "drain") ∷
-    (op == 0x03, codes "move") ∷
-    (op == 0x04, codes "fill") ∷
-    (op == 0x05, codes "compare") ∷ [])
-
--- that word, or the code where it has none
+-- the word of an operation, or the code where it has none
 abbrev pub operation_label : ℕ → List ℕ
-operation_label op = unwrap_or (named_operation op) (codes "operation 0x" ++ digits 16 false op)
+operation_label op =
+    unwrap_or (option_map (λ row. row.word) (operation_row op)) (codes "operation 0x" ++ digits 16 false op)
 
 -- what a batch or a transfer says of its size
 abbrev pub size_text : Descriptor → List ℕ
@@ -53,14 +43,6 @@ abbrev pub descriptor_text : Descriptor → List ℕ
 descriptor_text d = operation_label d.op ++ size_text d ++ fence_text d
 
 -- ---- commands (profile)
-
--- a capital letter as the small one, and a space as a hyphen
-abbrev pub label_letter : ℕ → ℕ
-label_letter c = if c == 32 then 45 else (if nat_lt 64 c && nat_lt c 91 then c + 32 else c)
-
--- the name of the command, as one word
-abbrev pub command_label : Command → List ℕ
-command_label command = map label_letter (command_name command)
 
 -- the operand, where there is one: of a mask in hexadecimal
 abbrev pub scope_text : Scope → List ℕ

@@ -1,32 +1,12 @@
 //! Commands in words.
 
 ghost use Rattle.std.specs.Prelude.{◌≡◌, ◌++◌, OnOk, string_bytes};
-ghost use Rattle.dsa_event_text.specs.Text.{command_label, command_with_operand, scope_text};
+ghost use Rattle.dsa_event_text.specs.Text.{command_with_operand, scope_text};
 
 use crate::numbers::add_number;
 use dsa_regs::{Command, Scope};
 use std::alloc::AllocError;
 use std::fmt::Write;
-
-/// The name of a command, as one word.
-pub fn command_label(command: &Command) -> &'static str
-    ensures { result.now ≡ command_label command.now }
-{
-    match command {
-        Command::EnableDevice => "enable-device",
-        Command::DisableDevice => "disable-device",
-        Command::DrainAll => "drain-all",
-        Command::AbortAll => "abort-all",
-        Command::ResetDevice => "reset-device",
-        Command::EnableWq(_) => "enable-wq",
-        Command::DisableWq(_) => "disable-wq",
-        Command::DrainWq(_) => "drain-wq",
-        Command::AbortWq(_) => "abort-wq",
-        Command::ResetWq(_) => "reset-wq",
-        Command::DrainPasid(_) => "drain-pasid",
-        Command::AbortPasid(_) => "abort-pasid",
-    }
-}
 
 fn add_scope(text: &mut String, scope: Scope) -> Result<(), AllocError>
     ensures { OnOk result (string_bytes text.new ≡ string_bytes text.old ++ scope_text scope) }
@@ -47,6 +27,6 @@ pub fn add_command(text: &mut String, command: &Command) -> Result<(), AllocErro
     ensures { OnOk result
         (string_bytes text.new ≡ string_bytes text.old ++ command_with_operand command.now) }
 {
-    text.push_str(command_label(command))?;
+    text.push_str(command.label())?;
     add_scope(text, command.scope())
 }

@@ -1,36 +1,19 @@
 //! Descriptors in words.
 
-ghost use Rattle.std.specs.Prelude.{◌≡◌, ◌++◌, OnOk, option_map, string_bytes};
-ghost use Rattle.dsa_event_text.specs.Text.{descriptor_text, fence_text, named_operation, operation_label, size_text};
+ghost use Rattle.std.specs.Prelude.{◌≡◌, ◌++◌, OnOk, string_bytes};
+ghost use Rattle.dsa_event_text.specs.Text.{descriptor_text, fence_text, operation_label, size_text};
 
 use crate::numbers::{add_count, add_number};
 use dsa_desc::Descriptor;
-use dsa_desc::opcode::{
-    DSA_OPCODE_BATCH, DSA_OPCODE_COMPARE, DSA_OPCODE_DRAIN, DSA_OPCODE_MEMFILL, DSA_OPCODE_MEMMOVE,
-    DSA_OPCODE_NOOP,
-};
+use dsa_desc::opcode::Operation;
 use std::alloc::AllocError;
 use std::fmt::Write;
-
-fn named_operation(op: u8) -> Option<&'static str>
-    ensures { option_map (λ word. word.now) result ≡ named_operation op }
-{
-    match op {
-        DSA_OPCODE_NOOP => Some("no-op"),
-        DSA_OPCODE_BATCH => Some("batch"),
-        DSA_OPCODE_DRAIN => Some("drain"),
-        DSA_OPCODE_MEMMOVE => Some("move"),
-        DSA_OPCODE_MEMFILL => Some("fill"),
-        DSA_OPCODE_COMPARE => Some("compare"),
-        _ => None,
-    }
-}
 
 fn add_operation(text: &mut String, op: u8) -> Result<(), AllocError>
     ensures { OnOk result (string_bytes text.new ≡ string_bytes text.old ++ operation_label op) }
 {
-    match named_operation(op) {
-        Some(word) => text.push_str(word),
+    match Operation::of(op) {
+        Some(operation) => text.push_str(operation.word),
         None => write!(text, "operation 0x{op:x}"),
     }
 }

@@ -1,15 +1,16 @@
 //! Events in words.
 
-ghost use Rattle.std.specs.Prelude.{◌≡◌, ◌++◌, OnOk, string_bytes, codes};
+ghost use Rattle.std.specs.Prelude.{◌≡◌, ◌++◌, codes};
 ghost use Rattle.std.specs.Fmt.{decimal};
+ghost use Rattle.dsa_event_text.specs.Added.{Adds};
 ghost use Rattle.dsa_event_text.specs.Text.{descriptor_text, event_text, instruction_text, outcome_label, portal_label};
 
+use crate::Added;
 use crate::commands::add_command;
 use crate::descriptors::add_descriptor;
 use crate::numbers::add_number;
 use dsa_book::{Event, Kind, Portal};
 use dsa_desc::{Descriptor, Outcome};
-use std::alloc::AllocError;
 
 /// The word of a portal.
 pub fn portal_label(portal: Portal) -> &'static str
@@ -30,8 +31,8 @@ fn outcome_label(outcome: Outcome) -> &'static str
     }
 }
 
-fn add_kind(text: &mut String, kind: Kind) -> Result<(), AllocError>
-    ensures { OnOk result (string_bytes text.new ≡ string_bytes text.old ++ instruction_text kind) }
+fn add_kind(text: &mut String, kind: Kind) -> Added
+    ensures { Adds result text.old text.new (instruction_text kind) }
 {
     match kind {
         Kind::Enqcmd { pasid } => add_number(text, "enqcmd pasid ", pasid),
@@ -40,16 +41,10 @@ fn add_kind(text: &mut String, kind: Kind) -> Result<(), AllocError>
 }
 
 // The queue, the portal and the instruction of a submission.
-fn add_portal(text: &mut String, queue: u16, portal: Portal, kind: Kind) -> Result<(), AllocError>
-    ensures { OnOk result
-        (string_bytes text.new
-        ≡ string_bytes text.old
-        ++ (codes "submit q"
-        ++ decimal queue
-        ++ codes " "
-        ++ portal_label portal
-        ++ codes " "
-        ++ instruction_text kind)) }
+fn add_portal(text: &mut String, queue: u16, portal: Portal, kind: Kind) -> Added
+    ensures { Adds result text.old text.new
+        (codes "submit q" ++ decimal queue ++ codes " " ++ portal_label portal ++ codes " "
+        ++ instruction_text kind) }
 {
     add_number(text, "submit q", u32::from(queue))?;
     text.push_str(" ")?;
@@ -59,32 +54,19 @@ fn add_portal(text: &mut String, queue: u16, portal: Portal, kind: Kind) -> Resu
 }
 
 // A word, a number and a descriptor.
-fn add_described(
-    text: &mut String,
-    word: &str,
-    number: u16,
-    desc: &Descriptor,
-) -> Result<(), AllocError>
-    ensures { OnOk result
-        (string_bytes text.new
-        ≡ string_bytes text.old
-        ++ (word.now ++ decimal number ++ codes " " ++ descriptor_text desc.now)) }
+fn add_described(text: &mut String, word: &str, number: u16, desc: &Descriptor) -> Added
+    ensures { Adds result text.old text.new
+        (word.now ++ decimal number ++ codes " " ++ descriptor_text desc.now) }
 {
     add_number(text, word, u32::from(number))?;
     text.push_str(" ")?;
     add_descriptor(text, desc)
 }
 
-fn add_finish(text: &mut String, engine: u16, name: u32, outcome: Outcome) -> Result<(), AllocError>
-    ensures { OnOk result
-        (string_bytes text.new
-        ≡ string_bytes text.old
-        ++ (codes "finish e"
-        ++ decimal engine
-        ++ codes " name "
-        ++ decimal name
-        ++ codes " "
-        ++ outcome_label outcome)) }
+fn add_finish(text: &mut String, engine: u16, name: u32, outcome: Outcome) -> Added
+    ensures { Adds result text.old text.new
+        (codes "finish e" ++ decimal engine ++ codes " name " ++ decimal name ++ codes " "
+        ++ outcome_label outcome) }
 {
     add_number(text, "finish e", u32::from(engine))?;
     add_number(text, " name ", name)?;
@@ -93,8 +75,8 @@ fn add_finish(text: &mut String, engine: u16, name: u32, outcome: Outcome) -> Re
 }
 
 /// Adds the words of an event.
-pub fn add_event(text: &mut String, event: &Event) -> Result<(), AllocError>
-    ensures { OnOk result (string_bytes text.new ≡ string_bytes text.old ++ event_text event.now) }
+pub fn add_event(text: &mut String, event: &Event) -> Added
+    ensures { Adds result text.old text.new (event_text event.now) }
 {
     match event {
         Event::Submit {

@@ -5,6 +5,8 @@
 //! Intel DSA specification does, in lower case with dashes.
 #![tactic(auto)]
 
+use std::alloc::AllocError;
+
 mod commands;
 mod descriptors;
 mod events;
@@ -12,7 +14,10 @@ mod lists;
 mod numbers;
 pub mod rows;
 
-pub use commands::{add_command, command_label};
+/// What comes of adding to a text, which may want memory.
+pub type Added = Result<(), AllocError>;
+
+pub use commands::add_command;
 pub use descriptors::add_descriptor;
 pub use events::{add_event, portal_label};
 pub use lists::add_list;

@@ -1,17 +1,17 @@
 //! Numbers in texts.
 
-ghost use Rattle.std.specs.Prelude.{◌≡◌, ◌++◌, OnOk, string_bytes};
+ghost use Rattle.std.specs.Prelude.{◌≡◌, ◌++◌};
 ghost use Rattle.std.specs.Fmt.{decimal};
+ghost use Rattle.dsa_event_text.specs.Added.{Adds};
 ghost use Rattle.dsa_event_text.specs.Text.{count_text, one_or_many};
 
+use crate::Added;
 use itoa::Buffer;
-use std::alloc::AllocError;
 
 /// Adds a text and a number.
 #[inline(always)]
-pub fn add_number(text: &mut String, word: &str, number: u32) -> Result<(), AllocError>
-    ensures { OnOk result
-        (string_bytes text.new ≡ string_bytes text.old ++ (word.now ++ decimal number)) }
+pub fn add_number(text: &mut String, word: &str, number: u32) -> Added
+    ensures { Adds result text.old text.new (word.now ++ decimal number) }
 {
     let mut buffer = Buffer::new();
     text.push_str(word)?;
@@ -26,15 +26,8 @@ pub fn one_or_many<'a>(number: u64, one: &'a str, many: &'a str) -> &'a str
 }
 
 /// Adds a text, a number, and what is counted: `1 entry`, `2 entries`.
-pub fn add_count(
-    text: &mut String,
-    before: &str,
-    number: u64,
-    one: &str,
-    many: &str,
-) -> Result<(), AllocError>
-    ensures { OnOk result (string_bytes text.new
-        ≡ string_bytes text.old ++ count_text before.now number one.now many.now) }
+pub fn add_count(text: &mut String, before: &str, number: u64, one: &str, many: &str) -> Added
+    ensures { Adds result text.old text.new (count_text before.now number one.now many.now) }
 {
     let mut buffer = Buffer::new();
     text.push_str(before)?;

@@ -36,8 +36,8 @@ pub fn descriptors()
     ensures drain { descriptor_text (desc 0 2 7) ≡ codes "drain" }
     ensures transfers { map descriptor_text (page_move ∷ desc 0 4 1 ∷ desc 0 5 0 ∷ [])
         ≡ codes "move 4096 bytes" ∷ codes "fill 1 byte" ∷ codes "compare 0 bytes" ∷ [] }
-    ensures other { map descriptor_text (desc 0 6 7 ∷ desc 0 0xab 7 ∷ [])
-        ≡ codes "operation 0x6" ∷ codes "operation 0xab" ∷ [] }
+    ensures other { map descriptor_text (desc 0 0xf 7 ∷ desc 0 0xab 7 ∷ [])
+        ≡ codes "operation 0xf" ∷ codes "operation 0xab" ∷ [] }
     ensures fence { map descriptor_text (desc 1 3 16 ∷ desc 3 0 0 ∷ desc 2 0 0 ∷ [])
         ≡ codes "move 16 bytes fence" ∷ codes "no-op fence" ∷ codes "no-op" ∷ [] }
 {}

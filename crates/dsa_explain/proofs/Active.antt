@@ -13,12 +13,13 @@ use Rattle.dsa_book.specs.declared.{answer.IssueAnswer.{IssueAnswer}, note.Activ
 use Rattle.dsa_book.specs.State.{State}
 use Rattle.dsa_book.specs.Commands.{issue, refusal_or, check_of, command_done_of, deed_done_of, wait_of}
 use Rattle.dsa_book.specs.Commands.{is_at_end, is_bad_queues, may_come}
-use Rattle.dsa_admin.{specs.Admin.{is_waited_for}, proofs.Counting.{stop-caps}}
-use Rattle.dsa_explain.specs.declared.{command.IssueReason.{IssueReason}, held.ListedEntry.{ListedEntry}}
-use Rattle.dsa_explain.specs.Command.{is_active_answer, is_waiting, noted_as, wait_by, wait_reason, wait_of_active}
-use Rattle.dsa_explain.specs.Command.{issue_by}
+use Rattle.dsa_admin.specs.{Admin.{is_waited_for}, declared.reasons.IssueReason.{IssueReason}, Command.{issue_by}}
+use Rattle.dsa_admin.proofs.Counting.{stop-caps}
+use Rattle.dsa_explain.specs.declared.held.ListedEntry.{ListedEntry}
+use Rattle.dsa_explain.specs.Wait.{is_active_answer, is_waiting, noted_as, wait_by, wait_reason, wait_of_active}
 use Rattle.dsa_explain.specs.Held.{all_entries, first_awaited}
-use Rattle.dsa_explain.proofs.{Holding.{all-told, find-any}, Rows.{some-map}}
+use Rattle.dsa_engines.proofs.Rows.{some-map}
+use Rattle.dsa_explain.proofs.Holding.{all-told, find-any}
 
 -- a command is at its end exactly where the first entry that it waits for is none
 pub first-there : (s : State) (noted : ActiveCommand)

@@ -18,8 +18,8 @@ use Rattle.dsa_book.specs.Work.{progress_list, members}
 use Rattle.dsa_laws.proofs.{Histories.{well_formed-change, well_formed-opening, replay_keeps}, Effects.{by_effect}}
 use Rattle.dsa_laws.proofs.{Contents.{each-place}, Shapes.{an_engine, queues-same, running-place}}
 use Rattle.dsa_laws.specs.{Change.{Change, IsEnded}, WellFormed.{IsWellFormed}, Engines.{IsLawfulEngine}}
-use Rattle.dsa_explain.specs.Batch.{is_failed_in, failed_member}
-use Rattle.dsa_explain.proofs.Rows.{find-any, some-map}
+use Rattle.dsa_engines.specs.Batch.{is_failed_in, failed_member}
+use Rattle.dsa_engines.proofs.Rows.{find-any, some-map}
 
 -- ---- the row
 

@@ -1,11 +1,3 @@
 pub mod Holding
-pub mod Naming
-pub mod Refusing
-pub mod Wanting
-pub mod Rows
-pub mod Taking
-pub mod Starting
 pub mod FailedMembers
-pub mod Waiting
-pub mod Ending
 pub mod Active

@@ -1,9 +1,2 @@
-pub mod Reasons
-pub mod Submission
 pub mod Held
-pub mod Command
-pub mod Write
-pub mod Buffers
-pub mod Dispatch
-pub mod Batch
-pub mod Finish
+pub mod Wait

@@ -1,20 +1,18 @@
 //! What a drain or a disable waits for: the active one, or one that would be answered active.
 
-ghost use Rattle.std.specs.Prelude.{◌≡◌, ◌<◌, ◌^◌, ◌↔◌, None, Some, true, find, is_some, map};
-ghost use Rattle.std.specs.List.{count_by};
+ghost use Rattle.std.specs.Prelude.{◌≡◌, ◌↔◌, None, Some, true, find, is_some, map};
 ghost use Rattle.dsa_regs.specs.declared.Command.{Command};
 ghost use Rattle.dsa_regs.specs.Caps.{HasList, list_number};
-ghost use Rattle.dsa_store.specs.Content.{chain, count_where, held_count};
+ghost use Rattle.dsa_store.specs.Content.{chain};
 ghost use Rattle.dsa_book.specs.declared.note.ActiveCommand.{ActiveCommand};
 ghost use Rattle.dsa_book.specs.State.{State};
 ghost use Rattle.dsa_book.specs.Commands.{is_at_end, issue};
-ghost use Rattle.dsa_admin.specs.Admin.{is_awaited_by, is_waited_for};
+ghost use Rattle.dsa_admin.specs.Admin.{is_awaited_by};
 ghost use Rattle.dsa_explain.specs.Held.{awaited_entry, first_awaited, held_in_list};
-ghost use Rattle.dsa_explain.specs.Command.{is_active_answer, is_waiting, noted_by, wait_of_active, wait_reason};
+ghost use Rattle.dsa_explain.specs.Wait.{is_active_answer, is_waiting, noted_by, wait_of_active, wait_reason};
 
-use crate::command::{commands_follow_reasons, issue_reason};
 use crate::held::{ListedEntry, entries_of_list};
-use dsa_admin::is_in_scope;
+use dsa_admin::{commands_follow_reasons, is_waited_for};
 use dsa_book::ActiveCommand;
 use dsa_device::Device;
 use dsa_regs::{Command, Deed, ListUse, list_count};
@@ -33,17 +31,6 @@ pub struct WaitReason {
 enum Waiter {
     Active,
     Noted(ActiveCommand),
-}
-
-// Whether a command that is noted so waits for the entry.
-fn is_waited_for(noted: &ActiveCommand, entry: &Entry) -> bool
-    ensures { result ≡ is_waited_for noted.now entry.now }
-{
-    let is_meant = is_in_scope(&noted.command.scope(), entry);
-    match noted.command.deed() {
-        Deed::Disable => is_meant,
-        _ => is_meant && entry.parent.is_none() && entry.name < noted.mark,
-    }
 }
 
 // Whether the entry is waited for.
@@ -97,37 +84,6 @@ pub fn awaited_entry<S: EntryStore>(device: &Device<S>) -> Option<ListedEntry>
     first_awaited(device, &Waiter::Active)
 }
 
-// How many entries of the list a command waits for that is noted so.
-fn count_in<S: EntryStore>(device: &Device<S>, noted: &ActiveCommand, list: ListUse) -> u32
-    requires list { HasList device.now.caps list }
-    requires few { held_count device.now.state.work.content < 2 ^ 32 }
-    ensures { result
-        ≡ count_by (λ pair. is_waited_for noted.now pair.1)
-        (chain device.now.state.work.content (list_number device.now.caps list)) }
-{
-    let mut count = 0;
-    for (_cell, entry) in entries_of_list(device, list) {
-        if is_waited_for(noted, &entry) {
-            count += 1;
-        }
-    }
-    count
-}
-
-// How many held entries a command waits for that is noted so.
-fn count_awaited<S: EntryStore>(device: &Device<S>, noted: &ActiveCommand) -> u32
-    requires { held_count device.now.state.work.content < 2 ^ 32 }
-    ensures { result ≡ count_where (is_waited_for noted.now) device.now.state.work.content }
-{
-    device.state_is_replay();
-    let caps = device.caps();
-    let mut count = 0;
-    for number in 0..list_count(&caps) {
-        count += count_in(device, noted, caps.list_use(number));
-    }
-    count
-}
-
 // Whether the deed waits for what is held.
 fn is_waiting(deed: Deed) -> bool
     ensures { result ≡ is_waiting deed }
@@ -144,9 +100,8 @@ fn is_waiting(deed: Deed) -> bool
 pub fn wait_reason<S: EntryStore>(device: &Device<S>, command: Command) -> Option<WaitReason>
     ensures { result ≡ wait_reason device.now.state command }
 {
-    device.state_is_replay();
     commands_follow_reasons();
-    if issue_reason(device, command).is_some() || !is_waiting(command.deed()) {
+    if device.why_issue(command).is_some() || !is_waiting(command.deed()) {
         return None;
     }
     let noted = ActiveCommand {
@@ -154,7 +109,7 @@ pub fn wait_reason<S: EntryStore>(device: &Device<S>, command: Command) -> Optio
         mark: device.next_name(),
     };
     let first = first_awaited(device, &Waiter::Noted(noted))?;
-    let awaited = count_awaited(device, &noted);
+    let awaited = device.count_waited(&noted);
     Some(WaitReason { awaited, first })
 }
 

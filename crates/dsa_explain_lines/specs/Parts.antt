@@ -1,7 +1,7 @@
 -- What a line tells behind an answer.
 use Rattle.dsa_book.specs.declared.event.Event.TheVariants as event
-use Rattle.dsa_explain.specs.declared.dispatch.QueueReason.TheVariants as queue
-use Rattle.dsa_explain.specs.declared.batch.StartReason.TheVariants as start
+use Rattle.dsa_engines.specs.declared.reasons.QueueReason.TheVariants as queue
+use Rattle.dsa_engines.specs.declared.reasons.StartReason.TheVariants as start
 use Rattle.std.specs.Prelude.{ℕ, ◌==◌, ◌||◌, cond, List, [], ◌∷◌, ◌++◌, Option, Some, None, is_some, codes}
 use Rattle.std.specs.Prelude.{length, Result, Ok, Err}
 use Rattle.std.specs.Prelude.{flat_map}
@@ -13,14 +13,16 @@ use Rattle.dsa_regs.specs.declared.{Command.{Command}}
 use Rattle.dsa_regs.specs.declared.Deed.{Deed, TheVariants.{Abort, Reset}}
 use Rattle.dsa_regs.specs.{Command.{deed_of}}
 use Rattle.dsa_book.specs.{declared.event.Event.{Event}, State.{Work, State}, Work.{front_of}}
-use Rattle.dsa_explain.specs.declared.{command.IssueReason.{IssueReason}}
-use Rattle.dsa_explain.specs.declared.dispatch.{EngineReason.{EngineReason}, QueueReason.{QueueReason}}
-use Rattle.dsa_explain.specs.declared.batch.StartReason.{StartReason}
-use Rattle.dsa_explain.specs.{Submission.{submit_reason}, Dispatch.{engine_reason, queue_reason}}
-use Rattle.dsa_explain.specs.Batch.{name_of_entry, fetch_reason, start_reason}
-use Rattle.dsa_explain.specs.{Finish.{finish_reason}, Command.{issue_reason, poll_reason, wait_reason}}
-use Rattle.dsa_explain.specs.{Held.{awaited_entry, Loss, losses}, Buffers.{kept_for}}
-use Rattle.dsa_explain.specs.Write.{write_queue_reason, write_group_reason, clear_reason}
+use Rattle.dsa_book.specs.Machine.{intake_of}
+use Rattle.dsa_queues.specs.Submission.{submit_reason}
+use Rattle.dsa_queues.specs.Write.{write_queue_reason, write_group_reason, clear_reason}
+use Rattle.dsa_admin.specs.{declared.reasons.IssueReason.{IssueReason}, Command.{issue_reason, poll_reason}}
+use Rattle.dsa_engines.specs.declared.reasons.{EngineReason.{EngineReason}, QueueReason.{QueueReason}}
+use Rattle.dsa_engines.specs.declared.reasons.StartReason.{StartReason}
+use Rattle.dsa_buffers.specs.Buffers.{kept_for}
+use Rattle.dsa_engines.specs.{Engines.{buffers_at}, Dispatch.{engine_reason, queue_reason}, Finish.{finish_reason}}
+use Rattle.dsa_engines.specs.Batch.{name_of_entry, fetch_reason, start_reason}
+use Rattle.dsa_explain.specs.{Held.{awaited_entry, Loss, losses}, Wait.{wait_reason}}
 use Rattle.dsa_explain_lines.specs.Sentences.{submit_sentence, engine_sentence, queue_sentence, fetch_sentence}
 use Rattle.dsa_explain_lines.specs.Sentences.{start_sentence, finish_sentence, issue_sentence, poll_sentence, loss_words}
 use Rattle.dsa_event_text.specs.Text.{count_text}
@@ -35,7 +37,9 @@ told_of sentence (Some reason) = codes ": " ++ sentence reason
 
 -- what is kept for another group, where anything is
 abbrev pub kept_part : Work → ℕ → ℕ → List ℕ
-kept_part w g other = cond (other == g || kept_for w other == 0) [] (kept_words (kept_for w other) other)
+kept_part w g other =
+    let kept = kept_for (buffers_at w) other in
+    cond (other == g || kept == 0) [] (kept_words kept other)
 
 -- for which groups but this one read buffers are kept
 abbrev pub keeping_part : Work → ℕ → List ℕ
@@ -112,7 +116,7 @@ issue_part s command = issue_part_of s command (issue_reason s command)
 -- why the event is answered as it is in this state
 abbrev pub event_part : State → Event → List ℕ
 event_part s (event.Submit client queue portal kind desc) =
-    told_of (submit_sentence queue) (submit_reason s queue portal kind)
+    told_of (submit_sentence queue) (submit_reason (intake_of s) queue portal kind)
 event_part s (event.Dispatch engine) = dispatch_part s.work engine
 event_part s (event.Fetch engine desc) = told_of (fetch_sentence engine) (fetch_reason s.work engine)
 event_part s (event.Start engine) = start_part s.work engine

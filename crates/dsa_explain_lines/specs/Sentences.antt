@@ -1,30 +1,31 @@
 -- The sentence of each reason.
-use Rattle.dsa_explain.specs.declared.submission.SubmitReason.TheVariants as submit
-use Rattle.dsa_explain.specs.declared.dispatch.EngineReason.TheVariants as engine
-use Rattle.dsa_explain.specs.declared.dispatch.QueueReason.TheVariants as queue
-use Rattle.dsa_explain.specs.declared.batch.FetchReason.TheVariants as fetch
-use Rattle.dsa_explain.specs.declared.batch.StartReason.TheVariants as start
-use Rattle.dsa_explain.specs.declared.finish.FinishReason.TheVariants as finish
-use Rattle.dsa_explain.specs.declared.command.IssueReason.TheVariants as issue
-use Rattle.dsa_explain.specs.declared.command.PollReason.TheVariants as poll
+use Rattle.dsa_queues.specs.declared.reasons.SubmitReason.TheVariants as submit
+use Rattle.dsa_admin.specs.declared.reasons.IssueReason.TheVariants as issue
+use Rattle.dsa_admin.specs.declared.reasons.PollReason.TheVariants as poll
+use Rattle.dsa_engines.specs.declared.reasons.EngineReason.TheVariants as engine
+use Rattle.dsa_engines.specs.declared.reasons.QueueReason.TheVariants as queue
+use Rattle.dsa_engines.specs.declared.reasons.FetchReason.TheVariants as fetch
+use Rattle.dsa_engines.specs.declared.reasons.StartReason.TheVariants as start
+use Rattle.dsa_engines.specs.declared.reasons.FinishReason.TheVariants as finish
 use Rattle.dsa_regs.specs.declared.reasons.CheckReason.TheVariants as check
 use Rattle.dsa_regs.specs.declared.reasons.Named.TheVariants as named
 use Rattle.dsa_regs.specs.declared.reasons.Bound.TheVariants as bound
-use Rattle.dsa_explain.specs.declared.write.WriteReason.TheVariants as write
-use Rattle.dsa_explain.specs.declared.write.ClearReason.TheVariants as clear
+use Rattle.dsa_queues.specs.declared.reasons.WriteReason.TheVariants as write
+use Rattle.dsa_queues.specs.declared.reasons.ClearReason.TheVariants as clear
 use Rattle.std.specs.Prelude.{ℕ, Bool, true, false, List, [], ◌∷◌, ◌++◌, flat_map, Option, Some, None, codes, decimal}
 use Rattle.dsa_regs.specs.declared.{Command.{Command}, Phase.{Phase, TheVariants.{Off, On, Stopping}}, layout.ListUse.{ListUse}}
 use Rattle.dsa_book.specs.declared.event.{Portal.{Portal}}
 use Rattle.dsa_event_text.specs.Text.{command_with_operand, count_text, list_text, portal_label}
-use Rattle.dsa_explain.specs.declared.submission.SubmitReason.{SubmitReason}
-use Rattle.dsa_explain.specs.declared.dispatch.{EngineReason.{EngineReason}, QueueReason.{QueueReason}}
-use Rattle.dsa_explain.specs.declared.batch.{FetchReason.{FetchReason}, StartReason.{StartReason}}
-use Rattle.dsa_explain.specs.declared.{finish.FinishReason.{FinishReason}, buffers.BufferWant.{BufferWant}}
-use Rattle.dsa_explain.specs.declared.command.{IssueReason.{IssueReason}, PollReason.{PollReason}}
+use Rattle.dsa_queues.specs.declared.reasons.SubmitReason.{SubmitReason}
+use Rattle.dsa_admin.specs.declared.reasons.{IssueReason.{IssueReason}, PollReason.{PollReason}}
+use Rattle.dsa_engines.specs.declared.reasons.{EngineReason.{EngineReason}, QueueReason.{QueueReason}}
+use Rattle.dsa_engines.specs.declared.reasons.{FetchReason.{FetchReason}, StartReason.{StartReason}}
+use Rattle.dsa_engines.specs.declared.reasons.FinishReason.{FinishReason}
+use Rattle.dsa_buffers.specs.declared.want.BufferWant.{BufferWant}
 use Rattle.dsa_regs.specs.declared.reasons.{CheckReason.{CheckReason}, Named.{Named}, Bound.{Bound}}
 use Rattle.dsa_explain.specs.declared.{held.ListedEntry.{ListedEntry}}
 use Rattle.dsa_explain.specs.declared.awaiting.WaitReason.{WaitReason}
-use Rattle.dsa_explain.specs.declared.write.{WriteReason.{WriteReason}, ClearReason.{ClearReason}}
+use Rattle.dsa_queues.specs.declared.reasons.{WriteReason.{WriteReason}, ClearReason.{ClearReason}}
 
 -- ---- what several sentences have
 

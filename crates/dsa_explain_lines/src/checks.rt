@@ -1,18 +1,17 @@
 //! What the check of an enable finds.
 
-ghost use Rattle.std.specs.Prelude.{◌≡◌, ◌++◌, OnOk, codes, string_bytes};
+ghost use Rattle.std.specs.Prelude.{codes};
+ghost use Rattle.dsa_event_text.specs.Added.{Adds};
 ghost use Rattle.dsa_explain_lines.specs.Sentences.{above_words, check_sentence, counted, queue_check_words};
 
 use crate::groups::{add_missing, add_outside, add_shared};
 use crate::words::{add_counted, add_counted_twice, add_group};
-use dsa_event_text::{add_count, add_number};
-use dsa_explain::CheckReason;
-use std::alloc::AllocError;
+use dsa_event_text::{Added, add_count, add_number};
+use dsa_regs::CheckReason;
 
 // What there is to say of a queue.
-fn add_field(text: &mut String, before: &str, number: u16, after: &str) -> Result<(), AllocError>
-    ensures { OnOk result
-        (string_bytes text.new ≡ string_bytes text.old ++ counted before.now number after.now) }
+fn add_field(text: &mut String, before: &str, number: u16, after: &str) -> Added
+    ensures { Adds result text.old text.new (counted before.now number after.now) }
 {
     add_counted(text, before, u32::from(number), after)
 }
@@ -25,36 +24,25 @@ fn add_above(
     value: u32,
     bound: &str,
     most: u32,
-) -> Result<(), AllocError>
-    ensures { OnOk result
-        (string_bytes text.new
-        ≡ string_bytes text.old ++ above_words field.now queue value bound.now most) }
+) -> Added
+    ensures { Adds result text.old text.new (above_words field.now queue value bound.now most) }
 {
     add_number(text, field, u32::from(queue))?;
     add_counted_twice(text, " is ", value, bound, most, "")
 }
 
 // A shift of a queue that is above that of the device.
-fn add_shift(
-    text: &mut String,
-    field: &str,
-    queue: u16,
-    asked: u8,
-    most: u8,
-) -> Result<(), AllocError>
-    ensures { OnOk result
-        (string_bytes text.new
-        ≡ string_bytes text.old
-        ++ above_words field.now queue asked (codes ", above the device's ") most) }
+fn add_shift(text: &mut String, field: &str, queue: u16, asked: u8, most: u8) -> Added
+    ensures { Adds result text.old text.new
+        (above_words field.now queue asked (codes ", above the device's ") most) }
 {
     let (asked, most) = (u32::from(asked), u32::from(most));
     add_above(text, field, queue, asked, ", above the device's ", most)
 }
 
 // What it finds of a queue.
-fn add_queue_check(text: &mut String, reason: &CheckReason) -> Result<(), AllocError>
-    ensures { OnOk result
-        (string_bytes text.new ≡ string_bytes text.old ++ queue_check_words reason.now) }
+fn add_queue_check(text: &mut String, reason: &CheckReason) -> Added
+    ensures { Adds result text.old text.new (queue_check_words reason.now) }
 {
     match *reason {
         CheckReason::SizeZero { queue } => add_field(text, "the size of q", queue, " is 0"),
@@ -93,9 +81,8 @@ fn add_queue_check(text: &mut String, reason: &CheckReason) -> Result<(), AllocE
 }
 
 /// Adds the sentence of what the check of an enable finds.
-pub fn add_check_reason(text: &mut String, reason: &CheckReason) -> Result<(), AllocError>
-    ensures { OnOk result
-        (string_bytes text.new ≡ string_bytes text.old ++ check_sentence reason.now) }
+pub fn add_check_reason(text: &mut String, reason: &CheckReason) -> Added
+    ensures { Adds result text.old text.new (check_sentence reason.now) }
 {
     match *reason {
         CheckReason::NamesMissing {

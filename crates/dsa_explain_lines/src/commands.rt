@@ -1,33 +1,32 @@
 //! Commands that are refused, and one that is not over.
 
-ghost use Rattle.std.specs.Prelude.{◌≡◌, ◌++◌, OnOk, string_bytes};
+ghost use Rattle.dsa_event_text.specs.Added.{Adds};
 ghost use Rattle.dsa_explain_lines.specs.Sentences.{busy_words, first_words, held_words, issue_sentence, named_words, poll_sentence, wait_sentence, wait_words, whose_words};
 
 use crate::checks::add_check_reason;
 use crate::words::{add_counted, add_phase};
-use dsa_event_text::{add_command, add_count, add_list, add_number};
-use dsa_explain::{IssueReason, ListedEntry, PollReason, WaitReason};
+use dsa_device::{IssueReason, PollReason};
+use dsa_event_text::{Added, add_command, add_count, add_list, add_number};
+use dsa_explain::{ListedEntry, WaitReason};
 use dsa_regs::Command;
-use std::alloc::AllocError;
 
-fn add_busy(
-    text: &mut String,
-    active: &Command,
-    awaited: u32,
-    first: &Option<ListedEntry>,
-) -> Result<(), AllocError>
-    ensures { OnOk result
-        (string_bytes text.new ≡ string_bytes text.old ++ busy_words active.now awaited first.now) }
+fn add_busy(text: &mut String, active: &Command, awaited: u64, first: &Option<ListedEntry>) -> Added
+    ensures { Adds result text.old text.new (busy_words active.now awaited first.now) }
 {
     add_command(text, active)?;
-    let before = " is active, and waits for ";
-    add_count(text, before, u64::from(awaited), "entry", "entries")?;
+    add_count(
+        text,
+        " is active, and waits for ",
+        awaited,
+        "entry",
+        "entries",
+    )?;
     add_first(text, first)
 }
 
 // The queue that is missing, where one is named.
-fn add_named(text: &mut String, queue: Option<u32>) -> Result<(), AllocError>
-    ensures { OnOk result (string_bytes text.new ≡ string_bytes text.old ++ named_words queue) }
+fn add_named(text: &mut String, queue: Option<u32>) -> Added
+    ensures { Adds result text.old text.new (named_words queue) }
 {
     match queue {
         Some(queue) => add_number(text, "the device has no q", queue),
@@ -36,8 +35,8 @@ fn add_named(text: &mut String, queue: Option<u32>) -> Result<(), AllocError>
 }
 
 // A queue, or the device.
-fn add_whose(text: &mut String, queue: Option<u32>) -> Result<(), AllocError>
-    ensures { OnOk result (string_bytes text.new ≡ string_bytes text.old ++ whose_words queue) }
+fn add_whose(text: &mut String, queue: Option<u32>) -> Added
+    ensures { Adds result text.old text.new (whose_words queue) }
 {
     match queue {
         Some(queue) => add_number(text, "q", queue),
@@ -51,9 +50,8 @@ pub fn add_issue_reason(
     text: &mut String,
     first: &Option<ListedEntry>,
     reason: &IssueReason,
-) -> Result<(), AllocError>
-    ensures { OnOk result
-        (string_bytes text.new ≡ string_bytes text.old ++ issue_sentence first.now reason.now) }
+) -> Added
+    ensures { Adds result text.old text.new (issue_sentence first.now reason.now) }
 {
     match reason {
         IssueReason::Busy { active, awaited } => add_busy(text, active, *awaited, first),
@@ -67,15 +65,15 @@ pub fn add_issue_reason(
 }
 
 /// Adds the name of an entry, and its list.
-pub fn add_held(text: &mut String, held: &ListedEntry) -> Result<(), AllocError>
-    ensures { OnOk result (string_bytes text.new ≡ string_bytes text.old ++ held_words held.now) }
+pub fn add_held(text: &mut String, held: &ListedEntry) -> Added
+    ensures { Adds result text.old text.new (held_words held.now) }
 {
     add_counted(text, "", held.entry.name, " in ")?;
     add_list(text, held.list)
 }
 
-fn add_first(text: &mut String, first: &Option<ListedEntry>) -> Result<(), AllocError>
-    ensures { OnOk result (string_bytes text.new ≡ string_bytes text.old ++ first_words first.now) }
+fn add_first(text: &mut String, first: &Option<ListedEntry>) -> Added
+    ensures { Adds result text.old text.new (first_words first.now) }
 {
     let Some(held) = first else {
         return Ok(());
@@ -85,31 +83,23 @@ fn add_first(text: &mut String, first: &Option<ListedEntry>) -> Result<(), Alloc
 }
 
 // How many entries a command waits for, and the first of them.
-fn add_wait(text: &mut String, awaited: u32, first: &Option<ListedEntry>) -> Result<(), AllocError>
-    ensures { OnOk result
-        (string_bytes text.new ≡ string_bytes text.old ++ wait_words awaited first.now) }
+fn add_wait(text: &mut String, awaited: u64, first: &Option<ListedEntry>) -> Added
+    ensures { Adds result text.old text.new (wait_words awaited first.now) }
 {
-    let before = "the command waits for ";
-    add_count(text, before, u64::from(awaited), "entry", "entries")?;
+    add_count(text, "the command waits for ", awaited, "entry", "entries")?;
     add_first(text, first)
 }
 
 /// Adds the sentence of what a command waits for that is answered active.
-pub fn add_wait_reason(text: &mut String, reason: &WaitReason) -> Result<(), AllocError>
-    ensures { OnOk result
-        (string_bytes text.new ≡ string_bytes text.old ++ wait_sentence reason.now) }
+pub fn add_wait_reason(text: &mut String, reason: &WaitReason) -> Added
+    ensures { Adds result text.old text.new (wait_sentence reason.now) }
 {
-    add_wait(text, reason.awaited, &Some(reason.first))
+    add_wait(text, u64::from(reason.awaited), &Some(reason.first))
 }
 
 /// Adds the sentence of why the active command is not over, with the first entry that it waits for.
-pub fn add_poll_reason(
-    text: &mut String,
-    first: &Option<ListedEntry>,
-    reason: &PollReason,
-) -> Result<(), AllocError>
-    ensures { OnOk result
-        (string_bytes text.new ≡ string_bytes text.old ++ poll_sentence first.now reason.now) }
+pub fn add_poll_reason(text: &mut String, first: &Option<ListedEntry>, reason: &PollReason) -> Added
+    ensures { Adds result text.old text.new (poll_sentence first.now reason.now) }
 {
     match *reason {
         PollReason::Nothing => text.push_str("no command is active"),

@@ -1,30 +1,25 @@
 //! Idle engines.
 
-ghost use Rattle.std.specs.Prelude.{◌≡◌, ◌<◌, ◌++◌, OnOk, cond, codes, flat_map, is_some, string_bytes};
+ghost use Rattle.std.specs.Prelude.{◌≡◌, ◌<◌, cond, codes, flat_map, is_some};
 ghost use Rattle.std.specs.List.{list_any};
 ghost use Rattle.dsa_base.specs.Numbers.{numbers_below};
+ghost use Rattle.dsa_event_text.specs.Added.{Adds};
 ghost use Rattle.dsa_book.specs.Work.{front_of};
-ghost use Rattle.dsa_explain.specs.Batch.{name_of_entry};
-ghost use Rattle.dsa_explain.specs.Dispatch.{queue_reason};
+ghost use Rattle.dsa_engines.specs.Batch.{name_of_entry};
+ghost use Rattle.dsa_engines.specs.Dispatch.{queue_reason};
 ghost use Rattle.dsa_explain_lines.specs.Parts.{dispatch_part, joint, queue_part};
 ghost use Rattle.dsa_explain_lines.specs.Sentences.{engine_sentence, front_words, queue_sentence};
 
 use crate::keeping::add_queue_keeping;
 use crate::words::{add_counted, add_counted_twice, add_no_engine, add_no_group, add_want};
 use dsa_device::Device;
-use dsa_event_text::{add_count, add_number};
-use dsa_explain::{EngineReason, QueueReason, engine_reason, queue_reason};
+use dsa_engines::{EngineReason, QueueReason};
+use dsa_event_text::{Added, add_count, add_number};
 use dsa_store::EntryStore;
-use std::alloc::AllocError;
 
 /// Adds the sentence of why no queue is looked at for the engine.
-pub fn add_engine_reason(
-    text: &mut String,
-    engine: u16,
-    reason: &EngineReason,
-) -> Result<(), AllocError>
-    ensures { OnOk result
-        (string_bytes text.new ≡ string_bytes text.old ++ engine_sentence engine reason.now) }
+pub fn add_engine_reason(text: &mut String, engine: u16, reason: &EngineReason) -> Added
+    ensures { Adds result text.old text.new (engine_sentence engine reason.now) }
 {
     match *reason {
         EngineReason::NoEngine => add_no_engine(text, engine),
@@ -33,22 +28,15 @@ pub fn add_engine_reason(
 }
 
 // The front of a queue, by its name, and what it is.
-fn add_front(text: &mut String, queue: u16, name: u32, after: &str) -> Result<(), AllocError>
-    ensures { OnOk result
-        (string_bytes text.new ≡ string_bytes text.old ++ front_words queue name after.now) }
+fn add_front(text: &mut String, queue: u16, name: u32, after: &str) -> Added
+    ensures { Adds result text.old text.new (front_words queue name after.now) }
 {
     add_counted_twice(text, "q", u32::from(queue), "'s front ", name, after)
 }
 
 /// Adds the sentence of why an engine does not take the front of the queue, which has this name.
-pub fn add_queue_reason(
-    text: &mut String,
-    queue: u16,
-    name: u32,
-    reason: &QueueReason,
-) -> Result<(), AllocError>
-    ensures { OnOk result
-        (string_bytes text.new ≡ string_bytes text.old ++ queue_sentence queue name reason.now) }
+pub fn add_queue_reason(text: &mut String, queue: u16, name: u32, reason: &QueueReason) -> Added
+    ensures { Adds result text.old text.new (queue_sentence queue name reason.now) }
 {
     match reason {
         QueueReason::Empty => add_counted(text, "q", u32::from(queue), " is empty"),
@@ -94,7 +82,7 @@ fn joint<S: EntryStore>(device: &Device<S>, engine: u16, queue: u16) -> &'static
     ensures { result.now ≡ joint device.now.state.work engine queue }
 {
     for other in 0..queue {
-        if queue_reason(device, engine, other).is_some() {
+        if device.queue_reason(engine, other).is_some() {
             return "; ";
         }
     }
@@ -102,18 +90,11 @@ fn joint<S: EntryStore>(device: &Device<S>, engine: u16, queue: u16) -> &'static
 }
 
 // The reason of the queue, where it has one.
-fn add_queue<S: EntryStore>(
-    text: &mut String,
-    device: &Device<S>,
-    engine: u16,
-    queue: u16,
-) -> Result<(), AllocError>
+fn add_queue<S: EntryStore>(text: &mut String, device: &Device<S>, engine: u16, queue: u16) -> Added
     requires { queue < device.now.caps.queues }
-    ensures { OnOk result
-        (string_bytes text.new
-        ≡ string_bytes text.old ++ queue_part device.now.state.work engine queue) }
+    ensures { Adds result text.old text.new (queue_part device.now.state.work engine queue) }
 {
-    let Some(reason) = queue_reason(device, engine, queue) else {
+    let Some(reason) = device.queue_reason(engine, queue) else {
         return Ok(());
     };
     text.push_str(joint(device, engine, queue))?;
@@ -122,15 +103,9 @@ fn add_queue<S: EntryStore>(
 }
 
 // The reason of each queue of the engine's group.
-fn add_queues<S: EntryStore>(
-    text: &mut String,
-    device: &Device<S>,
-    engine: u16,
-) -> Result<(), AllocError>
-    ensures { OnOk result
-        (string_bytes text.new
-        ≡ string_bytes text.old
-        ++ flat_map (queue_part device.now.state.work engine)
+fn add_queues<S: EntryStore>(text: &mut String, device: &Device<S>, engine: u16) -> Added
+    ensures { Adds result text.old text.new
+        (flat_map (queue_part device.now.state.work engine)
         (numbers_below device.now.caps.queues)) }
 {
     for queue in 0..device.caps().queues {
@@ -140,17 +115,11 @@ fn add_queues<S: EntryStore>(
 }
 
 /// Adds why the engine takes nothing: its own reason, or that of each queue of its group.
-pub fn add_dispatch_part<S: EntryStore>(
-    text: &mut String,
-    device: &Device<S>,
-    engine: u16,
-) -> Result<(), AllocError>
-    ensures { OnOk result
-        (string_bytes text.new
-        ≡ string_bytes text.old ++ dispatch_part device.now.state.work engine) }
+pub fn add_dispatch_part<S: EntryStore>(text: &mut String, device: &Device<S>, engine: u16) -> Added
+    ensures { Adds result text.old text.new (dispatch_part device.now.state.work engine) }
 {
     device.state_is_replay();
-    let Some(reason) = engine_reason(device, engine) else {
+    let Some(reason) = device.engine_reason(engine) else {
         return add_queues(text, device, engine);
     };
     text.push_str(": ")?;

@@ -1,16 +1,15 @@
 //! What engines do not do with members and with entries in progress.
 
-ghost use Rattle.std.specs.Prelude.{◌≡◌, ◌++◌, OnOk, string_bytes};
+ghost use Rattle.dsa_event_text.specs.Added.{Adds};
 ghost use Rattle.dsa_explain_lines.specs.Sentences.{closed_words, failed_words, fetch_sentence, fetched_words, finish_sentence, start_sentence};
 
 use crate::words::{add_counted, add_counted_twice, add_no_engine, add_no_group, add_want};
-use dsa_event_text::{add_count, add_list, add_number};
-use dsa_explain::{FetchReason, FinishReason, StartReason};
-use std::alloc::AllocError;
+use dsa_engines::{FetchReason, FinishReason, StartReason};
+use dsa_event_text::{Added, add_count, add_list, add_number};
 
 // That the rest of a batch is abandoned, where the batch is closed.
-fn add_closed(text: &mut String, closed: bool) -> Result<(), AllocError>
-    ensures { OnOk result (string_bytes text.new ≡ string_bytes text.old ++ closed_words closed) }
+fn add_closed(text: &mut String, closed: bool) -> Added
+    ensures { Adds result text.old text.new (closed_words closed) }
 {
     if closed {
         text.push_str(", and the rest is abandoned")
@@ -20,22 +19,16 @@ fn add_closed(text: &mut String, closed: bool) -> Result<(), AllocError>
 }
 
 // How many members of its batch the engine has fetched.
-fn add_fetched(text: &mut String, engine: u16, fetched: u32, count: u32) -> Result<(), AllocError>
-    ensures { OnOk result
-        (string_bytes text.new ≡ string_bytes text.old ++ fetched_words engine fetched count) }
+fn add_fetched(text: &mut String, engine: u16, fetched: u32, count: u32) -> Added
+    ensures { Adds result text.old text.new (fetched_words engine fetched count) }
 {
     add_counted_twice(text, "e", u32::from(engine), " has fetched ", fetched, "")?;
     add_count(text, " of ", u64::from(count), "member", "members")
 }
 
 /// Adds the sentence of why the engine fetches no member.
-pub fn add_fetch_reason(
-    text: &mut String,
-    engine: u16,
-    reason: &FetchReason,
-) -> Result<(), AllocError>
-    ensures { OnOk result
-        (string_bytes text.new ≡ string_bytes text.old ++ fetch_sentence engine reason.now) }
+pub fn add_fetch_reason(text: &mut String, engine: u16, reason: &FetchReason) -> Added
+    ensures { Adds result text.old text.new (fetch_sentence engine reason.now) }
 {
     match *reason {
         FetchReason::NoEngine => add_no_engine(text, engine),
@@ -52,8 +45,8 @@ pub fn add_fetch_reason(
 }
 
 // The member that failed.
-fn add_failed(text: &mut String, failed: Option<u32>) -> Result<(), AllocError>
-    ensures { OnOk result (string_bytes text.new ≡ string_bytes text.old ++ failed_words failed) }
+fn add_failed(text: &mut String, failed: Option<u32>) -> Added
+    ensures { Adds result text.old text.new (failed_words failed) }
 {
     match failed {
         Some(name) => add_number(text, "member ", name),
@@ -62,13 +55,8 @@ fn add_failed(text: &mut String, failed: Option<u32>) -> Result<(), AllocError>
 }
 
 /// Adds the sentence of why the engine starts no member.
-pub fn add_start_reason(
-    text: &mut String,
-    engine: u16,
-    reason: &StartReason,
-) -> Result<(), AllocError>
-    ensures { OnOk result
-        (string_bytes text.new ≡ string_bytes text.old ++ start_sentence engine reason.now) }
+pub fn add_start_reason(text: &mut String, engine: u16, reason: &StartReason) -> Added
+    ensures { Adds result text.old text.new (start_sentence engine reason.now) }
 {
     match reason {
         StartReason::Nothing => add_counted(text, "no member waits on e", u32::from(engine), ""),
@@ -95,13 +83,8 @@ pub fn add_start_reason(
 }
 
 /// Adds the sentence of why the engine does not end the entry.
-pub fn add_finish_reason(
-    text: &mut String,
-    engine: u16,
-    reason: &FinishReason,
-) -> Result<(), AllocError>
-    ensures { OnOk result
-        (string_bytes text.new ≡ string_bytes text.old ++ finish_sentence engine reason.now) }
+pub fn add_finish_reason(text: &mut String, engine: u16, reason: &FinishReason) -> Added
+    ensures { Adds result text.old text.new (finish_sentence engine reason.now) }
 {
     match *reason {
         FinishReason::NoEngine => add_no_engine(text, engine),

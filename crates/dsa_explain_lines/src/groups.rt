@@ -1,16 +1,15 @@
 //! What the check of Enable Device finds of groups.
 
-ghost use Rattle.std.specs.Prelude.{◌≡◌, ◌++◌, OnOk, string_bytes};
+ghost use Rattle.dsa_event_text.specs.Added.{Adds};
 ghost use Rattle.dsa_explain_lines.specs.Sentences.{bound_words, has_words, missing_words, name_words, outside_words, shared_words};
 
 use crate::words::{add_counted, add_group, add_two_groups};
-use dsa_event_text::{add_count, add_number};
-use dsa_explain::{Bound, Named};
-use std::alloc::AllocError;
+use dsa_event_text::{Added, add_count, add_number};
+use dsa_regs::{Bound, Named};
 
 // A queue or an engine.
-fn add_name(text: &mut String, named: Named) -> Result<(), AllocError>
-    ensures { OnOk result (string_bytes text.new ≡ string_bytes text.old ++ name_words named) }
+fn add_name(text: &mut String, named: Named) -> Added
+    ensures { Adds result text.old text.new (name_words named) }
 {
     match named {
         Named::Queue(queue) => add_number(text, "q", u32::from(queue)),
@@ -19,8 +18,8 @@ fn add_name(text: &mut String, named: Named) -> Result<(), AllocError>
 }
 
 // How many queues or engines the device has.
-fn add_has(text: &mut String, named: Named, count: u16) -> Result<(), AllocError>
-    ensures { OnOk result (string_bytes text.new ≡ string_bytes text.old ++ has_words named count) }
+fn add_has(text: &mut String, named: Named, count: u16) -> Added
+    ensures { Adds result text.old text.new (has_words named count) }
 {
     let (before, count) = (", and the device has ", u64::from(count));
     match named {
@@ -30,14 +29,8 @@ fn add_has(text: &mut String, named: Named, count: u16) -> Result<(), AllocError
 }
 
 /// Adds that the group names what the device does not have.
-pub fn add_missing(
-    text: &mut String,
-    group: usize,
-    named: Named,
-    count: u16,
-) -> Result<(), AllocError>
-    ensures { OnOk result
-        (string_bytes text.new ≡ string_bytes text.old ++ missing_words group named count) }
+pub fn add_missing(text: &mut String, group: usize, named: Named, count: u16) -> Added
+    ensures { Adds result text.old text.new (missing_words group named count) }
 {
     add_group(text, "group ", group, " names ")?;
     add_name(text, named)?;
@@ -45,22 +38,16 @@ pub fn add_missing(
 }
 
 /// Adds that two groups name it.
-pub fn add_shared(
-    text: &mut String,
-    named: Named,
-    first: usize,
-    second: usize,
-) -> Result<(), AllocError>
-    ensures { OnOk result
-        (string_bytes text.new ≡ string_bytes text.old ++ shared_words named first second) }
+pub fn add_shared(text: &mut String, named: Named, first: usize, second: usize) -> Added
+    ensures { Adds result text.old text.new (shared_words named first second) }
 {
     add_name(text, named)?;
     add_two_groups(text, " is in group ", first, " and in group ", second, "")
 }
 
 // The bound that is broken.
-fn add_bound(text: &mut String, bound: Bound) -> Result<(), AllocError>
-    ensures { OnOk result (string_bytes text.new ≡ string_bytes text.old ++ bound_words bound) }
+fn add_bound(text: &mut String, bound: Bound) -> Added
+    ensures { Adds result text.old text.new (bound_words bound) }
 {
     match bound {
         Bound::Reserved(reserved) => {
@@ -74,14 +61,8 @@ fn add_bound(text: &mut String, bound: Bound) -> Result<(), AllocError>
 }
 
 /// Adds how many read buffers the group may use, and the bound that this breaks.
-pub fn add_outside(
-    text: &mut String,
-    group: usize,
-    allowed: u16,
-    bound: Bound,
-) -> Result<(), AllocError>
-    ensures { OnOk result
-        (string_bytes text.new ≡ string_bytes text.old ++ outside_words group allowed bound) }
+pub fn add_outside(text: &mut String, group: usize, allowed: u16, bound: Bound) -> Added
+    ensures { Adds result text.old text.new (outside_words group allowed bound) }
 {
     add_group(text, "group ", group, "")?;
     let allowed = u64::from(allowed);

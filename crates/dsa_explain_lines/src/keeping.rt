@@ -1,26 +1,21 @@
 //! For which other groups read buffers are kept.
 
-ghost use Rattle.std.specs.Prelude.{◌≡◌, ◌<◌, ◌++◌, OnOk, flat_map, string_bytes};
+ghost use Rattle.std.specs.Prelude.{◌<◌, flat_map};
 ghost use Rattle.dsa_base.specs.Numbers.{numbers_below};
+ghost use Rattle.dsa_event_text.specs.Added.{Adds};
 ghost use Rattle.dsa_explain_lines.specs.Parts.{keeping_part, kept_part, queue_keeping, start_keeping};
 
 use crate::words::add_counted_twice;
 use dsa_device::Device;
-use dsa_explain::{QueueReason, StartReason, kept_for};
+use dsa_engines::{QueueReason, StartReason};
+use dsa_event_text::Added;
+use dsa_explain::kept_for;
 use dsa_store::EntryStore;
-use std::alloc::AllocError;
 
 // What is kept for another group, where anything is.
-fn add_kept<S: EntryStore>(
-    text: &mut String,
-    device: &Device<S>,
-    group: u16,
-    other: u16,
-) -> Result<(), AllocError>
+fn add_kept<S: EntryStore>(text: &mut String, device: &Device<S>, group: u16, other: u16) -> Added
     requires { other < device.now.caps.groups }
-    ensures { OnOk result
-        (string_bytes text.new
-        ≡ string_bytes text.old ++ kept_part device.now.state.work group other) }
+    ensures { Adds result text.old text.new (kept_part device.now.state.work group other) }
 {
     let kept = kept_for(device, other).unwrap_or(0);
     if other == group || kept == 0 {
@@ -37,14 +32,8 @@ fn add_kept<S: EntryStore>(
 }
 
 // For which groups but this one read buffers are kept.
-fn add_keeping<S: EntryStore>(
-    text: &mut String,
-    device: &Device<S>,
-    group: u16,
-) -> Result<(), AllocError>
-    ensures { OnOk result
-        (string_bytes text.new
-        ≡ string_bytes text.old ++ keeping_part device.now.state.work group) }
+fn add_keeping<S: EntryStore>(text: &mut String, device: &Device<S>, group: u16) -> Added
+    ensures { Adds result text.old text.new (keeping_part device.now.state.work group) }
 {
     device.state_is_replay();
     for other in 0..device.caps().groups {
@@ -59,10 +48,8 @@ pub fn add_queue_keeping<S: EntryStore>(
     text: &mut String,
     device: &Device<S>,
     reason: &QueueReason,
-) -> Result<(), AllocError>
-    ensures { OnOk result
-        (string_bytes text.new
-        ≡ string_bytes text.old ++ queue_keeping device.now.state.work reason.now) }
+) -> Added
+    ensures { Adds result text.old text.new (queue_keeping device.now.state.work reason.now) }
 {
     match reason {
         QueueReason::NoBuffers(want) => add_keeping(text, device, want.group),
@@ -75,10 +62,8 @@ pub fn add_start_keeping<S: EntryStore>(
     text: &mut String,
     device: &Device<S>,
     reason: &StartReason,
-) -> Result<(), AllocError>
-    ensures { OnOk result
-        (string_bytes text.new
-        ≡ string_bytes text.old ++ start_keeping device.now.state.work reason.now) }
+) -> Added
+    ensures { Adds result text.old text.new (start_keeping device.now.state.work reason.now) }
 {
     match reason {
         StartReason::NoBuffers(want) => add_keeping(text, device, want.group),

@@ -1,17 +1,16 @@
 //! The line of a step.
 
-ghost use Rattle.std.specs.Prelude.{◌≡◌, ◌++◌, OnOk, codes, decimal, string_bytes};
+ghost use Rattle.std.specs.Prelude.{◌≡◌, ◌++◌, codes, decimal};
+ghost use Rattle.dsa_event_text.specs.Added.{Adds};
 ghost use Rattle.dsa_explain_lines.specs.Lines.{asked_words, is_taken, line_with, shown};
 
 use dsa_book::{DispatchAnswer, Reply};
-use dsa_event_text::add_event;
+use dsa_event_text::{Added, add_event};
 use dsa_scenario::{Record, add_answer};
 use itoa::Buffer;
-use std::alloc::AllocError;
 
-fn add_place(text: &mut String, number: usize) -> Result<(), AllocError>
-    ensures { OnOk result
-        (string_bytes text.new ≡ string_bytes text.old ++ (decimal number ++ codes " ")) }
+fn add_place(text: &mut String, number: usize) -> Added
+    ensures { Adds result text.old text.new (decimal number ++ codes " ") }
 {
     let mut buffer = Buffer::new();
     text.push_str(buffer.format(number))?;
@@ -19,8 +18,8 @@ fn add_place(text: &mut String, number: usize) -> Result<(), AllocError>
 }
 
 /// Adds what a record answers, in words: the event, or `command` of a word that is none.
-pub fn add_asked(text: &mut String, entry: &Record) -> Result<(), AllocError>
-    ensures { OnOk result (string_bytes text.new ≡ string_bytes text.old ++ asked_words entry.now) }
+pub fn add_asked(text: &mut String, entry: &Record) -> Added
+    ensures { Adds result text.old text.new (asked_words entry.now) }
 {
     match entry {
         Record::Stepped(step) => add_event(text, &step.event),
@@ -41,10 +40,8 @@ fn is_taken(entry: &Record) -> bool
 }
 
 /// Adds this part where no entry was taken, and the line's end.
-pub fn add_shown(text: &mut String, entry: &Record, part: &str) -> Result<(), AllocError>
-    ensures { OnOk result
-        (string_bytes text.new
-        ≡ string_bytes text.old ++ (shown part.now entry.now ++ codes "\n")) }
+pub fn add_shown(text: &mut String, entry: &Record, part: &str) -> Added
+    ensures { Adds result text.old text.new (shown part.now entry.now ++ codes "\n") }
 {
     if !is_taken(entry) {
         text.push_str(part)?;
@@ -53,14 +50,8 @@ pub fn add_shown(text: &mut String, entry: &Record, part: &str) -> Result<(), Al
 }
 
 /// Adds the line of a step, with this part behind the answer where no entry was taken.
-pub fn add_line(
-    text: &mut String,
-    number: usize,
-    entry: &Record,
-    part: &str,
-) -> Result<(), AllocError>
-    ensures { OnOk result
-        (string_bytes text.new ≡ string_bytes text.old ++ line_with part.now number entry.now) }
+pub fn add_line(text: &mut String, number: usize, entry: &Record, part: &str) -> Added
+    ensures { Adds result text.old text.new (line_with part.now number entry.now) }
 {
     add_place(text, number)?;
     add_asked(text, entry)?;

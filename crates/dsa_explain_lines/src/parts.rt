@@ -1,12 +1,13 @@
 //! What a line tells behind an answer.
 
-ghost use Rattle.std.specs.Prelude.{◌≡◌, ◌++◌, OnOk, string_bytes};
-ghost use Rattle.dsa_explain.specs.Batch.{fetch_reason};
-ghost use Rattle.dsa_explain.specs.Finish.{finish_reason};
-ghost use Rattle.dsa_explain.specs.Submission.{submit_reason};
-ghost use Rattle.dsa_explain.specs.Command.{poll_reason};
+ghost use Rattle.dsa_event_text.specs.Added.{Adds};
+ghost use Rattle.dsa_book.specs.Machine.{intake_of};
+ghost use Rattle.dsa_queues.specs.Submission.{submit_reason};
+ghost use Rattle.dsa_admin.specs.Command.{poll_reason};
+ghost use Rattle.dsa_engines.specs.Batch.{fetch_reason};
+ghost use Rattle.dsa_engines.specs.Finish.{finish_reason};
 ghost use Rattle.dsa_explain.specs.Held.{awaited_entry};
-ghost use Rattle.dsa_explain.specs.Write.{clear_reason, write_group_reason, write_queue_reason};
+ghost use Rattle.dsa_queues.specs.Write.{clear_reason, write_group_reason, write_queue_reason};
 ghost use Rattle.dsa_explain_lines.specs.Sentences.{clear_sentence, fetch_sentence, finish_sentence, poll_sentence, submit_sentence, write_sentence};
 ghost use Rattle.dsa_explain_lines.specs.Parts.{event_part, issue_part, part_of, start_part, told_of};
 
@@ -18,15 +19,11 @@ use crate::removals::add_deed_part;
 use crate::submissions::add_submit_reason;
 use crate::writes::{add_clear_reason, add_write_reason};
 use dsa_book::{Event, Kind, Portal, Ticket};
-use dsa_device::Device;
-use dsa_event_text::add_count;
-use dsa_explain::{
-    WriteReason, awaited_entry, clear_reason, fetch_reason, finish_reason, issue_reason,
-    poll_reason, start_reason, submit_reason, write_group_reason, write_queue_reason,
-};
+use dsa_device::{Device, WriteReason};
+use dsa_event_text::{Added, add_count};
+use dsa_explain::awaited_entry;
 use dsa_regs::{Command, Fault};
 use dsa_store::EntryStore;
-use std::alloc::AllocError;
 
 fn add_submit_part<S: EntryStore>(
     text: &mut String,
@@ -34,46 +31,33 @@ fn add_submit_part<S: EntryStore>(
     queue: u16,
     portal: Portal,
     kind: Kind,
-) -> Result<(), AllocError>
-    ensures { OnOk result
-        (string_bytes text.new
-        ≡ string_bytes text.old
-        ++ told_of (submit_sentence queue)
-        (submit_reason device.now.state queue portal kind)) }
+) -> Added
+    ensures { Adds result text.old text.new
+        (told_of (submit_sentence queue)
+        (submit_reason (intake_of device.now.state) queue portal kind)) }
 {
-    let Some(reason) = submit_reason(device, queue, portal, kind) else {
+    let Some(reason) = device.why_submit(queue, portal, kind) else {
         return Ok(());
     };
     text.push_str(": ")?;
     add_submit_reason(text, queue, &reason)
 }
 
-fn add_fetch_part<S: EntryStore>(
-    text: &mut String,
-    device: &Device<S>,
-    engine: u16,
-) -> Result<(), AllocError>
-    ensures { OnOk result
-        (string_bytes text.new
-        ≡ string_bytes text.old
-        ++ told_of (fetch_sentence engine) (fetch_reason device.now.state.work engine)) }
+fn add_fetch_part<S: EntryStore>(text: &mut String, device: &Device<S>, engine: u16) -> Added
+    ensures { Adds result text.old text.new
+        (told_of (fetch_sentence engine) (fetch_reason device.now.state.work engine)) }
 {
-    let Some(reason) = fetch_reason(device, engine) else {
+    let Some(reason) = device.fetch_reason(engine) else {
         return Ok(());
     };
     text.push_str(": ")?;
     add_fetch_reason(text, engine, &reason)
 }
 
-fn add_start_part<S: EntryStore>(
-    text: &mut String,
-    device: &Device<S>,
-    engine: u16,
-) -> Result<(), AllocError>
-    ensures { OnOk result
-        (string_bytes text.new ≡ string_bytes text.old ++ start_part device.now.state.work engine) }
+fn add_start_part<S: EntryStore>(text: &mut String, device: &Device<S>, engine: u16) -> Added
+    ensures { Adds result text.old text.new (start_part device.now.state.work engine) }
 {
-    let Some(reason) = start_reason(device, engine) else {
+    let Some(reason) = device.start_reason(engine) else {
         return Ok(());
     };
     text.push_str(": ")?;
@@ -86,43 +70,32 @@ fn add_finish_part<S: EntryStore>(
     device: &Device<S>,
     engine: u16,
     ticket: Ticket,
-) -> Result<(), AllocError>
-    ensures { OnOk result
-        (string_bytes text.new
-        ≡ string_bytes text.old
-        ++ told_of (finish_sentence engine)
-        (finish_reason device.now.state.work engine ticket)) }
+) -> Added
+    ensures { Adds result text.old text.new
+        (told_of (finish_sentence engine) (finish_reason device.now.state.work engine ticket)) }
 {
-    let Some(reason) = finish_reason(device, engine, ticket) else {
+    let Some(reason) = device.finish_reason(engine, ticket) else {
         return Ok(());
     };
     text.push_str(": ")?;
     add_finish_reason(text, engine, &reason)
 }
 
-fn add_issue_part<S: EntryStore>(
-    text: &mut String,
-    device: &Device<S>,
-    command: Command,
-) -> Result<(), AllocError>
-    ensures { OnOk result
-        (string_bytes text.new ≡ string_bytes text.old ++ issue_part device.now.state command) }
+fn add_issue_part<S: EntryStore>(text: &mut String, device: &Device<S>, command: Command) -> Added
+    ensures { Adds result text.old text.new (issue_part device.now.state command) }
 {
-    let Some(reason) = issue_reason(device, command) else {
+    let Some(reason) = device.why_issue(command) else {
         return add_deed_part(text, device, &command);
     };
     text.push_str(": ")?;
     add_issue_reason(text, &awaited_entry(device), &reason)
 }
 
-fn add_poll_part<S: EntryStore>(text: &mut String, device: &Device<S>) -> Result<(), AllocError>
-    ensures { OnOk result
-        (string_bytes text.new
-        ≡ string_bytes text.old
-        ++ told_of (poll_sentence (awaited_entry device.now.state))
-        (poll_reason device.now.state)) }
+fn add_poll_part<S: EntryStore>(text: &mut String, device: &Device<S>) -> Added
+    ensures { Adds result text.old text.new
+        (told_of (poll_sentence (awaited_entry device.now.state)) (poll_reason device.now.state)) }
 {
-    let Some(reason) = poll_reason(device) else {
+    let Some(reason) = device.why_poll() else {
         return Ok(());
     };
     text.push_str(": ")?;
@@ -130,15 +103,8 @@ fn add_poll_part<S: EntryStore>(text: &mut String, device: &Device<S>) -> Result
 }
 
 // Why a configuration is refused, where it is.
-fn add_write_part(
-    text: &mut String,
-    one: &str,
-    many: &str,
-    reason: &Option<WriteReason>,
-) -> Result<(), AllocError>
-    ensures { OnOk result
-        (string_bytes text.new
-        ≡ string_bytes text.old ++ told_of (write_sentence one.now many.now) reason.now) }
+fn add_write_part(text: &mut String, one: &str, many: &str, reason: &Option<WriteReason>) -> Added
+    ensures { Adds result text.old text.new (told_of (write_sentence one.now many.now) reason.now) }
 {
     let Some(reason) = reason else {
         return Ok(());
@@ -147,13 +113,11 @@ fn add_write_part(
     add_write_reason(text, one, many, reason)
 }
 
-fn add_clear_part<S: EntryStore>(text: &mut String, device: &Device<S>) -> Result<(), AllocError>
-    ensures { OnOk result
-        (string_bytes text.new
-        ≡ string_bytes text.old
-        ++ told_of clear_sentence (clear_reason device.now.state.work.setup.noted)) }
+fn add_clear_part<S: EntryStore>(text: &mut String, device: &Device<S>) -> Added
+    ensures { Adds result text.old text.new
+        (told_of clear_sentence (clear_reason device.now.state.work.setup.noted)) }
 {
-    let Some(reason) = clear_reason(device) else {
+    let Some(reason) = device.why_clear() else {
         return Ok(());
     };
     text.push_str(": ")?;
@@ -162,13 +126,8 @@ fn add_clear_part<S: EntryStore>(text: &mut String, device: &Device<S>) -> Resul
 
 /// Adds why the device answers the event as it does. Nothing is added where it has no reason to
 /// turn it down.
-pub fn add_event_part<S: EntryStore>(
-    text: &mut String,
-    device: &Device<S>,
-    event: &Event,
-) -> Result<(), AllocError>
-    ensures { OnOk result
-        (string_bytes text.new ≡ string_bytes text.old ++ event_part device.now.state event.now) }
+pub fn add_event_part<S: EntryStore>(text: &mut String, device: &Device<S>, event: &Event) -> Added
+    ensures { Adds result text.old text.new (event_part device.now.state event.now) }
 {
     match *event {
         Event::Submit {
@@ -184,11 +143,11 @@ pub fn add_event_part<S: EntryStore>(
         Event::Issue { command } => add_issue_part(text, device, command),
         Event::Poll => add_poll_part(text, device),
         Event::WriteQueue { queue, config } => {
-            let reason = write_queue_reason(device, queue, &config);
+            let reason = device.why_write_queue(queue, &config);
             add_write_part(text, "queue", "queues", &reason)
         }
         Event::WriteGroup { group, .. } => {
-            let reason = write_group_reason(device, group);
+            let reason = device.why_write_group(group);
             add_write_part(text, "group", "groups", &reason)
         }
         Event::ClearError => add_clear_part(text, device),
@@ -200,9 +159,8 @@ pub fn add_part<S: EntryStore>(
     text: &mut String,
     device: &Device<S>,
     asked: &Result<Event, Fault>,
-) -> Result<(), AllocError>
-    ensures { OnOk result
-        (string_bytes text.new ≡ string_bytes text.old ++ part_of device.now asked.now) }
+) -> Added
+    ensures { Adds result text.old text.new (part_of device.now asked.now) }
 {
     let Ok(event) = asked else {
         return text.push_str(

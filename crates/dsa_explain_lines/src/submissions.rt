@@ -1,14 +1,14 @@
 //! Submissions that are turned away.
 
-ghost use Rattle.std.specs.Prelude.{◌≡◌, ◌++◌, OnOk, string_bytes};
+ghost use Rattle.std.specs.Prelude.{◌≡◌};
+ghost use Rattle.dsa_event_text.specs.Added.{Adds};
 ghost use Rattle.dsa_explain_lines.specs.Sentences.{at_limit_words, enabled_words, mode_words, submit_sentence};
 
 use crate::words::{add_counted, add_phase};
 use dsa_book::Portal;
-use dsa_event_text::{add_count, add_number, portal_label};
-use dsa_explain::SubmitReason;
+use dsa_device::SubmitReason;
+use dsa_event_text::{Added, add_count, add_number, portal_label};
 use dsa_regs::Phase;
-use std::alloc::AllocError;
 
 fn mode_words(dedicated: bool) -> &'static str
     ensures { result.now ≡ mode_words dedicated }
@@ -21,14 +21,8 @@ fn mode_words(dedicated: bool) -> &'static str
 }
 
 // The phases of the device and of the queue, where it has the queue.
-fn add_phases(
-    text: &mut String,
-    queue: u16,
-    device: Phase,
-    phase: Option<Phase>,
-) -> Result<(), AllocError>
-    ensures { OnOk result
-        (string_bytes text.new ≡ string_bytes text.old ++ enabled_words queue device phase) }
+fn add_phases(text: &mut String, queue: u16, device: Phase, phase: Option<Phase>) -> Added
+    ensures { Adds result text.old text.new (enabled_words queue device phase) }
 {
     let Some(phase) = phase else {
         return add_number(text, "the device has no q", u32::from(queue));
@@ -39,16 +33,8 @@ fn add_phases(
 }
 
 // What the queue holds, and the limit of the portal.
-fn add_limit(
-    text: &mut String,
-    queue: u16,
-    occupancy: u16,
-    limit: u16,
-    portal: Portal,
-) -> Result<(), AllocError>
-    ensures { OnOk result
-        (string_bytes text.new
-        ≡ string_bytes text.old ++ at_limit_words queue occupancy limit portal) }
+fn add_limit(text: &mut String, queue: u16, occupancy: u32, limit: u16, portal: Portal) -> Added
+    ensures { Adds result text.old text.new (at_limit_words queue occupancy limit portal) }
 {
     add_number(text, "q", u32::from(queue))?;
     add_count(text, " holds ", u64::from(occupancy), "entry", "entries")?;
@@ -58,13 +44,8 @@ fn add_limit(
 }
 
 /// Adds the sentence of why a submission to the queue is turned away.
-pub fn add_submit_reason(
-    text: &mut String,
-    queue: u16,
-    reason: &SubmitReason,
-) -> Result<(), AllocError>
-    ensures { OnOk result
-        (string_bytes text.new ≡ string_bytes text.old ++ submit_sentence queue reason.now) }
+pub fn add_submit_reason(text: &mut String, queue: u16, reason: &SubmitReason) -> Added
+    ensures { Adds result text.old text.new (submit_sentence queue reason.now) }
 {
     match *reason {
         SubmitReason::NotEnabled {

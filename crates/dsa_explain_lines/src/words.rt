@@ -1,37 +1,25 @@
 //! What the sentences of several reasons have.
 
-ghost use Rattle.std.specs.Prelude.{◌≡◌, ◌++◌, OnOk, string_bytes};
+ghost use Rattle.std.specs.Prelude.{◌≡◌};
+ghost use Rattle.dsa_event_text.specs.Added.{Adds};
 ghost use Rattle.dsa_explain_lines.specs.Sentences.{counted, counted_twice, no_engine, no_group, phase_word, phased, want_words};
 
-use dsa_event_text::{add_count, add_number};
-use dsa_explain::BufferWant;
+use dsa_buffers::BufferWant;
+use dsa_event_text::{Added, add_count, add_number};
 use dsa_regs::Phase;
 use itoa::Buffer;
-use std::alloc::AllocError;
 
 /// Adds a text with a number in it.
-pub fn add_counted(
-    text: &mut String,
-    before: &str,
-    number: u32,
-    after: &str,
-) -> Result<(), AllocError>
-    ensures { OnOk result
-        (string_bytes text.new ≡ string_bytes text.old ++ counted before.now number after.now) }
+pub fn add_counted(text: &mut String, before: &str, number: u32, after: &str) -> Added
+    ensures { Adds result text.old text.new (counted before.now number after.now) }
 {
     add_number(text, before, number)?;
     text.push_str(after)
 }
 
 /// Adds a text with the number of a group in it.
-pub fn add_group(
-    text: &mut String,
-    before: &str,
-    group: usize,
-    after: &str,
-) -> Result<(), AllocError>
-    ensures { OnOk result (string_bytes text.new
-        ≡ string_bytes text.old ++ counted before.now group after.now) }
+pub fn add_group(text: &mut String, before: &str, group: usize, after: &str) -> Added
+    ensures { Adds result text.old text.new (counted before.now group after.now) }
 {
     let mut buffer = Buffer::new();
     text.push_str(before)?;
@@ -47,11 +35,9 @@ pub fn add_two_groups(
     between: &str,
     second: usize,
     after: &str,
-) -> Result<(), AllocError>
-    ensures { OnOk result
-        (string_bytes text.new
-        ≡ string_bytes text.old
-        ++ counted_twice before.now first between.now second after.now) }
+) -> Added
+    ensures { Adds result text.old text.new
+        (counted_twice before.now first between.now second after.now) }
 {
     let mut buffer = Buffer::new();
     add_group(text, before, first, between)?;
@@ -67,11 +53,9 @@ pub fn add_counted_twice(
     between: &str,
     second: u32,
     after: &str,
-) -> Result<(), AllocError>
-    ensures { OnOk result
-        (string_bytes text.new
-        ≡ string_bytes text.old
-        ++ counted_twice before.now first between.now second after.now) }
+) -> Added
+    ensures { Adds result text.old text.new
+        (counted_twice before.now first between.now second after.now) }
 {
     add_number(text, before, first)?;
     add_number(text, between, second)?;
@@ -89,31 +73,30 @@ fn phase_word(phase: Phase) -> &'static str
 }
 
 /// Adds a text and a phase.
-pub fn add_phase(text: &mut String, before: &str, phase: Phase) -> Result<(), AllocError>
-    ensures { OnOk result
-        (string_bytes text.new ≡ string_bytes text.old ++ phased before.now phase) }
+pub fn add_phase(text: &mut String, before: &str, phase: Phase) -> Added
+    ensures { Adds result text.old text.new (phased before.now phase) }
 {
     text.push_str(before)?;
     text.push_str(phase_word(phase))
 }
 
 /// Says that there is no such engine.
-pub fn add_no_engine(text: &mut String, engine: u16) -> Result<(), AllocError>
-    ensures { OnOk result (string_bytes text.new ≡ string_bytes text.old ++ no_engine engine) }
+pub fn add_no_engine(text: &mut String, engine: u16) -> Added
+    ensures { Adds result text.old text.new (no_engine engine) }
 {
     add_number(text, "the device has no e", u32::from(engine))
 }
 
 /// Says that the engine is of no group.
-pub fn add_no_group(text: &mut String, engine: u16) -> Result<(), AllocError>
-    ensures { OnOk result (string_bytes text.new ≡ string_bytes text.old ++ no_group engine) }
+pub fn add_no_group(text: &mut String, engine: u16) -> Added
+    ensures { Adds result text.old text.new (no_group engine) }
 {
     add_counted(text, "e", u32::from(engine), " is of no group")
 }
 
 /// Adds the numbers by which read buffers do not fit a group.
-pub fn add_want(text: &mut String, want: &BufferWant) -> Result<(), AllocError>
-    ensures { OnOk result (string_bytes text.new ≡ string_bytes text.old ++ want_words want.now) }
+pub fn add_want(text: &mut String, want: &BufferWant) -> Added
+    ensures { Adds result text.old text.new (want_words want.now) }
 {
     let (asked, kept) = (u64::from(want.asked), u64::from(want.kept));
     let (used, allowed) = (u32::from(want.used), u32::from(want.allowed));

@@ -1,31 +1,23 @@
 //! Configurations that are not written, and errors that are not cleared.
 
-ghost use Rattle.std.specs.Prelude.{◌≡◌, ◌++◌, OnOk, string_bytes};
+ghost use Rattle.dsa_event_text.specs.Added.{Adds};
 ghost use Rattle.dsa_explain_lines.specs.Sentences.{clear_sentence, device_words, write_sentence};
 
 use crate::words::{add_counted, add_phase};
-use dsa_event_text::add_count;
-use dsa_explain::{ClearReason, WriteReason};
+use dsa_device::{ClearReason, WriteReason};
+use dsa_event_text::{Added, add_count};
 use dsa_regs::Phase;
-use std::alloc::AllocError;
 
-fn add_device(text: &mut String, phase: Phase) -> Result<(), AllocError>
-    ensures { OnOk result (string_bytes text.new ≡ string_bytes text.old ++ device_words phase) }
+fn add_device(text: &mut String, phase: Phase) -> Added
+    ensures { Adds result text.old text.new (device_words phase) }
 {
     add_phase(text, "the device is ", phase)
 }
 
 /// Adds the sentence of why a configuration is refused: of a queue or of a group, named as `one`
 /// and as `many`.
-pub fn add_write_reason(
-    text: &mut String,
-    one: &str,
-    many: &str,
-    reason: &WriteReason,
-) -> Result<(), AllocError>
-    ensures { OnOk result
-        (string_bytes text.new
-        ≡ string_bytes text.old ++ write_sentence one.now many.now reason.now) }
+pub fn add_write_reason(text: &mut String, one: &str, many: &str, reason: &WriteReason) -> Added
+    ensures { Adds result text.old text.new (write_sentence one.now many.now reason.now) }
 {
     match *reason {
         WriteReason::BadIndex { count } => {
@@ -41,9 +33,8 @@ pub fn add_write_reason(
 }
 
 /// Adds the sentence of why no error is cleared.
-pub fn add_clear_reason(text: &mut String, reason: &ClearReason) -> Result<(), AllocError>
-    ensures { OnOk result
-        (string_bytes text.new ≡ string_bytes text.old ++ clear_sentence reason.now) }
+pub fn add_clear_reason(text: &mut String, reason: &ClearReason) -> Added
+    ensures { Adds result text.old text.new (clear_sentence reason.now) }
 {
     match reason {
         ClearReason::NothingNoted => text.push_str("no error is noted"),

@@ -1,5 +1,6 @@
 pub mod Waits
 pub mod After
+pub mod Alike
 pub mod Wants
 pub mod Histories
 pub mod Checks

@@ -2,7 +2,8 @@
 use Rattle.std.specs.Prelude.{ℕ, None, false}
 use Rattle.dsa_regs.specs.declared.layout.ListUse.{ListUse}
 use Rattle.dsa_worked.specs.Setup.{no_op}
-use Rattle.dsa_explain.specs.declared.{buffers.BufferWant.{BufferWant}, held.ListedEntry.{ListedEntry}}
+use Rattle.dsa_buffers.specs.declared.want.BufferWant.{BufferWant}
+use Rattle.dsa_explain.specs.declared.held.ListedEntry.{ListedEntry}
 
 -- a want with another number in each field
 abbrev pub some_want : BufferWant

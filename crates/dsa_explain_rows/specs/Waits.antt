@@ -5,7 +5,7 @@ use Rattle.dsa_book.specs.declared.event.Step.{Step}
 use Rattle.dsa_store.specs.Content.{HeldEntry}
 use Rattle.dsa_worked.specs.Setup.{state_after}
 use Rattle.dsa_explain.specs.declared.{awaiting.WaitReason.{WaitReason}, held.ListedEntry.{ListedEntry}}
-use Rattle.dsa_explain.specs.Command.{wait_of_active, wait_reason}
+use Rattle.dsa_explain.specs.Wait.{wait_of_active, wait_reason}
 
 -- the cell and the entry of an entry, in this list
 abbrev pub held_as : ListUse → HeldEntry → ListedEntry

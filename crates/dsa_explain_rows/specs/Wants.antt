@@ -1,5 +1,5 @@
 -- Wants of read buffers in worked histories.
-use Rattle.dsa_explain.specs.declared.buffers.BufferWant.{BufferWant}
+use Rattle.dsa_buffers.specs.declared.want.BufferWant.{BufferWant}
 
 -- a second Move in the first group, where the second uses 12 (`buffers_of_a_batch`)
 abbrev pub want_of_the_first : BufferWant
@@ -28,15 +28,3 @@ want_of_a_member = record want_of_the_first { group = 1; used = 8; allowed = 12 
 -- a Move as a member in the first group, which may use four and uses them (`fence_before_buffers`)
 abbrev pub few_wanted : BufferWant
 few_wanted = record want_of_the_first { allowed = 4; in_use = 4; kept = 8 }
-
--- one buffer more in a group that uses three of five, where the device has four
-abbrev pub small_want : BufferWant
-small_want = record {
-  group = 0;
-  asked = 1;
-  used = 3;
-  allowed = 5;
-  buffers = 4;
-  in_use = 3;
-  kept = 0;
-}

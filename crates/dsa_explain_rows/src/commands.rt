@@ -14,11 +14,12 @@ ghost use Rattle.dsa_worked.specs.Setup.{configured, masked, no_op, row, held_en
 ghost use Rattle.dsa_worked.specs.Commands.{abort_of_a_pasid, drain_of_a_batch, drain_of_a_pasid, drain_of_a_queue, old_ticket_is_gone, refused_enables_and_writes};
 ghost use Rattle.dsa_worked.specs.Members.{abort_of_all_lists};
 ghost use Rattle.dsa_worked.specs.Phases.{commands_of_a_queue_that_is_off, commands_while_off};
-ghost use Rattle.dsa_explain.specs.declared.command.IssueReason.TheVariants.{Busy, Check, NoQueue, WrongPhase};
-ghost use Rattle.dsa_explain.specs.declared.command.PollReason.TheVariants.{Nothing, Waits};
+ghost use Rattle.dsa_admin.specs.declared.reasons.IssueReason.TheVariants.{Busy, Check, NoQueue, WrongPhase};
+ghost use Rattle.dsa_admin.specs.declared.reasons.PollReason.TheVariants.{Nothing, Waits};
 ghost use Rattle.dsa_regs.specs.declared.reasons.CheckReason.TheVariants as check;
 ghost use Rattle.dsa_regs.specs.declared.reasons.Named.TheVariants as named;
-ghost use Rattle.dsa_explain.specs.Command.{fault_of_command, is_waiting, issue_by, issue_reason, poll_answer_by, poll_reason};
+ghost use Rattle.dsa_admin.specs.Command.{fault_of_command, issue_by, issue_reason, poll_answer_by, poll_reason};
+ghost use Rattle.dsa_explain.specs.Wait.{is_waiting};
 ghost use Rattle.dsa_explain.specs.Held.{abort_row, aborted_entries, awaited_entry, losses};
 ghost use Rattle.dsa_explain_rows.specs.After.{told_after, told_from_first};
 ghost use Rattle.dsa_explain_rows.specs.Waits.{active_after, held_as, name_and_list, wait_after};

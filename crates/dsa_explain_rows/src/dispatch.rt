@@ -8,10 +8,11 @@ ghost use Rattle.dsa_worked.specs.Commands.{drain_of_a_batch};
 ghost use Rattle.dsa_worked.specs.Drains.{drains_of_two_pasids, fenced_drains_beside_a_drain};
 ghost use Rattle.dsa_worked.specs.Members.{batches_beside_a_batch};
 ghost use Rattle.dsa_worked.specs.States.{seen_after};
-ghost use Rattle.dsa_explain.specs.declared.dispatch.EngineReason.TheVariants.{NoEngine, NoGroup};
-ghost use Rattle.dsa_explain.specs.declared.dispatch.QueueReason.TheVariants.{Empty, NoSlot, NoBuffers, OtherBatch, OtherDrain};
-ghost use Rattle.dsa_explain.specs.Dispatch.{all_have_reasons, batch_name, drain_name, engine_reason, is_offered, queue_reason};
-ghost use Rattle.dsa_explain.specs.Buffers.{buffers_in_use, is_met, kept_for, kept_from, lacking, want_of};
+ghost use Rattle.dsa_engines.specs.declared.reasons.EngineReason.TheVariants.{NoEngine, NoGroup};
+ghost use Rattle.dsa_engines.specs.declared.reasons.QueueReason.TheVariants.{Empty, NoSlot, NoBuffers, OtherBatch, OtherDrain};
+ghost use Rattle.dsa_engines.specs.Dispatch.{all_have_reasons, batch_name, drain_name, engine_reason, is_offered, queue_reason};
+ghost use Rattle.dsa_buffers.specs.Buffers.{buffers_in_use, kept_for, kept_from, want_of};
+ghost use Rattle.dsa_engines.specs.Engines.{buffers_at};
 ghost use Rattle.dsa_explain_rows.specs.After.{of_three_groups, of_two_queues};
 ghost use Rattle.dsa_explain_rows.specs.Wants.{want_of_the_first, want_of_the_second, kept_want};
 
@@ -131,48 +132,28 @@ pub fn queues_with_reasons()
 
 /// What is kept for a group is what it has reserved and does not use.
 pub fn kept()
-    ensures each { seen_after (λ w. map (kept_for w) (0 ∷ 1 ∷ 2 ∷ [])) [] ≡ Some (4 ∷ 8 ∷ 0 ∷ []) }
-    ensures part { seen_after (λ w. map (kept_for w) (0 ∷ 1 ∷ [])) (take 10 buffers_of_a_batch)
+    ensures each { seen_after (λ w. map (kept_for (buffers_at w)) (0 ∷ 1 ∷ 2 ∷ [])) []
+        ≡ Some (4 ∷ 8 ∷ 0 ∷ []) }
+    ensures part { seen_after (λ w. map (kept_for (buffers_at w)) (0 ∷ 1 ∷ []))
+        (take 10 buffers_of_a_batch)
         ≡ Some (0 ∷ 4 ∷ []) }
-    ensures none { seen_after (λ w. map (kept_for w) (0 ∷ 1 ∷ [])) (take 14 buffers_of_a_batch)
+    ensures none { seen_after (λ w. map (kept_for (buffers_at w)) (0 ∷ 1 ∷ []))
+        (take 14 buffers_of_a_batch)
         ≡ Some (0 ∷ 0 ∷ []) }
-    ensures from { seen_after (λ w. map (kept_from w) (0 ∷ 1 ∷ 2 ∷ [])) []
+    ensures from { seen_after (λ w. map (kept_from (buffers_at w)) (0 ∷ 1 ∷ 2 ∷ [])) []
         ≡ Some (8 ∷ 4 ∷ 12 ∷ []) }
-    ensures from_part { seen_after (λ w. map (kept_from w) (0 ∷ 1 ∷ []))
+    ensures from_part { seen_after (λ w. map (kept_from (buffers_at w)) (0 ∷ 1 ∷ []))
         (take 10 buffers_of_a_batch)
         ≡ Some (4 ∷ 0 ∷ []) }
-    ensures from_three { of_three_groups (λ w. map (kept_from w) (0 ∷ 1 ∷ 2 ∷ [])) []
+    ensures from_three { of_three_groups (λ w. map (kept_from (buffers_at w)) (0 ∷ 1 ∷ 2 ∷ [])) []
         ≡ Some (8 ∷ 8 ∷ 8 ∷ []) }
-    ensures in_use { seen_after buffers_in_use (take 10 buffers_of_a_batch) ≡ Some 12 }
-    ensures none_in_use { seen_after buffers_in_use [] ≡ Some 0 }
+    ensures in_use { seen_after (λ w. buffers_in_use (buffers_at w)) (take 10 buffers_of_a_batch)
+        ≡ Some 12 }
+    ensures none_in_use { seen_after (λ w. buffers_in_use (buffers_at w)) [] ≡ Some 0 }
 {}
 
-/// The numbers of a want, which is met where they fit.
+/// The numbers of a want.
 pub fn wants()
-    ensures want { seen_after (λ w. want_of w 1 3) (take 10 buffers_of_a_batch)
+    ensures want { seen_after (λ w. want_of (buffers_at w) 1 3) (take 10 buffers_of_a_batch)
         ≡ Some want_of_the_second }
-    ensures met { is_met want_of_the_second 8 ≡ true }
-    ensures one_more { is_met (record want_of_the_second { asked = 5 }) 8 ≡ false }
-    ensures not_allowed { is_met want_of_the_first 4 ≡ false }
-    ensures kept { is_met kept_want 4 ≡ false }
-    ensures not_kept { is_met (record kept_want { kept = 0 }) 4 ≡ true }
-    ensures own_reserve { is_met (record want_of_the_second { kept = 1 }) 8 ≡ false }
-    ensures above_the_reserve { is_met
-        (record want_of_the_second { asked = 0; used = 0; in_use = 8 }) 9
-        ≡ false }
-    ensures reserve_alone { is_met (record want_of_the_second { asked = 0; used = 0; in_use = 8 }) 8
-        ≡ true }
-    ensures allowed { is_met (record want_of_the_second { allowed = 6; in_use = 4 }) 0 ≡ false }
-{}
-
-/// The numbers are told where so many do not fit.
-pub fn what_is_lacking()
-    ensures fits { seen_after (λ w. lacking w 1 4) (take 10 buffers_of_a_batch) ≡ Some None }
-    ensures one_more { seen_after (λ w. lacking w 1 5) (take 10 buffers_of_a_batch)
-        ≡ Some (Some (record want_of_the_second { asked = 5 })) }
-    ensures kept { of_three_groups (λ w. lacking w 1 4) (take 8 buffers_reserved_for_another)
-        ≡ Some (Some kept_want) }
-    ensures not_from_itself { of_three_groups (λ w. lacking w 2 4)
-        (take 8 buffers_reserved_for_another)
-        ≡ Some None }
 {}

@@ -17,11 +17,11 @@ ghost use Rattle.dsa_worked.specs.Drains.{drain_behind_a_batch, drains_of_two_pa
 ghost use Rattle.dsa_worked.specs.Members.{batch_is_not_ready, failure_before_buffers, failures_beside_a_batch, fence_before_buffers, fence_waits_behind_a_failure, three_are_abandoned};
 ghost use Rattle.dsa_worked.specs.States.{seen_after};
 ghost use Rattle.dsa_worked.specs.Submissions.{forged_tickets};
-ghost use Rattle.dsa_explain.specs.declared.batch.FetchReason.TheVariants as fetch;
-ghost use Rattle.dsa_explain.specs.declared.batch.StartReason.TheVariants.{Failed, Fence, NoBuffers, NoGroup, Nothing};
-ghost use Rattle.dsa_explain.specs.declared.finish.FinishReason.TheVariants.{DrainWaits, Elsewhere, MembersLeft, NoEngine, NoEntry, NotStarted, OtherName, StillToFetch};
-ghost use Rattle.dsa_explain.specs.Batch.{failed_member, fetch_answer, fetch_reason, fetch_reason_of, is_failed_in, name_of_entry, start_answer, start_reason, unfetched, unstarted};
-ghost use Rattle.dsa_explain.specs.Finish.{finish_answer, finish_reason, unended};
+ghost use Rattle.dsa_engines.specs.declared.reasons.FetchReason.TheVariants as fetch;
+ghost use Rattle.dsa_engines.specs.declared.reasons.StartReason.TheVariants.{Failed, Fence, NoBuffers, NoGroup, Nothing};
+ghost use Rattle.dsa_engines.specs.declared.reasons.FinishReason.TheVariants.{DrainWaits, Elsewhere, MembersLeft, NoEngine, NoEntry, NotStarted, OtherName, StillToFetch};
+ghost use Rattle.dsa_engines.specs.Batch.{failed_member, fetch_answer, fetch_reason, fetch_reason_of, is_failed_in, name_of_entry, start_answer, start_reason, unfetched, unstarted};
+ghost use Rattle.dsa_engines.specs.Finish.{finish_answer, finish_reason, unended};
 ghost use Rattle.dsa_explain_rows.specs.After.{of_one_group, with_few_buffers};
 ghost use Rattle.dsa_explain_rows.specs.Histories.{batch_of_the_second_group, drain_behind_two};
 ghost use Rattle.dsa_explain_rows.specs.Wants.{want_of_a_member, few_wanted};

@@ -29,7 +29,7 @@ ghost use Rattle.dsa_worked.specs.Phases.{disable_with_a_queue_that_is_off};
 ghost use Rattle.dsa_worked.specs.Submissions.{dedicated_queue_overflows, forged_tickets, two_portals};
 ghost use Rattle.dsa_regs.specs.declared.Deed.TheVariants.{Disable, Enable};
 ghost use Rattle.dsa_regs.specs.declared.reasons.CheckReason.TheVariants as check;
-ghost use Rattle.dsa_explain.specs.Command.{found_by_check};
+ghost use Rattle.dsa_admin.specs.Command.{found_by_check};
 ghost use Rattle.dsa_explain_lines.specs.Parts.{dispatch_part, issue_part, joint, keeping_part, losses_part, part_of, queue_part, room_part, start_part, told_of, word_part};
 ghost use Rattle.dsa_explain_rows.specs.After.{of_three_groups, of_two_queues, told_after, told_from_first, with_few_buffers};
 ghost use Rattle.dsa_explain_rows.specs.Histories.{batch_of_the_second_group};

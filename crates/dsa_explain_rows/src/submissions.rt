@@ -15,12 +15,12 @@ ghost use Rattle.dsa_worked.specs.Setup.{no_op, ticket};
 ghost use Rattle.dsa_worked.specs.Submissions.{two_portals, dedicated_queue_overflows, causes_of_retry};
 ghost use Rattle.dsa_worked.specs.Commands.{disable_and_enable_again, abort_and_reset};
 ghost use Rattle.dsa_worked.specs.Phases.{disable_of_one_queue_of_two, disable_with_a_queue_that_is_off};
-ghost use Rattle.dsa_explain.specs.declared.submission.SubmitReason.TheVariants.{NotEnabled, WrongKind, AtLimit};
-ghost use Rattle.dsa_explain.specs.declared.write.WriteReason.TheVariants.{BadIndex, LockedQueue, LockedSize, LockedGroup};
-ghost use Rattle.dsa_explain.specs.declared.write.ClearReason.TheVariants.{NothingNoted};
-ghost use Rattle.dsa_explain.specs.Reasons.{with_reasons};
-ghost use Rattle.dsa_explain.specs.Submission.{submit_reason, submit_by, cause_of};
-ghost use Rattle.dsa_explain.specs.Write.{write_queue_reason, write_group_reason, write_by, clear_reason, fault_of_write};
+ghost use Rattle.dsa_queues.specs.declared.reasons.SubmitReason.TheVariants.{NotEnabled, WrongKind, AtLimit};
+ghost use Rattle.dsa_queues.specs.declared.reasons.WriteReason.TheVariants.{BadIndex, LockedQueue, LockedSize, LockedGroup};
+ghost use Rattle.dsa_queues.specs.declared.reasons.ClearReason.TheVariants.{NothingNoted};
+ghost use Rattle.dsa_queues.specs.Reasons.{with_reasons};
+ghost use Rattle.dsa_queues.specs.Submission.{submit_reason, submit_by, cause_of};
+ghost use Rattle.dsa_queues.specs.Write.{write_queue_reason, write_group_reason, write_by, clear_reason, fault_of_write};
 ghost use Rattle.dsa_explain_rows.specs.After.{told_after};
 
 /// A reason comes in place of what its row leads to, and the conditions stay; as many as there are
@@ -38,37 +38,38 @@ pub fn rows_with_reasons()
 
 /// A queue is not on: the phases of the device and of the queue, where there is one.
 pub fn queues_that_are_not_on()
-    ensures off { told_after (λ s. submit_reason s 0 Limited (Enqcmd 5)) (take 3 causes_of_retry)
+    ensures off { told_after (λ s. submit_reason (intake_of s) 0 Limited (Enqcmd 5))
+        (take 3 causes_of_retry)
         ≡ Some (Some (NotEnabled On (Some Off))) }
-    ensures not_there { told_after (λ s. submit_reason s 9 Limited (Enqcmd 5)) []
+    ensures not_there { told_after (λ s. submit_reason (intake_of s) 9 Limited (Enqcmd 5)) []
         ≡ Some (Some (NotEnabled On None)) }
-    ensures stopping { told_after (λ s. submit_reason s 1 Limited Movdir64b)
+    ensures stopping { told_after (λ s. submit_reason (intake_of s) 1 Limited Movdir64b)
         (take 3 disable_of_one_queue_of_two)
         ≡ Some (Some (NotEnabled On (Some Stopping))) }
-    ensures device_stopping { told_after (λ s. submit_reason s 0 Unlimited (Enqcmd 5))
+    ensures device_stopping { told_after (λ s. submit_reason (intake_of s) 0 Unlimited (Enqcmd 5))
         (take 2 disable_and_enable_again)
         ≡ Some (Some (NotEnabled Stopping (Some Stopping))) }
-    ensures device_off { told_after (λ s. submit_reason s 0 Limited (Enqcmd 5))
+    ensures device_off { told_after (λ s. submit_reason (intake_of s) 0 Limited (Enqcmd 5))
         (take 5 abort_and_reset)
         ≡ Some (Some (NotEnabled Off (Some Off))) }
-    ensures device_on_again { told_after (λ s. submit_reason s 0 Limited (Enqcmd 5))
+    ensures device_on_again { told_after (λ s. submit_reason (intake_of s) 0 Limited (Enqcmd 5))
         (take 7 disable_and_enable_again)
         ≡ Some (Some (NotEnabled On (Some Off))) }
-    ensures before_the_kind { told_after (λ s. submit_reason s 1 Limited (Enqcmd 5))
+    ensures before_the_kind { told_after (λ s. submit_reason (intake_of s) 1 Limited (Enqcmd 5))
         (take 3 disable_of_one_queue_of_two)
         ≡ Some (Some (NotEnabled On (Some Stopping))) }
 {}
 
 /// The instruction is not the one for the mode of the queue, whether or not it is full.
 pub fn wrong_kinds()
-    ensures dedicated { told_after (λ s. submit_reason s 1 Limited (Enqcmd 5)) []
+    ensures dedicated { told_after (λ s. submit_reason (intake_of s) 1 Limited (Enqcmd 5)) []
         ≡ Some (Some (WrongKind true)) }
-    ensures shared { told_after (λ s. submit_reason s 0 Limited Movdir64b) []
+    ensures shared { told_after (λ s. submit_reason (intake_of s) 0 Limited Movdir64b) []
         ≡ Some (Some (WrongKind false)) }
-    ensures dedicated_and_full { told_after (λ s. submit_reason s 1 Limited (Enqcmd 5))
+    ensures dedicated_and_full { told_after (λ s. submit_reason (intake_of s) 1 Limited (Enqcmd 5))
         (take 2 dedicated_queue_overflows)
         ≡ Some (Some (WrongKind true)) }
-    ensures shared_and_full { told_after (λ s. submit_reason s 0 Unlimited Movdir64b)
+    ensures shared_and_full { told_after (λ s. submit_reason (intake_of s) 0 Unlimited Movdir64b)
         (take 5 two_portals)
         ≡ Some (Some (WrongKind false)) }
 {}
@@ -76,30 +77,36 @@ pub fn wrong_kinds()
 /// A queue is at the limit of the portal: its threshold on the limited one, its size on the
 /// unlimited one, and its size on both where it is dedicated.
 pub fn limits()
-    ensures threshold { told_after (λ s. submit_reason s 0 Limited (Enqcmd 5)) (take 2 two_portals)
+    ensures threshold { told_after (λ s. submit_reason (intake_of s) 0 Limited (Enqcmd 5))
+        (take 2 two_portals)
         ≡ Some (Some (AtLimit 2 2 Limited)) }
-    ensures above_it { told_after (λ s. submit_reason s 0 Limited (Enqcmd 5)) (take 5 two_portals)
+    ensures above_it { told_after (λ s. submit_reason (intake_of s) 0 Limited (Enqcmd 5))
+        (take 5 two_portals)
         ≡ Some (Some (AtLimit 4 2 Limited)) }
-    ensures size { told_after (λ s. submit_reason s 0 Unlimited (Enqcmd 5)) (take 5 two_portals)
+    ensures size { told_after (λ s. submit_reason (intake_of s) 0 Unlimited (Enqcmd 5))
+        (take 5 two_portals)
         ≡ Some (Some (AtLimit 4 4 Unlimited)) }
-    ensures dedicated { told_after (λ s. submit_reason s 1 Limited Movdir64b)
+    ensures dedicated { told_after (λ s. submit_reason (intake_of s) 1 Limited Movdir64b)
         (take 2 dedicated_queue_overflows)
         ≡ Some (Some (AtLimit 2 2 Limited)) }
-    ensures one_taken { told_after (λ s. submit_reason s 0 Limited (Enqcmd 5)) (take 7 two_portals)
+    ensures one_taken { told_after (λ s. submit_reason (intake_of s) 0 Limited (Enqcmd 5))
+        (take 7 two_portals)
         ≡ Some (Some (AtLimit 3 2 Limited)) }
 {}
 
 /// Nothing is against what is accepted.
 pub fn accepted()
-    ensures shared { told_after (λ s. submit_reason s 0 Limited (Enqcmd 5)) [] ≡ Some None }
-    ensures dedicated { told_after (λ s. submit_reason s 1 Unlimited Movdir64b) [] ≡ Some None }
-    ensures below_the_threshold { told_after (λ s. submit_reason s 0 Limited (Enqcmd 5))
+    ensures shared { told_after (λ s. submit_reason (intake_of s) 0 Limited (Enqcmd 5))
+        [] ≡ Some None }
+    ensures dedicated { told_after (λ s. submit_reason (intake_of s) 1 Unlimited Movdir64b)
+        [] ≡ Some None }
+    ensures below_the_threshold { told_after (λ s. submit_reason (intake_of s) 0 Limited (Enqcmd 5))
         (take 1 two_portals)
         ≡ Some None }
-    ensures below_the_size { told_after (λ s. submit_reason s 0 Unlimited (Enqcmd 5))
+    ensures below_the_size { told_after (λ s. submit_reason (intake_of s) 0 Unlimited (Enqcmd 5))
         (take 2 two_portals)
         ≡ Some None }
-    ensures one_taken { told_after (λ s. submit_reason s 0 Unlimited (Enqcmd 5))
+    ensures one_taken { told_after (λ s. submit_reason (intake_of s) 0 Unlimited (Enqcmd 5))
         (take 7 two_portals)
         ≡ Some None }
 {}

@@ -4,16 +4,16 @@ ghost use Rattle.std.specs.Prelude.{◌≡◌, [], ◌∷◌, Some, None, true, 
 ghost use Rattle.dsa_worked.specs.Setup.{batch, held_entry, step_of_a_group_write, ticket};
 ghost use Rattle.dsa_book.specs.declared.answer.WriteAnswer.TheVariants.{Written};
 ghost use Rattle.dsa_worked.specs.Uneven.{many_engines, many_groups, many_queues, of_these, last_of_many_engines, last_of_many_groups, engine_beyond_the_last, seen_there};
-ghost use Rattle.dsa_explain.specs.declared.dispatch.EngineReason.TheVariants.{NoEngine, NoGroup};
-ghost use Rattle.dsa_explain.specs.declared.dispatch.QueueReason.TheVariants.{NoSlot};
-ghost use Rattle.dsa_explain.specs.declared.batch.FetchReason.TheVariants as fetch;
-ghost use Rattle.dsa_explain.specs.declared.finish.FinishReason.TheVariants as finish;
-ghost use Rattle.dsa_explain.specs.Dispatch.{all_have_reasons, engine_reason, is_offered, queue_reason};
-ghost use Rattle.dsa_explain.specs.Batch.{fetch_reason, fetch_reason_of};
-ghost use Rattle.dsa_explain.specs.Finish.{finish_reason};
-ghost use Rattle.dsa_explain.specs.Buffers.{buffers_in_use, is_met, kept_from};
+ghost use Rattle.dsa_engines.specs.declared.reasons.EngineReason.TheVariants.{NoEngine, NoGroup};
+ghost use Rattle.dsa_engines.specs.declared.reasons.QueueReason.TheVariants.{NoSlot};
+ghost use Rattle.dsa_engines.specs.declared.reasons.FetchReason.TheVariants as fetch;
+ghost use Rattle.dsa_engines.specs.declared.reasons.FinishReason.TheVariants as finish;
+ghost use Rattle.dsa_engines.specs.Dispatch.{all_have_reasons, engine_reason, is_offered, queue_reason};
+ghost use Rattle.dsa_engines.specs.Batch.{fetch_reason, fetch_reason_of};
+ghost use Rattle.dsa_engines.specs.Finish.{finish_reason};
+ghost use Rattle.dsa_buffers.specs.Buffers.{buffers_in_use, kept_from};
+ghost use Rattle.dsa_engines.specs.Engines.{buffers_at};
 ghost use Rattle.dsa_explain_lines.specs.Parts.{dispatch_part, keeping_part};
-ghost use Rattle.dsa_explain_rows.specs.Wants.{small_want};
 
 /// Of many queues one engine is there, and of many engines the last five are in a group.
 pub fn engines()
@@ -52,17 +52,16 @@ pub fn queues()
 
 /// All groups are counted: what the last of them uses, and what is kept for it.
 pub fn groups()
-    ensures in_use { seen_there (λ s. buffers_in_use s.work) many_groups last_of_many_groups
+    ensures in_use { seen_there (λ s. buffers_in_use (buffers_at s.work)) many_groups
+        last_of_many_groups
         ≡ Some 1 }
-    ensures kept { seen_there (λ s. kept_from s.work 0) many_groups
+    ensures kept { seen_there (λ s. kept_from (buffers_at s.work) 0) many_groups
         (step_of_a_group_write 7 (record (of_these 4 2) { reserved = 3 }) Written ∷ [])
         ≡ Some 3 }
 {}
 
-/// A want is met up to what is allowed, and up to what the device has, and no further.
-pub fn small_wants()
-    ensures met { is_met small_want 0 ≡ true }
-    ensures one_buffer_less { is_met (record small_want { buffers = 3 }) 0 ≡ false }
+/// A batch of which a member failed and all were fetched is not closed.
+pub fn failed_batches()
     ensures failed_but_not_closed { fetch_reason_of
         (record { batch = 0; count = 3; fetched = 3; failed = true; closed = false })
         (Some (held_entry 0 0 None (batch 3) 0 true))

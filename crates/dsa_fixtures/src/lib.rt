@@ -1,7 +1,8 @@
-//! Small devices and descriptors that tests, an example and measurements share.
+//! Small devices, descriptors and streams that tests, an example and measurements share.
 //!
 //! The device at the head of the crate has two queues, a shared and a dedicated one, each with its
-//! group and its engine. The one in [`single`] has one shared queue.
+//! group and its engine. The one in [`single`] has one shared queue. [`streams`] has a reader and a
+//! writer that count.
 #![tactic(auto)]
 
 ghost use Rattle.std.specs.Prelude.{◌≡◌};
@@ -12,6 +13,7 @@ use dsa_desc::{Descriptor, QueueLimits};
 use dsa_regs::{Caps, Command, GroupConfig, QueueConfig, QueueMask};
 
 pub mod single;
+pub mod streams;
 
 pub const CAPS: Caps = Caps {
     queues: 2,

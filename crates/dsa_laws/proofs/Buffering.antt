@@ -217,16 +217,16 @@ over-on setup _ scope n = n
 bounded-change : (s s' : State) → IsWellFormed s.work.setup.caps s → Change s s' → Bounded s'.work.setup s'.work.content
 bounded-change s s' w change = by_setting After s s' change
     (λ e. settle _ e.caps e.groups (λ n. ap is_off (sym e.device) ∙ n))
-    (λ c configs on. enabled-bounded s.work.setup _ s'.work.content c.check
+    (λ c configs on. enabled-bounded s.work.setup _ s'.work.content c.granted.check
     (λ k. ap (λ t. chain t.work.content k) (sym c.after)
-    ∙ none-held s.work.setup.caps s.work w.setup w.entries c.off k))
+    ∙ none-held s.work.setup.caps s.work w.setup w.entries c.granted.phases k))
     (λ c. settle _ refl refl (λ n. n))
     (λ c. let stop = stopped-keeps c.deed c.scope Stopping s.work.setup in
     settle _ stop.caps stop.groups (waiting-on s.work.setup c.deed c.scope c.may))
     (λ c. let stop = stopped-keeps c.deed c.scope Off s.work.setup in
     settle _ stop.caps stop.groups (over-on s.work.setup c.deed c.scope))
-    (λ c configs on. absurd cc)
-    (λ c. settle _ refl refl (λ n. n))
+    (λ left configs on. absurd cc)
+    (λ scope left. settle _ refl refl (λ n. n))
     (λ c. settle _ refl refl (λ n. n))
     (λ c configs on. not-both (is_off s.work.setup.device) c.off on)
     (configs-kept s.work.setup.caps s s' w change)

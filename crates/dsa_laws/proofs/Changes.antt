@@ -1,32 +1,35 @@
 -- Every step that may come is one of the changes, and its reply tells how many entries that adds.
-use Rattle.std.proofs.Common.{◌≡◌, ℕ, Bool, true, false, cond, Option, Some, None, refl, ap}
-use Rattle.std.{proofs.lemmas.Bool.{cond_both, and_parts, not-false}, specs.Prelude.{find, is_some, is_none, count_by}}
+use Rattle.std.proofs.Common.{◌≡◌, ◌⊎◌, inl, inr, ◌∷◌, [], ℕ, Bool, true, false, cond, Option, Some, None, refl, ap, sym}
+use Rattle.std.{proofs.lemmas.Bool.{cond_both, not-false, not-true, leb-true}, specs.Prelude.{find, is_some, is_none, count_by}}
 use Rattle.dsa_desc.specs.declared.{Descriptor.{Descriptor}, Outcome.{Outcome}}
 use Rattle.dsa_laws.proofs.Effects.{came, gone}
 use Rattle.dsa_laws.specs.Change.{Change, same, is_noted, is_accepted, is_taken, is_fetched, is_started}
 use Rattle.dsa_laws.specs.Change.{is_abandoned, is_ended, is_device_enabled, is_queue_enabled, is_waiting, is_over}
-use Rattle.dsa_laws.specs.Change.{is_aborted, is_device_reset, is_queues_reset, is_queue_written, is_group_written}
+use Rattle.dsa_laws.specs.Change.{is_aborted, is_reset, is_cleared, is_queue_written, is_group_written}
+use Rattle.dsa_laws.specs.Refusals.{IsRefused}
+use Rattle.dsa_laws.specs.Change.{IsGranted, IsBegun, set_up}
+use Rattle.dsa_base.specs.Rows.{first_row_or}
 use Rattle.dsa_base.proofs.Tables.{not-both, table1, table2, table3}
-use Rattle.dsa_regs.specs.{Command.{number_of_command, scope_of, deed_of}, Caps.{cell_count}}
+use Rattle.dsa_regs.specs.{Command.{scope_of, deed_of}, Caps.{cell_count}}
 use Rattle.dsa_regs.specs.declared.{Scope.{TheVariants.{Device, Queue}, Scope}, GroupConfig.{GroupConfig}}
-use Rattle.dsa_regs.specs.declared.{QueueConfig.{QueueConfig}, Deed.{Deed, TheVariants.{Enable, Abort, Reset}}}
+use Rattle.dsa_regs.specs.declared.{QueueConfig.{QueueConfig}, Deed.{Deed, TheVariants.{Enable, Disable, Drain, Abort, Reset}}}
 use Rattle.dsa_regs.specs.declared.{Fault.{TheVariants.{BadQueue, WrongState, Busy}, Fault}, Command.{Command}}
 use Rattle.dsa_store.specs.{declared.entry.Cell.{Cell}, Content.{HeldEntry, is_free}}
 use Rattle.dsa_book.specs.{Choice.{from_queue, Choice, chosen_cell, choice_of, may_enter, in_cell}, Commands.{check_of}}
 use Rattle.dsa_book.specs.Commands.{poll_of, deed_done_of, write_group, wait_of, refusal_or, is_at_end, command_done_of}
 use Rattle.dsa_book.specs.{Commands.{issue, clear_of, is_bad_queues, write_queue, may_come}, State.{Setup, is_ticket}}
-use Rattle.dsa_book.specs.{State.{State, Work, Intake}, Submit.{next_noted, after_refusal, submit, after_accept}}
+use Rattle.dsa_book.specs.{State.{State, Work, Intake}, Submit.{after_refusal, submit, after_accept}}
 use Rattle.dsa_book.specs.Work.{finish_of, is_all_fetched, qualifies, fetch_of, batch_on, first_waiting, dispatch_of}
 use Rattle.dsa_book.specs.Work.{may_leave, front_of, dispatch, start_of, after_fetch, running_on, note_at, fetch_for}
 use Rattle.dsa_book.specs.Machine.{next, with_intake, with_work, intake_of, may_choose, state_with_setup, reply_of}
-use Rattle.dsa_book.specs.Machine.{is_stored}
+use Rattle.dsa_book.specs.{Machine.{is_stored}, Commands.{work_with_setup}}
 use Rattle.dsa_book.specs.declared.note.{ActiveCommand.{ActiveCommand}, BatchNote.{BatchNote}}
 use Rattle.dsa_book.specs.declared.answer.{SubmitAnswer.{SubmitAnswer}, FetchAnswer.{FetchAnswer}, Ticket.{Ticket}}
 use Rattle.dsa_book.specs.declared.answer.{PollAnswer.{PollAnswer}, IssueAnswer.{TheVariants.{Refused}, IssueAnswer}}
 use Rattle.dsa_book.specs.declared.answer.Reply.TheVariants.{Fetch, Dispatch, Start, Submit, Issue, Write, Poll}
 use Rattle.dsa_book.specs.declared.answer.{Reply.{TheVariants.{Clear, Finish}, Reply}, FinishAnswer.{FinishAnswer}}
 use Rattle.dsa_book.specs.declared.answer.WriteAnswer.{TheVariants.{Refused}, WriteAnswer}
-use Rattle.dsa_book.specs.declared.answer.{NotedError.{NotedError}, StartAnswer.{StartAnswer}, Cause.{Cause}}
+use Rattle.dsa_book.specs.declared.answer.{NotedError.{NotedError}, StartAnswer.{StartAnswer}, Cause.{Cause, TheVariants.{NotEnabled, WrongKind, AtLimit}}}
 use Rattle.dsa_book.specs.declared.event.Kind.{TheVariants.{Movdir64b, Enqcmd}, Kind}
 use Rattle.dsa_book.specs.declared.event.Event.TheVariants.{Fetch, WriteQueue, Submit, Finish, WriteGroup, Poll, Start}
 use Rattle.dsa_book.specs.declared.event.{Event.{TheVariants.{Issue, ClearError, Dispatch}, Event}, Portal.{Portal}}
@@ -71,18 +74,28 @@ makes c stored e = record {
   kept = λ u. not-both _ stored u;
 }
 
+-- a table of three rows, where each row comes with its test, and with what failed before it
+rows3 : {X : Type 0} (P : X → Type 0) (a b c : Bool) (x y z last : X) → (a ≡ true → P x)
+    → (a ≡ false → b ≡ true → P y) → (a ≡ false → b ≡ false → c ≡ true → P z)
+    → (a ≡ false → b ≡ false → c ≡ false → P last)
+    → P (first_row_or ((a, x) ∷ (b, y) ∷ (c, z) ∷ []) last)
+rows3 P true b c x y z last p q r t = p refl
+rows3 P false true c x y z last p q r t = q refl refl
+rows3 P false false true x y z last p q r t = r refl refl refl
+rows3 P false false false x y z last p q r t = t refl refl refl
+
 -- ---- submit
 
 -- a layer's answer, and what it leaves put back in the state
 abbrev Submits : State → SubmitAnswer × Intake → Type 0
 Submits s r = Tells s (Submit r.0, with_intake s r.1)
 
-turned_away-tells : (s : State) (q : ℕ) (kind : Kind) (cause : Cause)
-    → Submits s (after_refusal (intake_of s) q kind cause)
-turned_away-tells s q (Enqcmd pasid) cause = stays refl
-turned_away-tells s q Movdir64b cause =
+refused-tells : (s : State) (q : ℕ) (portal : Portal) (kind : Kind) (cause : Cause)
+    → IsRefused s.work q portal kind cause → Submits s (after_refusal (intake_of s) q kind cause)
+refused-tells s q portal (Enqcmd pasid) cause refused = stays refl
+refused-tells s q portal Movdir64b cause refused =
     makes (is_noted
-    (record { noted = Some (next_noted s.work.setup.noted q cause); after = refl })) refl refl
+    (record { queue = q; portal = portal; cause = cause; refused = refused; after = refl })) refl refl
 
 -- the cell that a reply tells of is free
 free_of : (s : State) (choice : Choice) (cell : Cell) → may_enter s.work.setup s.work.content choice ≡ true
@@ -94,11 +107,11 @@ submit-tells : (s : State) (q : ℕ) (portal : Portal) (kind : Kind) (d : Descri
     → let r = submit (intake_of s) q portal kind d (chosen_cell choice) in choice_of (Submit r.0) ≡ choice → Submits s r
 submit-tells s q portal kind d choice may =
     let cell = chosen_cell choice in
-    table3 (λ r. choice_of (Submit r.0) ≡ choice → Submits s r) _ _ _
+    rows3 (λ r. choice_of (Submit r.0) ≡ choice → Submits s r) _ _ _
     _ _ _ (after_accept (intake_of s) q kind d cell)
-    (λ x told. turned_away-tells s q kind _)
-    (λ x told. turned_away-tells s q kind _)
-    (λ x told. turned_away-tells s q kind _)
+    (λ x told. refused-tells s q portal kind NotEnabled (not-true _ x))
+    (λ x y told. refused-tells s q portal kind WrongKind (not-false _ x, not-true _ y))
+    (λ x y z told. refused-tells s q portal kind AtLimit (not-false _ x, not-false _ y, leb-true _ _ z))
     (λ x y z told.
     makes (is_accepted (record {
       queue = q;
@@ -166,11 +179,11 @@ start_of-tells : (s : State) (e : ℕ) (o : Option HeldEntry) → first_waiting 
     → let r = start_of s.work e o in Tells s (Start r.0, with_work s r.1)
 start_of-tells s e None n = stays refl
 start_of-tells s e (Some pair) n =
-    table3 (λ (r : StartAnswer × Work). Tells s (Start r.0, with_work s r.1)) _ _ _ _ _ _ _
+    rows3 (λ (r : StartAnswer × Work). Tells s (Start r.0, with_work s r.1)) _ _ _ _ _ _ _
     (λ u. stays refl)
-    (λ u. makes (is_abandoned
-    (record { engine = e; pair = pair; is_first = n; failed = u; after = refl })) refl refl)
-    (λ u. stays refl)
+    (λ u v. makes (is_abandoned
+    (record { engine = e; pair = pair; is_first = n; first_of_all = u; failed = v; after = refl })) refl refl)
+    (λ u v t. stays refl)
     (λ u v t. makes (is_started (record {
       engine = e;
       pair = pair;
@@ -202,66 +215,83 @@ finish_of-tells s e t outcome (Some pair) n =
 
 -- ---- issue and poll
 
+-- no command is active
+none-of : {X : Type 0} (o : Option X) → is_some o ≡ false → o ≡ None
+none-of None e = refl
+none-of (Some x) e = absurd cc
+
+-- with a set-up, where no command is active
+after-idle : (s : State) (setup : Setup) → s.active ≡ None
+    → set_up s None setup ≡ record s { work = work_with_setup s.work setup }
+after-idle s setup idle = ap (λ active. set_up s active setup) (sym idle)
+
 -- the answer to a command, and the state after it
 abbrev Issues : State → IssueAnswer × State → Type 0
 Issues s r = Tells s (Issue r.0, r.1)
 
-waits-tells : (s : State) (command : Command) → may_come s.work.setup (deed_of command) (scope_of command) ≡ true
-    → Issues s (wait_of s command)
-waits-tells s command may =
-    let deed = deed_of command in
-    let scope = scope_of command in
+-- what a command is granted by
+granted-by : (s : State) (deed : Deed) (scope : Scope) → s.active ≡ None → is_bad_queues s.work.setup scope ≡ false
+    → may_come s.work.setup deed scope ≡ true → check_of s.work.setup deed scope ≡ None → IsGranted s deed scope
+granted-by s deed scope idle queues phases check =
+    record { idle = idle; queues = queues; phases = phases; check = check }
+
+waits-tells : (s : State) (command : Command) → (deed_of command ≡ Disable) ⊎ (deed_of command ≡ Drain)
+    → IsGranted s (deed_of command) (scope_of command) → Issues s (wait_of s command)
+waits-tells s command deed granted =
     let active : ActiveCommand = record { command = command; mark = s.work.setup.next_name } in
+    let begun : IsBegun s active = record { deed = deed; granted = granted; mark = refl } in
     cond_both (is_at_end active s.work.content) _ _ (Issues s)
     (λ u. makes (is_over
-    (record { deed = deed; scope = scope; mark = active.mark; over = u; active = s.active; after = refl })) refl refl)
+    (record { active = active; begun = inl begun; over = u; after = after-idle s _ granted.idle })) refl refl)
     (λ u. makes (is_waiting
-    (record { deed = deed; scope = scope; may = may; active = Some active; after = refl })) refl refl)
+    (record { active = active; begun = begun; held = u; after = refl })) refl refl)
 
-done-tells : (s : State) (command : Command) (deed : Deed) (scope : Scope) → may_come s.work.setup deed scope ≡ true
-    → check_of s.work.setup deed scope ≡ None → Issues s (wait_of s command)
-    → Issues s (deed_done_of s command deed scope)
-done-tells s command Enable Device may check w = makes (is_device_enabled
-    (record { off = may; check = check; after = refl })) refl refl
-done-tells s command Enable (Queue queue) may check w =
+done-tells : (s : State) (command : Command) (deed : Deed) (scope : Scope) → deed_of command ≡ deed
+    → scope_of command ≡ scope → IsGranted s deed scope → Issues s (deed_done_of s command deed scope)
+done-tells s command Enable Device is at granted =
+    makes (is_device_enabled (record { granted = granted; after = after-idle s _ granted.idle })) refl refl
+done-tells s command Enable (Queue queue) is at granted =
     makes (is_queue_enabled
-    (record { queue = queue; on = (and_parts _ _ may).0; check = check; after = refl })) refl refl
-done-tells s command Enable scope may check w = stays refl
-done-tells s command Abort scope may check w =
-    makes (is_aborted (record { number = number_of_command command; scope = scope; after = refl })) refl refl
-done-tells s command Reset Device may check w =
-    makes (is_device_reset (record { number = number_of_command command; after = refl })) refl refl
-done-tells s command Reset scope may check w =
-    makes (is_queues_reset (record { number = number_of_command command; scope = scope; after = refl })) refl refl
-done-tells s command _ scope may check w = w
+    (record { queue = queue; granted = granted; after = after-idle s _ granted.idle })) refl refl
+done-tells s command Enable scope is at granted = stays refl
+done-tells s command Abort scope is at granted =
+    makes (is_aborted (record { command = command; deed = is; granted = rw at granted; after = rw at refl })) refl
+    (rw at refl)
+done-tells s command Reset scope is at granted =
+    makes (is_reset (record { command = command; deed = is; granted = rw at granted; after = rw at refl })) refl
+    (rw at refl)
+done-tells s command Disable scope is at granted = waits-tells s command (inl is) (rw (is, at) granted)
+done-tells s command Drain scope is at granted = waits-tells s command (inr is) (rw (is, at) granted)
 
 refused_or-tells : (s : State) (command : Command) (o : Option Fault)
-    → may_come s.work.setup (deed_of command) (scope_of command) ≡ true
     → check_of s.work.setup (deed_of command) (scope_of command) ≡ o
+    → (check_of s.work.setup (deed_of command) (scope_of command) ≡ None
+    → IsGranted s (deed_of command) (scope_of command))
     → Issues s (refusal_or s o (command_done_of s command))
-refused_or-tells s command None may check = done-tells s command (deed_of command) (scope_of command) may check
-    (waits-tells s command may)
-refused_or-tells s command (Some fault) may check = stays refl
+refused_or-tells s command None check granted =
+    done-tells s command (deed_of command) (scope_of command) refl refl (granted check)
+refused_or-tells s command (Some fault) check granted = stays refl
 
 issue-tells : (s : State) (command : Command) → Issues s (issue s command)
 issue-tells s command =
-    table3 (Issues s) (is_some s.active) (is_bad_queues s.work.setup (scope_of command)) _
+    let deed = deed_of command in
+    let scope = scope_of command in
+    table3 (Issues s) (is_some s.active) (is_bad_queues s.work.setup scope) _
     (Refused Busy, s) (Refused BadQueue, s) (Refused WrongState, s) _
     (λ u. stays refl)
     (λ u. stays refl)
     (λ u. stays refl)
-    (λ u v t. refused_or-tells s command (check_of s.work.setup (deed_of command) (scope_of command))
-    (not-false _ t) refl)
+    (λ u v t. refused_or-tells s command (check_of s.work.setup deed scope) refl
+    (granted-by s deed scope (none-of s.active u) v (not-false _ t)))
 
-poll_of-tells : (s : State) (o : Option ActiveCommand) → let r = poll_of s o in Tells s (Poll r.0, r.1)
-poll_of-tells s None = stays refl
-poll_of-tells s (Some active) =
-    let deed = deed_of active.command in
-    let scope = scope_of active.command in
+poll_of-tells : (s : State) (o : Option ActiveCommand) → s.active ≡ o
+    → let r = poll_of s o in Tells s (Poll r.0, r.1)
+poll_of-tells s None is = stays refl
+poll_of-tells s (Some active) is =
     cond_both (is_at_end active s.work.content) _ _
     (λ (r : PollAnswer × State). Tells s (Poll r.0, r.1))
     (λ u. makes (is_over
-    (record { deed = deed; scope = scope; mark = active.mark; over = u; active = None; after = refl })) refl refl)
+    (record { active = active; begun = inr is; over = u; after = refl })) refl refl)
     (λ u. stays refl)
 
 -- ---- writes and clear
@@ -293,12 +323,13 @@ write_group-tells s g config =
     (λ u. stays refl)
     (λ u. stays refl)
     (λ u v. makes (is_group_written
-    (record { group = g; config = config; off = not-false _ v; after = refl })) refl refl)
+    (record { group = g; config = config; has = not-false _ u; off = not-false _ v; after = refl })) refl refl)
 
-clear_of-tells : (s : State) (o : Option NotedError) → let r = clear_of s.work.setup o in
+clear_of-tells : (s : State) (o : Option NotedError) → s.work.setup.noted ≡ o → let r = clear_of s.work.setup o in
     Tells s (Clear r.0, state_with_setup s r.1)
-clear_of-tells s None = stays refl
-clear_of-tells s (Some noted) = makes (is_noted (record { noted = None; after = refl })) refl refl
+clear_of-tells s None is = stays refl
+clear_of-tells s (Some noted) is =
+    makes (is_cleared (record { noted = noted; is_noted = is; after = refl })) refl refl
 
 -- ---- any step
 
@@ -312,10 +343,10 @@ reply-tells s (Start e) choice may told = start_of-tells s e (first_waiting s.wo
 reply-tells s (Finish e t outcome) choice may told = finish_of-tells s e t outcome
     (find (is_ticket t) (running_on s.work e)) refl
 reply-tells s (Issue command) choice may told = issue-tells s command
-reply-tells s Poll choice may told = poll_of-tells s s.active
+reply-tells s Poll choice may told = poll_of-tells s s.active refl
 reply-tells s (WriteQueue q config) choice may told = write_queue-tells s q config
 reply-tells s (WriteGroup g config) choice may told = write_group-tells s g config
-reply-tells s ClearError choice may told = clear_of-tells s s.work.setup.noted
+reply-tells s ClearError choice may told = clear_of-tells s s.work.setup.noted refl
 
 pub next-tells : (s s' : State) (event : Event) (reply : Reply) → next s event reply ≡ Some s' → Tells s (reply, s')
 next-tells s s' event reply h = next-each (λ r t. Tells s (r, t)) s s' event reply

@@ -171,10 +171,9 @@ waiting-off caps w Disable Device h q n =
 waiting-off caps w Disable scope h q n = kept-phase caps w (is_among (queues_in scope)) Stopping q h (inr refl) n
 waiting-off caps w _ scope h q n = n
 
--- what is held after a change, as its last state is made
-pub In-after : (s t : State) → t ≡ s → (k : ℕ) (x : HeldEntry) → In x (chain s.work.content k)
-    → In x (chain t.work.content k)
-In-after s t e k x i = subst (λ u. In x (chain u.work.content k)) (sym e) i
+-- what is held after a change, as its last lists are made
+pub In-left : {made left : Content} → made ≡ left → (k : ℕ) (x : HeldEntry) → In x (chain left k) → In x (chain made k)
+In-left e k x i = subst (λ c. In x (chain c k)) (sym e) i
 
 -- a queue is in use by the set-up after a change, and configured as before it
 record KeepsQueue (setup setup' : Setup) (q : ℕ) : Type 0 where
@@ -196,16 +195,16 @@ queues-kept caps s s' w c k x i =
       config = rw (stopped-keeps c.deed c.scope Stopping s.work.setup).configs refl;
     })
     (λ c. record {
-      in_use = over-off caps s.work c.deed c.scope c.mark h c.over k x (In-after s' _ c.after k x i) p;
+      in_use = over-off caps s.work c.deed c.scope c.mark h c.over k x (In-left c.content k x i) p;
       config = rw (stopped-keeps c.deed c.scope Off s.work.setup).configs refl;
     })
-    (λ c. not-both false (In-filtered (λ pair. not true) s.work.content k x (In-after s' _ c.after k x i)).1 refl)
-    (λ c.
-    let old = In-filtered (λ pair. not (is_in_scope c.scope pair.1)) s.work.content k x (In-after s' _ c.after k x i) in
-    let out = unnamed c.scope x.1 (not-true _ old.1) in
+    (λ left. not-both false (In-filtered (λ pair. not true) s.work.content k x (In-left left k x i)).1 refl)
+    (λ scope left.
+    let old = In-filtered (λ pair. not (is_in_scope scope pair.1)) s.work.content k x (In-left left k x i) in
+    let out = unnamed scope x.1 (not-true _ old.1) in
     record {
-      in_use = kept-phase caps s.work (is_among (queues_in c.scope)) Off x.1.queue h (inl out) p;
-      config = reset-config s.work.setup (queues_in c.scope) x.1.queue (in-use-below caps s.work x.1.queue h p)
+      in_use = kept-phase caps s.work (is_among (queues_in scope)) Off x.1.queue h (inl out) p;
+      config = reset-config s.work.setup (queues_in scope) x.1.queue (in-use-below caps s.work x.1.queue h p)
           ∙ rw out refl;
     })
     (λ c. record {

@@ -11,7 +11,7 @@ use Rattle.dsa_store.specs.Content.{HeldEntry, Content, chain, without_front}
 use Rattle.dsa_book.{proofs.Phases.{on-not_off}, specs.Work.{progress_list, member_list, in_progress, members, note_at}}
 use Rattle.dsa_book.specs.{Submit.{limit_of}, State.{Work, State, opening, is_off, phase_at}, Commands.{is_among}}
 use Rattle.dsa_book.specs.declared.{event.Portal.{TheVariants.{Limited, Unlimited}, Portal}, note.BatchNote.{BatchNote}}
-use Rattle.dsa_laws.proofs.{Entries.{In-after}, Contents.{each-place, chain-filtered, In-filtered, chain-empty}}
+use Rattle.dsa_laws.proofs.{Entries.{In-left}, Contents.{each-place, chain-filtered, In-filtered, chain-empty}}
 use Rattle.dsa_laws.proofs.Shapes.{queues-same, engines-same, on-queue, progress-at, a_taker}
 use Rattle.dsa_laws.proofs.Effects.{by_effect, by_setting, stopped-keeps, reset-config, reset-size}
 use Rattle.dsa_laws.specs.{Change.{Change}, Engines.{IsLawfulEngine, HasLawfulEngines}}
@@ -145,12 +145,12 @@ lists_fit-change caps s s' w c =
     (λ c. h)
     (λ c. rw (stopped-keeps c.deed c.scope Stopping s.work.setup).configs h)
     (λ c. rw (stopped-keeps c.deed c.scope Off s.work.setup).configs h)
-    (λ c k.
+    (λ left k.
     let none = none-In (chain s'.work.content k)
-    (λ x i. not-both false (In-filtered (λ pair. not true) s.work.content k x (In-after s' _ c.after k x i)).1 refl) in
+    (λ x i. not-both false (In-filtered (λ pair. not true) s.work.content k x (In-left left k x i)).1 refl) in
     record { queue = λ i. rw none (omega arith); progress = λ e is i. rw none (omega arith) })
-    (λ c.
-    let qs = queues_in c.scope in
+    (λ scope left.
+    let qs = queues_in scope in
     resized (λ q i. ap (λ c. c.size) (reset-config s.work.setup qs q (omega (arith, queues-same w.shape)))
     ∙ reset-size (is_among qs q) (queue_at s.work.setup.configs q)))
     (λ c q. record {

@@ -86,12 +86,12 @@ shape-change caps s s' h c = record {
         (λ c. (h.configs, each _, h.groups))
         (λ c. waits c.deed c.scope Stopping)
         (λ c. waits c.deed c.scope Off)
-        (λ c. (
+        (λ left. (
           length-replicate w.setup.caps.queues _ ∙ queues-same h,
           length-replicate w.setup.caps.queues _ ∙ queues-same h,
           length-replicate w.setup.caps.groups _ ∙ ap (λ c. c.groups) h.same_caps,
         ))
-        (λ c. (each _, each _, h.groups))
+        (λ scope left. (each _, each _, h.groups))
         (λ c. (length-set w.setup.configs c.queue c.config ∙ h.configs, h.phases, h.groups))
         (λ c. (h.configs, h.phases, length-set w.setup.groups c.group c.config ∙ h.groups))
       where

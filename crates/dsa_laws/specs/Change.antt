@@ -1,22 +1,24 @@
--- What a step that may come does: one case for each kind of effect, with the facts that the step tested.
-use Rattle.std.specs.Prelude.{◌≡◌, ℕ, true, false, not, ◌&&◌, ◌==◌, nat_le, find, slice_set, Option, Some, None}
-use Rattle.std.specs.Bool.{beq}
+-- What a step that may come does: one case for each kind of effect, with all that the step tested.
+use Rattle.std.specs.Prelude.{◌≡◌, ◌⊎◌, ℕ, true, false, not, ◌&&◌, ◌==◌, nat_le, nat_lt, find, slice_set}
+use Rattle.std.specs.{Prelude.{Option, Some, None}, Bool.{beq}}
 use Rattle.dsa_desc.specs.{declared.{Descriptor.{Descriptor}, Outcome.{Outcome}}, Descriptor.{is_fenced}}
-use Rattle.dsa_regs.specs.declared.{Phase.TheVariants.{Off, On, Stopping}, QueueConfig.{QueueConfig}}
-use Rattle.dsa_regs.specs.declared.{GroupConfig.{GroupConfig}, Scope.{Scope, TheVariants.{Device}}, Deed.{Deed}}
-use Rattle.dsa_regs.specs.{Caps.{cell_count}, Config.{queue_at, check_device, check_queue}, Command.{queues_in}}
+use Rattle.dsa_regs.specs.declared.{Phase.{Phase, TheVariants.{Off, On, Stopping}}, QueueConfig.{QueueConfig}}
+use Rattle.dsa_regs.specs.declared.{GroupConfig.{GroupConfig}, Scope.{Scope, TheVariants.{Device, Queue}}}
+use Rattle.dsa_regs.specs.declared.{Deed.{Deed, TheVariants.{Enable, Disable, Drain, Abort, Reset}}, Command.{Command}}
+use Rattle.dsa_regs.specs.{Caps.{cell_count}, Config.{queue_at}, Command.{deed_of, scope_of, number_of_command}}
 use Rattle.dsa_store.specs.{declared.entry.Cell.{Cell}, Content.{HeldEntry, is_free}}
-use Rattle.dsa_book.specs.Submit.{limit_of, after_accept, is_movdir64b}
+use Rattle.dsa_book.specs.Submit.{limit_of, after_accept, is_movdir64b, next_noted}
 use Rattle.dsa_book.specs.Work.{after_end, is_front, has_failed_member, first_waiting, has_room, after_start}
-use Rattle.dsa_book.specs.Work.{after_abandon}
-use Rattle.dsa_book.specs.Work.{running_on, must_wait, front_of, qualifies, after_take, note_at, batch_on}
-use Rattle.dsa_book.specs.Work.{is_all_fetched, after_fetch}
-use Rattle.dsa_book.specs.Machine.{with_work, with_intake, state_with_setup, intake_of}
+use Rattle.dsa_book.specs.Work.{after_abandon, running_on, must_wait, front_of, qualifies, after_take, note_at, batch_on}
+use Rattle.dsa_book.specs.{Work.{is_all_fetched, after_fetch}, Machine.{with_work, with_intake, state_with_setup}}
+use Rattle.dsa_book.specs.{Machine.{intake_of}, declared.answer.Cause.{Cause}}
 use Rattle.dsa_book.specs.declared.{answer.{NotedError.{NotedError}, Ticket.{Ticket}}, note.BatchNote.{BatchNote}}
-use Rattle.dsa_book.specs.declared.{note.ActiveCommand.{ActiveCommand}, event.{Portal.{Portal}, Kind.{Kind}}}
-use Rattle.dsa_book.specs.State.{is_ticket, Setup, State, is_on, is_off, phase_at, has_queue, occupancy}
-use Rattle.dsa_book.specs.{State.{need_of, holds_any}, Commands.{after_abort, reset, is_among, with_sizes_alone}}
-use Rattle.dsa_book.specs.Commands.{is_awaited, with_device, with_phases, after_stop, may_come}
+use Rattle.dsa_book.specs.declared.{note.ActiveCommand.{ActiveCommand}, event.Portal.{Portal}}
+use Rattle.dsa_book.specs.declared.event.Kind.{Kind, TheVariants.{Movdir64b}}
+use Rattle.dsa_book.specs.State.{is_ticket, Setup, State, is_on, is_off, phase_at, has_queue, occupancy, need_of}
+use Rattle.dsa_book.specs.Commands.{after_abort, reset, work_with_setup, is_at_end, with_device, with_phases, after_stop}
+use Rattle.dsa_book.specs.Commands.{may_come, is_bad_queues, check_of}
+use Rattle.dsa_laws.specs.Refusals.{IsRefused}
 
 -- ---- entries
 
@@ -67,11 +69,13 @@ pub record IsStarted (s s' : State) : Type 0 where
   pub room : has_room s.work engine (need_of s.work.setup pair.1) ≡ true
   pub after : with_work s (after_start s.work engine) ≡ s'
 
--- the members behind a fence are abandoned, since one before it failed (Intel DSA: fence)
+-- the members from the first that waits on are abandoned: it has a fence, all before it have ended, and one of them
+-- failed (Intel DSA: fence)
 pub record IsAbandoned (s s' : State) : Type 0 where
   pub engine : ℕ
   pub pair : HeldEntry
   pub is_first : first_waiting s.work engine ≡ Some pair
+  pub first_of_all : (is_fenced pair.1.desc && not (is_front s.work engine pair)) ≡ false
   pub failed : (is_fenced pair.1.desc && has_failed_member s.work engine) ≡ true
   pub after : with_work s (after_abandon s.work engine) ≡ s'
 
@@ -85,61 +89,72 @@ pub record IsEnded (s s' : State) : Type 0 where
   pub ready : must_wait s.work engine pair.1 ≡ false
   pub after : with_work s (after_end s.work engine pair outcome) ≡ s'
 
--- ---- commands and configuration
+-- ---- commands
+
+-- a command with this deed and this scope is not refused: none is active, its queues are there, the device and they
+-- are in the phases that it needs, and the configuration passes its check (profile)
+pub record IsGranted (s : State) (deed : Deed) (scope : Scope) : Type 0 where
+  pub idle : s.active ≡ None
+  pub queues : is_bad_queues s.work.setup scope ≡ false
+  pub phases : may_come s.work.setup deed scope ≡ true
+  pub check : check_of s.work.setup deed scope ≡ None
+
+-- a disable or a drain is issued, and waits for what came before it (profile)
+pub record IsBegun (s : State) (active : ActiveCommand) : Type 0 where
+  pub deed : (deed_of active.command ≡ Disable) ⊎ (deed_of active.command ≡ Drain)
+  pub granted : IsGranted s (deed_of active.command) (scope_of active.command)
+  pub mark : s.work.setup.next_name ≡ active.mark
 
 -- the state with this set-up and this active command (profile)
 abbrev pub set_up : State → Option ActiveCommand → Setup → State
 set_up s active setup = record { work = record s.work { setup = setup }; active = active }
 
--- Enable Device, where the configuration has no fault (profile)
-pub record IsDeviceEnabled (s s' : State) : Type 0 where
-  pub off : is_off s.work.setup.device ≡ true
-  pub check : check_device s.work.setup.caps s.work.setup.configs s.work.setup.groups ≡ None
-  pub after : set_up s s.active (with_device On s.work.setup) ≡ s'
+-- what the active command disables comes to this phase (profile)
+abbrev pub stopped : Phase → ActiveCommand → Setup → Setup
+stopped phase active = after_stop (deed_of active.command) (scope_of active.command) phase
 
--- Enable WQ, where the queue has no fault (profile)
+-- Enable Device (profile)
+pub record IsDeviceEnabled (s s' : State) : Type 0 where
+  pub granted : IsGranted s Enable Device
+  pub after : set_up s None (with_device On s.work.setup) ≡ s'
+
+-- Enable WQ (profile)
 pub record IsQueueEnabled (s s' : State) : Type 0 where
   pub queue : ℕ
-  pub on : is_on s.work.setup.device ≡ true
-  pub check : check_queue s.work.setup.caps s.work.setup.groups queue (queue_at s.work.setup.configs queue) ≡ None
-  pub after : set_up s s.active (with_phases (λ each. each == queue) On s.work.setup) ≡ s'
+  pub granted : IsGranted s Enable (Queue queue)
+  pub after : set_up s None (with_phases (λ each. each == queue) On s.work.setup) ≡ s'
 
--- a disable or a drain is not over at once: what it disables is Stopping (profile)
+-- a disable or a drain begins while something is held that it waits for: what it disables is Stopping (profile)
 pub record IsWaiting (s s' : State) : Type 0 where
-  pub deed : Deed
-  pub scope : Scope
-  pub may : may_come s.work.setup deed scope ≡ true
-  pub active : Option ActiveCommand
-  pub after : set_up s active (after_stop deed scope Stopping s.work.setup) ≡ s'
+  pub active : ActiveCommand
+  pub begun : IsBegun s active
+  pub held : is_at_end active s.work.content ≡ false
+  pub after : set_up s (Some active) (stopped Stopping active s.work.setup) ≡ s'
 
--- a disable or a drain is over: what it disables is Off (profile)
+-- a disable or a drain that begins, or that is active, is over: nothing is held that it waits for, and what it
+-- disables is Off (profile)
 pub record IsOver (s s' : State) : Type 0 where
-  pub deed : Deed
-  pub scope : Scope
-  pub mark : ℕ
-  pub over : not (holds_any (is_awaited deed scope mark) s.work.content) ≡ true
-  pub active : Option ActiveCommand
-  pub after : set_up s active (after_stop deed scope Off s.work.setup) ≡ s'
+  pub active : ActiveCommand
+  pub begun : IsBegun s active ⊎ (s.active ≡ Some active)
+  pub over : is_at_end active s.work.content ≡ true
+  pub after : set_up s None (stopped Off active s.work.setup) ≡ s'
 
--- the entries in the scope of a command are aborted (profile)
+-- the entries in the scope of an abort are aborted (profile)
 pub record IsAborted (s s' : State) : Type 0 where
-  pub number : ℕ
-  pub scope : Scope
-  pub after : with_work s (after_abort number scope s.work) ≡ s'
+  pub command : Command
+  pub deed : deed_of command ≡ Abort
+  pub granted : IsGranted s Abort (scope_of command)
+  pub after : with_work s (after_abort (number_of_command command) (scope_of command) s.work) ≡ s'
 
--- all entries are aborted and the set-up is as at first, but for the names that were given (profile)
-pub record IsDeviceReset (s s' : State) : Type 0 where
-  pub number : ℕ
-  pub after : with_work s (record (after_abort number Device s.work) { setup = reset Device s.work.setup }) ≡ s'
+-- the entries in the scope of a reset are aborted, and its queues or the whole set-up are reset (profile)
+pub record IsReset (s s' : State) : Type 0 where
+  pub command : Command
+  pub deed : deed_of command ≡ Reset
+  pub granted : IsGranted s Reset (scope_of command)
+  pub after : with_work s (work_with_setup (after_abort (number_of_command command) (scope_of command) s.work)
+      (reset (scope_of command) s.work.setup)) ≡ s'
 
--- the entries of the queues are aborted, and the queues are Off with their sizes alone (profile)
-pub record IsQueuesReset (s s' : State) : Type 0 where
-  pub number : ℕ
-  pub scope : Scope
-  pub after : with_work s (record (after_abort number scope s.work) {
-    setup =
-        with_sizes_alone (queues_in scope) (with_phases (is_among (queues_in scope)) Off s.work.setup);
-  }) ≡ s'
+-- ---- configuration and the noted error
 
 -- a queue that is Off is configured, its size only while the device is Off (profile)
 pub record IsQueueWritten (s s' : State) : Type 0 where
@@ -155,18 +170,30 @@ pub record IsQueueWritten (s s' : State) : Type 0 where
 pub record IsGroupWritten (s s' : State) : Type 0 where
   pub group : ℕ
   pub config : GroupConfig
+  pub has : nat_lt group s.work.setup.caps.groups ≡ true
   pub off : is_off s.work.setup.device ≡ true
   pub after : state_with_setup s (record s.work.setup { groups = slice_set s.work.setup.groups group config }) ≡ s'
 
--- an error is noted, or read and cleared (profile)
+-- a MOVDIR64B that its queue turns away is dropped, and noted with its cause (profile)
 pub record IsNoted (s s' : State) : Type 0 where
-  pub noted : Option NotedError
-  pub after : state_with_setup s (record s.work.setup { noted = noted }) ≡ s'
+  pub queue : ℕ
+  pub portal : Portal
+  pub cause : Cause
+  pub refused : IsRefused s.work queue portal Movdir64b cause
+  pub after : state_with_setup s
+      (record s.work.setup { noted = Some (next_noted s.work.setup.noted queue cause) }) ≡ s'
+
+-- the noted error is read and cleared (profile)
+pub record IsCleared (s s' : State) : Type 0 where
+  pub noted : NotedError
+  pub is_noted : s.work.setup.noted ≡ Some noted
+  pub after : state_with_setup s (record s.work.setup { noted = None }) ≡ s'
 
 -- what a step that may come does: nothing, or one of these (profile)
 pub data Change (s s' : State) : Type 0 where
   same : s ≡ s' → Change s s'
   is_noted : IsNoted s s' → Change s s'
+  is_cleared : IsCleared s s' → Change s s'
   is_accepted : IsAccepted s s' → Change s s'
   is_taken : IsTaken s s' → Change s s'
   is_fetched : IsFetched s s' → Change s s'
@@ -178,7 +205,6 @@ pub data Change (s s' : State) : Type 0 where
   is_waiting : IsWaiting s s' → Change s s'
   is_over : IsOver s s' → Change s s'
   is_aborted : IsAborted s s' → Change s s'
-  is_device_reset : IsDeviceReset s s' → Change s s'
-  is_queues_reset : IsQueuesReset s s' → Change s s'
+  is_reset : IsReset s s' → Change s s'
   is_queue_written : IsQueueWritten s s' → Change s s'
   is_group_written : IsGroupWritten s s' → Change s s'

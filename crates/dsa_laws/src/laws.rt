@@ -1,25 +1,39 @@
 //! The laws, each on a function with nothing to do. A history is a list of steps from the opening
 //! of a device with these capabilities.
 
-ghost use Rattle.std.specs.Prelude.{◌≡◌, ℕ, ◌+◌, ◌<◌, ◌≤◌, List, false};
+ghost use Rattle.std.specs.Prelude.{◌≡◌, ℕ, ◌+◌, ◌<◌, ◌≤◌, List, ◌∷◌, ◌++◌, false};
+ghost use Rattle.dsa_desc.specs.declared.Descriptor.{Descriptor};
 ghost use Rattle.dsa_regs.specs.declared.Caps.{Caps};
 ghost use Rattle.dsa_regs.specs.declared.Phase.TheVariants.{Off};
 ghost use Rattle.dsa_store.specs.Content.{held_count};
 ghost use Rattle.dsa_book.specs.declared.event.Event.{Event};
+ghost use Rattle.dsa_book.specs.declared.event.Event.TheVariants as event;
+ghost use Rattle.dsa_book.specs.declared.event.Kind.{Kind};
+ghost use Rattle.dsa_book.specs.declared.event.Portal.{Portal};
 ghost use Rattle.dsa_book.specs.declared.event.Step.{Step};
 ghost use Rattle.dsa_book.specs.declared.answer.Reply.{Reply};
+ghost use Rattle.dsa_book.specs.declared.answer.Reply.TheVariants as reply;
+ghost use Rattle.dsa_book.specs.declared.answer.SubmitAnswer.{SubmitAnswer};
 ghost use Rattle.dsa_book.specs.State.{State};
 ghost use Rattle.dsa_book.specs.Machine.{is_stored, LeadsTo, Reaches};
 ghost use Rattle.dsa_laws.specs.Change.{Change};
+ghost use Rattle.dsa_laws.specs.Refusals.{HasItsCause, EachHasItsCause};
 ghost use Rattle.dsa_laws.specs.WellFormed.{IsWellFormed, IsWithinLimits, held_named, fates_named};
 ghost use Rattle.dsa_laws.specs.Engines.{HasLawfulEngines};
 ghost use Rattle.dsa_laws.specs.Buffering.{HasBuffers};
 
-/// Every step that may come is one of the changes, with the facts that it tested.
+/// Every step that may come is one of the changes, with all that it tested.
 pub fn steps_are_changes()
     ensures { (s s' : State) (event : Event) (reply : Reply)
         → LeadsTo s event reply s'
         → Change s s' }
+{}
+
+/// And each change is made by some step that may come: so none lacks a test.
+pub fn changes_are_steps()
+    ensures { (s s' : State)
+        → Change s s'
+        → (event : Event) × (reply : Reply) × LeadsTo s event reply s' }
 {}
 
 /// A step whose reply is not stored changes nothing.
@@ -28,6 +42,25 @@ pub fn unstored_steps_change_nothing()
         → LeadsTo s event reply s'
         → is_stored reply ≡ false
         → s' ≡ s }
+{}
+
+/// Each step of a history is one that may come in the state that the steps before it lead to.
+pub fn steps_follow_those_before()
+    ensures { (caps : Caps) (before after : List Step) (step : Step) (s : State)
+        → Reaches caps (before ++ step ∷ after) s
+        → (t t' : State) × Reaches caps before t × LeadsTo t step.event step.reply t' }
+{}
+
+/// A submission is refused for a cause exactly where its queue turns it away for this cause; so is
+/// each submission of a history, in the state that the steps before it lead to.
+pub fn refusals_have_their_cause()
+    ensures step { (s s' : State) (client queue : ℕ) (portal : Portal) (kind : Kind)
+        (desc : Descriptor) (answer : SubmitAnswer)
+        → LeadsTo s (event.Submit client queue portal kind desc) (reply.Submit answer) s'
+        → HasItsCause s.work queue portal kind answer }
+    ensures history { (caps : Caps) (history : List Step) (s : State)
+        → Reaches caps history s
+        → EachHasItsCause caps history }
 {}
 
 /// Every state that a history leads to is well formed.

@@ -6,10 +6,8 @@
 ghost use Rattle.std.specs.Prelude.{◌≡◌, None};
 ghost use Rattle.dsa_scenario.specs.Scenario.{IsRenderingOf};
 
-use dsa_regs::{cell_count, list_count};
 use dsa_scenario::{
-    Render, Rendering, ScenarioFault, WatchedWriter, check_document, parse_document, render_input,
-    run_document,
+    PlainRun, Render, Rendering, ScenarioFault, WatchedWriter, render_input, render_over,
 };
 use dsa_store::PlainStore;
 use std::alloc::Global;
@@ -23,16 +21,7 @@ impl Render for OverVectors {
     ghost is_rendering = { λ plain bytes fault text. (fault ≡ None) × IsRenderingOf bytes text };
 
     fn render(&self, alloc: Global, bytes: &[u8]) -> Result<Rendering, ScenarioFault> {
-        let document = parse_document(alloc, bytes)?;
-        check_document(&document)?;
-        let lists = list_count(&document.caps);
-        let store = PlainStore::new(alloc, lists, cell_count(&document.caps))?;
-        let text = run_document(alloc, store, &document)?;
-        Ok(Rendering {
-            text,
-            fault: None,
-            document: None,
-        })
+        render_over::<PlainStore, PlainRun>(alloc, &PlainRun, bytes)
     }
 }
 

@@ -10,7 +10,11 @@
 
 mod commands;
 mod queues;
+mod reasons;
 mod submission;
 mod writes;
 
 pub use queues::Queues;
+pub use reasons::{
+    ClearReason, SubmitReason, WriteReason, submissions_follow_reasons, writes_follow_reasons,
+};

@@ -5,6 +5,7 @@ ghost use Rattle.dsa_regs.specs.Caps.{HasList, cell_count, check_caps, list_coun
 ghost use Rattle.dsa_store.specs.Content.{Content, held_count};
 ghost use Rattle.dsa_regs.specs.declared.Scope.TheVariants.{Device};
 ghost use Rattle.dsa_base.specs.Numbers.{has};
+ghost use Rattle.dsa_base.specs.Rows.{when};
 ghost use Rattle.dsa_regs.specs.Config.{queue_at, group_at};
 ghost use Rattle.dsa_book.specs.State.{opening_setup, phase_at, is_off, has_queue, limits_at, need_of, held_by, status_of_entry, is_batch_of, is_drain_of};
 ghost use Rattle.dsa_book.specs.Submit.{next_noted};
@@ -193,6 +194,18 @@ impl Queues {
         match self.phases.get(usize::from(queue)) {
             Some(phase) => *phase,
             None => Phase::Off,
+        }
+    }
+
+    /// The phase of the queue. `None` exactly where the device has no such queue.
+    #[inline(always)]
+    pub fn known_phase(&self, queue: u16) -> Option<Phase>
+        ensures { result ≡ when (has_queue self.now.setup queue) (phase_at self.now.setup queue) }
+    {
+        if self.has_queue(queue) {
+            Some(self.phase(queue))
+        } else {
+            None
         }
     }
 

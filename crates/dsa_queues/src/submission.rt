@@ -1,6 +1,6 @@
 //! Submission: ENQCMD and MOVDIR64B to either portal of a queue.
 
-ghost use Rattle.std.specs.Prelude.{◌≡◌, ◌+◌, ◌<◌, ◌^◌, true};
+ghost use Rattle.std.specs.Prelude.{◌≡◌, ◌+◌, ◌<◌, ◌^◌, None, true};
 ghost use Rattle.dsa_base.specs.Rows.{when};
 ghost use Rattle.dsa_desc.specs.Descriptor.{with_pasid};
 ghost use Rattle.dsa_regs.specs.Config.{queue_at};
@@ -10,8 +10,9 @@ ghost use Rattle.dsa_book.specs.Submit.{submit, after_refusal, limit_of, pasid_b
 ghost use Rattle.dsa_book.specs.declared.answer.Reply.TheVariants as reply;
 ghost use Rattle.dsa_book.specs.Choice.{choice_of, nothing, chosen_cell, may_enter};
 ghost use Rattle.dsa_queues.specs.Queues.{IsCounted, IsStoreFor, intake, is_accepting};
+ghost use Rattle.dsa_queues.specs.Submission.{submit_reason};
 
-use crate::Queues;
+use crate::{Queues, SubmitReason};
 use dsa_book::{Cause, Kind, Portal, SubmitAnswer, Ticket};
 use dsa_desc::Descriptor;
 use dsa_regs::{Phase, QueueConfig};
@@ -61,13 +62,48 @@ impl Queues {
         }
     }
 
+    /// Why a submission would be turned away: the first reason that holds. `None` exactly where it
+    /// would be accepted.
+    #[inline(always)]
+    pub fn why_submit<S: EntryStore>(
+        &self,
+        store: &S,
+        queue: u16,
+        portal: Portal,
+        kind: Kind,
+    ) -> Option<SubmitReason>
+        requires { IsStoreFor self.now.setup.caps (S.cells store.now) (S.content store.now) }
+        ensures reason { result
+            ≡ submit_reason (intake self.now.setup (S.content store.now)) queue portal kind }
+        ensures known { result ≡ None → has_queue self.now.setup queue ≡ true }
+    {
+        if self.phase(queue) != Phase::On {
+            return Some(SubmitReason::NotEnabled {
+                device: self.device(),
+                queue: self.known_phase(queue),
+            });
+        }
+        let config = self.queue(queue);
+        let dedicated = config.dedicated;
+        if is_movdir64b(kind) != dedicated {
+            return Some(SubmitReason::WrongKind { dedicated });
+        }
+        let (occupancy, limit) = (store.len(ListId(queue)), limit_of(&config, portal));
+        if occupancy >= u32::from(limit) {
+            return Some(SubmitReason::AtLimit {
+                occupancy,
+                limit,
+                portal,
+            });
+        }
+        None
+    }
+
     /// Writes a descriptor to a portal of a queue.
     ///
-    /// The first cause that stands turns it away: `NotEnabled` where the queue is not `On` or the
-    /// device has no such queue, `WrongKind` for ENQCMD to a dedicated queue or MOVDIR64B to a
-    /// shared one, `AtLimit` where the queue holds as many entries as the portal allows. ENQCMD is
-    /// answered `Retry`, MOVDIR64B `Dropped`, and an error is noted. Else the descriptor stands
-    /// last in its queue, under the PASID that the instruction or the queue gives it.
+    /// Where there is a reason ([`Queues::why_submit`]), ENQCMD is answered `Retry` with its cause,
+    /// MOVDIR64B `Dropped`, and an error is noted. Else the descriptor stands last in its queue,
+    /// under the PASID that the instruction or the queue gives it.
     #[inline(always)]
     pub fn submit<S: EntryStore>(
         &mut self,
@@ -95,16 +131,10 @@ impl Queues {
         ensures counted { IsCounted self.new (S.content store.new) }
         ensures store { IsStoreFor self.new.setup.caps (S.cells store.new) (S.content store.new) }
     {
-        if self.phase(queue) != Phase::On {
-            return self.turned_away(queue, kind, Cause::NotEnabled);
+        if let Some(reason) = self.why_submit(store, queue, portal, kind) {
+            return self.turned_away(queue, kind, reason.cause());
         }
         let config = self.queue(queue);
-        if is_movdir64b(kind) != config.dedicated {
-            return self.turned_away(queue, kind, Cause::WrongKind);
-        }
-        if store.len(ListId(queue)) >= u32::from(limit_of(&config, portal)) {
-            return self.turned_away(queue, kind, Cause::AtLimit);
-        }
         let name = self.next_name();
         let entry = Entry {
             name,

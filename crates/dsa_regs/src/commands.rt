@@ -16,7 +16,7 @@ pub type QueueNumbers = ArrayVec<u32, QUEUES_IN_MASK>;
 impl QueueMask {
     ghost use Rattle.dsa_regs.specs.Command.{queues_of, mask_of};
 
-    fn from_operand(operand: u32) -> QueueMask
+    pub(crate) fn from_operand(operand: u32) -> QueueMask
         requires { operand < 2 ^ 20 }
         ensures { result ≡ mask_of operand }
     {
@@ -90,46 +90,27 @@ impl Scope {
 }
 
 impl Command {
-    ghost use Rattle.dsa_regs.specs.Command.{command_of, number_of_command, command_name, scope_of, deed_of, named_queues, word_of};
+    ghost use Rattle.dsa_regs.specs.Command.{command_of, number_of_command, command_name, command_label, scope_of, deed_of, named_queues, word_of};
 
-    /// The number of the command, 1 to 12 (Intel DSA specification, Command register).
+    /// The number of the command (Intel DSA specification, Command register).
     pub fn number(&self) -> u8
         ensures { result ≡ number_of_command self.now }
     {
-        match self {
-            Command::EnableDevice => 1,
-            Command::DisableDevice => 2,
-            Command::DrainAll => 3,
-            Command::AbortAll => 4,
-            Command::ResetDevice => 5,
-            Command::EnableWq(_) => 6,
-            Command::DisableWq(_) => 7,
-            Command::DrainWq(_) => 8,
-            Command::AbortWq(_) => 9,
-            Command::ResetWq(_) => 10,
-            Command::DrainPasid(_) => 11,
-            Command::AbortPasid(_) => 12,
-        }
+        self.row().number
     }
 
     /// The name of the command, as the Intel DSA specification spells it.
     pub fn name(&self) -> &'static str
         ensures { result.now ≡ command_name self.now }
     {
-        match self {
-            Command::EnableDevice => "Enable Device",
-            Command::DisableDevice => "Disable Device",
-            Command::DrainAll => "Drain All",
-            Command::AbortAll => "Abort All",
-            Command::ResetDevice => "Reset Device",
-            Command::EnableWq(_) => "Enable WQ",
-            Command::DisableWq(_) => "Disable WQ",
-            Command::DrainWq(_) => "Drain WQ",
-            Command::AbortWq(_) => "Abort WQ",
-            Command::ResetWq(_) => "Reset WQ",
-            Command::DrainPasid(_) => "Drain PASID",
-            Command::AbortPasid(_) => "Abort PASID",
-        }
+        self.row().name
+    }
+
+    /// The name of the command as one word, such as `enable-wq`.
+    pub fn label(&self) -> &'static str
+        ensures { result.now ≡ command_label self.now }
+    {
+        self.row().label
     }
 
     /// The word that is written to the command register, without asking for an interrupt (Intel DSA
@@ -150,40 +131,14 @@ impl Command {
     pub fn scope(&self) -> Scope
         ensures { result ≡ scope_of self.now }
     {
-        match self {
-            Command::EnableDevice => Scope::Device,
-            Command::DisableDevice => Scope::Device,
-            Command::DrainAll => Scope::Device,
-            Command::AbortAll => Scope::Device,
-            Command::ResetDevice => Scope::Device,
-            Command::EnableWq(queue) => Scope::Queue(*queue),
-            Command::DisableWq(queues) => Scope::Queues(*queues),
-            Command::DrainWq(queues) => Scope::Queues(*queues),
-            Command::AbortWq(queues) => Scope::Queues(*queues),
-            Command::ResetWq(queues) => Scope::Queues(*queues),
-            Command::DrainPasid(pasid) => Scope::Pasid(*pasid),
-            Command::AbortPasid(pasid) => Scope::Pasid(*pasid),
-        }
+        self.row().scope
     }
 
     /// What the command does with whom it is about.
     pub fn deed(&self) -> Deed
         ensures { result ≡ deed_of self.now }
     {
-        match self {
-            Command::EnableDevice => Deed::Enable,
-            Command::DisableDevice => Deed::Disable,
-            Command::DrainAll => Deed::Drain,
-            Command::AbortAll => Deed::Abort,
-            Command::ResetDevice => Deed::Reset,
-            Command::EnableWq(_) => Deed::Enable,
-            Command::DisableWq(_) => Deed::Disable,
-            Command::DrainWq(_) => Deed::Drain,
-            Command::AbortWq(_) => Deed::Abort,
-            Command::ResetWq(_) => Deed::Reset,
-            Command::DrainPasid(_) => Deed::Drain,
-            Command::AbortPasid(_) => Deed::Abort,
-        }
+        self.row().deed
     }
 
     /// The queues that the command names, in order; none for commands that name no queue.
@@ -205,8 +160,8 @@ pub struct CommandWord(pub u32);
 impl CommandWord {
     ghost use Rattle.dsa_regs.specs.Command.{command_of};
 
-    /// The command that the word says, or `BadCommand` where a bit among 30:25 is set, the number
-    /// is 0 or above 12.
+    /// The command that the word says, or `BadCommand` where a bit among 30:25 is set or no command
+    /// has the number.
     ///
     /// The operand of commands 1 to 5 is ignored (profile).
     pub fn parse(word: u32) -> Result<Command, Fault>
@@ -239,21 +194,6 @@ impl CommandWord {
         if self.reserved() != 0 {
             return Err(Fault::BadCommand);
         }
-        let operand = self.operand();
-        match self.number() {
-            1 => Ok(Command::EnableDevice),
-            2 => Ok(Command::DisableDevice),
-            3 => Ok(Command::DrainAll),
-            4 => Ok(Command::AbortAll),
-            5 => Ok(Command::ResetDevice),
-            6 => Ok(Command::EnableWq(operand)),
-            7 => Ok(Command::DisableWq(QueueMask::from_operand(operand))),
-            8 => Ok(Command::DrainWq(QueueMask::from_operand(operand))),
-            9 => Ok(Command::AbortWq(QueueMask::from_operand(operand))),
-            10 => Ok(Command::ResetWq(QueueMask::from_operand(operand))),
-            11 => Ok(Command::DrainPasid(operand)),
-            12 => Ok(Command::AbortPasid(operand)),
-            _ => Err(Fault::BadCommand),
-        }
+        Command::numbered(self.number(), self.operand())
     }
 }

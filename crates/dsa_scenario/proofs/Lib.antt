@@ -1,4 +1,5 @@
 pub mod Bytes
+pub mod GivenBytes
 pub mod Hex
 pub mod Names
 pub mod Plain

@@ -33,7 +33,6 @@ lines_of_document bytes text h = record {
   capacity = h.capacity;
   actions = h.actions;
   document = h.document;
-  good = h.good;
-  small = h.small;
+  opening = h.opening;
   lines_of_run = lines_of_run h.caps h.capacity h.actions text h.of_run;
 }

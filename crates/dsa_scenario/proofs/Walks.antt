@@ -1,15 +1,14 @@
 -- One step more of a walk, and its end.
 use Rattle.std.proofs.Common.{◌≡◌, ℕ, List, [], ◌∷◌, ◌++◌, Result, refl, ap, ◌∙◌, sym, ◌+◌, length, map, arith, subst}
-use Rattle.std.proofs.Common.{append_assoc, append-nil, filter_map, length-append, ◌<◌, ◌≤◌, take, get_or}
-use Rattle.std.proofs.lemmas.List.{take_more, take_all}
-use Rattle.std.specs.Prelude.{slice_get}
+use Rattle.std.proofs.Common.{append_assoc, append-nil, filter_map, length-append}
+use Rattle.std.specs.Prelude.{slice_get, suc}
 use Rattle.dsa_regs.specs.declared.{Caps.{Caps}, Fault.{Fault}}
 use Rattle.dsa_book.specs.declared.{answer.Ticket.{Ticket}, event.Event.{Event}}
 use Rattle.dsa_book.specs.{Machine.{replay, stored_steps}}
 use Rattle.dsa_device.specs.{Running.{Running, running_at_first, IsReplay}, Runs.{IsRunOf}}
 use Rattle.dsa_scenario.specs.declared.{actions.Action.{Action}, run.Record.{Record}}
-use Rattle.dsa_scenario.specs.Run.{ticket_given_by, event_of, answered_by, steps_of_records, Leads, IsTable}
-use Rattle.dsa_scenario.specs.Steps.{standing, Visit, visit, visits, IsWalkTo, IsTextOfRun}
+use Rattle.dsa_scenario.specs.Run.{ticket_given_by, event_of, answered_by, steps_of_records, AreOf, Leads, IsTable}
+use Rattle.dsa_scenario.specs.Steps.{standing, Visit, visit, visits, IsAtFirst, IsWalkTo, IsTextOfRun}
 use Rattle.dsa_scenario.proofs.{Records.{AreOf-push, gives, goes_on}, Tickets.{IsTable-noted}}
 
 -- the step of a record behind those before
@@ -79,11 +78,11 @@ one_more is_page told_before caps capacity now new actions a number tickets more
 
 -- a new device has run nothing
 pub opened : {Page : Type 0} (is_page : List Visit → Page → Type 0) (caps : Caps) (capacity : ℕ) (now : Running)
-    (tickets : List Ticket) (page : Page) → now ≡ running_at_first caps capacity → IsReplay now → tickets ≡ []
-    → is_page [] page → IsWalkTo is_page caps capacity [] 0 now tickets page
-opened is_page caps capacity now tickets page is replay none blank =
-    let replay : IsReplay (running_at_first caps capacity) = rw is at replay in
-    rw (is, none) (record {
+    (tickets : List Ticket) (page : Page) → IsAtFirst caps capacity now tickets → is_page [] page
+    → IsWalkTo is_page caps capacity [] 0 now tickets page
+opened is_page caps capacity now tickets page first blank =
+    let replay : IsReplay (running_at_first caps capacity) = rw first.device at first.replay in
+    rw (first.device, first.none) (record {
       records = [];
       of_actions = tt;
       count = refl;
@@ -103,6 +102,29 @@ opened is_page caps capacity now tickets page is replay none blank =
       made = blank;
     })
 
+-- a walk has a record for each action
+pub records_count : (before : List Record) (actions : List Action) (records : List Record) → AreOf before actions records
+    → length records ≡ length actions
+records_count before [] [] h = refl
+records_count before [] (r ∷ rs) h = absurd h
+records_count before (a ∷ actions) [] h = absurd h
+records_count before (a ∷ actions) (r ∷ rs) h = ap suc (records_count (before ++ r ∷ []) actions rs h.1)
+
+-- and a step for each record
+pub visits_count : (caps : Caps) (capacity : ℕ) (before records : List Record)
+    → length (visits caps capacity before records) ≡ length records
+visits_count caps capacity before [] = refl
+visits_count caps capacity before (r ∷ records) = ap suc (visits_count caps capacity (before ++ r ∷ []) records)
+
+-- so its number is that of the actions
+pub counted : {Page : Type 0} (is_page : List Visit → Page → Type 0) (caps : Caps) (capacity : ℕ) (actions : List Action)
+    (number : ℕ) (now : Running) (tickets : List Ticket) (page : Page)
+    → IsWalkTo is_page caps capacity actions number now tickets page
+    → IsWalkTo is_page caps capacity actions (length actions) now tickets page
+counted is_page caps capacity actions number now tickets page h =
+    subst (λ n. IsWalkTo is_page caps capacity actions n now tickets page)
+    (sym h.count ∙ records_count [] actions h.records h.of_actions) h
+
 -- the text of a walk on a new device
 pub text_of_run : {Page : Type 0} (is_page : List Visit → Page → Type 0)
     (is_text : List Visit → Running → List ℕ → Type 0) (caps : Caps) (capacity : ℕ) (actions : List Action)
@@ -121,23 +143,3 @@ text_of_run is_page is_text caps capacity actions number now tickets page text h
       rendered = subst (λ d. is_text steps d text) (sym (stands caps capacity h.records now h.run))
           (ends steps h.made);
     }
-
--- the actions so far, and one more
-pub taken : {Page : Type 0} (is_page : List Visit → Page → Type 0) (caps : Caps) (capacity : ℕ) (now : Running)
-    (actions seen : List Action) (i : ℕ) (d : Action) (tickets : List Ticket) (page : Page) → seen ≡ actions
-    → i < length seen
-    → IsWalkTo is_page caps capacity (take i actions ++ get_or seen i d ∷ []) (i + 1) now tickets page
-    → IsWalkTo is_page caps capacity (take (i + 1) actions) (i + 1) now tickets page
-taken is_page caps capacity now actions seen i d tickets page same inside h =
-    let inside : i < length actions = rw same at inside in
-    let h : IsWalkTo is_page caps capacity (take i actions ++ get_or actions i d ∷ []) (i + 1) now tickets page =
-    rw same at h in
-    rw (take_more actions i d inside) h
-
--- and all of them
-pub all_taken : {Page : Type 0} (is_page : List Visit → Page → Type 0) (caps : Caps) (capacity : ℕ) (now : Running)
-    (actions seen : List Action) (i : ℕ) (tickets : List Ticket) (page : Page) → seen ≡ actions → length seen ≤ i
-    → IsWalkTo is_page caps capacity (take i actions) i now tickets page
-    → IsWalkTo is_page caps capacity actions i now tickets page
-all_taken is_page caps capacity now actions seen i tickets page same past h =
-    rw (take_all i actions (rw same at past)) at h

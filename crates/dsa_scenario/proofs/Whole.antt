@@ -1,13 +1,10 @@
 -- The parts of a document, together.
-use Rattle.std.proofs.Common.{◌≡◌, ◌⊎◌, ◌<◌, ◌^◌, inl, inr, true, false, ℕ, List, [], ◌∷◌, Some, map, sym, ap, refl}
+use Rattle.std.proofs.Common.{◌≡◌, ◌⊎◌, inl, inr, ℕ, List, [], ◌∷◌, Some, map, sym, ap, refl}
 use Rattle.serde_json.specs.{Data.{Data}, View.{view, items_of, items_view}, declared.value.Value.{Value}}
 use Rattle.dsa_regs.specs.declared.Caps.{Caps}
 use Rattle.dsa_scenario.specs.declared.faults.ScenarioFault.{ScenarioFault, TheVariants.{BadStep, OutOfMemory}}
 use Rattle.dsa_scenario.specs.declared.faults.ScenarioFault.TheVariants.{BadCaps, BadCapacity}
-use Rattle.dsa_scenario.specs.declared.actions.Action.{Action}
-use Rattle.dsa_scenario.specs.Actions.{action_of}
-use Rattle.dsa_regs.specs.Caps.{check_caps}
-use Rattle.dsa_scenario.specs.Document.{list_of_items, head_of, IsJson, HasHead, IsFirstBad, IsDocument, IsFaultOf}
+use Rattle.dsa_scenario.specs.Document.{list_of_items, head_of, IsJson, HasHead, IsFaultOfHead, IsFirstBad, IsFaultOf}
 
 -- the items of a list are the list
 list_of-items_of : (ds : List Data) → list_of_items (items_of ds) ≡ ds
@@ -25,39 +22,23 @@ has_head bytes v caps capacity steps h e = record {
   listed = list_of-items_of (map view steps);
 }
 
--- a document with a bad step object has that fault
+-- the fault of its keys is the document's
+pub faulty_head : (bytes : List ℕ) (caps : Caps) (capacity : ℕ) (steps : List Data) (e : ScenarioFault)
+    → HasHead bytes caps capacity steps → (e ≡ OutOfMemory) ⊎ IsFaultOfHead caps capacity steps e
+    → (e ≡ OutOfMemory) ⊎ IsFaultOf bytes e
+faulty_head bytes caps capacity steps e head (inl h) = inl h
+faulty_head bytes caps capacity steps (BadStep i) head (inr h) =
+    inr (record { caps = caps; capacity = capacity; steps = steps; head = head; bad = h })
+faulty_head bytes caps capacity steps BadCaps head (inr h) =
+    inr (record { caps = caps; capacity = capacity; steps = steps; head = head; bad = h })
+faulty_head bytes caps capacity steps BadCapacity head (inr h) =
+    inr (record { caps = caps; capacity = capacity; steps = steps; head = head; bad = h })
+faulty_head bytes caps capacity steps _ head (inr h) = absurd h.1
+
+-- a bad step object is a fault of the keys
 pub first_bad : (bytes : List ℕ) (caps : Caps) (capacity : ℕ) (steps : List Data) (e : ScenarioFault)
     → HasHead bytes caps capacity steps → (e ≡ OutOfMemory) ⊎ IsFirstBad steps e
     → (e ≡ OutOfMemory) ⊎ IsFaultOf bytes e
 first_bad bytes caps capacity steps e head (inl h) = inl h
-first_bad bytes caps capacity steps (BadStep i) head (inr h) =
-    inr (record { caps = caps; capacity = capacity; steps = steps; head = head; bad = h })
+first_bad bytes caps capacity steps (BadStep i) head (inr h) = faulty_head bytes caps capacity steps _ head (inr h)
 first_bad bytes caps capacity steps _ head (inr h) = absurd h
-
--- a document whose steps are read, and that no device can be made for, has the fault of its caps or of its capacity
-pub bad_head : (bytes : List ℕ) (caps : Caps) (capacity : ℕ) (steps : List Data) (actions : List Action)
-    (e : ScenarioFault)
-    → HasHead bytes caps capacity steps → map action_of steps ≡ map Some actions
-    → ((e ≡ BadCaps) × (check_caps caps ≡ false)) ⊎ ((e ≡ BadCapacity) × (check_caps caps ≡ true) × (2 ^ 20 < capacity))
-    → (e ≡ OutOfMemory) ⊎ IsFaultOf bytes e
-bad_head bytes caps capacity steps actions e head asked fault =
-    let document : IsDocument bytes caps capacity actions = record { steps = steps; head = head; asked = asked } in
-    elim fault [
-      | inl h ↦
-          rw h.0 (inr (record {
-            caps = caps;
-            capacity = capacity;
-            actions = actions;
-            document = document;
-            bad = h.1;
-          }))
-      | inr h ↦
-          rw h.0 (inr (record {
-            caps = caps;
-            capacity = capacity;
-            actions = actions;
-            document = document;
-            good = h.1;
-            large = h.2;
-          }))
-    ]

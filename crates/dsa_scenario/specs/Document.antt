@@ -1,5 +1,5 @@
 -- A document: its caps, its capacity and its steps, and which faults it has.
-use Rattle.std.specs.Prelude.{◌≡◌, ◌<◌, ℕ, ◌^◌, true, false, List, [], ◌∷◌, map, take, slice_get, codes, Option, Some}
+use Rattle.std.specs.Prelude.{◌≡◌, ◌<◌, ◌≤◌, ℕ, ◌^◌, true, false, List, [], ◌∷◌, map, take, slice_get, codes, Option, Some}
 use Rattle.std.specs.Prelude.{None, option_map, option_and_then, IsUtf8}
 use Rattle.serde_json.specs.{Data.{Data, Items, no_items, item}, Find.{get, as_array}, Read.{read}}
 use Rattle.dsa_regs.specs.{declared.Caps.{Caps}, Caps.{check_caps}}
@@ -41,6 +41,11 @@ pub record IsDocument (bytes : List ℕ) (caps : Caps) (capacity : ℕ) (actions
   pub head : HasHead bytes caps capacity steps
   pub asked : map action_of steps ≡ map Some actions
 
+-- a device of these caps can be made, with a history of this capacity (profile)
+pub record IsOpenable (caps : Caps) (capacity : ℕ) : Type 0 where
+  pub good : check_caps caps ≡ true
+  pub small : capacity ≤ 2 ^ 20
+
 -- ---- faults, in their order
 
 -- the bytes are no JSON value
@@ -53,6 +58,10 @@ pub record HasNoHead (bytes : List ℕ) : Type 0 where
   pub json : IsJson bytes document
   pub none : head_of document ≡ None
 
+-- each object is a step object
+abbrev pub AreSteps : List Data → Type 0
+AreSteps steps = (actions : List Action) × (map action_of steps ≡ map Some actions)
+
 -- object i is no step object, and all before it are (profile)
 pub record IsBadAt (steps : List Data) (i : ℕ) : Type 0 where
   pub done : List Action
@@ -64,36 +73,30 @@ abbrev pub IsFirstBad : List Data → ScenarioFault → Type 0
 IsFirstBad steps (BadStep i) = IsBadAt steps i
 IsFirstBad steps _ = ⊥
 
--- item i of the steps is the first that is no step object (profile)
-pub record HasBadStep (bytes : List ℕ) (i : ℕ) : Type 0 where
+-- the fault says why no device can be made: none has the caps, or the capacity is above 2^20 (profile)
+abbrev pub IsOpeningFault : Caps → ℕ → ScenarioFault → Type 0
+IsOpeningFault caps capacity BadCaps = check_caps caps ≡ false
+IsOpeningFault caps capacity BadCapacity = (check_caps caps ≡ true) × (2 ^ 20 < capacity)
+IsOpeningFault caps capacity _ = ⊥
+
+-- the first fault of these caps, this capacity and these objects: that of the objects comes first (profile)
+abbrev pub IsFaultOfHead : Caps → ℕ → List Data → ScenarioFault → Type 0
+IsFaultOfHead caps capacity steps (BadStep i) = IsBadAt steps i
+IsFaultOfHead caps capacity steps fault = AreSteps steps × IsOpeningFault caps capacity fault
+
+-- the bytes are a JSON value, and its caps, its capacity and its step objects have this fault (profile)
+pub record HasFaultyHead (bytes : List ℕ) (fault : ScenarioFault) : Type 0 where
   pub caps : Caps
   pub capacity : ℕ
   pub steps : List Data
   pub head : HasHead bytes caps capacity steps
-  pub bad : IsBadAt steps i
-
--- all is well but the caps, which no device has (profile)
-pub record HasBadCaps (bytes : List ℕ) : Type 0 where
-  pub caps : Caps
-  pub capacity : ℕ
-  pub actions : List Action
-  pub document : IsDocument bytes caps capacity actions
-  pub bad : check_caps caps ≡ false
-
--- all is well but the capacity, which is above 2^20 (profile)
-pub record HasBadCapacity (bytes : List ℕ) : Type 0 where
-  pub caps : Caps
-  pub capacity : ℕ
-  pub actions : List Action
-  pub document : IsDocument bytes caps capacity actions
-  pub good : check_caps caps ≡ true
-  pub large : 2 ^ 20 < capacity
+  pub bad : IsFaultOfHead caps capacity steps fault
 
 -- the document has this fault, and none that comes before it (profile)
 abbrev pub IsFaultOf : List ℕ → ScenarioFault → Type 0
 IsFaultOf bytes NotJson = IsNoJson bytes
 IsFaultOf bytes BadDocument = HasNoHead bytes
-IsFaultOf bytes (BadStep i) = HasBadStep bytes i
-IsFaultOf bytes BadCaps = HasBadCaps bytes
-IsFaultOf bytes BadCapacity = HasBadCapacity bytes
+IsFaultOf bytes (BadStep i) = HasFaultyHead bytes (BadStep i)
+IsFaultOf bytes BadCaps = HasFaultyHead bytes BadCaps
+IsFaultOf bytes BadCapacity = HasFaultyHead bytes BadCapacity
 IsFaultOf bytes _ = ⊥

@@ -1,5 +1,5 @@
 -- What is told of a fault.
-use Rattle.std.specs.Prelude.{ℕ, List, ◌++◌, codes, decimal}
+use Rattle.std.specs.Prelude.{◌≡◌, ◌≢◌, ℕ, Bool, true, List, ◌++◌, codes, decimal, Result, OnOk, IfErr, IsErrOf}
 use Rattle.dsa_scenario.specs.declared.faults.ScenarioFault.{ScenarioFault, TheVariants.{Read, TooLong, NotJson}}
 use Rattle.dsa_scenario.specs.declared.faults.ScenarioFault.TheVariants.{BadDocument, BadStep, BadCaps, BadCapacity}
 use Rattle.dsa_scenario.specs.declared.faults.ScenarioFault.TheVariants.{Differs, Write, OutOfMemory}
@@ -20,3 +20,8 @@ fault_text OutOfMemory = codes "out of memory"
 -- the line of a fault (profile)
 abbrev pub fault_line : ScenarioFault → List ℕ
 fault_line fault = codes "dsa_run: " ++ fault_text fault ++ codes "\n"
+
+-- where this fault is told it is noted; else what is noted of it is what was before
+abbrev pub IsFaultNoted : {T : Type 0} → ScenarioFault → Result T ScenarioFault → Bool → Bool → Type 0
+IsFaultNoted fault result old new =
+    (IsErrOf result fault → new ≡ true) × OnOk result (new ≡ old) × IfErr result (λ e. e ≢ fault → new ≡ old)

@@ -1,8 +1,9 @@
 -- What is read of a document, and what is written.
-use Rattle.std.specs.Prelude.{◌≡◌, ◌⊎◌, ◌≤◌, ◌<◌, ℕ, ◌^◌, true, List, length, take, Option, ⊤}
+use Rattle.std.specs.Prelude.{◌≤◌, ◌<◌, ℕ, ◌^◌, List, length, take, Option, ⊤}
 use Rattle.std.specs.Io.KnownBytes.{Consumes, IsAtEnd, Appends}
-use Rattle.dsa_regs.specs.{declared.Caps.{Caps}, Caps.{check_caps}}
-use Rattle.dsa_scenario.specs.{declared.actions.Action.{Action}, Document.{IsDocument, IsFaultOf}, Run.{AreLinesOf}}
+use Rattle.dsa_regs.specs.declared.Caps.{Caps}
+use Rattle.dsa_scenario.specs.declared.actions.Action.{Action}
+use Rattle.dsa_scenario.specs.{Document.{IsDocument, IsOpenable, IsFaultOf}, Run.{AreLinesOf}}
 use Rattle.dsa_scenario.specs.declared.faults.ScenarioFault.{ScenarioFault}
 use Rattle.dsa_scenario.specs.declared.faults.ScenarioFault.TheVariants.{Read, TooLong, Write, OutOfMemory}
 
@@ -16,8 +17,7 @@ pub record IsRenderingOf (bytes lines : List ℕ) : Type 0 where
   pub capacity : ℕ
   pub actions : List Action
   pub document : IsDocument bytes caps capacity actions
-  pub good : check_caps caps ≡ true
-  pub small : capacity ≤ 2 ^ 20
+  pub opening : IsOpenable caps capacity
   pub lines_of_run : AreLinesOf caps capacity actions lines
 
 -- what the reader gave, by the bytes that it had and has left, gives rise to this fault (profile)
@@ -27,11 +27,6 @@ HasFault had left TooLong = (bytes : List ℕ) × Consumes had left bytes × (2 
 HasFault had left Write = ⊤
 HasFault had left OutOfMemory = ⊤
 HasFault had left fault = (bytes : List ℕ) × IsWholeDocument had left bytes × IsFaultOf bytes fault
-
--- the fault is of reading, of length, of writing or of memory, or the first that stands of all that the reader gave
-abbrev pub IsFirstOf : Option (List ℕ) → Option (List ℕ) → ScenarioFault → Type 0
-IsFirstOf had left fault = (fault ≡ Read) ⊎ (fault ≡ TooLong) ⊎ (fault ≡ Write) ⊎ (fault ≡ OutOfMemory)
-    ⊎ ((bytes : List ℕ) × IsWholeDocument had left bytes × IsFaultOf bytes fault)
 
 -- the reader gave a document, and the writer, which held and holds these bytes, took all of a text that is of it
 abbrev pub IsTextWritten : (List ℕ → List ℕ → Type 0) → Option (List ℕ) → Option (List ℕ) → Option (List ℕ)

@@ -1,12 +1,12 @@
 -- What is made of a run, step by step.
-use Rattle.std.specs.Prelude.{◌≡◌, ℕ, ◌≤◌, ◌^◌, true, List, [], ◌∷◌, ◌++◌, length, map, slice_get, unwrap_or}
+use Rattle.std.specs.Prelude.{◌≡◌, ℕ, true, List, [], ◌∷◌, ◌++◌, length, map, slice_get, unwrap_or}
 use Rattle.std.specs.Prelude.{Some, flat_map}
-use Rattle.dsa_regs.specs.{declared.Caps.{Caps}, Caps.{check_caps}}
+use Rattle.dsa_regs.specs.declared.Caps.{Caps}
 use Rattle.dsa_book.specs.declared.answer.Ticket.{Ticket}
 use Rattle.dsa_book.specs.{State.{State, opening}, Machine.{is_run, replay, stored_steps}}
 use Rattle.dsa_device.specs.{Running.{Running, running_at_first, IsReplay}, Runs.{IsRunOf}}
 use Rattle.dsa_scenario.specs.declared.{actions.Action.{Action}, run.Record.{Record}}
-use Rattle.dsa_scenario.specs.{Document.{IsDocument}, Lines.{line_of_text, record_text, row_text}}
+use Rattle.dsa_scenario.specs.{Document.{IsDocument, IsOpenable}, Lines.{line_of_text, record_text, row_text}}
 use Rattle.dsa_scenario.specs.Run.{steps_of_records, AreOf, IsTable}
 
 -- how a device stands that has come by these records
@@ -37,6 +37,12 @@ visits caps capacity before (entry ∷ entries) =
     let records = before ++ entry ∷ [] in
     visit (length before) (standing caps capacity before) entry (standing caps capacity records)
     ∷ visits caps capacity records entries
+
+-- a new device of these caps and this capacity, which gave no ticket
+pub record IsAtFirst (caps : Caps) (capacity : ℕ) (now : Running) (tickets : List Ticket) : Type 0 where
+  pub device : now ≡ running_at_first caps capacity
+  pub replay : IsReplay now
+  pub none : tickets ≡ []
 
 -- so far a device has come by these actions, with these tickets by name, and this page is of its steps (profile)
 pub record IsWalkTo {Page : Type 0} (is_page : List Visit → Page → Type 0) (caps : Caps) (capacity : ℕ)
@@ -69,8 +75,7 @@ pub record IsTextOfDocument (is_text : List Visit → Running → List ℕ → T
   pub capacity : ℕ
   pub actions : List Action
   pub document : IsDocument bytes caps capacity actions
-  pub good : check_caps caps ≡ true
-  pub small : capacity ≤ 2 ^ 20
+  pub opening : IsOpenable caps capacity
   pub of_run : IsTextOfRun is_text caps capacity actions text
 
 -- the line of a step of a run (profile)

@@ -1,7 +1,8 @@
 -- A writer that is watched.
-use Rattle.std.specs.Prelude.{◌≡◌, ℕ, Bool, true, List, Option, Result, OnOk, IsErrOf}
+use Rattle.std.specs.Prelude.{◌≡◌, ℕ, Bool, List, Option, Result}
 use Rattle.dsa_scenario.specs.declared.watched.WatchedWriter.{WatchedWriter}
 use Rattle.dsa_scenario.specs.declared.faults.ScenarioFault.{ScenarioFault, TheVariants.{Write}}
+use Rattle.dsa_scenario.specs.Faults.{IsFaultNoted}
 
 -- the bytes that the writer holds, where they are known
 abbrev pub watched_contents : {W : Type 0} → (W → Option (List ℕ)) → WatchedWriter W → Option (List ℕ)
@@ -19,7 +20,7 @@ is_closed watched = watched.closed
 abbrev pub IsSameWriter : {W : Type 0} → WatchedWriter W → WatchedWriter W → Type 0
 IsSameWriter old new = new.writer.ghost_name ≡ old.writer.ghost_name
 
--- where the fault of writing is told, a refusal is noted of the writer; where none is told, what was before
-abbrev pub IsRefusalNoted : {T W : Type 0} → Result T ScenarioFault → WatchedWriter W → WatchedWriter W → Type 0
-IsRefusalNoted result old new = (IsErrOf result Write → has_refused new ≡ true)
-    × OnOk result (has_refused new ≡ has_refused old)
+-- what a call with this result did to its writer: it is the same one, and the fault of writing is told of what it did
+pub record IsWrittenFor {T W : Type 0} (result : Result T ScenarioFault) (old new : WatchedWriter W) : Type 0 where
+  pub same : IsSameWriter old new
+  pub refused : IsFaultNoted Write result (has_refused old) (has_refused new)

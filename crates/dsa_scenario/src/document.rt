@@ -1,29 +1,18 @@
 //! Documents: JSON texts with the caps, the capacity and the steps of a scenario.
 
-ghost use Rattle.std.specs.Prelude.{◌≡◌, ◌⊎◌, ◌^◌, ◌≤◌, ◌<◌, true, false, codes, map, Some, None, option_map, option_and_then, IfOk, IfErr, OnOk};
+ghost use Rattle.std.specs.Prelude.{◌≡◌, ◌⊎◌, map, option_map, IfOk, IfErr, IfNone, IfSome, OnOk, MatchOption};
 ghost use Rattle.serde_json.specs.View.{view, items_view};
-ghost use Rattle.serde_json.specs.Find.{get};
 ghost use Rattle.serde_json.specs.Errors.{IsMemory};
-ghost use Rattle.dsa_regs.specs.Caps.{check_caps};
-ghost use Rattle.dsa_scenario.specs.Actions.{action_of};
-ghost use Rattle.dsa_scenario.specs.Document.{head_of, IsFirstBad, IsJson, IsNoJson, IsDocument, IsFaultOf};
+ghost use Rattle.dsa_scenario.specs.Document.{head_of, AreSteps, IsBadAt, IsFaultOfHead, IsJson, IsNoJson};
+ghost use Rattle.dsa_scenario.specs.Document.{IsOpenable, IsOpeningFault};
 
-use crate::actions::{Action, parse_action, parse_caps};
+use crate::actions::{parse_action, parse_caps};
 use crate::faults::ScenarioFault;
 use crate::fields::u64_field;
 use dsa_device::{MakeFault, check_opening};
 use dsa_regs::Caps;
 use serde_json::{Error, Value};
 use std::alloc::Global;
-
-/// A document that is read: the capabilities of the device, the capacity of its history, and what
-/// is asked of it.
-#[derive(Drop)]
-pub struct Document {
-    pub caps: Caps,
-    pub capacity: u64,
-    pub actions: Vec<Action>,
-}
 
 /// The three keys of a document.
 #[derive(Drop)]
@@ -72,63 +61,44 @@ pub fn parse_head(document: &Value) -> Option<Head<'_>>
     })
 }
 
-/// What the step objects ask.
-pub fn parse_actions(alloc: Global, steps: &[Value]) -> Result<Vec<Action>, ScenarioFault>
-    ensures ok { IfOk result
-        (λ actions. map action_of (map view steps.now) ≡ map Some actions.items) }
-    ensures bad { IfErr result
-        (λ e. (e ≡ ScenarioFault.OutOfMemory) ⊎ IsFirstBad (map view steps.now) e) }
+// The first item that is no step object, by its number.
+fn first_bad(steps: &[Value]) -> Option<usize>
+    ensures { MatchOption result (AreSteps (map view steps.now)) (IsBadAt (map view steps.now)) }
 {
-    let mut actions = Vec::with_capacity(alloc, steps.len())?;
     for (i, step) in steps.iter().enumerate() {
-        match parse_action(step) {
-            Some(action) => actions.push(action)?,
-            None => return Err(ScenarioFault::BadStep(i as u64)),
-        }
+        let Some(_) = parse_action(step) else {
+            return Some(i);
+        };
     }
-    Ok(actions)
+    None
 }
 
-/// Reads a document. `NotJson`, `BadDocument` or `BadStep` says the first fault that stands.
-pub fn parse_document(alloc: Global, bytes: &[u8]) -> Result<Document, ScenarioFault>
-    ensures ok { IfOk result (λ d. IsDocument bytes.now d.caps d.capacity d.actions.items) }
-    ensures err { IfErr result (λ e. (e ≡ ScenarioFault.OutOfMemory) ⊎ IsFaultOf bytes.now e) }
-{
-    let value = parse_json(alloc, bytes)?;
-    let Some(head) = parse_head(&value) else {
-        return Err(ScenarioFault::BadDocument);
-    };
-    let actions = parse_actions(alloc, head.steps)?;
-    Ok(Document {
-        caps: head.caps,
-        capacity: head.capacity,
-        actions,
-    })
-}
-
-/// Whether a device can have these capabilities, and a history of this capacity.
-pub fn check_head(caps: &Caps, capacity: u64) -> Result<(), ScenarioFault>
-    ensures caps { OnOk result (check_caps caps.now ≡ true) }
-    ensures capacity { OnOk result (capacity ≤ 2 ^ 20) }
-    ensures bad { IfErr result (λ e. ((e ≡ ScenarioFault.BadCaps) × (check_caps caps.now ≡ false))
-        ⊎ ((e ≡ ScenarioFault.BadCapacity) × (check_caps caps.now ≡ true) × (2 ^ 20 < capacity))) }
+// What keeps a device from being made as the head says.
+fn opening_fault(caps: &Caps, capacity: u64) -> Option<ScenarioFault>
+    ensures none { IfNone result (IsOpenable caps.now capacity) }
+    ensures some { IfSome result (IsOpeningFault caps.now capacity) }
 {
     match check_opening(caps, capacity) {
-        None => Ok(()),
-        Some(MakeFault::BadCaps) => Err(ScenarioFault::BadCaps),
-        Some(_) => Err(ScenarioFault::BadCapacity),
+        None => None,
+        Some(MakeFault::BadCaps) => Some(ScenarioFault::BadCaps),
+        Some(_) => Some(ScenarioFault::BadCapacity),
     }
 }
 
-/// Whether a device can be made as the document says.
-pub fn check_document(document: &Document) -> Result<(), ScenarioFault>
-    ensures caps { OnOk result (check_caps document.now.caps ≡ true) }
-    ensures capacity { OnOk result (document.now.capacity ≤ 2 ^ 20) }
-    ensures bad { IfErr result
-        (λ e. ((e ≡ ScenarioFault.BadCaps) × (check_caps document.now.caps ≡ false))
-        ⊎ ((e ≡ ScenarioFault.BadCapacity)
-        × (check_caps document.now.caps ≡ true)
-        × (2 ^ 20 < document.now.capacity))) }
+/// Whether a device can be made as the head says.
+///
+/// A step object that is none comes before a fault of the device, so all of them are read before
+/// that is told.
+pub fn check_head(head: &Head<'_>) -> Result<(), ScenarioFault>
+    ensures opening { OnOk result (IsOpenable head.now.caps head.now.capacity) }
+    ensures fault { IfErr result
+        (IsFaultOfHead head.now.caps head.now.capacity (map view head.now.steps.now)) }
 {
-    check_head(&document.caps, document.capacity)
+    let Some(fault) = opening_fault(&head.caps, head.capacity) else {
+        return Ok(());
+    };
+    match first_bad(head.steps) {
+        Some(i) => Err(ScenarioFault::BadStep(i as u64)),
+        None => Err(fault),
+    }
 }

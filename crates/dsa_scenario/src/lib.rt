@@ -12,6 +12,7 @@ mod document;
 mod faults;
 mod fields;
 mod lines;
+mod opening;
 mod reading;
 mod rendering;
 pub mod rows;
@@ -23,17 +24,15 @@ mod writing;
 
 pub use actions::{Action, parse_action, parse_caps};
 pub use counted::CountedReader;
-pub use document::{
-    Document, Head, check_document, check_head, parse_actions, parse_document, parse_head,
-    parse_json,
-};
+pub use document::{Head, check_head, parse_head, parse_json};
 pub use faults::ScenarioFault;
 pub use fields::{bytes_of_hex, u64_field};
 pub use lines::{add_answer, add_record, add_rows};
+pub use opening::{MakeStore, Run, open_run};
 pub use reading::MAX_READS;
 pub use rendering::{Render, Rendering, render_counted, render_input};
 pub use run::{Record, ask, event_for, note_ticket};
-pub use scenario::{PlainRun, run_document, run_scenario};
-pub use steps::{RenderSteps, render_run, render_steps};
+pub use scenario::{PlainRun, run_scenario};
+pub use steps::{RenderSteps, render_over, render_steps};
 pub use watched::WatchedWriter;
 pub use writing::write_text;

@@ -1,9 +1,8 @@
 //! Reading a document.
 
 ghost use Rattle.std.specs.Prelude.{◌≡◌, ◌<◌, ◌≤◌, ◌+◌, ◌⊎◌, ℕ, List, length, vec_len, IfOk, IfErr, IsErrOf};
-ghost use Rattle.std.specs.Io.KnownBytes.{Consumes, IsAtEnd};
-ghost use Rattle.dsa_scenario.specs.Counted.{counted_remaining, asked_of};
-ghost use Rattle.dsa_scenario.specs.Counted.{IsSameReader, IsAskedFor, IsFailureNoted};
+ghost use Rattle.std.specs.Io.KnownBytes.{IsAtEnd};
+ghost use Rattle.dsa_scenario.specs.Counted.{counted_remaining, asked_of, HasGiven, IsReadFor};
 
 use crate::counted::CountedReader;
 use crate::faults::ScenarioFault;
@@ -25,24 +24,20 @@ pub fn read_document<R: Read>(
     alloc: Global,
     reader: &mut CountedReader<'_, R>,
 ) -> Result<Vec<u8>, ScenarioFault>
-    ensures same_reader { IsSameReader reader.old reader.new }
+    ensures reader { IsReadFor R.remaining result reader.old reader.new }
     ensures reads { asked_of reader.new ≤ asked_of reader.old + MAX_READS }
-    ensures asked { IsAskedFor R.remaining reader.old reader.new 1 }
-    ensures bytes { IfOk result (λ bytes. Consumes (counted_remaining R.remaining reader.old)
-        (counted_remaining R.remaining reader.new) bytes.items) }
+    ensures bytes { IfOk result
+        (λ bytes. HasGiven R.remaining reader.old reader.new bytes.items) }
     ensures end { IfOk result (λ bytes. IsAtEnd (counted_remaining R.remaining reader.new)) }
     ensures fits { IfOk result (λ bytes. vec_len bytes ≤ MAX_DOCUMENT) }
 
     // `TooLong` is told of more bytes than a document has, and `Read` of an error that came before.
     ensures too_long { IsErrOf result ScenarioFault.TooLong → (bytes : List ℕ)
-        × Consumes (counted_remaining R.remaining reader.old)
-        (counted_remaining R.remaining reader.new) bytes
+        × HasGiven R.remaining reader.old reader.new bytes
         × (MAX_DOCUMENT < length bytes) }
     ensures read { IsErrOf result ScenarioFault.Read → (bytes : List ℕ)
-        × Consumes (counted_remaining R.remaining reader.old)
-        (counted_remaining R.remaining reader.new) bytes
+        × HasGiven R.remaining reader.old reader.new bytes
         × (length bytes ≤ MAX_DOCUMENT) }
-    ensures failed { IsFailureNoted result reader.old reader.new }
     ensures faults { IfErr result
         (λ e. (e ≡ ScenarioFault.Read)
         ⊎ (e ≡ ScenarioFault.TooLong)

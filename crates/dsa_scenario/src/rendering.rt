@@ -3,12 +3,11 @@
 
 ghost use Rattle.std.specs.Prelude.{◌≡◌, ◌≢◌, ◌⊎◌, ◌<◌, ◌≤◌, ◌+◌, List, Option, ℕ, length, take, IfOk, IfErr, IsErrOf, string_bytes};
 ghost use Rattle.std.specs.Io.KnownBytes.{Appends};
-ghost use Rattle.dsa_scenario.specs.Counted.{counted_remaining, asked_of};
-ghost use Rattle.dsa_scenario.specs.Counted.{IsSameReader, IsAskedFor, IsFailureNoted};
+ghost use Rattle.dsa_scenario.specs.Counted.{counted_remaining, asked_of, IsReadFor};
 ghost use Rattle.dsa_scenario.specs.declared.faults.ScenarioFault.{ScenarioFault};
 ghost use Rattle.dsa_scenario.specs.Document.{IsFaultOf};
-ghost use Rattle.dsa_scenario.specs.Scenario.{HasFault, IsFirstOf, IsTextWritten, IsTextCutShort};
-ghost use Rattle.dsa_scenario.specs.Watched.{watched_contents, IsSameWriter, IsRefusalNoted};
+ghost use Rattle.dsa_scenario.specs.Scenario.{HasFault, IsTextWritten, IsTextCutShort};
+ghost use Rattle.dsa_scenario.specs.Watched.{watched_contents, IsWrittenFor};
 
 use crate::counted::CountedReader;
 use crate::faults::ScenarioFault;
@@ -56,10 +55,9 @@ pub fn render_counted<D: Render, R: Read, W: Write>(
     reader: &mut CountedReader<'_, R>,
     writer: &mut WatchedWriter<'_, W>,
 ) -> Result<Option<ScenarioFault>, ScenarioFault>
-    ensures same_reader { IsSameReader reader.old reader.new }
-    ensures same_writer { IsSameWriter writer.old writer.new }
+    ensures reader { IsReadFor R.remaining result reader.old reader.new }
+    ensures writer { IsWrittenFor result writer.old writer.new }
     ensures reads { asked_of reader.new ≤ asked_of reader.old + MAX_READS }
-    ensures asked { IsAskedFor R.remaining reader.old reader.new 1 }
     ensures ok { IfOk result
         (λ fault. IsTextWritten (λ bytes text. D.is_rendering what.now bytes fault text)
         (counted_remaining R.remaining reader.old)
@@ -71,20 +69,11 @@ pub fn render_counted<D: Render, R: Read, W: Write>(
     ensures prefix { IsErrOf result ScenarioFault.Write → IsTextCutShort (D.is_rendering what.now)
         (counted_remaining R.remaining reader.old) (counted_remaining R.remaining reader.new)
         (watched_contents W.contents writer.old) (watched_contents W.contents writer.new) }
-    ensures refused { IsRefusalNoted result writer.old writer.new }
-
-    // A fault of the document is the first that stands.
-    ensures document { IfErr result (λ e. IsFirstOf (counted_remaining R.remaining reader.old)
-        (counted_remaining R.remaining reader.new) e) }
 
     // `TooLong` is told of more bytes than a document has, and `Read` of an error that came before.
-    ensures too_long { IsErrOf result ScenarioFault.TooLong
-        → HasFault (counted_remaining R.remaining reader.old)
-        (counted_remaining R.remaining reader.new) ScenarioFault.TooLong }
-    ensures read { IsErrOf result ScenarioFault.Read
-        → HasFault (counted_remaining R.remaining reader.old)
-        (counted_remaining R.remaining reader.new) ScenarioFault.Read }
-    ensures failed { IsFailureNoted result reader.old reader.new }
+    // A fault of the document is the first that stands.
+    ensures fault { IfErr result (HasFault (counted_remaining R.remaining reader.old)
+        (counted_remaining R.remaining reader.new)) }
 {
     let bytes = read_document(alloc, reader)?;
     write_rendering(alloc, what, &bytes, writer)
@@ -97,7 +86,7 @@ fn write_rendering<D: Render, W: Write>(
     bytes: &[u8],
     writer: &mut WatchedWriter<'_, W>,
 ) -> Result<Option<ScenarioFault>, ScenarioFault>
-    ensures same_writer { IsSameWriter writer.old writer.new }
+    ensures writer { IsWrittenFor result writer.old writer.new }
     ensures ok { IfOk result
         (λ fault. (text : List ℕ)
         × D.is_rendering what.now bytes.now fault text
@@ -114,7 +103,6 @@ fn write_rendering<D: Render, W: Write>(
         × (count < length text)
         × Appends (watched_contents W.contents writer.old)
         (watched_contents W.contents writer.new) (take count text) }
-    ensures refused { IsRefusalNoted result writer.old writer.new }
 
     // Any other fault than of writing and of memory is the document's.
     ensures document { IfErr result
@@ -128,36 +116,25 @@ fn write_rendering<D: Render, W: Write>(
 /// Reads one document to the end of input and writes what `what` makes of it. It gives the fault
 /// that is told after the text.
 ///
-/// All of it is the work of [`render_counted`], which is lent the reader as one that is counted
-/// and the writer as one that is watched.
+/// All of it is the work of [`render_counted`], which is lent the reader as one that is counted.
 pub fn render_input<D: Render, R: Read, W: Write>(
     alloc: Global,
     what: &D,
     reader: &mut R,
-    writer: &mut W,
+    writer: &mut WatchedWriter<'_, W>,
 ) -> Result<Option<ScenarioFault>, ScenarioFault>
+    ensures writer { IsWrittenFor result writer.old writer.new }
     ensures ok { IfOk result
         (λ fault. IsTextWritten (λ bytes text. D.is_rendering what.now bytes fault text)
-        (R.remaining reader.old) (R.remaining reader.new) (W.contents writer.old)
-        (W.contents writer.new)) }
+        (R.remaining reader.old) (R.remaining reader.new)
+        (watched_contents W.contents writer.old) (watched_contents W.contents writer.new)) }
 
     // Only `Write` may have written, and then some of such a text.
     ensures nothing { IfErr result (λ e. e ≢ ScenarioFault.Write → writer.new ≡ writer.old) }
     ensures prefix { IsErrOf result ScenarioFault.Write → IsTextCutShort (D.is_rendering what.now)
         (R.remaining reader.old) (R.remaining reader.new)
-        (W.contents writer.old) (W.contents writer.new) }
-
-    // A fault of the document is the first that stands.
-    ensures document { IfErr result
-        (λ e. IsFirstOf (R.remaining reader.old) (R.remaining reader.new) e) }
-
-    // `TooLong` is told of more bytes than a document has, and `Read` of an error that came before.
-    ensures too_long { IsErrOf result ScenarioFault.TooLong
-        → HasFault (R.remaining reader.old) (R.remaining reader.new) ScenarioFault.TooLong }
-    ensures read { IsErrOf result ScenarioFault.Read
-        → HasFault (R.remaining reader.old) (R.remaining reader.new) ScenarioFault.Read }
+        (watched_contents W.contents writer.old) (watched_contents W.contents writer.new) }
+    ensures fault { IfErr result (HasFault (R.remaining reader.old) (R.remaining reader.new)) }
 {
-    let mut reader = CountedReader::new(reader);
-    let mut writer = WatchedWriter::new(writer);
-    render_counted(alloc, what, &mut reader, &mut writer)
+    render_counted(alloc, what, &mut CountedReader::new(reader), writer)
 }

@@ -23,16 +23,19 @@ ghost use Rattle.dsa_book.specs.declared.fate.Fate.TheVariants.{Completed, Abort
 ghost use Rattle.dsa_scenario.specs.declared.actions.Action.TheVariants.{Ask, Finish, Refuse};
 ghost use Rattle.dsa_scenario.specs.declared.counted.CountedReader.{CountedReader};
 ghost use Rattle.dsa_scenario.specs.declared.faults.ScenarioFault.{ScenarioFault};
-ghost use Rattle.dsa_scenario.specs.declared.faults.ScenarioFault.TheVariants.{NotJson, BadDocument, BadStep, BadCaps, BadCapacity, Differs};
+ghost use Rattle.dsa_scenario.specs.declared.faults.ScenarioFault.TheVariants.{Read, TooLong, NotJson, BadDocument, BadStep, BadCaps, BadCapacity, Differs, Write, OutOfMemory};
 ghost use Rattle.dsa_scenario.specs.declared.run.Record.TheVariants.{Refused};
+ghost use Rattle.dsa_scenario.specs.declared.watched.WatchedWriter.{WatchedWriter};
 ghost use Rattle.dsa_scenario.specs.Fields.{whole_of, truth_of, text_of, hex_bytes_of};
 ghost use Rattle.dsa_scenario.specs.Actions.{caps_of, action_of};
-ghost use Rattle.dsa_scenario.specs.Counted.{counted_remaining, asked_of, has_reader_failed};
-ghost use Rattle.dsa_scenario.specs.Counted.{IsAskedFor, IsFailureNoted};
+ghost use Rattle.dsa_scenario.specs.Counted.{counted_remaining, asked_of, given_of, has_reader_failed};
+ghost use Rattle.dsa_scenario.specs.Counted.{HasGiven, IsAskedFor, IsReadFor};
 ghost use Rattle.dsa_scenario.specs.Document.{head_of, list_of_items, IsFaultOf};
+ghost use Rattle.dsa_scenario.specs.Faults.{IsFaultNoted};
 ghost use Rattle.dsa_scenario.specs.Lines.{reply_text, record_text, row_text, lines_of_run};
 ghost use Rattle.dsa_scenario.specs.Run.{ticket_of_name, event_of, steps_of_records, AreLinesOf};
-ghost use Rattle.dsa_scenario.specs.Scenario.{IsRenderingOf};
+ghost use Rattle.dsa_scenario.specs.Scenario.{HasFault, IsRenderingOf, IsTextCutShort, IsTextWritten, IsWholeDocument};
+ghost use Rattle.dsa_scenario.specs.Watched.{has_refused, IsWrittenFor};
 ghost use Rattle.dsa_scenario.specs.Worked.{actions_of_a_run, caps_of_a_run, lines_of_a_run, whole, read_number, fate, smallest_caps_text, no_caps_text, document_text, object_of, changed, texts, takes, refuses, needs_each, are_below, is_truth, is_text, some_caps, some_document, queue_step, group_step, fill_text, fill, enqcmd_step, movdir_step, dispatch_step, fetch_step, start_step, finish_step, command_step, poll_step, clear_step, record_ticket, stepped, accepted, record_of_a_fetch};
 
 /// Numbers are whole, without sign, and below the limit of their field; the key stands in an
@@ -436,28 +439,75 @@ pub fn a_run()
     ensures { AreLinesOf caps_of_a_run 7 actions_of_a_run lines_of_a_run }
 {}
 
-/// How often a reader is asked, by the bytes that it had and has left, and which faults are told of
-/// what was noted of it.
+/// How often a reader is asked, by the bytes that it had and has left, and which faults are told.
 pub fn reads()
     ensures asked_for_a_byte { (old : CountedReader (List ℕ)) (new : CountedReader (List ℕ))
         → counted_remaining Some old ≡ Some (codes "12")
-        → counted_remaining Some new ≡ Some (codes "2") → asked_of new ≡ asked_of old + 1
+        → counted_remaining Some new ≡ Some (codes "2") → given_of new ≡ given_of old + 1
+        → asked_of new ≡ asked_of old + 1
         → IsAskedFor Some old new 0 }
     ensures asked_twice_for_it { (old : CountedReader (List ℕ)) (new : CountedReader (List ℕ))
-        → counted_remaining Some old ≡ Some (codes "12")
-        → counted_remaining Some new ≡ Some (codes "2") → asked_of new ≡ asked_of old + 2
+        → given_of new ≡ given_of old + 1
+        → asked_of new ≡ asked_of old + 2
         → ¬ IsAskedFor Some old new 0 }
     ensures asked_besides { (old : CountedReader (List ℕ)) (new : CountedReader (List ℕ))
         → counted_remaining Some old ≡ Some (codes "12")
-        → counted_remaining Some new ≡ Some (codes "2") → asked_of new ≡ asked_of old + 2
+        → counted_remaining Some new ≡ Some (codes "2") → given_of new ≡ given_of old + 1
+        → asked_of new ≡ asked_of old + 2
         → IsAskedFor Some old new 1 }
-    ensures read_without_an_error { (old : CountedReader (List ℕ)) (new : CountedReader (List ℕ))
-        → has_reader_failed new ≡ false
-        → ¬ IsFailureNoted {T = ℕ} (Err ScenarioFault.Read) old new }
+    ensures given_uncounted { (old : CountedReader (List ℕ)) (new : CountedReader (List ℕ))
+        → given_of new ≡ given_of old
+        → ¬ HasGiven Some old new (codes "1") }
+    ensures more_than_it_had { (old : CountedReader (List ℕ)) (new : CountedReader (List ℕ))
+        → counted_remaining Some old ≡ Some (codes "1")
+        → counted_remaining Some new ≡ Some []
+        → ¬ HasGiven Some old new (codes "12") }
     ensures error_untold { (old : CountedReader (List ℕ)) (new : CountedReader (List ℕ))
         → has_reader_failed old ≡ false → has_reader_failed new ≡ true
-        → ¬ IsFailureNoted {T = ℕ} (Ok 0) old new }
-    ensures error_told_as_another { (old : CountedReader (List ℕ)) (new : CountedReader (List ℕ))
-        → has_reader_failed old ≡ false → has_reader_failed new ≡ true
-        → ¬ IsFailureNoted {T = ℕ} (Err ScenarioFault.OutOfMemory) old new }
+        → ¬ IsReadFor {T = ℕ} Some (Ok 0) old new }
+    ensures long_enough { (old : CountedReader (List ℕ)) (new : CountedReader (List ℕ))
+        → given_of new ≡ given_of old + 1_048_576
+        → ¬ IsReadFor {T = ℕ} Some (Err ScenarioFault.TooLong) old new }
+{}
+
+/// Which faults are told of what was noted, and of what was noted of a writer.
+pub fn notes()
+    ensures told_without_a_note { ¬ IsFaultNoted {T = ℕ} ScenarioFault.Read
+        (Err ScenarioFault.Read) false false }
+    ensures untold { ¬ IsFaultNoted {T = ℕ} ScenarioFault.Read (Ok 0) false true }
+    ensures told_as_another { ¬ IsFaultNoted {T = ℕ} ScenarioFault.Write
+        (Err ScenarioFault.OutOfMemory) false true }
+    ensures refusal_untold { (old : WatchedWriter (List ℕ)) (new : WatchedWriter (List ℕ))
+        → has_refused old ≡ false → has_refused new ≡ true
+        → ¬ IsWrittenFor {T = ℕ} (Ok 0) old new }
+{}
+
+/// Bytes that are a whole document, and those that are not: more are left, or others were read.
+pub fn whole_documents()
+    ensures whole { IsWholeDocument (Some (codes "ab")) (Some []) (codes "ab") }
+    ensures unknown { IsWholeDocument None None (codes "ab") }
+    ensures others { ¬ IsWholeDocument (Some (codes "ab")) (Some []) (codes "b") }
+    ensures more_left { ¬ IsWholeDocument (Some (codes "abc")) (Some (codes "c")) (codes "ab") }
+{}
+
+/// The faults that what a reader gave may give rise to.
+pub fn faults_of_what_was_read()
+    ensures reading { HasFault (Some (codes "abc")) (Some (codes "c")) Read }
+    ensures unread { ¬ HasFault (Some []) (Some (codes "c")) Read }
+    ensures no_length { ¬ HasFault (Some (codes "abc")) (Some []) TooLong }
+    ensures writing { HasFault (Some []) (Some (codes "c")) Write }
+    ensures memory_alone { HasFault (Some []) (Some (codes "c")) OutOfMemory }
+    ensures not_told { ¬ HasFault (Some []) (Some (codes "c")) BadCaps }
+{}
+
+/// Texts of a document that were written, whole or cut short.
+pub fn texts_written()
+    ensures whole { IsTextWritten (λ bytes text. bytes ≡ text) (Some (codes "ab")) (Some [])
+        (Some (codes "x")) (Some (codes "xab")) }
+    ensures another { ¬ IsTextWritten (λ bytes text. bytes ≡ text) (Some (codes "ab")) (Some [])
+        (Some (codes "x")) (Some (codes "xb")) }
+    ensures cut { IsTextCutShort (λ bytes fault text. bytes ≡ text) (Some (codes "ab")) (Some [])
+        (Some (codes "x")) (Some (codes "xa")) }
+    ensures not_cut { ¬ IsTextCutShort (λ bytes fault text. bytes ≡ text) (Some (codes "ab"))
+        (Some []) (Some (codes "x")) (Some (codes "xab")) }
 {}

@@ -1,17 +1,15 @@
 //! A document in, its lines out.
 
-ghost use Rattle.std.specs.Prelude.{◌≡◌, ◌≢◌, [], None, OnOk, IfOk, IfErr, IsErrOf, flat_map, string_bytes};
-ghost use Rattle.dsa_device.specs.Made.{make_fault};
-ghost use Rattle.dsa_scenario.specs.Run.{AreLinesOf};
-ghost use Rattle.dsa_scenario.specs.Scenario.{HasFault, IsCutShort, IsFirstOf, IsRenderingOf, IsTextWritten};
+ghost use Rattle.std.specs.Prelude.{◌≡◌, ◌≢◌, [], None, OnOk, IfErr, IsErrOf, flat_map, string_bytes};
+ghost use Rattle.dsa_scenario.specs.Scenario.{HasFault, IsCutShort, IsRenderingOf, IsTextWritten};
 ghost use Rattle.dsa_scenario.specs.Steps.{line_of_step, AreLinesOfSteps};
 
-use crate::document::Document;
 use crate::faults::ScenarioFault;
 use crate::lines::{add_record, add_rows};
 use crate::rendering::{Render, Rendering, render_input};
 use crate::run::Record;
-use crate::steps::{RenderSteps, render_steps, walk_action};
+use crate::steps::{RenderSteps, render_steps};
+use crate::watched::WatchedWriter;
 use dsa_book::Event;
 use dsa_device::Device;
 use dsa_regs::Fault;
@@ -81,44 +79,9 @@ impl Render for PlainRun {
     }
 }
 
-/// The lines of a run of the document on a new device over this store, which is to be an empty one
-/// with the lists and the cells of such a device.
-pub fn run_document<S: EntryStore>(
-    alloc: Global,
-    store: S,
-    document: &Document,
-) -> Result<String, AllocError>
-    requires { make_fault document.now.caps document.now.capacity (S.cells store) (S.content store)
-        ≡ None }
-    ensures { IfOk result
-        (λ text. AreLinesOf document.now.caps document.now.capacity document.now.actions.items
-        (string_bytes text)) }
-{
-    let made = Device::new(alloc, store, document.caps, document.capacity);
-    let Ok(mut device) = made else {
-        return Err(AllocError);
-    };
-    device.state_is_replay();
-    let mut tickets = Vec::new(alloc);
-    let mut page = PlainRun.open(alloc);
-    for (i, action) in document.actions.iter().enumerate() {
-        walk_action(
-            alloc,
-            &PlainRun,
-            &mut device,
-            &mut tickets,
-            &mut page,
-            i,
-            *action,
-        )?;
-    }
-    let text = PlainRun.finish(alloc, page, &device)?;
-    Ok(text)
-}
-
 /// Reads one document to the end of input, runs it and writes its lines.
 ///
-/// All of it is the work of [`render_input`].
+/// All of it is the work of [`render_input`], which is lent the writer as one that is watched.
 pub fn run_scenario<R: Read, W: Write>(
     alloc: Global,
     reader: &mut R,
@@ -134,16 +97,8 @@ pub fn run_scenario<R: Read, W: Write>(
         (R.remaining reader.old) (R.remaining reader.new)
         (W.contents writer.old) (W.contents writer.new) }
 
-    // A fault of the document is the first that stands.
-    ensures document { IfErr result
-        (λ e. IsFirstOf (R.remaining reader.old) (R.remaining reader.new) e) }
-
-    // `TooLong` is told of more bytes than a document has, and `Read` of an error that came before.
-    ensures too_long { IsErrOf result ScenarioFault.TooLong
-        → HasFault (R.remaining reader.old) (R.remaining reader.new) ScenarioFault.TooLong }
-    ensures read { IsErrOf result ScenarioFault.Read
-        → HasFault (R.remaining reader.old) (R.remaining reader.new) ScenarioFault.Read }
+    ensures fault { IfErr result (HasFault (R.remaining reader.old) (R.remaining reader.new)) }
 {
-    render_input(alloc, &PlainRun, reader, writer)?;
+    render_input(alloc, &PlainRun, reader, &mut WatchedWriter::new(writer))?;
     Ok(())
 }

@@ -1,8 +1,8 @@
 //! Writing the lines.
 
-ghost use Rattle.std.specs.Prelude.{◌≡◌, ◌≤◌, ◌<◌, true, ℕ, List, length, take, OnOk, OnErr, IfErr};
+ghost use Rattle.std.specs.Prelude.{◌≡◌, ◌<◌, ℕ, length, take, OnOk, IfErr};
 ghost use Rattle.std.specs.Io.KnownBytes.{Appends};
-ghost use Rattle.dsa_scenario.specs.Watched.{watched_contents, has_refused, IsSameWriter};
+ghost use Rattle.dsa_scenario.specs.Watched.{watched_contents, IsWrittenFor};
 
 use crate::faults::ScenarioFault;
 use crate::watched::WatchedWriter;
@@ -14,12 +14,10 @@ pub fn write_text<W: Write>(
     writer: &mut WatchedWriter<'_, W>,
     text: &[u8],
 ) -> Result<(), ScenarioFault>
-    ensures same_writer { IsSameWriter writer.old writer.new }
+    ensures writer { IsWrittenFor result writer.old writer.new }
     ensures whole { OnOk result (Appends (watched_contents W.contents writer.old)
         (watched_contents W.contents writer.new) text.now) }
-    ensures taken { OnOk result (has_refused writer.new ≡ has_refused writer.old) }
     ensures fault { IfErr result (λ e. e ≡ ScenarioFault.Write) }
-    ensures refused { OnErr result (has_refused writer.new ≡ true) }
     ensures prefix { IfErr result
         (λ e. (count : ℕ)
         × (count < length text.now)

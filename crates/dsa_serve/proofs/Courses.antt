@@ -48,8 +48,7 @@ line_answered first behind written old new piece kept number now tickets number'
       lines_are = AreLines-line behind h.lines h.rest piece line h.lines_are;
       keeps = refl;
       document = h.document;
-      good = h.good;
-      small = h.small;
+      opening = h.opening;
       asked = AreAsked-more h.lines h.requests (h.rest ++ piece) it.0 h.asked
           (Asks-kept (h.rest ++ piece) seen it.0 now_kept it.1);
       session = subst (λ rs. IsSessionTo h.caps h.capacity rs number' now' tickets' (written ++ new))
@@ -72,8 +71,7 @@ rest_kept first behind output piece kept seen number now tickets line keeps h = 
   lines_are = AreLines-rest behind h.lines h.rest piece line h.lines_are;
   keeps = keeps h.rest h.keeps;
   document = h.document;
-  good = h.good;
-  small = h.small;
+  opening = h.opening;
   asked = h.asked;
   session = h.session;
 }
@@ -90,8 +88,7 @@ dialogue_of first behind output number now tickets kept h =
       requests = h.requests;
       records = s.records;
       document = h.document;
-      good = h.good;
-      small = h.small;
+      opening = h.opening;
       asked = h.asked;
       of_actions = s.of_actions;
       run = rw s.run.added s.run.allowed;
@@ -173,8 +170,7 @@ ended_rest first behind written old mid new number now tickets kept seen number'
         requests = h.requests ++ it.0 ∷ [];
         records = session.records;
         document = h.document;
-        good = h.good;
-        small = h.small;
+        opening = h.opening;
         asked = AreAsked-more h.lines h.requests h.rest it.0 h.asked asks;
         of_actions = session.of_actions;
         run = rw session.run.added session.run.allowed;

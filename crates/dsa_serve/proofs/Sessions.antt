@@ -1,6 +1,6 @@
 -- One request more of a session.
 use Rattle.std.proofs.Common.{◌≡◌, ℕ, List, [], ◌∷◌, ◌++◌, Some, Result, refl, ap, ◌∙◌, sym, ◌+◌, length}
-use Rattle.std.proofs.Common.{append_assoc, append-nil, filter_map, length-append, arith, subst}
+use Rattle.std.proofs.Common.{append_assoc, append-nil, filter_map, flat_map, length-append, arith, map, subst}
 use Rattle.std.proofs.lemmas.List.Elements.{filter_map-append}
 use Rattle.std.specs.Prelude.{slice_get}
 use Rattle.dsa_regs.specs.declared.{Caps.{Caps}, Fault.{Fault as Refusal}}
@@ -9,12 +9,12 @@ use Rattle.dsa_device.specs.Running.{Running}
 use Rattle.dsa_scenario.specs.declared.{actions.Action.{Action}, run.Record.{Record}}
 use Rattle.dsa_scenario.specs.Lines.{record_text, line_of_text}
 use Rattle.dsa_scenario.specs.Run.{ticket_given_by, event_of, answered_by, Leads, IsTable}
-use Rattle.dsa_scenario.specs.Steps.{Visit, visit, IsWalkTo}
-use Rattle.dsa_scenario.proofs.Walks.{one_more}
+use Rattle.dsa_scenario.specs.Steps.{Visit, visit, visits, line_of_step, IsAtFirst, IsWalkTo}
+use Rattle.dsa_scenario.proofs.Walks.{one_more, opened, records_count, visits_count}
 use Rattle.dsa_explain_lines.specs.Lines.{explanation_of_step}
 use Rattle.dsa_serve.specs.declared.requests.LineFault.{LineFault}
 use Rattle.dsa_serve.specs.declared.requests.Request.{Request, TheVariants.{Step, Explain, Fault}}
-use Rattle.dsa_serve.specs.Requests.{action_in, actions_of}
+use Rattle.dsa_serve.specs.{Dialogue.{from_document}, Requests.{action_in, actions_of}}
 use Rattle.dsa_serve.specs.Answers.{line_fault_text, answers, AreRequestsAnswered, IsPage, IsSessionTo}
 
 -- the actions of requests and of more
@@ -123,3 +123,46 @@ missed caps capacity requests fault number now tickets written old text adds h =
         ap (λ l. l ++ line) made.answered ∙ ap (λ l. answers requests steps ++ l) (sym (append-nil line))
         ∙ sym (answers-more requests (Fault fault ∷ []) steps [] made.count)
         ∙ ap (answers (requests ++ Fault fault ∷ [])) (append-nil steps)
+
+-- the actions of a document's steps
+actions_of_steps : (actions : List Action) → actions_of (map Step actions) ≡ actions
+actions_of_steps [] = refl
+actions_of_steps (action ∷ actions) = ap (λ l. action ∷ l) (actions_of_steps actions)
+
+-- the answers to them are their lines
+answers_to_steps : (actions : List Action) (steps : List Visit) → length actions ≡ length steps
+    → answers (map Step actions) steps ≡ flat_map line_of_step steps
+answers_to_steps [] [] h = refl
+answers_to_steps [] (step ∷ steps) h = absurd (omega (arith, h))
+answers_to_steps (action ∷ actions) [] h = absurd (omega (arith, h))
+answers_to_steps (action ∷ actions) (step ∷ steps) h =
+    ap (λ l. line_of_text (record_text step.entry) ++ l) (answers_to_steps actions steps (omega (arith, h)))
+
+-- a session that has come by the steps of a document
+pub opened_session : {Page : Type 0} (bytes_of : Page → List ℕ) (caps : Caps) (capacity : ℕ) (actions : List Action)
+    (number : ℕ) (now new : Running) (tickets more : List Ticket) (page longer : Page)
+    → IsAtFirst caps capacity now tickets → bytes_of page ≡ []
+    → (IsWalkTo (λ steps page. bytes_of page ≡ flat_map line_of_step steps) caps capacity [] 0 now tickets page
+    → IsWalkTo (λ steps page. bytes_of page ≡ flat_map line_of_step steps) caps capacity actions number new more longer)
+    → IsSessionTo caps capacity (from_document actions []) number new more (bytes_of longer)
+opened_session bytes_of caps capacity actions number now new tickets more page longer first blank walks =
+    let h = walks (opened (λ steps page. bytes_of page ≡ flat_map line_of_step steps) caps capacity now tickets page
+    first blank) in
+    let steps = visits caps capacity [] h.records in
+    let count : length actions ≡ length steps =
+    sym (records_count [] actions h.records h.of_actions) ∙ sym (visits_count caps capacity [] h.records) in
+    rw (append-nil (map Step actions))
+    (subst (λ asked. IsWalkTo IsPage caps capacity asked number new more (map Step actions, bytes_of longer))
+    (sym (actions_of_steps actions)) (record {
+      records = h.records;
+      of_actions = h.of_actions;
+      count = h.count;
+      run = h.run;
+      replay = h.replay;
+      table = h.table;
+      in_turn = h.in_turn;
+      made = record {
+        count = ap length (actions_of_steps actions) ∙ count;
+        answered = h.made ∙ sym (answers_to_steps actions steps count);
+      };
+    }))

@@ -15,6 +15,7 @@ use Rattle.dsa_scenario.specs.declared.faults.ScenarioFault.TheVariants.{TooLong
 use Rattle.dsa_scenario.specs.declared.faults.ScenarioFault.TheVariants.{Differs}
 use Rattle.dsa_scenario.specs.declared.faults.ScenarioFault.TheVariants.{BadCaps, BadCapacity}
 use Rattle.dsa_scenario.specs.Document.{IsFaultOf}
+use Rattle.dsa_serve.specs.declared.dialogue.Dialogue.{Dialogue}
 use Rattle.dsa_serve.specs.Input.{IsLine, IsFront}
 use Rattle.dsa_serve.specs.Dialogue.{IsDialogueEnded, AnswersWhole, AnswersAll, IsServing, IsInCourse}
 use Rattle.dsa_serve.specs.Dialogue.{IsStoppedWithin, IsStopped}
@@ -36,183 +37,165 @@ front_more : (input first behind bytes : List ℕ) → IsFront false input first
 front_more input first behind bytes front =
     ap (λ l. l ++ bytes) front ∙ append_assoc (line_of_text first) behind bytes
 
--- what a read and its answers make of a session
-abbrev pub Advances : List ℕ → List ℕ → ℕ → Running → List Ticket → List ℕ → ℕ → Running → List Ticket → List ℕ → Type 0
-Advances bytes text number now tickets kept number' now' tickets' kept' =
-    (first : List ℕ) (behind : List ℕ) (output : List ℕ) → IsServing first behind output number now tickets kept
-    → IsServing first (behind ++ bytes) (output ++ text) number' now' tickets' kept'
+-- so far the dialogue has read these bytes behind the first line, and answered their whole lines
+abbrev Serves : {S : Type 0} → List ℕ → List ℕ → List ℕ → Dialogue S → Type 0
+Serves first behind output d =
+    IsServing first behind output d.session.number d.session.device d.session.tickets.items d.kept.items
+
+-- what a read and its answers make of a dialogue
+abbrev pub Advances : {S : Type 0} → List ℕ → List ℕ → Dialogue S → Dialogue S → Type 0
+Advances bytes text d d' = (first : List ℕ) (behind : List ℕ) (output : List ℕ) → Serves first behind output d
+    → Serves first (behind ++ bytes) (output ++ text) d'
 
 -- one read more, and what is answered
-pub course_on : (had left left' held holds holds' : Option (List ℕ)) (bytes text : List ℕ)
-    (number : ℕ) (now : Running) (tickets : List Ticket) (kept : List ℕ)
-    (number' : ℕ) (now' : Running) (tickets' : List Ticket) (kept' : List ℕ) → Consumes left left' bytes
-    → Appends holds holds' text → Advances bytes text number now tickets kept number' now' tickets' kept'
-    → IsInCourse false had left held holds number now tickets kept
-    → IsInCourse false had left' held holds' number' now' tickets' kept'
-course_on had left left' held holds holds' bytes text number now tickets kept number' now' tickets' kept' reads writes
-    on h = record {
-      input = h.input ++ bytes;
-      first = h.first;
-      behind = h.behind ++ bytes;
-      output = h.output ++ text;
-      read = Consumes-trans had left left' h.input bytes h.read reads;
-      written = Appends-trans held holds holds' h.output text h.written writes;
-      line = h.line;
-      short = h.short;
-      front = front_more h.input h.first h.behind bytes h.front;
-      serving = on h.first h.behind h.output h.serving;
-    }
+pub course_on : {S : Type 0} (had left left' held holds holds' : Option (List ℕ)) (bytes text : List ℕ)
+    (d d' : Dialogue S) → Consumes left left' bytes → Appends holds holds' text → Advances bytes text d d'
+    → IsInCourse false had left held holds d → IsInCourse false had left' held holds' d'
+course_on had left left' held holds holds' bytes text d d' reads writes on h = record {
+  input = h.input ++ bytes;
+  first = h.first;
+  behind = h.behind ++ bytes;
+  output = h.output ++ text;
+  read = Consumes-trans had left left' h.input bytes h.read reads;
+  written = Appends-trans held holds holds' h.output text h.written writes;
+  line = h.line;
+  short = h.short;
+  front = front_more h.input h.first h.behind bytes h.front;
+  serving = on h.first h.behind h.output h.serving;
+}
 
 -- what is answered in its course
-pub course_answered : (ended : Bool) (had left held holds : Option (List ℕ)) (number : ℕ) (now : Running)
-    (tickets : List Ticket) (kept : List ℕ) → (h : IsInCourse ended had left held holds number now tickets kept)
-    → AnswersWhole ended h.input h.output
-course_answered ended had left held holds number now tickets kept h =
-    whole_answered h.first h.behind h.output number now tickets kept ended h.input h.line h.short h.front h.serving
+pub course_answered : {S : Type 0} (ended : Bool) (had left held holds : Option (List ℕ)) (d : Dialogue S)
+    → (h : IsInCourse ended had left held holds d) → AnswersWhole ended h.input h.output
+course_answered ended had left held holds d h =
+    whole_answered h.first h.behind h.output d.session.number d.session.device d.session.tickets.items d.kept.items ended
+    h.input h.line h.short h.front h.serving
 
 -- an error of the reader
-pub read_stops : (had left left' held holds : Option (List ℕ)) (number : ℕ) (now : Running)
-    (tickets : List Ticket) (kept : List ℕ) → Keeps left left'
-    → IsInCourse false had left held holds number now tickets kept → IsStopped Read had left' held holds
-read_stops had left left' held holds number now tickets kept keeps h = (
+pub read_stops : {S : Type 0} (had left left' held holds : Option (List ℕ)) (d : Dialogue S) → Keeps left left'
+    → IsInCourse false had left held holds d → IsStopped Read had left' held holds
+read_stops had left left' held holds d keeps h = (
   h.input,
   h.output,
   Consumes-kept had left left' h.input h.read keeps,
-  inr (course_answered false had left held holds number now tickets kept h),
+  inr (course_answered false had left held holds d h),
   h.written,
 )
 
 -- want of memory
-pub memory_stops : (room : ℕ) (had left left' held holds : Option (List ℕ)) (bytes : List ℕ)
-    (number : ℕ) (now : Running) (tickets : List Ticket) (kept : List ℕ) → Consumes left left' bytes
-    → length bytes ≤ room → IsInCourse false had left held holds number now tickets kept
+pub memory_stops : {S : Type 0} (room : ℕ) (had left left' held holds : Option (List ℕ)) (bytes : List ℕ)
+    (d : Dialogue S) → Consumes left left' bytes → length bytes ≤ room → IsInCourse false had left held holds d
     → IsStoppedWithin room OutOfMemory had left' held holds
-memory_stops room had left left' held holds bytes number now tickets kept reads few h = (
+memory_stops room had left left' held holds bytes d reads few h = (
   h.input,
   bytes,
   h.output,
   Consumes-trans had left left' h.input bytes h.read reads,
   few,
-  inl (inr (course_answered false had left held holds number now tickets kept h)),
+  inl (inr (course_answered false had left held holds d h)),
   h.written,
 )
 
 -- want of memory at the end of the input
-pub end_memory_stops : (ended : Bool) (had left held holds : Option (List ℕ)) (number : ℕ) (now : Running)
-    (tickets : List Ticket) (kept : List ℕ) → IsAtEnd left
-    → IsInCourse ended had left held holds number now tickets kept → IsStopped OutOfMemory had left held holds
-end_memory_stops false had left held holds number now tickets kept at_end h =
-    memory_stops (2 ^ 16) had left left held holds [] number now tickets kept (Consumes-nil left) (omega arith) h
-end_memory_stops true had left held holds number now tickets kept at_end h = (
+pub end_memory_stops : {S : Type 0} (ended : Bool) (had left held holds : Option (List ℕ)) (d : Dialogue S)
+    → IsAtEnd left → IsInCourse ended had left held holds d → IsStopped OutOfMemory had left held holds
+end_memory_stops false had left held holds d at_end h =
+    memory_stops (2 ^ 16) had left left held holds [] d (Consumes-nil left) (omega arith) h
+end_memory_stops true had left held holds d at_end h = (
   h.input,
   [],
   h.output,
   rw (append-nil h.input) h.read,
   omega arith,
-  inr (at_end, rw (append-nil h.input) (course_answered true had left held holds number now tickets kept h)),
+  inr (at_end, rw (append-nil h.input) (course_answered true had left held holds d h)),
   h.written,
 )
 
 -- an error of the reader, or want of memory before it is asked
-pub unread_stops : (room : ℕ) (had left left' held holds : Option (List ℕ)) (e : ScenarioFault)
-    (number : ℕ) (now : Running) (tickets : List Ticket) (kept : List ℕ) → Keeps left left'
-    → (e ≡ Read) ⊎ (e ≡ OutOfMemory) → IsInCourse false had left held holds number now tickets kept
+pub unread_stops : {S : Type 0} (room : ℕ) (had left left' held holds : Option (List ℕ)) (e : ScenarioFault)
+    (d : Dialogue S) → Keeps left left' → (e ≡ Read) ⊎ (e ≡ OutOfMemory) → IsInCourse false had left held holds d
     → IsStoppedWithin room e had left' held holds
-unread_stops room had left left' held holds e number now tickets kept keeps (inl is) h =
-    rw is (read_stops had left left' held holds number now tickets kept keeps h)
-unread_stops room had left left' held holds e number now tickets kept keeps (inr is) h =
+unread_stops room had left left' held holds e d keeps (inl is) h =
+    rw is (read_stops had left left' held holds d keeps h)
+unread_stops room had left left' held holds e d keeps (inr is) h =
     let reads = Consumes-kept left left left' [] (Consumes-nil left) keeps in
-    rw is (memory_stops room had left left' held holds [] number now tickets kept reads (omega arith) h)
+    rw is (memory_stops room had left left' held holds [] d reads (omega arith) h)
 
 -- a write that is refused in a turn
-pub write_stops : (had left left' held holds holds' : Option (List ℕ)) (bytes text : List ℕ) (count : ℕ)
-    (number : ℕ) (now : Running) (tickets : List Ticket) (kept : List ℕ)
-    (number' : ℕ) (now' : Running) (tickets' : List Ticket) (kept' : List ℕ) → Consumes left left' bytes
-    → count < length text → Appends holds holds' (take count text)
-    → Advances bytes text number now tickets kept number' now' tickets' kept'
-    → IsInCourse false had left held holds number now tickets kept → IsStopped Write had left' held holds'
-write_stops had left left' held holds holds' bytes text count number now tickets kept number' now' tickets' kept' reads
-    less writes on h =
+pub write_stops : {S : Type 0} (had left left' held holds holds' : Option (List ℕ)) (bytes text : List ℕ) (count : ℕ)
+    (d d' : Dialogue S) → Consumes left left' bytes → count < length text → Appends holds holds' (take count text)
+    → Advances bytes text d d' → IsInCourse false had left held holds d → IsStopped Write had left' held holds'
+write_stops had left left' held holds holds' bytes text count d d' reads less writes on h =
     let cut = cut_short held holds holds' h.output text count h.written less writes in (
       h.input ++ bytes,
       h.output ++ text,
       length h.output + count,
       Consumes-trans had left left' h.input bytes h.read reads,
-      inl (whole_answered h.first (h.behind ++ bytes) (h.output ++ text) number' now' tickets' kept' false
-          (h.input ++ bytes) h.line h.short (front_more h.input h.first h.behind bytes h.front)
-          (on h.first h.behind h.output h.serving)),
+      inl (whole_answered h.first (h.behind ++ bytes) (h.output ++ text) d'.session.number d'.session.device
+          d'.session.tickets.items d'.kept.items false (h.input ++ bytes) h.line h.short
+          (front_more h.input h.first h.behind bytes h.front) (on h.first h.behind h.output h.serving)),
       cut.0,
       cut.1,
     )
 
 -- what the end of a dialogue adds
-abbrev pub Ends : List ℕ → ℕ → Running → List Ticket → List ℕ → Type 0
-Ends text number now tickets kept =
-    (first : List ℕ) (behind : List ℕ) (output : List ℕ) → IsServing first behind output number now tickets kept
+abbrev pub Ends : {S : Type 0} → List ℕ → Dialogue S → Type 0
+Ends text d = (first : List ℕ) (behind : List ℕ) (output : List ℕ) → Serves first behind output d
     → IsDialogueEnded first behind (output ++ text)
 
+-- the answers to all lines
+ends_all : {S : Type 0} (ended : Bool) (had left held holds : Option (List ℕ)) (text : List ℕ) (d : Dialogue S)
+    → Ends text d → (h : IsInCourse ended had left held holds d) → AnswersAll h.input (h.output ++ text)
+ends_all ended had left held holds text d ends h = record {
+  without_feed = ended;
+  first = h.first;
+  behind = h.behind;
+  split = record { line = h.line; short = h.short; front = h.front };
+  ended = ends h.first h.behind h.output h.serving;
+}
+
 -- all of a dialogue
-pub all_answered : (ended : Bool) (had left held holds holds' : Option (List ℕ)) (text : List ℕ) (number : ℕ)
-    (now : Running) (tickets : List Ticket) (kept : List ℕ) → Ends text number now tickets kept
-    → Appends holds holds' text → IsInCourse ended had left held holds number now tickets kept
+pub all_answered : {S : Type 0} (ended : Bool) (had left held holds holds' : Option (List ℕ)) (text : List ℕ)
+    (d : Dialogue S) → Ends text d → Appends holds holds' text → IsInCourse ended had left held holds d
     → (input : List ℕ) × (output : List ℕ) × Consumes had left input × AnswersAll input output
     × Appends held holds' output
-all_answered ended had left held holds holds' text number now tickets kept ends writes h = (
+all_answered ended had left held holds holds' text d ends writes h = (
   h.input,
   h.output ++ text,
   h.read,
-  record {
-    without_feed = ended;
-    first = h.first;
-    behind = h.behind;
-    split = record { line = h.line; short = h.short; front = h.front };
-    ended = ends h.first h.behind h.output h.serving;
-  },
+  ends_all ended had left held holds text d ends h,
   Appends-trans held holds holds' h.output text h.written writes,
 )
 
 -- a write that is refused at the end
-pub end_stops : (ended : Bool) (had left held holds holds' : Option (List ℕ)) (text : List ℕ) (count : ℕ) (number : ℕ)
-    (now : Running) (tickets : List Ticket) (kept : List ℕ) → IsAtEnd left → Ends text number now tickets kept
-    → count < length text → Appends holds holds' (take count text)
-    → IsInCourse ended had left held holds number now tickets kept → IsStopped Write had left held holds'
-end_stops ended had left held holds holds' text count number now tickets kept at_end ends less writes h =
+pub end_stops : {S : Type 0} (ended : Bool) (had left held holds holds' : Option (List ℕ)) (text : List ℕ) (count : ℕ)
+    (d : Dialogue S) → IsAtEnd left → Ends text d → count < length text → Appends holds holds' (take count text)
+    → IsInCourse ended had left held holds d → IsStopped Write had left held holds'
+end_stops ended had left held holds holds' text count d at_end ends less writes h =
     let cut = cut_short held holds holds' h.output text count h.written less writes in (
       h.input,
       h.output ++ text,
       length h.output + count,
       h.read,
-      inr (inr (
-        at_end,
-        record {
-          without_feed = ended;
-          first = h.first;
-          behind = h.behind;
-          split = record { line = h.line; short = h.short; front = h.front };
-          ended = ends h.first h.behind h.output h.serving;
-        },
-      )),
+      inr (inr (at_end, ends_all ended had left held holds text d ends h)),
       cut.0,
       cut.1,
     )
 
--- what a feed makes of a session, behind a text that was blank
-pub from_blank : (bytes old text seen : List ℕ) (number : ℕ) (now : Running) (tickets : List Ticket) (kept : List ℕ)
-    (number' : ℕ) (now' : Running) (tickets' : List Ticket) (kept' : List ℕ) → old ≡ [] → seen ≡ text
-    → ((first : List ℕ) (behind : List ℕ) (written : List ℕ)
-    → IsServing first behind (written ++ old) number now tickets kept
-    → IsServing first (behind ++ bytes) (written ++ text) number' now' tickets' kept')
-    → Advances bytes seen number now tickets kept number' now' tickets' kept'
-from_blank bytes old text seen number now tickets kept number' now' tickets' kept' blank same on first behind output h =
+-- what a feed makes of a dialogue, behind a text that was blank
+pub from_blank : {S : Type 0} (bytes old text seen : List ℕ) (d d' : Dialogue S) → old ≡ [] → seen ≡ text
+    → ((first : List ℕ) (behind : List ℕ) (written : List ℕ) → Serves first behind (written ++ old) d
+    → Serves first (behind ++ bytes) (written ++ text) d')
+    → Advances bytes seen d d'
+from_blank bytes old text seen d d' blank same on first behind output h =
     rw same (on first behind output (rw (blank, append-nil output) h))
 
 -- and what the end adds to one
-pub ends_blank : (old text seen : List ℕ) (number : ℕ) (now : Running) (tickets : List Ticket) (kept : List ℕ)
-    → old ≡ [] → seen ≡ text
-    → ((first : List ℕ) (behind : List ℕ) (written : List ℕ)
-    → IsServing first behind (written ++ old) number now tickets kept → IsDialogueEnded first behind (written ++ text))
-    → Ends seen number now tickets kept
-ends_blank old text seen number now tickets kept blank same on first behind output h =
+pub ends_blank : {S : Type 0} (old text seen : List ℕ) (d : Dialogue S) → old ≡ [] → seen ≡ text
+    → ((first : List ℕ) (behind : List ℕ) (written : List ℕ) → Serves first behind (written ++ old) d
+    → IsDialogueEnded first behind (written ++ text))
+    → Ends seen d
+ends_blank old text seen d blank same on first behind output h =
     rw same (on first behind output (rw (blank, append-nil output) h))
 
 -- want of memory before the first line is whole, and after a read more

@@ -2,15 +2,15 @@
 use Rattle.std.specs.Prelude.{◌≡◌, ◌⊎◌, ◌≤◌, ◌<◌, ◌+◌, ℕ, ◌^◌, Bool, true, false, List, [], ◌++◌, flat_map}
 use Rattle.std.specs.Prelude.{length, map, take, Option, Some}
 use Rattle.std.specs.Io.KnownBytes.{Consumes, IsAtEnd, Appends}
-use Rattle.dsa_regs.specs.{declared.Caps.{Caps}, Caps.{check_caps}}
+use Rattle.dsa_regs.specs.declared.Caps.{Caps}
 use Rattle.dsa_book.specs.{declared.answer.Ticket.{Ticket}, State.{State}, Machine.{is_run, replay, stored_steps}}
 use Rattle.dsa_device.specs.Running.{Running}
 use Rattle.dsa_scenario.specs.declared.{actions.Action.{Action}, run.Record.{Record}}
 use Rattle.dsa_scenario.specs.declared.faults.ScenarioFault.{ScenarioFault}
 use Rattle.dsa_scenario.specs.declared.faults.ScenarioFault.TheVariants.{Read, TooLong, Write, OutOfMemory}
-use Rattle.dsa_scenario.specs.{Document.{IsDocument, IsFaultOf}, Lines.{line_of_text, row_text}}
+use Rattle.dsa_scenario.specs.{Document.{IsDocument, IsOpenable, IsFaultOf}, Lines.{line_of_text, row_text}}
 use Rattle.dsa_scenario.specs.{Run.{steps_of_records, AreOf}, Steps.{visits}}
-use Rattle.dsa_serve.specs.declared.requests.Request.{Request, TheVariants.{Step}}
+use Rattle.dsa_serve.specs.declared.{dialogue.Dialogue.{Dialogue}, requests.Request.{Request, TheVariants.{Step}}}
 use Rattle.dsa_serve.specs.Requests.{AreAsked, actions_of}
 use Rattle.dsa_serve.specs.Answers.{answers, IsSessionTo}
 use Rattle.dsa_serve.specs.Input.{IsLine, AreLines, with_rest, IsFront, HasFirst}
@@ -28,8 +28,7 @@ pub record IsDialogue (first : List ℕ) (lines : List (List ℕ)) (last : State
   pub requests : List Request
   pub records : List Record
   pub document : IsDocument first caps capacity actions
-  pub good : check_caps caps ≡ true
-  pub small : capacity ≤ 2 ^ 20
+  pub opening : IsOpenable caps capacity
   pub asked : AreAsked lines requests
   pub of_actions : AreOf [] (actions_of (from_document actions requests)) records
   pub run : is_run caps capacity (steps_of_records records) ≡ true
@@ -91,16 +90,15 @@ pub record IsServing (first behind output : List ℕ) (number : ℕ) (now : Runn
   pub lines_are : AreLines behind lines rest
   pub keeps : kept ≡ take (2 ^ 20 + 1) rest
   pub document : IsDocument first caps capacity actions
-  pub good : check_caps caps ≡ true
-  pub small : capacity ≤ 2 ^ 20
+  pub opening : IsOpenable caps capacity
   pub asked : AreAsked lines requests
   pub session : IsSessionTo caps capacity (from_document actions requests) number now tickets output
 
 -- since the reader had these bytes and the writer held those, a session has answered the whole lines of what the
 -- reader gave, and the writer has taken the answers; the first line ended with its line feed, or with the input
 -- (profile)
-pub record IsInCourse (ended : Bool) (had left held holds : Option (List ℕ)) (number : ℕ) (now : Running)
-    (tickets : List Ticket) (kept : List ℕ) : Type 0 where
+pub record IsInCourse {S : Type 0} (ended : Bool) (had left held holds : Option (List ℕ)) (dialogue : Dialogue S)
+    : Type 0 where
   pub input : List ℕ
   pub first : List ℕ
   pub behind : List ℕ
@@ -110,7 +108,8 @@ pub record IsInCourse (ended : Bool) (had left held holds : Option (List ℕ)) (
   pub line : IsLine first
   pub short : length first ≤ 2 ^ 20
   pub front : IsFront ended input first behind
-  pub serving : IsServing first behind output number now tickets kept
+  pub serving : IsServing first behind output dialogue.session.number dialogue.session.device
+      dialogue.session.tickets.items dialogue.kept.items
 
 -- ---- where it stopped
 

@@ -2,5 +2,4 @@ pub mod Requests
 pub mod Answers
 pub mod Input
 pub mod Dialogue
-pub mod Noted
 pub mod Worked

@@ -1,12 +1,11 @@
 //! The first line of an input.
 
-ghost use Rattle.std.specs.Prelude.{◌≡◌, ◌⊎◌, ◌<◌, ◌≤◌, ◌+◌, ◌++◌, [], true, false, ℕ, List, Option, length, take, drop, vec_len, IfOk, IfErr};
+ghost use Rattle.std.specs.Prelude.{◌≡◌, ◌⊎◌, ◌<◌, ◌≤◌, ◌+◌, ◌++◌, true, false, ℕ, List, Option, length, take, drop, vec_len, IfOk, IfErr};
 ghost use Rattle.std.specs.Io.KnownBytes.{Consumes, IsAtEnd};
 ghost use Rattle.dsa_scenario.specs.declared.faults.ScenarioFault.{ScenarioFault};
 ghost use Rattle.dsa_serve.specs.Input.{IsLine, IsFront};
 ghost use Rattle.dsa_serve.specs.Dialogue.{IsStoppedWithin};
-ghost use Rattle.dsa_scenario.specs.Counted.{counted_remaining, last_given};
-ghost use Rattle.dsa_scenario.specs.Counted.{IsSameReader, IsAskedFor, IsFailureNoted};
+ghost use Rattle.dsa_scenario.specs.Counted.{counted_remaining, last_given, IsAskedFor, IsReadFor};
 
 use crate::requests::MAX_LINE;
 use dsa_scenario::{CountedReader, ScenarioFault};
@@ -52,9 +51,7 @@ pub fn read_first<R: Read>(
     chunk: &mut [u8],
 ) -> Result<Front, ScenarioFault>
     requires { 0 < length chunk.old }
-    ensures same_reader { IsSameReader reader.old reader.new }
-    ensures failed { IsFailureNoted result reader.old reader.new }
-    ensures asked { IsAskedFor R.remaining reader.old reader.new 1 }
+    ensures reader { IsReadFor R.remaining result reader.old reader.new }
     ensures asked_first { IfOk result
         (λ front. front.ended ≡ false → IsAskedFor R.remaining reader.old reader.new 0) }
     ensures last_read { IfOk result (λ front. front.ended ≡ false

@@ -17,4 +17,4 @@ pub use front::{Front, read_first};
 pub use opening::begin;
 pub use requests::{LineFault, MAX_LINE, Request, parse_request};
 pub use serving::{serve_counted, serve_watched};
-pub use session::{Session, open};
+pub use session::Session;

@@ -1,23 +1,19 @@
 //! The first line of a dialogue: a document, whose steps are run and answered.
 
-ghost use Rattle.std.specs.Prelude.{◌≡◌, ◌⊎◌, ◌^◌, ◌≤◌, [], IfOk, IfErr, string_bytes, length};
+ghost use Rattle.std.specs.Prelude.{◌≡◌, ◌⊎◌, [], IfOk, IfErr, string_bytes};
 ghost use Rattle.dsa_scenario.specs.declared.faults.ScenarioFault.{ScenarioFault};
 ghost use Rattle.dsa_scenario.specs.Document.{IsFaultOf};
 ghost use Rattle.dsa_serve.specs.Dialogue.{IsServing};
 
 use crate::dialogue::Dialogue;
 use crate::front::Front;
-use crate::session::{Session, open};
+use crate::session::Session;
 use dsa_cells::LinkedStore;
-use dsa_regs::{cell_count, list_count};
-use dsa_scenario::{ScenarioFault, check_head, parse_actions, parse_head, parse_json};
+use dsa_scenario::{PlainRun, Run, ScenarioFault, open_run, parse_head, parse_json};
 use std::alloc::Global;
 
 // A session of the document in these bytes, with the answers to its steps.
-//
-// A step object that is none comes before a fault of the device, so all of them are read before
-// that is told.
-fn open_document(
+fn open_session(
     alloc: Global,
     text: &mut String,
     bytes: &[u8],
@@ -32,14 +28,14 @@ fn open_document(
     let Some(head) = parse_head(&value) else {
         return Err(ScenarioFault::BadDocument);
     };
-    if let Err(fault) = check_head(&head.caps, head.capacity) {
-        parse_actions(alloc, head.steps)?;
-        return Err(fault);
-    }
-    let lists = list_count(&head.caps);
-    let store = LinkedStore::new(alloc, lists, cell_count(&head.caps))?;
-    let session = open(alloc, text, store, &head)?;
-    Ok(session)
+    let mut run: Run<LinkedStore> = open_run(alloc, &head)?;
+    run.walk(alloc, &PlainRun, text, head.steps)?;
+    let Run { device, tickets } = run;
+    Ok(Session {
+        device,
+        tickets,
+        number: head.steps.len(),
+    })
 }
 
 /// A dialogue of the document in the first line, with the answers to its steps and to the whole
@@ -57,7 +53,7 @@ pub fn begin(
     ensures err { IfErr result
         (λ e. (e ≡ ScenarioFault.OutOfMemory) ⊎ IsFaultOf front.now.first.items e) }
 {
-    let session = open_document(alloc, text, &front.first)?;
+    let session = open_session(alloc, text, &front.first)?;
     let mut dialogue = Dialogue {
         session,
         kept: Vec::new(alloc),

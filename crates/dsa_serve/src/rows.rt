@@ -1,11 +1,12 @@
 //! Worked lines and answers: what the definitions say at chosen values, by computation.
 
-ghost use Rattle.std.specs.Prelude.{◌≡◌, ℕ, Option, Some, List, [], ◌∷◌, ◌++◌, ◌+◌, Ok, Err, Bool, true, false, length, codes};
+ghost use Rattle.std.specs.Prelude.{◌≡◌, ℕ, Some, List, [], ◌∷◌, ◌++◌, ◌+◌, Bool, true, false, length, codes};
 ghost use Rattle.dsa_regs.specs.declared.Fault.TheVariants.{BadCommand};
 ghost use Rattle.dsa_book.specs.declared.event.Event.TheVariants.{Poll};
 ghost use Rattle.dsa_book.specs.State.{State, opening};
 ghost use Rattle.dsa_scenario.specs.declared.actions.Action.TheVariants.{Ask, Refuse};
 ghost use Rattle.dsa_scenario.specs.declared.faults.ScenarioFault.{ScenarioFault};
+ghost use Rattle.dsa_scenario.specs.declared.faults.ScenarioFault.TheVariants as late;
 ghost use Rattle.dsa_scenario.specs.Document.{IsNoJson};
 ghost use Rattle.dsa_scenario.specs.Lines.{line_of_text};
 ghost use Rattle.dsa_scenario.specs.Steps.{visits};
@@ -15,10 +16,7 @@ ghost use Rattle.dsa_serve.specs.declared.requests.Request.TheVariants.{Step, Ex
 ghost use Rattle.dsa_serve.specs.Requests.{request_of, actions_of, IsRead, Asks, AreAsked};
 ghost use Rattle.dsa_serve.specs.Answers.{answers, line_fault_text, AreRequestsAnswered};
 ghost use Rattle.dsa_serve.specs.Input.{IsLine, AreLines, with_rest, IsFront, HasFirst};
-ghost use Rattle.dsa_serve.specs.Dialogue.{IsDialogue, IsDialogueEnded, AnswersWhole, AnswersAll, AnswersSoFar, IsStopped};
-ghost use Rattle.dsa_scenario.specs.declared.watched.WatchedWriter.{WatchedWriter};
-ghost use Rattle.dsa_scenario.specs.Watched.{has_refused};
-ghost use Rattle.dsa_serve.specs.Noted.{IsRefusalTold};
+ghost use Rattle.dsa_serve.specs.Dialogue.{IsLate, IsDialogue, IsDialogueEnded, AnswersWhole, AnswersAll, AnswersSoFar, IsStopped};
 ghost use Rattle.dsa_serve.specs.Worked.{explain_around, requests_of_a_dialogue, records_of_a_dialogue, lines_of_a_dialogue, poll_line, explained_poll_line, first_line};
 
 /// A step object asks its step, and `explain` around one its explanation. Nothing else asks
@@ -208,17 +206,10 @@ pub fn stops()
         (Some (codes "2")) (Some []) (Some []) }
 {}
 
-/// Which faults are told of what was noted of a writer.
-pub fn notes()
-    ensures write_without_a_refusal { (old : WatchedWriter (List ℕ)) (new : WatchedWriter (List ℕ))
-        → has_refused new ≡ false
-        → ¬ IsRefusalTold {T = ℕ} (Err ScenarioFault.Write) old new }
-    ensures refusal_untold { (old : WatchedWriter (List ℕ)) (new : WatchedWriter (List ℕ))
-        → has_refused old ≡ false
-        → has_refused new ≡ true
-        → ¬ IsRefusalTold {T = ℕ} (Ok 0) old new }
-    ensures refusal_told_as_another { (old : WatchedWriter (List ℕ)) (new : WatchedWriter (List ℕ))
-        → has_refused old ≡ false
-        → has_refused new ≡ true
-        → ¬ IsRefusalTold {T = ℕ} (Err ScenarioFault.OutOfMemory) old new }
+/// Faults that may come in the midst of a dialogue.
+pub fn late_faults()
+    ensures read { IsLate late.Read }
+    ensures write { IsLate late.Write }
+    ensures memory { IsLate late.OutOfMemory }
+    ensures caps { ¬ IsLate late.BadCaps }
 {}

@@ -3,10 +3,8 @@
 ghost use Rattle.std.specs.Prelude.{◌≡◌, ◌≢◌, ◌<◌, ◌≤◌, ◌+◌, ◌^◌, true, false, ℕ, Bool, List, Option, Ok, length, OnOk, IfOk, IfErr};
 ghost use Rattle.std.specs.Io.KnownBytes.{Consumes, IsAtEnd, Appends};
 ghost use Rattle.dsa_scenario.specs.declared.faults.ScenarioFault.{ScenarioFault};
-ghost use Rattle.dsa_scenario.specs.Watched.{watched_contents, IsSameWriter};
-ghost use Rattle.dsa_scenario.specs.Counted.{counted_remaining, asked_of};
-ghost use Rattle.dsa_scenario.specs.Counted.{IsSameReader, IsAskedFor, IsFailureNoted};
-ghost use Rattle.dsa_serve.specs.Noted.{IsRefusalTold};
+ghost use Rattle.dsa_scenario.specs.Counted.{counted_remaining, asked_of, IsAskedFor, IsReadFor};
+ghost use Rattle.dsa_scenario.specs.Watched.{watched_contents, IsWrittenFor};
 ghost use Rattle.dsa_serve.specs.Dialogue.{AnswersAll, IsInCourse, IsLate, IsStoppedWithin, IsStopped};
 
 use crate::dialogue::Dialogue;
@@ -36,19 +34,14 @@ fn start<R: Read, W: Write>(
     writer: &mut WatchedWriter<'_, W>,
 ) -> Result<Started, ScenarioFault>
     requires { 0 < length chunk.old }
-    ensures same_reader { IsSameReader reader.old reader.new }
-    ensures same_writer { IsSameWriter writer.old writer.new }
-    ensures failed { IsFailureNoted result reader.old reader.new }
-    ensures refused { IsRefusalTold result writer.old writer.new }
-    ensures asked { IsAskedFor R.remaining reader.old reader.new 1 }
+    ensures reader { IsReadFor R.remaining result reader.old reader.new }
+    ensures writer { IsWrittenFor result writer.old writer.new }
     ensures asked_first { IfOk result
         (λ it. it.ended ≡ false → IsAskedFor R.remaining reader.old reader.new 0) }
     ensures ok { IfOk result
         (λ it. IsInCourse it.ended (counted_remaining R.remaining reader.old)
         (counted_remaining R.remaining reader.new) (watched_contents W.contents writer.old)
-        (watched_contents W.contents writer.new) it.dialogue.session.number
-        it.dialogue.session.device it.dialogue.session.tickets.items
-        it.dialogue.kept.items) }
+        (watched_contents W.contents writer.new) it.dialogue) }
     ensures end { IfOk result
         (λ it. it.ended ≡ true → IsAtEnd (counted_remaining R.remaining reader.new)) }
     ensures nothing { IfErr result (λ e. e ≢ ScenarioFault.Write → writer.new ≡ writer.old) }
@@ -78,33 +71,24 @@ fn turn<S: EntryStore, R: Read, W: Write>(
     writer: &mut WatchedWriter<'_, W>,
 ) -> Result<bool, ScenarioFault>
     requires { 0 < length chunk.old }
-    ensures same_reader { IsSameReader reader.old reader.new }
-    ensures same_writer { IsSameWriter writer.old writer.new }
-    ensures failed { IsFailureNoted result reader.old reader.new }
-    ensures refused { IsRefusalTold result writer.old writer.new }
+    ensures reader { IsReadFor R.remaining result reader.old reader.new }
+    ensures writer { IsWrittenFor result writer.old writer.new }
     ensures one_read { asked_of reader.new ≤ asked_of reader.old + 1 }
     ensures counted { OnOk result (asked_of reader.new ≡ asked_of reader.old + 1) }
     ensures fits { asked_of reader.new < 2 ^ 64 }
-    ensures asked { IsAskedFor R.remaining reader.old reader.new 1 }
     ensures asked_for_more { result ≡ Ok true → IsAskedFor R.remaining reader.old reader.new 0 }
     ensures ok { OnOk result
         ((had : Option (List ℕ)) (held : Option (List ℕ))
         → IsInCourse false had (counted_remaining R.remaining reader.old) held
-        (watched_contents W.contents writer.old) dialogue.old.session.number
-        dialogue.old.session.device dialogue.old.session.tickets.items
-        dialogue.old.kept.items
+        (watched_contents W.contents writer.old) dialogue.old
         → IsInCourse false had (counted_remaining R.remaining reader.new) held
-        (watched_contents W.contents writer.new) dialogue.new.session.number
-        dialogue.new.session.device dialogue.new.session.tickets.items
-        dialogue.new.kept.items) }
+        (watched_contents W.contents writer.new) dialogue.new) }
     ensures end { result ≡ Ok false → IsAtEnd (counted_remaining R.remaining reader.new) }
     ensures late { IfErr result IsLate }
     ensures stopped { IfErr result
         (λ e. (had : Option (List ℕ)) (held : Option (List ℕ))
         → IsInCourse false had (counted_remaining R.remaining reader.old) held
-        (watched_contents W.contents writer.old) dialogue.old.session.number
-        dialogue.old.session.device dialogue.old.session.tickets.items
-        dialogue.old.kept.items
+        (watched_contents W.contents writer.old) dialogue.old
         → IsStoppedWithin (length chunk.old) e had
         (counted_remaining R.remaining reader.new) held
         (watched_contents W.contents writer.new)) }
@@ -125,29 +109,20 @@ fn serve_lines<S: EntryStore, R: Read, W: Write>(
     writer: &mut WatchedWriter<'_, W>,
 ) -> Result<(), ScenarioFault>
     requires { 0 < length chunk.old }
-    ensures same_reader { IsSameReader reader.old reader.new }
-    ensures same_writer { IsSameWriter writer.old writer.new }
-    ensures failed { IsFailureNoted result reader.old reader.new }
-    ensures refused { IsRefusalTold result writer.old writer.new }
-    ensures asked { IsAskedFor R.remaining reader.old reader.new 1 }
+    ensures reader { IsReadFor R.remaining result reader.old reader.new }
+    ensures writer { IsWrittenFor result writer.old writer.new }
     ensures ok { OnOk result
         ((had : Option (List ℕ)) (held : Option (List ℕ))
         → IsInCourse false had (counted_remaining R.remaining reader.old) held
-        (watched_contents W.contents writer.old) dialogue.old.session.number
-        dialogue.old.session.device dialogue.old.session.tickets.items
-        dialogue.old.kept.items
+        (watched_contents W.contents writer.old) dialogue.old
         → IsInCourse false had (counted_remaining R.remaining reader.new) held
-        (watched_contents W.contents writer.new) dialogue.new.session.number
-        dialogue.new.session.device dialogue.new.session.tickets.items
-        dialogue.new.kept.items) }
+        (watched_contents W.contents writer.new) dialogue.new) }
     ensures end { OnOk result (IsAtEnd (counted_remaining R.remaining reader.new)) }
     ensures late { IfErr result IsLate }
     ensures stopped { IfErr result
         (λ e. (had : Option (List ℕ)) (held : Option (List ℕ))
         → IsInCourse false had (counted_remaining R.remaining reader.old) held
-        (watched_contents W.contents writer.old) dialogue.old.session.number
-        dialogue.old.session.device dialogue.old.session.tickets.items
-        dialogue.old.kept.items
+        (watched_contents W.contents writer.old) dialogue.old
         → IsStoppedWithin (length chunk.old) e had
         (counted_remaining R.remaining reader.new) held
         (watched_contents W.contents writer.new)) }
@@ -163,13 +138,11 @@ fn finish<S: EntryStore, W: Write>(
     dialogue: &mut Dialogue<S>,
     writer: &mut WatchedWriter<'_, W>,
 ) -> Result<(), ScenarioFault>
-    ensures same_writer { IsSameWriter writer.old writer.new }
-    ensures refused { IsRefusalTold result writer.old writer.new }
+    ensures writer { IsWrittenFor result writer.old writer.new }
     ensures ok { OnOk result
         ((ended : Bool) (had : Option (List ℕ)) (left : Option (List ℕ)) (held : Option (List ℕ))
         → IsInCourse ended had left held (watched_contents W.contents writer.old)
-        dialogue.old.session.number dialogue.old.session.device
-        dialogue.old.session.tickets.items dialogue.old.kept.items
+        dialogue.old
         → (input : List ℕ)
         × (output : List ℕ)
         × Consumes had left input
@@ -182,8 +155,7 @@ fn finish<S: EntryStore, W: Write>(
         (held : Option (List ℕ))
         → IsAtEnd left
         → IsInCourse ended had left held (watched_contents W.contents writer.old)
-        dialogue.old.session.number dialogue.old.session.device
-        dialogue.old.session.tickets.items dialogue.old.kept.items
+        dialogue.old
         → IsStopped e had left held (watched_contents W.contents writer.new)) }
 {
     let mut text = String::new(alloc);
@@ -206,11 +178,8 @@ pub fn serve_counted<R: Read, W: Write>(
     reader: &mut CountedReader<'_, R>,
     writer: &mut WatchedWriter<'_, W>,
 ) -> Result<(), ScenarioFault>
-    ensures same_reader { IsSameReader reader.old reader.new }
-    ensures same_writer { IsSameWriter writer.old writer.new }
-    ensures failed { IsFailureNoted result reader.old reader.new }
-    ensures refused { IsRefusalTold result writer.old writer.new }
-    ensures asked { IsAskedFor R.remaining reader.old reader.new 1 }
+    ensures reader { IsReadFor R.remaining result reader.old reader.new }
+    ensures writer { IsWrittenFor result writer.old writer.new }
     ensures ok { OnOk result
         ((input : List ℕ)
         × (output : List ℕ)
@@ -243,8 +212,7 @@ pub fn serve_watched<R: Read, W: Write>(
     reader: &mut R,
     writer: &mut WatchedWriter<'_, W>,
 ) -> Result<(), ScenarioFault>
-    ensures same_writer { IsSameWriter writer.old writer.new }
-    ensures refused { IsRefusalTold result writer.old writer.new }
+    ensures writer { IsWrittenFor result writer.old writer.new }
     ensures ok { OnOk result
         ((input : List ℕ)
         × (output : List ℕ)

@@ -1,13 +1,7 @@
 //! A session: a device, and an answer to each line.
 
-ghost use Rattle.std.specs.Prelude.{◌≡◌, ◌++◌, ◌+◌, [], ◌∷◌, ℕ, List, map, Some, None, IfOk, IfErr, OnOk, ◌⊎◌, string_bytes};
-ghost use Rattle.serde_json.specs.View.{view};
+ghost use Rattle.std.specs.Prelude.{◌≡◌, ◌++◌, ◌+◌, [], ◌∷◌, ℕ, List, IfOk, OnOk, string_bytes};
 ghost use Rattle.dsa_regs.specs.declared.Caps.{Caps};
-ghost use Rattle.dsa_device.specs.Made.{make_fault};
-ghost use Rattle.dsa_scenario.specs.declared.actions.Action.{Action};
-ghost use Rattle.dsa_scenario.specs.declared.faults.ScenarioFault.{ScenarioFault};
-ghost use Rattle.dsa_scenario.specs.Actions.{action_of};
-ghost use Rattle.dsa_scenario.specs.Document.{IsFirstBad};
 ghost use Rattle.dsa_scenario.specs.Lines.{line_of_text};
 ghost use Rattle.dsa_serve.specs.declared.requests.Request.{Request};
 ghost use Rattle.dsa_serve.specs.Requests.{Asks};
@@ -17,9 +11,7 @@ use crate::requests::{LineFault, Request, parse_request};
 use dsa_book::Ticket;
 use dsa_device::Device;
 use dsa_explain_lines::{add_line, add_part};
-use dsa_scenario::{
-    Action, Head, ScenarioFault, add_record, ask, event_for, note_ticket, parse_action,
-};
+use dsa_scenario::{Action, add_record, ask, event_for, note_ticket};
 use dsa_store::EntryStore;
 use std::alloc::{AllocError, Global};
 
@@ -119,41 +111,4 @@ impl<S: EntryStore> Session<S> {
             Request::Fault(fault) => add_fault(text, fault),
         }
     }
-}
-
-/// A session on a new device over this store, with the answers to the step objects of a document.
-pub fn open<S: EntryStore>(
-    alloc: Global,
-    text: &mut String,
-    store: S,
-    head: &Head<'_>,
-) -> Result<Session<S>, ScenarioFault>
-    requires { make_fault head.now.caps head.now.capacity (S.cells store) (S.content store) ≡ None }
-    ensures ok { IfOk result
-        (λ session. (actions : List Action)
-        × (map action_of (map view head.now.steps.now) ≡ map Some actions)
-        × (string_bytes text.old ≡ []
-        → IsSessionTo head.now.caps head.now.capacity (map Request.Step actions)
-        session.number session.device session.tickets.items
-        (string_bytes text.new))) }
-    ensures bad { IfErr result
-        (λ e. (e ≡ ScenarioFault.OutOfMemory) ⊎ IsFirstBad (map view head.now.steps.now) e) }
-{
-    let made = Device::new(alloc, store, head.caps, head.capacity);
-    let Ok(device) = made else {
-        return Err(ScenarioFault::OutOfMemory);
-    };
-    device.state_is_replay();
-    let mut session = Session {
-        device,
-        tickets: Vec::new(alloc),
-        number: 0,
-    };
-    for (i, step) in head.steps.iter().enumerate() {
-        match parse_action(step) {
-            Some(action) => session.step(text, action)?,
-            None => return Err(ScenarioFault::BadStep(i as u64)),
-        }
-    }
-    Ok(session)
 }

@@ -1,10 +1,12 @@
 //! The shared device: a lock round a device and the ledger of its steps.
 
-ghost use Rattle.std.specs.Prelude.{◌≡◌, ◌≤◌};
+ghost use Rattle.std.specs.Prelude.{◌≡◌, ◌≤◌, ◌==◌, find, option_map};
+ghost use Rattle.dsa_store.specs.Content.{held_count};
 ghost use Rattle.dsa_regs.specs.Caps.{cell_count};
 ghost use Rattle.dsa_desc.specs.Descriptor.{read};
 ghost use Rattle.dsa_book.specs.declared.event.Event.TheVariants as event;
 ghost use Rattle.dsa_book.specs.declared.answer.Reply.TheVariants as reply;
+ghost use Rattle.dsa_shared.specs.Locked.{IsAnsweredFor, IsReadOf};
 ghost use Rattle.dsa_shared.specs.Seat.{with_receipt, with_step};
 
 use crate::blanks::Sharing;
@@ -43,7 +45,10 @@ impl<S: EntryStore, L: Sharing> SharedDevice<S, L> {
         kind: Kind,
         bytes: &[u8; 64],
     ) -> SubmitAnswer
-        ensures { seat.new
+        ensures answered { IsAnsweredFor L.caps L.capacity seat.old.receipts
+            (event.Submit seat.old.number queue portal kind (read bytes.now))
+            (reply.Submit result) }
+        ensures receipts { seat.new
             ≡ with_receipt seat.old
             (event.Submit seat.old.number queue portal kind (read bytes.now))
             (reply.Submit result) }
@@ -58,7 +63,9 @@ impl<S: EntryStore, L: Sharing> SharedDevice<S, L> {
         rt: &R,
         seat: &mut EngineSeat<L, A>,
     ) -> DispatchAnswer
-        ensures { seat.new
+        ensures answered { IsAnsweredFor L.caps L.capacity seat.old.receipts
+            (event.Dispatch seat.old.number) (reply.Dispatch result) }
+        ensures receipts { seat.new
             ≡ with_receipt seat.old (event.Dispatch seat.old.number) (reply.Dispatch result) }
     {
         locked::dispatch(&mut self.locked.lock(rt), seat)
@@ -72,7 +79,9 @@ impl<S: EntryStore, L: Sharing> SharedDevice<S, L> {
         seat: &mut EngineSeat<L, A>,
         desc: Descriptor,
     ) -> FetchAnswer
-        ensures { seat.new
+        ensures answered { IsAnsweredFor L.caps L.capacity seat.old.receipts
+            (event.Fetch seat.old.number desc) (reply.Fetch result) }
+        ensures receipts { seat.new
             ≡ with_receipt seat.old (event.Fetch seat.old.number desc) (reply.Fetch result) }
     {
         locked::fetch(&mut self.locked.lock(rt), seat, desc)
@@ -81,7 +90,9 @@ impl<S: EntryStore, L: Sharing> SharedDevice<S, L> {
     /// The engine of the seat starts the first of its members that does not run.
     #[inline(always)]
     pub fn start<R: Wait, A: Allocator>(&self, rt: &R, seat: &mut EngineSeat<L, A>) -> StartAnswer
-        ensures { seat.new
+        ensures answered { IsAnsweredFor L.caps L.capacity seat.old.receipts
+            (event.Start seat.old.number) (reply.Start result) }
+        ensures receipts { seat.new
             ≡ with_receipt seat.old (event.Start seat.old.number) (reply.Start result) }
     {
         locked::start(&mut self.locked.lock(rt), seat)
@@ -96,7 +107,10 @@ impl<S: EntryStore, L: Sharing> SharedDevice<S, L> {
         ticket: Ticket,
         outcome: Outcome,
     ) -> FinishAnswer
-        ensures { seat.new ≡ with_receipt seat.old (event.Finish seat.old.number ticket outcome)
+        ensures answered { IsAnsweredFor L.caps L.capacity seat.old.receipts
+            (event.Finish seat.old.number ticket outcome) (reply.Finish result) }
+        ensures receipts { seat.new
+            ≡ with_receipt seat.old (event.Finish seat.old.number ticket outcome)
             (reply.Finish result) }
     {
         locked::finish(&mut self.locked.lock(rt), seat, ticket, outcome)
@@ -110,7 +124,10 @@ impl<S: EntryStore, L: Sharing> SharedDevice<S, L> {
         seat: &mut AdminSeat<L, A>,
         command: Command,
     ) -> IssueAnswer
-        ensures { seat.new ≡ with_step seat.old (event.Issue command) (reply.Issue result) }
+        ensures answered { IsAnsweredFor L.caps L.capacity seat.old
+            (event.Issue command) (reply.Issue result) }
+        ensures receipts { seat.new
+            ≡ with_step seat.old (event.Issue command) (reply.Issue result) }
     {
         locked::issue(&mut self.locked.lock(rt), seat, command)
     }
@@ -118,7 +135,9 @@ impl<S: EntryStore, L: Sharing> SharedDevice<S, L> {
     /// The administrator asks whether the active command is over.
     #[inline(always)]
     pub fn poll<R: Wait, A: Allocator>(&self, rt: &R, seat: &mut AdminSeat<L, A>) -> PollAnswer
-        ensures { seat.new ≡ with_step seat.old event.Poll (reply.Poll result) }
+        ensures answered { IsAnsweredFor L.caps L.capacity seat.old event.Poll
+            (reply.Poll result) }
+        ensures receipts { seat.new ≡ with_step seat.old event.Poll (reply.Poll result) }
     {
         locked::poll(&mut self.locked.lock(rt), seat)
     }
@@ -132,7 +151,9 @@ impl<S: EntryStore, L: Sharing> SharedDevice<S, L> {
         queue: u16,
         config: QueueConfig,
     ) -> WriteAnswer
-        ensures { seat.new
+        ensures answered { IsAnsweredFor L.caps L.capacity seat.old
+            (event.WriteQueue queue config) (reply.Write result) }
+        ensures receipts { seat.new
             ≡ with_step seat.old (event.WriteQueue queue config) (reply.Write result) }
     {
         locked::write_queue(&mut self.locked.lock(rt), seat, queue, config)
@@ -147,7 +168,9 @@ impl<S: EntryStore, L: Sharing> SharedDevice<S, L> {
         group: u16,
         config: GroupConfig,
     ) -> WriteAnswer
-        ensures { seat.new
+        ensures answered { IsAnsweredFor L.caps L.capacity seat.old
+            (event.WriteGroup group config) (reply.Write result) }
+        ensures receipts { seat.new
             ≡ with_step seat.old (event.WriteGroup group config) (reply.Write result) }
     {
         locked::write_group(&mut self.locked.lock(rt), seat, group, config)
@@ -160,20 +183,30 @@ impl<S: EntryStore, L: Sharing> SharedDevice<S, L> {
         rt: &R,
         seat: &mut AdminSeat<L, A>,
     ) -> ClearAnswer
-        ensures { seat.new ≡ with_step seat.old event.ClearError (reply.Clear result) }
+        ensures answered { IsAnsweredFor L.caps L.capacity seat.old event.ClearError
+            (reply.Clear result) }
+        ensures receipts { seat.new ≡ with_step seat.old event.ClearError (reply.Clear result) }
     {
         locked::clear_error(&mut self.locked.lock(rt), seat)
     }
 
     /// The number of entries that the device holds at some moment of the call.
     pub fn held<R: Wait>(&self, rt: &R) -> u32
-        ensures { result ≤ cell_count L.caps }
+        ensures read { IsReadOf L.caps L.capacity (λ d. held_count d.state.work.content) result }
+        ensures bound { result ≤ cell_count L.caps }
     {
-        self.locked.lock(rt).device.held()
+        let locked = self.locked.lock(rt);
+        locked::state_is_replay(&locked);
+        locked.device.held()
     }
 
     /// What became of the entry of that name, at some moment of the call.
-    pub fn fate<R: Wait>(&self, rt: &R, name: u32) -> Option<Fate> {
-        self.locked.lock(rt).device.fate(name)
+    pub fn fate<R: Wait>(&self, rt: &R, name: u32) -> Option<Fate>
+        ensures { IsReadOf L.caps L.capacity (λ d. option_map (λ row. row.fate)
+            (find (λ row. row.name == name) d.state.work.fates)) result }
+    {
+        let locked = self.locked.lock(rt);
+        locked::state_is_replay(&locked);
+        locked.device.fate(name)
     }
 }

@@ -8,6 +8,7 @@ ghost use Rattle.dsa_desc.specs.Descriptor.{read};
 ghost use Rattle.dsa_book.specs.declared.event.Event.TheVariants as event;
 ghost use Rattle.dsa_book.specs.declared.answer.Reply.TheVariants as reply;
 ghost use Rattle.dsa_device.specs.Running.{after_answer};
+ghost use Rattle.dsa_shared.specs.Locked.{IsAnsweredFor};
 ghost use Rattle.dsa_shared.specs.Seat.{with_receipt, with_step};
 
 mod checks;
@@ -56,6 +57,7 @@ macro_rules! noting {
             device: $device,
             ledger,
         } = $locked;
+        $device.state_is_replay();
         let before = $device.history().len();
         let answer = $step;
         $seat.receipts.note(ledger, $device, before);
@@ -76,6 +78,9 @@ pub fn submit<S: EntryStore, L: Sharing, A: Allocator>(
     ensures step { after_answer locked.old
         (event.Submit seat.old.number queue portal kind (read bytes.now)) (reply.Submit result)
         ≡ Some locked.new }
+    ensures answered { IsAnsweredFor L.caps L.capacity seat.old.receipts
+        (event.Submit seat.old.number queue portal kind (read bytes.now))
+        (reply.Submit result) }
     ensures receipts { seat.new
         ≡ with_receipt seat.old (event.Submit seat.old.number queue portal kind (read bytes.now))
         (reply.Submit result) }
@@ -95,6 +100,8 @@ pub fn dispatch<S: EntryStore, L: Sharing, A: Allocator>(
 ) -> DispatchAnswer
     ensures step { after_answer locked.old (event.Dispatch seat.old.number) (reply.Dispatch result)
         ≡ Some locked.new }
+    ensures answered { IsAnsweredFor L.caps L.capacity seat.old.receipts
+        (event.Dispatch seat.old.number) (reply.Dispatch result) }
     ensures receipts { seat.new
         ≡ with_receipt seat.old (event.Dispatch seat.old.number) (reply.Dispatch result) }
 {
@@ -110,6 +117,8 @@ pub fn fetch<S: EntryStore, L: Sharing, A: Allocator>(
 ) -> FetchAnswer
     ensures step { after_answer locked.old (event.Fetch seat.old.number desc) (reply.Fetch result)
         ≡ Some locked.new }
+    ensures answered { IsAnsweredFor L.caps L.capacity seat.old.receipts
+        (event.Fetch seat.old.number desc) (reply.Fetch result) }
     ensures receipts { seat.new
         ≡ with_receipt seat.old (event.Fetch seat.old.number desc) (reply.Fetch result) }
 {
@@ -124,6 +133,8 @@ pub fn start<S: EntryStore, L: Sharing, A: Allocator>(
 ) -> StartAnswer
     ensures step { after_answer locked.old (event.Start seat.old.number) (reply.Start result)
         ≡ Some locked.new }
+    ensures answered { IsAnsweredFor L.caps L.capacity seat.old.receipts
+        (event.Start seat.old.number) (reply.Start result) }
     ensures receipts { seat.new
         ≡ with_receipt seat.old (event.Start seat.old.number) (reply.Start result) }
 {
@@ -141,6 +152,9 @@ pub fn finish<S: EntryStore, L: Sharing, A: Allocator>(
     ensures step { after_answer locked.old (event.Finish seat.old.number ticket outcome)
         (reply.Finish result)
         ≡ Some locked.new }
+    ensures answered { IsAnsweredFor L.caps L.capacity seat.old.receipts
+        (event.Finish seat.old.number ticket outcome)
+        (reply.Finish result) }
     ensures receipts { seat.new
         ≡ with_receipt seat.old (event.Finish seat.old.number ticket outcome)
         (reply.Finish result) }
@@ -161,6 +175,8 @@ pub fn issue<S: EntryStore, L: Sharing, A: Allocator>(
 ) -> IssueAnswer
     ensures step { after_answer locked.old (event.Issue command) (reply.Issue result)
         ≡ Some locked.new }
+    ensures answered { IsAnsweredFor L.caps L.capacity seat.old
+        (event.Issue command) (reply.Issue result) }
     ensures receipts { seat.new ≡ with_step seat.old (event.Issue command) (reply.Issue result) }
 {
     noting!(locked, seat, |device| device.issue(command))
@@ -173,6 +189,8 @@ pub fn poll<S: EntryStore, L: Sharing, A: Allocator>(
     seat: &mut AdminSeat<L, A>,
 ) -> PollAnswer
     ensures step { after_answer locked.old event.Poll (reply.Poll result) ≡ Some locked.new }
+    ensures answered { IsAnsweredFor L.caps L.capacity seat.old
+        event.Poll (reply.Poll result) }
     ensures receipts { seat.new ≡ with_step seat.old event.Poll (reply.Poll result) }
 {
     noting!(locked, seat, |device| device.poll())
@@ -186,6 +204,8 @@ pub fn clear_error<S: EntryStore, L: Sharing, A: Allocator>(
 ) -> ClearAnswer
     ensures step { after_answer locked.old event.ClearError (reply.Clear result)
         ≡ Some locked.new }
+    ensures answered { IsAnsweredFor L.caps L.capacity seat.old
+        event.ClearError (reply.Clear result) }
     ensures receipts { seat.new ≡ with_step seat.old event.ClearError (reply.Clear result) }
 {
     noting!(locked, seat, |device| device.clear_error())
@@ -201,6 +221,8 @@ pub fn write_queue<S: EntryStore, L: Sharing, A: Allocator>(
 ) -> WriteAnswer
     ensures step { after_answer locked.old (event.WriteQueue queue config) (reply.Write result)
         ≡ Some locked.new }
+    ensures answered { IsAnsweredFor L.caps L.capacity seat.old
+        (event.WriteQueue queue config) (reply.Write result) }
     ensures receipts { seat.new
         ≡ with_step seat.old (event.WriteQueue queue config) (reply.Write result) }
 {
@@ -217,6 +239,8 @@ pub fn write_group<S: EntryStore, L: Sharing, A: Allocator>(
 ) -> WriteAnswer
     ensures step { after_answer locked.old (event.WriteGroup group config) (reply.Write result)
         ≡ Some locked.new }
+    ensures answered { IsAnsweredFor L.caps L.capacity seat.old
+        (event.WriteGroup group config) (reply.Write result) }
     ensures receipts { seat.new
         ≡ with_step seat.old (event.WriteGroup group config) (reply.Write result) }
 {

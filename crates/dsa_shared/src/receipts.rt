@@ -79,6 +79,7 @@ impl<L: Sharing, A: Allocator> Receipts<L, A> {
         requires before { ledger.old.total ≡ before }
         requires grown { (before ≤ length device.now.history)
             × (length device.now.history ≤ before + 1) }
+        ensures seen { length self.old.steps ≤ before }
         ensures total { ledger.new.total ≡ length device.now.history }
         ensures noted { self.new
             ≡ record self.old { steps = self.old.steps ++ drop before device.now.history } }

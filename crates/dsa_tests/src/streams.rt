@@ -6,9 +6,8 @@
 
 mod dialogues;
 mod documents;
-mod fakes;
 
-use crate::streams::fakes::{Course, Narrow, Trickle};
+use dsa_fixtures::streams::{Course, Narrow, Trickle};
 use dsa_scenario::{ScenarioFault, WatchedWriter, run_scenario};
 use dsa_serve::serve_watched;
 use std::alloc::Global;

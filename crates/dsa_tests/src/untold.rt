@@ -7,7 +7,7 @@ use crate::layers::devices::enabled;
 use crate::layers::setup::store;
 use dsa_book::{Event, Kind, Portal};
 use dsa_device::Device;
-use dsa_explain::{aborted_at, kept_for, queue_reason};
+use dsa_explain::{aborted_at, kept_for};
 use dsa_fixtures::LARGE_MOVE;
 use dsa_regs::{Command, ListUse};
 use dsa_store::EntryStore;
@@ -114,9 +114,9 @@ fn buffers_that_are_kept(rt: HostRuntime) {
 fn queues_are_passed_over<S: EntryStore>(rt: &impl Abort, device: &Device<S>) {
     const CASES: [(u16, u16); 4] = [(0, 1), (0, 2), (1, 0), (2, 0)];
     for &(engine, queue) in &CASES {
-        claim!(rt; queue_reason(device, engine, queue).is_none());
+        claim!(rt; device.queue_reason(engine, queue).is_none());
     }
-    claim!(rt; queue_reason(device, 0, 0).is_some());
+    claim!(rt; device.queue_reason(0, 0).is_some());
 }
 
 #[test]

@@ -1,7 +1,8 @@
 -- What stands before the parts of a line, in each form (profile).
 use Rattle.std.specs.Prelude.{ℕ, ◌==◌, if◌then◌else◌, List, [], codes}
 use Rattle.dsa_trace.specs.declared.form.{Trace.{Trace, TheVariants.{Table, Json}}, Part.{Part}}
-use Rattle.dsa_trace.specs.declared.form.Part.TheVariants.{Step, Event, Answer, Queues, Engines, Groups, NoCommand}
+use Rattle.dsa_trace.specs.declared.form.Items.TheVariants.{Queues, Engines, Groups}
+use Rattle.dsa_trace.specs.declared.form.Part.TheVariants.{Step, Event, Answer, Items, NoCommand}
 use Rattle.dsa_trace.specs.declared.form.Part.TheVariants.{Active, Awaited, CommandEnd, LineEnd, Queue, Occupancy}
 use Rattle.dsa_trace.specs.declared.form.Part.TheVariants.{Threshold, Size, Engine, InProgress, Slots, Members, Group}
 use Rattle.dsa_trace.specs.declared.form.Part.TheVariants.{Used, Allowed, ColumnEnd, Held, InList, HeldEnd}
@@ -11,9 +12,9 @@ abbrev pub marks : Part → List ℕ × List ℕ
 marks Step = ([], codes "{\"step\":")
 marks Event = (codes " ", codes ",\"event\":\"")
 marks Answer = (codes " -> ", codes "\",\"answer\":\"")
-marks Queues = (codes " |", codes "\",\"queues\":[")
-marks Engines = (codes " |", codes "],\"engines\":[")
-marks Groups = (codes " |", codes "],\"groups\":[")
+marks (Items Queues) = (codes " |", codes "\",\"queues\":[")
+marks (Items Engines) = (codes " |", codes "],\"engines\":[")
+marks (Items Groups) = (codes " |", codes "],\"groups\":[")
 marks NoCommand = ([], codes "],\"active\":null")
 marks Active = (codes " | ", codes "],\"active\":{\"command\":\"")
 marks Awaited = (codes " awaits ", codes "\",\"awaited\":")

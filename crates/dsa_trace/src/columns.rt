@@ -1,17 +1,14 @@
 //! What a line shows of a device.
 
-ghost use Rattle.std.specs.Prelude.{◌≡◌, ◌<◌, ◌++◌, OnOk, flat_map, string_bytes};
-ghost use Rattle.dsa_base.specs.Numbers.{numbers_below};
-ghost use Rattle.dsa_trace.specs.declared.form.Part.TheVariants as part;
-ghost use Rattle.dsa_trace.specs.Columns.{columns, command_column, command_text, engine_column, engine_text, group_column, group_text, is_left_out, queue_column, queue_text, threshold_text};
-ghost use Rattle.dsa_trace.specs.Marks.{mark};
+ghost use Rattle.std.specs.Prelude.{◌≡◌, ◌<◌};
+ghost use Rattle.dsa_event_text.specs.Added.{Adds};
+ghost use Rattle.dsa_trace.specs.Columns.{columns, command_text, engine_text, group_text, is_left_out, item_count, item_text, items_text, queue_text, threshold_text};
 
-use crate::form::{Part, Trace, add_comma, add_mark, add_marked};
+use crate::form::{Items, Part, Trace, add_comma, add_mark, add_marked};
 use dsa_device::Device;
-use dsa_event_text::add_command;
-use dsa_regs::{Command, QueueConfig};
+use dsa_event_text::{Added, add_command};
+use dsa_regs::{Caps, Command, QueueConfig};
 use dsa_store::EntryStore;
-use std::alloc::AllocError;
 
 fn is_left_out(form: Trace, config: &QueueConfig) -> bool
     ensures { result ≡ is_left_out form config.now }
@@ -22,9 +19,8 @@ fn is_left_out(form: Trace, config: &QueueConfig) -> bool
     }
 }
 
-fn add_threshold(text: &mut String, form: Trace, config: &QueueConfig) -> Result<(), AllocError>
-    ensures { OnOk result
-        (string_bytes text.new ≡ string_bytes text.old ++ threshold_text form config.now) }
+fn add_threshold(text: &mut String, form: Trace, config: &QueueConfig) -> Added
+    ensures { Adds result text.old text.new (threshold_text form config.now) }
 {
     match form {
         Trace::Table if config.dedicated => Ok(()),
@@ -38,10 +34,8 @@ fn add_queue(
     queue: u16,
     waiting: u16,
     config: &QueueConfig,
-) -> Result<(), AllocError>
-    ensures { OnOk result
-        (string_bytes text.new
-        ≡ string_bytes text.old ++ queue_text form queue waiting config.now) }
+) -> Added
+    ensures { Adds result text.old text.new (queue_text form queue waiting config.now) }
 {
     if is_left_out(form, config) {
         return Ok(());
@@ -61,10 +55,8 @@ fn add_engine(
     taken: u32,
     slots: u16,
     left: u32,
-) -> Result<(), AllocError>
-    ensures { OnOk result
-        (string_bytes text.new
-        ≡ string_bytes text.old ++ engine_text form engine taken slots left) }
+) -> Added
+    ensures { Adds result text.old text.new (engine_text form engine taken slots left) }
 {
     add_comma(text, form, engine)?;
     add_marked(text, form, Part::Engine, u32::from(engine))?;
@@ -74,15 +66,8 @@ fn add_engine(
     add_mark(text, form, Part::ColumnEnd)
 }
 
-fn add_group(
-    text: &mut String,
-    form: Trace,
-    group: u16,
-    taken: u16,
-    allowed: u16,
-) -> Result<(), AllocError>
-    ensures { OnOk result
-        (string_bytes text.new ≡ string_bytes text.old ++ group_text form group taken allowed) }
+fn add_group(text: &mut String, form: Trace, group: u16, taken: u16, allowed: u16) -> Added
+    ensures { Adds result text.old text.new (group_text form group taken allowed) }
 {
     add_comma(text, form, group)?;
     add_marked(text, form, Part::Group, u32::from(group))?;
@@ -96,9 +81,8 @@ fn add_active(
     form: Trace,
     command: Option<Command>,
     awaited: Option<u32>,
-) -> Result<(), AllocError>
-    ensures { OnOk result
-        (string_bytes text.new ≡ string_bytes text.old ++ command_text form command awaited) }
+) -> Added
+    ensures { Adds result text.old text.new (command_text form command awaited) }
 {
     match (command, awaited) {
         (Some(command), Some(count)) => {
@@ -111,130 +95,68 @@ fn add_active(
     }
 }
 
-fn add_queue_of<S: EntryStore>(
+// What a line shows of the item of this number.
+fn add_item<S: EntryStore>(
     text: &mut String,
     form: Trace,
     device: &Device<S>,
-    queue: u16,
-) -> Result<(), AllocError>
-    requires { queue < device.now.caps.queues }
-    ensures { OnOk result
-        (string_bytes text.new
-        ≡ string_bytes text.old ++ queue_column form device.now.state queue) }
+    items: Items,
+    place: u16,
+) -> Added
+    requires { place < item_count device.now.caps items }
+    ensures { Adds result text.old text.new
+        (item_text form device.now.caps device.now.state items place) }
 {
-    match (device.occupancy(queue), device.queue_config(queue)) {
-        (Some(waiting), Some(config)) => add_queue(text, form, queue, waiting, &config),
-        _ => unreachable!(),
+    match items {
+        Items::Queues => match (device.occupancy(place), device.queue_config(place)) {
+            (Some(waiting), Some(config)) => add_queue(text, form, place, waiting, &config),
+            _ => unreachable!(),
+        },
+        Items::Engines => match (device.in_progress_count(place), device.member_count(place)) {
+            (Some(taken), Some(left)) => {
+                add_engine(text, form, place, taken, device.caps().slots, left)
+            }
+            _ => unreachable!(),
+        },
+        Items::Groups => match (device.used(place), device.group_config(place)) {
+            (Some(taken), Some(config)) => add_group(text, form, place, taken, config.allowed),
+            _ => unreachable!(),
+        },
     }
 }
 
-fn add_engine_of<S: EntryStore>(
-    text: &mut String,
-    form: Trace,
-    device: &Device<S>,
-    engine: u16,
-) -> Result<(), AllocError>
-    requires { engine < device.now.caps.engines }
-    ensures { OnOk result
-        (string_bytes text.new
-        ≡ string_bytes text.old ++ engine_column form device.now.caps device.now.state engine) }
+fn item_count(caps: &Caps, items: Items) -> u16
+    ensures { result ≡ item_count caps.now items }
 {
-    let slots = device.caps().slots;
-    match (
-        device.in_progress_count(engine),
-        device.member_count(engine),
-    ) {
-        (Some(taken), Some(left)) => add_engine(text, form, engine, taken, slots, left),
-        _ => unreachable!(),
+    match items {
+        Items::Queues => caps.queues,
+        Items::Engines => caps.engines,
+        Items::Groups => caps.groups,
     }
 }
 
-fn add_group_of<S: EntryStore>(
+fn add_items<S: EntryStore>(
     text: &mut String,
     form: Trace,
     device: &Device<S>,
-    group: u16,
-) -> Result<(), AllocError>
-    requires { group < device.now.caps.groups }
-    ensures { OnOk result
-        (string_bytes text.new
-        ≡ string_bytes text.old ++ group_column form device.now.state group) }
+    items: Items,
+) -> Added
+    ensures { Adds result text.old text.new
+        (items_text form device.now.caps device.now.state items) }
 {
-    match (device.used(group), device.group_config(group)) {
-        (Some(taken), Some(config)) => add_group(text, form, group, taken, config.allowed),
-        _ => unreachable!(),
-    }
-}
-
-fn add_queues<S: EntryStore>(
-    text: &mut String,
-    form: Trace,
-    device: &Device<S>,
-) -> Result<(), AllocError>
-    ensures { OnOk result
-        (string_bytes text.new
-        ≡ string_bytes text.old
-        ++ (mark form part.Queues
-        ++ flat_map (queue_column form device.now.state)
-        (numbers_below device.now.caps.queues))) }
-{
-    add_mark(text, form, Part::Queues)?;
-    for queue in 0..device.caps().queues {
-        add_queue_of(text, form, device, queue)?;
-    }
-    Ok(())
-}
-
-fn add_engines<S: EntryStore>(
-    text: &mut String,
-    form: Trace,
-    device: &Device<S>,
-) -> Result<(), AllocError>
-    ensures { OnOk result
-        (string_bytes text.new
-        ≡ string_bytes text.old
-        ++ (mark form part.Engines
-        ++ flat_map (engine_column form device.now.caps device.now.state)
-        (numbers_below device.now.caps.engines))) }
-{
-    add_mark(text, form, Part::Engines)?;
-    for engine in 0..device.caps().engines {
-        add_engine_of(text, form, device, engine)?;
-    }
-    Ok(())
-}
-
-fn add_groups<S: EntryStore>(
-    text: &mut String,
-    form: Trace,
-    device: &Device<S>,
-) -> Result<(), AllocError>
-    ensures { OnOk result
-        (string_bytes text.new
-        ≡ string_bytes text.old
-        ++ (mark form part.Groups
-        ++ flat_map (group_column form device.now.state)
-        (numbers_below device.now.caps.groups))) }
-{
-    add_mark(text, form, Part::Groups)?;
-    for group in 0..device.caps().groups {
-        add_group_of(text, form, device, group)?;
+    add_mark(text, form, Part::Items(items))?;
+    for place in 0..item_count(&device.caps(), items) {
+        add_item(text, form, device, items, place)?;
     }
     Ok(())
 }
 
 /// Adds what a line shows of the device.
-pub fn add_columns<S: EntryStore>(
-    text: &mut String,
-    form: Trace,
-    device: &Device<S>,
-) -> Result<(), AllocError>
-    ensures { OnOk result
-        (string_bytes text.new
-        ≡ string_bytes text.old ++ columns form device.now.caps device.now.state) }
+pub fn add_columns<S: EntryStore>(text: &mut String, form: Trace, device: &Device<S>) -> Added
+    ensures { Adds result text.old text.new (columns form device.now.caps device.now.state) }
 {
-    add_queues(text, form, device)?;
-    add_engines(text, form, device)?;
-    add_groups(text, form, device)?;
+    add_items(text, form, device, Items::Queues)?;
+    add_items(text, form, device, Items::Engines)?;
+    add_items(text, form, device, Items::Groups)?;
     add_active(text, form, device.active(), device.awaited())
 }

@@ -1,11 +1,11 @@
 //! The two forms of a trace, and what stands before the parts of their lines.
 
-ghost use Rattle.std.specs.Prelude.{◌≡◌, ◌++◌, OnOk, string_bytes};
+ghost use Rattle.std.specs.Prelude.{◌≡◌};
+ghost use Rattle.dsa_event_text.specs.Added.{Adds};
 ghost use Rattle.dsa_trace.specs.Columns.{marked};
 ghost use Rattle.dsa_trace.specs.Marks.{comma, mark, marks};
 
-use dsa_event_text::add_number;
-use std::alloc::AllocError;
+use dsa_event_text::{Added, add_number};
 
 /// The form of a trace (profile).
 #[derive(Clone, Copy, Debug, PartialEq, Eq)]
@@ -16,15 +16,21 @@ pub enum Trace {
     Json,
 }
 
+/// What a line has an array of.
+#[derive(Clone, Copy)]
+pub enum Items {
+    Queues,
+    Engines,
+    Groups,
+}
+
 /// A part of a line.
 #[derive(Clone, Copy)]
 pub enum Part {
     Step,
     Event,
     Answer,
-    Queues,
-    Engines,
-    Groups,
+    Items(Items),
     NoCommand,
     Active,
     Awaited,
@@ -57,9 +63,9 @@ fn marks(part: Part) -> (&'static str, &'static str)
         Part::Step => ("", "{\"step\":"),
         Part::Event => (" ", ",\"event\":\""),
         Part::Answer => (" -> ", "\",\"answer\":\""),
-        Part::Queues => (" |", "\",\"queues\":["),
-        Part::Engines => (" |", "],\"engines\":["),
-        Part::Groups => (" |", "],\"groups\":["),
+        Part::Items(Items::Queues) => (" |", "\",\"queues\":["),
+        Part::Items(Items::Engines) => (" |", "],\"engines\":["),
+        Part::Items(Items::Groups) => (" |", "],\"groups\":["),
         Part::NoCommand => ("", "],\"active\":null"),
         Part::Active => (" | ", "],\"active\":{\"command\":\""),
         Part::Awaited => (" awaits ", "\",\"awaited\":"),
@@ -99,24 +105,23 @@ impl Trace {
 
 /// Adds the mark of a part.
 #[inline(always)]
-pub fn add_mark(text: &mut String, form: Trace, part: Part) -> Result<(), AllocError>
-    ensures { OnOk result (string_bytes text.new ≡ string_bytes text.old ++ mark form part) }
+pub fn add_mark(text: &mut String, form: Trace, part: Part) -> Added
+    ensures { Adds result text.old text.new (mark form part) }
 {
     text.push_str(form.mark(part))
 }
 
 /// Adds a number behind the mark of its part.
 #[inline(always)]
-pub fn add_marked(text: &mut String, form: Trace, part: Part, number: u32) -> Result<(), AllocError>
-    ensures { OnOk result
-        (string_bytes text.new ≡ string_bytes text.old ++ marked form part number) }
+pub fn add_marked(text: &mut String, form: Trace, part: Part, number: u32) -> Added
+    ensures { Adds result text.old text.new (marked form part number) }
 {
     add_number(text, form.mark(part), number)
 }
 
 /// Adds what stands between the items of an array, before the item at this place.
-pub fn add_comma(text: &mut String, form: Trace, place: u16) -> Result<(), AllocError>
-    ensures { OnOk result (string_bytes text.new ≡ string_bytes text.old ++ comma form place) }
+pub fn add_comma(text: &mut String, form: Trace, place: u16) -> Added
+    ensures { Adds result text.old text.new (comma form place) }
 {
     match form {
         Trace::Json if place > 0 => text.push_str(","),

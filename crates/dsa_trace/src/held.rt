@@ -1,27 +1,19 @@
 //! The entries that a device holds.
 
-ghost use Rattle.std.specs.Prelude.{◌≡◌, ◌++◌, List, OnOk, flat_map, string_bytes};
-ghost use Rattle.dsa_base.specs.Numbers.{numbers_below};
-ghost use Rattle.dsa_regs.specs.declared.layout.ListUse.TheVariants as list;
-ghost use Rattle.dsa_regs.specs.Caps.{HasList};
-ghost use Rattle.dsa_store.specs.Content.{HeldEntry};
-ghost use Rattle.dsa_trace.specs.Held.{held_text, held_line, held_lines, entries_of_list};
+ghost use Rattle.std.specs.Prelude.{◌<◌};
+ghost use Rattle.dsa_event_text.specs.Added.{Adds};
+ghost use Rattle.dsa_regs.specs.Caps.{list_count};
+ghost use Rattle.dsa_trace.specs.Held.{held_line, held_lines, list_lines};
 
 use crate::form::{Part, Trace, add_mark, add_marked};
 use dsa_device::Device;
-use dsa_event_text::add_list;
-use dsa_regs::ListUse;
-use dsa_store::{Cell, Entry, EntryStore, Walk};
-use std::alloc::AllocError;
+use dsa_event_text::{Added, add_list};
+use dsa_explain::entries_of_list;
+use dsa_regs::{ListUse, list_count};
+use dsa_store::{Cell, Entry, EntryStore};
 
-fn add_entry(
-    text: &mut String,
-    form: Trace,
-    list: ListUse,
-    pair: (Cell, Entry),
-) -> Result<(), AllocError>
-    ensures { OnOk result
-        (string_bytes text.new ≡ string_bytes text.old ++ held_line form list pair) }
+fn add_entry(text: &mut String, form: Trace, list: ListUse, pair: (Cell, Entry)) -> Added
+    ensures { Adds result text.old text.new (held_line form list pair) }
 {
     let (_cell, entry) = pair;
     add_marked(text, form, Part::Held, entry.name)?;
@@ -30,101 +22,32 @@ fn add_entry(
     add_mark(text, form, Part::HeldEnd)
 }
 
-// The entries of the list, the front first.
-fn entries_of_list<S: EntryStore>(device: &Device<S>, list: ListUse) -> Walk<'_, S>
-    requires { HasList device.now.caps list }
-    ensures { result ≡ entries_of_list device.now.state list }
-{
-    let entries = match list {
-        ListUse::Queue(queue) => device.waiting(queue),
-        ListUse::Progress(engine) => device.in_progress(engine),
-        ListUse::Members(engine) => device.members(engine),
-    };
-    match entries {
-        Some(entries) => entries,
-        None => unreachable!(),
-    }
-}
-
-// A line for each entry of the list.
-fn add_entries<S: EntryStore>(
+// A line for each entry of the list of this number.
+fn add_list_lines<S: EntryStore>(
     text: &mut String,
     form: Trace,
     device: &Device<S>,
-    list: ListUse,
-) -> Result<(), AllocError>
-    requires { HasList device.now.caps list }
-    ensures { OnOk result
-        (string_bytes text.new ≡ string_bytes text.old ++ held_text form device.now.state list) }
+    number: u16,
+) -> Added
+    requires { number < list_count device.now.caps }
+    ensures { Adds result text.old text.new
+        (list_lines form device.now.caps device.now.state number) }
 {
+    let list = device.caps().list_use(number);
     for pair in entries_of_list(device, list) {
         add_entry(text, form, list, pair)?;
     }
     Ok(())
 }
 
-fn add_waiting<S: EntryStore>(
-    text: &mut String,
-    form: Trace,
-    device: &Device<S>,
-) -> Result<(), AllocError>
-    ensures { OnOk result
-        (string_bytes text.new
-        ≡ string_bytes text.old
-        ++ flat_map (λ q. held_text form device.now.state (list.Queue q))
-        (numbers_below device.now.caps.queues)) }
-{
-    for queue in 0..device.caps().queues {
-        add_entries(text, form, device, ListUse::Queue(queue))?;
-    }
-    Ok(())
-}
-
-fn add_in_progress<S: EntryStore>(
-    text: &mut String,
-    form: Trace,
-    device: &Device<S>,
-) -> Result<(), AllocError>
-    ensures { OnOk result
-        (string_bytes text.new
-        ≡ string_bytes text.old
-        ++ flat_map (λ e. held_text form device.now.state (list.Progress e))
-        (numbers_below device.now.caps.engines)) }
-{
-    for engine in 0..device.caps().engines {
-        add_entries(text, form, device, ListUse::Progress(engine))?;
-    }
-    Ok(())
-}
-
-fn add_members<S: EntryStore>(
-    text: &mut String,
-    form: Trace,
-    device: &Device<S>,
-) -> Result<(), AllocError>
-    ensures { OnOk result
-        (string_bytes text.new
-        ≡ string_bytes text.old
-        ++ flat_map (λ e. held_text form device.now.state (list.Members e))
-        (numbers_below device.now.caps.engines)) }
-{
-    for engine in 0..device.caps().engines {
-        add_entries(text, form, device, ListUse::Members(engine))?;
-    }
-    Ok(())
-}
-
 /// Adds a line for each entry that the device holds.
-pub fn add_held<S: EntryStore>(
-    text: &mut String,
-    form: Trace,
-    device: &Device<S>,
-) -> Result<(), AllocError>
-    ensures { OnOk result
-        (string_bytes text.new
-        ≡ string_bytes text.old ++ held_lines form device.now.caps device.now.state) }
+pub fn add_held<S: EntryStore>(text: &mut String, form: Trace, device: &Device<S>) -> Added
+    ensures { Adds result text.old text.new (held_lines form device.now.caps device.now.state) }
 {
-    add_waiting(text, form, device)?;
-    add_in_progress(text, form, device)?;
-    add_members(text, form, device)
+    device.state_is_replay();
+    let caps = device.caps();
+    for number in 0..list_count(&caps) {
+        add_list_lines(text, form, device, number)?;
+    }
+    Ok(())
 }

@@ -1,7 +1,8 @@
 //! The line of a step.
 
-ghost use Rattle.std.specs.Prelude.{◌≡◌, ◌++◌, OnOk, string_bytes};
+ghost use Rattle.std.specs.Prelude.{◌++◌};
 ghost use Rattle.std.specs.Fmt.{decimal};
+ghost use Rattle.dsa_event_text.specs.Added.{Adds};
 ghost use Rattle.dsa_scenario.specs.Lines.{record_text};
 ghost use Rattle.dsa_trace.specs.declared.form.Part.TheVariants as part;
 ghost use Rattle.dsa_trace.specs.Columns.{marked};
@@ -11,25 +12,21 @@ ghost use Rattle.dsa_trace.specs.Marks.{mark};
 use crate::columns::add_columns;
 use crate::form::{Part, Trace, add_mark};
 use dsa_device::Device;
-use dsa_event_text::add_event;
+use dsa_event_text::{Added, add_event};
 use dsa_scenario::{Record, add_answer};
 use dsa_store::EntryStore;
 use itoa::Buffer;
-use std::alloc::AllocError;
 
-fn add_place(text: &mut String, form: Trace, number: usize) -> Result<(), AllocError>
-    ensures { OnOk result
-        (string_bytes text.new ≡ string_bytes text.old ++ marked form part.Step number) }
+fn add_place(text: &mut String, form: Trace, number: usize) -> Added
+    ensures { Adds result text.old text.new (marked form part.Step number) }
 {
     let mut buffer = Buffer::new();
     add_mark(text, form, Part::Step)?;
     text.push_str(buffer.format(number))
 }
 
-fn add_asked(text: &mut String, form: Trace, entry: &Record) -> Result<(), AllocError>
-    ensures { OnOk result
-        (string_bytes text.new
-        ≡ string_bytes text.old ++ (mark form part.Event ++ traced_event_words entry.now)) }
+fn add_asked(text: &mut String, form: Trace, entry: &Record) -> Added
+    ensures { Adds result text.old text.new (mark form part.Event ++ traced_event_words entry.now) }
 {
     add_mark(text, form, Part::Event)?;
     match entry {
@@ -38,10 +35,8 @@ fn add_asked(text: &mut String, form: Trace, entry: &Record) -> Result<(), Alloc
     }
 }
 
-fn add_answered(text: &mut String, form: Trace, entry: &Record) -> Result<(), AllocError>
-    ensures { OnOk result
-        (string_bytes text.new
-        ≡ string_bytes text.old ++ (mark form part.Answer ++ record_text entry.now)) }
+fn add_answered(text: &mut String, form: Trace, entry: &Record) -> Added
+    ensures { Adds result text.old text.new (mark form part.Answer ++ record_text entry.now) }
 {
     add_mark(text, form, Part::Answer)?;
     add_answer(text, entry)
@@ -54,11 +49,9 @@ pub fn add_step<S: EntryStore>(
     number: usize,
     entry: &Record,
     device: &Device<S>,
-) -> Result<(), AllocError>
-    ensures { OnOk result
-        (string_bytes text.new
-        ≡ string_bytes text.old
-        ++ step_line form device.now.caps number entry.now device.now.state) }
+) -> Added
+    ensures { Adds result text.old text.new
+        (step_line form device.now.caps number entry.now device.now.state) }
 {
     add_place(text, form, number)?;
     add_asked(text, form, entry)?;

@@ -102,14 +102,63 @@ def padded(form, negative, prefix, digits):
     return front + [48] * padding + digits if flags & 4 else [fill] * padding + front + digits
 
 
+def members_of(d):
+    """The members of a JSON object, or none."""
+    members = d.arguments[0] if d.name == "object" else Made("no_members")
+    while members.name == "member":
+        yield members.arguments[:2]
+        members = members.arguments[2]
+
+
+def as_kind(kind):
+    """What a JSON value of this kind holds."""
+    return 1, lambda d: some(d.arguments[0]) if d.name == kind else NONE
+
+
+def signed(n):
+    """A whole number as it is written with a sign."""
+    return Made("pos", (n,)) if n >= 0 else Made("negsuc", (-n - 1,))
+
+
+def as_i64(n):
+    if n.name == "negative":
+        return some(n.arguments[0])
+    return some(signed(n.arguments[0])) if n.name == "unsigned" and n.arguments[0] < 2 ** 63 else NONE
+
+
+def bytes_of_digits(i, text):
+    """The bytes of pairs of hexadecimal digits, the first of them at this place."""
+    odd = len(text) % 2
+    try:
+        return Made("Ok", (list(bytes.fromhex(bytes(text[:len(text) - odd]).decode("ascii"))),)) if not odd else Made("Err", (None,))
+    except ValueError:
+        return Made("Err", (None,))
+
+
+def then(x, f):
+    """The second step, where the first gave a value."""
+    return f(x.arguments[0]) if x.name in ("Some", "Ok") else x
+
+
+def in_signs(z):
+    """A number with its sign, in decimal digits."""
+    return in_digits(10, False, z.arguments[0]) if z.name == "pos" else [45] + in_digits(10, False, z.arguments[0] + 1)
+
+
+def passes_all(test, xs, ys):
+    return len(xs) == len(ys) and all(test(x)(y) for x, y in zip(xs, ys))
+
+
 # What the toolchain's own library has, by name: how many arguments, and what they give.
 LIBRARY = {
     "not": (1, lambda a: not a), "map": (2, lambda f, xs: [f(x) for x in xs]),
     "filter": (2, lambda f, xs: [x for x in xs if f(x)]), "length": (1, len),
     "min": (2, min), "max": (2, max), "nat_lt": (2, lambda a, b: a < b), "nat_le": (2, lambda a, b: a <= b),
+    "ltb": (2, lambda a, b: a < b), "option_or": (2, lambda x, y: x if x.name == "Some" else y),
     "nat_eq": (2, lambda a, b: a == b), "beq": (2, lambda a, b: a == b), "bytes_eq": (2, lambda a, b: a == b),
     "get_or": (3, at_place), "slice_index_or": (3, at_place), "slice_index": (2, lambda xs, i: at_place(xs, i, 0)),
     "slice_get": (2, lambda xs, i: some(xs[i]) if i < len(xs) else NONE), "slice_set": (3, put),
+    "set": (3, put), "range_with_len": (2, lambda i, n: list(range(i, i + n))), "slice_range": (3, lambda xs, i, j: xs[i:j]),
     "take": (2, lambda n, xs: xs[:n]), "drop": (2, lambda n, xs: xs[n:]), "replicate": (2, lambda n, x: [x] * n),
     "sum_by": (2, lambda f, xs: sum(f(x) for x in xs)), "count_by": (2, lambda f, xs: sum(1 for x in xs if f(x))),
     "list_any": (2, lambda f, xs: any(f(x) for x in xs)), "list_all": (2, lambda f, xs: all(f(x) for x in xs)),
@@ -120,14 +169,36 @@ LIBRARY = {
     "option_map": (2, lambda f, x: some(f(x.arguments[0])) if x.name == "Some" else NONE),
     "option_map_or": (3, lambda f, x, d: f(x.arguments[0]) if x.name == "Some" else d),
     "option_and_then": (2, lambda f, x: f(x.arguments[0]) if x.name == "Some" else NONE),
+    "ok_or": (2, lambda x, e: Made("Ok", x.arguments) if x.name == "Some" else Made("Err", (e,))),
     "unwrap_or": (2, chosen), "codes": (1, lambda x: x), "suc": (1, lambda n: n + 1), "bit_at": (2, lambda n, i: n >> i & 1),
     "decimal": (1, lambda n: in_digits(10, False, n)), "digits": (3, in_digits),
     "little_number": (2, little), "little_bytes": (2, lambda n, x: [x >> (8 * i) & 255 for i in range(n)]),
     "format_spec": (5, lambda fill, align, flags, width, precision: (fill, flags, width)), "padded_integral": (4, padded),
+    "get": (2, lambda k, d: next((some(x) for name, x in members_of(d) if name == k), NONE)),
+    "as_bool": as_kind("boolean"), "as_number": as_kind("number"), "as_str": as_kind("string"), "as_array": as_kind("array"),
+    "as_object": as_kind("object"), "as_u64": as_kind("unsigned"), "as_i64": (1, as_i64), "decode_pairs": (2, bytes_of_digits),
+    "signed_decimal": (1, in_signs), "string_bytes": (1, lambda x: x.arguments[0]),
+    "is_ascii_hexdigit": (1, lambda c: 48 <= c <= 57 or 65 <= c <= 70 or 97 <= c <= 102),
+    "suffix_len": (2, lambda f, xs: first_place(lambda x: not f(x), xs[::-1])),
+    "IsSomeAnd": (2, lambda x, f: x.name == "Some" and f(x.arguments[0])),
+    "IfSome": (2, lambda x, f: x.name == "None" or f(x.arguments[0])),
+    "MatchOption": (3, lambda x, none, f: f(x.arguments[0]) if x.name == "Some" else none),
+    "All": (2, lambda f, xs: all(f(x) for x in xs)), "AllZip": (3, passes_all),
     "zip": (2, lambda xs, ys: [(x, y) for x, y in zip(xs, ys)]), "digit_glyph": (2, lambda u, d: in_digits(16, u, d)[0]),
 }
 # What many rows come to again with the same values: computed once for each mutant.
 AGAIN = {("dsa_book", "Machine", "next"), ("dsa_book", "State", "opening")}
+# Values of types of which something is said of all.
+SOME_OF = {
+    "String": [Made("String", ([],)), Made("String", ([97, 126],))],
+    "Key": [{"name": {"now": [97]}, "in_caps": it} for it in (False, True)],
+    "Vec": [{"items": []}],
+}
+# The constructors of JSON values and of whole numbers.
+MADE = {
+    "null", "boolean", "number", "string", "array", "object", "no_items", "item", "no_members", "member", "unsigned", "negative",
+    "pos", "negsuc", "Ok", "Err",
+}
 VALUES = {"true": True, "false": False, "[]": [], "zero": 0, "tt": None, "⊤": True, "⊥": False, "Unit": True}
 # As many numbers are tried where something is said of all.
 MANY = 70
@@ -204,7 +275,7 @@ class Computer:
                 return "made", name
         for path in module.uses.get(name, []):
             parts = path.split(".")
-            if "TheVariants" in parts[:-1] or parts[-1] in ("Some", "None", "Ok", "Err"):
+            if "TheVariants" in parts[:-1] or parts[-1] in ("Some", "None") or parts[-1] in MADE and not parts[1].startswith("dsa_"):
                 return "made", parts[-1]
             if parts[0] == "Rattle" and len(parts) == 5 and parts[2] == "specs":
                 key = (parts[1], parts[3], parts[4])
@@ -245,7 +316,7 @@ class Defined:
     def make(self):
         if self.arity is None:
             raise Stuck(self.definition.name)
-        writer = Writer(self.computer, self.module)
+        writer = Writer(self.computer, self.module, self.definition.section)
         if self.definition.kind == "record":
             return self.holds(writer)
         names = [f"a{i}" for i in range(self.arity)]
@@ -259,7 +330,7 @@ class Defined:
         lines.append("    raise Stuck('no clause')")
         space = {
             "Stuck": Stuck, "Made": Made, "C": self.computer, "L": LIBRARY, "V": VALUES, "curried": curried,
-            "applied": applied, "same": same, "field": field_of, "record": dict,
+            "applied": applied, "same": same, "field": field_of, "record": dict, "then": then, "SOME_OF": SOME_OF,
         }
         exec("\n".join(lines), space)
         return self.computer.once(self.key, space["it"]) if self.key in AGAIN else space["it"]
@@ -272,7 +343,7 @@ class Defined:
         parts = [writer.term(node, local) for _, node, *_ in self.definition.fields]
         space = {
             "Stuck": Stuck, "Made": Made, "C": self.computer, "L": LIBRARY, "V": VALUES, "curried": curried,
-            "applied": applied, "same": same, "field": field_of,
+            "applied": applied, "same": same, "field": field_of, "then": then, "SOME_OF": SOME_OF,
         }
         return eval(f"lambda {', '.join(names)}: {' and '.join(parts) or 'True'}", space)
 
@@ -288,8 +359,8 @@ def field_of(x, name):
 class Writer:
     """Writes terms as Python."""
 
-    def __init__(self, computer, module):
-        self.computer, self.module, self.count = computer, module, 0
+    def __init__(self, computer, module, section=()):
+        self.computer, self.module, self.section, self.count = computer, module, section, 0
 
     def pattern(self, node, place, tests, local):
         if node.kind == "brackets":
@@ -409,15 +480,17 @@ class Writer:
         raise Stuck(word)
 
     def of_binder(self, node, local):
-        """Of all numbers: those up to a bound that no row comes to."""
+        """Of all numbers: those up to a bound that no row comes to; of all values of another type, some."""
         names, _ = node.value
-        if node.parts[0].kind != "name" or node.parts[0].value != "ℕ":
+        head = node.parts[0].parts[0] if node.parts[0].kind == "apply" else node.parts[0]
+        if head.kind != "name" or head.value not in ("ℕ", *SOME_OF):
             raise Stuck("all values of a type")
+        values = f"range({MANY})" if head.value == "ℕ" else f"SOME_OF[{head.value!r}]"
         inner = dict(local)
         for it in names:
             self.count += 1
             inner[it] = f"x{self.count}"
-        loops = " ".join(f"for {inner[it]} in range({MANY})" for it in names)
+        loops = " ".join(f"for {inner[it]} in {values}" for it in names)
         return f"all({self.term(node.parts[1], inner)} {loops})"
 
     def of_name(self, node, local):
@@ -429,12 +502,43 @@ class Writer:
             return self.called(head.value, arguments, local)
         return f"applied({', '.join(self.term(it, local) for it in node.parts)})"
 
+    def steps(self, parts, local):
+        """Steps, a line each, of which a name before an arrow stands for what the step gives."""
+        edge = self.column(parts[0])
+        starts = [i for i, it in enumerate(parts) if self.column(it) == edge]
+        some = [parts[i:j] for i, j in zip(starts, [*starts[1:], len(parts)])]
+        return self.after_steps(some, local)
+
+    def after_steps(self, some, local):
+        first, *rest = some
+        is_named = len(first) > 2 and self.is_arrow(first[1])
+        whole = first[2:] if is_named else first
+        node = whole[0] if len(whole) == 1 else Node("apply", whole[0].start, whole[-1].end, None, whole)
+        given = self.term(node, local)
+        if not rest:
+            return given
+        self.count += 1
+        place, inner = f"x{self.count}", dict(local)
+        if is_named:
+            self.pattern(first[0], place, [], inner)
+        return f"then({given}, lambda {place}: {self.after_steps(rest, inner)})"
+
+    def is_arrow(self, node):
+        return node.kind == "name" and node.value == "←"
+
+    def column(self, node):
+        """The column of a part that is the first of its line."""
+        line = self.module.text.rfind("\n", 0, node.start) + 1
+        return node.start - line if not self.module.text[line:node.start].strip() else None
+
     def called(self, name, arguments, local):
         if name == "¬" and name not in local:
             inner = arguments[0]
             if len(arguments) > 1:
                 inner = Node("apply", inner.start, arguments[-1].end, None, arguments)
             return f"(not {self.term(inner, local)})"
+        if name == "do" and name not in local:
+            return self.steps(arguments, local)
         given = [self.term(it, local) for it in arguments]
         if name in local:
             return f"applied({', '.join([local[name], *given])})" if given else local[name]
@@ -451,6 +555,8 @@ class Writer:
         if kind == "library":
             arity, function = LIBRARY[key][0], f"L[{key!r}][1]"
         else:
+            section = self.computer.code[key].definition.section
+            given = [local[it] for it in section if section == self.section] + given
             arity, function = self.computer.code[key].arity, f"C.code[{key!r}].function"
             if arity is None:
                 raise Stuck(name)
@@ -480,6 +586,6 @@ def computed(computer, uses, text):
     code = writer.term(term_of(text), {})
     space = {
         "Stuck": Stuck, "Made": Made, "C": computer, "L": LIBRARY, "V": VALUES, "curried": curried, "applied": applied,
-        "same": same, "field": field_of,
+        "same": same, "field": field_of, "SOME_OF": SOME_OF,
     }
     return compile(code, "row", "eval"), space

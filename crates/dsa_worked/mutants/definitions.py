@@ -66,6 +66,8 @@ class Definition:
     clauses: list = field(default_factory=list)
     fields: list = field(default_factory=list)
     parameters: list = field(default_factory=list)
+    # The names that all definitions of its section take first.
+    section: tuple = ()
 
 
 def tokens_of(text, at=0):
@@ -336,8 +338,10 @@ class Module:
         if text.startswith(("use ", "pub use ")):
             for name, path in names_used(text):
                 self.uses.setdefault(name, []).append(path)
-        elif words[0] in ("infix", "infixl", "infixr", "unfolding", "module") or text.startswith("pub mod "):
+        elif words[0] in ("infix", "infixl", "infixr", "unfolding") or text.startswith("pub mod "):
             return
+        elif words[0] == "module":
+            self.section(text, start)
         elif re.match(r"(pub )?(record|data) ", text):
             self.fields(text, start, end)
         else:
@@ -361,6 +365,19 @@ class Module:
             last_place = original(rest, last)
             body = rest[place:last_place]
             it.fields.append((label[1], term_of(body, base + place), base + place, base + last_place))
+
+    def section(self, text, start):
+        """The definitions of a section, each with its parameters before its own."""
+        head, _, rest = text.partition("where\n")
+        names = tuple(it for some in re.findall(r"\(([^():]+) : ", head) for it in some.split())
+        base, less, before = start + len(head) + len("where\n"), dedent(rest), set(self.definitions)
+        for first, last in items_of(less):
+            place = original(rest, first)
+            self.clause(less[first:last], base + place, base + original(rest, last))
+        for it in set(self.definitions) - before:
+            self.definitions[it].section = names
+            for clause in self.definitions[it].clauses:
+                clause.patterns = [Node("name", clause.start, clause.start, name) for name in names] + clause.patterns
 
     def clause(self, text, start, end):
         signature = re.match(r"(?:(?:abbrev|unfoldable) )?(?:pub )?([^\s:]+) : ", text)

@@ -14,3 +14,6 @@ pub mod Beside
 pub mod Values
 pub mod Kept
 pub mod Statements
+pub mod Changes
+pub mod Lawful
+pub mod Steady

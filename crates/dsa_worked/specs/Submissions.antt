@@ -61,7 +61,7 @@ operations_and_flags =
     to_shared drain 0 0 ∷ step_of_a_take 0 0 0 ∷ ended 0 0 0 0x01 ∷ to_shared (fenced no_op) 0 1 ∷
     step_of_a_take 0 0 1 ∷
     ended 0 0 1 0x11 ∷ to_shared (record (move 4096) { flags = 0x0c }) 0 2 ∷ step_of_a_take 0 0 2 ∷ ended 0 0 2 0x01 ∷
-    to_shared (record no_op { op = 6 }) 0 3 ∷ step_of_a_take 0 0 3 ∷ ended 0 0 3 0x10 ∷ []
+    to_shared (record no_op { op = 0xff }) 0 3 ∷ step_of_a_take 0 0 3 ∷ ended 0 0 3 0x10 ∷ []
 
 -- a history of 10 steps, of which the set-up took 7
 abbrev pub history_is_full : List Step

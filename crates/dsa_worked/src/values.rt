@@ -154,7 +154,7 @@ pub fn names_of_other_faults()
 
 /// The names of operations, and what a size counts.
 pub fn names_of_operations()
-    ensures names { map operation_name (0 ∷ 1 ∷ 2 ∷ 3 ∷ 4 ∷ 5 ∷ 6 ∷ 255 ∷ [])
+    ensures names { map operation_name (0 ∷ 1 ∷ 2 ∷ 3 ∷ 4 ∷ 5 ∷ 254 ∷ 255 ∷ [])
         ≡ Some (codes "No-op")
         ∷ Some (codes "Batch")
         ∷ Some (codes "Drain")

@@ -14,7 +14,7 @@ ghost use Rattle.dsa_device.specs.Running.{IsReplay};
 ghost use Rattle.dsa_device.specs.Reads.{awaited, is_held};
 
 use super::Device;
-use dsa_book::{BatchNote, Fate, FateRow, NotedError, Step, Ticket};
+use dsa_book::{ActiveCommand, BatchNote, Fate, FateRow, NotedError, Step, Ticket};
 use dsa_regs::{Caps, Command, GroupConfig, Phase, QueueConfig};
 use dsa_store::{Entry, EntryStore};
 
@@ -139,11 +139,18 @@ impl<S: EntryStore> Device<S> {
         }
     }
 
+    /// The command that is not over yet, with the name that was the next one when it was issued.
+    pub fn active_command(&self) -> Option<ActiveCommand>
+        ensures { result ≡ self.now.state.active }
+    {
+        self.admin.active()
+    }
+
     /// The command that is not over yet.
     pub fn active(&self) -> Option<Command>
         ensures { result ≡ option_map (λ active. active.command) self.now.state.active }
     {
-        self.admin.active().map(|active| active.command)
+        self.active_command().map(|active| active.command)
     }
 
     /// How many held entries the active command still waits for: of a drain's scope those that were

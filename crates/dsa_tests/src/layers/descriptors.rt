@@ -123,11 +123,11 @@ fn prints_one_line(rt: HostRuntime) {
             "Compare, PASID 5, flags 0x00000e, size 4294967295",
         ),
         (
-            0x06,
+            0x60,
             0,
             7,
             5,
-            "Operation 0x06, PASID 5, flags 0x000000, size 7",
+            "Operation 0x60, PASID 5, flags 0x000000, size 7",
         ),
         (
             0xff,

@@ -137,7 +137,7 @@ fn words_are_commands(rt: HostRuntime) {
     const WORDS: [(u32, Result<Command, Fault>); 22] = [
         (0, Err(Fault::BadCommand)),
         (0x0210_0000, Err(Fault::BadCommand)),
-        (0x00d0_0000, Err(Fault::BadCommand)),
+        (0x01f0_0000, Err(Fault::BadCommand)),
         (0x0010_0000, Ok(Command::EnableDevice)),
         (0x8010_0000, Ok(Command::EnableDevice)),
         (0x0020_0000, Ok(Command::DisableDevice)),

@@ -20,9 +20,9 @@ use std::process::Abort;
 /// The number of clients, and of engines.
 pub const CROWD: u16 = 64;
 
-// One queue and one group, of which an engine at a time has read buffers.
+// The last queue and one group, of which an engine at a time has read buffers.
 pub const CROWDED_CAPS: Caps = Caps {
-    queues: 1,
+    queues: LAST_QUEUE + 1,
     groups: 1,
     engines: CROWD,
     total_size: 64,
@@ -31,6 +31,8 @@ pub const CROWDED_CAPS: Caps = Caps {
     ..CAPS
 };
 
+const LAST_QUEUE: u16 = 63;
+
 const QUEUE: QueueConfig = QueueConfig {
     size: 64,
     threshold: 64,
@@ -38,7 +40,7 @@ const QUEUE: QueueConfig = QueueConfig {
 };
 
 const GROUP: GroupConfig = GroupConfig {
-    queues: 1,
+    queues: 1 << LAST_QUEUE,
     engines: u64::MAX,
     reserved: 0,
     allowed: 4,
@@ -79,7 +81,7 @@ impl Table {
         for engine in 0..CROWD {
             let taken = DispatchAnswer::Taken {
                 ticket: ticket(after(first, engine)),
-                queue: 0,
+                queue: LAST_QUEUE,
             };
             self.add(rt, &[dispatched(engine, taken)]);
         }
@@ -119,7 +121,7 @@ fn after(name: u32, count: u16) -> u32 {
 }
 
 fn submission(client: u16, desc: Descriptor, answer: SubmitAnswer) -> Step {
-    submitted(client, 0, Portal::Limited, ENQCMD, desc, answer)
+    submitted(client, LAST_QUEUE, Portal::Limited, ENQCMD, desc, answer)
 }
 
 fn finish(engine: u16, name: u32, answer: FinishAnswer) -> Step {
@@ -186,10 +188,10 @@ fn full(number: u16) -> [Step; 5] {
 
 fn set_up() -> [Step; 4] {
     [
-        queue_written(0, QUEUE, WriteAnswer::Written),
+        queue_written(LAST_QUEUE, QUEUE, WriteAnswer::Written),
         group_written(0, GROUP, WriteAnswer::Written),
         ended(Command::EnableDevice, 0),
-        ended(Command::EnableWq(0), 0),
+        ended(Command::EnableWq(u32::from(LAST_QUEUE)), 0),
     ]
 }
 

@@ -1,7 +1,7 @@
 //! A dialogue: lines from a reader, and their answers to a writer.
 
-use crate::streams::fakes::ALL;
 use crate::streams::{READ, Row, WRITE, Way};
+use dsa_fixtures::streams::ALL;
 
 pub const DIALOGUE: &str = concat!(
     r#"{"caps":{"queues":1,"groups":1,"engines":1,"total_size":1,"read_buffers":4,"#,

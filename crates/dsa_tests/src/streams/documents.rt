@@ -1,7 +1,7 @@
 //! A document from a reader, and its lines to a writer.
 
-use crate::streams::fakes::ALL;
 use crate::streams::{READ, Row, WRITE, Way};
+use dsa_fixtures::streams::ALL;
 use dsa_scenario::ScenarioFault;
 use std::alloc::Global;
 use std::process::Abort;

@@ -1,41 +1,18 @@
 use Rattle.dsa_admin.proofs.ends.count_watched.Goals as goal
-use Rattle.std.proofs.Common.{◌+◌, arith, ap, sym, ◌∙◌, ◌&&◌, Bool}
-use Rattle.std.proofs.lemmas.List.Sums.{count_by-le-length}
-use Rattle.dsa_store.specs.{declared.entry.Entry.{Entry}, Content.{HeldEntry, all_held, count_where}}
-use Rattle.dsa_store.proofs.Sums.{held-counted}
-use Rattle.dsa_admin.specs.Admin.{is_counting, is_watched, is_waited_for}
-use Rattle.dsa_admin.proofs.Counting.{never-counts, first-few, first-more}
+use Rattle.std.proofs.Common.{◌∙◌, ◌&&◌, Bool, ap, sym}
+use Rattle.dsa_store.specs.{declared.entry.Entry.{Entry}, Content.{all_held, count_where}}
+use Rattle.dsa_admin.{specs.Admin.{is_counting, is_waited_for}, proofs.Counting.{never-counts}}
 
-pub returns-then-not-is_counting : goal.returns-then-not-is_counting
-returns-then-not-is_counting g c =
+pub returns-then-is_counting : goal.returns-then-is_counting
+returns-then-is_counting g c =
+    c.count_waited.ensures
+    ∙ sym (ap (λ (b : Bool). count_where (λ (e : Entry). b && is_waited_for c.args.active.now e)
+    (g.S.EntryStore.content c.args.store.now))
+    (ap is_counting (sym c.deed.ensures) ∙ sym c.is_counting.ensures ∙ c.if-is_counting.true))
+
+pub returns-else-is_counting : goal.returns-else-is_counting
+returns-else-is_counting g c =
     sym (ap (λ (b : Bool). count_where (λ (e : Entry). b && is_waited_for c.args.active.now e)
     (g.S.EntryStore.content c.args.store.now))
-    (ap is_counting (sym c.deed.ensures) ∙ sym c.is_counting.ensures ∙ c.if-not-is_counting.true)
+    (ap is_counting (sym c.deed.ensures) ∙ sym c.is_counting.ensures ∙ c.if-is_counting.false)
     ∙ never-counts (all_held (g.S.EntryStore.content c.args.store.now)))
-
-pub returns-then-free-cells : goal.returns-then-free-cells
-returns-then-free-cells g c =
-    omega (
-      arith,
-      count_by-le-length (λ (pair : HeldEntry). is_watched c.args.active.now pair.1)
-          (all_held (g.S.EntryStore.content c.args.store.now)),
-      held-counted (g.S.EntryStore.content c.args.store.now),
-      c.free.ensures,
-      c.cells.ensures,
-      c.if-free-cells.true,
-    )
-
-pub overflow_add-count : goal.overflow_add-count
-overflow_add-count g c =
-    omega (
-      arith,
-      c.loop-list.invariant,
-      c.count_in-count.ensures,
-      first-more (λ (pair : HeldEntry). is_watched c.args.active.now pair.1) c.loop-list.list
-          (g.S.EntryStore.content c.args.store.now) (omega (arith, c.lists-list-end.ensures, c.loop-list-test.true)),
-      first-few (λ (pair : HeldEntry). is_watched c.args.active.now pair.1) (c.loop-list.list + 1)
-          (g.S.EntryStore.content c.args.store.now),
-      held-counted (g.S.EntryStore.content c.args.store.now),
-      c.free.ensures,
-      c.cells.ensures,
-    )

@@ -1,10 +1,11 @@
 use Rattle.dsa_cli.proofs.options.read_words.Goals as goal
-use Rattle.std.proofs.Common.{◌≡◌, ◌∙◌, List, [], true, false, Some, option_map, codes, map, string_bytes, rules, sym, ap, subst}
-use Rattle.std.proofs.Common.{refl, inl, inr}
-use Rattle.clap.specs.{Matches.{found_of}, Walk.{Text, rows_of}, Simple.{App, is_simple, subcommand_of, subcommand_rows_of}}
+use Rattle.std.proofs.Common.{◌≡◌, ◌∙◌, List, [], true, false, Option, Some, option_map, codes, map, string_bytes, rules, sym, ap, subst}
+use Rattle.std.proofs.Common.{refl, inl, inr, ◌∷◌, length, arith, eqb-true}
+use Rattle.std.specs.Prelude.{◌==◌}
+use Rattle.clap.specs.{Matches.{found_of}, Walk.{Row, Text, rows_of}, Simple.{App, is_simple, subcommand_of, subcommand_rows_of}}
 use Rattle.clap.specs.{Faults.{fault_of, is_simple_and_free}, Kinds.{HasKind}}
 use Rattle.clap.proofs.OnLiterals.{clap_on_literals}
-use Rattle.dsa_cli.specs.CommandLine.{program_app, command_in, faults_of_words}
+use Rattle.dsa_cli.specs.CommandLine.{program_app, faults_of_words}
 use Rattle.dsa_cli.proofs.OptionNumbers.{name-rows, some_pair}
 
 simple : is_simple program_app ≡ true
@@ -15,19 +16,33 @@ free : is_simple_and_free program_app ≡ true
 unfolding clap_on_literals
 free = refl
 
+-- nothing is wrong with no words
+none_wrong : {A : Type 0} (text_of : A → Text) (words : List A) → (length words == 0) ≡ true
+    → faults_of_words (map text_of words) ≡ []
+unfolding clap_on_literals
+none_wrong text_of [] empty = refl
+none_wrong text_of (word ∷ words) empty = absurd (omega (arith, eqb-true (length (word ∷ words)) 0 empty))
+
 -- nothing is wrong with the words, where the command line that was made of the program finds nothing
 well : (words : List Text) (a : App) → a ≡ program_app → (is_simple_and_free a ≡ true → fault_of a words ≡ [])
     → faults_of_words words ≡ []
 well words a same found = ap (λ app. fault_of app words) (sym same) ∙ found (ap is_simple_and_free same ∙ free)
+
+-- the words name what the matches of that command line say
+met : {Other : Type 0} (words : List Text) (a : App) (rows : Option (Text × List Row)) → a ≡ program_app
+    → (is_simple a ≡ true → Other × (rows ≡ subcommand_of a words)) → rows ≡ subcommand_of program_app words
+met words a rows same found = (found (ap is_simple same ∙ simple)).1 ∙ ap (λ app. subcommand_of app words) same
+
+pub returns-then-is_empty-clause-faults : goal.returns-then-is_empty-clause-faults
+returns-then-is_empty-clause-faults c =
+    none_wrong string_bytes c.args.words.now (sym c.is_empty.ensures ∙ c.if-is_empty.true)
 
 pub returns-in-Some-clause-faults : goal.returns-in-Some-clause-faults
 returns-in-Some-clause-faults c = well _ _ c.in_ok-command_line.ensures c.in_ok-matches.ensures.kinds
 
 pub returns-in-Some-clause-asked : goal.returns-in-Some-clause-asked
 returns-in-Some-clause-asked c =
-    let app = c.in_ok-command_line.ensures in
-    let met = (c.in_ok-matches.ensures.matches (ap is_simple app ∙ simple)).1
-    ∙ ap (λ (a : App). subcommand_of a (map string_bytes c.args.words.now)) app in
+    let met = met _ _ _ c.in_ok-command_line.ensures c.in_ok-matches.ensures.matches in
     let name = name-rows c.in_ok-matches.matches ∙ c.in-Some.ensures.found.0 refl in
     let rows = some_pair (subcommand_rows_of c.in_ok-matches.matches) (codes "threads")
     (rows_of (found_of c.in-Some.given.now)) name c.in-Some.ensures.rows in (
@@ -41,9 +56,7 @@ returns-in-Some-report_of-clause-faults c = well _ _ c.in_ok-command_line.ensure
 
 pub returns-in-Some-report_of-clause-asked : goal.returns-in-Some-report_of-clause-asked
 returns-in-Some-report_of-clause-asked c =
-    let app = c.in_ok-command_line.ensures in
-    let met = (c.in_ok-matches.ensures.matches (ap is_simple app ∙ simple)).1
-    ∙ ap (λ (a : App). subcommand_of a (map string_bytes c.args.words.now)) app in
+    let met = met _ _ _ c.in_ok-command_line.ensures c.in_ok-matches.ensures.matches in
     let named = c.in-Some-report_of.ensures.some in
     (named.0, (returns-in-Some-report_of-clause-faults c, sym met ∙ named.1, named.2), named.3)
 
@@ -52,9 +65,7 @@ returns-then-is_named-clause-faults c = well _ _ c.in_ok-command_line.ensures c.
 
 pub returns-then-is_named-clause-asked : goal.returns-then-is_named-clause-asked
 returns-then-is_named-clause-asked c =
-    let app = c.in_ok-command_line.ensures in
-    let met = (c.in_ok-matches.ensures.matches (ap is_simple app ∙ simple)).1
-    ∙ ap (λ (a : App). subcommand_of a (map string_bytes c.args.words.now)) app in
+    let met = met _ _ _ c.in_ok-command_line.ensures c.in_ok-matches.ensures.matches in
     let found = c.is_named.ensures.named c.if-is_named.true in
     (returns-then-is_named-clause-faults c, ap (option_map (λ found. found.0)) (sym met ∙ found.1))
 
@@ -71,9 +82,7 @@ returns-in_err-matches-clause-faults c =
 
 pub returns-clause-asked : goal.returns-clause-asked
 returns-clause-asked c name is named =
-    let app = c.in_ok-command_line.ensures in
-    let met = (c.in_ok-matches.ensures.matches (ap is_simple app ∙ simple)).1
-    ∙ ap (λ (a : App). subcommand_of a (map string_bytes c.args.words.now)) app in
+    let met = met _ _ _ c.in_ok-command_line.ensures c.in_ok-matches.ensures.matches in
     let found = ap (option_map (λ found. found.0)) met ∙ named in
     elim is [
       | inl report ↦ c.in_default-report_of.ensures.none name report found

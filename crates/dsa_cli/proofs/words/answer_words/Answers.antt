@@ -4,10 +4,10 @@ use Rattle.dsa_cli.specs.declared.threads.ThreadsFault.TheVariants as threads_fa
 use Rattle.std.proofs.Common.{◌≡◌, inl, inr, rules, subst, sym, map, string_bytes, arith}
 use Rattle.clap.specs.{Values.{kind_of}, Kinds.{IsAmong}}
 use Rattle.dsa_scenario.specs.declared.faults.ScenarioFault.TheVariants.{OutOfMemory}
-use Rattle.dsa_scenario.specs.declared.watched.WatchedWriter.{WatchedWriter}
+use Rattle.dsa_scenario.specs.{declared.watched.WatchedWriter.{WatchedWriter}, Watched.{watched_contents}}
 use Rattle.dsa_serve.{specs.Dialogue.{IsStopped}, proofs.Stops.{unread_memory}}
-use Rattle.dsa_cli.{specs.CommandLine.{AsksFor, IsAskedBy}, proofs.ReportCommands.{names_nothing, same_found}}
-use Rattle.std.proofs.lemmas.Grind.{common_steps}
+use Rattle.dsa_cli.{specs.CommandLine.{AsksFor, IsAskedBy}, proofs.ReportCommands.{named, not_asked, same_found}}
+use Rattle.dsa_cli.proofs.PlainRuns.{plain_written, plain_stopped}
 
 pub returns-in-Err-clause-mistake : goal.returns-in-Err-clause-mistake
 returns-in-Err-clause-mistake g c two =
@@ -17,39 +17,27 @@ returns-in-Err-clause-mistake g c two =
       | inr among ↦ (kind_of c.in-Err.error, among, shown.1, shown.2)
     ]
 
-pub returns-then-is_empty-clause-threads : goal.returns-then-is_empty-clause-threads
-returns-then-is_empty-clause-threads = grind (arith, common_steps)
-
 pub returns-in-Ok-Threads-clause-threads : goal.returns-in-Ok-Threads-clause-threads
 returns-in-Ok-Threads-clause-threads g c zero rows named =
     let done = c.run_workers.ensures.done zero in
     search (rules, done, named)
-
-pub returns-then-is_empty-clause-threads_failed : goal.returns-then-is_empty-clause-threads_failed
-returns-then-is_empty-clause-threads_failed = grind (arith, common_steps)
 
 pub returns-in-Ok-Threads-clause-threads_failed : goal.returns-in-Ok-Threads-clause-threads_failed
 returns-in-Ok-Threads-clause-threads_failed g c one rows named =
     let failed = c.run_workers.ensures.failed one in
     search (rules, failed, named)
 
-pub returns-then-is_empty-clause-threads_told : goal.returns-then-is_empty-clause-threads_told
-returns-then-is_empty-clause-threads_told = grind (arith, common_steps)
-
 pub returns-in-Ok-Threads-clause-threads_told : goal.returns-in-Ok-Threads-clause-threads_told
 returns-in-Ok-Threads-clause-threads_told g c one rows named = c.run_workers.ensures.told one
 
 pub returns-in-Err-clause-threads_told : goal.returns-in-Err-clause-threads_told
-returns-in-Err-clause-threads_told g c one rows named closed told =
+returns-in-Err-clause-threads_told g c one rows named =
     elim c.in-Err.ensures.faults [
       | inl memory ↦
           let kept = c.show.ensures.memory memory in
-          (threads_fault.OutOfMemory, (λ other. kept.1), (λ e. absurd cc), c.show.ensures.told memory closed told)
+          (threads_fault.OutOfMemory, (λ other. kept.1), (λ e. absurd cc), c.show.ensures.told memory)
       | inr among ↦ absurd (subst (λ faults. IsAmong (kind_of c.in-Err.error) faults) named.0 among)
     ]
-
-pub returns-then-is_empty-clause-reports_failed : goal.returns-then-is_empty-clause-reports_failed
-returns-then-is_empty-clause-reports_failed = grind (arith, common_steps)
 
 pub returns-in-Ok-Report-clause-reports_failed : goal.returns-in-Ok-Report-clause-reports_failed
 returns-in-Ok-Report-clause-reports_failed g c one found named =
@@ -58,12 +46,12 @@ returns-in-Ok-Report-clause-reports_failed g c one found named =
     let same : told_of.0 ≡ found = same_found _ _ _ told_of.1 named in
     let by : IsAskedBy found c.in-Ok-Report.report =
     subst (λ f. IsAskedBy f c.in-Ok-Report.report) same told_of.2 in
-    let told = c.report_input.ensures.failed one in (
+    let told = c.write_text-in-Ok-Report.ensures.failed one in (
       told.0,
       elim told.1 [
         | inl all ↦ inl (c.in-Ok-Report.report, by, all)
         | inr none ↦
-            inr (none.0, none.1, λ e. let cut = none.2 e in (cut.0, (c.in-Ok-Report.report, by, cut.1)))
+            inr ((none.0.0, none.0.1, λ e. (c.in-Ok-Report.report, by, none.0.2 e)), none.1)
       ],
       told.2,
     )
@@ -73,12 +61,9 @@ returns-in-Err-clause-reports_failed g c one found named =
     elim c.in-Err.ensures.faults [
       | inl memory ↦
           let kept = c.show.ensures.memory memory in
-          (OutOfMemory, inr (tt, λ other. kept.1, λ e. absurd cc), c.show.ensures.told memory)
+          (OutOfMemory, inr ((tt, λ other. kept.1, λ e. absurd cc), λ e. absurd cc), c.show.ensures.told memory)
       | inr among ↦ absurd (subst (λ faults. IsAmong (kind_of c.in-Err.error) faults) named.0 among)
     ]
-
-pub returns-then-is_empty-clause-serve_failed : goal.returns-then-is_empty-clause-serve_failed
-returns-then-is_empty-clause-serve_failed = grind (arith, common_steps)
 
 pub returns-in-Ok-Serve-clause-serve_failed : goal.returns-in-Ok-Serve-clause-serve_failed
 returns-in-Ok-Serve-clause-serve_failed g c one named = c.serve_input.ensures.failed one
@@ -100,87 +85,60 @@ returns-in-Err-clause-serve_failed g c one named =
       | inr among ↦ absurd (subst (λ faults. IsAmong (kind_of c.in-Err.error) faults) named.0 among)
     ]
 
-pub returns-then-is_empty-clause-done : goal.returns-then-is_empty-clause-done
-returns-then-is_empty-clause-done g c none zero = c.run_input.ensures.done zero
+pub returns-in-Ok-Scenario-clause-done : goal.returns-in-Ok-Scenario-clause-done
+returns-in-Ok-Scenario-clause-done g c plain zero = plain_written _ _ _ _ (c.write_text.ensures.done zero)
 
-pub returns-then-is_empty-clause-failed : goal.returns-then-is_empty-clause-failed
-returns-then-is_empty-clause-failed g c none one = c.run_input.ensures.failed one
+pub returns-in-Ok-Scenario-clause-failed : goal.returns-in-Ok-Scenario-clause-failed
+returns-in-Ok-Scenario-clause-failed g c plain one =
+    let told = c.write_text.ensures.failed one in
+    let stopped = plain_stopped _ _ _ (watched_contents g.O.Write.contents) _ _ _ told.1 in
+    (told.0, stopped.0, stopped.1, told.2)
 
-pub returns-then-is_empty-clause-reports : goal.returns-then-is_empty-clause-reports
-returns-then-is_empty-clause-reports = grind (arith, common_steps)
+pub returns-in-Ok-Report-clause-done : goal.returns-in-Ok-Report-clause-done
+returns-in-Ok-Report-clause-done g c plain zero =
+    let read = c.in-Ok-Report.ensures in not_asked _ _ _ _ read.asked
+    (λ empty. let scenario = read.none empty in cc) c.in-Ok-Report.field-0-is (λ same. cc) plain
 
-pub returns-then-is_empty-clause-serves : goal.returns-then-is_empty-clause-serves
-returns-then-is_empty-clause-serves = grind (arith, common_steps)
+pub returns-in-Ok-Report-clause-failed : goal.returns-in-Ok-Report-clause-failed
+returns-in-Ok-Report-clause-failed g c plain one =
+    let read = c.in-Ok-Report.ensures in not_asked _ _ _ _ read.asked
+    (λ empty. let scenario = read.none empty in cc) c.in-Ok-Report.field-0-is (λ same. cc) plain
 
-pub returns-then-is_empty-clause-plain : goal.returns-then-is_empty-clause-plain
-returns-then-is_empty-clause-plain g c plain zero = c.run_input.ensures.done zero
+pub returns-in-Ok-Serve-clause-done : goal.returns-in-Ok-Serve-clause-done
+returns-in-Ok-Serve-clause-done g c plain zero =
+    let read = c.in-Ok-Serve.ensures in not_asked _ _ _ _ read.asked
+    (λ empty. let scenario = read.none empty in cc) c.in-Ok-Serve.field-0-is (λ same. cc) plain
 
-pub returns-then-is_empty-clause-plain_failed : goal.returns-then-is_empty-clause-plain_failed
-returns-then-is_empty-clause-plain_failed g c plain one = c.run_input.ensures.failed one
+pub returns-in-Ok-Serve-clause-failed : goal.returns-in-Ok-Serve-clause-failed
+returns-in-Ok-Serve-clause-failed g c plain one =
+    let read = c.in-Ok-Serve.ensures in not_asked _ _ _ _ read.asked
+    (λ empty. let scenario = read.none empty in cc) c.in-Ok-Serve.field-0-is (λ same. cc) plain
 
-pub returns-in-Ok-Scenario-clause-plain : goal.returns-in-Ok-Scenario-clause-plain
-returns-in-Ok-Scenario-clause-plain g c plain zero = c.run_input-in-Ok-Scenario.ensures.done zero
+pub returns-in-Ok-Threads-clause-done : goal.returns-in-Ok-Threads-clause-done
+returns-in-Ok-Threads-clause-done g c plain zero =
+    let read = c.in-Ok-Threads.ensures in not_asked _ _ _ _ read.asked
+    (λ empty. let scenario = read.none empty in cc) c.in-Ok-Threads.field-0-is (λ same. cc) plain
 
-pub returns-in-Ok-Scenario-clause-plain_failed : goal.returns-in-Ok-Scenario-clause-plain_failed
-returns-in-Ok-Scenario-clause-plain_failed g c plain one = c.run_input-in-Ok-Scenario.ensures.failed one
+pub returns-in-Ok-Threads-clause-failed : goal.returns-in-Ok-Threads-clause-failed
+returns-in-Ok-Threads-clause-failed g c plain one =
+    let read = c.in-Ok-Threads.ensures in not_asked _ _ _ _ read.asked
+    (λ empty. let scenario = read.none empty in cc) c.in-Ok-Threads.field-0-is (λ same. cc) plain
 
-pub returns-in-Ok-Report-clause-plain : goal.returns-in-Ok-Report-clause-plain
-returns-in-Ok-Report-clause-plain g c plain zero =
-    let is : AsksFor (map string_bytes c.args.words.now) (asked.Report c.in-Ok-Report.report) =
-    subst (λ a. AsksFor (map string_bytes c.args.words.now) a) c.in-Ok-Report.field-0-is c.in-Ok-Report.ensures.asked in
-    let other : (asked.Report c.in-Ok-Report.report) ≡ asked.Scenario = names_nothing _ _ plain is in
-    absurd cc
-
-pub returns-in-Ok-Report-clause-plain_failed : goal.returns-in-Ok-Report-clause-plain_failed
-returns-in-Ok-Report-clause-plain_failed g c plain one =
-    let is : AsksFor (map string_bytes c.args.words.now) (asked.Report c.in-Ok-Report.report) =
-    subst (λ a. AsksFor (map string_bytes c.args.words.now) a) c.in-Ok-Report.field-0-is c.in-Ok-Report.ensures.asked in
-    let other : (asked.Report c.in-Ok-Report.report) ≡ asked.Scenario = names_nothing _ _ plain is in
-    absurd cc
-
-pub returns-in-Ok-Serve-clause-plain : goal.returns-in-Ok-Serve-clause-plain
-returns-in-Ok-Serve-clause-plain g c plain zero =
-    let is : AsksFor (map string_bytes c.args.words.now) asked.Serve =
-    subst (λ a. AsksFor (map string_bytes c.args.words.now) a) c.in-Ok-Serve.field-0-is c.in-Ok-Serve.ensures.asked in
-    let other : asked.Serve ≡ asked.Scenario = names_nothing _ _ plain is in
-    absurd cc
-
-pub returns-in-Ok-Serve-clause-plain_failed : goal.returns-in-Ok-Serve-clause-plain_failed
-returns-in-Ok-Serve-clause-plain_failed g c plain one =
-    let is : AsksFor (map string_bytes c.args.words.now) asked.Serve =
-    subst (λ a. AsksFor (map string_bytes c.args.words.now) a) c.in-Ok-Serve.field-0-is c.in-Ok-Serve.ensures.asked in
-    let other : asked.Serve ≡ asked.Scenario = names_nothing _ _ plain is in
-    absurd cc
-
-pub returns-in-Ok-Threads-clause-plain : goal.returns-in-Ok-Threads-clause-plain
-returns-in-Ok-Threads-clause-plain g c plain zero =
-    let is : AsksFor (map string_bytes c.args.words.now) (asked.Threads c.in-Ok-Threads.load) =
-    subst (λ a. AsksFor (map string_bytes c.args.words.now) a) c.in-Ok-Threads.field-0-is c.in-Ok-Threads.ensures.asked in
-    let other : (asked.Threads c.in-Ok-Threads.load) ≡ asked.Scenario = names_nothing _ _ plain is in
-    absurd cc
-
-pub returns-in-Ok-Threads-clause-plain_failed : goal.returns-in-Ok-Threads-clause-plain_failed
-returns-in-Ok-Threads-clause-plain_failed g c plain one =
-    let is : AsksFor (map string_bytes c.args.words.now) (asked.Threads c.in-Ok-Threads.load) =
-    subst (λ a. AsksFor (map string_bytes c.args.words.now) a) c.in-Ok-Threads.field-0-is c.in-Ok-Threads.ensures.asked in
-    let other : (asked.Threads c.in-Ok-Threads.load) ≡ asked.Scenario = names_nothing _ _ plain is in
-    absurd cc
-
-pub returns-in-Err-clause-plain : goal.returns-in-Err-clause-plain
-returns-in-Err-clause-plain g c plain zero =
+pub returns-in-Err-clause-done : goal.returns-in-Err-clause-done
+returns-in-Err-clause-done g c plain zero =
     elim c.in-Err.ensures.faults [
       | inl memory ↦ absurd (omega (arith, (c.show.ensures.memory memory).0, zero))
-      | inr among ↦ absurd (subst (λ faults. IsAmong (kind_of c.in-Err.error) faults) plain.0 among)
+      | inr among ↦ absurd (subst (λ faults. IsAmong (kind_of c.in-Err.error) faults) (named _ _ (λ empty. let never = c.in-Err.ensures.none empty in cc) plain).0 among)
     ]
 
-pub returns-in-Err-clause-plain_failed : goal.returns-in-Err-clause-plain_failed
-returns-in-Err-clause-plain_failed g c plain one =
+pub returns-in-Err-clause-failed : goal.returns-in-Err-clause-failed
+returns-in-Err-clause-failed g c plain one =
     elim c.in-Err.ensures.faults [
       | inl memory ↦
           let kept = c.show.ensures.memory memory in
-          (OutOfMemory, tt, (λ other. kept.1), (λ e. absurd cc), c.show.ensures.told memory)
-      | inr among ↦ absurd (subst (λ faults. IsAmong (kind_of c.in-Err.error) faults) plain.0 among)
+          (OutOfMemory, (tt, (λ other. kept.1), (λ e. absurd cc)), (λ e. absurd cc), c.show.ensures.told memory)
+      | inr among ↦ absurd (subst (λ faults. IsAmong (kind_of c.in-Err.error) faults) (named _ _ (λ empty. let never = c.in-Err.ensures.none empty in cc) plain).0 among)
     ]
 
 pub returns-in-Err-clause-help_failed : goal.returns-in-Err-clause-help_failed
-returns-in-Err-clause-help_failed g c one some faulty = c.show.ensures.failed one
+returns-in-Err-clause-help_failed g c one faulty = c.show.ensures.failed one

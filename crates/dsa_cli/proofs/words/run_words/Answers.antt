@@ -2,8 +2,8 @@ use Rattle.dsa_cli.proofs.words.run_words.Goals as goal
 use Rattle.std.proofs.Common.{◌≡◌, ◌∙◌, ap, inl, inr, rules}
 
 pub returns-clause-done : goal.returns-clause-done
-returns-clause-done g c none zero =
-    let done = c.answer_words.ensures.done none zero in
+returns-clause-done g c plain zero =
+    let done = c.answer_words.ensures.done plain zero in
     search (rules, done)
 
 pub returns-clause-threads : goal.returns-clause-threads
@@ -12,17 +12,20 @@ returns-clause-threads g c zero rows named =
     search (rules, done)
 
 pub returns-clause-failed : goal.returns-clause-failed
-returns-clause-failed g c none one =
-    let told = c.answer_words.ensures.failed none one in (
+returns-clause-failed g c plain one =
+    let told = c.answer_words.ensures.failed plain one in
+    let stopped = told.1 in (
       told.0,
-      told.1,
-      λ other.
-          let same : c.answer_words.new.out.writer.now ≡ c.args.out.now =
-          ap (λ watched. watched.writer.now) (told.2 other) ∙ c.new-out.ensures.writer in
-          search rules,
-      λ e.
-          let cut = (told.3 e).1 in
-          search (rules, cut),
+      (
+        stopped.0,
+        λ other.
+            let same : c.answer_words.new.out.writer.now ≡ c.args.out.now =
+            ap (λ watched. watched.writer.now) (stopped.1 other) ∙ c.new-out.ensures.writer in
+            search rules,
+        λ e.
+            let cut = stopped.2 e in
+            search (rules, cut),
+      ),
     )
 
 pub returns-clause-threads_failed : goal.returns-clause-threads_failed
@@ -48,7 +51,7 @@ returns-clause-mistake g c = c.answer_words.ensures.mistake
 pub returns-clause-quiet : goal.returns-clause-quiet
 returns-clause-quiet g c zero =
     let same : c.answer_words.new.err.writer.now ≡ c.args.err.now =
-    ap (λ watched. watched.writer.now) (c.answer_words.ensures.quiet zero) ∙ c.new-err.ensures.writer in
+    ap (λ watched. watched.writer.now) (c.answer_words.ensures.quiet.0 zero) ∙ c.new-err.ensures.writer in
     search rules
 
 pub returns-clause-statuses : goal.returns-clause-statuses
@@ -66,14 +69,15 @@ returns-clause-reports_failed g c one found named =
       elim told.1 [
         | inl all ↦ inl (search (rules, all))
         | inr none ↦
+            let stopped = none.0 in
             inr (
-              none.0,
+              stopped.0,
               λ other.
                   let same : c.answer_words.new.out.writer.now ≡ c.args.out.now =
-                  ap (λ watched. watched.writer.now) (none.1 other) ∙ c.new-out.ensures.writer in
+                  ap (λ watched. watched.writer.now) (stopped.1 other) ∙ c.new-out.ensures.writer in
                   search rules,
               λ e.
-                  let cut = (none.2 e).1 in
+                  let cut = stopped.2 e in
                   let first = cut.2 in
                   let more = first.7 in
                   (cut.0, cut.1, (first.0, first.1, first.2, first.3, first.4, first.5, first.6, search (rules, more))),
@@ -96,23 +100,4 @@ returns-clause-serve_failed g c one named =
           let same : c.answer_words.new.out.writer.now ≡ c.args.out.now =
           ap (λ watched. watched.writer.now) (told.2 early) ∙ c.new-out.ensures.writer in
           search rules,
-    )
-
-pub returns-clause-plain : goal.returns-clause-plain
-returns-clause-plain g c plain zero =
-    let done = c.answer_words.ensures.plain plain zero in
-    search (rules, done)
-
-pub returns-clause-plain_failed : goal.returns-clause-plain_failed
-returns-clause-plain_failed g c plain one =
-    let told = c.answer_words.ensures.plain_failed plain one in (
-      told.0,
-      told.1,
-      λ other.
-          let same : c.answer_words.new.out.writer.now ≡ c.args.out.now =
-          ap (λ watched. watched.writer.now) (told.2 other) ∙ c.new-out.ensures.writer in
-          search rules,
-      λ e.
-          let cut = (told.3 e).1 in
-          search (rules, cut),
     )

@@ -27,5 +27,5 @@ returns g c h =
             queues = c.same_queues.ensures c.if-not-same_queues.false;
             engines = c.same_engines.ensures h;
           })
-          (c.are_both_idle.ensures c.if-not-are_both_idle.false);
+          (c.same_commands.ensures c.if-not-same_commands.false);
     }

@@ -19,9 +19,9 @@ pub returns-in_err-check_head-clause-err : goal.returns-in_err-check_head-clause
 returns-in_err-check_head-clause-err c =
     let p = err_from_is_err_and c.from_residual-in_err-check_head.result c.from_residual-in_err-check_head.ensures.1 in
     rw (p.1, p.2) (bad_keys _ _ _ _ _ _ (has_head _ _ _ _ _ c.in_ok-value.ensures.ok c.in-Some.ensures)
-    c.in_default-first_unread.ensures.1 c.in_err-check_head.ensures.bad)
+    c.in_default-first_unread.ensures.1 c.in_err-check_head.ensures.fault)
 
 pub returns-clause-ok : goal.returns-clause-ok
 returns-clause-ok c =
     conformance_of _ _ _ _ _ _ (has_head _ _ _ _ _ c.in_ok-value.ensures.ok c.in-Some.ensures)
-    c.in_ok-check_head.ensures.caps c.in_ok-check_head.ensures.capacity c.in_ok-verdict.ensures
+    c.in_ok-check_head.ensures.opening c.in_ok-verdict.ensures

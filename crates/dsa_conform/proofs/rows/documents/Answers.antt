@@ -40,8 +40,7 @@ conforming text room steps observed records head small read run = record {
   capacity = room;
   steps = steps;
   head = head;
-  good = refl;
-  small = small;
+  opening = record { good = refl; small = small };
   verdict = record { observed = observed; read = read; records = records; run = run; told = refl };
 }
 
@@ -73,8 +72,7 @@ returns-clause-differs c = record {
   capacity = _;
   steps = _;
   head = has_head (document_of (poll_with (codes "\"answer\":\"active\""))) _ _ _ refl refl refl refl;
-  good = refl;
-  small = lit≤ tt;
+  opening = record { good = refl; small = lit≤ tt };
   verdict = record {
     observed = (Ask event.Poll, answered (codes "active")) ∷ [];
     read = refl;
@@ -137,7 +135,7 @@ pub returns-clause-no_caps : goal.returns-clause-no_caps
 unfolding serde_json_on_literals
 returns-clause-no_caps c is =
     let head = same_head (document_text no_caps_text (codes "9") []) _ _ _ _ refl is.head in
-    let bad : false ≡ true = ap (λ o. option_map_or (λ (h : Head). check_caps h.0) o true) head ∙ is.good in
+    let bad : false ≡ true = ap (λ o. option_map_or (λ (h : Head). check_caps h.0) o true) head ∙ is.opening.good in
     absurd cc
 
 pub returns-clause-no_capacity : goal.returns-clause-no_capacity
@@ -145,4 +143,4 @@ unfolding serde_json_on_literals
 returns-clause-no_capacity c is =
     let head = same_head (document_text smallest_caps_text (codes "1048577") []) _ _ _ _ refl is.head in
     let capacity : 1_048_577 ≡ is.capacity = ap (λ o. option_map_or (λ (h : Head). h.1) o 0) head in
-    absurd (omega (arith, capacity, is.small))
+    absurd (omega (arith, capacity, is.opening.small))

@@ -56,13 +56,9 @@ returns-clause-caps c =
       record {
         caps = _;
         capacity = _;
-        actions = Ask Poll ∷ [];
-        document = record {
-          steps = _;
-          head = has_head text _ _ _ _ (is_json text _ refl refl refl) refl;
-          asked = refl;
-        };
-        bad = refl;
+        steps = _;
+        head = has_head text _ _ _ _ (is_json text _ refl refl refl) refl;
+        bad = ((Ask Poll ∷ [], refl), refl);
       },
       λ i unread. one_is_read _ (Ask Poll, flagged true) refl i
           (subst (λ l. IsUnreadAt l i) (sym (same_steps text _ _ _ _ _ _ _ refl refl unread.head)) unread.bad),

@@ -5,4 +5,4 @@ use Rattle.dsa_draw.specs.Rows.{command_name_text}
 
 pub returns : goal.returns
 unfolding command_name_text
-returns c = on_ok_weaker c.write.result (λ added. added ∙ rw (c.column_left.ensures, c.command_label-name.ensures) (simp append_assoc)) c.write.ensures.bytes
+returns c = on_ok_weaker c.write.result (λ added. added ∙ rw (c.column_left.ensures, c.label-name.ensures) (simp append_assoc)) c.write.ensures.bytes

@@ -1,5 +1,5 @@
 use Rattle.dsa_draw.proofs.drawing.add_marks.Goals as goal
-use Rattle.dsa_draw.proofs.Rows.{marked, marked_at_end}
+use Rattle.dsa_draw.proofs.RowTexts.{marked, marked_at_end}
 
 pub loop-moment-preserved : goal.loop-moment-preserved
 loop-moment-preserved c =

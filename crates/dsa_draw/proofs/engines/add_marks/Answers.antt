@@ -1,5 +1,5 @@
 use Rattle.dsa_draw.proofs.engines.add_marks.Goals as goal
-use Rattle.dsa_draw.proofs.Rows.{engine_marked, engine_marked_at_end}
+use Rattle.dsa_draw.proofs.RowTexts.{engine_marked, engine_marked_at_end}
 
 pub loop-moment-preserved : goal.loop-moment-preserved
 loop-moment-preserved c =

@@ -1,45 +1,30 @@
 use Rattle.dsa_engines.proofs.finishing.find_running.Goals as goal
-use Rattle.std.proofs.Common.{◌∙◌, refl, arith}
-use Rattle.std.proofs.lemmas.Grind.{common_steps}
-use Rattle.dsa_engines.proofs.{Homes.{has-engine}, Finding.{found}}
+use Rattle.std.proofs.Common.{◌∙◌, sym}
+use Rattle.dsa_engines.proofs.{Homes.{has-engine}, EndReasons.{no-list, no-entry, entry-gone, entry-meant}}
 
-pub returns-in_err-list : goal.returns-in_err-list
-returns-in_err-list g c =
-    found c.args.queues.now.setup (g.S.EntryStore.content c.args.store.now) c.args.engine c.args.ticket
+pub returns-in_default-clause-running : goal.returns-in_default-clause-running
+returns-in_default-clause-running g c =
+    no-list c.args.queues.now.setup (g.S.EntryStore.content c.args.store.now) c.args.engine c.args.ticket
     ((g.met.S.EntryStore.sound c.args.store.now).once c.args.ticket.cell)
-    (has-engine c.caps-caps.ensures.value c.if-engine-caps.false)
-    ∙ rw (← c.in_err-list.ensures, c.from_residual.ensures) refl
+    (has-engine c.caps-caps.ensures.value c.if-engine-caps.false) (sym c.in_default.ensures)
 
-pub returns-then-not-is_either : goal.returns-then-not-is_either
-returns-then-not-is_either g c =
-    found c.args.queues.now.setup (g.S.EntryStore.content c.args.store.now) c.args.engine c.args.ticket
+pub returns-in_default-get-clause-running : goal.returns-in_default-get-clause-running
+returns-in_default-get-clause-running g c =
+    no-entry c.args.queues.now.setup (g.S.EntryStore.content c.args.store.now) c.args.engine c.args.ticket
     ((g.met.S.EntryStore.sound c.args.store.now).once c.args.ticket.cell)
-    (has-engine c.caps-caps.ensures.value c.if-engine-caps.false)
-    ∙ rw (← c.in_ok-list.ensures) (grind (
-      arith,
-      common_steps,
-      c.list-progress.ensures,
-      c.list-members.ensures,
-      c.if-not-is_either.ensures,
-    ))
+    (has-engine c.caps-caps.ensures.value c.if-engine-caps.false) (sym c.in-Some.ensures)
+    (sym c.in_default-get.ensures)
 
-pub returns-in_err-entry : goal.returns-in_err-entry
-returns-in_err-entry g c =
-    found c.args.queues.now.setup (g.S.EntryStore.content c.args.store.now) c.args.engine c.args.ticket
+pub returns-in-Some-gone_reason-clause-running : goal.returns-in-Some-gone_reason-clause-running
+returns-in-Some-gone_reason-clause-running g c =
+    entry-gone c.args.queues.now.setup (g.S.EntryStore.content c.args.store.now) c.args.engine c.args.ticket
     ((g.met.S.EntryStore.sound c.args.store.now).once c.args.ticket.cell)
-    (has-engine c.caps-caps.ensures.value c.if-engine-caps.false)
-    ∙ rw (← c.in_ok-list.ensures, ← c.in_err-entry.ensures, c.from_residual-in_err-entry.ensures) refl
+    (has-engine c.caps-caps.ensures.value c.if-engine-caps.false) (sym c.in-Some.ensures) (sym c.in-Some-get.ensures)
+    c.in-Some-gone_reason.reason (rw (← c.list_use.ensures.use_of) c.in-Some-gone_reason.ensures)
 
-pub returns : goal.returns
-returns g c =
-    found c.args.queues.now.setup (g.S.EntryStore.content c.args.store.now) c.args.engine c.args.ticket
+pub returns-in-None-clause-running : goal.returns-in-None-clause-running
+returns-in-None-clause-running g c =
+    entry-meant c.args.queues.now.setup (g.S.EntryStore.content c.args.store.now) c.args.engine c.args.ticket
     ((g.met.S.EntryStore.sound c.args.store.now).once c.args.ticket.cell)
-    (has-engine c.caps-caps.ensures.value c.if-engine-caps.false)
-    ∙ rw (← c.in_ok-list.ensures, ← c.in_ok-entry.ensures, c.then_some.ensures) (grind (
-      arith,
-      common_steps,
-      c.list-progress.ensures,
-      c.list-members.ensures,
-      c.if-not-is_either.ensures,
-      c.is_meant.ensures,
-    ))
+    (has-engine c.caps-caps.ensures.value c.if-engine-caps.false) (sym c.in-Some.ensures) (sym c.in-Some-get.ensures)
+    (rw (← c.list_use.ensures.use_of) c.in-None.ensures)

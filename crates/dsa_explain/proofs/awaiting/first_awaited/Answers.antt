@@ -1,7 +1,7 @@
 use Rattle.dsa_explain.proofs.awaiting.first_awaited.Goals as goal
 use Rattle.std.proofs.Common.{◌∙◌, sym, arith}
 use Rattle.dsa_admin.specs.Admin.{is_awaited_by}
-use Rattle.dsa_explain.{specs.{declared.held.ListedEntry.{ListedEntry}, Command.{noted_by}}, proofs.Holding.{found-here, found-later}}
+use Rattle.dsa_explain.{specs.{declared.held.ListedEntry.{ListedEntry}, Wait.{noted_by}}, proofs.Holding.{found-here, found-later}}
 use Rattle.std.proofs.lemmas.Grind.{common_steps}
 
 pub returns-then-is_some : goal.returns-then-is_some

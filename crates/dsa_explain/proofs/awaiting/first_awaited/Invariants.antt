@@ -1,7 +1,7 @@
 use Rattle.dsa_explain.proofs.awaiting.first_awaited.Given as goal
 use Rattle.std.proofs.Common.{◌≡◌, find, drop}
 use Rattle.dsa_admin.specs.Admin.{is_awaited_by}
-use Rattle.dsa_explain.specs.{declared.held.ListedEntry.{ListedEntry}, Held.{held_from, first_awaited}, Command.{noted_by}}
+use Rattle.dsa_explain.specs.{declared.held.ListedEntry.{ListedEntry}, Held.{held_from, first_awaited}, Wait.{noted_by}}
 
 -- none of the lists before has one
 abbrev pub invariant-loop-number : goal.invariant-loop-number

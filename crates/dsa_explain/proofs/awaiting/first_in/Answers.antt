@@ -3,7 +3,7 @@ use Rattle.std.proofs.Common.{rules, Bool, refl, sym, ◌∙◌}
 use Rattle.std.proofs.lemmas.Iterator.{Adapters.{option_map_id}, Search.{find_from_yields_List}}
 use Rattle.dsa_store.{specs.{declared.entry.Entry.{Entry}, Content.{HeldEntry}}, proofs.Walks.{walked}}
 use Rattle.dsa_admin.specs.Admin.{is_awaited_by}
-use Rattle.dsa_explain.{specs.Command.{noted_by}, proofs.Holding.{find-told}}
+use Rattle.dsa_explain.{specs.Wait.{noted_by}, proofs.Holding.{find-told}}
 use borrow.Author.Tests.{tests}
 
 pub returns-in_err-cell : goal.returns-in_err-cell

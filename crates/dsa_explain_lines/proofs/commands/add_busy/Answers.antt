@@ -5,4 +5,4 @@ use Rattle.dsa_explain_lines.proofs.Joining.{behind_two}
 pub returns : goal.returns
 returns c = on_ok_weaker c.add_first.result
     (λ e. behind_two _ _ _ _ _ _ _ c.in_ok-add_command.ensures
-    (rw c.from.ensures at c.in_ok-add_count.ensures) e) c.add_first.ensures
+    c.in_ok-add_count.ensures e) c.add_first.ensures

@@ -4,4 +4,4 @@ use Rattle.dsa_explain_lines.proofs.Joining.{behind}
 
 pub returns : goal.returns
 returns c = on_ok_weaker c.add_first.result
-    (λ e. behind _ _ _ _ _ (rw c.from.ensures at c.in_ok-add_count.ensures) e) c.add_first.ensures
+    (λ e. behind _ _ _ _ _ c.in_ok-add_count.ensures e) c.add_first.ensures

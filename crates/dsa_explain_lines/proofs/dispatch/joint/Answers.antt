@@ -2,7 +2,7 @@ use Rattle.dsa_explain_lines.proofs.dispatch.joint.Goals as goal
 use Rattle.std.proofs.Common.{◌≡◌, ◌∙◌, sym, ap, true, Option, refl}
 use Rattle.std.specs.Prelude.{is_some}
 use Rattle.dsa_base.proofs.NumberLemmas.{numbers_below-hit}
-use Rattle.dsa_explain.specs.{declared.dispatch.QueueReason.{QueueReason}, Dispatch.{queue_reason}}
+use Rattle.dsa_engines.specs.{declared.reasons.QueueReason.{QueueReason}, Dispatch.{queue_reason}}
 use Rattle.dsa_explain_lines.proofs.Joining.{none-next}
 
 pub returns-then-is_some : goal.returns-then-is_some

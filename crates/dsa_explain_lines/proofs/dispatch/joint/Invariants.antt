@@ -2,7 +2,7 @@ use Rattle.dsa_explain_lines.proofs.dispatch.joint.Given as goal
 use Rattle.std.proofs.Common.{◌≡◌, false}
 use Rattle.std.specs.{Prelude.{is_some}, List.{list_any}}
 use Rattle.dsa_base.specs.Numbers.{numbers_below}
-use Rattle.dsa_explain.specs.Dispatch.{queue_reason}
+use Rattle.dsa_engines.specs.Dispatch.{queue_reason}
 
 -- no queue before has a reason
 abbrev pub invariant-loop-other : goal.invariant-loop-other

@@ -1,8 +1,8 @@
 use Rattle.dsa_lines.proofs.OverVectorsRender.render.Goals as goal
-use Rattle.dsa_device.proofs.NewStore.{new-make_fault}
+use Rattle.std.proofs.Common.{string_bytes}
+use Rattle.std.proofs.lemmas.Result.{IfOk-weaker}
+use Rattle.dsa_scenario.proofs.Plain.{lines_of_document}
 
-pub run_document-requires : goal.run_document-requires
-run_document-requires c = new-make_fault c.in_ok-document.document.caps c.in_ok-document.document.capacity
-    c.list_count-lists.result c.cell_count.result _ _
-    c.in_ok-check_document.ensures.caps c.in_ok-check_document.ensures.capacity c.list_count-lists.ensures
-    c.cell_count.ensures.number c.in_ok-store.ensures.empty c.in_ok-store.ensures.cells
+pub returns-clause-ok : goal.returns-clause-ok
+returns-clause-ok c = IfOk-weaker c.render_over.result _ _
+    (λ r h. (h.0, lines_of_document c.args.bytes.now (string_bytes r.text) h.1)) c.render_over.ensures.ok

@@ -1,6 +1,6 @@
 use Rattle.dsa_scenario.proofs.reading.read_document.Given as goal
 use Rattle.std.{proofs.Common.{◌≡◌, ◌-◌, ◌+◌, ◌≤◌, length, vec_len}, specs.Io.KnownBytes.{Consumes}}
-use Rattle.dsa_scenario.specs.Counted.{counted_remaining, asked_of, has_reader_failed, IsSameReader}
+use Rattle.dsa_scenario.specs.Counted.{counted_remaining, asked_of, given_of, has_reader_failed, IsSameReader}
 
 abbrev pub invariant-reads : goal.invariant-reads
 invariant-reads g l = record {
@@ -10,6 +10,7 @@ invariant-reads g l = record {
   well : has_reader_failed l.reader ≡ has_reader_failed l.initial.reader;
   taken : Consumes (counted_remaining g.R.Read.remaining l.initial.reader)
       (counted_remaining g.R.Read.remaining l.reader) l.bytes.items;
+  given : given_of l.reader ≡ given_of l.initial.reader + length l.bytes.items;
 }
 
 abbrev pub decreases-reads : goal.decreases-reads

@@ -50,9 +50,9 @@ returns-clause-caps c =
     record {
       caps = _;
       capacity = _;
-      actions = [];
-      document = record { steps = _; head = has_head text _ _ _ _ (is_json text _ refl refl refl) refl; asked = refl };
-      bad = refl;
+      steps = _;
+      head = has_head text _ _ _ _ (is_json text _ refl refl refl) refl;
+      bad = (([], refl), refl);
     }
 
 pub returns-clause-capacity : goal.returns-clause-capacity
@@ -62,8 +62,7 @@ returns-clause-capacity c =
     record {
       caps = _;
       capacity = _;
-      actions = [];
-      document = record { steps = _; head = has_head text _ _ _ _ (is_json text _ refl refl refl) refl; asked = refl };
-      good = refl;
-      large = lit< tt;
+      steps = _;
+      head = has_head text _ _ _ _ (is_json text _ refl refl refl) refl;
+      bad = (([], refl), (refl, lit< tt));
     }

@@ -21,8 +21,7 @@ returns c = record {
       };
       asked = refl;
     };
-    good = refl;
-    small = lit≤ tt;
+    opening = record { good = refl; small = lit≤ tt };
     lines_of_run = record { records = []; last = _; events = tt; run = refl; replayed = refl; rendered = refl };
   };
 }

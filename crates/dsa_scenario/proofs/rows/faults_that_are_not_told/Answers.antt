@@ -40,21 +40,21 @@ returns-clause-second_step c fault =
 pub returns-clause-step_before_caps : goal.returns-clause-step_before_caps
 unfolding serde_json_on_literals
 returns-clause-step_before_caps c fault =
-    let has = fault.document.head in
+    let has = fault.head in
     let head = same_head (document_text no_caps_text (codes "9") (codes "1")) _ _ _ _ refl has in
     let steps = ap (λ o. option_map_or (λ (h : Head). list_of_items h.2) o []) head ∙ has.listed in
-    not_asked fault.actions (ap (map action_of) steps ∙ fault.document.asked)
+    not_asked fault.bad.0.0 (ap (map action_of) steps ∙ fault.bad.0.1)
 
 pub returns-clause-caps_before_capacity : goal.returns-clause-caps_before_capacity
 unfolding serde_json_on_literals
 returns-clause-caps_before_capacity c fault =
-    let head = same_head (document_text no_caps_text (codes "1048577") []) _ _ _ _ refl fault.document.head in
-    let bad : false ≡ true = ap (λ o. option_map_or (λ (h : Head). check_caps h.0) o true) head ∙ fault.good in
+    let head = same_head (document_text no_caps_text (codes "1048577") []) _ _ _ _ refl fault.head in
+    let bad : false ≡ true = ap (λ o. option_map_or (λ (h : Head). check_caps h.0) o true) head ∙ fault.bad.1.0 in
     absurd cc
 
 pub returns-clause-capacity : goal.returns-clause-capacity
 unfolding serde_json_on_literals
 returns-clause-capacity c fault =
-    let head = same_head (document_text smallest_caps_text (codes "1048576") []) _ _ _ _ refl fault.document.head in
+    let head = same_head (document_text smallest_caps_text (codes "1048576") []) _ _ _ _ refl fault.head in
     let capacity : 1_048_576 ≡ fault.capacity = ap (λ o. option_map_or (λ (h : Head). h.1) o 0) head in
-    omega (arith, capacity, fault.large)
+    omega (arith, capacity, fault.bad.1.1)

@@ -1,35 +1,37 @@
 use Rattle.dsa_scenario.proofs.rows.reads.Goals as goal
-use Rattle.std.proofs.Common.{◌≡◌, codes, refl, ap, arith, length, length-append}
+use Rattle.std.proofs.Common.{◌≡◌, ◌+◌, codes, refl, ap, arith, length, length-append}
 
 pub returns-clause-asked_for_a_byte : goal.returns-clause-asked_for_a_byte
-returns-clause-asked_for_a_byte c old new had left asked =
+returns-clause-asked_for_a_byte c old new had left given asked =
     let before : old.reader.now ≡ codes "12" = cc in
     let after : new.reader.now ≡ codes "2" = cc in
-    (codes "1", rw (before, after) refl, omega (arith, asked))
+    (codes "1", (rw (before, after) refl, given), omega (arith, asked))
 
 pub returns-clause-asked_twice_for_it : goal.returns-clause-asked_twice_for_it
-returns-clause-asked_twice_for_it c old new had left asked is =
-    let before : old.reader.now ≡ codes "12" = cc in
-    let after : new.reader.now ≡ codes "2" = cc in
-    omega (arith, asked, is.2, ap length is.1, ap length before, ap length after, length-append is.0 new.reader.now)
+returns-clause-asked_twice_for_it c old new given asked is = omega (arith, given, asked, is.1.1, is.2)
 
 pub returns-clause-asked_besides : goal.returns-clause-asked_besides
-returns-clause-asked_besides c old new had left asked =
+returns-clause-asked_besides c old new had left given asked =
     let before : old.reader.now ≡ codes "12" = cc in
     let after : new.reader.now ≡ codes "2" = cc in
-    (codes "1", rw (before, after) refl, omega (arith, asked))
+    (codes "1", (rw (before, after) refl, given), omega (arith, asked))
 
-pub returns-clause-read_without_an_error : goal.returns-clause-read_without_an_error
-returns-clause-read_without_an_error c old new well is =
-    let failed = is.0 refl in
-    absurd cc
+pub returns-clause-given_uncounted : goal.returns-clause-given_uncounted
+returns-clause-given_uncounted c old new given is =
+    let counted : new.given ≡ old.given + 1 = is.1 in
+    omega (arith, given, counted)
+
+pub returns-clause-more_than_it_had : goal.returns-clause-more_than_it_had
+returns-clause-more_than_it_had c old new had left is =
+    let before : old.reader.now ≡ codes "1" = cc in
+    omega (arith, ap length is.0, ap length before, length-append (codes "12") new.reader.now)
 
 pub returns-clause-error_untold : goal.returns-clause-error_untold
 returns-clause-error_untold c old new well failed is =
-    let same = is.1 in
+    let same = is.failed.1 in
     absurd cc
 
-pub returns-clause-error_told_as_another : goal.returns-clause-error_told_as_another
-returns-clause-error_told_as_another c old new well failed is =
-    let same = is.2 (λ read. absurd cc) in
-    absurd cc
+pub returns-clause-long_enough : goal.returns-clause-long_enough
+returns-clause-long_enough c old new given is =
+    let long = is.too_long refl in
+    omega (arith, given, long)

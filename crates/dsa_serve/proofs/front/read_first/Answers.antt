@@ -1,7 +1,8 @@
 use Rattle.dsa_serve.proofs.front.read_first.Goals as goal
-use Rattle.std.proofs.Common.{◌≢◌, ◌++◌, take, arith, length-append, ◌∙◌}
+use Rattle.std.proofs.Common.{◌≢◌, ◌++◌, take, arith, length-append, ◌∙◌, rules}
 use Rattle.std.proofs.{KnownBytes.{Consumes-trans}, lemmas.Result.{err_from_is_err_and}}
 use Rattle.std.proofs.lemmas.List.Elements.{All-append}
+use Rattle.dsa_scenario.proofs.GivenBytes.{HasGiven-once, HasGiven-trans, asked_once_more}
 use Rattle.dsa_serve.proofs.{Lines.{no_feed, front_cut}, Stops.{memory_before, first_read_stops, cut_stops, long_stops}}
 
 pub returns-in_err-count-clause-stopped : goal.returns-in_err-count-clause-stopped
@@ -53,35 +54,54 @@ returns-in_err-extend_from_slice-clause-stopped g c =
       c.reads.auto.chunk,
     )))
 
-pub returns-in_err-cut-clause-asked : goal.returns-in_err-cut-clause-asked
-returns-in_err-cut-clause-asked g c =
-    let piece = take c.in_ok-count.count c.read_once.new.chunk in (
-      c.reads.first.items ++ piece,
-      Consumes-trans _ _ _ _ _ c.reads.invariant.taken c.in_ok-count.ensures.bytes.0,
-      omega (arith, c.reads.invariant.asked, c.in_ok-count.ensures.counted, length-append c.reads.first.items piece),
-    )
+pub returns-in_err-cut-clause-reader : goal.returns-in_err-cut-clause-reader
+returns-in_err-cut-clause-reader g c =
+    let it = c.in_ok-count.ensures in
+    let before = c.reads.invariant in
+    record {
+      same = search rules;
+      asked = asked_once_more g.R.Read.remaining c.args.reader.now c.reads.reader c.read_once.new.self c.reads.first.items
+          c.in_ok-count.count c.read_once.new.chunk (before.taken, before.given) before.asked it.bound.0 it.bytes.0
+          it.given it.counted;
+      failed = search rules;
+      too_long = search rules;
+    }
 
-pub returns-in-Some-clause-asked : goal.returns-in-Some-clause-asked
-returns-in-Some-clause-asked g c =
-    let piece = take c.in_ok-count.count c.read_once.new.chunk in (
-      c.reads.first.items ++ piece,
-      Consumes-trans _ _ _ _ _ c.reads.invariant.taken c.in_ok-count.ensures.bytes.0,
-      omega (arith, c.reads.invariant.asked, c.in_ok-count.ensures.counted, length-append c.reads.first.items piece),
-    )
+pub returns-in_err-extend_from_slice-clause-reader : goal.returns-in_err-extend_from_slice-clause-reader
+returns-in_err-extend_from_slice-clause-reader g c =
+    let it = c.in_ok-count.ensures in
+    let before = c.reads.invariant in
+    record {
+      same = search rules;
+      asked = asked_once_more g.R.Read.remaining c.args.reader.now c.reads.reader c.read_once.new.self c.reads.first.items
+          c.in_ok-count.count c.read_once.new.chunk (before.taken, before.given) before.asked it.bound.0 it.bytes.0
+          it.given it.counted;
+      failed = search rules;
+      too_long = search rules;
+    }
 
-pub returns-in_err-extend_from_slice-clause-asked : goal.returns-in_err-extend_from_slice-clause-asked
-returns-in_err-extend_from_slice-clause-asked g c =
-    let piece = take c.in_ok-count.count c.read_once.new.chunk in (
-      c.reads.first.items ++ piece,
-      Consumes-trans _ _ _ _ _ c.reads.invariant.taken c.in_ok-count.ensures.bytes.0,
-      omega (arith, c.reads.invariant.asked, c.in_ok-count.ensures.counted, length-append c.reads.first.items piece),
-    )
+pub returns-in-Some-clause-reader : goal.returns-in-Some-clause-reader
+returns-in-Some-clause-reader g c =
+    let it = c.in_ok-count.ensures in
+    let before = c.reads.invariant in
+    record {
+      same = search rules;
+      asked = asked_once_more g.R.Read.remaining c.args.reader.now c.reads.reader c.read_once.new.self c.reads.first.items
+          c.in_ok-count.count c.read_once.new.chunk (before.taken, before.given) before.asked it.bound.0 it.bytes.0
+          it.given it.counted;
+      failed = search rules;
+      too_long = search rules;
+    }
 
 pub returns-in-Some-clause-asked_first : goal.returns-in-Some-clause-asked_first
 returns-in-Some-clause-asked_first g c going =
-    let piece = take c.in_ok-count.count c.read_once.new.chunk in (
+    let once = HasGiven-once g.R.Read.remaining c.reads.reader c.read_once.new.self c.in_ok-count.count
+    c.read_once.new.chunk c.in_ok-count.ensures.bound.0 c.in_ok-count.ensures.bytes.0 c.in_ok-count.ensures.given in
+    let piece = take c.in_ok-count.count c.read_once.new.chunk in
+    let read = HasGiven-trans g.R.Read.remaining c.args.reader.now c.reads.reader c.read_once.new.self
+    c.reads.first.items piece (c.reads.invariant.taken, c.reads.invariant.given) once in (
       c.reads.first.items ++ piece,
-      Consumes-trans _ _ _ _ _ c.reads.invariant.taken c.in_ok-count.ensures.bytes.0,
+      read,
       omega (
         arith,
         c.reads.invariant.asked,
@@ -95,7 +115,11 @@ returns-in-Some-clause-asked_first g c going =
 pub reads-preserved : goal.reads-preserved
 reads-preserved g c =
     let items = c.in_ok-extend_from_slice.ensures.items in
+    let once = HasGiven-once g.R.Read.remaining c.reads.reader c.read_once.new.self c.in_ok-count.count
+    c.read_once.new.chunk c.in_ok-count.ensures.bound.0 c.in_ok-count.ensures.bytes.0 c.in_ok-count.ensures.given in
     let piece = take c.in_ok-count.count c.read_once.new.chunk in
+    let read = HasGiven-trans g.R.Read.remaining c.args.reader.now c.reads.reader c.read_once.new.self
+    c.reads.first.items piece (c.reads.invariant.taken, c.reads.invariant.given) once in
     record {
       room = omega (arith, c.reads.invariant.room, c.read_once.auto.chunk);
       same_reader = c.in_ok-count.ensures.same_reader ∙ c.reads.invariant.same_reader;
@@ -109,6 +133,7 @@ reads-preserved g c =
       ));
       well = c.in_ok-count.ensures.failed.1 ∙ c.reads.invariant.well;
       taken = rw items (Consumes-trans _ _ _ _ _ c.reads.invariant.taken c.in_ok-count.ensures.bytes.0);
+      given = rw items read.1;
       line = rw items (All-append (λ b. b ≢ 10) _ _ c.reads.invariant.line (no_feed _ c.in_default.ensures));
     }
 

@@ -1,6 +1,6 @@
 use Rattle.dsa_serve.proofs.front.read_first.Given as goal
 use Rattle.std.{proofs.Common.{◌≡◌, ◌-◌, ◌+◌, ◌<◌, ◌≤◌, length, vec_len}, specs.Io.KnownBytes.{Consumes}}
-use Rattle.dsa_scenario.specs.Counted.{counted_remaining, asked_of, has_reader_failed, IsSameReader}
+use Rattle.dsa_scenario.specs.Counted.{counted_remaining, asked_of, given_of, has_reader_failed, IsSameReader}
 use Rattle.dsa_serve.specs.Input.{IsLine}
 
 abbrev pub invariant-reads : goal.invariant-reads
@@ -11,6 +11,7 @@ invariant-reads g l = record {
   well : has_reader_failed l.reader ≡ has_reader_failed l.initial.reader;
   taken : Consumes (counted_remaining g.R.Read.remaining l.initial.reader)
       (counted_remaining g.R.Read.remaining l.reader) l.first.items;
+  given : given_of l.reader ≡ given_of l.initial.reader + length l.first.items;
   line : IsLine l.first.items;
 }
 

@@ -38,8 +38,7 @@ returns-clause-no_lines c = record {
   requests = [];
   records = [];
   document = bare_document;
-  good = refl;
-  small = lit≤ tt;
+  opening = record { good = refl; small = lit≤ tt };
   asked = tt;
   of_actions = tt;
   run = refl;
@@ -66,8 +65,7 @@ returns-clause-lines c = record {
     };
     asked = refl;
   };
-  good = refl;
-  small = lit≤ tt;
+  opening = record { good = refl; small = lit≤ tt };
   asked = (
     (lit≤ tt, λ utf8. refl),
     (
@@ -124,8 +122,7 @@ dialogue = record {
   requests = Fault NotJson ∷ [];
   records = [];
   document = bare_document;
-  good = refl;
-  small = lit≤ tt;
+  opening = record { good = refl; small = lit≤ tt };
   asked = ((lit≤ tt, λ utf8. refl), tt);
   of_actions = tt;
   run = refl;

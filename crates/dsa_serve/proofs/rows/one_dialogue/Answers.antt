@@ -40,7 +40,7 @@ pub returns-clause-bad_caps : goal.returns-clause-bad_caps
 unfolding serde_json_on_literals
 returns-clause-bad_caps c last output is =
     let head = head_is (document_text no_caps_text (codes "9") []) [] last output _ refl is in
-    let bad : false ≡ true = ap (λ o. option_map_or (λ (h : Head). check_caps h.0) o true) head ∙ is.good in
+    let bad : false ≡ true = ap (λ o. option_map_or (λ (h : Head). check_caps h.0) o true) head ∙ is.opening.good in
     absurd cc
 
 pub returns-clause-large : goal.returns-clause-large
@@ -48,7 +48,7 @@ unfolding serde_json_on_literals
 returns-clause-large c last output is =
     let head = head_is (document_text smallest_caps_text (codes "1048577") []) [] last output _ refl is in
     let capacity : 1_048_577 ≡ is.capacity = ap (λ o. option_map_or (λ (h : Head). h.1) o 0) head in
-    omega (arith, capacity, is.small)
+    omega (arith, capacity, is.opening.small)
 
 -- no object asks no action, and one asks one
 no_action : (actions : List Action) → [] ≡ map Some actions → actions ≡ []

@@ -1,7 +1,7 @@
 use Rattle.dsa_serve.proofs.serving.serve_counted.Goals as goal
 use Rattle.std.proofs.Common.{◌≡◌, ◌^◌, true, false, length, arith, ◌∙◌, inl, inr}
 use Rattle.std.proofs.lemmas.Result.{err_from_is_err_and, on_ok_weaker, IfErr-weaker}
-use Rattle.dsa_serve.proofs.Counts.{asked_on, not_failed, refused_on}
+use Rattle.dsa_serve.proofs.Counts.{asked_on, read_then, read_done, read_told, written_then, written_told}
 use Rattle.dsa_serve.proofs.serving.serve_counted.Goals.{then-not-it+in_ok-serve_lines, else-not-it}
 
 pub returns-in_err-serve_lines-clause-stopped : goal.returns-in_err-serve_lines-clause-stopped
@@ -51,35 +51,46 @@ returns-clause-stopped g c =
           (rw w.if-not-it.false at c.in_ok-it.ensures.ok))) c.finish.ensures.stopped
     ]
 
-pub returns-in_err-serve_lines-clause-asked : goal.returns-in_err-serve_lines-clause-asked
-returns-in_err-serve_lines-clause-asked g c =
-    asked_on g.R.Read.remaining c.args.reader.now c.start.new.reader c.serve_lines.new.reader 0 1
-    (c.in_ok-it.ensures.asked_first c.if-not-it.true) c.in_err-serve_lines.ensures.asked
-
-pub returns-clause-failed : goal.returns-clause-failed
-returns-clause-failed g c =
-    not_failed c.finish.result c.args.reader.now c.if-not-it.reader c.finish.ensures.not_read (elim c.if-not-it.branch [
+-- what was read and written before the end
+pub returns-clause-reader : goal.returns-clause-reader
+returns-clause-reader g c =
+    read_done g.R.Read.remaining c.finish.result c.args.reader.now c.if-not-it.reader c.finish.ensures.late
+    c.finish.ensures.not_read (elim c.if-not-it.branch [
       | then-not-it+in_ok-serve_lines w ↦
-          rw w.reader-is (w.in_ok-serve_lines.ensures.failed.1 ∙ c.in_ok-it.ensures.failed.1)
-      | else-not-it w ↦ rw w.reader-is c.in_ok-it.ensures.failed.1
+          rw w.reader-is (record {
+            same = w.in_ok-serve_lines.ensures.reader.same ∙ c.in_ok-it.ensures.reader.same;
+            asked = asked_on g.R.Read.remaining c.args.reader.now c.start.new.reader w.serve_lines.new.reader 0 1
+                (c.in_ok-it.ensures.asked_first w.if-not-it.true) w.in_ok-serve_lines.ensures.reader.asked;
+            well = w.in_ok-serve_lines.ensures.reader.failed.1 ∙ c.in_ok-it.ensures.reader.failed.1;
+          })
+      | else-not-it w ↦
+          rw w.reader-is (record {
+            same = c.in_ok-it.ensures.reader.same;
+            asked = c.in_ok-it.ensures.reader.asked;
+            well = c.in_ok-it.ensures.reader.failed.1;
+          })
     ])
 
-pub returns-clause-asked : goal.returns-clause-asked
-returns-clause-asked g c = elim c.if-not-it.branch [
-  | then-not-it+in_ok-serve_lines w ↦
-      rw w.reader-is (asked_on g.R.Read.remaining c.args.reader.now c.start.new.reader w.serve_lines.new.reader 0 1
-      (c.in_ok-it.ensures.asked_first w.if-not-it.true) w.in_ok-serve_lines.ensures.asked)
-  | else-not-it w ↦ rw w.reader-is c.in_ok-it.ensures.asked
-]
+pub returns-clause-writer : goal.returns-clause-writer
+returns-clause-writer g c =
+    written_then c.finish.result c.args.writer.now c.if-not-it.writer c.finish.new.writer (elim c.if-not-it.branch [
+      | then-not-it+in_ok-serve_lines w ↦
+          rw w.writer-is (
+            w.in_ok-serve_lines.ensures.writer.same ∙ c.in_ok-it.ensures.writer.same,
+            w.in_ok-serve_lines.ensures.writer.refused.1 ∙ c.in_ok-it.ensures.writer.refused.1,
+          )
+      | else-not-it w ↦ rw w.writer-is (c.in_ok-it.ensures.writer.same, c.in_ok-it.ensures.writer.refused.1)
+    ]) c.finish.ensures.writer
 
-pub returns-in_err-it-clause-same_reader : goal.returns-in_err-it-clause-same_reader
-returns-in_err-it-clause-same_reader g c = c.in_err-it.ensures.same_reader
+pub returns-in_err-it-clause-reader : goal.returns-in_err-it-clause-reader
+returns-in_err-it-clause-reader g c =
+    let p = err_from_is_err_and c.from_residual.result c.from_residual.ensures.1 in
+    rw (p.1, p.2) (read_told g.R.Read.remaining _ _ _ c.in_err-it.ensures.reader)
 
-pub returns-in_err-it-clause-same_writer : goal.returns-in_err-it-clause-same_writer
-returns-in_err-it-clause-same_writer g c = c.in_err-it.ensures.same_writer
-
-pub returns-in_err-it-clause-asked : goal.returns-in_err-it-clause-asked
-returns-in_err-it-clause-asked g c = c.in_err-it.ensures.asked
+pub returns-in_err-it-clause-writer : goal.returns-in_err-it-clause-writer
+returns-in_err-it-clause-writer g c =
+    let p = err_from_is_err_and c.from_residual.result c.from_residual.ensures.1 in
+    rw (p.1, p.2) (written_told _ _ _ c.in_err-it.ensures.writer)
 
 pub returns-in_err-it-clause-ok : goal.returns-in_err-it-clause-ok
 returns-in_err-it-clause-ok g c =
@@ -90,27 +101,22 @@ returns-in_err-it-clause-nothing g c =
     let p = err_from_is_err_and c.from_residual.result c.from_residual.ensures.1 in
     rw (p.1, p.2) (λ early. c.in_err-it.ensures.nothing (λ write. early (inr (inl write))))
 
-pub returns-in_err-serve_lines-clause-same_reader : goal.returns-in_err-serve_lines-clause-same_reader
-returns-in_err-serve_lines-clause-same_reader g c =
-    c.in_err-serve_lines.ensures.same_reader ∙ c.in_ok-it.ensures.same_reader
-
-pub returns-in_err-serve_lines-clause-same_writer : goal.returns-in_err-serve_lines-clause-same_writer
-returns-in_err-serve_lines-clause-same_writer g c =
-    c.in_err-serve_lines.ensures.same_writer ∙ c.in_ok-it.ensures.same_writer
-
-pub returns-in_err-serve_lines-clause-failed : goal.returns-in_err-serve_lines-clause-failed
-returns-in_err-serve_lines-clause-failed g c =
+pub returns-in_err-serve_lines-clause-reader : goal.returns-in_err-serve_lines-clause-reader
+returns-in_err-serve_lines-clause-reader g c =
     let p = err_from_is_err_and c.from_residual-in_err-serve_lines.result
     c.from_residual-in_err-serve_lines.ensures.1 in
-    let it = c.in_err-serve_lines.ensures.failed in
-    rw (p.1, p.2) (it.0, tt, λ other. it.2 other ∙ c.in_ok-it.ensures.failed.1)
+    let before = c.in_ok-it.ensures in
+    rw (p.1, p.2) (read_then g.R.Read.remaining _ c.args.reader.now c.start.new.reader c.serve_lines.new.reader
+    (record { same = before.reader.same; asked = before.asked_first c.if-not-it.true; well = before.reader.failed.1 })
+    (read_told g.R.Read.remaining _ _ _ c.in_err-serve_lines.ensures.reader))
 
-pub returns-in_err-serve_lines-clause-refused : goal.returns-in_err-serve_lines-clause-refused
-returns-in_err-serve_lines-clause-refused g c =
+pub returns-in_err-serve_lines-clause-writer : goal.returns-in_err-serve_lines-clause-writer
+returns-in_err-serve_lines-clause-writer g c =
     let p = err_from_is_err_and c.from_residual-in_err-serve_lines.result
     c.from_residual-in_err-serve_lines.ensures.1 in
-    let it = c.in_err-serve_lines.ensures.refused in
-    rw (p.1, p.2) ((it.0.0, tt), λ other. it.1 other ∙ c.in_ok-it.ensures.refused.0.1)
+    let before = c.in_ok-it.ensures.writer in
+    rw (p.1, p.2) (written_then _ c.args.writer.now c.start.new.writer c.serve_lines.new.writer
+    (before.same, before.refused.1) (written_told _ _ _ c.in_err-serve_lines.ensures.writer))
 
 pub returns-in_err-serve_lines-clause-ok : goal.returns-in_err-serve_lines-clause-ok
 returns-in_err-serve_lines-clause-ok g c =
@@ -122,29 +128,6 @@ returns-in_err-serve_lines-clause-nothing g c =
     let p = err_from_is_err_and c.from_residual-in_err-serve_lines.result
     c.from_residual-in_err-serve_lines.ensures.1 in
     rw (p.1, p.2) (λ early. absurd (early c.in_err-serve_lines.ensures.late))
-
-pub returns-clause-same_reader : goal.returns-clause-same_reader
-returns-clause-same_reader g c = elim c.if-not-it.branch [
-  | then-not-it+in_ok-serve_lines w ↦
-      rw w.reader-is (w.in_ok-serve_lines.ensures.same_reader ∙ c.in_ok-it.ensures.same_reader)
-  | else-not-it w ↦ rw w.reader-is c.in_ok-it.ensures.same_reader
-]
-
-pub returns-clause-same_writer : goal.returns-clause-same_writer
-returns-clause-same_writer g c = elim c.if-not-it.branch [
-  | then-not-it+in_ok-serve_lines w ↦
-      c.finish.ensures.same_writer ∙ rw w.writer-is (w.in_ok-serve_lines.ensures.same_writer
-      ∙ c.in_ok-it.ensures.same_writer)
-  | else-not-it w ↦ c.finish.ensures.same_writer ∙ rw w.writer-is c.in_ok-it.ensures.same_writer
-]
-
-pub returns-clause-refused : goal.returns-clause-refused
-returns-clause-refused g c =
-    refused_on c.finish.result c.args.writer.now c.if-not-it.writer c.finish.new.writer (elim c.if-not-it.branch [
-      | then-not-it+in_ok-serve_lines w ↦
-          rw w.writer-is (w.in_ok-serve_lines.ensures.refused.0.1 ∙ c.in_ok-it.ensures.refused.0.1)
-      | else-not-it w ↦ rw w.writer-is c.in_ok-it.ensures.refused.0.1
-    ]) c.finish.ensures.refused
 
 pub returns-clause-nothing : goal.returns-clause-nothing
 returns-clause-nothing g c =

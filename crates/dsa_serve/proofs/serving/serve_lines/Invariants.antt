@@ -14,11 +14,9 @@ invariant-turns g l = record {
   asked : IsAskedFor g.R.Read.remaining l.initial.reader l.reader 0;
   course : (had : Option (List ℕ)) → (held : Option (List ℕ))
       → IsInCourse false had (counted_remaining g.R.Read.remaining l.initial.reader) held
-      (watched_contents g.W.Write.contents l.initial.writer) l.initial.dialogue.session.number
-      l.initial.dialogue.session.device l.initial.dialogue.session.tickets.items l.initial.dialogue.kept.items
+      (watched_contents g.W.Write.contents l.initial.writer) l.initial.dialogue
       → IsInCourse false had (counted_remaining g.R.Read.remaining l.reader) held
-      (watched_contents g.W.Write.contents l.writer) l.dialogue.session.number
-      l.dialogue.session.device l.dialogue.session.tickets.items l.dialogue.kept.items;
+      (watched_contents g.W.Write.contents l.writer) l.dialogue;
 }
 
 abbrev pub decreases-turns : goal.decreases-turns

@@ -24,8 +24,8 @@ returns-in_err-write_text-clause-stopped g c =
     bytes.1 bytes.2 short bytes.3 c.in_ok-front.ensures.end c.as_bytes.ensures.value (c.in_ok-dialogue.ensures.ok c.new-text.ensures.bytes) cut.1
     cut.2)
 
-pub returns-in_err-front-clause-refused : goal.returns-in_err-front-clause-refused
-returns-in_err-front-clause-refused g c =
+pub returns-in_err-front-clause-writer : goal.returns-in_err-front-clause-writer
+returns-in_err-front-clause-writer g c =
     let p = err_from_is_err_and c.from_residual.result c.from_residual.ensures.1 in
     not_written c.from_residual.result c.args.writer.now (rw (p.1, p.2) c.in_err-front.ensures.faults)
 

@@ -1,8 +1,8 @@
 use Rattle.dsa_book.specs.declared.event.Event.TheVariants as event
 use Rattle.dsa_book.specs.declared.answer.Reply.TheVariants as reply
 use Rattle.dsa_shared.proofs.locked.clear_error.Goals as goal
-use Rattle.std.proofs.Common.{ap, ◌∙◌}
-use Rattle.dsa_shared.{specs.Seat.{with_step}, proofs.Steps.{within, gained}}
+use Rattle.std.proofs.Common.{ap, ◌∙◌, subst}
+use Rattle.dsa_shared.{specs.{Seat.{with_step}, Locked.{IsAnsweredFor}}, proofs.Steps.{answered_for, within, gained}}
 use Rattle.dsa_device.proofs.Steps.{grows}
 
 pub note-requires-clause-capacity : goal.note-requires-clause-capacity
@@ -32,3 +32,12 @@ returns-clause-receipts g c =
     c.history-before.ensures c.clear_error-answer.ensures in
     receipts ∙ ap (λ steps. with_step steps event.ClearError
     (reply.Clear c.clear_error-answer.result)) c.seat.view_is
+
+pub returns-clause-answered : goal.returns-clause-answered
+returns-clause-answered g c =
+    subst (λ receipts. IsAnsweredFor _ _ receipts event.ClearError (reply.Clear c.clear_error-answer.result))
+    c.seat.view_is
+    (answered_for _ _ c.seat.inside.receipts.steps c.history-before.result.now
+    c.locked.inside.device c.clear_error-answer.new.self event.ClearError
+    (reply.Clear c.clear_error-answer.result) c.state_is_replay.ensures.replay c.locked.invariant.2 c.locked.invariant.1
+    c.history-before.ensures c.note.ensures.seen c.clear_error-answer.ensures)

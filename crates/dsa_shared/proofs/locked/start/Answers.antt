@@ -3,7 +3,7 @@ use Rattle.dsa_book.specs.declared.answer.Reply.TheVariants as reply
 use Rattle.dsa_shared.proofs.locked.start.Goals as goal
 use Rattle.std.proofs.Common.{ap, ◌∙◌}
 use Rattle.dsa_device.proofs.Steps.{grows}
-use Rattle.dsa_shared.proofs.Steps.{within, gained, seat_after}
+use Rattle.dsa_shared.proofs.Steps.{answered_for, answered_seat, within, gained, seat_after}
 
 pub note-requires-clause-capacity : goal.note-requires-clause-capacity
 note-requires-clause-capacity g c =
@@ -35,3 +35,12 @@ returns-clause-receipts g c =
           c.seat.inside.receipts.steps;
     }) c.args.seat.now c.note.new.self.steps
     (λ number. event.Start number) (reply.Start c.start-answer.result) c.seat.view_is receipts
+
+pub returns-clause-answered : goal.returns-clause-answered
+returns-clause-answered g c =
+    answered_seat _ _ (record { number = c.seat.inside.number; receipts = c.seat.inside.receipts.steps })
+    c.args.seat.now (λ number. event.Start number) (reply.Start c.start-answer.result) c.seat.view_is
+    (answered_for _ _ c.seat.inside.receipts.steps c.history-before.result.now
+    c.locked.inside.device c.start-answer.new.self (event.Start c.seat.inside.number)
+    (reply.Start c.start-answer.result) c.state_is_replay.ensures.replay c.locked.invariant.2 c.locked.invariant.1
+    c.history-before.ensures c.note.ensures.seen c.start-answer.ensures)

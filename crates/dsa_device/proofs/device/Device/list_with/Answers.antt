@@ -1,5 +1,5 @@
 use Rattle.dsa_device.proofs.device.Device.list_with.Goals as goal
-use Rattle.std.proofs.Common.{Some, ap, refl, ◌∙◌}
+use Rattle.std.proofs.Common.{Some, ap, ◌∙◌}
 use Rattle.dsa_regs.specs.{declared.Caps.{Caps}, Caps.{list_use}}
 use Rattle.dsa_device.proofs.Known.{well_formed}
 

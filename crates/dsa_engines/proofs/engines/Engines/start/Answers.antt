@@ -1,46 +1,76 @@
+use Rattle.dsa_engines.specs.declared.starting.StartBlock.TheVariants as block
 use Rattle.dsa_engines.proofs.engines.Engines.start.Goals as goal
-use Rattle.std.proofs.Common.{◌∙◌, sym}
-use Rattle.dsa_engines.proofs.Homes.{has-engine}
-use Rattle.dsa_engines.proofs.Members.{holds-none, in_step-abandoned, in_step-started, started-counted}
-use Rattle.dsa_engines.proofs.Members.{start-refused, start-done}
+use Rattle.std.proofs.Common.{refl}
+use Rattle.dsa_engines.specs.Engines.{work}
+use Rattle.dsa_engines.proofs.Members.{in_step-abandoned, in_step-started, started-counted, start-done}
+use Rattle.dsa_engines.proofs.StartReasons.{start-refused_with, fails-with, abandoned}
 
-pub returns-then-fails_at_fence-clause-in_step : goal.returns-then-fails_at_fence-clause-in_step
-returns-then-fails_at_fence-clause-in_step g c =
-    rw c.abandon_all.ensures.setup (in_step-abandoned c.requires.in_step
-    (g.met.S.EntryStore.sound c.args.store.now).once
-    (has-engine c.caps-caps.ensures.value c.if-engine-caps.false) c.list-list.ensures
-    (sym c.first_waiting.ensures ∙ c.in-Some.is) c.if-waits_at_fence.ensures _ _ c.give_back.ensures.cells
-    c.requires.order c.if-fails_at_fence.ensures c.close_note.ensures c.give_back.ensures.after)
+pub returns-in-Err-Nothing-clause-step : goal.returns-in-Err-Nothing-clause-step
+returns-in-Err-Nothing-clause-step g c =
+    start-refused_with (work c.args.queues.now.setup c.args.self.now (g.S.EntryStore.content c.args.store.now)
+    c.args.book.now.fates) c.args.self.now.buffers c.args.engine c.in-Err-Nothing.field-0 block.Nothing
+    (c.in-Err-Nothing.ensures.reason c.args.book.now.fates) c.in-Err-Nothing.field-0-is
 
-pub roomy_group-requires : goal.roomy_group-requires
-roomy_group-requires g c = holds-none c.requires.in_step (g.met.S.EntryStore.sound c.args.store.now).once
-    (has-engine c.caps-caps.ensures.value c.if-engine-caps.false) c.list-list.ensures
-    (sym c.first_waiting.ensures ∙ c.in-Some.is)
+pub returns-in-Err-Fence-clause-step : goal.returns-in-Err-Fence-clause-step
+returns-in-Err-Fence-clause-step g c =
+    start-refused_with (work c.args.queues.now.setup c.args.self.now (g.S.EntryStore.content c.args.store.now)
+    c.args.book.now.fates) c.args.self.now.buffers c.args.engine c.in-Err-Fence.field-0 (block.Fence c.in-Err-Fence.field-0-0)
+    (c.in-Err-Fence.ensures.reason c.args.book.now.fates) c.in-Err-Fence.field-0-is
 
-pub returns-in_default-roomy_group-clause-step : goal.returns-in_default-roomy_group-clause-step
-returns-in_default-roomy_group-clause-step g c =
-    start-refused c.requires.in_step (g.met.S.EntryStore.sound c.args.store.now).once
-    (has-engine c.caps-caps.ensures.value c.if-engine-caps.false) c.list-list.ensures
-    (sym c.first_waiting.ensures ∙ c.in-Some.is) c.if-waits_at_fence.ensures c.if-fails_at_fence.ensures
-    c.need-need.ensures _ c.in_default-roomy_group.ensures
+pub returns-in-Err-Buffers-clause-step : goal.returns-in-Err-Buffers-clause-step
+returns-in-Err-Buffers-clause-step g c =
+    start-refused_with (work c.args.queues.now.setup c.args.self.now (g.S.EntryStore.content c.args.store.now)
+    c.args.book.now.fates) c.args.self.now.buffers c.args.engine c.in-Err-Buffers.field-0 (block.Buffers c.in-Err-Buffers.field-0-0 c.in-Err-Buffers.field-0-1)
+    (c.in-Err-Buffers.ensures.reason c.args.book.now.fates) c.in-Err-Buffers.field-0-is
+
+pub returns-in-Err-NoGroup-clause-step : goal.returns-in-Err-NoGroup-clause-step
+returns-in-Err-NoGroup-clause-step g c =
+    start-refused_with (work c.args.queues.now.setup c.args.self.now (g.S.EntryStore.content c.args.store.now)
+    c.args.book.now.fates) c.args.self.now.buffers c.args.engine c.in-Err-NoGroup.field-0 block.NoGroup
+    (c.in-Err-NoGroup.ensures.reason c.args.book.now.fates) c.in-Err-NoGroup.field-0-is
+
+pub abandon-requires-clause-engine : goal.abandon-requires-clause-engine
+abandon-requires-clause-engine g c = (fails-with c.args.queues.now.setup c.args.self.now (g.S.EntryStore.content c.args.store.now)
+    c.args.engine c.in-Err-Failed.field-0 c.in-Err-Failed.field-0-0 c.in-Err-Failed.field-0-1
+    c.in-Err-Failed.ensures.reason c.in-Err-Failed.field-0-is).engine
+
+pub returns-in-Err-Failed-clause-step : goal.returns-in-Err-Failed-clause-step
+returns-in-Err-Failed-clause-step g c =
+    let fails = fails-with c.args.queues.now.setup c.args.self.now (g.S.EntryStore.content c.args.store.now)
+    c.args.engine c.in-Err-Failed.field-0 c.in-Err-Failed.field-0-0 c.in-Err-Failed.field-0-1
+    c.in-Err-Failed.ensures.reason c.in-Err-Failed.field-0-is in
+    rw (
+      c.abandon.ensures.left,
+      c.abandon.ensures.setup,
+      c.abandon.ensures.note,
+      c.abandon.ensures.content,
+      c.abandon.ensures.book,
+    ) (abandoned fails c.args.book.now.fates)
+
+pub returns-in-Err-Failed-clause-in_step : goal.returns-in-Err-Failed-clause-in_step
+returns-in-Err-Failed-clause-in_step g c =
+    let fails = fails-with c.args.queues.now.setup c.args.self.now (g.S.EntryStore.content c.args.store.now)
+    c.args.engine c.in-Err-Failed.field-0 c.in-Err-Failed.field-0-0 c.in-Err-Failed.field-0-1
+    c.in-Err-Failed.ensures.reason c.in-Err-Failed.field-0-is in
+    rw c.abandon.ensures.setup (in_step-abandoned c.requires.in_step (g.met.S.EntryStore.sound c.args.store.now).once
+    fails.engine refl fails.waiting fails.fence _ _ c.abandon.ensures.cells c.requires.order fails.failing
+    c.abandon.ensures.note c.abandon.ensures.content)
 
 pub returns-clause-step : goal.returns-clause-step
 returns-clause-step g c =
-    start-done c.requires.in_step (g.met.S.EntryStore.sound c.args.store.now).once
-    (has-engine c.caps-caps.ensures.value c.if-engine-caps.false) c.list-list.ensures
-    (sym c.first_waiting.ensures ∙ c.in-Some.is) c.if-waits_at_fence.ensures c.if-fails_at_fence.ensures
-    c.need-need.ensures _ c.in-Some-roomy_group.ensures.0 c.in-Some-roomy_group.ensures.2 c.take.ensures
-    c.set.ensures.after
+    let member = c.in-Ok.ensures.member in
+    start-done c.requires.in_step (g.met.S.EntryStore.sound c.args.store.now).once member.engine refl member.waiting
+    member.fence member.failing c.in-Ok.ensures.need _ member.home (rw c.in-Ok.ensures.need member.room)
+    c.take.ensures c.set.ensures.after
 
 pub returns-clause-in_step : goal.returns-clause-in_step
 returns-clause-in_step g c =
-    in_step-started c.requires.in_step (g.met.S.EntryStore.sound c.args.store.now).once
-    (has-engine c.caps-caps.ensures.value c.if-engine-caps.false) c.list-list.ensures
-    (sym c.first_waiting.ensures ∙ c.in-Some.is) c.set.ensures.cells c.in-Some-roomy_group.ensures.0
-    c.need-need.ensures c.take.ensures c.set.ensures.after
+    let member = c.in-Ok.ensures.member in
+    in_step-started c.requires.in_step (g.met.S.EntryStore.sound c.args.store.now).once member.engine refl
+    member.waiting c.set.ensures.cells member.home c.in-Ok.ensures.need c.take.ensures c.set.ensures.after
 
 pub returns-clause-counted : goal.returns-clause-counted
 returns-clause-counted g c =
-    started-counted c.requires.in_step (g.met.S.EntryStore.sound c.args.store.now).once
-    (has-engine c.caps-caps.ensures.value c.if-engine-caps.false) c.list-list.ensures
-    (sym c.first_waiting.ensures ∙ c.in-Some.is) c.requires.counted c.set.ensures.after
+    let member = c.in-Ok.ensures.member in
+    started-counted c.requires.in_step (g.met.S.EntryStore.sound c.args.store.now).once member.engine refl
+    member.waiting c.requires.counted c.set.ensures.after

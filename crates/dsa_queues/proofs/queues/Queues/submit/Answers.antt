@@ -5,14 +5,14 @@ use Rattle.dsa_queues.proofs.Counts.{counted-setup, counted-pushed}
 
 -- the cell that the store gave was not in use, and is one that the device counts
 pub returns-clause-free : goal.returns-clause-free
-returns-clause-free g c = unused-is_free _ _ c.in-Some.cell
-    (rw c.requires.store.cells at c.in-Some.ensures.below) c.in-Some.ensures.unused
+returns-clause-free g c = unused-is_free _ _ c.in-Some-push_back.cell
+    (rw c.requires.store.cells at c.in-Some-push_back.ensures.below) c.in-Some-push_back.ensures.unused
 
 -- and one more entry names the queue
 pub entered-requires-clause-room : goal.entered-requires-clause-room
 entered-requires-clause-room g c =
-    let there = c.phase.ensures.known (grind (arith, c.if-ne.false, c.ne.ensures)) in
-    let pushed = counted-pushed c.args.self.now _ _ c.args.queue _ _ c.in-Some.ensures.some
+    let there = c.why_submit.ensures.known c.in_default.is in
+    let pushed = counted-pushed c.args.self.now _ _ c.args.queue _ _ c.in-Some-push_back.ensures.some
     (omega (arith, ltb-true _ _ there, c.requires.store.lists)) there c.requires.counted in
     rw c.give_name.ensures.after (omega (
       arith,
@@ -24,8 +24,8 @@ entered-requires-clause-room g c =
 
 pub returns-clause-counted : goal.returns-clause-counted
 returns-clause-counted g c =
-    let there = c.phase.ensures.known (grind (arith, c.if-ne.false, c.ne.ensures)) in
-    let pushed = counted-pushed c.args.self.now _ _ c.args.queue _ _ c.in-Some.ensures.some
+    let there = c.why_submit.ensures.known c.in_default.is in
+    let pushed = counted-pushed c.args.self.now _ _ c.args.queue _ _ c.in-Some-push_back.ensures.some
     (omega (arith, ltb-true _ _ there, c.requires.store.lists)) there c.requires.counted in
     rw (c.entered.ensures, c.give_name.ensures.after)
     (counted-setup _ _ _ refl refl pushed.1)

@@ -1,7 +1,0 @@
-use Rattle.dsa_admin.proofs.ends.count_watched.Given as goal
-use Rattle.std.proofs.Common.{◌≡◌, take}
-use Rattle.dsa_store.specs.Content.{count_where}
-use Rattle.dsa_admin.specs.Admin.{is_watched}
-
-abbrev pub invariant-loop-list : goal.invariant-loop-list
-invariant-loop-list g l = l.count ≡ count_where (is_watched l.active) (take l.list (g.S.EntryStore.content l.store))

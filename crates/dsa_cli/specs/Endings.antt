@@ -1,0 +1,32 @@
+-- How the program ends: what it has written, and what it says of a fault (profile).
+use Rattle.std.specs.Prelude.{◌≡◌, ◌≢◌, ◌⊎◌, ℕ, true, false, List, Option}
+use Rattle.std.specs.Io.KnownBytes.{Appends}
+use Rattle.dsa_scenario.specs.declared.faults.ScenarioFault.{ScenarioFault, TheVariants.{Write, OutOfMemory}}
+use Rattle.dsa_scenario.specs.declared.watched.WatchedWriter.{WatchedWriter}
+use Rattle.dsa_scenario.specs.{Scenario.{HasFault}, Watched.{watched_contents, has_refused, is_closed}}
+
+-- the line was added to what the other writer holds, unless that one refused a write or nobody reads the output
+abbrev pub IsFaultTold : {O E : Type 0} → WatchedWriter O → (E → Option (List ℕ)) → WatchedWriter E → WatchedWriter E
+    → List ℕ → Type 0
+IsFaultTold out contents old new line = is_closed out ≡ false → has_refused new ≡ false
+    → Appends (watched_contents contents old) (watched_contents contents new) line
+
+-- nothing was told on status 0, nor on status 1 where nobody reads the output
+abbrev pub IsQuiet : {O E : Type 0} → ℕ → WatchedWriter O → WatchedWriter E → WatchedWriter E → Type 0
+IsQuiet status out old new = (status ≡ 0 → new ≡ old) × (status ≡ 1 → is_closed out ≡ true → new ≡ old)
+
+-- a fault of writing is told only of a writer that refused a write
+abbrev pub IsWriteRefused : {W : Type 0} → ScenarioFault → WatchedWriter W → Type 0
+IsWriteRefused fault out = fault ≡ Write → has_refused out ≡ true
+
+-- what the reader gave, or memory or writing, gave rise to the fault; the writer is as it was, or on a fault of
+-- writing `cut` says what it holds
+abbrev pub IsStoppedBy : {W : Type 0} → ScenarioFault
+    → (Option (List ℕ) → Option (List ℕ) → Option (List ℕ) → Option (List ℕ) → Type 0)
+    → Option (List ℕ) → Option (List ℕ) → (W → Option (List ℕ)) → W → W → Type 0
+IsStoppedBy fault cut had left contents old new = HasFault had left fault × (fault ≢ Write → new ≡ old)
+    × (fault ≡ Write → cut had left (contents old) (contents new))
+
+-- what clap says was not written: for want of memory, or because the writer refused it
+abbrev pub IsUnwritten : {W : Type 0} → ScenarioFault → WatchedWriter W → WatchedWriter W → Type 0
+IsUnwritten fault old new = (fault ≡ OutOfMemory) × (new ≡ old) ⊎ (fault ≡ Write) × (has_refused new ≡ true)

@@ -1,0 +1,111 @@
+//! What keeps a device from being made, and what one has after a step.
+
+ghost use Rattle.std.specs.Prelude.{◌≡◌, [], ◌∷◌, ◌++◌, Some, None, true, false, map, option_map, replicate};
+ghost use Rattle.dsa_regs.specs.declared.Command.TheVariants.{DrainAll};
+ghost use Rattle.dsa_regs.specs.Config.{zero_group};
+ghost use Rattle.dsa_book.specs.declared.answer.FinishAnswer.TheVariants.{Done, Gone, NotReady};
+ghost use Rattle.dsa_book.specs.declared.answer.PollAnswer.TheVariants.{Full, Nothing};
+ghost use Rattle.dsa_book.specs.declared.answer.Reply.TheVariants as reply;
+ghost use Rattle.dsa_book.specs.declared.answer.WriteAnswer.TheVariants.{Written};
+ghost use Rattle.dsa_book.specs.declared.event.Event.TheVariants as event;
+ghost use Rattle.dsa_device.specs.declared.faults.MakeFault.TheVariants.{BadCaps, BadCapacity, BadStore, OutOfMemory};
+ghost use Rattle.dsa_device.specs.Made.{is_store_of, make_fault, make_table, opening_fault, fault_or_memory};
+ghost use Rattle.dsa_device.specs.Reads.{is_held};
+ghost use Rattle.dsa_book.specs.State.{opening};
+ghost use Rattle.dsa_device.specs.Running.{after_answer, awaited_end, running_at_first, watched_in, IsReplay};
+ghost use Rattle.dsa_device.specs.Runs.{IsRunOf};
+ghost use Rattle.dsa_worked.specs.Setup.{ticket, step_of_a_group_write};
+ghost use Rattle.dsa_worked.specs.Uneven.{many_engines, many_queues, of_these};
+ghost use Rattle.dsa_worked.specs.Values.{three_lists, of_cell};
+ghost use Rattle.dsa_explain_rows.specs.Alike.{holding, with_active, with_content_of, with_history};
+
+/// The causes that keep a device from being made, and which of them is told.
+#[tactic(auto, unfolding(dsa_store::specs::Content::held_count))]
+pub fn devices_made()
+    ensures store { is_store_of many_queues 23 (replicate 9 []) ≡ true }
+    ensures cells { is_store_of many_queues 22 (replicate 9 []) ≡ false }
+    ensures lists { is_store_of many_queues 23 (replicate 8 []) ≡ false }
+    ensures held { is_store_of many_queues 23 (three_lists ++ replicate 6 []) ≡ false }
+    ensures table { make_table (record many_queues { queues = 0 }) 1048577 0 []
+        ≡ (true, BadCaps) ∷ (true, BadCapacity) ∷ (true, BadStore) ∷ [] }
+    ensures none { make_table many_queues 1048576 23 (replicate 9 [])
+        ≡ (false, BadCaps) ∷ (false, BadCapacity) ∷ (false, BadStore) ∷ [] }
+    ensures made { make_fault many_queues 1048576 23 (replicate 9 []) ≡ None }
+    ensures first { make_fault (record many_queues { queues = 0 }) 1048577 0 [] ≡ Some BadCaps }
+    ensures second { make_fault many_queues 1048577 0 [] ≡ Some BadCapacity }
+    ensures third { make_fault many_queues 1048576 0 [] ≡ Some BadStore }
+    ensures memory { fault_or_memory many_queues 1048576 23 (replicate 9 []) ≡ OutOfMemory }
+    ensures no_memory { fault_or_memory many_queues 1048577 0 [] ≡ BadCapacity }
+    ensures of_a_store { fault_or_memory many_queues 1048576 0 [] ≡ BadStore }
+    ensures opening { opening_fault many_queues 1048576 ≡ OutOfMemory }
+    ensures opening_caps { opening_fault (record many_queues { queues = 0 }) 1048577 ≡ BadCaps }
+    ensures opening_capacity { opening_fault many_queues 1048577 ≡ BadCapacity }
+{}
+
+/// A device after an answer: Full comes where its history has no room, and then nothing changes.
+pub fn devices_after_answers()
+    ensures full { after_answer (running_at_first many_queues 0) event.Poll (reply.Poll Full)
+        ≡ Some (running_at_first many_queues 0) }
+    ensures not_full { after_answer (running_at_first many_queues 1) event.Poll (reply.Poll Full)
+        ≡ None }
+    ensures no_room { after_answer (running_at_first many_queues 0) event.Poll (reply.Poll Nothing)
+        ≡ None }
+    ensures written { option_map (λ d. d.history)
+        (after_answer (running_at_first many_queues 1)
+        (event.WriteGroup 0 (of_these 64 1)) (reply.Write Written))
+        ≡ Some (step_of_a_group_write 0 (of_these 64 1) Written ∷ []) }
+    ensures group { option_map (λ d. d.state.work.setup.groups)
+        (after_answer (running_at_first many_queues 1)
+        (event.WriteGroup 0 (of_these 64 1)) (reply.Write Written))
+        ≡ Some (of_these 64 1 ∷ zero_group ∷ []) }
+{}
+
+/// Tickets that are held, and ends that a command waits for.
+pub fn entries_awaited()
+    ensures held { map (is_held three_lists)
+        (ticket 2 2 ∷ ticket 7 7 ∷ ticket 2 3 ∷ ticket 3 2 ∷ [])
+        ≡ true ∷ true ∷ false ∷ false ∷ [] }
+    ensures watched { watched_in (with_active DrainAll (holding []).work.setup) (ticket 2 2)
+        ≡ None }
+    ensures of_an_active_command { watched_in (with_content_of three_lists DrainAll) (ticket 2 9)
+        ≡ Some (of_cell 2).1 }
+    ensures of_no_command { watched_in (holding three_lists) (ticket 2 2) ≡ None }
+    ensures ends { map
+        (awaited_end (record {
+          active = Some
+              (record { command = DrainAll; mark = 5 });
+          awaited = 3;
+        })
+        (Some (of_cell 2).1)) (Done 1 ∷ NotReady ∷ Gone ∷ [])
+        ≡ 1 ∷ 0 ∷ 0 ∷ [] }
+    ensures not_counted { map (λ entry. awaited_end
+        (record { active = Some (record { command = DrainAll; mark = 5 }); awaited = 3 }) entry
+        (Done 1))
+        (Some (of_cell 7).1 ∷ None ∷ [])
+        ≡ 0 ∷ 0 ∷ [] }
+{}
+
+/// A device whose history is a legal one within its capacity, and that is its replay.
+pub fn replays()
+    ensures new { IsReplay (running_at_first many_queues 1048576) }
+    ensures caps { ¬ IsReplay (running_at_first (record many_queues { queues = 0 }) 1) }
+    ensures bounded { ¬ IsReplay (running_at_first many_queues 1048577) }
+    ensures within { ¬ IsReplay
+        (with_history (step_of_a_group_write 0 (of_these 64 1) Written ∷ [])
+        (running_at_first many_queues 0)) }
+    ensures legal { ¬ IsReplay
+        (with_history (step_of_a_group_write 9 (of_these 64 1) Written ∷ [])
+        (running_at_first many_queues 1)) }
+    ensures replayed { ¬ IsReplay
+        (record (running_at_first many_queues 1) { state = opening many_engines }) }
+    ensures no_events { IsRunOf (running_at_first many_queues 5) []
+        (step_of_a_group_write 0 (of_these 64 1) Written ∷ [])
+        (step_of_a_group_write 0 (of_these 64 1) Written ∷ [])
+        (running_at_first many_queues 5) }
+    ensures other_capacity { ¬ IsRunOf (running_at_first many_queues 5) [] [] []
+        (running_at_first many_queues 6) }
+    ensures other_caps { ¬ IsRunOf (running_at_first many_queues 5) [] [] []
+        (running_at_first many_engines 5) }
+    ensures steps_lost { ¬ IsRunOf (running_at_first many_queues 5) []
+        (step_of_a_group_write 0 (of_these 64 1) Written ∷ []) [] (running_at_first many_queues 5) }
+{}

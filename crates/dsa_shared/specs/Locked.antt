@@ -1,0 +1,22 @@
+-- What callers know of the device under the lock.
+use Rattle.std.specs.Prelude.{◌≡◌, ◌≤◌, ℕ, List, length, Some}
+use Rattle.dsa_regs.specs.declared.Caps.{Caps}
+use Rattle.dsa_book.specs.declared.{event.{Event.{Event}, Step.{Step}}, answer.Reply.{Reply}}
+use Rattle.dsa_device.specs.Running.{Running, IsReplay, after_answer}
+
+-- a device that the lock may keep: the replay of its history, of these capabilities and this capacity (profile)
+pub record IsUnderLock (caps : Caps) (capacity : ℕ) (d : Running) : Type 0 where
+  pub replay : IsReplay d
+  pub same_caps : d.caps ≡ caps
+  pub same_capacity : d.capacity ≡ capacity
+
+-- what is read of some device that the lock may keep (profile)
+abbrev pub IsReadOf : {T : Type 0} → Caps → ℕ → (Running → T) → T → Type 0
+IsReadOf caps capacity read value = (d : Running) × IsUnderLock caps capacity d × (value ≡ read d)
+
+-- what some device that the lock may keep answers to the event, with as many steps in its history as the receipts
+-- at least: it is not older than what the seat has seen (profile)
+abbrev pub IsAnsweredFor : Caps → ℕ → List Step → Event → Reply → Type 0
+IsAnsweredFor caps capacity receipts event reply =
+    (d t : Running) × IsUnderLock caps capacity d × (length receipts ≤ length d.history)
+    × (after_answer d event reply ≡ Some t)

@@ -1,6 +1,0 @@
-use Rattle.dsa_trace.proofs.held.add_entries.Goals as goal
-use Rattle.std.proofs.Common.{arith}
-use Rattle.std.proofs.lemmas.Grind.{common_steps}
-
-pub loop-pair-preserved : goal.loop-pair-preserved
-loop-pair-preserved = grind (arith, common_steps)

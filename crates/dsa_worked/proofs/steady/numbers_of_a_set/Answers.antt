@@ -1,0 +1,31 @@
+use Rattle.dsa_worked.proofs.steady.numbers_of_a_set.Goals as goal
+use Rattle.std.proofs.Common.{◌≡◌, ◌<◌, ◌≤◌, ℕ, zero, suc, arith, false, lit≤, refl}
+use Rattle.dsa_base.specs.Numbers.{has}
+
+-- below 2 there is none
+first : (k : ℕ) → 1 ≤ k → k < 2 → has 20 k ≡ false
+first zero from low = refl
+first (suc zero) from low = refl
+first (suc (suc k)) from low = absurd (omega (arith, low))
+
+pub returns-clause-next : goal.returns-clause-next
+returns-clause-next c = record { from_there = lit≤ tt; in_the_set = refl; first = first }
+
+pub returns-clause-here : goal.returns-clause-here
+returns-clause-here c = record {
+  from_there = lit≤ tt;
+  in_the_set = refl;
+  first = λ k from low. absurd (omega (arith, from, low));
+}
+
+pub returns-clause-before : goal.returns-clause-before
+returns-clause-before c is = omega (arith, is.from_there)
+
+pub returns-clause-not_there : goal.returns-clause-not_there
+returns-clause-not_there c is = grind (arith, is.in_the_set)
+
+pub returns-clause-not_first : goal.returns-clause-not_first
+returns-clause-not_first c is = grind (arith, is.first 2 (lit≤ tt) (lit≤ tt))
+
+pub returns-clause-one_from : goal.returns-clause-one_from
+returns-clause-one_from c none = grind (arith, none 4 (lit≤ tt))
