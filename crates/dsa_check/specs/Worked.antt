@@ -1,7 +1,8 @@
 -- A document and keys that the worked rows speak of.
 use Rattle.std.specs.Prelude.{ℕ, true, false, List, [], ◌∷◌, map, filter, codes, Option, None, option_map}
-use Rattle.serde_json.specs.Data.{Data}
-use Rattle.dsa_scenario.specs.Worked.{Fields, whole, object_of, array_of_one, some_caps, poll_step}
+use Rattle.serde_json.specs.Data.{Data, null}
+use Rattle.dsa_scenario.specs.Worked.{Fields, whole, object_of, array_of_one, fields_without, changed}
+use Rattle.dsa_scenario.specs.Worked.{some_caps, poll_step, smallest_caps_text, document_text}
 use Rattle.std.specs.declared.{alloc.Global.{Global}, vec.Vec.{Vec}}
 use Rattle.dsa_scenario.specs.declared.faults.ScenarioFault.TheVariants.{BadCapacity}
 use Rattle.dsa_check.specs.declared.{fields.Key.{Key}, finding.{Finding.{Finding}, Reason.{Reason}}}
@@ -34,3 +35,22 @@ key_of_a_step = record { name = record { ref_ptr = (0, 0); now = codes "desc" };
 abbrev pub found_at : Option ℕ → Option ℕ → Vec Reason Global → Finding
 found_at line column reasons =
     record { fault = BadCapacity; place = record { line = line; column = column; kind = None }; reasons = reasons }
+
+-- a document whose device has so many slots
+abbrev pub document_of_slots : ℕ → Data
+document_of_slots n = changed (codes "caps") (changed (codes "slots") (whole n) some_caps) right_document
+
+-- a document whose steps are no object
+abbrev pub document_of_null : Data
+document_of_null = changed (codes "steps") (array_of_one null) right_document
+
+-- a document without steps, whose caps have no slots
+abbrev pub document_without_slots : Data
+document_without_slots =
+    object_of (
+    (codes "caps", object_of (fields_without (codes "slots") some_caps)) ∷
+    (codes "capacity", whole 9) ∷ [])
+
+-- a document of the smallest device, without steps
+abbrev pub right_text : List ℕ
+right_text = document_text smallest_caps_text (codes "9") []

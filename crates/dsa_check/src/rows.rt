@@ -1,25 +1,27 @@
 //! Worked documents: the faults that the definitions find at chosen values, by computation.
 
-ghost use Rattle.std.specs.Prelude.{◌≡◌, ◌++◌, [], ◌∷◌, true, false, Some, None, codes, map, replicate, negsuc, String, string_bytes};
+ghost use Rattle.std.specs.Prelude.{◌≡◌, ◌++◌, ℕ, [], ◌∷◌, true, false, Option, Some, None, codes, map, replicate, negsuc, String, string_bytes};
 ghost use Rattle.std.specs.declared.{alloc.Global.{Global}, vec.Vec.{Vec}};
-ghost use Rattle.serde_json.specs.Data.{null, boolean, string, array, no_items, item};
+ghost use Rattle.serde_json.specs.Data.{Data, depth, null, boolean, string, array, no_items, item};
 ghost use Rattle.dsa_scenario.specs.declared.faults.ScenarioFault.TheVariants.{NotJson, BadDocument, BadStep, BadCaps, BadCapacity, Read};
-ghost use Rattle.dsa_scenario.specs.Worked.{whole, object_of, fields_without, changed, step_of_kind, some_caps, poll_step, queue_step, group_step, enqcmd_step, dispatch_step, start_step, finish_step, command_step, clear_step};
+ghost use Rattle.dsa_scenario.specs.Worked.{whole, object_of, fields_without, changed, step_of_kind, some_caps, poll_step, queue_step, group_step, enqcmd_step, dispatch_step, start_step, finish_step, command_step, clear_step, no_caps_text, document_text};
 ghost use Rattle.dsa_check.specs.declared.fields.Key.{Key};
 ghost use Rattle.dsa_check.specs.declared.fields.Form.TheVariants as form;
 ghost use Rattle.dsa_check.specs.declared.fields.Found.TheVariants as found;
-ghost use Rattle.dsa_check.specs.declared.finding.Reason.{Reason};
+ghost use Rattle.dsa_check.specs.declared.finding.{Finding.{Finding}, Reason.{Reason}};
 ghost use Rattle.dsa_check.specs.declared.finding.Reason.TheVariants.{Missing, Misspelled, Unfit, OddDigits, ManyDigits, NoDigit, NoObject, UnknownKind, NotUtf8, Syntax};
 ghost use Rattle.dsa_check.specs.declared.kinds.StepKind.TheVariants.{Queue, Group, Enqcmd, Movdir, Dispatch, Fetch, Start, Finish, Command, Poll, Clear};
 ghost use Rattle.dsa_check.specs.declared.syntax.Piece.TheVariants.{End, LineBreak, Tab, Control, Character, ByteOrderMark, Told, Text, Number, Word};
 ghost use Rattle.dsa_check.specs.declared.syntax.Syntax.TheVariants.{TooDeep, CommaBefore, Comment, Unwanted};
 ghost use Rattle.dsa_check.specs.declared.syntax.Wanted.TheVariants as wanted;
-ghost use Rattle.dsa_check.specs.Judgement.{faults_of_value, fault_of_head, fault_of_step, caps_faults, capacity_faults};
+ghost use Rattle.dsa_check.specs.Findings.{AreDocumentReasons, IsFindingOf, IsFindingIn, TellsWhy, IsWrongAfter, IsInText, Appends, AppendsAll};
+ghost use Rattle.dsa_check.specs.Judgement.{capacity_at, faults_of_value, fault_of_head, fault_of_step, caps_faults, capacity_faults, AreFaultsOf, IsRight};
+ghost use Rattle.dsa_check.specs.Check.{IsCheckReportOf};
 ghost use Rattle.dsa_check.specs.Lines.{kind_text, key_text, form_text, found_text, wanted_of, piece_text, wanted_text, syntax_text, no_kind_text, reason_text, fault_part_text, place_text, line_of_finding, bare_line};
-ghost use Rattle.dsa_check.specs.Places.{line_after, column_after, IsSpot};
-ghost use Rattle.dsa_check.specs.Reasons.{is_asked, is_between, is_plain, has_caps, is_step, kind_row, found_number, found_of, IsReasonOf, IsKindReason, AreReasonsOf, AreStepReasons};
+ghost use Rattle.dsa_check.specs.Places.{line_after, column_after, IsSpot, BeginJson, IsShallow, AreTextOf, BeginsOnLine};
+ghost use Rattle.dsa_check.specs.Reasons.{is_asked, is_between, is_of_form, is_plain, has_caps, is_step, kind_row, found_number, found_of, IsReasonOf, IsStrayKey, HasStrayKey, IsKindReason, IsNoKind, AreReasonsOf, AreStepReasons};
 ghost use Rattle.dsa_check.specs.Steps.{bits, rows_of_kind, kinds, kind_named, kind_of, document_rows, caps_rows, device_rows, history_rows};
-ghost use Rattle.dsa_check.specs.Worked.{right_document, unfit_keys, unfit_keys_of, key_of_caps, key_of_a_step, found_at};
+ghost use Rattle.dsa_check.specs.Worked.{right_document, unfit_keys, unfit_keys_of, key_of_caps, key_of_a_step, found_at, document_of_slots, document_of_null, document_without_slots, right_text};
 
 /// Each part of a document has its fault; the others are looked at also where one is missing.
 pub fn faults_of_each_part()
@@ -390,8 +392,243 @@ pub fn texts_of_findings()
 /// A place in a text, with its line and its column.
 pub fn places_in_texts()
     ensures last { IsSpot (65 ∷ 10 ∷ 66 ∷ 67 ∷ []) (record { at = 4; line = 2; column = 3 }) }
+    ensures later { IsSpot (65 ∷ 66 ∷ 10 ∷ 67 ∷ []) (record { at = 4; line = 2; column = 2 }) }
     ensures beyond { IsSpot (65 ∷ 10 ∷ 66 ∷ 67 ∷ []) (record { at = 5; line = 2; column = 3 }) → ⊥ }
     ensures line { IsSpot (65 ∷ 10 ∷ 66 ∷ 67 ∷ []) (record { at = 4; line = 1; column = 3 }) → ⊥ }
     ensures column { IsSpot (65 ∷ 10 ∷ 66 ∷ 67 ∷ []) (record { at = 4; line = 2; column = 4 })
         → ⊥ }
+{}
+
+/// What may stand at a key, by its form, and a capacity that the document's field holds.
+pub fn values_of_forms()
+    ensures bounded { map (is_of_form (form.Bounded 9 3 5)) (whole 0 ∷ whole 9 ∷ whole 10 ∷ [])
+        ≡ true ∷ true ∷ false ∷ [] }
+    ensures truth { map (is_of_form form.Truth) (boolean false ∷ null ∷ []) ≡ true ∷ false ∷ [] }
+    ensures text { map (is_of_form form.Text) (string [] ∷ null ∷ []) ≡ true ∷ false ∷ [] }
+    ensures array { map (is_of_form form.Array) (array no_items ∷ object_of [] ∷ [])
+        ≡ true ∷ false ∷ [] }
+    ensures object { map (is_of_form form.Object) (array no_items ∷ object_of [] ∷ [])
+        ≡ false ∷ true ∷ [] }
+    ensures largest { capacity_at
+        (changed (codes "capacity") (whole 18446744073709551615) right_document)
+        ≡ Some 18446744073709551615 }
+    ensures too_large { capacity_at
+        (changed (codes "capacity") (whole 18446744073709551616) right_document)
+        ≡ None }
+{}
+
+/// A key that nobody asks for, and what is told of one.
+pub fn stray_keys()
+    ensures stray { IsStrayKey (object_of ((codes "stop", null) ∷ [])) [] (codes "stop") }
+    ensures outside { IsStrayKey (object_of []) [] (codes "stop") → ⊥ }
+    ensures asked { IsStrayKey (object_of ((codes "do", null) ∷ [])) [] (codes "do") → ⊥ }
+    ensures line_feed { IsStrayKey (object_of ((codes "a\n", null) ∷ [])) [] (codes "a\n") → ⊥ }
+    ensures told { (key : Key) (text : String Global)
+        → HasStrayKey (object_of []) [] (Misspelled key text)
+        → ⊥ }
+    ensures other_reason { (key : Key) → HasStrayKey (object_of []) [] (Missing key) }
+{}
+
+/// Reasons of digits at their bound, and reasons that tell another key.
+pub fn reasons_at_keys()
+    ensures many { (key : Key)
+        → IsReasonOf key form.Digits (Some (string (replicate 129 48))) (ManyDigits key 129) }
+    ensures most { (key : Key)
+        → IsReasonOf key form.Digits (Some (string (replicate 128 48))) (ManyDigits key 128)
+        → ⊥ }
+    ensures more { (key : Key)
+        → IsReasonOf key form.Digits (Some (string (replicate 130 48))) (ManyDigits key 129)
+        → ⊥ }
+    ensures many_at_another { IsReasonOf key_of_caps form.Digits
+        (Some (string (replicate 129 48)))
+        (ManyDigits key_of_a_step 129)
+        → ⊥ }
+    ensures odd_at_another { IsReasonOf key_of_caps form.Digits
+        (Some (string (codes "000")))
+        (OddDigits key_of_a_step 3)
+        → ⊥ }
+    ensures letter_at_another { IsReasonOf key_of_caps form.Digits
+        (Some (string (codes "0g")))
+        (NoDigit key_of_a_step 2)
+        → ⊥ }
+    ensures value_at_another { IsReasonOf key_of_caps (bits 8)
+        (Some (whole 256))
+        (Unfit key_of_a_step (found.Whole 256) (bits 8))
+        → ⊥ }
+    ensures misspelled { (key : Key) (text : String Global)
+        → IsReasonOf key (bits 8) None (Misspelled key text) }
+    ensures misspelled_at_another { (text : String Global)
+        → IsReasonOf key_of_caps (bits 8) None (Misspelled key_of_a_step text)
+        → ⊥ }
+{}
+
+/// Why a part of a document has its fault.
+pub fn reasons_of_parts()
+    ensures document { (finding : Finding)
+        → finding.reasons.items ≡ NoObject found.Null ∷ []
+        → TellsWhy [] null finding BadDocument }
+    ensures untold_document { (finding : Finding)
+        → finding.reasons.items ≡ []
+        → TellsWhy [] null finding BadDocument
+        → ⊥ }
+    ensures caps { (finding : Finding) (key : Key)
+        → key.name.now ≡ codes "slots"
+        → key.in_caps ≡ false
+        → finding.reasons.items ≡ Unfit key (found.Whole 17) (form.Whole 1 16) ∷ []
+        → TellsWhy [] (document_of_slots 17) finding BadCaps }
+    ensures untold_caps { (finding : Finding)
+        → finding.reasons.items ≡ []
+        → TellsWhy [] (document_of_slots 17) finding BadCaps
+        → ⊥ }
+    ensures capacity { (finding : Finding) (key : Key)
+        → key.name.now ≡ codes "capacity"
+        → key.in_caps ≡ false
+        → finding.reasons.items ≡ Unfit key (found.Whole 1048577) (form.Whole 0 1048576) ∷ []
+        → TellsWhy [] (changed (codes "capacity") (whole 1048577) right_document) finding
+        BadCapacity }
+    ensures untold_capacity { (finding : Finding)
+        → finding.reasons.items ≡ []
+        → TellsWhy [] (changed (codes "capacity") (whole 1048577) right_document) finding
+        BadCapacity
+        → ⊥ }
+    ensures step { (finding : Finding)
+        → finding.place.kind ≡ None
+        → finding.place.line ≡ None
+        → finding.reasons.items ≡ NoObject found.Null ∷ []
+        → TellsWhy [] document_of_null finding (BadStep 0) }
+    ensures untold_step { (finding : Finding)
+        → finding.reasons.items ≡ []
+        → TellsWhy [] document_of_null finding (BadStep 0)
+        → ⊥ }
+    ensures no_step { (finding : Finding)
+        → TellsWhy [] document_of_null finding (BadStep 1)
+        → ⊥ }
+    ensures no_fault { (finding : Finding) → TellsWhy [] document_of_null finding NotJson → ⊥ }
+{}
+
+/// What is told of an item of the steps.
+pub fn findings_of_steps()
+    ensures of_the_item { (finding : Finding)
+        → finding.fault ≡ BadStep 0
+        → finding.place.kind ≡ None
+        → finding.place.line ≡ None
+        → finding.reasons.items ≡ NoObject found.Null ∷ []
+        → IsFindingOf [] 0 null finding }
+    ensures of_another { (finding : Finding)
+        → finding.fault ≡ BadStep 1
+        → IsFindingOf [] 0 null finding
+        → ⊥ }
+    ensures of_a_kind { (finding : Finding)
+        → finding.place.kind ≡ Some Poll
+        → IsFindingOf [] 0 null finding
+        → ⊥ }
+    ensures of_one { (finding : Finding)
+        → finding.fault ≡ BadStep 0
+        → finding.place.kind ≡ None
+        → finding.place.line ≡ None
+        → finding.reasons.items ≡ NoObject found.Null ∷ []
+        → IsFindingIn [] (null ∷ []) finding }
+    ensures of_none { (finding : Finding)
+        → finding.fault ≡ BadStep 1
+        → IsFindingIn [] (null ∷ []) finding
+        → ⊥ }
+    ensures of_one_of_a_kind { (finding : Finding)
+        → finding.place.kind ≡ Some Poll
+        → IsFindingIn [] (null ∷ []) finding
+        → ⊥ }
+{}
+
+/// What is wrong with the keys of a document, of its caps and of a step.
+pub fn reasons_of_keys()
+    ensures document { (steps : Key) (slots : Key)
+        → steps.name.now ≡ codes "steps"
+        → steps.in_caps ≡ false
+        → slots.name.now ≡ codes "slots"
+        → slots.in_caps ≡ true
+        → AreDocumentReasons document_without_slots (Missing steps ∷ Missing slots ∷ []) }
+    ensures alone { (reason : Reason)
+        → AreDocumentReasons document_without_slots (reason ∷ [])
+        → ⊥ }
+    ensures step { (key : Key)
+        → key.name.now ≡ codes "word"
+        → key.in_caps ≡ false
+        → AreStepReasons (object_of (step_of_kind (codes "command") [])) (Missing key ∷ []) }
+    ensures step_in_caps { (key : Key)
+        → key.in_caps ≡ true
+        → AreStepReasons (object_of (step_of_kind (codes "command") [])) (Missing key ∷ [])
+        → ⊥ }
+    ensures other_key { (key : Key)
+        → key.name.now ≡ codes "slots"
+        → AreStepReasons (object_of (step_of_kind (codes "command") [])) (Missing key ∷ [])
+        → ⊥ }
+    ensures other_reason { AreStepReasons (object_of (step_of_kind (codes "command") []))
+        (NotUtf8 ∷ [])
+        → ⊥ }
+    ensures no_kind { (key : Key)
+        → key.name.now ≡ codes "do"
+        → key.in_caps ≡ false
+        → AreStepReasons (object_of []) (Missing key ∷ []) }
+    ensures misspelled_kind { (key : Key) (text : String Global)
+        → AreStepReasons (object_of []) (Misspelled key text ∷ [])
+        → ⊥ }
+    ensures names_no_kind { IsNoKind None (codes "poll\n") }
+    ensures names_a_kind { (told : Option (String Global)) → IsNoKind told (codes "poll") → ⊥ }
+{}
+
+/// What a list has got at its end.
+pub fn additions()
+    ensures added { Appends {X = ℕ} (λ more. more ≡ 2 ∷ []) (1 ∷ []) (1 ∷ 2 ∷ []) }
+    ensures another { Appends {X = ℕ} (λ more. more ≡ 2 ∷ []) (1 ∷ []) (1 ∷ 3 ∷ []) → ⊥ }
+    ensures no_front { Appends {X = ℕ} (λ more. more ≡ 2 ∷ []) (1 ∷ []) (2 ∷ []) → ⊥ }
+    ensures each { AppendsAll {X = ℕ} (λ n. n ≡ 2) (1 ∷ []) (1 ∷ 2 ∷ 2 ∷ []) }
+{}
+
+/// Texts of JSON values, what such texts begin with, and the lines where values begin.
+#[tactic(auto, unfolding(serde_json::proofs::OnLiterals::serde_json_on_literals))]
+pub fn texts_of_json()
+    ensures text { AreTextOf (whole 1) (codes "1") }
+    ensures after_a_blank { AreTextOf (whole 1) (codes " 1") → ⊥ }
+    ensures other_value { AreTextOf null (codes "1") → ⊥ }
+    ensures begun { BeginJson (codes "[") }
+    ensures deep { (d : Data) → depth d ≡ 127 → IsShallow d }
+    ensures too_deep { (d : Data) → depth d ≡ 128 → IsShallow d → ⊥ }
+    ensures first_line { BeginsOnLine (codes "1") (whole 1) 1 }
+    ensures no_second_line { (d : Data) → BeginsOnLine (codes "1") d 2 → ⊥ }
+{}
+
+/// What is wrong in a text, and where.
+#[tactic(auto, unfolding(serde_json::proofs::OnLiterals::serde_json_on_literals))]
+pub fn wrong_texts()
+    ensures utf8 { IsWrongAfter (codes "]") NotUtf8 }
+    ensures syntax { IsWrongAfter (codes "[") (Syntax TooDeep) }
+    ensures other_reason { IsWrongAfter [] (NoObject found.Null) → ⊥ }
+    ensures place { (finding : Finding)
+        → finding.place.line ≡ Some 1
+        → finding.place.column ≡ Some 2
+        → finding.reasons.items ≡ NotUtf8 ∷ []
+        → IsInText (codes "1") finding }
+    ensures other_line { (finding : Finding)
+        → finding.place.line ≡ Some 2
+        → IsInText (codes "1") finding
+        → ⊥ }
+    ensures other_column { (finding : Finding)
+        → finding.place.column ≡ Some 3
+        → IsInText (codes "1") finding
+        → ⊥ }
+{}
+
+/// The faults of a text, and a document without one.
+#[tactic(auto, unfolding(serde_json::proofs::OnLiterals::serde_json_on_literals))]
+pub fn faults_of_texts()
+    ensures no_json { AreFaultsOf (codes "{") (NotJson ∷ []) }
+    ensures untold { AreFaultsOf (codes "{") [] → ⊥ }
+    ensures number { AreFaultsOf (codes "1") (BadDocument ∷ []) }
+    ensures json { AreFaultsOf (codes "1") (NotJson ∷ []) → ⊥ }
+    ensures untold_number { AreFaultsOf (codes "1") [] → ⊥ }
+    ensures right { IsRight right_text }
+    ensures no_document { IsRight (codes "{}") → ⊥ }
+    ensures no_device { IsRight (document_text no_caps_text (codes "9") []) → ⊥ }
+    ensures report { IsCheckReportOf right_text None [] }
+    ensures right_with_a_fault { IsCheckReportOf right_text (Some BadCaps) [] → ⊥ }
+    ensures right_with_a_line { IsCheckReportOf right_text None (codes "1") → ⊥ }
 {}

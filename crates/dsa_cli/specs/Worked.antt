@@ -1,9 +1,10 @@
 -- Words, loads and bytes that the worked rows speak of.
-use Rattle.std.specs.Prelude.{ℕ, List, [], ◌∷◌, ◌++◌, replicate, codes, Option, option_map, option_and_then}
+use Rattle.std.specs.Prelude.{ℕ, List, [], ◌∷◌, ◌++◌, replicate, codes, Option, None, option_and_then}
 use Rattle.dsa_book.specs.declared.answer.{Cause.TheVariants.{AtLimit}, Reply.TheVariants.{Submit}}
 use Rattle.dsa_book.specs.declared.answer.SubmitAnswer.TheVariants.{Retry}
 use Rattle.dsa_book.specs.declared.event.Step.{Step}
-use Rattle.clap.specs.{Walk.{Text, one_of}, Simple.{subcommand_of}}
+use Rattle.clap.specs.{Walk.{Row, Text, one_of}, Simple.{subcommand_of}}
+use Rattle.clap.specs.declared.builder.value_parser.Reading.TheVariants.{AsWritten}
 use Rattle.dsa_cli.specs.{declared.options.Workload.{Workload}, CommandLine.{program_app}, Threads.{submission_of}}
 
 -- the bytes of a Move of 4096 bytes
@@ -32,3 +33,8 @@ json_trace = codes "trace" ∷ codes "--json" ∷ []
 -- the text that the option has by these words
 abbrev pub value_in : List Text → Text → Option Text
 value_in words name = option_and_then (λ found. one_of name found.1) (subcommand_of program_app words)
+
+-- the matches of a command that has one option, with this value
+abbrev pub option_row : Text → Text → List Row
+option_row name value =
+    record { id = name; values = value ∷ []; count = None; source = None; reading = AsWritten } ∷ []

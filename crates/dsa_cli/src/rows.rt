@@ -1,6 +1,6 @@
 //! Worked words, loads and totals: what the definitions answer at chosen values, by computation.
 
-ghost use Rattle.std.specs.Prelude.{◌≡◌, ◌⊎◌, ℕ, List, [], ◌∷◌, length, codes, map, Option, Some, None, false};
+ghost use Rattle.std.specs.Prelude.{◌≡◌, ◌≢◌, ◌⊎◌, ◌≤◌, ◌<◌, ◌+◌, ℕ, List, [], ◌∷◌, ◌++◌, All, length, codes, map, replicate, take, vec_len, slice_index_or, ⊤, Option, Some, None, true, false};
 ghost use Rattle.dsa_desc.specs.declared.Outcome.TheVariants.{Success};
 ghost use Rattle.dsa_regs.specs.declared.Command.TheVariants.{EnableDevice, EnableWq};
 ghost use Rattle.dsa_book.specs.declared.answer.Reply.TheVariants as reply;
@@ -8,19 +8,41 @@ ghost use Rattle.dsa_book.specs.declared.answer.WriteAnswer.TheVariants.{Written
 ghost use Rattle.dsa_book.specs.declared.answer.IssueAnswer.TheVariants.{Ended};
 ghost use Rattle.dsa_book.specs.declared.event.Step.{Step};
 ghost use Rattle.dsa_book.specs.declared.event.Event.TheVariants.{Submit, Issue, WriteQueue, WriteGroup};
-ghost use Rattle.dsa_book.specs.declared.event.Kind.TheVariants.{Enqcmd};
-ghost use Rattle.dsa_book.specs.declared.event.Portal.TheVariants.{Limited};
+ghost use Rattle.dsa_book.specs.declared.event.Kind.TheVariants.{Enqcmd, Movdir64b};
+ghost use Rattle.dsa_book.specs.declared.event.Portal.TheVariants.{Limited, Unlimited};
+ghost use Rattle.dsa_book.specs.declared.event.Actor.TheVariants.{Client, Engine, Admin};
+ghost use Rattle.dsa_book.specs.Machine.{is_legal, replay};
+ghost use Rattle.dsa_book.specs.Totals.{steps_of_actor, total_accepted};
+ghost use Rattle.dsa_store.specs.Content.{held_count};
+ghost use Rattle.dsa_shared.specs.declared.settle.Totals.{Totals};
 ghost use Rattle.dsa_shared.specs.Seat.{SeatLog, fresh};
+ghost use Rattle.dsa_shared.specs.Totals.{totals_of};
 ghost use Rattle.dsa_workers.specs.Calls.{steps_done};
+ghost use Rattle.dsa_workers.specs.declared.scripts.{ClientStep.{ClientStep}, Scripts.{Scripts}};
+ghost use Rattle.std.specs.Global.{Vec};
+ghost use Rattle.std.specs.Str.Parse.{IsNumeral};
+ghost use Rattle.clap.specs.Walk.{Row};
+ghost use Rattle.dsa_workers.specs.declared.scripts.WorkerEnd.TheVariants.{HistoryFull};
+ghost use Rattle.dsa_workers.specs.Workers.{receipts_in, RunsClient, RunsEngine};
 ghost use Rattle.dsa_cli.specs.declared.options.Workload.{Workload};
 ghost use Rattle.dsa_cli.specs.declared.options.Asked.TheVariants.{Scenario, Report, Serve, Threads};
 ghost use Rattle.clap.specs.declared.error.kind.ErrorKind.TheVariants.{UnknownArgument, InvalidSubcommand, ValueValidation, DisplayHelp, DisplayVersion};
 ghost use Rattle.dsa_cli.specs.declared.reports.Report.TheVariants.{Check, Explain, Trace, Draw, Conform};
 ghost use Rattle.dsa_trace.specs.declared.form.Trace.TheVariants.{Table, Json};
-ghost use Rattle.dsa_cli.specs.Threads.{AreTotalsOf, HaveWorked, IsInRange, RanAsClient, RanAsEngine, Submits, caps_for, capacity_for, engine_script, group_config, client_move, queue_config, setup_steps, submission_of, threads_fault_line, totals_text};
+ghost use Rattle.dsa_scenario.specs.declared.faults.ScenarioFault.TheVariants.{BadCaps, Read, TooLong, Write, OutOfMemory};
+ghost use Rattle.dsa_scenario.specs.declared.watched.WatchedWriter.{WatchedWriter};
+ghost use Rattle.dsa_scenario.specs.{Scenario.{HasFault}, Watched.{has_refused, is_closed}};
+ghost use Rattle.dsa_check.specs.Check.{IsCheckReportOf};
+ghost use Rattle.dsa_conform.specs.Run.{IsConformance};
+ghost use Rattle.dsa_explain_lines.specs.Run.{IsExplanation};
+ghost use Rattle.dsa_trace.specs.Run.{IsTrace};
+ghost use Rattle.dsa_draw.specs.Drawings.{IsDrawingOf};
+ghost use Rattle.dsa_cli.specs.Reports.{IsReportOf};
+ghost use Rattle.dsa_cli.specs.Endings.{IsFaultTold, IsQuiet, IsStoppedBy, IsUnwritten, IsWriteRefused};
+ghost use Rattle.dsa_cli.specs.Threads.{AreScriptsOf, AreTotalsOf, IsClientScript, HaveWorked, IsInRange, RanAsClient, RanAsEngine, Submits, caps_for, capacity_for, engine_script, group_config, client_move, queue_config, setup_steps, submission_of, threads_fault_line, totals_text};
 ghost use Rattle.dsa_cli.specs.declared.threads.ThreadsFault.TheVariants as fault;
-ghost use Rattle.dsa_cli.specs.CommandLine.{AsksFor, IsMistaken, IsUnderstood, NameNothing, command_in, faults_of_words};
-ghost use Rattle.dsa_cli.specs.Worked.{page_move_bytes, load, threads_with, two_retries, value_in, json_trace};
+ghost use Rattle.dsa_cli.specs.CommandLine.{AreNumbersOf, AsksFor, IsAskedBy, IsMistaken, IsNumberOf, IsReportName, IsUnderstood, NameNothing, command_in, faults_of_words};
+ghost use Rattle.dsa_cli.specs.Worked.{page_move_bytes, load, threads_with, option_row, two_retries, value_in, json_trace};
 
 /// What the words may be: none, or the command `threads` with its options.
 #[tactic(auto, unfolding(clap::proofs::OnLiterals::clap_on_literals))]
@@ -200,6 +222,224 @@ pub fn runs_refused()
         → ¬ HaveWorked (load 3 7 1 1) [] engines admin }
     ensures no_engines { (clients : List SeatLog) (admin : Option (List Step))
         → ¬ HaveWorked (load 3 7 1 1) clients [] admin }
+{}
+
+/// The history of two clients, which submit five times each, and three engines, in seven turns
+/// each.
+pub fn history_of_a_run()
+    ensures legal { (totals : Totals) (run : AreTotalsOf (load 2 3 5 7) totals)
+        → is_legal (caps_for 3) run.history ≡ true }
+    ensures replayed { (totals : Totals) (run : AreTotalsOf (load 2 3 5 7) totals)
+        → replay (caps_for 3) run.history ≡ Some run.last }
+    ensures within { (totals : Totals) (run : AreTotalsOf (load 2 3 5 7) totals)
+        → length run.history ≤ 46 }
+    ensures setup { (totals : Totals) (run : AreTotalsOf (load 2 3 5 7) totals)
+        → steps_of_actor run.history Admin ≡ setup_steps 3 }
+    ensures setup_first { (totals : Totals) (run : AreTotalsOf (load 2 3 5 7) totals)
+        → take 4 run.history ≡ setup_steps 3 }
+    ensures submitted { (totals : Totals) (run : AreTotalsOf (load 2 3 5 7) totals)
+        → (c : ℕ) → c < 2 → All (λ step. step.event ≡ submission_of c)
+        (steps_of_actor run.history (Client c)) }
+    ensures counted { (totals : Totals) (run : AreTotalsOf (load 2 3 5 7) totals)
+        → totals ≡ totals_of run.history (held_count run.last.work.content) }
+    ensures balanced { (totals : Totals) (run : AreTotalsOf (load 2 3 5 7) totals)
+        → totals.accepted + totals.fetched ≡ totals.done + totals.lost + totals.held }
+    ensures accepted { (totals : Totals) (run : AreTotalsOf (load 2 3 5 7) totals)
+        → totals.accepted ≤ 10 }
+    ensures accepted_one { (totals : Totals) (run : AreTotalsOf (load 2 3 5 7) totals)
+        → 1 ≤ totals.accepted }
+    ensures client_runs { (totals : Totals) (run : AreTotalsOf (load 2 3 5 7) totals)
+        → (c : ℕ) → c < 2 → RanAsClient (load 2 3 5 7) c
+        (record { number = c; receipts = steps_of_actor run.history (Client c) }) }
+    ensures engine_runs { (totals : Totals) (run : AreTotalsOf (load 2 3 5 7) totals)
+        → (e : ℕ) → e < 3 → RanAsEngine (load 2 3 5 7) e
+        (record { number = e; receipts = steps_of_actor run.history (Engine e) }) }
+{}
+
+/// What the seats have after such a run, and where there was nobody to run.
+pub fn seats_of_a_run()
+    ensures nobody { HaveWorked (load 0 0 5 7) [] [] (Some (setup_steps 0)) }
+    ensures client_count { (clients engines : List SeatLog) (admin : Option (List Step))
+        → HaveWorked (load 2 3 5 7) clients engines admin → length clients ≡ 2 }
+    ensures engine_count { (clients engines : List SeatLog) (admin : Option (List Step))
+        → HaveWorked (load 2 3 5 7) clients engines admin → length engines ≡ 3 }
+    ensures accepted { (clients engines : List SeatLog) (admin : Option (List Step))
+        → HaveWorked (load 2 3 5 7) clients engines admin
+        → All (λ seat. total_accepted seat.receipts ≤ 5) clients }
+    ensures client_steps { (clients engines : List SeatLog) (admin : Option (List Step))
+        → HaveWorked (load 2 3 5 7) clients engines admin
+        → All (λ seat. length seat.receipts ≤ 7) clients }
+    ensures engine_steps { (clients engines : List SeatLog) (admin : Option (List Step))
+        → HaveWorked (load 2 3 5 7) clients engines admin
+        → All (λ seat. length seat.receipts ≤ 7) engines }
+    ensures numbers { (clients engines : List SeatLog) (admin : Option (List Step))
+        → HaveWorked (load 2 3 5 7) clients engines admin
+        → (c : ℕ) (d : SeatLog) → c < 2 → (slice_index_or clients c d).number ≡ c }
+    ensures submitted { (clients engines : List SeatLog) (admin : Option (List Step))
+        → HaveWorked (load 2 3 5 7) clients engines admin
+        → (c : ℕ) (d : SeatLog) → c < 2
+        → All (λ step. step.event ≡ submission_of c) (slice_index_or clients c d).receipts }
+    ensures setup { (clients engines : List SeatLog) (admin : Option (List Step))
+        → HaveWorked (load 2 3 5 7) clients engines admin
+        → receipts_in admin ≡ setup_steps 3 }
+    ensures client_runs { (clients engines : List SeatLog) (admin : Option (List Step))
+        → HaveWorked (load 2 3 5 7) clients engines admin
+        → (c : ℕ) (d : SeatLog) → c < 2
+        → RanAsClient (load 2 3 5 7) c (slice_index_or clients c d) }
+    ensures engine_runs { (clients engines : List SeatLog) (admin : Option (List Step))
+        → HaveWorked (load 2 3 5 7) clients engines admin
+        → (e : ℕ) (d : SeatLog) → e < 3
+        → RanAsEngine (load 2 3 5 7) e (slice_index_or engines e d) }
+{}
+
+/// What the workers of such a run did: client 4 submits five times under PASID 5.
+pub fn runs_of_workers()
+    ensures script { (seat : SeatLog) (ran : RanAsClient (load 2 3 5 7) 4 seat)
+        → length ran.0 ≡ 5 }
+    ensures moves { (seat : SeatLog) (ran : RanAsClient (load 2 3 5 7) 4 seat)
+        → All (Submits 5) ran.0 }
+    ensures client { (seat : SeatLog) (ran : RanAsClient (load 2 3 5 7) 4 seat)
+        → RunsClient ran.0 7 (fresh 4) seat ran.1 }
+    ensures client_found_room { (seat : SeatLog) (ran : RanAsClient (load 2 3 5 7) 4 seat)
+        → ran.1.ended ≢ HistoryFull }
+    ensures engine { (seat : SeatLog) (ran : RanAsEngine (load 2 3 5 7) 4 seat)
+        → RunsEngine engine_script 7 (fresh 4) seat ran.0 }
+    ensures engine_found_room { (seat : SeatLog) (ran : RanAsEngine (load 2 3 5 7) 4 seat)
+        → ran.0.ended ≢ HistoryFull }
+{}
+
+/// The commands that ask for a report.
+#[tactic(auto, unfolding(clap::proofs::OnLiterals::clap_on_literals))]
+pub fn names_of_reports()
+    ensures check { IsReportName (codes "check") }
+    ensures explain { IsReportName (codes "explain") }
+    ensures trace { IsReportName (codes "trace") }
+    ensures draw { IsReportName (codes "draw") }
+    ensures conform { IsReportName (codes "conform") }
+    ensures serve { ¬ IsReportName (codes "serve") }
+    ensures asks_check { IsAskedBy (codes "check", []) Check }
+    ensures asks_explain { IsAskedBy (codes "explain", []) Explain }
+    ensures asks_draw { IsAskedBy (codes "draw", []) Draw }
+    ensures asks_conform { IsAskedBy (codes "conform", []) Conform }
+    ensures asks_trace { IsAskedBy (codes "trace", option_row (codes "json") (codes "false"))
+        (Trace Table) }
+    ensures asks_json { IsAskedBy (codes "trace", option_row (codes "json") (codes "true"))
+        (Trace Json) }
+    ensures no_table { ¬ IsAskedBy (codes "trace", option_row (codes "json") (codes "true"))
+        (Trace Table) }
+    ensures other_report { ¬ IsAskedBy (codes "draw", option_row (codes "json") (codes "false"))
+        (Trace Table) }
+    ensures other_form { ¬ IsAskedBy (codes "trace", option_row (codes "json") (codes "false"))
+        (Trace Json) }
+{}
+
+/// What the options of `threads` say: numbers between bounds, the bounds among them.
+#[tactic(auto, unfolding(clap::proofs::OnLiterals::clap_on_literals))]
+pub fn numbers_of_options()
+    ensures least { (n : ℕ)
+        → IsNumberOf (option_row (codes "each") (codes "1")) (codes "each") 1_000 n
+        → IsNumeral 10 (codes "1") → n ≡ 1 }
+    ensures most { (n : ℕ)
+        → IsNumberOf (option_row (codes "each") (codes "1000")) (codes "each") 1_000 n
+        → IsNumeral 10 (codes "1000") → n ≡ 1_000 }
+    ensures clients { (rows : List Row) (asked : Workload) → AreNumbersOf rows asked
+        → IsNumberOf rows (codes "clients") 16 asked.clients }
+    ensures engines { (rows : List Row) (asked : Workload) → AreNumbersOf rows asked
+        → IsNumberOf rows (codes "engines") 8 asked.engines }
+    ensures each { (rows : List Row) (asked : Workload) → AreNumbersOf rows asked
+        → IsNumberOf rows (codes "each") 1_000 asked.each }
+    ensures turns { (rows : List Row) (asked : Workload) → AreNumbersOf rows asked
+        → IsNumberOf rows (codes "turns") 40_000 asked.turns }
+{}
+
+/// The scripts of two clients, which submit five times each, and three engines.
+pub fn scripts_of_a_run()
+    ensures count { (scripts : Scripts) → AreScriptsOf (load 2 3 5 7) scripts
+        → vec_len scripts.clients ≡ 2 }
+    ensures clients { (scripts : Scripts) → AreScriptsOf (load 2 3 5 7) scripts
+        → (c : ℕ) (d : Vec ClientStep) → c < 2
+        → IsClientScript (c + 1) 5 (slice_index_or scripts.clients.items c d) }
+    ensures engines { (scripts : Scripts) → AreScriptsOf (load 2 3 5 7) scripts
+        → scripts.engines.items ≡ replicate 3 engine_script }
+    ensures admin { (scripts : Scripts) → AreScriptsOf (load 2 3 5 7) scripts
+        → scripts.admin.items ≡ [] }
+    ensures steps { (script : Vec ClientStep) → IsClientScript 4 5 script
+        → length script.items ≡ 5 }
+    ensures moves { (script : Vec ClientStep) → IsClientScript 4 5 script
+        → All (Submits 4) script.items }
+    ensures other_queue { ¬ Submits 3
+        (record { queue = 1; portal = Limited; kind = Enqcmd 3; bytes = page_move_bytes }) }
+    ensures other_portal { ¬ Submits 3
+        (record { queue = 0; portal = Unlimited; kind = Enqcmd 3; bytes = page_move_bytes }) }
+    ensures other_kind { ¬ Submits 3
+        (record { queue = 0; portal = Limited; kind = Movdir64b; bytes = page_move_bytes }) }
+    ensures other_work { ¬ Submits 3
+        (record { queue = 0; portal = Limited; kind = Enqcmd 3; bytes = replicate 64 0 }) }
+{}
+
+/// What is said of a fault, and of the output, at the end of the program.
+pub fn endings()
+    ensures told { (out : WatchedWriter ℕ) (old new : WatchedWriter (List ℕ))
+        → is_closed out ≡ false → has_refused new ≡ false
+        → IsFaultTold out (λ held. Some held) old new (codes "x")
+        → new.writer.now ≡ old.writer.now ++ codes "x" }
+    ensures nobody_reads { (out : WatchedWriter ℕ) (old new : WatchedWriter (List ℕ))
+        → is_closed out ≡ true → IsFaultTold out (λ held. Some held) old new (codes "x") }
+    ensures not_taken { (out : WatchedWriter ℕ) (old new : WatchedWriter (List ℕ))
+        → has_refused new ≡ true → IsFaultTold out (λ held. Some held) old new (codes "x") }
+    ensures quiet { (out old new : WatchedWriter ℕ) → IsQuiet 0 out old new → new ≡ old }
+    ensures quiet_where_nobody_reads { (out old new : WatchedWriter ℕ)
+        → is_closed out ≡ true → IsQuiet 1 out old new → new ≡ old }
+    ensures not_quiet { (out old new : WatchedWriter ℕ)
+        → is_closed out ≡ false → IsQuiet 1 out old new }
+    ensures mistaken_words { (out old new : WatchedWriter ℕ) → IsQuiet 2 out old new }
+    ensures refused { (out : WatchedWriter ℕ) → IsWriteRefused Write out → has_refused out ≡ true }
+    ensures not_of_writing { (out : WatchedWriter ℕ) → IsWriteRefused OutOfMemory out }
+    ensures no_memory { (writer : WatchedWriter ℕ) → IsUnwritten OutOfMemory writer writer }
+    ensures unwritten { (old new : WatchedWriter ℕ)
+        → has_refused new ≡ true → IsUnwritten Write old new }
+    ensures kept { (old new : WatchedWriter ℕ) → IsUnwritten OutOfMemory old new → new ≡ old }
+    ensures refused_words { (old new : WatchedWriter ℕ)
+        → IsUnwritten Write old new → has_refused new ≡ true }
+    ensures not_of_reading { (old new : WatchedWriter ℕ) → ¬ IsUnwritten Read old new }
+{}
+
+/// What gave rise to a fault, and what the writer holds then.
+pub fn stops()
+    ensures of_the_reader { (had left : Option (List ℕ))
+        → IsStoppedBy TooLong (λ _ _ _ _. ⊥) had left (λ n. Some (n ∷ [])) 3 3
+        → HasFault had left TooLong }
+    ensures kept { (old new : ℕ)
+        → IsStoppedBy OutOfMemory (λ _ _ _ _. ⊥) (Some []) (Some []) (λ n. Some (n ∷ [])) old new
+        → new ≡ old }
+    ensures cut { (old new : ℕ)
+        → IsStoppedBy Write (λ _ _ held holds. holds ≡ held) (Some []) (Some [])
+        (λ n. Some (n ∷ [])) old new
+        → Some (new ∷ []) ≡ Some (old ∷ []) }
+    ensures written { IsStoppedBy Write (λ _ _ _ _. ⊤) (Some []) (Some [])
+        (λ n. Some (n ∷ [])) 3 4 }
+    ensures not_written { IsStoppedBy OutOfMemory (λ _ _ _ _. ⊥) (Some []) (Some [])
+        (λ n. Some (n ∷ [])) 3 3 }
+{}
+
+/// Only of a check, and of a conformance, a fault is told after the report.
+pub fn reports_of_documents()
+    ensures no_explanation { (bytes text : List ℕ)
+        → ¬ IsReportOf Explain bytes (Some BadCaps) text }
+    ensures no_trace { (bytes text : List ℕ)
+        → ¬ IsReportOf (Trace Json) bytes (Some BadCaps) text }
+    ensures no_drawing { (bytes text : List ℕ) → ¬ IsReportOf Draw bytes (Some BadCaps) text }
+    ensures check { (bytes text : List ℕ)
+        → IsReportOf Check bytes (Some BadCaps) text → IsCheckReportOf bytes (Some BadCaps) text }
+    ensures explanation { (bytes text : List ℕ)
+        → IsReportOf Explain bytes None text → IsExplanation bytes text }
+    ensures trace { (bytes text : List ℕ)
+        → IsReportOf (Trace Json) bytes None text → IsTrace Json bytes text }
+    ensures drawing { (bytes text : List ℕ)
+        → IsReportOf Draw bytes None text → IsDrawingOf bytes text }
+    ensures conformance { (bytes text : List ℕ)
+        → IsReportOf Conform bytes (Some BadCaps) text
+        → IsConformance bytes (Some BadCaps) text }
 {}
 
 /// What the words ask for, and which are mistaken.

@@ -2,7 +2,7 @@
 use Rattle.dsa_book.specs.declared.answer.Reply.TheVariants as reply
 use Rattle.dsa_book.specs.declared.event.Event.TheVariants as event
 use Rattle.std.specs.Prelude.{ℕ, Bool, String, false, List, [], ◌∷◌, ◌++◌, map, take, Some, None, codes}
-use Rattle.std.specs.declared.alloc.Global.{Global}
+use Rattle.std.specs.declared.{alloc.Global.{Global}, vec.Vec.{Vec}}
 use Rattle.dsa_book.specs.declared.answer.{Ticket.{Ticket}, DispatchAnswer.TheVariants.{Taken}}
 use Rattle.dsa_book.specs.declared.answer.{SubmitAnswer.{SubmitAnswer, TheVariants.{Accepted}}}
 use Rattle.dsa_book.specs.declared.answer.FinishAnswer.TheVariants.{Done}
@@ -16,7 +16,7 @@ use Rattle.dsa_scenario.specs.declared.actions.Action.{Action, TheVariants.{Ask,
 use Rattle.dsa_scenario.specs.declared.run.Record.{Record, TheVariants.{Stepped, Refused}}
 use Rattle.dsa_scenario.specs.{Steps.{standing}, Worked.{record_ticket, stepped, fill, caps_of_a_run, queue_of_a_run}}
 use Rattle.dsa_scenario.specs.Worked.{group_of_a_run, submission_of_a_run, smallest_caps, smallest_caps_text, document_text}
-use Rattle.dsa_conform.specs.{declared.told.Line.{Line}, Seen.{Seen}}
+use Rattle.dsa_conform.specs.{declared.{told.{Line.{Line}, Told.{Told}}, way.Way.{Way}}, Seen.{Seen}}
 
 -- the text of an answer was seen
 abbrev pub answered : List ℕ → Seen
@@ -126,10 +126,18 @@ after_a_take = standing caps_of_three_queues 9 (records_of_two_queues ++ from_fi
 abbrev pub line_of : Record → String Global → Line
 line_of entry text = record { entry = entry; text = text }
 
+-- what a device allows, and why
+abbrev pub told_allowing : String Global → Vec Record Global → Told
+told_allowing why allowed = record { why = why; allowed = allowed }
+
 -- ---- the smallest device
 
 abbrev pub smallest_device_at_first : Running
 smallest_device_at_first = running_at_first smallest_caps 9
+
+-- it is followed, with this capacity
+abbrev pub way_at_first : ℕ → Vec Ticket Global → Way
+way_at_first capacity tickets = record { device = running_at_first smallest_caps capacity; tickets = tickets }
 
 -- a document on the smallest device, with these steps
 abbrev pub document_of : List ℕ → List ℕ

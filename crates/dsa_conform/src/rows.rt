@@ -1,9 +1,9 @@
 //! Worked answers: which of them show what was seen, and what is told, by computation.
 
-ghost use Rattle.std.specs.Prelude.{◌≡◌, ◌++◌, ◌∷◌, [], Some, None, Ok, Err, String, true, false, map, take, codes, replicate};
+ghost use Rattle.std.specs.Prelude.{List, ◌≡◌, ◌++◌, ◌∷◌, [], Some, None, Ok, Err, String, true, false, map, take, codes, replicate, string_bytes};
 ghost use Rattle.std.specs.declared.vec.Vec.{Vec};
 ghost use Rattle.std.specs.declared.alloc.Global.{Global};
-ghost use Rattle.serde_json.specs.Data.{null, boolean, string};
+ghost use Rattle.serde_json.specs.Data.{Data, null, boolean, string};
 ghost use Rattle.dsa_book.specs.declared.answer.Cause.TheVariants.{AtLimit};
 ghost use Rattle.dsa_book.specs.declared.answer.SubmitAnswer.TheVariants.{Accepted, Retry, Dropped, Full};
 ghost use Rattle.dsa_book.specs.declared.answer.DispatchAnswer.TheVariants.{Taken, Idle};
@@ -25,10 +25,12 @@ ghost use Rattle.dsa_conform.specs.declared.following.Followed.TheVariants.{Show
 ghost use Rattle.dsa_conform.specs.Seen.{seen_of, observation_of, seen_as, shows, zf_of, is_seen, AreShown};
 ghost use Rattle.dsa_conform.specs.Allowed.{IsAllowed, AreAllowed, IsAscending, NoneShows, AreSeenAlike, HasOneAnswer, IsNoDispatch, IsFollowed, offers, queue_taken};
 ghost use Rattle.dsa_conform.specs.Lines.{AreListed, allowed_line, conforms_text, seen_count, seen_line, difference_text};
-ghost use Rattle.dsa_conform.specs.Run.{IsShownRun, IsReason, IsDifference, AreRead, IsUnreadAt, IsConforming, IsDiffering, IsConformance, IsOtherFault};
-ghost use Rattle.dsa_conform.specs.ToldLines.{HasText, IsLinePlaced, IsPlaceOf};
-ghost use Rattle.dsa_conform.specs.Ways.{queue_of_record, queues_taken, AreDevicesAlike, AreNamedEnds, Covers, IsEngineAlike, IsFork, IsNamedEnd, IsOneWay, IsQueueAlike, RunFrom};
-ghost use Rattle.dsa_conform.specs.Worked.{records_of_two_queues, observed_of_two_queues, end_of_second, caps_of_three_queues, answered, flagged, answered_with, nothing_seen, by_enqcmd, by_movdir, observed_of_a_run, record_of_a_take, idle_words, from_first, from_second, from_third, after_some, after_all, after_a_take, line_of, smallest_device_at_first, document_of, poll_with};
+ghost use Rattle.dsa_conform.specs.Run.{IsShownRun, IsReason, IsDifference, AreRead, IsUnreadAt, IsConforming, IsDiffering, IsConformance, IsFollowedTo, IsOtherFault};
+ghost use Rattle.dsa_conform.specs.declared.{told.Told.{Told}, way.Way.{Way}};
+ghost use Rattle.dsa_book.specs.declared.answer.Ticket.{Ticket};
+ghost use Rattle.dsa_conform.specs.ToldLines.{AddsLines, AreLinesTold, HasText, IsLineOf, IsLinePlaced, IsPlaceOf, IsTextTold};
+ghost use Rattle.dsa_conform.specs.Ways.{queue_of_record, queues_taken, AreAdded, AreDevicesAlike, AreFollowed, AreGone, AreGoneOn, AreNamedEnds, AreOn, AreStepped, Covers, IsAdded, IsEngineAlike, IsFollowedOn, IsGone, IsGoneOn, IsOn, IsOneGone, IsReadTo, IsTold, IsWayBy, IsFork, IsNamedEnd, IsOneWay, IsQueueAlike, RunFrom};
+ghost use Rattle.dsa_conform.specs.Worked.{told_allowing, way_at_first, records_of_two_queues, observed_of_two_queues, end_of_second, caps_of_three_queues, answered, flagged, answered_with, nothing_seen, by_enqcmd, by_movdir, observed_of_a_run, record_of_a_take, idle_words, from_first, from_second, from_third, after_some, after_all, after_a_take, line_of, smallest_device_at_first, document_of, poll_with};
 
 /// What a step object says was seen.
 pub fn observations()
@@ -145,6 +147,20 @@ pub fn offered()
         ∷ stepped (event.Dispatch 1) (reply.Dispatch (Taken (record_ticket 5 1) 2))
         ∷ [] }
     ensures no_engine { offers after_all.state.work 2 ≡ [] }
+    ensures more_queues { offers
+        (record after_all.state.work {
+          setup = record after_all.state.work.setup {
+            caps = record caps_of_three_queues {
+              total_size = 1;
+              read_buffers = 1;
+              slots = 1;
+              max_batch_shift = 1;
+              max_xfer_shift = 1;
+            };
+          };
+        })
+        0
+        ≡ from_first ∷ from_second ∷ [] }
     ensures queues { map queue_taken (from_second ∷ Refused BadCommand ∷ by_enqcmd Full ∷ [])
         ≡ 2 ∷ 0 ∷ 0 ∷ [] }
 {}
@@ -481,4 +497,254 @@ pub fn lines_in_order()
         (line_of from_second text ∷ line_of from_first text ∷ []) }
     ensures not_there { (text : String Global)
         → ¬ IsLinePlaced [] (line_of from_first text) [] }
+{}
+
+/// The lines of what devices allow, and the text of them.
+#[tactic(auto, unfolding(dsa_scenario::specs::Worked::digits_on_literals))]
+pub fn told_lines()
+    ensures lower { (text : String Global) → IsPlaceOf (line_of from_first text ∷ []) 1 1 }
+    ensures other_text { (text : String Global)
+        → string_bytes text ≡ codes "a"
+        → ¬ HasText (line_of from_first text ∷ []) (codes "b") }
+    ensures second { (one : String Global)
+        → (other : String Global)
+        → string_bytes one ≡ codes "a"
+        → string_bytes other ≡ codes "b"
+        → IsLinePlaced (line_of from_first one ∷ []) (line_of from_second other)
+        (line_of from_first one ∷ line_of from_second other ∷ []) }
+    ensures not_allowed { (text : String Global)
+        → (why : String Global)
+        → (allowed : Vec Record Global)
+        → allowed.items ≡ from_first ∷ []
+        → ¬ IsLineOf (line_of from_second text) (told_allowing why allowed) }
+    ensures other_line { (text : String Global)
+        → (why : String Global)
+        → (allowed : Vec Record Global)
+        → string_bytes text ≡ codes "allowed: taken 0 from 2\n"
+        → ¬ IsLineOf (line_of from_first text) (told_allowing why allowed) }
+    ensures added { (one : String Global)
+        → (other : String Global)
+        → (why : String Global)
+        → (allowed : Vec Record Global)
+        → allowed.items ≡ from_second ∷ []
+        → string_bytes one ≡ codes "allowed: taken 0 from 0\n"
+        → string_bytes other ≡ codes "allowed: taken 1 from 2\n"
+        → AddsLines (line_of from_first one ∷ [])
+        (line_of from_first one ∷ line_of from_second other ∷ []) (told_allowing why allowed)
+        (from_second ∷ []) }
+    ensures not_told { (text : String Global)
+        → (why : String Global)
+        → (allowed : Vec Record Global)
+        → allowed.items ≡ []
+        → ¬ AddsLines [] (line_of from_first text ∷ []) (told_allowing why allowed) [] }
+    ensures lost { (text : String Global)
+        → (why : String Global)
+        → (allowed : Vec Record Global)
+        → ¬ AddsLines (line_of from_first text ∷ []) [] (told_allowing why allowed) [] }
+    ensures not_added { (why : String Global)
+        → (allowed : Vec Record Global)
+        → ¬ AddsLines [] [] (told_allowing why allowed) (from_first ∷ []) }
+    ensures text { (line : String Global)
+        → (why : String Global)
+        → (allowed : Vec Record Global)
+        → allowed.items ≡ from_first ∷ []
+        → string_bytes line ≡ codes "allowed: taken 0 from 0\n"
+        → IsTextTold 17 (answered (codes "idle")) (told_allowing why allowed ∷ [])
+        (codes "step 17: dispatch e0\nseen: idle\nallowed: taken 0 from 0\n") }
+    ensures no_device { (text : String Global)
+        → ¬ AreLinesTold [] (line_of from_first text ∷ []) }
+    ensures no_such_answer { (text : String Global)
+        → (why : String Global)
+        → (allowed : Vec Record Global)
+        → allowed.items ≡ []
+        → ¬ AreLinesTold (told_allowing why allowed ∷ []) (line_of from_first text ∷ []) }
+    ensures left_out { (why : String Global)
+        → (allowed : Vec Record Global)
+        → allowed.items ≡ from_first ∷ []
+        → ¬ AreLinesTold (told_allowing why allowed ∷ []) [] }
+    ensures no_text { ¬ IsTextTold 0 nothing_seen [] (codes "a") }
+{}
+
+/// Devices that go on, or tell what they allow, and those that come by so added to others.
+#[tactic(auto, unfolding(dsa_scenario::specs::Worked::digits_on_literals))]
+pub fn devices_added()
+    ensures added { (t : Vec Ticket Global)
+        → IsAdded (way_at_first 8 t ∷ []) (way_at_first 9 t)
+        (way_at_first 8 t ∷ way_at_first 9 t ∷ []) }
+    ensures another { (t : Vec Ticket Global)
+        → ¬ IsAdded [] (way_at_first 9 t) (way_at_first 8 t ∷ way_at_first 9 t ∷ []) }
+    ensures lost { (t : Vec Ticket Global)
+        → ¬ IsAdded (way_at_first 8 t ∷ []) (way_at_first 9 t) (way_at_first 9 t ∷ []) }
+    ensures not_added { (t : Vec Ticket Global)
+        → ¬ IsAdded (way_at_first 8 t ∷ []) (way_at_first 9 t) (way_at_first 8 t ∷ []) }
+    ensures not_there { (t : Vec Ticket Global) → ¬ IsAdded [] (way_at_first 9 t) [] }
+    ensures at_first { (t : Vec Ticket Global)
+        → t.items ≡ []
+        → IsWayBy smallest_caps 9 [] 0 [] (way_at_first 9 t) }
+    ensures unread { (t : Vec Ticket Global)
+        → IsWayBy smallest_caps 9 (null ∷ []) 1 [] (way_at_first 9 t) }
+    ensures other_count { (t : Vec Ticket Global)
+        → ¬ IsWayBy smallest_caps 9 [] 1 [] (way_at_first 9 t) }
+    ensures other_queues { (t : Vec Ticket Global)
+        → ¬ IsWayBy smallest_caps 9 [] 0 (0 ∷ []) (way_at_first 9 t) }
+    ensures taken { (steps : List Data)
+        → (a : Way)
+        → (b : Way)
+        → IsWayBy smallest_caps 9 steps 2 (0 ∷ 2 ∷ []) b
+        → AreAdded smallest_caps 9 steps 1 (0 ∷ []) (2 ∷ []) (a ∷ []) (a ∷ b ∷ []) }
+    ensures none_by_it { (a : Way)
+        → ¬ AreAdded smallest_caps 9 [] 0 [] (0 ∷ []) (a ∷ []) (a ∷ []) }
+    ensures none_among { ¬ AreAdded smallest_caps 9 (null ∷ []) 0 [] (0 ∷ []) [] [] }
+    ensures others { (a : Way) → ¬ AreAdded smallest_caps 9 [] 0 [] [] [] (a ∷ []) }
+    ensures all_lost { (a : Way) → ¬ AreAdded smallest_caps 9 [] 0 [] [] (a ∷ []) [] }
+    ensures on { (t : Vec Ticket Global)
+        → IsOn smallest_device_at_first (Ok event.Poll) (answered (codes "nothing"))
+        (way_at_first 9 t) None }
+    ensures not_on { (t : Vec Ticket Global)
+        → ¬ IsOn smallest_device_at_first (Ok event.Poll) nothing_seen (way_at_first 8 t) None }
+    ensures not_asked_for { (a : Way)
+        → (told : Told)
+        → IsFollowedOn smallest_caps 9 [] 1 a (Some told) }
+    ensures not_followed { (a : Way) → ¬ IsFollowedOn smallest_caps 9 [] 1 a None }
+    ensures told { (why : String Global)
+        → (allowed : Vec Record Global)
+        → string_bytes why ≡ codes ": no command is active"
+        → allowed.items ≡ stepped event.Poll (reply.Poll Nothing) ∷ []
+        → IsTold smallest_device_at_first (Ok event.Poll) (answered (codes "active"))
+        (told_allowing why allowed) }
+    ensures other_reason { (why : String Global)
+        → (allowed : Vec Record Global)
+        → string_bytes why ≡ codes ": q1 is empty"
+        → ¬ IsTold smallest_device_at_first (Ok event.Poll) (answered (codes "active"))
+        (told_allowing why allowed) }
+    ensures nothing_told { (why : String Global)
+        → (allowed : Vec Record Global)
+        → allowed.items ≡ []
+        → ¬ IsTold smallest_device_at_first (Ok event.Poll) (answered (codes "active"))
+        (told_allowing why allowed) }
+    ensures was_seen { (why : String Global)
+        → (allowed : Vec Record Global)
+        → ¬ IsTold smallest_device_at_first (Ok event.Poll) (answered (codes "nothing"))
+        (told_allowing why allowed) }
+{}
+
+/// What becomes of a device in a step: it goes on, or it tells what it allows.
+#[tactic(auto, unfolding(dsa_scenario::specs::Worked::digits_on_literals))]
+pub fn devices_gone()
+    ensures on { (t : Vec Ticket Global)
+        → (a : Way)
+        → (told : Told)
+        → IsFollowedTo smallest_caps 9
+        ((Refuse BadCommand, nothing_seen)
+        ∷ (Ask event.Poll, answered (codes "nothing"))
+        ∷ [])
+        2 smallest_device_at_first t.items
+        → IsGone smallest_caps 9 ((Refuse BadCommand, nothing_seen) ∷ [])
+        (Ask event.Poll, answered (codes "nothing")) 1
+        smallest_device_at_first (Ok event.Poll) (a ∷ []) (told ∷ [])
+        (a ∷ way_at_first 9 t ∷ []) (told ∷ []) }
+    ensures told { (a : Way)
+        → (one : Told)
+        → (other : Told)
+        → IsTold smallest_device_at_first (Ok event.Poll) (answered (codes "active")) other
+        → IsGone smallest_caps 9 [] (Ask event.Poll, answered (codes "active")) 0
+        smallest_device_at_first (Ok event.Poll) (a ∷ []) (one ∷ []) (a ∷ []) (one ∷ other ∷ []) }
+    ensures others { (a : Way)
+        → ¬ IsGone smallest_caps 9 [] (Ask event.Poll, nothing_seen) 1
+        smallest_device_at_first (Ok event.Poll) [] [] (a ∷ []) [] }
+    ensures lost { (a : Way)
+        → ¬ IsGone smallest_caps 9 [] (Ask event.Poll, nothing_seen) 0
+        smallest_device_at_first (Ok event.Poll) (a ∷ []) [] [] [] }
+    ensures not_told { (told : Told)
+        → ¬ IsGone smallest_caps 9 [] (Ask event.Poll, nothing_seen) 0
+        smallest_device_at_first (Ok event.Poll) [] [] [] (told ∷ []) }
+    ensures forgotten { (told : Told)
+        → ¬ IsGone smallest_caps 9 [] (Ask event.Poll, nothing_seen) 0
+        smallest_device_at_first (Ok event.Poll) [] (told ∷ []) [] [] }
+    ensures uncovered { (t : Vec Ticket Global)
+        → ¬ IsGone smallest_caps 9 [] (Ask event.Poll, nothing_seen) 0
+        smallest_device_at_first (Ok event.Poll) (way_at_first 8 t ∷ []) []
+        (way_at_first 8 t ∷ []) [] }
+    ensures neither { ¬ IsGone smallest_caps 9 [] (Ask event.Poll, answered (codes "active")) 0
+        smallest_device_at_first (Ok event.Poll) [] [] [] [] }
+    ensures unread { (way : Way)
+        → IsGoneOn smallest_caps 9 (null ∷ []) (Ask event.Poll, nothing_seen) 0 way [] [] [] [] }
+    ensures one_on { (t : Vec Ticket Global)
+        → IsOneGone smallest_device_at_first (Ok event.Poll) (answered (codes "nothing"))
+        (way_at_first 9 t ∷ []) [] }
+    ensures one_told { (told : Told)
+        → IsTold smallest_device_at_first (Ok event.Poll) (answered (codes "active")) told
+        → IsOneGone smallest_device_at_first (Ok event.Poll) (answered (codes "active")) []
+        (told ∷ []) }
+    ensures one_uncovered { (t : Vec Ticket Global)
+        → ¬ IsOneGone smallest_device_at_first (Ok event.Poll) nothing_seen
+        (way_at_first 8 t ∷ []) [] }
+    ensures one_neither { ¬ IsOneGone smallest_device_at_first (Ok event.Poll)
+        (answered (codes "active")) [] [] }
+    ensures all_on { (t : Vec Ticket Global)
+        → IsFollowedTo smallest_caps 9 ((Refuse BadCommand, nothing_seen) ∷ []) 1
+        smallest_device_at_first t.items
+        → IsFollowedTo smallest_caps 9
+        ((Refuse BadCommand, nothing_seen)
+        ∷ (Ask event.Poll, answered (codes "nothing"))
+        ∷ [])
+        2 smallest_device_at_first t.items
+        → AreGone smallest_caps 9 ((Refuse BadCommand, nothing_seen) ∷ [])
+        (Ask event.Poll, answered (codes "nothing")) 1 (way_at_first 9 t ∷ [])
+        (way_at_first 9 t ∷ []) [] }
+    ensures all_told { (t : Vec Ticket Global)
+        → (told : Told)
+        → IsFollowedTo smallest_caps 9 [] 0 smallest_device_at_first t.items
+        → IsTold smallest_device_at_first (Ok event.Poll) (answered (codes "active")) told
+        → AreGone smallest_caps 9 [] (Ask event.Poll, answered (codes "active")) 0
+        (way_at_first 9 t ∷ []) [] (told ∷ []) }
+    ensures other_way { (a : Way)
+        → ¬ AreGone smallest_caps 9 [] (Ask event.Poll, nothing_seen) 1 [] (a ∷ []) [] }
+    ensures told_of_none { (told : Told)
+        → ¬ AreGone smallest_caps 9 [] (Ask event.Poll, nothing_seen) 0 [] [] (told ∷ []) }
+    ensures not_come { (a : Way)
+        → ¬ AreGone smallest_caps 9 [] (Ask event.Poll, nothing_seen) 1 (a ∷ []) [] [] }
+    ensures none_read { AreGoneOn smallest_caps 9 (null ∷ []) (Ask event.Poll, nothing_seen)
+        0 [] [] [] }
+    ensures none_followed { (t : Vec Ticket Global)
+        → AreGoneOn smallest_caps 9 (object_of poll_step ∷ []) (Ask event.Poll, nothing_seen) 0
+        (way_at_first 8 t ∷ []) [] [] }
+{}
+
+/// Devices that may be the one that was seen, and the step that they come to.
+pub fn devices_followed()
+    ensures not_followed { (a : Way) → ¬ AreFollowed smallest_caps 9 [] 1 (a ∷ []) }
+    ensures none { ¬ AreFollowed smallest_caps 9 [] 0 [] }
+    ensures first { (t : Vec Ticket Global)
+        → IsFollowedTo smallest_caps 9 [] 0 smallest_device_at_first t.items
+        → AreFollowed smallest_caps 9 [] 0 (way_at_first 9 t ∷ []) }
+    ensures elsewhere { (t : Vec Ticket Global)
+        → ¬ AreFollowed smallest_caps 9 [] 0 (way_at_first 8 t ∷ []) }
+    ensures second { (a : Way)
+        → AreFollowed smallest_caps 9
+        ((Refuse BadCommand, nothing_seen) ∷ (Ask event.Poll, nothing_seen) ∷ []) 2 (a ∷ [])
+        → AreStepped smallest_caps 9 ((Refuse BadCommand, nothing_seen) ∷ [])
+        (Ask event.Poll, nothing_seen) 1
+        (a ∷ []) None }
+    ensures unread { AreOn smallest_caps 9 (null ∷ []) (Ask event.Poll, nothing_seen) 0 [] [] None }
+    ensures not_before { AreOn smallest_caps 9 (object_of poll_step ∷ [])
+        (Ask event.Poll, nothing_seen) 0 []
+        [] None }
+    ensures read { IsReadTo (object_of poll_step ∷ object_of poll_step ∷ [])
+        ((Ask event.Poll, nothing_seen) ∷ (Ask event.Poll, nothing_seen) ∷ [])
+        1 (Ask event.Poll, nothing_seen) }
+    ensures not_read { ¬ IsReadTo (null ∷ [])
+        ((Ask event.Poll, nothing_seen) ∷ []) 0 (Ask event.Poll, nothing_seen) }
+    ensures past_the_end { ¬ IsReadTo (object_of poll_step ∷ [])
+        ((Ask event.Poll, nothing_seen) ∷ []) 1 (Ask event.Poll, nothing_seen) }
+    ensures by_ticket { (steps : List Data)
+        → ¬ IsReadTo steps
+        ((Ask (event.Finish 0 (record_ticket 3 0) Success), nothing_seen) ∷ []) 0
+        (Ask (event.Finish 0 (record_ticket 3 0) Success), nothing_seen) }
+    ensures before_by_ticket { (steps : List Data)
+        → ¬ IsReadTo steps
+        ((Ask (event.Finish 0 (record_ticket 3 0) Success), nothing_seen)
+        ∷ (Ask event.Poll, nothing_seen)
+        ∷ [])
+        1 (Ask event.Poll, nothing_seen) }
 {}

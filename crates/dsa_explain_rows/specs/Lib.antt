@@ -7,3 +7,5 @@ pub mod Checks
 pub mod Sentences
 pub mod Parts
 pub mod Lines
+pub mod Tables
+pub mod Effects

@@ -1,5 +1,5 @@
-//! Worked rows of the reasons and of the sentences that tell them, of answers that are alike, and
-//! of devices.
+//! Worked rows of the reasons and of the sentences that tell them, of answers that are alike, of
+//! devices, and of what a step may do.
 #![tactic(auto)]
 
 pub mod alike;
@@ -7,10 +7,12 @@ pub mod checks;
 pub mod commands;
 pub mod devices;
 pub mod dispatch;
+pub mod effects;
 pub mod faults;
 pub mod lines;
 pub mod members;
 pub mod parts;
 pub mod sentences;
 pub mod submissions;
+pub mod tables;
 pub mod uneven;

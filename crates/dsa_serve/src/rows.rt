@@ -1,9 +1,11 @@
 //! Worked lines and answers: what the definitions say at chosen values, by computation.
 
-ghost use Rattle.std.specs.Prelude.{◌≡◌, ℕ, Some, List, [], ◌∷◌, ◌++◌, ◌+◌, Bool, true, false, length, codes};
+ghost use Rattle.std.specs.Prelude.{◌≡◌, ℕ, Option, Some, List, [], ◌∷◌, ◌++◌, ◌+◌, Bool, true, false, length, min, codes};
 ghost use Rattle.dsa_regs.specs.declared.Fault.TheVariants.{BadCommand};
 ghost use Rattle.dsa_book.specs.declared.event.Event.TheVariants.{Poll};
 ghost use Rattle.dsa_book.specs.State.{State, opening};
+ghost use Rattle.dsa_book.specs.declared.answer.Ticket.{Ticket};
+ghost use Rattle.dsa_device.specs.Running.{Running, running_at_first};
 ghost use Rattle.dsa_scenario.specs.declared.actions.Action.TheVariants.{Ask, Refuse};
 ghost use Rattle.dsa_scenario.specs.declared.faults.ScenarioFault.{ScenarioFault};
 ghost use Rattle.dsa_scenario.specs.declared.faults.ScenarioFault.TheVariants as late;
@@ -11,12 +13,13 @@ ghost use Rattle.dsa_scenario.specs.Document.{IsNoJson};
 ghost use Rattle.dsa_scenario.specs.Lines.{line_of_text};
 ghost use Rattle.dsa_scenario.specs.Steps.{visits};
 ghost use Rattle.dsa_scenario.specs.Worked.{object_of, poll_step, step_of_kind, whole, smallest_caps, smallest_caps_text, no_caps_text, document_text};
+ghost use Rattle.dsa_serve.specs.declared.dialogue.Dialogue.{Dialogue};
 ghost use Rattle.dsa_serve.specs.declared.requests.LineFault.TheVariants.{NotJson, NoStep, TooLong};
 ghost use Rattle.dsa_serve.specs.declared.requests.Request.TheVariants.{Step, Explain, Fault};
 ghost use Rattle.dsa_serve.specs.Requests.{request_of, actions_of, IsRead, Asks, AreAsked};
 ghost use Rattle.dsa_serve.specs.Answers.{answers, line_fault_text, AreRequestsAnswered};
 ghost use Rattle.dsa_serve.specs.Input.{IsLine, AreLines, with_rest, IsFront, HasFirst};
-ghost use Rattle.dsa_serve.specs.Dialogue.{IsLate, IsDialogue, IsDialogueEnded, AnswersWhole, AnswersAll, AnswersSoFar, IsStopped};
+ghost use Rattle.dsa_serve.specs.Dialogue.{from_document, IsLate, IsDialogue, IsDialogueEnded, AnswersWhole, AnswersAll, AnswersSoFar, AnswersOnlyLine, IsServing, IsInCourse, IsStopped};
 ghost use Rattle.dsa_serve.specs.Worked.{explain_around, requests_of_a_dialogue, records_of_a_dialogue, lines_of_a_dialogue, poll_line, explained_poll_line, first_line};
 
 /// A step object asks its step, and `explain` around one its explanation. Nothing else asks
@@ -212,4 +215,64 @@ pub fn late_faults()
     ensures write { IsLate late.Write }
     ensures memory { IsLate late.OutOfMemory }
     ensures caps { ¬ IsLate late.BadCaps }
+{}
+
+/// A session in its course: what it has read and answered, and what it keeps of the rest of a line.
+#[tactic(auto, unfolding(serde_json::proofs::OnLiterals::serde_json_on_literals, dsa_scenario::specs::Worked::digits_on_literals))]
+pub fn courses()
+    ensures steps_and_lines { from_document (Refuse BadCommand ∷ Ask Poll ∷ []) (Fault NotJson ∷ [])
+        ≡ Step (Refuse BadCommand) ∷ Step (Ask Poll) ∷ Fault NotJson ∷ [] }
+    ensures opened { IsServing (first_line []) [] [] 0 (running_at_first smallest_caps 9) [] [] }
+    ensures no_document { (output : List ℕ) (number : ℕ) (now : Running) (tickets : List Ticket)
+        (kept : List ℕ)
+        → ¬ IsServing (codes "{}") [] output number now tickets kept }
+    ensures bad_caps { (output : List ℕ) (number : ℕ) (now : Running) (tickets : List Ticket)
+        (kept : List ℕ)
+        → ¬ IsServing (document_text no_caps_text (codes "9") []) [] output number now tickets
+        kept }
+    ensures answered_too_early { (output : List ℕ) (number : ℕ) (now : Running)
+        (tickets : List Ticket) (kept : List ℕ)
+        → IsServing (first_line []) [] output number now tickets kept
+        → output ≡ [] }
+    ensures line_without_its_answer { (number : ℕ) (now : Running) (tickets : List Ticket)
+        (kept : List ℕ)
+        → ¬ IsServing (first_line []) (codes "\n") [] number now tickets kept }
+    ensures kept { (behind : List ℕ) (output : List ℕ) (number : ℕ) (now : Running)
+        (tickets : List Ticket) (kept : List ℕ)
+        → IsLine behind
+        → IsServing (first_line []) behind output number now tickets kept
+        → length kept ≡ min 1_048_577 (length behind) }
+    ensures begun { (dialogue : Dialogue ℕ)
+        → dialogue.session.number ≡ 0
+        → dialogue.session.device ≡ running_at_first smallest_caps 9
+        → dialogue.session.tickets.items ≡ []
+        → dialogue.kept.items ≡ []
+        → IsInCourse false (Some (line_of_text (first_line []))) (Some []) (Some []) (Some [])
+        dialogue }
+    ensures begun_with_no_document { (dialogue : Dialogue ℕ) (held : Option (List ℕ))
+        (holds : Option (List ℕ))
+        → ¬ IsInCourse true (Some (codes "{}")) (Some []) held holds dialogue }
+    ensures line_feed_in_the_first { (dialogue : Dialogue ℕ) (held : Option (List ℕ))
+        (holds : Option (List ℕ))
+        → ¬ IsInCourse true (Some (line_of_text (first_line []))) (Some []) held holds dialogue }
+    ensures too_long_first { (first : List ℕ) (dialogue : Dialogue ℕ) (held : Option (List ℕ))
+        (holds : Option (List ℕ))
+        → length first ≡ 1_048_577
+        → ¬ IsInCourse true (Some first) (Some []) held holds dialogue }
+    ensures written_too_early { (dialogue : Dialogue ℕ)
+        → ¬ IsInCourse true (Some (first_line [])) (Some []) (Some []) (Some (codes "1"))
+        dialogue }
+{}
+
+/// What is answered before a line feed, at it, and at the end of input.
+#[tactic(auto, unfolding(serde_json::proofs::OnLiterals::serde_json_on_literals, dsa_scenario::specs::Worked::digits_on_literals))]
+pub fn answers_so_far()
+    ensures longest { (input : List ℕ)
+        → IsLine input
+        → length input ≡ 1_048_576
+        → AnswersSoFar input [] }
+    ensures whole_line { (output : List ℕ) → ¬ AnswersSoFar (codes "1\n") output }
+    ensures only_line { AnswersOnlyLine (Some []) (first_line []) [] }
+    ensures more_to_read { (input : List ℕ) (output : List ℕ)
+        → ¬ AnswersOnlyLine (Some (codes "1")) input output }
 {}

@@ -1,5 +1,6 @@
 """Computes definitions, so that a mutant is tried at once. What it says is a guess: the checker decides."""
 
+import re
 import sys
 
 from definitions import Node, names_used, term_of
@@ -145,6 +146,17 @@ def in_signs(z):
     return in_digits(10, False, z.arguments[0]) if z.name == "pos" else [45] + in_digits(10, False, z.arguments[0] + 1)
 
 
+def text_of_option(name, rows):
+    """The first value of the first option of this name."""
+    place = first_place(lambda row: row["id"] == name, rows)
+    return some(rows[place]["values"][0]) if place < len(rows) and rows[place]["values"] else NONE
+
+
+def appends(old, new, more):
+    """Whether known bytes grew by these."""
+    return old.name == "None" or new.name == "Some" and new.arguments[0] == old.arguments[0] + more
+
+
 def passes_all(test, xs, ys):
     return len(xs) == len(ys) and all(test(x)(y) for x, y in zip(xs, ys))
 
@@ -183,6 +195,7 @@ LIBRARY = {
     "IsSomeAnd": (2, lambda x, f: x.name == "Some" and f(x.arguments[0])),
     "IfSome": (2, lambda x, f: x.name == "None" or f(x.arguments[0])),
     "MatchOption": (3, lambda x, none, f: f(x.arguments[0]) if x.name == "Some" else none),
+    "one_of": (2, text_of_option), "Appends": (3, appends),
     "All": (2, lambda f, xs: all(f(x) for x in xs)), "AllZip": (3, passes_all),
     "zip": (2, lambda xs, ys: [(x, y) for x, y in zip(xs, ys)]), "digit_glyph": (2, lambda u, d: in_digits(16, u, d)[0]),
 }
@@ -193,6 +206,8 @@ SOME_OF = {
     "String": [Made("String", ([],)), Made("String", ([97, 126],))],
     "Key": [{"name": {"now": [97]}, "in_caps": it} for it in (False, True)],
     "Vec": [{"items": []}],
+    "WatchedWriter": [{"writer": {"now": [n]}, "refused": r, "closed": c} for n in (0, 1) for r in (0, 1) for c in (0, 1)],
+    "Cell": [{"0": it} for it in range(40)],
 }
 # The constructors of JSON values and of whole numbers.
 MADE = {
@@ -337,15 +352,88 @@ class Defined:
 
 
     def holds(self, writer):
-        """Of a record whose fields say something: whether all of it holds."""
+        """Of a record whose fields say something: whether all of it holds, of some values where fields are values."""
         names = [f"a{i}" for i in range(self.arity)]
         local = dict(zip(self.definition.parameters, names))
-        parts = [writer.term(node, local) for _, node, *_ in self.definition.fields]
+        parts, given = [], f"({''.join(it + ', ' for it in names)})"
+        for label, node, *_ in self.definition.fields:
+            if is_type(node):
+                local[label] = f"v{len(local)}"
+                parts.append((local[label], f"some_of({node.value!r}, {given})"))
+            else:
+                parts.append((None, writer.term(node, local)))
         space = {
             "Stuck": Stuck, "Made": Made, "C": self.computer, "L": LIBRARY, "V": VALUES, "curried": curried,
-            "applied": applied, "same": same, "field": field_of, "then": then, "SOME_OF": SOME_OF,
+            "applied": applied, "same": same, "field": field_of, "then": then, "SOME_OF": SOME_OF, "some_of": some_of,
         }
-        return eval(f"lambda {', '.join(names)}: {' and '.join(parts) or 'True'}", space)
+        return eval(f"lambda {', '.join(names)}: {self.tested(parts)}", space)
+
+    def tested(self, parts):
+        """Each test as soon as its values are there."""
+        values = [it for it in parts if it[0]]
+        tests = [code for name, code in parts if not name]
+        if not values:
+            return " and ".join(tests) or "True"
+        clauses, seen = [], set()
+        for name, code in [(None, None), *values]:
+            seen.add(name)
+            if name:
+                clauses.append(f"for {name} in {code}")
+            for test in [it for it in tests if set(re.findall(r"\bv\d+\b", it)) <= seen]:
+                clauses.append(f"if {test}" if name else f"for _ in ([0] if {test} else [])")
+                tests.remove(test)
+        return f"any(True {' '.join(clauses)})"
+
+
+# The constructors of types of which a record has a value, and what those with an argument take.
+CHOICES = {
+    "Portal": ("Limited", "Unlimited"), "Outcome": ("Success", "PageFault"), "Cause": ("NotEnabled", "WrongKind", "AtLimit"),
+    "Kind": ("Movdir64b", "Enqcmd"),
+    "Command": (
+        "EnableDevice", "DisableDevice", "DrainAll", "AbortAll", "ResetDevice", "EnableWq", "DisableWq", "DrainWq", "AbortWq",
+        "ResetWq", "DrainPasid", "AbortPasid",
+    ),
+}
+NUMBERS = range(8)
+TAKEN = {it: NUMBERS for it in ("Enqcmd", "EnableWq", "DrainPasid", "AbortPasid")}
+TAKEN |= {f"{it}Wq": [{"group": 0, "mask": mask} for mask in NUMBERS] for it in ("Disable", "Drain", "Abort", "Reset")}
+# A field of the records of a type, by which its values are known.
+MARKS = {
+    "Descriptor": "op", "QueueConfig": "priority", "GroupConfig": "reserved", "BatchNote": "fetched", "NotedError": "overflow",
+}
+
+
+def is_type(node):
+    """Whether a field has a value, and says nothing."""
+    return node.kind == "name" and node.value not in VALUES
+
+
+def inside(x):
+    """What a value has in it, with itself."""
+    yield x
+    for it in x.values() if isinstance(x, dict) else x if isinstance(x, (list, tuple)) else getattr(x, "arguments", ()):
+        yield from inside(it)
+
+
+def some_of(kind, arguments):
+    """Values of a type, of which one is to be found: small numbers, each constructor, and what the arguments hold."""
+    if kind == "ℕ":
+        return range(12)
+    if kind in SOME_OF:
+        return SOME_OF[kind]
+    if kind in CHOICES:
+        return [Made(it, some) for it in CHOICES[kind] for some in [(n,) for n in TAKEN.get(it, ())] or [()]]
+    if kind == "ActiveCommand":
+        return [{"command": command, "mark": mark} for command in some_of("Command", ()) for mark in range(12)]
+    everything = list(inside(arguments))
+    pairs = [it for it in everything if isinstance(it, tuple) and len(it) == 2 and isinstance(it[1], dict) and "running" in it[1]]
+    if kind == "HeldEntry":
+        return pairs
+    if kind == "Ticket":
+        return [{"cell": cell, "name": entry["name"]} for cell, entry in pairs]
+    if kind in MARKS:
+        return [it for it in everything if isinstance(it, dict) and MARKS[kind] in it]
+    raise Stuck(f"some {kind}")
 
 
 def field_of(x, name):
@@ -483,15 +571,25 @@ class Writer:
         """Of all numbers: those up to a bound that no row comes to; of all values of another type, some."""
         names, _ = node.value
         head = node.parts[0].parts[0] if node.parts[0].kind == "apply" else node.parts[0]
-        if head.kind != "name" or head.value not in ("ℕ", *SOME_OF):
-            raise Stuck("all values of a type")
-        values = f"range({MANY})" if head.value == "ℕ" else f"SOME_OF[{head.value!r}]"
-        inner = dict(local)
+        inner, loops = dict(local), []
         for it in names:
             self.count += 1
+            if head.kind == "name" and head.value in ("ℕ", *SOME_OF):
+                values = f"range({MANY})" if head.value == "ℕ" else f"SOME_OF[{head.value!r}]"
+            else:
+                values = self.term(self.list_of(it, node.parts[1]), inner)
             inner[it] = f"x{self.count}"
-        loops = " ".join(f"for {inner[it]} in {values}" for it in names)
-        return f"all({self.term(node.parts[1], inner)} {loops})"
+            loops.append(f"for {inner[it]} in {values}")
+        return f"all({self.term(node.parts[1], inner)} {' '.join(loops)})"
+
+    def list_of(self, name, node):
+        """The list that this value is said to be in, before an arrow."""
+        while node.kind in ("binder", "operator") and (node.kind == "binder" or node.value[0] == "→"):
+            first = node.parts[0]
+            if first.kind == "apply" and [it.value for it in first.parts[:2]] == ["In", name]:
+                return first.parts[2]
+            node = node.parts[1]
+        raise Stuck("all values of a type")
 
     def of_name(self, node, local):
         return self.called(node.value, [], local)

@@ -4,6 +4,9 @@ use Rattle.std.proofs.Common.{arith, lit≤, refl}
 pub returns-clause-last : goal.returns-clause-last
 returns-clause-last c = record { inside = lit≤ tt; line = refl; column = refl }
 
+pub returns-clause-later : goal.returns-clause-later
+returns-clause-later c = record { inside = lit≤ tt; line = refl; column = refl }
+
 pub returns-clause-beyond : goal.returns-clause-beyond
 returns-clause-beyond c is = omega (arith, is.inside)
 

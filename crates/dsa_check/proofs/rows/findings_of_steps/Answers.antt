@@ -1,0 +1,41 @@
+use Rattle.dsa_check.proofs.rows.findings_of_steps.Goals as goal
+use Rattle.std.proofs.Common.{◌≡◌, ℕ, [], ◌∷◌, zero, suc, refl}
+use Rattle.std.specs.Prelude.{slice_get, IsSomeAnd, None}
+use Rattle.serde_json.specs.Data.{null}
+use Rattle.dsa_check.specs.declared.finding.Finding.{Finding}
+use Rattle.dsa_check.specs.Findings.{TellsStep}
+
+pub returns-clause-of_the_item : goal.returns-clause-of_the_item
+returns-clause-of_the_item c finding fault kind line told =
+    (fault, record { kind = kind; reasons = told; line = rw line tt })
+
+pub returns-clause-of_another : goal.returns-clause-of_another
+returns-clause-of_another c finding fault is =
+    let other = is.0 in
+    absurd cc
+
+pub returns-clause-of_a_kind : goal.returns-clause-of_a_kind
+returns-clause-of_a_kind c finding kind is =
+    let none = is.1.kind in
+    absurd cc
+
+pub returns-clause-of_one : goal.returns-clause-of_one
+returns-clause-of_one c finding fault kind line told =
+    (0, fault, record { kind = kind; reasons = told; line = rw line tt })
+
+-- the one item is the first, and of no kind
+first : (i : ℕ) (finding : Finding) → IsSomeAnd (slice_get (null ∷ []) i) (TellsStep [] finding)
+    → (i ≡ 0) × (finding.place.kind ≡ None)
+first zero finding tells = (refl, tells.kind)
+first (suc i) finding tells = absurd tells
+
+pub returns-clause-of_none : goal.returns-clause-of_none
+returns-clause-of_none c finding fault is =
+    let zeroth = (first is.0 finding is.2).0 in
+    let other = is.1 in
+    absurd cc
+
+pub returns-clause-of_one_of_a_kind : goal.returns-clause-of_one_of_a_kind
+returns-clause-of_one_of_a_kind c finding kind is =
+    let none = (first is.0 finding is.2).1 in
+    absurd cc

@@ -1,0 +1,66 @@
+use Rattle.dsa_cli.proofs.rows.names_of_reports.Goals as goal
+use Rattle.std.proofs.Common.{◌≡◌, ℕ, List, inl, inr, refl, ap, arith, get_or}
+use Rattle.clap.proofs.OnLiterals.{clap_on_literals}
+
+-- the first characters of two texts that are the same
+first : {s t : List ℕ} → s ≡ t → get_or s 0 0 ≡ get_or t 0 0
+first same = ap (λ (text : List ℕ). get_or text 0 0) same
+
+pub returns-clause-check : goal.returns-clause-check
+unfolding clap_on_literals
+returns-clause-check c = inl refl
+
+pub returns-clause-explain : goal.returns-clause-explain
+unfolding clap_on_literals
+returns-clause-explain c = inr (inl refl)
+
+pub returns-clause-trace : goal.returns-clause-trace
+unfolding clap_on_literals
+returns-clause-trace c = inr (inr (inl refl))
+
+pub returns-clause-draw : goal.returns-clause-draw
+unfolding clap_on_literals
+returns-clause-draw c = inr (inr (inr (inl refl)))
+
+pub returns-clause-conform : goal.returns-clause-conform
+unfolding clap_on_literals
+returns-clause-conform c = inr (inr (inr (inr refl)))
+
+pub returns-clause-asks_trace : goal.returns-clause-asks_trace
+unfolding clap_on_literals
+returns-clause-asks_trace c = (refl, record { json = λ has. absurd cc; table = λ has. refl })
+
+pub returns-clause-serve : goal.returns-clause-serve
+returns-clause-serve c named =
+    elim named [
+      | inl check ↦ omega (arith, first check)
+      | inr rest ↦
+          elim rest [
+            | inl explain ↦ omega (arith, first explain)
+            | inr rest ↦
+                elim rest [
+                  | inl trace ↦ omega (arith, first trace)
+                  | inr rest ↦
+                      elim rest [
+                        | inl draw ↦ omega (arith, first draw)
+                        | inr conform ↦ omega (arith, first conform)
+                      ]
+                ]
+          ]
+    ]
+
+pub returns-clause-other_report : goal.returns-clause-other_report
+unfolding clap_on_literals
+returns-clause-other_report c asked = omega (arith, first asked.0)
+
+pub returns-clause-asks_json : goal.returns-clause-asks_json
+unfolding clap_on_literals
+returns-clause-asks_json c = (refl, record { json = λ has. refl; table = λ has. absurd cc })
+
+pub returns-clause-no_table : goal.returns-clause-no_table
+unfolding clap_on_literals
+returns-clause-no_table c asked = let same = asked.1.json refl in cc
+
+pub returns-clause-other_form : goal.returns-clause-other_form
+unfolding clap_on_literals
+returns-clause-other_form c asked = let same = asked.1.table refl in cc

@@ -1,0 +1,25 @@
+use Rattle.dsa_cli.proofs.rows.reports_of_documents.Goals as goal
+
+pub returns-clause-no_explanation : goal.returns-clause-no_explanation
+returns-clause-no_explanation c bytes text is = let same = is.0 in cc
+
+pub returns-clause-no_trace : goal.returns-clause-no_trace
+returns-clause-no_trace c bytes text is = let same = is.0 in cc
+
+pub returns-clause-no_drawing : goal.returns-clause-no_drawing
+returns-clause-no_drawing c bytes text is = let same = is.0 in cc
+
+pub returns-clause-check : goal.returns-clause-check
+returns-clause-check c bytes text is = is
+
+pub returns-clause-explanation : goal.returns-clause-explanation
+returns-clause-explanation c bytes text is = is.1
+
+pub returns-clause-trace : goal.returns-clause-trace
+returns-clause-trace c bytes text is = is.1
+
+pub returns-clause-drawing : goal.returns-clause-drawing
+returns-clause-drawing c bytes text is = is.1
+
+pub returns-clause-conformance : goal.returns-clause-conformance
+returns-clause-conformance c bytes text is = is

@@ -1,0 +1,21 @@
+-- Numbers that differ in each place, of which reasons are made.
+use Rattle.std.specs.Prelude.{true, [], ◌∷◌, None}
+use Rattle.dsa_store.specs.Content.{HeldEntry}
+use Rattle.dsa_buffers.specs.{Buffers.{Buffers}, declared.want.BufferWant.{BufferWant}}
+use Rattle.dsa_worked.specs.{Setup.{drain, held_entry}, Lawful.{with_buffers}}
+
+-- a Drain in progress, with the name of the batch of two
+abbrev pub drain_three : HeldEntry
+drain_three = held_entry 1 3 None drain 0 true
+
+-- two groups that use 5 and 6 of 12 read buffers, and may use 8 and 7
+abbrev pub two_groups : Buffers
+two_groups = record { total = 12; groups = with_buffers 1 8 8 ∷ with_buffers 2 3 7 ∷ []; used = 5 ∷ 6 ∷ [] }
+
+-- 4 more for the second
+abbrev pub want_in_two_groups : BufferWant
+want_in_two_groups = record { group = 1; asked = 4; used = 6; allowed = 7; buffers = 12; in_use = 11; kept = 3 }
+
+-- a want of group 1, each other number of which is the number of no group
+abbrev pub unlike_want : BufferWant
+unlike_want = record { group = 1; asked = 4; used = 5; allowed = 6; buffers = 7; in_use = 8; kept = 9 }
