@@ -12,7 +12,7 @@ use Rattle.dsa_check.specs.{declared.fields.Field.{Field}, Steps.{row_of_field}}
 use Rattle.serde_json.specs.{View.{view, members_view}, declared.value.Value.{Value}}
 
 -- the object that a value is
-object_is : (d : Data) (ms : Members) → Some ms ≡ as_object d → d ≡ object ms
+pub object_is : (d : Data) (ms : Members) → Some ms ≡ as_object d → d ≡ object ms
 object_is null ms e = cc
 object_is (boolean b) ms e = cc
 object_is (number n) ms e = cc

@@ -1,5 +1,6 @@
 pub mod Firsts
 pub mod Keys
+pub mod Nearest
 pub mod ReadTexts
 pub mod Shallow
 pub mod Spots

@@ -18,7 +18,7 @@ use Rattle.dsa_check.specs.declared.finding.Finding.{Finding}
 use Rattle.dsa_check.specs.Findings.{Appends, AppendsAll, AreInCaps, IsFindingOf, IsFindingIn, IsFounded}
 use Rattle.dsa_check.specs.Findings.{AreFounded, TellsWhy}
 use Rattle.dsa_check.specs.Judgement.{step_items_of}
-use Rattle.dsa_check.specs.Reasons.{is_unfit, IsStrayKey, IsReasonAt, AreReasonsAt, AreReasonsOf}
+use Rattle.dsa_check.specs.Reasons.{is_unfit, near_key, IsStrayKey, IsReasonAt, AreReasonsAt, AreReasonsOf}
 use Rattle.dsa_check.specs.Steps.{Row, row_of_field, caps_rows}
 
 -- ---- lists
@@ -112,15 +112,15 @@ founded_as bytes d is findings h = record {
 module _ (d : Data) (rows : List Row) (in_caps : Bool) where
   -- a key that is missing, and one that may be there under another name
   pub missing_at : (row : Row) (key : Key) → key.name.now ≡ row.0 → key.in_caps ≡ in_caps → None ≡ get row.0 d
-      → IsReasonAt d rows in_caps row (Missing key)
-  missing_at row key named holder none =
-      record { key = key; named = named; holder = holder; so = rw (← none) refl; stray = tt }
+      → None ≡ near_key d rows row.0 → IsReasonAt d rows in_caps row (Missing key)
+  missing_at row key named holder none near =
+      record { key = key; named = named; holder = holder; so = rw (← none) refl; stray = tt; near = sym near }
 
   pub misspelled_at : (row : Row) (key : Key) (found : String Global) → key.name.now ≡ row.0 → key.in_caps ≡ in_caps
-      → None ≡ get row.0 d → IsStrayKey d rows (string_bytes found)
+      → None ≡ get row.0 d → IsStrayKey d rows (string_bytes found) → Some (string_bytes found) ≡ near_key d rows row.0
       → IsReasonAt d rows in_caps row (Misspelled key found)
-  misspelled_at row key found named holder none stray =
-      record { key = key; named = named; holder = holder; so = rw (← none) refl; stray = stray }
+  misspelled_at row key found named holder none stray near =
+      record { key = key; named = named; holder = holder; so = rw (← none) refl; stray = stray; near = sym near }
 
   -- the rows of some fields, and one field more
   pub reasons_more : (fields : List Field) (i : ℕ) (none : Field) (old mid new : List Reason) → i < length fields

@@ -1,15 +1,18 @@
 -- What is wrong with an object, and that it is so.
 use Rattle.std.specs.Prelude.{◌≡◌, ◌<◌, ◌%◌, length, ℕ, suc, ℤ, Bool, true, false, not, ◌&&◌, ◌||◌, nat_le, is_some}
 use Rattle.std.specs.Prelude.{List, [], ◌∷◌, Option, Some, None, option_and_then, MatchOption, IsSomeAnd, IfSome}
-use Rattle.std.specs.Prelude.{filter, option_map, codes, bytes_eq, string_bytes, String, ⊤}
-use Rattle.std.specs.{List.{AllZip, list_any, list_all, position}, Char.{is_ascii_hexdigit}}
+use Rattle.std.specs.Prelude.{map, filter, option_map, codes, bytes_eq, string_bytes, String, ⊤}
+use Rattle.std.specs.Prelude.{nat_lt, nat_eq, if◌then◌else◌}
+use Rattle.std.specs.{List.{AllZip, list_any, list_all, position, starts_with}, Char.{is_ascii_hexdigit}, Str.{chars}}
+use Rattle.std.specs.{Char.{is_ascii_alphanumeric, to_ascii_lowercase}, Int.{abs_diff}, Option.{unwrap_or}}
 use Rattle.std.specs.declared.alloc.Global.{Global}
+use Rattle.strsim.specs.Edits.{osa_table}
 use Rattle.serde_json.specs.{Data.{Data, null, boolean, number, string, array, object}, Find.{get, as_u64, as_i64}}
-use Rattle.serde_json.specs.Find.{as_number, as_bool, as_str, as_array, as_object}
+use Rattle.serde_json.specs.{Data.{Members, no_members, member}, Find.{as_number, as_bool, as_str, as_array, as_object}}
 use Rattle.dsa_scenario.specs.Fields.{hex_bytes_of, text_of}
 use Rattle.dsa_check.specs.declared.fields.{Form.{Form}, Found.{Found}, Key.{Key}}
 use Rattle.dsa_check.specs.declared.{finding.Reason.{Reason}, kinds.StepKind.{StepKind}}
-use Rattle.dsa_check.specs.Steps.{Row, rows_of_kind, caps_rows, kind_named, kind_of}
+use Rattle.dsa_check.specs.{Lines.{kind_text}, Steps.{Row, rows_of_kind, caps_rows, kinds, kind_named, kind_of}}
 use Rattle.dsa_check.specs.declared.fields.Form.TheVariants as form
 use Rattle.dsa_check.specs.declared.finding.Reason.TheVariants as reason
 use Rattle.dsa_check.specs.declared.fields.Found.TheVariants as found
@@ -104,6 +107,81 @@ is_asked rows name = bytes_eq name (codes "do") || list_any (λ row. bytes_eq ro
 abbrev pub is_plain : List ℕ → Bool
 is_plain text = nat_le (length text) 40 && list_all (λ byte. nat_le 32 byte && nat_le byte 126) text
 
+-- ---- how far a name is from another (profile)
+
+-- the letters and digits of a name, with small letters for capitals
+abbrev pub letters_of : List ℕ → List ℕ
+letters_of name = map to_ascii_lowercase (filter is_ascii_alphanumeric name)
+
+-- how many edits lead from a name to the other: a character more, less or changed, or two beside each other exchanged
+abbrev pub edits_between : List ℕ → List ℕ → ℕ
+edits_between name other = (osa_table (chars name) (chars other)).last_row (length (chars other))
+
+-- as many edits are near: of a short name one, else two
+abbrev pub most_edits : List ℕ → ℕ
+most_edits name = if nat_lt (length name) 5 then 1 else 2
+
+abbrev pub few_edits : ℕ → ℕ → Option ℕ
+few_edits most count = if nat_le count most then Some count else None
+
+-- names whose lengths differ by more are not near
+abbrev pub distance_by_edits : List ℕ → List ℕ → Option ℕ
+distance_by_edits name other =
+    if nat_lt (most_edits name) (abs_diff (length other) (length name)) then None
+    else few_edits (most_edits name) (edits_between name other)
+
+-- a longer name that begins with this one is farther than one with an edit or two
+abbrev pub begins_with : List ℕ → List ℕ → Bool
+begins_with name other = nat_lt 3 (length name) && starts_with nat_eq other name
+
+-- how far the other name is from this one, where it is near and can be told as it stands
+abbrev pub distance_of : List ℕ → List ℕ → Option ℕ
+distance_of name other =
+    if not (is_plain other) then None
+    else if bytes_eq (letters_of name) (letters_of other) then Some 0
+    else if begins_with name other then Some 3
+    else distance_by_edits name other
+
+-- ---- the nearest name (profile)
+
+abbrev pub is_below : ℕ → Option ℕ → Bool
+is_below bound None = false
+is_below bound (Some distance) = nat_lt distance bound
+
+-- the first of those that are nearest, where one is nearer than the bound; else this
+abbrev pub nearest_below : {X : Type 0} → (X → Option ℕ) → ℕ → Option X → List X → Option X
+nearest_below far bound found [] = found
+nearest_below far bound found (x ∷ xs) =
+    if is_below bound (far x) then nearest_below far (unwrap_or (far x) bound) (Some x) xs
+    else nearest_below far bound found xs
+
+-- the first of those that are nearest, of which none is farther than 3
+abbrev pub nearest : {X : Type 0} → (X → Option ℕ) → List X → Option X
+nearest far xs = nearest_below far 4 None xs
+
+-- the kind of steps whose name is nearest to this text
+unfoldable pub near_kind : List ℕ → Option StepKind
+near_kind text = nearest (λ kind. distance_of (kind_text kind) text) kinds
+
+abbrev pub keys_of_members : Members → List (List ℕ)
+keys_of_members no_members = []
+keys_of_members (member key d ms) = key ∷ keys_of_members ms
+
+-- the keys of an object, in its order
+abbrev pub keys_of : Data → List (List ℕ)
+keys_of (object ms) = keys_of_members ms
+keys_of d = []
+
+-- how far a key that nobody asks for is from this one
+abbrev pub stray_distance : List Row → List ℕ → List ℕ → Option ℕ
+stray_distance rows name key = if is_asked rows key then None else distance_of name key
+
+-- the key that nobody asks for and that is nearest to this one
+abbrev pub near_key : Data → List Row → List ℕ → Option (List ℕ)
+near_key d rows name = nearest (stray_distance rows name) (keys_of d)
+
+-- ---- keys that are missing
+
 -- the key stands in the object, nobody asks for it, and it can be told as it stands
 pub record IsStrayKey (d : Data) (rows : List Row) (name : List ℕ) : Type 0 where
   pub inside : is_some (get name d) ≡ true
@@ -115,6 +193,12 @@ abbrev pub HasStrayKey : Data → List Row → Reason → Type 0
 HasStrayKey d rows (reason.Misspelled key found) = IsStrayKey d rows (string_bytes found)
 HasStrayKey d rows _ = ⊤
 
+-- where the key is missing, the reason tells the nearest of the keys that nobody asks for, or that none is near
+abbrev pub TellsNearKey : Data → List Row → List ℕ → Reason → Type 0
+TellsNearKey d rows name (reason.Misspelled key found) = near_key d rows name ≡ Some (string_bytes found)
+TellsNearKey d rows name (reason.Missing key) = near_key d rows name ≡ None
+TellsNearKey d rows name _ = ⊤
+
 -- the reason says what is wrong at the key of a row; the key is told as one of `caps` or not
 pub record IsReasonAt (d : Data) (rows : List Row) (in_caps : Bool) (row : Row) (reason : Reason) : Type 0 where
   pub key : Key
@@ -122,6 +206,7 @@ pub record IsReasonAt (d : Data) (rows : List Row) (in_caps : Bool) (row : Row) 
   pub holder : key.in_caps ≡ in_caps
   pub so : IsReasonOf key row.1 (get row.0 d) reason
   pub stray : HasStrayKey d rows reason
+  pub near : TellsNearKey d rows row.0 reason
 
 -- there is a reason for each of these rows whose key is missing or has something else, and no other
 abbrev pub AreReasonsAt : Data → List Row → Bool → List Row → List Reason → Type 0

@@ -1,12 +1,14 @@
 -- A document and keys that the worked rows speak of.
 use Rattle.std.specs.Prelude.{ℕ, true, false, List, [], ◌∷◌, map, filter, codes, Option, None, option_map}
+use Rattle.std.specs.{Prelude.{⊤}, Str.{chars}}
+use Rattle.strsim.specs.Edits.{cost_at, osa_row, osa_from}
 use Rattle.serde_json.specs.Data.{Data, null}
 use Rattle.dsa_scenario.specs.Worked.{Fields, whole, object_of, array_of_one, fields_without, changed}
 use Rattle.dsa_scenario.specs.Worked.{some_caps, poll_step, smallest_caps_text, document_text}
 use Rattle.std.specs.declared.{alloc.Global.{Global}, vec.Vec.{Vec}}
 use Rattle.dsa_scenario.specs.declared.faults.ScenarioFault.TheVariants.{BadCapacity}
 use Rattle.dsa_check.specs.declared.{fields.Key.{Key}, finding.{Finding.{Finding}, Reason.{Reason}}}
-use Rattle.dsa_check.specs.{Reasons.{is_unfit}, Steps.{Row, rows_of_kind, kind_of}}
+use Rattle.dsa_check.specs.{Reasons.{is_unfit, near_kind}, Steps.{Row, rows_of_kind, kind_of}}
 
 abbrev pub right_document : Fields
 right_document =
@@ -54,3 +56,8 @@ document_without_slots =
 -- a document of the smallest device, without steps
 abbrev pub right_text : List ℕ
 right_text = document_text smallest_caps_text (codes "9") []
+
+-- what a row unfolds to compute what is near to a name
+unfoldable pub near_on_literals : ⊤
+unfolding near_kind chars cost_at osa_row osa_from
+near_on_literals = tt

@@ -10,6 +10,8 @@ mod fields;
 mod finding;
 mod judge;
 mod kinds;
+mod near;
+pub mod near_rows;
 mod places;
 mod reasons;
 mod report;

@@ -9,101 +9,13 @@ ghost use Rattle.dsa_check.specs.Steps.{row_of_field, kind_of, device_rows, hist
 
 use crate::fields::{Field, Form, Key, found_in, is_of};
 use crate::finding::Reason;
-use crate::kinds::{CAPS, DEVICE_CAPS, DOCUMENT, HISTORY_CAPACITY, KINDS, StepKind, fields_of};
+use crate::kinds::{CAPS, DEVICE_CAPS, DOCUMENT, HISTORY_CAPACITY, StepKind, fields_of};
+use crate::near::{near_key, near_kind};
 use crate::syntax::is_plain;
 use serde_json::Value;
 use std::alloc::{AllocError, Global};
-use strsim::osa_distance;
 
 const MOST_DIGITS: usize = 128;
-
-// How far a longer name is from the one that it begins with: farther than one with an edit or two.
-const FAR: usize = 3;
-
-// Whether two names have the same letters and digits, in the same order, in either case.
-fn has_letters_of(name: &str, other: &str) -> bool {
-    let mut letters = other.bytes().filter(|byte| byte.is_ascii_alphanumeric());
-    for byte in name.bytes().filter(|byte| byte.is_ascii_alphanumeric()) {
-        match letters.next() {
-            Some(letter) if letter.eq_ignore_ascii_case(&byte) => {}
-            _ => return false,
-        }
-    }
-    letters.next().is_none()
-}
-
-// How far the other name is from this one, where it is spelled nearly so.
-fn distance_of(alloc: Global, name: &str, other: &str) -> Result<Option<usize>, AllocError>
-    ensures { IfOk result (λ distance. IfSome distance (λ _. is_plain other.now ≡ true)) }
-{
-    if !is_plain(other) {
-        return Ok(None);
-    }
-    if has_letters_of(name, other) {
-        return Ok(Some(0));
-    }
-    if name.len() > 3 && other.as_bytes().starts_with(name.as_bytes()) {
-        return Ok(Some(FAR));
-    }
-    let most = if name.len() < 5 { 1 } else { 2 };
-    if other.len().abs_diff(name.len()) > most {
-        return Ok(None);
-    }
-    let distance = osa_distance(alloc, name, other)?;
-    Ok(Some(distance).filter(|distance| *distance <= most))
-}
-
-fn is_asked(fields: &[Field], name: &str) -> bool
-    ensures { result ≡ is_asked (map row_of_field fields.now) name.now }
-{
-    name == "do" || fields.iter().any(|field| field.name == name)
-}
-
-// The key of the object that nobody asks for, and that is spelled nearly so, the nearest.
-fn near_key(
-    alloc: Global,
-    object: &Value,
-    fields: &[Field],
-    name: &str,
-) -> Result<Option<String>, AllocError>
-    ensures { IfOk result
-        (λ found. IfSome found
-        (λ key. IsStrayKey (view object.now)
-        (map row_of_field fields.now) (string_bytes key))) }
-{
-    let Some(members) = object.as_object() else {
-        return Ok(None);
-    };
-    let (mut nearest, mut least) = (None, usize::MAX);
-    for other in members.keys() {
-        let other = other.as_str();
-        if !is_asked(fields, other)
-            && let Some(distance) = distance_of(alloc, name, other)?
-            && distance < least
-        {
-            nearest = Some(other);
-            least = distance;
-        }
-    }
-    match nearest {
-        Some(other) => Ok(Some(String::from_str(alloc, other)?)),
-        None => Ok(None),
-    }
-}
-
-// The kind of step whose name is spelled nearly so, the nearest.
-fn near_kind(alloc: Global, name: &str) -> Result<Option<StepKind>, AllocError> {
-    let (mut nearest, mut least) = (None, usize::MAX);
-    for kind in KINDS {
-        if let Some(distance) = distance_of(alloc, kind.name(), name)?
-            && distance < least
-        {
-            nearest = Some(kind);
-            least = distance;
-        }
-    }
-    Ok(nearest)
-}
 
 // What is wrong with a text that is not the bytes of a descriptor.
 fn digits_reason(key: Key, text: &str) -> Option<Reason>

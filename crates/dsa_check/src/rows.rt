@@ -590,6 +590,7 @@ pub fn texts_of_json()
     ensures after_a_blank { AreTextOf (whole 1) (codes " 1") → ⊥ }
     ensures other_value { AreTextOf null (codes "1") → ⊥ }
     ensures begun { BeginJson (codes "[") }
+    ensures closed { BeginJson (codes "]") → ⊥ }
     ensures deep { (d : Data) → depth d ≡ 127 → IsShallow d }
     ensures too_deep { (d : Data) → depth d ≡ 128 → IsShallow d → ⊥ }
     ensures first_line { BeginsOnLine (codes "1") (whole 1) 1 }
@@ -631,4 +632,8 @@ pub fn faults_of_texts()
     ensures report { IsCheckReportOf right_text None [] }
     ensures right_with_a_fault { IsCheckReportOf right_text (Some BadCaps) [] → ⊥ }
     ensures right_with_a_line { IsCheckReportOf right_text None (codes "1") → ⊥ }
+    ensures second_untold { IsCheckReportOf (document_text no_caps_text (codes "1048577") [])
+        (Some BadCaps)
+        (codes "caps: \"queues\" is 0, at least 1 is wanted\n")
+        → ⊥ }
 {}

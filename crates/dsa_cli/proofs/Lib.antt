@@ -1,7 +1,9 @@
 pub mod Accepted
+pub mod FewNumbers
 pub mod OptionNumbers
 pub mod PlainRuns
 pub mod Pushes
 pub mod ReportCommands
+pub mod ReportNames
 pub mod Submissions
 pub mod ThreadTotals

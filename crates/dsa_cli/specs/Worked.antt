@@ -1,11 +1,18 @@
 -- Words, loads and bytes that the worked rows speak of.
+use Rattle.dsa_book.specs.declared.event.Event.TheVariants as event
 use Rattle.std.specs.Prelude.{ℕ, List, [], ◌∷◌, ◌++◌, replicate, codes, Option, None, option_and_then}
-use Rattle.dsa_book.specs.declared.answer.{Cause.TheVariants.{AtLimit}, Reply.TheVariants.{Submit}}
-use Rattle.dsa_book.specs.declared.answer.SubmitAnswer.TheVariants.{Retry}
-use Rattle.dsa_book.specs.declared.event.Step.{Step}
+use Rattle.dsa_desc.specs.declared.Outcome.TheVariants.{Success}
+use Rattle.dsa_book.specs.declared.answer.{Cause.TheVariants.{AtLimit}, Reply.TheVariants.{Submit, Dispatch, Finish}}
+use Rattle.dsa_book.specs.declared.answer.SubmitAnswer.TheVariants.{Accepted, Retry}
+use Rattle.dsa_book.specs.declared.answer.{DispatchAnswer.TheVariants.{Taken}, FinishAnswer.TheVariants.{Done}}
+use Rattle.dsa_book.specs.declared.event.{Kind.TheVariants.{Enqcmd}, Portal.TheVariants.{Limited}, Step.{Step}}
+use Rattle.dsa_shared.specs.Seat.{SeatLog}
+use Rattle.dsa_scenario.specs.Worked.{record_ticket}
+use Rattle.dsa_workers.specs.declared.scripts.ClientStep.{ClientStep}
 use Rattle.clap.specs.{Walk.{Row, Text, one_of}, Simple.{subcommand_of}}
 use Rattle.clap.specs.declared.builder.value_parser.Reading.TheVariants.{AsWritten}
-use Rattle.dsa_cli.specs.{declared.options.Workload.{Workload}, CommandLine.{program_app}, Threads.{submission_of}}
+use Rattle.dsa_cli.specs.{declared.options.Workload.{Workload}, CommandLine.{program_app}}
+use Rattle.dsa_cli.specs.Threads.{setup_steps, submission_of}
 
 -- the bytes of a Move of 4096 bytes
 abbrev pub page_move_bytes : List ℕ
@@ -16,6 +23,40 @@ abbrev pub two_retries : List Step
 two_retries =
     record { event = submission_of 0; reply = Submit (Retry AtLimit) } ∷
     record { event = submission_of 0; reply = Submit (Retry AtLimit) } ∷ []
+
+-- such a Move under this PASID
+abbrev pub move_under : ℕ → ClientStep
+move_under pasid = record { queue = 0; portal = Limited; kind = Enqcmd pasid; bytes = page_move_bytes }
+
+-- ---- a run of one client and two engines
+
+-- a submission of client 0, which was accepted with a ticket of this cell and name
+abbrev pub move_taken_in : ℕ → ℕ → Step
+move_taken_in cell name =
+    record { event = submission_of 0; reply = Submit (Accepted (record_ticket cell name)) }
+
+-- the receipts of the client, which submits three times
+abbrev pub three_moves : List Step
+three_moves = move_taken_in 3 0 ∷ move_taken_in 5 1 ∷ move_taken_in 4 2 ∷ []
+
+-- the receipts of an engine that takes the entry with this ticket and ends it
+abbrev pub entry_worked_off : (engine cell name : ℕ) → List Step
+entry_worked_off engine cell name =
+    record { event = event.Dispatch engine; reply = Dispatch (Taken (record_ticket cell name) 0) } ∷
+    record { event = event.Finish engine (record_ticket cell name) Success; reply = Finish (Done 1) } ∷ []
+
+-- the history of the run: the first two entries end, and the last one is held
+abbrev pub steps_of_three_moves : List Step
+steps_of_three_moves = setup_steps 2 ++ three_moves ++ entry_worked_off 0 3 0 ++ entry_worked_off 1 5 1
+
+-- the seats after it
+abbrev pub client_seats_after : List SeatLog
+client_seats_after = record { number = 0; receipts = three_moves } ∷ []
+
+abbrev pub engine_seats_after : List SeatLog
+engine_seats_after =
+    record { number = 0; receipts = entry_worked_off 0 3 0 } ∷
+    record { number = 1; receipts = entry_worked_off 1 5 1 } ∷ []
 
 -- ---- words
 

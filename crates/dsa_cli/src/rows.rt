@@ -20,8 +20,9 @@ ghost use Rattle.dsa_shared.specs.Totals.{totals_of};
 ghost use Rattle.dsa_workers.specs.Calls.{steps_done};
 ghost use Rattle.dsa_workers.specs.declared.scripts.{ClientStep.{ClientStep}, Scripts.{Scripts}};
 ghost use Rattle.std.specs.Global.{Vec};
+ghost use Rattle.std.specs.Io.KnownBytes.{Appends, Consumes, IsAtEnd};
 ghost use Rattle.std.specs.Str.Parse.{IsNumeral};
-ghost use Rattle.clap.specs.Walk.{Row};
+ghost use Rattle.clap.specs.Walk.{Row, Text};
 ghost use Rattle.dsa_workers.specs.declared.scripts.WorkerEnd.TheVariants.{HistoryFull};
 ghost use Rattle.dsa_workers.specs.Workers.{receipts_in, RunsClient, RunsEngine};
 ghost use Rattle.dsa_cli.specs.declared.options.Workload.{Workload};
@@ -31,18 +32,20 @@ ghost use Rattle.dsa_cli.specs.declared.reports.Report.TheVariants.{Check, Expla
 ghost use Rattle.dsa_trace.specs.declared.form.Trace.TheVariants.{Table, Json};
 ghost use Rattle.dsa_scenario.specs.declared.faults.ScenarioFault.TheVariants.{BadCaps, Read, TooLong, Write, OutOfMemory};
 ghost use Rattle.dsa_scenario.specs.declared.watched.WatchedWriter.{WatchedWriter};
-ghost use Rattle.dsa_scenario.specs.{Scenario.{HasFault}, Watched.{has_refused, is_closed}};
+ghost use Rattle.dsa_scenario.specs.Scenario.{HasFault};
+ghost use Rattle.dsa_scenario.specs.Watched.{has_refused, is_closed};
 ghost use Rattle.dsa_check.specs.Check.{IsCheckReportOf};
 ghost use Rattle.dsa_conform.specs.Run.{IsConformance};
 ghost use Rattle.dsa_explain_lines.specs.Run.{IsExplanation};
 ghost use Rattle.dsa_trace.specs.Run.{IsTrace};
 ghost use Rattle.dsa_draw.specs.Drawings.{IsDrawingOf};
-ghost use Rattle.dsa_cli.specs.Reports.{IsReportOf};
+ghost use Rattle.dsa_serve.specs.Dialogue.{AnswersAll};
+ghost use Rattle.dsa_cli.specs.Reports.{IsReportCutShort, IsReportOf, IsReported};
 ghost use Rattle.dsa_cli.specs.Endings.{IsFaultTold, IsQuiet, IsStoppedBy, IsUnwritten, IsWriteRefused};
 ghost use Rattle.dsa_cli.specs.Threads.{AreScriptsOf, AreTotalsOf, IsClientScript, HaveWorked, IsInRange, RanAsClient, RanAsEngine, Submits, caps_for, capacity_for, engine_script, group_config, client_move, queue_config, setup_steps, submission_of, threads_fault_line, totals_text};
 ghost use Rattle.dsa_cli.specs.declared.threads.ThreadsFault.TheVariants as fault;
-ghost use Rattle.dsa_cli.specs.CommandLine.{AreNumbersOf, AsksFor, IsAskedBy, IsMistaken, IsNumberOf, IsReportName, IsUnderstood, NameNothing, command_in, faults_of_words};
-ghost use Rattle.dsa_cli.specs.Worked.{page_move_bytes, load, threads_with, option_row, two_retries, value_in, json_trace};
+ghost use Rattle.dsa_cli.specs.CommandLine.{AreNumbersOf, AreTotalsCutShort, AreTotalsWritten, AsksFor, IsAskedBy, IsMistaken, IsNumberOf, IsReportCut, IsReportName, IsReportWritten, IsServed, IsUnderstood, NameNothing, NameReport, NameServe, NameThreads, command_in, faults_of_words};
+ghost use Rattle.dsa_cli.specs.Worked.{page_move_bytes, move_under, load, threads_with, option_row, two_retries, client_seats_after, engine_seats_after, value_in, json_trace};
 
 /// What the words may be: none, or the command `threads` with its options.
 #[tactic(auto, unfolding(clap::proofs::OnLiterals::clap_on_literals))]
@@ -188,13 +191,15 @@ pub fn submissions()
         (record { queue = 0; portal = Limited; kind = Enqcmd 3; bytes = page_move_bytes }) }
 {}
 
-/// The totals of a run of one client, and of one engine that dispatches, fetches, starts and
-/// finishes.
+/// The totals of a run of one client, which submits three times, and of two engines that dispatch,
+/// fetch, start and finish, and what their seats have then.
 #[tactic(auto, unfolding(dsa_store::specs::Content::held_count))]
 pub fn totals_of_a_run()
-    ensures { AreTotalsOf (load 1 1 1 4)
+    ensures totals { AreTotalsOf (load 1 2 3 4)
         (record
-        { accepted = 1; fetched = 0; retried = 0; done = 1; lost = 0; held = 0; steps = 7 }) }
+        { accepted = 3; fetched = 0; retried = 0; done = 2; lost = 0; held = 1; steps = 11 }) }
+    ensures seats { HaveWorked (load 1 2 3 4) client_seats_after engine_seats_after
+        (Some (setup_steps 2)) }
 {}
 
 /// What each worker of a run did: a client made a step in each turn or came to the end of its
@@ -246,6 +251,8 @@ pub fn history_of_a_run()
         → totals.accepted + totals.fetched ≡ totals.done + totals.lost + totals.held }
     ensures accepted { (totals : Totals) (run : AreTotalsOf (load 2 3 5 7) totals)
         → totals.accepted ≤ 10 }
+    ensures accepted_of_one_client { (totals : Totals) (run : AreTotalsOf (load 1 3 5 7) totals)
+        → totals.accepted ≤ 5 }
     ensures accepted_one { (totals : Totals) (run : AreTotalsOf (load 2 3 5 7) totals)
         → 1 ≤ totals.accepted }
     ensures client_runs { (totals : Totals) (run : AreTotalsOf (load 2 3 5 7) totals)
@@ -308,6 +315,81 @@ pub fn runs_of_workers()
         → ran.0.ended ≢ HistoryFull }
 {}
 
+/// The totals of a run that were all written, and those of which only the first bytes were.
+#[tactic(auto, unfolding(clap::proofs::OnLiterals::clap_on_literals))]
+pub fn totals_written()
+    ensures all { (totals : Totals) → AreTotalsOf (load 1 2 3 4) totals
+        → AreTotalsWritten [] (Some (codes "k")) (Some (codes "k" ++ totals_text totals)) }
+    ensures numbers { (rows : List Row) (old new : Option (List ℕ))
+        (are : AreTotalsWritten rows old new) → AreNumbersOf rows are.0 }
+    ensures in_range { (rows : List Row) (old new : Option (List ℕ))
+        (are : AreTotalsWritten rows old new) → IsInRange are.0 }
+    ensures of_a_run { (rows : List Row) (old new : Option (List ℕ))
+        (are : AreTotalsWritten rows old new) → AreTotalsOf are.0 are.1 }
+    ensures appended { (rows : List Row) (old new : Option (List ℕ))
+        (are : AreTotalsWritten rows old new) → Appends old new (totals_text are.1) }
+    ensures first_bytes { (totals : Totals) → AreTotalsOf (load 1 2 3 4) totals
+        → 3 < length (totals_text totals)
+        → AreTotalsCutShort [] (Some (codes "k"))
+        (Some (codes "k" ++ take 3 (totals_text totals))) }
+    ensures cut_numbers { (rows : List Row) (old new : Option (List ℕ))
+        (are : AreTotalsCutShort rows old new) → AreNumbersOf rows are.0 }
+    ensures cut_in_range { (rows : List Row) (old new : Option (List ℕ))
+        (are : AreTotalsCutShort rows old new) → IsInRange are.0 }
+    ensures cut_of_a_run { (rows : List Row) (old new : Option (List ℕ))
+        (are : AreTotalsCutShort rows old new) → AreTotalsOf are.0 are.1 }
+    ensures cut_short { (rows : List Row) (old new : Option (List ℕ))
+        (are : AreTotalsCutShort rows old new) → are.2 < length (totals_text are.1) }
+    ensures cut_appended { (rows : List Row) (old new : Option (List ℕ))
+        (are : AreTotalsCutShort rows old new)
+        → Appends old new (take are.2 (totals_text are.1)) }
+{}
+
+/// A dialogue that was served: the reader gave all of it, and the answers were written.
+pub fn dialogue_served()
+    ensures served { (input output : List ℕ) → AnswersAll input output
+        → IsServed (Some input) (Some []) (Some (codes "k")) (Some (codes "k" ++ output)) }
+    ensures given { (had left held holds : Option (List ℕ))
+        (served : IsServed had left held holds) → Consumes had left served.0 }
+    ensures to_its_end { (had left held holds : Option (List ℕ))
+        → IsServed had left held holds → IsAtEnd left }
+    ensures answered { (had left held holds : Option (List ℕ))
+        (served : IsServed had left held holds) → AnswersAll served.0 served.1 }
+    ensures written { (had left held holds : Option (List ℕ))
+        (served : IsServed had left held holds) → Appends held holds served.1 }
+    ensures more_to_read { ¬ IsServed (Some (codes "ab")) (Some (codes "b")) None None }
+    ensures given_back { ¬ IsServed (Some []) (Some (codes "b")) None None }
+{}
+
+/// A report that was all written, and one of which only the first bytes were.
+pub fn reports_written()
+    ensures all { (bytes text : List ℕ)
+        → IsConformance bytes (Some BadCaps) text → length bytes ≤ 1_048_576
+        → IsReported Conform (Some BadCaps) (Some bytes) (Some []) (Some (codes "k"))
+        (Some (codes "k" ++ text)) }
+    ensures first_bytes { (bytes text : List ℕ)
+        → IsConformance bytes (Some BadCaps) text → length bytes ≤ 1_048_576 → 3 < length text
+        → IsReportCutShort Conform (Some bytes) (Some []) (Some (codes "k"))
+        (Some (codes "k" ++ take 3 text)) }
+    ensures drawing { (bytes text : List ℕ) → IsDrawingOf bytes text → length bytes ≤ 1_048_576
+        → IsReportWritten (codes "draw", []) None (Some bytes) (Some []) (Some (codes "k"))
+        (Some (codes "k" ++ text)) }
+    ensures asked { (found : Text × List Row) (had left held holds : Option (List ℕ))
+        (is : IsReportWritten found None had left held holds) → IsAskedBy found is.0 }
+    ensures reported { (found : Text × List Row) (had left held holds : Option (List ℕ))
+        (is : IsReportWritten found None had left held holds)
+        → IsReported is.0 None had left held holds }
+    ensures drawing_cut { (bytes text : List ℕ)
+        → IsDrawingOf bytes text → length bytes ≤ 1_048_576 → 3 < length text
+        → IsReportCut (codes "draw", []) (Some bytes) (Some []) (Some (codes "k"))
+        (Some (codes "k" ++ take 3 text)) }
+    ensures cut_asked { (found : Text × List Row) (had left held holds : Option (List ℕ))
+        (is : IsReportCut found had left held holds) → IsAskedBy found is.0 }
+    ensures cut_reported { (found : Text × List Row) (had left held holds : Option (List ℕ))
+        (is : IsReportCut found had left held holds)
+        → IsReportCutShort is.0 had left held holds }
+{}
+
 /// The commands that ask for a report.
 #[tactic(auto, unfolding(clap::proofs::OnLiterals::clap_on_literals))]
 pub fn names_of_reports()
@@ -342,6 +424,13 @@ pub fn numbers_of_options()
     ensures most { (n : ℕ)
         → IsNumberOf (option_row (codes "each") (codes "1000")) (codes "each") 1_000 n
         → IsNumeral 10 (codes "1000") → n ≡ 1_000 }
+    ensures below { IsNumberOf (option_row (codes "each") (codes "0")) (codes "each") 1_000 7 }
+    ensures above { IsNumberOf (option_row (codes "each") (codes "1001")) (codes "each") 1_000 7 }
+    ensures no_number { IsNumberOf (option_row (codes "each") (codes "1a")) (codes "each") 1_000 7 }
+    ensures many_clients { AreNumbersOf (option_row (codes "clients") (codes "17")) (load 2 3 5 7) }
+    ensures many_engines { AreNumbersOf (option_row (codes "engines") (codes "9")) (load 2 3 5 7) }
+    ensures much_each { AreNumbersOf (option_row (codes "each") (codes "1001")) (load 2 3 5 7) }
+    ensures many_turns { AreNumbersOf (option_row (codes "turns") (codes "40001")) (load 2 3 5 7) }
     ensures clients { (rows : List Row) (asked : Workload) → AreNumbersOf rows asked
         → IsNumberOf rows (codes "clients") 16 asked.clients }
     ensures engines { (rows : List Row) (asked : Workload) → AreNumbersOf rows asked
@@ -352,8 +441,13 @@ pub fn numbers_of_options()
         → IsNumberOf rows (codes "turns") 40_000 asked.turns }
 {}
 
-/// The scripts of two clients, which submit five times each, and three engines.
+/// The scripts of two clients and of engines.
 pub fn scripts_of_a_run()
+    ensures these { (scripts : Scripts) (first second : Vec ClientStep)
+        → first.items ≡ replicate 3 (move_under 1) → second.items ≡ replicate 3 (move_under 2)
+        → vec_len scripts.clients ≡ 2 → scripts.clients.items ≡ first ∷ second ∷ []
+        → scripts.engines.items ≡ replicate 4 engine_script → scripts.admin.items ≡ []
+        → AreScriptsOf (load 2 4 3 5) scripts }
     ensures count { (scripts : Scripts) → AreScriptsOf (load 2 3 5 7) scripts
         → vec_len scripts.clients ≡ 2 }
     ensures clients { (scripts : Scripts) → AreScriptsOf (load 2 3 5 7) scripts
@@ -442,10 +536,29 @@ pub fn reports_of_documents()
         → IsConformance bytes (Some BadCaps) text }
 {}
 
+/// What the words name, where nothing is wrong with them; to ask for help counts too.
+#[tactic(auto, unfolding(clap::proofs::OnLiterals::clap_on_literals))]
+pub fn named_commands()
+    ensures draw { NameReport (codes "draw" ∷ []) (codes "draw", []) }
+    ensures help_with_draw { (found : Text × List Row)
+        → ¬ NameReport (codes "draw" ∷ codes "--help" ∷ []) found }
+    ensures other_report { ¬ NameReport (codes "draw" ∷ []) (codes "check", []) }
+    ensures serve_is_no_report { (rows : List Row)
+        → ¬ NameReport (codes "serve" ∷ []) (codes "serve", rows) }
+    ensures help_with_threads { (rows : List Row)
+        → ¬ NameThreads (codes "threads" ∷ codes "--help" ∷ []) rows }
+    ensures no_threads { (rows : List Row) → ¬ NameThreads (codes "serve" ∷ []) rows }
+    ensures help { ¬ NameNothing (codes "--help" ∷ []) }
+    ensures draw_is_something { ¬ NameNothing (codes "draw" ∷ []) }
+    ensures help_with_serve { ¬ NameServe (codes "serve" ∷ codes "--help" ∷ []) }
+    ensures no_serve { ¬ NameServe [] }
+{}
+
 /// What the words ask for, and which are mistaken.
 #[tactic(auto, unfolding(clap::proofs::OnLiterals::clap_on_literals))]
 pub fn asked()
     ensures scenario { AsksFor [] Scenario }
+    ensures help_is_scenario { AsksFor (codes "help" ∷ []) Scenario }
     ensures no_scenario { ¬ AsksFor (codes "threads" ∷ []) Scenario }
     ensures threads { AsksFor (threads_with (codes "--engines") (codes "3"))
         (Threads (load 2 3 100 10_000)) }
@@ -458,8 +571,14 @@ pub fn asked()
     ensures serve { AsksFor (codes "serve" ∷ []) Serve }
     ensures draw_is_no_scenario { ¬ AsksFor (codes "draw" ∷ []) Scenario }
     ensures serve_is_no_scenario { ¬ AsksFor (codes "serve" ∷ []) Scenario }
+    ensures other_report { ¬ AsksFor (codes "draw" ∷ []) (Report Check) }
+    ensures nothing_is_no_report { ¬ AsksFor [] (Report Draw) }
+    ensures nothing_is_no_threads { ¬ AsksFor [] (Threads (load 2 2 100 10_000)) }
+    ensures other_numbers { ¬ AsksFor (threads_with (codes "--engines") (codes "3"))
+        (Threads (load 2 7 100 10_000)) }
     ensures mistaken { IsMistaken (codes "scenario" ∷ []) }
     ensures help { ¬ IsMistaken (codes "--help" ∷ []) }
+    ensures version { ¬ IsMistaken (codes "--version" ∷ []) }
     ensures none { ¬ IsMistaken [] }
     ensures understood { IsUnderstood [] }
     ensures help_understood { IsUnderstood (codes "--help" ∷ []) }

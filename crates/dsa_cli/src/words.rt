@@ -25,6 +25,7 @@ use std::alloc::Global;
 use std::fmt::Display;
 use std::io::{Read, Write};
 use std::marker::Sync;
+use std::mem;
 use std::sync::Wait;
 use std::thread::Threads;
 
@@ -109,8 +110,15 @@ fn write_text<D: Render, R: Read, O: Write, E: Write>(
     ensures statuses { (result ≡ 0) ⊎ (result ≡ 1) }
 {
     match render_input(alloc, what, reader, out) {
-        Ok(None) => DONE,
-        Ok(Some(fault)) => tell_reader(out, err, &fault),
+        Ok(rendering) => {
+            let fault = rendering.fault;
+            // The system frees the document's many small blocks at once when the program ends.
+            mem::forget(rendering);
+            match fault {
+                None => DONE,
+                Some(fault) => tell_reader(out, err, &fault),
+            }
+        }
         Err(fault) => tell_reader(out, err, &fault),
     }
 }

@@ -1,4 +1,5 @@
 pub mod RowRuns
+pub mod RowTakes
 pub mod RowWays
 pub mod SameLines
 pub mod SeenAlike

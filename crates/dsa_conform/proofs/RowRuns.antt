@@ -2,6 +2,7 @@
 use Rattle.dsa_book.specs.declared.answer.Reply.TheVariants as reply
 use Rattle.dsa_book.specs.declared.event.Event.TheVariants as event
 use Rattle.dsa_book.specs.declared.answer.PollAnswer.TheVariants as poll
+use Rattle.std.specs.Fmt.{digits}
 use Rattle.std.proofs.Common.{◌≡◌, ◌⊎◌, inl, inr, ℕ, true, false, List, [], ◌∷◌, ◌++◌, Ok, Err, refl, sym, ap, subst, codes, Result, ◌∙◌, ◌≤◌, ◌^◌, arith, lit≤}
 use Rattle.dsa_base.{specs.Lists.{In}, proofs.Tables.{not-both}}
 use Rattle.dsa_regs.specs.declared.{Caps.{Caps}, Fault.{Fault, TheVariants.{BadCommand}}}
@@ -9,12 +10,12 @@ use Rattle.dsa_book.specs.declared.event.Event.{Event}
 use Rattle.dsa_device.specs.Running.{Running, running_at_first, IsReplay}
 use Rattle.dsa_scenario.specs.declared.actions.Action.{Action, TheVariants.{Ask, Refuse}}
 use Rattle.dsa_scenario.specs.declared.run.Record.{Record, TheVariants.{Stepped, Refused}}
-use Rattle.dsa_scenario.specs.{Run.{event_of}, Steps.{standing}, Worked.{smallest_caps, stepped}}
+use Rattle.dsa_scenario.specs.{Run.{event_of, AreOf}, Steps.{standing}, Worked.{smallest_caps, stepped}}
 use Rattle.dsa_explain_lines.specs.Parts.{part_of}
 use Rattle.dsa_conform.specs.Allowed.{IsAllowed}
 use Rattle.dsa_conform.specs.Lines.{allowed_line, difference_text}
-use Rattle.dsa_conform.specs.Run.{IsShownRun, IsDifference, IsAllowedLine, IsReason}
-use Rattle.dsa_conform.specs.{Seen.{Seen, shows}, Ways.{RunFrom}, Worked.{answered, nothing_seen, smallest_device_at_first}}
+use Rattle.dsa_conform.specs.Run.{IsShownRun, IsDifference, IsAllowedLine, IsReason, AreAllLines}
+use Rattle.dsa_conform.specs.{Seen.{Seen, shows, AreShown}, Ways.{RunFrom}, Worked.{answered, nothing_seen, smallest_device_at_first}}
 use Rattle.dsa_conform.proofs.Runs.{ends_with, run_of}
 use Rattle.dsa_conform.proofs.SeenAlike.{only_entry}
 
@@ -23,7 +24,53 @@ abbrev pub LeadTo : Caps → ℕ → List (Action × Seen) → Action → Runnin
 LeadTo caps capacity before action now asked = (records : List Record) → (after : Running)
     → RunFrom [] (running_at_first caps capacity) before records after → (after ≡ now) × (event_of records action ≡ asked)
 
--- where one answer may come there, which does not show what was seen
+-- where one answer may come there, its line is all there is to tell
+pub all_lines : (caps : Caps) (capacity : ℕ) (before : List (Action × Seen)) (action : Action)
+    (now : Running) (asked : Result Event Fault) (entry : Record) (some : List Record)
+    → IsReplay (running_at_first caps capacity) → IsShownRun caps capacity before some
+    → LeadTo caps capacity before action now asked → IsAllowed now asked entry
+    → ((other : Record) → IsAllowed now asked other → entry ≡ other)
+    → AreAllLines caps capacity before action ((entry, allowed_line (part_of now asked) entry) ∷ [])
+all_lines caps capacity before action now asked entry some i run lead may only = record {
+  each = λ line k. each line k;
+  all = λ records more other is.
+      let to = lead records (standing caps capacity records) (run_of caps capacity before records i more) in
+      let same = only other (subst (λ q. IsAllowed now q other) to.1
+      (subst (λ d. IsAllowed d (event_of records action) other) to.0 is)) in (
+        (entry, allowed_line (part_of now asked) entry),
+        inl refl,
+        (part_of now asked, reason, ap (λ r. allowed_line (part_of now asked) r) same),
+      );
+  listed = record { order = (λ line i. absurd i, tt); once = (λ line i. absurd i, tt) };
+}
+  where
+    reason : IsReason caps capacity before action (part_of now asked)
+    reason =
+        let to = lead some (standing caps capacity some) (run_of caps capacity before some i run) in
+        record {
+          records = some;
+          run = run;
+          is = ap (λ q. part_of now q) (sym to.1) ∙ ap (λ d. part_of d (event_of some action)) (sym to.0);
+        }
+
+    first_line : IsAllowedLine caps capacity before action entry (allowed_line (part_of now asked) entry)
+    first_line =
+        let to = lead some (standing caps capacity some) (run_of caps capacity before some i run) in
+        record {
+          records = some;
+          run = run;
+          allowed = subst (λ q. IsAllowed (standing caps capacity some) q entry) (sym to.1)
+              (subst (λ d. IsAllowed d asked entry) (sym to.0) may);
+          told = ap (λ q. allowed_line (part_of now q) entry) (sym to.1)
+              ∙ ap (λ d. allowed_line (part_of d (event_of some action)) entry) (sym to.0);
+        }
+
+    each : (line : Record × List ℕ) → In line ((entry, allowed_line (part_of now asked) entry) ∷ [])
+        → IsAllowedLine caps capacity before action line.0 line.1
+    each line (inl same) = subst (λ (l : Record × List ℕ). IsAllowedLine caps capacity before action l.0 l.1) same first_line
+    each line (inr none) = absurd none
+
+-- and where it does not show what was seen, there is a difference
 pub differs : (caps : Caps) (capacity : ℕ) (before : List (Action × Seen)) (here : Action × Seen) (number : ℕ)
     (now : Running) (asked : Result Event Fault) (entry : Record) (some : List Record)
     → IsReplay (running_at_first caps capacity) → IsShownRun caps capacity before some
@@ -44,46 +91,9 @@ differs caps capacity before here number now asked entry some i run lead may onl
       (subst (λ d. IsAllowed d (event_of e.first here.0) e.last) to.0 is)) in
       not-both (shows here.1 e.last) e.step.shown (subst (λ r. shows here.1 r ≡ false) same fails);
   lines = (entry, allowed_line (part_of now asked) entry) ∷ [];
-  told = record {
-    each = λ line k. each line k;
-    all = λ records more other is.
-        let to = lead records (standing caps capacity records) (run_of caps capacity before records i more) in
-        let same = only other (subst (λ q. IsAllowed now q other) to.1
-        (subst (λ d. IsAllowed d (event_of records here.0) other) to.0 is)) in (
-          (entry, allowed_line (part_of now asked) entry),
-          inl refl,
-          (part_of now asked, reason, ap (λ r. allowed_line (part_of now asked) r) same),
-        );
-    listed = record { order = (λ line i. absurd i, tt); once = (λ line i. absurd i, tt) };
-  };
+  told = all_lines caps capacity before here.0 now asked entry some i run lead may only;
   is = refl;
 }
-  where
-    reason : IsReason caps capacity before here.0 (part_of now asked)
-    reason =
-        let to = lead some (standing caps capacity some) (run_of caps capacity before some i run) in
-        record {
-          records = some;
-          run = run;
-          is = ap (λ q. part_of now q) (sym to.1) ∙ ap (λ d. part_of d (event_of some here.0)) (sym to.0);
-        }
-
-    first_line : IsAllowedLine caps capacity before here.0 entry (allowed_line (part_of now asked) entry)
-    first_line =
-        let to = lead some (standing caps capacity some) (run_of caps capacity before some i run) in
-        record {
-          records = some;
-          run = run;
-          allowed = subst (λ q. IsAllowed (standing caps capacity some) q entry) (sym to.1)
-              (subst (λ d. IsAllowed d asked entry) (sym to.0) may);
-          told = ap (λ q. allowed_line (part_of now q) entry) (sym to.1)
-              ∙ ap (λ d. allowed_line (part_of d (event_of some here.0)) entry) (sym to.0);
-        }
-
-    each : (line : Record × List ℕ) → In line ((entry, allowed_line (part_of now asked) entry) ∷ [])
-        → IsAllowedLine caps capacity before here.0 line.0 line.1
-    each line (inl same) = subst (λ (l : Record × List ℕ). IsAllowedLine caps capacity before here.0 l.0 l.1) same first_line
-    each line (inr none) = absurd none
 
 -- ---- a device that has made no step
 
@@ -126,3 +136,16 @@ poll_differs =
   where
     poll_not_active : shows (answered (codes "active")) nothing ≡ false
     poll_not_active = refl
+
+-- a word that is no command is not answered `nothing`
+pub not_answered_so : (records : List Record) → AreOf [] (Refuse BadCommand ∷ []) records
+    → AreShown (answered (codes "nothing") ∷ []) records → ⊥
+unfolding digits
+not_answered_so [] of shown = of
+not_answered_so (Stepped step ∷ records) of shown = absurd (let other = of.0 in cc)
+not_answered_so (Refused fault ∷ records) of shown =
+    let asked = of.0 in
+    let same : fault ≡ BadCommand = cc in
+    let shown : shows (answered (codes "nothing")) (Refused BadCommand) ≡ true =
+    subst (λ f. shows (answered (codes "nothing")) (Refused f) ≡ true) same shown.0 in
+    absurd cc

@@ -1,6 +1,6 @@
 -- Lists of one element or two, and devices of the worked rows that are followed.
 use Rattle.dsa_book.specs.declared.event.Event.TheVariants as event
-use Rattle.std.proofs.Common.{◌≡◌, false, List, [], ◌∷◌, inl, inr, Ok, arith, codes, length, refl, sym, subst}
+use Rattle.std.proofs.Common.{◌≡◌, false, List, [], ◌∷◌, inl, inr, Ok, ap, arith, codes, length, refl, sym, subst}
 use Rattle.std.{specs.{declared.{alloc.Global.{Global}, vec.Vec.{Vec}}}, proofs.lemmas.Option.{same_Some}}
 use Rattle.dsa_base.{specs.Lists.{In}, proofs.Tables.{not-both}}
 use Rattle.dsa_book.specs.declared.answer.Ticket.{Ticket}
@@ -45,6 +45,14 @@ not_two here way h = at h.records h.of_actions h.count
     at [] of count = of
     at (r ∷ []) of count = omega (arith, count)
     at (r ∷ q ∷ rs) of count = of.1
+
+-- devices of two capacities are not the same
+pub other_capacity : (t : Vec Ticket Global) → way_at_first 8 t ≡ way_at_first 9 t → ⊥
+other_capacity t same = omega (arith, ap (λ (way : Way). way.device.capacity) same)
+
+pub not_in_other : (t : Vec Ticket Global) → In (way_at_first 8 t) (way_at_first 9 t ∷ []) → ⊥
+not_in_other t (inl same) = other_capacity t (sym same)
+not_in_other t (inr none) = none
 
 -- one of another capacity is not alike the smallest device
 pub not_alike : (t : Vec Ticket Global) → IsAmong smallest_device_at_first (way_at_first 8 t ∷ []) → ⊥

@@ -1,10 +1,11 @@
 -- Observations and answers that the worked rows speak of.
 use Rattle.dsa_book.specs.declared.answer.Reply.TheVariants as reply
 use Rattle.dsa_book.specs.declared.event.Event.TheVariants as event
-use Rattle.std.specs.Prelude.{ℕ, Bool, String, false, List, [], ◌∷◌, ◌++◌, map, take, Some, None, codes}
+use Rattle.std.specs.Prelude.{ℕ, Bool, String, true, false, List, [], ◌∷◌, ◌++◌, map, take, Some, None, codes}
 use Rattle.std.specs.declared.{alloc.Global.{Global}, vec.Vec.{Vec}}
 use Rattle.dsa_book.specs.declared.answer.{Ticket.{Ticket}, DispatchAnswer.TheVariants.{Taken}}
-use Rattle.dsa_book.specs.declared.answer.{SubmitAnswer.{SubmitAnswer, TheVariants.{Accepted}}}
+use Rattle.dsa_book.specs.declared.answer.{SubmitAnswer.{SubmitAnswer, TheVariants.{Accepted, Dropped}}}
+use Rattle.dsa_book.specs.declared.answer.{Cause.TheVariants.{AtLimit}, ClearAnswer.TheVariants.{Cleared}}
 use Rattle.dsa_book.specs.declared.answer.FinishAnswer.TheVariants.{Done}
 use Rattle.dsa_book.specs.declared.answer.{IssueAnswer.TheVariants.{Ended}, WriteAnswer.TheVariants.{Written}}
 use Rattle.dsa_book.specs.declared.event.{Kind.TheVariants.{Enqcmd, Movdir64b}, Portal.TheVariants.{Limited}}
@@ -15,7 +16,8 @@ use Rattle.dsa_regs.specs.declared.Command.TheVariants.{EnableDevice, EnableWq}
 use Rattle.dsa_scenario.specs.declared.actions.Action.{Action, TheVariants.{Ask, Finish, Refuse}}
 use Rattle.dsa_scenario.specs.declared.run.Record.{Record, TheVariants.{Stepped, Refused}}
 use Rattle.dsa_scenario.specs.{Steps.{standing}, Worked.{record_ticket, stepped, fill, caps_of_a_run, queue_of_a_run}}
-use Rattle.dsa_scenario.specs.Worked.{group_of_a_run, submission_of_a_run, smallest_caps, smallest_caps_text, document_text}
+use Rattle.dsa_scenario.specs.Worked.{group_of_a_run, records_of_a_run, submission_of_a_run, smallest_caps}
+use Rattle.dsa_scenario.specs.Worked.{smallest_caps_text, document_text}
 use Rattle.dsa_conform.specs.{declared.{told.{Line.{Line}, Told.{Told}}, way.Way.{Way}}, Seen.{Seen}}
 
 -- the text of an answer was seen
@@ -121,6 +123,65 @@ after_all = standing caps_of_three_queues 9 records_of_two_queues
 -- and after engine 0 took from the first queue
 abbrev pub after_a_take : Running
 after_a_take = standing caps_of_three_queues 9 (records_of_two_queues ++ from_first ∷ [])
+
+-- ---- a device with two dedicated queues that hold one entry each
+
+abbrev pub caps_of_two_queues : Caps
+caps_of_two_queues = record caps_of_a_run { queues = 2 }
+
+abbrev pub dedicated_queue : QueueConfig
+dedicated_queue = record queue_of_a_run { size = 1; dedicated = true }
+
+abbrev pub dedicated_answer : ℕ → SubmitAnswer → Record
+dedicated_answer queue answer = stepped (event.Submit 0 queue Limited Movdir64b fill) (reply.Submit answer)
+
+-- engine 0 took from one of them; then two came into the first, of which the last was dropped
+abbrev pub records_of_an_error : Record → SubmitAnswer → List Record
+records_of_an_error take answer =
+    stepped (event.WriteQueue 0 dedicated_queue) (reply.Write Written) ∷
+    stepped (event.WriteQueue 1 dedicated_queue) (reply.Write Written) ∷
+    stepped (event.WriteGroup 0 (record group_of_a_run { queues = 3 })) (reply.Write Written) ∷
+    stepped (event.Issue EnableDevice) (reply.Issue (Ended 0)) ∷
+    stepped (event.Issue (EnableWq 0)) (reply.Issue (Ended 0)) ∷
+    stepped (event.Issue (EnableWq 1)) (reply.Issue (Ended 0)) ∷
+    dedicated_answer 0 (Accepted (record_ticket 3 0)) ∷
+    dedicated_answer 1 (Accepted (record_ticket 5 1)) ∷
+    take ∷
+    dedicated_answer 0 answer ∷
+    dedicated_answer 0 (Dropped AtLimit) ∷ []
+
+-- it took from the first, and one error came, or from the second, and two came
+abbrev pub records_of_one_error : List Record
+records_of_one_error = records_of_an_error from_first (Accepted (record_ticket 7 2))
+
+abbrev pub records_of_two_errors : List Record
+records_of_two_errors = records_of_an_error
+    (stepped (event.Dispatch 0) (reply.Dispatch (Taken (record_ticket 5 1) 1)))
+    (Dropped AtLimit)
+
+abbrev pub observed_of_an_error : List (Action × Seen)
+observed_of_an_error = map (λ entry. (action_of_record entry, nothing_seen)) records_of_one_error
+
+-- what is cleared then
+abbrev pub cleared : Bool → Record
+cleared overflow = stepped event.ClearError
+    (reply.Clear (Cleared (record { queue = 0; cause = AtLimit; overflow = overflow })))
+
+-- ---- a device whose parts do not belong together: its queue has room, and no cell is the device's
+
+abbrev pub without_cells : Running → Running
+without_cells d = record d {
+  state = record d.state {
+    work = record d.state.work {
+      setup = record d.state.work.setup { caps = record caps_of_a_run { total_size = 0; engines = 0 } };
+    };
+  };
+}
+
+abbrev pub no_cells : Running
+no_cells = without_cells (standing caps_of_a_run 9 (take 4 records_of_a_run))
+
+-- ---- lines, and what is told of devices
 
 -- an answer with this text
 abbrev pub line_of : Record → String Global → Line

@@ -10,6 +10,7 @@ ghost use Rattle.dsa_book.specs.declared.answer.DispatchAnswer.TheVariants.{Take
 ghost use Rattle.dsa_book.specs.declared.answer.FetchAnswer.TheVariants.{Fetched};
 ghost use Rattle.dsa_book.specs.declared.answer.StartAnswer.TheVariants.{Started};
 ghost use Rattle.dsa_book.specs.declared.answer.PollAnswer.TheVariants.{Active, Nothing};
+ghost use Rattle.dsa_book.specs.declared.answer.FinishAnswer.TheVariants.{Gone};
 ghost use Rattle.dsa_book.specs.declared.answer.Reply.TheVariants as reply;
 ghost use Rattle.dsa_book.specs.declared.event.Event.TheVariants as event;
 ghost use Rattle.dsa_book.specs.declared.event.Kind.TheVariants.{Enqcmd, Movdir64b};
@@ -19,18 +20,19 @@ ghost use Rattle.dsa_scenario.specs.declared.actions.Action.TheVariants.{Ask, Fi
 ghost use Rattle.dsa_desc.specs.declared.Outcome.TheVariants.{Success};
 ghost use Rattle.dsa_scenario.specs.declared.faults.ScenarioFault.TheVariants.{NotJson, BadStep, BadCaps, Differs};
 ghost use Rattle.dsa_scenario.specs.declared.run.Record.{Record, TheVariants.{Refused}};
-ghost use Rattle.dsa_scenario.specs.Worked.{whole, object_of, changed, command_step, poll_step, record_ticket, stepped, fill, smallest_caps, smallest_caps_text, no_caps_text, document_text, caps_of_a_run, group_of_a_run, records_of_a_run};
+ghost use Rattle.dsa_scenario.specs.Worked.{accepted, whole, object_of, changed, command_step, poll_step, record_ticket, stepped, fill, smallest_caps, smallest_caps_text, no_caps_text, document_text, caps_of_a_run, group_of_a_run, submission_of_a_run, records_of_a_run};
+ghost use Rattle.dsa_scenario.specs.Steps.{standing};
 ghost use Rattle.dsa_conform.specs.declared.following.Followed.TheVariants as followed;
 ghost use Rattle.dsa_conform.specs.declared.following.Followed.TheVariants.{Shown};
 ghost use Rattle.dsa_conform.specs.Seen.{seen_of, observation_of, seen_as, shows, zf_of, is_seen, AreShown};
 ghost use Rattle.dsa_conform.specs.Allowed.{IsAllowed, AreAllowed, IsAscending, NoneShows, AreSeenAlike, HasOneAnswer, IsNoDispatch, IsFollowed, offers, queue_taken};
 ghost use Rattle.dsa_conform.specs.Lines.{AreListed, allowed_line, conforms_text, seen_count, seen_line, difference_text};
-ghost use Rattle.dsa_conform.specs.Run.{IsShownRun, IsReason, IsDifference, AreRead, IsUnreadAt, IsConforming, IsDiffering, IsConformance, IsFollowedTo, IsOtherFault};
+ghost use Rattle.dsa_conform.specs.Run.{IsShownRun, IsAllowedLine, IsReason, AreAllLines, IsDifference, AreRead, IsUnreadAt, IsConforming, IsDiffering, IsConformance, IsFollowedTo, IsOtherFault};
 ghost use Rattle.dsa_conform.specs.declared.{told.Told.{Told}, way.Way.{Way}};
 ghost use Rattle.dsa_book.specs.declared.answer.Ticket.{Ticket};
 ghost use Rattle.dsa_conform.specs.ToldLines.{AddsLines, AreLinesTold, HasText, IsLineOf, IsLinePlaced, IsPlaceOf, IsTextTold};
 ghost use Rattle.dsa_conform.specs.Ways.{queue_of_record, queues_taken, AreAdded, AreDevicesAlike, AreFollowed, AreGone, AreGoneOn, AreNamedEnds, AreOn, AreStepped, Covers, IsAdded, IsEngineAlike, IsFollowedOn, IsGone, IsGoneOn, IsOn, IsOneGone, IsReadTo, IsTold, IsWayBy, IsFork, IsNamedEnd, IsOneWay, IsQueueAlike, RunFrom};
-ghost use Rattle.dsa_conform.specs.Worked.{told_allowing, way_at_first, records_of_two_queues, observed_of_two_queues, end_of_second, caps_of_three_queues, answered, flagged, answered_with, nothing_seen, by_enqcmd, by_movdir, observed_of_a_run, record_of_a_take, idle_words, from_first, from_second, from_third, after_some, after_all, after_a_take, line_of, smallest_device_at_first, document_of, poll_with};
+ghost use Rattle.dsa_conform.specs.Worked.{caps_of_two_queues, observed_of_an_error, records_of_one_error, records_of_two_errors, cleared, no_cells, told_allowing, way_at_first, records_of_two_queues, observed_of_two_queues, end_of_second, caps_of_three_queues, answered, flagged, answered_with, nothing_seen, by_enqcmd, by_movdir, observed_of_a_run, record_of_a_take, idle_words, from_first, from_second, from_third, after_some, after_all, after_a_take, line_of, smallest_device_at_first, document_of, poll_with};
 
 /// What a step object says was seen.
 pub fn observations()
@@ -181,6 +183,7 @@ pub fn alike()
     ensures queues { ¬ AreSeenAlike from_first from_second }
     ensures flags { ¬ AreSeenAlike (by_enqcmd (Accepted (record_ticket 3 12)))
         (by_movdir (Accepted (record_ticket 3 12))) }
+    ensures one { HasOneAnswer smallest_device_at_first (Ok event.Poll) }
     ensures either { ¬ HasOneAnswer after_all (Ok (event.Dispatch 0)) }
     ensures poll { IsNoDispatch (Ok event.Poll) }
     ensures word { IsNoDispatch (Err BadCommand) }
@@ -232,6 +235,10 @@ pub fn followed()
         → v.items ≡ []
         → ¬ IsFollowed smallest_device_at_first (Ok event.Poll) (answered (codes "active"))
         smallest_device_at_first (followed.Differs v) }
+    ensures none_allowed { (v : Vec Record Global)
+        → v.items ≡ []
+        → ¬ IsFollowed no_cells (Ok submission_of_a_run) nothing_seen no_cells
+        (followed.Differs v) }
     ensures another_state { ¬ IsFollowed smallest_device_at_first (Err BadCommand) nothing_seen
         (running_at_first smallest_caps 8) (Shown (Refused BadCommand)) }
 {}
@@ -331,8 +338,7 @@ pub fn verdicts()
         [] }
     ensures earlier { ¬ IsDifference smallest_caps 9
         ((Refuse BadCommand, answered (codes "nothing")) ∷ [])
-        (Ask event.Poll, answered (codes "active")) 1
-        (codes "step 1: poll\nseen: active\nallowed: nothing: no command is active\n") }
+        (Ask event.Poll, answered (codes "active")) 1 [] }
     ensures other_step { ¬ IsDiffering smallest_caps 9 (object_of poll_step ∷ []) 0
         (codes "step 0: poll\nseen: active\nallowed: nothing: no command is active\n") }
     ensures unread_behind { ¬ IsDiffering smallest_caps 9
@@ -344,6 +350,8 @@ pub fn verdicts()
         ((codes "answer", string (codes "nothing")) ∷ command_step)
         ∷ [])
         (conforms_text 1 1) }
+    ensures counted { IsConforming smallest_caps 9
+        (object_of poll_step ∷ []) (codes "conforms: 1 step, 0 answers seen\n") }
     ensures not_counted { ¬ IsConforming smallest_caps 9
         (object_of poll_step ∷ []) (conforms_text 0 0) }
     ensures counted_as_seen { ¬ IsConforming smallest_caps 9
@@ -431,9 +439,21 @@ pub fn devices_alike()
 /// Which answers leave one way to go on, and which steps name the entry that they end.
 #[tactic(auto, unfolding(dsa_scenario::specs::Worked::digits_on_literals))]
 pub fn ways()
+    ensures one { IsOneWay smallest_device_at_first (Ok event.Poll) nothing_seen }
+    ensures one_seen { IsOneWay after_all (Ok (event.Dispatch 0))
+        (answered (codes "taken from 2")) }
     ensures two { ¬ IsOneWay after_all (Ok (event.Dispatch 0)) nothing_seen }
+    ensures both { IsFork after_all (Ok (event.Dispatch 0)) nothing_seen (0 ∷ 2 ∷ []) }
+    ensures second { IsFork after_all (Ok (event.Dispatch 0)) (answered (codes "taken from 2"))
+        (2 ∷ []) }
+    ensures no_choice { IsFork smallest_device_at_first (Ok event.Poll) nothing_seen [] }
     ensures fork { ¬ IsFork after_all (Ok (event.Dispatch 0)) nothing_seen (0 ∷ []) }
     ensures no_fork { ¬ IsFork after_all (Ok (event.Dispatch 0)) nothing_seen [] }
+    ensures none_allowed { ¬ IsFork no_cells (Ok submission_of_a_run) nothing_seen (0 ∷ []) }
+    ensures covered { (t : Vec Ticket Global)
+        → Covers smallest_device_at_first (Ok event.Poll) nothing_seen (way_at_first 9 t ∷ []) }
+    ensures nothing_to_cover { Covers smallest_device_at_first (Ok event.Poll)
+        (answered (codes "active")) [] }
     ensures uncovered { ¬ Covers smallest_device_at_first (Ok event.Poll) nothing_seen [] }
     ensures by_name { IsNamedEnd (Finish 0 1 Success) }
     ensures no_end { IsNamedEnd (Ask event.Poll) }
@@ -455,6 +475,24 @@ pub fn ways()
         smallest_device_at_first }
     ensures more { ¬ RunFrom [] smallest_device_at_first [] (Refused BadCommand ∷ [])
         smallest_device_at_first }
+    ensures by_names { RunFrom [] (running_at_first caps_of_a_run 7) (take 8 observed_of_a_run)
+        (take 8 records_of_a_run)
+        (standing caps_of_a_run 7 (take 8 records_of_a_run)) }
+    ensures first_of_a_name { RunFrom (accepted (record_ticket 5 0) ∷ [])
+        (standing caps_of_a_run 9 (take 4 records_of_a_run))
+        ((Ask submission_of_a_run, nothing_seen) ∷ (Finish 0 0 Success, nothing_seen) ∷ [])
+        (stepped submission_of_a_run (reply.Submit (Accepted (record_ticket 3 0)))
+        ∷ stepped (event.Finish 0 (record_ticket 5 0) Success) (reply.Finish Gone)
+        ∷ [])
+        (standing caps_of_a_run 9 (take 6 records_of_a_run)) }
+    ensures other_end { ¬ RunFrom [] smallest_device_at_first
+        ((Ask event.Poll, answered (codes "nothing")) ∷ [])
+        (stepped event.Poll (reply.Poll Nothing) ∷ [])
+        (running_at_first smallest_caps 8) }
+    ensures not_allowed { ¬ RunFrom [] smallest_device_at_first
+        ((Ask event.Poll, answered (codes "active")) ∷ [])
+        (stepped event.Poll (reply.Poll Active) ∷ [])
+        smallest_device_at_first }
     ensures not_answered { ¬ RunFrom [] smallest_device_at_first
         ((Ask event.Poll, nothing_seen) ∷ []) (Refused BadCommand ∷ []) smallest_device_at_first }
     ensures not_seen { ¬ RunFrom [] smallest_device_at_first
@@ -471,6 +509,67 @@ pub fn reasons()
     ensures at_first { IsReason smallest_caps 9 [] (Ask event.Poll)
         (codes ": no command is active") }
     ensures another { ¬ IsReason smallest_caps 9 [] (Ask event.Poll) (codes ": no command") }
+    ensures no_run { ¬ IsReason smallest_caps 9
+        ((Refuse BadCommand, answered (codes "nothing")) ∷ []) (Ask event.Poll)
+        (codes ": no command is active") }
+{}
+
+/// The lines of all that is allowed after runs that show what was seen.
+#[tactic(auto, unfolding(dsa_scenario::specs::Worked::digits_on_literals))]
+pub fn allowed_lines()
+    ensures line { IsAllowedLine smallest_caps 9 ((Refuse BadCommand, nothing_seen) ∷ [])
+        (Ask event.Poll) (stepped event.Poll (reply.Poll Nothing))
+        (codes "allowed: nothing: no command is active\n") }
+    ensures no_run { ¬ IsAllowedLine smallest_caps 9
+        ((Refuse BadCommand, answered (codes "nothing")) ∷ []) (Ask event.Poll)
+        (stepped event.Poll (reply.Poll Nothing))
+        (codes "allowed: nothing: no command is active\n") }
+    ensures not_allowed { ¬ IsAllowedLine smallest_caps 9 [] (Ask event.Poll)
+        (stepped event.Poll (reply.Poll Active))
+        (codes "allowed: active: no command is active\n") }
+    ensures no_reason { ¬ IsAllowedLine smallest_caps 9 [] (Ask event.Poll)
+        (stepped event.Poll (reply.Poll Nothing)) (codes "allowed: nothing\n") }
+    ensures all { AreAllLines smallest_caps 9 ((Refuse BadCommand, nothing_seen) ∷ [])
+        (Ask event.Poll)
+        ((
+          stepped event.Poll (reply.Poll Nothing),
+          codes "allowed: nothing: no command is active\n",
+        )
+        ∷ []) }
+    ensures another { ¬ AreAllLines smallest_caps 9 [] (Ask event.Poll)
+        ((
+          stepped event.Poll (reply.Poll Nothing),
+          codes "allowed: nothing: no command is active\n",
+        )
+        ∷ (
+          stepped event.Poll (reply.Poll Active),
+          codes "allowed: active: no command is active\n",
+        )
+        ∷ []) }
+    ensures none { ¬ AreAllLines smallest_caps 9 [] (Ask event.Poll) [] }
+    ensures left_out { ¬ AreAllLines caps_of_three_queues 9 (take 8 observed_of_two_queues)
+        (Ask (event.Dispatch 0))
+        ((from_first, codes "allowed: taken 0 from 0\n") ∷ []) }
+    ensures twice { ¬ AreAllLines smallest_caps 9 [] (Ask event.Poll)
+        ((
+          stepped event.Poll (reply.Poll Nothing),
+          codes "allowed: nothing: no command is active\n",
+        )
+        ∷ (
+          stepped event.Poll (reply.Poll Nothing),
+          codes "allowed: nothing: no command is active\n",
+        )
+        ∷ []) }
+{}
+
+/// A line whose text begins with that of another answer, which has no line.
+#[tactic(auto, unfolding(dsa_scenario::specs::Worked::digits_on_literals))]
+pub fn beginning_alike()
+    ensures one { IsShownRun caps_of_two_queues 20 observed_of_an_error records_of_one_error }
+    ensures two { IsShownRun caps_of_two_queues 20 observed_of_an_error records_of_two_errors }
+    ensures longer { ¬ AreAllLines caps_of_two_queues 20 observed_of_an_error
+        (Ask event.ClearError)
+        ((cleared true, codes "allowed: cleared 0 at-limit overflow\n") ∷ []) }
 {}
 
 /// The order of lines, and where one comes among them.
@@ -492,9 +591,16 @@ pub fn lines_in_order()
     ensures lost { (text : String Global)
         → ¬ IsLinePlaced (line_of from_first text ∷ []) (line_of from_second text)
         (line_of from_second text ∷ []) }
-    ensures another { (text : String Global)
-        → ¬ IsLinePlaced [] (line_of from_first text)
-        (line_of from_second text ∷ line_of from_first text ∷ []) }
+    ensures another { (one : String Global)
+        → (other : String Global)
+        → string_bytes one ≡ codes "a"
+        → string_bytes other ≡ codes "b"
+        → ¬ IsLinePlaced [] (line_of from_second other)
+        (line_of from_first one ∷ line_of from_second other ∷ []) }
+    ensures not_listed { (one : String Global)
+        → (other : String Global)
+        → ¬ IsLinePlaced (line_of from_second one ∷ []) (line_of from_first other)
+        (line_of from_second one ∷ line_of from_first other ∷ []) }
     ensures not_there { (text : String Global)
         → ¬ IsLinePlaced [] (line_of from_first text) [] }
 {}
@@ -602,6 +708,10 @@ pub fn devices_added()
         (way_at_first 9 t) None }
     ensures not_on { (t : Vec Ticket Global)
         → ¬ IsOn smallest_device_at_first (Ok event.Poll) nothing_seen (way_at_first 8 t) None }
+    ensures none_allowed { (a : Way)
+        → ¬ IsOn no_cells (Ok submission_of_a_run) nothing_seen a None }
+    ensures nothing_to_tell { (told : Told)
+        → ¬ IsTold no_cells (Ok submission_of_a_run) nothing_seen told }
     ensures not_asked_for { (a : Way)
         → (told : Told)
         → IsFollowedOn smallest_caps 9 [] 1 a (Some told) }
@@ -643,24 +753,37 @@ pub fn devices_gone()
         (Ask event.Poll, answered (codes "nothing")) 1
         smallest_device_at_first (Ok event.Poll) (a ∷ []) (told ∷ [])
         (a ∷ way_at_first 9 t ∷ []) (told ∷ []) }
-    ensures told { (a : Way)
-        → (one : Told)
+    ensures told { (one : Told)
         → (other : Told)
         → IsTold smallest_device_at_first (Ok event.Poll) (answered (codes "active")) other
         → IsGone smallest_caps 9 [] (Ask event.Poll, answered (codes "active")) 0
-        smallest_device_at_first (Ok event.Poll) (a ∷ []) (one ∷ []) (a ∷ []) (one ∷ other ∷ []) }
+        smallest_device_at_first (Ok event.Poll) [] (one ∷ []) [] (one ∷ other ∷ []) }
     ensures others { (a : Way)
         → ¬ IsGone smallest_caps 9 [] (Ask event.Poll, nothing_seen) 1
         smallest_device_at_first (Ok event.Poll) [] [] (a ∷ []) [] }
-    ensures lost { (a : Way)
+    ensures lost { (t : Vec Ticket Global)
         → ¬ IsGone smallest_caps 9 [] (Ask event.Poll, nothing_seen) 0
-        smallest_device_at_first (Ok event.Poll) (a ∷ []) [] [] [] }
-    ensures not_told { (told : Told)
+        smallest_device_at_first (Ok event.Poll) (way_at_first 8 t ∷ []) []
+        (way_at_first 9 t ∷ []) [] }
+    ensures not_told { (t : Vec Ticket Global)
+        → (told : Told)
         → ¬ IsGone smallest_caps 9 [] (Ask event.Poll, nothing_seen) 0
-        smallest_device_at_first (Ok event.Poll) [] [] [] (told ∷ []) }
-    ensures forgotten { (told : Told)
+        smallest_device_at_first (Ok event.Poll) (way_at_first 9 t ∷ []) []
+        (way_at_first 9 t ∷ []) (told ∷ []) }
+    ensures forgotten { (t : Vec Ticket Global)
+        → (told : Told)
         → ¬ IsGone smallest_caps 9 [] (Ask event.Poll, nothing_seen) 0
-        smallest_device_at_first (Ok event.Poll) [] (told ∷ []) [] [] }
+        smallest_device_at_first (Ok event.Poll) (way_at_first 9 t ∷ []) (told ∷ [])
+        (way_at_first 9 t ∷ []) [] }
+    ensures none_allowed { (a : Way)
+        → ¬ IsGone caps_of_a_run 9 [] (Ask submission_of_a_run, nothing_seen) 0 no_cells
+        (Ok submission_of_a_run) (a ∷ []) [] (a ∷ []) [] }
+    ensures told_of_another { (why : String Global)
+        → (allowed : Vec Record Global)
+        → string_bytes why ≡ codes ": q1 is empty"
+        → ¬ IsGone smallest_caps 9 [] (Ask event.Poll, answered (codes "active")) 0
+        smallest_device_at_first (Ok event.Poll) [] (told_allowing why allowed ∷ []) []
+        (told_allowing why allowed ∷ []) }
     ensures uncovered { (t : Vec Ticket Global)
         → ¬ IsGone smallest_caps 9 [] (Ask event.Poll, nothing_seen) 0
         smallest_device_at_first (Ok event.Poll) (way_at_first 8 t ∷ []) []
@@ -679,6 +802,13 @@ pub fn devices_gone()
     ensures one_uncovered { (t : Vec Ticket Global)
         → ¬ IsOneGone smallest_device_at_first (Ok event.Poll) nothing_seen
         (way_at_first 8 t ∷ []) [] }
+    ensures one_none_allowed { (a : Way)
+        → ¬ IsOneGone no_cells (Ok submission_of_a_run) nothing_seen (a ∷ []) [] }
+    ensures one_told_of_another { (why : String Global)
+        → (allowed : Vec Record Global)
+        → string_bytes why ≡ codes ": q1 is empty"
+        → ¬ IsOneGone smallest_device_at_first (Ok event.Poll) (answered (codes "active")) []
+        (told_allowing why allowed ∷ []) }
     ensures one_neither { ¬ IsOneGone smallest_device_at_first (Ok event.Poll)
         (answered (codes "active")) [] [] }
     ensures all_on { (t : Vec Ticket Global)
@@ -701,11 +831,20 @@ pub fn devices_gone()
     ensures other_way { (a : Way)
         → ¬ AreGone smallest_caps 9 [] (Ask event.Poll, nothing_seen) 1 [] (a ∷ []) [] }
     ensures told_of_none { (told : Told)
-        → ¬ AreGone smallest_caps 9 [] (Ask event.Poll, nothing_seen) 0 [] [] (told ∷ []) }
+        → ¬ AreGone smallest_caps 9 [] (Ask event.Poll, answered (codes "active")) 0 [] []
+        (told ∷ []) }
+    ensures told_though_shown { (t : Vec Ticket Global)
+        → (told : Told)
+        → ¬ AreGone smallest_caps 9 [] (Ask event.Poll, nothing_seen) 0 (way_at_first 9 t ∷ [])
+        (way_at_first 9 t ∷ []) (told ∷ []) }
+    ensures not_gone { (t : Vec Ticket Global)
+        → ¬ AreGone smallest_caps 9 [] (Ask event.Poll, nothing_seen) 0 (way_at_first 9 t ∷ [])
+        [] [] }
     ensures not_come { (a : Way)
         → ¬ AreGone smallest_caps 9 [] (Ask event.Poll, nothing_seen) 1 (a ∷ []) [] [] }
-    ensures none_read { AreGoneOn smallest_caps 9 (null ∷ []) (Ask event.Poll, nothing_seen)
-        0 [] [] [] }
+    ensures none_read { (told : Told)
+        → AreGoneOn smallest_caps 9 (null ∷ []) (Ask event.Poll, nothing_seen) 0 [] []
+        (told ∷ []) }
     ensures none_followed { (t : Vec Ticket Global)
         → AreGoneOn smallest_caps 9 (object_of poll_step ∷ []) (Ask event.Poll, nothing_seen) 0
         (way_at_first 8 t ∷ []) [] [] }
@@ -714,7 +853,11 @@ pub fn devices_gone()
 /// Devices that may be the one that was seen, and the step that they come to.
 pub fn devices_followed()
     ensures not_followed { (a : Way) → ¬ AreFollowed smallest_caps 9 [] 1 (a ∷ []) }
-    ensures none { ¬ AreFollowed smallest_caps 9 [] 0 [] }
+    ensures none { ¬ AreFollowed smallest_caps 9
+        ((Refuse BadCommand, answered (codes "nothing")) ∷ []) 1 [] }
+    ensures missed { (way : Way)
+        → way.device ≡ after_a_take
+        → ¬ AreFollowed caps_of_three_queues 9 (take 9 observed_of_two_queues) 9 (way ∷ []) }
     ensures first { (t : Vec Ticket Global)
         → IsFollowedTo smallest_caps 9 [] 0 smallest_device_at_first t.items
         → AreFollowed smallest_caps 9 [] 0 (way_at_first 9 t ∷ []) }
@@ -726,12 +869,20 @@ pub fn devices_followed()
         → AreStepped smallest_caps 9 ((Refuse BadCommand, nothing_seen) ∷ [])
         (Ask event.Poll, nothing_seen) 1
         (a ∷ []) None }
-    ensures unread { AreOn smallest_caps 9 (null ∷ []) (Ask event.Poll, nothing_seen) 0 [] [] None }
+    ensures unread { (a : Way)
+        → AreOn smallest_caps 9 (null ∷ []) (Ask event.Poll, nothing_seen) 0 (a ∷ []) [] None }
     ensures not_before { AreOn smallest_caps 9 (object_of poll_step ∷ [])
         (Ask event.Poll, nothing_seen) 0 []
         [] None }
-    ensures read { IsReadTo (object_of poll_step ∷ object_of poll_step ∷ [])
-        ((Ask event.Poll, nothing_seen) ∷ (Ask event.Poll, nothing_seen) ∷ [])
+    ensures read { IsReadTo
+        (changed (codes "word") (whole 0) command_step
+        ∷ object_of poll_step
+        ∷ object_of poll_step
+        ∷ [])
+        ((Refuse BadCommand, nothing_seen)
+        ∷ (Ask event.Poll, nothing_seen)
+        ∷ (Ask event.Poll, nothing_seen)
+        ∷ [])
         1 (Ask event.Poll, nothing_seen) }
     ensures not_read { ¬ IsReadTo (null ∷ [])
         ((Ask event.Poll, nothing_seen) ∷ []) 0 (Ask event.Poll, nothing_seen) }

@@ -1,19 +1,26 @@
--- Bars, entries and steps that the worked rows speak of.
+-- Bars, entries, levels and steps that the worked rows speak of.
 use Rattle.dsa_book.specs.declared.answer.Reply.TheVariants as reply
 use Rattle.dsa_book.specs.declared.event.Event.TheVariants as event
-use Rattle.std.specs.Prelude.{ℕ, false, List, [], ◌∷◌, Option, None, Some, ⊤}
+use Rattle.std.specs.Prelude.{ℕ, ◌≤◌, false, List, [], ◌∷◌, length, Option, None, Some, ⊤}
+use Rattle.std.proofs.Common.{arith, lit≤, refl}
+use denote.RawPtr.{null_ptr}
 use Rattle.std.specs.declared.{alloc.Global.{Global}, vec.Vec.{Vec}}
-use Rattle.dsa_book.specs.declared.answer.{DispatchAnswer.TheVariants.{Taken}, FetchAnswer.TheVariants.{Fetched}}
+use Rattle.dsa_book.specs.declared.answer.{DispatchAnswer.TheVariants.{Idle, Taken}, FetchAnswer.TheVariants.{Fetched}}
 use Rattle.dsa_book.specs.declared.answer.{FinishAnswer.TheVariants.{Done}, StartAnswer.TheVariants.{Started}}
-use Rattle.dsa_book.specs.declared.fate.{Fate.{Fate}, FateRow.{FateRow}}
+use Rattle.dsa_book.specs.declared.fate.{Fate.{Fate, TheVariants.{Abandoned, Completed}}, FateRow.{FateRow}}
 use Rattle.dsa_book.specs.declared.event.{Kind.TheVariants.{Movdir64b}, Portal.TheVariants.{Limited}}
 use Rattle.dsa_book.specs.declared.answer.SubmitAnswer.TheVariants.{Accepted}
+use Rattle.dsa_book.specs.State.{opening}
+use Rattle.dsa_device.specs.Running.{Running, running_at_first}
+use Rattle.dsa_regs.specs.{Config.{zero_group}, declared.Caps.{Caps}}
 use Rattle.dsa_desc.specs.declared.Outcome.TheVariants.{Success}
 use Rattle.dsa_scenario.specs.declared.run.Record.{Record}
-use Rattle.dsa_scenario.specs.Worked.{digits_on_literals, fill, record_ticket, stepped}
+use Rattle.dsa_scenario.specs.{Steps.{Visit, visit}, Worked.{digits_on_literals, fill, group_of_a_run, queue_of_a_run}}
+use Rattle.dsa_scenario.specs.Worked.{accepted, record_ticket, stepped}
 use Rattle.dsa_draw.specs.declared.{bars.{Bar.{Bar}, End.{End}}, engines.Lanes.{Lanes}}
 use Rattle.dsa_draw.specs.declared.bands.Band.{Band}
 use Rattle.dsa_draw.specs.declared.moment.{BandKind.TheVariants.{Queue, Group}, Level.{Level}, Moment.{Moment}}
+use Rattle.dsa_draw.specs.declared.run.Story.{Story}
 use Rattle.dsa_draw.specs.Pages.{svg_text, page_size_text, view_text, sheet_text, row_name_text, rule_text, dot_text}
 use Rattle.dsa_draw.specs.Pages.{cross_text}
 use Rattle.dsa_draw.specs.Bands.{lines_text, frame_text, name_text, band_range_text, band_text}
@@ -76,3 +83,135 @@ moments_of_a_batch levels =
     moment_of levels (stepped (event.Fetch 1 fill) (reply.Fetch (Fetched (record_ticket 4 1)))) (Some 0) 0 ∷
     moment_of levels (stepped (event.Start 1) (reply.Start (Started (record_ticket 4 1)))) (Some 0) 0 ∷
     moment_of levels (stepped (event.Finish 1 (record_ticket 4 1) Success) (reply.Finish (Done 1))) (Some 0) 1 ∷ []
+
+-- ---- lists as the code has them
+
+-- a vector of these
+abbrev pub vector : {A : Type 0} → Global → (items : List A) → length items ≤ 9 → Vec A Global
+vector memory items few = record {
+  ptr = null_ptr;
+  len = length items;
+  cap = length items;
+  alloc = memory;
+  items = items;
+  ok = (refl, omega arith);
+  small = omega (arith, few);
+}
+
+abbrev pub level : ℕ → ℕ → ℕ → Level
+level filled mark limit = record { filled = filled; mark = mark; limit = limit }
+
+-- what a step answered, with levels of two queues and of one group
+abbrev pub moment_with : Global → Record → Level → Level → Level → Moment
+moment_with memory entry first second group = record {
+  entry = entry;
+  queues = vector memory (first ∷ second ∷ []) (lit≤ tt);
+  groups = vector memory (group ∷ []) (lit≤ tt);
+  batch = None;
+  ended = 0;
+}
+
+-- the engine found nothing
+abbrev pub idle_step : ℕ → Record
+idle_step engine = stepped (event.Dispatch engine) (reply.Dispatch Idle)
+
+-- of the first queue nothing was configured; the levels of the second and of the group rise
+abbrev pub moments_with_levels : Global → List Moment
+moments_with_levels memory =
+    moment_with memory (idle_step 0) (level 0 0 0) (level 1 3 8) (level 2 4 6)
+    ∷ moment_with memory (idle_step 0) (level 0 0 0) (level 4 3 8) (level 6 4 6) ∷ []
+
+-- ---- a story of three engines' steps on a device of two
+
+abbrev pub caps_of_a_drawing : Caps
+caps_of_a_drawing = record {
+  queues = 1;
+  groups = 3;
+  engines = 2;
+  total_size = 16;
+  read_buffers = 32;
+  slots = 4;
+  max_batch_shift = 5;
+  max_xfer_shift = 20;
+}
+
+-- the level of its queue, and none of its groups
+abbrev pub moment_of_a_story : Global → Record → ℕ → ℕ → Moment
+moment_of_a_story memory entry filled ended = record {
+  entry = entry;
+  queues = vector memory (level filled 3 4 ∷ []) (lit≤ tt);
+  groups = vector memory (level 0 0 0 ∷ level 0 0 0 ∷ level 0 0 0 ∷ []) (lit≤ tt);
+  batch = Some 7;
+  ended = ended;
+}
+
+abbrev pub story : Global → Story
+story memory = record {
+  caps = caps_of_a_drawing;
+  moments =
+      vector memory
+      (moment_of_a_story memory (idle_step 0) 1 0
+      ∷ moment_of_a_story memory (stepped (event.Fetch 1 fill) (reply.Fetch (Fetched (record_ticket 4 0)))) 2 0
+      ∷ moment_of_a_story memory (stepped (event.Fetch 2 fill) (reply.Fetch (Fetched (record_ticket 5 1)))) 1 1 ∷ [])
+      (lit≤ tt);
+  fates = vector memory (record { name = 0; parent = Some 7; fate = Completed 1 } ∷ []) (lit≤ tt);
+}
+
+-- ---- engine 7 has a batch and its member, with names, steps and cells that are not the same numbers
+
+abbrev pub moments_of_a_third_name : Vec Level Global → List Moment
+moments_of_a_third_name levels =
+    moment_of levels (accepted (record_ticket 5 0)) None 0 ∷ moment_of levels (accepted (record_ticket 6 1)) None 0
+    ∷ moment_of levels (accepted (record_ticket 8 2)) None 0
+    ∷ moment_of levels (stepped (event.Dispatch 7) (reply.Dispatch (Taken (record_ticket 8 2) 0))) (Some 2) 0
+    ∷ moment_of levels (stepped (event.Fetch 7 fill) (reply.Fetch (Fetched (record_ticket 9 3)))) (Some 2) 0
+    ∷ moment_of levels (stepped (event.Start 7) (reply.Start (Started (record_ticket 9 3)))) (Some 2) 0
+    ∷ moment_of levels (idle_step 1) None 2 ∷ []
+
+-- ---- a device with an entry that waits, a batch on engine 1 and two entries that ended
+
+abbrev pub device_of_a_drawing : Running
+device_of_a_drawing =
+    let work = (opening caps_of_a_drawing).work in
+    record {
+      caps = caps_of_a_drawing;
+      capacity = 9;
+      history = [];
+      state = record {
+        work = record work {
+          setup = record work.setup {
+            configs = queue_of_a_run ∷ [];
+            groups = group_of_a_run ∷ zero_group ∷ zero_group ∷ [];
+          };
+          content =
+              ((record { 0 = 3 }, record { name = 6; parent = None; desc = fill; queue = 0; running = false }) ∷ [])
+              ∷ [];
+          notes = None ∷ Some (record { batch = 7; count = 3; fetched = 2; failed = false; closed = false }) ∷ [];
+          fates = ended_row 4 Abandoned ∷ ended_row 5 (Completed 1) ∷ [];
+        };
+        active = None;
+      };
+    }
+
+abbrev pub moment_of_a_device : Global → Moment
+moment_of_a_device memory = record {
+  entry = idle_step 1;
+  queues = vector memory (level 1 8 16 ∷ []) (lit≤ tt);
+  groups = vector memory (level 0 0 32 ∷ level 0 0 0 ∷ level 0 0 0 ∷ []) (lit≤ tt);
+  batch = Some 7;
+  ended = 2;
+}
+
+-- the step that led to it
+abbrev pub visit_of_a_device : Visit
+visit_of_a_device = visit 3 (running_at_first caps_of_a_drawing 9) (idle_step 1) device_of_a_drawing
+
+abbrev pub story_with : Global → Moment → Story
+story_with memory moment = record {
+  caps = caps_of_a_drawing;
+  moments = vector memory (moment ∷ []) (lit≤ tt);
+  fates = vector memory (ended_row 4 Abandoned ∷ ended_row 5 (Completed 1) ∷ []) (lit≤ tt);
+}
+
+abbrev pub story_of_a_device : Global → Story
+story_of_a_device memory = story_with memory (moment_of_a_device memory)

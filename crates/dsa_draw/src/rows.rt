@@ -1,6 +1,7 @@
 //! Worked drawings: texts, bars and lanes at chosen values, by computation.
 
-ghost use Rattle.std.specs.Prelude.{◌≡◌, ◌++◌, [], ◌∷◌, Some, None, true, false, map, take, codes};
+ghost use Rattle.std.specs.Prelude.{◌≡◌, ◌++◌, [], ◌∷◌, Some, None, true, false, map, replicate, take, codes};
+ghost use Rattle.std.proofs.Common.{lit≤};
 ghost use Rattle.std.specs.declared.{alloc.Global.{Global}, vec.Vec.{Vec}};
 ghost use Rattle.dsa_regs.specs.declared.Command.TheVariants.{EnableDevice};
 ghost use Rattle.dsa_regs.specs.declared.Fault.TheVariants.{BadCommand};
@@ -21,20 +22,22 @@ ghost use Rattle.dsa_book.specs.declared.event.Actor.TheVariants.{Admin, Client,
 ghost use Rattle.dsa_book.specs.declared.event.Event.TheVariants as event;
 ghost use Rattle.dsa_book.specs.declared.fate.Fate.TheVariants.{Abandoned, Aborted, Completed};
 ghost use Rattle.dsa_scenario.specs.declared.run.Record.TheVariants.{Refused};
-ghost use Rattle.dsa_scenario.specs.{Steps.{standing}, Worked.{caps_of_a_run, record_ticket, records_of_a_run, stepped}};
+ghost use Rattle.dsa_scenario.specs.Steps.{standing};
+ghost use Rattle.dsa_scenario.specs.Worked.{caps_of_a_run, fill, record_ticket, records_of_a_run, stepped};
 ghost use Rattle.dsa_draw.specs.declared.marks.Mark.TheVariants.{Done, Wait, Failed};
 ghost use Rattle.dsa_draw.specs.declared.bands.{Line.TheVariants.{Filled, Mark, Limit}};
 ghost use Rattle.dsa_draw.specs.declared.moment.Level.{Level};
 ghost use Rattle.dsa_draw.specs.Marks.{mark_of, reply_mark};
-ghost use Rattle.dsa_draw.specs.Bands.{bands_of, bands_text, band_text, line_text, class_text, close_text, frame_text, highest, lower_end, name_text, next_step, next_top, path_text, band_range_text, value_of};
-ghost use Rattle.dsa_draw.specs.Moments.{batch_after, group_level_of, level_with, queue_level_of};
-ghost use Rattle.dsa_draw.specs.Drawings.{step_count};
+ghost use Rattle.dsa_draw.specs.Bands.{bands_end, bands_of, bands_text, band_text, highest_of, level_in, line_text, class_text, close_text, frame_text, highest, lower_end, name_text, next_step, next_top, path_text, band_range_text, value_of};
+ghost use Rattle.dsa_draw.specs.Moments.{batch_after, group_level_of, IsMomentOf, level_with, queue_level_of};
+ghost use Rattle.dsa_draw.specs.Drawings.{AreMoments, drawing_text, IsDrawnOf, IsStoryOf, step_count, story_bands_end, story_bands_text, story_engines_text, story_height};
 ghost use Rattle.dsa_draw.specs.Columns.{asked_text, column_text, columns_text, fifth_text};
 ghost use Rattle.dsa_draw.specs.Pages.{page_width, page_size_text, view_text, sheet_text, style_text, head_text, foot_text, row_name_text, rule_text, mark_text};
 ghost use Rattle.dsa_draw.specs.Rows.{label_above_text, asker_of, asker_mark_text, asker_text, rows_between, fate_mark, fates_text, names_above_text, marks_above_text, rows_above_text};
-ghost use Rattle.dsa_draw.specs.Bars.{bars_of, end_step, is_batch_named, free_place, in_lanes, all_lanes, lane_number, lanes_taken, is_bar_of};
+ghost use Rattle.dsa_draw.specs.Bars.{bars_of, end_step, engine_of_actor, is_batch_named, free_place, in_lanes, all_lanes, lane_number, lanes_taken, is_bar_of};
 ghost use Rattle.dsa_draw.specs.Engines.{bar_text, bars_text, batches_text, bars_in_lanes, box_part_text, bar_name_text, bar_title_text, class_of_end, class_of_fate, end_phrase, engine_bottom, engine_end, engine_marks_text, engine_part_text, engines_end, engines_text, fate_phrase, has_steps, is_step_by, lane_by, lanes_high, lanes_of, name_room, parent_phrase};
 ghost use Rattle.dsa_draw.specs.Worked.{bar_from, end_at, ended_row, five_lanes, group_band, moment_of, moments_of_a_batch, queue_band};
+ghost use Rattle.dsa_draw.specs.Worked.{device_of_a_drawing, idle_step, level, moment_of_a_device, moments_of_a_third_name, moments_with_levels, story, story_of_a_device, story_with, vector, visit_of_a_device};
 
 /// The width of a page, its head, names of rows, lines, and marks in the column of a step.
 #[tactic(auto, unfolding(crate::specs::Worked::drawn_on_literals))]
@@ -452,4 +455,145 @@ pub fn drawn_together()
         ++ codes "ss=\"column\" x=\"168\" y=\"128\" width=\"14\" height=\"16\"/><text class=\"la"
         ++ codes "bel\" x=\"170\" y=\"151\">2</text><path class=\"failed\" d=\"M172 133l6 6m0-6l"
         ++ codes "-6 6\"/>\n</g>\n" }
+{}
+
+/// The whole drawing of a story: two engines of three that made steps, one queue of four bands, and
+/// the numbers that place its parts.
+#[tactic(auto, unfolding(crate::specs::Worked::drawn_on_literals))]
+pub fn drawings()
+    ensures levels { (memory : Global)
+        → map (λ band. map (level_in band) (moments_with_levels memory))
+        (queue_band 1 ∷ group_band 0 ∷ group_band 1 ∷ [])
+        ≡ (level 1 3 8 ∷ level 4 3 8 ∷ []) ∷ (level 2 4 6 ∷ level 6 4 6 ∷ [])
+        ∷ (level 0 0 0 ∷ level 0 0 0 ∷ []) ∷ [] }
+    ensures bands_end { (memory : Global)
+        → bands_end 152 (queue_band 0 ∷ queue_band 1 ∷ group_band 0 ∷ [])
+        (moments_with_levels memory)
+        ≡ 264 }
+    ensures bands { (memory : Global)
+        → bands_text 2 152 (queue_band 0 ∷ queue_band 1 ∷ group_band 0 ∷ [])
+        (moments_with_levels memory)
+        ≡ codes "<path class=\"frame\" d=\"M112 152H140V200H112Z\"/>\n<path class=\"filled\" d="
+        ++ codes "\"M112 200H112V194H126V176H140V200Z\"/>\n<path class=\"mark\" d=\"M112 200H112V"
+        ++ codes "182H140\"/>\n<path class=\"limit\" d=\"M112 200H112V152H140\"/>\n<text x=\"4\" "
+        ++ codes "y=\"163\">queue 1</text>\n<text x=\"4\" y=\"176\">0 to 8</text>\n<path class=\""
+        ++ codes "frame\" d=\"M112 208H140V256H112Z\"/>\n<path class=\"filled\" d=\"M112 256H112V"
+        ++ codes "240H126V208H140V256Z\"/>\n<path class=\"mark\" d=\"M112 256H112V224H140\"/>\n<p"
+        ++ codes "ath class=\"limit\" d=\"M112 256H112V208H140\"/>\n<text x=\"4\" y=\"219\">buffe"
+        ++ codes "rs 0</text>\n<text x=\"4\" y=\"232\">0 to 6</text>\n" }
+    ensures steps { (memory : Global)
+        → step_count (replicate 1024 (moment_of_a_device memory))
+        ≡ 1024 }
+    ensures story_bands_end { (memory : Global)
+        → story_bands_end (story memory)
+        ≡ 208 }
+    ensures height { (memory : Global)
+        → story_height (story memory)
+        ≡ 273 }
+    ensures story { (memory : Global)
+        → drawing_text (story memory)
+        ≡ codes "<svg xmlns=\"http://www.w3.org/2000/svg\" width=\"210\" height=\"273\" viewBox=\"0"
+        ++ codes " 0 210 273\">\n"
+        ++ (style_text ++ codes "<rect class=\"sheet\" width=\"210\" height=\"273\"/>\n<path class="
+        ++ codes "\"grid\" d=\"M112 80v193\"/>\n<text x=\"114\" y=\"91\">0</text>\n<rect class="
+        ++ codes "\"column\" x=\"112\" y=\"80\" width=\"14\" height=\"193\"><title>step 0: dispa"
+        ++ codes "tch e0: idle</title></rect>\n<rect class=\"column\" x=\"126\" y=\"80\" width="
+        ++ codes "\"14\" height=\"193\"><title>step 1: fetch e1 fill 0 bytes: fetched 0</title><"
+        ++ codes "/rect>\n<rect class=\"column\" x=\"140\" y=\"80\" width=\"14\" height=\"193\">"
+        ++ codes "<title>step 2: fetch e2 fill 0 bytes: fetched 1</title></rect>\n<text x=\"4\" "
+        ++ codes "y=\"91\">step</text>\n<text x=\"4\" y=\"107\">clients</text>\n<text x=\"4\" y="
+        ++ codes "\"123\">administrator</text>\n<text x=\"4\" y=\"139\">fates</text>\n<path clas"
+        ++ codes "s=\"grid\" d=\"M112 96h42\"/>\n<path class=\"grid\" d=\"M112 112h42\"/>\n<path"
+        ++ codes " class=\"grid\" d=\"M112 128h42\"/>\n<g><title>step 2\nfate 0 7 completed 01\n"
+        ++ codes "</title><rect class=\"column\" x=\"140\" y=\"128\" width=\"14\" height=\"16\"/"
+        ++ codes "><circle class=\"done\" cx=\"147\" cy=\"136\" r=\"3\"/>\n</g>\n<path class=\"f"
+        ++ codes "rame\" d=\"M112 152H154V200H112Z\"/>\n<path class=\"filled\" d=\"M112 200H112V"
+        ++ codes "188H126V176H140V188H154V200Z\"/>\n<path class=\"mark\" d=\"M112 200H112V164H15"
+        ++ codes "4\"/>\n<path class=\"limit\" d=\"M112 200H112V152H154\"/>\n<text x=\"4\" y=\"1"
+        ++ codes "63\">queue 0</text>\n<text x=\"4\" y=\"176\">0 to 4</text>\n<text x=\"4\" y=\""
+        ++ codes "219\">engine 0</text>\n<circle class=\"wait\" cx=\"119\" cy=\"216\" r=\"3\"/>"
+        ++ codes "\n<path class=\"grid\" d=\"M112 230h42\"/>\n<text x=\"4\" y=\"245\">engine 1</"
+        ++ codes "text>\n<circle class=\"done\" cx=\"133\" cy=\"242\" r=\"3\"/>\n<g><title>entry"
+        ++ codes " 0 on e1, member of batch 7, from step 1 to 2: completed 01</title><rect class"
+        ++ codes "=\"waits\" x=\"126\" y=\"252\" width=\"14\" height=\"11\" rx=\"2\"/><text clas"
+        ++ codes "s=\"label\" x=\"128\" y=\"261\">0</text></g>\n<path class=\"grid\" d=\"M112 26"
+        ++ codes "9h42\"/>\n</svg>\n") }
+{}
+
+/// Bars of an engine whose number is not that of a step, a name or a cell, of one batch of two, and
+/// of an entry that ended with the first step.
+#[tactic(auto, unfolding(crate::specs::Worked::drawn_on_literals))]
+pub fn bars_of_numbers()
+    ensures engines { map engine_of_actor (Client 3 ∷ Admin ∷ Engine 2 ∷ []) ≡ 0 ∷ 0 ∷ 2 ∷ [] }
+    ensures of_names { (levels : Vec Level Global)
+        → bars_of (moments_of_a_third_name levels)
+        (record (ended_row 3 (Completed 1)) { parent = Some 2 } ∷ ended_row 2 (Completed 3) ∷ [])
+        ≡ record (bar_from 2 None 3 (end_at 6 (Completed 3))) { engine = 7; is_batch = true }
+        ∷ record (bar_from 3 (Some 2) 4 (end_at 6 (Completed 1))) { engine = 7; started = Some 5 }
+        ∷ [] }
+    ensures first_step { (levels : Vec Level Global)
+        → bars_of
+        (moment_of levels
+        (stepped (event.Fetch 7 fill) (reply.Fetch (fetch.Fetched (record_ticket 6 0)))) (Some 2) 1
+        ∷ [])
+        (ended_row 0 Abandoned ∷ [])
+        ≡ record (bar_from 0 (Some 2) 0 (end_at 0 Abandoned)) { engine = 7; started = None } ∷ [] }
+    ensures three_batches { batches_text 1 five_lanes
+        (record (bar_from 12 None 2 (end_at 8 Abandoned)) { is_batch = true }
+        ∷ record (bar_from 13 None 3 None) { engine = 0; is_batch = true }
+        ∷ record (bar_from 14 None 4 None) { is_batch = true; lane = 1 } ∷ [])
+        ≡ codes "<rect class=\"batch\" x=\"140\" y=\"200\" width=\"84\" height=\"65\"><title>bat"
+        ++ codes "ch of e1: batch 12 and its members</title></rect>\n<rect class=\"batch\" x=\"16"
+        ++ codes "8\" y=\"213\" width=\"70\" height=\"52\"><title>batch of e1: batch 14 and its m"
+        ++ codes "embers</title></rect>\n" }
+{}
+
+/// What a moment and a story have of a device after a step, and moments, stories and texts that are
+/// not of it, each by one part.
+pub fn drawn_of_a_device()
+    ensures moment { (memory : Global)
+        → IsMomentOf device_of_a_drawing (idle_step 1) (moment_of_a_device memory) }
+    ensures other_entry { (memory : Global)
+        → ¬ IsMomentOf device_of_a_drawing
+        (stepped (event.Dispatch 1) (reply.Dispatch dispatch.Full)) (moment_of_a_device memory) }
+    ensures other_queue { (memory : Global)
+        → ¬ IsMomentOf device_of_a_drawing (idle_step 1)
+        (record (moment_of_a_device memory) { queues = vector memory [] (lit≤ tt) }) }
+    ensures other_groups { (memory : Global)
+        → ¬ IsMomentOf device_of_a_drawing (idle_step 1)
+        (record (moment_of_a_device memory) { groups = vector memory [] (lit≤ tt) }) }
+    ensures other_batch { (memory : Global)
+        → ¬ IsMomentOf device_of_a_drawing (idle_step 1)
+        (record (moment_of_a_device memory) { batch = Some 3 }) }
+    ensures other_count { (memory : Global)
+        → ¬ IsMomentOf device_of_a_drawing (idle_step 1)
+        (record (moment_of_a_device memory) { ended = 1 }) }
+    ensures moments { (memory : Global)
+        → AreMoments (visit_of_a_device ∷ []) (moment_of_a_device memory ∷ []) }
+    ensures no_moment { AreMoments [] [] }
+    ensures one_more { (memory : Global)
+        → ¬ AreMoments [] (moment_of_a_device memory ∷ []) }
+    ensures two_of_one_step { (memory : Global)
+        → ¬ AreMoments (visit_of_a_device ∷ [])
+        (moment_of_a_device memory ∷ moment_of_a_device memory ∷ []) }
+    ensures other_moment { (memory : Global)
+        → ¬ AreMoments (visit_of_a_device ∷ [])
+        (record (moment_of_a_device memory) { ended = 1 } ∷ []) }
+    ensures story { (memory : Global)
+        → IsStoryOf (visit_of_a_device ∷ []) device_of_a_drawing (story_of_a_device memory) }
+    ensures other_caps { (memory : Global)
+        → ¬ IsStoryOf (visit_of_a_device ∷ []) device_of_a_drawing
+        (record (story_of_a_device memory) { caps = caps_of_a_run }) }
+    ensures other_story { (memory : Global)
+        → ¬ IsStoryOf (visit_of_a_device ∷ []) device_of_a_drawing
+        (story_with memory (record (moment_of_a_device memory) { ended = 1 })) }
+    ensures other_fates { (memory : Global)
+        → ¬ IsStoryOf (visit_of_a_device ∷ []) device_of_a_drawing
+        (record (story_of_a_device memory) { fates = vector memory [] (lit≤ tt) }) }
+    ensures drawn { (memory : Global)
+        → IsDrawnOf (visit_of_a_device ∷ []) device_of_a_drawing
+        (drawing_text (story_of_a_device memory)) }
+    ensures no_text { ¬ IsDrawnOf (visit_of_a_device ∷ []) device_of_a_drawing [] }
+    ensures text_of_a_step { (memory : Global)
+        → ¬ IsDrawnOf [] device_of_a_drawing (drawing_text (story_of_a_device memory)) }
 {}

@@ -1,11 +1,12 @@
 -- States in which a step may come, with the numbers of queues, engines, cells and names apart.
 use Rattle.std.specs.Prelude.{false, true, List, [], ◌∷◌, Option, None, Some}
 use Rattle.dsa_regs.specs.Worked.{caps, smallest, queues, first_group}
-use Rattle.dsa_regs.specs.{declared.Phase.{Phase, TheVariants.{On}}, Config.{zero_group}}
+use Rattle.dsa_regs.specs.{declared.Phase.{Phase, TheVariants.{Off, On}}, Config.{zero_group}}
 use Rattle.dsa_store.specs.Content.{Content, HeldEntry}
 use Rattle.dsa_book.specs.declared.note.BatchNote.{BatchNote}
 use Rattle.dsa_book.specs.State.{Setup, State, opening_setup}
 use Rattle.dsa_engines.specs.Engines.{EnginesState}
+use Rattle.dsa_worked.specs.Changes.{none_held}
 use Rattle.dsa_worked.specs.Setup.{no_op, move, batch, fenced, held_entry}
 
 -- both queues and both engines are of one group, in these phases; nine names were given
@@ -67,8 +68,25 @@ six_runs = held_entry 2 6 (Some 3) (move 4096) 0 true
 abbrev pub seven_waits : HeldEntry
 seven_waits = held_entry 4 7 (Some 3) no_op 0 false
 
+abbrev pub seven_moves : HeldEntry
+seven_moves = held_entry 4 7 (Some 3) (move 8192) 0 false
+
 abbrev pub seven_with_fence : HeldEntry
 seven_with_fence = held_entry 4 7 (Some 3) (fenced no_op) 0 false
+
+-- of two cells one has batch 3, which runs on engine 1, and one its member
+abbrev pub two_cells_in_use : State
+two_cells_in_use =
+    state_over
+    (record (one_group_in On (On ∷ On ∷ [])) {
+      caps = record caps { total_size = 0; slots = 0; max_batch_shift = 0 };
+    })
+    ([] ∷ [] ∷ [] ∷ (held_entry 0 3 None (batch 4) 0 true ∷ []) ∷ [] ∷ (held_entry 1 6 (Some 3) no_op 0 true ∷ []) ∷ [])
+    (notes_of note_open)
+
+-- queue 1 alone is On, and nothing is held
+abbrev pub on_the_second : State
+on_the_second = state_over (one_group_in On (Off ∷ On ∷ [])) none_held []
 
 -- engine 1 is of group 0 and has this note; nothing uses read buffers
 abbrev pub engines_with : BatchNote → EnginesState

@@ -155,6 +155,7 @@ pub fn tickets_alike()
     ensures second_cell { ¬ AskAlike (holding []) (holding (one_in 2 9))
         (event.Finish 1 (ticket 3 9) Success) (event.Finish 1 (ticket 3 9) Success) }
     ensures given { HeldAsGiven (ticket 4 0 ∷ ticket 2 9 ∷ []) (holding (one_in 2 9)) }
+    ensures given_a_later_name { HeldAsGiven (ticket 6 9 ∷ ticket 2 8 ∷ []) (holding (one_in 2 8)) }
     ensures not_given { ¬ HeldAsGiven (ticket 4 0 ∷ []) (holding (one_in 2 9)) }
     ensures in_another_cell { ¬ HeldAsGiven (ticket 3 9 ∷ []) (holding (one_in 2 9)) }
     ensures too_late { ¬ HeldAsGiven (ticket 4 10 ∷ ticket 2 9 ∷ []) (holding (one_in 2 9)) }

@@ -12,12 +12,13 @@ ghost use Rattle.dsa_device.specs.declared.faults.MakeFault.TheVariants.{BadCaps
 ghost use Rattle.dsa_device.specs.Made.{is_store_of, make_fault, make_table, opening_fault, fault_or_memory};
 ghost use Rattle.dsa_device.specs.Reads.{is_held};
 ghost use Rattle.dsa_book.specs.State.{opening};
-ghost use Rattle.dsa_device.specs.Running.{after_answer, awaited_end, running_at_first, watched_in, IsReplay};
+ghost use Rattle.dsa_device.specs.Running.{after_answer, awaited_end, running_at_first, watched_in, IsReplay, IsRunning, IsWholeDevice};
 ghost use Rattle.dsa_device.specs.Runs.{IsRunOf};
-ghost use Rattle.dsa_worked.specs.Setup.{ticket, step_of_a_group_write};
+ghost use Rattle.dsa_engines.specs.Engines.{engines_at_first};
+ghost use Rattle.dsa_worked.specs.Setup.{polled, ticket, step_of_a_group_write};
 ghost use Rattle.dsa_worked.specs.Uneven.{many_engines, many_queues, of_these};
 ghost use Rattle.dsa_worked.specs.Values.{three_lists, of_cell};
-ghost use Rattle.dsa_explain_rows.specs.Alike.{holding, with_active, with_content_of, with_history};
+ghost use Rattle.dsa_explain_rows.specs.Alike.{device_after, first_write, holding, none_awaited, none_counted, second_write, with_active, with_content_of};
 
 /// The causes that keep a device from being made, and which of them is told.
 #[tactic(auto, unfolding(dsa_store::specs::Content::held_count))]
@@ -88,24 +89,59 @@ pub fn entries_awaited()
 /// A device whose history is a legal one within its capacity, and that is its replay.
 pub fn replays()
     ensures new { IsReplay (running_at_first many_queues 1048576) }
+    ensures one_step { IsReplay (device_after 1 (first_write ∷ [])) }
     ensures caps { ¬ IsReplay (running_at_first (record many_queues { queues = 0 }) 1) }
     ensures bounded { ¬ IsReplay (running_at_first many_queues 1048577) }
-    ensures within { ¬ IsReplay
-        (with_history (step_of_a_group_write 0 (of_these 64 1) Written ∷ [])
-        (running_at_first many_queues 0)) }
+    ensures within { ¬ IsReplay (device_after 0 (first_write ∷ [])) }
+    ensures not_kept { ¬ IsReplay (device_after 1 (polled Nothing ∷ [])) }
     ensures legal { ¬ IsReplay
-        (with_history (step_of_a_group_write 9 (of_these 64 1) Written ∷ [])
-        (running_at_first many_queues 1)) }
+        (device_after 1 (step_of_a_group_write 9 (of_these 64 1) Written ∷ [])) }
     ensures replayed { ¬ IsReplay
         (record (running_at_first many_queues 1) { state = opening many_engines }) }
-    ensures no_events { IsRunOf (running_at_first many_queues 5) []
-        (step_of_a_group_write 0 (of_these 64 1) Written ∷ [])
-        (step_of_a_group_write 0 (of_these 64 1) Written ∷ [])
+{}
+
+/// What is added to a list of steps, where a device has answered these events.
+pub fn runs()
+    ensures no_events { IsRunOf (running_at_first many_queues 5) [] (first_write ∷ [])
+        (first_write ∷ []) (running_at_first many_queues 5) }
+    ensures two_events { IsRunOf (device_after 5 (first_write ∷ []))
+        (event.Poll ∷ event.WriteGroup 1 (of_these 32 0) ∷ [])
+        (first_write ∷ polled Nothing ∷ [])
+        (first_write ∷ polled Nothing ∷ polled Nothing ∷ second_write ∷ [])
+        (device_after 5 (first_write ∷ second_write ∷ [])) }
+    ensures full { IsRunOf (device_after 1 (first_write ∷ [])) (event.Poll ∷ []) []
+        (polled Full ∷ []) (device_after 1 (first_write ∷ [])) }
+    ensures steps_lost { ¬ IsRunOf (running_at_first many_queues 5) [] (first_write ∷ []) []
         (running_at_first many_queues 5) }
+    ensures no_step { ¬ IsRunOf (running_at_first many_queues 5) (event.Poll ∷ []) [] []
+        (running_at_first many_queues 5) }
+    ensures not_full { ¬ IsRunOf (running_at_first many_queues 5) (event.Poll ∷ []) []
+        (polled Full ∷ []) (running_at_first many_queues 5) }
+    ensures other_caps { ¬ IsRunOf (running_at_first many_queues 5) [] [] []
+        (record (running_at_first many_queues 5) { caps = many_engines }) }
     ensures other_capacity { ¬ IsRunOf (running_at_first many_queues 5) [] [] []
         (running_at_first many_queues 6) }
-    ensures other_caps { ¬ IsRunOf (running_at_first many_queues 5) [] [] []
-        (running_at_first many_engines 5) }
-    ensures steps_lost { ¬ IsRunOf (running_at_first many_queues 5) []
-        (step_of_a_group_write 0 (of_these 64 1) Written ∷ []) [] (running_at_first many_queues 5) }
+    ensures other_history { ¬ IsRunOf (running_at_first many_queues 5) [] [] []
+        (device_after 5 (first_write ∷ [])) }
+    ensures other_state { ¬ IsRunOf (running_at_first many_queues 5) [] [] []
+        (record (running_at_first many_queues 5) { state = opening many_engines }) }
+{}
+
+/// A device whose parts are in step, with what is kept of its queues and of the active command.
+pub fn whole_devices()
+    ensures whole { IsWholeDevice 23 (engines_at_first many_queues)
+        (running_at_first many_queues 5) }
+    ensures no_replay { ¬ IsWholeDevice 23 (engines_at_first many_queues)
+        (running_at_first many_queues 1048577) }
+    ensures no_cell { ¬ IsWholeDevice 22 (engines_at_first many_queues)
+        (running_at_first many_queues 5) }
+    ensures running { IsRunning 23 none_counted (engines_at_first many_queues) none_awaited
+        (running_at_first many_queues 5) }
+    ensures not_whole { ¬ IsRunning 22 none_counted (engines_at_first many_queues) none_awaited
+        (running_at_first many_queues 5) }
+    ensures miscounted { ¬ IsRunning 23 (record none_counted { held = replicate 7 1 })
+        (engines_at_first many_queues) none_awaited (running_at_first many_queues 5) }
+    ensures mark { ¬ IsRunning 23 none_counted (engines_at_first many_queues)
+        (record { active = Some (record { command = DrainAll; mark = 1 }); awaited = 0 })
+        (running_at_first many_queues 5) }
 {}

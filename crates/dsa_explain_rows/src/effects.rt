@@ -1,25 +1,25 @@
 //! What a step that may come does: a state for each effect and the one after it, and states in
 //! which it may not come.
 
-ghost use Rattle.std.specs.Prelude.{◌≡◌, [], ◌∷◌, Some, false, true};
+ghost use Rattle.std.specs.Prelude.{◌≡◌, [], ◌∷◌, None, Some, false, true};
 ghost use Rattle.dsa_regs.specs.Worked.{caps, dedicated_queue, first_group, second_group, shared_queue};
 ghost use Rattle.dsa_regs.specs.declared.Command.TheVariants.{AbortAll, DisableDevice, DrainAll};
 ghost use Rattle.dsa_regs.specs.declared.Deed.TheVariants.{Drain, Enable};
 ghost use Rattle.dsa_regs.specs.declared.Phase.TheVariants.{Off, On, Stopping};
-ghost use Rattle.dsa_regs.specs.declared.Scope.TheVariants.{Device, Queue};
+ghost use Rattle.dsa_regs.specs.declared.Scope.TheVariants.{Device, Queue, Queues};
 ghost use Rattle.dsa_book.specs.Commands.{after_abort, reset, work_with_setup};
 ghost use Rattle.dsa_book.specs.Machine.{intake_of, with_intake, with_work};
 ghost use Rattle.dsa_book.specs.State.{State};
 ghost use Rattle.dsa_book.specs.Submit.{after_accept};
-ghost use Rattle.dsa_book.specs.Work.{after_abandon, after_end, after_fetch, after_start};
+ghost use Rattle.dsa_book.specs.Work.{after_abandon, after_end, after_fetch, after_start, after_take};
 ghost use Rattle.dsa_book.specs.declared.answer.Cause.TheVariants.{WrongKind};
 ghost use Rattle.dsa_book.specs.declared.event.Kind.TheVariants.{Enqcmd, Movdir64b};
 ghost use Rattle.dsa_desc.specs.declared.Outcome.TheVariants.{PageFault};
 ghost use Rattle.dsa_engines.specs.Batch.{MayStart, MayTell, block_of_group};
 ghost use Rattle.dsa_laws.specs.Change.{IsAbandoned, IsAborted, IsAccepted, IsBegun, IsCleared, IsDeviceEnabled, IsEnded, IsFetched, IsGranted, IsGroupWritten, IsNoted, IsOver, IsQueueEnabled, IsQueueWritten, IsReset, IsStarted, IsTaken, IsWaiting};
 ghost use Rattle.dsa_worked.specs.Changes.{none_held};
-ghost use Rattle.dsa_worked.specs.Setup.{no_op};
-ghost use Rattle.dsa_explain_rows.specs.Effects.{another_device, batch_of_four, engines_with, in_second_queue, note_failed, note_open, notes_of, on_first_engine, one_group_in, seven_waits, seven_with_fence, six_runs, state_on, state_over, with_members};
+ghost use Rattle.dsa_worked.specs.Setup.{masked, no_op};
+ghost use Rattle.dsa_explain_rows.specs.Effects.{another_device, batch_of_four, engines_with, in_second_queue, note_failed, note_open, notes_of, on_first_engine, one_group_in, on_the_second, seven_moves, seven_waits, seven_with_fence, six_runs, state_on, state_over, two_cells_in_use, with_members};
 ghost use Rattle.dsa_explain_rows.specs.Tables.{two_groups};
 
 /// Entries come in, are taken, fetched, started, abandoned and ended.
@@ -48,6 +48,10 @@ pub fn of_entries()
         (state_on (with_members (six_runs ∷ seven_waits ∷ [])) (notes_of note_failed))
         (after_start
         (state_on (with_members (six_runs ∷ seven_waits ∷ [])) (notes_of note_failed)).work 1)) }
+    ensures started_with_two_buffers { IsStarted
+        (state_on (with_members (seven_moves ∷ [])) (notes_of note_open))
+        (with_work (state_on (with_members (seven_moves ∷ [])) (notes_of note_open))
+        (after_start (state_on (with_members (seven_moves ∷ [])) (notes_of note_open)).work 1)) }
     ensures abandoned { IsAbandoned
         (state_on (with_members (seven_with_fence ∷ [])) (notes_of note_failed))
         (with_work (state_on (with_members (seven_with_fence ∷ [])) (notes_of note_failed))
@@ -124,6 +128,10 @@ pub fn of_commands()
         (with_work (state_on in_second_queue [])
         (work_with_setup (after_abort 5 Device (state_on in_second_queue []).work)
         (reset Device (one_group_in On (On ∷ On ∷ []))))) }
+    ensures reset_while_off { IsReset (state_over (one_group_in Off []) none_held [])
+        (with_work (state_over (one_group_in Off []) none_held [])
+        (work_with_setup (after_abort 5 Device (state_over (one_group_in Off []) none_held []).work)
+        (reset Device (one_group_in Off [])))) }
 {}
 
 /// A command is refused while another is active, for a queue that is not there, in another phase,
@@ -134,6 +142,7 @@ pub fn of_refused_commands()
         (record (state_on [] []) { active = Some (record { command = DrainAll; mark = 9 }) })
         Drain Device }
     ensures no_such_queue { ¬ IsGranted (state_on [] []) Drain (Queue 2) }
+    ensures no_queue_named { ¬ IsGranted (state_on [] []) Drain (Queues (masked 0)) }
     ensures is_off { ¬ IsGranted (state_over (one_group_in Off []) [] []) Drain Device }
     ensures has_a_fault { ¬ IsGranted
         (state_over (record (one_group_in Off []) { groups = first_group ∷ first_group ∷ [] })
@@ -173,6 +182,12 @@ pub fn of_another_device()
         (state_over (one_group_in On (Off ∷ Off ∷ [])) [] []) another_device }
     ensures device_enabled { ¬ IsDeviceEnabled (state_over (one_group_in Off []) [] [])
         another_device }
+    ensures waiting { ¬ IsWaiting (state_on in_second_queue []) another_device }
+    ensures over { ¬ IsOver (state_on none_held [])
+        (record another_device { active = Some (record { command = DrainAll; mark = 9 }) }) }
+    ensures aborted { ¬ IsAborted (state_on in_second_queue []) another_device }
+    ensures reset { ¬ IsReset (state_on in_second_queue [])
+        (record another_device { active = Some (record { command = DrainAll; mark = 9 }) }) }
 {}
 
 /// What lacks one of the things that it needs.
@@ -215,6 +230,92 @@ pub fn of_what_is_missing()
         (state_over (one_group_in On (On ∷ Off ∷ [])) [] []) }
 {}
 
+/// One thing alone keeps an entry from coming in: its queue is at its limit or of the other kind,
+/// or each cell is in use; from being taken: another is at the front; from being fetched: there is
+/// no note, no batch, no member left, or no free cell.
+pub fn of_entries_that_lack_one_thing()
+    ensures at_the_limit { (s' : State)
+        → ¬ IsAccepted (state_over (record (one_group_in On (Off ∷ On ∷ [])) {
+          configs = shared_queue ∷ record dedicated_queue { size = 1 } ∷ [];
+        }) in_second_queue []) s' }
+    ensures other_kind { ¬ IsAccepted on_the_second
+        (with_intake on_the_second
+        (after_accept (intake_of on_the_second) 1 (Enqcmd 5) no_op (record { 0 = 3 })).1) }
+    ensures no_cells { (s' : State)
+        → ¬ IsAccepted (state_over (record (one_group_in On (On ∷ On ∷ [])) {
+          caps = record caps { total_size = 0; engines = 0 };
+        }) none_held []) s' }
+    ensures another_front { ¬ IsTaken (state_on in_second_queue [])
+        (with_work (state_on in_second_queue [])
+        (after_take (state_on in_second_queue []).work 0 1 seven_waits)) }
+    ensures no_note { (s' : State)
+        → ¬ IsFetched (state_on (with_members []) (None ∷ None ∷ [])) s' }
+    ensures no_batch { (s' : State) → ¬ IsFetched (state_on [] (notes_of note_open)) s' }
+    ensures all_fetched { (s' : State)
+        → ¬ IsFetched
+        (state_on (with_members []) (notes_of (record note_open { fetched = 4 }))) s' }
+    ensures no_free_cell { (s' : State) → ¬ IsFetched two_cells_in_use s' }
+{}
+
+/// One thing alone keeps a member from being started: a fence waits, one failed, or read buffers
+/// are wanting; from being abandoned: a fence waits, none failed, there is no fence, or none
+/// waits; and a batch from its end: a member is left.
+pub fn of_members_that_lack_one_thing()
+    ensures fence_waits { (s' : State)
+        → ¬ IsStarted
+        (state_on (with_members (six_runs ∷ seven_with_fence ∷ [])) (notes_of note_open)) s' }
+    ensures one_failed { (s' : State)
+        → ¬ IsStarted
+        (state_on (with_members (seven_with_fence ∷ [])) (notes_of note_failed)) s' }
+    ensures no_buffers { (s' : State)
+        → ¬ IsStarted (state_over (record (one_group_in On (On ∷ On ∷ [])) {
+          groups = record first_group { queues = 3; engines = 3; allowed = 1 } ∷ [];
+        }) (with_members (seven_moves ∷ [])) (notes_of note_open)) s' }
+    ensures fence_is_not_abandoned { (s' : State)
+        → ¬ IsAbandoned
+        (state_on (with_members (six_runs ∷ seven_with_fence ∷ [])) (notes_of note_failed)) s' }
+    ensures none_failed { (s' : State)
+        → ¬ IsAbandoned
+        (state_on (with_members (seven_with_fence ∷ [])) (notes_of note_open)) s' }
+    ensures no_fence { (s' : State)
+        → ¬ IsAbandoned (state_on (with_members (seven_waits ∷ [])) (notes_of note_failed)) s' }
+    ensures none_waits { (s' : State)
+        → ¬ IsAbandoned (state_on (with_members (six_runs ∷ [])) (notes_of note_failed)) s' }
+    ensures member_left { (s' : State)
+        → ¬ IsEnded (state_on (with_members (seven_waits ∷ [])) (notes_of note_open)) s' }
+{}
+
+/// Queues that are On are not enabled again, and not configured, nor is another size given while
+/// the device is On; no command is over where none is active and none may begin; an abort needs the
+/// device On, and loses nothing by the number of a drain, nor a reset by that of an abort; nothing
+/// is noted that was not refused.
+pub fn of_commands_that_lack_one_thing()
+    ensures queues_are_on { (s' : State) → ¬ IsQueueEnabled (state_on [] []) s' }
+    ensures none_begins { (s' : State) → ¬ IsOver (state_over (one_group_in Off []) [] []) s' }
+    ensures none_aborts { (s' : State)
+        → ¬ IsAborted (state_over (one_group_in Off []) [] []) s' }
+    ensures no_abort { ¬ IsAborted (state_on in_second_queue [])
+        (with_work (state_on in_second_queue [])
+        (after_abort 3 Device (state_on in_second_queue []).work)) }
+    ensures no_reset { ¬ IsReset (state_on in_second_queue [])
+        (with_work (state_on in_second_queue [])
+        (work_with_setup (after_abort 4 Device (state_on in_second_queue []).work)
+        (reset Device (one_group_in On (On ∷ On ∷ []))))) }
+    ensures locked { (s' : State) → ¬ IsQueueWritten (state_on [] []) s' }
+    ensures smaller { ¬ IsQueueWritten (state_over (one_group_in On (On ∷ Off ∷ [])) [] [])
+        (state_over (record (one_group_in On (On ∷ Off ∷ [])) {
+          configs = shared_queue ∷ record dedicated_queue { size = 1 } ∷ [];
+        }) [] []) }
+    ensures larger { ¬ IsQueueWritten (state_over (one_group_in On (On ∷ Off ∷ [])) [] [])
+        (state_over (record (one_group_in On (On ∷ Off ∷ [])) {
+          configs = shared_queue ∷ record dedicated_queue { size = 3 } ∷ [];
+        }) [] []) }
+    ensures not_refused { ¬ IsNoted (state_on [] [])
+        (state_over (record (one_group_in On (On ∷ On ∷ [])) {
+          noted = Some (record { queue = 1; cause = WrongKind; overflow = false });
+        }) [] []) }
+{}
+
 /// Engine 1 of group 0 may start member 7 of its batch.
 pub fn of_starts()
     ensures with_a_fence { MayStart (one_group_in On []) (engines_with note_open)
@@ -232,6 +333,15 @@ pub fn of_starts()
         (with_members (seven_waits ∷ [])) 1 seven_waits 0 }
     ensures another_home { ¬ MayStart (one_group_in On []) (engines_with note_open)
         (with_members (seven_waits ∷ [])) 1 seven_waits 1 }
+    ensures no_engine { ¬ MayStart
+        (record (one_group_in On []) { caps = record caps { engines = 1 } })
+        (engines_with note_open) ([] ∷ [] ∷ [] ∷ [] ∷ (seven_waits ∷ []) ∷ []) 1 seven_waits 0 }
+    ensures no_group { ¬ MayStart (one_group_in On [])
+        (record (engines_with note_open) { homes = None ∷ Some 2 ∷ [] })
+        (with_members (seven_waits ∷ [])) 1 seven_waits 2 }
+    ensures no_room { ¬ MayStart (one_group_in On [])
+        (record (engines_with note_open) { buffers = record two_groups { used = 7 ∷ 0 ∷ [] } })
+        (with_members (seven_moves ∷ [])) 1 seven_moves 0 }
     ensures told_of_the_group { MayTell two_groups (block_of_group 4 (Some 1)) }
     ensures told_of_no_group { MayTell two_groups (block_of_group 4 None) }
     ensures beyond_the_groups { ¬ MayTell two_groups (block_of_group 4 (Some 2)) }

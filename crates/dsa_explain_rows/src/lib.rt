@@ -1,5 +1,5 @@
 //! Worked rows of the reasons and of the sentences that tell them, of answers that are alike, of
-//! devices, and of what a step may do.
+//! devices, of linked cells, and of what a step may do.
 #![tactic(auto)]
 
 pub mod alike;
@@ -10,6 +10,7 @@ pub mod dispatch;
 pub mod effects;
 pub mod faults;
 pub mod lines;
+pub mod links;
 pub mod members;
 pub mod parts;
 pub mod sentences;

@@ -1,7 +1,7 @@
 -- JSON values, step objects and records that the worked rows speak of.
 use Rattle.dsa_book.specs.declared.answer.Reply.TheVariants as reply
 use Rattle.dsa_book.specs.declared.event.Event.TheVariants as event
-use Rattle.std.specs.Prelude.{ℕ, ◌-◌, ◌^◌, ◌++◌, ◌&&◌, negsuc, Bool, true, false, not, List, [], ◌∷◌, filter}
+use Rattle.std.specs.Prelude.{ℕ, ◌-◌, ◌^◌, ◌++◌, ◌&&◌, negsuc, Bool, true, false, not, List, [], ◌∷◌, filter, take}
 use Rattle.std.specs.Prelude.{codes, bytes_eq, Option, None, is_some, is_none, option_and_then}
 use Rattle.std.specs.Prelude.{⊤}
 use Rattle.std.specs.{List.{list_all}, Fmt.{digits}}
@@ -19,6 +19,7 @@ use Rattle.dsa_book.specs.declared.answer.{PollAnswer.TheVariants.{Full}, WriteA
 use Rattle.dsa_book.specs.declared.event.{Event.{Event}, Kind.TheVariants.{Enqcmd, Movdir64b}}
 use Rattle.dsa_book.specs.declared.event.Portal.TheVariants.{Limited}
 use Rattle.dsa_book.specs.declared.fate.{Fate.{Fate}, FateRow.{FateRow}}
+use Rattle.dsa_device.specs.Running.{Running, running_at_first}
 use Rattle.dsa_scenario.specs.declared.actions.Action.{Action, TheVariants.{Ask, Finish, Refuse}}
 use Rattle.dsa_scenario.specs.declared.run.Record.{Record, TheVariants.{Stepped, Refused}}
 use Rattle.dsa_scenario.specs.Fields.{whole_of}
@@ -202,6 +203,16 @@ smallest_caps = record {
   max_xfer_shift = 0;
 }
 
+-- no device has these
+abbrev pub no_caps : Caps
+no_caps = record smallest_caps { queues = 0 }
+
+-- the least device, with these fates
+abbrev pub running_with_fates : List FateRow → Running
+running_with_fates fates =
+    let first = running_at_first smallest_caps 9 in
+    record first { state = record first.state { work = record first.state.work { fates = fates } } }
+
 abbrev pub caps_text : List ℕ → List ℕ
 caps_text queues =
     codes "{\"queues\":" ++ queues ++ codes ",\"groups\":1,\"engines\":1,\"total_size\":1,\"read_buffers\":1,"
@@ -217,6 +228,14 @@ no_caps_text = caps_text (codes "0")
 abbrev pub document_text : List ℕ → List ℕ → List ℕ → List ℕ
 document_text caps capacity steps =
     codes "{\"caps\":" ++ caps ++ codes ",\"capacity\":" ++ capacity ++ codes ",\"steps\":[" ++ steps ++ codes "]}"
+
+-- a document of this capacity without a step
+abbrev pub stepless_text : List ℕ → List ℕ
+stepless_text capacity = document_text smallest_caps_text capacity []
+
+-- a document of one step, which polls
+abbrev pub poll_text : List ℕ
+poll_text = document_text smallest_caps_text (codes "9") (codes "{\"do\":\"poll\"}")
 
 -- the number of 8 bits at the key `n` of a JSON text
 abbrev pub read_number : List ℕ → Option ℕ
@@ -296,14 +315,22 @@ actions_of_a_run =
     Finish 0 0 Success ∷
     Ask event.Poll ∷ []
 
-abbrev pub records_of_a_run : List Record
-records_of_a_run =
+-- and those up to the submission
+abbrev pub actions_of_a_submission : List Action
+actions_of_a_submission = take 6 actions_of_a_run
+
+abbrev pub records_of_a_submission : List Record
+records_of_a_submission =
     stepped (event.WriteQueue 0 queue_of_a_run) (reply.Write Written) ∷
     stepped (event.WriteGroup 0 group_of_a_run) (reply.Write Written) ∷
     stepped (event.Issue EnableDevice) (reply.Issue (Ended 0)) ∷
     stepped (event.Issue (EnableWq 0)) (reply.Issue (Ended 0)) ∷
     Refused BadCommand ∷
-    stepped submission_of_a_run (reply.Submit (Accepted (record_ticket 3 0))) ∷
+    stepped submission_of_a_run (reply.Submit (Accepted (record_ticket 3 0))) ∷ []
+
+abbrev pub records_of_a_run : List Record
+records_of_a_run =
+    records_of_a_submission ++
     stepped (event.Dispatch 0) (reply.Dispatch (Taken (record_ticket 3 0) 0)) ∷
     stepped (event.Finish 0 (record_ticket 3 0) Success) (reply.Finish (Done 1)) ∷
     stepped event.Poll (reply.Poll Full) ∷ []

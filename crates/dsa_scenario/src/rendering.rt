@@ -44,7 +44,8 @@ pub trait Render: Drop {
 }
 
 /// Reads one document to the end of input and writes what `what` makes of it, by at most
-/// [`MAX_READS`] reads. It gives the fault that is told after the text.
+/// [`MAX_READS`] reads. It gives what it wrote and what is still held: a program that ends then can
+/// leave its memory to the system.
 ///
 /// The whole text is made before the first byte is written. The faults come in the order of
 /// [`ScenarioFault`]; want of memory comes where it is refused. On `Write` the writer has got a
@@ -54,12 +55,12 @@ pub fn render_counted<D: Render, R: Read, W: Write>(
     what: &D,
     reader: &mut CountedReader<'_, R>,
     writer: &mut WatchedWriter<'_, W>,
-) -> Result<Option<ScenarioFault>, ScenarioFault>
+) -> Result<Rendering, ScenarioFault>
     ensures reader { IsReadFor R.remaining result reader.old reader.new }
     ensures writer { IsWrittenFor result writer.old writer.new }
     ensures reads { asked_of reader.new ≤ asked_of reader.old + MAX_READS }
     ensures ok { IfOk result
-        (λ fault. IsTextWritten (λ bytes text. D.is_rendering what.now bytes fault text)
+        (λ r. IsTextWritten (λ bytes text. D.is_rendering what.now bytes r.fault text)
         (counted_remaining R.remaining reader.old)
         (counted_remaining R.remaining reader.new) (watched_contents W.contents writer.old)
         (watched_contents W.contents writer.new)) }
@@ -79,17 +80,17 @@ pub fn render_counted<D: Render, R: Read, W: Write>(
     write_rendering(alloc, what, &bytes, writer)
 }
 
-// Writes what `what` makes of these bytes. It gives the fault that is told after the text.
+// Writes what `what` makes of these bytes, and gives it.
 fn write_rendering<D: Render, W: Write>(
     alloc: Global,
     what: &D,
     bytes: &[u8],
     writer: &mut WatchedWriter<'_, W>,
-) -> Result<Option<ScenarioFault>, ScenarioFault>
+) -> Result<Rendering, ScenarioFault>
     ensures writer { IsWrittenFor result writer.old writer.new }
     ensures ok { IfOk result
-        (λ fault. (text : List ℕ)
-        × D.is_rendering what.now bytes.now fault text
+        (λ r. (text : List ℕ)
+        × D.is_rendering what.now bytes.now r.fault text
         × Appends (watched_contents W.contents writer.old)
         (watched_contents W.contents writer.new) text) }
 
@@ -110,11 +111,11 @@ fn write_rendering<D: Render, W: Write>(
 {
     let rendering = what.render(alloc, bytes)?;
     write_text(writer, rendering.text.as_bytes())?;
-    Ok(rendering.fault)
+    Ok(rendering)
 }
 
-/// Reads one document to the end of input and writes what `what` makes of it. It gives the fault
-/// that is told after the text.
+/// Reads one document to the end of input and writes what `what` makes of it. It gives what it
+/// wrote and what is still held.
 ///
 /// All of it is the work of [`render_counted`], which is lent the reader as one that is counted.
 pub fn render_input<D: Render, R: Read, W: Write>(
@@ -122,10 +123,10 @@ pub fn render_input<D: Render, R: Read, W: Write>(
     what: &D,
     reader: &mut R,
     writer: &mut WatchedWriter<'_, W>,
-) -> Result<Option<ScenarioFault>, ScenarioFault>
+) -> Result<Rendering, ScenarioFault>
     ensures writer { IsWrittenFor result writer.old writer.new }
     ensures ok { IfOk result
-        (λ fault. IsTextWritten (λ bytes text. D.is_rendering what.now bytes fault text)
+        (λ r. IsTextWritten (λ bytes text. D.is_rendering what.now bytes r.fault text)
         (R.remaining reader.old) (R.remaining reader.new)
         (watched_contents W.contents writer.old) (watched_contents W.contents writer.new)) }
 

@@ -1,9 +1,9 @@
 //! Worked documents and lines: what the definitions answer at chosen values, by computation.
 
-ghost use Rattle.std.specs.Prelude.{◌≡◌, ◌^◌, ◌+◌, ◌++◌, [], ◌∷◌, ℕ, List, codes, map, replicate, negsuc, Some, None, Ok, Err, true, false};
+ghost use Rattle.std.specs.Prelude.{⊤, ◌≡◌, ◌≢◌, ◌^◌, ◌+◌, ◌++◌, [], ◌∷◌, ℕ, List, codes, flat_map, length, map, replicate, negsuc, Some, None, Ok, Err, true, false};
 ghost use Rattle.serde_json.specs.Data.{negative, null, boolean, number, string, array, no_items, item};
 ghost use Rattle.dsa_desc.specs.declared.Outcome.TheVariants.{Success, PageFault};
-ghost use Rattle.dsa_regs.specs.declared.Command.TheVariants.{EnableWq};
+ghost use Rattle.dsa_regs.specs.declared.Command.TheVariants.{EnableDevice, EnableWq};
 ghost use Rattle.dsa_regs.specs.declared.Fault.TheVariants.{BadCommand, Busy, BadIndex};
 ghost use Rattle.dsa_book.specs.declared.answer.Cause.TheVariants.{AtLimit, NotEnabled, WrongKind};
 ghost use Rattle.dsa_book.specs.declared.answer.ClearAnswer.TheVariants.{Cleared, Nothing, Full};
@@ -20,6 +20,7 @@ ghost use Rattle.dsa_book.specs.declared.event.Event.TheVariants.{Submit, Dispat
 ghost use Rattle.dsa_book.specs.declared.event.Kind.TheVariants.{Enqcmd, Movdir64b};
 ghost use Rattle.dsa_book.specs.declared.event.Portal.TheVariants.{Limited, Unlimited};
 ghost use Rattle.dsa_book.specs.declared.fate.Fate.TheVariants.{Completed, Aborted, Abandoned};
+ghost use Rattle.dsa_device.specs.Running.{running_at_first};
 ghost use Rattle.dsa_scenario.specs.declared.actions.Action.TheVariants.{Ask, Finish, Refuse};
 ghost use Rattle.dsa_scenario.specs.declared.counted.CountedReader.{CountedReader};
 ghost use Rattle.dsa_scenario.specs.declared.faults.ScenarioFault.{ScenarioFault};
@@ -30,13 +31,14 @@ ghost use Rattle.dsa_scenario.specs.Fields.{whole_of, truth_of, text_of, hex_byt
 ghost use Rattle.dsa_scenario.specs.Actions.{caps_of, action_of};
 ghost use Rattle.dsa_scenario.specs.Counted.{counted_remaining, asked_of, given_of, has_reader_failed};
 ghost use Rattle.dsa_scenario.specs.Counted.{HasGiven, IsAskedFor, IsReadFor};
-ghost use Rattle.dsa_scenario.specs.Document.{head_of, list_of_items, IsFaultOf};
+ghost use Rattle.dsa_scenario.specs.Document.{head_of, list_of_items, HasHead, IsBadAt, IsDocument, IsFaultOf, IsFirstBad, IsJson, IsOpenable};
 ghost use Rattle.dsa_scenario.specs.Faults.{IsFaultNoted};
 ghost use Rattle.dsa_scenario.specs.Lines.{reply_text, record_text, row_text, lines_of_run};
-ghost use Rattle.dsa_scenario.specs.Run.{ticket_of_name, event_of, steps_of_records, AreLinesOf};
-ghost use Rattle.dsa_scenario.specs.Scenario.{HasFault, IsRenderingOf, IsTextCutShort, IsTextWritten, IsWholeDocument};
-ghost use Rattle.dsa_scenario.specs.Watched.{has_refused, IsWrittenFor};
-ghost use Rattle.dsa_scenario.specs.Worked.{actions_of_a_run, caps_of_a_run, lines_of_a_run, whole, read_number, fate, smallest_caps_text, no_caps_text, document_text, object_of, changed, texts, takes, refuses, needs_each, are_below, is_truth, is_text, some_caps, some_document, queue_step, group_step, fill_text, fill, enqcmd_step, movdir_step, dispatch_step, fetch_step, start_step, finish_step, command_step, poll_step, clear_step, record_ticket, stepped, accepted, record_of_a_fetch};
+ghost use Rattle.dsa_scenario.specs.Run.{ticket_of_name, event_of, steps_of_records, AreLinesOf, AreOf};
+ghost use Rattle.dsa_scenario.specs.Scenario.{HasFault, IsCutShort, IsRenderingOf, IsTextCutShort, IsTextWritten, IsWholeDocument};
+ghost use Rattle.dsa_scenario.specs.Steps.{line_of_step, standing, visit, visits, AreLinesOfSteps, IsAtFirst, IsTextOfDocument, IsTextOfRun, IsWalkTo};
+ghost use Rattle.dsa_scenario.specs.Watched.{has_refused, is_closed, IsWrittenFor};
+ghost use Rattle.dsa_scenario.specs.Worked.{actions_of_a_run, actions_of_a_submission, caps_of_a_run, no_caps, poll_text, records_of_a_submission, running_with_fates, smallest_caps, stepless_text, lines_of_a_run, whole, read_number, fate, smallest_caps_text, no_caps_text, document_text, object_of, changed, texts, takes, refuses, needs_each, are_below, is_truth, is_text, some_caps, some_document, queue_step, group_step, fill_text, fill, enqcmd_step, movdir_step, dispatch_step, fetch_step, start_step, finish_step, command_step, poll_step, clear_step, record_ticket, stepped, accepted, record_of_a_fetch};
 
 /// Numbers are whole, without sign, and below the limit of their field; the key stands in an
 /// object.
@@ -85,6 +87,7 @@ pub fn numbers_in_json()
 pub fn hex_digits()
     ensures none { hex_bytes_of [] ≡ Some (replicate 64 0) }
     ensures lower { hex_bytes_of (codes "0a9f") ≡ Some (0x0a ∷ 0x9f ∷ replicate 62 0) }
+    ensures byte { hex_bytes_of (codes "1f") ≡ Some (0x1f ∷ replicate 63 0) }
     ensures upper { hex_bytes_of (codes "A0F9") ≡ Some (0xa0 ∷ 0xf9 ∷ replicate 62 0) }
     ensures odd { hex_bytes_of (codes "0a9") ≡ None }
     ensures below_digits { hex_bytes_of (codes "0/") ≡ None }
@@ -397,6 +400,132 @@ pub fn events()
         ≡ record { event = Poll; reply = Poll Nothing } ∷ [] }
 {}
 
+/// Records that answer actions, each after those before it in their order.
+pub fn records_of_actions()
+    ensures first_ticket { AreOf []
+        (Ask (Submit 0 0 Limited Movdir64b fill)
+        ∷ Ask (Submit 0 0 Limited Movdir64b fill)
+        ∷ Finish 0 0 Success
+        ∷ [])
+        (accepted (record_ticket 5 0)
+        ∷ accepted (record_ticket 6 0)
+        ∷ stepped (Finish 0 (record_ticket 5 0) Success) (Finish NotReady)
+        ∷ []) }
+    ensures another_second { ¬ AreOf [] (Refuse Busy ∷ Refuse Busy ∷ [])
+        (Refused Busy ∷ Refused BadIndex ∷ []) }
+{}
+
+/// A device before its first step.
+pub fn devices_at_first()
+    ensures new { IsAtFirst smallest_caps 9 (running_at_first smallest_caps 9) [] }
+    ensures another_device { ¬ IsAtFirst smallest_caps 9 (running_at_first smallest_caps 8) [] }
+    ensures no_device { ¬ IsAtFirst no_caps 9 (running_at_first no_caps 9) [] }
+    ensures a_ticket { ¬ IsAtFirst smallest_caps 9 (running_at_first smallest_caps 9)
+        (record_ticket 3 0 ∷ []) }
+{}
+
+/// The steps of a run have the history so far, and a line each, and then each fate has one.
+#[tactic(auto, unfolding(crate::specs::Worked::digits_on_literals))]
+pub fn steps_of_a_run()
+    ensures histories { map (λ step. step.after.history)
+        (visits smallest_caps 9 []
+        (stepped (Issue EnableDevice) (Issue (Ended 0)) ∷ stepped Poll (Poll Finished) ∷ []))
+        ≡ (record { event = Issue EnableDevice; reply = Issue (Ended 0) } ∷ [])
+        ∷ (record { event = Issue EnableDevice; reply = Issue (Ended 0) }
+        ∷ record { event = Poll; reply = Poll Finished }
+        ∷ [])
+        ∷ [] }
+    ensures lines { AreLinesOfSteps
+        (visit 0 (running_at_first smallest_caps 9) (Refused BadCommand)
+        (running_at_first smallest_caps 9)
+        ∷ visit 1 (running_at_first smallest_caps 9) (accepted (record_ticket 7 3))
+        (running_at_first smallest_caps 9)
+        ∷ [])
+        (running_with_fates (fate 1 Abandoned ∷ fate 0 (Completed 1) ∷ []))
+        (codes "refused 13 BadCommand\naccepted 3\nfate 1 - abandoned\nfate 0 - completed 01\n") }
+{}
+
+/// A walk, and what is none: other actions, another number, another device, one that cannot be, a
+/// ticket of another name, and another page.
+pub fn walks()
+    ensures walk { IsWalkTo {Page = ℕ} (λ steps page. page ≡ length steps) caps_of_a_run 7
+        actions_of_a_submission 6 (standing caps_of_a_run 7 records_of_a_submission)
+        (record_ticket 3 0 ∷ []) 6 }
+    ensures no_record { ¬ IsWalkTo {Page = ℕ} (λ steps page. ⊤) smallest_caps 9 (Ask Poll ∷ []) 0
+        (running_at_first smallest_caps 9) [] 0 }
+    ensures another_number { ¬ IsWalkTo {Page = ℕ} (λ steps page. ⊤) smallest_caps 9 [] 1
+        (running_at_first smallest_caps 9) [] 0 }
+    ensures another_device { ¬ IsWalkTo {Page = ℕ} (λ steps page. ⊤) smallest_caps 9 [] 0
+        (running_at_first smallest_caps 8) [] 0 }
+    ensures no_device { ¬ IsWalkTo {Page = ℕ} (λ steps page. ⊤) no_caps 9 [] 0
+        (running_at_first no_caps 9) [] 0 }
+    ensures another_name { ¬ IsWalkTo {Page = ℕ} (λ steps page. ⊤) caps_of_a_run 7
+        actions_of_a_submission 6 (standing caps_of_a_run 7 records_of_a_submission)
+        (record_ticket 3 7 ∷ []) 0 }
+    ensures another_page { ¬ IsWalkTo {Page = ℕ} (λ steps page. page ≡ length steps) smallest_caps 9
+        [] 0 (running_at_first smallest_caps 9) [] 1 }
+{}
+
+/// Lines and texts that are of no run: without a line of a step, with an answer that may not come,
+/// and with a fate that did not come.
+#[tactic(auto, unfolding(crate::specs::Worked::digits_on_literals))]
+pub fn texts_of_no_run()
+    ensures no_line { ¬ AreLinesOf smallest_caps 9 (Ask Poll ∷ []) [] }
+    ensures no_answer { ¬ AreLinesOf smallest_caps 0 (Ask Poll ∷ []) (codes "nothing\n") }
+    ensures no_fate { ¬ AreLinesOf smallest_caps 9 [] (codes "fate 0 - abandoned\n") }
+    ensures text { IsTextOfRun AreLinesOfSteps smallest_caps 9 (Ask Poll ∷ [])
+        (codes "nothing\n") }
+    ensures no_step { ¬ IsTextOfRun (λ steps last text. text ≡ flat_map line_of_step steps)
+        smallest_caps 9 (Ask Poll ∷ []) [] }
+    ensures no_such_step { ¬ IsTextOfRun (λ steps last text. text ≡ flat_map line_of_step steps)
+        smallest_caps 0 (Ask Poll ∷ []) (codes "nothing\n") }
+{}
+
+/// What may be opened: the largest capacity, one above it, and no capabilities.
+pub fn what_may_be_opened()
+    ensures largest { IsOpenable smallest_caps 1_048_576 }
+    ensures too_large { ¬ IsOpenable smallest_caps 1_048_577 }
+    ensures no_device { ¬ IsOpenable no_caps 9 }
+{}
+
+/// The first object that is no step.
+pub fn bad_steps()
+    ensures second { IsFirstBad (object_of poll_step ∷ whole 1 ∷ []) (BadStep 1) }
+    ensures no_first { ¬ IsBadAt (whole 1 ∷ whole 2 ∷ []) 1 }
+    ensures a_step { ¬ IsBadAt (object_of poll_step ∷ []) 0 }
+    ensures none { ¬ IsBadAt [] 0 }
+{}
+
+/// Documents that are read as others, or not at all, and what is made of them.
+#[tactic(auto, unfolding(serde_json::proofs::OnLiterals::serde_json_on_literals))]
+pub fn other_documents()
+    ensures another_value { ¬ IsJson (codes "1") (whole 2) }
+    ensures no_utf8 { IsFaultOf (34 ∷ 255 ∷ 34 ∷ []) NotJson }
+    ensures no_utf8_in_json { ¬ IsJson (34 ∷ 255 ∷ 34 ∷ []) (string (255 ∷ [])) }
+    ensures no_keys { ¬ HasHead (codes "1") smallest_caps 9 [] }
+    ensures another_capacity { ¬ HasHead (stepless_text (codes "9")) smallest_caps 8 [] }
+    ensures no_steps { ¬ HasHead (stepless_text (codes "9")) smallest_caps 9 (whole 1 ∷ []) }
+    ensures no_document { ¬ IsDocument (codes "1") smallest_caps 9 [] }
+    ensures no_action { ¬ IsDocument (stepless_text (codes "9")) smallest_caps 9 (Ask Poll ∷ []) }
+    ensures not_bad { ¬ IsFaultOf (stepless_text (codes "9")) BadDocument }
+    ensures rendering { IsRenderingOf poll_text (codes "nothing\n") }
+    ensures not_rendered { ¬ IsRenderingOf (codes "1") [] }
+    ensures not_opened { ¬ IsRenderingOf (stepless_text (codes "1048577")) [] }
+    ensures cut { IsCutShort (Some poll_text) (Some []) (Some (codes "x")) (Some (codes "xnot")) }
+    ensures other_bytes { ¬ IsCutShort (Some poll_text) (Some []) (Some (codes "x")) (Some []) }
+    ensures more_left { ¬ IsCutShort (Some poll_text) (Some (codes "c")) (Some (codes "x"))
+        (Some (codes "xnot")) }
+    ensures none_cut { ¬ IsCutShort (Some (codes "1")) (Some []) (Some (codes "x"))
+        (Some (codes "x")) }
+    ensures all_written { ¬ IsCutShort (Some (stepless_text (codes "9"))) (Some [])
+        (Some (codes "x")) (Some (codes "x")) }
+    ensures no_text { ¬ IsTextOfDocument (λ steps last text. ⊤) (codes "1") [] }
+    ensures text_not_opened { ¬ IsTextOfDocument (λ steps last text. ⊤)
+        (stepless_text (codes "1048577")) [] }
+    ensures another_text { ¬ IsTextOfDocument (λ steps last text. text ≢ text)
+        (stepless_text (codes "9")) [] }
+{}
+
 /// A document without a fault, and with the greatest capacity.
 #[tactic(auto, unfolding(serde_json::proofs::OnLiterals::serde_json_on_literals))]
 pub fn documents_that_run()
@@ -470,6 +599,33 @@ pub fn reads()
         → ¬ IsReadFor {T = ℕ} Some (Err ScenarioFault.TooLong) old new }
 {}
 
+/// What a call did to its reader.
+pub fn calls_of_readers()
+    ensures error { (old : CountedReader (List ℕ)) (new : CountedReader (List ℕ))
+        → new.reader.ghost_name ≡ old.reader.ghost_name
+        → counted_remaining Some old ≡ Some (codes "12")
+        → counted_remaining Some new ≡ Some (codes "2") → given_of new ≡ given_of old + 1
+        → asked_of new ≡ asked_of old + 2
+        → has_reader_failed old ≡ false → has_reader_failed new ≡ true
+        → IsReadFor {T = ℕ} Some (Err ScenarioFault.Read) old new }
+    ensures too_long { (old : CountedReader (List ℕ)) (new : CountedReader (List ℕ))
+        → new.reader.ghost_name ≡ old.reader.ghost_name
+        → given_of new ≡ given_of old + 1_048_577
+        → asked_of new ≡ asked_of old + 1
+        → has_reader_failed new ≡ has_reader_failed old
+        → IsReadFor {T = ℕ} (λ reader. None) (Err ScenarioFault.TooLong) old new }
+    ensures another_reader { (old : CountedReader (List ℕ)) (new : CountedReader (List ℕ))
+        → new.reader.ghost_name ≢ old.reader.ghost_name
+        → ¬ IsReadFor {T = ℕ} Some (Ok 0) old new }
+    ensures asked_too_often { (old : CountedReader (List ℕ)) (new : CountedReader (List ℕ))
+        → given_of new ≡ given_of old + 1
+        → asked_of new ≡ asked_of old + 3
+        → ¬ IsReadFor {T = ℕ} Some (Ok 0) old new }
+    ensures failed { (counted : CountedReader (List ℕ))
+        → counted.failed ≡ true
+        → has_reader_failed counted ≡ true }
+{}
+
 /// Which faults are told of what was noted, and of what was noted of a writer.
 pub fn notes()
     ensures told_without_a_note { ¬ IsFaultNoted {T = ℕ} ScenarioFault.Read
@@ -477,9 +633,25 @@ pub fn notes()
     ensures untold { ¬ IsFaultNoted {T = ℕ} ScenarioFault.Read (Ok 0) false true }
     ensures told_as_another { ¬ IsFaultNoted {T = ℕ} ScenarioFault.Write
         (Err ScenarioFault.OutOfMemory) false true }
+    ensures noted { IsFaultNoted {T = ℕ} ScenarioFault.Read (Err ScenarioFault.Read) false true }
+    ensures nothing_noted { IsFaultNoted {T = ℕ} ScenarioFault.Read
+        (Err ScenarioFault.TooLong) false false }
     ensures refusal_untold { (old : WatchedWriter (List ℕ)) (new : WatchedWriter (List ℕ))
         → has_refused old ≡ false → has_refused new ≡ true
         → ¬ IsWrittenFor {T = ℕ} (Ok 0) old new }
+    ensures refusal { (old : WatchedWriter (List ℕ)) (new : WatchedWriter (List ℕ))
+        → new.writer.ghost_name ≡ old.writer.ghost_name
+        → has_refused old ≡ false → has_refused new ≡ true
+        → IsWrittenFor {T = ℕ} (Err ScenarioFault.Write) old new }
+    ensures another_writer { (old : WatchedWriter (List ℕ)) (new : WatchedWriter (List ℕ))
+        → new.writer.ghost_name ≢ old.writer.ghost_name
+        → ¬ IsWrittenFor {T = ℕ} (Ok 0) old new }
+    ensures refused { (watched : WatchedWriter (List ℕ))
+        → watched.refused ≡ true
+        → has_refused watched ≡ true }
+    ensures closed { (watched : WatchedWriter (List ℕ))
+        → watched.closed ≡ true
+        → is_closed watched ≡ true }
 {}
 
 /// Bytes that are a whole document, and those that are not: more are left, or others were read.
@@ -490,7 +662,24 @@ pub fn whole_documents()
     ensures more_left { ¬ IsWholeDocument (Some (codes "abc")) (Some (codes "c")) (codes "ab") }
 {}
 
+/// The longest document, and one that is a byte longer.
+pub fn lengths_of_documents()
+    ensures longest { (bytes : List ℕ) → length bytes ≡ 1_048_576
+        → IsWholeDocument None None bytes }
+    ensures longer { (bytes : List ℕ) → length bytes ≡ 1_048_577
+        → ¬ IsWholeDocument None None bytes }
+    ensures longest_read { (bytes : List ℕ) → length bytes ≡ 1_048_576
+        → HasFault (Some bytes) (Some []) Read }
+    ensures longer_read { (bytes : List ℕ) → length bytes ≡ 1_048_577
+        → ¬ HasFault (Some bytes) (Some []) Read }
+    ensures not_too_long { (bytes : List ℕ) → length bytes ≡ 1_048_576
+        → ¬ HasFault (Some bytes) (Some []) TooLong }
+    ensures too_long { (bytes : List ℕ) → length bytes ≡ 1_048_577
+        → HasFault (Some bytes) (Some []) TooLong }
+{}
+
 /// The faults that what a reader gave may give rise to.
+#[tactic(auto, unfolding(serde_json::proofs::OnLiterals::serde_json_on_literals))]
 pub fn faults_of_what_was_read()
     ensures reading { HasFault (Some (codes "abc")) (Some (codes "c")) Read }
     ensures unread { ¬ HasFault (Some []) (Some (codes "c")) Read }
@@ -498,6 +687,9 @@ pub fn faults_of_what_was_read()
     ensures writing { HasFault (Some []) (Some (codes "c")) Write }
     ensures memory_alone { HasFault (Some []) (Some (codes "c")) OutOfMemory }
     ensures not_told { ¬ HasFault (Some []) (Some (codes "c")) BadCaps }
+    ensures no_more { ¬ HasFault (Some []) (Some (codes "c")) TooLong }
+    ensures no_fault { ¬ HasFault (Some []) (Some []) (Differs 0) }
+    ensures no_json { HasFault (Some (codes "{")) (Some []) NotJson }
 {}
 
 /// Texts of a document that were written, whole or cut short.
@@ -510,4 +702,8 @@ pub fn texts_written()
         (Some (codes "x")) (Some (codes "xa")) }
     ensures not_cut { ¬ IsTextCutShort (λ bytes fault text. bytes ≡ text) (Some (codes "ab"))
         (Some []) (Some (codes "x")) (Some (codes "xab")) }
+    ensures more_left { ¬ IsTextWritten (λ bytes text. bytes ≡ text) (Some (codes "ab"))
+        (Some (codes "b")) (Some (codes "x")) (Some (codes "xab")) }
+    ensures more_left_of_a_cut { ¬ IsTextCutShort (λ bytes fault text. bytes ≡ text)
+        (Some (codes "ab")) (Some (codes "b")) (Some (codes "x")) (Some (codes "xa")) }
 {}

@@ -4,3 +4,4 @@ pub mod Lines
 pub mod Courses
 pub mod Stops
 pub mod Counts
+pub mod RowLines

@@ -1,6 +1,6 @@
 //! Worked lines and answers: what the definitions say at chosen values, by computation.
 
-ghost use Rattle.std.specs.Prelude.{◌≡◌, ℕ, Option, Some, List, [], ◌∷◌, ◌++◌, ◌+◌, Bool, true, false, length, min, codes};
+ghost use Rattle.std.specs.Prelude.{◌≡◌, ◌<◌, ℕ, Option, Some, List, [], ◌∷◌, ◌++◌, ◌+◌, Bool, true, false, length, min, codes};
 ghost use Rattle.dsa_regs.specs.declared.Fault.TheVariants.{BadCommand};
 ghost use Rattle.dsa_book.specs.declared.event.Event.TheVariants.{Poll};
 ghost use Rattle.dsa_book.specs.State.{State, opening};
@@ -9,10 +9,10 @@ ghost use Rattle.dsa_device.specs.Running.{Running, running_at_first};
 ghost use Rattle.dsa_scenario.specs.declared.actions.Action.TheVariants.{Ask, Refuse};
 ghost use Rattle.dsa_scenario.specs.declared.faults.ScenarioFault.{ScenarioFault};
 ghost use Rattle.dsa_scenario.specs.declared.faults.ScenarioFault.TheVariants as late;
-ghost use Rattle.dsa_scenario.specs.Document.{IsNoJson};
+ghost use Rattle.dsa_scenario.specs.Document.{IsDocument, IsNoJson};
 ghost use Rattle.dsa_scenario.specs.Lines.{line_of_text};
 ghost use Rattle.dsa_scenario.specs.Steps.{visits};
-ghost use Rattle.dsa_scenario.specs.Worked.{object_of, poll_step, step_of_kind, whole, smallest_caps, smallest_caps_text, no_caps_text, document_text};
+ghost use Rattle.dsa_scenario.specs.Worked.{object_of, poll_step, step_of_kind, whole, smallest_caps, smallest_caps_text, no_caps_text, document_text, caps_of_a_run, actions_of_a_run, lines_of_a_run};
 ghost use Rattle.dsa_serve.specs.declared.dialogue.Dialogue.{Dialogue};
 ghost use Rattle.dsa_serve.specs.declared.requests.LineFault.TheVariants.{NotJson, NoStep, TooLong};
 ghost use Rattle.dsa_serve.specs.declared.requests.Request.TheVariants.{Step, Explain, Fault};
@@ -86,7 +86,8 @@ pub fn a_dialogue()
     ensures without_its_step { ¬ AreRequestsAnswered (Step (Ask Poll) ∷ []) [] [] }
 {}
 
-/// A first line, and those behind it. The steps of the document come before what the lines ask.
+/// A first line, and the lines after it. The steps of the document come before what the lines ask,
+/// and the fates after all answers.
 #[tactic(auto, unfolding(serde_json::proofs::OnLiterals::serde_json_on_literals, dsa_scenario::specs::Worked::digits_on_literals))]
 pub fn dialogues()
     ensures no_lines { IsDialogue (first_line []) [] (opening smallest_caps) [] }
@@ -97,6 +98,24 @@ pub fn dialogues()
     ensures lines { IsDialogue (first_line poll_line) (codes "{" ∷ explained_poll_line ∷ [])
         (opening smallest_caps)
         (codes "nothing\nfault not JSON\n1 poll -> nothing: no command is active\n") }
+    ensures so_far { AnswersSoFar (line_of_text (first_line []) ++ codes "{\n{")
+        (codes "fault not JSON\n") }
+    ensures write { IsStopped ScenarioFault.Write
+        (Some (line_of_text (first_line []) ++ codes "{\n{1")) (Some (codes "1"))
+        (Some (codes "2")) (Some (codes "2fault")) }
+    ensures write_at_the_end { IsStopped ScenarioFault.Write
+        (Some (line_of_text (first_line []) ++ codes "{")) (Some []) (Some [])
+        (Some (codes "fault")) }
+    ensures memory { (rest : List ℕ)
+        → length rest ≡ 65_535
+        → IsStopped ScenarioFault.OutOfMemory
+        (Some ((line_of_text (first_line []) ++ codes "{\n") ++ 10 ∷ rest)) (Some [])
+        (Some []) (Some (codes "fault not JSON\n")) }
+    ensures memory_at_the_only_line { IsStopped ScenarioFault.OutOfMemory
+        (Some (first_line poll_line)) (Some []) (Some []) (Some (codes "nothing\n")) }
+    ensures ended { (first : List ℕ)
+        → IsDocument first caps_of_a_run 7 actions_of_a_run
+        → IsDialogueEnded first [] lines_of_a_run }
 {}
 
 /// An input in lines, each with its line feed, and the rest of one.
@@ -148,6 +167,7 @@ pub fn last_lines()
 {}
 
 /// What no dialogue begins with, and the one answer to a line, and the one state, that there is.
+/// Of that answer a part is written where a write fails.
 #[tactic(auto, unfolding(serde_json::proofs::OnLiterals::serde_json_on_literals, dsa_scenario::specs::Worked::digits_on_literals))]
 pub fn one_dialogue()
     ensures no_document { (last : State) (output : List ℕ)
@@ -164,6 +184,16 @@ pub fn one_dialogue()
     ensures one_answer { (last : State) (output : List ℕ)
         → IsDialogue (first_line []) (codes "{" ∷ []) last output
         → output ≡ codes "fault not JSON\n" }
+    ensures one_run { (last : State) (output : List ℕ)
+        → IsDialogue (first_line poll_line) [] last output
+        → output ≡ codes "nothing\n" }
+    ensures cut { (text : List ℕ)
+        → IsStopped ScenarioFault.Write (Some (line_of_text (first_line []) ++ codes "{\n1"))
+        (Some (codes "1")) (Some []) (Some text)
+        → length text < 15 }
+    ensures rest_before_the_end { (text : List ℕ)
+        → ¬ IsStopped ScenarioFault.Write (Some (line_of_text (first_line []) ++ codes "{1"))
+        (Some (codes "1")) (Some []) (Some text) }
 {}
 
 /// Where a dialogue stopped, by what the reader gave and what the writer took.
@@ -186,14 +216,29 @@ pub fn stops()
         → ¬ IsStopped ScenarioFault.TooLong (Some first) (Some []) (Some []) (Some []) }
     ensures nothing_to_write { ¬ IsStopped ScenarioFault.Write (Some (codes "1")) (Some [])
         (Some []) (Some []) }
+    ensures nothing_read { ¬ IsStopped ScenarioFault.Write (Some []) (Some []) (Some []) (Some []) }
+    ensures too_long_with_more { (first : List ℕ)
+        → IsLine first
+        → length first ≡ 1_048_577
+        → IsStopped ScenarioFault.TooLong (Some (first ++ codes "\n")) (Some []) (Some [])
+        (Some []) }
+    ensures too_long_behind_a_line_feed { (rest : List ℕ)
+        → ¬ IsStopped ScenarioFault.TooLong (Some (10 ∷ rest)) (Some []) (Some []) (Some []) }
     ensures memory { IsStopped ScenarioFault.OutOfMemory (Some (codes "1")) (Some [])
         (Some []) (Some []) }
     ensures memory_after_a_long_line { (input : List ℕ)
         → IsLine input
         → length input ≡ 1_114_113
         → ¬ IsStopped ScenarioFault.OutOfMemory (Some input) (Some []) (Some []) (Some []) }
+    ensures no_json_in_memory { (input : List ℕ) (output : List ℕ)
+        → IsLine input
+        → IsNoJson input
+        → IsStopped ScenarioFault.OutOfMemory (Some input) (Some []) (Some []) (Some output)
+        → output ≡ [] }
     ensures document { IsStopped ScenarioFault.BadDocument (Some (codes "1")) (Some [])
         (Some []) (Some []) }
+    ensures document_before_more { IsStopped ScenarioFault.BadDocument (Some (codes "1\n2"))
+        (Some (codes "2")) (Some []) (Some []) }
     ensures other_fault { ¬ IsStopped ScenarioFault.NotJson (Some (codes "1")) (Some [])
         (Some []) (Some []) }
     ensures unfinished_line_is_answered { (input : List ℕ) (output : List ℕ)
@@ -259,6 +304,12 @@ pub fn courses()
         (holds : Option (List ℕ))
         → length first ≡ 1_048_577
         → ¬ IsInCourse true (Some first) (Some []) held holds dialogue }
+    ensures longest_first { (first : List ℕ) (dialogue : Dialogue ℕ)
+        → IsLine first
+        → length first ≡ 1_048_576
+        → IsServing first [] [] dialogue.session.number dialogue.session.device
+        dialogue.session.tickets.items dialogue.kept.items
+        → IsInCourse true (Some first) (Some []) (Some []) (Some []) dialogue }
     ensures written_too_early { (dialogue : Dialogue ℕ)
         → ¬ IsInCourse true (Some (first_line [])) (Some []) (Some []) (Some (codes "1"))
         dialogue }

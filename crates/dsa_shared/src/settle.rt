@@ -1,11 +1,12 @@
 //! Settling: the seats are taken back, and the receipts of each are compared with the history.
 
-ghost use Rattle.std.specs.Prelude.{◌≡◌, ◌≢◌, ◌+◌, ◌↔◌, ◌≤◌, ◌^◌, true, IsSome, IfOk, OnOk, IfErr, length, sum_by};
+ghost use Rattle.std.specs.Prelude.{◌≡◌, ◌≢◌, ◌+◌, ℕ, ◌↔◌, ◌≤◌, ◌^◌, true, IsSome, IfOk, OnOk, IfErr, length, sum_by};
 ghost use Rattle.dsa_store.specs.Content.{held_count};
 ghost use Rattle.dsa_laws.specs.WellFormed.{IsWellFormed};
 ghost use Rattle.dsa_accounts.specs.Accounts.{submitted_entries, member_entries, only_members_abandoned};
-ghost use Rattle.dsa_device.specs.Running.{IsReplay};
-ghost use Rattle.dsa_shared.specs.Settle.{IsComplete, Match, over_seats};
+ghost use Rattle.dsa_device.specs.Running.{Running, IsReplay};
+ghost use Rattle.dsa_shared.specs.Locked.{IsUnderLock};
+ghost use Rattle.dsa_shared.specs.Settle.{IsComplete, Match, IsFirstMismatch, over_seats};
 ghost use Rattle.dsa_shared.specs.Totals.{totals_of, AreSums, Balance};
 
 use crate::blanks::Sharing;
@@ -101,11 +102,18 @@ impl<S: EntryStore, L: Sharing> SharedDevice<S, L> {
             (λ e. (e.fault ≢ SettleFault.SeatMissing)
             → IsComplete seats.clients.items seats.engines.items seats.admin L.clients
             L.caps.engines) }
+        ensures mismatch_at { IfErr result
+            (λ e. (i : ℕ)
+            → e.fault ≡ SettleFault.ReceiptMismatch i
+            → (d : Running)
+            × IsUnderLock L.caps L.capacity d
+            × IsFirstMismatch d.history seats.clients.items seats.engines.items seats.admin i) }
         ensures seats { IfErr result (λ e. (e.seats.clients.items ≡ seats.clients.items)
             × (e.seats.engines.items ≡ seats.engines.items) × (e.seats.admin ≡ seats.admin)) }
     {
         let SharedDevice { clients, locked } = self;
         let locked = locked.into_inner();
+        locked.device.state_is_replay();
         let engines = locked.device.caps().engines;
         if let Some(fault) = check(locked.device.history(), &seats, clients, engines) {
             return Err(SettleRefused {

@@ -54,6 +54,8 @@ class Types:
     def declared(self, text):
         for name, body in re.findall(r"^(?:pub(?:\(crate\))? )?struct (\w+) \{\n(.*?)^\}", text, re.M | re.S):
             self.records[name] = [(it, plain(kind)) for it, kind in re.findall(r"^    (?:pub )?(\w+): (.*?),?$", body, re.M)]
+        for name, kind in re.findall(r"^(?:pub(?:\(crate\))? )?struct (\w+)\((?:pub )?(\w+)\);", text, re.M):
+            self.records[name] = [("0", plain(kind))]
         for name, body in re.findall(r"^(?:pub(?:\(crate\))? )?enum (\w+)(?:<.*?>)? \{\n(.*?)^\}", text, re.M | re.S):
             family = {}
             for label, given in re.findall(r"^    (\w+)\s*(\(.*?\)|\{.*?\})?,", body, re.M | re.S):
@@ -121,11 +123,13 @@ class Changes:
             if self.gives_truth(definition):
                 self.negated(self.inner(clause.body), found)
             if i + 1 < len(definition.clauses):
-                self.rows(clause, definition.clauses[i + 1], found)
+                self.rows(definition, clause, definition.clauses[i + 1], found)
             self.dropped(definition, i, found)
         if definition.kind == "record":
             for label, node, start, end in definition.fields:
                 self.bound, self.local = set(), self.parameters(definition)
+                for other, kind, *_ in definition.fields:
+                    self.of_this_kind([other], kind)
                 if self.is_statement(node):
                     found.append(Change("no clause", f"{label} : {shown(self.text[start:end])}", "⊤", [(start, end, "⊤")], ["⊤"]))
                     self.visit(node, found)
@@ -143,7 +147,7 @@ class Changes:
         head = node.parts[0] if node.kind == "apply" else node
         if node.kind == "operator":
             return node.value[0] in ("≡", "≢", "≤", "<", "×", "⊎")
-        return head.kind == "name" and self.is_proposition(head.value)
+        return head.kind == "name" and head.value not in self.types.records_of and self.is_proposition(head.value)
 
     def is_proposition(self, name):
         kind = self.signatures.get(name)
@@ -168,6 +172,12 @@ class Changes:
             found.update({it: kind for it in names.split()})
         return found
 
+    def of_this_kind(self, names, node):
+        """Notes the type of what is said to be of one, where the type is known."""
+        kind = shown(self.of(node))
+        if kind in self.types.records or kind in self.types.records_of:
+            self.local = {**self.local, **{it: kind for it in names}}
+
     def learn(self, pattern, kind):
         """Notes the types of the names in a pattern."""
         pattern, parts = self.inner(pattern), kind.split(" ", 1)
@@ -177,7 +187,9 @@ class Changes:
             self.learn(pattern.parts[0], bare(parts[1]))
             self.learn(pattern.parts[1], kind)
         elif pattern.kind == "apply" and pattern.parts[0].kind == "name":
-            kinds = (bare(parts[1]),) if parts[0] == "Option" else self.made(pattern.parts[0].value)[1]
+            name = pattern.parts[0].value
+            kinds = self.types.families.get(kind, {}).get(name, self.made(name)[1])
+            kinds = (bare(parts[1]),) if parts[0] == "Option" else kinds
             for it, its in zip(pattern.parts[1:], kinds):
                 self.learn(it, its)
 
@@ -213,14 +225,18 @@ class Changes:
         """Notes the type of what a function is given that is asked of each element."""
         head, given = node.parts[0], node.parts[1:]
         function = self.inner(given[0]) if given else None
-        if head.kind != "name" or function is None or function.kind != "function" or len(function.value) != 1:
+        if head.kind != "name" or function is None or function.kind != "function":
             return
-        kind = None
+        kind, kinds = None, self.signatures.get(head.value, [])
+        if len(function.value) > 1:
+            given = kinds[0].strip("()").split(" → ") if kinds and "(" not in kinds[0][1:] else []
+            if len(given) > len(function.value):
+                self.local = {**self.local, **dict(zip(function.value, given))}
+            return
         if len(given) > 1:
             whole = self.kind_of(given[1])
             whole = self.types.records_of.get(whole, whole)
             kind = bare(whole.split(" ", 1)[1]) if whole and whole.split(" ")[0] in ("List", "Option") else None
-        kinds = self.signatures.get(head.value, [])
         if kind is None and kinds and kinds[0].startswith("("):
             kind = kinds[0].strip("()").split(" → ")[0]
         if kind:
@@ -234,6 +250,8 @@ class Changes:
             self.lambdas(node)
         if node.kind == "let":
             self.local = {**self.local, node.value: self.kind_of(node.parts[0])}
+        if node.kind == "binder":
+            self.of_this_kind(node.value[0], node.parts[0])
         getattr(self, f"at_{node.kind}", lambda *_: None)(node, found)
         for part in node.parts:
             self.visit(part, found)
@@ -416,13 +434,24 @@ class Changes:
 
     # ---- clauses
 
-    def rows(self, clause, following, found):
+    def kinds_in(self, definition, clause):
+        """The declared types of the names in a clause's patterns."""
+        kept, self.local = self.local, {}
+        for pattern, kind in zip(clause.patterns, self.signatures.get(definition.name, [])):
+            self.learn(pattern, kind)
+        found, self.local = self.local, kept
+        return {it: kind for it, kind in found.items() if kind in self.types.records or kind in self.types.families}
+
+    def rows(self, definition, clause, following, found):
         """What two neighbouring clauses give, in each other's place, where each has the names that the other's needs."""
         bound = [{n.value for p in it.patterns for n in p.every() if n.kind == "name"} for it in (clause, following)]
         needed = [{n.value for n in it.body.every() if n.kind == "name"} for it in (clause, following)]
         if needed[0] & (bound[0] - bound[1]) or needed[1] & (bound[1] - bound[0]):
             return
         if shown(self.of(clause.body)) == shown(self.of(following.body)):
+            return
+        kinds = [self.kinds_in(definition, it) for it in (clause, following)]
+        if any(kinds[0][it] != kinds[1][it] for it in kinds[0].keys() & kinds[1].keys() & (needed[0] | needed[1])):
             return
         found.append(self.exchanged("exchange of rows", clause.body, following.body))
         found[-1].old = f"{shown(self.text[clause.start:clause.end])} .. {shown(self.text[following.start:following.end])}"

@@ -1,5 +1,6 @@
 """Computes definitions, so that a mutant is tried at once. What it says is a guess: the checker decides."""
 
+import os
 import re
 import sys
 
@@ -10,6 +11,14 @@ sys.setrecursionlimit(20000)
 
 class Stuck(Exception):
     """What cannot be computed here."""
+
+
+class Lacking(Exception):
+    """A field that a record does not have."""
+
+
+class Part(dict):
+    """A record of which not all fields are there."""
 
 
 class Made:
@@ -28,6 +37,15 @@ class Made:
 
     def __repr__(self):
         return f"({self.name} {self.arguments})" if self.arguments else self.name
+
+
+class Any:
+    """What is the same as any value: with it a row computes that there is no state of which something holds."""
+
+    def __eq__(self, other):
+        return True
+
+    __hash__ = None
 
 
 NONE = Made("None")
@@ -192,6 +210,7 @@ LIBRARY = {
     "signed_decimal": (1, in_signs), "string_bytes": (1, lambda x: x.arguments[0]),
     "is_ascii_hexdigit": (1, lambda c: 48 <= c <= 57 or 65 <= c <= 70 or 97 <= c <= 102),
     "suffix_len": (2, lambda f, xs: first_place(lambda x: not f(x), xs[::-1])),
+    "IsTrue": (1, lambda a: a),
     "IsSomeAnd": (2, lambda x, f: x.name == "Some" and f(x.arguments[0])),
     "IfSome": (2, lambda x, f: x.name == "None" or f(x.arguments[0])),
     "MatchOption": (3, lambda x, none, f: f(x.arguments[0]) if x.name == "Some" else none),
@@ -204,19 +223,40 @@ AGAIN = {("dsa_book", "Machine", "next"), ("dsa_book", "State", "opening")}
 # Values of types of which something is said of all.
 SOME_OF = {
     "String": [Made("String", ([],)), Made("String", ([97, 126],))],
-    "Key": [{"name": {"now": [97]}, "in_caps": it} for it in (False, True)],
-    "Vec": [{"items": []}],
-    "WatchedWriter": [{"writer": {"now": [n]}, "refused": r, "closed": c} for n in (0, 1) for r in (0, 1) for c in (0, 1)],
+    "Key": [{"name": Part(now=[97]), "in_caps": it} for it in (False, True)],
+    "Vec": [Part(items=[])],
+    "WatchedWriter": [{"writer": Part(now=[n]), "refused": r, "closed": c} for n in (0, 1) for r in (0, 1) for c in (0, 1)],
+    "CountedReader": [
+        {"reader": Part(now=[n]), "asked": n, "given": n, "last": n, "failed": it} for n in (0, 1) for it in (False, True)
+    ],
     "Cell": [{"0": it} for it in range(40)],
+    "Global": [None],
+    "Operation": [
+        {"name": Part(now=[97]), "word": Part(now=[98]), "is_transfer": a, "reads": b, "is_for_batches": c}
+        for a in (False, True) for b in (False, True) for c in (False, True)
+    ],
 }
 # The constructors of JSON values and of whole numbers.
 MADE = {
     "null", "boolean", "number", "string", "array", "object", "no_items", "item", "no_members", "member", "unsigned", "negative",
     "pos", "negsuc", "Ok", "Err",
 }
+# What stands in a record and is never computed: proofs, and the place of a vector in memory.
+UNSEEN = {"refl", "omega", "lit≤", "null_ptr"}
 VALUES = {"true": True, "false": False, "[]": [], "zero": 0, "tt": None, "⊤": True, "⊥": False, "Unit": True}
 # As many numbers are tried where something is said of all.
 MANY = 70
+
+
+def constant_of(path):
+    """A constant of the code, a text or a number, as definitions read it."""
+    crate, *modules, name = [it for it in path.split(".")[1:] if it not in ("specs", "declared", "TheConstants")]
+    folder = os.path.dirname(os.path.dirname(os.path.dirname(os.path.abspath(__file__))))
+    with open(f"{folder}/{crate}/src/{'/'.join(modules)}.rt", encoding="utf-8") as it:
+        found = re.search(rf'const {name}: [^=]* = (?:"((?:[^"\\]|\\.)*)"|([0-9a-fx_]+));', it.read())
+    if not found:
+        raise Stuck(name)
+    return {"now": list(found[1].encode())} if found[1] is not None else int(found[2].replace("_", ""), 0)
 
 
 def curried(arity, function, given=()):
@@ -290,6 +330,8 @@ class Computer:
                 return "made", name
         for path in module.uses.get(name, []):
             parts = path.split(".")
+            if "TheConstants" in parts[:-1]:
+                return "constant", path
             if "TheVariants" in parts[:-1] or parts[-1] in ("Some", "None") or parts[-1] in MADE and not parts[1].startswith("dsa_"):
                 return "made", parts[-1]
             if parts[0] == "Rattle" and len(parts) == 5 and parts[2] == "specs":
@@ -359,7 +401,8 @@ class Defined:
         for label, node, *_ in self.definition.fields:
             if is_type(node):
                 local[label] = f"v{len(local)}"
-                parts.append((local[label], f"some_of({node.value!r}, {given})"))
+                kind = node.value if node.kind == "name" else node.parts[0].value
+                parts.append((local[label], f"some_of({kind!r}, {given})"))
             else:
                 parts.append((None, writer.term(node, local)))
         space = {
@@ -402,9 +445,22 @@ MARKS = {
     "Descriptor": "op", "QueueConfig": "priority", "GroupConfig": "reserved", "BatchNote": "fetched", "NotedError": "overflow",
 }
 
+# Plain values of a type, which are tried with those that are found.
+NO_OPS = [{"pasid": 0, "flags": flags, "op": 0, "size": 0} for flags in (0, 1)]
+PLAIN = {
+    "Descriptor": NO_OPS,
+    "NotedError": [{"queue": 0, "cause": Made("NotEnabled"), "overflow": False}],
+    "BatchNote": [{"batch": n, "count": 2, "fetched": 1, "failed": False, "closed": False} for n in NUMBERS],
+    "HeldEntry": [
+        ({"0": n}, {"name": n, "parent": NONE, "desc": desc, "queue": 0, "running": False}) for n in NUMBERS for desc in NO_OPS
+    ],
+}
+
 
 def is_type(node):
     """Whether a field has a value, and says nothing."""
+    if node.kind == "apply":
+        return node.parts[0].kind == "name" and node.parts[0].value == "List"
     return node.kind == "name" and node.value not in VALUES
 
 
@@ -416,7 +472,8 @@ def inside(x):
 
 
 def some_of(kind, arguments):
-    """Values of a type, of which one is to be found: small numbers, each constructor, and what the arguments hold."""
+    """Values of a type, of which one is to be found: small numbers, each constructor, what the arguments hold, and the ends of
+    the lists there."""
     if kind == "ℕ":
         return range(12)
     if kind in SOME_OF:
@@ -426,18 +483,22 @@ def some_of(kind, arguments):
     if kind == "ActiveCommand":
         return [{"command": command, "mark": mark} for command in some_of("Command", ()) for mark in range(12)]
     everything = list(inside(arguments))
+    if kind == "List":
+        return [it[i:] for it in everything if isinstance(it, list) for i in range(len(it) + 1)]
     pairs = [it for it in everything if isinstance(it, tuple) and len(it) == 2 and isinstance(it[1], dict) and "running" in it[1]]
     if kind == "HeldEntry":
-        return pairs
+        return pairs + PLAIN[kind]
     if kind == "Ticket":
         return [{"cell": cell, "name": entry["name"]} for cell, entry in pairs]
     if kind in MARKS:
-        return [it for it in everything if isinstance(it, dict) and MARKS[kind] in it]
+        return [it for it in everything if isinstance(it, dict) and MARKS[kind] in it] + PLAIN.get(kind, [])
     raise Stuck(f"some {kind}")
 
 
 def field_of(x, name):
     if isinstance(x, dict):
+        if name not in x:
+            raise Stuck(name) if isinstance(x, Part) else Lacking(name)
         return x[name]
     if isinstance(x, tuple):
         return x[int(name)]
@@ -574,20 +635,29 @@ class Writer:
         inner, loops = dict(local), []
         for it in names:
             self.count += 1
-            if head.kind == "name" and head.value in ("ℕ", *SOME_OF):
+            if self.says_none_of(head, node.parts[1]):
+                values = "[ANY]"
+            elif head.kind == "name" and head.value in ("ℕ", *SOME_OF):
                 values = f"range({MANY})" if head.value == "ℕ" else f"SOME_OF[{head.value!r}]"
             else:
-                values = self.term(self.list_of(it, node.parts[1]), inner)
+                values = self.values_of(it, node.parts[1], inner)
             inner[it] = f"x{self.count}"
             loops.append(f"for {inner[it]} in {values}")
         return f"all({self.term(node.parts[1], inner)} {' '.join(loops)})"
 
-    def list_of(self, name, node):
-        """The list that this value is said to be in, before an arrow."""
+    def says_none_of(self, kind, node):
+        """Whether something is said of no state."""
+        return kind.kind == "name" and kind.value == "State" and node.kind == "apply" and node.parts[0].value == "¬"
+
+    def values_of(self, name, node, local):
+        """The list that this value is said to be in, before an arrow, or what it is said to be the value of."""
         while node.kind in ("binder", "operator") and (node.kind == "binder" or node.value[0] == "→"):
             first = node.parts[0]
             if first.kind == "apply" and [it.value for it in first.parts[:2]] == ["In", name]:
-                return first.parts[2]
+                return self.term(first.parts[2], local)
+            words = [it.value for it in first.parts[1].parts] if first.kind == "operator" else []
+            if words == ["Some", name] and first.value[0] == "≡":
+                return f"{self.term(first.parts[0], local)}.arguments"
             node = node.parts[1]
         raise Stuck("all values of a type")
 
@@ -637,6 +707,8 @@ class Writer:
             return f"(not {self.term(inner, local)})"
         if name == "do" and name not in local:
             return self.steps(arguments, local)
+        if name in UNSEEN and name not in local:
+            return "None"
         given = [self.term(it, local) for it in arguments]
         if name in local:
             return f"applied({', '.join([local[name], *given])})" if given else local[name]
@@ -648,6 +720,8 @@ class Writer:
         kind, key = self.computer.resolve(self.module, name)
         if kind == "value":
             return f"V[{key!r}]"
+        if kind == "constant":
+            return repr(constant_of(key))
         if kind == "made":
             return f"Made({key!r}, ({''.join(it + ', ' for it in given)}))"
         if kind == "library":
@@ -684,6 +758,6 @@ def computed(computer, uses, text):
     code = writer.term(term_of(text), {})
     space = {
         "Stuck": Stuck, "Made": Made, "C": computer, "L": LIBRARY, "V": VALUES, "curried": curried, "applied": applied,
-        "same": same, "field": field_of, "SOME_OF": SOME_OF,
+        "same": same, "field": field_of, "SOME_OF": SOME_OF, "ANY": Any(),
     }
     return compile(code, "row", "eval"), space

@@ -87,6 +87,8 @@ class Reader:
 
     def __init__(self, tokens):
         self.tokens, self.at = tokens, 0
+        # The names of the functions around, of which one may be a word such as 'then'.
+        self.bound = []
 
     def peek(self, ahead=0):
         return self.tokens[self.at + ahead] if self.at + ahead < len(self.tokens) else None
@@ -119,7 +121,8 @@ class Reader:
             return False
         if it.kind == "text" or it.text in ("(", "λ"):
             return True
-        return it.kind == "word" and it.text not in FIXITY and it.text not in CLOSING and it.text not in ("as", ":")
+        closing = it.text in CLOSING and it.text not in self.bound
+        return it.kind == "word" and it.text not in FIXITY and not closing and it.text not in ("as", ":")
 
     def applied(self):
         head = self.single()
@@ -181,7 +184,9 @@ class Reader:
             else:
                 names.append(self.take().text)
         self.take(".")
+        self.bound = [*self.bound, *names]
         body = self.term()
+        self.bound = self.bound[:len(self.bound) - len(names)]
         return Node("function", first.start, body.end, names, [body])
 
     def brackets(self, first):
@@ -380,7 +385,7 @@ class Module:
                 clause.patterns = [Node("name", clause.start, clause.start, name) for name in names] + clause.patterns
 
     def clause(self, text, start, end):
-        signature = re.match(r"(?:(?:abbrev|unfoldable) )?(?:pub )?([^\s:]+) : ", text)
+        signature = re.match(r"(?:(?:abbrev|unfoldable) )?(?:pub )?([^\s:]+)\s+: ", text)
         if signature and not re.match(r"[^\n]* = ", text[: signature.end()]):
             it = Definition("value", signature[1], start, end)
             it.type = term_of(text[signature.end():], start + signature.end())

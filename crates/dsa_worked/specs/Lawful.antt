@@ -1,12 +1,12 @@
 -- States that are well formed, and states that are not, of a device whose numbers are all different.
-use Rattle.std.specs.Prelude.{ℕ, Bool, true, false, List, [], ◌∷◌, Option, None, Some, replicate}
+use Rattle.std.specs.Prelude.{ℕ, Bool, true, false, List, [], ◌∷◌, ◌++◌, Option, None, Some, replicate}
 use Rattle.dsa_regs.specs.declared.{Caps.{Caps}, GroupConfig.{GroupConfig}, Phase.{Phase, TheVariants.{On}}}
 use Rattle.dsa_regs.specs.declared.QueueConfig.{QueueConfig}
 use Rattle.dsa_regs.specs.Worked.{shared_queue}
 use Rattle.dsa_store.specs.Content.{HeldEntry, Content}
-use Rattle.dsa_book.specs.declared.{note.BatchNote.{BatchNote}}
+use Rattle.dsa_book.specs.declared.{note.BatchNote.{BatchNote}, fate.Fate.TheVariants.{Completed}}
 use Rattle.dsa_book.specs.State.{Setup, Work, State, opening, opening_setup}
-use Rattle.dsa_worked.specs.Setup.{no_op, move, batch, held_entry}
+use Rattle.dsa_worked.specs.Setup.{no_op, move, batch, held_entry, row}
 use Rattle.dsa_worked.specs.Uneven.{many_engines, small_queue, of_these}
 
 abbrev pub unlike : Caps
@@ -62,6 +62,15 @@ work_with_lists queued progress members =
     })
     (replicate queued that_waits ∷ (that_runs ∷ []) ∷ replicate progress that_runs ∷ replicate 5 that_runs ∷ [] ∷
     replicate members that_waits ∷ replicate 9 that_waits ∷ [])
+
+-- names 0 and 2 are held, and 1 has ended
+abbrev pub work_of_three : Work
+work_of_three = record {
+  setup = record (opening_setup unlike) { next_name = 3 };
+  content = (held_entry 4 2 None no_op 0 false ∷ []) ∷ (held_entry 7 0 None no_op 0 true ∷ []) ∷ [];
+  notes = [];
+  fates = row 1 None (Completed 1) ∷ [];
+}
 
 -- ---- read buffers
 
@@ -123,4 +132,41 @@ work_on_batch note progress members = record {
       [] ∷ progress ∷ [] ∷ [] ∷ [] ∷ [] ∷ [] ∷ [] ∷ members ∷ [];
   notes = note ∷ [];
   fates = [];
+}
+
+-- the device and its queue are On, and of their group is engine 0
+abbrev pub one_engine_on : Setup
+one_engine_on = set_up_in On On small_queue 1
+
+-- so many names were given; engine 0 has this note; these are in the queue, in progress on the engine, and its members
+abbrev pub state_in_use : Setup → ℕ → Option BatchNote → List HeldEntry → List HeldEntry → List HeldEntry → State
+state_in_use setup names note queued progress members = state_of (record {
+  setup = record setup { next_name = names };
+  content = queued ∷ progress ∷ replicate 6 [] ++ members ∷ replicate 6 [];
+  notes = note ∷ replicate 6 None;
+  fates = [];
+})
+
+-- a No-op in the queue, with this cell and name
+abbrev pub in_queue : ℕ → ℕ → HeldEntry
+in_queue cell name = held_entry cell name None no_op 0 false
+
+-- the note of batch 0 of two members, of which so many were fetched
+abbrev pub note_of_nought : ℕ → BatchNote
+note_of_nought fetched = record { batch = 0; count = 2; fetched = fetched; failed = false; closed = false }
+
+-- batch 0 is in progress with members 1 and 2, which move so many bytes each and run or wait
+abbrev pub state_of_two : Setup → ℕ → Bool → Bool → State
+state_of_two setup size first second = state_in_use setup 3 (Some (note_of_nought 2)) []
+    (held_entry 0 0 None (batch 2) 0 true ∷ [])
+    (held_entry 1 1 (Some 0) (move size) 0 first ∷ held_entry 2 2 (Some 0) (move size) 0 second ∷ [])
+
+-- the same device with long transfers
+abbrev pub long_transfers : Caps
+long_transfers = record many_engines { max_xfer_shift = 20 }
+
+abbrev pub one_engine_of_long : Setup
+one_engine_of_long = record one_engine_on {
+  caps = long_transfers;
+  configs = record small_queue { max_xfer_shift = 20 } ∷ [];
 }

@@ -67,6 +67,8 @@ pub fn changes_that_may_not_come()
 pub fn causes_of_refusals()
     ensures at_the_limit { IsRefused (state_with On two_wait None).work 0 Limited (Enqcmd 5)
         AtLimit }
+    ensures off_and_other_kind { ¬ IsRefused (state_with Off two_wait None).work 0 Limited Movdir64b
+        WrongKind }
     ensures below_the_limit { ¬ IsRefused (state_with On one_waits None).work 0 Limited (Enqcmd 5)
         AtLimit }
     ensures below_the_size { ¬ IsRefused (state_with On two_wait None).work 0 Unlimited (Enqcmd 5)
@@ -87,6 +89,7 @@ pub fn causes_of_refusals()
 
 /// In a history each Retry for want of room came at the limit, and at the limit nothing else did.
 pub fn refusals_of_histories()
+    ensures no_steps { EachHasItsCause caps [] }
     ensures below_the_limit { ¬ EachHasItsCause caps
         (setup ++ enqcmd no_op (Retry AtLimit) ∷ []) }
     ensures for_another_cause { ¬ EachHasItsCause caps

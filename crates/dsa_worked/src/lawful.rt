@@ -11,7 +11,7 @@ ghost use Rattle.dsa_laws.specs.Engines.{IsNoteOf, IsAlike, IsWithoutBatch, IsOn
 ghost use Rattle.dsa_laws.specs.WellFormed.{HasShape, CellsOnce, NamesOnce, HasLawfulSetup, IsPlaced, NoneOff, PasidsFit, HasLawfulEntries, IsWithinLimits, IsWithinBatch, MembersInOrder, IsWellFormed, none_runs, runs_first};
 ghost use Rattle.dsa_worked.specs.Setup.{no_op, batch, row, held_entry};
 ghost use Rattle.dsa_worked.specs.Uneven.{many_engines, small_queue};
-ghost use Rattle.dsa_worked.specs.Lawful.{unlike, that_waits, that_runs, a_member_of_three, batch_three, member_of_three, note_of_three, work_of, work_with_lists, caps_with_four, work_with_buffers, set_up_in, new_work, state_of, work_on_batch};
+ghost use Rattle.dsa_worked.specs.Lawful.{unlike, that_waits, that_runs, a_member_of_three, batch_three, member_of_three, note_of_three, work_of, work_with_lists, caps_with_four, work_with_buffers, set_up_in, new_work, state_of, work_on_batch, work_of_three, one_engine_on, state_in_use, in_queue, note_of_nought, state_of_two, long_transfers, one_engine_of_long};
 
 /// The lists, configurations, phases, groups and notes are as many as the device has.
 pub fn shapes()
@@ -29,6 +29,11 @@ pub fn shapes()
 
 /// No cell and no name is there twice, none is missing, and none is beyond the last.
 pub fn cells_and_names()
+    ensures each_cell { CellsOnce unlike (work_of (opening_setup unlike)
+        ((held_entry 1 5 None no_op 0 false ∷ []) ∷ [])) }
+    ensures each_name { NamesOnce work_of_three }
+    ensures one_twice { ¬ NamesOnce (work_of (record (opening_setup unlike) { next_name = 2 })
+        ((in_queue 0 0 ∷ in_queue 1 0 ∷ []) ∷ [])) }
     ensures cell_twice { ¬ CellsOnce unlike (work_of (opening_setup unlike)
         ((that_waits ∷ []) ∷ (that_runs ∷ []) ∷ [])) }
     ensures beyond { ¬ CellsOnce unlike (work_of (opening_setup unlike)
@@ -134,7 +139,7 @@ pub fn engines()
     ensures a_batch { ¬ IsWithoutBatch (set_up_in On On shared_queue 1) (batch_three ∷ []) [] }
     ensures a_member { ¬ IsWithoutBatch (set_up_in On On shared_queue 1) []
         (member_of_three true ∷ []) }
-    ensures on_batch { IsOnBatch (set_up_in On On shared_queue 1) (that_waits ∷ batch_three ∷ [])
+    ensures on_batch { IsOnBatch (set_up_in On On shared_queue 1) (that_runs ∷ batch_three ∷ [])
         (member_of_three true ∷ []) note_of_three }
     ensures on_none { ¬ IsOnBatch (set_up_in On On shared_queue 1) (that_waits ∷ []) []
         note_of_three }
@@ -157,27 +162,36 @@ pub fn members_in_order()
         ([] ∷ (that_runs ∷ that_runs ∷ []) ∷ (that_runs ∷ that_waits ∷ []) ∷
         (that_waits ∷ that_runs ∷ []) ∷ [])
         ≡ true ∷ true ∷ true ∷ false ∷ [] }
+    ensures in_order { MembersInOrder
+        (work_on_batch None [] (member_of_three true ∷ member_of_three false ∷ [])) }
     ensures not_in_order { ¬ MembersInOrder
         (work_on_batch None [] (member_of_three false ∷ member_of_three true ∷ [])) }
 {}
 
-/// A state that breaks one of these is not well formed.
+/// A state that breaks one of these alone is not well formed: it has no notes, a cell twice, a name
+/// that nothing has, a queue that is On while the device is not, an entry that runs in the queue, a
+/// queue with more than it has places, members that take more read buffers than their group may
+/// have, a note of no batch, more fetched than the batch has, and a member that runs after one that
+/// waits.
 pub fn states_not_well_formed()
     ensures shape { ¬ IsWellFormed unlike (state_of (record new_work { notes = [] })) }
-    ensures cells { ¬ IsWellFormed unlike
-        (state_of (record new_work { content = (that_waits ∷ that_waits ∷ []) ∷ [] })) }
+    ensures cells { ¬ IsWellFormed many_engines
+        (state_in_use one_engine_on 2 None (in_queue 0 0 ∷ in_queue 0 1 ∷ []) [] []) }
     ensures names { ¬ IsWellFormed unlike (state_of
         (record new_work { setup = record (opening_setup unlike) { next_name = 1 } })) }
-    ensures set_up { ¬ IsWellFormed many_engines (state_of
-        (work_of (set_up_in Off On small_queue 64) [])) }
-    ensures entries { ¬ IsWellFormed unlike
-        (state_of (record new_work { content = (that_runs ∷ []) ∷ [] })) }
-    ensures limits { ¬ IsWellFormed unlike (state_of (work_with_lists 3 4 8)) }
-    ensures buffers { ¬ IsWellFormed caps_with_four (state_of (work_with_buffers On 1 1)) }
+    ensures set_up { ¬ IsWellFormed many_engines
+        (state_in_use (set_up_in Off On small_queue 1) 0 None [] [] []) }
+    ensures entries { ¬ IsWellFormed many_engines
+        (state_in_use one_engine_on 1 None (held_entry 0 0 None no_op 0 true ∷ []) [] []) }
+    ensures limits { ¬ IsWellFormed many_engines
+        (state_in_use one_engine_on 3 None (in_queue 0 0 ∷ in_queue 1 1 ∷ in_queue 2 2 ∷ [])
+        [] []) }
+    ensures buffers { ¬ IsWellFormed long_transfers
+        (state_of_two one_engine_of_long 12288 true true) }
     ensures engines { ¬ IsWellFormed many_engines
-        (state_of (work_on_batch None [] (member_of_three true ∷ []))) }
+        (state_in_use one_engine_on 0 (Some (note_of_nought 1)) [] [] []) }
     ensures notes { ¬ IsWellFormed many_engines
-        (state_of (work_on_batch (Some (record note_of_three { fetched = 3 })) [] [])) }
-    ensures order { ¬ IsWellFormed many_engines
-        (state_of (work_on_batch None [] (member_of_three false ∷ member_of_three true ∷ []))) }
+        (state_in_use one_engine_on 1 (Some (note_of_nought 3)) []
+        (held_entry 0 0 None (batch 2) 0 true ∷ []) []) }
+    ensures order { ¬ IsWellFormed many_engines (state_of_two one_engine_on 8 false true) }
 {}

@@ -3,7 +3,8 @@
 
 ghost use Rattle.std.specs.Prelude.{◌≡◌, ◌+◌, ◌^◌, ◌++◌, [], ◌∷◌, Some, None, true, false, map, codes, take, replicate};
 ghost use Rattle.dsa_desc.specs.declared.Outcome.TheVariants.{Success};
-ghost use Rattle.dsa_desc.specs.Descriptor.{as_written, bytes_of};
+ghost use Rattle.dsa_desc.specs.declared.opcode.Operation.{Operation};
+ghost use Rattle.dsa_desc.specs.Descriptor.{as_written, bytes_of, row_of};
 ghost use Rattle.dsa_desc.specs.Text.{operation_name, operation_text, size_label, line_of_descriptor};
 ghost use Rattle.dsa_regs.specs.declared.Command.TheVariants.{EnableDevice, DisableDevice, DrainAll, AbortAll, ResetDevice, EnableWq, DisableWq, DrainWq, AbortWq, ResetWq, DrainPasid, AbortPasid};
 ghost use Rattle.dsa_regs.specs.declared.Fault.TheVariants.{SizesTooLarge, TwoGroups, ReservedTooMany, AllowedOutOfRange, GroupWithoutEngine, GroupWithoutQueue, SizeZero, PriorityZero, PriorityTooLarge, ThresholdZero, ThresholdAboveSize, BatchTooLarge, TransferTooLarge, NoGroup, BadIndex, BadCommand, BadQueue, Locked, WrongState, Busy};
@@ -165,6 +166,15 @@ pub fn names_of_operations()
         ∷ None
         ∷ [] }
     ensures sizes { map size_label (batch 2 ∷ move 2 ∷ []) ≡ codes "count" ∷ codes "size" ∷ [] }
+    ensures rows { (o : Operation)
+        → row_of o
+        ≡ record {
+          name = o.name.now;
+          word = o.word.now;
+          is_transfer = o.is_transfer;
+          reads = o.reads;
+          is_for_batches = o.is_for_batches;
+        } }
 {}
 
 /// Of the fields of a descriptor those bits are written that its 64 bytes have room for, each field

@@ -4,7 +4,9 @@ use Rattle.dsa_check.proofs.Told.{missing_at, misspelled_at}
 
 pub returns-in-Some-3-clause-so : goal.returns-in-Some-3-clause-so
 returns-in-Some-3-clause-so c =
-    misspelled_at _ _ _ _ _ _ refl refl c.in-None.ensures (rw c.in-Some-3.is at c.in_ok-found-in-None.ensures)
+    misspelled_at _ _ _ _ _ _ refl refl c.in-None.ensures (rw c.in-Some-3.is at c.in_ok-found-in-None.ensures.stray)
+    (rw c.in-Some-3.is at c.in_ok-found-in-None.ensures.nearest)
 
 pub returns-in-None-2-clause-so : goal.returns-in-None-2-clause-so
 returns-in-None-2-clause-so c = missing_at _ _ _ _ _ refl refl c.in-None.ensures
+    (rw c.in-None-2.is at c.in_ok-found-in-None.ensures.nearest)

@@ -1,11 +1,15 @@
 use Rattle.dsa_check.proofs.rows.faults_of_texts.Goals as goal
-use Rattle.std.proofs.Common.{◌≡◌, ◌⊎◌, ◌∙◌, ℕ, false, true, List, [], ◌∷◌, Some, codes, refl, ap, lit≤, inl, inr}
+use Rattle.std.proofs.Common.{◌≡◌, ◌⊎◌, ◌∙◌, ◌==◌, ◌++◌, ◌||◌, ℕ, Bool, false, true, List, [], ◌∷◌, Some, codes, refl, ap, lit≤}
+use Rattle.std.proofs.{Common.{inl, inr, flat_map}, lemmas.List.Folds.{list_any-append}}
+use Rattle.std.specs.List.{list_any}
 use Rattle.std.specs.{Prelude.{IsUtf8}, Option.{option_map_or}}
 use Rattle.serde_json.{specs.{Data.{Data, Items}, Read.{read}}, proofs.OnLiterals.{serde_json_on_literals}}
 use Rattle.dsa_regs.specs.{declared.Caps.{Caps}, Caps.{check_caps}}
-use Rattle.dsa_scenario.specs.declared.faults.ScenarioFault.{ScenarioFault}
+use Rattle.dsa_scenario.specs.declared.faults.ScenarioFault.{ScenarioFault, TheVariants.{BadCaps, BadCapacity}}
 use Rattle.dsa_scenario.specs.{Document.{head_of}, Worked.{no_caps_text, smallest_caps, document_text}}
-use Rattle.dsa_check.specs.declared.finding.Finding.{Finding}
+use Rattle.dsa_check.specs.declared.finding.{Finding.{Finding}, Reason.{Reason}}
+use Rattle.dsa_check.specs.Lines.{reason_text, fault_part_text, known_number_text, place_text, line_of_finding}
+use Rattle.dsa_check.specs.Lines.{lines_of_finding, finding_text, report_text}
 use Rattle.dsa_check.specs.{Judgement.{AreFaultsOf, IsRight, faults_told, faults_of_value}, Worked.{right_text}}
 
 pub returns-clause-no_json : goal.returns-clause-no_json
@@ -127,3 +131,53 @@ pub returns-clause-right_with_a_line : goal.returns-clause-right_with_a_line
 returns-clause-right_with_a_line c is =
     let lines = rw (none_told is.findings is.all) at is.lines in
     absurd cc
+
+-- ---- the name of the capacity has the letter y, in the lines of its fault too
+
+abbrev is_y : ℕ → Bool
+is_y byte = byte == 121
+
+in_first : (xs ys : List ℕ) → list_any is_y xs ≡ true → list_any is_y (xs ++ ys) ≡ true
+in_first xs ys h = list_any-append is_y xs ys ∙ ap (λ b. b || list_any is_y ys) h
+
+in_second : (xs ys : List ℕ) → list_any is_y ys ≡ true → list_any is_y (xs ++ ys) ≡ true
+in_second xs ys h = list_any-append is_y xs ys ∙ ap (λ b. list_any is_y xs || b) h ∙ either (list_any is_y xs)
+  where
+    either : (b : Bool) → b || true ≡ true
+    either true = refl
+    either false = refl
+
+in_place : (finding : Finding) → finding.fault ≡ BadCapacity → list_any is_y (place_text finding) ≡ true
+in_place finding is =
+    let line = known_number_text (codes "line ") finding.place.line (codes ", ") in
+    let column = known_number_text (codes "column ") finding.place.column (codes ": ") in
+    let part = fault_part_text finding.fault finding.place.kind in
+    in_second (line ++ column) part (ap (λ f. list_any is_y (fault_part_text f finding.place.kind)) is)
+
+in_lines : (finding : Finding) (reasons : List Reason) → list_any is_y (place_text finding) ≡ true
+    → list_any is_y (lines_of_finding finding reasons) ≡ true
+in_lines finding [] h = in_first (place_text finding) (codes "not understood\n") h
+in_lines finding (r ∷ rs) h =
+    in_first (line_of_finding finding r) (flat_map (line_of_finding finding) rs)
+    (in_first (place_text finding ++ reason_text r) (codes "\n") (in_first (place_text finding) (reason_text r) h))
+
+in_report : (findings : List Finding) → faults_told findings ≡ BadCaps ∷ BadCapacity ∷ []
+    → list_any is_y (report_text findings) ≡ true
+in_report [] e = absurd cc
+in_report (f ∷ []) e = absurd cc
+in_report (f ∷ g ∷ findings) e =
+    let told : f.fault ∷ g.fault ∷ faults_told findings ≡ BadCaps ∷ BadCapacity ∷ [] = e in
+    let is : g.fault ≡ BadCapacity = cc in
+    in_second (finding_text f) (flat_map finding_text (g ∷ findings))
+    (in_first (finding_text g) (flat_map finding_text findings) (in_lines g g.reasons.items (in_place g is)))
+
+pub returns-clause-second_untold : goal.returns-clause-second_untold
+unfolding serde_json_on_literals
+returns-clause-second_untold c is =
+    let text = document_text no_caps_text (codes "1048577") [] in
+    elim (of_read text (faults_told is.findings) _ refl is.all) [
+      | inl none ↦ none (text, (refl, refl))
+      | inr told ↦
+          let none : false ≡ true = ap (list_any is_y) is.lines ∙ in_report is.findings told in
+          absurd cc
+    ]

@@ -22,8 +22,8 @@ returns-clause-document c steps slots of_steps no_caps of_slots in_caps = record
   own = Missing steps ∷ [];
   inside = Missing slots ∷ [];
   both = refl;
-  of_document = (record { key = steps; named = of_steps; holder = no_caps; so = refl; stray = tt }, tt);
-  of_caps = (record { key = slots; named = of_slots; holder = in_caps; so = refl; stray = tt }, tt);
+  of_document = (record { key = steps; named = of_steps; holder = no_caps; so = refl; stray = tt; near = refl }, tt);
+  of_caps = (record { key = slots; named = of_slots; holder = in_caps; so = refl; stray = tt; near = refl }, tt);
 }
 
 pub returns-clause-alone : goal.returns-clause-alone
@@ -37,7 +37,7 @@ returns-clause-alone c reason are = absurd (omega (
 
 pub returns-clause-step : goal.returns-clause-step
 returns-clause-step c key name holder =
-    (record { key = key; named = name; holder = holder; so = refl; stray = tt }, tt)
+    (record { key = key; named = name; holder = holder; so = refl; stray = tt; near = refl }, tt)
 
 pub returns-clause-step_in_caps : goal.returns-clause-step_in_caps
 returns-clause-step_in_caps c key holder are =
@@ -56,7 +56,7 @@ returns-clause-other_reason c are = are.0.so
 
 pub returns-clause-no_kind : goal.returns-clause-no_kind
 returns-clause-no_kind c key name holder =
-    record { key = key; named = name; holder = holder; so = refl; stray = tt }
+    record { key = key; named = name; holder = holder; so = refl; stray = tt; near = refl }
 
 pub returns-clause-misspelled_kind : goal.returns-clause-misspelled_kind
 returns-clause-misspelled_kind c key text are =

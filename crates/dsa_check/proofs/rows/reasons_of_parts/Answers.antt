@@ -9,14 +9,14 @@ returns-clause-untold_document c finding none why = absurd cc
 
 pub returns-clause-caps : goal.returns-clause-caps
 returns-clause-caps c finding key name holder told =
-    rw told (record { key = key; named = name; holder = holder; so = (refl, refl, refl); stray = tt }, tt)
+    rw told (record { key = key; named = name; holder = holder; so = (refl, refl, refl); stray = tt; near = tt }, tt)
 
 pub returns-clause-untold_caps : goal.returns-clause-untold_caps
 returns-clause-untold_caps c finding none why = absurd (rw none at why)
 
 pub returns-clause-capacity : goal.returns-clause-capacity
 returns-clause-capacity c finding key name holder told =
-    rw told (record { key = key; named = name; holder = holder; so = (refl, refl, refl); stray = tt }, tt)
+    rw told (record { key = key; named = name; holder = holder; so = (refl, refl, refl); stray = tt; near = tt }, tt)
 
 pub returns-clause-untold_capacity : goal.returns-clause-untold_capacity
 returns-clause-untold_capacity c finding none why = absurd (rw none at why)

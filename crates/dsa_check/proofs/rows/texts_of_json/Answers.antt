@@ -24,6 +24,12 @@ unfolding serde_json_on_literals
 returns-clause-begun c =
     (codes "]", (_, record { utf8 = (codes "[]", (refl, refl)); value = refl }))
 
+pub returns-clause-closed : goal.returns-clause-closed
+unfolding serde_json_on_literals
+returns-clause-closed c is =
+    let value = is.1.1.value in
+    absurd cc
+
 pub returns-clause-deep : goal.returns-clause-deep
 returns-clause-deep c d deep = omega (arith, deep)
 

@@ -1,16 +1,39 @@
 use Rattle.dsa_cli.proofs.rows.asked.Goals as goal
-use Rattle.std.proofs.Common.{ℕ, [], codes, Option, unwrap_or, inl, inr, refl, ap}
-use Rattle.std.specs.Str.Parse.{digits_value, without_leading_plus}
-use Rattle.clap.specs.{Walk.{Text}, declared.error.kind.ErrorKind.TheVariants.{UnknownArgument}}
+use Rattle.std.proofs.Common.{◌≡◌, ◌∙◌, ℕ, List, [], codes, Option, Some, unwrap_or, option_map, inl, inr, refl, sym}
+use Rattle.std.proofs.Common.{ap, subst, arith, lit≤, lit<}
+use Rattle.std.specs.{Str.Parse.{IsNumeral, digits_value, without_leading_plus}, Prelude.{option_and_then}}
+use Rattle.clap.specs.{Walk.{Row, Text, one_of}, declared.error.kind.ErrorKind.TheVariants.{UnknownArgument}}
 use Rattle.clap.proofs.OnLiterals.{clap_on_literals}
+use Rattle.dsa_cli.specs.CommandLine.{IsReportName}
+use Rattle.dsa_cli.proofs.ReportNames.{same_first, no_report}
 
 -- the number that a text says
 abbrev number_in : Option Text → ℕ
 number_in o = digits_value 10 (without_leading_plus (unwrap_or o []))
 
+-- the name of a command, and the text of an option
+abbrev name_in : Option (Text × List Row) → Text
+name_in found = unwrap_or (option_map (λ (p : Text × List Row). p.0) found) []
+
+abbrev engines_in : Option (Text × List Row) → Option Text
+engines_in found = option_and_then (λ (p : Text × List Row). one_of (codes "engines") p.1) found
+
 pub returns-clause-scenario : goal.returns-clause-scenario
 unfolding clap_on_literals
 returns-clause-scenario c name is same = cc
+
+pub returns-clause-help_is_scenario : goal.returns-clause-help_is_scenario
+unfolding clap_on_literals
+returns-clause-help_is_scenario c name is same =
+    let help : codes "help" ≡ name = ap (λ o. unwrap_or o []) same in
+    elim is [
+      | inl report ↦ no_report (codes "help") (lit< tt) (lit< tt) (subst (λ n. IsReportName n) (sym help) report)
+      | inr rest ↦
+          elim rest [
+            | inl serve ↦ omega (arith, same_first (help ∙ serve))
+            | inr threads ↦ omega (arith, same_first (help ∙ threads))
+          ]
+    ]
 
 pub returns-clause-no_scenario : goal.returns-clause-no_scenario
 unfolding clap_on_literals
@@ -76,6 +99,33 @@ returns-clause-help c mistake =
       | inl help ↦ mistake.2 help
       | inr none ↦ none
     ]
+
+pub returns-clause-version : goal.returns-clause-version
+unfolding clap_on_literals
+returns-clause-version c mistake =
+    elim mistake.1 [
+      | inl version ↦ mistake.3 version
+      | inr none ↦ none
+    ]
+
+pub returns-clause-other_report : goal.returns-clause-other_report
+unfolding clap_on_literals
+returns-clause-other_report c asks = omega (arith, same_first (ap name_in asks.1.1 ∙ asks.2))
+
+pub returns-clause-nothing_is_no_report : goal.returns-clause-nothing_is_no_report
+unfolding clap_on_literals
+returns-clause-nothing_is_no_report c asks = let same = asks.1.1 in cc
+
+pub returns-clause-nothing_is_no_threads : goal.returns-clause-nothing_is_no_threads
+unfolding clap_on_literals
+returns-clause-nothing_is_no_threads c asks = let same = asks.1.1 in cc
+
+pub returns-clause-other_numbers : goal.returns-clause-other_numbers
+unfolding clap_on_literals
+returns-clause-other_numbers c asks =
+    let has : one_of (codes "engines") asks.0 ≡ Some (codes "3") = ap engines_in (sym asks.1.1) in
+    let numeral : IsNumeral 10 (codes "3") = (lit< tt, (lit< tt, tt)) in
+    omega (arith, asks.2.engines (codes "3") has numeral (lit≤ tt) (lit≤ tt))
 
 pub returns-clause-none : goal.returns-clause-none
 unfolding clap_on_literals

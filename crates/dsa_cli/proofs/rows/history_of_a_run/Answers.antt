@@ -27,6 +27,9 @@ returns-clause-balanced c totals run = run.balanced
 pub returns-clause-accepted : goal.returns-clause-accepted
 returns-clause-accepted c totals run = run.accepted
 
+pub returns-clause-accepted_of_one_client : goal.returns-clause-accepted_of_one_client
+returns-clause-accepted_of_one_client c totals run = run.accepted
+
 pub returns-clause-accepted_one : goal.returns-clause-accepted_one
 returns-clause-accepted_one c totals run = run.accepted_one
 

@@ -1,10 +1,7 @@
 use Rattle.dsa_cli.proofs.rows.names_of_reports.Goals as goal
-use Rattle.std.proofs.Common.{◌≡◌, ℕ, List, inl, inr, refl, ap, arith, get_or}
+use Rattle.std.proofs.Common.{codes, inl, inr, refl, lit<, arith}
 use Rattle.clap.proofs.OnLiterals.{clap_on_literals}
-
--- the first characters of two texts that are the same
-first : {s t : List ℕ} → s ≡ t → get_or s 0 0 ≡ get_or t 0 0
-first same = ap (λ (text : List ℕ). get_or text 0 0) same
+use Rattle.dsa_cli.proofs.ReportNames.{same_first, no_report}
 
 pub returns-clause-check : goal.returns-clause-check
 unfolding clap_on_literals
@@ -31,27 +28,11 @@ unfolding clap_on_literals
 returns-clause-asks_trace c = (refl, record { json = λ has. absurd cc; table = λ has. refl })
 
 pub returns-clause-serve : goal.returns-clause-serve
-returns-clause-serve c named =
-    elim named [
-      | inl check ↦ omega (arith, first check)
-      | inr rest ↦
-          elim rest [
-            | inl explain ↦ omega (arith, first explain)
-            | inr rest ↦
-                elim rest [
-                  | inl trace ↦ omega (arith, first trace)
-                  | inr rest ↦
-                      elim rest [
-                        | inl draw ↦ omega (arith, first draw)
-                        | inr conform ↦ omega (arith, first conform)
-                      ]
-                ]
-          ]
-    ]
+returns-clause-serve c named = no_report (codes "serve") (lit< tt) (lit< tt) named
 
 pub returns-clause-other_report : goal.returns-clause-other_report
 unfolding clap_on_literals
-returns-clause-other_report c asked = omega (arith, first asked.0)
+returns-clause-other_report c asked = omega (arith, same_first asked.0)
 
 pub returns-clause-asks_json : goal.returns-clause-asks_json
 unfolding clap_on_literals

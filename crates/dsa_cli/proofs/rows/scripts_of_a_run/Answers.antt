@@ -1,6 +1,33 @@
 use Rattle.dsa_cli.proofs.rows.scripts_of_a_run.Goals as goal
-use Rattle.std.proofs.Common.{ap, arith}
+use Rattle.std.proofs.Common.{◌≡◌, ◌+◌, ℕ, List, [], ◌∷◌, length, replicate, refl, ap, sym, subst, arith}
+use Rattle.std.specs.{Prelude.{All, slice_index_or}, Global.{Vec}}
+use Rattle.std.proofs.lemmas.List.Elements.{All-from_recursion}
 use Rattle.dsa_desc.specs.declared.Descriptor.{Descriptor}
+use Rattle.dsa_workers.specs.declared.scripts.ClientStep.{ClientStep}
+use Rattle.dsa_cli.specs.{Threads.{IsClientScript, Submits}, Worked.{move_under}}
+use Rattle.dsa_cli.proofs.FewNumbers.{below_two}
+
+-- three Moves under a PASID
+three_moves_under : (pasid : ℕ) (script : Vec ClientStep) → script.items ≡ replicate 3 (move_under pasid)
+    → IsClientScript pasid 3 script
+three_moves_under pasid script are =
+    let one : Submits pasid (move_under pasid) = record { queue = refl; portal = refl; kind = refl; bytes = refl } in
+    record {
+      len = ap (λ (l : List ClientStep). length l) are;
+      moves = subst (All (Submits pasid)) (sym are)
+          (All-from_recursion (Submits pasid) (replicate 3 (move_under pasid)) (one, (one, (one, tt))));
+    }
+
+pub returns-clause-these : goal.returns-clause-these
+returns-clause-these c scripts first second one two count clients engines admin = record {
+  count = count;
+  clients = λ client other less.
+      subst (λ (l : List (Vec ClientStep)). IsClientScript (client + 1) 3 (slice_index_or l client other)) (sym clients)
+      (below_two (λ n. IsClientScript (n + 1) 3 (slice_index_or (first ∷ second ∷ []) n other))
+      (three_moves_under 1 first one) (three_moves_under 2 second two) client less);
+  engines = engines;
+  admin = admin;
+}
 
 pub returns-clause-count : goal.returns-clause-count
 returns-clause-count c scripts are = are.count

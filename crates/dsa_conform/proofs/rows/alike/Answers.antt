@@ -1,10 +1,11 @@
 use Rattle.dsa_conform.proofs.rows.alike.Goals as goal
-use Rattle.std.proofs.Common.{◌≡◌, ℕ, Bool, true, false, List, Option, Some, None, codes, bytes_eq, refl, ap}
+use Rattle.std.proofs.Common.{◌≡◌, ℕ, Bool, true, false, List, Option, Some, None, codes, bytes_eq, refl, ap, subst}
 use Rattle.std.specs.{Prelude.{◌&&◌}, Fmt.{digits}}
 use Rattle.dsa_book.specs.declared.answer.SubmitAnswer.TheVariants.{Accepted}
 use Rattle.dsa_scenario.specs.Worked.{record_ticket}
-use Rattle.dsa_conform.specs.Seen.{answer_shown, zf_shown}
+use Rattle.dsa_conform.specs.{Allowed.{AreSeenAlike}, Seen.{answer_shown, zf_shown}}
 use Rattle.dsa_conform.specs.Worked.{from_first, from_second, flagged, by_enqcmd}
+use Rattle.dsa_conform.proofs.{RowRuns.{nothing, only_nothing}, RowTakes.{first_allowed, second_allowed}}
 
 -- the same is seen of an entry that comes into one cell or the other
 same_shown : (answer : Option (List ℕ)) (zf : Option Bool)
@@ -35,8 +36,7 @@ returns-clause-flags c are =
 pub returns-clause-either : goal.returns-clause-either
 unfolding digits
 returns-clause-either c one =
-    let alike = one from_first from_second (record { answers = refl; after = _; leads = refl })
-    (record { answers = refl; after = _; leads = refl }) in
+    let alike = one from_first from_second first_allowed second_allowed in
     let none : true ≡ false = ap (bytes_eq (codes "taken 0 from 0")) alike.texts in
     absurd cc
 
@@ -45,3 +45,8 @@ returns-clause-poll c = tt
 
 pub returns-clause-word : goal.returns-clause-word
 returns-clause-word c = tt
+
+pub returns-clause-one : goal.returns-clause-one
+returns-clause-one c first second is also =
+    subst (λ entry. AreSeenAlike first entry) (only_nothing second also)
+    (subst (λ entry. AreSeenAlike entry nothing) (only_nothing first is) (record { texts = refl; shown = λ seen. refl }))

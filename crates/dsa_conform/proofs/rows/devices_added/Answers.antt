@@ -2,21 +2,17 @@ use Rattle.dsa_conform.proofs.rows.devices_added.Goals as goal
 use Rattle.dsa_book.specs.declared.event.Event.TheVariants as event
 use Rattle.std.proofs.Common.{◌≡◌, ◌∙◌, ◌⊎◌, ◌<◌, ℕ, true, false, List, [], ◌∷◌, Ok, ap, arith, bytes_eq, codes, inl, inr, length}
 use Rattle.std.proofs.Common.{lit<, lit≤, map, refl, sym, subst}
-use Rattle.std.specs.{Prelude.{Contains, take}, declared.{alloc.Global.{Global}, vec.Vec.{Vec}}, Fmt.{digits}}
+use Rattle.std.specs.{Prelude.{Contains, take}, Fmt.{digits}}
 use Rattle.std.proofs.lemmas.List.Elements.{All-nil, All-cons}
 use Rattle.dsa_base.specs.Lists.{In}
-use Rattle.dsa_book.specs.declared.answer.Ticket.{Ticket}
 use Rattle.dsa_scenario.{specs.{declared.{actions.Action.{Action}, run.Record.{Record}}, Lines.{record_text}}, proofs.Walks.{opened}}
 use Rattle.dsa_scenario.specs.Worked.{smallest_caps}
 use Rattle.dsa_conform.specs.{declared.way.Way.{Way}, Allowed.{IsAllowed, AreAllowed, queue_taken}, Run.{AreRead, IsFollowedTo}}
 use Rattle.dsa_conform.specs.{Seen.{Seen}, Ways.{IsAmong, IsWayBy}}
 use Rattle.dsa_conform.specs.Worked.{answered, smallest_device_at_first, way_at_first}
 use Rattle.dsa_conform.proofs.{Objects.{not_first}, RowRuns.{nothing, is_nothing, only_nothing, smallest_replay}}
-use Rattle.dsa_conform.proofs.RowWays.{to_one, to_two, itself, not_one, not_alike, poll_covered, none_active}
-
--- devices of two capacities are not the same
-not_same : (t : Vec Ticket Global) → way_at_first 8 t ≡ way_at_first 9 t → ⊥
-not_same t same = omega (arith, ap (λ (way : Way). way.device.capacity) same)
+use Rattle.dsa_conform.proofs.RowTakes.{none_allowed}
+use Rattle.dsa_conform.proofs.RowWays.{to_one, to_two, itself, not_one, not_alike, not_in_other, other_capacity, poll_covered, none_active}
 
 pub returns-clause-added : goal.returns-clause-added
 returns-clause-added c t = record {
@@ -31,14 +27,10 @@ returns-clause-another c t is = another (is.each (way_at_first 8 t) (inl refl))
   where
     another : In (way_at_first 8 t) [] ⊎ (way_at_first 9 t ≡ way_at_first 8 t) → ⊥
     another (inl none) = none
-    another (inr same) = not_same t (sym same)
+    another (inr same) = other_capacity t (sym same)
 
 pub returns-clause-lost : goal.returns-clause-lost
-returns-clause-lost c t is = lost (is.all (way_at_first 8 t) (inl refl))
-  where
-    lost : In (way_at_first 8 t) (way_at_first 9 t ∷ []) → ⊥
-    lost (inl same) = not_same t (sym same)
-    lost (inr none) = none
+returns-clause-lost c t is = not_in_other t (is.all (way_at_first 8 t) (inl refl))
 
 pub returns-clause-not_added : goal.returns-clause-not_added
 returns-clause-not_added c t is = not_alike t is.here
@@ -147,3 +139,9 @@ unfolding digits
 returns-clause-was_seen c why allowed told =
     let shown = told.none nothing is_nothing in
     absurd cc
+
+pub returns-clause-none_allowed : goal.returns-clause-none_allowed
+returns-clause-none_allowed c a on = none_allowed on.1.0 on.1.1
+
+pub returns-clause-nothing_to_tell : goal.returns-clause-nothing_to_tell
+returns-clause-nothing_to_tell c told is = none_allowed is.some is.is_some

@@ -1,12 +1,9 @@
 use Rattle.dsa_conform.proofs.rows.followed.Goals as goal
-use Rattle.dsa_book.specs.declared.answer.Reply.TheVariants as reply
-use Rattle.dsa_book.specs.declared.answer.PollAnswer.TheVariants as poll
-use Rattle.dsa_book.specs.declared.event.Event.TheVariants as event
-use Rattle.std.{proofs.Common.{◌≡◌, map, Ok, subst, refl, ap, arith}, specs.{Prelude.{Contains}, Fmt.{digits}}}
+use Rattle.std.{proofs.Common.{◌≡◌, map, subst, refl, ap, arith}, specs.{Prelude.{Contains}, Fmt.{digits}}}
 use Rattle.dsa_device.specs.Running.{running_at_first}
-use Rattle.dsa_scenario.specs.{declared.run.Record.{Record}, Lines.{record_text}, Worked.{smallest_caps, stepped}}
-use Rattle.dsa_conform.specs.Allowed.{IsAllowed}
+use Rattle.dsa_scenario.specs.{Lines.{record_text}, Worked.{smallest_caps}}
 use Rattle.dsa_conform.specs.Worked.{smallest_device_at_first}
+use Rattle.dsa_conform.proofs.{RowRuns.{nothing, is_nothing}, RowTakes.{none_allowed}}
 
 pub returns-clause-step : goal.returns-clause-step
 unfolding digits
@@ -41,13 +38,6 @@ returns-clause-another_state c is =
     ap (λ d. d.capacity) is.1 in
     absurd (omega (arith, other))
 
--- a device before its first step may answer a poll so
-abbrev nothing : Record
-nothing = stepped event.Poll (reply.Poll poll.Nothing)
-
-is_nothing : IsAllowed smallest_device_at_first (Ok event.Poll) nothing
-is_nothing = record { answers = refl; after = _; leads = refl }
-
 pub returns-clause-shown : goal.returns-clause-shown
 unfolding digits
 returns-clause-shown c v is =
@@ -58,3 +48,6 @@ pub returns-clause-untold : goal.returns-clause-untold
 returns-clause-untold c v items is =
     let among = subst (λ l. Contains (map record_text l) (record_text nothing)) items (is.0.all nothing is_nothing) in
     absurd (omega (arith, among.1))
+
+pub returns-clause-none_allowed : goal.returns-clause-none_allowed
+returns-clause-none_allowed c v items is = none_allowed is.2.0 is.2.1

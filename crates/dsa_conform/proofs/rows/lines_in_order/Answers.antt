@@ -1,5 +1,5 @@
 use Rattle.dsa_conform.proofs.rows.lines_in_order.Goals as goal
-use Rattle.std.proofs.Common.{◌≡◌, ◌≢◌, ◌≤◌, ◌⊎◌, ℕ, List, [], ◌∷◌, ap, arith, codes, inl, inr, lit≤, refl, sym, subst}
+use Rattle.std.proofs.Common.{◌≡◌, ◌≢◌, ◌≤◌, ◌⊎◌, ℕ, List, [], ◌∷◌, ap, arith, codes, inl, inr, lit≤, refl, subst}
 use Rattle.std.specs.{Prelude.{Option, Some, String, unwrap_or}, declared.alloc.Global.{Global}}
 use Rattle.dsa_base.specs.Lists.{In}
 use Rattle.dsa_scenario.specs.declared.run.Record.{Record}
@@ -96,22 +96,30 @@ returns-clause-placed c text = record {
     each other (inr none) = absurd none
 
 -- the two lines are of two queues
-not_same : (text : String Global) → line_of from_second text ≡ line_of from_first text → ⊥
-not_same text same = omega (arith, ap (λ (line : Line). queue_taken line.entry) same)
+not_same : (one other : String Global) → line_of from_second one ≡ line_of from_first other → ⊥
+not_same one other same = omega (arith, ap (λ (line : Line). queue_taken line.entry) same)
 
 pub returns-clause-lost : goal.returns-clause-lost
 returns-clause-lost c text is = lost (is.all (line_of from_first text) (inl refl))
   where
     lost : In (line_of from_first text) (line_of from_second text ∷ []) → ⊥
-    lost (inl same) = not_same text same
+    lost (inl same) = not_same text text same
     lost (inr none) = none
 
 pub returns-clause-another : goal.returns-clause-another
-returns-clause-another c text is = another (is.each (line_of from_second text) (inl refl))
+returns-clause-another c one other first second is = neither (is.each (line_of from_first one) (inl refl))
   where
-    another : In (line_of from_second text) [] ⊎ (line_of from_first text ≡ line_of from_second text) → ⊥
-    another (inl none) = none
-    another (inr same) = not_same text (sym same)
+    neither : In (line_of from_first one) [] ⊎ (line_of from_second other ≡ line_of from_first one) → ⊥
+    neither (inl none) = none
+    neither (inr same) = not_same other one same
+
+pub returns-clause-not_listed : goal.returns-clause-not_listed
+returns-clause-not_listed c one other is =
+    let listed = is.listed (record {
+      order = ((λ later none. absurd none), tt);
+      once = ((λ later none. absurd none), tt);
+    }) in
+    omega (arith, listed.order.0 _ (inl refl))
 
 pub returns-clause-not_there : goal.returns-clause-not_there
 returns-clause-not_there c text is = is.here.1

@@ -5,6 +5,7 @@ use Rattle.std.specs.{Prelude.{take}, Fmt.{digits}}
 use Rattle.dsa_scenario.specs.declared.{actions.Action.TheVariants.{Ask}, run.Record.{Record}}
 use Rattle.dsa_scenario.specs.{Steps.{standing}, Run.{event_of, AreOf}, Worked.{records_of_a_run, smallest_caps}}
 use Rattle.dsa_explain_lines.specs.Parts.{part_of}
+use Rattle.dsa_conform.proofs.RowRuns.{not_answered_so}
 
 pub returns-clause-after_a_run : goal.returns-clause-after_a_run
 unfolding digits
@@ -30,3 +31,6 @@ first_reason (entry ∷ entries) of_none is = of_none
 
 pub returns-clause-another : goal.returns-clause-another
 returns-clause-another c is = first_reason is.records is.run.of_actions is.is
+
+pub returns-clause-no_run : goal.returns-clause-no_run
+returns-clause-no_run c is = not_answered_so is.records is.run.of_actions is.run.shown

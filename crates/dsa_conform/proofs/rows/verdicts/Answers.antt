@@ -2,25 +2,26 @@ use Rattle.dsa_conform.proofs.rows.verdicts.Goals as goal
 use Rattle.dsa_book.specs.declared.answer.Reply.TheVariants as reply
 use Rattle.dsa_book.specs.declared.event.Event.TheVariants as event
 use Rattle.dsa_book.specs.declared.answer.PollAnswer.TheVariants as poll
-use Rattle.std.proofs.Common.{◌≡◌, ◌∙◌, ℕ, true, false, List, [], ◌∷◌, Some, Ok, length, map, take, codes, bytes_eq, refl}
-use Rattle.std.proofs.Common.{Result, sym, ap, subst, arith, lit≤}
+use Rattle.std.proofs.Common.{◌≡◌, ◌∙◌, ℕ, true, false, List, [], ◌∷◌, Some, Ok, length, take, codes, bytes_eq, refl}
+use Rattle.std.proofs.Common.{sym, ap, subst, lit≤}
 use Rattle.std.{specs.{Prelude.{slice_get}, Fmt.{digits}}, proofs.lemmas.Option.{same_Some}}
 use Rattle.dsa_base.specs.Lists.{In}
-use Rattle.dsa_regs.specs.declared.Fault.{Fault, TheVariants.{BadCommand}}
+use Rattle.dsa_regs.specs.declared.Fault.{TheVariants.{BadCommand}}
 use Rattle.dsa_book.specs.declared.{answer.{Reply.{Reply}, WriteAnswer.TheVariants.{Written}}, event.Event.{Event}}
 use Rattle.dsa_book.specs.Machine.{full_reply}
 use Rattle.dsa_book.proofs.EqualReplies.{equal-replies}
 use Rattle.dsa_device.{specs.Running.{Running, running_at_first, after_answer}, proofs.Steps.{answered_by_cases}}
 use Rattle.dsa_scenario.specs.declared.{actions.Action.{Action, TheVariants.{Ask, Refuse}}, run.Record.{Record}}
 use Rattle.dsa_scenario.specs.declared.run.Record.TheVariants.{Stepped, Refused}
-use Rattle.dsa_scenario.specs.{Run.{answered_by, AreOf, Leads}, Steps.{standing}}
+use Rattle.dsa_scenario.specs.{Run.{answered_by, Leads}, Steps.{standing}}
 use Rattle.dsa_scenario.specs.Worked.{smallest_caps, stepped, group_of_a_run}
 use Rattle.dsa_conform.specs.Allowed.{IsAllowed}
 use Rattle.dsa_conform.specs.Lines.{conforms_text, seen_count, difference_text}
 use Rattle.dsa_conform.specs.Run.{IsShownRun, IsDifference}
-use Rattle.dsa_conform.specs.{Seen.{Seen, shows, AreShown}, Worked.{answered, nothing_seen, smallest_device_at_first}}
+use Rattle.dsa_conform.specs.{Seen.{Seen, shows}, Worked.{answered, nothing_seen, smallest_device_at_first}}
 use Rattle.dsa_conform.proofs.{SeenAlike.{only_entry}, Objects.{not_first, not_second, one_read}}
 use Rattle.dsa_conform.proofs.RowRuns.{LeadTo, differs, smallest_replay, word_leads, nothing, is_nothing, only_nothing}
+use Rattle.dsa_conform.proofs.RowRuns.{not_answered_so}
 
 -- ---- a device whose history has no room
 
@@ -108,21 +109,8 @@ returns-clause-untold c is =
     let line = is.told.all [] (record { of_actions = tt; run = refl; shown = tt }) nothing is_nothing in
     not_empty is.lines line.0 line.1 is.is
 
--- a word that is no command is not answered `nothing`
-not_so : (records : List Record) → AreOf [] (Refuse BadCommand ∷ []) records
-    → AreShown (answered (codes "nothing") ∷ []) records → ⊥
-unfolding digits
-not_so [] of shown = of
-not_so (Stepped step ∷ records) of shown = absurd (let other = of.0 in cc)
-not_so (Refused fault ∷ records) of shown =
-    let asked = of.0 in
-    let same : fault ≡ BadCommand = cc in
-    let shown : shows (answered (codes "nothing")) (Refused BadCommand) ≡ true =
-    subst (λ f. shows (answered (codes "nothing")) (Refused f) ≡ true) same shown.0 in
-    absurd cc
-
 pub returns-clause-earlier : goal.returns-clause-earlier
-returns-clause-earlier c is = not_so is.some is.run.of_actions is.run.shown
+returns-clause-earlier c is = not_answered_so is.some is.run.of_actions is.run.shown
 
 -- no difference is told of a step of which nothing was seen
 not_unseen : (observed : List (Action × Seen)) (here : Action × Seen) (text : List ℕ)
@@ -150,7 +138,7 @@ pub returns-clause-not_shown : goal.returns-clause-not_shown
 returns-clause-not_shown c is =
     let read = one_read (Refuse BadCommand, answered (codes "nothing")) is.observed is.read in
     let run = subst (λ observed. IsShownRun smallest_caps 9 observed is.records) read is.run in
-    not_so is.records run.of_actions run.shown
+    not_answered_so is.records run.of_actions run.shown
 
 pub returns-clause-not_counted : goal.returns-clause-not_counted
 unfolding digits
@@ -167,3 +155,13 @@ returns-clause-counted_as_seen c is =
     let told = subst (λ o. conforms_text 1 1 ≡ conforms_text (length o) (seen_count o)) read is.told in
     let none : true ≡ false = ap (bytes_eq (conforms_text 1 1)) told in
     absurd cc
+
+pub returns-clause-counted : goal.returns-clause-counted
+unfolding digits
+returns-clause-counted c = record {
+  observed = (Ask event.Poll, nothing_seen) ∷ [];
+  read = refl;
+  records = nothing ∷ [];
+  run = poll_run nothing_seen refl;
+  told = refl;
+}

@@ -68,6 +68,23 @@ below t (inr (inr none)) = absurd none
 pub returns-clause-given : goal.returns-clause-given
 returns-clause-given c = record { found = found; below = below }
 
+abbrev later : List Ticket
+later = ticket 6 9 ∷ ticket 2 8 ∷ []
+
+found_later : (pair : HeldEntry) → In pair (all_held (one_in 2 8))
+    → find (λ (t : Ticket). t.name == pair.1.name) later ≡ Some (ticket_of_entry pair)
+found_later pair (inl is) =
+    subst (λ (held : HeldEntry). find (λ (t : Ticket). t.name == held.1.name) later ≡ Some (ticket_of_entry held)) is refl
+found_later pair (inr none) = absurd none
+
+below_ten : (t : Ticket) → In t later → t.name < 10
+below_ten t (inl is) = omega (arith, ap (λ (other : Ticket). other.name) is)
+below_ten t (inr (inl is)) = omega (arith, ap (λ (other : Ticket). other.name) is)
+below_ten t (inr (inr none)) = absurd none
+
+pub returns-clause-given_a_later_name : goal.returns-clause-given_a_later_name
+returns-clause-given_a_later_name c = record { found = found_later; below = below_ten }
+
 pub returns-clause-not_given : goal.returns-clause-not_given
 returns-clause-not_given c given = grind (arith, given.found _ (inl refl))
 

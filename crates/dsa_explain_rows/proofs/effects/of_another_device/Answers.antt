@@ -1,5 +1,6 @@
 use Rattle.dsa_explain_rows.proofs.effects.of_another_device.Goals as goal
 use Rattle.std.proofs.Common.{◌≡◌, ap, arith, refl}
+use Rattle.std.specs.Prelude.{is_some}
 use Rattle.dsa_book.specs.State.{State}
 use Rattle.dsa_explain_rows.specs.Effects.{another_device}
 
@@ -42,3 +43,15 @@ returns-clause-queue_enabled c is = others _ refl is.after
 
 pub returns-clause-device_enabled : goal.returns-clause-device_enabled
 returns-clause-device_enabled c is = others _ refl is.after
+
+pub returns-clause-waiting : goal.returns-clause-waiting
+returns-clause-waiting c is = grind (arith, ap (λ (s : State). is_some s.active) is.after)
+
+pub returns-clause-over : goal.returns-clause-over
+returns-clause-over c is = grind (arith, ap (λ (s : State). is_some s.active) is.after)
+
+pub returns-clause-aborted : goal.returns-clause-aborted
+returns-clause-aborted c is = others _ refl is.after
+
+pub returns-clause-reset : goal.returns-clause-reset
+returns-clause-reset c is = grind (arith, ap (λ (s : State). is_some s.active) is.after)

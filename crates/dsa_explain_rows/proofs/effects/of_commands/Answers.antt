@@ -60,3 +60,11 @@ returns-clause-reset c = record {
   granted = record { idle = refl; queues = refl; phases = refl; check = refl };
   after = refl;
 }
+
+pub returns-clause-reset_while_off : goal.returns-clause-reset_while_off
+returns-clause-reset_while_off c = record {
+  command = ResetDevice;
+  deed = refl;
+  granted = record { idle = refl; queues = refl; phases = refl; check = refl };
+  after = refl;
+}

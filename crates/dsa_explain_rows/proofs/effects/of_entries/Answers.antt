@@ -3,7 +3,7 @@ use Rattle.std.proofs.Common.{refl}
 use Rattle.dsa_book.specs.declared.event.{Kind.TheVariants.{Enqcmd, Movdir64b}, Portal.TheVariants.{Limited}}
 use Rattle.dsa_desc.specs.declared.Outcome.TheVariants.{PageFault}
 use Rattle.dsa_worked.specs.Setup.{no_op}
-use Rattle.dsa_explain_rows.specs.Effects.{batch_of_four, four_waits, note_open, seven_waits, seven_with_fence, six_runs}
+use Rattle.dsa_explain_rows.specs.Effects.{batch_of_four, four_waits, note_open, seven_moves, seven_waits, seven_with_fence, six_runs}
 
 pub returns-clause-accepted_by_movdir : goal.returns-clause-accepted_by_movdir
 returns-clause-accepted_by_movdir c = record {
@@ -97,5 +97,16 @@ returns-clause-ended c = record {
   pair = six_runs;
   is_found = refl;
   ready = refl;
+  after = refl;
+}
+
+pub returns-clause-started_with_two_buffers : goal.returns-clause-started_with_two_buffers
+returns-clause-started_with_two_buffers c = record {
+  engine = 1;
+  pair = seven_moves;
+  is_first = refl;
+  first_of_all = refl;
+  unfailed = refl;
+  room = refl;
   after = refl;
 }

@@ -10,6 +10,9 @@ returns-clause-another_active c is = grind (arith, is.idle)
 pub returns-clause-no_such_queue : goal.returns-clause-no_such_queue
 returns-clause-no_such_queue c is = grind (arith, is.queues)
 
+pub returns-clause-no_queue_named : goal.returns-clause-no_queue_named
+returns-clause-no_queue_named c is = grind (arith, is.queues)
+
 pub returns-clause-is_off : goal.returns-clause-is_off
 returns-clause-is_off c is = grind (arith, is.phases)
 

@@ -47,3 +47,12 @@ returns-clause-told_of_no_group c = tt
 
 pub returns-clause-beyond_the_groups : goal.returns-clause-beyond_the_groups
 returns-clause-beyond_the_groups c is = omega (arith, is)
+
+pub returns-clause-no_engine : goal.returns-clause-no_engine
+returns-clause-no_engine c is = omega (arith, is.engine)
+
+pub returns-clause-no_group : goal.returns-clause-no_group
+returns-clause-no_group c is = omega (arith, is.group)
+
+pub returns-clause-no_room : goal.returns-clause-no_room
+returns-clause-no_room c is = grind (arith, is.room)

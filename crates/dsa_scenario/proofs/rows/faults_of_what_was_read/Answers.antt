@@ -1,5 +1,6 @@
 use Rattle.dsa_scenario.proofs.rows.faults_of_what_was_read.Goals as goal
 use Rattle.std.proofs.Common.{◌≡◌, ◌++◌, ◌<◌, ◌^◌, ℕ, List, [], ap, arith, codes, length, length-append, lit≤, refl}
+use Rattle.serde_json.proofs.OnLiterals.{serde_json_on_literals}
 
 -- a byte that is left was not there
 no_byte : (bytes : List ℕ) → [] ≡ bytes ++ codes "c" → ⊥
@@ -26,3 +27,13 @@ returns-clause-memory_alone c = tt
 
 pub returns-clause-not_told : goal.returns-clause-not_told
 returns-clause-not_told c is = no_byte is.0 is.1.0
+
+pub returns-clause-no_more : goal.returns-clause-no_more
+returns-clause-no_more c is = no_byte is.0 is.1
+
+pub returns-clause-no_fault : goal.returns-clause-no_fault
+returns-clause-no_fault c is = is.2
+
+pub returns-clause-no_json : goal.returns-clause-no_json
+unfolding serde_json_on_literals
+returns-clause-no_json c = (codes "{", (refl, refl, lit≤ tt), λ utf8. refl)

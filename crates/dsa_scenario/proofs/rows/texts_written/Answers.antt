@@ -1,5 +1,5 @@
 use Rattle.dsa_scenario.proofs.rows.texts_written.Goals as goal
-use Rattle.std.proofs.Common.{◌≡◌, ◌++◌, ◌<◌, ◌≤◌, ◌^◌, ℕ, List, [], ap, arith, codes, length, length-append, lit≤, refl, take}
+use Rattle.std.proofs.Common.{◌≡◌, ◌++◌, ◌<◌, ℕ, List, [], ap, arith, codes, length, length-append, lit≤, refl, take}
 use Rattle.std.proofs.lemmas.List.{length-take}
 use Rattle.std.specs.Prelude.{None}
 
@@ -33,3 +33,9 @@ all_there bytes text count had is short holds = omega (
 
 pub returns-clause-not_cut : goal.returns-clause-not_cut
 returns-clause-not_cut c is = all_there is.0 is.1 is.3 is.4.0 is.5 is.6 is.7
+
+pub returns-clause-more_left : goal.returns-clause-more_left
+returns-clause-more_left c is = omega (arith, ap length is.2.1)
+
+pub returns-clause-more_left_of_a_cut : goal.returns-clause-more_left_of_a_cut
+returns-clause-more_left_of_a_cut c is = omega (arith, ap length is.4.1)

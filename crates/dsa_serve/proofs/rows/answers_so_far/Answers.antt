@@ -1,12 +1,12 @@
 use Rattle.dsa_serve.proofs.rows.answers_so_far.Goals as goal
-use Rattle.std.proofs.Common.{◌≡◌, ◌≢◌, ◌==◌, ◌∙◌, ◌++◌, ℕ, true, false, not, List, [], ◌∷◌, codes, refl, ap, sym, subst}
+use Rattle.std.proofs.Common.{◌≡◌, ◌≢◌, ◌∙◌, ◌++◌, ℕ, List, [], ◌∷◌, codes, refl, ap, sym, subst}
 use Rattle.std.proofs.Common.{arith, lit≤, inl, inr}
-use Rattle.std.specs.List.{list_all}
-use Rattle.std.proofs.lemmas.List.{Elements.{All-nil}, Sums.{AllPass-from_list_all}}
+use Rattle.std.proofs.lemmas.List.Elements.{All-nil}
 use Rattle.serde_json.{specs.Data.{number, unsigned}, proofs.OnLiterals.{serde_json_on_literals}}
 use Rattle.dsa_book.specs.State.{State, opening}
 use Rattle.dsa_scenario.specs.{Document.{head_of}, Lines.{line_of_text}, Worked.{smallest_caps}}
 use Rattle.dsa_serve.specs.{Input.{IsLine}, Dialogue.{IsDialogue, AnswersSoFar}, Worked.{first_line}}
+use Rattle.dsa_serve.proofs.RowLines.{line_by_test}
 
 pub returns-clause-longest : goal.returns-clause-longest
 returns-clause-longest c input line long = inl (line, omega (arith, long), refl)
@@ -40,13 +40,6 @@ no_answer output (inr h) =
 
 pub returns-clause-whole_line : goal.returns-clause-whole_line
 returns-clause-whole_line c output is = no_answer output is
-
--- bytes that are no line feed, by computation
-line_by_test : (bytes : List ℕ) → list_all (λ byte. not (byte == 10)) bytes ≡ true → IsLine bytes
-line_by_test bytes passes k d inside feed =
-    let here = AllPass-from_list_all (λ byte. not (byte == 10)) bytes passes k d inside in
-    let other : false ≡ true = rw feed at here in
-    absurd cc
 
 bare_dialogue : IsDialogue (first_line []) [] (opening smallest_caps) []
 unfolding serde_json_on_literals

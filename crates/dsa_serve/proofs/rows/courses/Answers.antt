@@ -1,10 +1,10 @@
 use Rattle.dsa_serve.proofs.rows.courses.Goals as goal
-use Rattle.std.proofs.Common.{◌≡◌, ◌≢◌, ◌==◌, ◌∙◌, ◌++◌, ℕ, not, true, false, List, [], ◌∷◌, All, Some, map, codes, refl, ap}
+use Rattle.std.proofs.Common.{◌≡◌, ◌≢◌, ◌∙◌, ◌++◌, ℕ, true, false, List, [], ◌∷◌, All, Some, map, codes, refl, ap}
 use Rattle.std.proofs.Common.{arith, lit≤, flat_map, length, length-append, length-take, append_assoc, append-nil, subst}
 use Rattle.std.proofs.Common.{sym}
-use Rattle.std.specs.{Option.{option_map_or}, List.{list_all}}
+use Rattle.std.specs.Option.{option_map_or}
 use Rattle.std.proofs.Math.Seq.{get_or-append_seam}
-use Rattle.std.proofs.lemmas.List.{Elements.{All-head, All-nil}, Sums.{AllPass-from_list_all}}
+use Rattle.std.proofs.lemmas.List.Elements.{All-head, All-nil}
 use Rattle.serde_json.{specs.{Data.{Data, Items}, Read.{read}}, proofs.OnLiterals.{serde_json_on_literals}}
 use Rattle.dsa_regs.specs.{declared.Caps.{Caps}, Caps.{check_caps}}
 use Rattle.dsa_book.specs.declared.answer.Ticket.{Ticket}
@@ -16,6 +16,7 @@ use Rattle.dsa_serve.specs.declared.requests.LineFault.TheVariants.{NotJson, NoS
 use Rattle.dsa_serve.specs.declared.requests.Request.{Request, TheVariants.{Step, Explain, Fault}}
 use Rattle.dsa_serve.specs.{Requests.{Asks, AreAsked}, Answers.{answers}, Input.{IsLine}}
 use Rattle.dsa_serve.specs.{Dialogue.{from_document, IsServing}, Worked.{first_line}}
+use Rattle.dsa_serve.proofs.RowLines.{line_by_test, no_lines}
 
 -- ---- what is so of a session
 
@@ -51,17 +52,6 @@ bare_actions behind output number now tickets kept is =
     let head = head_is (first_line []) behind output number now tickets kept _ refl is in
     let steps = ap (λ o. option_map_or (λ (h : Head). list_of_items h.2) o []) head ∙ is.document.head.listed in
     no_action is.actions (ap (map action_of) steps ∙ is.document.asked)
-
-no_lines : (lines : List (List ℕ)) (rest : List ℕ) → [] ≡ flat_map line_of_text lines ++ rest
-    → (lines ≡ []) × (rest ≡ [])
-no_lines [] rest e = (refl, sym e)
-no_lines (l ∷ lines) rest e = absurd (omega (
-  arith,
-  ap length e,
-  length-append (flat_map line_of_text (l ∷ lines)) rest,
-  length-append (line_of_text l) (flat_map line_of_text lines),
-  length-append l (10 ∷ []),
-))
 
 no_request : (lines : List (List ℕ)) (requests : List Request) → lines ≡ [] → AreAsked lines requests → requests ≡ []
 no_request [] [] e h = refl
@@ -218,13 +208,6 @@ returns-clause-kept c behind output number now tickets kept line is =
 
 -- ---- a dialogue
 
--- bytes that are no line feed, by computation
-line_by_test : (bytes : List ℕ) → list_all (λ byte. not (byte == 10)) bytes ≡ true → IsLine bytes
-line_by_test bytes passes k d inside feed =
-    let here = AllPass-from_list_all (λ byte. not (byte == 10)) bytes passes k d inside in
-    let other : false ≡ true = rw feed at here in
-    absurd cc
-
 pub returns-clause-begun : goal.returns-clause-begun
 returns-clause-begun c dialogue number device tickets kept = record {
   input = line_of_text (first_line []);
@@ -246,6 +229,20 @@ returns-clause-begun_with_no_document c dialogue held holds is =
     no_document is.behind is.output session.number session.device session.tickets.items dialogue.kept.items
     (subst (λ f. IsServing f is.behind is.output session.number session.device session.tickets.items
     dialogue.kept.items) first is.serving)
+
+pub returns-clause-longest_first : goal.returns-clause-longest_first
+returns-clause-longest_first c first dialogue line long serving = record {
+  input = first;
+  first = first;
+  behind = [];
+  output = [];
+  read = sym (append-nil first);
+  written = refl;
+  line = line;
+  short = omega (arith, long);
+  front = (refl, refl);
+  serving = serving;
+}
 
 pub returns-clause-written_too_early : goal.returns-clause-written_too_early
 returns-clause-written_too_early c dialogue is =

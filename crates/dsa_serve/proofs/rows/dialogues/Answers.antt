@@ -1,18 +1,20 @@
 use Rattle.dsa_serve.proofs.rows.dialogues.Goals as goal
 use Rattle.dsa_book.specs.declared.answer.Reply.TheVariants as reply
 use Rattle.dsa_book.specs.declared.event.Event.TheVariants as event
-use Rattle.std.proofs.Common.{◌≡◌, ◌==◌, ◌++◌, ℕ, true, false, not, List, [], ◌∷◌, codes, refl, lit≤}
-use Rattle.std.specs.{Fmt.{digits}, List.{list_all}}
-use Rattle.std.proofs.lemmas.List.{Elements.{All-nil, All-cons}, Sums.{AllPass-from_list_all}}
+use Rattle.std.proofs.Common.{◌++◌, ℕ, ◌≢◌, true, false, List, [], ◌∷◌, codes, refl, lit≤, lit<, arith, sym, append-nil, inl, inr}
+use Rattle.std.specs.Fmt.{digits}
+use Rattle.std.proofs.lemmas.List.Elements.{All-nil, All-cons}
 use Rattle.serde_json.proofs.OnLiterals.{serde_json_on_literals}
 use Rattle.dsa_book.specs.declared.answer.PollAnswer.TheVariants.{Nothing}
 use Rattle.dsa_scenario.specs.declared.actions.Action.TheVariants.{Ask}
 use Rattle.dsa_book.specs.State.{opening}
 use Rattle.dsa_scenario.specs.{Document.{IsDocument}, Lines.{line_of_text}, Worked.{smallest_caps, stepped}}
+use Rattle.dsa_scenario.specs.Worked.{caps_of_a_run, actions_of_a_run, records_of_a_run}
 use Rattle.dsa_serve.specs.declared.requests.LineFault.TheVariants.{NotJson}
 use Rattle.dsa_serve.specs.declared.requests.Request.TheVariants.{Explain, Fault}
-use Rattle.dsa_serve.specs.{Input.{IsLine, AreLines, HasFirst}, Dialogue.{IsDialogue}}
+use Rattle.dsa_serve.specs.{Input.{IsLine, AreLines, HasFirst}, Dialogue.{IsDialogue, AnswersWhole, AnswersAll}}
 use Rattle.dsa_serve.specs.Worked.{poll_line, explained_poll_line, first_line}
+use Rattle.dsa_serve.proofs.RowLines.{line_by_test}
 
 -- a first line without steps is a document
 bare_document : IsDocument (first_line []) smallest_caps 9 []
@@ -23,6 +25,21 @@ bare_document = record {
     document = _;
     items = _;
     json = record { utf8 = (first_line [], (refl, refl)); value = refl };
+    head = refl;
+    listed = refl;
+  };
+  asked = refl;
+}
+
+-- and so is one with a step
+poll_document : IsDocument (first_line poll_line) smallest_caps 9 (Ask event.Poll ∷ [])
+unfolding serde_json_on_literals
+poll_document = record {
+  steps = _;
+  head = record {
+    document = _;
+    items = _;
+    json = record { utf8 = (first_line poll_line, (refl, refl)); value = refl };
     head = refl;
     listed = refl;
   };
@@ -50,21 +67,11 @@ pub returns-clause-lines : goal.returns-clause-lines
 unfolding serde_json_on_literals digits
 returns-clause-lines c = record {
   caps = smallest_caps;
-  capacity = _;
+  capacity = 9;
   actions = Ask event.Poll ∷ [];
   requests = Fault NotJson ∷ Explain (Ask event.Poll) ∷ [];
   records = stepped event.Poll (reply.Poll Nothing) ∷ stepped event.Poll (reply.Poll Nothing) ∷ [];
-  document = record {
-    steps = _;
-    head = record {
-      document = _;
-      items = _;
-      json = record { utf8 = (first_line poll_line, (refl, refl)); value = refl };
-      head = refl;
-      listed = refl;
-    };
-    asked = refl;
-  };
+  document = poll_document;
   opening = record { good = refl; small = lit≤ tt };
   asked = (
     (lit≤ tt, λ utf8. refl),
@@ -85,13 +92,6 @@ returns-clause-lines c = record {
   replayed = refl;
   answered = refl;
 }
-
--- bytes that are no line feed, by computation
-line_by_test : (bytes : List ℕ) → list_all (λ byte. not (byte == 10)) bytes ≡ true → IsLine bytes
-line_by_test bytes passes k d inside feed =
-    let here = AllPass-from_list_all (λ byte. not (byte == 10)) bytes passes k d inside in
-    let other : false ≡ true = rw feed at here in
-    absurd cc
 
 bare : IsLine (first_line [])
 bare = line_by_test (first_line []) refl
@@ -130,20 +130,22 @@ dialogue = record {
   answered = refl;
 }
 
-pub returns-clause-whole : goal.returns-clause-whole
-returns-clause-whole c = record {
+-- what answers the whole lines of such an input, and what answers all of them
+whole_of : (behind rest : List ℕ) → AreLines behind (codes "{" ∷ []) rest
+    → AnswersWhole false (line_of_text (first_line []) ++ behind) (codes "fault not JSON\n")
+whole_of behind rest lines_are = record {
   first = first_line [];
-  behind = codes "{\n{";
+  behind = behind;
   lines = codes "{" ∷ [];
-  rest = codes "{";
+  rest = rest;
   last = opening smallest_caps;
-  split = split (codes "{\n{");
-  lines_are = one_line;
+  split = split behind;
+  lines_are = lines_are;
   dialogue = dialogue;
 }
 
-pub returns-clause-all : goal.returns-clause-all
-returns-clause-all c = record {
+all_of : AnswersAll (line_of_text (first_line []) ++ codes "{") (codes "fault not JSON\n")
+all_of = record {
   without_feed = false;
   first = first_line [];
   behind = codes "{";
@@ -157,4 +159,114 @@ returns-clause-all c = record {
     dialogue = dialogue;
     with_fates = refl;
   };
+}
+
+pub returns-clause-whole : goal.returns-clause-whole
+returns-clause-whole c = whole_of (codes "{\n{") (codes "{") one_line
+
+pub returns-clause-so_far : goal.returns-clause-so_far
+returns-clause-so_far c = inr (whole_of (codes "{\n{") (codes "{") one_line)
+
+pub returns-clause-all : goal.returns-clause-all
+returns-clause-all c = all_of
+
+-- ---- where one stopped
+
+pub returns-clause-write : goal.returns-clause-write
+returns-clause-write c = (
+  line_of_text (first_line []) ++ codes "{\n{",
+  codes "fault not JSON\n",
+  5,
+  refl,
+  inl (whole_of (codes "{\n{") (codes "{") one_line),
+  lit< tt,
+  refl,
+)
+
+pub returns-clause-write_at_the_end : goal.returns-clause-write_at_the_end
+returns-clause-write_at_the_end c = (
+  line_of_text (first_line []) ++ codes "{",
+  codes "fault not JSON\n",
+  5,
+  refl,
+  inr (inr (refl, all_of)),
+  lit< tt,
+  refl,
+)
+
+line_alone : AreLines (codes "{\n") (codes "{" ∷ []) []
+line_alone = record {
+  joined = refl;
+  each = All-cons IsLine (codes "{") [] open_brace (All-nil IsLine);
+  last = All-nil (λ byte. byte ≢ 10);
+}
+
+pub returns-clause-memory : goal.returns-clause-memory
+returns-clause-memory c rest long = (
+  line_of_text (first_line []) ++ codes "{\n",
+  10 ∷ rest,
+  codes "fault not JSON\n",
+  sym (append-nil ((line_of_text (first_line []) ++ codes "{\n") ++ 10 ∷ rest)),
+  omega (arith, long),
+  inl (inr (whole_of (codes "{\n") [] line_alone)),
+  refl,
+)
+
+poll_dialogue : IsDialogue (first_line poll_line) [] (opening smallest_caps) (codes "nothing\n")
+poll_dialogue = record {
+  caps = smallest_caps;
+  capacity = 9;
+  actions = Ask event.Poll ∷ [];
+  requests = [];
+  records = stepped event.Poll (reply.Poll Nothing) ∷ [];
+  document = poll_document;
+  opening = record { good = refl; small = lit≤ tt };
+  asked = tt;
+  of_actions = (refl, tt);
+  run = refl;
+  replayed = refl;
+  answered = refl;
+}
+
+only_line : AnswersWhole true (first_line poll_line) (codes "nothing\n")
+only_line = record {
+  first = first_line poll_line;
+  behind = [];
+  lines = [];
+  rest = [];
+  last = opening smallest_caps;
+  split = record { line = line_by_test (first_line poll_line) refl; short = lit≤ tt; front = (refl, refl) };
+  lines_are = record { joined = refl; each = All-nil IsLine; last = All-nil (λ byte. byte ≢ 10) };
+  dialogue = poll_dialogue;
+}
+
+pub returns-clause-memory_at_the_only_line : goal.returns-clause-memory_at_the_only_line
+returns-clause-memory_at_the_only_line c =
+    (first_line poll_line, [], codes "nothing\n", refl, lit≤ tt, inr (refl, only_line), refl)
+
+-- ---- fates
+
+pub returns-clause-ended : goal.returns-clause-ended
+unfolding digits
+returns-clause-ended c first document = record {
+  lines = [];
+  rest = [];
+  last = _;
+  answered = codes "written\nwritten\nended 0\nended 0\nrefused 13 BadCommand\naccepted 0\ntaken 0 from 0\ndone 01\nfull\n";
+  lines_are = record { joined = refl; each = All-nil IsLine; last = All-nil (λ byte. byte ≢ 10) };
+  dialogue = record {
+    caps = caps_of_a_run;
+    capacity = 7;
+    actions = actions_of_a_run;
+    requests = [];
+    records = records_of_a_run;
+    document = document;
+    opening = record { good = refl; small = lit≤ tt };
+    asked = tt;
+    of_actions = (refl, (refl, (refl, (refl, (refl, (refl, (refl, (refl, (refl, tt)))))))));
+    run = refl;
+    replayed = refl;
+    answered = refl;
+  };
+  with_fates = refl;
 }

@@ -1,21 +1,26 @@
 use Rattle.dsa_serve.proofs.rows.one_dialogue.Goals as goal
-use Rattle.std.proofs.Common.{◌≡◌, ◌∙◌, ◌++◌, ℕ, true, false, List, [], ◌∷◌, Some, map, codes, refl, ap, arith}
-use Rattle.std.proofs.Common.{flat_map, length, length-append, subst, sym}
-use Rattle.std.specs.{Option.{option_map_or}}
+use Rattle.dsa_book.specs.declared.answer.Reply.TheVariants as reply
+use Rattle.std.proofs.Common.{◌≡◌, ◌≢◌, ◌∙◌, ◌++◌, ◌&&◌, ℕ, true, false, List, [], ◌∷◌, All, Option, Some, None, map, codes, refl, ap}
+use Rattle.std.proofs.Common.{arith, flat_map, length, length-append, length-take, append_assoc, subst, sym, inl, inr}
+use Rattle.std.specs.Option.{option_map_or, is_some}
+use Rattle.std.proofs.lemmas.{Bool.{and_parts}, List.{append_cancel_right, Elements.{All-nil, All-cons}}}
 use Rattle.serde_json.{specs.{Data.{Data, Items}, Read.{read}}, proofs.OnLiterals.{serde_json_on_literals}}
 use Rattle.dsa_regs.specs.{declared.Caps.{Caps}, Caps.{check_caps}}
-use Rattle.dsa_book.specs.{State.{State, opening}}
+use Rattle.dsa_book.specs.declared.answer.{Reply.{Reply}, PollAnswer.TheVariants.{Nothing}}
 use Rattle.dsa_book.specs.declared.event.Event.TheVariants.{Poll}
-use Rattle.dsa_scenario.specs.declared.{actions.Action.{Action, TheVariants.{Ask}}, run.Record.{Record}}
+use Rattle.dsa_book.specs.{Machine.{next, is_run}, State.{State, opening}}
+use Rattle.dsa_book.proofs.Nexts.{next-is}
+use Rattle.dsa_scenario.specs.declared.{actions.Action.{Action, TheVariants.{Ask}}, run.Record.{Record, TheVariants.{Stepped, Refused}}}
 use Rattle.dsa_scenario.specs.{Actions.{action_of}, Document.{head_of, list_of_items}}
-use Rattle.dsa_scenario.specs.Lines.{record_text, line_of_text}
-use Rattle.dsa_scenario.specs.{Run.{AreOf}, Steps.{visits}}
+use Rattle.dsa_scenario.specs.Lines.{record_text, reply_text, line_of_text}
+use Rattle.dsa_scenario.specs.{Run.{AreOf, steps_of_records}, Steps.{visits}}
 use Rattle.dsa_scenario.specs.Worked.{smallest_caps, smallest_caps_text, no_caps_text, document_text}
 use Rattle.dsa_serve.specs.declared.requests.LineFault.TheVariants.{NotJson, NoStep, TooLong}
 use Rattle.dsa_serve.specs.declared.requests.Request.{Request, TheVariants.{Step, Explain, Fault}}
 use Rattle.dsa_serve.specs.{Requests.{Asks, AreAsked, actions_of}, Answers.{answers}}
-use Rattle.dsa_serve.specs.Input.{with_rest}
-use Rattle.dsa_serve.specs.{Dialogue.{from_document, IsDialogue}, Worked.{first_line, poll_line}}
+use Rattle.dsa_serve.specs.Input.{IsLine, with_rest}
+use Rattle.dsa_serve.specs.{Dialogue.{from_document, IsDialogue, AnswersWhole}, Worked.{first_line, poll_line}}
+use Rattle.dsa_serve.proofs.RowLines.{line_by_test, no_lines, one_way, one_division}
 
 -- what is read of a document
 abbrev Head : Type 0
@@ -95,17 +100,6 @@ output_is : (last : State) (output : List ℕ) → IsDialogue (first_line []) []
 output_is last output is =
     is.answered ∙ ap (λ rs. answers rs (visits is.caps is.capacity [] is.records)) (bare_requests last output is)
 
-no_lines : (lines : List (List ℕ)) (rest : List ℕ) → [] ≡ flat_map line_of_text lines ++ rest
-    → (lines ≡ []) × (rest ≡ [])
-no_lines [] rest e = (refl, sym e)
-no_lines (l ∷ lines) rest e = absurd (omega (
-  arith,
-  ap length e,
-  length-append (flat_map line_of_text (l ∷ lines)) rest,
-  length-append (line_of_text l) (flat_map line_of_text lines),
-  length-append l (10 ∷ []),
-))
-
 pub returns-clause-one_state : goal.returns-clause-one_state
 returns-clause-one_state c last output is = state_is last output is
 
@@ -136,11 +130,15 @@ one_request [] h = absurd h
 one_request (r ∷ []) h = ap (λ x. x ∷ []) (asks_nothing r h.0)
 one_request (r ∷ s ∷ requests) h = absurd h.1
 
-pub returns-clause-one_answer : goal.returns-clause-one_answer
-returns-clause-one_answer c last output is =
+answer_is : (last : State) (output : List ℕ) → IsDialogue (first_line []) (codes "{" ∷ []) last output
+    → output ≡ codes "fault not JSON\n"
+answer_is last output is =
     let requests : from_document is.actions is.requests ≡ Fault NotJson ∷ [] =
     rw (bare_actions (codes "{" ∷ []) last output is) (one_request is.requests is.asked) in
     is.answered ∙ ap (λ rs. answers rs (visits is.caps is.capacity [] is.records)) requests
+
+pub returns-clause-one_answer : goal.returns-clause-one_answer
+returns-clause-one_answer c last output is = answer_is last output is
 
 -- an answer to a step is a line
 no_answer : (actions : List Action) (requests : List Request) (records : List Record) (caps : Caps) (capacity : ℕ)
@@ -162,10 +160,102 @@ one_action [] e = absurd cc
 one_action (a ∷ []) e = cc
 one_action (a ∷ b ∷ actions) e = absurd cc
 
-pub returns-clause-no_record : goal.returns-clause-no_record
+-- a first line with one step
+poll_head : (last : State) (output : List ℕ) → (is : IsDialogue (first_line poll_line) [] last output)
+    → (smallest_caps ≡ is.caps) × (9 ≡ is.capacity) × (is.actions ≡ Ask Poll ∷ [])
 unfolding serde_json_on_literals
+poll_head last output is =
+    let head = head_is (first_line poll_line) [] last output _ refl is in
+    let steps = ap (λ o. option_map_or (λ (h : Head). list_of_items h.2) o []) head ∙ is.document.head.listed in (
+      ap (λ o. option_map_or (λ (h : Head). h.0) o smallest_caps) head,
+      ap (λ o. option_map_or (λ (h : Head). h.1) o 0) head,
+      one_action is.actions (ap (map action_of) steps ∙ is.document.asked),
+    )
+
+pub returns-clause-no_record : goal.returns-clause-no_record
 returns-clause-no_record c last is =
-    let head = head_is (first_line poll_line) [] last [] _ refl is in
-    let steps = ap (λ o. option_map_or (λ (h : Head). list_of_items h.2) o []) head ∙ is.document.head.listed in
-    let actions = one_action is.actions (ap (map action_of) steps ∙ is.document.asked) in
+    let actions = (poll_head last [] is).2 in
     no_answer is.actions is.requests is.records is.caps is.capacity actions is.of_actions is.answered
+
+-- nothing else is answered to a poll of a new device
+a_value : {X : Type 0} (o : Option X) → is_some o ≡ true → (x : X) × (o ≡ Some x)
+a_value None h = absurd cc
+a_value (Some x) h = (x, refl)
+
+poll_reply : (r : Reply) → is_some (next (opening smallest_caps) Poll r) && true ≡ true → r ≡ reply.Poll Nothing
+poll_reply r run =
+    let start = opening smallest_caps in
+    let some = and_parts (is_some (next start Poll r)) true run in
+    let after = a_value (next start Poll r) some.0 in
+    sym (ap (λ (p : Reply × State). p.0) (next-is start after.0 Poll r after.1).1)
+
+poll_text_is : (records : List Record) (caps : Caps) (capacity : ℕ) → AreOf [] (Ask Poll ∷ []) records
+    → is_run smallest_caps 9 (steps_of_records records) ≡ true
+    → answers (Step (Ask Poll) ∷ []) (visits caps capacity [] records) ≡ codes "nothing\n"
+poll_text_is [] caps capacity of run = absurd of
+poll_text_is (Refused fault ∷ []) caps capacity of run =
+    let refused = of.0 in
+    absurd cc
+poll_text_is (Stepped step ∷ []) caps capacity of run =
+    let asked = of.0 in
+    let event : step.event ≡ Poll = cc in
+    let polled = subst (λ e. is_some (next (opening smallest_caps) e step.reply) && true ≡ true) event run in
+    ap (λ r. line_of_text (reply_text r) ++ []) (poll_reply step.reply polled)
+poll_text_is (entry ∷ other ∷ records) caps capacity of run = absurd of.1
+
+pub returns-clause-one_run : goal.returns-clause-one_run
+returns-clause-one_run c last output is =
+    let head = poll_head last output is in
+    let asks : from_document is.actions is.requests ≡ Step (Ask Poll) ∷ [] =
+    rw head.2 (ap (λ rs. Step (Ask Poll) ∷ rs) (no_request is.requests is.asked)) in
+    let of : AreOf [] (Ask Poll ∷ []) is.records = rw asks at is.of_actions in
+    let steps = steps_of_records is.records in
+    let run : is_run smallest_caps 9 steps ≡ true =
+    ap (λ caps. is_run caps 9 steps) head.0 ∙ ap (λ n. is_run is.caps n steps) head.1 ∙ is.run in
+    is.answered ∙ ap (λ rs. answers rs (visits is.caps is.capacity [] is.records)) asks
+    ∙ poll_text_is is.records is.caps is.capacity of run
+
+-- ---- where one stopped
+
+bare : IsLine (first_line [])
+bare = line_by_test (first_line []) refl
+
+open_brace : IsLine (codes "{")
+open_brace = line_by_test (codes "{") refl
+
+-- what answers the whole lines behind a first line without steps answers these
+whole_is : (behind : List ℕ) (lines : List (List ℕ)) (rest input output : List ℕ) → All IsLine lines → IsLine rest
+    → flat_map line_of_text lines ++ rest ≡ behind → line_of_text (first_line []) ++ behind ≡ input
+    → AnswersWhole false input output → (last : State) × IsDialogue (first_line []) lines last output
+whole_is behind lines rest input output each line is e h =
+    let way = one_way (first_line []) h.first behind h.behind bare h.split.line
+    (sym (append_assoc (first_line []) (10 ∷ []) behind) ∙ e ∙ h.split.front
+    ∙ append_assoc h.first (10 ∷ []) h.behind) in
+    let these = one_division lines h.lines rest h.rest each h.lines_are.each line h.lines_are.last
+    (is ∙ way.1 ∙ h.lines_are.joined) in
+    let first = subst (λ f. IsDialogue f h.lines h.last output) (sym way.0) h.dialogue in
+    (h.last, subst (λ ls. IsDialogue (first_line []) ls h.last output) (sym these.0) first)
+
+pub returns-clause-cut : goal.returns-clause-cut
+returns-clause-cut c text is =
+    let input = append_cancel_right (line_of_text (first_line []) ++ codes "{\n") is.0 (codes "1") is.3 in
+    elim is.4 [
+      | inl whole ↦
+          let it = whole_is (codes "{\n") (codes "{" ∷ []) [] is.0 is.1
+          (All-cons IsLine (codes "{") [] open_brace (All-nil IsLine)) (All-nil (λ byte. byte ≢ 10)) refl input whole in
+          let answer = answer_is it.0 is.1 it.1 in
+          omega (arith, is.5, ap length answer, ap length is.6, length-take is.2 is.1)
+      | inr (inl only) ↦ (let left = only.0 in absurd cc)
+      | inr (inr all) ↦ (let left = all.0 in absurd cc)
+    ]
+
+pub returns-clause-rest_before_the_end : goal.returns-clause-rest_before_the_end
+returns-clause-rest_before_the_end c text is =
+    let input = append_cancel_right (line_of_text (first_line []) ++ codes "{") is.0 (codes "1") is.3 in
+    elim is.4 [
+      | inl whole ↦
+          let it = whole_is (codes "{") [] (codes "{") is.0 is.1 (All-nil IsLine) open_brace refl input whole in
+          absurd (omega (arith, is.5, ap length (output_is it.0 is.1 it.1)))
+      | inr (inl only) ↦ (let left = only.0 in absurd cc)
+      | inr (inr all) ↦ (let left = all.0 in absurd cc)
+    ]

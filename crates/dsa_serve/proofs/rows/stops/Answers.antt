@@ -1,24 +1,19 @@
 use Rattle.dsa_serve.proofs.rows.stops.Goals as goal
 use Rattle.std.proofs.Common.{◌≡◌, ◌≢◌, ◌≤◌, ◌^◌, ◌∙◌, ◌++◌, ℕ, true, false, Bool, List, []}
-use Rattle.std.proofs.Common.{◌∷◌, None, codes, refl, sym, ap, arith, subst}
-use Rattle.std.proofs.Common.{length, length-append, append_assoc, append-nil, inl, inr}
+use Rattle.std.proofs.Common.{◌∷◌, Option, None, codes, refl, sym, ap, arith, subst}
+use Rattle.std.proofs.Common.{length, length-append, append-nil, inl, inr}
 use Rattle.std.specs.{Prelude.{Some, IsUtf8}, Io.KnownBytes.{IsAtEnd}}
-use Rattle.std.proofs.{Math.{ListN.{get_or-append}, Seq.{get_or-append_seam}}, lemmas.List.Elements.{All-nil, All-cons}}
-use Rattle.dsa_scenario.specs.{Document.{head_of}}
+use Rattle.std.proofs.{Math.ListN.{get_or-append}, lemmas.List.Elements.{All-nil, All-cons, All-head}}
+use Rattle.dsa_scenario.specs.declared.faults.ScenarioFault.TheVariants.{Write}
+use Rattle.dsa_scenario.specs.Document.{head_of, IsNoJson}
 use Rattle.dsa_book.specs.State.{State}
 use Rattle.serde_json.{specs.{Data.{number, unsigned}, Read.{read}}, proofs.OnLiterals.{serde_json_on_literals}}
 use Rattle.dsa_serve.specs.Input.{IsLine, IsFront, HasFirst, with_rest}
-use Rattle.dsa_serve.specs.Dialogue.{IsDialogue, AnswersWhole, AnswersAll, AnswersSoFar}
+use Rattle.dsa_serve.specs.Dialogue.{IsDialogue, AnswersWhole, AnswersAll, AnswersSoFar, IsStopped}
+use Rattle.dsa_serve.proofs.RowLines.{no_feed_behind}
 
 one : IsLine (codes "1")
 one = All-cons (λ byte. byte ≢ 10) 49 [] (λ same. absurd (omega (arith, same))) (All-nil (λ byte. byte ≢ 10))
-
--- a line has no line feed behind it
-no_feed_behind : (input first behind : List ℕ) → IsLine input → ¬ IsFront false input first behind
-no_feed_behind input first behind line front =
-    let split : input ≡ first ++ 10 ∷ behind = front ∙ append_assoc first (10 ∷ []) behind in
-    let feed = (rw split at line) (length first) 0 (omega (arith, length-append first (10 ∷ behind))) in
-    feed (get_or-append_seam first 10 behind 0)
 
 -- a line is all of its first line
 only_first : (ended : Bool) (input first behind : List ℕ) → IsLine input → IsFront ended input first behind
@@ -29,7 +24,36 @@ only_first false input first behind line front = absurd (no_feed_behind input fi
 pub returns-clause-read : goal.returns-clause-read
 returns-clause-read c = (codes "1", [], refl, inl (one, omega arith, refl), refl)
 
--- a number is no document
+-- a line that no dialogue begins with: nothing is an answer to it
+module _ (bytes : List ℕ) (line : IsLine bytes)
+    (none : (lines : List (List ℕ)) (last : State) (output : List ℕ) → ¬ IsDialogue bytes lines last output) where
+  first_is : (ended : Bool) (input first behind : List ℕ) → bytes ≡ input → HasFirst ended input first behind
+      → bytes ≡ first
+  first_is ended input first behind is h =
+      is ∙ only_first ended input first behind (subst IsLine is line) h.front
+
+  no_whole : (ended : Bool) (input output : List ℕ) → bytes ≡ input → ¬ AnswersWhole ended input output
+  no_whole ended input output is h =
+      let first = first_is ended input h.first h.behind is h.split in
+      none h.lines h.last output (subst (λ f. IsDialogue f h.lines h.last output) (sym first) h.dialogue)
+
+  no_all : (input output : List ℕ) → bytes ≡ input → ¬ AnswersAll input output
+  no_all input output is h =
+      let e = h.ended in
+      let first = first_is h.without_feed input h.first h.behind is h.split in
+      let lines = with_rest e.lines e.rest in
+      none lines e.last e.answered (subst (λ f. IsDialogue f lines e.last e.answered) (sym first) e.dialogue)
+
+  nothing_written : (held holds : Option (List ℕ)) → ¬ IsStopped Write (Some bytes) (Some []) held holds
+  nothing_written held holds is =
+      let input = is.3 ∙ append-nil is.0 in
+      elim is.4 [
+        | inl whole ↦ no_whole false is.0 is.1 input whole
+        | inr (inl only) ↦ no_whole true is.0 is.1 input only.1
+        | inr (inr all) ↦ no_all is.0 is.1 input all.1
+      ]
+
+-- a number is no document, and no bytes are none
 no_dialogue : (lines : List (List ℕ)) (last : State) (output : List ℕ) → ¬ IsDialogue (codes "1") lines last output
 unfolding serde_json_on_literals
 no_dialogue lines last output is =
@@ -38,27 +62,15 @@ no_dialogue lines last output is =
     let head = ap head_of same ∙ is.document.head.head in
     absurd cc
 
--- so nothing is an answer to it
-no_first : (ended : Bool) (input first behind : List ℕ) → codes "1" ≡ input → HasFirst ended input first behind
-    → codes "1" ≡ first
-no_first ended input first behind is h =
-    is ∙ only_first ended input first behind (subst IsLine is one) h.front
-
-no_whole : (ended : Bool) (input output : List ℕ) → codes "1" ≡ input → ¬ AnswersWhole ended input output
-no_whole ended input output is h =
-    let first = no_first ended input h.first h.behind is h.split in
-    no_dialogue h.lines h.last output (subst (λ f. IsDialogue f h.lines h.last output) (sym first) h.dialogue)
-
-no_all : (input output : List ℕ) → codes "1" ≡ input → ¬ AnswersAll input output
-no_all input output is h =
-    let e = h.ended in
-    let first = no_first h.without_feed input h.first h.behind is h.split in
-    let lines = with_rest e.lines e.rest in
-    no_dialogue lines e.last e.answered (subst (λ f. IsDialogue f lines e.last e.answered) (sym first) e.dialogue)
+no_bytes : (lines : List (List ℕ)) (last : State) (output : List ℕ) → ¬ IsDialogue [] lines last output
+unfolding serde_json_on_literals
+no_bytes lines last output is =
+    let value = is.document.head.json.value in
+    absurd cc
 
 nothing_so_far : (input output : List ℕ) → codes "1" ≡ input → AnswersSoFar input output → output ≡ []
 nothing_so_far input output is (inl h) = h.2
-nothing_so_far input output is (inr h) = absurd (no_whole false input output is h)
+nothing_so_far input output is (inr h) = absurd (no_whole (codes "1") one no_dialogue false input output is h)
 
 pub returns-clause-answered_too_early : goal.returns-clause-answered_too_early
 returns-clause-answered_too_early c is =
@@ -81,13 +93,11 @@ returns-clause-longest c first long is = absurd (omega (
 ))
 
 pub returns-clause-nothing_to_write : goal.returns-clause-nothing_to_write
-returns-clause-nothing_to_write c is =
-    let input = is.3 ∙ append-nil is.0 in
-    elim is.4 [
-      | inl whole ↦ no_whole false is.0 is.1 input whole
-      | inr (inl only) ↦ no_whole true is.0 is.1 input only.1
-      | inr (inr all) ↦ no_all is.0 is.1 input all.1
-    ]
+returns-clause-nothing_to_write c is = nothing_written (codes "1") one no_dialogue (Some []) (Some []) is
+
+pub returns-clause-nothing_read : goal.returns-clause-nothing_read
+returns-clause-nothing_read c is =
+    nothing_written [] (All-nil (λ byte. byte ≢ 10)) no_bytes (Some []) (Some []) is
 
 pub returns-clause-memory : goal.returns-clause-memory
 returns-clause-memory c = (codes "1", [], [], refl, omega arith, inl (inl (one, omega arith, refl)), refl)
@@ -106,10 +116,24 @@ returns-clause-document c = (
   refl,
 )
 
+pub returns-clause-document_before_more : goal.returns-clause-document_before_more
+unfolding serde_json_on_literals
+returns-clause-document_before_more c = (
+  codes "1\n",
+  codes "1",
+  [],
+  false,
+  refl,
+  record { line = one; short = omega arith; front = refl },
+  λ ended. absurd cc,
+  record { document = _; json = record { utf8 = (codes "1", (refl, refl)); value = refl }; none = refl },
+  refl,
+)
+
 pub returns-clause-other_fault : goal.returns-clause-other_fault
 unfolding serde_json_on_literals
 returns-clause-other_fault c is =
-    let first = no_first is.3 is.0 is.1 is.2 (is.4 ∙ append-nil is.0) is.5 in
+    let first = first_is (codes "1") one no_dialogue is.3 is.0 is.1 is.2 (is.4 ∙ append-nil is.0) is.5 in
     let none = subst (λ f. IsUtf8 f → read f ≡ None) (sym first) is.7 (codes "1", (refl, refl)) in
     absurd cc
 
@@ -146,11 +170,43 @@ returns-clause-memory_after_a_long_line c input line long is =
           absurd (omega (arith, long, ap length all, ap length first, short))
     ]
 
+pub returns-clause-too_long_with_more : goal.returns-clause-too_long_with_more
+returns-clause-too_long_with_more c first line long =
+    (first, codes "\n", sym (append-nil (first ++ codes "\n")), line, omega (arith, long), refl)
+
+-- no line begins with a line feed
+no_line_there : (rest first more : List ℕ) → 10 ∷ rest ≡ first ++ more → IsLine first → first ≡ []
+no_line_there rest [] more e line = refl
+no_line_there rest (b ∷ first) more e line =
+    let feed : b ≡ 10 = cc in
+    absurd (All-head (λ byte. byte ≢ 10) b first line feed)
+
+pub returns-clause-too_long_behind_a_line_feed : goal.returns-clause-too_long_behind_a_line_feed
+returns-clause-too_long_behind_a_line_feed c rest is =
+    let none = no_line_there rest is.0 is.1 (is.2 ∙ append-nil (is.0 ++ is.1)) is.3 in
+    absurd (omega (arith, is.4, ap length none))
+
 -- what has no line feed is not answered
 nothing_to_a_line : (input output : List ℕ) → IsLine input → AnswersSoFar input output → output ≡ []
 nothing_to_a_line input output line (inl h) = h.2
 nothing_to_a_line input output line (inr h) =
     absurd (no_feed_behind input h.first h.behind line h.split.front)
+
+-- what is no JSON begins no dialogue
+no_json : (bytes : List ℕ) → IsNoJson bytes → (lines : List (List ℕ)) (last : State) (output : List ℕ)
+    → ¬ IsDialogue bytes lines last output
+no_json bytes none lines last output is =
+    let no_value = none is.document.head.json.utf8 in
+    let value = is.document.head.json.value in
+    absurd cc
+
+pub returns-clause-no_json_in_memory : goal.returns-clause-no_json_in_memory
+returns-clause-no_json_in_memory c input output line none is =
+    let all : input ≡ is.0 ++ is.1 = is.3 ∙ append-nil (is.0 ++ is.1) in
+    elim is.5 [
+      | inl so_far ↦ is.6 ∙ nothing_to_a_line is.0 is.2 (front_line is.0 is.1 (rw all at line)) so_far
+      | inr only ↦ absurd (no_whole input line (no_json input none) true (is.0 ++ is.1) is.2 all only.1)
+    ]
 
 pub returns-clause-unfinished_line_is_answered : goal.returns-clause-unfinished_line_is_answered
 returns-clause-unfinished_line_is_answered c input output line is =

@@ -30,3 +30,6 @@ returns-clause-on c refused = grind (arith, refused)
 
 pub returns-clause-after_many : goal.returns-clause-after_many
 returns-clause-after_many c = (refl, refl, lit≤ tt)
+
+pub returns-clause-off_and_other_kind : goal.returns-clause-off_and_other_kind
+returns-clause-off_and_other_kind c refused = grind (arith, refused.0)

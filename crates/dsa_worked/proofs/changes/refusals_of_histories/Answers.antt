@@ -10,6 +10,11 @@ use Rattle.dsa_laws.specs.Refusals.{HasItsCause, EachHasItsCause}
 use Rattle.dsa_worked.specs.Setup.{setup, no_op, enqcmd, ticket, step_of_a_take}
 use Rattle.dsa_worked.specs.Changes.{refused_often, state_here}
 
+-- no step stands in no steps
+pub returns-clause-no_steps : goal.returns-clause-no_steps
+returns-clause-no_steps c [] after client queue portal kind desc answer is = absurd cc
+returns-clause-no_steps c (step ∷ before) after client queue portal kind desc answer is = absurd cc
+
 -- what the last submission says of the state before it
 last : (steps : List Step) (answer : SubmitAnswer)
     → EachHasItsCause caps ((setup ++ steps) ++ enqcmd no_op answer ∷ [])

@@ -4,7 +4,7 @@ use Rattle.std.specs.Prelude.{unwrap_or}
 use Rattle.dsa_laws.specs.Engines.{IsAlike, IsNoteOf, holds_batch}
 use Rattle.dsa_regs.specs.declared.Phase.TheVariants.{On}
 use Rattle.dsa_regs.specs.Worked.{shared_queue}
-use Rattle.dsa_worked.specs.Lawful.{that_waits, batch_three, member_of_three, note_of_three, set_up_in}
+use Rattle.dsa_worked.specs.Lawful.{that_runs, batch_three, member_of_three, note_of_three, set_up_in}
 use Rattle.dsa_worked.proofs.Bounded.{in_one, in_two}
 
 pub returns-clause-note : goal.returns-clause-note
@@ -38,11 +38,11 @@ pub returns-clause-on_batch : goal.returns-clause-on_batch
 returns-clause-on_batch c = record {
   one_batch = refl;
   noted = in_two (λ pair. holds_batch (set_up_in On On shared_queue 1) pair ≡ true → IsNoteOf note_of_three pair)
-      that_waits batch_three (λ no. absurd (grind (arith, no))) (λ is. record { name = refl; count = refl });
+      that_runs batch_three (λ no. absurd (grind (arith, no))) (λ is. record { name = refl; count = refl });
   parents = in_one _ _ refl;
   alike = λ member batch inside there is. in_one (λ pair. IsAlike pair batch) (member_of_three true)
       (in_two (λ pair. holds_batch (set_up_in On On shared_queue 1) pair ≡ true → IsAlike (member_of_three true) pair)
-      that_waits batch_three (λ no. absurd (grind (arith, no))) (λ is. record { queue = refl; pasid = refl })
+      that_runs batch_three (λ no. absurd (grind (arith, no))) (λ is. record { queue = refl; pasid = refl })
       batch there is) member inside;
   most = lit≤ tt;
 }

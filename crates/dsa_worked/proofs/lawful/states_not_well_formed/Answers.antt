@@ -25,7 +25,7 @@ pub returns-clause-buffers : goal.returns-clause-buffers
 returns-clause-buffers c is = omega (arith, is.buffers.allowed refl 0 (lit≤ tt))
 
 pub returns-clause-engines : goal.returns-clause-engines
-returns-clause-engines c is = grind (arith, (is.engines 0).no_members)
+returns-clause-engines c is = omega (arith, (is.engines 0).one_batch)
 
 pub returns-clause-notes : goal.returns-clause-notes
 returns-clause-notes c is = omega (arith, (is.notes 0).fetched)

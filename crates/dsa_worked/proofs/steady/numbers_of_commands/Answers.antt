@@ -41,3 +41,6 @@ returns-clause-not_ready c is = grind (arith, is.ready)
 
 pub returns-clause-unlawful : goal.returns-clause-unlawful
 returns-clause-unlawful c is = grind (arith, is.checked)
+
+pub returns-clause-no_queue : goal.returns-clause-no_queue
+returns-clause-no_queue c is = grind (arith, is.known)

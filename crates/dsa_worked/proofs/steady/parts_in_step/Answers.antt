@@ -46,3 +46,18 @@ returns-clause-homes c is = omega (arith, ap length (is.homes refl))
 
 pub returns-clause-buffers : goal.returns-clause-buffers
 returns-clause-buffers c is = omega (arith, ap (λ buffers. length buffers.used) (is.buffers refl))
+
+pub returns-clause-too_many_places : goal.returns-clause-too_many_places
+returns-clause-too_many_places c is = grind (arith, is.checked refl)
+
+pub returns-clause-too_many_while_off : goal.returns-clause-too_many_while_off
+unfolding held_count
+returns-clause-too_many_while_off c = record {
+  queues = record { lawful = refl; configs = refl; phases = refl; groups = refl };
+  store = record { lists = refl; cells = refl };
+  idle = λ off. refl;
+  checked = λ on. absurd (grind (arith, on));
+  notes = refl;
+  homes = λ on. absurd (grind (arith, on));
+  buffers = λ on. absurd (grind (arith, on));
+}

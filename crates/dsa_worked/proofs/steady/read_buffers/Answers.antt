@@ -1,5 +1,6 @@
 use Rattle.dsa_worked.proofs.steady.read_buffers.Goals as goal
 use Rattle.std.proofs.Common.{◌≤◌, ℕ, zero, suc, [], ◌∷◌, arith, lit≤, refl}
+use Rattle.std.proofs.lemmas.Bool.Decides.{nat_tests}
 use Rattle.std.specs.Prelude.{slice_index}
 use Rattle.dsa_regs.specs.Config.{group_at}
 use Rattle.dsa_worked.specs.Lawful.{with_buffers}
@@ -32,3 +33,9 @@ returns-clause-too_much c is = grind (arith, is (lit≤ tt) 3)
 
 pub returns-clause-too_little : goal.returns-clause-too_little
 returns-clause-too_little c is = grind (arith, is (lit≤ tt) 2)
+
+pub returns-clause-all_kept : goal.returns-clause-all_kept
+returns-clause-all_kept c = record { lengths = refl; allowed = within; total = lit≤ tt; sum = refl }
+
+pub returns-clause-room : goal.returns-clause-room
+returns-clause-room c there n = grind (arith, nat_tests)

@@ -19,6 +19,18 @@ returns-in-Some-clause-missing g c =
       λ no. same_Some _ _ (missing.1 (λ all. no (complete_by _ _ _ _ _ _ _ c.args.self.clients_are engines all))),
     )
 
+pub returns-in-Some-clause-mismatch_at : goal.returns-in-Some-clause-mismatch_at
+returns-in-Some-clause-mismatch_at g c i is =
+    let first = (c.in-Some.ensures.mismatch i).0 (ap Some is) in (
+      _,
+      record {
+        replay = c.state_is_replay.ensures.replay;
+        same_caps = c.locked.invariant.2;
+        same_capacity = c.locked.invariant.1;
+      },
+      rw c.history.ensures at first.1,
+    )
+
 pub finish-requires-clause-complete : goal.finish-requires-clause-complete
 finish-requires-clause-complete = grind (arith, common_steps)
 

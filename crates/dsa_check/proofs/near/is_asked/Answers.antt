@@ -1,4 +1,4 @@
-use Rattle.dsa_check.proofs.reasons.is_asked.Goals as goal
+use Rattle.dsa_check.proofs.near.is_asked.Goals as goal
 use Rattle.std.proofs.Common.{rules, ◌≡◌}
 use Rattle.std.proofs.lemmas.Iterator.{YieldsList-from_slice, Search.{any_from_yields_List}}
 use Rattle.std.specs.{Prelude.{bytes_eq, codes}, List.{list_any}}

@@ -1,0 +1,47 @@
+use Rattle.dsa_cli.proofs.rows.named_commands.Goals as goal
+use Rattle.std.proofs.Common.{[], codes, List, Option, unwrap_or, option_map, inl, inr, refl, lit<, ap, arith}
+use Rattle.clap.{proofs.OnLiterals.{clap_on_literals}, specs.Walk.{Row, Text}}
+use Rattle.dsa_cli.proofs.ReportNames.{same_first, no_report}
+
+-- the name of a command
+abbrev name_in : Option (Text × List Row) → Text
+name_in found = unwrap_or (option_map (λ (p : Text × List Row). p.0) found) []
+
+pub returns-clause-draw : goal.returns-clause-draw
+unfolding clap_on_literals
+returns-clause-draw c = (refl, refl, inr (inr (inr (inl refl))))
+
+pub returns-clause-help_with_draw : goal.returns-clause-help_with_draw
+unfolding clap_on_literals
+returns-clause-help_with_draw c found named = let same = named.0 in cc
+
+pub returns-clause-other_report : goal.returns-clause-other_report
+unfolding clap_on_literals
+returns-clause-other_report c named = omega (arith, same_first (ap name_in named.1))
+
+pub returns-clause-serve_is_no_report : goal.returns-clause-serve_is_no_report
+returns-clause-serve_is_no_report c rows named = no_report (codes "serve") (lit< tt) (lit< tt) named.2
+
+pub returns-clause-help_with_threads : goal.returns-clause-help_with_threads
+unfolding clap_on_literals
+returns-clause-help_with_threads c rows named = let same = named.0 in cc
+
+pub returns-clause-no_threads : goal.returns-clause-no_threads
+unfolding clap_on_literals
+returns-clause-no_threads c rows named = omega (arith, same_first (ap name_in named.1))
+
+pub returns-clause-help : goal.returns-clause-help
+unfolding clap_on_literals
+returns-clause-help c named = let same = named.0 in cc
+
+pub returns-clause-draw_is_something : goal.returns-clause-draw_is_something
+unfolding clap_on_literals
+returns-clause-draw_is_something c named = let same = named.1 in cc
+
+pub returns-clause-help_with_serve : goal.returns-clause-help_with_serve
+unfolding clap_on_literals
+returns-clause-help_with_serve c named = let same = named.0 in cc
+
+pub returns-clause-no_serve : goal.returns-clause-no_serve
+unfolding clap_on_literals
+returns-clause-no_serve c named = let same = named.1 in cc

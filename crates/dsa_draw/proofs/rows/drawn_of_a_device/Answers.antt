@@ -1,0 +1,95 @@
+use Rattle.dsa_draw.proofs.rows.drawn_of_a_device.Goals as goal
+use Rattle.std.proofs.Common.{◌≡◌, ◌∙◌, ℕ, List, [], ◌∷◌, ◌++◌, ap, arith, get_or, length, refl, sym}
+use Rattle.std.specs.declared.alloc.Global.{Global}
+use Rattle.dsa_scenario.specs.Lines.{record_text}
+use Rattle.dsa_draw.specs.declared.{moment.Moment.{Moment}, run.Story.{Story}}
+use Rattle.dsa_draw.specs.Drawings.{AreMoments, drawing_text, step_count, story_bands_text, story_engines_text}
+use Rattle.dsa_draw.specs.{Drawings.{story_height}, Moments.{IsMomentOf}, Pages.{foot_text, head_text}}
+use Rattle.dsa_draw.specs.{Columns.{columns_text}, Rows.{rows_above_text}}
+use Rattle.dsa_draw.specs.Worked.{device_of_a_drawing, drawn_on_literals, idle_step, moment_of_a_device}
+use Rattle.dsa_draw.specs.Worked.{story_of_a_device}
+
+is_moment : (memory : Global) → IsMomentOf device_of_a_drawing (idle_step 1) (moment_of_a_device memory)
+is_moment memory = record { of_entry = refl; queues = refl; groups = refl; batch = refl; ended = refl }
+
+counts_differ : (memory : Global)
+    → IsMomentOf device_of_a_drawing (idle_step 1) (record (moment_of_a_device memory) { ended = 1 }) → ⊥
+counts_differ memory is = omega (arith, is.ended)
+
+-- the number of columns is in the page's width
+first_digits : (moments : List Moment) (height : ℕ) (columns rows bands engines : List ℕ) → AreMoments [] moments
+    → get_or (head_text (step_count moments) height ++ columns ++ rows ++ bands ++ engines ++ foot_text) 48 0 ≡ 54
+unfolding drawn_on_literals
+first_digits [] height columns rows bands engines are = refl
+first_digits (moment ∷ moments) height columns rows bands engines are = absurd are
+
+first_digits_of : (story : Story) → AreMoments [] story.moments.items → get_or (drawing_text story) 48 0 ≡ 54
+first_digits_of story are = first_digits story.moments.items (story_height story)
+    (columns_text (story_height story) 0 story.moments.items)
+    (rows_above_text (step_count story.moments.items) story.fates.items story.moments.items)
+    (story_bands_text story) (story_engines_text story) are
+
+first_digits_of_a_step : (memory : Global) → get_or (drawing_text (story_of_a_device memory)) 48 0 ≡ 56
+unfolding drawn_on_literals
+first_digits_of_a_step memory = refl
+
+pub returns-clause-moment : goal.returns-clause-moment
+returns-clause-moment c memory = is_moment memory
+
+pub returns-clause-other_entry : goal.returns-clause-other_entry
+returns-clause-other_entry c memory is =
+    let same : 105 ≡ 102 = ap (λ entry. get_or (record_text entry) 0 0) is.of_entry in
+    omega (arith, same)
+
+pub returns-clause-other_queue : goal.returns-clause-other_queue
+returns-clause-other_queue c memory is = omega (arith, ap length is.queues)
+
+pub returns-clause-other_groups : goal.returns-clause-other_groups
+returns-clause-other_groups c memory is = omega (arith, ap length is.groups)
+
+pub returns-clause-other_batch : goal.returns-clause-other_batch
+returns-clause-other_batch c memory is = grind (arith, is.batch)
+
+pub returns-clause-other_count : goal.returns-clause-other_count
+returns-clause-other_count c memory is = counts_differ memory is
+
+pub returns-clause-moments : goal.returns-clause-moments
+returns-clause-moments c memory = (is_moment memory, tt)
+
+pub returns-clause-no_moment : goal.returns-clause-no_moment
+returns-clause-no_moment c = tt
+
+pub returns-clause-one_more : goal.returns-clause-one_more
+returns-clause-one_more c memory are = are
+
+pub returns-clause-two_of_one_step : goal.returns-clause-two_of_one_step
+returns-clause-two_of_one_step c memory are = are.1
+
+pub returns-clause-other_moment : goal.returns-clause-other_moment
+returns-clause-other_moment c memory are = counts_differ memory are.0
+
+pub returns-clause-story : goal.returns-clause-story
+returns-clause-story c memory = record { caps = refl; each = (is_moment memory, tt); fates = refl }
+
+pub returns-clause-other_caps : goal.returns-clause-other_caps
+returns-clause-other_caps c memory is = omega (arith, ap (λ caps. caps.groups) is.caps)
+
+pub returns-clause-other_story : goal.returns-clause-other_story
+returns-clause-other_story c memory is = counts_differ memory is.each.0
+
+pub returns-clause-other_fates : goal.returns-clause-other_fates
+returns-clause-other_fates c memory is = omega (arith, ap length is.fates)
+
+pub returns-clause-drawn : goal.returns-clause-drawn
+returns-clause-drawn c memory =
+    (story_of_a_device memory, record { caps = refl; each = (is_moment memory, tt); fates = refl }, refl)
+
+pub returns-clause-no_text : goal.returns-clause-no_text
+unfolding drawn_on_literals
+returns-clause-no_text c (story, is, text) = omega (arith, ap (λ t. get_or t 0 0) text)
+
+pub returns-clause-text_of_a_step : goal.returns-clause-text_of_a_step
+returns-clause-text_of_a_step c memory (story, is, text) =
+    let same : 56 ≡ 54 =
+    sym (first_digits_of_a_step memory) ∙ ap (λ t. get_or t 48 0) text ∙ first_digits_of story is.each in
+    omega (arith, same)

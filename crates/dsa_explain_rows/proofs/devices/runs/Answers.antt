@@ -1,0 +1,78 @@
+use Rattle.dsa_explain_rows.proofs.devices.runs.Goals as goal
+use Rattle.std.proofs.Common.{◌≡◌, [], ◌∷◌, ap, arith, refl, subst, sym, true}
+use Rattle.std.specs.Prelude.{List, Option, length, map, option_map, unwrap_or}
+use Rattle.dsa_book.specs.Machine.{is_run_after, stored_steps}
+use Rattle.dsa_book.specs.State.{State}
+use Rattle.dsa_book.specs.declared.{answer.PollAnswer.TheVariants.{Full, Nothing}, event.Step.{Step}}
+use Rattle.dsa_book.specs.declared.event.Event.TheVariants as event
+use Rattle.dsa_worked.specs.Setup.{polled}
+use Rattle.dsa_worked.specs.Uneven.{many_queues}
+use Rattle.dsa_explain_rows.specs.Alike.{first_write, second_write}
+
+pub returns-clause-no_events : goal.returns-clause-no_events
+returns-clause-no_events c = record {
+  steps = [];
+  added = refl;
+  events_are = refl;
+  allowed = refl;
+  same_caps = refl;
+  same_capacity = refl;
+  history = refl;
+  replayed = refl;
+}
+
+pub returns-clause-two_events : goal.returns-clause-two_events
+returns-clause-two_events c = record {
+  steps = polled Nothing ∷ second_write ∷ [];
+  added = refl;
+  events_are = refl;
+  allowed = refl;
+  same_caps = refl;
+  same_capacity = refl;
+  history = refl;
+  replayed = refl;
+}
+
+pub returns-clause-full : goal.returns-clause-full
+returns-clause-full c = record {
+  steps = polled Full ∷ [];
+  added = refl;
+  events_are = refl;
+  allowed = refl;
+  same_caps = refl;
+  same_capacity = refl;
+  history = refl;
+  replayed = refl;
+}
+
+pub returns-clause-steps_lost : goal.returns-clause-steps_lost
+returns-clause-steps_lost c is = grind (arith, is.added)
+
+pub returns-clause-no_step : goal.returns-clause-no_step
+returns-clause-no_step c is =
+    let none : [] ≡ is.steps = is.added in
+    let same = subst (λ (steps : List Step). map (λ step. step.event) steps ≡ event.Poll ∷ []) (sym none) is.events_are in
+    grind (arith, same)
+
+pub returns-clause-not_full : goal.returns-clause-not_full
+returns-clause-not_full c is =
+    let same : polled Full ∷ [] ≡ is.steps = is.added in
+    grind (arith, subst (λ steps. is_run_after many_queues 5 [] steps ≡ true) (sym same) is.allowed)
+
+pub returns-clause-other_caps : goal.returns-clause-other_caps
+returns-clause-other_caps c is = omega (arith, ap (λ caps. caps.queues) is.same_caps)
+
+pub returns-clause-other_capacity : goal.returns-clause-other_capacity
+returns-clause-other_capacity c is = omega (arith, is.same_capacity)
+
+pub returns-clause-other_history : goal.returns-clause-other_history
+returns-clause-other_history c is =
+    let none : [] ≡ is.steps = is.added in
+    let same = subst (λ steps. first_write ∷ [] ≡ stored_steps steps) (sym none) is.history in
+    grind (arith, ap length same)
+
+pub returns-clause-other_state : goal.returns-clause-other_state
+returns-clause-other_state c is = omega (
+  arith,
+  ap (λ (o : Option State). unwrap_or (option_map (λ (s : State). s.work.setup.caps.queues) o) 0) is.replayed,
+)

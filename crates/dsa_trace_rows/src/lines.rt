@@ -1,0 +1,75 @@
+//! Whole lines, and what a trace is of.
+
+ghost use Rattle.std.specs.Prelude.{◌≡◌, ◌++◌, [], ◌∷◌, codes};
+ghost use Rattle.dsa_regs.specs.declared.Fault.TheVariants.{BadCommand};
+ghost use Rattle.dsa_device.specs.Running.{running_at_first};
+ghost use Rattle.dsa_scenario.specs.declared.run.Record.TheVariants.{Refused};
+ghost use Rattle.dsa_scenario.specs.Worked.{poll_text, smallest_caps, stepless_text};
+ghost use Rattle.dsa_trace.specs.declared.form.Trace.TheVariants.{Table, Json};
+ghost use Rattle.dsa_trace.specs.Held.{held_lines};
+ghost use Rattle.dsa_trace.specs.Lines.{step_line, trace_line_of_step};
+ghost use Rattle.dsa_trace.specs.Run.{IsTrace, IsTraceOf};
+ghost use Rattle.dsa_trace_rows.specs.Worked.{device_of_a_trace, step_of_a_trace};
+
+/// The line of a step of a device with three queues, two engines and four groups, and that of a
+/// word that is no command on a new device.
+#[tactic(auto, unfolding(dsa_scenario::specs::Worked::digits_on_literals))]
+pub fn of_steps()
+    ensures table { trace_line_of_step Table step_of_a_trace
+        ≡ codes "12 dispatch e1 -> taken 33 from 2 | q1 2/9 q2 1/5/12 | e0 1/6 m0 e1 2/6 m3"
+        ++ codes " | g0 6/11 g1 1/13 g2 0/0 g3 0/4 | drain-pasid 7 awaits 5\n" }
+    ensures json { trace_line_of_step Json step_of_a_trace
+        ≡ codes "{\"step\":12,\"event\":\"dispatch e1\",\"answer\":\"taken 33 from 2\",\"queues\":["
+        ++ codes "{\"queue\":0,\"occupancy\":0,\"threshold\":7,\"size\":0},"
+        ++ codes "{\"queue\":1,\"occupancy\":2,\"threshold\":8,\"size\":9},"
+        ++ codes "{\"queue\":2,\"occupancy\":1,\"threshold\":5,\"size\":12}],\"engines\":["
+        ++ codes "{\"engine\":0,\"in_progress\":1,\"slots\":6,\"members\":0},"
+        ++ codes "{\"engine\":1,\"in_progress\":2,\"slots\":6,\"members\":3}],\"groups\":["
+        ++ codes "{\"group\":0,\"used\":6,\"allowed\":11},{\"group\":1,\"used\":1,\"allowed\":13},"
+        ++ codes "{\"group\":2,\"used\":0,\"allowed\":0},{\"group\":3,\"used\":0,\"allowed\":4}],"
+        ++ codes "\"active\":{\"command\":\"drain-pasid 7\",\"awaited\":5}}\n" }
+    ensures word { step_line Table smallest_caps 9 (Refused BadCommand)
+        (running_at_first smallest_caps 4).state
+        ≡ codes "9 command -> refused 13 BadCommand | | e0 0/1 m0 | g0 0/0\n" }
+    ensures word_as_json { step_line Json smallest_caps 9 (Refused BadCommand)
+        (running_at_first smallest_caps 4).state
+        ≡ codes "{\"step\":9,\"event\":\"command\",\"answer\":\"refused 13 BadCommand\","
+        ++ codes "\"queues\":[{\"queue\":0,\"occupancy\":0,\"threshold\":0,\"size\":0}],"
+        ++ codes "\"engines\":[{\"engine\":0,\"in_progress\":0,\"slots\":1,\"members\":0}],"
+        ++ codes "\"groups\":[{\"group\":0,\"used\":0,\"allowed\":0}],\"active\":null}\n" }
+{}
+
+/// A line for each entry that is held: in the queues, on the engines, and in their batches.
+#[tactic(auto, unfolding(dsa_scenario::specs::Worked::digits_on_literals))]
+pub fn of_entries()
+    ensures table { held_lines Table device_of_a_trace.caps device_of_a_trace.state
+        ≡ codes "held 21 in q1\nheld 22 in q1\nheld 23 in q2\nheld 31 in e0\nheld 32 in e1\n"
+        ++ codes "held 33 in e1\nheld 41 in batch of e1\nheld 42 in batch of e1\n"
+        ++ codes "held 43 in batch of e1\n" }
+    ensures json { held_lines Json device_of_a_trace.caps device_of_a_trace.state
+        ≡ codes "{\"held\":21,\"list\":\"q1\"}\n{\"held\":22,\"list\":\"q1\"}\n"
+        ++ codes "{\"held\":23,\"list\":\"q2\"}\n{\"held\":31,\"list\":\"e0\"}\n"
+        ++ codes "{\"held\":32,\"list\":\"e1\"}\n{\"held\":33,\"list\":\"e1\"}\n"
+        ++ codes "{\"held\":41,\"list\":\"batch of e1\"}\n{\"held\":42,\"list\":\"batch of e1\"}\n"
+        ++ codes "{\"held\":43,\"list\":\"batch of e1\"}\n" }
+{}
+
+/// A trace has a line for each step, then one for each entry that is held at last, and no more.
+#[tactic(auto, unfolding(dsa_scenario::specs::Worked::digits_on_literals))]
+pub fn of_runs()
+    ensures none { IsTraceOf Table [] (running_at_first smallest_caps 4) [] }
+    ensures one { IsTraceOf Table (step_of_a_trace ∷ []) device_of_a_trace
+        (codes "12 dispatch e1 -> taken 33 from 2 | q1 2/9 q2 1/5/12 | e0 1/6 m0 e1 2/6 m3"
+        ++ codes " | g0 6/11 g1 1/13 g2 0/0 g3 0/4 | drain-pasid 7 awaits 5\n"
+        ++ codes "held 21 in q1\nheld 22 in q1\nheld 23 in q2\nheld 31 in e0\nheld 32 in e1\n"
+        ++ codes "held 33 in e1\nheld 41 in batch of e1\nheld 42 in batch of e1\n"
+        ++ codes "held 43 in batch of e1\n") }
+{}
+
+/// The traces of a document of one step, which polls, and of one without a step.
+#[tactic(auto, unfolding(serde_json::proofs::OnLiterals::serde_json_on_literals))]
+pub fn of_documents()
+    ensures poll { IsTrace Table poll_text
+        (codes "0 poll -> nothing | | e0 0/1 m0 | g0 0/0\n") }
+    ensures no_steps { IsTrace Json (stepless_text (codes "9")) [] }
+{}

@@ -1,0 +1,58 @@
+//! The parts of lines, at chosen numbers.
+
+ghost use Rattle.std.specs.Prelude.{◌≡◌, [], ◌∷◌, Some, None, true, false, codes, map};
+ghost use Rattle.dsa_regs.specs.declared.Command.TheVariants.{DrainPasid};
+ghost use Rattle.dsa_regs.specs.declared.layout.ListUse.TheVariants.{Members};
+ghost use Rattle.dsa_trace.specs.declared.form.Trace.TheVariants.{Table, Json};
+ghost use Rattle.dsa_trace.specs.declared.form.Items.TheVariants.{Queues, Engines, Groups};
+ghost use Rattle.dsa_trace.specs.Columns.{command_text, engine_text, group_text, item_count, queue_text};
+ghost use Rattle.dsa_trace.specs.Held.{held_line};
+ghost use Rattle.dsa_trace_rows.specs.Worked.{caps_of_a_trace, queue_of_a_trace, traced_entry};
+
+/// A queue in the table: none without a size, and no threshold of a dedicated one. As JSON it has
+/// all, and a comma before it where it is not the first.
+#[tactic(auto, unfolding(dsa_scenario::specs::Worked::digits_on_literals))]
+pub fn queues()
+    ensures left_out { queue_text Table 3 2 (queue_of_a_trace 0 7 false) ≡ [] }
+    ensures dedicated { queue_text Table 3 2 (queue_of_a_trace 9 8 true) ≡ codes " q3 2/9" }
+    ensures shared { queue_text Table 3 2 (queue_of_a_trace 9 8 false) ≡ codes " q3 2/8/9" }
+    ensures no_size { queue_text Json 3 2 (queue_of_a_trace 0 7 false)
+        ≡ codes ",{\"queue\":3,\"occupancy\":2,\"threshold\":7,\"size\":0}" }
+    ensures first { queue_text Json 0 1 (queue_of_a_trace 9 8 true)
+        ≡ codes "{\"queue\":0,\"occupancy\":1,\"threshold\":8,\"size\":9}" }
+{}
+
+/// An engine and a group.
+#[tactic(auto, unfolding(dsa_scenario::specs::Worked::digits_on_literals))]
+pub fn engines_and_groups()
+    ensures counts { map (item_count caps_of_a_trace) (Queues ∷ Engines ∷ Groups ∷ [])
+        ≡ 3 ∷ 2 ∷ 4 ∷ [] }
+    ensures engine { engine_text Table 3 4 16 12 ≡ codes " e3 4/16 m12" }
+    ensures engine_as_json { engine_text Json 3 4 16 12
+        ≡ codes ",{\"engine\":3,\"in_progress\":4,\"slots\":16,\"members\":12}" }
+    ensures group { group_text Table 3 10 24 ≡ codes " g3 10/24" }
+    ensures group_as_json { group_text Json 3 10 24
+        ≡ codes ",{\"group\":3,\"used\":10,\"allowed\":24}" }
+{}
+
+/// The active command, where there is one and it is known how many entries it waits for.
+#[tactic(auto, unfolding(dsa_scenario::specs::Worked::digits_on_literals))]
+pub fn commands()
+    ensures active { command_text Table (Some (DrainPasid 7)) (Some 12)
+        ≡ codes " | drain-pasid 7 awaits 12" }
+    ensures active_as_json { command_text Json (Some (DrainPasid 7)) (Some 12)
+        ≡ codes "],\"active\":{\"command\":\"drain-pasid 7\",\"awaited\":12}" }
+    ensures none { command_text Table None None ≡ [] }
+    ensures none_as_json { command_text Json None None ≡ codes "],\"active\":null" }
+    ensures no_count { command_text Json (Some (DrainPasid 7)) None ≡ codes "],\"active\":null" }
+    ensures no_command { command_text Json None (Some 12) ≡ codes "],\"active\":null" }
+{}
+
+/// An entry that is held, with its list.
+#[tactic(auto, unfolding(dsa_scenario::specs::Worked::digits_on_literals))]
+pub fn entries()
+    ensures held { held_line Table (Members 3) (traced_entry 42 None 1 false)
+        ≡ codes "held 42 in batch of e3\n" }
+    ensures held_as_json { held_line Json (Members 3) (traced_entry 42 None 1 false)
+        ≡ codes "{\"held\":42,\"list\":\"batch of e3\"}\n" }
+{}
