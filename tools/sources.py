@@ -16,7 +16,6 @@ DEFINITION_PARTS = re.compile(r"""(?<!\S)--[^\n]*|(?P<text>"(?:\\.|[^"\\\n])*")"
 # Names that several definitions may have, each with the reason, as that the specification has it.
 ALLOWED = {
     "cleared": "a step in the worked rows of two crates",
-    "dedicated_queue": "a configuration in the worked rows of two crates",
     "no_caps": "the caps of no shared device; in dsa_scenario's worked rows those without a queue",
     "poll_text": "the text of a poll's answer; in dsa_scenario's worked rows a document that polls",
 }

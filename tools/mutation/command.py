@@ -183,7 +183,7 @@ def main(words: List[str]) -> int:
     checker = Checker(toolchain)
     if given.sample is not None:
         sampled = sum(it.number_sampled() for it in trials)
-        say(f"sample {given.sample}: {sampled} mutants are tried with all goals, and unchanged too")
+        say(f"sample {given.sample}: all goals of {sampled} mutants, and their functions unchanged")
     results = Lanes(trials, Libraries(given.log), checker).run()
     for name, seconds in checker.seconds.items():
         say(f"{name}: {len(seconds)} runs of the checker, {sum(seconds):.0f} processor seconds")

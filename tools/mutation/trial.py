@@ -133,7 +133,7 @@ class Trial:
         before = {
             case.path
             for case in self.cases.values()
-            if self.refusals.has(case.path.name, self.sums[case.path])
+            if all(self.refusals.has(it, self.sums[case.path]) for it in self.kept_as(case.path))
         }
         if before:
             say(
@@ -143,10 +143,16 @@ class Trial:
         self.results += [True] * len(before)
         return [it for it, case in self.cases.items() if case.path not in before]
 
+    def kept_as(self, path: pathlib.Path) -> List[str]:
+        """The names under which a refusal is kept. One in a sample has a name more, since it says
+        more."""
+        return [path.name] + [f"{path.name}.sampled"] * self.options.is_sampled(label_of(path))
+
     def report(self, path: pathlib.Path, outcome: Outcome) -> None:
         say(f"{label_of(path)}: {outcome.text}")
         if outcome.is_right and not self.options.is_baseline:
-            self.refusals.keep(path.name, self.sums[path])
+            for name in self.kept_as(path):
+                self.refusals.keep(name, self.sums[path])
         self.results.append(outcome.is_right)
 
     def give_up(self, why: str) -> List[bool]:

@@ -1,3 +1,4 @@
+pub mod Allowed
 pub mod Firsts
 pub mod Keys
 pub mod Nearest

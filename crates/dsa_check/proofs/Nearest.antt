@@ -4,7 +4,7 @@ use Rattle.std.specs.Prelude.{Option, Some, None, if◌then◌else◌, String, s
 use Rattle.std.specs.Option.{unwrap_or}
 use Rattle.std.specs.declared.alloc.Global.{Global}
 use Rattle.serde_json.specs.{Data.{Data}, Find.{as_object}}
-use Rattle.serde_json.specs.{View.{view, members_view}, declared.value.Value.{Value}}
+use Rattle.serde_json.specs.{View.{members_view}, declared.value.Value.{Value}}
 use Rattle.dsa_check.specs.Reasons.{is_asked, is_plain, stray_distance, is_below, nearest_below}
 use Rattle.dsa_check.specs.Reasons.{keys_of_members, keys_of}
 use Rattle.dsa_check.specs.Steps.{Row}

@@ -1,13 +1,13 @@
 -- What a finding tells, and that it is so of the document.
 use Rattle.std.specs.Prelude.{◌≡◌, ℕ, ◌++◌, true, false, List, [], ◌∷◌, slice_get, codes, Option, Some, None}
-use Rattle.std.specs.Prelude.{take, IsSomeAnd, IfSome, MatchOption, IsUtf8}
-use Rattle.std.specs.List.{AllByRecursion}
+use Rattle.std.specs.Prelude.{take, drop, IsSomeAnd, IfSome, MatchOption, IsUtf8}
+use Rattle.std.specs.{List.{AllByRecursion}, Str.{IsValidUpTo}}
 use Rattle.serde_json.specs.{Data.{Data}, Find.{get, as_object}}
 use Rattle.dsa_scenario.specs.declared.faults.ScenarioFault.{ScenarioFault, TheVariants.{BadDocument, BadStep, BadCaps}}
 use Rattle.dsa_scenario.specs.declared.faults.ScenarioFault.TheVariants.{BadCapacity}
 use Rattle.dsa_scenario.specs.Document.{IsJson, IsNoJson}
 use Rattle.dsa_check.specs.declared.finding.{Finding.{Finding}, Reason.{Reason, TheVariants.{NoObject, NotUtf8, Syntax}}}
-use Rattle.dsa_check.specs.Judgement.{step_items_of}
+use Rattle.dsa_check.specs.{Flaws.{IsSyntaxAt}, Judgement.{step_items_of}}
 use Rattle.dsa_check.specs.Places.{BeginJson, BeginsOnLine, line_after, column_after}
 use Rattle.dsa_check.specs.Reasons.{found_of, AreReasonsOf, AreStepReasons}
 use Rattle.dsa_check.specs.Steps.{kind_of, document_rows, caps_rows, device_rows, history_rows}
@@ -61,18 +61,24 @@ TellsWhy bytes d finding _ = ⊥
 abbrev pub IsFounded : List ℕ → Data → Finding → Type 0
 IsFounded bytes d finding = TellsWhy bytes d finding finding.fault
 
--- the reason says what is wrong after these bytes, which are right: they are UTF-8, or a JSON text begins with them
-abbrev pub IsWrongAfter : List ℕ → Reason → Type 0
-IsWrongAfter before NotUtf8 = IsUtf8 before
-IsWrongAfter before (Syntax syntax) = BeginJson before
-IsWrongAfter before _ = ⊥
+-- the bytes before this place are right, and the reason says what is wrong there: the bytes are UTF-8 up to it and no
+-- further, or a JSON text begins with those before it
+abbrev pub IsWrongAt : List ℕ → ℕ → Reason → Type 0
+IsWrongAt bytes at NotUtf8 = IsValidUpTo bytes at
+IsWrongAt bytes at (Syntax syntax) = BeginJson (take at bytes) × IsSyntaxAt (take at bytes) (drop at bytes) syntax
+IsWrongAt bytes at _ = ⊥
+
+-- of bytes that are no UTF-8 nothing else is told
+abbrev pub AreOfUtf8 : List ℕ → List Reason → Type 0
+AreOfUtf8 bytes reasons = (IsUtf8 bytes → ⊥) → reasons ≡ NotUtf8 ∷ []
 
 -- the finding has a place in the bytes, and all that is told to be wrong is so there
 pub record IsInText (bytes : List ℕ) (finding : Finding) : Type 0 where
   pub at : ℕ
   pub line : finding.place.line ≡ Some (line_after (take at bytes))
   pub column : finding.place.column ≡ Some (column_after (take at bytes))
-  pub reasons : AllByRecursion (IsWrongAfter (take at bytes)) finding.reasons.items
+  pub reasons : AllByRecursion (IsWrongAt bytes at) finding.reasons.items
+  pub of_utf8 : AreOfUtf8 bytes finding.reasons.items
 
 -- each finding tells why: of the JSON value that the bytes are, or of bytes that are none
 pub record AreFounded (bytes : List ℕ) (findings : List Finding) : Type 0 where

@@ -1,5 +1,6 @@
 pub mod Check
 pub mod Findings
+pub mod Flaws
 pub mod Judgement
 pub mod Lines
 pub mod Places

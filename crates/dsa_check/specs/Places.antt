@@ -1,9 +1,11 @@
 -- Places in a text, and what begins there.
 use Rattle.std.specs.Prelude.{◌≡◌, ◌<◌, ◌≤◌, ◌==◌, ℕ, suc, Bool, not, List, ◌++◌, take, length, slice_get, slice_range, IsSomeAnd}
 use Rattle.std.specs.List.{count_by, suffix_len}
-use Rattle.serde_json.specs.{Data.{Data, depth}, Read.{max_depth}}
+use Rattle.std.specs.Prelude.{false, Option, Some, None, ⊤}
+use Rattle.std.specs.declared.{alloc.Global.{Global}, vec.Vec.{Vec}}
+use Rattle.serde_json.specs.{Data.{Data, depth}, Read.{max_depth}, Written.{has_float}}
 use Rattle.dsa_scenario.specs.Document.{IsJson}
-use Rattle.dsa_check.specs.declared.places.Spot.{Spot}
+use Rattle.dsa_check.specs.declared.{places.Spot.{Spot}, scan.Extent.{Extent}}
 
 -- ---- lines and columns, counted from 1
 
@@ -50,3 +52,24 @@ pub record BeginsOnLine (bytes : List ℕ) (d : Data) (line : ℕ) : Type 0 wher
   pub end : ℕ
   pub text : AreTextOf d (slice_range bytes at end)
   pub line_of_text : line ≡ line_after (take at bytes)
+
+-- ---- where a step is found
+
+-- the bytes between these places, of which the first is not before that one, are a text of the value; it has no float
+pub record IsFoundBetween (bytes : List ℕ) (d : Data) (from begin end : ℕ) : Type 0 where
+  pub ahead : from ≤ begin
+  pub order : begin ≤ end
+  pub inside : end ≤ length bytes
+  pub whole : has_float d ≡ false
+  pub text : AreTextOf d (slice_range bytes begin end)
+
+-- where the value is found at the places that are known, the line is told on which it begins there
+abbrev pub IsToldWhereFound : List ℕ → Data → ℕ → Option Extent → Option ℕ → Type 0
+IsToldWhereFound bytes d from None line = ⊤
+IsToldWhereFound bytes d from (Some extent) line =
+    IsFoundBetween bytes d from extent.begin extent.end → line ≡ Some (line_after (take extent.begin bytes))
+
+-- the places of an item, where those of the items are known
+abbrev pub extent_at : Option (Vec Extent Global) → ℕ → Option Extent
+extent_at None i = None
+extent_at (Some extents) i = slice_get extents.items i

@@ -222,15 +222,16 @@ AreReasonsOf d rows in_caps reasons = AreReasonsAt d rows in_caps rows reasons
 abbrev pub kind_row : Row
 kind_row = (codes "do", form.Text)
 
--- the text names no kind, and is told as it stands where it is plain
-pub record IsNoKind (told : Option (String Global)) (name : List ℕ) : Type 0 where
+-- the text names no kind, and is told as it stands where it is plain, with the kind whose name is nearest to it
+pub record IsNoKind (told : Option (String Global)) (near : Option StepKind) (name : List ℕ) : Type 0 where
   pub none : kind_named name ≡ None
   pub plain : is_some told ≡ is_plain name
   pub text : IfSome told (λ text. string_bytes text ≡ name)
+  pub nearest : near ≡ near_kind name
 
 -- the reason says why the step names no kind
 abbrev pub IsKindReason : Data → Reason → Type 0
-IsKindReason step (reason.UnknownKind told near) = IsSomeAnd (text_of (codes "do") step) (IsNoKind told)
+IsKindReason step (reason.UnknownKind told near) = IsSomeAnd (text_of (codes "do") step) (IsNoKind told near)
 IsKindReason step reason = IsReasonAt step [] false kind_row reason
 
 -- the reasons of an object that is a step of this kind, or of none

@@ -7,6 +7,8 @@ use Rattle.dsa_scenario.specs.Worked.{Fields, whole, object_of, array_of_one, fi
 use Rattle.dsa_scenario.specs.Worked.{some_caps, poll_step, smallest_caps_text, document_text}
 use Rattle.std.specs.declared.{alloc.Global.{Global}, vec.Vec.{Vec}}
 use Rattle.dsa_scenario.specs.declared.faults.ScenarioFault.TheVariants.{BadCapacity}
+use Rattle.dsa_check.specs.declared.syntax.Wanted.{Wanted}
+use Rattle.dsa_check.specs.declared.syntax.Wanted.TheVariants as wanted
 use Rattle.dsa_check.specs.declared.{fields.Key.{Key}, finding.{Finding.{Finding}, Reason.{Reason}}}
 use Rattle.dsa_check.specs.{Reasons.{is_unfit, near_kind}, Steps.{Row, rows_of_kind, kind_of}}
 
@@ -56,6 +58,14 @@ document_without_slots =
 -- a document of the smallest device, without steps
 abbrev pub right_text : List ℕ
 right_text = document_text smallest_caps_text (codes "9") []
+
+-- all that may be wanted, with some places
+abbrev pub all_wanted : List Wanted
+all_wanted =
+    wanted.Document ∷ wanted.Value ∷ wanted.FirstItem ∷ wanted.Item ∷ wanted.FirstKey ∷ wanted.Key ∷ wanted.Colon
+    ∷ wanted.More true ∷ wanted.More false ∷ wanted.Closing true 2 13 ∷ wanted.Closing false 4 15 ∷ wanted.Nothing
+    ∷ wanted.Word ∷ wanted.Digit ∷ wanted.NoZero ∷ wanted.InRange ∷ wanted.DoubleQuote ∷ wanted.Quote 6 17
+    ∷ wanted.Escaped ∷ wanted.Escape ∷ wanted.HexDigit ∷ wanted.Pair ∷ wanted.Depth ∷ []
 
 -- what a row unfolds to compute what is near to a name
 unfoldable pub near_on_literals : ⊤

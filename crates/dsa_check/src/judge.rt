@@ -1,11 +1,11 @@
 //! The faults of a document.
 
-ghost use Rattle.std.specs.Prelude.{◌≡◌, ℕ, true, List, ◌++◌, [], ◌∷◌, map, take, slice_range, IfOk, IfSome, OnOk};
-ghost use Rattle.serde_json.specs.View.{view};
+ghost use Rattle.std.specs.Prelude.{◌≡◌, ℕ, true, false, List, ◌++◌, [], ◌∷◌, map, slice_range, IfOk, IfSome, OnOk};
+ghost use Rattle.serde_json.specs.{View.{view}, Written.{has_float}};
 ghost use Rattle.std.specs.List.{All, AllByRecursion};
 ghost use Rattle.dsa_scenario.specs.Actions.{action_of};
-ghost use Rattle.dsa_check.specs.Findings.{AppendsAll, IsFounded, IsWrongAfter, IsInText, IsFindingOf, IsFindingIn, AreFounded};
-ghost use Rattle.dsa_check.specs.Places.{IsSpot, IsShallow, AreTextOf, BeginsOnLine};
+ghost use Rattle.dsa_check.specs.Findings.{AppendsAll, IsFounded, IsWrongAt, AreOfUtf8, IsInText, IsFindingOf, IsFindingIn, AreFounded};
+ghost use Rattle.dsa_check.specs.Places.{IsSpot, IsShallow, AreTextOf, BeginsOnLine, IsFoundBetween, IsToldWhereFound, extent_at};
 ghost use Rattle.dsa_check.specs.Judgement.{faults_told, AreFaultsOf, IsJudged, head_faults, step_items_of, caps_at, capacity_at, fault_of_step, bad_steps, caps_faults, capacity_faults, faults_of_value};
 
 use crate::finding::{Finding, Place, Reason};
@@ -43,7 +43,8 @@ fn whole(fault: ScenarioFault, reasons: Vec<Reason>) -> Finding
 fn flaw_of(alloc: Global, bytes: &[u8]) -> Result<(Spot, Vec<Reason>), AllocError>
     ensures spot { IfOk result (λ flaw. IsSpot bytes.now flaw.0) }
     ensures told { IfOk result
-        (λ flaw. AllByRecursion (IsWrongAfter (take flaw.0.at bytes.now)) flaw.1.items) }
+        (λ flaw. AllByRecursion (IsWrongAt bytes.now flaw.0.at) flaw.1.items) }
+    ensures of_utf8 { IfOk result (λ flaw. AreOfUtf8 bytes.now flaw.1.items) }
 {
     if let Err(error) = str::from_utf8(bytes) {
         let spot = START.moved_to(bytes, error.valid_up_to());
@@ -58,8 +59,8 @@ fn flaw_of(alloc: Global, bytes: &[u8]) -> Result<(Spot, Vec<Reason>), AllocErro
     if !scan.begins_json(alloc, before, wanted)? {
         return Ok((START, Vec::new(alloc)));
     }
-    let begin = START.moved_to(bytes, scan.last_begun());
-    let syntax = syntax_of(alloc, rest, wanted, begin)?;
+    let begin = START.moved_to(before, scan.last_begun());
+    let syntax = syntax_of(alloc, before, rest, wanted, begin)?;
     Ok((spot, vec![in alloc; Reason::Syntax(syntax)]?))
 }
 
@@ -118,7 +119,8 @@ fn extent_of(
     steps: &mut Steps,
     i: usize,
 ) -> Result<Option<Extent>, AllocError>
-    ensures { steps.new.spot ≡ steps.old.spot }
+    ensures kept { steps.new.spot ≡ steps.old.spot }
+    ensures told { IfOk result (λ extent. extent ≡ extent_at steps.new.extents i) }
 {
     if steps.extents.is_none() {
         steps.extents = Some(scan_text(alloc, bytes)?.steps);
@@ -133,7 +135,9 @@ fn extent_of(
 fn is_same(alloc: Global, value: &Value, other: &Value) -> Result<bool, AllocError>
     requires value { IsShallow (view value.now) }
     requires other { IsShallow (view other.now) }
-    ensures { IfOk result (λ same. same ≡ true → view value.now ≡ view other.now) }
+    ensures same { IfOk result (λ same. same ≡ true → view value.now ≡ view other.now) }
+    ensures told { has_float (view value.now) ≡ false → view value.now ≡ view other.now
+        → IfOk result (λ same. same ≡ true) }
 {
     let text = value.to_string(alloc)?;
     let other_text = other.to_string(alloc)?;
@@ -143,7 +147,9 @@ fn is_same(alloc: Global, value: &Value, other: &Value) -> Result<bool, AllocErr
 // Whether the bytes are a text of the value, from its first byte on.
 fn is_text_of(alloc: Global, bytes: &[u8], value: &Value) -> Result<bool, AllocError>
     requires { IsShallow (view value.now) }
-    ensures { IfOk result (λ is. is ≡ true → AreTextOf (view value.now) bytes.now) }
+    ensures so { IfOk result (λ is. is ≡ true → AreTextOf (view value.now) bytes.now) }
+    ensures told { has_float (view value.now) ≡ false → AreTextOf (view value.now) bytes.now
+        → IfOk result (λ is. is ≡ true) }
 {
     match bytes.first() {
         Some(first) if *first > b' ' => {}
@@ -165,8 +171,10 @@ fn is_text_at(
     value: &Value,
 ) -> Result<bool, AllocError>
     requires { IsShallow (view value.now) }
-    ensures { IfOk result
+    ensures so { IfOk result
         (λ is. is ≡ true → AreTextOf (view value.now) (slice_range bytes.now at end)) }
+    ensures told { (from : ℕ) → IsFoundBetween bytes.now (view value.now) from at end
+        → IfOk result (λ is. is ≡ true) }
 {
     match bytes.get(at..end) {
         Some(text) => is_text_of(alloc, text, value),
@@ -186,6 +194,9 @@ fn line_of(
     requires shallow { IsShallow (view step.now) }
     ensures spot { IsSpot bytes.now steps.new.spot }
     ensures line { IfOk result (λ line. IfSome line (BeginsOnLine bytes.now (view step.now))) }
+    ensures told { IfOk result
+        (IsToldWhereFound bytes.now (view step.now) steps.old.spot.at
+        (extent_at steps.new.extents i)) }
 {
     let Some(Extent { begin, end }) = extent_of(alloc, bytes, steps, i)? else {
         return Ok(None);

@@ -8,6 +8,7 @@
 mod checking;
 mod fields;
 mod finding;
+pub mod flaw_rows;
 mod judge;
 mod kinds;
 mod near;

@@ -1,13 +1,14 @@
 //! Worked rows of names that are spelled nearly as others.
 
-ghost use Rattle.std.specs.Prelude.{◌≡◌, ◌%◌, ℕ, [], ◌∷◌, Some, None, codes, map, true, false, String, string_bytes};
+ghost use Rattle.std.specs.Prelude.{◌≡◌, ◌%◌, ℕ, [], ◌∷◌, Option, Some, None, codes, map, true, false, String, string_bytes};
 ghost use Rattle.std.specs.declared.alloc.Global.{Global};
 ghost use Rattle.serde_json.specs.Data.{null, array, no_items};
-ghost use Rattle.dsa_scenario.specs.Worked.{object_of};
+ghost use Rattle.dsa_scenario.specs.Worked.{object_of, step_of_kind};
 ghost use Rattle.dsa_check.specs.declared.fields.Key.{Key};
-ghost use Rattle.dsa_check.specs.declared.finding.Reason.TheVariants.{Missing, Misspelled, NotUtf8};
+ghost use Rattle.dsa_check.specs.declared.finding.Reason.TheVariants.{Missing, Misspelled, UnknownKind, NotUtf8};
+ghost use Rattle.dsa_check.specs.declared.kinds.StepKind.{StepKind};
 ghost use Rattle.dsa_check.specs.declared.kinds.StepKind.TheVariants.{Enqcmd, Movdir, Fetch, Start, Finish, Command, Poll, Clear};
-ghost use Rattle.dsa_check.specs.Reasons.{letters_of, edits_between, most_edits, few_edits, distance_by_edits, begins_with, distance_of, is_below, nearest_below, nearest, near_kind, keys_of, stray_distance, near_key, TellsNearKey};
+ghost use Rattle.dsa_check.specs.Reasons.{letters_of, edits_between, most_edits, few_edits, distance_by_edits, begins_with, distance_of, is_below, nearest_below, nearest, near_kind, keys_of, stray_distance, near_key, TellsNearKey, IsNoKind, IsKindReason};
 ghost use Rattle.dsa_check.specs.Steps.{rows_of_kind};
 
 /// Letters and digits of names, and how many edits are between two.
@@ -40,6 +41,7 @@ pub fn distances_of_names()
     ensures edits { distance_of (codes "fetch") (codes "fecth") ≡ Some 1 }
     ensures far { distance_of (codes "queue") (codes "qxxxe") ≡ None }
     ensures not_plain { distance_of (codes "poll") (codes "poll\n") ≡ None }
+    ensures edits_of_a_short_name { distance_of (codes "poll") (codes "pulla") ≡ None }
 {}
 
 /// What is nearest: the first of those that are, where one is nearer than the bound.
@@ -62,6 +64,32 @@ pub fn near_kinds()
         ∷ codes "mowdri" ∷ codes "finished" ∷ codes "enqcmd64" ∷ codes "zzz" ∷ codes "poll\n" ∷ [])
         ≡ Some Poll ∷ Some Command ∷ Some Fetch ∷ Some Clear ∷ Some Start ∷ Some Movdir
         ∷ Some Finish ∷ Some Enqcmd ∷ None ∷ None ∷ [] }
+{}
+
+/// What is told of a text that names no kind of step.
+#[tactic(auto, unfolding(crate::specs::Worked::near_on_literals))]
+pub fn kinds_that_are_told()
+    ensures not_plain { IsNoKind None None (codes "poll\n") }
+    ensures step { IsKindReason (object_of (step_of_kind (codes "poll\n") []))
+        (UnknownKind None None) }
+    ensures near { (text : String Global)
+        → string_bytes text ≡ codes "pol"
+        → IsNoKind (Some text) (Some Poll) (codes "pol") }
+    ensures untold { (text : String Global) → IsNoKind (Some text) None (codes "pol") → ⊥ }
+    ensures another { (text : String Global)
+        → IsNoKind (Some text) (Some Clear) (codes "pol")
+        → ⊥ }
+    ensures none_near { (text : String Global)
+        → IsNoKind (Some text) (Some Poll) (codes "zzz")
+        → ⊥ }
+    ensures other_text { (text : String Global)
+        → string_bytes text ≡ codes "poll"
+        → IsNoKind (Some text) (Some Poll) (codes "pol")
+        → ⊥ }
+    ensures untold_text { (near : Option StepKind) → IsNoKind None near (codes "pol") → ⊥ }
+    ensures a_kind { (told : Option (String Global)) (near : Option StepKind)
+        → IsNoKind told near (codes "poll")
+        → ⊥ }
 {}
 
 /// The key of an object that is nearest to one that is missing.

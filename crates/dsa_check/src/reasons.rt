@@ -131,6 +131,17 @@ pub fn kind_of(step: &Value) -> Option<StepKind>
     StepKind::parse(step.get("do")?.as_str()?)
 }
 
+// The name, where it can be told as it stands.
+fn plain_name(alloc: Global, name: &str) -> Result<Option<String>, AllocError>
+    ensures plain { IfOk result (λ told. is_some told ≡ is_plain name.now) }
+    ensures text { IfOk result (λ told. IfSome told (λ text. string_bytes text ≡ name.now)) }
+{
+    if !is_plain(name) {
+        return Ok(None);
+    }
+    Ok(Some(String::from_str(alloc, name)?))
+}
+
 // What is wrong with what the object says of its kind, where it names none.
 fn kind_reason(alloc: Global, step: &Value) -> Result<Reason, AllocError>
     ensures { kind_of (view step.now) ≡ None → IfOk result (IsKindReason (view step.now)) }
@@ -144,13 +155,9 @@ fn kind_reason(alloc: Global, step: &Value) -> Result<Reason, AllocError>
             Some(found) => Ok(Reason::Misspelled { key, found }),
             None => Ok(Reason::Missing { key }),
         },
-        Some(Value::String(name)) if is_plain(name.as_str()) => Ok(Reason::UnknownKind {
-            found: Some(String::from_str(alloc, name.as_str())?),
+        Some(Value::String(name)) => Ok(Reason::UnknownKind {
+            found: plain_name(alloc, name.as_str())?,
             near: near_kind(alloc, name.as_str())?,
-        }),
-        Some(Value::String(_)) => Ok(Reason::UnknownKind {
-            found: None,
-            near: None,
         }),
         Some(value) => Ok(unfit_reason(key, Form::Text, value)),
     }

@@ -14,12 +14,12 @@ ghost use Rattle.dsa_check.specs.declared.kinds.StepKind.TheVariants.{Queue, Gro
 ghost use Rattle.dsa_check.specs.declared.syntax.Piece.TheVariants.{End, LineBreak, Tab, Control, Character, ByteOrderMark, Told, Text, Number, Word};
 ghost use Rattle.dsa_check.specs.declared.syntax.Syntax.TheVariants.{TooDeep, CommaBefore, Comment, Unwanted};
 ghost use Rattle.dsa_check.specs.declared.syntax.Wanted.TheVariants as wanted;
-ghost use Rattle.dsa_check.specs.Findings.{AreDocumentReasons, IsFindingOf, IsFindingIn, TellsWhy, IsWrongAfter, IsInText, Appends, AppendsAll};
+ghost use Rattle.dsa_check.specs.Findings.{AreDocumentReasons, IsFindingOf, IsFindingIn, TellsWhy, Appends, AppendsAll};
 ghost use Rattle.dsa_check.specs.Judgement.{capacity_at, faults_of_value, fault_of_head, fault_of_step, caps_faults, capacity_faults, AreFaultsOf, IsRight};
 ghost use Rattle.dsa_check.specs.Check.{IsCheckReportOf};
 ghost use Rattle.dsa_check.specs.Lines.{kind_text, key_text, form_text, found_text, wanted_of, piece_text, wanted_text, syntax_text, no_kind_text, reason_text, fault_part_text, place_text, line_of_finding, bare_line};
 ghost use Rattle.dsa_check.specs.Places.{line_after, column_after, IsSpot, BeginJson, IsShallow, AreTextOf, BeginsOnLine};
-ghost use Rattle.dsa_check.specs.Reasons.{is_asked, is_between, is_of_form, is_plain, has_caps, is_step, kind_row, found_number, found_of, IsReasonOf, IsStrayKey, HasStrayKey, IsKindReason, IsNoKind, AreReasonsOf, AreStepReasons};
+ghost use Rattle.dsa_check.specs.Reasons.{is_asked, is_between, is_of_form, is_plain, has_caps, is_step, kind_row, found_number, found_of, IsReasonOf, IsStrayKey, HasStrayKey, IsKindReason, AreReasonsOf, AreStepReasons};
 ghost use Rattle.dsa_check.specs.Steps.{bits, rows_of_kind, kinds, kind_named, kind_of, document_rows, caps_rows, device_rows, history_rows};
 ghost use Rattle.dsa_check.specs.Worked.{right_document, unfit_keys, unfit_keys_of, key_of_caps, key_of_a_step, found_at, document_of_slots, document_of_null, document_without_slots, right_text};
 
@@ -131,8 +131,6 @@ pub fn reasons_that_are_so()
     ensures letter { (key : Key)
         → IsReasonOf key form.Digits (Some (string (codes "0g"))) (NoDigit key 2) }
     ensures item { AreStepReasons null (NoObject found.Null ∷ []) }
-    ensures kind { IsKindReason (object_of (step_of_kind (codes "poll\n") []))
-        (UnknownKind None None) }
 {}
 
 /// Reasons that are not.
@@ -571,8 +569,6 @@ pub fn reasons_of_keys()
     ensures misspelled_kind { (key : Key) (text : String Global)
         → AreStepReasons (object_of []) (Misspelled key text ∷ [])
         → ⊥ }
-    ensures names_no_kind { IsNoKind None (codes "poll\n") }
-    ensures names_a_kind { (told : Option (String Global)) → IsNoKind told (codes "poll") → ⊥ }
 {}
 
 /// What a list has got at its end.
@@ -595,27 +591,6 @@ pub fn texts_of_json()
     ensures too_deep { (d : Data) → depth d ≡ 128 → IsShallow d → ⊥ }
     ensures first_line { BeginsOnLine (codes "1") (whole 1) 1 }
     ensures no_second_line { (d : Data) → BeginsOnLine (codes "1") d 2 → ⊥ }
-{}
-
-/// What is wrong in a text, and where.
-#[tactic(auto, unfolding(serde_json::proofs::OnLiterals::serde_json_on_literals))]
-pub fn wrong_texts()
-    ensures utf8 { IsWrongAfter (codes "]") NotUtf8 }
-    ensures syntax { IsWrongAfter (codes "[") (Syntax TooDeep) }
-    ensures other_reason { IsWrongAfter [] (NoObject found.Null) → ⊥ }
-    ensures place { (finding : Finding)
-        → finding.place.line ≡ Some 1
-        → finding.place.column ≡ Some 2
-        → finding.reasons.items ≡ NotUtf8 ∷ []
-        → IsInText (codes "1") finding }
-    ensures other_line { (finding : Finding)
-        → finding.place.line ≡ Some 2
-        → IsInText (codes "1") finding
-        → ⊥ }
-    ensures other_column { (finding : Finding)
-        → finding.place.column ≡ Some 3
-        → IsInText (codes "1") finding
-        → ⊥ }
 {}
 
 /// The faults of a text, and a document without one.

@@ -2,9 +2,9 @@
 
 ghost use Rattle.std.specs.Prelude.{◌≡◌, true, is_some, IfOk};
 ghost use Rattle.std.specs.Char.{is_ascii_hexdigit};
-ghost use Rattle.dsa_check.specs.Places.{AreJson, BeginJson};
+ghost use Rattle.dsa_check.specs.{Flaws.{IsWantedAfter}, Places.{AreJson, BeginJson}};
 
-use crate::syntax::{Wanted, is_in_text};
+use crate::syntax::{Wanted, example_of, is_in_text};
 use dsa_scenario::{ScenarioFault, parse_json};
 use std::alloc::{AllocError, Global};
 
@@ -398,12 +398,15 @@ impl Scan {
         }
     }
 
-    // Adds digits that are still to come, and the second half of a pair where they are the first.
+    // Adds the digits that are to come after another one, and the second half of a pair where they
+    // are the first.
     fn add_digits_left(&self, text: &mut Vec<u8>) -> Result<(), AllocError> {
         let mut unit = self.unit;
         if let Mode::Digits(left) = self.mode {
-            for _ in 0..left {
-                text.push(b'0')?;
+            for i in 0..left {
+                if i > 0 {
+                    text.push(b'0')?;
+                }
                 unit = unit.wrapping_mul(16);
             }
         }
@@ -413,44 +416,43 @@ impl Scan {
         Ok(())
     }
 
-    // Adds what may stand at a flaw and ends what has begun there.
-    fn add_wanted(&self, text: &mut Vec<u8>, wanted: Wanted) -> Result<(), AllocError> {
-        let end: &[u8] = match wanted {
-            Wanted::Escaped | Wanted::Pair => b"\"",
-            Wanted::Escape => b"n\"",
-            Wanted::HexDigit => {
-                self.add_digits_left(text)?;
-                b"\""
-            }
-            Wanted::FirstKey | Wanted::Key => b"\"\":0",
-            Wanted::Colon => b":0",
-            Wanted::More { .. } | Wanted::Nothing => b"",
-            _ => b"0",
-        };
-        text.extend_from_slice(end)
+    // What ends all that has begun, after an example of what may stand at a flaw.
+    fn ends(&self, alloc: Global, wanted: Wanted) -> Result<Vec<u8>, AllocError> {
+        let mut text = Vec::new(alloc);
+        if wanted == Wanted::HexDigit {
+            self.add_digits_left(&mut text)?;
+        }
+        if matches!(wanted, Wanted::Escape | Wanted::HexDigit | Wanted::Pair) {
+            text.push(b'"')?;
+        }
+        if self.is_key && is_in_text(wanted) {
+            text.extend_from_slice(b":0")?;
+        }
+        for opening in self.open.iter().rev() {
+            text.push(if opening.is_array { b']' } else { b'}' })?;
+        }
+        Ok(text)
     }
 
-    /// Whether some JSON text begins with these bytes, which come before the flaw: they are one
-    /// with an end to all that is open.
+    /// Whether some JSON text begins with these bytes, which come before the flaw, and what is
+    /// wanted may follow them: they are one with an example of it and an end to all that is open.
     pub fn begins_json(
         &self,
         alloc: Global,
         before: &[u8],
         wanted: Wanted,
     ) -> Result<bool, AllocError>
-        ensures { IfOk result (λ begins. begins ≡ true → BeginJson before.now) }
+        ensures begun { IfOk result (λ begins. begins ≡ true → BeginJson before.now) }
+        ensures wanted { IfOk result
+            (λ begins. begins ≡ true → IsWantedAfter before.now wanted) }
     {
-        let mut rest = Vec::new(alloc);
-        self.add_wanted(&mut rest, wanted)?;
-        if self.is_key && is_in_text(wanted) {
-            rest.extend_from_slice(b":0")?;
-        }
-        for opening in self.open.iter().rev() {
-            rest.push(if opening.is_array { b']' } else { b'}' })?;
-        }
+        let Some(example) = example_of(wanted) else {
+            return is_json(alloc, before);
+        };
         let mut text = Vec::new(alloc);
         text.extend_from_slice(before)?;
-        text.extend_from_slice(rest.as_slice())?;
+        text.extend_from_slice(example.as_bytes())?;
+        text.extend_from_slice(self.ends(alloc, wanted)?.as_slice())?;
         is_json(alloc, text.as_slice())
     }
 }

@@ -1,6 +1,8 @@
 //! What is wrong with a text that is no JSON.
 
-ghost use Rattle.std.specs.Prelude.{◌≡◌};
+ghost use Rattle.std.specs.Prelude.{◌≡◌, true, IfOk, option_map, codes, Some};
+ghost use Rattle.dsa_check.specs.Flaws.{name_of_sign, name_of_long, IsToldAs, IsPieceAt, takes_text, example_of, IsWantedAfter, EndWithComma, IsBegunAt, IsSyntaxAt};
+ghost use Rattle.dsa_check.specs.Places.{IsSpot};
 ghost use Rattle.dsa_check.specs.Reasons.{is_plain};
 
 use crate::places::Spot;
@@ -153,71 +155,181 @@ fn piece_length(bytes: &[u8], first: u8, wanted: Wanted) -> usize {
     }
 }
 
-// The first of these bytes, as they are told.
-fn told_piece(alloc: Global, piece: &[u8], first: u8) -> Result<Piece, AllocError> {
+// What is told in place of a text, a number or a word that is long or not plain, by its first
+// byte.
+fn name_of_long(first: u8) -> Piece
+    ensures { result ≡ name_of_long first }
+{
+    match first {
+        b'"' => Piece::Text,
+        b'-' | b'0'..=b'9' => Piece::Number,
+        _ => Piece::Word,
+    }
+}
+
+// These bytes, as they are told.
+fn told_piece(alloc: Global, piece: &[u8], first: u8) -> Result<Piece, AllocError>
+    ensures { IfOk result (IsToldAs piece.now first) }
+{
     match str::from_utf8(piece) {
         Ok(text) if is_plain(text) => Ok(Piece::Told(String::from_str(alloc, text)?)),
-        _ => match first {
-            b'"' => Ok(Piece::Text),
-            b'-' | b'0'..=b'9' => Ok(Piece::Number),
-            _ => Ok(Piece::Word),
-        },
+        _ => Ok(name_of_long(first)),
+    }
+}
+
+// What is told of these bytes where the first is a control character or beyond ASCII.
+fn name_of_sign(bytes: &[u8], first: u8) -> Option<Piece>
+    ensures { result ≡ name_of_sign bytes.now first }
+{
+    match first {
+        b'\n' | b'\r' => Some(Piece::LineBreak),
+        b'\t' => Some(Piece::Tab),
+        0..=0x1f | 0x7f => Some(Piece::Control),
+        0x20..=0x7e => None,
+        _ if bytes.starts_with(b"\xef\xbb\xbf") => Some(Piece::ByteOrderMark),
+        _ => Some(Piece::Character),
     }
 }
 
 // What stands at the start of these bytes.
-fn piece_of(alloc: Global, bytes: &[u8], wanted: Wanted) -> Result<Piece, AllocError> {
+fn piece_of(alloc: Global, bytes: &[u8], wanted: Wanted) -> Result<Piece, AllocError>
+    ensures { IfOk result (IsPieceAt bytes.now) }
+{
     let Some(first) = bytes.first().copied() else {
         return Ok(Piece::End);
     };
-    match first {
-        b'\n' | b'\r' => Ok(Piece::LineBreak),
-        b'\t' => Ok(Piece::Tab),
-        0..=0x1f | 0x7f => Ok(Piece::Control),
-        0xef if bytes.starts_with(b"\xef\xbb\xbf") => Ok(Piece::ByteOrderMark),
-        0x80..=0xff => Ok(Piece::Character),
-        _ => {
-            let length = piece_length(bytes, first, wanted).min(bytes.len());
+    match name_of_sign(bytes, first) {
+        Some(name) => Ok(name),
+        None => {
+            let length = piece_length(bytes, first, wanted).max(1).min(bytes.len());
             told_piece(alloc, &bytes[..length], first)
         }
     }
 }
 
-// What is wanted before this byte, or at the end. The end of what begins at the place is told with
-// the place.
-fn wanted_before(wanted: Wanted, next: Option<u8>, begin: Spot) -> Wanted {
-    let Spot { line, column, .. } = begin;
-    match (wanted, next) {
-        (Wanted::Escaped, None) => Wanted::Quote { line, column },
-        (Wanted::More { in_array }, None | Some(b']' | b'}')) => Wanted::Closing {
-            is_array: in_array,
-            line,
-            column,
+/// How what is wanted may begin. Nothing may follow a document.
+pub fn example_of(wanted: Wanted) -> Option<&'static str>
+    ensures { option_map (λ text. text.now) result ≡ example_of wanted }
+{
+    match wanted {
+        Wanted::Document | Wanted::Value | Wanted::FirstItem | Wanted::Item => Some("\"\""),
+        Wanted::FirstKey | Wanted::Key => Some("\"\":0"),
+        Wanted::Colon => Some(":0"),
+        Wanted::More { in_array: true } | Wanted::Closing { is_array: true, .. } => Some(",0"),
+        Wanted::More { .. } | Wanted::Closing { .. } => Some(",\"\":0"),
+        Wanted::Nothing => None,
+        Wanted::Word => Some("true"),
+        Wanted::DoubleQuote | Wanted::Quote { .. } | Wanted::Escaped => Some("\""),
+        Wanted::Escape => Some("n"),
+        Wanted::Pair => Some("\\ud800\\udc00"),
+        Wanted::Digit | Wanted::NoZero | Wanted::InRange | Wanted::HexDigit | Wanted::Depth => Some(
+            "0",
+        ),
+    }
+}
+
+// Whether a text in double quotes may stand there.
+fn takes_text(wanted: Wanted) -> bool
+    ensures { result ≡ takes_text wanted }
+{
+    matches!(
+        wanted,
+        Wanted::Document
+            | Wanted::Value
+            | Wanted::FirstItem
+            | Wanted::Item
+            | Wanted::FirstKey
+            | Wanted::Key
+    )
+}
+
+// Whether what is wanted comes after a comma, which these bytes end with but for white space.
+fn is_after_comma(before: &[u8], wanted: Wanted) -> bool
+    ensures { result ≡ true → EndWithComma before.now }
+{
+    matches!(wanted, Wanted::Item | Wanted::Key) && before.trim_ascii_end().ends_with(b",")
+}
+
+// What ends a text that begins at this place, where these bytes end.
+fn wanted_in_text(before: &[u8], next: Option<u8>, begin: Spot) -> Wanted
+    ensures example { example_of result ≡ Some (codes "\"") }
+    ensures begun { IsSpot before.now begin → IsBegunAt before.now result }
+{
+    match (next, before.get(begin.at).copied()) {
+        (None, Some(b'"')) => Wanted::Quote {
+            line: begin.line,
+            column: begin.column,
         },
+        _ => Wanted::Escaped,
+    }
+}
+
+// What follows a value in an array or an object that begins at this place. Its end is told with the
+// place before the end of another, or where these bytes end.
+fn wanted_after_value(before: &[u8], in_array: bool, next: Option<u8>, begin: Spot) -> Wanted
+    ensures example { example_of result ≡ example_of (Wanted.More in_array) }
+    ensures begun { IsSpot before.now begin → IsBegunAt before.now result }
+{
+    match (next, before.get(begin.at).copied()) {
+        (None | Some(b']' | b'}'), Some(b'[')) if in_array => Wanted::Closing {
+            is_array: true,
+            line: begin.line,
+            column: begin.column,
+        },
+        (None | Some(b']' | b'}'), Some(b'{')) if !in_array => Wanted::Closing {
+            is_array: false,
+            line: begin.line,
+            column: begin.column,
+        },
+        _ => Wanted::More { in_array },
+    }
+}
+
+// What is wanted between these bytes and this one, or the end, in what begins at the place.
+fn wanted_before(before: &[u8], wanted: Wanted, next: Option<u8>, begin: Spot) -> Wanted
+    ensures example { example_of result ≡ example_of wanted }
+    ensures begun { IsSpot before.now begin → IsBegunAt before.now result }
+{
+    match wanted {
+        Wanted::Escaped | Wanted::Quote { .. } => wanted_in_text(before, next, begin),
+        Wanted::More { in_array } => wanted_after_value(before, in_array, next, begin),
+        Wanted::Closing { is_array, .. } => wanted_after_value(before, is_array, next, begin),
         _ => wanted,
     }
 }
 
-/// What is wrong where these bytes stand and something else is wanted, in what begins at the place.
+// The same, where a single quote stands in place of a double one.
+fn wanted_at(before: &[u8], wanted: Wanted, next: Option<u8>, begin: Spot) -> Wanted
+    ensures allowed { IsWantedAfter before.now wanted → IsWantedAfter before.now result }
+    ensures begun { IsSpot before.now begin → IsBegunAt before.now result }
+{
+    match next {
+        Some(b'\'') if takes_text(wanted) => Wanted::DoubleQuote,
+        _ => wanted_before(before, wanted, next, begin),
+    }
+}
+
+/// What is wrong between the bytes before a place and these, where something else is wanted in what
+/// begins at another place.
 pub fn syntax_of(
     alloc: Global,
+    before: &[u8],
     bytes: &[u8],
     wanted: Wanted,
     begin: Spot,
-) -> Result<Syntax, AllocError> {
+) -> Result<Syntax, AllocError>
+    ensures { IsWantedAfter before.now wanted → IsSpot before.now begin
+        → IfOk result (IsSyntaxAt before.now bytes.now) }
+{
     let next = bytes.first().copied();
-    match (wanted, next) {
-        (Wanted::Depth, _) => Ok(Syntax::TooDeep),
-        (Wanted::Item | Wanted::Key, Some(b'}')) => Ok(Syntax::CommaBefore { what: "}" }),
-        (Wanted::Item | Wanted::Key, Some(b']')) => Ok(Syntax::CommaBefore { what: "]" }),
-        (_, Some(b'/')) if is_between(wanted) => Ok(Syntax::Comment),
-        (_, Some(b'\'')) if is_between(wanted) => Ok(Syntax::Unwanted {
-            found: piece_of(alloc, bytes, wanted)?,
-            wanted: Wanted::DoubleQuote,
-        }),
+    match next {
+        Some(b'[' | b'{') if wanted == Wanted::Depth => Ok(Syntax::TooDeep),
+        Some(b'}') if is_after_comma(before, wanted) => Ok(Syntax::CommaBefore { what: "}" }),
+        Some(b']') if is_after_comma(before, wanted) => Ok(Syntax::CommaBefore { what: "]" }),
+        Some(b'/') if is_between(wanted) => Ok(Syntax::Comment),
         _ => Ok(Syntax::Unwanted {
             found: piece_of(alloc, bytes, wanted)?,
-            wanted: wanted_before(wanted, next, begin),
+            wanted: wanted_at(before, wanted, next, begin),
         }),
     }
 }

@@ -5,5 +5,6 @@ pub mod PlainRuns
 pub mod Pushes
 pub mod ReportCommands
 pub mod ReportNames
+pub mod Setup
 pub mod Submissions
 pub mod ThreadTotals

@@ -2,10 +2,11 @@
 use Rattle.std.proofs.Common.{◌≡◌, ℕ, List, [], ◌∷◌, length, get_or, inl, inr, refl, sym, ◌∙◌, subst, arith}
 use Rattle.std.proofs.lemmas.{Bool.{cases_lt}, List.{get_or_past, Elements.{All-filter}}}
 use Rattle.std.specs.Prelude.{All}
-use Rattle.dsa_regs.specs.declared.Command.TheVariants.{EnableDevice, DisableDevice}
+use Rattle.dsa_regs.specs.declared.{Caps.{Caps}, Command.TheVariants.{EnableDevice, DisableDevice}}
 use Rattle.dsa_book.specs.declared.event.{Event.TheVariants.{Submit, Issue}, Kind.TheVariants.{Enqcmd}}
 use Rattle.dsa_book.specs.declared.event.{Portal.TheVariants.{Limited}, Step.{Step}}
 use Rattle.dsa_book.specs.Machine.{is_stored, stored_steps}
+use Rattle.dsa_shared.specs.Seat.{SeatLog}
 use Rattle.dsa_workers.specs.declared.scripts.ClientStep.{ClientStep}
 use Rattle.dsa_workers.specs.Calls.{InOrder, NextSubmission, NextCommand, submission_of_client_step}
 use Rattle.dsa_cli.specs.{Threads.{Submits, client_move}, Worked.{page_move_bytes}}
@@ -30,18 +31,20 @@ at_place pasid script moves i =
     ]
 
 -- the event of one
-submission_is : (client pasid : ℕ) (step : ClientStep) → Submits pasid step
-    → submission_of_client_step client step ≡ Submit client 0 Limited (Enqcmd pasid) client_move
-submission_is client pasid step h = rw (h.queue, h.portal, h.kind, h.bytes) refl
+submission_is : (number client pasid : ℕ) (step : ClientStep) → number ≡ client → Submits pasid step
+    → submission_of_client_step number step ≡ Submit client 0 Limited (Enqcmd pasid) client_move
+submission_is number client pasid step same h = rw (same, h.queue, h.portal, h.kind, h.bytes) refl
 
 -- a client submits what its script says
-pub all_submitted : (client pasid : ℕ) (script : List ClientStep) (calls : List Step) → All (Submits pasid) script
-    → InOrder (NextSubmission client script) calls
+pub all_submitted : (caps : Caps) (capacity : ℕ) (seat : SeatLog) (client pasid : ℕ) (script : List ClientStep)
+    (calls : List Step) → seat.number ≡ client → All (Submits pasid) script
+    → InOrder (NextSubmission caps capacity seat script) calls
     → All (λ step. step.event ≡ Submit client 0 Limited (Enqcmd pasid) client_move) (stored_steps calls)
-all_submitted client pasid script calls moves order =
+all_submitted caps capacity seat client pasid script calls same moves order =
     All-filter (λ step. is_stored step.reply) (λ step. step.event ≡ Submit client 0 Limited (Enqcmd pasid) client_move)
     calls
-    (λ k d lt. (order k d lt).1 (one_step pasid) ∙ submission_is client pasid _ (at_place pasid script moves _))
+    (λ k d lt. (order k d lt).1 (one_step pasid)
+    ∙ submission_is seat.number client pasid _ same (at_place pasid script moves _))
 
 -- ---- the administrator
 
@@ -50,8 +53,9 @@ two_commands : Issue EnableDevice ≡ Issue DisableDevice → ⊥
 two_commands same = cc
 
 -- who has no command to give calls nothing
-pub no_calls : (calls : List Step) → InOrder (NextCommand []) calls → calls ≡ []
-no_calls [] order = refl
-no_calls (x ∷ calls) order =
+pub no_calls : (caps : Caps) (capacity : ℕ) (receipts calls : List Step)
+    → InOrder (NextCommand caps capacity receipts []) calls → calls ≡ []
+no_calls caps capacity receipts [] order = refl
+no_calls caps capacity receipts (x ∷ calls) order =
     let first = (order 0 x (omega arith)).1 in
     absurd (two_commands (sym (first EnableDevice) ∙ first DisableDevice))

@@ -15,7 +15,7 @@ use Rattle.dsa_shared.specs.{Settle.{Match}, Totals.{AreSums, Balance, totals_of
 use Rattle.dsa_workers.specs.declared.scripts.{EngineScript.{EngineScript}, Scripts.{Scripts}, Stint.{Stint}}
 use Rattle.dsa_workers.specs.declared.scripts.WorkerEnd.TheVariants.{HistoryFull}
 use Rattle.dsa_workers.specs.Workers.{RunsClient, RunsEngine, RunsAdmin, receipts_in}
-use Rattle.dsa_workers.specs.Calls.{InOrder, NextSubmission, NextCommand}
+use Rattle.dsa_workers.specs.Calls.{InOrder, NextCommand}
 use Rattle.dsa_cli.specs.declared.options.Workload.{Workload}
 use Rattle.dsa_cli.specs.Threads.{AreScriptsOf, engine_script, setup_steps, HaveWorked, AreTotalsOf}
 use Rattle.dsa_cli.specs.Threads.{submission_of, caps_for, capacity_for, RanAsClient, RanAsEngine}
@@ -91,24 +91,34 @@ some_item : {A : Type 0} (xs : List A) → 0 < length xs → A
 some_item [] h = absurd (omega (arith, h))
 some_item (x ∷ xs) h = x
 
+-- what holds of the device of the load
+at_load : (load : Workload) (caps : Caps) (capacity : ℕ) (P : Caps → ℕ → Type 0) → caps ≡ caps_for load.engines
+    → capacity ≡ capacity_for load → P caps capacity → P (caps_for load.engines) (capacity_for load)
+at_load load caps capacity P same-caps same-capacity holds =
+    subst (λ n. P (caps_for load.engines) n) same-capacity (subst (λ c. P c capacity) same-caps holds)
+
 -- what the runs of the workers leave in their seats
-pub have_worked : (load : Workload) (scripts : Scripts) (old new old-engines new-engines : List SeatLog)
+pub have_worked : (caps : Caps) (capacity : ℕ) (load : Workload) (scripts : Scripts)
+    (old new old-engines new-engines : List SeatLog)
     (admin new-admin : Option (List Step))
     (setup : List Step) (stint engine-stint : ℕ → Stint) (last : Stint)
+    → caps ≡ caps_for load.engines → capacity ≡ capacity_for load
     → AllFresh load.clients old → AllFresh load.engines old-engines → AreScriptsOf load scripts
     → admin ≡ Some setup → setup ≡ setup_steps load.engines → length new ≡ length old
     → length new-engines ≡ length old-engines
-    → ((k : ℕ) (d : SeatLog) (e : _) → k < length old → RunsClient (get_or scripts.clients.items k e).items load.turns
+    → ((k : ℕ) (d : SeatLog) (e : _) → k < length old
+    → RunsClient caps capacity (get_or scripts.clients.items k e).items load.turns
     (get_or old k d) (get_or new k d) (stint k))
     → ((k : ℕ) (d : SeatLog) (e : _) → k < length old-engines
-    → RunsEngine (get_or scripts.engines.items k e) load.turns (get_or old-engines k d) (get_or new-engines k d)
-    (engine-stint k))
-    → RunsAdmin scripts.admin.items load.turns (receipts_in admin) (receipts_in new-admin) last
+    → RunsEngine caps capacity (get_or scripts.engines.items k e) load.turns (get_or old-engines k d)
+    (get_or new-engines k d) (engine-stint k))
+    → RunsAdmin caps capacity scripts.admin.items load.turns (receipts_in admin) (receipts_in new-admin) last
     → ((k : ℕ) → k < length old → (stint k).ended ≢ HistoryFull)
     → ((k : ℕ) → k < length old-engines → (engine-stint k).ended ≢ HistoryFull)
     → HaveWorked load new new-engines new-admin
-have_worked load scripts old new old-engines new-engines admin new-admin setup stint engine-stint last
-    fresh-clients fresh-engines are is follows count count-engines clients engines ends room room-engines =
+have_worked caps capacity load scripts old new old-engines new-engines admin new-admin setup stint engine-stint last
+    same-caps same-capacity fresh-clients fresh-engines are is follows count count-engines clients engines ends room
+    room-engines =
     let place = λ (k : ℕ) (lt : k < length new).
     let same : k < load.clients = omega (arith, lt, count, fresh-clients.0) in same in
     let item = λ (k : ℕ) (lt : k < length new). some_item scripts.clients.items
@@ -116,7 +126,8 @@ have_worked load scripts old new old-engines new-engines admin new-admin setup s
     let runs = λ (k : ℕ) (d : SeatLog) (lt : k < length new). clients k d (item k lt) (omega (arith, lt, count)) in
     let seat = λ (k : ℕ) (lt : k < load.clients).
     let there : k < length new = omega (arith, lt, count, fresh-clients.0) in there in
-    let none = no_calls ends.calls (subst (λ script. InOrder (NextCommand script) ends.calls) are.admin
+    let none = no_calls caps capacity (receipts_in admin) ends.calls
+    (subst (λ script. InOrder (NextCommand caps capacity (receipts_in admin) script) ends.calls) are.admin
     ends.in_order) in
     let same : receipts_in new-admin ≡ setup = ends.receipts
     ∙ ap₂ (λ (l m : List Step). l ++ stored_steps m) (ap (λ a. receipts_in a) is) none ∙ append-nil setup in
@@ -142,11 +153,10 @@ have_worked load scripts old new old-engines new-engines admin new-admin setup s
           let ran = (runs k d (seat k lt)).runs in
           let number : (get_or old k d).number ≡ k = ap (λ (s : SeatLog). s.number) (fresh-clients.1 k d lt) in
           let begun : (get_or old k d).receipts ≡ [] = ap (λ (s : SeatLog). s.receipts) (fresh-clients.1 k d lt) in
-          let order = subst (λ n. InOrder (NextSubmission n (get_or scripts.clients.items k (item k (seat k lt))).items)
-          ran.calls) number ran.in_order in
           subst (λ r. All (λ step. step.event ≡ submission_of k) r)
           (sym (ran.receipts ∙ ap (λ (l : List Step). l ++ stored_steps ran.calls) begun))
-          (all_submitted k (k + 1) _ ran.calls (are.clients k (item k (seat k lt)) lt).moves order);
+          (all_submitted caps capacity (get_or old k d) k (k + 1) _ ran.calls number
+          (are.clients k (item k (seat k lt)) lt).moves ran.in_order);
       setup = same ∙ follows;
       client_runs = λ k d lt.
           let script = item k (seat k lt) in
@@ -155,8 +165,10 @@ have_worked load scripts old new old-engines new-engines admin new-admin setup s
             stint k,
             is.len,
             is.moves,
-            subst (λ s. RunsClient (get_or scripts.clients.items k script).items load.turns s (get_or new k d) (stint k))
-                (fresh-clients.1 k d lt) (runs k d (seat k lt)),
+            at_load load caps capacity (λ c n. RunsClient c n (get_or scripts.clients.items k script).items load.turns
+                (fresh k) (get_or new k d) (stint k)) same-caps same-capacity
+                (subst (λ s. RunsClient caps capacity (get_or scripts.clients.items k script).items load.turns s
+                (get_or new k d) (stint k)) (fresh-clients.1 k d lt) (runs k d (seat k lt))),
             room k (omega (arith, lt, fresh-clients.0)),
           );
       engine_runs = λ k d lt.
@@ -164,10 +176,13 @@ have_worked load scripts old new old-engines new-engines admin new-admin setup s
           let own : get_or scripts.engines.items k engine_script ≡ engine_script =
           ap (λ (xs : List EngineScript). get_or xs k engine_script) are.engines
           ∙ get_or-replicate load.engines k engine_script engine_script lt in
-          let begun = subst (λ s. RunsEngine (get_or scripts.engines.items k engine_script) load.turns s
+          let begun = subst (λ s. RunsEngine caps capacity (get_or scripts.engines.items k engine_script) load.turns s
           (get_or new-engines k d) (engine-stint k)) (fresh-engines.1 k d lt) (engines k d engine_script there) in (
             engine-stint k,
-            subst (λ s. RunsEngine s load.turns (fresh k) (get_or new-engines k d) (engine-stint k)) own begun,
+            at_load load caps capacity (λ c n. RunsEngine c n engine_script load.turns (fresh k)
+                (get_or new-engines k d) (engine-stint k)) same-caps same-capacity
+                (subst (λ s. RunsEngine caps capacity s load.turns (fresh k) (get_or new-engines k d)
+                (engine-stint k)) own begun),
             room-engines k there,
           );
     }

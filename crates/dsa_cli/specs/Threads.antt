@@ -113,11 +113,13 @@ submission_of c = Submit c 0 Limited (Enqcmd (c + 1)) client_move
 -- through with the script, or it has used all turns
 abbrev pub RanAsClient : Workload → ℕ → SeatLog → Type 0
 RanAsClient load c seat = (script : List ClientStep) × (stint : Stint) × (length script ≡ load.each)
-    × All (Submits (c + 1)) script × RunsClient script load.turns (fresh c) seat stint × (stint.ended ≢ HistoryFull)
+    × All (Submits (c + 1)) script × RunsClient (caps_for load.engines) (capacity_for load) script
+    load.turns (fresh c) seat stint × (stint.ended ≢ HistoryFull)
 
 -- the seat of engine e after a worker of its own used all turns, and found room for each call
 abbrev pub RanAsEngine : Workload → ℕ → SeatLog → Type 0
-RanAsEngine load e seat = (stint : Stint) × RunsEngine engine_script load.turns (fresh e) seat stint
+RanAsEngine load e seat = (stint : Stint)
+    × RunsEngine (caps_for load.engines) (capacity_for load) engine_script load.turns (fresh e) seat stint
     × (stint.ended ≢ HistoryFull)
 
 -- what the seats have after the run: the administrator has set the device up, and each worker has run.

@@ -306,11 +306,11 @@ pub fn runs_of_workers()
     ensures moves { (seat : SeatLog) (ran : RanAsClient (load 2 3 5 7) 4 seat)
         → All (Submits 5) ran.0 }
     ensures client { (seat : SeatLog) (ran : RanAsClient (load 2 3 5 7) 4 seat)
-        → RunsClient ran.0 7 (fresh 4) seat ran.1 }
+        → RunsClient (caps_for 3) 46 ran.0 7 (fresh 4) seat ran.1 }
     ensures client_found_room { (seat : SeatLog) (ran : RanAsClient (load 2 3 5 7) 4 seat)
         → ran.1.ended ≢ HistoryFull }
     ensures engine { (seat : SeatLog) (ran : RanAsEngine (load 2 3 5 7) 4 seat)
-        → RunsEngine engine_script 7 (fresh 4) seat ran.0 }
+        → RunsEngine (caps_for 3) 46 engine_script 7 (fresh 4) seat ran.0 }
     ensures engine_found_room { (seat : SeatLog) (ran : RanAsEngine (load 2 3 5 7) 4 seat)
         → ran.0.ended ≢ HistoryFull }
 {}

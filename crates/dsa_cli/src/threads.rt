@@ -1,7 +1,7 @@
 //! The threads mode: clients, engines and an administrator in threads of their own, on one shared
 //! device.
 
-ghost use Rattle.std.specs.Prelude.{◌≡◌, ◌≢◌, ◌≤◌, ◌<◌, ◌+◌, ◌*◌, ◌^◌, ◌++◌, true, ℕ, All, IfOk, OnOk, IfErr, IsErrOf, vec_len, length, take, replicate, [], Some};
+ghost use Rattle.std.specs.Prelude.{◌≡◌, ◌≢◌, ◌≤◌, ◌<◌, ◌+◌, ◌*◌, ◌^◌, ◌++◌, ◌↔◌, true, false, ℕ, All, IfOk, OnOk, IfErr, IsErrOf, vec_len, length, take, replicate, [], Some};
 ghost use Rattle.std.specs.Io.KnownBytes.{Appends};
 ghost use Rattle.dsa_shared.specs.declared.settle.Totals.{Totals};
 ghost use Rattle.dsa_book.specs.Totals.{actor_of};
@@ -163,6 +163,19 @@ fn scripts_for(alloc: Global, load: &Workload) -> Result<Scripts, AllocError>
     })
 }
 
+// Whether each step that sets the device up was done.
+fn all_done(first: WriteAnswer, second: WriteAnswer, third: IssueAnswer, last: IssueAnswer) -> bool
+    ensures { (result ≡ true) ↔ ((first ≡ WriteAnswer.Written)
+        × (second ≡ WriteAnswer.Written)
+        × (third ≡ IssueAnswer.Ended 0)
+        × (last ≡ IssueAnswer.Ended 0)) }
+{
+    matches!(first, WriteAnswer::Written)
+        && matches!(second, WriteAnswer::Written)
+        && matches!(third, IssueAnswer::Ended { aborted: 0 })
+        && matches!(last, IssueAnswer::Ended { aborted: 0 })
+}
+
 // Sets the device up, and says whether each step was done.
 fn set_up<S: EntryStore, L: Sharing, R: Wait>(
     rt: &R,
@@ -172,6 +185,7 @@ fn set_up<S: EntryStore, L: Sharing, R: Wait>(
 ) -> bool
     requires { engines ≤ 8 }
     ensures done { result ≡ true → admin.new ≡ admin.old ++ setup_steps engines }
+    ensures not_done { result ≡ false → admin.new ≢ admin.old ++ setup_steps engines }
 {
     let group = GroupConfig {
         queues: 1,
@@ -183,15 +197,12 @@ fn set_up<S: EntryStore, L: Sharing, R: Wait>(
     let second = shared.write_group(rt, admin, 0, group);
     let third = shared.issue(rt, admin, Command::EnableDevice);
     let last = shared.issue(rt, admin, Command::EnableWq(0));
-    matches!(first, WriteAnswer::Written)
-        && matches!(second, WriteAnswer::Written)
-        && matches!(third, IssueAnswer::Ended { aborted: 0 })
-        && matches!(last, IssueAnswer::Ended { aborted: 0 })
+    all_done(first, second, third, last)
 }
 
 // Whether no worker found the history full.
 fn none_full(ended: &[WorkerEnd]) -> bool
-    ensures { result ≡ true → All (λ end. end ≢ WorkerEnd.HistoryFull) ended.now }
+    ensures { (result ≡ true) ↔ All (λ end. end ≢ WorkerEnd.HistoryFull) ended.now }
 {
     ended
         .iter()
@@ -223,6 +234,8 @@ fn run_seats<S: EntryStore + Send, L: Sharing + Send + Sync, R: Threads + Wait +
     requires clients { AllFresh load.now.clients seats.old.clients.items }
     requires engines { AllFresh load.now.engines seats.old.engines.items }
     requires admin { seats.old.admin ≡ Some [] }
+    requires sharing { (L.caps ≡ caps_for load.now.engines)
+        × (L.capacity ≡ capacity_for load.now) }
     ensures ok { OnOk result
         (HaveWorked load.now seats.new.clients.items seats.new.engines.items seats.new.admin) }
     ensures fault { IfErr result (λ e. e ≢ ThreadsFault.Write) }

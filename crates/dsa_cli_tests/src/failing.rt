@@ -6,6 +6,7 @@ use crate::runs::{DOCUMENT, Streams, Words, are_same};
 use dsa_fixtures::streams::{ALL, Course, Narrow};
 use dsa_scenario::{ScenarioFault, WatchedWriter};
 use std::alloc::Global;
+use std::io::Write;
 use std::marker::Sync;
 use std::process::Abort;
 use std::sync::Wait;
@@ -131,4 +132,12 @@ fn printed(rt: HostRuntime) {
     let mut narrow = Narrow::new(rt.alloc(), Course::new((ALL, 0), true));
     let status = dsa_cli::tell(&mut narrow, &ScenarioFault::OutOfMemory);
     are_same(&rt, &[], &(status, narrow.calls), &(1, 1));
+}
+
+// A flush of a writer that is watched is handed on.
+#[test]
+fn flushed(rt: HostRuntime) {
+    let mut narrow = Narrow::new(rt.alloc(), Course::new((ALL, 0), true));
+    let flushed = WatchedWriter::new(&mut narrow).flush();
+    are_same(&rt, &[], &(flushed.is_err(), narrow.calls), &(false, 1));
 }

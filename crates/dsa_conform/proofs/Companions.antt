@@ -556,7 +556,12 @@ one_gone caps capacity done here number way new h follows on =
     more_gone caps capacity done here number [] [] (new ∷ []) way [] [] h
     (none_gone caps capacity done here number [] [] refl refl)
     (gone_on caps capacity done here number way.device (event_of h.records here.0) new [] (new ∷ []) [] follows on
-    (record { each = λ other i. pushed other i; all = λ other i. absurd i; here = (new, inl refl, self new.device) }))
+    (record {
+      each = λ other i. pushed other i;
+      all = λ other i. absurd i;
+      here = (new, inl refl, self new.device);
+      once = λ among. absurd among.1;
+    }))
   where
     pushed : (other : Way) → In other (new ∷ []) → In other [] ⊎ (new ≡ other)
     pushed other (inl same) = inr same
@@ -574,13 +579,16 @@ one_told caps capacity done here number way told h is =
 -- ---- the calls
 
 pub added_before : (old : List Way) (way : Way) → IsAmong way.device old → IsAdded old way old
-added_before old way here = record { each = λ other i. inl i; all = λ other i. i; here = here }
+added_before old way here =
+    record { each = λ other i. inl i; all = λ other i. i; here = here; once = λ among. refl }
 
-pub added_behind : (old new : List Way) (way : Way) → new ≡ old ++ way ∷ [] → IsAdded old way new
-added_behind old new way is = record {
+pub added_behind : (old new : List Way) (way : Way) → ¬ IsAmong way.device old → new ≡ old ++ way ∷ []
+    → IsAdded old way new
+added_behind old new way none is = record {
   each = λ other i. In-push other old way (subst (In other) is i);
   all = λ other i. subst (In other) (sym is) (In-left other old (way ∷ []) i);
   here = (way, subst (In way) (sym is) (In-right way old (way ∷ []) (inl refl)), self way.device);
+  once = λ among. absurd (none among);
 }
 
 pub none_added : (caps : Caps) (capacity : ℕ) (steps : List Data) (number : ℕ) (choices : List ℕ) (old : List Way)

@@ -1,14 +1,15 @@
 -- Devices whose queues, engines and groups are alike are.
-use Rattle.std.proofs.Common.{◌≡◌, ◌<◌, ◌≤◌, ◌+◌, ◌-◌, ◌*◌, ℕ, Bool, true, false, List, [], None, refl, sym, ap, subst, ◌∙◌}
-use Rattle.std.proofs.Common.{length, map, get_or, arith, cond}
+use Rattle.std.proofs.Common.{◌≡◌, ◌<◌, ◌≤◌, ◌+◌, ◌-◌, ℕ, Bool, true, false, List, [], Option, None, refl, sym, ap}
+use Rattle.std.proofs.Common.{subst, ◌∙◌, length, get_or, arith, cond}
 use Rattle.std.proofs.lemmas.{Bool.{ltb-true, ltb-false, lt-ltb}, List.{same_lists, length-map, get_or_default}}
 use Rattle.std.proofs.Math.ListN.{get_or-map}
 use Rattle.std.specs.Prelude.{nat_lt}
-use Rattle.dsa_regs.specs.{Caps.{list_count}, Config.{zero_queue, zero_group, group_at}}
+use Rattle.dsa_regs.specs.{Caps.{list_count}, Config.{zero_queue, zero_group, queue_at, group_at}}
 use Rattle.dsa_regs.specs.declared.{Caps.{Caps}, Phase.TheVariants.{Off}}
-use Rattle.dsa_store.specs.Content.{HeldEntry, chain}
-use Rattle.dsa_book.specs.State.{Setup, Work, State}
-use Rattle.dsa_book.specs.Work.{in_progress, members}
+use Rattle.dsa_store.specs.{declared.entry.Entry.{Entry}, Content.{chain}}
+use Rattle.dsa_book.specs.State.{Setup, Work, State, phase_at}
+use Rattle.dsa_book.specs.Work.{in_progress, members, progress_list, member_list}
+use Rattle.dsa_book.specs.declared.note.BatchNote.{BatchNote}
 use Rattle.dsa_laws.specs.WellFormed.{HasShape}
 use Rattle.dsa_answers.specs.Alike.{AreStatesAlike, entries_alone}
 use Rattle.dsa_conform.specs.Ways.{IsQueueAlike, IsEngineAlike, entries_only}
@@ -117,4 +118,37 @@ alike caps s t shape other h active = record {
   notes = same_by s.work.notes t.work.notes caps.engines None shape.notes other.notes
       (λ k below. (h.engines k below).note);
   active = active;
+}
+
+-- ---- the parts of states that are alike
+
+-- the entries of one list
+same_entries : (w v : Work) (k : ℕ) → entries_alone w.content ≡ entries_alone v.content
+    → entries_only (chain w.content k) ≡ entries_only (chain v.content k)
+same_entries w v k entries =
+    sym (get_or-map entries_only w.content k []) ∙ ap (λ (lists : List (List Entry)). get_or lists k []) entries
+    ∙ get_or-map entries_only v.content k []
+
+-- and those of an engine's list, where the device has the engine
+same_entries_where : (has : Bool) (w v : Work) (k : ℕ) → entries_alone w.content ≡ entries_alone v.content
+    → entries_only (cond has (chain w.content k) []) ≡ entries_only (cond has (chain v.content k) [])
+same_entries_where true w v k entries = same_entries w v k entries
+same_entries_where false w v k entries = refl
+
+pub queue_alike : (w v : Work) (q : ℕ) → w.setup ≡ v.setup → entries_alone w.content ≡ entries_alone v.content
+    → IsQueueAlike w v q
+queue_alike w v q setup entries = record {
+  config = ap (λ (s : Setup). queue_at s.configs q) setup;
+  phase = ap (λ (s : Setup). phase_at s q) setup;
+  waiting = same_entries w v q entries;
+}
+
+pub engine_alike : (w v : Work) (e : ℕ) → w.setup ≡ v.setup → entries_alone w.content ≡ entries_alone v.content
+    → w.notes ≡ v.notes → IsEngineAlike w v e
+engine_alike w v e setup entries notes = record {
+  note = ap (λ (l : List (Option BatchNote)). get_or l e None) notes;
+  in_progress = same_entries_where (nat_lt e w.setup.caps.engines) w v (progress_list w.setup e) entries
+      ∙ ap (λ (s : Setup). entries_only (cond (nat_lt e s.caps.engines) (chain v.content (progress_list s e)) [])) setup;
+  members = same_entries_where (nat_lt e w.setup.caps.engines) w v (member_list w.setup e) entries
+      ∙ ap (λ (s : Setup). entries_only (cond (nat_lt e s.caps.engines) (chain v.content (member_list s e)) [])) setup;
 }

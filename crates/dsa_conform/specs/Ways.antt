@@ -165,6 +165,7 @@ pub record IsAdded (old : List Way) (way : Way) (new : List Way) : Type 0 where
   pub each : (other : Way) → In other new → In other old ⊎ (way ≡ other)
   pub all : (other : Way) → In other old → In other new
   pub here : IsAmong way.device new
+  pub once : IsAmong way.device old → new ≡ old
 
 -- for each queue a device that takes from it in this step has been added, unless one was alike
 pub record AreAdded (caps : Caps) (capacity : ℕ) (steps : List Data) (number : ℕ) (choices queues : List ℕ)

@@ -129,8 +129,8 @@ after_a_take = standing caps_of_three_queues 9 (records_of_two_queues ++ from_fi
 abbrev pub caps_of_two_queues : Caps
 caps_of_two_queues = record caps_of_a_run { queues = 2 }
 
-abbrev pub dedicated_queue : QueueConfig
-dedicated_queue = record queue_of_a_run { size = 1; dedicated = true }
+abbrev pub dedicated_queue_of_one : QueueConfig
+dedicated_queue_of_one = record queue_of_a_run { size = 1; dedicated = true }
 
 abbrev pub dedicated_answer : ℕ → SubmitAnswer → Record
 dedicated_answer queue answer = stepped (event.Submit 0 queue Limited Movdir64b fill) (reply.Submit answer)
@@ -138,8 +138,8 @@ dedicated_answer queue answer = stepped (event.Submit 0 queue Limited Movdir64b 
 -- engine 0 took from one of them; then two came into the first, of which the last was dropped
 abbrev pub records_of_an_error : Record → SubmitAnswer → List Record
 records_of_an_error take answer =
-    stepped (event.WriteQueue 0 dedicated_queue) (reply.Write Written) ∷
-    stepped (event.WriteQueue 1 dedicated_queue) (reply.Write Written) ∷
+    stepped (event.WriteQueue 0 dedicated_queue_of_one) (reply.Write Written) ∷
+    stepped (event.WriteQueue 1 dedicated_queue_of_one) (reply.Write Written) ∷
     stepped (event.WriteGroup 0 (record group_of_a_run { queues = 3 })) (reply.Write Written) ∷
     stepped (event.Issue EnableDevice) (reply.Issue (Ended 0)) ∷
     stepped (event.Issue (EnableWq 0)) (reply.Issue (Ended 0)) ∷

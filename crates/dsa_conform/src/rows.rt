@@ -684,6 +684,9 @@ pub fn devices_added()
     ensures not_added { (t : Vec Ticket Global)
         → ¬ IsAdded (way_at_first 8 t ∷ []) (way_at_first 9 t) (way_at_first 8 t ∷ []) }
     ensures not_there { (t : Vec Ticket Global) → ¬ IsAdded [] (way_at_first 9 t) [] }
+    ensures twice { (t : Vec Ticket Global)
+        → ¬ IsAdded (way_at_first 9 t ∷ []) (way_at_first 9 t)
+        (way_at_first 9 t ∷ way_at_first 9 t ∷ []) }
     ensures at_first { (t : Vec Ticket Global)
         → t.items ≡ []
         → IsWayBy smallest_caps 9 [] 0 [] (way_at_first 9 t) }

@@ -1,9 +1,11 @@
 //! A device that answers as was seen, and others like it that take from other queues.
 
-ghost use Rattle.std.specs.Prelude.{◌≡◌, ◌++◌, ◌∷◌, [], ◌+◌, ◌≤◌, ℕ, List, Ok, true, OnOk, IfOk, map, take, length};
+ghost use Rattle.std.specs.Prelude.{◌≡◌, ◌++◌, ◌∷◌, [], ◌+◌, ◌==◌, ◌≤◌, ℕ, List, Ok, Some, true, false, OnOk, IfOk, map, take, length, min, cond, is_some};
 ghost use Rattle.serde_json.specs.View.{view};
 ghost use Rattle.dsa_scenario.specs.declared.actions.Action.{Action};
 ghost use Rattle.dsa_scenario.specs.Run.{answered_by, Leads};
+ghost use Rattle.dsa_book.specs.Work.{qualifies};
+ghost use Rattle.dsa_conform.specs.Allowed.{offer};
 ghost use Rattle.dsa_conform.specs.Seen.{Seen, seen_as};
 ghost use Rattle.dsa_conform.specs.Run.{AreRead, IsFollowedTo};
 ghost use Rattle.dsa_conform.specs.Ways.{IsWayBy, queue_of_reply, queue_of_record, queues_taken};
@@ -85,6 +87,9 @@ pub fn queues_taken(alloc: Global, steps: &[Step]) -> Result<Vec<u16>, AllocErro
 fn take_or_ask<S: EntryStore>(device: &mut Device<S>, engine: u16, queue: u16) -> Record
     ensures answers { answered_by result ≡ Ok (event.Dispatch engine) }
     ensures leads { Leads device.old result device.new }
+    ensures taken { (length device.old.history == device.old.capacity) ≡ false
+        → qualifies device.old.state.work engine queue ≡ true
+        → offer device.old.state.work engine queue ≡ Some result }
 {
     let event = Event::Dispatch { engine };
     match device.dispatch_from(engine, queue) {
@@ -138,7 +143,9 @@ fn step_again(
 }
 
 // One more entry was taken, where the answer tells so.
-fn count_taken(taken: usize, entry: &Record) -> usize {
+fn count_taken(taken: usize, entry: &Record) -> usize
+    ensures { result ≡ min (taken + cond (is_some (queue_of_record entry.now)) 1 0) usize.MAX }
+{
     match queue_of_record(entry) {
         Some(_) => taken.saturating_add(1),
         None => taken,

@@ -1,6 +1,6 @@
 //! A step of several devices that answer as was seen so far.
 
-ghost use Rattle.std.specs.Prelude.{◌≡◌, ◌+◌, ◌<◌, [], ◌∷◌, ◌++◌, List, true, OnOk, IfOk, map, length, option_map, string_bytes};
+ghost use Rattle.std.specs.Prelude.{◌≡◌, ◌+◌, ◌<◌, [], ◌∷◌, ◌++◌, List, true, false, OnOk, IfOk, map, length, option_map, string_bytes};
 ghost use Rattle.serde_json.specs.View.{view};
 ghost use Rattle.dsa_scenario.specs.declared.actions.Action.{Action};
 ghost use Rattle.dsa_conform.specs.Seen.{Seen, seen_as};
@@ -19,7 +19,8 @@ use std::mem;
 
 // Whether the device is alike one of those that are followed.
 fn is_among(ways: &[Way], way: &Way) -> bool
-    ensures { result ≡ true → IsAmong way.now.device ways.now }
+    ensures among { result ≡ true → IsAmong way.now.device ways.now }
+    ensures none { result ≡ false → ¬ IsAmong way.now.device ways.now }
 {
     for other in ways {
         if is_alike(&way.device, &other.device) {

@@ -1,7 +1,8 @@
 -- Numbers that differ in each place, of which reasons are made.
-use Rattle.std.specs.Prelude.{true, [], ◌∷◌, None}
+use Rattle.std.specs.Prelude.{◌≡◌, ℕ, true, [], ◌∷◌, None}
 use Rattle.dsa_store.specs.Content.{HeldEntry}
 use Rattle.dsa_buffers.specs.{Buffers.{Buffers}, declared.want.BufferWant.{BufferWant}}
+use Rattle.dsa_engines.specs.declared.reasons.StartReason.{StartReason, TheVariants.{Fence}}
 use Rattle.dsa_worked.specs.{Setup.{drain, held_entry}, Lawful.{with_buffers}}
 
 -- a Drain in progress, with the name of the batch of two
@@ -19,3 +20,12 @@ want_in_two_groups = record { group = 1; asked = 4; used = 6; allowed = 7; buffe
 -- a want of group 1, each other number of which is the number of no group
 abbrev pub unlike_want : BufferWant
 unlike_want = record { group = 1; asked = 4; used = 5; allowed = 6; buffers = 7; in_use = 8; kept = 9 }
+
+-- no other block is told as this one is
+abbrev pub IsToldAlone : {Block Reason : Type 0} → (Block → Reason) → Block → Type 0
+IsToldAlone {Block} told block = (other : Block) → told other ≡ told block → other ≡ block
+
+-- whatever block is told as a fence, its member waits for the entry of this name
+abbrev pub FencesWaitFor : {Block : Type 0} → (Block → StartReason) → ℕ → Type 0
+FencesWaitFor {Block} told name = (block : Block) (member waits_for : ℕ)
+    → told block ≡ Fence member waits_for → waits_for ≡ name

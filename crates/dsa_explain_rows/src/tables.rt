@@ -26,7 +26,7 @@ ghost use Rattle.dsa_worked.specs.Lawful.{batch_three, member_of_three, note_of_
 ghost use Rattle.dsa_worked.specs.Setup.{no_op, row};
 ghost use Rattle.dsa_worked.specs.Uneven.{many_engines, many_queues, of_these, small_queue};
 ghost use Rattle.dsa_explain_rows.specs.After.{of_three_groups};
-ghost use Rattle.dsa_explain_rows.specs.Tables.{drain_three, two_groups, want_in_two_groups, unlike_want};
+ghost use Rattle.dsa_explain_rows.specs.Tables.{drain_three, two_groups, want_in_two_groups, unlike_want, FencesWaitFor, IsToldAlone};
 
 /// ENQCMD is answered Retry, and MOVDIR64B is dropped.
 pub fn refusals()
@@ -54,6 +54,15 @@ pub fn starts()
         ≡ start.NoGroup }
     ensures group { told_as (work_on_batch None [] []) two_groups 0 (block_of_group 4 (Some 1))
         ≡ start.NoBuffers want_in_two_groups }
+{}
+
+/// No block but that of an engine of no group is told as that, and each fence is told with the
+/// first member, whatever member it is.
+pub fn blocks()
+    ensures no_group_alone { IsToldAlone (told_as (work_on_batch None [] []) two_groups 0)
+        (block_of_group 4 None) }
+    ensures first_member { FencesWaitFor
+        (told_as (work_on_batch None [] (member_of_three true ∷ [])) two_groups 0) 5 }
 {}
 
 /// What keeps an engine from taking a front: read buffers that do not fit, a batch beside a batch,
@@ -100,6 +109,7 @@ pub fn ends()
 
 /// A store with a list or a cell too many is not the device's, and a cell is at the list whose
 /// number it bears.
+#[tactic(auto, unfolding(dsa_store::specs::Content::held_count))]
 pub fn stores()
     ensures list_too_many { is_store_of many_queues 23 (replicate 10 []) ≡ false }
     ensures cell_too_many { is_store_of many_queues 24 (replicate 9 []) ≡ false }

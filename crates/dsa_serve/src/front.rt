@@ -1,6 +1,6 @@
 //! The first line of an input.
 
-ghost use Rattle.std.specs.Prelude.{◌≡◌, ◌⊎◌, ◌<◌, ◌≤◌, ◌+◌, ◌++◌, true, false, ℕ, List, Option, length, take, drop, vec_len, IfOk, IfErr};
+ghost use Rattle.std.specs.Prelude.{◌≡◌, ◌⊎◌, ◌<◌, ◌≤◌, ◌+◌, ◌++◌, true, false, ℕ, List, Option, length, take, drop, vec_len, IfOk, IfErr, IsErrOf};
 ghost use Rattle.std.specs.Io.KnownBytes.{Consumes, IsAtEnd};
 ghost use Rattle.dsa_scenario.specs.declared.faults.ScenarioFault.{ScenarioFault};
 ghost use Rattle.dsa_serve.specs.Input.{IsLine, IsFront};
@@ -31,11 +31,12 @@ fn cut(alloc: Global, mut first: Vec<u8>, piece: &[u8], at: usize) -> Result<Fro
     ensures fits { IfOk result (λ front. vec_len front.first ≤ MAX_LINE) }
     ensures faults { IfErr result (λ e. (e ≡ ScenarioFault.OutOfMemory)
         ⊎ ((e ≡ ScenarioFault.TooLong) × (MAX_LINE < length first.items + at))) }
+    ensures long { MAX_LINE < length first.items + at → IsErrOf result ScenarioFault.TooLong }
 {
-    first.extend_from_slice(&piece[..at])?;
-    if first.len() > MAX_LINE {
+    if first.len() + at > MAX_LINE {
         return Err(ScenarioFault::TooLong);
     }
+    first.extend_from_slice(&piece[..at])?;
     let behind = Vec::from_slice(alloc, &piece[at + 1..])?;
     Ok(Front {
         first,

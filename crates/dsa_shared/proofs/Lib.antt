@@ -3,3 +3,4 @@ pub mod Sums
 pub mod Steps
 pub mod Mismatches
 pub mod Fresh
+pub mod Agrees

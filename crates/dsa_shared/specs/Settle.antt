@@ -1,6 +1,6 @@
 -- What settling finds.
-use Rattle.std.specs.Prelude.{◌≡◌, ℕ, ◌+◌, ◌<◌, ◌==◌, List, All, count_by, sum_by, Option, Some, IsSome, Contains}
-use Rattle.std.specs.Prelude.{◌⊎◌}
+use Rattle.std.specs.Prelude.{◌≡◌, ℕ, ◌+◌, ◌<◌, ◌==◌, List, All, HoldsAt, length, take, slice_index_or, count_by}
+use Rattle.std.specs.Prelude.{◌⊎◌, sum_by, Option, Some, IsSome, Contains}
 use Rattle.std.specs.Option.{option_map_or, IsSomeAnd}
 use Rattle.dsa_book.specs.{declared.event.{Step.{Step}, Actor.{Actor, TheVariants.{Admin}}}, Totals.{steps_of_actor}}
 use Rattle.dsa_shared.specs.Compare.{DiffersFirstAt}
@@ -13,6 +13,13 @@ HasEach number n seats = All (λ s. number s < n) seats × ((k : ℕ) → k < n 
 -- the receipts of each seat are its actor's steps of the history
 abbrev pub AllMatch : {T : Type 0} → (T → Actor) → (T → List Step) → List Step → List T → Type 0
 AllMatch actor receipts h seats = All (λ s. receipts s ≡ steps_of_actor h (actor s)) seats
+
+-- the seats stand in the order of their numbers, and as many receipts of each as its place says are its actor's
+-- steps of the history
+abbrev pub AgreeSoFar : {T : Type 0} → (T → ℕ) → (T → Actor) → (T → List Step) → List Step → List T → List ℕ → Type 0
+AgreeSoFar number actor receipts h seats places =
+    (k : ℕ) → k < length seats → HoldsAt (λ s. (number s ≡ k)
+    × (take (slice_index_or places k 0) (receipts s) ≡ steps_of_actor h (actor s))) seats k
 
 -- some seat's receipts differ from its steps, first at i, and those of each seat of a lower number do not
 abbrev pub FirstMismatch : {T : Type 0} → (T → ℕ) → (T → Actor) → (T → List Step) → List Step → List T → ℕ → Type 0

@@ -13,6 +13,7 @@ ghost use Rattle.dsa_shared.specs.Seat.{with_receipt, with_step};
 
 mod checks;
 mod kept;
+mod walk;
 
 use crate::blanks::Sharing;
 use crate::seats::{AdminSeat, ClientSeat, EngineSeat};

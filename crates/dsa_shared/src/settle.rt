@@ -10,7 +10,7 @@ ghost use Rattle.dsa_shared.specs.Settle.{IsComplete, Match, IsFirstMismatch, ov
 ghost use Rattle.dsa_shared.specs.Totals.{totals_of, AreSums, Balance};
 
 use crate::blanks::Sharing;
-use crate::counts::{accepted_in, done_in, fetched_in, lost_in, retried_in};
+use crate::counts::add;
 use crate::device::SharedDevice;
 use crate::locked::{Locked, check};
 use crate::seats::{AdminSeat, NumberedSeat, Role, Seats};
@@ -158,15 +158,19 @@ fn count(history: &[Step], held: u32) -> Totals
     requires { length history.now ≤ 2 ^ 20 }
     ensures { result ≡ totals_of history.now held }
 {
-    Totals {
-        accepted: accepted_in(history),
-        fetched: fetched_in(history),
-        retried: retried_in(history),
-        done: done_in(history),
-        lost: lost_in(history),
+    let mut totals = Totals {
+        accepted: 0,
+        fetched: 0,
+        retried: 0,
+        done: 0,
+        lost: 0,
         held: u64::from(held),
         steps: history.len() as u64,
+    };
+    for step in history {
+        add(&mut totals, step);
     }
+    totals
 }
 
 // The seats together have as many receipts as the ledger has steps.

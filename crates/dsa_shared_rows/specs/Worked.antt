@@ -1,27 +1,28 @@
 -- Steps, seats, devices and totals of which the rows speak.
 use Rattle.std.proofs.Common.{arith, refl}
 use denote.RawPtr.{null_ptr}
-use Rattle.std.specs.Prelude.{ℕ, ◌≤◌, List, [], ◌∷◌, ◌++◌, length, replicate, Option, Some, None}
+use Rattle.std.specs.Prelude.{ℕ, ◌≤◌, List, [], ◌∷◌, ◌++◌, length, replicate, Option, None}
 use Rattle.std.specs.declared.{alloc.Global.{Global}, vec.Vec.{Vec}}
 use Rattle.dsa_desc.specs.declared.{Descriptor.{Descriptor}, Outcome.TheVariants.{Success, PageFault}}
-use Rattle.dsa_regs.specs.declared.Command.TheVariants.{DrainAll}
-use Rattle.dsa_regs.specs.Worked.{caps}
+use Rattle.dsa_regs.specs.declared.{Caps.{Caps}, Command.TheVariants.{DrainAll, EnableDevice, EnableWq}}
+use Rattle.dsa_regs.specs.Worked.{caps, dedicated_queue, first_group}
 use Rattle.dsa_book.specs.State.{Work, opening}
 use Rattle.dsa_book.specs.declared.answer.Cause.TheVariants.{AtLimit}
 use Rattle.dsa_book.specs.declared.answer.FetchAnswer.TheVariants.{Fetched}
 use Rattle.dsa_book.specs.declared.answer.FinishAnswer.{FinishAnswer, TheVariants.{Done}}
 use Rattle.dsa_book.specs.declared.answer.{IssueAnswer.{IssueAnswer, TheVariants.{Ended}}, PollAnswer.{PollAnswer}}
-use Rattle.dsa_book.specs.declared.answer.Reply.TheVariants.{Submit, Dispatch, Fetch, Finish, Issue, Poll}
+use Rattle.dsa_book.specs.declared.answer.Reply.TheVariants.{Submit, Dispatch, Fetch, Start, Finish, Issue, Poll, Write}
 use Rattle.dsa_book.specs.declared.answer.SubmitAnswer.{SubmitAnswer, TheVariants.{Accepted, Retry}}
-use Rattle.dsa_book.specs.declared.answer.Ticket.{Ticket}
-use Rattle.dsa_book.specs.declared.event.Event.TheVariants.{Submit, Dispatch, Fetch, Finish, Issue, Poll}
+use Rattle.dsa_book.specs.declared.answer.{Ticket.{Ticket}, WriteAnswer.TheVariants.{Written}}
+use Rattle.dsa_book.specs.declared.event.Event.TheVariants.{Submit, Dispatch, Fetch, Start, Finish, Issue, Poll}
+use Rattle.dsa_book.specs.declared.event.Event.TheVariants.{WriteQueue, WriteGroup}
 use Rattle.dsa_book.specs.declared.event.{Kind.TheVariants.{Movdir64b}, Portal.TheVariants.{Limited}, Step.{Step}}
 use Rattle.dsa_book.specs.declared.fate.{Fate.{Fate, TheVariants.{Completed}}, FateRow.{FateRow}}
 use Rattle.dsa_shared.specs.{Seat.{SeatLog}, declared.settle.Totals.{Totals}}
 use Rattle.dsa_workers.specs.declared.scripts.{ClientStep.{ClientStep}, EngineScript.{EngineScript}, Stint.{Stint}}
 use Rattle.dsa_workers.specs.declared.scripts.WorkerEnd.{WorkerEnd, TheVariants.{ScriptDone, TurnsOut}}
 use Rattle.dsa_workers.specs.declared.{scripts.RunReport.{RunReport}, lanes.Lane.{Lane}}
-use Rattle.dsa_book.specs.declared.answer.DispatchAnswer.{DispatchAnswer}
+use Rattle.dsa_book.specs.declared.answer.{DispatchAnswer.{DispatchAnswer}, StartAnswer.{StartAnswer}}
 
 -- ---- steps
 
@@ -47,12 +48,15 @@ taken_of_client client = of_client client (Accepted (ticket_named_so 6))
 abbrev pub again_of_client : ℕ → Step
 again_of_client client = of_client client (Retry AtLimit)
 
--- this engine fetches a member, and ends an entry
+-- this engine fetches a member, starts one, and ends an entry
 abbrev pub fetch_of_engine : ℕ → Step
 fetch_of_engine engine = record {
   event = Fetch engine plain_descriptor;
   reply = Fetch (Fetched (ticket_named_so 7));
 }
+
+abbrev pub started_by_engine : ℕ → StartAnswer → Step
+started_by_engine engine answer = record { event = Start engine; reply = Start answer }
 
 abbrev pub end_of_engine : ℕ → FinishAnswer → Step
 end_of_engine engine answer = record {
@@ -132,6 +136,18 @@ with_fates rows = record (opening caps).work { fates = rows ++ replicate 4 (fate
 
 -- ---- workers
 
+-- a device with a queue 6 and an engine 3
+abbrev pub wide_device : Caps
+wide_device = record caps { queues = 7; groups = 1; engines = 4 }
+
+-- its history once queue 6 is enabled, from which engine 3 takes
+abbrev pub wide_set_up : List Step
+wide_set_up =
+    record { event = WriteQueue 6 dedicated_queue; reply = Write Written } ∷
+    record { event = WriteGroup 0 (record first_group { queues = 64; engines = 8 }); reply = Write Written } ∷
+    record { event = Issue EnableDevice; reply = Issue (Ended 0) } ∷
+    record { event = Issue (EnableWq 6); reply = Issue (Ended 0) } ∷ []
+
 -- a step of a script, to this queue
 abbrev pub script_step : ℕ → ClientStep
 script_step queue = record { queue = queue; portal = Limited; kind = Movdir64b; bytes = replicate 64 0 }
@@ -142,6 +158,10 @@ script_call client queue answer = record {
   event = Submit client queue Limited Movdir64b plain_descriptor;
   reply = Submit answer;
 }
+
+-- the history once client 3 has an entry in that queue
+abbrev pub wide_with_entry : List Step
+wide_with_entry = wide_set_up ++ script_call 3 6 (Accepted (ticket_named_so 0)) ∷ []
 
 -- an engine's script
 abbrev pub member_script : EngineScript

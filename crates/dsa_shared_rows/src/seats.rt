@@ -14,9 +14,9 @@ ghost use Rattle.dsa_device.specs.Running.{running_at_first};
 ghost use Rattle.dsa_shared.specs.Compare.{DiffersFirstAt};
 ghost use Rattle.dsa_shared.specs.Locked.{IsAnsweredFor, IsReadOf, IsUnderLock};
 ghost use Rattle.dsa_shared.specs.Seat.{client_of, engine_of_seat, fresh, no_caps, number_of_seat, receipts_of, with_receipt, AllFresh};
-ghost use Rattle.dsa_shared.specs.Settle.{over_seats, AllMatch, FirstMismatch, HasEach, IsComplete, IsFirstMismatch, Match};
+ghost use Rattle.dsa_shared.specs.Settle.{over_seats, AgreeSoFar, AllMatch, FirstMismatch, HasEach, IsComplete, IsFirstMismatch, Match};
 ghost use Rattle.dsa_shared.specs.Totals.{totals_of, AreSums, Balance};
-ghost use Rattle.dsa_shared_rows.specs.Worked.{again_of_client, even_totals, fate_line, lacking_clients, lacking_engines, of_all_seats, of_client, one_issue, question, seat_of, taken_of_client, two_clients, two_engines, uneven_clients, uneven_engines, uneven_history, uneven_totals, with_fates};
+ghost use Rattle.dsa_shared_rows.specs.Worked.{again_of_client, end_of_engine, even_totals, fate_line, fetch_of_engine, lacking_clients, lacking_engines, of_all_seats, of_client, one_issue, question, seat_of, taken_of_client, two_clients, two_engines, uneven_clients, uneven_engines, uneven_history, uneven_totals, with_fates};
 
 /// A seat at first and after a step, whose it is, and no capabilities.
 pub fn values_of_seats()
@@ -108,6 +108,21 @@ pub fn seats_that_match()
     ensures not_engines { ¬ Match of_all_seats two_clients lacking_engines (Some one_issue) }
     ensures not_admin { ¬ Match of_all_seats two_clients two_engines (Some []) }
     ensures no_admin { ¬ Match of_all_seats two_clients two_engines None }
+{}
+
+/// Seats in the order of their numbers, and how many receipts of each a walk over a history has
+/// come to.
+pub fn seats_so_far()
+    ensures at_first { AgreeSoFar number_of_seat engine_of_seat receipts_of [] two_engines [] }
+    ensures on_the_way { AgreeSoFar number_of_seat engine_of_seat receipts_of
+        (fetch_of_engine 0 ∷ end_of_engine 1 (Done 1) ∷ []) two_engines (1 ∷ 1 ∷ []) }
+    ensures one_too_few { ¬ AgreeSoFar number_of_seat engine_of_seat receipts_of
+        (fetch_of_engine 0 ∷ []) two_engines [] }
+    ensures one_too_many { ¬ AgreeSoFar number_of_seat engine_of_seat receipts_of
+        [] two_engines (0 ∷ 1 ∷ []) }
+    ensures not_its_own { ¬ AgreeSoFar number_of_seat client_of receipts_of
+        (fetch_of_engine 0 ∷ []) two_engines (1 ∷ 0 ∷ []) }
+    ensures not_in_order { ¬ AgreeSoFar number_of_seat client_of receipts_of [] two_clients [] }
 {}
 
 /// The first of some seats whose receipts differ from its steps, and where they do.

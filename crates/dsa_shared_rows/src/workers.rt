@@ -15,12 +15,10 @@ ghost use Rattle.dsa_book.specs.declared.answer.Reply.TheVariants as reply;
 ghost use Rattle.dsa_book.specs.declared.answer.StartAnswer.TheVariants as start;
 ghost use Rattle.dsa_book.specs.declared.answer.SubmitAnswer.TheVariants as submit;
 ghost use Rattle.dsa_book.specs.declared.event.Event.TheVariants as event;
-ghost use Rattle.dsa_book.specs.declared.event.Kind.TheVariants.{Movdir64b};
-ghost use Rattle.dsa_book.specs.declared.event.Portal.TheVariants.{Limited};
-ghost use Rattle.dsa_workers.specs.Calls.{after_turn, call_of, calls_of, engine_event, found_full, goes_on, is_answer, is_history_full, is_worker_waiting, steps_done, tickets_after, tickets_of, HasRoomForTickets, InOrder, IsCallAnswered, NextCommand, NextSubmission, NextTurn};
+ghost use Rattle.dsa_workers.specs.Calls.{after_turn, call_of, calls_of, engine_event, found_full, goes_on, is_history_full, is_worker_waiting, steps_done, tickets_after, tickets_of, HasRoomForTickets, InOrder, IsCallAnswered, NextCommand, NextSubmission, NextTurn};
 ghost use Rattle.dsa_workers.specs.Workers.{receipts_in, stint_at, Grows, IsFitting, ReportsClients, ReportsEngines, RunsAdmin, RunsClient, RunsClients, RunsEngine, RunsEngines, RunsScript};
 ghost use Rattle.dsa_workers.specs.declared.scripts.WorkerEnd.TheVariants.{HistoryFull, ScriptDone, TurnsOut};
-ghost use Rattle.dsa_shared_rows.specs.Worked.{again_of_client, asked_first, drain_of_all, end_of_engine, fetch_of_engine, member_fetched, member_script, of_client, plain_descriptor, question, report_of, script_call, lane_of, script_vector, script_step, seat_of, stint_of, taken_of_client, ticket_named_so};
+ghost use Rattle.dsa_shared_rows.specs.Worked.{again_of_client, asked_first, drain_of_all, end_of_engine, fetch_of_engine, member_fetched, member_script, of_client, question, report_of, script_call, lane_of, script_vector, script_step, seat_of, started_by_engine, stint_of, taken_of_client, ticket_named_so, wide_device};
 
 /// Replies of a history without room, and others.
 pub fn full_histories()
@@ -47,25 +45,36 @@ pub fn workers_that_go_on()
         ≡ false ∷ false ∷ false ∷ false ∷ false ∷ false ∷ [] }
 {}
 
-/// Replies that answer an event, and others.
+/// Calls that are answered by a device whose history has no room, and calls that are not answered
+/// so, as by another kind of reply.
 pub fn calls_that_are_answered()
-    ensures submission { map (is_answer (event.Submit 0 4 Limited Movdir64b plain_descriptor))
-        (reply.Submit submit.Full ∷ reply.Dispatch dispatch.Full ∷ []) ≡ true ∷ false ∷ [] }
-    ensures dispatched { map (is_answer (event.Dispatch 3))
-        (reply.Dispatch dispatch.Full ∷ reply.Fetch fetch.Full ∷ []) ≡ true ∷ false ∷ [] }
-    ensures fetched { map (is_answer (event.Fetch 3 plain_descriptor))
-        (reply.Fetch fetch.Full ∷ reply.Start start.Full ∷ []) ≡ true ∷ false ∷ [] }
-    ensures started { map (is_answer (event.Start 3))
-        (reply.Start start.Full ∷ reply.Finish finish.Full ∷ []) ≡ true ∷ false ∷ [] }
-    ensures finished { map (is_answer (event.Finish 3 (ticket_named_so 5) PageFault))
-        (reply.Finish finish.Full ∷ reply.Issue issue.Full ∷ []) ≡ true ∷ false ∷ [] }
-    ensures issued { map (is_answer (event.Issue DrainAll))
-        (reply.Issue issue.Full ∷ reply.Poll poll.Full ∷ []) ≡ true ∷ false ∷ [] }
-    ensures polled { map (is_answer event.Poll)
-        (reply.Poll poll.Full ∷ reply.Submit submit.Full ∷ []) ≡ true ∷ false ∷ [] }
-    ensures answered { IsCallAnswered (question poll.Full) }
-    ensures not_answered { ¬ IsCallAnswered (record (question poll.Full)
-        { event = event.Dispatch 3 }) }
+    ensures submission { IsCallAnswered wide_device 0 [] (of_client 0 submit.Full)
+        × ¬ IsCallAnswered wide_device 0 []
+        (record (of_client 0 submit.Full) { reply = reply.Dispatch dispatch.Full }) }
+    ensures dispatched { IsCallAnswered wide_device 0 [] (asked_first 3 dispatch.Full)
+        × ¬ IsCallAnswered wide_device 0 []
+        (record (asked_first 3 dispatch.Full) { reply = reply.Fetch fetch.Full }) }
+    ensures fetched { IsCallAnswered wide_device 0 []
+        (record (fetch_of_engine 3) { reply = reply.Fetch fetch.Full })
+        × ¬ IsCallAnswered wide_device 0 []
+        (record (fetch_of_engine 3) { reply = reply.Start start.Full }) }
+    ensures started { IsCallAnswered wide_device 0 [] (started_by_engine 3 start.Full)
+        × ¬ IsCallAnswered wide_device 0 []
+        (record (started_by_engine 3 start.Full) { reply = reply.Finish finish.Full }) }
+    ensures finished { IsCallAnswered wide_device 0 [] (end_of_engine 3 finish.Full)
+        × ¬ IsCallAnswered wide_device 0 []
+        (record (end_of_engine 3 finish.Full) { reply = reply.Issue issue.Full }) }
+    ensures issued { IsCallAnswered wide_device 0 [] (drain_of_all issue.Full)
+        × ¬ IsCallAnswered wide_device 0 []
+        (record (drain_of_all issue.Full) { reply = reply.Poll poll.Full }) }
+    ensures polled { IsCallAnswered wide_device 0 [] (question poll.Full)
+        × ¬ IsCallAnswered wide_device 0 []
+        (record (question poll.Full) { reply = reply.Submit submit.Full }) }
+    ensures not_answered { ¬ IsCallAnswered wide_device 0 []
+        (record (question poll.Full) { event = event.Dispatch 3 }) }
+    ensures no_room { ¬ IsCallAnswered wide_device 0 [] (question poll.Nothing) }
+    ensures older { ¬ IsCallAnswered wide_device 0 (question poll.Finished ∷ [])
+        (question poll.Full) }
 {}
 
 /// How many steps of a script some calls did, how many found no room, and whether the last waits.
@@ -81,24 +90,37 @@ pub fn calls_counted()
 
 /// The submission that comes next.
 pub fn next_submissions()
-    ensures second { NextSubmission 3 (script_step 6 ∷ script_step 7 ∷ [])
-        (taken_of_client 3 ∷ again_of_client 3 ∷ []) (script_call 3 7 submit.Full) }
-    ensures first_again { ¬ NextSubmission 3 (script_step 6 ∷ script_step 7 ∷ [])
-        (taken_of_client 3 ∷ again_of_client 3 ∷ []) (script_call 3 6 submit.Full) }
-    ensures not_answered { ¬ NextSubmission 3 (script_step 6 ∷ script_step 7 ∷ [])
-        (taken_of_client 3 ∷ again_of_client 3 ∷ [])
+    ensures second { NextSubmission wide_device 4 (seat_of 3 [])
+        (script_step 6 ∷ script_step 7 ∷ []) (taken_of_client 3 ∷ again_of_client 3 ∷ [])
+        (script_call 3 7 submit.Full) }
+    ensures first_again { ¬ NextSubmission wide_device 4 (seat_of 3 [])
+        (script_step 6 ∷ script_step 7 ∷ []) (taken_of_client 3 ∷ again_of_client 3 ∷ [])
+        (script_call 3 6 submit.Full) }
+    ensures not_answered { ¬ NextSubmission wide_device 4 (seat_of 3 [])
+        (script_step 6 ∷ script_step 7 ∷ []) (taken_of_client 3 ∷ again_of_client 3 ∷ [])
         (record (script_call 3 7 submit.Full) { reply = reply.Poll poll.Full }) }
+    ensures older_than_calls { ¬ NextSubmission wide_device 1 (seat_of 3 [])
+        (script_step 6 ∷ script_step 7 ∷ []) (taken_of_client 3 ∷ again_of_client 3 ∷ [])
+        (script_call 3 7 submit.Full) }
+    ensures older_than_the_seat { ¬ NextSubmission wide_device 0
+        (seat_of 3 (again_of_client 3 ∷ [])) (script_step 6 ∷ []) []
+        (script_call 3 6 submit.Full) }
 {}
 
 /// The call of the administrator that comes next.
 pub fn next_commands()
-    ensures first { NextCommand (DrainAll ∷ DisableDevice ∷ []) [] (drain_of_all issue.Active) }
-    ensures asked { NextCommand (DrainAll ∷ DisableDevice ∷ []) (drain_of_all issue.Active ∷ [])
-        (question poll.Active) }
-    ensures not_asked { ¬ NextCommand (DrainAll ∷ DisableDevice ∷ [])
+    ensures first { NextCommand wide_device 9 [] (DrainAll ∷ DisableDevice ∷ []) []
+        (drain_of_all issue.Active) }
+    ensures asked { NextCommand wide_device 9 [] (DrainAll ∷ DisableDevice ∷ [])
+        (drain_of_all issue.Active ∷ []) (question poll.Active) }
+    ensures not_asked { ¬ NextCommand wide_device 9 [] (DrainAll ∷ DisableDevice ∷ [])
         (drain_of_all issue.Active ∷ []) (drain_of_all issue.Active) }
-    ensures not_answered { ¬ NextCommand (DrainAll ∷ DisableDevice ∷ []) []
+    ensures not_answered { ¬ NextCommand wide_device 9 [] (DrainAll ∷ DisableDevice ∷ []) []
         (record (drain_of_all issue.Active) { reply = reply.Poll poll.Full }) }
+    ensures older_than_calls { ¬ NextCommand wide_device 0 [] (DrainAll ∷ [])
+        (drain_of_all issue.Active ∷ []) (question poll.Full) }
+    ensures older_than_the_seat { ¬ NextCommand wide_device 0 (question poll.Finished ∷ [])
+        (DrainAll ∷ []) [] (drain_of_all issue.Full) }
 {}
 
 /// Tickets with room for more, and none of them.
@@ -156,11 +178,18 @@ pub fn turns_of_engines()
 
 /// The turn of an engine that comes next.
 pub fn next_turns()
-    ensures first { NextTurn 3 member_script [] (Some (asked_first 3 dispatch.Idle)) }
-    ensures no_call { NextTurn 3 member_script (None ∷ None ∷ None ∷ []) None }
-    ensures not_answered { ¬ NextTurn 3 member_script []
+    ensures first { NextTurn wide_device 9 (seat_of 3 []) member_script []
+        (Some (asked_first 3 dispatch.Idle)) }
+    ensures no_call { NextTurn wide_device 9 (seat_of 3 []) member_script
+        (None ∷ None ∷ None ∷ []) None }
+    ensures not_answered { ¬ NextTurn wide_device 9 (seat_of 3 []) member_script []
         (Some (record (asked_first 3 dispatch.Idle) { reply = reply.Poll poll.Full })) }
-    ensures other_event { ¬ NextTurn 3 member_script [] (Some (question poll.Full)) }
+    ensures other_event { ¬ NextTurn wide_device 9 (seat_of 3 []) member_script []
+        (Some (question poll.Full)) }
+    ensures older_than_calls { ¬ NextTurn wide_device 0 (seat_of 3 []) member_script
+        (Some (member_fetched 3) ∷ None ∷ None ∷ None ∷ []) (Some (asked_first 3 dispatch.Full)) }
+    ensures older_than_the_seat { ¬ NextTurn wide_device 0 (seat_of 3 (member_fetched 3 ∷ []))
+        member_script [] (Some (asked_first 3 dispatch.Full)) }
 {}
 
 /// Turns that come in order, and turns that do not.
@@ -219,35 +248,47 @@ pub fn scripts_not_run()
 
 /// What a client's worker does.
 pub fn clients_run()
-    ensures done { RunsClient (script_step 6 ∷ []) 1 (seat_of 3 [])
-        (seat_of 3 (script_call 3 6 (submit.Accepted (ticket_named_so 1)) ∷ []))
+    ensures done { RunsClient wide_device 9 (script_step 6 ∷ []) 1 (seat_of 3 [])
+        (seat_of 3 (script_call 3 6 (submit.Accepted (ticket_named_so 0)) ∷ []))
         (stint_of 1 ScriptDone) }
-    ensures no_turn { RunsClient (script_step 6 ∷ []) 0 (seat_of 3 []) (seat_of 3 [])
+    ensures no_turn { RunsClient wide_device 9 (script_step 6 ∷ []) 0 (seat_of 3 []) (seat_of 3 [])
         (stint_of 0 TurnsOut) }
-    ensures other_seat { ¬ RunsClient [] 0 (seat_of 3 []) (seat_of 4 []) (stint_of 0 ScriptDone) }
+    ensures other_seat { ¬ RunsClient wide_device 9 [] 0 (seat_of 3 []) (seat_of 4 [])
+        (stint_of 0 ScriptDone) }
 {}
 
 /// What an engine's worker does.
 pub fn engines_run()
-    ensures out_of_turns { RunsEngine member_script 1 (seat_of 3 (fetch_of_engine 3 ∷ []))
+    ensures out_of_turns { RunsEngine wide_device 9 member_script 1
+        (seat_of 3 (fetch_of_engine 3 ∷ []))
         (seat_of 3 (fetch_of_engine 3
-        ∷ asked_first 3 (dispatch.Taken (ticket_named_so 3) 6) ∷ [])) (stint_of 1 TurnsOut) }
-    ensures full { RunsEngine member_script 2 (seat_of 3 []) (seat_of 3 [])
+        ∷ asked_first 3 (dispatch.Taken (ticket_named_so 0) 6) ∷ [])) (stint_of 1 TurnsOut) }
+    ensures full { RunsEngine wide_device 0 member_script 2 (seat_of 3 []) (seat_of 3 [])
         (stint_of 1 HistoryFull) }
-    ensures other_seat { ¬ RunsEngine member_script 0 (seat_of 3 []) (seat_of 4 [])
+    ensures other_seat { ¬ RunsEngine wide_device 9 member_script 0 (seat_of 3 []) (seat_of 4 [])
         (stint_of 0 TurnsOut) }
-    ensures scripted { ¬ RunsEngine member_script 1 (seat_of 3 []) (seat_of 3 [])
+    ensures scripted { ¬ RunsEngine wide_device 9 member_script 1 (seat_of 3 []) (seat_of 3 [])
         (stint_of 0 ScriptDone) }
-    ensures within { ¬ RunsEngine member_script 0 (seat_of 3 []) (seat_of 3 [])
+    ensures within { ¬ RunsEngine wide_device 9 member_script 0 (seat_of 3 []) (seat_of 3 [])
         (stint_of 1 HistoryFull) }
-    ensures turns_left { ¬ RunsEngine member_script 1 (seat_of 3 []) (seat_of 3 [])
+    ensures turns_left { ¬ RunsEngine wide_device 9 member_script 1 (seat_of 3 []) (seat_of 3 [])
         (stint_of 0 TurnsOut) }
-    ensures no_turn { ¬ RunsEngine member_script 0 (seat_of 3 []) (seat_of 3 [])
+    ensures no_turn { ¬ RunsEngine wide_device 9 member_script 0 (seat_of 3 []) (seat_of 3 [])
         (stint_of 0 HistoryFull) }
-    ensures after_full { ¬ RunsEngine member_script 2 (seat_of 3 [])
+    ensures after_full { ¬ RunsEngine wide_device 9 member_script 2 (seat_of 3 [])
         (seat_of 3 (member_fetched 3 ∷ [])) (stint_of 2 HistoryFull) }
-    ensures not_its_step { ¬ RunsEngine member_script 1 (seat_of 3 [])
+    ensures not_its_step { ¬ RunsEngine wide_device 9 member_script 1 (seat_of 3 [])
         (seat_of 3 (taken_of_client 0 ∷ [])) (stint_of 1 TurnsOut) }
+{}
+
+/// Workers that say of calls what no device answers: none has so large a capacity, and where the
+/// history has no room, each answer is Full.
+pub fn calls_that_no_device_answers()
+    ensures client { ¬ RunsClient wide_device 1048577 (script_step 6 ∷ []) 1 (seat_of 3 [])
+        (seat_of 3 []) (stint_of 1 HistoryFull) }
+    ensures engine { ¬ RunsEngine wide_device 0 member_script 1 (seat_of 3 []) (seat_of 3 [])
+        (stint_of 1 TurnsOut) }
+    ensures admin { ¬ RunsAdmin wide_device 0 (DrainAll ∷ []) 1 [] [] (stint_of 1 ScriptDone) }
 {}
 
 /// What a report says of a worker, and of one that it has no line for.
@@ -260,19 +301,23 @@ pub fn reports()
 
 /// What the workers of some seats do.
 pub fn workers_of_seats()
-    ensures no_clients { (memory : Global) → ReportsClients [] 0 [] [] (report_of memory) }
-    ensures other_client { (memory : Global) → ¬ ReportsClients (script_vector memory ∷ []) 9
+    ensures no_clients { (memory : Global)
+        → ReportsClients wide_device 9 [] 0 [] [] (report_of memory) }
+    ensures other_client { (memory : Global)
+        → ¬ ReportsClients wide_device 9 (script_vector memory ∷ []) 9
         (seat_of 3 [] ∷ []) (seat_of 4 [] ∷ []) (report_of memory) }
-    ensures engines { (memory : Global) → ReportsEngines (member_script ∷ member_script ∷ []) 0 1
+    ensures engines { (memory : Global)
+        → ReportsEngines wide_device 9 (member_script ∷ member_script ∷ []) 0 1
         (seat_of 3 [] ∷ seat_of 4 [] ∷ []) (seat_of 3 [] ∷ seat_of 4 [] ∷ [])
         (report_of memory) }
-    ensures other_engine { (memory : Global) → ¬ ReportsEngines (member_script ∷ []) 0 1
+    ensures other_engine { (memory : Global)
+        → ¬ ReportsEngines wide_device 9 (member_script ∷ []) 0 1
         (seat_of 3 [] ∷ []) (seat_of 4 [] ∷ []) (report_of memory) }
-    ensures no_lanes { RunsClients {A = Global} [] 0 [] [] }
-    ensures other_lane { (memory : Global) → ¬ RunsClients {A = Global}
+    ensures no_lanes { RunsClients {A = Global} wide_device 9 [] 0 [] [] }
+    ensures other_lane { (memory : Global) → ¬ RunsClients {A = Global} wide_device 9
         (script_vector memory ∷ []) 9 (lane_of (seat_of 3 []) ∷ []) (lane_of (seat_of 4 []) ∷ []) }
-    ensures engine_lanes { RunsEngines {A = Global} (member_script ∷ []) 0
+    ensures engine_lanes { RunsEngines {A = Global} wide_device 9 (member_script ∷ []) 0
         (lane_of (seat_of 3 []) ∷ []) (lane_of (seat_of 3 []) ∷ []) }
-    ensures other_engine_lane { ¬ RunsEngines {A = Global} (member_script ∷ []) 0
+    ensures other_engine_lane { ¬ RunsEngines {A = Global} wide_device 9 (member_script ∷ []) 0
         (lane_of (seat_of 3 []) ∷ []) (lane_of (seat_of 4 []) ∷ []) }
 {}

@@ -8,17 +8,24 @@ use dsa_desc::Outcome;
 use dsa_device::Device;
 use dsa_fixtures::single::{CAPS, GROUP, QUEUE};
 use dsa_fixtures::{ENQCMD, MOVE, bytes_of};
-use dsa_regs::{Command, cell_count, check_caps, list_count};
+use dsa_regs::{Command, QueueConfig, cell_count, check_caps, list_count};
 use dsa_shared::{AdminSeat, ClientSeat, EngineSeat, SharedDevice, Sharing};
 use dsa_store::EntryStore;
 use dsa_workers::{Program, run_program};
 use std::alloc::Global;
 use std::sync::Wait;
 
-// Each client submits one Move; the engine works until all have ended.
+// The limited portal has room for one entry. The queue has room for all.
+const NARROW_QUEUE: QueueConfig = QueueConfig {
+    threshold: 1,
+    ..QUEUE
+};
+
+// Each client submits so many Moves; the engine ends so many of all.
 #[derive(Clone, Copy)]
 struct Moves {
-    clients: u16,
+    each: u16,
+    ended: u16,
 }
 
 impl Program for Moves {
@@ -28,7 +35,7 @@ impl Program for Moves {
         shared: &SharedDevice<S, L>,
         seat: &mut AdminSeat<L>,
     ) {
-        shared.write_queue(rt, seat, 0, QUEUE);
+        shared.write_queue(rt, seat, 0, NARROW_QUEUE);
         shared.write_group(rt, seat, 0, GROUP);
         shared.issue(rt, seat, Command::EnableDevice);
         shared.issue(rt, seat, Command::EnableWq(0));
@@ -41,10 +48,10 @@ impl Program for Moves {
         seat: &mut ClientSeat<L>,
     ) {
         let bytes = bytes_of(MOVE);
-        for _ in rt.forever() {
+        for _ in 0..self.each {
             let answer = shared.submit(rt, seat, 0, Portal::Limited, ENQCMD, &bytes);
-            if answer.zf(ENQCMD) == Some(false) {
-                return;
+            if answer.zf(ENQCMD) == Some(true) {
+                shared.submit(rt, seat, 0, Portal::Unlimited, ENQCMD, &bytes);
             }
         }
     }
@@ -55,7 +62,7 @@ impl Program for Moves {
         shared: &SharedDevice<S, L>,
         seat: &mut EngineSeat<L>,
     ) {
-        let mut left = self.clients;
+        let mut left = self.ended;
         for _ in rt.forever() {
             if left == 0 {
                 return;
@@ -82,8 +89,8 @@ fn device(alloc: Global) -> Result<Device<LinkedStore>> {
 
 fn main(rt: HostRuntime) -> Result<()> {
     let device = device(rt.alloc())?;
-    let moves = Moves { clients: 4 };
-    let Ok(settled) = run_program(&rt, rt.alloc(), device, moves.clients, &moves) else {
+    let moves = Moves { each: 1, ended: 11 };
+    let Ok(settled) = run_program(&rt, rt.alloc(), device, 12, &moves) else {
         bail!("not settled");
     };
     let totals = settled.totals;

@@ -231,6 +231,10 @@ SOME_OF = {
     ],
     "Cell": [{"0": it} for it in range(40)],
     "Global": [None],
+    "Block": [
+        Made("Nothing"), Made("Fence", (4,)), Made("Failed", (4, 2)), Made("Buffers", (0, 4)), Made("Buffers", (1, 4)),
+        Made("NoGroup"),
+    ],
     "Operation": [
         {"name": Part(now=[97]), "word": Part(now=[98]), "is_transfer": a, "reads": b, "is_for_batches": c}
         for a in (False, True) for b in (False, True) for c in (False, True)

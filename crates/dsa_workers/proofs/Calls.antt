@@ -7,7 +7,7 @@ use Rattle.std.proofs.lemmas.List.{length-append, Elements.{filter-append}}
 use Rattle.std.proofs.lemmas.List.Sums.{sum_by-append, sum_by_push, sum_by-le-sum_by, fold-append, length-filter}
 use Rattle.std.proofs.lemmas.List.Sums.{count_by-le-length}
 use Rattle.std.proofs.lemmas.List.Filters.{sum_by-filter_both}
-use Rattle.dsa_regs.specs.declared.Command.{Command}
+use Rattle.dsa_regs.specs.declared.{Caps.{Caps}, Command.{Command}}
 use Rattle.dsa_book.specs.declared.event.{Event.{Event, TheVariants.{Poll, Issue}}, Step.{Step}}
 use Rattle.dsa_book.specs.declared.answer.SubmitAnswer.TheVariants.{Accepted, Retry, Dropped, Full}
 use Rattle.dsa_book.specs.declared.answer.IssueAnswer.TheVariants.{Ended, Active, Refused, Full}
@@ -16,13 +16,13 @@ use Rattle.dsa_book.specs.declared.answer.Reply.{Reply}
 use Rattle.dsa_book.specs.declared.answer.Reply.TheVariants.{Submit, Dispatch, Fetch, Start, Finish, Issue, Poll}
 use Rattle.dsa_book.specs.declared.answer.Reply.TheVariants.{Write, Clear}
 use Rattle.dsa_book.specs.{Machine.{is_stored, history_after, stored_steps}, Totals.{total_accepted, is_accepted}}
-use Rattle.dsa_workers.specs.Calls.{InOrder, is_answer, is_history_full, goes_on, steps_done, found_full}
+use Rattle.dsa_workers.specs.Calls.{InOrder, IsCallAnswered, is_history_full, goes_on, steps_done, found_full}
 use Rattle.dsa_workers.specs.Calls.{is_worker_waiting, submission_of_client_step}
 use Rattle.dsa_workers.specs.Calls.{NextSubmission, NextCommand}
 use Rattle.dsa_workers.specs.Workers.{Grows, RunsScript, RunsClient, RunsAdmin}
 use Rattle.dsa_workers.specs.declared.scripts.{ClientStep.{ClientStep}, Stint.{Stint}}
 use Rattle.dsa_workers.specs.declared.scripts.WorkerEnd.TheVariants.{ScriptDone, TurnsOut, HistoryFull}
-use Rattle.dsa_shared.specs.Seat.{SeatLog}
+use Rattle.dsa_shared.specs.{Seat.{SeatLog}, Locked.{IsAnsweredFor}}
 
 -- ---- one more, in order
 
@@ -277,6 +277,15 @@ accepts_by old new calls is =
     let few = sum_by-le-sum_by f (λ (c : Step). cond (goes_on c.reply) 1 0) calls (λ x. accepted_goes x.reply) in
     omega (arith, all, parts, both, few)
 
+-- ---- what was answered
+
+-- a call that was answered to a seat with these receipts
+pub answered_so : (caps : Caps) (capacity : ℕ) (old mid calls : List Step) (call : Step)
+    → mid ≡ old ++ stored_steps calls → IsAnsweredFor caps capacity mid call.event call.reply
+    → IsCallAnswered caps capacity (old ++ stored_steps calls) call
+answered_so caps capacity old mid calls call is answer =
+    subst (λ (receipts : List Step). IsAnsweredFor caps capacity receipts call.event call.reply) is answer
+
 -- ---- clients
 
 pub client_next : (client mine : ℕ) (script : List ClientStep) (at : ℕ) (e : ClientStep) (calls : List Step)
@@ -288,10 +297,11 @@ client_next client mine script at e calls same through below d =
     ∙ ap (submission_of_client_step client) (get_or_default script at e d below
     ∙ ap (λ n. get_or script n d) (sym through))
 
-pub client_runs : (script : List ClientStep) (limit : ℕ) (old new : SeatLog) (stint : Stint) → new.number ≡ old.number
-    → RunsScript (NextSubmission old.number script) (length script) limit old.receipts new.receipts stint
-    → RunsClient script limit old new stint
-client_runs script limit old new stint number runs = record {
+pub client_runs : (caps : Caps) (capacity : ℕ) (script : List ClientStep) (limit : ℕ) (old new : SeatLog)
+    (stint : Stint) → new.number ≡ old.number
+    → RunsScript (NextSubmission caps capacity old script) (length script) limit old.receipts new.receipts stint
+    → RunsClient caps capacity script limit old new stint
+client_runs caps capacity script limit old new stint number runs = record {
   number = number;
   runs = runs;
   accepts = omega (arith, accepts_by old.receipts new.receipts runs.calls runs.receipts, runs.short);
@@ -300,13 +310,16 @@ client_runs script limit old new stint number runs = record {
 -- ---- the administrator
 
 -- the administrator so far: whether its last call left it with a command that waits
-pub record AsksSoFar (script : List Command) (old new : List Step) (turn at : ℕ) (asks : Bool) : Type 0 where
-  pub so_far : SoFar (NextCommand script) (length script) old new turn at
+pub record AsksSoFar (caps : Caps) (capacity : ℕ) (script : List Command) (old new : List Step) (turn at : ℕ)
+    (asks : Bool) : Type 0 where
+  pub so_far : SoFar (NextCommand caps capacity old script) (length script) old new turn at
   pub waits : is_worker_waiting so_far.calls ≡ asks
 
-pub asks_none : (script : List Command) (old : List Step) → AsksSoFar script old old 0 0 false
+pub asks_none : (caps : Caps) (capacity : ℕ) (script : List Command) (old : List Step)
+    → AsksSoFar caps capacity script old old 0 0 false
 unfolding so_far_none
-asks_none script old = record { so_far = so_far_none (NextCommand script) (length script) old; waits = refl }
+asks_none caps capacity script old =
+    record { so_far = so_far_none (NextCommand caps capacity old script) (length script) old; waits = refl }
 
 admin_next : (script : List Command) (at : ℕ) (asks : Bool) (e : Command) (calls : List Step)
     → is_worker_waiting calls ≡ asks
@@ -319,39 +332,44 @@ admin_next script at asks e calls w through below d =
     (get_or_default script at e d below
     ∙ ap (λ n. get_or script n d) (sym through))
 
-pub asks_more : (script : List Command) (old mid new : List Step) (turn at after : ℕ) (asks : Bool) (e : Command)
-    (reply : Reply)
-    → AsksSoFar script old mid turn at asks
-    → is_answer (cond {A = Event} asks Poll (Issue (get_or script at e))) reply ≡ true
+pub asks_more : (caps : Caps) (capacity : ℕ) (script : List Command) (old mid new : List Step) (turn at after : ℕ)
+    (asks : Bool) (e : Command) (reply : Reply)
+    → AsksSoFar caps capacity script old mid turn at asks
+    → IsAnsweredFor caps capacity mid (cond {A = Event} asks Poll (Issue (get_or script at e))) reply
     → new ≡ history_after mid (record {
       event = cond {A = Event} asks Poll (Issue (get_or script at e));
       reply =
           reply;
     })
     → is_history_full reply ≡ false → at < length script → after ≡ at + cond {A = ℕ} (goes_on reply) 1 0
-    → AsksSoFar script old new (turn + 1) after (not (goes_on reply))
+    → AsksSoFar caps capacity script old new (turn + 1) after (not (goes_on reply))
 unfolding so_far_more
-asks_more script old mid new turn at after asks e reply was answer is room below moved =
+asks_more caps capacity script old mid new turn at after asks e reply was answer is room below moved =
     let call : Step = record { event = cond {A = Event} asks Poll (Issue (get_or script at e)); reply = reply } in
     record {
-      so_far = so_far_more (NextCommand script) (length script) old mid new turn at after call was.so_far
-          (answer, admin_next script at asks e was.so_far.calls was.waits was.so_far.steps_done below) is room
+      so_far = so_far_more (NextCommand caps capacity old script) (length script) old mid new turn at after call
+          was.so_far (
+            answered_so caps capacity old mid was.so_far.calls call was.so_far.receipts answer,
+            admin_next script at asks e was.so_far.calls was.waits was.so_far.steps_done below,
+          ) is room
           below moved;
       waits = waits_more was.so_far.calls call;
     }
 
-pub asks_full : (script : List Command) (limit : ℕ) (old mid new : List Step) (turn at : ℕ) (asks : Bool)
-    (e : Command) (reply : Reply)
-    → AsksSoFar script old mid turn at asks
-    → is_answer (cond {A = Event} asks Poll (Issue (get_or script at e))) reply ≡ true
+pub asks_full : (caps : Caps) (capacity : ℕ) (script : List Command) (limit : ℕ) (old mid new : List Step)
+    (turn at : ℕ) (asks : Bool) (e : Command) (reply : Reply)
+    → AsksSoFar caps capacity script old mid turn at asks
+    → IsAnsweredFor caps capacity mid (cond {A = Event} asks Poll (Issue (get_or script at e))) reply
     → new ≡ history_after mid (record {
       event = cond {A = Event} asks Poll (Issue (get_or script at e));
       reply =
           reply;
     })
     → is_history_full reply ≡ true → at < length script → turn < limit
-    → RunsAdmin script limit old new (record { turns = turn + 1; ended = HistoryFull })
-asks_full script limit old mid new turn at asks e reply was answer is full below within =
-    ends_full (NextCommand script) (length script) limit old mid new turn at
-    (record { event = cond {A = Event} asks Poll (Issue (get_or script at e)); reply = reply }) was.so_far
-    (answer, admin_next script at asks e was.so_far.calls was.waits was.so_far.steps_done below) is full below within
+    → RunsAdmin caps capacity script limit old new (record { turns = turn + 1; ended = HistoryFull })
+asks_full caps capacity script limit old mid new turn at asks e reply was answer is full below within =
+    let call : Step = record { event = cond {A = Event} asks Poll (Issue (get_or script at e)); reply = reply } in
+    ends_full (NextCommand caps capacity old script) (length script) limit old mid new turn at call was.so_far (
+      answered_so caps capacity old mid was.so_far.calls call was.so_far.receipts answer,
+      admin_next script at asks e was.so_far.calls was.waits was.so_far.steps_done below,
+    ) is full below within

@@ -5,7 +5,7 @@ use Rattle.std.proofs.lemmas.List.{length-map, length-append, map-append, get_or
 use Rattle.dsa_workers.specs.declared.scripts.{Stint.{Stint}, WorkerEnd.{WorkerEnd, TheVariants.{TurnsOut}}}
 use Rattle.dsa_workers.specs.declared.lanes.Lane.{Lane}
 use Rattle.dsa_workers.specs.Workers.{RunsAdmin}
-use Rattle.dsa_regs.specs.declared.Command.{Command}
+use Rattle.dsa_regs.specs.declared.{Caps.{Caps}, Command.{Command}}
 use Rattle.dsa_book.specs.declared.event.Step.{Step}
 use mathlib.Core.List.{append_assoc}
 
@@ -110,10 +110,11 @@ lanes_left {T} {Z} now loaded seats n same lent count =
     same ∙ sym (length-map loaded (λ (l : Lane T Z). l.seat)) ∙ ap (λ z. length z) lent ∙ count
 
 -- what the administrator's worker did, by what the report says
-pub stint_same : (script : List Command) (limit : ℕ) (old new : List Step) (stint : Stint) (turns : ℕ)
-    (ended : WorkerEnd) → turns ≡ stint.turns → ended ≡ stint.ended
-    → RunsAdmin script limit old new stint → RunsAdmin script limit old new (record { turns = turns; ended = ended })
-stint_same script limit old new stint turns ended t u r = rw (t, u) r
+pub stint_same : (caps : Caps) (capacity : ℕ) (script : List Command) (limit : ℕ) (old new : List Step) (stint : Stint)
+    (turns : ℕ) (ended : WorkerEnd) → turns ≡ stint.turns → ended ≡ stint.ended
+    → RunsAdmin caps capacity script limit old new stint
+    → RunsAdmin caps capacity script limit old new (record { turns = turns; ended = ended })
+stint_same caps capacity script limit old new stint turns ended t u r = rw (t, u) r
 
 -- there are as many lanes as seats in them
 pub lent : {T Z : Type 0} (lanes : List (Lane T Z)) (seats : List T) (m n : ℕ) → m ≡ length lanes

@@ -3,6 +3,7 @@ use Rattle.std.proofs.Common.{◌≡◌, ℕ, ◌+◌, ◌<◌, ◌≤◌, List,
 use Rattle.std.proofs.Common.{subst, ◌∙◌, append-nil, arith}
 use Rattle.std.proofs.lemmas.List.{length-append, Elements.{filter_map-append}, Sums.{fold-append}}
 use Rattle.std.specs.{Prelude.{Option, Some, None, IfSome, is_some, fold}, Option.{option_map, option_map_or}}
+use Rattle.dsa_regs.specs.declared.Caps.{Caps}
 use Rattle.dsa_book.specs.declared.{answer.{Reply.{Reply}, Ticket.{Ticket}}, event.{Event.{Event}, Step.{Step}}}
 use Rattle.dsa_book.specs.Machine.{history_after, stored_steps}
 use Rattle.dsa_shared.specs.Seat.{SeatLog}
@@ -15,28 +16,31 @@ use Rattle.dsa_workers.specs.Workers.{Grows, RunsEngine}
 use Rattle.dsa_workers.proofs.Calls.{in_order_none, in_order_more, recorded_more, found_more, count_of, grows_by}
 
 -- what an engine's worker did so far, in these turns
-pub record Turns (script : EngineScript) (old new : SeatLog) (turns : List (Option Step)) : Type 0 where
+pub record Turns (caps : Caps) (capacity : ℕ) (script : EngineScript) (old new : SeatLog)
+    (turns : List (Option Step)) : Type 0 where
   pub number : new.number ≡ old.number
   pub receipts : new.receipts ≡ old.receipts ++ stored_steps (calls_of turns)
-  pub in_order : InOrder (NextTurn old.number script) turns
+  pub in_order : InOrder (NextTurn caps capacity old script) turns
   pub stops : InOrder (λ before turn. found_full (calls_of before) ≡ 0) turns
 
 -- with these tickets left, and no call that found the history full
-pub record TurnsSoFar (script : EngineScript) (old new : SeatLog) (turn : ℕ) (tickets : List Ticket) : Type 0 where
+pub record TurnsSoFar (caps : Caps) (capacity : ℕ) (script : EngineScript) (old new : SeatLog) (turn : ℕ)
+    (tickets : List Ticket) : Type 0 where
   pub turns : List (Option Step)
-  pub did : Turns script old new turns
+  pub did : Turns caps capacity script old new turns
   pub count : length turns ≡ turn
   pub left : tickets_of turns ≡ tickets
   pub room : found_full (calls_of turns) ≡ 0
 
-pub turns_none : (script : EngineScript) (old : SeatLog) (tickets : List Ticket) → tickets ≡ []
-    → TurnsSoFar script old old 0 tickets
-turns_none script old tickets none = record {
+pub turns_none : (caps : Caps) (capacity : ℕ) (script : EngineScript) (old : SeatLog) (tickets : List Ticket)
+    → tickets ≡ []
+    → TurnsSoFar caps capacity script old old 0 tickets
+turns_none caps capacity script old tickets none = record {
   turns = [];
   did = record {
     number = refl;
     receipts = sym (append-nil old.receipts);
-    in_order = in_order_none (NextTurn old.number script);
+    in_order = in_order_none (NextTurn caps capacity old script);
     stops = in_order_none (λ before turn. found_full (calls_of before) ≡ 0);
   };
   count = refl;
@@ -71,13 +75,21 @@ event_back None (Some reply) is = absurd cc
 event_back (Some event) None is = absurd cc
 event_back (Some event) (Some reply) is = refl
 
-turn_more : (script : EngineScript) (old mid new : SeatLog) (turn : ℕ) (tickets : List Ticket) (reply : Option Reply)
-    → (so : TurnsSoFar script old mid turn tickets)
+-- a turn whose call, if it has one, was answered to a seat with these receipts
+answered_turn : (caps : Caps) (capacity : ℕ) (old mid : List Step) (turns : List (Option Step)) (turn : Option Step)
+    → mid ≡ old ++ stored_steps (calls_of turns) → IfSome turn (IsCallAnswered caps capacity mid)
+    → IfSome turn (IsCallAnswered caps capacity (old ++ stored_steps (calls_of turns)))
+answered_turn caps capacity old mid turns turn is answer =
+    subst (λ (receipts : List Step). IfSome turn (IsCallAnswered caps capacity receipts)) is answer
+
+turn_more : (caps : Caps) (capacity : ℕ) (script : EngineScript) (old mid new : SeatLog) (turn : ℕ)
+    (tickets : List Ticket) (reply : Option Reply)
+    → (so : TurnsSoFar caps capacity script old mid turn tickets)
     → is_some reply ≡ is_some (engine_event mid.number script turn tickets)
-    → IfSome (call_of (engine_event mid.number script turn tickets) reply) IsCallAnswered
+    → IfSome (call_of (engine_event mid.number script turn tickets) reply) (IsCallAnswered caps capacity mid.receipts)
     → new ≡ after_turn mid (call_of (engine_event mid.number script turn tickets) reply)
-    → Turns script old new (so.turns ++ call_of (engine_event mid.number script turn tickets) reply ∷ [])
-turn_more script old mid new turn tickets reply so called answer is =
+    → Turns caps capacity script old new (so.turns ++ call_of (engine_event mid.number script turn tickets) reply ∷ [])
+turn_more caps capacity script old mid new turn tickets reply so called answer is =
     let event = engine_event mid.number script turn tickets in
     let one = call_of event reply in
     let here : event ≡ engine_event old.number script (length so.turns) (tickets_of so.turns) =
@@ -87,8 +99,10 @@ turn_more script old mid new turn tickets reply so called answer is =
     record {
       number = ap (λ (s : SeatLog). s.number) is ∙ same_number mid one ∙ so.did.number;
       receipts = ap (λ (s : SeatLog). s.receipts) is ∙ receipts_more old.receipts mid so.turns one so.did.receipts;
-      in_order = in_order_more (NextTurn old.number script) so.turns one so.did.in_order
-          (answer, event_back event reply called ∙ here);
+      in_order = in_order_more (NextTurn caps capacity old script) so.turns one so.did.in_order (
+        answered_turn caps capacity old.receipts mid.receipts so.turns one so.did.receipts answer,
+        event_back event reply called ∙ here,
+      );
       stops = in_order_more (λ before t. found_full (calls_of before) ≡ 0) so.turns one so.did.stops so.room;
     }
 
@@ -120,17 +134,19 @@ turns_grow old new turns n is count =
     record { prefix = g.prefix; bound = omega (arith, g.bound, calls-le turns, count) }
 
 -- a turn without a call
-pub turns_quiet : (script : EngineScript) (old mid new : SeatLog) (turn : ℕ) (tickets : List Ticket)
-    → TurnsSoFar script old mid turn tickets
+pub turns_quiet : (caps : Caps) (capacity : ℕ) (script : EngineScript) (old mid new : SeatLog) (turn : ℕ)
+    (tickets : List Ticket)
+    → TurnsSoFar caps capacity script old mid turn tickets
     → false ≡ is_some (engine_event mid.number script turn tickets)
-    → IfSome (call_of (engine_event mid.number script turn tickets) None) IsCallAnswered
+    → IfSome (call_of (engine_event mid.number script turn tickets) None) (IsCallAnswered caps capacity mid.receipts)
     → new ≡ after_turn mid (call_of (engine_event mid.number script turn tickets) None)
-    → TurnsSoFar script old new (turn + 1) tickets
-turns_quiet script old mid new turn tickets so called answer is =
+    → TurnsSoFar caps capacity script old new (turn + 1) tickets
+turns_quiet caps capacity script old mid new turn tickets so called answer is =
     go (engine_event mid.number script turn tickets)
-    (turn_more script old mid new turn tickets None so called answer is)
+    (turn_more caps capacity script old mid new turn tickets None so called answer is)
   where
-    quiet : Turns script old new (so.turns ++ None ∷ []) → TurnsSoFar script old new (turn + 1) tickets
+    quiet : Turns caps capacity script old new (so.turns ++ None ∷ [])
+        → TurnsSoFar caps capacity script old new (turn + 1) tickets
     quiet did = record {
       turns = so.turns ++ None ∷ [];
       did = did;
@@ -139,8 +155,8 @@ turns_quiet script old mid new turn tickets so called answer is =
       room = ap found_full (calls_more so.turns None ∙ append-nil (calls_of so.turns)) ∙ so.room;
     }
 
-    go : (event : Option Event) → Turns script old new (so.turns ++ call_of event None ∷ [])
-        → TurnsSoFar script old new (turn + 1) tickets
+    go : (event : Option Event) → Turns caps capacity script old new (so.turns ++ call_of event None ∷ [])
+        → TurnsSoFar caps capacity script old new (turn + 1) tickets
     go None did = quiet did
     go (Some event) did = quiet did
 
@@ -151,20 +167,22 @@ called_by None reply is = absurd cc
 called_by (Some event) reply is = (record { event = event; reply = reply }, refl, refl)
 
 -- a turn with a call that left room
-pub turns_more : (script : EngineScript) (old mid new : SeatLog) (turn : ℕ) (tickets : List Ticket) (reply : Reply)
-    → TurnsSoFar script old mid turn tickets
+pub turns_more : (caps : Caps) (capacity : ℕ) (script : EngineScript) (old mid new : SeatLog) (turn : ℕ)
+    (tickets : List Ticket) (reply : Reply)
+    → TurnsSoFar caps capacity script old mid turn tickets
     → is_some (Some reply) ≡ is_some (engine_event mid.number script turn tickets)
-    → IfSome (call_of (engine_event mid.number script turn tickets) (Some reply)) IsCallAnswered
+    → IfSome (call_of (engine_event mid.number script turn tickets) (Some reply))
+    (IsCallAnswered caps capacity mid.receipts)
     → new ≡ after_turn mid (call_of (engine_event mid.number script turn tickets) (Some reply))
-    → is_history_full reply ≡ false → TurnsSoFar script old new (turn + 1) (tickets_after tickets reply)
-turns_more script old mid new turn tickets reply so called answer is room =
+    → is_history_full reply ≡ false → TurnsSoFar caps capacity script old new (turn + 1) (tickets_after tickets reply)
+turns_more caps capacity script old mid new turn tickets reply so called answer is room =
     let (call, was, said) = called_by (engine_event mid.number script turn tickets) reply called in
     let none : cond {A = ℕ} (is_history_full call.reply) 1 0 ≡ 0 =
     count_of (is_history_full call.reply) false (ap is_history_full said ∙ room) in
     record {
       turns = so.turns ++ Some call ∷ [];
-      did = subst (λ (t : Option Step). Turns script old new (so.turns ++ t ∷ [])) was
-          (turn_more script old mid new turn tickets (Some reply) so called answer is);
+      did = subst (λ (t : Option Step). Turns caps capacity script old new (so.turns ++ t ∷ [])) was
+          (turn_more caps capacity script old mid new turn tickets (Some reply) so called answer is);
       count = omega (arith, length-append so.turns (Some call ∷ []), so.count);
       left = tickets_more so.turns (Some call) ∙ ap (λ (ts : List Ticket). tickets_after ts call.reply) so.left
           ∙ ap (tickets_after tickets) said;
@@ -172,19 +190,21 @@ turns_more script old mid new turn tickets reply so called answer is room =
     }
 
 -- a turn with a call that found the history full
-pub turns_full : (script : EngineScript) (limit : ℕ) (old mid new : SeatLog) (turn : ℕ) (tickets : List Ticket)
-    (reply : Reply) → TurnsSoFar script old mid turn tickets
+pub turns_full : (caps : Caps) (capacity : ℕ) (script : EngineScript) (limit : ℕ) (old mid new : SeatLog) (turn : ℕ)
+    (tickets : List Ticket)
+    (reply : Reply) → TurnsSoFar caps capacity script old mid turn tickets
     → is_some (Some reply) ≡ is_some (engine_event mid.number script turn tickets)
-    → IfSome (call_of (engine_event mid.number script turn tickets) (Some reply)) IsCallAnswered
+    → IfSome (call_of (engine_event mid.number script turn tickets) (Some reply))
+    (IsCallAnswered caps capacity mid.receipts)
     → new ≡ after_turn mid (call_of (engine_event mid.number script turn tickets) (Some reply))
     → is_history_full reply ≡ true → turn < limit
-    → RunsEngine script limit old new (record { turns = turn + 1; ended = HistoryFull })
-turns_full script limit old mid new turn tickets reply so called answer is full within =
+    → RunsEngine caps capacity script limit old new (record { turns = turn + 1; ended = HistoryFull })
+turns_full caps capacity script limit old mid new turn tickets reply so called answer is full within =
     let (call, was, said) = called_by (engine_event mid.number script turn tickets) reply called in
     let one : cond {A = ℕ} (is_history_full call.reply) 1 0 ≡ 1 =
     count_of (is_history_full call.reply) true (ap is_history_full said ∙ full) in
-    let did = subst (λ (t : Option Step). Turns script old new (so.turns ++ t ∷ [])) was
-    (turn_more script old mid new turn tickets (Some reply) so called answer is) in
+    let did = subst (λ (t : Option Step). Turns caps capacity script old new (so.turns ++ t ∷ [])) was
+    (turn_more caps capacity script old mid new turn tickets (Some reply) so called answer is) in
     let count : length (so.turns ++ Some call ∷ []) ≡ turn + 1 =
     omega (arith, length-append so.turns (Some call ∷ []), so.count) in
     record {
@@ -202,10 +222,11 @@ turns_full script limit old mid new turn tickets reply so called answer is full 
     }
 
 -- no turn is left
-pub turns_out : (script : EngineScript) (limit : ℕ) (old new : SeatLog) (turn : ℕ) (tickets : List Ticket)
-    → TurnsSoFar script old new turn tickets → turn ≡ limit
-    → RunsEngine script limit old new (record { turns = limit; ended = TurnsOut })
-turns_out script limit old new turn tickets so had = record {
+pub turns_out : (caps : Caps) (capacity : ℕ) (script : EngineScript) (limit : ℕ) (old new : SeatLog) (turn : ℕ)
+    (tickets : List Ticket)
+    → TurnsSoFar caps capacity script old new turn tickets → turn ≡ limit
+    → RunsEngine caps capacity script limit old new (record { turns = limit; ended = TurnsOut })
+turns_out caps capacity script limit old new turn tickets so had = record {
   turns = so.turns;
   number = so.did.number;
   receipts = so.did.receipts;

@@ -4,7 +4,7 @@ use Rattle.std.specs.Prelude.{take, drop, fold, filter_map, count_by, Option, So
 use Rattle.std.specs.Prelude.{slice_index_or}
 use Rattle.std.specs.Option.{option_map, option_map_or}
 use Rattle.dsa_desc.specs.Descriptor.{read}
-use Rattle.dsa_regs.specs.declared.Command.{Command}
+use Rattle.dsa_regs.specs.declared.{Caps.{Caps}, Command.{Command}}
 use Rattle.dsa_book.specs.declared.answer.Cause.TheVariants.{NotEnabled, WrongKind}
 use Rattle.dsa_book.specs.declared.answer.SubmitAnswer.TheVariants.{Accepted, Retry, Dropped, Full}
 use Rattle.dsa_book.specs.declared.answer.{DispatchAnswer.TheVariants.{Taken, Full}, FetchAnswer.TheVariants.{Full}}
@@ -16,8 +16,8 @@ use Rattle.dsa_book.specs.declared.answer.Reply.{Reply}
 use Rattle.dsa_book.specs.declared.answer.Reply.TheVariants.{Submit, Dispatch, Fetch, Start, Finish, Issue, Poll}
 use Rattle.dsa_book.specs.declared.event.Event.{Event}
 use Rattle.dsa_book.specs.declared.event.Event.TheVariants.{Submit, Dispatch, Fetch, Start, Finish, Issue, Poll}
-use Rattle.dsa_book.specs.declared.event.Step.{Step}
-use Rattle.dsa_shared.specs.Seat.{SeatLog, with_receipt}
+use Rattle.dsa_book.specs.{declared.event.Step.{Step}, Machine.{stored_steps}}
+use Rattle.dsa_shared.specs.{Seat.{SeatLog, with_receipt}, Locked.{IsAnsweredFor}}
 use Rattle.dsa_workers.specs.declared.scripts.{ClientStep.{ClientStep}, EngineScript.{EngineScript}}
 
 -- each of these is what may come after those before it
@@ -46,20 +46,9 @@ goes_on (Issue (Refused fault)) = true
 goes_on (Poll Finished) = true
 goes_on _ = false
 
--- the reply is an answer to the event
-abbrev pub is_answer : Event → Reply → Bool
-is_answer (Submit client queue portal kind desc) (Submit answer) = true
-is_answer (Dispatch engine) (Dispatch answer) = true
-is_answer (Fetch engine desc) (Fetch answer) = true
-is_answer (Start engine) (Start answer) = true
-is_answer (Finish engine ticket outcome) (Finish answer) = true
-is_answer (Issue command) (Issue answer) = true
-is_answer Poll (Poll answer) = true
-is_answer _ _ = false
-
--- the call was answered
-abbrev pub IsCallAnswered : Step → Type 0
-IsCallAnswered call = is_answer call.event call.reply ≡ true
+-- the reply of the call is what some device that the lock may keep answers, which is not older than the receipts
+abbrev pub IsCallAnswered : Caps → ℕ → List Step → Step → Type 0
+IsCallAnswered caps capacity receipts call = IsAnsweredFor caps capacity receipts call.event call.reply
 
 -- how many steps of its script the worker is through with after these calls
 abbrev pub steps_done : List Step → ℕ
@@ -77,16 +66,17 @@ is_worker_waiting calls = fold (λ before call. not (goes_on call.reply)) false 
 abbrev pub submission_of_client_step : ℕ → ClientStep → Event
 submission_of_client_step client step = Submit client step.queue step.portal step.kind (read step.bytes)
 
--- a client submits the first step of its script that it is not through with
-abbrev pub NextSubmission : ℕ → List ClientStep → List Step → Step → Type 0
-NextSubmission client script calls call =
-    IsCallAnswered call × ((d : ClientStep) → call.event
-    ≡ submission_of_client_step client (slice_index_or script (steps_done calls) d))
+-- a client, from the seat that it was lent, submits the first step of its script that it is not through with
+abbrev pub NextSubmission : Caps → ℕ → SeatLog → List ClientStep → List Step → Step → Type 0
+NextSubmission caps capacity seat script calls call =
+    IsCallAnswered caps capacity (seat.receipts ++ stored_steps calls) call × ((d : ClientStep) → call.event
+    ≡ submission_of_client_step seat.number (slice_index_or script (steps_done calls) d))
 
--- the administrator asks after a command that waits, and else issues the first one that it is not
--- through with
-abbrev pub NextCommand : List Command → List Step → Step → Type 0
-NextCommand script calls call = IsCallAnswered call
+-- the administrator, from the receipts that it had, asks after a command that waits, and else issues the first
+-- one that it is not through with
+abbrev pub NextCommand : Caps → ℕ → List Step → List Command → List Step → Step → Type 0
+NextCommand caps capacity receipts script calls call =
+    IsCallAnswered caps capacity (receipts ++ stored_steps calls) call
     × ((d : Command) → call.event ≡ cond (is_worker_waiting calls) Poll
     (Issue (slice_index_or script (steps_done calls) d)))
 
@@ -135,7 +125,8 @@ call_of _ _ = None
 abbrev pub after_turn : SeatLog → Option Step → SeatLog
 after_turn seat turn = option_map_or (λ call. with_receipt seat call.event call.reply) turn seat
 
--- the turn of an engine's worker after those before it
-abbrev pub NextTurn : ℕ → EngineScript → List (Option Step) → Option Step → Type 0
-NextTurn engine script turns turn = IfSome turn IsCallAnswered
-    × (option_map (λ call. call.event) turn ≡ engine_event engine script (length turns) (tickets_of turns))
+-- the turn of an engine's worker, from the seat that it was lent, after those before it
+abbrev pub NextTurn : Caps → ℕ → SeatLog → EngineScript → List (Option Step) → Option Step → Type 0
+NextTurn caps capacity seat script turns turn =
+    IfSome turn (IsCallAnswered caps capacity (seat.receipts ++ stored_steps (calls_of turns)))
+    × (option_map (λ call. call.event) turn ≡ engine_event seat.number script (length turns) (tickets_of turns))

@@ -1,9 +1,9 @@
 //! The worker of the administrator.
 
-ghost use Rattle.std.specs.Prelude.{◌≡◌, true, cond};
+ghost use Rattle.std.specs.Prelude.{◌≡◌, cond};
 ghost use Rattle.dsa_book.specs.declared.event.Event.TheVariants as event;
+ghost use Rattle.dsa_shared.specs.Locked.{IsAnsweredFor};
 ghost use Rattle.dsa_shared.specs.Seat.{with_step};
-ghost use Rattle.dsa_workers.specs.Calls.{is_answer};
 ghost use Rattle.dsa_workers.specs.Workers.{RunsAdmin};
 
 use crate::lanes::Lane;
@@ -26,7 +26,8 @@ fn turn_once<S: EntryStore, L: Sharing, G: Gate, R: Wait>(
 ) -> Reply
     ensures seat { seat.new
         ≡ with_step seat.old (cond waits event.Poll (event.Issue command)) result }
-    ensures answer { is_answer (cond waits event.Poll (event.Issue command)) result ≡ true }
+    ensures answer { IsAnsweredFor L.caps L.capacity seat.old
+        (cond waits event.Poll (event.Issue command)) result }
 {
     if waits {
         Reply::Poll(run.shared.poll(rt, seat))
@@ -44,7 +45,7 @@ fn issue_all<S: EntryStore, L: Sharing, G: Gate, R: Wait>(
     script: &[Command],
     seat: &mut AdminSeat<L>,
 ) -> Stint
-    ensures { RunsAdmin script.now run.now.turns seat.old seat.new result }
+    ensures { RunsAdmin L.caps L.capacity script.now run.now.turns seat.old seat.new result }
 {
     let mut at = 0;
     let mut waits = false;
@@ -86,7 +87,8 @@ pub fn run_admin_lane<S: EntryStore, L: Sharing, G: Gate, A: Allocator, R: Wait>
     script: &[Command],
     lane: &mut Lane<AdminSeat<L>, A>,
 )
-    ensures { RunsAdmin script.now run.now.turns lane.old.seat lane.new.seat lane.new.stint }
+    ensures { RunsAdmin L.caps L.capacity script.now run.now.turns lane.old.seat lane.new.seat
+        lane.new.stint }
 {
     lane.stint = issue_all(rt, run, worker, script, &mut lane.seat);
     run.gate.pass(worker, lane.stint.turns);

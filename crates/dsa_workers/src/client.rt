@@ -1,8 +1,9 @@
 //! The workers of clients.
 
-ghost use Rattle.std.specs.Prelude.{◌≡◌, true, ◌<◌, ℕ, length, slice_index_or};
+ghost use Rattle.std.specs.Prelude.{◌≡◌, ◌<◌, ℕ, length, slice_index_or};
+ghost use Rattle.dsa_shared.specs.Locked.{IsAnsweredFor};
 ghost use Rattle.dsa_shared.specs.Seat.{with_receipt};
-ghost use Rattle.dsa_workers.specs.Calls.{submission_of_client_step, is_answer};
+ghost use Rattle.dsa_workers.specs.Calls.{submission_of_client_step};
 ghost use Rattle.dsa_workers.specs.Workers.{RunsClient, RunsClients};
 
 use crate::lanes::Lane;
@@ -26,7 +27,8 @@ fn turn_once<S: EntryStore, L: Sharing, G: Gate, R: Wait>(
 ) -> Reply
     ensures seat { seat.new
         ≡ with_receipt seat.old (submission_of_client_step seat.old.number step.now) result }
-    ensures answer { is_answer (submission_of_client_step seat.old.number step.now) result ≡ true }
+    ensures answer { IsAnsweredFor L.caps L.capacity seat.old.receipts
+        (submission_of_client_step seat.old.number step.now) result }
 {
     let ClientStep {
         queue,
@@ -46,7 +48,7 @@ fn submit_all<S: EntryStore, L: Sharing, G: Gate, R: Wait>(
     script: &[ClientStep],
     seat: &mut ClientSeat<L>,
 ) -> Stint
-    ensures { RunsClient script.now run.now.turns seat.old seat.new result }
+    ensures { RunsClient L.caps L.capacity script.now run.now.turns seat.old seat.new result }
 {
     let mut at = 0;
     for turn in 0..run.turns {
@@ -86,7 +88,8 @@ fn run_lane<S: EntryStore, L: Sharing, G: Gate, A: Allocator, R: Wait>(
     script: &[ClientStep],
     lane: &mut Lane<ClientSeat<L>, A>,
 )
-    ensures { RunsClient script.now run.now.turns lane.old.seat lane.new.seat lane.new.stint }
+    ensures { RunsClient L.caps L.capacity script.now run.now.turns lane.old.seat lane.new.seat
+        lane.new.stint }
 {
     lane.stint = submit_all(rt, run, worker, script, &mut lane.seat);
     run.gate.pass(worker, lane.stint.turns);
@@ -101,7 +104,7 @@ pub fn run_clients<
     R: Threads + Wait + Sync,
 >(rt: &R, run: &Run<S, L, G>, scripts: &[Vec<ClientStep>], lanes: &mut [Lane<ClientSeat<L>, A>])
     requires scripts { length lanes.old ≡ length scripts.now }
-    ensures { RunsClients scripts.now run.now.turns lanes.old lanes.new }
+    ensures { RunsClients L.caps L.capacity scripts.now run.now.turns lanes.old lanes.new }
 {
     let count = lanes.len();
     if count == 0 {
@@ -110,8 +113,8 @@ pub fn run_clients<
     let run_it = |i: usize, lane: &mut Lane<ClientSeat<L>, A>|
         requires { i < length scripts.now }
         ensures { (e : _)
-            → RunsClient (slice_index_or scripts.entry.now i e).items run.entry.now.turns
-            lane.old.seat lane.new.seat lane.new.stint }
+            → RunsClient L.caps L.capacity (slice_index_or scripts.entry.now i e).items
+            run.entry.now.turns lane.old.seat lane.new.seat lane.new.stint }
     { run_lane(rt, run, i, &scripts[i], lane) };
     thread::for_each_mut(rt, lanes, count, &run_it);
 }

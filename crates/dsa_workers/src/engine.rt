@@ -31,7 +31,7 @@ fn turn_once<S: EntryStore, L: Sharing, G: Gate, A: Allocator, R: Wait>(
         ≡ is_some (engine_event seat.old.number script.now turn tickets.now.tickets) }
     ensures answer { IfSome
         (call_of (engine_event seat.old.number script.now turn tickets.now.tickets) result)
-        IsCallAnswered }
+        (IsCallAnswered L.caps L.capacity seat.old.receipts) }
     ensures seat { seat.new
         ≡ after_turn seat.old
         (call_of (engine_event seat.old.number script.now turn tickets.now.tickets) result) }
@@ -57,7 +57,7 @@ fn serve<S: EntryStore, L: Sharing, G: Gate, A: Allocator, R: Wait>(
     seat: &mut EngineSeat<L>,
 ) -> Stint
     requires { HasRoomForTickets tickets.old run.now.turns }
-    ensures { RunsEngine script.now run.now.turns seat.old seat.new result }
+    ensures { RunsEngine L.caps L.capacity script.now run.now.turns seat.old seat.new result }
 {
     for turn in 0..run.turns {
         run.gate.pass(worker, turn);
@@ -86,7 +86,8 @@ fn run_lane<S: EntryStore, L: Sharing, G: Gate, A: Allocator, R: Wait>(
     lane: &mut Lane<EngineSeat<L>, A>,
 )
     requires { HasRoomForTickets lane.old.tickets run.now.turns }
-    ensures { RunsEngine script.now run.now.turns lane.old.seat lane.new.seat lane.new.stint }
+    ensures { RunsEngine L.caps L.capacity script.now run.now.turns lane.old.seat lane.new.seat
+        lane.new.stint }
 {
     lane.stint = serve(rt, run, worker, script, &mut lane.tickets, &mut lane.seat);
     run.gate.pass(worker, lane.stint.turns);
@@ -109,7 +110,7 @@ pub fn run_engines<
     requires scripts { length lanes.old ≡ length scripts.now }
     requires workers { first + length lanes.old < 2 ^ 64 }
     requires tickets { All (λ l. HasRoomForTickets l.tickets run.now.turns) lanes.old }
-    ensures { RunsEngines scripts.now run.now.turns lanes.old lanes.new }
+    ensures { RunsEngines L.caps L.capacity scripts.now run.now.turns lanes.old lanes.new }
 {
     let count = lanes.len();
     if count == 0 {
@@ -120,8 +121,8 @@ pub fn run_engines<
         requires worker { first + i < 2 ^ 64 }
         requires tickets { HasRoomForTickets lane.old.tickets run.now.turns }
         ensures { (e : _)
-            → RunsEngine (slice_index_or scripts.entry.now i e) run.entry.now.turns lane.old.seat
-            lane.new.seat lane.new.stint }
+            → RunsEngine L.caps L.capacity (slice_index_or scripts.entry.now i e)
+            run.entry.now.turns lane.old.seat lane.new.seat lane.new.stint }
     { run_lane(rt, run, first + i, &scripts[i], lane) };
     thread::for_each_mut(rt, lanes, count, &run_it);
 }

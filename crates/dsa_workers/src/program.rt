@@ -1,7 +1,7 @@
 //! A program on a shared device, from making its seats to settling them.
 
 ghost use Rattle.std.specs.Prelude.{◌≡◌, ◌+◌, ◌<◌, ◌≤◌, ◌↔◌, ◌⊎◌, IfOk, IfErr, length};
-ghost use Rattle.std.specs.Fork.{AcceptsEach};
+ghost use Rattle.std.specs.Fork.{AcceptsEach, ChangesEach};
 ghost use Rattle.dsa_store.specs.Content.{held_count};
 ghost use Rattle.dsa_laws.specs.WellFormed.{IsWellFormed};
 ghost use Rattle.dsa_device.specs.Running.{IsReplay};
@@ -151,6 +151,7 @@ fn in_threads<T: Send, F: Fn(usize, &mut T) + Sync, R: Threads + Sync>(
     part: &F,
 )
     requires { AcceptsEach F.Fn part.now seats.old }
+    ensures { ChangesEach F.Fn part.now seats.old seats.new }
 {
     let threads = seats.len();
     if threads > 0 {

@@ -41,7 +41,8 @@ fn run_engine_lanes<
     requires scripts { vec_len lanes.old ≡ length scripts.now }
     requires workers { first + vec_len lanes.old < 2 ^ 64 }
     requires tickets { All (λ l. HasRoomForTickets l.tickets run.now.turns) lanes.old.items }
-    ensures runs { RunsEngines scripts.now run.now.turns lanes.old.items lanes.new.items }
+    ensures runs { RunsEngines L.caps L.capacity scripts.now run.now.turns lanes.old.items
+        lanes.new.items }
     ensures len { vec_len lanes.new ≡ vec_len lanes.old }
 {
     run_engines(rt, run, first, scripts, lanes.as_mut_slice());
@@ -66,24 +67,24 @@ fn run_rest<
     requires scripts { vec_len rest.old.engines ≡ length scripts.now }
     requires workers { first + vec_len rest.old.engines < 2 ^ 64 }
     requires tickets { All (λ l. HasRoomForTickets l.tickets run.now.turns) rest.old.engines.items }
-    ensures engines { RunsEngines scripts.now run.now.turns rest.old.engines.items
+    ensures engines { RunsEngines L.caps L.capacity scripts.now run.now.turns rest.old.engines.items
         rest.new.engines.items }
     ensures len { vec_len rest.new.engines ≡ vec_len rest.old.engines }
-    ensures admin { RunsAdmin commands.now run.now.turns rest.old.admin.seat rest.new.admin.seat
-        rest.new.admin.stint }
+    ensures admin { RunsAdmin L.caps L.capacity commands.now run.now.turns rest.old.admin.seat
+        rest.new.admin.seat rest.new.admin.stint }
 {
     let Rest { engines, admin } = rest;
     let run_them = |_at: usize, lanes: &mut Vec<Lane<EngineSeat<L>, A>, A>|
         requires scripts { vec_len lanes.old ≡ length scripts.now }
         requires workers { first + vec_len lanes.old < 2 ^ 64 }
         requires tickets { All (λ l. HasRoomForTickets l.tickets run.now.turns) lanes.old.items }
-        ensures runs { RunsEngines scripts.entry.now run.entry.now.turns lanes.old.items
-            lanes.new.items }
+        ensures runs { RunsEngines L.caps L.capacity scripts.entry.now run.entry.now.turns
+            lanes.old.items lanes.new.items }
         ensures len { vec_len lanes.new ≡ vec_len lanes.old }
     { run_engine_lanes(rt, run, first, scripts, lanes) };
     let run_it = |_at: usize, lane: &mut Lane<AdminSeat<L>, A>|
-        ensures { RunsAdmin commands.entry.now run.entry.now.turns lane.old.seat lane.new.seat
-            lane.new.stint }
+        ensures { RunsAdmin L.caps L.capacity commands.entry.now run.entry.now.turns lane.old.seat
+            lane.new.seat lane.new.stint }
     { run_admin_lane(rt, run, last, commands, lane) };
     join_pair(rt, &run_them, engines, &run_it, admin);
 }
@@ -101,7 +102,8 @@ fn run_client_lanes<
     lanes: &mut Vec<Lane<ClientSeat<L>, A>, A>,
 )
     requires { vec_len lanes.old ≡ length scripts.now }
-    ensures runs { RunsClients scripts.now run.now.turns lanes.old.items lanes.new.items }
+    ensures runs { RunsClients L.caps L.capacity scripts.now run.now.turns lanes.old.items
+        lanes.new.items }
     ensures len { vec_len lanes.new ≡ vec_len lanes.old }
 {
     run_clients(rt, run, scripts, lanes.as_mut_slice());
@@ -126,14 +128,14 @@ pub fn run_all<
         × (vec_len rest.old.engines ≡ vec_len scripts.now.engines) }
     requires workers { vec_len clients.old + vec_len rest.old.engines < 2 ^ 64 }
     requires tickets { All (λ l. HasRoomForTickets l.tickets run.now.turns) rest.old.engines.items }
-    ensures clients { RunsClients scripts.now.clients.items run.now.turns clients.old.items
-        clients.new.items }
-    ensures engines { RunsEngines scripts.now.engines.items run.now.turns rest.old.engines.items
-        rest.new.engines.items }
+    ensures clients { RunsClients L.caps L.capacity scripts.now.clients.items run.now.turns
+        clients.old.items clients.new.items }
+    ensures engines { RunsEngines L.caps L.capacity scripts.now.engines.items run.now.turns
+        rest.old.engines.items rest.new.engines.items }
     ensures len { (vec_len clients.new ≡ vec_len clients.old)
         × (vec_len rest.new.engines ≡ vec_len rest.old.engines) }
-    ensures admin { RunsAdmin scripts.now.admin.items run.now.turns rest.old.admin.seat
-        rest.new.admin.seat rest.new.admin.stint }
+    ensures admin { RunsAdmin L.caps L.capacity scripts.now.admin.items run.now.turns
+        rest.old.admin.seat rest.new.admin.seat rest.new.admin.stint }
 {
     let first = clients.len();
     let last = first + rest.engines.len();
@@ -142,8 +144,8 @@ pub fn run_all<
     let commands = scripts.admin.as_slice();
     let run_them = |_at: usize, lanes: &mut Vec<Lane<ClientSeat<L>, A>, A>|
         requires { vec_len lanes.old ≡ length client_scripts.now }
-        ensures runs { RunsClients client_scripts.entry.now run.entry.now.turns lanes.old.items
-            lanes.new.items }
+        ensures runs { RunsClients L.caps L.capacity client_scripts.entry.now run.entry.now.turns
+            lanes.old.items lanes.new.items }
         ensures len { vec_len lanes.new ≡ vec_len lanes.old }
     { run_client_lanes(rt, run, client_scripts, lanes) };
     let run_others = |_at: usize, rest: &mut Rest<L, A>|
@@ -151,11 +153,11 @@ pub fn run_all<
         requires workers { first + vec_len rest.old.engines < 2 ^ 64 }
         requires tickets { All (λ l. HasRoomForTickets l.tickets run.now.turns)
             rest.old.engines.items }
-        ensures engines { RunsEngines engine_scripts.entry.now run.entry.now.turns
+        ensures engines { RunsEngines L.caps L.capacity engine_scripts.entry.now run.entry.now.turns
             rest.old.engines.items rest.new.engines.items }
         ensures len { vec_len rest.new.engines ≡ vec_len rest.old.engines }
-        ensures admin { RunsAdmin commands.entry.now run.entry.now.turns rest.old.admin.seat
-            rest.new.admin.seat rest.new.admin.stint }
+        ensures admin { RunsAdmin L.caps L.capacity commands.entry.now run.entry.now.turns
+            rest.old.admin.seat rest.new.admin.seat rest.new.admin.stint }
     { run_rest(rt, run, first, last, engine_scripts, commands, rest) };
     join_pair(rt, &run_them, clients, &run_others, rest);
 }

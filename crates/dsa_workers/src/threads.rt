@@ -51,11 +51,11 @@ fn run_loaded<
         × (vec_len rooms.report.ended ≡ 0)
         × (vec_len clients.old + vec_len engines.old + 1 ≤ vec_capacity rooms.report.turns)
         × (vec_len clients.old + vec_len engines.old + 1 ≤ vec_capacity rooms.report.ended) }
-    ensures clients { ReportsClients scripts.now.clients.items run.now.turns clients.old.items
-        clients.new.items result.1 }
-    ensures engines { ReportsEngines scripts.now.engines.items run.now.turns (vec_len clients.old)
-        engines.old.items engines.new.items result.1 }
-    ensures admin { RunsAdmin scripts.now.admin.items run.now.turns admin result.0
+    ensures clients { ReportsClients L.caps L.capacity scripts.now.clients.items run.now.turns
+        clients.old.items clients.new.items result.1 }
+    ensures engines { ReportsEngines L.caps L.capacity scripts.now.engines.items run.now.turns
+        (vec_len clients.old) engines.old.items engines.new.items result.1 }
+    ensures admin { RunsAdmin L.caps L.capacity scripts.now.admin.items run.now.turns admin result.0
         (stint_at result.1 (vec_len clients.old + vec_len engines.old)) }
     ensures len { (length clients.new.items ≡ length clients.old.items)
         × (length engines.new.items ≡ length engines.old.items) }
@@ -98,8 +98,9 @@ fn run_loaded<
 /// another one.
 ///
 /// Between the old receipts of a seat and the new ones stand the worker's calls that the history
-/// kept: at most one call a turn, each the next by the script after those before it. Whatever the
-/// fault, nothing ran and the seats are as they were.
+/// kept: at most one call a turn, each the next by the script after those before it. Each answer,
+/// kept or not, is what the device gives in some state that is not older than the receipts of the
+/// seat before the call. Whatever the fault, nothing ran and the seats are as they were.
 pub fn run_threads<
     S: EntryStore + Send,
     L: Sharing + Send + Sync,
@@ -127,14 +128,14 @@ pub fn run_threads<
         × (length seats.new.engines.items ≡ length seats.old.engines.items)
         × IsSome seats.new.admin) }
     ensures clients { IfOk result
-        (λ r. ReportsClients scripts.now.clients.items turns seats.old.clients.items
-        seats.new.clients.items r) }
+        (λ r. ReportsClients L.caps L.capacity scripts.now.clients.items turns
+        seats.old.clients.items seats.new.clients.items r) }
     ensures engines { IfOk result
-        (λ r. ReportsEngines scripts.now.engines.items turns (vec_len seats.old.clients)
-        seats.old.engines.items seats.new.engines.items r) }
+        (λ r. ReportsEngines L.caps L.capacity scripts.now.engines.items turns
+        (vec_len seats.old.clients) seats.old.engines.items seats.new.engines.items r) }
     ensures admin { IfOk result
-        (λ r. RunsAdmin scripts.now.admin.items turns (receipts_in seats.old.admin)
-        (receipts_in seats.new.admin)
+        (λ r. RunsAdmin L.caps L.capacity scripts.now.admin.items turns
+        (receipts_in seats.old.admin) (receipts_in seats.new.admin)
         (stint_at r (vec_len seats.old.clients + vec_len seats.old.engines))) }
     ensures items { IfOk result
         (λ r. (vec_len r.turns ≡ vec_len seats.old.clients + vec_len seats.old.engines + 1)

@@ -7,6 +7,7 @@ ghost use Rattle.dsa_shared.specs.Settle.{HasEach, AllMatch, FirstMismatch, IsCo
 
 use crate::blanks::Sharing;
 use crate::compare::compare_receipts;
+use crate::locked::walk::all_match;
 use crate::seats::{Numbered, Seats};
 use crate::settle::SettleFault;
 use dsa_book::{Actor, Step};
@@ -60,6 +61,27 @@ fn is_complete<L: Sharing, A: Allocator>(seats: &Seats<L, A>, clients: u16, engi
 }
 
 fn mismatch<L: Sharing, A: Allocator>(
+    history: &[Step],
+    seats: &Seats<L, A>,
+    clients: u16,
+    engines: u16,
+) -> Option<u64>
+    requires { IsComplete seats.now.clients.items seats.now.engines.items
+        seats.now.admin clients engines }
+    ensures some { IfSome result
+        (IsFirstMismatch history.now seats.now.clients.items seats.now.engines.items
+        seats.now.admin) }
+    ensures none { IfNone result (Match history.now seats.now.clients.items seats.now.engines.items
+        seats.now.admin) }
+{
+    if all_match(history, seats) {
+        return None;
+    }
+    mismatch_by_seat(history, seats, clients, engines)
+}
+
+// The same seat by seat, each with a walk over the history.
+fn mismatch_by_seat<L: Sharing, A: Allocator>(
     history: &[Step],
     seats: &Seats<L, A>,
     clients: u16,

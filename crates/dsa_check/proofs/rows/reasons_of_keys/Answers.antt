@@ -62,11 +62,3 @@ pub returns-clause-misspelled_kind : goal.returns-clause-misspelled_kind
 returns-clause-misspelled_kind c key text are =
     let inside = are.stray.inside in
     absurd cc
-
-pub returns-clause-names_no_kind : goal.returns-clause-names_no_kind
-returns-clause-names_no_kind c = record { none = refl; plain = refl; text = tt }
-
-pub returns-clause-names_a_kind : goal.returns-clause-names_a_kind
-returns-clause-names_a_kind c told is =
-    let none = is.none in
-    absurd cc

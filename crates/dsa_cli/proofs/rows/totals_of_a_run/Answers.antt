@@ -1,24 +1,36 @@
 use Rattle.dsa_cli.proofs.rows.totals_of_a_run.Goals as goal
 use Rattle.dsa_book.specs.declared.answer.Reply.TheVariants as reply
 use Rattle.dsa_book.specs.declared.event.Event.TheVariants as event
-use Rattle.std.proofs.Common.{◌≡◌, ◌≤◌, ℕ, List, [], ◌∷◌, length, refl, lit≤, arith}
-use Rattle.std.specs.Prelude.{All, Option, Some, slice_index_or}
+use Rattle.std.proofs.Common.{◌≡◌, ◌≤◌, ℕ, true, List, [], ◌∷◌, ◌++◌, length, refl, lit≤, arith}
+use Rattle.std.specs.Prelude.{All, Option, Some, is_some, slice_index_or}
 use Rattle.std.proofs.lemmas.List.Elements.{All-from_recursion}
 use Rattle.dsa_store.specs.Content.{held_count}
 use Rattle.dsa_book.specs.declared.answer.{DispatchAnswer.TheVariants.{Taken}, FetchAnswer.TheVariants.{NoBatch}}
 use Rattle.dsa_book.specs.declared.answer.{StartAnswer.TheVariants.{Nothing}, FinishAnswer.TheVariants.{Done}}
 use Rattle.dsa_book.specs.declared.event.{Actor.TheVariants.{Client, Engine}, Step.{Step}}
-use Rattle.dsa_book.specs.Totals.{steps_of_actor, total_accepted}
-use Rattle.dsa_shared.specs.Seat.{SeatLog}
+use Rattle.dsa_book.specs.{Machine.{is_legal}, Totals.{steps_of_actor, total_accepted}}
+use Rattle.dsa_device.specs.Running.{after_answer}
+use Rattle.dsa_shared.specs.Seat.{SeatLog, fresh}
 use Rattle.dsa_scenario.specs.Worked.{record_ticket}
-use Rattle.dsa_workers.specs.Calls.{InOrder, NextSubmission, NextTurn, found_full, calls_of}
+use Rattle.dsa_workers.specs.Calls.{InOrder, IsCallAnswered, NextSubmission, NextTurn, found_full, calls_of}
 use Rattle.dsa_workers.specs.declared.scripts.ClientStep.{ClientStep}
 use Rattle.dsa_workers.specs.declared.scripts.WorkerEnd.TheVariants.{ScriptDone, TurnsOut}
-use Rattle.dsa_workers.proofs.Calls.{in_order_none, in_order_more}
-use Rattle.dsa_cli.specs.Threads.{RanAsClient, RanAsEngine, Submits, engine_script, submission_of}
+use Rattle.dsa_workers.proofs.{Answered.{answered_after, device_of}, Calls.{in_order_none, in_order_more}}
+use Rattle.dsa_cli.specs.Threads.{RanAsClient, RanAsEngine, Submits, caps_for, engine_script, setup_steps}
+use Rattle.dsa_cli.specs.Threads.{submission_of}
 use Rattle.dsa_cli.specs.Worked.{load, move_under, move_taken_in, three_moves, entry_worked_off, steps_of_three_moves}
 use Rattle.dsa_cli.specs.Worked.{client_seats_after, engine_seats_after}
 use Rattle.dsa_cli.proofs.FewNumbers.{below_one, below_two}
+
+-- ---- what was answered
+
+-- a call that may come after this history
+answered : (receipts history : List Step) (call : Step) → length history ≤ 20
+    → is_legal (caps_for 2) history ≡ true → length receipts ≤ length history
+    → is_some (after_answer (device_of (caps_for 2) 20 history) call.event call.reply) ≡ true
+    → IsCallAnswered (caps_for 2) 20 receipts call
+answered receipts history call within legal seen may =
+    answered_after (caps_for 2) 20 receipts history call.event call.reply refl (lit≤ tt) within legal seen may
 
 -- ---- the client
 
@@ -56,7 +68,12 @@ client_ran = (
     runs = record {
       calls = three_moves;
       receipts = refl;
-      in_order = three (NextSubmission 0 script) (refl, λ d. refl) (refl, λ d. refl) (refl, λ d. refl);
+      in_order = three (NextSubmission (caps_for 2) 20 (fresh 0) script)
+          (answered [] (setup_steps 2) first (lit≤ tt) refl (lit≤ tt) refl, λ d. refl)
+          (answered (first ∷ []) (setup_steps 2 ++ first ∷ []) second (lit≤ tt) refl (lit≤ tt) refl, λ d. refl) (
+            answered (first ∷ second ∷ []) (setup_steps 2 ++ first ∷ second ∷ []) third (lit≤ tt) refl (lit≤ tt) refl,
+            λ d. refl,
+          );
       stops = three (λ before call. found_full before ≡ 0) refl refl refl;
       turns = refl;
       within = lit≤ tt;
@@ -79,39 +96,43 @@ all_submitted = All-from_recursion (λ (step : Step). step.event ≡ submission_
 -- ---- an engine
 
 module _ (e cell name : ℕ) where
-  abbrev taken : Option Step
-  taken = Some (record { event = event.Dispatch e; reply = reply.Dispatch (Taken (record_ticket cell name) 0) })
+  abbrev taken : Step
+  taken = record { event = event.Dispatch e; reply = reply.Dispatch (Taken (record_ticket cell name) 0) }
 
-  abbrev no_fetch : Option Step
-  no_fetch = Some (record { event = event.Fetch e engine_script.member; reply = reply.Fetch NoBatch })
+  abbrev no_fetch : Step
+  no_fetch = record { event = event.Fetch e engine_script.member; reply = reply.Fetch NoBatch }
 
-  abbrev no_start : Option Step
-  no_start = Some (record { event = event.Start e; reply = reply.Start Nothing })
+  abbrev no_start : Step
+  no_start = record { event = event.Start e; reply = reply.Start Nothing }
 
-  abbrev ended : Option Step
-  ended = Some (record {
+  abbrev ended : Step
+  ended = record {
     event = event.Finish e (record_ticket cell name) engine_script.outcome;
     reply = reply.Finish (Done 1);
-  })
+  }
 
   -- the turns, each by those before it
-  four : (next : List (Option Step) → Option Step → Type 0) → next [] taken → next (taken ∷ []) no_fetch
-      → next (taken ∷ no_fetch ∷ []) no_start → next (taken ∷ no_fetch ∷ no_start ∷ []) ended
-      → InOrder next (taken ∷ no_fetch ∷ no_start ∷ ended ∷ [])
+  four : (next : List (Option Step) → Option Step → Type 0) → next [] (Some taken)
+      → next (Some taken ∷ []) (Some no_fetch) → next (Some taken ∷ Some no_fetch ∷ []) (Some no_start)
+      → next (Some taken ∷ Some no_fetch ∷ Some no_start ∷ []) (Some ended)
+      → InOrder next (Some taken ∷ Some no_fetch ∷ Some no_start ∷ Some ended ∷ [])
   four next one two three last =
-      in_order_more next (taken ∷ no_fetch ∷ no_start ∷ []) ended
-      (in_order_more next (taken ∷ no_fetch ∷ []) no_start
-      (in_order_more next (taken ∷ []) no_fetch
-      (in_order_more next [] taken (in_order_none next) one) two) three) last
+      in_order_more next (Some taken ∷ Some no_fetch ∷ Some no_start ∷ []) (Some ended)
+      (in_order_more next (Some taken ∷ Some no_fetch ∷ []) (Some no_start)
+      (in_order_more next (Some taken ∷ []) (Some no_fetch)
+      (in_order_more next [] (Some taken) (in_order_none next) one) two) three) last
 
-  engine_ran : RanAsEngine (load 1 2 3 4) e (record { number = e; receipts = entry_worked_off e cell name })
-  engine_ran = (
+  engine_ran : IsCallAnswered (caps_for 2) 20 [] taken → IsCallAnswered (caps_for 2) 20 (taken ∷ []) no_fetch
+      → IsCallAnswered (caps_for 2) 20 (taken ∷ []) no_start → IsCallAnswered (caps_for 2) 20 (taken ∷ []) ended
+      → RanAsEngine (load 1 2 3 4) e (record { number = e; receipts = entry_worked_off e cell name })
+  engine_ran one two three last = (
     record { turns = 4; ended = TurnsOut },
     record {
-      turns = taken ∷ no_fetch ∷ no_start ∷ ended ∷ [];
+      turns = Some taken ∷ Some no_fetch ∷ Some no_start ∷ Some ended ∷ [];
       number = refl;
       receipts = refl;
-      in_order = four (NextTurn e engine_script) (refl, refl) (refl, refl) (refl, refl) (refl, refl);
+      in_order = four (NextTurn (caps_for 2) 20 (fresh e) engine_script) (one, refl) (two, refl) (three, refl)
+          (last, refl);
       stops = four (λ before turn. found_full (calls_of before) ≡ 0) refl refl refl refl;
       count = refl;
       within = lit≤ tt;
@@ -122,6 +143,27 @@ module _ (e cell name : ℕ) where
     },
     (λ end. cc),
   )
+
+-- the history before engine 0 works, and before engine 1 does
+abbrev before_first : List Step
+before_first = setup_steps 2 ++ three_moves
+
+abbrev before_second : List Step
+before_second = setup_steps 2 ++ three_moves ++ entry_worked_off 0 3 0
+
+first_engine_ran : RanAsEngine (load 1 2 3 4) 0 (record { number = 0; receipts = entry_worked_off 0 3 0 })
+first_engine_ran = engine_ran 0 3 0
+    (answered [] before_first (taken 0 3 0) (lit≤ tt) refl (lit≤ tt) refl)
+    (answered (taken 0 3 0 ∷ []) (before_first ++ taken 0 3 0 ∷ []) (no_fetch 0 3 0) (lit≤ tt) refl (lit≤ tt) refl)
+    (answered (taken 0 3 0 ∷ []) (before_first ++ taken 0 3 0 ∷ []) (no_start 0 3 0) (lit≤ tt) refl (lit≤ tt) refl)
+    (answered (taken 0 3 0 ∷ []) (before_first ++ taken 0 3 0 ∷ []) (ended 0 3 0) (lit≤ tt) refl (lit≤ tt) refl)
+
+second_engine_ran : RanAsEngine (load 1 2 3 4) 1 (record { number = 1; receipts = entry_worked_off 1 5 1 })
+second_engine_ran = engine_ran 1 5 1
+    (answered [] before_second (taken 1 5 1) (lit≤ tt) refl (lit≤ tt) refl)
+    (answered (taken 1 5 1 ∷ []) (before_second ++ taken 1 5 1 ∷ []) (no_fetch 1 5 1) (lit≤ tt) refl (lit≤ tt) refl)
+    (answered (taken 1 5 1 ∷ []) (before_second ++ taken 1 5 1 ∷ []) (no_start 1 5 1) (lit≤ tt) refl (lit≤ tt) refl)
+    (answered (taken 1 5 1 ∷ []) (before_second ++ taken 1 5 1 ∷ []) (ended 1 5 1) (lit≤ tt) refl (lit≤ tt) refl)
 
 -- ---- the run
 
@@ -149,7 +191,7 @@ returns-clause-totals c = record {
   engine_runs = below_two
       (λ n. RanAsEngine (load 1 2 3 4) n
       (record { number = n; receipts = steps_of_actor steps_of_three_moves (Engine n) }))
-      (engine_ran 0 3 0) (engine_ran 1 5 1);
+      first_engine_ran second_engine_ran;
 }
 
 pub returns-clause-seats : goal.returns-clause-seats
@@ -170,5 +212,5 @@ returns-clause-seats c = record {
       (λ n. RanAsClient (load 1 2 3 4) n (slice_index_or client_seats_after n other)) client_ran client less;
   engine_runs = λ engine other less. below_two
       (λ n. RanAsEngine (load 1 2 3 4) n (slice_index_or engine_seats_after n other))
-      (engine_ran 0 3 0) (engine_ran 1 5 1) engine less;
+      first_engine_ran second_engine_ran engine less;
 }

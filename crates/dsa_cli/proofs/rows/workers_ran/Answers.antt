@@ -3,37 +3,40 @@ use Rattle.std.proofs.Common.{inl, inr, ◌≡◌, ◌≢◌, ◌<◌, ◌⊎◌
 use Rattle.std.proofs.Common.{refl, ap, subst, ◌∙◌, get_or, take, arith}
 use Rattle.std.proofs.lemmas.{Bool.{cases_Bool, cases_lt}, List.Sums.{get_or-le-sum_by}}
 use Rattle.dsa_book.specs.declared.answer.Reply.{Reply}
-use Rattle.dsa_book.specs.declared.answer.Reply.TheVariants.{Submit, Dispatch, Fetch, Start, Finish, Issue, Poll}
-use Rattle.dsa_book.specs.declared.answer.Reply.TheVariants.{Write, Clear}
-use Rattle.dsa_book.specs.declared.answer.SubmitAnswer.TheVariants.{Accepted, Retry, Dropped, Full}
+use Rattle.dsa_book.specs.declared.answer.Reply.TheVariants.{Submit}
+use Rattle.dsa_book.specs.declared.answer.SubmitAnswer.{SubmitAnswer, TheVariants.{Accepted, Retry, Dropped, Full}}
 use Rattle.dsa_book.specs.declared.event.Event.{Event}
 use Rattle.dsa_book.specs.declared.event.{Kind.TheVariants.{Enqcmd}, Portal.TheVariants.{Limited}, Step.{Step}}
 use Rattle.dsa_book.specs.Machine.{is_stored, stored_steps}
-use Rattle.dsa_shared.specs.Seat.{SeatLog, fresh}
-use Rattle.dsa_workers.specs.Calls.{is_answer, is_history_full, steps_done, found_full, submission_of_client_step}
+use Rattle.dsa_regs.specs.declared.Caps.{Caps}
+use Rattle.dsa_shared.specs.{Seat.{SeatLog, fresh}, Locked.{IsAnsweredFor}}
+use Rattle.dsa_workers.specs.Calls.{is_history_full, steps_done, found_full, submission_of_client_step}
+use Rattle.dsa_workers.proofs.Answered.{answer_has}
 use Rattle.dsa_workers.specs.declared.scripts.ClientStep.{ClientStep}
 use Rattle.dsa_workers.specs.declared.scripts.WorkerEnd.{WorkerEnd}
 use Rattle.dsa_workers.specs.declared.scripts.WorkerEnd.TheVariants.{ScriptDone, TurnsOut, HistoryFull}
 use Rattle.dsa_cli.specs.declared.options.Workload.{Workload}
-use Rattle.dsa_cli.specs.{Threads.{RanAsClient, RanAsEngine}, Worked.{load, page_move_bytes, two_retries}}
+use Rattle.dsa_cli.specs.Threads.{RanAsClient, RanAsEngine, caps_for, capacity_for}
+use Rattle.dsa_cli.specs.Worked.{load, page_move_bytes, two_retries}
 use Rattle.dsa_cli.proofs.ThreadTotals.{filter_kept}
 
--- the answer to a submission is stored unless the history is full
-stored_submit : (client : ℕ) (step : ClientStep) (reply : Reply)
-    → is_answer (submission_of_client_step client step) reply ≡ true → is_history_full reply ≡ false
-    → is_stored reply ≡ true
-stored_submit client step (Submit (Accepted ticket)) answer room = refl
-stored_submit client step (Submit (Retry cause)) answer room = refl
-stored_submit client step (Submit (Dropped cause)) answer room = refl
-stored_submit client step (Submit Full) answer room = absurd cc
-stored_submit client step (Dispatch reply) answer room = absurd cc
-stored_submit client step (Fetch reply) answer room = absurd cc
-stored_submit client step (Start reply) answer room = absurd cc
-stored_submit client step (Finish reply) answer room = absurd cc
-stored_submit client step (Issue reply) answer room = absurd cc
-stored_submit client step (Poll reply) answer room = absurd cc
-stored_submit client step (Write reply) answer room = absurd cc
-stored_submit client step (Clear reply) answer room = absurd cc
+-- a reply that is stored unless the history is full
+abbrev StoredWithRoom : Reply → Type 0
+StoredWithRoom reply = is_history_full reply ≡ false → is_stored reply ≡ true
+
+-- the answer to a submission is such a reply
+submission_stored : (answer : SubmitAnswer) → StoredWithRoom (Submit answer)
+submission_stored (Accepted ticket) room = refl
+submission_stored (Retry cause) room = refl
+submission_stored (Dropped cause) room = refl
+submission_stored Full room = absurd cc
+
+-- so is what a client was answered
+stored_submit : (caps : Caps) (capacity : ℕ) (receipts : List Step) (client : ℕ) (step : ClientStep) (reply : Reply)
+    → IsAnsweredFor caps capacity receipts (submission_of_client_step client step) reply → StoredWithRoom reply
+stored_submit caps capacity receipts client step reply answer =
+    answer_has StoredWithRoom caps capacity receipts (submission_of_client_step client step) reply
+    (submission_stored Full) (λ s choice. submission_stored _) answer
 
 -- where no call found the history full, none of them did
 none_found : (calls : List Step) → found_full calls ≡ 0 → (k : ℕ) (d : Step) → k < length calls
@@ -66,9 +69,12 @@ client_went_on load c seat ran =
     let none : found_full calls ≡ 0 = no_full (found_full calls) (λ more. ran.5 (runs.full.1 more)) in
     let kept : stored_steps calls ≡ calls = filter_kept (λ (call : Step). is_stored call.reply) calls (λ k d lt.
     let next = runs.in_order k d lt in
-    stored_submit c (get_or script (steps_done (take k calls)) some) (get_or calls k d).reply
-    (subst (λ (e : Event). is_answer e (get_or calls k d).reply ≡ true) (next.1 some) next.0)
-    (none_found calls none k d lt)) in
+    let caps = caps_for load.engines in
+    let receipts = stored_steps (take k calls) in
+    stored_submit caps (capacity_for load) receipts c (get_or script (steps_done (take k calls)) some)
+    (get_or calls k d).reply
+    (subst (λ (e : Event). IsAnsweredFor caps (capacity_for load) receipts e (get_or calls k d).reply) (next.1 some)
+    next.0) (none_found calls none k d lt)) in
     let all : seat.receipts ≡ calls = runs.receipts ∙ kept in
     ends stint.ended
     (λ e. ap (λ (l : List Step). length l) all ∙ runs.turns ∙ runs.out_of_turns e)

@@ -12,6 +12,12 @@ run_seats-requires-clause-engines g c κs within =
     subst (λ n. AllFresh n c.in-Ok.made.1.engines.items) (ap (λ (d : Running). d.caps.engines) c.requires.device)
     c.in-Ok.ensures.engines
 
+pub run_seats-requires-clause-sharing : goal.run_seats-requires-clause-sharing
+run_seats-requires-clause-sharing g c κs within = (
+  c.requires.sharing.0 ∙ ap (λ (d : Running). d.caps) c.requires.device,
+  c.requires.sharing.1 ∙ ap (λ (d : Running). d.capacity) c.requires.device,
+)
+
 pub returns-then-admin_was_first-clause-ok : goal.returns-then-admin_was_first-clause-ok
 returns-then-admin_was_first-clause-ok g c =
     let settled = c.in-Ok-settle.ensures in

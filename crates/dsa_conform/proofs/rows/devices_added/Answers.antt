@@ -20,6 +20,7 @@ returns-clause-added c t = record {
       (inl (inl refl)) (inr refl);
   all = to_one (λ way. In way (way_at_first 8 t ∷ way_at_first 9 t ∷ [])) (way_at_first 8 t) (inl refl);
   here = (way_at_first 9 t, inr (inl refl), itself smallest_device_at_first);
+  once = λ among. absurd (not_alike t among);
 }
 
 pub returns-clause-another : goal.returns-clause-another
@@ -37,6 +38,10 @@ returns-clause-not_added c t is = not_alike t is.here
 
 pub returns-clause-not_there : goal.returns-clause-not_there
 returns-clause-not_there c t is = is.here.1
+
+pub returns-clause-twice : goal.returns-clause-twice
+returns-clause-twice c t is =
+    omega (arith, ap length (is.once (way_at_first 9 t, inl refl, itself smallest_device_at_first)))
 
 pub returns-clause-at_first : goal.returns-clause-at_first
 returns-clause-at_first c t is = record { follows = follows; queues = refl }

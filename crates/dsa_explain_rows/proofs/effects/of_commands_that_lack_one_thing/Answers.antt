@@ -66,40 +66,32 @@ numbered : (number other : ℕ) (pairs : List HeldEntry) → 0 < other
 numbered number other [] more is = let none : 0 ≡ other = is in absurd (omega (arith, more, none))
 numbered number other (pair ∷ pairs) more is = is
 
-not_three : (command : Command) → deed_of command ≡ Abort → number_of_command command ≡ 3 → ⊥
-not_three EnableDevice deed number = omega (arith, number)
-not_three DisableDevice deed number = omega (arith, number)
-not_three DrainAll deed number = grind (arith, deed)
-not_three AbortAll deed number = omega (arith, number)
-not_three ResetDevice deed number = omega (arith, number)
-not_three (EnableWq queue) deed number = omega (arith, number)
-not_three (DisableWq queues) deed number = omega (arith, number)
-not_three (DrainWq queues) deed number = omega (arith, number)
-not_three (AbortWq queues) deed number = omega (arith, number)
-not_three (ResetWq queues) deed number = omega (arith, number)
-not_three (DrainPasid pasid) deed number = omega (arith, number)
-not_three (AbortPasid pasid) deed number = omega (arith, number)
+-- no command has this deed and this number, 3 or 4, where neither Drain All nor Abort All does
+none_of : (deed : Deed) (n : ℕ) → 2 < n → n < 5
+    → (deed_of DrainAll ≡ deed → number_of_command DrainAll ≡ n → ⊥)
+    → (deed_of AbortAll ≡ deed → number_of_command AbortAll ≡ n → ⊥)
+    → (command : Command) → deed_of command ≡ deed → number_of_command command ≡ n → ⊥
+none_of deed n more less drain abort EnableDevice is number = omega (arith, more, number)
+none_of deed n more less drain abort DisableDevice is number = omega (arith, more, number)
+none_of deed n more less drain abort DrainAll is number = drain is number
+none_of deed n more less drain abort AbortAll is number = abort is number
+none_of deed n more less drain abort ResetDevice is number = omega (arith, less, number)
+none_of deed n more less drain abort (EnableWq queue) is number = omega (arith, less, number)
+none_of deed n more less drain abort (DisableWq queues) is number = omega (arith, less, number)
+none_of deed n more less drain abort (DrainWq queues) is number = omega (arith, less, number)
+none_of deed n more less drain abort (AbortWq queues) is number = omega (arith, less, number)
+none_of deed n more less drain abort (ResetWq queues) is number = omega (arith, less, number)
+none_of deed n more less drain abort (DrainPasid pasid) is number = omega (arith, less, number)
+none_of deed n more less drain abort (AbortPasid pasid) is number = omega (arith, less, number)
 
 pub returns-clause-no_abort : goal.returns-clause-no_abort
-returns-clause-no_abort c is = not_three is.command is.deed
+returns-clause-no_abort c is = none_of Abort 3 (lit≤ tt) (lit≤ tt)
+    (λ deed number. grind (arith, deed)) (λ deed number. omega (arith, number)) is.command is.deed
     (numbered (number_of_command is.command) 3 _ (lit≤ tt) (ap (λ (s : State). first_number s.work.fates) is.after))
 
-not_four : (command : Command) → deed_of command ≡ Reset → number_of_command command ≡ 4 → ⊥
-not_four EnableDevice deed number = omega (arith, number)
-not_four DisableDevice deed number = omega (arith, number)
-not_four DrainAll deed number = omega (arith, number)
-not_four AbortAll deed number = grind (arith, deed)
-not_four ResetDevice deed number = omega (arith, number)
-not_four (EnableWq queue) deed number = omega (arith, number)
-not_four (DisableWq queues) deed number = omega (arith, number)
-not_four (DrainWq queues) deed number = omega (arith, number)
-not_four (AbortWq queues) deed number = omega (arith, number)
-not_four (ResetWq queues) deed number = omega (arith, number)
-not_four (DrainPasid pasid) deed number = omega (arith, number)
-not_four (AbortPasid pasid) deed number = omega (arith, number)
-
 pub returns-clause-no_reset : goal.returns-clause-no_reset
-returns-clause-no_reset c is = not_four is.command is.deed
+returns-clause-no_reset c is = none_of Reset 4 (lit≤ tt) (lit≤ tt)
+    (λ deed number. omega (arith, number)) (λ deed number. grind (arith, deed)) is.command is.deed
     (numbered (number_of_command is.command) 4 _ (lit≤ tt) (ap (λ (s : State). first_number s.work.fates) is.after))
 
 not_off : (queue : ℕ) → has_queue (one_group_in On (On ∷ On ∷ [])) queue ≡ true

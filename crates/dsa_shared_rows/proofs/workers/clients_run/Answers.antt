@@ -1,16 +1,20 @@
 use Rattle.dsa_shared_rows.proofs.workers.clients_run.Goals as goal
-use Rattle.std.proofs.Common.{◌≡◌, ℕ, ◌<◌, zero, suc, List, [], ◌∷◌, arith, lit≤, refl, slice_index_or}
-use Rattle.std.specs.Prelude.{take}
-use Rattle.dsa_book.specs.declared.event.Step.{Step}
+use Rattle.std.proofs.Common.{◌≡◌, zero, suc, [], ◌∷◌, arith, lit≤, refl}
 use Rattle.dsa_book.specs.declared.answer.SubmitAnswer.TheVariants.{Accepted}
 use Rattle.dsa_workers.specs.Calls.{found_full, InOrder, NextSubmission}
-use Rattle.dsa_shared_rows.specs.Worked.{script_call, script_step, ticket_named_so}
+use Rattle.dsa_shared_rows.proofs.ByKind.{answered_wide}
+use Rattle.dsa_shared_rows.specs.Worked.{script_call, script_step, seat_of, ticket_named_so, wide_device, wide_set_up}
 
-in_order : InOrder (NextSubmission 3 (script_step 6 ∷ [])) (script_call 3 6 (Accepted (ticket_named_so 1)) ∷ [])
-in_order zero d lt = (refl, λ d. refl)
+in_order : InOrder (NextSubmission wide_device 9 (seat_of 3 []) (script_step 6 ∷ []))
+    (script_call 3 6 (Accepted (ticket_named_so 0)) ∷ [])
+in_order zero d lt = (
+  answered_wide 9 [] wide_set_up (script_call 3 6 (Accepted (ticket_named_so 0))) (lit≤ tt) (lit≤ tt) refl (lit≤ tt)
+      refl,
+  λ d. refl,
+)
 in_order (suc k) d lt = absurd (omega (arith, lt))
 
-not_full : InOrder (λ before call. found_full before ≡ 0) (script_call 3 6 (Accepted (ticket_named_so 1)) ∷ [])
+not_full : InOrder (λ before call. found_full before ≡ 0) (script_call 3 6 (Accepted (ticket_named_so 0)) ∷ [])
 not_full zero d lt = refl
 not_full (suc k) d lt = absurd (omega (arith, lt))
 
@@ -18,7 +22,7 @@ pub returns-clause-done : goal.returns-clause-done
 returns-clause-done c = record {
   number = refl;
   runs = record {
-    calls = script_call 3 6 (Accepted (ticket_named_so 1)) ∷ [];
+    calls = script_call 3 6 (Accepted (ticket_named_so 0)) ∷ [];
     receipts = refl;
     in_order = in_order;
     stops = not_full;

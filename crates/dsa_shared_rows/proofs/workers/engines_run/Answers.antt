@@ -1,18 +1,25 @@
 use Rattle.dsa_shared_rows.proofs.workers.engines_run.Goals as goal
-use Rattle.std.proofs.Common.{◌≡◌, ℕ, ◌<◌, zero, suc, List, [], ◌∷◌, Option, Some, None, ap, arith, length, lit≤, refl, rules, slice_index_or, sym, subst}
+use Rattle.std.proofs.Common.{◌≡◌, ℕ, ◌<◌, zero, suc, List, [], ◌∷◌, Option, Some, None, arith, length, lit≤, refl, slice_index_or, subst}
 use Rattle.std.specs.Prelude.{Bool, option_map, take, true, false}
 use Rattle.dsa_book.specs.{declared.event.Step.{Step}, Machine.{is_stored, stored_steps}}
 use Rattle.dsa_book.specs.declared.event.Event.{Event, TheVariants.{Dispatch, Fetch}}
 use Rattle.dsa_book.specs.declared.answer.{DispatchAnswer.TheVariants.{Taken, Full}, Reply.{Reply}}
 use Rattle.dsa_workers.specs.Calls.{calls_of, engine_event, found_full, tickets_of, InOrder, NextTurn}
-use Rattle.dsa_shared_rows.specs.Worked.{asked_first, member_fetched, member_script, taken_of_client, ticket_named_so}
+use Rattle.dsa_shared_rows.proofs.ByKind.{answered_full, answered_wide}
+use Rattle.dsa_shared_rows.specs.Worked.{asked_first, fetch_of_engine, member_fetched, member_script, seat_of}
+use Rattle.dsa_shared_rows.specs.Worked.{taken_of_client, ticket_named_so, wide_device, wide_with_entry}
 
-taken_first : InOrder (NextTurn 3 member_script) (Some (asked_first 3 (Taken (ticket_named_so 3) 6)) ∷ [])
-taken_first zero d lt = (refl, refl)
+taken_first : InOrder (NextTurn wide_device 9 (seat_of 3 (fetch_of_engine 3 ∷ [])) member_script)
+    (Some (asked_first 3 (Taken (ticket_named_so 0) 6)) ∷ [])
+taken_first zero d lt = (
+  answered_wide 9 (fetch_of_engine 3 ∷ []) wide_with_entry (asked_first 3 (Taken (ticket_named_so 0) 6)) (lit≤ tt)
+      (lit≤ tt) refl (lit≤ tt) refl,
+  refl,
+)
 taken_first (suc k) d lt = absurd (omega (arith, lt))
 
-full_first : InOrder (NextTurn 3 member_script) (Some (asked_first 3 Full) ∷ [])
-full_first zero d lt = (refl, refl)
+full_first : InOrder (NextTurn wide_device 0 (seat_of 3 []) member_script) (Some (asked_first 3 Full) ∷ [])
+full_first zero d lt = (answered_full (asked_first 3 Full) refl, refl)
 full_first (suc k) d lt = absurd (omega (arith, lt))
 
 one_turn : (turn : Option Step) (k : ℕ) (d : Option Step) → k < 1
@@ -77,11 +84,11 @@ alone (turn ∷ other ∷ turns) one first same = omega (arith, one)
 
 pub returns-clause-out_of_turns : goal.returns-clause-out_of_turns
 returns-clause-out_of_turns c = record {
-  turns = Some (asked_first 3 (Taken (ticket_named_so 3) 6)) ∷ [];
+  turns = Some (asked_first 3 (Taken (ticket_named_so 0) 6)) ∷ [];
   number = refl;
   receipts = refl;
   in_order = taken_first;
-  stops = one_turn (Some (asked_first 3 (Taken (ticket_named_so 3) 6)));
+  stops = one_turn (Some (asked_first 3 (Taken (ticket_named_so 0) 6)));
   count = refl;
   within = lit≤ tt;
   out_of_turns = λ is. refl;

@@ -1,14 +1,14 @@
 use Rattle.dsa_shared_rows.proofs.workers.workers_of_seats.Goals as goal
-use Rattle.std.proofs.Common.{ℕ, ◌<◌, zero, suc, List, [], ◌∷◌, arith, lit≤, refl}
-use Rattle.std.specs.Prelude.{slice_index_or}
+use Rattle.std.proofs.Common.{ℕ, zero, suc, [], ◌∷◌, arith, lit≤, refl}
 use Rattle.std.specs.declared.alloc.Global.{Global}
-use Rattle.dsa_shared.specs.Seat.{SeatLog}
-use Rattle.dsa_workers.specs.declared.scripts.{EngineScript.{EngineScript}, WorkerEnd.TheVariants.{TurnsOut}}
+use Rattle.dsa_workers.specs.declared.scripts.{WorkerEnd.TheVariants.{TurnsOut}}
 use Rattle.dsa_workers.specs.Workers.{ReportsEngines, RunsEngine, RunsEngines}
 use Rattle.dsa_shared_rows.specs.Worked.{lane_of, member_script, report_of, script_vector, seat_of, stint_of}
+use Rattle.dsa_shared_rows.specs.Worked.{wide_device}
 
 -- an engine without a turn
-no_turn : (number : ℕ) → RunsEngine member_script 0 (seat_of number []) (seat_of number []) (stint_of 0 TurnsOut)
+no_turn : (number : ℕ)
+    → RunsEngine wide_device 9 member_script 0 (seat_of number []) (seat_of number []) (stint_of 0 TurnsOut)
 no_turn number = record {
   turns = [];
   number = refl;
@@ -23,13 +23,13 @@ no_turn number = record {
   grows = record { prefix = refl; bound = lit≤ tt };
 }
 
-engines : (memory : Global) → ReportsEngines (member_script ∷ member_script ∷ []) 0 1
+engines : (memory : Global) → ReportsEngines wide_device 9 (member_script ∷ member_script ∷ []) 0 1
     (seat_of 3 [] ∷ seat_of 4 [] ∷ []) (seat_of 3 [] ∷ seat_of 4 [] ∷ []) (report_of memory)
 engines memory zero d e lt = no_turn 3
 engines memory (suc zero) d e lt = no_turn 4
 engines memory (suc (suc k)) d e lt = absurd (omega (arith, lt))
 
-lanes : RunsEngines (member_script ∷ []) 0 (lane_of (seat_of 3 []) ∷ []) (lane_of (seat_of 3 []) ∷ [])
+lanes : RunsEngines wide_device 9 (member_script ∷ []) 0 (lane_of (seat_of 3 []) ∷ []) (lane_of (seat_of 3 []) ∷ [])
 lanes zero d e lt = no_turn 3
 lanes (suc k) d e lt = absurd (omega (arith, lt))
 

@@ -6,7 +6,7 @@ use Rattle.dsa_workers.proofs.admin.issue_all.Goals.{then-goes_on, else-goes_on}
 use Rattle.std.proofs.lemmas.Grind.{common_steps}
 
 pub loop-turn-init : goal.loop-turn-init
-loop-turn-init g c = asks_none _ _
+loop-turn-init g c = asks_none _ _ _ _
 
 pub returns-then-at-script : goal.returns-then-at-script
 returns-then-at-script g c =
@@ -15,7 +15,7 @@ returns-then-at-script g c =
 
 pub returns-then-is_full : goal.returns-then-is_full
 returns-then-is_full g c =
-    asks_full _ _ _ _ _ c.loop-turn.turn c.loop-turn.at c.loop-turn.waits _ c.turn_once-reply.result
+    asks_full _ _ _ _ _ _ _ c.loop-turn.turn c.loop-turn.at c.loop-turn.waits _ c.turn_once-reply.result
     c.loop-turn.invariant c.turn_once-reply.ensures.answer c.turn_once-reply.ensures.seat
     (sym c.is_full.ensures ∙ c.if-is_full.true) (omega arith) (omega arith)
 
@@ -28,9 +28,10 @@ loop-turn-preserved g c =
       | else-goes_on w ↦ moved_by (goes_on c.turn_once-reply.result) false _ _ (sym c.goes_on.ensures
           ∙ w.if-goes_on.false) (omega (arith, w.at-is))
     ] in
-    subst (λ b. AsksSoFar c.args.script.now c.args.seat.now c.turn_once-reply.new.seat
+    subst (λ b. AsksSoFar g.L.Sharing.caps g.L.Sharing.capacity c.args.script.now c.args.seat.now
+    c.turn_once-reply.new.seat
     (c.loop-turn.turn + 1) c.if-goes_on.at b) (ap not (sym c.goes_on-waits.ensures))
-    (asks_more _ _ _ _ c.loop-turn.turn c.loop-turn.at _ c.loop-turn.waits _ c.turn_once-reply.result
+    (asks_more _ _ _ _ _ _ c.loop-turn.turn c.loop-turn.at _ c.loop-turn.waits _ c.turn_once-reply.result
     c.loop-turn.invariant c.turn_once-reply.ensures.answer c.turn_once-reply.ensures.seat
     (sym c.is_full.ensures ∙ c.if-is_full.false) (omega arith) moved)
 

@@ -8,9 +8,11 @@ returns-clause-engines g c k d e lt =
     let script = get_or c.args.scripts.now k e in
     let turns = c.args.run.now.turns in
     let below : k < length did.argument.now.items = omega (arith, ap (λ v. length v.items) did.argument_is, lt) in
-    subst (λ new. RunsEngine script turns (get_or c.args.rest.now.engines.items k d).seat
+    subst (λ new. RunsEngine g.L.Sharing.caps g.L.Sharing.capacity script turns
+    (get_or c.args.rest.now.engines.items k d).seat
     (get_or new.items k d).seat (get_or new.items k d).stint) did.left
-    (subst (λ old. RunsEngine script turns (get_or old.items k d).seat (get_or did.after_call.now.items k d).seat
+    (subst (λ old. RunsEngine g.L.Sharing.caps g.L.Sharing.capacity script turns (get_or old.items k d).seat
+    (get_or did.after_call.now.items k d).seat
     (get_or did.after_call.now.items k d).stint) did.argument_is (did.call.0 k d e below))
 
 pub returns-clause-len : goal.returns-clause-len
@@ -22,6 +24,8 @@ pub returns-clause-admin : goal.returns-clause-admin
 returns-clause-admin g c =
     let did = c.join_pair.ensures.second in
     let turns = c.args.run.now.turns in
-    subst (λ new. RunsAdmin c.args.commands.now turns c.args.rest.now.admin.seat new.seat new.stint) did.left
-    (subst (λ old. RunsAdmin c.args.commands.now turns old.seat did.after_call.now.seat did.after_call.now.stint)
+    subst (λ new. RunsAdmin g.L.Sharing.caps g.L.Sharing.capacity c.args.commands.now turns
+    c.args.rest.now.admin.seat new.seat new.stint) did.left
+    (subst (λ old. RunsAdmin g.L.Sharing.caps g.L.Sharing.capacity c.args.commands.now turns old.seat
+    did.after_call.now.seat did.after_call.now.stint)
     did.argument_is did.call)

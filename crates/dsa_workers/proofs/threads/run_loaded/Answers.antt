@@ -28,7 +28,7 @@ reported g c = record {
 pub returns-clause-clients : goal.returns-clause-clients
 returns-clause-clients g c k d e lt =
     let all = reported g c in
-    runs_back (λ n s t stint. RunsClient
+    runs_back (λ n s t stint. RunsClient g.L.Sharing.caps g.L.Sharing.capacity
     (get_or c.args.scripts.now.clients.items n e).items c.args.run.now.turns s t stint) _ _ _ _ _ _ [] _ [] _ 0
     c.load-client_lanes.ensures.seats c.unload.ensures.seats (search rules) all.turns all.ends refl refl
     (λ n x below. c.run_all.ensures.clients n x e below) k k d (omega arith) lt
@@ -36,7 +36,7 @@ returns-clause-clients g c k d e lt =
 pub returns-clause-engines : goal.returns-clause-engines
 returns-clause-engines g c k d e lt =
     let all = reported g c in
-    runs_back (λ n s t stint. RunsEngine
+    runs_back (λ n s t stint. RunsEngine g.L.Sharing.caps g.L.Sharing.capacity
     (get_or c.args.scripts.now.engines.items n e) c.args.run.now.turns s t stint) _ _ _ _ _ _
     (turns_of c.run_all.new.clients.items) _ (ends_of c.run_all.new.clients.items) _ (vec_len c.args.clients.now)
     c.load-engine_lanes.ensures.seats c.unload-2.ensures.seats (search rules) all.turns all.ends
@@ -48,10 +48,11 @@ returns-clause-admin g c =
     let all = reported g c in
     let t = get_last _ _ _ _ _ _ 0 all.turns (length-map _ _ ∙ all.clients) (length-map _ _ ∙ all.engines) in
     let u = get_last _ _ _ _ _ _ TurnsOut all.ends (length-map _ _ ∙ all.clients) (length-map _ _ ∙ all.engines) in
-    subst (λ a. RunsAdmin c.args.scripts.now.admin.items c.args.run.now.turns a c.run_all.new.rest.admin.seat
+    subst (λ a. RunsAdmin g.L.Sharing.caps g.L.Sharing.capacity c.args.scripts.now.admin.items c.args.run.now.turns
+    a c.run_all.new.rest.admin.seat
     (stint_at (record { turns = c.push_reserved.new.self; ended = c.push_reserved-2.new.self })
     (vec_len c.args.clients.now + vec_len c.args.engines.now))) c.idle.ensures.0
-    (stint_same _ _ _ _ _ _ _ t u c.run_all.ensures.admin)
+    (stint_same _ _ _ _ _ _ _ _ _ t u c.run_all.ensures.admin)
 
 pub returns-clause-items : goal.returns-clause-items
 returns-clause-items g c =

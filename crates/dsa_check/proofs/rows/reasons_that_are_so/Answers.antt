@@ -1,0 +1,17 @@
+use Rattle.dsa_check.proofs.rows.reasons_that_are_so.Goals as goal
+use Rattle.std.proofs.Common.{refl}
+
+pub returns-clause-missing : goal.returns-clause-missing
+returns-clause-missing c key = refl
+
+pub returns-clause-past : goal.returns-clause-past
+returns-clause-past c key = (refl, refl, refl)
+
+pub returns-clause-odd : goal.returns-clause-odd
+returns-clause-odd c key = (refl, refl, refl)
+
+pub returns-clause-letter : goal.returns-clause-letter
+returns-clause-letter c key = (refl, refl)
+
+pub returns-clause-item : goal.returns-clause-item
+returns-clause-item c = refl
