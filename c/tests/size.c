@@ -91,6 +91,13 @@ static void sizes(void)
 	CHECK(dsa_size(&small_caps, UINT64_MAX) == 0 && dsa_size(&none, UINT64_MAX) == 0);
 }
 
+/* Histories of many lengths, each a third longer than the one before. */
+static void lengths(void)
+{
+	for (uint64_t capacity = 1; capacity < 1048576; capacity += capacity / 3 + 1)
+		CHECK(dsa_size(&small_caps, capacity) == opening(&small_caps, capacity, DSA_OPENED));
+}
+
 /* Memory is refused at each request in turn. What was taken before is given back, and the handle stays closed. */
 static void refused(const struct dsa_caps *caps)
 {
@@ -148,6 +155,25 @@ static void closed_while_held(uint32_t word, uint32_t kind)
 	CHECK(held() == 0 && dsa_held(&device) == DSA_NONE);
 }
 
+/* Closes a device that holds this many entries, all in one queue. */
+static void closed_with(uint32_t count)
+{
+	const struct dsa_caps caps = { 1, 1, 1, 4096, 255, 16, 10, 31 };
+	const struct dsa_queue queue = { 4096, 4096, 0, 1, 10, 31, 0 };
+	const struct dsa_group group = { 1, 1, 0, 255 };
+	struct dsa_descriptor nothing = descriptor_of(0x00, 0, 0);
+	struct dsa_model device = DSA_CLOSED;
+	CHECK(dsa_open(&device, &caps, 10000) == DSA_OPENED);
+	CHECK(dsa_write_queue(&device, 0, &queue).kind == DSA_WRITTEN && dsa_write_group(&device, 0, &group).kind == DSA_WRITTEN);
+	CHECK(dsa_command(&device, DSA_COMMAND(DSA_ENABLE_DEVICE, 0)).kind == DSA_ENDED);
+	CHECK(dsa_command(&device, DSA_COMMAND(DSA_ENABLE_WQ, 0)).kind == DSA_ENDED);
+	for (uint32_t i = 0; i < count; i++)
+		CHECK(dsa_enqcmd(&device, 0, 0, DSA_LIMITED, 5, &nothing).kind == DSA_ACCEPTED);
+	CHECK(dsa_held(&device) == count);
+	dsa_close(&device);
+	CHECK(held() == 0);
+}
+
 /* A history that is full keeps what it took, and gives it back. */
 static void closed_when_full(void)
 {
@@ -183,6 +209,7 @@ int main(void)
 {
 	const struct dsa_caps greatest = { 64, 8, 64, 4096, 255, 16, 10, 31 };
 	sizes();
+	lengths();
 	refused(&small_caps);
 	refused(&greatest);
 	opened_again();
@@ -191,6 +218,8 @@ int main(void)
 	closed_while_held(DSA_COMMAND(DSA_DISABLE_WQ, 3), DSA_ACTIVE);
 	closed_while_held(DSA_COMMAND(DSA_ABORT_ALL, 0), DSA_ENDED);
 	closed_while_held(DSA_COMMAND(DSA_RESET_DEVICE, 0), DSA_ENDED);
+	for (uint32_t count = 1; count <= 4096; count *= 2)
+		closed_with(count);
 	closed_when_full();
 	one_of_two();
 	return 0;

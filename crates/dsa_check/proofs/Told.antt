@@ -1,24 +1,30 @@
 -- What is added to a list, one part more.
-use Rattle.std.proofs.Common.{◌≡◌, ◌<◌, ◌+◌, ℕ, Bool, true, List, [], ◌∷◌, ◌++◌, map, length, take}
+use Rattle.dsa_check.specs.declared.fields.Form.TheVariants as form
+use Rattle.std.proofs.Common.{◌≡◌, ◌<◌, ◌+◌, ◌%◌, ◌==◌, ℕ, suc, Bool, true, false, List, [], ◌∷◌, ◌++◌, map, length, take}
 use Rattle.std.proofs.Common.{get_or, refl, sym, ap, subst, ◌∙◌}
 use Rattle.std.proofs.Math.ListN.{get_or-map}
-use Rattle.std.specs.Prelude.{filter, is_some, Some, None, String, string_bytes, Result, Ok, Err, OnOk}
+use Rattle.std.specs.Prelude.{filter, is_some, Option, Some, None, String, string_bytes, Result, Ok, Err, OnOk}
+use Rattle.std.specs.{Prelude.{codes, nat_lt, if◌then◌else◌}, Option.{unwrap_or}}
 use Rattle.std.specs.declared.alloc.Global.{Global}
 use Rattle.std.specs.List.{AllZip, AllByRecursion}
 use Rattle.std.proofs.lemmas.List.{append_assoc, take_more, map-append, length-map}
 use Rattle.std.proofs.lemmas.List.Elements.{filter-append}
 use Rattle.std.proofs.lemmas.Option.{slice_get-get_or}
-use Rattle.serde_json.specs.{Data.{Data, null, boolean, number, string, array, object}, Find.{get, as_object}}
+use Rattle.serde_json.specs.{Data.{Data, null, boolean, number, string, array, object}, Find.{get, as_object, as_str}}
 use Rattle.serde_json.specs.{View.{view}, declared.value.Value.{Value}}
 use Rattle.serde_json.specs.Read.{read}
 use Rattle.dsa_scenario.specs.Document.{IsJson}
 use Rattle.dsa_check.specs.declared.{fields.Field.{Field}, fields.Key.{Key}}
-use Rattle.dsa_check.specs.declared.finding.Reason.{Reason, TheVariants.{Missing, Misspelled}}
+use Rattle.dsa_check.specs.declared.finding.Reason.{Reason, TheVariants.{Missing, Misspelled, Unfit, OddDigits}}
+use Rattle.dsa_check.specs.declared.finding.Reason.TheVariants.{ManyDigits, NoDigit}
+use Rattle.dsa_check.specs.declared.fields.Form.{Form}
 use Rattle.dsa_check.specs.declared.finding.Finding.{Finding}
 use Rattle.dsa_check.specs.Findings.{Appends, AppendsAll, AreInCaps, IsFindingOf, IsFindingIn, IsFounded}
 use Rattle.dsa_check.specs.Findings.{AreFounded, TellsWhy}
 use Rattle.dsa_check.specs.Judgement.{step_items_of}
 use Rattle.dsa_check.specs.Reasons.{is_unfit, near_key, IsStrayKey, IsReasonAt, AreReasonsAt, AreReasonsOf}
+use Rattle.dsa_check.specs.Reasons.{reason_of_digits, text_reason, unfit_reason, first_no_digit, found_of, kind_row}
+use Rattle.dsa_check.specs.Reasons.{HasStrayKey, TellsNearKey, IsKindReason}
 use Rattle.dsa_check.specs.Steps.{Row, row_of_field, caps_rows}
 
 -- ---- lists
@@ -109,7 +115,45 @@ founded_as bytes d is findings h = record {
 
 -- ---- reasons
 
+-- what is so of each reason that a value may have, is so of the one that it has
+module _ (P : Reason → Type 0) (key : Key) (other : Reason) (of_other : P other)
+    (of_many : (n : ℕ) → P (ManyDigits key n)) (of_odd : (n : ℕ) → P (OddDigits key n))
+    (of_letter : (n : ℕ) → P (NoDigit key n)) where
+  by_count : (count : ℕ) (many odd : Bool) → P (unwrap_or (if many then Some (ManyDigits key count)
+      else if odd then Some (OddDigits key count) else None) other)
+  by_count count true odd = of_many count
+  by_count count false true = of_odd count
+  by_count count false false = of_other
+
+  by_place : (count : ℕ) (place : Option ℕ) → P (unwrap_or (reason_of_digits key count place) other)
+  by_place count (Some before) = of_letter (suc before)
+  by_place count None = by_count count (nat_lt 128 count) (count % 2 == 1)
+
+  by_text : (wanted : Form) (text : Option (List ℕ)) → P (unwrap_or (text_reason key wanted text) other)
+  by_text form.Digits (Some text) = by_place (length text) (first_no_digit text)
+  by_text form.Digits None = of_other
+  by_text (form.Whole least most) text = of_other
+  by_text (form.Bounded field least most) text = of_other
+  by_text form.Truth text = of_other
+  by_text form.Text text = of_other
+  by_text form.Array text = of_other
+  by_text form.Object text = of_other
+
 module _ (d : Data) (rows : List Row) (in_caps : Bool) where
+  -- a value that may not stand there
+  pub unfit_at : (row : Row) (key : Key) (v : Data) (reason : Reason) → reason ≡ unfit_reason key row.1 v
+      → key.name.now ≡ row.0 → key.in_caps ≡ in_caps → Some v ≡ get row.0 d → IsReasonAt d rows in_caps row reason
+  unfit_at row key v reason is named holder there = record {
+    key = key;
+    named = named;
+    holder = holder;
+    so = rw (← there) is;
+    stray = rw is (by_text (HasStrayKey d rows) key (Unfit key (found_of v) row.1) tt (λ n. tt) (λ n. tt) (λ n. tt)
+        row.1 (as_str v));
+    near = rw is (by_text (TellsNearKey d rows row.0) key (Unfit key (found_of v) row.1) tt (λ n. tt) (λ n. tt)
+        (λ n. tt) row.1 (as_str v));
+  }
+
   -- a key that is missing, and one that may be there under another name
   pub missing_at : (row : Row) (key : Key) → key.name.now ≡ row.0 → key.in_caps ≡ in_caps → None ≡ get row.0 d
       → None ≡ near_key d rows row.0 → IsReasonAt d rows in_caps row (Missing key)
@@ -135,3 +179,12 @@ module _ (d : Data) (rows : List Row) (in_caps : Bool) where
       (AreReasonsAt d rows in_caps (front ++ last)) (λ xs ys h k. rw (filter-append (is_unfit d) front last)
       (AllZip-append (IsReasonAt d rows in_caps) (filter (is_unfit d) front) xs (filter (is_unfit d) last) ys h k))
       old mid new before here)
+
+-- the kind of a step is no text
+pub no_text_kind : (step : Data) (key : Key) (v : Data) (reason : Reason) → reason ≡ unfit_reason key form.Text v
+    → key.name.now ≡ codes "do" → key.in_caps ≡ false → Some v ≡ get (codes "do") step → None ≡ as_str v
+    → IsKindReason step reason
+no_text_kind step key v reason is named holder there none = rw is (
+  rw (← there, ← none) refl,
+  unfit_at step [] false kind_row key v (Unfit key (found_of v) form.Text) refl named holder there,
+)

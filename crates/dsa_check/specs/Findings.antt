@@ -1,12 +1,13 @@
 -- What a finding tells, and that it is so of the document.
-use Rattle.std.specs.Prelude.{◌≡◌, ℕ, ◌++◌, true, false, List, [], ◌∷◌, slice_get, codes, Option, Some, None}
+use Rattle.std.specs.Prelude.{◌≡◌, ◌≤◌, ℕ, ◌++◌, length, true, false, List, [], ◌∷◌, slice_get, codes, Option, Some, None}
 use Rattle.std.specs.Prelude.{take, drop, IsSomeAnd, IfSome, MatchOption, IsUtf8}
 use Rattle.std.specs.{List.{AllByRecursion}, Str.{IsValidUpTo}}
 use Rattle.serde_json.specs.{Data.{Data}, Find.{get, as_object}}
 use Rattle.dsa_scenario.specs.declared.faults.ScenarioFault.{ScenarioFault, TheVariants.{BadDocument, BadStep, BadCaps}}
 use Rattle.dsa_scenario.specs.declared.faults.ScenarioFault.TheVariants.{BadCapacity}
 use Rattle.dsa_scenario.specs.Document.{IsJson, IsNoJson}
-use Rattle.dsa_check.specs.declared.finding.{Finding.{Finding}, Reason.{Reason, TheVariants.{NoObject, NotUtf8, Syntax}}}
+use Rattle.dsa_check.specs.declared.finding.{Finding.{Finding}, Place.{Place}}
+use Rattle.dsa_check.specs.declared.finding.Reason.{Reason, TheVariants.{NoObject, NotUtf8, Syntax}}
 use Rattle.dsa_check.specs.{Flaws.{IsSyntaxAt}, Judgement.{step_items_of}}
 use Rattle.dsa_check.specs.Places.{BeginJson, BeginsOnLine, line_after, column_after}
 use Rattle.dsa_check.specs.Reasons.{found_of, AreReasonsOf, AreStepReasons}
@@ -34,11 +35,17 @@ AreDocumentReasons d reasons =
 
 -- ---- findings
 
+-- no line and no column are told
+pub record IsNowhere (place : Place) : Type 0 where
+  pub no_line : place.line ≡ None
+  pub no_column : place.column ≡ None
+
 -- the kind and the reasons are those of the step, and the line is that where it begins
 pub record TellsStep (bytes : List ℕ) (finding : Finding) (step : Data) : Type 0 where
   pub kind : finding.place.kind ≡ kind_of step
   pub reasons : AreStepReasons step finding.reasons.items
   pub line : IfSome finding.place.line (BeginsOnLine bytes step)
+  pub column : finding.place.column ≡ None
 
 -- the finding is of item i of the steps, which is this
 abbrev pub IsFindingOf : List ℕ → ℕ → Data → Finding → Type 0
@@ -51,11 +58,12 @@ IsFindingIn bytes steps finding =
 
 -- the finding tells why the part has this fault
 abbrev pub TellsWhy : List ℕ → Data → Finding → ScenarioFault → Type 0
-TellsWhy bytes d finding BadDocument = AreDocumentReasons d finding.reasons.items
+TellsWhy bytes d finding BadDocument = IsNowhere finding.place × AreDocumentReasons d finding.reasons.items
 TellsWhy bytes d finding (BadStep i) = IsSomeAnd (slice_get (step_items_of d) i) (TellsStep bytes finding)
-TellsWhy bytes d finding BadCaps =
-    IsSomeAnd (get (codes "caps") d) (λ caps. AreReasonsOf caps device_rows false finding.reasons.items)
-TellsWhy bytes d finding BadCapacity = AreReasonsOf d history_rows false finding.reasons.items
+TellsWhy bytes d finding BadCaps = IsNowhere finding.place
+    × IsSomeAnd (get (codes "caps") d) (λ caps. AreReasonsOf caps device_rows false finding.reasons.items)
+TellsWhy bytes d finding BadCapacity =
+    IsNowhere finding.place × AreReasonsOf d history_rows false finding.reasons.items
 TellsWhy bytes d finding _ = ⊥
 
 abbrev pub IsFounded : List ℕ → Data → Finding → Type 0
@@ -72,12 +80,13 @@ IsWrongAt bytes at _ = ⊥
 abbrev pub AreOfUtf8 : List ℕ → List Reason → Type 0
 AreOfUtf8 bytes reasons = (IsUtf8 bytes → ⊥) → reasons ≡ NotUtf8 ∷ []
 
--- the finding has a place in the bytes, and all that is told to be wrong is so there
+-- the finding has a place in the bytes, and all that is told to be wrong is so there, which is one thing at most
 pub record IsInText (bytes : List ℕ) (finding : Finding) : Type 0 where
   pub at : ℕ
   pub line : finding.place.line ≡ Some (line_after (take at bytes))
   pub column : finding.place.column ≡ Some (column_after (take at bytes))
   pub reasons : AllByRecursion (IsWrongAt bytes at) finding.reasons.items
+  pub few : length finding.reasons.items ≤ 1
   pub of_utf8 : AreOfUtf8 bytes finding.reasons.items
 
 -- each finding tells why: of the JSON value that the bytes are, or of bytes that are none

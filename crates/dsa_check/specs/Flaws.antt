@@ -1,7 +1,7 @@
 -- What is told of a text that is no JSON, and that it is so.
-use Rattle.std.specs.Prelude.{◌≡◌, ◌<◌, ◌==◌, ◌||◌, ℕ, Bool, true, false, List, [], ◌∷◌, ◌++◌, take, slice_get}
-use Rattle.std.specs.Prelude.{codes, if◌then◌else◌, nat_eq, nat_lt, Option, Some, None, IsSomeAnd, MatchOption}
-use Rattle.std.specs.Prelude.{string_bytes, ⊤}
+use Rattle.std.specs.Prelude.{◌≡◌, ◌<◌, ◌≤◌, ◌==◌, ◌||◌, ℕ, Bool, true, false, List, [], ◌∷◌, ◌++◌, take, drop, slice_get}
+use Rattle.std.specs.Prelude.{codes, if◌then◌else◌, nat_eq, nat_lt, Option, Some, None, IfSome, IsSomeAnd, MatchOption}
+use Rattle.std.specs.Prelude.{count_by, string_bytes, ⊤}
 use Rattle.std.specs.{Char.{is_ascii_digit}, List.{ends_with, list_any, starts_with}, Str.{IsTrimAsciiEnd}}
 use Rattle.dsa_check.specs.declared.syntax.Piece.{Piece, TheVariants.{End, LineBreak, Tab, Control, Character}}
 use Rattle.dsa_check.specs.declared.syntax.Piece.TheVariants.{ByteOrderMark, Told, Text, Number, Word}
@@ -92,10 +92,23 @@ takes_text _ = false
 
 -- ---- where what has not ended begins
 
--- this sign stands among the bytes, on this line and in this column
+-- how an array ends that has a value, an object, and a text
+abbrev pub end_of : ℕ → List ℕ
+end_of sign = if sign == 91 then codes ",0]" else if sign == 123 then codes ",\"\":0}" else codes "\""
+
+-- what begins with this sign at the place goes on to the end of the bytes: from there on they are JSON with its end
+abbrev pub GoesOnFrom : List ℕ → ℕ → ℕ → Type 0
+GoesOnFrom bytes at sign = AreJson (drop at bytes ++ end_of sign)
+
+-- the same, where a sign stands at the place
+abbrev pub IsOpenFrom : List ℕ → ℕ → Type 0
+IsOpenFrom bytes at = IfSome (slice_get bytes at) (GoesOnFrom bytes at)
+
+-- this sign stands among the bytes, on this line and in this column, and what it begins has not ended
 pub record HasSignAt (bytes : List ℕ) (sign line column : ℕ) : Type 0 where
   pub at : ℕ
   pub there : slice_get bytes at ≡ Some sign
+  pub goes_on : GoesOnFrom bytes at sign
   pub line_there : line ≡ line_after (take at bytes)
   pub column_there : column ≡ column_after (take at bytes)
 
@@ -118,13 +131,22 @@ pub record EndWithComma (bytes : List ℕ) : Type 0 where
   pub trimmed : IsTrimAsciiEnd bytes front
   pub comma : ends_with nat_eq front (codes ",") ≡ true
 
+-- so many arrays and objects begin among the bytes, at most
+abbrev pub is_opening : ℕ → Bool
+is_opening byte = byte == 91 || byte == 123
+
+abbrev pub openings_in : List ℕ → ℕ
+openings_in bytes = count_by is_opening bytes
+
 -- the byte closes an array or an object, and is told
 abbrev pub IsClosing : List ℕ → ℕ → Type 0
 IsClosing told byte = IsOneOf (codes "]}") byte × (told ≡ byte ∷ [])
 
 -- this is wrong between the bytes before a place and those that follow
 abbrev pub IsSyntaxAt : List ℕ → List ℕ → Syntax → Type 0
-IsSyntaxAt before rest TooDeep = IsSomeAnd (slice_get rest 0) (IsOneOf (codes "[{")) × IsWantedAfter before wanted.Depth
+IsSyntaxAt before rest TooDeep =
+    (127 ≤ openings_in before) × IsSomeAnd (slice_get rest 0) (IsOneOf (codes "[{"))
+    × IsWantedAfter before wanted.Depth
 IsSyntaxAt before rest (CommaBefore what) = EndWithComma before × IsSomeAnd (slice_get rest 0) (IsClosing what.now)
 IsSyntaxAt before rest Comment = IsSomeAnd (slice_get rest 0) (IsOneOf (codes "/"))
 IsSyntaxAt before rest (Unwanted found wanted) =

@@ -1,7 +1,7 @@
 -- What is wrong with an object, and that it is so.
-use Rattle.std.specs.Prelude.{◌≡◌, ◌<◌, ◌%◌, length, ℕ, suc, ℤ, Bool, true, false, not, ◌&&◌, ◌||◌, nat_le, is_some}
+use Rattle.std.specs.Prelude.{◌≡◌, ◌%◌, ◌==◌, length, ℕ, suc, ℤ, Bool, true, false, not, ◌&&◌, ◌||◌, nat_le, is_some}
 use Rattle.std.specs.Prelude.{List, [], ◌∷◌, Option, Some, None, option_and_then, MatchOption, IsSomeAnd, IfSome}
-use Rattle.std.specs.Prelude.{map, filter, option_map, codes, bytes_eq, string_bytes, String, ⊤}
+use Rattle.std.specs.Prelude.{map, filter, codes, bytes_eq, string_bytes, String, ⊤}
 use Rattle.std.specs.Prelude.{nat_lt, nat_eq, if◌then◌else◌}
 use Rattle.std.specs.{List.{AllZip, list_any, list_all, position, starts_with}, Char.{is_ascii_hexdigit}, Str.{chars}}
 use Rattle.std.specs.{Char.{is_ascii_alphanumeric, to_ascii_lowercase}, Int.{abs_diff}, Option.{unwrap_or}}
@@ -60,22 +60,31 @@ is_unfit d row = not (fits_form row.1 (get row.0 d))
 abbrev pub first_no_digit : List ℕ → Option ℕ
 first_no_digit text = position (λ byte. not (is_ascii_hexdigit byte)) text
 
--- the reason is so of a text that is not the bytes of a descriptor
-abbrev pub IsDigitsReason : Key → List ℕ → Reason → Type 0
-IsDigitsReason key text (reason.OddDigits k count) = (k ≡ key) × (length text ≡ count) × (count % 2 ≡ 1)
-IsDigitsReason key text (reason.ManyDigits k count) = (k ≡ key) × (length text ≡ count) × (128 < count)
-IsDigitsReason key text (reason.NoDigit k at) = (k ≡ key) × (option_map suc (first_no_digit text) ≡ Some at)
-IsDigitsReason key text _ = ⊥
+-- what is wrong with so many characters, of which the first that is no hexadecimal digit has this place; the rest is
+-- looked at where all are digits, and whether they are odd where they are not too many
+abbrev pub reason_of_digits : Key → ℕ → Option ℕ → Option Reason
+reason_of_digits key count (Some before) = Some (reason.NoDigit key (suc before))
+reason_of_digits key count None =
+    if nat_lt 128 count then Some (reason.ManyDigits key count)
+    else if count % 2 == 1 then Some (reason.OddDigits key count)
+    else None
 
--- the reason is so of a text where digits are wanted
-abbrev pub IsTextReason : Key → Form → Option (List ℕ) → Reason → Type 0
-IsTextReason key form.Digits (Some text) reason = IsDigitsReason key text reason
-IsTextReason key _ _ reason = ⊥
+-- what is wrong with a text where digits are wanted, if anything is
+abbrev pub digits_reason : Key → List ℕ → Option Reason
+digits_reason key text = reason_of_digits key (length text) (first_no_digit text)
+
+-- the same where another form may be wanted, or there is no text
+abbrev pub text_reason : Key → Form → Option (List ℕ) → Option Reason
+text_reason key form.Digits (Some text) = digits_reason key text
+text_reason key _ _ = None
+
+-- what is wrong with a value that may not stand where this form is wanted: its digits, or else the value
+abbrev pub unfit_reason : Key → Form → Data → Reason
+unfit_reason key wanted d = unwrap_or (text_reason key wanted (as_str d)) (reason.Unfit key (found_of d) wanted)
 
 -- the reason is so of an object that has this at the key, where the form is wanted
 abbrev pub IsReasonOf : Key → Form → Option Data → Reason → Type 0
-IsReasonOf key wanted (Some d) (reason.Unfit k f w) = (k ≡ key) × (f ≡ found_of d) × (w ≡ wanted)
-IsReasonOf key wanted (Some d) r = IsTextReason key wanted (as_str d) r
+IsReasonOf key wanted (Some d) r = r ≡ unfit_reason key wanted d
 IsReasonOf key wanted None (reason.Missing k) = k ≡ key
 IsReasonOf key wanted None (reason.Misspelled k found) = k ≡ key
 IsReasonOf key wanted _ _ = ⊥
@@ -229,10 +238,10 @@ pub record IsNoKind (told : Option (String Global)) (near : Option StepKind) (na
   pub text : IfSome told (λ text. string_bytes text ≡ name)
   pub nearest : near ≡ near_kind name
 
--- the reason says why the step names no kind
+-- the reason says why the step names no kind: its text is none, or there is no text
 abbrev pub IsKindReason : Data → Reason → Type 0
 IsKindReason step (reason.UnknownKind told near) = IsSomeAnd (text_of (codes "do") step) (IsNoKind told near)
-IsKindReason step reason = IsReasonAt step [] false kind_row reason
+IsKindReason step reason = (is_unfit step kind_row ≡ true) × IsReasonAt step [] false kind_row reason
 
 -- the reasons of an object that is a step of this kind, or of none
 abbrev pub AreReasonsOfKind : Data → Option StepKind → List Reason → Type 0

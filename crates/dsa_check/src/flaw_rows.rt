@@ -1,6 +1,6 @@
 //! Worked rows of what is wrong in a text.
 
-ghost use Rattle.std.specs.Prelude.{◌≡◌, ℕ, [], ◌∷◌, Option, Some, None, codes, map, true, false, String, string_bytes};
+ghost use Rattle.std.specs.Prelude.{◌≡◌, ◌++◌, ℕ, List, [], ◌∷◌, Option, Some, None, codes, map, replicate, true, false, String, string_bytes};
 ghost use Rattle.std.specs.declared.{alloc.Global.{Global}, vec.Vec.{Vec}};
 ghost use Rattle.serde_json.specs.{Data.{Data, null}, Written.{has_float}};
 ghost use Rattle.dsa_scenario.specs.Worked.{whole};
@@ -11,7 +11,7 @@ ghost use Rattle.dsa_check.specs.declared.syntax.Piece.TheVariants.{End, LineBre
 ghost use Rattle.dsa_check.specs.declared.syntax.Syntax.TheVariants.{TooDeep, CommaBefore, Comment, Unwanted};
 ghost use Rattle.dsa_check.specs.declared.syntax.Wanted.TheVariants as wanted;
 ghost use Rattle.dsa_check.specs.Findings.{IsWrongAt, IsInText};
-ghost use Rattle.dsa_check.specs.Flaws.{name_of_sign, name_of_long, IsToldAs, IsPieceAt, example_of, IsWantedAfter, takes_text, HasSignAt, IsBegunAt, EndWithComma, IsSyntaxAt};
+ghost use Rattle.dsa_check.specs.Flaws.{name_of_sign, name_of_long, IsToldAs, IsPieceAt, example_of, IsWantedAfter, takes_text, end_of, GoesOnFrom, IsOpenFrom, HasSignAt, IsBegunAt, openings_in, IsClosing, EndWithComma, IsSyntaxAt};
 ghost use Rattle.dsa_check.specs.{Places.{IsFoundBetween, IsToldWhereFound, extent_at}, Worked.{all_wanted}};
 
 /// What is told of bytes by the first of them, and how what is wanted may begin.
@@ -70,9 +70,9 @@ pub fn wanted_at_places()
     ensures no_colon { IsWantedAfter (codes "[") wanted.Colon → ⊥ }
     ensures ended { IsWantedAfter (codes "1") wanted.Nothing }
     ensures not_ended { IsWantedAfter (codes "[") wanted.Nothing → ⊥ }
-    ensures array { IsBegunAt (codes "\n [") (wanted.Closing true 2 2) }
+    ensures array { IsBegunAt (codes "\n [1") (wanted.Closing true 2 2) }
     ensures no_array { IsBegunAt (codes "{") (wanted.Closing true 1 1) → ⊥ }
-    ensures object { IsBegunAt (codes "\n {") (wanted.Closing false 2 2) }
+    ensures object { IsBegunAt (codes "\n {\"\":0") (wanted.Closing false 2 2) }
     ensures no_object { IsBegunAt (codes "[") (wanted.Closing false 1 1) → ⊥ }
     ensures quote { IsBegunAt (codes "\n \"") (wanted.Quote 2 2) }
     ensures no_quote { IsBegunAt (codes "[") (wanted.Quote 1 1) → ⊥ }
@@ -81,12 +81,44 @@ pub fn wanted_at_places()
     ensures other_column { HasSignAt (codes "[") 91 1 2 → ⊥ }
 {}
 
+/// How what has begun ends, and where it goes on from.
+#[tactic(auto, unfolding(serde_json::proofs::OnLiterals::serde_json_on_literals))]
+pub fn open_places()
+    ensures ends { map end_of (91 ∷ 123 ∷ 34 ∷ 90 ∷ [])
+        ≡ codes ",0]" ∷ codes ",\"\":0}" ∷ codes "\"" ∷ codes "\"" ∷ [] }
+    ensures inner { GoesOnFrom (codes "[[1") 1 91 }
+    ensures outer { GoesOnFrom (codes "[[1") 0 91 → ⊥ }
+    ensures ended { GoesOnFrom (codes "[[],1") 1 91 → ⊥ }
+    ensures other_end { GoesOnFrom (codes "[[1") 1 123 → ⊥ }
+    ensures nothing { IsOpenFrom (codes "[1") 2 }
+    ensures something { IsOpenFrom (codes "[[1") 0 → ⊥ }
+    ensures begun_outside { IsBegunAt (codes "[[1") (wanted.Closing true 1 1) → ⊥ }
+{}
+
+/// The signs that close an array and an object.
+pub fn closing_signs()
+    ensures array { IsClosing (codes "]") 93 }
+    ensures object { IsClosing (codes "}") 125 }
+    ensures another { IsClosing (codes "]") 125 → ⊥ }
+    ensures opening { IsClosing (codes "[") 91 → ⊥ }
+{}
+
 /// What is wrong at a place of a text.
 #[tactic(auto, unfolding(serde_json::proofs::OnLiterals::serde_json_on_literals))]
 pub fn wrong_places()
-    ensures deep { IsSyntaxAt (codes "[") (codes "[") TooDeep }
-    ensures no_bracket { IsSyntaxAt (codes "[") (codes "1") TooDeep → ⊥ }
+    ensures deep { (before : List ℕ)
+        → openings_in before ≡ 127
+        → IsWantedAfter before wanted.Depth
+        → IsSyntaxAt before (codes "[") TooDeep }
+    ensures less_deep { (before : List ℕ)
+        → openings_in before ≡ 126
+        → IsSyntaxAt before (codes "[") TooDeep
+        → ⊥ }
+    ensures no_bracket { (before : List ℕ) → IsSyntaxAt before (codes "1") TooDeep → ⊥ }
     ensures no_value { IsSyntaxAt (codes "]") (codes "[") TooDeep → ⊥ }
+    ensures no_value_in_many { IsSyntaxAt (codes "]" ++ replicate 127 91) (codes "[") TooDeep → ⊥ }
+    ensures openings { map openings_in (codes "[{]}" ∷ codes "\\|z" ∷ [])
+        ≡ 2 ∷ 0 ∷ [] }
     ensures comma { IsSyntaxAt (codes "[1, ") (codes "]")
         (CommaBefore (record { ref_ptr = (0, 0); now = codes "]" })) }
     ensures other_bracket { IsSyntaxAt (codes "[1, ") (codes "]")
@@ -113,15 +145,19 @@ pub fn wrong_texts()
     ensures utf8 { IsWrongAt (93 ∷ 255 ∷ []) 1 NotUtf8 }
     ensures earlier { IsWrongAt (93 ∷ 255 ∷ []) 0 NotUtf8 → ⊥ }
     ensures all_of_utf8 { IsWrongAt (codes "]") 1 NotUtf8 → ⊥ }
-    ensures syntax { IsWrongAt (codes "[[") 1 (Syntax TooDeep) }
+    ensures syntax { IsWrongAt (codes "[/") 1 (Syntax Comment) }
     ensures no_front { IsWrongAt (codes "]/") 1 (Syntax Comment) → ⊥ }
-    ensures other_syntax { IsWrongAt (codes "[1") 1 (Syntax TooDeep) → ⊥ }
+    ensures other_syntax { IsWrongAt (codes "[1") 1 (Syntax Comment) → ⊥ }
     ensures other_reason { IsWrongAt [] 0 (NoObject found.Null) → ⊥ }
     ensures place { (finding : Finding)
         → finding.place.line ≡ Some 1
         → finding.place.column ≡ Some 2
         → finding.reasons.items ≡ NotUtf8 ∷ []
         → IsInText (93 ∷ 255 ∷ []) finding }
+    ensures twice { (finding : Finding)
+        → finding.reasons.items ≡ Syntax Comment ∷ Syntax Comment ∷ []
+        → IsInText (codes "/") finding
+        → ⊥ }
     ensures untold { (finding : Finding)
         → finding.reasons.items ≡ []
         → IsInText (255 ∷ []) finding

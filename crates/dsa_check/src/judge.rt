@@ -1,19 +1,20 @@
 //! The faults of a document.
 
-ghost use Rattle.std.specs.Prelude.{◌≡◌, ℕ, true, false, List, ◌++◌, [], ◌∷◌, map, slice_range, IfOk, IfSome, OnOk};
+ghost use Rattle.std.specs.Prelude.{◌≡◌, ◌≤◌, ℕ, length, true, false, List, ◌++◌, [], ◌∷◌, map, slice_range, IfOk, IfSome, OnOk};
 ghost use Rattle.serde_json.specs.{View.{view}, Written.{has_float}};
 ghost use Rattle.std.specs.List.{All, AllByRecursion};
 ghost use Rattle.dsa_scenario.specs.Actions.{action_of};
-ghost use Rattle.dsa_check.specs.Findings.{AppendsAll, IsFounded, IsWrongAt, AreOfUtf8, IsInText, IsFindingOf, IsFindingIn, AreFounded};
+ghost use Rattle.dsa_check.specs.Findings.{AppendsAll, IsFounded, IsNowhere, IsWrongAt, AreOfUtf8, IsInText, IsFindingOf, IsFindingIn, AreFounded};
 ghost use Rattle.dsa_check.specs.Places.{IsSpot, IsShallow, AreTextOf, BeginsOnLine, IsFoundBetween, IsToldWhereFound, extent_at};
+ghost use Rattle.dsa_check.specs.Flaws.{IsOpenFrom};
 ghost use Rattle.dsa_check.specs.Judgement.{faults_told, AreFaultsOf, IsJudged, head_faults, step_items_of, caps_at, capacity_at, fault_of_step, bad_steps, caps_faults, capacity_faults, faults_of_value};
 
 use crate::finding::{Finding, Place, Reason};
 use crate::kinds::MAX_CAPACITY;
 use crate::places::{START, Spot};
 use crate::reasons::{capacity_reasons, caps_reasons, document_reasons, kind_of, step_reasons};
-use crate::scan::{Extent, Flaw, scan_text};
-use crate::syntax::syntax_of;
+use crate::scan::{Extent, Flaw, is_json, scan_text};
+use crate::syntax::{end_of, syntax_of};
 use dsa_regs::check_caps;
 use dsa_scenario::{ScenarioFault, parse_action, parse_caps, parse_head, parse_json, u64_field};
 use serde_json::Value;
@@ -29,6 +30,7 @@ const NOWHERE: Place = Place {
 // A fault of the whole document.
 fn whole(fault: ScenarioFault, reasons: Vec<Reason>) -> Finding
     ensures fault { result.fault ≡ fault }
+    ensures place { IsNowhere result.place }
     ensures reasons { result.reasons ≡ reasons }
 {
     Finding {
@@ -38,12 +40,40 @@ fn whole(fault: ScenarioFault, reasons: Vec<Reason>) -> Finding
     }
 }
 
+// Whether what begins at this place goes on to the end of the bytes, if a sign stands there.
+fn is_open_from(alloc: Global, bytes: &[u8], at: usize) -> Result<bool, AllocError>
+    ensures { IfOk result (λ is. is ≡ true → IsOpenFrom bytes.now at) }
+{
+    let Some(sign) = bytes.get(at).copied() else {
+        return Ok(true);
+    };
+    let mut text = Vec::new(alloc);
+    text.extend_from_slice(&bytes[at..])?;
+    text.extend_from_slice(end_of(sign).as_bytes())?;
+    is_json(alloc, text.as_slice())
+}
+
+// Where what has to end begins, if it does at this place; else the end of the bytes.
+fn begun_at(alloc: Global, bytes: &[u8], at: usize) -> Result<Spot, AllocError>
+    ensures spot { IfOk result (IsSpot bytes.now) }
+    ensures goes_on { IfOk result (λ spot. IsOpenFrom bytes.now spot.at) }
+{
+    let begin = START.moved_to(bytes, at);
+    let is_open = is_open_from(alloc, bytes, begin.at)?;
+    if is_open {
+        Ok(begin)
+    } else {
+        Ok(begin.moved_to(bytes, bytes.len()))
+    }
+}
+
 // The first place where the bytes are no JSON, and what is wrong there. It is told only where all
 // before it is right.
 fn flaw_of(alloc: Global, bytes: &[u8]) -> Result<(Spot, Vec<Reason>), AllocError>
     ensures spot { IfOk result (λ flaw. IsSpot bytes.now flaw.0) }
     ensures told { IfOk result
         (λ flaw. AllByRecursion (IsWrongAt bytes.now flaw.0.at) flaw.1.items) }
+    ensures few { IfOk result (λ flaw. length flaw.1.items ≤ 1) }
     ensures of_utf8 { IfOk result (λ flaw. AreOfUtf8 bytes.now flaw.1.items) }
 {
     if let Err(error) = str::from_utf8(bytes) {
@@ -59,7 +89,7 @@ fn flaw_of(alloc: Global, bytes: &[u8]) -> Result<(Spot, Vec<Reason>), AllocErro
     if !scan.begins_json(alloc, before, wanted)? {
         return Ok((START, Vec::new(alloc)));
     }
-    let begin = START.moved_to(before, scan.last_begun());
+    let begin = begun_at(alloc, before, scan.last_begun())?;
     let syntax = syntax_of(alloc, before, rest, wanted, begin)?;
     Ok((spot, vec![in alloc; Reason::Syntax(syntax)]?))
 }

@@ -4,7 +4,7 @@ ghost use Rattle.std.specs.Prelude.{◌≡◌, [], ◌∷◌, map, codes, true, 
 ghost use Rattle.serde_json.specs.View.{view};
 ghost use Rattle.serde_json.specs.Find.{get, as_str};
 ghost use Rattle.dsa_check.specs.Findings.{Appends, AreInCaps, AreDocumentReasons};
-ghost use Rattle.dsa_check.specs.Reasons.{IsReasonOf, IsDigitsReason, IsTextReason, is_unfit, is_plain, is_asked, IsStrayKey, IsReasonAt, AreReasonsAt, AreReasonsOf, IsKindReason, AreStepReasons};
+ghost use Rattle.dsa_check.specs.Reasons.{digits_reason, text_reason, unfit_reason, is_unfit, is_plain, is_asked, IsStrayKey, IsReasonAt, AreReasonsAt, AreReasonsOf, IsKindReason, AreStepReasons};
 ghost use Rattle.dsa_check.specs.Steps.{row_of_field, kind_of, device_rows, history_rows};
 
 use crate::fields::{Field, Form, Key, found_in, is_of};
@@ -19,7 +19,7 @@ const MOST_DIGITS: usize = 128;
 
 // What is wrong with a text that is not the bytes of a descriptor.
 fn digits_reason(key: Key, text: &str) -> Option<Reason>
-    ensures { IfSome result (IsDigitsReason key text.now) }
+    ensures { result ≡ digits_reason key text.now }
 {
     let count = text.len();
     match text.bytes().position(|byte| !byte.is_ascii_hexdigit()) {
@@ -35,7 +35,7 @@ fn digits_reason(key: Key, text: &str) -> Option<Reason>
 
 // What is wrong with the digits of a value, where digits are wanted and it is a text.
 fn text_reason(key: Key, wanted: Form, value: &Value) -> Option<Reason>
-    ensures { IfSome result (IsTextReason key wanted (as_str (view value.now))) }
+    ensures { result ≡ text_reason key wanted (as_str (view value.now)) }
 {
     match value.as_str() {
         Some(text) if wanted == Form::Digits => digits_reason(key, text),
@@ -45,7 +45,7 @@ fn text_reason(key: Key, wanted: Form, value: &Value) -> Option<Reason>
 
 // What is wrong with a value that may not stand there.
 fn unfit_reason(key: Key, wanted: Form, value: &Value) -> Reason
-    ensures { IsReasonOf key wanted (Some (view value.now)) result }
+    ensures { result ≡ unfit_reason key wanted (view value.now) }
 {
     match text_reason(key, wanted, value) {
         Some(reason) => reason,
@@ -155,11 +155,13 @@ fn kind_reason(alloc: Global, step: &Value) -> Result<Reason, AllocError>
             Some(found) => Ok(Reason::Misspelled { key, found }),
             None => Ok(Reason::Missing { key }),
         },
-        Some(Value::String(name)) => Ok(Reason::UnknownKind {
-            found: plain_name(alloc, name.as_str())?,
-            near: near_kind(alloc, name.as_str())?,
-        }),
-        Some(value) => Ok(unfit_reason(key, Form::Text, value)),
+        Some(value) => match value.as_str() {
+            Some(name) => Ok(Reason::UnknownKind {
+                found: plain_name(alloc, name)?,
+                near: near_kind(alloc, name)?,
+            }),
+            None => Ok(unfit_reason(key, Form::Text, value)),
+        },
     }
 }
 

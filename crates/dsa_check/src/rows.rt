@@ -14,12 +14,12 @@ ghost use Rattle.dsa_check.specs.declared.kinds.StepKind.TheVariants.{Queue, Gro
 ghost use Rattle.dsa_check.specs.declared.syntax.Piece.TheVariants.{End, LineBreak, Tab, Control, Character, ByteOrderMark, Told, Text, Number, Word};
 ghost use Rattle.dsa_check.specs.declared.syntax.Syntax.TheVariants.{TooDeep, CommaBefore, Comment, Unwanted};
 ghost use Rattle.dsa_check.specs.declared.syntax.Wanted.TheVariants as wanted;
-ghost use Rattle.dsa_check.specs.Findings.{AreDocumentReasons, IsFindingOf, IsFindingIn, TellsWhy, Appends, AppendsAll};
+ghost use Rattle.dsa_check.specs.Findings.{AreDocumentReasons, IsNowhere, IsFindingOf, IsFindingIn, TellsWhy, Appends, AppendsAll};
 ghost use Rattle.dsa_check.specs.Judgement.{capacity_at, faults_of_value, fault_of_head, fault_of_step, caps_faults, capacity_faults, AreFaultsOf, IsRight};
 ghost use Rattle.dsa_check.specs.Check.{IsCheckReportOf};
 ghost use Rattle.dsa_check.specs.Lines.{kind_text, key_text, form_text, found_text, wanted_of, piece_text, wanted_text, syntax_text, no_kind_text, reason_text, fault_part_text, place_text, line_of_finding, bare_line};
 ghost use Rattle.dsa_check.specs.Places.{line_after, column_after, IsSpot, BeginJson, IsShallow, AreTextOf, BeginsOnLine};
-ghost use Rattle.dsa_check.specs.Reasons.{is_asked, is_between, is_of_form, is_plain, has_caps, is_step, kind_row, found_number, found_of, IsReasonOf, IsStrayKey, HasStrayKey, IsKindReason, AreReasonsOf, AreStepReasons};
+ghost use Rattle.dsa_check.specs.Reasons.{is_asked, is_between, is_of_form, is_plain, has_caps, is_step, kind_row, found_number, found_of, digits_reason, text_reason, IsReasonOf, IsStrayKey, HasStrayKey, IsKindReason, AreReasonsOf, AreStepReasons};
 ghost use Rattle.dsa_check.specs.Steps.{bits, rows_of_kind, kinds, kind_named, kind_of, document_rows, caps_rows, device_rows, history_rows};
 ghost use Rattle.dsa_check.specs.Worked.{right_document, unfit_keys, unfit_keys_of, key_of_caps, key_of_a_step, found_at, document_of_slots, document_of_null, document_without_slots, right_text};
 
@@ -130,6 +130,18 @@ pub fn reasons_that_are_so()
         → IsReasonOf key form.Digits (Some (string (codes "000"))) (OddDigits key 3) }
     ensures letter { (key : Key)
         → IsReasonOf key form.Digits (Some (string (codes "0g"))) (NoDigit key 2) }
+    ensures digits { (key : Key) → map (digits_reason key)
+        ([] ∷ codes "00" ∷ codes "000" ∷ codes "0g0" ∷ codes "g" ∷ codes "0:" ∷ [])
+        ≡ None ∷ None ∷ Some (OddDigits key 3) ∷ Some (NoDigit key 2) ∷ Some (NoDigit key 1)
+        ∷ Some (NoDigit key 2) ∷ [] }
+    ensures bound { (key : Key) → map (λ count. digits_reason key (replicate count 48))
+        (127 ∷ 128 ∷ 129 ∷ 130 ∷ [])
+        ≡ Some (OddDigits key 127) ∷ None ∷ Some (ManyDigits key 129) ∷ Some (ManyDigits key 130)
+        ∷ [] }
+    ensures no_digits { (key : Key) → map (λ wanted. text_reason key wanted (Some (codes "000")))
+        (form.Digits ∷ form.Text ∷ form.Whole 0 9 ∷ form.Bounded 9 0 9 ∷ form.Truth ∷ form.Array
+        ∷ form.Object ∷ [])
+        ≡ Some (OddDigits key 3) ∷ None ∷ None ∷ None ∷ None ∷ None ∷ None ∷ [] }
     ensures item { AreStepReasons null (NoObject found.Null ∷ []) }
 {}
 
@@ -159,6 +171,21 @@ pub fn reasons_that_are_not_so()
         → ⊥ }
     ensures no_digits { (key : Key)
         → IsReasonOf key form.Text (Some (string (codes "0g"))) (NoDigit key 2)
+        → ⊥ }
+    ensures odd_and_many { (key : Key)
+        → IsReasonOf key form.Digits (Some (string (replicate 129 48))) (OddDigits key 129)
+        → ⊥ }
+    ensures odd_and_a_letter { (key : Key)
+        → IsReasonOf key form.Digits (Some (string (codes "0g0"))) (OddDigits key 3)
+        → ⊥ }
+    ensures no_value { (key : Key)
+        → IsReasonOf key form.Digits
+        (Some (string (codes "000")))
+        (Unfit key found.Text form.Digits)
+        → ⊥ }
+    ensures a_text { (key : Key)
+        → IsKindReason (object_of (step_of_kind (codes "polls") []))
+        (Unfit key found.Text form.Text)
         → ⊥ }
     ensures first { (key : Key)
         → AreReasonsOf (object_of []) (rows_of_kind Finish) false (Missing key ∷ [])
@@ -463,6 +490,7 @@ pub fn reasons_at_keys()
 /// Why a part of a document has its fault.
 pub fn reasons_of_parts()
     ensures document { (finding : Finding)
+        → IsNowhere finding.place
         → finding.reasons.items ≡ NoObject found.Null ∷ []
         → TellsWhy [] null finding BadDocument }
     ensures untold_document { (finding : Finding)
@@ -472,6 +500,7 @@ pub fn reasons_of_parts()
     ensures caps { (finding : Finding) (key : Key)
         → key.name.now ≡ codes "slots"
         → key.in_caps ≡ false
+        → IsNowhere finding.place
         → finding.reasons.items ≡ Unfit key (found.Whole 17) (form.Whole 1 16) ∷ []
         → TellsWhy [] (document_of_slots 17) finding BadCaps }
     ensures untold_caps { (finding : Finding)
@@ -481,6 +510,7 @@ pub fn reasons_of_parts()
     ensures capacity { (finding : Finding) (key : Key)
         → key.name.now ≡ codes "capacity"
         → key.in_caps ≡ false
+        → IsNowhere finding.place
         → finding.reasons.items ≡ Unfit key (found.Whole 1048577) (form.Whole 0 1048576) ∷ []
         → TellsWhy [] (changed (codes "capacity") (whole 1048577) right_document) finding
         BadCapacity }
@@ -491,7 +521,7 @@ pub fn reasons_of_parts()
         → ⊥ }
     ensures step { (finding : Finding)
         → finding.place.kind ≡ None
-        → finding.place.line ≡ None
+        → IsNowhere finding.place
         → finding.reasons.items ≡ NoObject found.Null ∷ []
         → TellsWhy [] document_of_null finding (BadStep 0) }
     ensures untold_step { (finding : Finding)
@@ -501,6 +531,23 @@ pub fn reasons_of_parts()
     ensures no_step { (finding : Finding)
         → TellsWhy [] document_of_null finding (BadStep 1)
         → ⊥ }
+    ensures placed_document { (finding : Finding)
+        → finding.place.line ≡ Some 1
+        → TellsWhy [] null finding BadDocument
+        → ⊥ }
+    ensures placed_caps { (finding : Finding)
+        → finding.place.column ≡ Some 1
+        → TellsWhy [] (document_of_slots 17) finding BadCaps
+        → ⊥ }
+    ensures placed_capacity { (finding : Finding)
+        → finding.place.line ≡ Some 1
+        → TellsWhy [] (changed (codes "capacity") (whole 1048577) right_document) finding
+        BadCapacity
+        → ⊥ }
+    ensures placed_step { (finding : Finding)
+        → finding.place.column ≡ Some 1
+        → TellsWhy [] document_of_null finding (BadStep 0)
+        → ⊥ }
     ensures no_fault { (finding : Finding) → TellsWhy [] document_of_null finding NotJson → ⊥ }
 {}
 
@@ -509,7 +556,7 @@ pub fn findings_of_steps()
     ensures of_the_item { (finding : Finding)
         → finding.fault ≡ BadStep 0
         → finding.place.kind ≡ None
-        → finding.place.line ≡ None
+        → IsNowhere finding.place
         → finding.reasons.items ≡ NoObject found.Null ∷ []
         → IsFindingOf [] 0 null finding }
     ensures of_another { (finding : Finding)
@@ -523,7 +570,7 @@ pub fn findings_of_steps()
     ensures of_one { (finding : Finding)
         → finding.fault ≡ BadStep 0
         → finding.place.kind ≡ None
-        → finding.place.line ≡ None
+        → IsNowhere finding.place
         → finding.reasons.items ≡ NoObject found.Null ∷ []
         → IsFindingIn [] (null ∷ []) finding }
     ensures of_none { (finding : Finding)

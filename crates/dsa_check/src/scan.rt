@@ -4,7 +4,7 @@ ghost use Rattle.std.specs.Prelude.{◌≡◌, true, is_some, IfOk};
 ghost use Rattle.std.specs.Char.{is_ascii_hexdigit};
 ghost use Rattle.dsa_check.specs.{Flaws.{IsWantedAfter}, Places.{AreJson, BeginJson}};
 
-use crate::syntax::{Wanted, example_of, is_in_text};
+use crate::syntax::{MOST_NESTED, Wanted, example_of, is_in_text};
 use dsa_scenario::{ScenarioFault, parse_json};
 use std::alloc::{AllocError, Global};
 
@@ -30,9 +30,6 @@ struct Opening {
     is_steps: bool,
     at: usize,
 }
-
-/// How deep a text may be nested.
-const MOST_NESTED: usize = 127;
 
 /// A whole number with more digits may pass the floats of 64 bits.
 const SURELY_IN_RANGE: usize = 308;
@@ -79,8 +76,8 @@ fn numeral_after(numeral: Numeral, byte: u8) -> Option<Numeral> {
     }
 }
 
-// Whether these bytes are JSON.
-fn is_json(alloc: Global, bytes: &[u8]) -> Result<bool, AllocError>
+/// Whether these bytes are JSON.
+pub fn is_json(alloc: Global, bytes: &[u8]) -> Result<bool, AllocError>
     ensures { IfOk result (λ is. is ≡ true → AreJson bytes.now) }
 {
     match parse_json(alloc, bytes) {

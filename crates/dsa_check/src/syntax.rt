@@ -1,13 +1,16 @@
 //! What is wrong with a text that is no JSON.
 
 ghost use Rattle.std.specs.Prelude.{◌≡◌, true, IfOk, option_map, codes, Some};
-ghost use Rattle.dsa_check.specs.Flaws.{name_of_sign, name_of_long, IsToldAs, IsPieceAt, takes_text, example_of, IsWantedAfter, EndWithComma, IsBegunAt, IsSyntaxAt};
+ghost use Rattle.dsa_check.specs.Flaws.{name_of_sign, name_of_long, IsToldAs, IsPieceAt, takes_text, example_of, IsWantedAfter, is_opening, openings_in, EndWithComma, end_of, IsOpenFrom, IsBegunAt, IsSyntaxAt};
 ghost use Rattle.dsa_check.specs.Places.{IsSpot};
 ghost use Rattle.dsa_check.specs.Reasons.{is_plain};
 
 use crate::places::Spot;
 use std::alloc::{AllocError, Global};
 use std::str;
+
+/// How deep a text may be nested.
+pub const MOST_NESTED: usize = 127;
 
 /// The most bytes of a text that is told as it stands.
 const MOST_TOLD: usize = 40;
@@ -243,6 +246,30 @@ fn takes_text(wanted: Wanted) -> bool
     )
 }
 
+/// How an array ends that has a value, an object, and a text, by the sign that begins each.
+pub fn end_of(sign: u8) -> &'static str
+    ensures { result.now ≡ end_of sign }
+{
+    match sign {
+        b'[' => ",0]",
+        b'{' => ",\"\":0}",
+        _ => "\"",
+    }
+}
+
+fn is_opening(byte: u8) -> bool
+    ensures { result ≡ is_opening byte }
+{
+    matches!(byte, b'[' | b'{')
+}
+
+// How many arrays and objects begin in these bytes, at most: what stands in a text counts too.
+fn openings_in(bytes: &[u8]) -> usize
+    ensures { result ≡ openings_in bytes.now }
+{
+    bytes.iter().filter(|byte| is_opening(**byte)).count()
+}
+
 // Whether what is wanted comes after a comma, which these bytes end with but for white space.
 fn is_after_comma(before: &[u8], wanted: Wanted) -> bool
     ensures { result ≡ true → EndWithComma before.now }
@@ -253,7 +280,8 @@ fn is_after_comma(before: &[u8], wanted: Wanted) -> bool
 // What ends a text that begins at this place, where these bytes end.
 fn wanted_in_text(before: &[u8], next: Option<u8>, begin: Spot) -> Wanted
     ensures example { example_of result ≡ Some (codes "\"") }
-    ensures begun { IsSpot before.now begin → IsBegunAt before.now result }
+    ensures begun { IsSpot before.now begin → IsOpenFrom before.now begin.at
+        → IsBegunAt before.now result }
 {
     match (next, before.get(begin.at).copied()) {
         (None, Some(b'"')) => Wanted::Quote {
@@ -268,7 +296,8 @@ fn wanted_in_text(before: &[u8], next: Option<u8>, begin: Spot) -> Wanted
 // place before the end of another, or where these bytes end.
 fn wanted_after_value(before: &[u8], in_array: bool, next: Option<u8>, begin: Spot) -> Wanted
     ensures example { example_of result ≡ example_of (Wanted.More in_array) }
-    ensures begun { IsSpot before.now begin → IsBegunAt before.now result }
+    ensures begun { IsSpot before.now begin → IsOpenFrom before.now begin.at
+        → IsBegunAt before.now result }
 {
     match (next, before.get(begin.at).copied()) {
         (None | Some(b']' | b'}'), Some(b'[')) if in_array => Wanted::Closing {
@@ -288,7 +317,8 @@ fn wanted_after_value(before: &[u8], in_array: bool, next: Option<u8>, begin: Sp
 // What is wanted between these bytes and this one, or the end, in what begins at the place.
 fn wanted_before(before: &[u8], wanted: Wanted, next: Option<u8>, begin: Spot) -> Wanted
     ensures example { example_of result ≡ example_of wanted }
-    ensures begun { IsSpot before.now begin → IsBegunAt before.now result }
+    ensures begun { IsSpot before.now begin → IsOpenFrom before.now begin.at
+        → IsBegunAt before.now result }
 {
     match wanted {
         Wanted::Escaped | Wanted::Quote { .. } => wanted_in_text(before, next, begin),
@@ -301,7 +331,8 @@ fn wanted_before(before: &[u8], wanted: Wanted, next: Option<u8>, begin: Spot) -
 // The same, where a single quote stands in place of a double one.
 fn wanted_at(before: &[u8], wanted: Wanted, next: Option<u8>, begin: Spot) -> Wanted
     ensures allowed { IsWantedAfter before.now wanted → IsWantedAfter before.now result }
-    ensures begun { IsSpot before.now begin → IsBegunAt before.now result }
+    ensures begun { IsSpot before.now begin → IsOpenFrom before.now begin.at
+        → IsBegunAt before.now result }
 {
     match next {
         Some(b'\'') if takes_text(wanted) => Wanted::DoubleQuote,
@@ -319,11 +350,14 @@ pub fn syntax_of(
     begin: Spot,
 ) -> Result<Syntax, AllocError>
     ensures { IsWantedAfter before.now wanted → IsSpot before.now begin
+        → IsOpenFrom before.now begin.at
         → IfOk result (IsSyntaxAt before.now bytes.now) }
 {
     let next = bytes.first().copied();
     match next {
-        Some(b'[' | b'{') if wanted == Wanted::Depth => Ok(Syntax::TooDeep),
+        Some(b'[' | b'{') if wanted == Wanted::Depth && openings_in(before) >= MOST_NESTED => {
+            Ok(Syntax::TooDeep)
+        }
         Some(b'}') if is_after_comma(before, wanted) => Ok(Syntax::CommaBefore { what: "}" }),
         Some(b']') if is_after_comma(before, wanted) => Ok(Syntax::CommaBefore { what: "]" }),
         Some(b'/') if is_between(wanted) => Ok(Syntax::Comment),

@@ -42,8 +42,9 @@ accepted_le h caps s t clients engines admin n each e match sums count few =
 -- ---- how many steps
 
 -- the history has room
-steps_le : (load : Workload) (t : Totals) (clients engines : List SeatLog) (admin : Option (List Step))
-    (receipts : List Step) → HaveWorked load clients engines admin → AreSums t clients engines admin
+steps_le : {caps : Caps} {capacity : ℕ} (load : Workload) (t : Totals) (clients engines : List SeatLog)
+    (admin : Option (List Step)) (receipts : List Step) → HaveWorked caps capacity load clients engines admin
+    → AreSums t clients engines admin
     → admin ≡ Some receipts → t.steps ≤ capacity_for load
 steps_le load t clients engines admin receipts w sums is =
     let own = sum_by-le (λ seat. length seat.receipts) load.turns clients w.client_steps in
@@ -91,18 +92,11 @@ some_item : {A : Type 0} (xs : List A) → 0 < length xs → A
 some_item [] h = absurd (omega (arith, h))
 some_item (x ∷ xs) h = x
 
--- what holds of the device of the load
-at_load : (load : Workload) (caps : Caps) (capacity : ℕ) (P : Caps → ℕ → Type 0) → caps ≡ caps_for load.engines
-    → capacity ≡ capacity_for load → P caps capacity → P (caps_for load.engines) (capacity_for load)
-at_load load caps capacity P same-caps same-capacity holds =
-    subst (λ n. P (caps_for load.engines) n) same-capacity (subst (λ c. P c capacity) same-caps holds)
-
 -- what the runs of the workers leave in their seats
 pub have_worked : (caps : Caps) (capacity : ℕ) (load : Workload) (scripts : Scripts)
     (old new old-engines new-engines : List SeatLog)
     (admin new-admin : Option (List Step))
     (setup : List Step) (stint engine-stint : ℕ → Stint) (last : Stint)
-    → caps ≡ caps_for load.engines → capacity ≡ capacity_for load
     → AllFresh load.clients old → AllFresh load.engines old-engines → AreScriptsOf load scripts
     → admin ≡ Some setup → setup ≡ setup_steps load.engines → length new ≡ length old
     → length new-engines ≡ length old-engines
@@ -115,10 +109,9 @@ pub have_worked : (caps : Caps) (capacity : ℕ) (load : Workload) (scripts : Sc
     → RunsAdmin caps capacity scripts.admin.items load.turns (receipts_in admin) (receipts_in new-admin) last
     → ((k : ℕ) → k < length old → (stint k).ended ≢ HistoryFull)
     → ((k : ℕ) → k < length old-engines → (engine-stint k).ended ≢ HistoryFull)
-    → HaveWorked load new new-engines new-admin
+    → HaveWorked caps capacity load new new-engines new-admin
 have_worked caps capacity load scripts old new old-engines new-engines admin new-admin setup stint engine-stint last
-    same-caps same-capacity fresh-clients fresh-engines are is follows count count-engines clients engines ends room
-    room-engines =
+    fresh-clients fresh-engines are is follows count count-engines clients engines ends room room-engines =
     let place = λ (k : ℕ) (lt : k < length new).
     let same : k < load.clients = omega (arith, lt, count, fresh-clients.0) in same in
     let item = λ (k : ℕ) (lt : k < length new). some_item scripts.clients.items
@@ -165,10 +158,8 @@ have_worked caps capacity load scripts old new old-engines new-engines admin new
             stint k,
             is.len,
             is.moves,
-            at_load load caps capacity (λ c n. RunsClient c n (get_or scripts.clients.items k script).items load.turns
-                (fresh k) (get_or new k d) (stint k)) same-caps same-capacity
-                (subst (λ s. RunsClient caps capacity (get_or scripts.clients.items k script).items load.turns s
-                (get_or new k d) (stint k)) (fresh-clients.1 k d lt) (runs k d (seat k lt))),
+            subst (λ s. RunsClient caps capacity (get_or scripts.clients.items k script).items load.turns s
+                (get_or new k d) (stint k)) (fresh-clients.1 k d lt) (runs k d (seat k lt)),
             room k (omega (arith, lt, fresh-clients.0)),
           );
       engine_runs = λ k d lt.
@@ -179,32 +170,36 @@ have_worked caps capacity load scripts old new old-engines new-engines admin new
           let begun = subst (λ s. RunsEngine caps capacity (get_or scripts.engines.items k engine_script) load.turns s
           (get_or new-engines k d) (engine-stint k)) (fresh-engines.1 k d lt) (engines k d engine_script there) in (
             engine-stint k,
-            at_load load caps capacity (λ c n. RunsEngine c n engine_script load.turns (fresh k)
-                (get_or new-engines k d) (engine-stint k)) same-caps same-capacity
-                (subst (λ s. RunsEngine caps capacity s load.turns (fresh k) (get_or new-engines k d)
-                (engine-stint k)) own begun),
+            subst (λ s. RunsEngine caps capacity s load.turns (fresh k) (get_or new-engines k d)
+                (engine-stint k)) own begun,
             room-engines k there,
           );
     }
 
 -- ---- the totals
 
--- the totals over such seats are those that are wanted
-pub totals_of-worked : (load : Workload) (t : Totals) (d : Running) (clients engines : List SeatLog)
-    (admin : Option (List Step)) → HaveWorked load clients engines admin → d.caps ≡ caps_for load.engines → IsReplay d
+-- the totals over such seats are those that are wanted, where the device is that of the load
+pub totals_of-worked : (caps : Caps) (capacity : ℕ) (load : Workload) (t : Totals) (d : Running)
+    (clients engines : List SeatLog) (admin : Option (List Step))
+    → HaveWorked caps capacity load clients engines admin
+    → caps ≡ caps_for load.engines → capacity ≡ capacity_for load → d.caps ≡ caps → IsReplay d
     → Match d.history clients engines admin
     → t ≡ totals_of d.history (held_count d.state.work.content) → AreSums t clients engines admin
     → Balance t d.state.work
     → All (λ step. actor_of step.event ≡ Admin) (take 4 d.history) → 1 ≤ t.accepted
     → AreTotalsOf load t
-totals_of-worked load t d clients engines admin w caps whole match counted sums balance admins some =
+totals_of-worked caps capacity load t d clients engines admin worked same-caps same-capacity of-caps whole match
+    counted sums balance admins some =
+    let w = subst (λ n. HaveWorked (caps_for load.engines) n load clients engines admin) same-capacity
+    (subst (λ c. HaveWorked c capacity load clients engines admin) same-caps worked) in
+    let known = of-caps ∙ same-caps in
     let receipts : receipts_in admin ≡ steps_of_actor d.history Admin = ap (λ a. receipts_in a) match.admin_receipts in
     let most = steps_le load t clients engines admin (steps_of_actor d.history Admin) w sums match.admin_receipts in
     record {
       history = d.history;
       last = d.state;
-      legal = subst (λ c. is_legal c d.history ≡ true) caps whole.legal;
-      replayed = subst (λ c. replay c d.history ≡ Some d.state) caps whole.replayed;
+      legal = subst (λ c. is_legal c d.history ≡ true) known whole.legal;
+      replayed = subst (λ c. replay c d.history ≡ Some d.state) known whole.replayed;
       within = omega (arith, most, ap (λ (x : Totals). x.steps) counted);
       setup = sym receipts ∙ w.setup;
       setup_first = setup_comes_first load.engines d.history (sym receipts ∙ w.setup) admins;
@@ -226,7 +221,7 @@ totals_of-worked load t d clients engines admin w caps whole match counted sums 
           ∙ ap (λ n. steps_of_actor d.history (Client n)) (w.numbers k (fresh 0) lt) in
           let same : seat ≡ record { number = k; receipts = steps_of_actor d.history (Client k) } =
           ap₂ (λ (n : ℕ) (r : List Step). record { number = n; receipts = r }) (w.numbers k (fresh 0) lt) steps in
-          subst (λ s. RanAsClient load k s) same (w.client_runs k (fresh 0) lt);
+          subst (λ s. RanAsClient (caps_for load.engines) (capacity_for load) load k s) same (w.client_runs k (fresh 0) lt);
       engine_runs = λ k lt.
           let seat = get_or engines k (fresh 0) in
           let ran = w.engine_runs k (fresh 0) lt in
@@ -236,5 +231,5 @@ totals_of-worked load t d clients engines admin w caps whole match counted sums 
           ∙ ap (λ n. steps_of_actor d.history (Engine n)) number in
           let same : seat ≡ record { number = k; receipts = steps_of_actor d.history (Engine k) } =
           ap₂ (λ (n : ℕ) (r : List Step). record { number = n; receipts = r }) number steps in
-          subst (λ s. RanAsEngine load k s) same ran;
+          subst (λ s. RanAsEngine (caps_for load.engines) (capacity_for load) load k s) same ran;
     }

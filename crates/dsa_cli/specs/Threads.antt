@@ -109,22 +109,22 @@ pub record AreScriptsOf (load : Workload) (scripts : Scripts) : Type 0 where
 abbrev pub submission_of : ℕ → Event
 submission_of c = Submit c 0 Limited (Enqcmd (c + 1)) client_move
 
--- the seat of client c after a worker of its own ran its script, and found room for each call: it is
--- through with the script, or it has used all turns
-abbrev pub RanAsClient : Workload → ℕ → SeatLog → Type 0
-RanAsClient load c seat = (script : List ClientStep) × (stint : Stint) × (length script ≡ load.each)
-    × All (Submits (c + 1)) script × RunsClient (caps_for load.engines) (capacity_for load) script
-    load.turns (fresh c) seat stint × (stint.ended ≢ HistoryFull)
-
--- the seat of engine e after a worker of its own used all turns, and found room for each call
-abbrev pub RanAsEngine : Workload → ℕ → SeatLog → Type 0
-RanAsEngine load e seat = (stint : Stint)
-    × RunsEngine (caps_for load.engines) (capacity_for load) engine_script load.turns (fresh e) seat stint
+-- on a device of these capabilities and this capacity, the seat of client c after a worker of its own ran its
+-- script, and found room for each call: it is through with the script, or it has used all turns
+abbrev pub RanAsClient : Caps → ℕ → Workload → ℕ → SeatLog → Type 0
+RanAsClient caps capacity load c seat = (script : List ClientStep) × (stint : Stint) × (length script ≡ load.each)
+    × All (Submits (c + 1)) script × RunsClient caps capacity script load.turns (fresh c) seat stint
     × (stint.ended ≢ HistoryFull)
 
--- what the seats have after the run: the administrator has set the device up, and each worker has run.
+-- on such a device, the seat of engine e after a worker of its own used all turns, and found room for each call
+abbrev pub RanAsEngine : Caps → ℕ → Workload → ℕ → SeatLog → Type 0
+RanAsEngine caps capacity load e seat = (stint : Stint)
+    × RunsEngine caps capacity engine_script load.turns (fresh e) seat stint × (stint.ended ≢ HistoryFull)
+
+-- what the seats have after the run on such a device: the administrator has set it up, and each worker has run.
 -- No client was accepted more often than it submits, and no worker made more steps than turns
-pub record HaveWorked (load : Workload) (clients engines : List SeatLog) (admin : Option (List Step)) : Type 0 where
+pub record HaveWorked (caps : Caps) (capacity : ℕ) (load : Workload) (clients engines : List SeatLog)
+    (admin : Option (List Step)) : Type 0 where
   pub client_count : length clients ≡ load.clients
   pub engine_count : length engines ≡ load.engines
   pub accepted : All (λ seat. total_accepted seat.receipts ≤ load.each) clients
@@ -134,8 +134,10 @@ pub record HaveWorked (load : Workload) (clients engines : List SeatLog) (admin 
   pub submitted : (c : ℕ) (d : SeatLog) → c < load.clients
       → All (λ step. step.event ≡ submission_of c) (slice_index_or clients c d).receipts
   pub setup : receipts_in admin ≡ setup_steps load.engines
-  pub client_runs : (c : ℕ) (d : SeatLog) → c < load.clients → RanAsClient load c (slice_index_or clients c d)
-  pub engine_runs : (e : ℕ) (d : SeatLog) → e < load.engines → RanAsEngine load e (slice_index_or engines e d)
+  pub client_runs : (c : ℕ) (d : SeatLog) → c < load.clients
+      → RanAsClient caps capacity load c (slice_index_or clients c d)
+  pub engine_runs : (e : ℕ) (d : SeatLog) → e < load.engines
+      → RanAsEngine caps capacity load e (slice_index_or engines e d)
 
 -- ---- faults
 
@@ -180,7 +182,7 @@ pub record AreTotalsOf (load : Workload) (totals : Totals) : Type 0 where
   pub balanced : totals.accepted + totals.fetched ≡ totals.done + totals.lost + totals.held
   pub accepted : totals.accepted ≤ load.clients * load.each
   pub accepted_one : 1 ≤ totals.accepted
-  pub client_runs : (c : ℕ) → c < load.clients → RanAsClient load c
+  pub client_runs : (c : ℕ) → c < load.clients → RanAsClient (caps_for load.engines) (capacity_for load) load c
       (record { number = c; receipts = steps_of_actor history (Client c) })
-  pub engine_runs : (e : ℕ) → e < load.engines → RanAsEngine load e
+  pub engine_runs : (e : ℕ) → e < load.engines → RanAsEngine (caps_for load.engines) (capacity_for load) load e
       (record { number = e; receipts = steps_of_actor history (Engine e) })

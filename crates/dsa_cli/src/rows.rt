@@ -2,6 +2,7 @@
 
 ghost use Rattle.std.specs.Prelude.{◌≡◌, ◌≢◌, ◌⊎◌, ◌≤◌, ◌<◌, ◌+◌, ℕ, List, [], ◌∷◌, ◌++◌, All, length, codes, map, replicate, take, vec_len, slice_index_or, ⊤, Option, Some, None, true, false};
 ghost use Rattle.dsa_desc.specs.declared.Outcome.TheVariants.{Success};
+ghost use Rattle.dsa_regs.specs.declared.Caps.{Caps};
 ghost use Rattle.dsa_regs.specs.declared.Command.TheVariants.{EnableDevice, EnableWq};
 ghost use Rattle.dsa_book.specs.declared.answer.Reply.TheVariants as reply;
 ghost use Rattle.dsa_book.specs.declared.answer.WriteAnswer.TheVariants.{Written};
@@ -198,20 +199,23 @@ pub fn totals_of_a_run()
     ensures totals { AreTotalsOf (load 1 2 3 4)
         (record
         { accepted = 3; fetched = 0; retried = 0; done = 2; lost = 0; held = 1; steps = 11 }) }
-    ensures seats { HaveWorked (load 1 2 3 4) client_seats_after engine_seats_after
-        (Some (setup_steps 2)) }
+    ensures seats { HaveWorked (caps_for 2) 20 (load 1 2 3 4) client_seats_after
+        engine_seats_after (Some (setup_steps 2)) }
 {}
 
 /// What each worker of a run did: a client made a step in each turn or came to the end of its
 /// script, and an engine had all its turns.
 pub fn workers_ran()
-    ensures client { (asked : Workload) (c : ℕ) (seat : SeatLog)
-        → RanAsClient asked c seat
+    ensures client { (caps : Caps) (capacity : ℕ) (asked : Workload) (c : ℕ) (seat : SeatLog)
+        → RanAsClient caps capacity asked c seat
         → (length seat.receipts ≡ asked.turns) ⊎ (steps_done seat.receipts ≡ asked.each) }
-    ensures engine { (asked : Workload) (e : ℕ) (seat : SeatLog) (ran : RanAsEngine asked e seat)
+    ensures engine { (caps : Caps) (capacity : ℕ) (asked : Workload) (e : ℕ) (seat : SeatLog)
+        (ran : RanAsEngine caps capacity asked e seat)
         → ran.0.turns ≡ asked.turns }
-    ensures idle_client { ¬ RanAsClient (load 1 1 1 1) 0 (fresh 0) }
-    ensures half_the_turns { ¬ RanAsClient (load 1 1 3 4) 0
+    ensures idle_client { (caps : Caps) (capacity : ℕ)
+        → ¬ RanAsClient caps capacity (load 1 1 1 1) 0 (fresh 0) }
+    ensures half_the_turns { (caps : Caps) (capacity : ℕ)
+        → ¬ RanAsClient caps capacity (load 1 1 3 4) 0
         (record { number = 0; receipts = two_retries }) }
 {}
 
@@ -221,12 +225,15 @@ pub fn runs_refused()
         → ¬ AreTotalsOf asked
         (record
         { accepted = 0; fetched = 0; retried = 0; done = 0; lost = 0; held = 0; steps = steps }) }
-    ensures no_setup { (asked : Workload) (clients engines : List SeatLog)
-        → ¬ HaveWorked asked clients engines (Some []) }
-    ensures no_clients { (engines : List SeatLog) (admin : Option (List Step))
-        → ¬ HaveWorked (load 3 7 1 1) [] engines admin }
-    ensures no_engines { (clients : List SeatLog) (admin : Option (List Step))
-        → ¬ HaveWorked (load 3 7 1 1) clients [] admin }
+    ensures no_setup { (caps : Caps) (capacity : ℕ) (asked : Workload)
+        (clients engines : List SeatLog)
+        → ¬ HaveWorked caps capacity asked clients engines (Some []) }
+    ensures no_clients { (caps : Caps) (capacity : ℕ) (engines : List SeatLog)
+        (admin : Option (List Step))
+        → ¬ HaveWorked caps capacity (load 3 7 1 1) [] engines admin }
+    ensures no_engines { (caps : Caps) (capacity : ℕ) (clients : List SeatLog)
+        (admin : Option (List Step))
+        → ¬ HaveWorked caps capacity (load 3 7 1 1) clients [] admin }
 {}
 
 /// The history of two clients, which submit five times each, and three engines, in seven turns
@@ -256,62 +263,64 @@ pub fn history_of_a_run()
     ensures accepted_one { (totals : Totals) (run : AreTotalsOf (load 2 3 5 7) totals)
         → 1 ≤ totals.accepted }
     ensures client_runs { (totals : Totals) (run : AreTotalsOf (load 2 3 5 7) totals)
-        → (c : ℕ) → c < 2 → RanAsClient (load 2 3 5 7) c
+        → (c : ℕ) → c < 2 → RanAsClient (caps_for 3) 46 (load 2 3 5 7) c
         (record { number = c; receipts = steps_of_actor run.history (Client c) }) }
     ensures engine_runs { (totals : Totals) (run : AreTotalsOf (load 2 3 5 7) totals)
-        → (e : ℕ) → e < 3 → RanAsEngine (load 2 3 5 7) e
+        → (e : ℕ) → e < 3 → RanAsEngine (caps_for 3) 46 (load 2 3 5 7) e
         (record { number = e; receipts = steps_of_actor run.history (Engine e) }) }
 {}
 
 /// What the seats have after such a run, and where there was nobody to run.
 pub fn seats_of_a_run()
-    ensures nobody { HaveWorked (load 0 0 5 7) [] [] (Some (setup_steps 0)) }
+    ensures nobody { HaveWorked (caps_for 3) 46 (load 0 0 5 7) [] [] (Some (setup_steps 0)) }
     ensures client_count { (clients engines : List SeatLog) (admin : Option (List Step))
-        → HaveWorked (load 2 3 5 7) clients engines admin → length clients ≡ 2 }
+        → HaveWorked (caps_for 1) 9 (load 2 3 5 7) clients engines admin → length clients ≡ 2 }
     ensures engine_count { (clients engines : List SeatLog) (admin : Option (List Step))
-        → HaveWorked (load 2 3 5 7) clients engines admin → length engines ≡ 3 }
+        → HaveWorked (caps_for 1) 9 (load 2 3 5 7) clients engines admin → length engines ≡ 3 }
     ensures accepted { (clients engines : List SeatLog) (admin : Option (List Step))
-        → HaveWorked (load 2 3 5 7) clients engines admin
+        → HaveWorked (caps_for 1) 9 (load 2 3 5 7) clients engines admin
         → All (λ seat. total_accepted seat.receipts ≤ 5) clients }
     ensures client_steps { (clients engines : List SeatLog) (admin : Option (List Step))
-        → HaveWorked (load 2 3 5 7) clients engines admin
+        → HaveWorked (caps_for 1) 9 (load 2 3 5 7) clients engines admin
         → All (λ seat. length seat.receipts ≤ 7) clients }
     ensures engine_steps { (clients engines : List SeatLog) (admin : Option (List Step))
-        → HaveWorked (load 2 3 5 7) clients engines admin
+        → HaveWorked (caps_for 1) 9 (load 2 3 5 7) clients engines admin
         → All (λ seat. length seat.receipts ≤ 7) engines }
     ensures numbers { (clients engines : List SeatLog) (admin : Option (List Step))
-        → HaveWorked (load 2 3 5 7) clients engines admin
+        → HaveWorked (caps_for 1) 9 (load 2 3 5 7) clients engines admin
         → (c : ℕ) (d : SeatLog) → c < 2 → (slice_index_or clients c d).number ≡ c }
     ensures submitted { (clients engines : List SeatLog) (admin : Option (List Step))
-        → HaveWorked (load 2 3 5 7) clients engines admin
+        → HaveWorked (caps_for 1) 9 (load 2 3 5 7) clients engines admin
         → (c : ℕ) (d : SeatLog) → c < 2
         → All (λ step. step.event ≡ submission_of c) (slice_index_or clients c d).receipts }
     ensures setup { (clients engines : List SeatLog) (admin : Option (List Step))
-        → HaveWorked (load 2 3 5 7) clients engines admin
+        → HaveWorked (caps_for 1) 9 (load 2 3 5 7) clients engines admin
         → receipts_in admin ≡ setup_steps 3 }
     ensures client_runs { (clients engines : List SeatLog) (admin : Option (List Step))
-        → HaveWorked (load 2 3 5 7) clients engines admin
+        → HaveWorked (caps_for 1) 9 (load 2 3 5 7) clients engines admin
         → (c : ℕ) (d : SeatLog) → c < 2
-        → RanAsClient (load 2 3 5 7) c (slice_index_or clients c d) }
+        → RanAsClient (caps_for 1) 9 (load 2 3 5 7) c (slice_index_or clients c d) }
     ensures engine_runs { (clients engines : List SeatLog) (admin : Option (List Step))
-        → HaveWorked (load 2 3 5 7) clients engines admin
+        → HaveWorked (caps_for 1) 9 (load 2 3 5 7) clients engines admin
         → (e : ℕ) (d : SeatLog) → e < 3
-        → RanAsEngine (load 2 3 5 7) e (slice_index_or engines e d) }
+        → RanAsEngine (caps_for 1) 9 (load 2 3 5 7) e (slice_index_or engines e d) }
 {}
 
 /// What the workers of such a run did: client 4 submits five times under PASID 5.
 pub fn runs_of_workers()
-    ensures script { (seat : SeatLog) (ran : RanAsClient (load 2 3 5 7) 4 seat)
+    ensures script { (seat : SeatLog) (ran : RanAsClient (caps_for 1) 9 (load 2 3 5 7) 4 seat)
         → length ran.0 ≡ 5 }
-    ensures moves { (seat : SeatLog) (ran : RanAsClient (load 2 3 5 7) 4 seat)
+    ensures moves { (seat : SeatLog) (ran : RanAsClient (caps_for 1) 9 (load 2 3 5 7) 4 seat)
         → All (Submits 5) ran.0 }
-    ensures client { (seat : SeatLog) (ran : RanAsClient (load 2 3 5 7) 4 seat)
-        → RunsClient (caps_for 3) 46 ran.0 7 (fresh 4) seat ran.1 }
-    ensures client_found_room { (seat : SeatLog) (ran : RanAsClient (load 2 3 5 7) 4 seat)
+    ensures client { (seat : SeatLog) (ran : RanAsClient (caps_for 1) 9 (load 2 3 5 7) 4 seat)
+        → RunsClient (caps_for 1) 9 ran.0 7 (fresh 4) seat ran.1 }
+    ensures client_found_room { (seat : SeatLog)
+        (ran : RanAsClient (caps_for 1) 9 (load 2 3 5 7) 4 seat)
         → ran.1.ended ≢ HistoryFull }
-    ensures engine { (seat : SeatLog) (ran : RanAsEngine (load 2 3 5 7) 4 seat)
-        → RunsEngine (caps_for 3) 46 engine_script 7 (fresh 4) seat ran.0 }
-    ensures engine_found_room { (seat : SeatLog) (ran : RanAsEngine (load 2 3 5 7) 4 seat)
+    ensures engine { (seat : SeatLog) (ran : RanAsEngine (caps_for 1) 9 (load 2 3 5 7) 4 seat)
+        → RunsEngine (caps_for 1) 9 engine_script 7 (fresh 4) seat ran.0 }
+    ensures engine_found_room { (seat : SeatLog)
+        (ran : RanAsEngine (caps_for 1) 9 (load 2 3 5 7) 4 seat)
         → ran.0.ended ≢ HistoryFull }
 {}
 

@@ -234,10 +234,9 @@ fn run_seats<S: EntryStore + Send, L: Sharing + Send + Sync, R: Threads + Wait +
     requires clients { AllFresh load.now.clients seats.old.clients.items }
     requires engines { AllFresh load.now.engines seats.old.engines.items }
     requires admin { seats.old.admin ≡ Some [] }
-    requires sharing { (L.caps ≡ caps_for load.now.engines)
-        × (L.capacity ≡ capacity_for load.now) }
     ensures ok { OnOk result
-        (HaveWorked load.now seats.new.clients.items seats.new.engines.items seats.new.admin) }
+        (HaveWorked L.caps L.capacity load.now seats.new.clients.items seats.new.engines.items
+        seats.new.admin) }
     ensures fault { IfErr result (λ e. e ≢ ThreadsFault.Write) }
 {
     let scripts = scripts_for(alloc, load)?;

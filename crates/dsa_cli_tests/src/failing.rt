@@ -3,6 +3,7 @@
 
 use crate::reading::READERS;
 use crate::runs::{DOCUMENT, Streams, Words, are_same};
+use dsa_cli::ThreadsFault;
 use dsa_fixtures::streams::{ALL, Course, Narrow};
 use dsa_scenario::{ScenarioFault, WatchedWriter};
 use std::alloc::Global;
@@ -134,10 +135,29 @@ fn printed(rt: HostRuntime) {
     are_same(&rt, &[], &(status, narrow.calls), &(1, 1));
 }
 
-// A flush of a writer that is watched is handed on.
+const FAULTS: [(ThreadsFault, &str); 3] = [
+    (ThreadsFault::SettleRefused, "dsa_run: settle refused\n"),
+    (ThreadsFault::Write, WRITE_FAILED),
+    (ThreadsFault::OutOfMemory, "dsa_run: out of memory\n"),
+];
+
+// The line of each fault of the workers, also of the one that no words lead to.
+#[test]
+fn faults_of_threads(rt: HostRuntime) {
+    for (fault, line) in FAULTS {
+        let mut narrow = Narrow::new(rt.alloc(), Course::new(WORKS, false));
+        let status = dsa_cli::tell(&mut narrow, &fault);
+        are_same(&rt, &[], &status, &1);
+        are_same(&rt, &[], &narrow.taken.as_slice(), &line.as_bytes());
+    }
+}
+
+// A flush of a writer that is watched is handed on, and so is its error.
 #[test]
 fn flushed(rt: HostRuntime) {
-    let mut narrow = Narrow::new(rt.alloc(), Course::new((ALL, 0), true));
-    let flushed = WatchedWriter::new(&mut narrow).flush();
-    are_same(&rt, &[], &(flushed.is_err(), narrow.calls), &(false, 1));
+    for (left, fails) in [(ALL, false), (0, true)] {
+        let mut narrow = Narrow::new(rt.alloc(), Course::new((ALL, left), true));
+        let flushed = WatchedWriter::new(&mut narrow).flush();
+        are_same(&rt, &[], &(flushed.is_err(), narrow.calls), &(fails, 1));
+    }
 }

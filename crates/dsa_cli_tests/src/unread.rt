@@ -94,6 +94,30 @@ fn wrong_words(rt: HostRuntime) {
     }
 }
 
+// No number of words, and no length of one, is told as want of memory.
+#[test]
+fn many_words(rt: HostRuntime) {
+    const MANY: [&str; 400] = ["threads"; 400];
+    are_refused(&rt, rt.alloc(), &MANY);
+}
+
+#[test]
+fn a_long_word(rt: HostRuntime) {
+    let mut long = String::new(rt.alloc());
+    for _ in 0..10_000 {
+        long.push_str("fly").expect(&rt, "memory for a word");
+    }
+    let mut streams = Streams::working(rt.alloc(), b"");
+    let status = streams.run(&rt, rt.alloc(), &[long.as_str()]);
+    are_same(
+        &rt,
+        &["a long word"],
+        &(status, streams.calls()[0]),
+        &(2, 0),
+    );
+    begins(&rt, &["a long word"], &streams.errors.taken, "error: ");
+}
+
 #[test]
 fn help_version_and_threads(rt: HostRuntime) {
     for (words, beginning) in RIGHT {

@@ -296,7 +296,7 @@ gone_forked caps capacity steps here number way old new tolds asked q qs choices
           answers leads shown by.2
           (subst (λ l. IsWayBy caps capacity steps (number + 1) (l ++ by.0 ∷ []) to.0) chosen to.1))
           to.2;
-      may = fork.1;
+      may = let one = fork.1 q (inl refl) in (one.0, one.1);
       some = inl (first.2.0, first.2.1);
     }
 

@@ -119,7 +119,7 @@ offers-some now e q entry is below none =
 pub all_shown : (now : Running) (e : ℕ) (seen : Seen) (found : List ℕ) → (length now.history == now.capacity) ≡ false
     → ((q : ℕ) → (entry : Record) → q < now.state.work.setup.caps.queues → offer now.state.work e q ≡ Some entry
     → shows seen entry ≡ true → In q found)
-    → ((q : ℕ) → In q found → (entry : Record) × (offer now.state.work e q ≡ Some entry))
+    → ((q : ℕ) → In q found → (entry : Record) × (offer now.state.work e q ≡ Some entry) × (shows seen entry ≡ true))
     → 2 ≤ length found → IsFork now (Ok (event.Dispatch e)) seen found
 all_shown now e seen [] room all each many = absurd (omega (arith, many))
 all_shown now e seen (q ∷ qs) room all each many =
@@ -130,7 +130,13 @@ all_shown now e seen (q ∷ qs) room all each many =
       λ entry may shown.
           let h = offered_of now e entry room some may in
           (h.queue, all h.queue entry h.below h.is shown, offer_tells now.state.work e h.queue entry h.is),
-      (first.0, offered_is_allowed now e q first.0 room is),
+      λ queue i.
+          let one = each queue i in (
+            one.0,
+            offered_is_allowed now e queue one.0 room (is_offer now.state.work e queue one.0 one.1),
+            one.2,
+            offer_tells now.state.work e queue one.0 one.1,
+          ),
     )
 
 -- ---- the queues that an engine may take from

@@ -65,13 +65,18 @@ abbrev pub IsOneWay : Running → Result Event Fault → Seen → Type 0
 IsOneWay now asked seen = (first second : Record) → IsAllowed now asked first → IsAllowed now asked second
     → shows seen first ≡ true → shows seen second ≡ true → queue_of_record first ≡ queue_of_record second
 
--- each answer that is allowed and shows what was seen tells of one of these queues; where there are
--- none, all tell of the same queue, or of none
+-- an answer that is allowed and shows what was seen tells of this queue
+abbrev pub IsTakenAsSeen : Running → Result Event Fault → Seen → ℕ → Type 0
+IsTakenAsSeen now asked seen queue = (entry : Record) × IsAllowed now asked entry × (shows seen entry ≡ true)
+    × (queue_of_record entry ≡ Some queue)
+
+-- each answer that is allowed and shows what was seen tells of one of these queues, and each of these is told of;
+-- where there are none, all tell of the same queue, or of none
 abbrev pub IsFork : Running → Result Event Fault → Seen → List ℕ → Type 0
 IsFork now asked seen [] = IsOneWay now asked seen
 IsFork now asked seen queues = ((entry : Record) → IsAllowed now asked entry → shows seen entry ≡ true
     → (queue : ℕ) × In queue queues × (queue_of_record entry ≡ Some queue))
-    × ((entry : Record) × IsAllowed now asked entry)
+    × ((queue : ℕ) → In queue queues → IsTakenAsSeen now asked seen queue)
 
 -- ---- one step of several devices
 

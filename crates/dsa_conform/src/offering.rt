@@ -118,7 +118,9 @@ fn add_shown<S: EntryStore>(
     ensures each { OnOk result ((q : ℕ)
         → In q found.new.items
         → In q found.old.items
-        ⊎ ((entry : Record) × (offer device.now.state.work engine q ≡ Some entry))) }
+        ⊎ ((entry : Record)
+        × (offer device.now.state.work engine q ≡ Some entry)
+        × (shows (seen_as seen.now) entry ≡ true))) }
     ensures adds { OnOk result ((entry : Record)
         → offer device.now.state.work engine queue ≡ Some entry
         → shows (seen_as seen.now) entry ≡ true
@@ -148,7 +150,9 @@ fn shown_queues<S: EntryStore>(
         → In q found.items) }
     ensures each { IfOk result (λ found. (q : ℕ)
         → In q found.items
-        → (entry : Record) × (offer device.now.state.work engine q ≡ Some entry)) }
+        → (entry : Record)
+        × (offer device.now.state.work engine q ≡ Some entry)
+        × (shows (seen_as seen.now) entry ≡ true)) }
 {
     device.state_is_replay();
     let mut found = Vec::new(alloc);

@@ -1,6 +1,8 @@
 //! A document in, whether it conforms out.
 
-ghost use Rattle.std.specs.Prelude.{◌≡◌, ◌⊎◌, IfErr, IfOk, string_bytes};
+ghost use Rattle.std.specs.Prelude.{◌≡◌, ◌⊎◌, IfErr, IfOk, IfSome, string_bytes};
+ghost use Rattle.serde_json.specs.View.{view};
+ghost use Rattle.dsa_scenario.specs.Document.{IsJson};
 ghost use Rattle.dsa_conform.specs.Run.{IsConformance, IsOtherFault};
 
 use crate::observed::first_unread;
@@ -28,6 +30,7 @@ impl Render for Conformance {
 pub fn render_conformance(alloc: Global, bytes: &[u8]) -> Result<Rendering, ScenarioFault>
     ensures ok { IfOk result (λ r. IsConformance bytes.now r.fault (string_bytes r.text)) }
     ensures err { IfErr result (λ e. (e ≡ ScenarioFault.OutOfMemory) ⊎ IsOtherFault bytes.now e) }
+    ensures held { IfOk result (λ r. IfSome r.document (λ value. IsJson bytes.now (view value))) }
 {
     let value = parse_json(alloc, bytes)?;
     let Some(head) = parse_head(&value) else {

@@ -448,6 +448,8 @@ pub fn ways()
         (2 ∷ []) }
     ensures no_choice { IsFork smallest_device_at_first (Ok event.Poll) nothing_seen [] }
     ensures fork { ¬ IsFork after_all (Ok (event.Dispatch 0)) nothing_seen (0 ∷ []) }
+    ensures one_not_seen { ¬ IsFork after_all (Ok (event.Dispatch 0))
+        (answered (codes "taken from 2")) (0 ∷ 2 ∷ []) }
     ensures no_fork { ¬ IsFork after_all (Ok (event.Dispatch 0)) nothing_seen [] }
     ensures none_allowed { ¬ IsFork no_cells (Ok submission_of_a_run) nothing_seen (0 ∷ []) }
     ensures covered { (t : Vec Ticket Global)

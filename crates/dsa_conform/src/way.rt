@@ -109,6 +109,11 @@ fn ask_for<S: EntryStore>(
 ) -> Record
     ensures answers { answered_by result ≡ asked.now }
     ensures leads { Leads device.old result device.new }
+    ensures taken { (engine : ℕ) → (from : ℕ) → asked.now ≡ Ok (event.Dispatch engine)
+        → queue ≡ Some from
+        → (length device.old.history == device.old.capacity) ≡ false
+        → qualifies device.old.state.work engine from ≡ true
+        → offer device.old.state.work engine from ≡ Some result }
 {
     match (*asked, queue) {
         (Ok(Event::Dispatch { engine }), Some(queue)) => take_or_ask(device, engine, queue),

@@ -1,5 +1,6 @@
 pub mod Used
 pub mod Homes
+pub mod Fronts
 pub mod Dispatching
 pub mod Finding
 pub mod Leaving

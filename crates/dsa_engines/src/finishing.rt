@@ -176,7 +176,9 @@ impl Engines {
         if !queues.is_drain(entry) {
             return None;
         }
-        let (_, waited) = first_waited(queues, store, entry)?;
+        // A copy for the search, so that an entry that is no Drain need not be in memory.
+        let drain = *entry;
+        let (_, waited) = first_waited(queues, store, &drain)?;
         Some(FinishReason::DrainWaits { first: waited.name })
     }
 

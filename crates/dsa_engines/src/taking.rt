@@ -30,7 +30,8 @@ struct Share {
     room: u16,
 }
 
-// The front of one list goes to the end of the other, and runs.
+// The front of one list runs, and goes to the end of the other. It is written where it was just
+// read, so that only the mark that it runs changes.
 #[inline(always)]
 fn run_front<S: EntryStore>(store: &mut S, from: ListId, to: ListId, front: (Cell, Entry))
     requires from { from.0 < length (S.content store.old) }
@@ -42,7 +43,6 @@ fn run_front<S: EntryStore>(store: &mut S, from: ListId, to: ListId, front: (Cel
         (as_running front.1) }
     ensures cells { S.cells store.new ≡ S.cells store.old }
 {
-    let _ = store.move_front(from, to);
     let (cell, entry) = front;
     let _ = store.set(
         cell,
@@ -51,6 +51,7 @@ fn run_front<S: EntryStore>(store: &mut S, from: ListId, to: ListId, front: (Cel
             ..entry
         },
     );
+    let _ = store.move_front(from, to);
 }
 
 // What keeps an engine with a slot left from taking a front: its read buffers, the batch or the

@@ -1,10 +1,13 @@
 -- States in which a step may come, with the numbers of queues, engines, cells and names apart.
-use Rattle.std.specs.Prelude.{false, true, List, [], ◌∷◌, Option, None, Some}
+use Rattle.std.specs.Prelude.{ℕ, false, true, List, [], ◌∷◌, Option, None, Some}
 use Rattle.dsa_regs.specs.Worked.{caps, smallest, queues, first_group}
 use Rattle.dsa_regs.specs.{declared.Phase.{Phase, TheVariants.{Off, On}}, Config.{zero_group}}
+use Rattle.dsa_regs.specs.declared.{Command.{Command}, GroupConfig.{GroupConfig}, QueueConfig.{QueueConfig}}
 use Rattle.dsa_store.specs.Content.{Content, HeldEntry}
 use Rattle.dsa_book.specs.declared.note.BatchNote.{BatchNote}
-use Rattle.dsa_book.specs.State.{Setup, State, opening_setup}
+use Rattle.dsa_book.specs.declared.event.Kind.{Kind}
+use Rattle.dsa_book.specs.{Machine.{intake_of, with_intake, with_work}, Submit.{after_accept}}
+use Rattle.dsa_book.specs.State.{Setup, State, Work, opening_setup}
 use Rattle.dsa_engines.specs.Engines.{EnginesState}
 use Rattle.dsa_worked.specs.Changes.{none_held}
 use Rattle.dsa_worked.specs.Setup.{no_op, move, batch, fenced, held_entry}
@@ -61,6 +64,10 @@ batch_of_four = held_entry 5 3 None (batch 4) 0 true
 abbrev pub with_members : List HeldEntry → Content
 with_members members = [] ∷ [] ∷ [] ∷ (batch_of_four ∷ []) ∷ [] ∷ members ∷ []
 
+-- a state in which engine 1 works on batch 3 with these members and this note
+abbrev pub on_batch : List HeldEntry → BatchNote → State
+on_batch members note = state_on (with_members members) (notes_of note)
+
 -- members that run, that wait, and that wait with a fence
 abbrev pub six_runs : HeldEntry
 six_runs = held_entry 2 6 (Some 3) (move 4096) 0 true
@@ -87,6 +94,31 @@ two_cells_in_use =
 -- queue 1 alone is On, and nothing is held
 abbrev pub on_the_second : State
 on_the_second = state_over (one_group_in On (Off ∷ On ∷ [])) none_held []
+
+-- a device that is Off and has no queues, or no groups, with these configurations
+abbrev pub without_queues : List QueueConfig → State
+without_queues configs =
+    state_over (record (one_group_in Off []) { caps = record caps { queues = 0 }; configs = configs }) [] []
+
+abbrev pub without_groups : List GroupConfig → State
+without_groups groups =
+    state_over (record (one_group_in Off []) { caps = record caps { groups = 0 }; groups = groups }) [] []
+
+-- ---- effects
+
+-- the effect may come in this state, and changes its work so
+abbrev pub ChangesWork : (State → State → Type 0) → (Work → Work) → State → Type 0
+ChangesWork effect change s = effect s (with_work s (change s.work))
+
+-- the state after a No-op comes to this queue, in cell 3
+abbrev pub after_no_op_in : ℕ → Kind → State → State
+after_no_op_in queue kind s = with_intake s (after_accept (intake_of s) queue kind no_op (record { 0 = 3 })).1
+
+-- the state in which this command is active, for all that nine names were given to
+abbrev pub waiting_for : Command → State → State
+waiting_for command s = record s { active = Some (record { command = command; mark = 9 }) }
+
+-- ---- engines
 
 -- engine 1 is of group 0 and has this note; nothing uses read buffers
 abbrev pub engines_with : BatchNote → EnginesState

@@ -3,15 +3,7 @@ use Rattle.dsa_buffers.specs.declared.want.BufferWant.{BufferWant}
 
 -- a second Move in the first group, where the second uses 12 (`buffers_of_a_batch`)
 abbrev pub want_of_the_first : BufferWant
-want_of_the_first = record {
-  group = 0;
-  asked = 4;
-  used = 4;
-  allowed = 8;
-  buffers = 16;
-  in_use = 16;
-  kept = 0;
-}
+want_of_the_first = record { group = 0; asked = 4; used = 4; allowed = 8; buffers = 16; in_use = 16; kept = 0 }
 
 -- three buffers in the second group, which uses four of the eight that it has reserved, and the first uses eight
 abbrev pub want_of_the_second : BufferWant

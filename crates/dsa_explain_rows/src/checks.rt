@@ -8,7 +8,7 @@ ghost use Rattle.dsa_regs.specs.declared.reasons.CheckReason.TheVariants.{Allowe
 ghost use Rattle.dsa_regs.specs.declared.reasons.Bound.TheVariants.{Need, Reserved, Unreserved};
 ghost use Rattle.dsa_regs.specs.declared.reasons.Named.TheVariants.{Engine, Queue};
 ghost use Rattle.dsa_regs.specs.Config.{at_most_a_word, check_fault, check_queue_reason, first_past, group_after};
-ghost use Rattle.dsa_explain_rows.specs.Checks.{groups_reason, pair, pair_with, three, trio_with};
+ghost use Rattle.dsa_explain_rows.specs.Checks.{groups_reason, pair, pair_with, three, trio_with, pair_of_queues, pair_of_engines};
 
 /// Nothing is against the groups of the set-up, with sizes up to what the device has.
 pub fn groups_without_a_fault()
@@ -72,18 +72,14 @@ pub fn names_of_two_groups()
     ensures first_queue { groups_reason three_groups 12
         (trio_with (record first_group { queues = 7; engines = 4 }))
         ≡ Some (TwoGroups (Queue 0) 0 2) }
-    ensures third_queue { groups_reason (record caps { queues = 3 }) 6
-        (pair (record first_group { queues = 5 }) (record second_group { queues = 6 }))
+    ensures third_queue { groups_reason (record caps { queues = 3 }) 6 (pair_of_queues 5 6)
         ≡ Some (TwoGroups (Queue 2) 0 1) }
-    ensures third_engine { groups_reason (record caps { engines = 3 }) 6
-        (pair (record first_group { engines = 5 }) (record second_group { engines = 6 }))
+    ensures third_engine { groups_reason (record caps { engines = 3 }) 6 (pair_of_engines 5 6)
         ≡ Some (TwoGroups (Engine 2) 0 1) }
     ensures more_queues_than_engines { groups_reason (record caps { queues = 4 }) 6
-        (pair (record first_group { queues = 13 }) (record second_group { queues = 10 }))
-        ≡ Some (TwoGroups (Queue 3) 0 1) }
+        (pair_of_queues 13 10) ≡ Some (TwoGroups (Queue 3) 0 1) }
     ensures more_engines_than_queues { groups_reason (record caps { engines = 4 }) 6
-        (pair (record first_group { engines = 13 }) (record second_group { engines = 10 }))
-        ≡ Some (TwoGroups (Engine 3) 0 1) }
+        (pair_of_engines 13 10) ≡ Some (TwoGroups (Engine 3) 0 1) }
     ensures before_the_reserve { groups_reason caps 6
         (pair_with (record second_group { engines = 3; reserved = 13 }))
         ≡ Some (TwoGroups (Engine 0) 0 1) }
@@ -140,8 +136,7 @@ pub fn halves_of_groups()
     ensures engine_first { groups_reason caps 6
         (pair (record first_group { queues = 0 }) (record second_group { engines = 0 }))
         ≡ Some (GroupWithoutEngine 1) }
-    ensures first_without_queue { groups_reason caps 6
-        (pair (record first_group { queues = 0 }) (record second_group { queues = 0 }))
+    ensures first_without_queue { groups_reason caps 6 (pair_of_queues 0 0)
         ≡ Some (GroupWithoutQueue 0) }
 {}
 

@@ -1,6 +1,6 @@
 //! Why a command is refused, what it waits for or removes, and why the active one is not over.
 
-ghost use Rattle.std.specs.Prelude.{◌≡◌, [], ◌∷◌, Some, None, true, false, map, option_map, take};
+ghost use Rattle.std.specs.Prelude.{◌≡◌, [], ◌∷◌, Some, None, true, false, map, take};
 ghost use Rattle.dsa_regs.specs.Worked.{dedicated_queue, first_group, second_group, shared_queue};
 ghost use Rattle.dsa_regs.specs.declared.Command.TheVariants.{AbortAll, AbortPasid, AbortWq, DisableDevice, DisableWq, DrainAll, DrainPasid, DrainWq, EnableDevice, EnableWq, ResetDevice, ResetWq};
 ghost use Rattle.dsa_regs.specs.declared.Deed.TheVariants as deed;
@@ -20,9 +20,9 @@ ghost use Rattle.dsa_regs.specs.declared.reasons.CheckReason.TheVariants as chec
 ghost use Rattle.dsa_regs.specs.declared.reasons.Named.TheVariants as named;
 ghost use Rattle.dsa_admin.specs.Command.{fault_of_command, issue_by, issue_reason, poll_answer_by, poll_reason};
 ghost use Rattle.dsa_explain.specs.Wait.{is_waiting};
-ghost use Rattle.dsa_explain.specs.Held.{abort_row, aborted_entries, awaited_entry, losses};
+ghost use Rattle.dsa_explain.specs.Held.{abort_row, aborted_entries, losses};
 ghost use Rattle.dsa_explain_rows.specs.After.{told_after, told_from_first};
-ghost use Rattle.dsa_explain_rows.specs.Waits.{active_after, held_as, name_and_list, wait_after};
+ghost use Rattle.dsa_explain_rows.specs.Waits.{active_after, held_as, wait_after, awaited_after, lost_after};
 
 /// Another command is active: which, and for how many entries it waits; whatever else stands
 /// against the new one.
@@ -136,48 +136,25 @@ pub fn polls()
 
 /// The first entry that the active command waits for.
 pub fn awaited_entries()
-    ensures in_a_queue { told_after (λ s. option_map name_and_list (awaited_entry s))
-        (take 2 drain_of_a_queue)
-        ≡ Some (Some (0, Queue 0)) }
-    ensures in_progress { told_after (λ s. option_map name_and_list (awaited_entry s))
-        (take 6 drain_of_a_queue)
-        ≡ Some (Some (0, Progress 0)) }
-    ensures of_a_pasid { told_after (λ s. option_map name_and_list (awaited_entry s))
-        (take 4 drain_of_a_pasid)
-        ≡ Some (Some (0, Queue 0)) }
-    ensures batch { told_after (λ s. option_map name_and_list (awaited_entry s))
-        (take 7 drain_of_a_batch)
-        ≡ Some (Some (1, Progress 0)) }
-    ensures at_its_end { told_after (λ s. option_map name_and_list (awaited_entry s))
-        (take 7 drain_of_a_queue)
-        ≡ Some None }
-    ensures none { told_after (λ s. option_map name_and_list (awaited_entry s))
-        (take 1 drain_of_a_queue)
-        ≡ Some None }
+    ensures in_a_queue { awaited_after (take 2 drain_of_a_queue) ≡ Some (Some (0, Queue 0)) }
+    ensures in_progress { awaited_after (take 6 drain_of_a_queue) ≡ Some (Some (0, Progress 0)) }
+    ensures of_a_pasid { awaited_after (take 4 drain_of_a_pasid) ≡ Some (Some (0, Queue 0)) }
+    ensures batch { awaited_after (take 7 drain_of_a_batch) ≡ Some (Some (1, Progress 0)) }
+    ensures at_its_end { awaited_after (take 7 drain_of_a_queue) ≡ Some None }
+    ensures none { awaited_after (take 1 drain_of_a_queue) ≡ Some None }
 {}
 
 /// The entries that an abort ends, list by list: queues first, then what is in progress, then
 /// members.
 pub fn aborts()
-    ensures all { told_after (λ s. map name_and_list (aborted_entries s AbortAll))
-        (take 8 abort_of_all_lists)
-        ≡ Some ((5, Queue 0)
-        ∷ (4, Queue 1)
-        ∷ (0, Progress 0)
-        ∷ (2, Progress 1)
-        ∷ (1, Members 0)
-        ∷ (3, Members 1)
-        ∷ []) }
-    ensures of_a_queue { told_after
-        (λ s. map name_and_list (aborted_entries s (AbortWq (masked 2))))
-        (take 8 abort_of_all_lists)
+    ensures all { lost_after AbortAll (take 8 abort_of_all_lists)
+        ≡ Some ((5, Queue 0) ∷ (4, Queue 1) ∷ (0, Progress 0) ∷ (2, Progress 1) ∷ (1, Members 0)
+        ∷ (3, Members 1) ∷ []) }
+    ensures of_a_queue { lost_after (AbortWq (masked 2)) (take 8 abort_of_all_lists)
         ≡ Some ((4, Queue 1) ∷ (2, Progress 1) ∷ (3, Members 1) ∷ []) }
-    ensures of_a_pasid { told_after (λ s. map name_and_list (aborted_entries s (AbortPasid 5)))
-        (take 8 abort_of_all_lists)
+    ensures of_a_pasid { lost_after (AbortPasid 5) (take 8 abort_of_all_lists)
         ≡ Some ((5, Queue 0) ∷ (0, Progress 0) ∷ (1, Members 0) ∷ []) }
-    ensures of_another_pasid { told_after
-        (λ s. map name_and_list (aborted_entries s (AbortPasid 6))) (take 8 abort_of_all_lists)
-        ≡ Some [] }
+    ensures of_another_pasid { lost_after (AbortPasid 6) (take 8 abort_of_all_lists) ≡ Some [] }
     ensures entry { told_after (λ s. aborted_entries s AbortAll) (take 4 old_ticket_is_gone)
         ≡ Some (held_as (Queue 0) (held_entry 0 1 None (record no_op { pasid = 5 }) 0 false) ∷ []) }
     ensures rows { told_after

@@ -1,16 +1,14 @@
 //! What a step that may come does: a state for each effect and the one after it, and states in
 //! which it may not come.
 
-ghost use Rattle.std.specs.Prelude.{◌≡◌, [], ◌∷◌, None, Some, false, true};
+ghost use Rattle.std.specs.Prelude.{[], ◌∷◌, None, Some, false, true};
 ghost use Rattle.dsa_regs.specs.Worked.{caps, dedicated_queue, first_group, second_group, shared_queue};
 ghost use Rattle.dsa_regs.specs.declared.Command.TheVariants.{AbortAll, DisableDevice, DrainAll};
 ghost use Rattle.dsa_regs.specs.declared.Deed.TheVariants.{Drain, Enable};
 ghost use Rattle.dsa_regs.specs.declared.Phase.TheVariants.{Off, On, Stopping};
 ghost use Rattle.dsa_regs.specs.declared.Scope.TheVariants.{Device, Queue, Queues};
 ghost use Rattle.dsa_book.specs.Commands.{after_abort, reset, work_with_setup};
-ghost use Rattle.dsa_book.specs.Machine.{intake_of, with_intake, with_work};
 ghost use Rattle.dsa_book.specs.State.{State};
-ghost use Rattle.dsa_book.specs.Submit.{after_accept};
 ghost use Rattle.dsa_book.specs.Work.{after_abandon, after_end, after_fetch, after_start, after_take};
 ghost use Rattle.dsa_book.specs.declared.answer.Cause.TheVariants.{WrongKind};
 ghost use Rattle.dsa_book.specs.declared.event.Kind.TheVariants.{Enqcmd, Movdir64b};
@@ -19,48 +17,29 @@ ghost use Rattle.dsa_engines.specs.Batch.{MayStart, MayTell, block_of_group};
 ghost use Rattle.dsa_laws.specs.Change.{IsAbandoned, IsAborted, IsAccepted, IsBegun, IsCleared, IsDeviceEnabled, IsEnded, IsFetched, IsGranted, IsGroupWritten, IsNoted, IsOver, IsQueueEnabled, IsQueueWritten, IsReset, IsStarted, IsTaken, IsWaiting};
 ghost use Rattle.dsa_worked.specs.Changes.{none_held};
 ghost use Rattle.dsa_worked.specs.Setup.{masked, no_op};
-ghost use Rattle.dsa_explain_rows.specs.Effects.{another_device, batch_of_four, engines_with, in_second_queue, note_failed, note_open, notes_of, on_first_engine, one_group_in, on_the_second, seven_moves, seven_waits, seven_with_fence, six_runs, state_on, state_over, two_cells_in_use, with_members};
+ghost use Rattle.dsa_explain_rows.specs.Effects.{another_device, batch_of_four, engines_with, in_second_queue, note_failed, note_open, notes_of, on_first_engine, one_group_in, on_the_second, seven_moves, seven_waits, seven_with_fence, six_runs, state_on, state_over, two_cells_in_use, with_members, on_batch, without_queues, without_groups, ChangesWork, after_no_op_in, waiting_for};
 ghost use Rattle.dsa_explain_rows.specs.Tables.{two_groups};
 
 /// Entries come in, are taken, fetched, started, abandoned and ended.
 pub fn of_entries()
     ensures accepted_by_movdir { IsAccepted (state_on in_second_queue [])
-        (with_intake (state_on in_second_queue [])
-        (after_accept (intake_of (state_on in_second_queue [])) 1 Movdir64b no_op
-        (record { 0 = 3 })).1) }
+        (after_no_op_in 1 Movdir64b (state_on in_second_queue [])) }
     ensures accepted_by_enqcmd { IsAccepted (state_on in_second_queue [])
-        (with_intake (state_on in_second_queue [])
-        (after_accept (intake_of (state_on in_second_queue [])) 0 (Enqcmd 5) no_op
-        (record { 0 = 3 })).1) }
+        (after_no_op_in 0 (Enqcmd 5) (state_on in_second_queue [])) }
     ensures taken { IsTaken (state_on in_second_queue []) (state_on on_first_engine []) }
-    ensures fetched { IsFetched (state_on (with_members []) (notes_of note_open))
-        (with_work (state_on (with_members []) (notes_of note_open))
-        (after_fetch (state_on (with_members []) (notes_of note_open)).work 1 no_op
-        (record { 0 = 3 }) note_open batch_of_four.1).1) }
-    ensures started_with_a_fence { IsStarted
-        (state_on (with_members (seven_with_fence ∷ [])) (notes_of note_open))
-        (with_work (state_on (with_members (seven_with_fence ∷ [])) (notes_of note_open))
-        (after_start (state_on (with_members (seven_with_fence ∷ [])) (notes_of note_open)).work
-        1)) }
-    ensures started_beside_another { IsStarted
-        (state_on (with_members (six_runs ∷ seven_waits ∷ [])) (notes_of note_failed))
-        (with_work
-        (state_on (with_members (six_runs ∷ seven_waits ∷ [])) (notes_of note_failed))
-        (after_start
-        (state_on (with_members (six_runs ∷ seven_waits ∷ [])) (notes_of note_failed)).work 1)) }
-    ensures started_with_two_buffers { IsStarted
-        (state_on (with_members (seven_moves ∷ [])) (notes_of note_open))
-        (with_work (state_on (with_members (seven_moves ∷ [])) (notes_of note_open))
-        (after_start (state_on (with_members (seven_moves ∷ [])) (notes_of note_open)).work 1)) }
-    ensures abandoned { IsAbandoned
-        (state_on (with_members (seven_with_fence ∷ [])) (notes_of note_failed))
-        (with_work (state_on (with_members (seven_with_fence ∷ [])) (notes_of note_failed))
-        (after_abandon
-        (state_on (with_members (seven_with_fence ∷ [])) (notes_of note_failed)).work 1)) }
-    ensures ended { IsEnded (state_on (with_members (six_runs ∷ [])) (notes_of note_open))
-        (with_work (state_on (with_members (six_runs ∷ [])) (notes_of note_open))
-        (after_end (state_on (with_members (six_runs ∷ [])) (notes_of note_open)).work 1
-        six_runs PageFault)) }
+    ensures fetched { ChangesWork IsFetched
+        (λ w. (after_fetch w 1 no_op (record { 0 = 3 }) note_open batch_of_four.1).1)
+        (on_batch [] note_open) }
+    ensures started_with_a_fence { ChangesWork IsStarted (λ w. after_start w 1)
+        (on_batch (seven_with_fence ∷ []) note_open) }
+    ensures started_beside_another { ChangesWork IsStarted (λ w. after_start w 1)
+        (on_batch (six_runs ∷ seven_waits ∷ []) note_failed) }
+    ensures started_with_two_buffers { ChangesWork IsStarted (λ w. after_start w 1)
+        (on_batch (seven_moves ∷ []) note_open) }
+    ensures abandoned { ChangesWork IsAbandoned (λ w. after_abandon w 1)
+        (on_batch (seven_with_fence ∷ []) note_failed) }
+    ensures ended { ChangesWork IsEnded (λ w. after_end w 1 six_runs PageFault)
+        (on_batch (six_runs ∷ []) note_open) }
 {}
 
 /// Where nothing is held no entry is taken, fetched, started, abandoned or ended, and where no
@@ -114,33 +93,27 @@ pub fn of_commands()
     ensures enabled { IsQueueEnabled (state_over (one_group_in On (Off ∷ Off ∷ [])) [] [])
         (state_over (one_group_in On (Off ∷ On ∷ [])) [] []) }
     ensures disable_waits { IsWaiting (state_on in_second_queue [])
-        (record (state_over (one_group_in Stopping (Stopping ∷ Stopping ∷ [])) in_second_queue [])
-        { active = Some (record { command = DisableDevice; mark = 9 }) }) }
+        (waiting_for DisableDevice
+        (state_over (one_group_in Stopping (Stopping ∷ Stopping ∷ [])) in_second_queue [])) }
     ensures drain_waits { IsWaiting (state_on in_second_queue [])
-        (record (state_on in_second_queue [])
-        { active = Some (record { command = DrainAll; mark = 9 }) }) }
+        (waiting_for DrainAll (state_on in_second_queue [])) }
     ensures disable_is_over { IsOver (state_on none_held [])
         (state_over (one_group_in Off (Off ∷ Off ∷ [])) none_held []) }
-    ensures aborted { IsAborted (state_on in_second_queue [])
-        (with_work (state_on in_second_queue [])
-        (after_abort 4 Device (state_on in_second_queue []).work)) }
-    ensures reset { IsReset (state_on in_second_queue [])
-        (with_work (state_on in_second_queue [])
-        (work_with_setup (after_abort 5 Device (state_on in_second_queue []).work)
-        (reset Device (one_group_in On (On ∷ On ∷ []))))) }
-    ensures reset_while_off { IsReset (state_over (one_group_in Off []) none_held [])
-        (with_work (state_over (one_group_in Off []) none_held [])
-        (work_with_setup (after_abort 5 Device (state_over (one_group_in Off []) none_held []).work)
-        (reset Device (one_group_in Off [])))) }
+    ensures aborted { ChangesWork IsAborted (λ w. after_abort 4 Device w)
+        (state_on in_second_queue []) }
+    ensures reset { ChangesWork IsReset
+        (λ w. work_with_setup (after_abort 5 Device w)
+        (reset Device (one_group_in On (On ∷ On ∷ [])))) (state_on in_second_queue []) }
+    ensures reset_while_off { ChangesWork IsReset
+        (λ w. work_with_setup (after_abort 5 Device w) (reset Device (one_group_in Off [])))
+        (state_over (one_group_in Off []) none_held []) }
 {}
 
 /// A command is refused while another is active, for a queue that is not there, in another phase,
 /// and for a fault; what begins is a disable or a drain with the next name as its mark.
 pub fn of_refused_commands()
     ensures granted { IsGranted (state_on [] []) Drain Device }
-    ensures another_active { ¬ IsGranted
-        (record (state_on [] []) { active = Some (record { command = DrainAll; mark = 9 }) })
-        Drain Device }
+    ensures another_active { ¬ IsGranted (waiting_for DrainAll (state_on [] [])) Drain Device }
     ensures no_such_queue { ¬ IsGranted (state_on [] []) Drain (Queue 2) }
     ensures no_queue_named { ¬ IsGranted (state_on [] []) Drain (Queues (masked 0)) }
     ensures is_off { ¬ IsGranted (state_over (one_group_in Off []) [] []) Drain Device }
@@ -160,14 +133,11 @@ pub fn of_refused_commands()
 pub fn of_another_device()
     ensures accepted { ¬ IsAccepted (state_on in_second_queue []) another_device }
     ensures taken { ¬ IsTaken (state_on in_second_queue []) another_device }
-    ensures fetched { ¬ IsFetched (state_on (with_members []) (notes_of note_open))
+    ensures fetched { ¬ IsFetched (on_batch [] note_open) another_device }
+    ensures started { ¬ IsStarted (on_batch (seven_with_fence ∷ []) note_open) another_device }
+    ensures abandoned { ¬ IsAbandoned (on_batch (seven_with_fence ∷ []) note_failed)
         another_device }
-    ensures started { ¬ IsStarted
-        (state_on (with_members (seven_with_fence ∷ [])) (notes_of note_open)) another_device }
-    ensures abandoned { ¬ IsAbandoned
-        (state_on (with_members (seven_with_fence ∷ [])) (notes_of note_failed)) another_device }
-    ensures ended { ¬ IsEnded (state_on (with_members (six_runs ∷ [])) (notes_of note_open))
-        another_device }
+    ensures ended { ¬ IsEnded (on_batch (six_runs ∷ []) note_open) another_device }
     ensures queue_written { ¬ IsQueueWritten (state_over (one_group_in On (On ∷ Off ∷ [])) [] [])
         another_device }
     ensures group_written { ¬ IsGroupWritten (state_over (one_group_in Off []) [] [])
@@ -183,11 +153,9 @@ pub fn of_another_device()
     ensures device_enabled { ¬ IsDeviceEnabled (state_over (one_group_in Off []) [] [])
         another_device }
     ensures waiting { ¬ IsWaiting (state_on in_second_queue []) another_device }
-    ensures over { ¬ IsOver (state_on none_held [])
-        (record another_device { active = Some (record { command = DrainAll; mark = 9 }) }) }
+    ensures over { ¬ IsOver (state_on none_held []) (waiting_for DrainAll another_device) }
     ensures aborted { ¬ IsAborted (state_on in_second_queue []) another_device }
-    ensures reset { ¬ IsReset (state_on in_second_queue [])
-        (record another_device { active = Some (record { command = DrainAll; mark = 9 }) }) }
+    ensures reset { ¬ IsReset (state_on in_second_queue []) (waiting_for DrainAll another_device) }
 {}
 
 /// What lacks one of the things that it needs.
@@ -197,33 +165,16 @@ pub fn of_what_is_missing()
         (state_over (record (one_group_in On []) { groups = [] }) in_second_queue [])
         (state_over (record (one_group_in On []) { groups = [] }) on_first_engine []) }
     ensures queue_is_off { ¬ IsAccepted (state_over (one_group_in On []) none_held [])
-        (with_intake (state_over (one_group_in On []) none_held [])
-        (after_accept (intake_of (state_over (one_group_in On []) none_held [])) 1 Movdir64b
-        no_op (record { 0 = 3 })).1) }
-    ensures no_group { ¬ IsGroupWritten
-        (state_over (record (one_group_in Off []) {
-          caps = record caps { groups = 0 };
-          groups = first_group ∷ [];
-        }) [] [])
-        (state_over (record (one_group_in Off []) {
-          caps = record caps { groups = 0 };
-          groups = second_group ∷ [];
-        }) [] []) }
+        (after_no_op_in 1 Movdir64b (state_over (one_group_in On []) none_held [])) }
+    ensures no_group { ¬ IsGroupWritten (without_groups (first_group ∷ []))
+        (without_groups (second_group ∷ [])) }
     ensures device_is_on { ¬ IsGroupWritten
         (state_over (record (one_group_in On []) { groups = first_group ∷ [] }) [] [])
         (state_over (record (one_group_in On []) { groups = second_group ∷ [] }) [] []) }
-    ensures no_queue { ¬ IsQueueWritten
-        (state_over (record (one_group_in Off []) {
-          caps = record caps { queues = 0 };
-          configs = shared_queue ∷ [];
-        }) [] [])
-        (state_over (record (one_group_in Off []) {
-          caps = record caps { queues = 0 };
-          configs = dedicated_queue ∷ [];
-        }) [] []) }
+    ensures no_queue { ¬ IsQueueWritten (without_queues (shared_queue ∷ []))
+        (without_queues (dedicated_queue ∷ [])) }
     ensures nothing_held { ¬ IsWaiting (state_on none_held [])
-        (record (state_on none_held [])
-        { active = Some (record { command = DrainAll; mark = 9 }) }) }
+        (waiting_for DrainAll (state_on none_held [])) }
     ensures device_is_off { ¬ IsQueueEnabled (state_over (one_group_in Off (Off ∷ Off ∷ [])) [] [])
         (state_over (one_group_in Off (Off ∷ On ∷ [])) [] []) }
     ensures first_queue { IsQueueEnabled (state_over (one_group_in On (Off ∷ Off ∷ [])) [] [])
@@ -238,22 +189,18 @@ pub fn of_entries_that_lack_one_thing()
         → ¬ IsAccepted (state_over (record (one_group_in On (Off ∷ On ∷ [])) {
           configs = shared_queue ∷ record dedicated_queue { size = 1 } ∷ [];
         }) in_second_queue []) s' }
-    ensures other_kind { ¬ IsAccepted on_the_second
-        (with_intake on_the_second
-        (after_accept (intake_of on_the_second) 1 (Enqcmd 5) no_op (record { 0 = 3 })).1) }
+    ensures other_kind { ¬ IsAccepted on_the_second (after_no_op_in 1 (Enqcmd 5) on_the_second) }
     ensures no_cells { (s' : State)
         → ¬ IsAccepted (state_over (record (one_group_in On (On ∷ On ∷ [])) {
           caps = record caps { total_size = 0; engines = 0 };
         }) none_held []) s' }
-    ensures another_front { ¬ IsTaken (state_on in_second_queue [])
-        (with_work (state_on in_second_queue [])
-        (after_take (state_on in_second_queue []).work 0 1 seven_waits)) }
+    ensures another_front { ¬ ChangesWork IsTaken (λ w. after_take w 0 1 seven_waits)
+        (state_on in_second_queue []) }
     ensures no_note { (s' : State)
         → ¬ IsFetched (state_on (with_members []) (None ∷ None ∷ [])) s' }
     ensures no_batch { (s' : State) → ¬ IsFetched (state_on [] (notes_of note_open)) s' }
     ensures all_fetched { (s' : State)
-        → ¬ IsFetched
-        (state_on (with_members []) (notes_of (record note_open { fetched = 4 }))) s' }
+        → ¬ IsFetched (on_batch [] (record note_open { fetched = 4 })) s' }
     ensures no_free_cell { (s' : State) → ¬ IsFetched two_cells_in_use s' }
 {}
 
@@ -262,27 +209,20 @@ pub fn of_entries_that_lack_one_thing()
 /// waits; and a batch from its end: a member is left.
 pub fn of_members_that_lack_one_thing()
     ensures fence_waits { (s' : State)
-        → ¬ IsStarted
-        (state_on (with_members (six_runs ∷ seven_with_fence ∷ [])) (notes_of note_open)) s' }
+        → ¬ IsStarted (on_batch (six_runs ∷ seven_with_fence ∷ []) note_open) s' }
     ensures one_failed { (s' : State)
-        → ¬ IsStarted
-        (state_on (with_members (seven_with_fence ∷ [])) (notes_of note_failed)) s' }
+        → ¬ IsStarted (on_batch (seven_with_fence ∷ []) note_failed) s' }
     ensures no_buffers { (s' : State)
         → ¬ IsStarted (state_over (record (one_group_in On (On ∷ On ∷ [])) {
           groups = record first_group { queues = 3; engines = 3; allowed = 1 } ∷ [];
         }) (with_members (seven_moves ∷ [])) (notes_of note_open)) s' }
     ensures fence_is_not_abandoned { (s' : State)
-        → ¬ IsAbandoned
-        (state_on (with_members (six_runs ∷ seven_with_fence ∷ [])) (notes_of note_failed)) s' }
+        → ¬ IsAbandoned (on_batch (six_runs ∷ seven_with_fence ∷ []) note_failed) s' }
     ensures none_failed { (s' : State)
-        → ¬ IsAbandoned
-        (state_on (with_members (seven_with_fence ∷ [])) (notes_of note_open)) s' }
-    ensures no_fence { (s' : State)
-        → ¬ IsAbandoned (state_on (with_members (seven_waits ∷ [])) (notes_of note_failed)) s' }
-    ensures none_waits { (s' : State)
-        → ¬ IsAbandoned (state_on (with_members (six_runs ∷ [])) (notes_of note_failed)) s' }
-    ensures member_left { (s' : State)
-        → ¬ IsEnded (state_on (with_members (seven_waits ∷ [])) (notes_of note_open)) s' }
+        → ¬ IsAbandoned (on_batch (seven_with_fence ∷ []) note_open) s' }
+    ensures no_fence { (s' : State) → ¬ IsAbandoned (on_batch (seven_waits ∷ []) note_failed) s' }
+    ensures none_waits { (s' : State) → ¬ IsAbandoned (on_batch (six_runs ∷ []) note_failed) s' }
+    ensures member_left { (s' : State) → ¬ IsEnded (on_batch (seven_waits ∷ []) note_open) s' }
 {}
 
 /// Queues that are On are not enabled again, and not configured, nor is another size given while
@@ -294,13 +234,11 @@ pub fn of_commands_that_lack_one_thing()
     ensures none_begins { (s' : State) → ¬ IsOver (state_over (one_group_in Off []) [] []) s' }
     ensures none_aborts { (s' : State)
         → ¬ IsAborted (state_over (one_group_in Off []) [] []) s' }
-    ensures no_abort { ¬ IsAborted (state_on in_second_queue [])
-        (with_work (state_on in_second_queue [])
-        (after_abort 3 Device (state_on in_second_queue []).work)) }
-    ensures no_reset { ¬ IsReset (state_on in_second_queue [])
-        (with_work (state_on in_second_queue [])
-        (work_with_setup (after_abort 4 Device (state_on in_second_queue []).work)
-        (reset Device (one_group_in On (On ∷ On ∷ []))))) }
+    ensures no_abort { ¬ ChangesWork IsAborted (λ w. after_abort 3 Device w)
+        (state_on in_second_queue []) }
+    ensures no_reset { ¬ ChangesWork IsReset
+        (λ w. work_with_setup (after_abort 4 Device w)
+        (reset Device (one_group_in On (On ∷ On ∷ [])))) (state_on in_second_queue []) }
     ensures locked { (s' : State) → ¬ IsQueueWritten (state_on [] []) s' }
     ensures smaller { ¬ IsQueueWritten (state_over (one_group_in On (On ∷ Off ∷ [])) [] [])
         (state_over (record (one_group_in On (On ∷ Off ∷ [])) {

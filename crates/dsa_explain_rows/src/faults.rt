@@ -3,7 +3,6 @@
 ghost use Rattle.std.specs.Prelude.{◌≡◌, [], ◌∷◌, codes, map};
 ghost use Rattle.dsa_scenario.specs.declared.faults.ScenarioFault.TheVariants.{Read, TooLong, NotJson, BadDocument, BadStep, BadCaps, BadCapacity, Differs, Write, OutOfMemory};
 ghost use Rattle.dsa_scenario.specs.Faults.{fault_line, fault_text};
-ghost use Rattle.dsa_check.specs.Flaws.{IsClosing};
 
 /// The line of each fault of a document.
 #[tactic(auto, unfolding(dsa_scenario::specs::Worked::digits_on_literals))]
@@ -32,12 +31,4 @@ pub fn faults_in_words()
         ∷ codes "write failed"
         ∷ codes "out of memory"
         ∷ [] }
-{}
-
-/// The signs that close an array and an object.
-pub fn closing_signs()
-    ensures array { IsClosing (codes "]") 93 }
-    ensures object { IsClosing (codes "}") 125 }
-    ensures another { ¬ IsClosing (codes "]") 125 }
-    ensures opening { ¬ IsClosing (codes "[") 91 }
 {}

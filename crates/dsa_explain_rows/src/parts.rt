@@ -33,7 +33,7 @@ ghost use Rattle.dsa_admin.specs.Command.{found_by_check};
 ghost use Rattle.dsa_explain_lines.specs.Parts.{dispatch_part, issue_part, joint, keeping_part, losses_part, part_of, queue_part, room_part, start_part, told_of, word_part};
 ghost use Rattle.dsa_explain_rows.specs.After.{of_three_groups, of_two_queues, told_after, told_from_first, with_few_buffers};
 ghost use Rattle.dsa_explain_rows.specs.Histories.{batch_of_the_second_group};
-ghost use Rattle.dsa_explain_rows.specs.Parts.{setup_of, told};
+ghost use Rattle.dsa_explain_rows.specs.Parts.{setup_of, told, idle_with_two_queues};
 
 /// A reason stands behind its mark, and nothing where there is none.
 #[tactic(auto, unfolding(dsa_scenario::specs::Worked::digits_on_literals))]
@@ -60,16 +60,13 @@ pub fn keeping()
 /// what could be taken.
 #[tactic(auto, unfolding(dsa_scenario::specs::Worked::digits_on_literals))]
 pub fn dispatches()
-    ensures no_engine { of_two_queues (λ w. dispatch_part w 3) []
-        ≡ Some (codes ": the device has no e3") }
-    ensures no_group { of_two_queues (λ w. dispatch_part w 2) []
-        ≡ Some (codes ": e2 is of no group") }
-    ensures one { of_two_queues (λ w. dispatch_part w 1) [] ≡ Some (codes ": q2 is empty") }
-    ensures two { of_two_queues (λ w. dispatch_part w 0) []
-        ≡ Some (codes ": q0 is empty; q1 is empty") }
-    ensures front { of_two_queues (λ w. dispatch_part w 0) (take 3 one_of_two_queues_waits)
+    ensures no_engine { idle_with_two_queues 3 [] ≡ Some (codes ": the device has no e3") }
+    ensures no_group { idle_with_two_queues 2 [] ≡ Some (codes ": e2 is of no group") }
+    ensures one { idle_with_two_queues 1 [] ≡ Some (codes ": q2 is empty") }
+    ensures two { idle_with_two_queues 0 [] ≡ Some (codes ": q0 is empty; q1 is empty") }
+    ensures front { idle_with_two_queues 0 (take 3 one_of_two_queues_waits)
         ≡ Some (codes ": q0's front 1 is a batch, and the engine works on batch 0; q1 is empty") }
-    ensures one_to_take { of_two_queues (λ w. dispatch_part w 0) (take 1 one_of_two_queues_waits)
+    ensures one_to_take { idle_with_two_queues 0 (take 1 one_of_two_queues_waits)
         ≡ Some (codes ": q1 is empty") }
     ensures second_to_take { of_two_queues (λ w. queue_part w 0 1) one_of_two_queues_waits
         ≡ Some [] }

@@ -8,13 +8,14 @@ use std::io::{ErrorKind, Read, Write};
 
 pub const ALL: usize = usize::MAX;
 
-/// What a stream gives or takes: at most `step` bytes a call, and `left` bytes before a call fails.
-/// After that each call fails, or each works.
+/// What a stream gives or takes: at most `step` bytes a call, and `left` bytes before a call fails
+/// by an error of this kind. After that each call fails, or each works.
 #[derive(Clone, Copy)]
 pub struct Course {
     step: usize,
     left: usize,
     fails_once: bool,
+    kind: ErrorKind,
 }
 
 impl Course {
@@ -23,7 +24,13 @@ impl Course {
             step,
             left,
             fails_once,
+            kind: ErrorKind::Other,
         }
+    }
+
+    /// The same, where the error is of this kind.
+    pub fn of_kind(self, kind: ErrorKind) -> Self {
+        Course { kind, ..self }
     }
 
     // How many bytes of so many this call gives or takes, or none where it fails.
@@ -65,7 +72,7 @@ impl Read for Trickle<'_> {
         self.calls = self.calls.saturating_add(1);
         let most = buf.len().min(self.bytes.len());
         let Some(count) = self.course.next(most) else {
-            return Err(io::Error::from(ErrorKind::ConnectionReset));
+            return Err(io::Error::from(self.course.kind));
         };
         let (given, rest) = self.bytes.split_at(count);
         buf[..count].copy_from_slice(given);
@@ -74,7 +81,7 @@ impl Read for Trickle<'_> {
     }
 }
 
-/// Keeps what it takes. A flush counts as a call.
+/// Keeps what it takes. A flush counts as a call, and fails as a write does.
 #[derive(Drop)]
 pub struct Narrow {
     course: Course,
@@ -96,7 +103,7 @@ impl Write for Narrow {
     fn write(&mut self, buf: &[u8]) -> io::Result<usize> {
         self.calls = self.calls.saturating_add(1);
         let Some(count) = self.course.next(buf.len()) else {
-            return Err(io::Error::from(ErrorKind::StorageFull));
+            return Err(io::Error::from(self.course.kind));
         };
         self.taken.extend_from_slice(&buf[..count])?;
         Ok(count)
@@ -104,6 +111,9 @@ impl Write for Narrow {
 
     fn flush(&mut self) -> io::Result<()> {
         self.calls = self.calls.saturating_add(1);
-        Ok(())
+        match self.course.next(0) {
+            Some(_) => Ok(()),
+            None => Err(io::Error::from(self.course.kind)),
+        }
     }
 }

@@ -16,7 +16,7 @@ use Rattle.dsa_scenario.specs.declared.faults.ScenarioFault.TheVariants.{Differs
 use Rattle.dsa_scenario.specs.declared.faults.ScenarioFault.TheVariants.{BadCaps, BadCapacity}
 use Rattle.dsa_scenario.specs.Document.{IsFaultOf}
 use Rattle.dsa_serve.specs.declared.dialogue.Dialogue.{Dialogue}
-use Rattle.dsa_serve.specs.Input.{IsLine, IsFront}
+use Rattle.dsa_serve.specs.Input.{IsLine, IsFront, HasFirst}
 use Rattle.dsa_serve.specs.Dialogue.{IsDialogueEnded, AnswersWhole, AnswersAll, IsServing, IsInCourse}
 use Rattle.dsa_serve.specs.Dialogue.{IsStoppedWithin, IsStopped}
 use Rattle.dsa_serve.proofs.{Courses.{whole_answered}, Lines.{front_cut}}
@@ -210,6 +210,14 @@ pub unread_memory : (had held : Option (List ℕ)) → IsStopped OutOfMemory had
 unread_memory had held =
     memory_before (2 ^ 16) had had held [] [] (Consumes-nil had) (All-nil (λ byte. byte ≢ 10)) (omega arith) (omega arith)
 
+-- what comes behind a first line is less than the last read gave
+behind_few : (room : ℕ) (ended : Bool) (input first behind : List ℕ) → IsFront ended input first behind
+    → (ended ≡ false → length behind < room) → length behind ≤ room
+behind_few room false input first behind front few = let some = few refl in omega (arith, some)
+behind_few room true input first behind front few =
+    let none : length behind ≡ 0 = ap (λ (l : List ℕ). length l) front.1 in
+    omega (arith, none)
+
 -- a first line that is no document, or want of memory before one is
 pub opening_stops : (room : ℕ) (had left held : Option (List ℕ)) (input first behind : List ℕ) (ended : Bool)
     (e : ScenarioFault)
@@ -229,15 +237,25 @@ opening_stops room had left held input first behind ended Write reads line short
 opening_stops room had left held input first behind ended (Differs i) reads line short front few at_end (inr h) = absurd h
 opening_stops room had left held input first behind ended OutOfMemory reads line short front few at_end (inr h) = absurd h
 opening_stops room had left held input first behind ended NotJson reads line short front few at_end (inr h) =
-    (input, first, behind, ended, reads, record { line = line; short = short; front = front }, at_end, h, Appends-nil held)
+    let split : HasFirst ended input first behind = record { line = line; short = short; front = front } in
+    let less = behind_few room ended input first behind front few in
+    (input, first, behind, ended, reads, split, at_end, less, h, Appends-nil held)
 opening_stops room had left held input first behind ended BadDocument reads line short front few at_end (inr h) =
-    (input, first, behind, ended, reads, record { line = line; short = short; front = front }, at_end, h, Appends-nil held)
+    let split : HasFirst ended input first behind = record { line = line; short = short; front = front } in
+    let less = behind_few room ended input first behind front few in
+    (input, first, behind, ended, reads, split, at_end, less, h, Appends-nil held)
 opening_stops room had left held input first behind ended (BadStep i) reads line short front few at_end (inr h) =
-    (input, first, behind, ended, reads, record { line = line; short = short; front = front }, at_end, h, Appends-nil held)
+    let split : HasFirst ended input first behind = record { line = line; short = short; front = front } in
+    let less = behind_few room ended input first behind front few in
+    (input, first, behind, ended, reads, split, at_end, less, h, Appends-nil held)
 opening_stops room had left held input first behind ended BadCaps reads line short front few at_end (inr h) =
-    (input, first, behind, ended, reads, record { line = line; short = short; front = front }, at_end, h, Appends-nil held)
+    let split : HasFirst ended input first behind = record { line = line; short = short; front = front } in
+    let less = behind_few room ended input first behind front few in
+    (input, first, behind, ended, reads, split, at_end, less, h, Appends-nil held)
 opening_stops room had left held input first behind ended BadCapacity reads line short front few at_end (inr h) =
-    (input, first, behind, ended, reads, record { line = line; short = short; front = front }, at_end, h, Appends-nil held)
+    let split : HasFirst ended input first behind = record { line = line; short = short; front = front } in
+    let less = behind_few room ended input first behind front few in
+    (input, first, behind, ended, reads, split, at_end, less, h, Appends-nil held)
 
 -- an error of the reader, or want of memory, where the first line is not whole
 pub first_read_stops : (room : ℕ) (had left left' held : Option (List ℕ)) (first : List ℕ) (e : ScenarioFault)
@@ -272,14 +290,22 @@ cut_stops room had left held first piece at e found line fits few reads (inr h) 
       rw whole reads,
       (front_cut first piece at found line).0,
       omega (arith, h.1, length-append first short, length-take at piece, inside),
+      omega (
+        arith,
+        fits,
+        few,
+        length-append first piece,
+        length-append (first ++ short) (drop at piece),
+        ap (λ (l : List ℕ). length l) whole,
+      ),
       Appends-nil held,
     )
 
 -- more bytes than a line has before its line feed
 pub long_stops : (room : ℕ) (had left held : Option (List ℕ)) (first : List ℕ) → Consumes had left first → IsLine first
-    → 2 ^ 20 < length first → IsStoppedWithin room TooLong had left held held
-long_stops room had left held first reads line long =
-    (first, [], rw (append-nil first) reads, line, long, Appends-nil held)
+    → 2 ^ 20 < length first → length first ≤ 2 ^ 20 + room → IsStoppedWithin room TooLong had left held held
+long_stops room had left held first reads line long few =
+    (first, [], rw (append-nil first) reads, line, long, omega (arith, few), Appends-nil held)
 
 -- a write that is refused of the answers to the first line and to the lines that came with it
 pub first_write_stops : (had left held holds : Option (List ℕ)) (ended : Bool) (input first behind text seen : List ℕ)

@@ -118,7 +118,8 @@ abbrev pub IsLate : ScenarioFault → Type 0
 IsLate fault = (fault ≡ Read) ⊎ (fault ≡ Write) ⊎ (fault ≡ OutOfMemory)
 
 -- what the reader gave, by the bytes that it had and has left, and what the writer took, by those that it held and
--- holds, where this fault ended a dialogue whose reads give no more bytes than this (profile)
+-- holds, where this fault ended a dialogue whose reads give no more bytes than this: no more is read behind a line
+-- that is too long, or that begins no dialogue, than the last of these gave (profile)
 abbrev pub IsStoppedWithin : ℕ → ScenarioFault → Option (List ℕ) → Option (List ℕ) → Option (List ℕ)
     → Option (List ℕ) → Type 0
 IsStoppedWithin room Read had left held holds =
@@ -126,7 +127,7 @@ IsStoppedWithin room Read had left held holds =
     × Appends held holds output
 IsStoppedWithin room TooLong had left held holds =
     (first : List ℕ) × (more : List ℕ) × Consumes had left (first ++ more) × IsLine first × (2 ^ 20 < length first)
-    × Appends held holds []
+    × (length first + length more ≤ 2 ^ 20 + room) × Appends held holds []
 IsStoppedWithin room Write had left held holds =
     (input : List ℕ) × (output : List ℕ) × (count : ℕ) × Consumes had left input
     × (AnswersWhole false input output ⊎ AnswersOnlyLine left input output ⊎ (IsAtEnd left × AnswersAll input output))
@@ -137,7 +138,8 @@ IsStoppedWithin room OutOfMemory had left held holds =
     × Appends held holds output
 IsStoppedWithin room fault had left held holds =
     (input : List ℕ) × (first : List ℕ) × (behind : List ℕ) × (ended : Bool) × Consumes had left input
-    × HasFirst ended input first behind × (ended ≡ true → IsAtEnd left) × IsFaultOf first fault × Appends held holds []
+    × HasFirst ended input first behind × (ended ≡ true → IsAtEnd left) × (length behind ≤ room)
+    × IsFaultOf first fault × Appends held holds []
 
 -- the same where a read gives at most 2^16 bytes (profile)
 abbrev pub IsStopped : ScenarioFault → Option (List ℕ) → Option (List ℕ) → Option (List ℕ) → Option (List ℕ) → Type 0

@@ -222,6 +222,14 @@ pub fn stops()
         → length first ≡ 1_048_577
         → IsStopped ScenarioFault.TooLong (Some (first ++ codes "\n")) (Some []) (Some [])
         (Some []) }
+    ensures too_long_with_a_read { (first more : List ℕ)
+        → IsLine first
+        → length first ≡ 1_048_577
+        → length more ≡ 65_535
+        → IsStopped ScenarioFault.TooLong (Some (first ++ more)) (Some []) (Some []) (Some []) }
+    ensures too_long_and_read_on { (input : List ℕ)
+        → length input ≡ 1_114_113
+        → ¬ IsStopped ScenarioFault.TooLong (Some input) (Some []) (Some []) (Some []) }
     ensures too_long_behind_a_line_feed { (rest : List ℕ)
         → ¬ IsStopped ScenarioFault.TooLong (Some (10 ∷ rest)) (Some []) (Some []) (Some []) }
     ensures memory { IsStopped ScenarioFault.OutOfMemory (Some (codes "1")) (Some [])
@@ -239,6 +247,12 @@ pub fn stops()
         (Some []) (Some []) }
     ensures document_before_more { IsStopped ScenarioFault.BadDocument (Some (codes "1\n2"))
         (Some (codes "2")) (Some []) (Some []) }
+    ensures fault_with_a_read_behind { (rest : List ℕ)
+        → length rest ≡ 65_536
+        → IsStopped ScenarioFault.NotJson (Some (10 ∷ rest)) (Some []) (Some []) (Some []) }
+    ensures fault_and_read_on { (rest : List ℕ)
+        → length rest ≡ 65_537
+        → ¬ IsStopped ScenarioFault.NotJson (Some (10 ∷ rest)) (Some []) (Some []) (Some []) }
     ensures other_fault { ¬ IsStopped ScenarioFault.NotJson (Some (codes "1")) (Some [])
         (Some []) (Some []) }
     ensures unfinished_line_is_answered { (input : List ℕ) (output : List ℕ)

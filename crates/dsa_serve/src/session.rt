@@ -1,6 +1,6 @@
 //! A session: a device, and an answer to each line.
 
-ghost use Rattle.std.specs.Prelude.{◌≡◌, ◌++◌, ◌+◌, [], ◌∷◌, ℕ, List, IfOk, OnOk, string_bytes};
+ghost use Rattle.std.specs.Prelude.{◌≡◌, ◌≤◌, ◌^◌, ◌++◌, ◌+◌, [], ◌∷◌, ℕ, List, IfOk, OnOk, OnErr, string_bytes};
 ghost use Rattle.dsa_regs.specs.declared.Caps.{Caps};
 ghost use Rattle.dsa_scenario.specs.Lines.{line_of_text};
 ghost use Rattle.dsa_serve.specs.declared.requests.Request.{Request};
@@ -23,9 +23,10 @@ pub struct Session<S: EntryStore> {
     pub(crate) number: usize,
 }
 
-// The number of steps with one more.
+// The number of steps with one more, or an error where that does not fit.
 fn next(number: usize) -> Result<usize, AllocError>
-    ensures { IfOk result (λ more. more ≡ number + 1) }
+    ensures more { IfOk result (λ more. more ≡ number + 1) }
+    ensures full { OnErr result (2 ^ 64 ≤ number + 1) }
 {
     number.checked_add(1).ok_or(AllocError)
 }

@@ -10,7 +10,7 @@ use Rattle.dsa_book.specs.declared.answer.Reply.{Reply}
 use Rattle.dsa_book.specs.declared.answer.Reply.TheVariants.{Submit, Dispatch, Fetch, Start, Finish, Issue, Poll}
 use Rattle.dsa_device.specs.Running.{after_answer}
 use Rattle.dsa_workers.{specs.Calls.{IsCallAnswered}, proofs.Answered.{answer_has, answered_after, device_of}}
-use Rattle.dsa_shared_rows.specs.Worked.{wide_device}
+use Rattle.dsa_shared_rows.specs.Worked.{wide_device, AnsweredNotBy}
 
 -- the reply is of the kind of the event
 abbrev pub is_of_kind : Event → Reply → Bool
@@ -51,3 +51,12 @@ pub answered_full : (call : Step)
     → is_some (after_answer (device_of wide_device 0 []) call.event call.reply) ≡ true
     → IsCallAnswered wide_device 0 [] call
 answered_full call may = answered_wide 0 [] [] call (lit≤ tt) (lit≤ tt) refl (lit≤ tt) may
+
+-- and no reply of another kind
+pub answered_not_by : (call : Step) (other : Reply)
+    → is_some (after_answer (device_of wide_device 0 []) call.event call.reply) ≡ true
+    → is_of_kind call.event (full_reply call.event) ≡ true
+    → ((s : State) (choice : Choice) → is_of_kind call.event (reply_of s call.event choice).0 ≡ true)
+    → is_of_kind call.event other ≡ false → AnsweredNotBy call other
+answered_not_by call other may full each unlike =
+    (answered_full call may, other_kind wide_device 0 [] (record call { reply = other }) full each unlike)

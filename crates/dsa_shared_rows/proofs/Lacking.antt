@@ -39,6 +39,12 @@ none_at_0 actor step two alike is = of_both
     (λ differs lower. omega (arith, two, ap length (lower 1 (seat_of 0 []) (omega arith) (omega arith))))
     (λ differs lower. alike differs) is.1.0 is.0 is.1.1 is.1.2 is.2 is.3
 
+-- where seat 0 has the first of its steps and differs at 1, the mismatch is there
+lowest_at_1 : (actor : SeatLog → Actor) (step : Step) → Differs actor 1 (seat_of 0 (step ∷ []))
+    → FirstMismatch number_of_seat actor receipts_of of_all_seats (seat_of 1 [] ∷ seat_of 0 (step ∷ []) ∷ []) 1
+lowest_at_1 actor step differs =
+    (seat_of 0 (step ∷ []), (1, omega arith, refl), differs, λ k d lt below. absurd (omega (arith, below)))
+
 -- the receipts of all clients are their steps
 pub clients_match : AllMatch client_of receipts_of of_all_seats two_clients
 clients_match zero d lt = refl
@@ -56,12 +62,7 @@ lacking_clients_differ match_all = omega (arith, ap length (match_all 0 (seat_of
 
 -- the first of them that does differs at 1
 pub lowest_of_clients : FirstMismatch number_of_seat client_of receipts_of of_all_seats lacking_clients 1
-lowest_of_clients = (
-  seat_of 0 (taken_of_client 0 ∷ []),
-  (1, omega arith, refl),
-  (refl, λ same. grind (arith, same)),
-  λ k d lt below. absurd (omega (arith, below)),
-)
+lowest_of_clients = lowest_at_1 client_of (taken_of_client 0) (refl, λ same. grind (arith, same))
 
 -- and not at 0
 pub none_at_0_of_clients : FirstMismatch number_of_seat client_of receipts_of of_all_seats lacking_clients 0 → ⊥
@@ -81,12 +82,7 @@ pub lacking_engines_differ : AllMatch engine_of_seat receipts_of of_all_seats la
 lacking_engines_differ match_all = omega (arith, ap length (match_all 0 (seat_of 0 []) (omega arith)))
 
 pub lowest_of_engines : FirstMismatch number_of_seat engine_of_seat receipts_of of_all_seats lacking_engines 1
-lowest_of_engines = (
-  seat_of 0 (fetch_of_engine 0 ∷ []),
-  (1, omega arith, refl),
-  (refl, λ same. grind (arith, same)),
-  λ k d lt below. absurd (omega (arith, below)),
-)
+lowest_of_engines = lowest_at_1 engine_of_seat (fetch_of_engine 0) (refl, λ same. grind (arith, same))
 
 pub none_at_0_of_engines : FirstMismatch number_of_seat engine_of_seat receipts_of of_all_seats lacking_engines 0 → ⊥
 none_at_0_of_engines = none_at_0 engine_of_seat (fetch_of_engine 0) refl (λ differs. differs.1 refl)

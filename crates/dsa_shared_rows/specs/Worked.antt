@@ -1,7 +1,7 @@
 -- Steps, seats, devices and totals of which the rows speak.
 use Rattle.std.proofs.Common.{arith, refl}
 use denote.RawPtr.{null_ptr}
-use Rattle.std.specs.Prelude.{ℕ, ◌≤◌, List, [], ◌∷◌, ◌++◌, length, replicate, Option, None}
+use Rattle.std.specs.Prelude.{ℕ, ◌≤◌, List, [], ◌∷◌, ◌++◌, length, replicate, Option, None, Some}
 use Rattle.std.specs.declared.{alloc.Global.{Global}, vec.Vec.{Vec}}
 use Rattle.dsa_desc.specs.declared.{Descriptor.{Descriptor}, Outcome.TheVariants.{Success, PageFault}}
 use Rattle.dsa_regs.specs.declared.{Caps.{Caps}, Command.TheVariants.{DrainAll, EnableDevice, EnableWq}}
@@ -11,6 +11,7 @@ use Rattle.dsa_book.specs.declared.answer.Cause.TheVariants.{AtLimit}
 use Rattle.dsa_book.specs.declared.answer.FetchAnswer.TheVariants.{Fetched}
 use Rattle.dsa_book.specs.declared.answer.FinishAnswer.{FinishAnswer, TheVariants.{Done}}
 use Rattle.dsa_book.specs.declared.answer.{IssueAnswer.{IssueAnswer, TheVariants.{Ended}}, PollAnswer.{PollAnswer}}
+use Rattle.dsa_book.specs.declared.answer.Reply.{Reply}
 use Rattle.dsa_book.specs.declared.answer.Reply.TheVariants.{Submit, Dispatch, Fetch, Start, Finish, Issue, Poll, Write}
 use Rattle.dsa_book.specs.declared.answer.SubmitAnswer.{SubmitAnswer, TheVariants.{Accepted, Retry}}
 use Rattle.dsa_book.specs.declared.answer.{Ticket.{Ticket}, WriteAnswer.TheVariants.{Written}}
@@ -18,10 +19,10 @@ use Rattle.dsa_book.specs.declared.event.Event.TheVariants.{Submit, Dispatch, Fe
 use Rattle.dsa_book.specs.declared.event.Event.TheVariants.{WriteQueue, WriteGroup}
 use Rattle.dsa_book.specs.declared.event.{Kind.TheVariants.{Movdir64b}, Portal.TheVariants.{Limited}, Step.{Step}}
 use Rattle.dsa_book.specs.declared.fate.{Fate.{Fate, TheVariants.{Completed}}, FateRow.{FateRow}}
-use Rattle.dsa_shared.specs.{Seat.{SeatLog}, declared.settle.Totals.{Totals}}
+use Rattle.dsa_shared.specs.{Seat.{SeatLog}, Totals.{AreSums}, declared.settle.Totals.{Totals}}
 use Rattle.dsa_workers.specs.declared.scripts.{ClientStep.{ClientStep}, EngineScript.{EngineScript}, Stint.{Stint}}
 use Rattle.dsa_workers.specs.declared.scripts.WorkerEnd.{WorkerEnd, TheVariants.{ScriptDone, TurnsOut}}
-use Rattle.dsa_workers.specs.declared.{scripts.RunReport.{RunReport}, lanes.Lane.{Lane}}
+use Rattle.dsa_workers.specs.{Calls.{IsCallAnswered}, declared.{scripts.RunReport.{RunReport}, lanes.Lane.{Lane}}}
 use Rattle.dsa_book.specs.declared.answer.{DispatchAnswer.{DispatchAnswer}, StartAnswer.{StartAnswer}}
 
 -- ---- steps
@@ -122,6 +123,10 @@ uneven_engines =
 abbrev pub uneven_totals : Totals
 uneven_totals = record { accepted = 1; fetched = 2; retried = 3; done = 4; lost = 7; held = 9; steps = 11 }
 
+-- these are the sums over its seats
+abbrev pub UnevenSums : Totals → Type 0
+UnevenSums totals = AreSums totals uneven_clients uneven_engines (Some one_issue)
+
 -- five were accepted and one was fetched; none is done, two are lost, and four are held
 abbrev pub even_totals : Totals
 even_totals = record { accepted = 5; fetched = 1; retried = 3; done = 0; lost = 2; held = 4; steps = 6 }
@@ -139,6 +144,11 @@ with_fates rows = record (opening caps).work { fates = rows ++ replicate 4 (fate
 -- a device with a queue 6 and an engine 3
 abbrev pub wide_device : Caps
 wide_device = record caps { queues = 7; groups = 1; engines = 4 }
+
+-- where its history has no room, the call is answered so, and not by the other reply
+abbrev pub AnsweredNotBy : Step → Reply → Type 0
+AnsweredNotBy call other =
+    IsCallAnswered wide_device 0 [] call × ¬ IsCallAnswered wide_device 0 [] (record call { reply = other })
 
 -- its history once queue 6 is enabled, from which engine 3 takes
 abbrev pub wide_set_up : List Step

@@ -15,8 +15,8 @@ ghost use Rattle.dsa_shared.specs.Compare.{DiffersFirstAt};
 ghost use Rattle.dsa_shared.specs.Locked.{IsAnsweredFor, IsReadOf, IsUnderLock};
 ghost use Rattle.dsa_shared.specs.Seat.{client_of, engine_of_seat, fresh, no_caps, number_of_seat, receipts_of, with_receipt, AllFresh};
 ghost use Rattle.dsa_shared.specs.Settle.{over_seats, AgreeSoFar, AllMatch, FirstMismatch, HasEach, IsComplete, IsFirstMismatch, Match};
-ghost use Rattle.dsa_shared.specs.Totals.{totals_of, AreSums, Balance};
-ghost use Rattle.dsa_shared_rows.specs.Worked.{again_of_client, end_of_engine, even_totals, fate_line, fetch_of_engine, lacking_clients, lacking_engines, of_all_seats, of_client, one_issue, question, seat_of, taken_of_client, two_clients, two_engines, uneven_clients, uneven_engines, uneven_history, uneven_totals, with_fates};
+ghost use Rattle.dsa_shared.specs.Totals.{totals_of, Balance};
+ghost use Rattle.dsa_shared_rows.specs.Worked.{again_of_client, end_of_engine, even_totals, fate_line, fetch_of_engine, lacking_clients, lacking_engines, of_all_seats, of_client, one_issue, question, seat_of, taken_of_client, two_clients, two_engines, uneven_clients, uneven_engines, uneven_history, uneven_totals, with_fates, UnevenSums};
 
 /// A seat at first and after a step, whose it is, and no capabilities.
 pub fn values_of_seats()
@@ -159,19 +159,13 @@ pub fn totals_of_seats()
 
 /// Totals that are the sums over the seats, and totals of which one is not.
 pub fn sums_over_seats()
-    ensures sums { AreSums uneven_totals uneven_clients uneven_engines (Some one_issue) }
-    ensures accepted { ¬ AreSums (record uneven_totals { accepted = 0 }) uneven_clients
-        uneven_engines (Some one_issue) }
-    ensures fetched { ¬ AreSums (record uneven_totals { fetched = 0 }) uneven_clients
-        uneven_engines (Some one_issue) }
-    ensures retried { ¬ AreSums (record uneven_totals { retried = 0 }) uneven_clients
-        uneven_engines (Some one_issue) }
-    ensures done { ¬ AreSums (record uneven_totals { done = 0 }) uneven_clients
-        uneven_engines (Some one_issue) }
-    ensures lost { ¬ AreSums (record uneven_totals { lost = 0 }) uneven_clients
-        uneven_engines (Some one_issue) }
-    ensures steps { ¬ AreSums (record uneven_totals { steps = 0 }) uneven_clients
-        uneven_engines (Some one_issue) }
+    ensures sums { UnevenSums uneven_totals }
+    ensures accepted { ¬ UnevenSums (record uneven_totals { accepted = 0 }) }
+    ensures fetched { ¬ UnevenSums (record uneven_totals { fetched = 0 }) }
+    ensures retried { ¬ UnevenSums (record uneven_totals { retried = 0 }) }
+    ensures done { ¬ UnevenSums (record uneven_totals { done = 0 }) }
+    ensures lost { ¬ UnevenSums (record uneven_totals { lost = 0 }) }
+    ensures steps { ¬ UnevenSums (record uneven_totals { steps = 0 }) }
 {}
 
 /// What came in is what is done, lost or held, by the fates of entries.

@@ -18,7 +18,7 @@ ghost use Rattle.dsa_book.specs.declared.event.Event.TheVariants as event;
 ghost use Rattle.dsa_workers.specs.Calls.{after_turn, call_of, calls_of, engine_event, found_full, goes_on, is_history_full, is_worker_waiting, steps_done, tickets_after, tickets_of, HasRoomForTickets, InOrder, IsCallAnswered, NextCommand, NextSubmission, NextTurn};
 ghost use Rattle.dsa_workers.specs.Workers.{receipts_in, stint_at, Grows, IsFitting, ReportsClients, ReportsEngines, RunsAdmin, RunsClient, RunsClients, RunsEngine, RunsEngines, RunsScript};
 ghost use Rattle.dsa_workers.specs.declared.scripts.WorkerEnd.TheVariants.{HistoryFull, ScriptDone, TurnsOut};
-ghost use Rattle.dsa_shared_rows.specs.Worked.{again_of_client, asked_first, drain_of_all, end_of_engine, fetch_of_engine, member_fetched, member_script, of_client, question, report_of, script_call, lane_of, script_vector, script_step, seat_of, started_by_engine, stint_of, taken_of_client, ticket_named_so, wide_device};
+ghost use Rattle.dsa_shared_rows.specs.Worked.{again_of_client, asked_first, drain_of_all, end_of_engine, fetch_of_engine, member_fetched, member_script, of_client, question, report_of, script_call, lane_of, script_vector, script_step, seat_of, started_by_engine, stint_of, taken_of_client, ticket_named_so, wide_device, AnsweredNotBy};
 
 /// Replies of a history without room, and others.
 pub fn full_histories()
@@ -48,28 +48,14 @@ pub fn workers_that_go_on()
 /// Calls that are answered by a device whose history has no room, and calls that are not answered
 /// so, as by another kind of reply.
 pub fn calls_that_are_answered()
-    ensures submission { IsCallAnswered wide_device 0 [] (of_client 0 submit.Full)
-        × ¬ IsCallAnswered wide_device 0 []
-        (record (of_client 0 submit.Full) { reply = reply.Dispatch dispatch.Full }) }
-    ensures dispatched { IsCallAnswered wide_device 0 [] (asked_first 3 dispatch.Full)
-        × ¬ IsCallAnswered wide_device 0 []
-        (record (asked_first 3 dispatch.Full) { reply = reply.Fetch fetch.Full }) }
-    ensures fetched { IsCallAnswered wide_device 0 []
-        (record (fetch_of_engine 3) { reply = reply.Fetch fetch.Full })
-        × ¬ IsCallAnswered wide_device 0 []
-        (record (fetch_of_engine 3) { reply = reply.Start start.Full }) }
-    ensures started { IsCallAnswered wide_device 0 [] (started_by_engine 3 start.Full)
-        × ¬ IsCallAnswered wide_device 0 []
-        (record (started_by_engine 3 start.Full) { reply = reply.Finish finish.Full }) }
-    ensures finished { IsCallAnswered wide_device 0 [] (end_of_engine 3 finish.Full)
-        × ¬ IsCallAnswered wide_device 0 []
-        (record (end_of_engine 3 finish.Full) { reply = reply.Issue issue.Full }) }
-    ensures issued { IsCallAnswered wide_device 0 [] (drain_of_all issue.Full)
-        × ¬ IsCallAnswered wide_device 0 []
-        (record (drain_of_all issue.Full) { reply = reply.Poll poll.Full }) }
-    ensures polled { IsCallAnswered wide_device 0 [] (question poll.Full)
-        × ¬ IsCallAnswered wide_device 0 []
-        (record (question poll.Full) { reply = reply.Submit submit.Full }) }
+    ensures submission { AnsweredNotBy (of_client 0 submit.Full) (reply.Dispatch dispatch.Full) }
+    ensures dispatched { AnsweredNotBy (asked_first 3 dispatch.Full) (reply.Fetch fetch.Full) }
+    ensures fetched { AnsweredNotBy (record (fetch_of_engine 3) { reply = reply.Fetch fetch.Full })
+        (reply.Start start.Full) }
+    ensures started { AnsweredNotBy (started_by_engine 3 start.Full) (reply.Finish finish.Full) }
+    ensures finished { AnsweredNotBy (end_of_engine 3 finish.Full) (reply.Issue issue.Full) }
+    ensures issued { AnsweredNotBy (drain_of_all issue.Full) (reply.Poll poll.Full) }
+    ensures polled { AnsweredNotBy (question poll.Full) (reply.Submit submit.Full) }
     ensures not_answered { ¬ IsCallAnswered wide_device 0 []
         (record (question poll.Full) { event = event.Dispatch 3 }) }
     ensures no_room { ¬ IsCallAnswered wide_device 0 [] (question poll.Nothing) }

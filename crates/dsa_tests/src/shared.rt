@@ -5,9 +5,13 @@ mod accounts;
 #[cfg(test)]
 mod configuring;
 #[cfg(test)]
+mod crew;
+#[cfg(test)]
 mod crowd;
 #[cfg(test)]
 mod gates;
+#[cfg(test)]
+mod heaps;
 #[cfg(test)]
 mod histories;
 #[cfg(test)]
@@ -15,9 +19,13 @@ mod memory;
 #[cfg(test)]
 mod playing;
 #[cfg(test)]
+mod programs;
+#[cfg(test)]
 mod refusing;
 #[cfg(test)]
 mod seating;
+#[cfg(test)]
+mod sentences;
 #[cfg(test)]
 mod sharing;
 #[cfg(test)]

@@ -3,7 +3,7 @@ use Rattle.dsa_book.specs.declared.answer.Reply.TheVariants as reply
 use Rattle.dsa_book.specs.declared.event.Event.TheVariants as event
 use Rattle.std.specs.Prelude.{ℕ, ◌*◌, Bool, true, false, [], ◌∷◌, Option, Some, None}
 use Rattle.dsa_regs.specs.declared.{Caps.{Caps}, Command.TheVariants.{DrainPasid}, QueueConfig.{QueueConfig}}
-use Rattle.dsa_regs.specs.Config.{zero_queue, zero_group}
+use Rattle.dsa_regs.specs.{Config.{zero_queue, zero_group}, Worked.{caps}}
 use Rattle.dsa_store.specs.Content.{HeldEntry}
 use Rattle.dsa_book.specs.{declared.answer.DispatchAnswer.TheVariants.{Taken}, State.{opening}}
 use Rattle.dsa_device.specs.Running.{Running, running_at_first}
@@ -11,16 +11,8 @@ use Rattle.dsa_scenario.specs.{Steps.{Visit, visit}, Worked.{record_ticket, smal
 
 -- three queues, four groups and two engines
 abbrev pub caps_of_a_trace : Caps
-caps_of_a_trace = record {
-  queues = 3;
-  groups = 4;
-  engines = 2;
-  total_size = 32;
-  read_buffers = 40;
-  slots = 6;
-  max_batch_shift = 5;
-  max_xfer_shift = 20;
-}
+caps_of_a_trace =
+    record caps { queues = 3; groups = 4; total_size = 32; read_buffers = 40; slots = 6; max_batch_shift = 5 }
 
 -- a queue of this size and threshold
 abbrev pub queue_of_a_trace : ℕ → ℕ → Bool → QueueConfig

@@ -1,6 +1,6 @@
 -- Worked histories of answers: a choice of queues, slots and buffers of an engine, what is stored,
 -- and what is of another kind.
-use Rattle.std.specs.Prelude.{ℕ, true, List, [], ◌∷◌, ◌++◌}
+use Rattle.std.specs.Prelude.{ℕ, Bool, true, List, [], ◌∷◌, ◌++◌}
 use Rattle.dsa_regs.specs.Worked.{shared_queue, dedicated_queue, first_group}
 use Rattle.dsa_regs.specs.declared.Command.TheVariants.{EnableDevice, DrainAll}
 use Rattle.dsa_regs.specs.{declared.Fault.TheVariants.{Busy, BadIndex, Locked}, Config.{zero_group}}
@@ -20,7 +20,8 @@ use Rattle.dsa_worked.specs.Setup.{no_op, move, batch, fenced, ticket, written, 
 use Rattle.dsa_worked.specs.Setup.{step_of_a_fetch}
 use Rattle.dsa_worked.specs.Setup.{started, finished, issued, polled, cleared, step_of_a_queue_write}
 use Rattle.dsa_worked.specs.Setup.{step_of_a_group_write, configured}
-use Rattle.dsa_worked.specs.Setup.{three_queues}
+use Rattle.dsa_book.specs.Machine.{is_run}
+use Rattle.dsa_worked.specs.{Setup.{room, three_queues}, Batches.{three_groups}}
 
 -- ---- a choice of queues
 
@@ -30,6 +31,10 @@ abbrev pub two_queues_of_a_group : List Step
 two_queues_of_a_group = three_queues (
     step_of_a_group_write 0 (record first_group { queues = 3; engines = 1 }) Written ∷
     step_of_a_group_write 1 (record first_group { queues = 4; engines = 2 }) Written ∷ [])
+
+-- that device may answer so last, after these steps
+abbrev pub may_answer_there : List Step → Step → Bool
+may_answer_there steps last = is_run three_groups room (two_queues_of_a_group ++ steps ++ last ∷ [])
 
 -- a descriptor comes to a queue, with this name and the cell of that number
 abbrev comes_to : ℕ → ℕ → Step

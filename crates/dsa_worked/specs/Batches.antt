@@ -1,6 +1,6 @@
 -- Worked histories of batches, fences and read buffers, each after the set-up.
 use Rattle.std.specs.Prelude.{ℕ, List, [], ◌∷◌}
-use Rattle.dsa_regs.specs.declared.{Caps.{Caps}, GroupConfig.{GroupConfig}}
+use Rattle.dsa_regs.specs.{declared.{Caps.{Caps}, GroupConfig.{GroupConfig}}, Worked.{caps}}
 use Rattle.dsa_book.specs.declared.answer.FetchAnswer.TheVariants.{NoBatch, AllFetched}
 use Rattle.dsa_book.specs.declared.answer.StartAnswer.TheVariants.{FenceWait, NoBuffers, Abandoned, Nothing}
 use Rattle.dsa_book.specs.declared.answer.{FinishAnswer.TheVariants.{Done, NotReady}, DispatchAnswer.TheVariants.{Idle}}
@@ -70,17 +70,7 @@ buffers_of_two_groups =
 
 -- a device with three queues, three groups and three engines
 abbrev pub three_groups : Caps
-three_groups = record {
-  queues = 3;
-  groups = 3;
-  engines = 3;
-  total_size = 12;
-  read_buffers = 16;
-  slots =
-      2;
-  max_batch_shift = 3;
-  max_xfer_shift = 20;
-}
+three_groups = record caps { queues = 3; groups = 3; engines = 3; total_size = 12 }
 
 -- the first of the groups: queue 0 and engine 0
 abbrev one_of_three : GroupConfig

@@ -1,12 +1,12 @@
 -- States in which a change may come, and states in which one of its tests fails.
-use Rattle.std.specs.Prelude.{ℕ, true, false, List, [], ◌∷◌, ◌++◌, replicate, Option, Some, None, unwrap_or}
+use Rattle.std.specs.Prelude.{ℕ, false, List, [], ◌∷◌, ◌++◌, replicate, Option, None, unwrap_or}
 use Rattle.dsa_regs.specs.Worked.{caps, queues, groups}
-use Rattle.dsa_regs.specs.declared.{Phase.{Phase, TheVariants.{Off, On}}, Command.TheVariants.{DrainAll}}
+use Rattle.dsa_regs.specs.declared.{Phase.{Phase}, Command.TheVariants.{DrainAll}}
 use Rattle.dsa_store.specs.Content.{Content}
 use Rattle.dsa_book.specs.declared.{note.ActiveCommand.{ActiveCommand}, event.Step.{Step}}
-use Rattle.dsa_book.specs.declared.answer.{SubmitAnswer.TheVariants.{Accepted, Retry}, Cause.TheVariants.{AtLimit}}
-use Rattle.dsa_book.specs.{State.{State, Work, opening, opening_setup}, Machine.{replay}}
-use Rattle.dsa_worked.specs.Setup.{no_op, held_entry, setup, to_shared, enqcmd, ticket}
+use Rattle.dsa_book.specs.declared.answer.{SubmitAnswer.TheVariants.{Retry}, Cause.TheVariants.{AtLimit}}
+use Rattle.dsa_book.specs.{State.{State, opening, opening_setup}, Machine.{replay}}
+use Rattle.dsa_worked.specs.Setup.{no_op, held_entry, setup, to_shared, enqcmd}
 
 -- both queues are configured, and they and the device are in this phase; these lists, this active command
 abbrev pub state_with : Phase → Content → Option ActiveCommand → State

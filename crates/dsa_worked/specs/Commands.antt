@@ -1,11 +1,11 @@
 -- Worked histories of commands and configurations, each after the set-up where it does not say otherwise.
-use Rattle.std.specs.Prelude.{List, [], ◌∷◌, ◌++◌}
+use Rattle.std.specs.Prelude.{Bool, List, [], ◌∷◌, ◌++◌}
 use Rattle.dsa_regs.specs.declared.Command.TheVariants.{EnableDevice, DisableDevice, DrainAll, AbortAll, ResetDevice}
 use Rattle.dsa_regs.specs.declared.Command.TheVariants.{EnableWq, DisableWq, DrainWq, AbortWq, ResetWq, DrainPasid}
 use Rattle.dsa_regs.specs.declared.Fault.TheVariants.{Busy, PriorityZero, PriorityTooLarge, ThresholdZero, Locked}
 use Rattle.dsa_regs.specs.declared.Fault.TheVariants.{ThresholdAboveSize, WrongState, BadQueue, BadIndex}
 use Rattle.dsa_regs.specs.declared.{Command.TheVariants.{AbortPasid}, QueueConfig.{QueueConfig}, Fault.{Fault}}
-use Rattle.dsa_regs.specs.{declared.GroupConfig.{GroupConfig}, Worked.{shared_queue, first_group}}
+use Rattle.dsa_regs.specs.{declared.GroupConfig.{GroupConfig}, Worked.{caps, shared_queue, first_group}}
 use Rattle.dsa_book.specs.declared.answer.IssueAnswer.TheVariants.{Ended, Active, Refused}
 use Rattle.dsa_book.specs.declared.answer.PollAnswer.TheVariants.{Finished, Active, Nothing}
 use Rattle.dsa_book.specs.declared.answer.{FetchAnswer.TheVariants.{NoBatch}, ClearAnswer.TheVariants.{Nothing}}
@@ -13,7 +13,8 @@ use Rattle.dsa_book.specs.declared.answer.{SubmitAnswer.TheVariants.{Accepted, R
 use Rattle.dsa_book.specs.declared.answer.{WriteAnswer.TheVariants.{Written, Refused}, Cause.TheVariants.{NotEnabled}}
 use Rattle.dsa_book.specs.declared.event.{Step.{Step}, Portal.TheVariants.{Limited}, Kind.TheVariants.{Enqcmd}}
 use Rattle.dsa_worked.specs.Setup.{no_op, batch, ticket, written, enqcmd, enqcmd_unlimited, step_of_a_fetch, finished}
-use Rattle.dsa_worked.specs.Setup.{issued}
+use Rattle.dsa_book.specs.Machine.{is_run}
+use Rattle.dsa_worked.specs.Setup.{issued, room}
 use Rattle.dsa_worked.specs.Setup.{polled, cleared, step_of_a_queue_write, step_of_a_group_write, configured, setup}
 use Rattle.dsa_worked.specs.Setup.{to_shared, step_of_a_take}
 use Rattle.dsa_worked.specs.Setup.{to_dedicated, member, begun, ended, obeyed, step_of_a_refusal, masked}
@@ -118,8 +119,7 @@ queues_that_are_not_there =
     step_of_a_queue_write 2 shared_queue (Refused BadIndex) ∷ step_of_a_group_write 2 first_group (Refused BadIndex)
     ∷ []
 
--- not after the set-up: configurations with which Enable Device is refused
-abbrev pub refused_device : QueueConfig → GroupConfig → GroupConfig → Fault → List Step
-refused_device second_queue first second fault =
-    configured shared_queue second_queue first second
-    ++ step_of_a_refusal fault EnableDevice ∷ []
+-- not after the set-up: with these configurations Enable Device may be refused for this
+abbrev pub refuses_device : QueueConfig → GroupConfig → GroupConfig → Fault → Bool
+refuses_device second_queue first second fault =
+    is_run caps room (configured shared_queue second_queue first second ++ step_of_a_refusal fault EnableDevice ∷ [])

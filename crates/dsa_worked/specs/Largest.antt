@@ -1,6 +1,6 @@
 -- Worked histories on a device with as many queues, engines and places as this model allows.
-use Rattle.std.specs.Prelude.{ℕ, false, List, [], ◌∷◌, ◌++◌, Option, option_map}
-use Rattle.dsa_regs.specs.Worked.{largest}
+use Rattle.std.specs.Prelude.{ℕ, List, [], ◌∷◌, ◌++◌, Option, option_map}
+use Rattle.dsa_regs.specs.Worked.{largest, shared_queue}
 use Rattle.dsa_regs.specs.declared.{Caps.{Caps}, QueueConfig.{QueueConfig}, GroupConfig.{GroupConfig}}
 use Rattle.dsa_regs.specs.declared.Command.TheVariants.{EnableDevice, EnableWq, DisableWq}
 use Rattle.dsa_regs.specs.declared.Fault.TheVariants.{BadQueue}
@@ -17,15 +17,8 @@ one_large_group = record largest { groups = 1 }
 
 -- the last queue has all places, and the limits of the device (profile)
 abbrev last_queue : QueueConfig
-last_queue = record {
-  size = 4096;
-  threshold = 4096;
-  dedicated = false;
-  priority = 15;
-  pasid = 0;
-  max_batch_shift = 10;
-  max_xfer_shift = 31;
-}
+last_queue =
+    record shared_queue { size = 4096; threshold = 4096; priority = 15; max_batch_shift = 10; max_xfer_shift = 31 }
 
 -- the last queue and the last engine, which are bit 63 of their sets, with the fewest buffers that a group may have
 abbrev last_group : GroupConfig

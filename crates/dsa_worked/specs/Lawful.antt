@@ -7,19 +7,10 @@ use Rattle.dsa_store.specs.Content.{HeldEntry, Content}
 use Rattle.dsa_book.specs.declared.{note.BatchNote.{BatchNote}, fate.Fate.TheVariants.{Completed}}
 use Rattle.dsa_book.specs.State.{Setup, Work, State, opening, opening_setup}
 use Rattle.dsa_worked.specs.Setup.{no_op, move, batch, held_entry, row}
-use Rattle.dsa_worked.specs.Uneven.{many_engines, small_queue, of_these}
+use Rattle.dsa_worked.specs.Uneven.{many_engines, small_queue, of_these, shifts}
 
 abbrev pub unlike : Caps
-unlike = record {
-  queues = 1;
-  groups = 5;
-  engines = 2;
-  total_size = 6;
-  read_buffers = 7;
-  slots = 4;
-  max_batch_shift = 3;
-  max_xfer_shift = 9;
-}
+unlike = record (shifts 3 9) { queues = 1; groups = 5; engines = 2; total_size = 6; read_buffers = 7; slots = 4 }
 
 -- ---- entries
 
@@ -75,17 +66,8 @@ work_of_three = record {
 -- ---- read buffers
 
 -- what is looked at: one group, and four read buffers
-abbrev pub caps_with_four : Caps
-caps_with_four = record {
-  queues = 2;
-  groups = 1;
-  engines = 3;
-  total_size = 5;
-  read_buffers = 4;
-  slots = 6;
-  max_batch_shift = 7;
-  max_xfer_shift = 8;
-}
+abbrev pub four_buffers : Caps
+four_buffers = record (shifts 7 8) { queues = 2; groups = 1; engines = 3; total_size = 5; read_buffers = 4; slots = 6 }
 
 -- a group with that engine, which keeps so many read buffers and may have so many
 abbrev pub with_buffers : ℕ → ℕ → ℕ → GroupConfig

@@ -1,5 +1,6 @@
 -- Worked histories: a set-up of two queues, two groups and two engines, and short names for steps.
-use Rattle.std.specs.Prelude.{Bool, ℕ, not, List, [], ◌∷◌, ◌++◌, length, map, Option, option_map}
+use Rattle.std.specs.Prelude.{Bool, ℕ, not, List, [], ◌∷◌, ◌++◌, length, map, replicate, slice_set, take}
+use Rattle.std.specs.Prelude.{Option, Some, None, option_map}
 use Rattle.dsa_desc.specs.declared.{Descriptor.{Descriptor}, Outcome.TheVariants.{Success, PageFault}}
 use Rattle.dsa_regs.specs.Worked.{caps, shared_queue, dedicated_queue, first_group, second_group}
 use Rattle.dsa_regs.specs.declared.{Command.{Command, TheVariants.{EnableDevice, EnableWq}}, QueueConfig.{QueueConfig}}
@@ -18,7 +19,8 @@ use Rattle.dsa_book.specs.declared.event.Event.TheVariants.{Submit, Dispatch, Fe
 use Rattle.dsa_book.specs.declared.event.Event.TheVariants.{WriteQueue, WriteGroup, ClearError}
 use Rattle.dsa_book.specs.declared.event.Kind.{Kind, TheVariants.{Enqcmd, Movdir64b}}
 use Rattle.dsa_book.specs.declared.event.{Portal.{Portal, TheVariants.{Limited, Unlimited}}, Event.{Event}, Step.{Step}}
-use Rattle.dsa_book.specs.declared.{answer.Reply.{TheVariants.{Clear}, Reply}, fate.{Fate.{Fate}, FateRow.{FateRow}}}
+use Rattle.dsa_book.specs.declared.{answer.Reply.{TheVariants.{Clear}, Reply}, fate.FateRow.{FateRow}}
+use Rattle.dsa_book.specs.declared.fate.Fate.{Fate, TheVariants.{Completed}}
 use Rattle.dsa_book.specs.{Totals.{total_accepted, total_fetched, total_retried, total_done, total_lost}, State.{State}}
 
 -- ---- descriptors, with no flags and a PASID that the submission gives where it is ENQCMD
@@ -183,9 +185,17 @@ room = 100
 abbrev pub is_run_here : List Step → Bool
 is_run_here steps = is_run caps room (setup ++ steps)
 
+-- the device may answer so last, after another set-up and so many of these steps
+abbrev pub may_answer : List Step → ℕ → List Step → Step → Bool
+may_answer first count steps last = is_run caps room (first ++ take count steps ++ last ∷ [])
+
 -- the last step may not come after these
 abbrev pub may_not_follow : List Step → Step → Bool
 may_not_follow steps last = not (may_follow caps room (stored_steps (setup ++ steps)) last)
+
+-- the last step may not come after so many of these
+abbrev pub wrong_after : ℕ → List Step → Step → Bool
+wrong_after count steps last = may_not_follow (take count steps) last
 
 -- the state after these steps, if they may come
 abbrev pub state_after : List Step → Option State
@@ -215,10 +225,25 @@ configs_after steps = option_map (λ s. s.work.setup.configs) (state_after steps
 abbrev pub row : ℕ → Option ℕ → Fate → FateRow
 row name parent fate = record { name = name; parent = parent; fate = fate }
 
+-- an entry, and a member of a batch, were ended with this status
+abbrev pub completed : ℕ → ℕ → FateRow
+completed name status = row name None (Completed status)
+
+abbrev pub completed_in : ℕ → ℕ → ℕ → FateRow
+completed_in batch name status = row name (Some batch) (Completed status)
+
 -- a cell with an entry
 abbrev pub held_entry : ℕ → ℕ → Option ℕ → Descriptor → ℕ → Bool → HeldEntry
 held_entry cell name parent desc queue running =
     (record { 0 = cell }, record { name = name; parent = parent; desc = desc; queue = queue; running = running })
+
+-- the lists of the device with no entry: those of its queues, what is in progress on its engines, and their members
+abbrev pub no_entries : Content
+no_entries = replicate 6 []
+
+-- these entries in the list of this number
+abbrev pub with_list : ℕ → List HeldEntry → Content → Content
+with_list list entries content = slice_set content list entries
 
 -- what is counted of a history: entries, those held at its end, and steps with those of the set-up
 pub record Account : Type 0 where
@@ -229,6 +254,9 @@ pub record Account : Type 0 where
   pub lost : ℕ
   pub held : ℕ
   pub steps : ℕ
+
+abbrev pub nothing_counted : Account
+nothing_counted = record { accepted = 0; fetched = 0; retried = 0; done = 0; lost = 0; held = 0; steps = 0 }
 
 -- the account after these steps
 abbrev pub account_after : List Step → Option Account

@@ -1,5 +1,5 @@
 -- States of which the statements of the laws are true or broken: a batch 0 with its members, by their fates.
-use Rattle.std.specs.Prelude.{ℕ, Bool, false, List, [], ◌∷◌, None, Some}
+use Rattle.std.specs.Prelude.{ℕ, Bool, false, List, [], ◌∷◌, Some}
 use Rattle.dsa_regs.specs.Worked.{caps}
 use Rattle.dsa_store.specs.Content.{Content}
 use Rattle.dsa_book.specs.declared.{fate.{Fate.TheVariants.{Completed, Abandoned, Aborted}, FateRow.{FateRow}}}

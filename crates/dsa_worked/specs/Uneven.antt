@@ -1,8 +1,10 @@
 -- Worked histories of devices that have not as many queues as engines, nor as many of these as groups.
-use Rattle.std.specs.Prelude.{ℕ, false, List, [], ◌∷◌, ◌++◌, Option, option_map}
+use Rattle.std.specs.Prelude.{ℕ, List, [], ◌∷◌, ◌++◌, replicate, Option, None, option_map}
 use Rattle.dsa_regs.specs.declared.Command.TheVariants.{EnableDevice, EnableWq, ResetWq, AbortPasid}
-use Rattle.dsa_regs.specs.declared.{Caps.{Caps}, QueueConfig.{QueueConfig}, GroupConfig.{GroupConfig}, Phase.{Phase}}
+use Rattle.dsa_regs.specs.declared.{Caps.{Caps}, QueueConfig.{QueueConfig}, GroupConfig.{GroupConfig}}
 use Rattle.dsa_regs.specs.declared.Fault.TheVariants.{BadQueue, BadIndex, Locked}
+use Rattle.dsa_regs.specs.{declared.Phase.{Phase, TheVariants.{Off}}, Config.{zero_group, zero_queue}}
+use Rattle.dsa_regs.specs.Worked.{caps, shared_queue}
 use Rattle.dsa_book.specs.declared.answer.DispatchAnswer.TheVariants.{Taken, Idle}
 use Rattle.dsa_book.specs.declared.answer.FetchAnswer.TheVariants.{NoBatch}
 use Rattle.dsa_book.specs.declared.answer.{FinishAnswer.TheVariants.{Gone}, StartAnswer.TheVariants.{Nothing}}
@@ -17,71 +19,31 @@ use Rattle.dsa_worked.specs.Setup.{step_of_a_refusal, masked}
 
 -- ---- devices
 
+-- the largest batch and the largest transfer, as powers of two
+abbrev pub shifts : ℕ → ℕ → Caps
+shifts batch transfer = record caps { max_batch_shift = batch; max_xfer_shift = transfer }
+
 -- seven queues, and fewer of all else
 abbrev pub many_queues : Caps
-many_queues = record {
-  queues = 7;
-  groups = 2;
-  engines = 1;
-  total_size = 4;
-  read_buffers = 5;
-  slots = 3;
-  max_batch_shift = 4;
-  max_xfer_shift = 6;
-}
+many_queues = record (shifts 4 6) { queues = 7; groups = 2; engines = 1; total_size = 4; read_buffers = 5; slots = 3 }
 
 -- seven engines, and fewer of all else
 abbrev pub many_engines : Caps
-many_engines = record {
-  queues = 1;
-  groups = 1;
-  engines = 7;
-  total_size = 2;
-  read_buffers = 4;
-  slots = 1;
-  max_batch_shift = 1;
-  max_xfer_shift = 3;
-}
+many_engines = record (shifts 1 3) { queues = 1; groups = 1; engines = 7; total_size = 2; read_buffers = 4; slots = 1 }
 
 -- eight groups, and fewer of all else
 abbrev pub many_groups : Caps
-many_groups = record {
-  queues = 3;
-  groups = 8;
-  engines = 2;
-  total_size = 5;
-  read_buffers = 6;
-  slots = 1;
-  max_batch_shift = 2;
-  max_xfer_shift = 4;
-}
+many_groups = record (shifts 2 4) { queues = 3; groups = 8; engines = 2; total_size = 5; read_buffers = 6; slots = 1 }
 
 -- three queues, two engines and one group
 abbrev pub three_two_one : Caps
-three_two_one = record {
-  queues = 3;
-  groups = 1;
-  engines = 2;
-  total_size = 12;
-  read_buffers = 16;
-  slots = 4;
-  max_batch_shift = 5;
-  max_xfer_shift = 20;
-}
+three_two_one = record caps { queues = 3; groups = 1; engines = 2; total_size = 12; slots = 4; max_batch_shift = 5 }
 
 -- ---- set-ups
 
 -- a shared queue of two places, for batches of two and transfers of eight bytes
 abbrev pub small_queue : QueueConfig
-small_queue = record {
-  size = 2;
-  threshold = 2;
-  dedicated = false;
-  priority = 1;
-  pasid = 0;
-  max_batch_shift = 1;
-  max_xfer_shift = 3;
-}
+small_queue = record shared_queue { size = 2; max_batch_shift = 1; max_xfer_shift = 3 }
 
 -- four read buffers for these queues and engines, none of them reserved
 abbrev pub of_these : ℕ → ℕ → GroupConfig
@@ -143,6 +105,26 @@ reset_of_the_last_queue =
     last_of_many_queues ++ comes_in 6 no_op 0 ∷ issued (ResetWq (masked 64)) (Ended 1) ∷ []
 
 -- ---- what they lead to
+
+-- a device before its first step, with so many queues, groups, lists and engines
+abbrev pub first_state : Caps → ℕ → ℕ → ℕ → ℕ → State
+first_state caps queues groups lists engines = record {
+  work = record {
+    setup = record {
+      caps = caps;
+      device = Off;
+      configs = replicate queues zero_queue;
+      phases = replicate queues Off;
+      groups = replicate groups zero_group;
+      next_name = 0;
+      noted = None;
+    };
+    content = replicate lists [];
+    notes = replicate engines None;
+    fates = [];
+  };
+  active = None;
+}
 
 -- what is seen of the state of a device after these steps
 abbrev pub seen_there : {X : Type 0} → (State → X) → Caps → List Step → Option X

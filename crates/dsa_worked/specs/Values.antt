@@ -1,8 +1,15 @@
 -- Values at which single definitions are computed.
-use Rattle.std.specs.{Prelude.{ℕ, false, [], ◌∷◌, None, ⊤}, Fmt.{digits, padded_integral, char_count}}
+use Rattle.std.specs.{Prelude.{ℕ, false, List, [], ◌∷◌, None, ⊤}, Fmt.{digits, padded_integral, char_count}}
+use Rattle.dsa_regs.specs.declared.Fault.{Fault, TheVariants.{SizesTooLarge, TwoGroups, ReservedTooMany}}
+use Rattle.dsa_regs.specs.declared.Fault.TheVariants.{AllowedOutOfRange, GroupWithoutEngine, GroupWithoutQueue}
 use Rattle.dsa_store.specs.{declared.entry.Cell.{Cell}, Content.{HeldEntry, Content}}
 use Rattle.dsa_book.specs.declared.note.BatchNote.{BatchNote}
 use Rattle.dsa_worked.specs.Setup.{no_op, held_entry}
+
+-- what may be wrong with the numbers of a device and of its groups
+abbrev pub faults_of_devices : List Fault
+faults_of_devices =
+    SizesTooLarge ∷ TwoGroups ∷ ReservedTooMany ∷ AllowedOutOfRange ∷ GroupWithoutEngine ∷ GroupWithoutQueue ∷ []
 
 -- the cell of this number
 abbrev pub cell : ℕ → Cell

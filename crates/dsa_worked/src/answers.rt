@@ -1,137 +1,84 @@
 //! Answers: which of two queues an engine takes from, slots and buffers, what is stored, and
 //! answers that may never come.
 
-ghost use Rattle.std.specs.Prelude.{◌≡◌, ◌++◌, [], ◌∷◌, Some, None, true, false, take};
+ghost use Rattle.std.specs.Prelude.{◌≡◌, ◌++◌, [], ◌∷◌, true, false, take};
 ghost use Rattle.dsa_desc.specs.declared.Outcome.TheVariants.{Success};
-ghost use Rattle.dsa_regs.specs.declared.Command.TheVariants.{DrainAll, EnableDevice, DisableWq};
-ghost use Rattle.dsa_regs.specs.declared.Fault.TheVariants.{BadIndex, Locked, WrongState, Busy};
+ghost use Rattle.dsa_regs.specs.declared.Command.TheVariants.{DrainAll};
+ghost use Rattle.dsa_regs.specs.declared.Fault.TheVariants.{BadIndex, Locked, WrongState};
 ghost use Rattle.dsa_book.specs.declared.answer.Cause.TheVariants.{AtLimit, NotEnabled, WrongKind};
-ghost use Rattle.dsa_book.specs.declared.answer.SubmitAnswer.TheVariants.{Accepted, Retry, Dropped, Full};
+ghost use Rattle.dsa_book.specs.declared.answer.SubmitAnswer.TheVariants.{Retry, Dropped, Full};
 ghost use Rattle.dsa_book.specs.declared.answer.DispatchAnswer.TheVariants.{Taken, Idle, Full};
-ghost use Rattle.dsa_book.specs.declared.answer.FetchAnswer.TheVariants.{Fetched, NoBatch, AllFetched, Full};
-ghost use Rattle.dsa_book.specs.declared.answer.StartAnswer.TheVariants.{Started, FenceWait, NoBuffers, Abandoned, Nothing, Full};
-ghost use Rattle.dsa_book.specs.declared.answer.FinishAnswer.TheVariants.{Done, NotReady, Gone, Full};
-ghost use Rattle.dsa_book.specs.declared.answer.IssueAnswer.TheVariants.{Ended, Active, Refused, Full};
-ghost use Rattle.dsa_book.specs.declared.answer.PollAnswer.TheVariants.{Finished, Active, Nothing, Full};
+ghost use Rattle.dsa_book.specs.declared.answer.FetchAnswer.TheVariants.{NoBatch, AllFetched, Full};
+ghost use Rattle.dsa_book.specs.declared.answer.StartAnswer.TheVariants.{FenceWait, Nothing, Full};
+ghost use Rattle.dsa_book.specs.declared.answer.FinishAnswer.TheVariants.{Gone, Full};
+ghost use Rattle.dsa_book.specs.declared.answer.IssueAnswer.TheVariants.{Refused, Full};
+ghost use Rattle.dsa_book.specs.declared.answer.PollAnswer.TheVariants.{Finished, Nothing, Full};
 ghost use Rattle.dsa_book.specs.declared.answer.WriteAnswer.TheVariants.{Written, Refused, Full};
 ghost use Rattle.dsa_book.specs.declared.answer.ClearAnswer.TheVariants.{Cleared, Nothing, Full};
-ghost use Rattle.dsa_book.specs.declared.answer.Reply.TheVariants.{Submit, Dispatch, Fetch, Start, Finish, Issue, Poll, Write, Clear};
-ghost use Rattle.dsa_book.specs.declared.event.Event.TheVariants.{Submit, Dispatch, Fetch, Start, Finish, Issue, Poll, WriteQueue, WriteGroup, ClearError};
+ghost use Rattle.dsa_book.specs.declared.answer.Reply.TheVariants.{Submit, Dispatch, Fetch, Start, Finish, Issue, Poll, Clear};
+ghost use Rattle.dsa_book.specs.declared.event.Event.TheVariants.{Submit, Dispatch, Fetch, Start, Finish, Issue, Poll, WriteQueue, ClearError};
 ghost use Rattle.dsa_book.specs.declared.event.Kind.TheVariants.{Enqcmd, Movdir64b};
-ghost use Rattle.dsa_book.specs.declared.event.Portal.TheVariants.{Limited, Unlimited};
+ghost use Rattle.dsa_book.specs.declared.event.Portal.TheVariants.{Limited};
 ghost use Rattle.dsa_book.specs.Machine.{is_run, is_legal, stored_steps};
-ghost use Rattle.dsa_regs.specs.Worked.{caps, shared_queue, dedicated_queue, first_group};
-ghost use Rattle.dsa_worked.specs.Setup.{room, setup, is_run_here, may_not_follow, state_after, no_op, move, batch, ticket, masked, step, written, enqcmd, movdir, dispatched, step_of_a_fetch, started, finished, issued, polled, cleared, step_of_a_queue_write, step_of_a_group_write};
+ghost use Rattle.dsa_regs.specs.Worked.{caps, shared_queue, first_group};
+ghost use Rattle.dsa_worked.specs.Setup.{room, setup, is_run_here, may_not_follow, state_after, no_op, ticket, step, written, movdir, dispatched, step_of_a_fetch, started, finished, issued, polled, cleared, step_of_a_queue_write, step_of_a_group_write, ended, begun, member, step_of_a_take, may_answer, wrong_after};
 ghost use Rattle.dsa_worked.specs.Submissions.{one_move, dedicated_queue_overflows};
-ghost use Rattle.dsa_worked.specs.Batches.{three_groups, fence_waits, failure_abandons};
-ghost use Rattle.dsa_worked.specs.Answers.{two_queues_of_a_group, a_choice_of_queues, one_of_two_queues_waits, slots_are_full, one_group, buffers_of_two_engines, engines_that_are_not_there, steps_not_stored, steps_stored, room_for_steps_not_stored, each_event_is_full};
+ghost use Rattle.dsa_worked.specs.Batches.{three_groups, fence_waits};
+ghost use Rattle.dsa_worked.specs.Answers.{two_queues_of_a_group, a_choice_of_queues, one_of_two_queues_waits, slots_are_full, one_group, buffers_of_two_engines, engines_that_are_not_there, steps_not_stored, steps_stored, room_for_steps_not_stored, each_event_is_full, may_answer_there};
 
 /// Of two queues with work an engine takes the front of either, and nothing else.
 pub fn a_choice_of_queues()
-    ensures from_the_first { is_run three_groups room
-        (two_queues_of_a_group
-        ++ a_choice_of_queues
-        ++ dispatched 0 (Taken (ticket 0 0) 0)
-        ∷ [])
-        ≡ true }
-    ensures from_the_second { is_run three_groups room
-        (two_queues_of_a_group
-        ++ a_choice_of_queues
-        ++ dispatched 0 (Taken (ticket 2 2) 1)
-        ∷ [])
-        ≡ true }
+    ensures from_the_first { may_answer_there a_choice_of_queues (step_of_a_take 0 0 0) ≡ true }
+    ensures from_the_second { may_answer_there a_choice_of_queues
+        (dispatched 0 (Taken (ticket 2 2) 1)) ≡ true }
     ensures one_after_the_other { is_run three_groups room
-        (two_queues_of_a_group
-        ++ a_choice_of_queues
-        ++ dispatched 0 (Taken (ticket 2 2) 1)
-        ∷ dispatched 0 (Taken (ticket 0 0) 0)
-        ∷ [])
+        (two_queues_of_a_group ++ a_choice_of_queues ++ dispatched 0 (Taken (ticket 2 2) 1)
+        ∷ step_of_a_take 0 0 0 ∷ []) ≡ true }
+    ensures the_other_engine_has_the_third { may_answer_there a_choice_of_queues
+        (dispatched 1 (Taken (ticket 3 3) 2)) ≡ true }
+    ensures an_engine_of_no_group_is_idle { may_answer_there a_choice_of_queues (dispatched 2 Idle)
         ≡ true }
-    ensures the_other_engine_has_the_third { is_run three_groups room
-        (two_queues_of_a_group
-        ++ a_choice_of_queues
-        ++ dispatched 1 (Taken (ticket 3 3) 2)
-        ∷ [])
-        ≡ true }
-    ensures an_engine_of_no_group_is_idle { is_run three_groups room
-        (two_queues_of_a_group ++ a_choice_of_queues ++ dispatched 2 Idle ∷ [])
-        ≡ true }
-    ensures not_from_the_third { is_run three_groups room
-        (two_queues_of_a_group
-        ++ a_choice_of_queues
-        ++ dispatched 0 (Taken (ticket 3 3) 2)
-        ∷ [])
+    ensures not_from_the_third { may_answer_there a_choice_of_queues
+        (dispatched 0 (Taken (ticket 3 3) 2)) ≡ false }
+    ensures not_behind_the_front { may_answer_there a_choice_of_queues (step_of_a_take 0 1 1)
         ≡ false }
-    ensures not_behind_the_front { is_run three_groups room
-        (two_queues_of_a_group
-        ++ a_choice_of_queues
-        ++ dispatched 0 (Taken (ticket 1 1) 0)
-        ∷ [])
+    ensures not_under_the_other_queue { may_answer_there a_choice_of_queues
+        (dispatched 0 (Taken (ticket 0 0) 1)) ≡ false }
+    ensures not_under_another_name { may_answer_there a_choice_of_queues (step_of_a_take 0 0 1)
         ≡ false }
-    ensures not_under_the_other_queue { is_run three_groups room
-        (two_queues_of_a_group
-        ++ a_choice_of_queues
-        ++ dispatched 0 (Taken (ticket 0 0) 1)
-        ∷ [])
-        ≡ false }
-    ensures not_under_another_name { is_run three_groups room
-        (two_queues_of_a_group
-        ++ a_choice_of_queues
-        ++ dispatched 0 (Taken (ticket 0 1) 0)
-        ∷ [])
-        ≡ false }
-    ensures not_idle { is_run three_groups room
-        (two_queues_of_a_group ++ a_choice_of_queues ++ dispatched 0 Idle ∷ [])
-        ≡ false }
+    ensures not_idle { may_answer_there a_choice_of_queues (dispatched 0 Idle) ≡ false }
 {}
 
 /// Where the front of one queue must wait, the other queue is the only choice.
 pub fn one_of_two_queues_waits()
-    ensures run { is_run three_groups room
-        (two_queues_of_a_group
-        ++ one_of_two_queues_waits
-        ++ dispatched 0 (Taken (ticket 2 2) 1)
-        ∷ [])
+    ensures run { may_answer_there one_of_two_queues_waits (dispatched 0 (Taken (ticket 2 2) 1))
         ≡ true }
-    ensures no_second_batch { is_run three_groups room
-        (two_queues_of_a_group
-        ++ one_of_two_queues_waits
-        ++ dispatched 0 (Taken (ticket 1 1) 0)
-        ∷ [])
+    ensures no_second_batch { may_answer_there one_of_two_queues_waits (step_of_a_take 0 1 1)
         ≡ false }
-    ensures not_idle { is_run three_groups room
-        (two_queues_of_a_group ++ one_of_two_queues_waits ++ dispatched 0 Idle ∷ [])
-        ≡ false }
+    ensures not_idle { may_answer_there one_of_two_queues_waits (dispatched 0 Idle) ≡ false }
 {}
 
 /// An engine has as many entries in progress as it has slots, members not counted.
 pub fn slots_are_full()
     ensures run { is_run_here slots_are_full ≡ true }
-    ensures members_take_no_slot { may_not_follow (take 5 slots_are_full) (dispatched 0 Idle)
-        ≡ true }
-    ensures no_third_entry { may_not_follow (take 6 slots_are_full)
-        (dispatched 0 (Taken (ticket 3 3) 0))
-        ≡ true }
-    ensures not_full_for_good { may_not_follow (take 8 slots_are_full) (dispatched 0 Idle) ≡ true }
+    ensures members_take_no_slot { wrong_after 5 slots_are_full (dispatched 0 Idle) ≡ true }
+    ensures no_third_entry { wrong_after 6 slots_are_full (step_of_a_take 0 3 3) ≡ true }
+    ensures not_full_for_good { wrong_after 8 slots_are_full (dispatched 0 Idle) ≡ true }
 {}
 
 /// The engines of a group share its buffers, and take from any of its queues.
 pub fn buffers_of_two_engines()
     ensures run { is_run caps room (one_group ++ buffers_of_two_engines) ≡ true }
-    ensures no_more_than_the_group_may_use { is_run caps room
-        (one_group ++ take 5 buffers_of_two_engines ++ dispatched 1 (Taken (ticket 2 2) 1) ∷ [])
-        ≡ false }
-    ensures given_back { is_run caps room
-        (one_group ++ take 8 buffers_of_two_engines ++ dispatched 1 Idle ∷ [])
-        ≡ false }
+    ensures no_more_than_the_group_may_use { may_answer one_group 5 buffers_of_two_engines
+        (step_of_a_take 1 2 2) ≡ false }
+    ensures given_back { may_answer one_group 8 buffers_of_two_engines (dispatched 1 Idle) ≡ false }
 {}
 
 /// An engine that the device does not have has nothing.
 pub fn engines_that_are_not_there()
     ensures run { is_run_here engines_that_are_not_there ≡ true }
-    ensures nothing_is_taken { may_not_follow (take 1 engines_that_are_not_there)
-        (dispatched 2 (Taken (ticket 0 0) 0))
-        ≡ true }
+    ensures nothing_is_taken { wrong_after 1 engines_that_are_not_there
+        (dispatched 2 (Taken (ticket 0 0) 0)) ≡ true }
 {}
 
 /// A history keeps none of the first, and all of the second.
@@ -217,20 +164,16 @@ pub fn faults_of_writes()
 
 /// A descriptor that is dropped, and one that is to come again, has the first cause that stands.
 pub fn causes_of_drops()
-    ensures at_limit { may_not_follow (take 2 dedicated_queue_overflows)
-        (movdir no_op (Dropped WrongKind))
+    ensures at_limit { wrong_after 2 dedicated_queue_overflows (movdir no_op (Dropped WrongKind))
         ≡ true }
-    ensures at_limit_is_not_off { may_not_follow (take 2 dedicated_queue_overflows)
-        (movdir no_op (Dropped NotEnabled))
-        ≡ true }
-    ensures a_drop_is_no_retry { may_not_follow (take 2 dedicated_queue_overflows)
-        (movdir no_op (Retry AtLimit))
-        ≡ true }
+    ensures at_limit_is_not_off { wrong_after 2 dedicated_queue_overflows
+        (movdir no_op (Dropped NotEnabled)) ≡ true }
+    ensures a_drop_is_no_retry { wrong_after 2 dedicated_queue_overflows
+        (movdir no_op (Retry AtLimit)) ≡ true }
     ensures wrong_kind { may_not_follow [] (written 0 Limited Movdir64b no_op (Dropped AtLimit))
         ≡ true }
-    ensures wrong_kind_before_the_limit { may_not_follow (take 2 dedicated_queue_overflows)
-        (written 1 Limited (Enqcmd 5) no_op (Retry AtLimit))
-        ≡ true }
+    ensures wrong_kind_before_the_limit { wrong_after 2 dedicated_queue_overflows
+        (written 1 Limited (Enqcmd 5) no_op (Retry AtLimit)) ≡ true }
     ensures a_retry_is_no_drop { may_not_follow []
         (written 1 Limited (Enqcmd 5) no_op (Dropped WrongKind))
         ≡ true }
@@ -239,54 +182,30 @@ pub fn causes_of_drops()
     ensures not_enabled_is_no_limit { may_not_follow []
         (written 9 Limited (Enqcmd 5) no_op (Retry AtLimit))
         ≡ true }
-    ensures another_queue_is_not_noted { may_not_follow (take 3 dedicated_queue_overflows)
-        (cleared (Cleared (record { queue = 0; cause = AtLimit; overflow = false })))
-        ≡ true }
-    ensures another_cause_is_not_noted { may_not_follow (take 3 dedicated_queue_overflows)
-        (cleared (Cleared (record { queue = 1; cause = WrongKind; overflow = false })))
-        ≡ true }
-    ensures one_drop_is_no_overflow { may_not_follow (take 3 dedicated_queue_overflows)
-        (cleared (Cleared (record { queue = 1; cause = AtLimit; overflow = true })))
-        ≡ true }
-    ensures something_is_noted { may_not_follow (take 3 dedicated_queue_overflows) (cleared Nothing)
-        ≡ true }
+    ensures another_queue_is_not_noted { wrong_after 3 dedicated_queue_overflows
+        (cleared (Cleared (record { queue = 0; cause = AtLimit; overflow = false }))) ≡ true }
+    ensures another_cause_is_not_noted { wrong_after 3 dedicated_queue_overflows
+        (cleared (Cleared (record { queue = 1; cause = WrongKind; overflow = false }))) ≡ true }
+    ensures one_drop_is_no_overflow { wrong_after 3 dedicated_queue_overflows
+        (cleared (Cleared (record { queue = 1; cause = AtLimit; overflow = true }))) ≡ true }
+    ensures something_is_noted { wrong_after 3 dedicated_queue_overflows (cleared Nothing) ≡ true }
 {}
 
 /// Tickets in answers are of the right cell and name.
 pub fn tickets_of_answers()
-    ensures fetched_under_another_name { may_not_follow (take 2 fence_waits)
-        (step_of_a_fetch 0 no_op (Fetched (ticket 1 2)))
-        ≡ true }
-    ensures fetched_in_a_cell_in_use { may_not_follow (take 2 fence_waits)
-        (step_of_a_fetch 0 no_op (Fetched (ticket 0 1)))
-        ≡ true }
-    ensures fetched_past_the_last_cell { may_not_follow (take 2 fence_waits)
-        (step_of_a_fetch 0 no_op (Fetched (ticket 28 1)))
-        ≡ true }
-    ensures started_under_another_name { may_not_follow (take 6 fence_waits)
-        (started 0 (Started (ticket 1 2)))
-        ≡ true }
-    ensures started_in_another_cell { may_not_follow (take 6 fence_waits)
-        (started 0 (Started (ticket 2 1)))
-        ≡ true }
-    ensures taken_under_another_name { may_not_follow (take 1 one_move)
-        (dispatched 0 (Taken (ticket 0 1) 0))
-        ≡ true }
-    ensures taken_in_another_cell { may_not_follow (take 1 one_move)
-        (dispatched 0 (Taken (ticket 1 0) 0))
-        ≡ true }
-    ensures nothing_is_started_twice { may_not_follow (take 7 fence_waits)
-        (started 0 (Started (ticket 1 1)))
-        ≡ true }
+    ensures fetched_under_another_name { wrong_after 2 fence_waits (member 0 no_op 1 2) ≡ true }
+    ensures fetched_in_a_cell_in_use { wrong_after 2 fence_waits (member 0 no_op 0 1) ≡ true }
+    ensures fetched_past_the_last_cell { wrong_after 2 fence_waits (member 0 no_op 28 1) ≡ true }
+    ensures started_under_another_name { wrong_after 6 fence_waits (begun 0 1 2) ≡ true }
+    ensures started_in_another_cell { wrong_after 6 fence_waits (begun 0 2 1) ≡ true }
+    ensures taken_under_another_name { wrong_after 1 one_move (step_of_a_take 0 0 1) ≡ true }
+    ensures taken_in_another_cell { wrong_after 1 one_move (step_of_a_take 0 1 0) ≡ true }
+    ensures nothing_is_started_twice { wrong_after 7 fence_waits (begun 0 1 1) ≡ true }
     ensures no_wait_without_a_member { may_not_follow [] (started 0 FenceWait) ≡ true }
-    ensures not_nothing_with_a_member { may_not_follow (take 6 fence_waits) (started 0 Nothing)
-        ≡ true }
-    ensures not_all_fetched_before_the_count { may_not_follow (take 4 fence_waits)
-        (step_of_a_fetch 0 no_op AllFetched)
-        ≡ true }
-    ensures all_fetched_is_no_want_of_a_batch { may_not_follow (take 5 fence_waits)
-        (step_of_a_fetch 0 no_op NoBatch)
-        ≡ true }
-    ensures nothing_ends_twice { may_not_follow one_move (finished 0 (ticket 0 0) (Done 0x01))
-        ≡ true }
+    ensures not_nothing_with_a_member { wrong_after 6 fence_waits (started 0 Nothing) ≡ true }
+    ensures not_all_fetched_before_the_count { wrong_after 4 fence_waits
+        (step_of_a_fetch 0 no_op AllFetched) ≡ true }
+    ensures all_fetched_is_no_want_of_a_batch { wrong_after 5 fence_waits
+        (step_of_a_fetch 0 no_op NoBatch) ≡ true }
+    ensures nothing_ends_twice { may_not_follow one_move (ended 0 0 0 0x01) ≡ true }
 {}

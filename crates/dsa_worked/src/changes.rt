@@ -1,17 +1,17 @@
 //! Changes that may come in a state, and changes of which a test fails there; and the cause for
 //! which a submission is refused.
 
-ghost use Rattle.std.specs.Prelude.{◌≡◌, [], ◌∷◌, ◌++◌, Some, None};
+ghost use Rattle.std.specs.Prelude.{[], ◌∷◌, ◌++◌, Some, None};
 ghost use Rattle.dsa_regs.specs.Worked.{caps, first_group};
 ghost use Rattle.dsa_regs.specs.declared.Phase.TheVariants.{Off, On};
 ghost use Rattle.dsa_book.specs.State.{State};
 ghost use Rattle.dsa_book.specs.declared.answer.Cause.TheVariants.{AtLimit, NotEnabled, WrongKind};
-ghost use Rattle.dsa_book.specs.declared.answer.SubmitAnswer.TheVariants.{Accepted, Retry};
+ghost use Rattle.dsa_book.specs.declared.answer.SubmitAnswer.TheVariants.{Retry};
 ghost use Rattle.dsa_book.specs.declared.event.Kind.TheVariants.{Enqcmd, Movdir64b};
 ghost use Rattle.dsa_book.specs.declared.event.Portal.TheVariants.{Limited, Unlimited};
 ghost use Rattle.dsa_laws.specs.Change.{IsOver, IsWaiting, IsDeviceEnabled, IsQueueEnabled, IsAborted, IsReset, IsCleared, IsAbandoned, IsGroupWritten};
 ghost use Rattle.dsa_laws.specs.Refusals.{IsRefused, EachHasItsCause};
-ghost use Rattle.dsa_worked.specs.Setup.{setup, no_op, enqcmd, ticket, step_of_a_take};
+ghost use Rattle.dsa_worked.specs.Setup.{setup, no_op, enqcmd, step_of_a_take, to_shared};
 ghost use Rattle.dsa_worked.specs.Changes.{state_with, none_held, one_waits, two_wait, drains_two, refused_often, state_here};
 
 /// A drain is over where it is active and nothing is held that it waits for.
@@ -95,7 +95,7 @@ pub fn refusals_of_histories()
     ensures for_another_cause { ¬ EachHasItsCause caps
         (setup ++ refused_often 0 ++ enqcmd no_op (Retry NotEnabled) ∷ []) }
     ensures accepted_at_the_limit { ¬ EachHasItsCause caps
-        (setup ++ refused_often 60 ++ enqcmd no_op (Accepted (ticket 2 2)) ∷ []) }
+        (setup ++ refused_often 60 ++ to_shared no_op 2 2 ∷ []) }
     ensures taken_entries_make_room { ¬ EachHasItsCause caps
         (setup ++ (refused_often 60 ++ step_of_a_take 0 0 0 ∷ [])
         ++ enqcmd no_op (Retry AtLimit) ∷ []) }

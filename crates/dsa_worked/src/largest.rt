@@ -1,15 +1,14 @@
 //! The largest device: its last queue and its last engine, and the largest batch.
 
-ghost use Rattle.std.specs.Prelude.{◌≡◌, ◌++◌, [], ◌∷◌, Some, None, Ok, true, false};
+ghost use Rattle.std.specs.Prelude.{◌≡◌, ◌++◌, [], ◌∷◌, Some, Ok, true, false};
 ghost use Rattle.dsa_regs.specs.declared.Command.TheVariants.{DisableWq, EnableWq};
 ghost use Rattle.dsa_regs.specs.declared.Fault.TheVariants.{BadQueue};
 ghost use Rattle.dsa_regs.specs.Caps.{check_caps, cell_count};
 ghost use Rattle.dsa_regs.specs.Command.{command_of};
 ghost use Rattle.dsa_book.specs.declared.answer.DispatchAnswer.TheVariants.{Idle};
 ghost use Rattle.dsa_book.specs.declared.answer.FinishAnswer.TheVariants.{Done, NotReady, Full};
-ghost use Rattle.dsa_book.specs.declared.fate.Fate.TheVariants.{Completed};
 ghost use Rattle.dsa_book.specs.Machine.{is_run};
-ghost use Rattle.dsa_worked.specs.Setup.{room, row, dispatched, step_of_a_refusal};
+ghost use Rattle.dsa_worked.specs.Setup.{room, dispatched, step_of_a_refusal, completed};
 ghost use Rattle.dsa_worked.specs.Largest.{one_large_group, last_of_all, batch_of_the_last_queue, fates_there};
 
 /// 64 queues, 64 engines and 4096 places in one group: its cells, and the words that are issued
@@ -43,6 +42,6 @@ pub fn batch_of_the_last_queue()
 pub fn batch_beyond_the_largest()
     ensures run { is_run one_large_group room (batch_of_the_last_queue 1025 (Done 0x14)) ≡ true }
     ensures fates { fates_there (batch_of_the_last_queue 1025 (Done 0x14))
-        ≡ Some (row 0 None (Completed 0x14) ∷ []) }
+        ≡ Some (completed 0 0x14 ∷ []) }
     ensures not_open { is_run one_large_group room (batch_of_the_last_queue 1025 NotReady) ≡ false }
 {}

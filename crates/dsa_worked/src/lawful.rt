@@ -11,7 +11,7 @@ ghost use Rattle.dsa_laws.specs.Engines.{IsNoteOf, IsAlike, IsWithoutBatch, IsOn
 ghost use Rattle.dsa_laws.specs.WellFormed.{HasShape, CellsOnce, NamesOnce, HasLawfulSetup, IsPlaced, NoneOff, PasidsFit, HasLawfulEntries, IsWithinLimits, IsWithinBatch, MembersInOrder, IsWellFormed, none_runs, runs_first};
 ghost use Rattle.dsa_worked.specs.Setup.{no_op, batch, row, held_entry};
 ghost use Rattle.dsa_worked.specs.Uneven.{many_engines, small_queue};
-ghost use Rattle.dsa_worked.specs.Lawful.{unlike, that_waits, that_runs, a_member_of_three, batch_three, member_of_three, note_of_three, work_of, work_with_lists, caps_with_four, work_with_buffers, set_up_in, new_work, state_of, work_on_batch, work_of_three, one_engine_on, state_in_use, in_queue, note_of_nought, state_of_two, long_transfers, one_engine_of_long};
+ghost use Rattle.dsa_worked.specs.Lawful.{unlike, that_waits, that_runs, a_member_of_three, batch_three, member_of_three, note_of_three, work_of, work_with_lists, four_buffers, work_with_buffers, set_up_in, new_work, state_of, work_on_batch, work_of_three, one_engine_on, state_in_use, in_queue, note_of_nought, state_of_two, long_transfers, one_engine_of_long};
 
 /// The lists, configurations, phases, groups and notes are as many as the device has.
 pub fn shapes()
@@ -118,10 +118,10 @@ pub fn limits()
 
 /// Two read buffers are used in each of two groups, of which one is looked at.
 pub fn buffers()
-    ensures all { HasBuffers caps_with_four (work_with_buffers On 1 2) }
-    ensures off { HasBuffers caps_with_four (work_with_buffers Off 3 1) }
-    ensures allowed { ¬ HasBuffers caps_with_four (work_with_buffers On 1 1) }
-    ensures kept { ¬ HasBuffers caps_with_four (work_with_buffers On 3 2) }
+    ensures all { HasBuffers four_buffers (work_with_buffers On 1 2) }
+    ensures off { HasBuffers four_buffers (work_with_buffers Off 3 1) }
+    ensures allowed { ¬ HasBuffers four_buffers (work_with_buffers On 1 1) }
+    ensures kept { ¬ HasBuffers four_buffers (work_with_buffers On 3 2) }
 {}
 
 /// An engine has a note where it works on a batch, which the note is of; its members are of the

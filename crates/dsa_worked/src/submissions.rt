@@ -3,38 +3,27 @@
 ghost use Rattle.std.specs.Prelude.{◌≡◌, ◌++◌, [], ◌∷◌, Some, None, true, false, take, slice_get};
 ghost use Rattle.dsa_book.specs.declared.event.Actor.TheVariants.{Client, Engine};
 ghost use Rattle.dsa_book.specs.declared.answer.Cause.TheVariants.{AtLimit, NotEnabled, WrongKind};
-ghost use Rattle.dsa_book.specs.declared.answer.SubmitAnswer.TheVariants.{Accepted, Retry, Dropped, Full};
+ghost use Rattle.dsa_book.specs.declared.answer.SubmitAnswer.TheVariants.{Accepted, Retry, Full};
 ghost use Rattle.dsa_book.specs.declared.answer.DispatchAnswer.TheVariants.{Taken, Idle};
-ghost use Rattle.dsa_book.specs.declared.answer.FinishAnswer.TheVariants.{Done, Gone};
+ghost use Rattle.dsa_book.specs.declared.answer.FinishAnswer.TheVariants.{Gone};
 ghost use Rattle.dsa_book.specs.declared.answer.ClearAnswer.TheVariants.{Cleared};
 ghost use Rattle.dsa_book.specs.declared.event.Kind.TheVariants.{Enqcmd};
 ghost use Rattle.dsa_book.specs.declared.event.Portal.TheVariants.{Limited};
-ghost use Rattle.dsa_book.specs.declared.fate.Fate.TheVariants.{Completed};
 ghost use Rattle.dsa_book.specs.Machine.{is_run};
 ghost use Rattle.dsa_book.specs.Totals.{steps_of_actor};
 ghost use Rattle.dsa_regs.specs.Worked.{caps};
-ghost use Rattle.dsa_worked.specs.Setup.{setup, is_run_here, may_not_follow, fates_after, content_after, next_name_after, account_after, row, held_entry, no_op, move, ticket, written, enqcmd, enqcmd_unlimited, movdir, dispatched, finished, cleared};
+ghost use Rattle.dsa_worked.specs.Setup.{setup, is_run_here, may_not_follow, fates_after, content_after, next_name_after, account_after, held_entry, no_op, ticket, written, enqcmd, enqcmd_unlimited, dispatched, finished, cleared, ended, step_of_a_take, to_shared, completed, no_entries, with_list, nothing_counted, wrong_after};
 ghost use Rattle.dsa_worked.specs.Submissions.{one_move, two_portals, dedicated_queue_overflows, causes_of_retry, first_drop_is_noted, transfer_sizes, operations_and_flags, history_is_full, no_room_at_all, forged_tickets, of_two_clients};
 
 /// A Move from its submission to its status.
 pub fn one_move()
     ensures run { is_run_here one_move ≡ true }
     ensures next_name { next_name_after one_move ≡ Some 1 }
-    ensures content { content_after one_move ≡ Some ([] ∷ [] ∷ [] ∷ [] ∷ [] ∷ [] ∷ []) }
-    ensures fates { fates_after one_move ≡ Some (row 0 None (Completed 0x01) ∷ []) }
+    ensures content { content_after one_move ≡ Some no_entries }
+    ensures fates { fates_after one_move ≡ Some (completed 0 0x01 ∷ []) }
     ensures account { account_after one_move
-        ≡ Some (record {
-          accepted = 1;
-          fetched = 0;
-          retried = 0;
-          done = 1;
-          lost = 0;
-          held = 0;
-          steps = 10;
-        }) }
-    ensures not_another_status { may_not_follow (take 2 one_move)
-        (finished 0 (ticket 0 0) (Done 0x03))
-        ≡ true }
+        ≡ Some (record nothing_counted { accepted = 1; done = 1; steps = 10 }) }
+    ensures not_another_status { wrong_after 2 one_move (ended 0 0 0 0x03) ≡ true }
 {}
 
 /// The threshold bounds the limited portal of a shared queue, its size the unlimited one.
@@ -43,46 +32,23 @@ pub fn two_portals()
     ensures next_name { next_name_after two_portals ≡ Some 5 }
     ensures fates { fates_after two_portals ≡ Some [] }
     ensures account { account_after two_portals
-        ≡ Some (record {
-          accepted = 5;
-          fetched = 0;
-          retried = 3;
-          done = 0;
-          lost = 0;
-          held = 5;
-          steps = 16;
-        }) }
-    ensures threshold_is_for_the_limited_portal { may_not_follow (take 3 two_portals)
-        (enqcmd_unlimited 5 no_op (Retry AtLimit))
+        ≡ Some (record nothing_counted { accepted = 5; retried = 3; held = 5; steps = 16 }) }
+    ensures threshold_is_for_the_limited_portal { wrong_after 3 two_portals
+        (enqcmd_unlimited 5 no_op (Retry AtLimit)) ≡ true }
+    ensures taken_entries_are_no_occupancy { wrong_after 8 two_portals
+        (enqcmd_unlimited 5 no_op (Retry AtLimit)) ≡ true }
+    ensures no_room_at_the_threshold { wrong_after 2 two_portals (to_shared no_op 2 2) ≡ true }
+    ensures no_retry_below_the_threshold { wrong_after 1 two_portals (enqcmd no_op (Retry AtLimit))
         ≡ true }
-    ensures taken_entries_are_no_occupancy { may_not_follow (take 8 two_portals)
-        (enqcmd_unlimited 5 no_op (Retry AtLimit))
-        ≡ true }
-    ensures no_room_at_the_threshold { may_not_follow (take 2 two_portals)
-        (enqcmd no_op (Accepted (ticket 2 2)))
-        ≡ true }
-    ensures no_retry_below_the_threshold { may_not_follow (take 1 two_portals)
-        (enqcmd no_op (Retry AtLimit))
-        ≡ true }
-    ensures no_other_cause { may_not_follow (take 2 two_portals) (enqcmd no_op (Retry NotEnabled))
-        ≡ true }
-    ensures no_cell_in_use { may_not_follow (take 1 two_portals)
-        (enqcmd no_op (Accepted (ticket 0 1)))
-        ≡ true }
-    ensures no_cell_past_the_last { may_not_follow (take 1 two_portals)
-        (enqcmd no_op (Accepted (ticket 28 1)))
-        ≡ true }
-    ensures no_other_name { may_not_follow (take 1 two_portals)
-        (enqcmd no_op (Accepted (ticket 1 2)))
-        ≡ true }
-    ensures not_full_before_capacity { may_not_follow (take 1 two_portals) (enqcmd no_op Full)
-        ≡ true }
-    ensures not_idle_with_work { may_not_follow (take 1 two_portals) (dispatched 0 Idle) ≡ true }
-    ensures front_first { may_not_follow (take 2 two_portals) (dispatched 0 (Taken (ticket 1 1) 0))
-        ≡ true }
-    ensures no_engine_of_another_group { may_not_follow (take 2 two_portals)
-        (dispatched 1 (Taken (ticket 0 0) 0))
-        ≡ true }
+    ensures no_other_cause { wrong_after 2 two_portals (enqcmd no_op (Retry NotEnabled)) ≡ true }
+    ensures no_cell_in_use { wrong_after 1 two_portals (to_shared no_op 0 1) ≡ true }
+    ensures no_cell_past_the_last { wrong_after 1 two_portals (to_shared no_op 28 1) ≡ true }
+    ensures no_other_name { wrong_after 1 two_portals (to_shared no_op 1 2) ≡ true }
+    ensures not_full_before_capacity { wrong_after 1 two_portals (enqcmd no_op Full) ≡ true }
+    ensures not_idle_with_work { wrong_after 1 two_portals (dispatched 0 Idle) ≡ true }
+    ensures front_first { wrong_after 2 two_portals (step_of_a_take 0 1 1) ≡ true }
+    ensures no_engine_of_another_group { wrong_after 2 two_portals
+        (dispatched 1 (Taken (ticket 0 0) 0)) ≡ true }
 {}
 
 /// A dedicated queue that is full drops descriptors, and the noted error overflows.
@@ -90,18 +56,10 @@ pub fn dedicated_queue_overflows()
     ensures run { is_run_here dedicated_queue_overflows ≡ true }
     ensures next_name { next_name_after dedicated_queue_overflows ≡ Some 2 }
     ensures content { content_after dedicated_queue_overflows
-        ≡ Some ([]
-        ∷ (held_entry 0 0 None (record no_op { pasid = 7 }) 1 false
-        ∷ held_entry 1 1 None (record no_op { pasid = 7 }) 1 false
-        ∷ [])
-        ∷ []
-        ∷ []
-        ∷ []
-        ∷ []
-        ∷ []) }
-    ensures overflow_is_marked { may_not_follow (take 4 dedicated_queue_overflows)
-        (cleared (Cleared (record { queue = 1; cause = AtLimit; overflow = false })))
-        ≡ true }
+        ≡ Some (with_list 1 (held_entry 0 0 None (record no_op { pasid = 7 }) 1 false
+        ∷ held_entry 1 1 None (record no_op { pasid = 7 }) 1 false ∷ []) no_entries) }
+    ensures overflow_is_marked { wrong_after 4 dedicated_queue_overflows
+        (cleared (Cleared (record { queue = 1; cause = AtLimit; overflow = false }))) ≡ true }
 {}
 
 /// ENQCMD to a dedicated queue, MOVDIR64B to a shared one, a queue that was disabled, and one that
@@ -109,16 +67,7 @@ pub fn dedicated_queue_overflows()
 pub fn causes_of_retry()
     ensures run { is_run_here causes_of_retry ≡ true }
     ensures next_name { next_name_after causes_of_retry ≡ Some 0 }
-    ensures account { account_after causes_of_retry
-        ≡ Some (record {
-          accepted = 0;
-          fetched = 0;
-          retried = 0;
-          done = 0;
-          lost = 0;
-          held = 0;
-          steps = 12;
-        }) }
+    ensures account { account_after causes_of_retry ≡ Some (record nothing_counted { steps = 12 }) }
     ensures dedicated_takes_no_enqcmd { may_not_follow []
         (written 1 Limited (Enqcmd 5) no_op (Accepted (ticket 0 0)))
         ≡ true }
@@ -130,19 +79,15 @@ pub fn causes_of_retry()
 /// The noted error is of the first descriptor that was dropped, whatever was dropped later.
 pub fn first_drop_is_noted()
     ensures run { is_run_here first_drop_is_noted ≡ true }
-    ensures last_is_not_noted { may_not_follow (take 4 first_drop_is_noted)
-        (cleared (Cleared (record { queue = 9; cause = NotEnabled; overflow = true })))
-        ≡ true }
+    ensures last_is_not_noted { wrong_after 4 first_drop_is_noted
+        (cleared (Cleared (record { queue = 9; cause = NotEnabled; overflow = true }))) ≡ true }
 {}
 
 /// Moves of 0, of 2 ^ 20 and of one more byte, where a transfer may have 2 ^ 20.
 pub fn transfer_sizes()
     ensures run { is_run_here transfer_sizes ≡ true }
     ensures fates { fates_after transfer_sizes
-        ≡ Some (row 0 None (Completed 0x13)
-        ∷ row 1 None (Completed 0x01)
-        ∷ row 2 None (Completed 0x13)
-        ∷ []) }
+        ≡ Some (completed 0 0x13 ∷ completed 1 0x01 ∷ completed 2 0x13 ∷ []) }
 {}
 
 /// Drain is an operation, a fence has no place outside a batch, other flags are ignored, and
@@ -150,20 +95,10 @@ pub fn transfer_sizes()
 pub fn operations_and_flags()
     ensures run { is_run_here operations_and_flags ≡ true }
     ensures fates { fates_after operations_and_flags
-        ≡ Some (row 0 None (Completed 0x01)
-        ∷ row 1 None (Completed 0x11)
-        ∷ row 2 None (Completed 0x01)
-        ∷ row 3 None (Completed 0x10)
-        ∷ []) }
-    ensures a_drain_is_supported { may_not_follow (take 2 operations_and_flags)
-        (finished 0 (ticket 0 0) (Done 0x10))
-        ≡ true }
-    ensures a_fence_is_no_success { may_not_follow (take 5 operations_and_flags)
-        (finished 0 (ticket 0 1) (Done 0x01))
-        ≡ true }
-    ensures other_operations_fail { may_not_follow (take 11 operations_and_flags)
-        (finished 0 (ticket 0 3) (Done 0x01))
-        ≡ true }
+        ≡ Some (completed 0 0x01 ∷ completed 1 0x11 ∷ completed 2 0x01 ∷ completed 3 0x10 ∷ []) }
+    ensures a_drain_is_supported { wrong_after 2 operations_and_flags (ended 0 0 0 0x10) ≡ true }
+    ensures a_fence_is_no_success { wrong_after 5 operations_and_flags (ended 0 0 1 0x01) ≡ true }
+    ensures other_operations_fail { wrong_after 11 operations_and_flags (ended 0 0 3 0x01) ≡ true }
 {}
 
 /// A history with room for ten steps, of which the set-up took seven: from then on each answer is
@@ -185,21 +120,11 @@ pub fn forged_tickets()
     ensures run { is_run_here forged_tickets ≡ true }
     ensures next_name { next_name_after forged_tickets ≡ Some 1 }
     ensures content { content_after forged_tickets
-        ≡ Some ([]
-        ∷ []
-        ∷ (held_entry 0 0 None (record no_op { pasid = 5 }) 0 true ∷ [])
-        ∷ []
-        ∷ []
-        ∷ []
-        ∷ []) }
-    ensures waiting_entries_do_not_end { may_not_follow (take 1 forged_tickets)
-        (finished 0 (ticket 0 0) (Done 0x01))
-        ≡ true }
-    ensures no_other_engine_ends_it { may_not_follow (take 3 forged_tickets)
-        (finished 1 (ticket 0 0) (Done 0x01))
-        ≡ true }
-    ensures its_own_is_not_gone { may_not_follow (take 3 forged_tickets)
-        (finished 0 (ticket 0 0) Gone)
+        ≡ Some (with_list 2 (held_entry 0 0 None (record no_op { pasid = 5 }) 0 true ∷ [])
+        no_entries) }
+    ensures waiting_entries_do_not_end { wrong_after 1 forged_tickets (ended 0 0 0 0x01) ≡ true }
+    ensures no_other_engine_ends_it { wrong_after 3 forged_tickets (ended 1 0 0 0x01) ≡ true }
+    ensures its_own_is_not_gone { wrong_after 3 forged_tickets (finished 0 (ticket 0 0) Gone)
         ≡ true }
 {}
 

@@ -8,15 +8,14 @@ ghost use Rattle.dsa_regs.specs.declared.Fault.TheVariants.{BadIndex, TwoGroups,
 ghost use Rattle.dsa_regs.specs.declared.layout.ListUse.TheVariants.{Queue, Progress, Members};
 ghost use Rattle.dsa_regs.specs.declared.reasons.Named.TheVariants as named;
 ghost use Rattle.dsa_regs.specs.Caps.{check_caps, cell_count, list_count, first_members, list_number, list_use, engine_of_list};
-ghost use Rattle.dsa_regs.specs.Config.{zero_group, zero_queue, check_device, is_any_shared, count_of, missing_name, shared_name};
+ghost use Rattle.dsa_regs.specs.Config.{zero_queue, check_device, is_any_shared, count_of, missing_name, shared_name};
 ghost use Rattle.dsa_book.specs.declared.answer.DispatchAnswer.TheVariants.{Taken, Idle};
 ghost use Rattle.dsa_book.specs.declared.answer.FetchAnswer.TheVariants.{NoBatch};
-ghost use Rattle.dsa_book.specs.declared.answer.FinishAnswer.TheVariants.{Done};
 ghost use Rattle.dsa_book.specs.declared.answer.WriteAnswer.TheVariants.{Written};
 ghost use Rattle.dsa_book.specs.Machine.{is_run};
 ghost use Rattle.dsa_book.specs.State.{opening};
-ghost use Rattle.dsa_worked.specs.Setup.{room, no_op, ticket, dispatched, finished, obeyed, step_of_a_fetch, step_of_a_queue_write, step_of_a_group_write};
-ghost use Rattle.dsa_worked.specs.Uneven.{many_queues, many_engines, many_groups, three_two_one, small_queue, of_these, last_of_many_queues, engine_beyond_the_last, last_of_many_engines, batch_of_the_last_engine, last_of_many_groups, reset_of_the_last_queue, phases_there, configs_there, used_there};
+ghost use Rattle.dsa_worked.specs.Setup.{room, no_op, ticket, dispatched, obeyed, step_of_a_fetch, step_of_a_queue_write, step_of_a_group_write, ended};
+ghost use Rattle.dsa_worked.specs.Uneven.{many_queues, many_engines, many_groups, three_two_one, small_queue, of_these, last_of_many_queues, engine_beyond_the_last, last_of_many_engines, batch_of_the_last_engine, last_of_many_groups, reset_of_the_last_queue, phases_there, configs_there, used_there, first_state};
 
 /// The cells and the lists of each device, and what each list is for.
 pub fn lists_and_cells()
@@ -124,42 +123,8 @@ pub fn names_of_reasons()
 /// A device before its first step has a configuration and a phase for each queue, a configuration
 /// for each group, a note for each engine and all its lists.
 pub fn first_states()
-    ensures many_queues { opening many_queues
-        ≡ record {
-          work = record {
-            setup = record {
-              caps = many_queues;
-              device = Off;
-              configs = replicate 7 zero_queue;
-              phases = replicate 7 Off;
-              groups = replicate 2 zero_group;
-              next_name = 0;
-              noted = None;
-            };
-            content = replicate 9 [];
-            notes = replicate 1 None;
-            fates = [];
-          };
-          active = None;
-        } }
-    ensures many_engines { opening many_engines
-        ≡ record {
-          work = record {
-            setup = record {
-              caps = many_engines;
-              device = Off;
-              configs = zero_queue ∷ [];
-              phases = Off ∷ [];
-              groups = zero_group ∷ [];
-              next_name = 0;
-              noted = None;
-            };
-            content = replicate 15 [];
-            notes = replicate 7 None;
-            fates = [];
-          };
-          active = None;
-        } }
+    ensures many_queues { opening many_queues ≡ first_state many_queues 7 2 9 1 }
+    ensures many_engines { opening many_engines ≡ first_state many_engines 1 1 15 7 }
 {}
 
 /// The last of many queues and the last group are there, and the ones beyond them are not.
@@ -187,8 +152,7 @@ pub fn last_of_many_queues()
 pub fn engine_beyond_the_last()
     ensures run { is_run many_queues room engine_beyond_the_last ≡ true }
     ensures ends_no_member { is_run many_queues room
-        (take 12 engine_beyond_the_last ++ finished 1 (ticket 1 1) (Done 0x01) ∷ [])
-        ≡ false }
+        (take 12 engine_beyond_the_last ++ ended 1 1 1 0x01 ∷ []) ≡ false }
     ensures not_idle { is_run many_queues room
         (take 17 engine_beyond_the_last ++ dispatched 0 Idle ∷ [])
         ≡ false }

@@ -7,7 +7,7 @@ ghost use Rattle.dsa_desc.specs.declared.opcode.Operation.{Operation};
 ghost use Rattle.dsa_desc.specs.Descriptor.{as_written, bytes_of, row_of};
 ghost use Rattle.dsa_desc.specs.Text.{operation_name, operation_text, size_label, line_of_descriptor};
 ghost use Rattle.dsa_regs.specs.declared.Command.TheVariants.{EnableDevice, DisableDevice, DrainAll, AbortAll, ResetDevice, EnableWq, DisableWq, DrainWq, AbortWq, ResetWq, DrainPasid, AbortPasid};
-ghost use Rattle.dsa_regs.specs.declared.Fault.TheVariants.{SizesTooLarge, TwoGroups, ReservedTooMany, AllowedOutOfRange, GroupWithoutEngine, GroupWithoutQueue, SizeZero, PriorityZero, PriorityTooLarge, ThresholdZero, ThresholdAboveSize, BatchTooLarge, TransferTooLarge, NoGroup, BadIndex, BadCommand, BadQueue, Locked, WrongState, Busy};
+ghost use Rattle.dsa_regs.specs.declared.Fault.TheVariants.{SizeZero, PriorityZero, PriorityTooLarge, ThresholdZero, ThresholdAboveSize, BatchTooLarge, TransferTooLarge, NoGroup, BadIndex, BadCommand, BadQueue, Locked, WrongState, Busy};
 ghost use Rattle.dsa_regs.specs.declared.Phase.TheVariants.{Off};
 ghost use Rattle.dsa_regs.specs.Command.{command_name};
 ghost use Rattle.dsa_regs.specs.Fault.{fault_number, fault_name};
@@ -39,7 +39,7 @@ ghost use Rattle.dsa_accounts.specs.Accounts.{submitted_entries, member_entries}
 ghost use Rattle.dsa_worked.specs.Setup.{setup, no_op, move, batch, ticket, masked, polled, obeyed, to_shared};
 ghost use Rattle.dsa_worked.specs.Batches.{fence_waits};
 ghost use Rattle.dsa_worked.specs.States.{seen_after, running_member};
-ghost use Rattle.dsa_worked.specs.Values.{cell, of_cell, three_lists, a_note};
+ghost use Rattle.dsa_worked.specs.Values.{cell, of_cell, three_lists, a_note, faults_of_devices};
 
 /// The names of all commands.
 pub fn names_of_commands()
@@ -71,17 +71,7 @@ pub fn names_of_commands()
 /// The numbers of all faults.
 pub fn numbers_of_faults()
     ensures first { map fault_number
-        (SizesTooLarge
-        ∷ TwoGroups
-        ∷ ReservedTooMany
-        ∷ AllowedOutOfRange
-        ∷ GroupWithoutEngine
-        ∷ GroupWithoutQueue
-        ∷ SizeZero
-        ∷ PriorityZero
-        ∷ ThresholdZero
-        ∷ ThresholdAboveSize
-        ∷ [])
+        (faults_of_devices ++ SizeZero ∷ PriorityZero ∷ ThresholdZero ∷ ThresholdAboveSize ∷ [])
         ≡ 1 ∷ 2 ∷ 3 ∷ 4 ∷ 5 ∷ 6 ∷ 7 ∷ 8 ∷ 9 ∷ 10 ∷ [] }
     ensures others { map fault_number
         (BatchTooLarge
@@ -101,14 +91,7 @@ pub fn numbers_of_faults()
 /// The names of the faults of a device's configuration.
 pub fn names_of_device_faults()
     ensures { map fault_name
-        (SizesTooLarge
-        ∷ TwoGroups
-        ∷ ReservedTooMany
-        ∷ AllowedOutOfRange
-        ∷ GroupWithoutEngine
-        ∷ GroupWithoutQueue
-        ∷ BadIndex
-        ∷ [])
+        (faults_of_devices ++ BadIndex ∷ [])
         ≡ codes "SizesTooLarge"
         ∷ codes "TwoGroups"
         ∷ codes "ReservedTooMany"

@@ -4,7 +4,7 @@ use crate::shared::playing::Play;
 use crate::shared::steps::{ended, group_written, issued, queue_written, totals, writes};
 use crate::shared::stores::{Trial, over_both_stores};
 use dsa_book::{IssueAnswer, Step, WriteAnswer};
-use dsa_fixtures::{DEDICATED_QUEUE, FIRST_GROUP, FIRST_QUEUE, SECOND_GROUP, SHARED_QUEUE};
+use dsa_fixtures::{DEDICATED_QUEUE, FIRST_GROUP, FIRST_QUEUE, SHARED_QUEUE};
 use dsa_regs::{Command, Fault, GroupConfig, QueueConfig};
 use std::process::Abort;
 
@@ -18,47 +18,30 @@ fn refused(command: Command, fault: Fault) -> Step {
     issued(command, IssueAnswer::Refused(fault))
 }
 
-fn group(number: u16, config: GroupConfig) -> Step {
+// A group is written with these numbers.
+fn group(number: u16, queues: u64, engines: u64, reserved: u16, allowed: u16) -> Step {
+    let config = GroupConfig {
+        queues,
+        engines,
+        reserved,
+        allowed,
+    };
     group_written(number, config, WRITTEN)
 }
 
-// One of the four writes is changed, and the fault that enabling the device then has.
+// One of the four writes is changed in one number, and the fault that enabling the device then has.
 fn changes() -> [(usize, Step, Fault); 7] {
-    let reserves = GroupConfig {
-        reserved: 13,
-        ..SECOND_GROUP
-    };
-    let shares = GroupConfig {
-        engines: 3,
-        ..SECOND_GROUP
-    };
-    let serves_none = GroupConfig {
-        queues: 0,
-        ..SECOND_GROUP
-    };
-    let names_a_third = GroupConfig {
-        queues: 6,
-        ..SECOND_GROUP
-    };
-    let is_not_served = GroupConfig {
-        engines: 0,
-        ..FIRST_GROUP
-    };
-    let allows = GroupConfig {
-        allowed: 9,
-        ..FIRST_GROUP
-    };
     let large = QueueConfig {
         size: 5,
         ..DEDICATED_QUEUE
     };
     [
-        (3, group(1, reserves), Fault::ReservedTooMany),
-        (3, group(1, shares), Fault::TwoGroups),
-        (3, group(1, serves_none), Fault::GroupWithoutQueue),
-        (3, group(1, names_a_third), Fault::BadIndex),
-        (2, group(0, is_not_served), Fault::GroupWithoutEngine),
-        (2, group(0, allows), Fault::AllowedOutOfRange),
+        (3, group(1, 2, 2, 13, 12), Fault::ReservedTooMany),
+        (3, group(1, 2, 3, 8, 12), Fault::TwoGroups),
+        (3, group(1, 0, 2, 8, 12), Fault::GroupWithoutQueue),
+        (3, group(1, 6, 2, 8, 12), Fault::BadIndex),
+        (2, group(0, 1, 0, 4, 8), Fault::GroupWithoutEngine),
+        (2, group(0, 1, 1, 4, 9), Fault::AllowedOutOfRange),
         (1, queue_written(1, large, WRITTEN), Fault::SizesTooLarge),
     ]
 }
@@ -85,31 +68,16 @@ fn device_is_not_enabled(rt: HostRuntime) {
     }
 }
 
-// The shared queue is written with this configuration.
-fn queue(config: QueueConfig) -> Step {
-    queue_written(0, config, WRITTEN)
-}
-
-fn threshold(threshold: u16) -> Step {
-    queue(QueueConfig {
+// The shared queue is written with these numbers.
+fn queue(threshold: u16, priority: u8, max_batch_shift: u8, max_xfer_shift: u8) -> Step {
+    let config = QueueConfig {
         threshold,
-        ..SHARED_QUEUE
-    })
-}
-
-fn priority(priority: u8) -> Step {
-    queue(QueueConfig {
         priority,
-        ..SHARED_QUEUE
-    })
-}
-
-fn shifts(max_batch_shift: u8, max_xfer_shift: u8) -> Step {
-    queue(QueueConfig {
         max_batch_shift,
         max_xfer_shift,
         ..SHARED_QUEUE
-    })
+    };
+    queue_written(0, config, WRITTEN)
 }
 
 #[test]
@@ -119,19 +87,19 @@ fn queue_is_not_enabled(rt: HostRuntime) {
         capacity: 100,
         steps: &[
             ended(Command::DisableWq(FIRST_QUEUE), 0),
-            priority(0),
+            queue(2, 0, 3, 20),
             refused(enable, Fault::PriorityZero),
-            priority(16),
+            queue(2, 16, 3, 20),
             refused(enable, Fault::PriorityTooLarge),
-            threshold(0),
+            queue(0, 1, 3, 20),
             refused(enable, Fault::ThresholdZero),
-            threshold(5),
+            queue(5, 1, 3, 20),
             refused(enable, Fault::ThresholdAboveSize),
-            shifts(4, 20),
+            queue(2, 1, 4, 20),
             refused(enable, Fault::BatchTooLarge),
-            shifts(3, 21),
+            queue(2, 1, 3, 21),
             refused(enable, Fault::TransferTooLarge),
-            threshold(4),
+            queue(4, 1, 3, 20),
             ended(enable, 0),
             queue_written(0, SHARED_QUEUE, LOCKED),
             group_written(0, FIRST_GROUP, LOCKED),
@@ -150,7 +118,7 @@ fn queues_that_are_not_there(rt: HostRuntime) {
     let play = Play {
         capacity: 100,
         steps: &[
-            queue(SHARED_QUEUE),
+            queue_written(0, SHARED_QUEUE, WRITTEN),
             ended(Command::EnableDevice, 0),
             refused(Command::EnableWq(0), Fault::NoGroup),
             refused(Command::EnableWq(1), Fault::SizeZero),

@@ -41,11 +41,12 @@ impl Passes {
         })
     }
 
-    // Whether each of the first so many workers has passed so often.
-    fn have_come(&self, workers: usize, often: u32) -> bool {
+    // Whether each of these workers has passed so often.
+    fn have_come(&self, workers: Several, often: u32) -> bool {
         self.counts
             .iter()
-            .take(workers)
+            .skip(workers.first)
+            .take(workers.count)
             .all(|count| count.load(Ordering::SeqCst) >= often)
     }
 
@@ -81,21 +82,48 @@ impl Gate for Passes {
     }
 }
 
-/// Holds two clients, two engines and an administrator at their first pass until all five have come
-/// there, and then the engines until each client has come there once more. It notes one that waited
-/// in vain, and then holds none.
+/// So many workers, from this number on.
+#[derive(Clone, Copy)]
+pub struct Several {
+    pub first: usize,
+    pub count: usize,
+}
+
+impl Several {
+    fn has(self, worker: usize) -> bool {
+        worker >= self.first && worker - self.first < self.count
+    }
+}
+
+/// These workers, at their pass before this turn, wait until each of those has passed so often.
+#[derive(Clone, Copy)]
+pub struct Hold {
+    pub held: Several,
+    pub turn: u32,
+    pub until: Several,
+    pub often: u32,
+}
+
+/// Holds workers at some of their passes. It notes one that waited in vain, and then holds none.
 #[derive(Drop)]
-pub struct Meeting<'a, R: Clock> {
+pub struct Holding<'a, R: Clock> {
     clock: &'a R,
+    holds: &'a [Hold],
     pub passes: Passes,
     missed: AtomicU32,
 }
 
-impl<'a, R: Clock + Abort> Meeting<'a, R> {
-    pub fn new(clock: &'a R, alloc: Global) -> Result<Meeting<'a, R>, AllocError> {
-        Ok(Meeting {
+impl<'a, R: Clock + Abort> Holding<'a, R> {
+    pub fn new(
+        clock: &'a R,
+        alloc: Global,
+        workers: usize,
+        holds: &'a [Hold],
+    ) -> Result<Holding<'a, R>, AllocError> {
+        Ok(Holding {
             clock,
-            passes: Passes::new(alloc, 5)?,
+            holds,
+            passes: Passes::new(alloc, workers)?,
             missed: AtomicU32::new(0),
         })
     }
@@ -106,11 +134,12 @@ impl<'a, R: Clock + Abort> Meeting<'a, R> {
     }
 }
 
-impl<'a, R: Clock> Meeting<'a, R> {
-    // Waits until each of the first so many workers has passed so often.
-    fn wait(&self, workers: usize, often: u32) {
+impl<'a, R: Clock> Holding<'a, R> {
+    fn wait(&self, hold: &Hold) {
         for _look in 0..20_000u32 {
-            if self.passes.have_come(workers, often) || self.missed.load(Ordering::SeqCst) != 0 {
+            if self.passes.have_come(hold.until, hold.often)
+                || self.missed.load(Ordering::SeqCst) != 0
+            {
                 return;
             }
             thread::sleep(self.clock, Duration::from_millis(1));
@@ -119,15 +148,13 @@ impl<'a, R: Clock> Meeting<'a, R> {
     }
 }
 
-impl<'a, R: Clock> Gate for Meeting<'a, R> {
+impl<'a, R: Clock> Gate for Holding<'a, R> {
     fn pass(&self, worker: usize, turn: u32) {
         self.passes.pass(worker, turn);
-        if turn != 0 {
-            return;
-        }
-        self.wait(5, 1);
-        if worker == 2 || worker == 3 {
-            self.wait(2, 2);
+        for hold in self.holds {
+            if hold.turn == turn && hold.held.has(worker) {
+                self.wait(hold);
+            }
         }
     }
 }

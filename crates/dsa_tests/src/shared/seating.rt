@@ -156,7 +156,7 @@ fn engine_is_counted<L: Sharing, R: Abort>(rt: &R, seat: &EngineSeat<L>) {
 }
 
 impl<'a, S: EntryStore, L: Sharing, R: Wait + Abort> Stage<'a, S, L, R> {
-    // Settling is refused for a seat that is missing, and all comes back.
+    // Settling is refused for a seat that is missing, and all comes back, as it was and in use.
     fn not_settled(self) -> Self {
         let Stage {
             rt,
@@ -165,11 +165,13 @@ impl<'a, S: EntryStore, L: Sharing, R: Wait + Abort> Stage<'a, S, L, R> {
             seats,
             record,
         } = self;
+        let held = shared.held(rt);
         let refused = match shared.settle(seats) {
             Ok(_) => panic!(rt; "settled without a seat"),
             Err(refused) => refused,
         };
         same!(rt; refused.fault, SettleFault::SeatMissing);
+        same!(rt; refused.device.held(rt), held);
         Stage {
             rt,
             alloc,

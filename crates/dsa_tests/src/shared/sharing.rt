@@ -109,7 +109,7 @@ fn most_are_shared<S: EntryStore, R: Abort>(rt: &R, alloc: Global, device: Devic
 #[test]
 fn numbers_of_clients(rt: HostRuntime) {
     let alloc = rt.alloc();
-    for most in [1u16, 64] {
+    for most in 1..=64u16 {
         most_are_shared(&rt, alloc, over_vectors(&rt, alloc), most);
         most_are_shared(&rt, alloc, over_cells(&rt, alloc), most);
     }

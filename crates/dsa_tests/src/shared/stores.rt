@@ -2,6 +2,7 @@
 
 ghost use Rattle.std.specs.Prelude.{◌≡◌};
 
+use crate::shared::crew::Crew;
 use crate::shared::crowd::{CROWD, CROWDED_CAPS};
 use crate::shared::playing::Play;
 use crate::shared::soak::{SOAKED_CAPACITY, SOAKED_CAPS, SOAKING_CLIENTS};
@@ -30,6 +31,11 @@ pub enum Trial<'a> {
     BusyRun,
     HistoryFills,
     WorkersMeet,
+    IdleAtFirst,
+    ActiveAtFirst,
+    LongScripts,
+    CrewMeets(Crew),
+    CrewRuns(Crew),
     NothingIsDone,
     RunWithoutMemory,
     Soak,
@@ -42,7 +48,8 @@ impl<'a> Trial<'a> {
         match self {
             Trial::Play(play) | Trial::PlayEnabled(play) => (CAPS, play.capacity, 2),
             Trial::Crowd(play) => (CROWDED_CAPS, play.capacity, CROWD),
-            Trial::BusyRun => (CAPS, 12_000, 2),
+            Trial::CrewMeets(crew) | Trial::CrewRuns(crew) => (crew.caps(), 100, crew.clients),
+            Trial::BusyRun | Trial::LongScripts => (CAPS, 12_000, 2),
             Trial::HistoryFills => (CAPS, 40, 2),
             Trial::Soak => (SOAKED_CAPS, SOAKED_CAPACITY, SOAKING_CLIENTS),
             _ => (CAPS, 100, 2),
@@ -65,6 +72,11 @@ where
             Trial::BusyRun => self.busy_run(),
             Trial::HistoryFills => self.history_fills(),
             Trial::WorkersMeet => self.workers_meet(),
+            Trial::IdleAtFirst => self.engines_are_idle_at_first(),
+            Trial::ActiveAtFirst => self.command_is_active_at_first(),
+            Trial::LongScripts => self.scripts_are_long(),
+            Trial::CrewMeets(crew) => self.crew_meets(crew),
+            Trial::CrewRuns(crew) => self.crew_runs(crew),
             Trial::NothingIsDone => self.nothing_is_done(),
             Trial::RunWithoutMemory => self.run_without_memory(),
             Trial::Soak => self.soaked(),

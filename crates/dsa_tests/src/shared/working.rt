@@ -1,6 +1,6 @@
 //! Workers in threads.
 
-use crate::shared::gates::{Meeting, Passes};
+use crate::shared::gates::{Hold, Holding, Passes, Several};
 use crate::shared::stage::Stage;
 use crate::shared::stores::{Trial, over_both_stores};
 use dsa_book::{Kind, Portal};
@@ -21,6 +21,72 @@ const ENGINE: EngineScript = EngineScript {
     member: NO_OP,
     outcome: Outcome::Success,
 };
+
+// The steps of a long script.
+const LONG: usize = 5_000;
+
+const CLIENTS: Several = Several { first: 0, count: 2 };
+
+const ENGINES: Several = Several { first: 2, count: 2 };
+
+const ADMIN: Several = Several { first: 4, count: 1 };
+
+const ALL: Several = Several { first: 0, count: 5 };
+
+// No worker begins before all have come, and the engines work once the clients are done.
+const MEETING: [Hold; 2] = [
+    Hold {
+        held: ALL,
+        turn: 0,
+        until: ALL,
+        often: 1,
+    },
+    Hold {
+        held: ENGINES,
+        turn: 0,
+        until: CLIENTS,
+        often: 2,
+    },
+];
+
+// The clients begin once the engines have had eight turns, which go on once the clients are done.
+const IDLE_AT_FIRST: [Hold; 2] = [
+    Hold {
+        held: CLIENTS,
+        turn: 0,
+        until: ENGINES,
+        often: 9,
+    },
+    Hold {
+        held: ENGINES,
+        turn: 8,
+        until: CLIENTS,
+        often: 2,
+    },
+];
+
+// The administrator begins once the clients are done. The engines begin once it has had five turns,
+// and it goes on once they have had all theirs.
+const ACTIVE_AT_FIRST: [Hold; 3] = [
+    Hold {
+        held: ADMIN,
+        turn: 0,
+        until: CLIENTS,
+        often: 2,
+    },
+    Hold {
+        held: ENGINES,
+        turn: 0,
+        until: ADMIN,
+        often: 6,
+    },
+    Hold {
+        held: ADMIN,
+        turn: 5,
+        until: ENGINES,
+        often: 101,
+    },
+];
 
 // To the limited portal of a queue.
 fn submission(queue: u16, kind: Kind, desc: Descriptor) -> ClientStep {
@@ -79,10 +145,17 @@ fn busy(rt: &impl Abort, alloc: Global) -> Scripts {
     scripts_of(rt, alloc, moves, posted(rt, alloc, 20), &commands)
 }
 
-// One No-op of each of two clients.
-fn one_each(rt: &impl Abort, alloc: Global) -> Scripts {
+// One No-op of each of two clients, and these commands.
+fn one_each(rt: &impl Abort, alloc: Global, commands: &[Command]) -> Scripts {
     let first = enqueued(rt, alloc, NO_OP, 1);
-    scripts_of(rt, alloc, first, enqueued(rt, alloc, NO_OP, 1), &[])
+    scripts_of(rt, alloc, first, enqueued(rt, alloc, NO_OP, 1), commands)
+}
+
+// So many submissions of each client, and as many commands for a queue that is not there.
+fn long(rt: &impl Abort, alloc: Global) -> Scripts {
+    let commands = Vec::from_elem(alloc, Command::EnableWq(9), LONG).expect(rt, "memory");
+    let first = enqueued(rt, alloc, NO_OP, LONG);
+    scripts_of(rt, alloc, first, posted(rt, alloc, LONG), &commands)
 }
 
 /// Scripts for some numbers of seats, each of one step.
@@ -133,11 +206,12 @@ fn were_busy(rt: &impl Abort, five: Five) {
     claim!(rt; admin.1 != WorkerEnd::HistoryFull);
 }
 
-fn have_met(rt: &impl Abort, five: Five) {
-    let [first, second, _, _, admin] = five;
-    same!(rt; first, (1, WorkerEnd::ScriptDone));
-    same!(rt; second, (1, WorkerEnd::ScriptDone));
-    same!(rt; admin, (0, WorkerEnd::ScriptDone));
+// Each client made its step, and the engines and the administrator had so many turns.
+fn have_met(rt: &impl Abort, five: Five, turns: u32) {
+    let client = (1, WorkerEnd::ScriptDone);
+    let engine = (100, WorkerEnd::TurnsOut);
+    let admin = (turns, WorkerEnd::ScriptDone);
+    same!(rt; five, [client, client, engine, engine, admin]);
 }
 
 // No worker had more than so many turns.
@@ -214,24 +288,42 @@ where
         claim!(rt; client.1 == WorkerEnd::HistoryFull || poster.1 == WorkerEnd::HistoryFull);
     }
 
-    /// One No-op of each of two clients. No worker begins before all have come, and the engines
-    /// work once the clients are done.
-    pub fn workers_meet(self) {
+    // One No-op of each of two clients, and these commands, with workers that are held.
+    fn work_held(&mut self, commands: &[Command], holds: &[Hold]) -> Five {
+        let rt = self.rt;
+        let scripts = one_each(rt, self.alloc, commands);
+        let made = Holding::new(rt, self.alloc, 5, holds);
+        let gate = made.expect(rt, "memory for a gate");
+        let five = self.work(&scripts, &gate, &gate.passes, 100);
+        gate.was_kept(rt);
+        five
+    }
+
+    // The same. All entries are done, and the administrator has had so many turns.
+    fn all_is_done(self, commands: &[Command], holds: &[Hold], turns: u32) {
         let mut stage = self;
         let rt = stage.rt;
-        let five = stage.work_to_meet();
-        have_met(rt, five);
+        let five = stage.work_held(commands, holds);
+        have_met(rt, five, turns);
         let totals = stage.totals();
         same!(rt; (totals.accepted, totals.done, totals.held), (2, 2, 0));
     }
 
-    fn work_to_meet(&mut self) -> Five {
-        let rt = self.rt;
-        let scripts = one_each(rt, self.alloc);
-        let gate = Meeting::new(rt, self.alloc).expect(rt, "memory for a gate");
-        let five = self.work(&scripts, &gate, &gate.passes, 100);
-        gate.was_kept(rt);
-        five
+    /// One No-op of each of two clients. No worker begins before all have come, and the engines
+    /// work once the clients are done.
+    pub fn workers_meet(self) {
+        self.all_is_done(&[], &MEETING, 0);
+    }
+
+    /// The same with engines that find nothing to do at first.
+    pub fn engines_are_idle_at_first(self) {
+        self.all_is_done(&[], &IDLE_AT_FIRST, 0);
+    }
+
+    /// The same with a command that is active until the engines are done: it is issued, four polls
+    /// find it active, and the fifth that it is over.
+    pub fn command_is_active_at_first(self) {
+        self.all_is_done(&[Command::DrainAll], &ACTIVE_AT_FIRST, 6);
     }
 
     // The run of these scripts is refused, for their number.
@@ -272,6 +364,18 @@ where
         self.do_this(&scripts, 0, [(0, WorkerEnd::TurnsOut); 5]);
     }
 
+    /// Scripts of many steps, none of which comes again.
+    pub fn scripts_are_long(self) {
+        let mut stage = self;
+        let rt = stage.rt;
+        let scripts = long(rt, stage.alloc);
+        let done = (LONG as u32, WorkerEnd::ScriptDone);
+        let served = (2 * LONG as u32, WorkerEnd::TurnsOut);
+        stage.do_this(&scripts, served.0, [done, done, served, served, done]);
+        let totals = stage.totals();
+        same!(rt; (totals.accepted, totals.steps), (0, 2 * LONG as u64));
+    }
+
     // Empty scripts.
     fn have_no_steps(&mut self) {
         let alloc = self.alloc;
@@ -306,6 +410,21 @@ fn history_fills_meanwhile(rt: HostRuntime) {
 #[test]
 fn workers_at_the_same_time(rt: HostRuntime) {
     over_both_stores(&rt, rt.alloc(), Trial::WorkersMeet);
+}
+
+#[test]
+fn engines_with_nothing_to_do_at_first(rt: HostRuntime) {
+    over_both_stores(&rt, rt.alloc(), Trial::IdleAtFirst);
+}
+
+#[test]
+fn command_that_is_active_at_first(rt: HostRuntime) {
+    over_both_stores(&rt, rt.alloc(), Trial::ActiveAtFirst);
+}
+
+#[test]
+fn long_scripts(rt: HostRuntime) {
+    over_both_stores(&rt, rt.alloc(), Trial::LongScripts);
 }
 
 #[test]

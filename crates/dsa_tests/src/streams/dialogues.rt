@@ -59,4 +59,5 @@ fn one_error(rt: HostRuntime) {
         ((ALL, ALL), (ALL, 13), WRITE, "nothing\nidle\n", (2, 2)),
     ];
     Way::Dialogue.leads_each(&rt, rt.alloc(), DIALOGUE.as_bytes(), &ROWS);
+    Way::Dialogue.leads_by_each_kind(&rt, rt.alloc(), DIALOGUE.as_bytes(), &ROWS);
 }

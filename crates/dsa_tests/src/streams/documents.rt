@@ -1,9 +1,10 @@
 //! A document from a reader, and its lines to a writer.
 
 use crate::streams::{READ, Row, WRITE, Way};
-use dsa_fixtures::streams::ALL;
-use dsa_scenario::ScenarioFault;
-use std::alloc::Global;
+use dsa_fixtures::streams::{ALL, Course, Narrow, Trickle};
+use dsa_scenario::{ScenarioFault, run_scenario};
+use std::alloc::{AllocError, Global};
+use std::io::ErrorKind;
 use std::process::Abort;
 
 pub const DOCUMENT: &str =
@@ -53,6 +54,7 @@ fn one_error(rt: HostRuntime) {
         ),
     ];
     Way::Document.leads_each(&rt, rt.alloc(), DOCUMENT.as_bytes(), &ROWS);
+    Way::Document.leads_by_each_kind(&rt, rt.alloc(), DOCUMENT.as_bytes(), &ROWS);
 }
 
 // A reader of one byte a call is asked once for each byte up to the first that is too many.
@@ -61,9 +63,65 @@ fn too_long(rt: HostRuntime) {
     const TOO_LONG: Result<(), ScenarioFault> = Err(ScenarioFault::TooLong);
     const ROW: Row = ((1, ALL), (ALL, ALL), TOO_LONG, "", (1_048_577, 0));
     let spaces = spaces(&rt, rt.alloc(), 1_048_600);
-    Way::Document.leads(&rt, rt.alloc(), &spaces, (0, &ROW), false);
+    let works = (false, ErrorKind::Other);
+    Way::Document.leads(&rt, rt.alloc(), &spaces, (0, &ROW), works);
 }
 
 fn spaces(rt: &impl Abort, alloc: Global, count: usize) -> Vec<u8> {
     Vec::from_elem(alloc, b' ', count).expect(rt, "memory for spaces")
+}
+
+// A document of so many polls, on the smallest device.
+fn polls(alloc: Global, count: usize) -> Result<Vec<u8>, AllocError> {
+    let mut bytes = Vec::new(alloc);
+    bytes.extend_from_slice(HEAD.as_bytes())?;
+    for i in 0..count {
+        if i > 0 {
+            bytes.push(b',')?;
+        }
+        bytes.extend_from_slice(b"{\"do\":\"poll\"}")?;
+    }
+    bytes.extend_from_slice(b"]}")?;
+    Ok(bytes)
+}
+
+const HEAD: &str = concat!(
+    r#"{"caps":{"queues":1,"groups":1,"engines":1,"total_size":1,"read_buffers":4,"#,
+    r#""slots":1,"max_batch_shift":1,"max_xfer_shift":0},"capacity":9,"steps":["#,
+);
+
+// How long the line of a poll is, with its line feed.
+const LINE: usize = 8;
+
+// What so many polls come to: the result, how many bytes were written, and how often the writer was
+// asked, which fails once after so many bytes.
+fn written(
+    rt: &impl Abort,
+    alloc: Global,
+    count: usize,
+    taken: usize,
+) -> (Result<(), ScenarioFault>, usize, u32) {
+    let bytes = polls(alloc, count).expect(rt, "memory for polls");
+    let mut reader = Trickle::new(&bytes, Course::new((ALL, ALL), false));
+    let mut writer = Narrow::new(alloc, Course::new((ALL, taken), true));
+    let result = run_scenario(alloc, &mut reader, &mut writer);
+    (result, writer.taken.len(), writer.calls)
+}
+
+// A text of each length is written at once.
+#[test]
+fn each_length(rt: HostRuntime) {
+    for count in 1..1_200 {
+        let found = written(&rt, rt.alloc(), count, ALL);
+        same!(&rt; found, (Ok(()), count * LINE, 1), count);
+    }
+}
+
+// Of a long text too, nothing is written after a call that fails.
+#[test]
+fn a_long_text(rt: HostRuntime) {
+    for taken in [1, 4_096, 100_000] {
+        same!(&rt; written(&rt, rt.alloc(), 20_000, taken), (WRITE, taken, 2), taken);
+    }
+    same!(&rt; written(&rt, rt.alloc(), 20_000, 0), (WRITE, 0, 1));
 }

@@ -25,13 +25,34 @@ returns-clause-not_ended c is =
     absurd cc
 
 pub returns-clause-array : goal.returns-clause-array
-returns-clause-array c = record { at = 2; there = refl; line_there = refl; column_there = refl }
+unfolding serde_json_on_literals
+returns-clause-array c = record {
+  at = 2;
+  there = refl;
+  goes_on = (_, record { utf8 = (codes "[1,0]", (refl, refl)); value = refl });
+  line_there = refl;
+  column_there = refl;
+}
 
 pub returns-clause-object : goal.returns-clause-object
-returns-clause-object c = record { at = 2; there = refl; line_there = refl; column_there = refl }
+unfolding serde_json_on_literals
+returns-clause-object c = record {
+  at = 2;
+  there = refl;
+  goes_on = (_, record { utf8 = (codes "{\"\":0,\"\":0}", (refl, refl)); value = refl });
+  line_there = refl;
+  column_there = refl;
+}
 
 pub returns-clause-quote : goal.returns-clause-quote
-returns-clause-quote c = record { at = 2; there = refl; line_there = refl; column_there = refl }
+unfolding serde_json_on_literals
+returns-clause-quote c = record {
+  at = 2;
+  there = refl;
+  goes_on = (_, record { utf8 = (codes "\"\"", (refl, refl)); value = refl });
+  line_there = refl;
+  column_there = refl;
+}
 
 pub returns-clause-another : goal.returns-clause-another
 returns-clause-another c = tt

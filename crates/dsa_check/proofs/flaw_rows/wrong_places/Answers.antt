@@ -7,20 +7,31 @@ use Rattle.dsa_check.specs.declared.syntax.Piece.TheVariants.{Control, Tab}
 use Rattle.dsa_check.specs.Places.{line_after}
 
 pub returns-clause-deep : goal.returns-clause-deep
-unfolding serde_json_on_literals
-returns-clause-deep c =
-    (refl, (codes "]", (_, record { utf8 = (codes "[0]", (refl, refl)); value = refl })))
+returns-clause-deep c before many wanted = (omega (arith, many), refl, wanted)
+
+pub returns-clause-less_deep : goal.returns-clause-less_deep
+returns-clause-less_deep c before few is =
+    let many = is.0 in
+    absurd (omega (arith, few, many))
 
 pub returns-clause-no_bracket : goal.returns-clause-no_bracket
-returns-clause-no_bracket c is =
-    let bracket : false ≡ true = is.0 in
+returns-clause-no_bracket c before is =
+    let bracket : false ≡ true = is.1 in
     absurd cc
 
 pub returns-clause-no_value : goal.returns-clause-no_value
-unfolding serde_json_on_literals
 returns-clause-no_value c is =
-    let value = is.1.1.1.value in
+    let many = is.0 in
+    absurd (omega (arith, many))
+
+pub returns-clause-no_value_in_many : goal.returns-clause-no_value_in_many
+unfolding serde_json_on_literals
+returns-clause-no_value_in_many c is =
+    let value = is.2.1.1.value in
     absurd cc
+
+pub returns-clause-openings : goal.returns-clause-openings
+returns-clause-openings c = refl
 
 -- after the comma there is one blank
 blank : (i : ℕ) → 3 ≤ i → i < 4 → is_ascii_whitespace (slice_index (codes "[1, ") i) ≡ true

@@ -44,10 +44,7 @@ returns-clause-all_of_utf8 c is =
 
 pub returns-clause-syntax : goal.returns-clause-syntax
 unfolding serde_json_on_literals
-returns-clause-syntax c = (
-  (codes "]", (_, record { utf8 = (codes "[]", (refl, refl)); value = refl })),
-  (refl, (codes "]", (_, record { utf8 = (codes "[0]", (refl, refl)); value = refl }))),
-)
+returns-clause-syntax c = ((codes "]", (_, record { utf8 = (codes "[]", (refl, refl)); value = refl })), refl)
 
 pub returns-clause-no_front : goal.returns-clause-no_front
 unfolding serde_json_on_literals
@@ -57,7 +54,7 @@ returns-clause-no_front c is =
 
 pub returns-clause-other_syntax : goal.returns-clause-other_syntax
 returns-clause-other_syntax c is =
-    let bracket : false ≡ true = is.1.0 in
+    let sign : false ≡ true = is.1 in
     absurd cc
 
 pub returns-clause-other_reason : goal.returns-clause-other_reason
@@ -69,8 +66,14 @@ returns-clause-place c finding line column told = record {
   line = line;
   column = column;
   reasons = rw told (one_valid, tt);
+  few = rw told (lit≤ tt);
   of_utf8 = λ no. told;
 }
+
+pub returns-clause-twice : goal.returns-clause-twice
+returns-clause-twice c finding told is =
+    let few = rw told at is.few in
+    absurd (omega (arith, few))
 
 pub returns-clause-untold : goal.returns-clause-untold
 returns-clause-untold c finding none is =

@@ -12,5 +12,6 @@ returns-clause-told c =
     let begins : BeginJson (take at bytes) = rw (← c.split_at.ensures.front) (c.in_ok-begins_json.ensures.begun yes) in
     let syntax : IsSyntaxAt (take at bytes) (drop at bytes) c.in_ok-syntax.syntax =
     rw (← c.split_at.ensures.front, ← c.split_at.ensures.back)
-    (c.in_ok-syntax.ensures (c.in_ok-begins_json.ensures.wanted yes) c.moved_to-begin.ensures.spot) in
+    (c.in_ok-syntax.ensures (c.in_ok-begins_json.ensures.wanted yes) c.in_ok-begin.ensures.spot
+    c.in_ok-begin.ensures.goes_on) in
     one_wrong bytes at _ c.in_ok-vec-2.field-0.items c.in_ok-vec-2.ensures.items (begins, syntax)

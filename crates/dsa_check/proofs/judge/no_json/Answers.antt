@@ -11,6 +11,7 @@ returns-clause-told c =
         line = ap Some flaw.ensures.spot.line;
         column = ap Some flaw.ensures.spot.column;
         reasons = flaw.ensures.told;
+        few = flaw.ensures.few;
         of_utf8 = flaw.ensures.of_utf8;
       },
       tt,

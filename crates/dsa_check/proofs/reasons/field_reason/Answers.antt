@@ -1,6 +1,8 @@
 use Rattle.dsa_check.proofs.reasons.field_reason.Goals as goal
-use Rattle.std.proofs.Common.{refl}
-use Rattle.dsa_check.proofs.Told.{missing_at, misspelled_at}
+use Rattle.std.proofs.Common.{map, refl}
+use Rattle.serde_json.specs.View.{view}
+use Rattle.dsa_check.specs.Steps.{row_of_field}
+use Rattle.dsa_check.proofs.Told.{missing_at, misspelled_at, unfit_at}
 
 pub returns-in-Some-3-clause-so : goal.returns-in-Some-3-clause-so
 returns-in-Some-3-clause-so c =
@@ -10,3 +12,8 @@ returns-in-Some-3-clause-so c =
 pub returns-in-None-2-clause-so : goal.returns-in-None-2-clause-so
 returns-in-None-2-clause-so c = missing_at _ _ _ _ _ refl refl c.in-None.ensures
     (rw c.in-None-2.is at c.in_ok-found-in-None.ensures.nearest)
+
+pub returns-in-Some-2-clause-so : goal.returns-in-Some-2-clause-so
+returns-in-Some-2-clause-so c =
+    unfit_at (view c.args.object.now) (map row_of_field c.args.fields.now) c.args.in_caps (row_of_field c.args.field) _
+    (view c.in-Some.value.now) c.unfit_reason.result c.unfit_reason.ensures refl refl c.in-Some.ensures

@@ -6,8 +6,8 @@ use Rattle.dsa_check.specs.declared.finding.Finding.{Finding}
 use Rattle.dsa_check.specs.Findings.{TellsStep}
 
 pub returns-clause-of_the_item : goal.returns-clause-of_the_item
-returns-clause-of_the_item c finding fault kind line told =
-    (fault, record { kind = kind; reasons = told; line = rw line tt })
+returns-clause-of_the_item c finding fault kind nowhere told =
+    (fault, record { kind = kind; reasons = told; line = rw nowhere.no_line tt; column = nowhere.no_column })
 
 pub returns-clause-of_another : goal.returns-clause-of_another
 returns-clause-of_another c finding fault is =
@@ -20,8 +20,8 @@ returns-clause-of_a_kind c finding kind is =
     absurd cc
 
 pub returns-clause-of_one : goal.returns-clause-of_one
-returns-clause-of_one c finding fault kind line told =
-    (0, fault, record { kind = kind; reasons = told; line = rw line tt })
+returns-clause-of_one c finding fault kind nowhere told =
+    (0, fault, record { kind = kind; reasons = told; line = rw nowhere.no_line tt; column = nowhere.no_column })
 
 -- the one item is the first, and of no kind
 first : (i : ℕ) (finding : Finding) → IsSomeAnd (slice_get (null ∷ []) i) (TellsStep [] finding)

@@ -56,9 +56,9 @@ returns-clause-other_reason c are = are.0.so
 
 pub returns-clause-no_kind : goal.returns-clause-no_kind
 returns-clause-no_kind c key name holder =
-    record { key = key; named = name; holder = holder; so = refl; stray = tt; near = refl }
+    (refl, record { key = key; named = name; holder = holder; so = refl; stray = tt; near = refl })
 
 pub returns-clause-misspelled_kind : goal.returns-clause-misspelled_kind
 returns-clause-misspelled_kind c key text are =
-    let inside = are.stray.inside in
+    let inside = are.1.stray.inside in
     absurd cc

@@ -6,11 +6,11 @@ pub returns-clause-zeros : goal.returns-clause-zeros
 returns-clause-zeros c asked steps run = omega (arith, run.accepted_one)
 
 pub returns-clause-no_setup : goal.returns-clause-no_setup
-returns-clause-no_setup c asked clients engines seats =
+returns-clause-no_setup c caps capacity asked clients engines seats =
     omega (arith, ap (λ (l : List Step). length l) seats.setup)
 
 pub returns-clause-no_clients : goal.returns-clause-no_clients
-returns-clause-no_clients c engines admin seats = omega (arith, seats.client_count)
+returns-clause-no_clients c caps capacity engines admin seats = omega (arith, seats.client_count)
 
 pub returns-clause-no_engines : goal.returns-clause-no_engines
-returns-clause-no_engines c clients admin seats = omega (arith, seats.engine_count)
+returns-clause-no_engines c caps capacity clients admin seats = omega (arith, seats.engine_count)

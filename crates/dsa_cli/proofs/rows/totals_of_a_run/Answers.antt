@@ -57,7 +57,7 @@ script = move_under 1 ∷ move_under 1 ∷ move_under 1 ∷ []
 submits : Submits 1 (move_under 1)
 submits = record { queue = refl; portal = refl; kind = refl; bytes = refl }
 
-client_ran : RanAsClient (load 1 2 3 4) 0 (record { number = 0; receipts = three_moves })
+client_ran : RanAsClient (caps_for 2) 20 (load 1 2 3 4) 0 (record { number = 0; receipts = three_moves })
 client_ran = (
   script,
   record { turns = 3; ended = ScriptDone },
@@ -124,7 +124,7 @@ module _ (e cell name : ℕ) where
 
   engine_ran : IsCallAnswered (caps_for 2) 20 [] taken → IsCallAnswered (caps_for 2) 20 (taken ∷ []) no_fetch
       → IsCallAnswered (caps_for 2) 20 (taken ∷ []) no_start → IsCallAnswered (caps_for 2) 20 (taken ∷ []) ended
-      → RanAsEngine (load 1 2 3 4) e (record { number = e; receipts = entry_worked_off e cell name })
+      → RanAsEngine (caps_for 2) 20 (load 1 2 3 4) e (record { number = e; receipts = entry_worked_off e cell name })
   engine_ran one two three last = (
     record { turns = 4; ended = TurnsOut },
     record {
@@ -151,14 +151,16 @@ before_first = setup_steps 2 ++ three_moves
 abbrev before_second : List Step
 before_second = setup_steps 2 ++ three_moves ++ entry_worked_off 0 3 0
 
-first_engine_ran : RanAsEngine (load 1 2 3 4) 0 (record { number = 0; receipts = entry_worked_off 0 3 0 })
+first_engine_ran : RanAsEngine (caps_for 2) 20 (load 1 2 3 4) 0
+    (record { number = 0; receipts = entry_worked_off 0 3 0 })
 first_engine_ran = engine_ran 0 3 0
     (answered [] before_first (taken 0 3 0) (lit≤ tt) refl (lit≤ tt) refl)
     (answered (taken 0 3 0 ∷ []) (before_first ++ taken 0 3 0 ∷ []) (no_fetch 0 3 0) (lit≤ tt) refl (lit≤ tt) refl)
     (answered (taken 0 3 0 ∷ []) (before_first ++ taken 0 3 0 ∷ []) (no_start 0 3 0) (lit≤ tt) refl (lit≤ tt) refl)
     (answered (taken 0 3 0 ∷ []) (before_first ++ taken 0 3 0 ∷ []) (ended 0 3 0) (lit≤ tt) refl (lit≤ tt) refl)
 
-second_engine_ran : RanAsEngine (load 1 2 3 4) 1 (record { number = 1; receipts = entry_worked_off 1 5 1 })
+second_engine_ran : RanAsEngine (caps_for 2) 20 (load 1 2 3 4) 1
+    (record { number = 1; receipts = entry_worked_off 1 5 1 })
 second_engine_ran = engine_ran 1 5 1
     (answered [] before_second (taken 1 5 1) (lit≤ tt) refl (lit≤ tt) refl)
     (answered (taken 1 5 1 ∷ []) (before_second ++ taken 1 5 1 ∷ []) (no_fetch 1 5 1) (lit≤ tt) refl (lit≤ tt) refl)
@@ -185,11 +187,11 @@ returns-clause-totals c = record {
   accepted = lit≤ tt;
   accepted_one = lit≤ tt;
   client_runs = below_one
-      (λ n. RanAsClient (load 1 2 3 4) n
+      (λ n. RanAsClient (caps_for 2) 20 (load 1 2 3 4) n
       (record { number = n; receipts = steps_of_actor steps_of_three_moves (Client n) }))
       client_ran;
   engine_runs = below_two
-      (λ n. RanAsEngine (load 1 2 3 4) n
+      (λ n. RanAsEngine (caps_for 2) 20 (load 1 2 3 4) n
       (record { number = n; receipts = steps_of_actor steps_of_three_moves (Engine n) }))
       first_engine_ran second_engine_ran;
 }
@@ -209,8 +211,9 @@ returns-clause-seats c = record {
       all_submitted client less;
   setup = refl;
   client_runs = λ client other less. below_one
-      (λ n. RanAsClient (load 1 2 3 4) n (slice_index_or client_seats_after n other)) client_ran client less;
+      (λ n. RanAsClient (caps_for 2) 20 (load 1 2 3 4) n (slice_index_or client_seats_after n other)) client_ran
+      client less;
   engine_runs = λ engine other less. below_two
-      (λ n. RanAsEngine (load 1 2 3 4) n (slice_index_or engine_seats_after n other))
+      (λ n. RanAsEngine (caps_for 2) 20 (load 1 2 3 4) n (slice_index_or engine_seats_after n other))
       first_engine_ran second_engine_ran engine less;
 }

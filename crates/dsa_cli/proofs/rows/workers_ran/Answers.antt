@@ -16,7 +16,7 @@ use Rattle.dsa_workers.specs.declared.scripts.ClientStep.{ClientStep}
 use Rattle.dsa_workers.specs.declared.scripts.WorkerEnd.{WorkerEnd}
 use Rattle.dsa_workers.specs.declared.scripts.WorkerEnd.TheVariants.{ScriptDone, TurnsOut, HistoryFull}
 use Rattle.dsa_cli.specs.declared.options.Workload.{Workload}
-use Rattle.dsa_cli.specs.Threads.{RanAsClient, RanAsEngine, caps_for, capacity_for}
+use Rattle.dsa_cli.specs.Threads.{RanAsClient, RanAsEngine}
 use Rattle.dsa_cli.specs.Worked.{load, page_move_bytes, two_retries}
 use Rattle.dsa_cli.proofs.ThreadTotals.{filter_kept}
 
@@ -58,9 +58,10 @@ ended_out TurnsOut not_done room = refl
 ended_out HistoryFull not_done room = absurd (room refl)
 
 -- a client made a step in each turn, or is through with its script
-client_went_on : (load : Workload) (c : ℕ) (seat : SeatLog) → RanAsClient load c seat
+client_went_on : (caps : Caps) (capacity : ℕ) (load : Workload) (c : ℕ) (seat : SeatLog)
+    → RanAsClient caps capacity load c seat
     → (length seat.receipts ≡ load.turns) ⊎ (steps_done seat.receipts ≡ load.each)
-client_went_on load c seat ran =
+client_went_on caps capacity load c seat ran =
     let script = ran.0 in
     let stint = ran.1 in
     let runs = ran.4.runs in
@@ -69,11 +70,10 @@ client_went_on load c seat ran =
     let none : found_full calls ≡ 0 = no_full (found_full calls) (λ more. ran.5 (runs.full.1 more)) in
     let kept : stored_steps calls ≡ calls = filter_kept (λ (call : Step). is_stored call.reply) calls (λ k d lt.
     let next = runs.in_order k d lt in
-    let caps = caps_for load.engines in
     let receipts = stored_steps (take k calls) in
-    stored_submit caps (capacity_for load) receipts c (get_or script (steps_done (take k calls)) some)
+    stored_submit caps capacity receipts c (get_or script (steps_done (take k calls)) some)
     (get_or calls k d).reply
-    (subst (λ (e : Event). IsAnsweredFor caps (capacity_for load) receipts e (get_or calls k d).reply) (next.1 some)
+    (subst (λ (e : Event). IsAnsweredFor caps capacity receipts e (get_or calls k d).reply) (next.1 some)
     next.0) (none_found calls none k d lt)) in
     let all : seat.receipts ≡ calls = runs.receipts ∙ kept in
     ends stint.ended
@@ -95,25 +95,26 @@ client_went_on load c seat ran =
     ends HistoryFull turns done full = absurd (full refl)
 
 -- an engine had all its turns
-engine_went_on : (load : Workload) (e : ℕ) (seat : SeatLog) (ran : RanAsEngine load e seat)
+engine_went_on : (caps : Caps) (capacity : ℕ) (load : Workload) (e : ℕ) (seat : SeatLog)
+    (ran : RanAsEngine caps capacity load e seat)
     → ran.0.turns ≡ load.turns
-engine_went_on load e seat ran = ran.1.out_of_turns (ended_out ran.0.ended ran.1.unscripted ran.2)
+engine_went_on caps capacity load e seat ran = ran.1.out_of_turns (ended_out ran.0.ended ran.1.unscripted ran.2)
 
 pub returns-clause-client : goal.returns-clause-client
-returns-clause-client c asked client seat ran = client_went_on asked client seat ran
+returns-clause-client c caps capacity asked client seat ran = client_went_on caps capacity asked client seat ran
 
 pub returns-clause-engine : goal.returns-clause-engine
-returns-clause-engine c asked e seat ran = engine_went_on asked e seat ran
+returns-clause-engine c caps capacity asked e seat ran = engine_went_on caps capacity asked e seat ran
 
 pub returns-clause-idle_client : goal.returns-clause-idle_client
-returns-clause-idle_client c ran = elim (client_went_on (load 1 1 1 1) 0 (fresh 0) ran) [
+returns-clause-idle_client c caps capacity ran = elim (client_went_on caps capacity (load 1 1 1 1) 0 (fresh 0) ran) [
   | inl turns ↦ omega (arith, turns)
   | inr done ↦ omega (arith, done)
 ]
 
 pub returns-clause-half_the_turns : goal.returns-clause-half_the_turns
-returns-clause-half_the_turns c ran =
-    elim (client_went_on (load 1 1 3 4) 0 (record { number = 0; receipts = two_retries }) ran) [
+returns-clause-half_the_turns c caps capacity ran =
+    elim (client_went_on caps capacity (load 1 1 3 4) 0 (record { number = 0; receipts = two_retries }) ran) [
       | inl turns ↦ omega (arith, turns)
       | inr done ↦ omega (arith, done)
     ]

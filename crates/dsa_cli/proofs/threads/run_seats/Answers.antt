@@ -14,9 +14,8 @@ returns-then-none_full-clause-ok g c =
     (c.none_full.ensures.0 c.if-none_full.true) in
     let begun : c.in-Some.admin.now ≡ [] = search rules in
     let done : c.set_up.result ≡ true = search rules in
-    have_worked _ _ c.args.load.now c.in_ok-scripts.scripts _ _ _ _ _ _ _ _ _ _ c.requires.sharing.0
-    c.requires.sharing.1 c.requires.clients c.requires.engines
-    c.in_ok-scripts.ensures
+    have_worked _ _ c.args.load.now c.in_ok-scripts.scripts _ _ _ _ _ _ _ _ _ _
+    c.requires.clients c.requires.engines c.in_ok-scripts.ensures
     refl (c.set_up.ensures.done done ∙ ap (λ (l : List Step). l ++ setup_steps c.args.load.now.engines) begun)
     ran.back.0 ran.back.1 ran.clients ran.engines ran.admin
     (λ k lt. none k TurnsOut (omega (arith, lt, ran.items.1)))

@@ -16,6 +16,7 @@ returns-clause-each g c = λ q i.
           inr (
             c.in-Some.entry,
             subst (λ k. offer w c.args.engine k ≡ Some c.in-Some.entry) same (sym c.offer.ensures ∙ c.in-Some.is),
+            sym c.in_ok-is_shown.ensures ∙ c.if-not-branch.false,
           )
     ]
 

@@ -9,4 +9,5 @@ abbrev pub invariant-loop-queue : goal.invariant-loop-queue
 invariant-loop-queue g l =
     ((q : ℕ) → (entry : Record) → q < l.queue → offer l.device.state.work l.engine q ≡ Some entry
     → shows (seen_as l.seen) entry ≡ true → In q l.found.items)
-    × ((q : ℕ) → In q l.found.items → (entry : Record) × (offer l.device.state.work l.engine q ≡ Some entry))
+    × ((q : ℕ) → In q l.found.items → (entry : Record) × (offer l.device.state.work l.engine q ≡ Some entry)
+    × (shows (seen_as l.seen) entry ≡ true))

@@ -7,7 +7,7 @@ use Rattle.std.proofs.Common.{◌≡◌, ◌∙◌, ℕ, true, [], ◌∷◌, Ok
 use Rattle.std.specs.{Prelude.{unwrap_or}, Fmt.{digits}}
 use Rattle.dsa_base.specs.Lists.{In}
 use Rattle.dsa_scenario.specs.{declared.run.Record.{Record}, Worked.{stepped}}
-use Rattle.dsa_conform.specs.{Allowed.{IsAllowed}, Seen.{shows}, Ways.{queue_of_record}}
+use Rattle.dsa_conform.specs.{Allowed.{IsAllowed}, Seen.{shows}, Ways.{IsTakenAsSeen, queue_of_record}}
 use Rattle.dsa_conform.specs.Worked.{answered, from_first, from_second, after_all, nothing_seen, smallest_device_at_first, way_at_first}
 use Rattle.dsa_conform.proofs.{RowRuns.{only_nothing}, RowWays.{none_covered, poll_covered}}
 use Rattle.dsa_conform.proofs.RowTakes.{either_entry, first_allowed, second_allowed, none_allowed}
@@ -100,8 +100,18 @@ returns-clause-one_seen c first second is also shown shown_too =
     subst (λ queue. queue_of_record first ≡ queue) (sym (of_second second also shown_too)) (of_second first is shown)
 
 pub returns-clause-second : goal.returns-clause-second
-returns-clause-second c =
-    ((λ entry is shown. (2, inl refl, of_second entry is shown)), (from_second, second_allowed))
+unfolding digits
+returns-clause-second c = ((λ entry is shown. (2, inl refl, of_second entry is shown)), told)
+  where
+    told : (queue : ℕ) → In queue (2 ∷ [])
+        → IsTakenAsSeen after_all (Ok (event.Dispatch 0)) (answered (codes "taken from 2")) queue
+    told queue (inl same) = (from_second, second_allowed, refl, ap (λ k. Some k) same)
+    told queue (inr none) = absurd none
+
+pub returns-clause-one_not_seen : goal.returns-clause-one_not_seen
+returns-clause-one_not_seen c is =
+    let first = is.1 0 (inl refl) in
+    omega (arith, ap (λ queue. unwrap_or queue 9) (sym first.3 ∙ of_second first.0 first.1 first.2))
 
 pub returns-clause-both : goal.returns-clause-both
 returns-clause-both c = (
@@ -109,11 +119,16 @@ returns-clause-both c = (
       (λ entry. shows nothing_seen entry ≡ true
       → (queue : ℕ) × In queue (0 ∷ 2 ∷ []) × (queue_of_record entry ≡ Some queue))
       (λ shown. (0, inl refl, refl)) (λ shown. (2, inr (inl refl), refl)),
-  (from_first, first_allowed),
+  told,
 )
+  where
+    told : (queue : ℕ) → In queue (0 ∷ 2 ∷ []) → IsTakenAsSeen after_all (Ok (event.Dispatch 0)) nothing_seen queue
+    told queue (inl same) = (from_first, first_allowed, refl, ap (λ k. Some k) same)
+    told queue (inr (inl same)) = (from_second, second_allowed, refl, ap (λ k. Some k) same)
+    told queue (inr (inr none)) = absurd none
 
 pub returns-clause-none_allowed : goal.returns-clause-none_allowed
-returns-clause-none_allowed c is = none_allowed is.1.0 is.1.1
+returns-clause-none_allowed c is = let one = is.1 0 (inl refl) in none_allowed one.0 one.1
 
 pub returns-clause-covered : goal.returns-clause-covered
 returns-clause-covered c t = poll_covered nothing_seen t (way_at_first 9 t ∷ []) (inl refl)

@@ -1,23 +1,8 @@
 use Rattle.dsa_explain_rows.proofs.alike.replies_alike.Goals as goal
 use Rattle.std.proofs.Common.{ap, arith, refl}
 
-pub returns-clause-accepted : goal.returns-clause-accepted
-returns-clause-accepted c = refl
-
-pub returns-clause-fetched : goal.returns-clause-fetched
-returns-clause-fetched c = refl
-
 pub returns-clause-other_queues : goal.returns-clause-other_queues
 returns-clause-other_queues c same = absurd (omega (arith, same))
-
-pub returns-clause-same : goal.returns-clause-same
-returns-clause-same c = refl
-
-pub returns-clause-other_name : goal.returns-clause-other_name
-returns-clause-other_name c alike = omega (arith, alike)
-
-pub returns-clause-other_member : goal.returns-clause-other_member
-returns-clause-other_member c alike = omega (arith, alike)
 
 pub returns-clause-one_queue : goal.returns-clause-one_queue
 returns-clause-one_queue c alike = omega (arith, ap (λ ticket. ticket.name) (alike refl))

@@ -33,8 +33,5 @@ none (suc q) = refl
 pub returns-clause-at_rest : goal.returns-clause-at_rest
 returns-clause-at_rest c = record { device = refl; queues = none }
 
-pub returns-clause-device_stops : goal.returns-clause-device_stops
-returns-clause-device_stops c rest = grind (arith, rest.device)
-
 pub returns-clause-queue_stops : goal.returns-clause-queue_stops
 returns-clause-queue_stops c rest = grind (arith, rest.queues 0)

@@ -1,10 +1,11 @@
 use Rattle.dsa_explain_rows.proofs.alike.tickets_alike.Goals as goal
-use Rattle.std.proofs.Common.{◌≡◌, ◌<◌, ℕ, List, [], ◌∷◌, ap, arith, inl, inr, lit≤, refl, subst, sym}
-use Rattle.std.specs.Prelude.{find, Some, ◌==◌}
+use Rattle.std.proofs.Common.{◌≡◌, ◌<◌, List, [], ◌∷◌, ap, arith, inl, inr, lit≤, refl, subst, sym}
+use Rattle.std.specs.Prelude.{find, false, None, Some, ◌==◌}
 use Rattle.dsa_base.specs.Lists.{In}
 use Rattle.dsa_store.specs.Content.{HeldEntry, all_held}
 use Rattle.dsa_book.specs.{declared.answer.Ticket.{Ticket}, State.{ticket_of_entry}}
-use Rattle.dsa_worked.specs.Setup.{ticket}
+use Rattle.dsa_worked.specs.Setup.{held_entry, no_op, ticket}
+use Rattle.dsa_worked.proofs.Bounded.{in_one}
 use Rattle.dsa_explain_rows.specs.Alike.{one_in}
 
 pub returns-clause-there : goal.returns-clause-there
@@ -35,15 +36,6 @@ returns-clause-ends c = (
     second pair (inl is) = sym (ap (λ held. held.0) is)
     second pair (inr none) = absurd none
 
-pub returns-clause-engines : goal.returns-clause-engines
-returns-clause-engines c asks = omega (arith, asks.0)
-
-pub returns-clause-outcomes : goal.returns-clause-outcomes
-returns-clause-outcomes c asks = grind (arith, asks.1)
-
-pub returns-clause-names : goal.returns-clause-names
-returns-clause-names c asks = omega (arith, asks.2)
-
 pub returns-clause-first_cell : goal.returns-clause-first_cell
 returns-clause-first_cell c asks = omega (arith, ap (λ cell. cell.0) (asks.3 _ (inl refl) refl))
 
@@ -54,36 +46,33 @@ returns-clause-second_cell c asks = omega (arith, ap (λ cell. cell.0) (asks.4 _
 abbrev two : List Ticket
 two = ticket 4 0 ∷ ticket 2 9 ∷ []
 
-found : (pair : HeldEntry) → In pair (all_held (one_in 2 9))
-    → find (λ (t : Ticket). t.name == pair.1.name) two ≡ Some (ticket_of_entry pair)
-found pair (inl is) =
-    subst (λ (held : HeldEntry). find (λ (t : Ticket). t.name == held.1.name) two ≡ Some (ticket_of_entry held)) is refl
-found pair (inr none) = absurd none
+-- what these tickets have for the only entry that is held
+found : (tickets : List Ticket) (held : HeldEntry)
+    → find (λ (t : Ticket). t.name == held.1.name) tickets ≡ Some (ticket_of_entry held)
+    → (pair : HeldEntry) → In pair (held ∷ [])
+    → find (λ (t : Ticket). t.name == pair.1.name) tickets ≡ Some (ticket_of_entry pair)
+found tickets = in_one (λ held. find (λ (t : Ticket). t.name == held.1.name) tickets ≡ Some (ticket_of_entry held))
 
-below : (t : Ticket) → In t two → t.name < 10
-below t (inl is) = omega (arith, ap (λ (other : Ticket). other.name) is)
-below t (inr (inl is)) = omega (arith, ap (λ (other : Ticket). other.name) is)
-below t (inr (inr none)) = absurd none
+-- each of two tickets has a name that was given
+below : (a b : Ticket) → a.name < 10 → b.name < 10 → (t : Ticket) → In t (a ∷ b ∷ []) → t.name < 10
+below a b first second t (inl is) = subst (λ (it : Ticket). it.name < 10) is first
+below a b first second t (inr (inl is)) = subst (λ (it : Ticket). it.name < 10) is second
+below a b first second t (inr (inr none)) = absurd none
 
 pub returns-clause-given : goal.returns-clause-given
-returns-clause-given c = record { found = found; below = below }
+returns-clause-given c = record {
+  found = found two (held_entry 2 9 None no_op 0 false) refl;
+  below = below (ticket 4 0) (ticket 2 9) (lit≤ tt) (lit≤ tt);
+}
 
 abbrev later : List Ticket
 later = ticket 6 9 ∷ ticket 2 8 ∷ []
 
-found_later : (pair : HeldEntry) → In pair (all_held (one_in 2 8))
-    → find (λ (t : Ticket). t.name == pair.1.name) later ≡ Some (ticket_of_entry pair)
-found_later pair (inl is) =
-    subst (λ (held : HeldEntry). find (λ (t : Ticket). t.name == held.1.name) later ≡ Some (ticket_of_entry held)) is refl
-found_later pair (inr none) = absurd none
-
-below_ten : (t : Ticket) → In t later → t.name < 10
-below_ten t (inl is) = omega (arith, ap (λ (other : Ticket). other.name) is)
-below_ten t (inr (inl is)) = omega (arith, ap (λ (other : Ticket). other.name) is)
-below_ten t (inr (inr none)) = absurd none
-
 pub returns-clause-given_a_later_name : goal.returns-clause-given_a_later_name
-returns-clause-given_a_later_name c = record { found = found_later; below = below_ten }
+returns-clause-given_a_later_name c = record {
+  found = found later (held_entry 2 8 None no_op 0 false) refl;
+  below = below (ticket 6 9) (ticket 2 8) (lit≤ tt) (lit≤ tt);
+}
 
 pub returns-clause-not_given : goal.returns-clause-not_given
 returns-clause-not_given c given = grind (arith, given.found _ (inl refl))

@@ -45,9 +45,6 @@ returns-clause-full c = record {
   replayed = refl;
 }
 
-pub returns-clause-steps_lost : goal.returns-clause-steps_lost
-returns-clause-steps_lost c is = grind (arith, is.added)
-
 pub returns-clause-no_step : goal.returns-clause-no_step
 returns-clause-no_step c is =
     let none : [] ≡ is.steps = is.added in
@@ -61,9 +58,6 @@ returns-clause-not_full c is =
 
 pub returns-clause-other_caps : goal.returns-clause-other_caps
 returns-clause-other_caps c is = omega (arith, ap (λ caps. caps.queues) is.same_caps)
-
-pub returns-clause-other_capacity : goal.returns-clause-other_capacity
-returns-clause-other_capacity c is = omega (arith, is.same_capacity)
 
 pub returns-clause-other_history : goal.returns-clause-other_history
 returns-clause-other_history c is =

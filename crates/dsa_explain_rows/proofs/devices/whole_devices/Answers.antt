@@ -1,34 +1,23 @@
 use Rattle.dsa_explain_rows.proofs.devices.whole_devices.Goals as goal
-use Rattle.std.proofs.Common.{ap, arith, lit≤, refl}
-use Rattle.std.specs.Prelude.{get_or}
+use Rattle.std.proofs.Common.{[], ap, arith, lit≤, refl}
+use Rattle.std.specs.Prelude.{get_or, replicate}
 use Rattle.dsa_store.specs.Content.{held_count}
-use Rattle.dsa_worked.specs.Uneven.{many_queues}
-use Rattle.dsa_engines.specs.Engines.{IsInStep, engines_at_first}
+use Rattle.dsa_book.specs.State.{opening_setup}
+use Rattle.dsa_worked.{proofs.Parts.{in_step_while_off}, specs.Uneven.{many_queues}}
+use Rattle.dsa_engines.specs.Engines.{engines_at_first}
 use Rattle.dsa_device.specs.Running.{IsWholeDevice, running_at_first}
 
 is_whole : IsWholeDevice 23 (engines_at_first many_queues) (running_at_first many_queues 5)
 unfolding held_count
 is_whole = record {
   replay = record { caps = refl; bounded = lit≤ tt; within = lit≤ tt; legal = refl; replayed = refl };
-  in_step = record {
-    queues = record { lawful = refl; configs = refl; phases = refl; groups = refl };
-    store = record { lists = refl; cells = refl };
-    idle = λ off. refl;
-    checked = λ on. absurd (grind (arith, on));
-    notes = refl;
-    homes = λ on. absurd (grind (arith, on));
-    buffers = λ on. absurd (grind (arith, on));
-  };
+  in_step = in_step_while_off (opening_setup many_queues) (engines_at_first many_queues) 23 (replicate 9 []) refl
+      (record { lawful = refl; configs = refl; phases = refl; groups = refl }) (record { lists = refl; cells = refl })
+      refl refl;
 }
 
 pub returns-clause-whole : goal.returns-clause-whole
 returns-clause-whole c = is_whole
-
-pub returns-clause-no_replay : goal.returns-clause-no_replay
-returns-clause-no_replay c is = omega (arith, is.replay.bounded)
-
-pub returns-clause-no_cell : goal.returns-clause-no_cell
-returns-clause-no_cell c is = omega (arith, is.in_step.store.cells)
 
 pub returns-clause-running : goal.returns-clause-running
 returns-clause-running c = record {
@@ -39,9 +28,6 @@ returns-clause-running c = record {
     mark = λ active is. absurd cc;
   };
 }
-
-pub returns-clause-not_whole : goal.returns-clause-not_whole
-returns-clause-not_whole c is = omega (arith, is.whole.in_step.store.cells)
 
 pub returns-clause-miscounted : goal.returns-clause-miscounted
 returns-clause-miscounted c is = omega (arith, ap (λ held. get_or held 0 0) is.counted.counts)

@@ -4,14 +4,8 @@ use Rattle.dsa_book.specs.declared.{answer.Cause.TheVariants.{WrongKind}, event.
 use Rattle.dsa_regs.specs.Worked.{dedicated_queue, second_group}
 
 pub returns-clause-size : goal.returns-clause-size
-returns-clause-size c = record {
-  queue = 1;
-  config = record dedicated_queue { size = 3 };
-  has = refl;
-  off = refl;
-  size = refl;
-  after = refl;
-}
+returns-clause-size c =
+    record { queue = 1; config = record dedicated_queue { size = 3 }; has = refl; off = refl; size = refl; after = refl }
 
 pub returns-clause-same_size : goal.returns-clause-same_size
 returns-clause-same_size c = record {

@@ -1,6 +1,6 @@
 use Rattle.dsa_explain_rows.proofs.effects.of_entries_that_lack_one_thing.Goals as goal
 use Rattle.std.proofs.Common.{◌≡◌, ℕ, zero, suc, [], ◌∷◌, ap, arith, false, refl, subst, sym, true}
-use Rattle.std.specs.Prelude.{List, None, Option, Some, is_some, length, nat_le, option_map, sum_by, unwrap_or}
+use Rattle.std.specs.Prelude.{None, Option, Some, is_some, length, nat_le, option_map, sum_by, unwrap_or}
 use Rattle.dsa_desc.specs.declared.Descriptor.{Descriptor}
 use Rattle.dsa_regs.specs.Config.{queue_at}
 use Rattle.dsa_regs.specs.declared.Phase.TheVariants.{Off, On}

@@ -1,6 +1,6 @@
 use Rattle.dsa_explain_rows.proofs.effects.of_members_that_lack_one_thing.Goals as goal
 use Rattle.std.proofs.Common.{◌≡◌, ℕ, zero, suc, [], ◌∷◌, ap, arith, false, inl, inr, refl, subst, sym, true}
-use Rattle.std.specs.Prelude.{Bool, List, Option, Some, find, is_some, not, ◌&&◌}
+use Rattle.std.specs.Prelude.{Bool, List, Some, find, is_some, not, ◌&&◌}
 use Rattle.dsa_base.proofs.Lists.{In-find}
 use Rattle.dsa_base.specs.Lists.{In}
 use Rattle.dsa_desc.specs.Descriptor.{is_fenced}
@@ -32,21 +32,33 @@ on_one groups members note P (suc zero) pair first is one holds =
 on_one groups members note P (suc (suc engine)) pair first is one holds =
     absurd (grind (arith, ap (λ o. is_some o) is))
 
+-- so the first member on engine 1 is not one with a fence behind another
+behind : (members : List HeldEntry) (note : BatchNote) (first : HeldEntry)
+    → first_waiting (work_in one_group members note) 1 ≡ Some first → (engine : ℕ) (pair : HeldEntry)
+    → first_waiting (work_in one_group members note) engine ≡ Some pair
+    → (is_fenced pair.1.desc && not (is_front (work_in one_group members note) engine pair)) ≡ false
+    → (is_fenced first.1.desc && not (is_front (work_in one_group members note) 1 first)) ≡ false
+behind members note first one engine pair is = on_one one_group members note
+    (λ engine pair. (is_fenced pair.1.desc && not (is_front (work_in one_group members note) engine pair)) ≡ false)
+    engine pair first is one
+
+-- and it is or is not one with a fence behind a failure
+failed : (members : List HeldEntry) (note : BatchNote) (first : HeldEntry) (so : Bool)
+    → first_waiting (work_in one_group members note) 1 ≡ Some first → (engine : ℕ) (pair : HeldEntry)
+    → first_waiting (work_in one_group members note) engine ≡ Some pair
+    → (is_fenced pair.1.desc && has_failed_member (work_in one_group members note) engine) ≡ so
+    → (is_fenced first.1.desc && has_failed_member (work_in one_group members note) 1) ≡ so
+failed members note first so one engine pair is = on_one one_group members note
+    (λ engine pair. (is_fenced pair.1.desc && has_failed_member (work_in one_group members note) engine) ≡ so)
+    engine pair first is one
+
 pub returns-clause-fence_waits : goal.returns-clause-fence_waits
 returns-clause-fence_waits c s' is =
-    let w = work_in one_group (six_runs ∷ seven_with_fence ∷ []) note_open in
-    let no = on_one one_group (six_runs ∷ seven_with_fence ∷ []) note_open
-    (λ engine pair. (is_fenced pair.1.desc && not (is_front w engine pair)) ≡ false)
-    is.engine is.pair seven_with_fence is.is_first refl is.first_of_all in
-    grind (arith, no)
+    grind (arith, behind (six_runs ∷ seven_with_fence ∷ []) note_open seven_with_fence refl is.engine is.pair is.is_first is.first_of_all)
 
-pub returns-clause-one_failed : goal.returns-clause-one_failed
-returns-clause-one_failed c s' is =
-    let w = work_in one_group (seven_with_fence ∷ []) note_failed in
-    let no = on_one one_group (seven_with_fence ∷ []) note_failed
-    (λ engine pair. (is_fenced pair.1.desc && has_failed_member w engine) ≡ false)
-    is.engine is.pair seven_with_fence is.is_first refl is.unfailed in
-    grind (arith, no)
+pub returns-clause-fence_is_not_abandoned : goal.returns-clause-fence_is_not_abandoned
+returns-clause-fence_is_not_abandoned c s' is =
+    grind (arith, behind (six_runs ∷ seven_with_fence ∷ []) note_failed seven_with_fence refl is.engine is.pair is.is_first is.first_of_all)
 
 -- a group that may have one read buffer
 abbrev poor_group : List GroupConfig
@@ -60,29 +72,17 @@ returns-clause-no_buffers c s' is =
     is.engine is.pair seven_moves is.is_first refl is.room in
     grind (arith, no)
 
-pub returns-clause-fence_is_not_abandoned : goal.returns-clause-fence_is_not_abandoned
-returns-clause-fence_is_not_abandoned c s' is =
-    let w = work_in one_group (six_runs ∷ seven_with_fence ∷ []) note_failed in
-    let no = on_one one_group (six_runs ∷ seven_with_fence ∷ []) note_failed
-    (λ engine pair. (is_fenced pair.1.desc && not (is_front w engine pair)) ≡ false)
-    is.engine is.pair seven_with_fence is.is_first refl is.first_of_all in
-    grind (arith, no)
+pub returns-clause-one_failed : goal.returns-clause-one_failed
+returns-clause-one_failed c s' is =
+    grind (arith, failed (seven_with_fence ∷ []) note_failed seven_with_fence false refl is.engine is.pair is.is_first is.unfailed)
 
 pub returns-clause-none_failed : goal.returns-clause-none_failed
 returns-clause-none_failed c s' is =
-    let w = work_in one_group (seven_with_fence ∷ []) note_open in
-    let no = on_one one_group (seven_with_fence ∷ []) note_open
-    (λ engine pair. (is_fenced pair.1.desc && has_failed_member w engine) ≡ true)
-    is.engine is.pair seven_with_fence is.is_first refl is.failed in
-    grind (arith, no)
+    grind (arith, failed (seven_with_fence ∷ []) note_open seven_with_fence true refl is.engine is.pair is.is_first is.failed)
 
 pub returns-clause-no_fence : goal.returns-clause-no_fence
 returns-clause-no_fence c s' is =
-    let w = work_in one_group (seven_waits ∷ []) note_failed in
-    let no = on_one one_group (seven_waits ∷ []) note_failed
-    (λ engine pair. (is_fenced pair.1.desc && has_failed_member w engine) ≡ true)
-    is.engine is.pair seven_waits is.is_first refl is.failed in
-    grind (arith, no)
+    grind (arith, failed (seven_waits ∷ []) note_failed seven_waits true refl is.engine is.pair is.is_first is.failed)
 
 none : (engine : ℕ) → is_some (first_waiting (work_in one_group (six_runs ∷ []) note_failed) engine) ≡ false
 none zero = refl

@@ -15,17 +15,8 @@ returns-clause-in_the_last_list c = record {
   next = refl;
 }
 
-pub returns-clause-past : goal.returns-clause-past
-returns-clause-past c is = omega (arith, is.inside)
-
 pub returns-clause-another_node : goal.returns-clause-another_node
 returns-clause-another_node c is = grind (arith, ap (λ node. node.previous) is.same)
-
-pub returns-clause-another_list : goal.returns-clause-another_list
-returns-clause-another_list c is = grind (arith, is.list)
-
-pub returns-clause-end_of_its_list : goal.returns-clause-end_of_its_list
-returns-clause-end_of_its_list c is = grind (arith, is.next)
 
 pub returns-clause-inside : goal.returns-clause-inside
 returns-clause-inside c cell there = grind (arith, nat_tests, there)

@@ -1,7 +1,7 @@
 use Rattle.dsa_explain_rows.proofs.links.whole_arrays.Goals as goal
 use Rattle.std.proofs.Common.{◌≡◌, ◌<◌, ℕ, zero, suc, [], ◌∷◌, arith, lit≤, refl}
 use Rattle.std.proofs.lemmas.Bool.Decides.{nat_tests}
-use Rattle.dsa_cells.specs.{Array.{no_header, header_at, owners_of}, Invariant.{place_by_owner}}
+use Rattle.dsa_cells.specs.{Array.{no_header, header_at, owners_of}, Invariant.{place_by_owner, IsStore}}
 use Rattle.dsa_cells.specs.Partition.{list_at, lists_of, times, IsHeader}
 use Rattle.dsa_cells.specs.Rows.{three_cells, three_headers}
 
@@ -42,21 +42,17 @@ none_placed : (list cell : ℕ) → times cell (list_at ([] ∷ []) list) ≡ pl
 none_placed zero cell = grind (arith, nat_tests)
 none_placed (suc list) cell = grind (arith, nat_tests)
 
+three_stored : IsStore three_cells three_headers (lists_of three_cells three_headers)
+three_stored = record { ends = record { sizes = refl; each = ends }; placed = placed; total = refl }
+
 pub returns-clause-three : goal.returns-clause-three
-returns-clause-three c = record {
-  store = record { ends = record { sizes = refl; each = ends }; placed = placed; total = refl };
-  free = lit≤ tt;
-  few_cells = lit≤ tt;
-  few_lists = lit≤ tt;
-}
+returns-clause-three c = record { store = three_stored; free = lit≤ tt; few_cells = lit≤ tt; few_lists = lit≤ tt }
+
+none_stored : IsStore [] (no_header ∷ []) (lists_of [] (no_header ∷ []))
+none_stored = record { ends = record { sizes = refl; each = no_ends }; placed = none_placed; total = refl }
 
 pub returns-clause-no_cells : goal.returns-clause-no_cells
-returns-clause-no_cells c = record {
-  store = record { ends = record { sizes = refl; each = no_ends }; placed = none_placed; total = refl };
-  free = lit≤ tt;
-  few_cells = lit≤ tt;
-  few_lists = lit≤ tt;
-}
+returns-clause-no_cells c = record { store = none_stored; free = lit≤ tt; few_cells = lit≤ tt; few_lists = lit≤ tt }
 
 pub returns-clause-largest : goal.returns-clause-largest
 returns-clause-largest c nodes headers cells lists store = record {

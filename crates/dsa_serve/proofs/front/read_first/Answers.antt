@@ -135,9 +135,20 @@ reads-preserved g c =
       taken = rw items (Consumes-trans _ _ _ _ _ c.reads.invariant.taken c.in_ok-count.ensures.bytes.0);
       given = rw items read.1;
       line = rw items (All-append (λ b. b ≢ 10) _ _ c.reads.invariant.line (no_feed _ c.in_default.ensures));
+      few = rw items (omega (
+        arith,
+        c.reads-test.true,
+        c.len.ensures,
+        c.reads.first.ok.0,
+        c.in_ok-count.ensures.bound.0,
+        c.in_ok-count.ensures.bound.1,
+        c.read_once.auto.chunk,
+        c.reads.auto.chunk,
+        length-append c.reads.first.items piece,
+      ));
     }
 
 pub returns-clause-stopped : goal.returns-clause-stopped
 returns-clause-stopped g c held =
-    long_stops 0 _ _ held c.reads.first.items c.reads.invariant.taken c.reads.invariant.line
-    (omega (arith, c.reads-test.false, c.len.ensures, c.reads.first.ok.0))
+    long_stops _ _ _ held c.reads.first.items c.reads.invariant.taken c.reads.invariant.line
+    (omega (arith, c.reads-test.false, c.len.ensures, c.reads.first.ok.0)) c.reads.invariant.few

@@ -1,5 +1,5 @@
 use Rattle.dsa_serve.proofs.front.read_first.Given as goal
-use Rattle.std.{proofs.Common.{◌≡◌, ◌-◌, ◌+◌, ◌<◌, ◌≤◌, length, vec_len}, specs.Io.KnownBytes.{Consumes}}
+use Rattle.std.{proofs.Common.{◌≡◌, ◌-◌, ◌+◌, ◌^◌, ◌<◌, ◌≤◌, length, vec_len}, specs.Io.KnownBytes.{Consumes}}
 use Rattle.dsa_scenario.specs.Counted.{counted_remaining, asked_of, given_of, has_reader_failed, IsSameReader}
 use Rattle.dsa_serve.specs.Input.{IsLine}
 
@@ -13,6 +13,7 @@ invariant-reads g l = record {
       (counted_remaining g.R.Read.remaining l.reader) l.first.items;
   given : given_of l.reader ≡ given_of l.initial.reader + length l.first.items;
   line : IsLine l.first.items;
+  few : length l.first.items ≤ 2 ^ 20 + length l.initial.chunk;
 }
 
 abbrev pub decreases-reads : goal.decreases-reads

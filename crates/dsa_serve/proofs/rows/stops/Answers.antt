@@ -1,7 +1,7 @@
 use Rattle.dsa_serve.proofs.rows.stops.Goals as goal
 use Rattle.std.proofs.Common.{◌≡◌, ◌≢◌, ◌≤◌, ◌^◌, ◌∙◌, ◌++◌, ℕ, true, false, Bool, List, []}
 use Rattle.std.proofs.Common.{◌∷◌, Option, None, codes, refl, sym, ap, arith, subst}
-use Rattle.std.proofs.Common.{length, length-append, append-nil, inl, inr}
+use Rattle.std.proofs.Common.{length, length-append, append-nil, append_assoc, inl, inr}
 use Rattle.std.specs.{Prelude.{Some, IsUtf8}, Io.KnownBytes.{IsAtEnd}}
 use Rattle.std.proofs.{Math.ListN.{get_or-append}, lemmas.List.Elements.{All-nil, All-cons, All-head}}
 use Rattle.dsa_scenario.specs.declared.faults.ScenarioFault.TheVariants.{Write}
@@ -80,7 +80,7 @@ returns-clause-answered_too_early c is =
 
 pub returns-clause-too_long : goal.returns-clause-too_long
 returns-clause-too_long c first line long =
-    (first, [], sym (append-nil (first ++ []) ∙ append-nil first), line, omega (arith, long), refl)
+    (first, [], sym (append-nil (first ++ []) ∙ append-nil first), line, omega (arith, long), omega (arith, long), refl)
 
 pub returns-clause-longest : goal.returns-clause-longest
 returns-clause-longest c first long is = absurd (omega (
@@ -112,6 +112,7 @@ returns-clause-document c = (
   refl,
   record { line = one; short = omega arith; front = (refl, refl) },
   λ ended. refl,
+  omega arith,
   record { document = _; json = record { utf8 = (codes "1", (refl, refl)); value = refl }; none = refl },
   refl,
 )
@@ -126,6 +127,7 @@ returns-clause-document_before_more c = (
   refl,
   record { line = one; short = omega arith; front = refl },
   λ ended. absurd cc,
+  omega arith,
   record { document = _; json = record { utf8 = (codes "1", (refl, refl)); value = refl }; none = refl },
   refl,
 )
@@ -134,7 +136,7 @@ pub returns-clause-other_fault : goal.returns-clause-other_fault
 unfolding serde_json_on_literals
 returns-clause-other_fault c is =
     let first = first_is (codes "1") one no_dialogue is.3 is.0 is.1 is.2 (is.4 ∙ append-nil is.0) is.5 in
-    let none = subst (λ f. IsUtf8 f → read f ≡ None) (sym first) is.7 (codes "1", (refl, refl)) in
+    let none = subst (λ f. IsUtf8 f → read f ≡ None) (sym first) is.8 (codes "1", (refl, refl)) in
     absurd cc
 
 pub returns-clause-nothing_yet : goal.returns-clause-nothing_yet
@@ -172,7 +174,15 @@ returns-clause-memory_after_a_long_line c input line long is =
 
 pub returns-clause-too_long_with_more : goal.returns-clause-too_long_with_more
 returns-clause-too_long_with_more c first line long =
-    (first, codes "\n", sym (append-nil (first ++ codes "\n")), line, omega (arith, long), refl)
+    (first, codes "\n", sym (append-nil (first ++ codes "\n")), line, omega (arith, long), omega (arith, long), refl)
+
+pub returns-clause-too_long_with_a_read : goal.returns-clause-too_long_with_a_read
+returns-clause-too_long_with_a_read c first more line long few =
+    (first, more, sym (append-nil (first ++ more)), line, omega (arith, long), omega (arith, long, few), refl)
+
+pub returns-clause-too_long_and_read_on : goal.returns-clause-too_long_and_read_on
+returns-clause-too_long_and_read_on c input long is =
+    absurd (omega (arith, long, is.5, ap length (is.2 ∙ append-nil (is.0 ++ is.1)), length-append is.0 is.1))
 
 -- no line begins with a line feed
 no_line_there : (rest first more : List ℕ) → 10 ∷ rest ≡ first ++ more → IsLine first → first ≡ []
@@ -215,12 +225,12 @@ returns-clause-unfinished_line_is_answered c input output line is =
 
 pub returns-clause-fault_is_answered : goal.returns-clause-fault_is_answered
 returns-clause-fault_is_answered c is =
-    let holds = is.8 in
+    let holds = is.9 in
     absurd cc
 
 pub returns-clause-long_line_is_answered : goal.returns-clause-long_line_is_answered
 returns-clause-long_line_is_answered c first is =
-    let holds = is.5 in
+    let holds = is.6 in
     absurd cc
 
 -- a first line that the input did not end has its line feed
@@ -238,3 +248,35 @@ with_more false (b ∷ (d ∷ input)) first behind is h at_end =
 
 pub returns-clause-unfinished_line_is_judged : goal.returns-clause-unfinished_line_is_judged
 returns-clause-unfinished_line_is_judged c is = with_more is.3 is.0 is.1 is.2 is.4 is.5 is.6
+
+-- behind an empty first line is all that follows its line feed
+all_behind : (ended : Bool) (rest input first behind : List ℕ) → 10 ∷ rest ≡ input → HasFirst ended input first behind
+    → length behind ≡ length rest
+all_behind false rest input first behind is h =
+    let whole : 10 ∷ rest ≡ first ++ 10 ∷ behind = is ∙ h.front ∙ append_assoc first (10 ∷ []) behind in
+    let none = no_line_there rest first (10 ∷ behind) whole h.line in
+    omega (arith, ap length whole, length-append first (10 ∷ behind), ap length none)
+all_behind true rest input first behind is h =
+    let whole : 10 ∷ rest ≡ first = is ∙ h.front.0 in
+    let none = no_line_there rest first [] (whole ∙ sym (append-nil first)) h.line in
+    absurd (omega (arith, ap length whole, ap length none))
+
+pub returns-clause-fault_with_a_read_behind : goal.returns-clause-fault_with_a_read_behind
+unfolding serde_json_on_literals
+returns-clause-fault_with_a_read_behind c rest few = (
+  10 ∷ rest,
+  [],
+  rest,
+  false,
+  sym (append-nil (10 ∷ rest)),
+  record { line = All-nil (λ byte. byte ≢ 10); short = omega arith; front = refl },
+  λ ended. absurd cc,
+  omega (arith, few),
+  λ text. refl,
+  refl,
+)
+
+pub returns-clause-fault_and_read_on : goal.returns-clause-fault_and_read_on
+returns-clause-fault_and_read_on c rest long is =
+    let same = all_behind is.3 rest is.0 is.1 is.2 (is.4 ∙ append-nil is.0) is.5 in
+    absurd (omega (arith, long, same, is.7))

@@ -2,18 +2,10 @@ use Rattle.dsa_shared_rows.proofs.seats.answers_under_a_lock.Goals as goal
 use Rattle.std.proofs.Common.{arith, lit≤, refl, rules}
 use Rattle.dsa_regs.specs.Worked.{caps}
 use Rattle.dsa_device.specs.Running.{running_at_first}
-use Rattle.dsa_shared.specs.Locked.{IsUnderLock}
-
--- a device whose history has no room
-kept : IsUnderLock caps 0 (running_at_first caps 0)
-kept = record {
-  replay = record { caps = refl; bounded = lit≤ tt; within = lit≤ tt; legal = refl; replayed = refl };
-  same_caps = refl;
-  same_capacity = refl;
-}
+use Rattle.dsa_shared_rows.proofs.FirstDevices.{kept_at_first}
 
 pub returns-clause-full : goal.returns-clause-full
-returns-clause-full c = (running_at_first caps 0, running_at_first caps 0, kept, lit≤ tt, refl)
+returns-clause-full c = (running_at_first caps 0, running_at_first caps 0, kept_at_first 0 (lit≤ tt), lit≤ tt, refl)
 
 pub returns-clause-of_none : goal.returns-clause-of_none
 returns-clause-of_none c is = omega (arith, is.2.replay.bounded, is.2.same_capacity)

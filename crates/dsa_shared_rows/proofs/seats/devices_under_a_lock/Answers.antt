@@ -2,30 +2,16 @@ use Rattle.dsa_shared_rows.proofs.seats.devices_under_a_lock.Goals as goal
 use Rattle.std.proofs.Common.{ap, arith, lit≤, refl}
 use Rattle.dsa_regs.specs.{declared.Caps.{Caps}, Worked.{caps}}
 use Rattle.dsa_device.specs.Running.{running_at_first}
-use Rattle.dsa_shared.specs.Locked.{IsUnderLock}
-
--- a device of capacity 5 before its first step
-kept : IsUnderLock caps 5 (running_at_first caps 5)
-kept = record {
-  replay = record { caps = refl; bounded = lit≤ tt; within = lit≤ tt; legal = refl; replayed = refl };
-  same_caps = refl;
-  same_capacity = refl;
-}
+use Rattle.dsa_shared_rows.proofs.FirstDevices.{kept_at_first}
 
 pub returns-clause-kept : goal.returns-clause-kept
-returns-clause-kept c = kept
-
-pub returns-clause-no_replay : goal.returns-clause-no_replay
-returns-clause-no_replay c is = omega (arith, is.replay.bounded)
+returns-clause-kept c = kept_at_first 5 (lit≤ tt)
 
 pub returns-clause-other_caps : goal.returns-clause-other_caps
 returns-clause-other_caps c is = omega (arith, ap (λ (caps : Caps). caps.queues) is.same_caps)
 
-pub returns-clause-other_capacity : goal.returns-clause-other_capacity
-returns-clause-other_capacity c is = omega (arith, is.same_capacity)
-
 pub returns-clause-read : goal.returns-clause-read
-returns-clause-read c = (running_at_first caps 5, kept, refl)
+returns-clause-read c = (running_at_first caps 5, kept_at_first 5 (lit≤ tt), refl)
 
 pub returns-clause-read_of_none : goal.returns-clause-read_of_none
 returns-clause-read_of_none c is = omega (arith, is.1.replay.bounded, is.1.same_capacity)

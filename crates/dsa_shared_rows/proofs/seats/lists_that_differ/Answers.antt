@@ -9,6 +9,3 @@ returns-clause-ended c = (refl, λ same. grind (arith, same))
 
 pub returns-clause-alike_there : goal.returns-clause-alike_there
 returns-clause-alike_there c is = is.1 refl
-
-pub returns-clause-differs_before : goal.returns-clause-differs_before
-returns-clause-differs_before c is = grind (arith, is.0)

@@ -12,9 +12,6 @@ numbered (suc (suc k)) d lt = absurd (omega (arith, lt))
 pub returns-clause-two : goal.returns-clause-two
 returns-clause-two c = (refl, numbered)
 
-pub returns-clause-more : goal.returns-clause-more
-returns-clause-more c is = omega (arith, is.0)
-
 pub returns-clause-numbers : goal.returns-clause-numbers
 returns-clause-numbers c is = omega (arith, ap (λ (s : SeatLog). s.number) (is.1 1 (fresh 0) (omega arith)))
 

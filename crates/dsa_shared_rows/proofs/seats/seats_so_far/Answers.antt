@@ -1,9 +1,7 @@
 use Rattle.dsa_shared_rows.proofs.seats.seats_so_far.Goals as goal
-use Rattle.std.proofs.Common.{◌≡◌, ℕ, ◌<◌, zero, suc, List, [], ◌∷◌, ap, arith, length, refl}
-use Rattle.std.specs.Prelude.{HoldsAt, take, slice_index_or}
-use Rattle.dsa_book.specs.{declared.event.Step.{Step}, Totals.{steps_of_actor}}
-use Rattle.dsa_shared.specs.Seat.{SeatLog, engine_of_seat, number_of_seat, receipts_of}
-use Rattle.dsa_shared_rows.specs.Worked.{seat_of, two_engines}
+use Rattle.std.proofs.Common.{zero, suc, List, [], ap, arith, length, refl}
+use Rattle.dsa_book.specs.{declared.event.Step.{Step}}
+use Rattle.dsa_shared_rows.specs.Worked.{seat_of}
 
 pub returns-clause-at_first : goal.returns-clause-at_first
 returns-clause-at_first c zero lt d = (refl, refl)

@@ -1,6 +1,6 @@
 use Rattle.dsa_shared_rows.proofs.seats.seats_that_are_complete.Goals as goal
 use Rattle.std.proofs.Common.{ℕ, zero, suc, [], ◌∷◌, arith, refl}
-use Rattle.dsa_shared.specs.{Seat.{SeatLog, number_of_seat}, Settle.{HasEach}}
+use Rattle.dsa_shared.specs.{Seat.{SeatLog, number_of_seat}}
 use Rattle.std.specs.Prelude.{◌≡◌, ◌<◌, ◌==◌, count_by, slice_index_or}
 use Rattle.dsa_shared_rows.specs.Worked.{seat_of}
 
@@ -30,6 +30,3 @@ returns-clause-no_client c is = omega (arith, is.each_client.1 0 (omega arith))
 
 pub returns-clause-no_engine : goal.returns-clause-no_engine
 returns-clause-no_engine c is = omega (arith, is.each_engine.1 0 (omega arith))
-
-pub returns-clause-no_admin : goal.returns-clause-no_admin
-returns-clause-no_admin c is = grind (arith, is.has_admin)

@@ -1,5 +1,5 @@
 use Rattle.dsa_shared_rows.proofs.seats.seats_that_match.Goals as goal
-use Rattle.std.proofs.Common.{arith, refl}
+use Rattle.std.proofs.Common.{refl}
 use Rattle.dsa_shared_rows.proofs.Lacking.{clients_match, engines_match, lacking_clients_differ, lacking_engines_differ}
 
 pub returns-clause-all : goal.returns-clause-all
@@ -10,9 +10,3 @@ returns-clause-not_clients c is = lacking_clients_differ is.client_receipts
 
 pub returns-clause-not_engines : goal.returns-clause-not_engines
 returns-clause-not_engines c is = lacking_engines_differ is.engine_receipts
-
-pub returns-clause-not_admin : goal.returns-clause-not_admin
-returns-clause-not_admin c is = grind (arith, is.admin_receipts)
-
-pub returns-clause-no_admin : goal.returns-clause-no_admin
-returns-clause-no_admin c is = grind (arith, is.admin_receipts)

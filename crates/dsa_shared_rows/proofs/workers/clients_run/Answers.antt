@@ -57,6 +57,3 @@ returns-clause-no_turn c = record {
   };
   accepts = lit≤ tt;
 }
-
-pub returns-clause-other_seat : goal.returns-clause-other_seat
-returns-clause-other_seat c is = omega (arith, is.number)

@@ -112,14 +112,8 @@ returns-clause-full c = record {
   grows = record { prefix = refl; bound = lit≤ tt };
 }
 
-pub returns-clause-other_seat : goal.returns-clause-other_seat
-returns-clause-other_seat c is = omega (arith, is.number)
-
 pub returns-clause-scripted : goal.returns-clause-scripted
 returns-clause-scripted c is = is.unscripted refl
-
-pub returns-clause-within : goal.returns-clause-within
-returns-clause-within c is = omega (arith, is.within)
 
 pub returns-clause-turns_left : goal.returns-clause-turns_left
 returns-clause-turns_left c is = omega (arith, is.out_of_turns refl)

@@ -18,9 +18,6 @@ returns-clause-not_answered c is =
     other_kind wide_device 9 [] (record (asked_first 3 dispatch.Idle) { reply = Poll poll.Full }) refl
     (λ s choice. refl) refl is.0
 
-pub returns-clause-other_event : goal.returns-clause-other_event
-returns-clause-other_event c is = grind (arith, is.1)
-
 pub returns-clause-older_than_calls : goal.returns-clause-older_than_calls
 returns-clause-older_than_calls c is = omega (arith, is.0.2.replay.within, is.0.2.same_capacity, is.0.3)
 

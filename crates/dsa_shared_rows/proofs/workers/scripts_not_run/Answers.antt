@@ -1,5 +1,5 @@
 use Rattle.dsa_shared_rows.proofs.workers.scripts_not_run.Goals as goal
-use Rattle.std.proofs.Common.{◌≡◌, ℕ, ◌<◌, zero, suc, List, [], ◌∷◌, ap, arith, length, refl, slice_index_or, subst}
+use Rattle.std.proofs.Common.{◌≡◌, ◌<◌, List, [], ◌∷◌, ap, arith, length, refl, slice_index_or, subst}
 use Rattle.std.specs.Prelude.{take}
 use Rattle.dsa_book.specs.{declared.event.Step.{Step}, Machine.{stored_steps}}
 use Rattle.dsa_book.specs.declared.answer.SubmitAnswer.TheVariants.{Full}
@@ -33,9 +33,6 @@ returns-clause-stops c is =
     let few : 1 < length is.calls = omega (arith, is.turns) in
     let first = first_full is.calls few (is.in_order 0 (of_client 0 Full) (omega (arith, few))) in
     omega (arith, first, is.stops 1 (of_client 0 Full) few)
-
-pub returns-clause-within : goal.returns-clause-within
-returns-clause-within c is = omega (arith, is.within)
 
 pub returns-clause-short : goal.returns-clause-short
 returns-clause-short c is =

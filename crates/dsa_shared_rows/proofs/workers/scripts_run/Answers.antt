@@ -1,6 +1,6 @@
 use Rattle.dsa_shared_rows.proofs.workers.scripts_run.Goals as goal
-use Rattle.std.proofs.Common.{◌≡◌, ℕ, ◌<◌, zero, suc, [], ◌∷◌, arith, lit≤, refl, slice_index_or}
-use Rattle.std.specs.Prelude.{length, take}
+use Rattle.std.proofs.Common.{◌≡◌, ℕ, ◌<◌, zero, suc, [], ◌∷◌, arith, lit≤, refl}
+use Rattle.std.specs.Prelude.{take}
 use Rattle.dsa_book.specs.declared.event.Step.{Step}
 use Rattle.dsa_book.specs.declared.answer.SubmitAnswer.TheVariants.{Full}
 use Rattle.dsa_workers.specs.Calls.{found_full}

@@ -1,7 +1,7 @@
 use Rattle.dsa_shared_rows.proofs.workers.turns_in_order.Goals as goal
-use Rattle.std.proofs.Common.{◌≡◌, ℕ, ◌<◌, zero, suc, [], ◌∷◌, ap, arith, length}
+use Rattle.std.proofs.Common.{◌≡◌, zero, suc, [], ◌∷◌, ap, arith, length}
 use Rattle.dsa_workers.specs.Calls.{InOrder}
-use Rattle.dsa_shared_rows.specs.Worked.{again_of_client, taken_of_client}
+use Rattle.dsa_shared_rows.specs.Worked.{taken_of_client}
 use Rattle.std.proofs.Common.{refl}
 
 alone : InOrder (λ before call. before ≡ []) (taken_of_client 0 ∷ [])

@@ -1,11 +1,9 @@
 use Rattle.dsa_worked.proofs.lawful.cells_and_names.Goals as goal
 use Rattle.std.proofs.Common.{◌≡◌, ◌+◌, ◌<◌, ◌≤◌, ℕ, zero, suc, arith, lit≤, refl}
-use Rattle.dsa_store.specs.declared.entry.Cell.{Cell}
 use Rattle.dsa_store.specs.Content.{use_count, place_count, held_count}
-use Rattle.dsa_book.specs.State.{opening_setup}
 use Rattle.dsa_regs.specs.Caps.{cell_count}
 use Rattle.dsa_laws.specs.WellFormed.{held_named, fates_named}
-use Rattle.dsa_worked.specs.Lawful.{unlike, work_of, work_of_three}
+use Rattle.dsa_worked.specs.Lawful.{unlike, work_of_three}
 use Rattle.dsa_worked.specs.Setup.{held_entry, no_op}
 use Rattle.std.specs.Prelude.{[], ◌∷◌, None, false}
 

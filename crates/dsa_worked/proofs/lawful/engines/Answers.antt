@@ -10,29 +10,11 @@ use Rattle.dsa_worked.proofs.Bounded.{in_one, in_two}
 pub returns-clause-note : goal.returns-clause-note
 returns-clause-note c = record { name = refl; count = refl }
 
-pub returns-clause-other_name : goal.returns-clause-other_name
-returns-clause-other_name c is = omega (arith, is.name)
-
-pub returns-clause-other_count : goal.returns-clause-other_count
-returns-clause-other_count c is = omega (arith, is.count)
-
 pub returns-clause-alike : goal.returns-clause-alike
 returns-clause-alike c = record { queue = refl; pasid = refl }
 
-pub returns-clause-other_queue : goal.returns-clause-other_queue
-returns-clause-other_queue c is = omega (arith, is.queue)
-
-pub returns-clause-other_pasid : goal.returns-clause-other_pasid
-returns-clause-other_pasid c is = omega (arith, is.pasid)
-
 pub returns-clause-without : goal.returns-clause-without
 returns-clause-without c = record { no_batch = refl; no_members = refl }
-
-pub returns-clause-a_batch : goal.returns-clause-a_batch
-returns-clause-a_batch c is = omega (arith, is.no_batch)
-
-pub returns-clause-a_member : goal.returns-clause-a_member
-returns-clause-a_member c is = grind (arith, is.no_members)
 
 pub returns-clause-on_batch : goal.returns-clause-on_batch
 returns-clause-on_batch c = record {
@@ -47,9 +29,6 @@ returns-clause-on_batch c = record {
   most = lit≤ tt;
 }
 
-pub returns-clause-on_none : goal.returns-clause-on_none
-returns-clause-on_none c is = omega (arith, is.one_batch)
-
 pub returns-clause-another_note : goal.returns-clause-another_note
 returns-clause-another_note c is = omega (arith, (is.noted _ (inl refl) refl).name)
 
@@ -58,9 +37,6 @@ returns-clause-another_parent c is = omega (arith, ap (λ parent. unwrap_or pare
 
 pub returns-clause-unlike_its_batch : goal.returns-clause-unlike_its_batch
 returns-clause-unlike_its_batch c is = omega (arith, (is.alike _ _ (inl refl) (inl refl) refl).queue)
-
-pub returns-clause-too_many : goal.returns-clause-too_many
-returns-clause-too_many c is = omega (arith, is.most)
 
 pub returns-clause-lost : goal.returns-clause-lost
 returns-clause-lost c is = grind (arith, (is 0).no_members)

@@ -23,9 +23,3 @@ returns-clause-note c = record { fetched = lit≤ tt; count = lit≤ tt }
 
 pub returns-clause-note_of_none : goal.returns-clause-note_of_none
 returns-clause-note_of_none c = record { fetched = lit≤ tt; count = lit≤ tt }
-
-pub returns-clause-fetched : goal.returns-clause-fetched
-returns-clause-fetched c is = omega (arith, is.fetched)
-
-pub returns-clause-count : goal.returns-clause-count
-returns-clause-count c is = omega (arith, is.count)

@@ -5,9 +5,6 @@ use Rattle.dsa_book.specs.Work.{members}
 use Rattle.dsa_laws.specs.WellFormed.{runs_first}
 use Rattle.dsa_worked.specs.Lawful.{member_of_three, work_on_batch}
 
-pub returns-clause-none : goal.returns-clause-none
-returns-clause-none c = refl
-
 pub returns-clause-first : goal.returns-clause-first
 returns-clause-first c = refl
 

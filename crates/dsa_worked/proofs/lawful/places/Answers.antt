@@ -1,5 +1,17 @@
 use Rattle.dsa_worked.proofs.lawful.places.Goals as goal
-use Rattle.std.proofs.Common.{arith, lit≤, refl}
+use Rattle.std.proofs.Common.{◌<◌, ◌≤◌, ℕ, arith, lit≤, refl}
+use Rattle.dsa_laws.specs.WellFormed.{IsPlaced}
+use Rattle.dsa_worked.specs.Lawful.{that_runs, unlike}
+
+-- lists 1 and 2 are of what is in progress on the engines
+in_progress : (list : ℕ) → 1 ≤ list → list < 3 → IsPlaced unlike list that_runs
+in_progress list from below = record {
+  queue = λ low. absurd (omega (arith, from, low));
+  waiting = λ low. absurd (omega (arith, from, low));
+  running = λ past low. refl;
+  submitted = λ low. refl;
+  member = λ past. absurd (omega (arith, below, past));
+}
 
 pub returns-clause-queued : goal.returns-clause-queued
 returns-clause-queued c = record {
@@ -11,22 +23,10 @@ returns-clause-queued c = record {
 }
 
 pub returns-clause-first_engine : goal.returns-clause-first_engine
-returns-clause-first_engine c = record {
-  queue = λ low. absurd (omega (arith, low));
-  waiting = λ low. absurd (omega (arith, low));
-  running = λ past low. refl;
-  submitted = λ low. refl;
-  member = λ past. absurd (omega (arith, past));
-}
+returns-clause-first_engine c = in_progress 1 (lit≤ tt) (lit≤ tt)
 
 pub returns-clause-last_engine : goal.returns-clause-last_engine
-returns-clause-last_engine c = record {
-  queue = λ low. absurd (omega (arith, low));
-  waiting = λ low. absurd (omega (arith, low));
-  running = λ past low. refl;
-  submitted = λ low. refl;
-  member = λ past. absurd (omega (arith, past));
-}
+returns-clause-last_engine c = in_progress 2 (lit≤ tt) (lit≤ tt)
 
 pub returns-clause-first_members : goal.returns-clause-first_members
 returns-clause-first_members c = record {

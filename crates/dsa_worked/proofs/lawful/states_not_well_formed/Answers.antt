@@ -2,9 +2,6 @@ use Rattle.dsa_worked.proofs.lawful.states_not_well_formed.Goals as goal
 use Rattle.std.proofs.Common.{arith, inl, lit≤, refl}
 use Rattle.dsa_store.specs.Content.{use_count, place_count}
 
-pub returns-clause-shape : goal.returns-clause-shape
-returns-clause-shape c is = omega (arith, is.shape.notes)
-
 pub returns-clause-cells : goal.returns-clause-cells
 unfolding use_count place_count
 returns-clause-cells c is = omega (arith, is.cells.once (record { 0 = 0 }))

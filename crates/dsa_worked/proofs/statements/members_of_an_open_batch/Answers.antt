@@ -10,32 +10,15 @@ returns-clause-of_an_open_batch c = record {
 }
 
 pub returns-clause-of_a_closed_batch : goal.returns-clause-of_a_closed_batch
-returns-clause-of_a_closed_batch c = record {
-  fetched = refl;
-  unclosed = λ same. grind (arith, same);
-  closed = λ same. lit≤ tt;
-  none_aborted = refl;
-}
+returns-clause-of_a_closed_batch c =
+    record { fetched = refl; unclosed = λ same. grind (arith, same); closed = λ same. lit≤ tt; none_aborted = refl }
 
 pub returns-clause-one_is_abandoned : goal.returns-clause-one_is_abandoned
-returns-clause-one_is_abandoned c = record {
-  fetched = refl;
-  unclosed = λ same. grind (arith, same);
-  closed = λ same. lit≤ tt;
-  none_aborted = refl;
-}
-
-pub returns-clause-one_is_lost : goal.returns-clause-one_is_lost
-returns-clause-one_is_lost c sums = omega (arith, sums.fetched)
-
-pub returns-clause-one_is_too_many : goal.returns-clause-one_is_too_many
-returns-clause-one_is_too_many c sums = omega (arith, sums.fetched)
+returns-clause-one_is_abandoned c =
+    record { fetched = refl; unclosed = λ same. grind (arith, same); closed = λ same. lit≤ tt; none_aborted = refl }
 
 pub returns-clause-abandoned_but_not_closed : goal.returns-clause-abandoned_but_not_closed
 returns-clause-abandoned_but_not_closed c sums = omega (arith, sums.unclosed refl)
 
 pub returns-clause-closed_with_none_abandoned : goal.returns-clause-closed_with_none_abandoned
 returns-clause-closed_with_none_abandoned c sums = omega (arith, sums.closed refl)
-
-pub returns-clause-aborted : goal.returns-clause-aborted
-returns-clause-aborted c sums = omega (arith, sums.none_aborted)

@@ -34,19 +34,13 @@ returns-clause-free_twice c is = omega (arith, is.all)
 
 pub returns-clause-sound : goal.returns-clause-sound
 unfolding use_count place_count held_count
-returns-clause-sound c = record {
-  once = λ cell. grind (arith, nat_tests);
-  below = λ cell past. grind (arith, nat_tests, past);
-  room = lit≤ tt;
-}
+returns-clause-sound c =
+    record { once = λ cell. grind (arith, nat_tests); below = λ cell past. grind (arith, nat_tests, past); room = lit≤ tt }
 
 pub returns-clause-full : goal.returns-clause-full
 unfolding use_count place_count held_count
-returns-clause-full c = record {
-  once = λ cell. grind (arith, nat_tests);
-  below = λ cell past. grind (arith, nat_tests, past);
-  room = lit≤ tt;
-}
+returns-clause-full c =
+    record { once = λ cell. grind (arith, nat_tests); below = λ cell past. grind (arith, nat_tests, past); room = lit≤ tt }
 
 pub returns-clause-each_once : goal.returns-clause-each_once
 unfolding use_count place_count held_count spare

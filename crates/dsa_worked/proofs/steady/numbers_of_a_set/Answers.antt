@@ -19,12 +19,6 @@ returns-clause-here c = record {
   first = λ k from low. absurd (omega (arith, from, low));
 }
 
-pub returns-clause-before : goal.returns-clause-before
-returns-clause-before c is = omega (arith, is.from_there)
-
-pub returns-clause-not_there : goal.returns-clause-not_there
-returns-clause-not_there c is = grind (arith, is.in_the_set)
-
 pub returns-clause-not_first : goal.returns-clause-not_first
 returns-clause-not_first c is = grind (arith, is.first 2 (lit≤ tt) (lit≤ tt))
 

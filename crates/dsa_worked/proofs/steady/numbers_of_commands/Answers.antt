@@ -32,15 +32,3 @@ returns-clause-mark c is = omega (arith, is.mark _ refl)
 
 pub returns-clause-unrefused : goal.returns-clause-unrefused
 returns-clause-unrefused c = record { known = refl; ready = refl; checked = refl }
-
-pub returns-clause-unknown : goal.returns-clause-unknown
-returns-clause-unknown c is = grind (arith, is.known)
-
-pub returns-clause-not_ready : goal.returns-clause-not_ready
-returns-clause-not_ready c is = grind (arith, is.ready)
-
-pub returns-clause-unlawful : goal.returns-clause-unlawful
-returns-clause-unlawful c is = grind (arith, is.checked)
-
-pub returns-clause-no_queue : goal.returns-clause-no_queue
-returns-clause-no_queue c is = grind (arith, is.known)

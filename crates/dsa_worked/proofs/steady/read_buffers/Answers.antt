@@ -1,6 +1,5 @@
 use Rattle.dsa_worked.proofs.steady.read_buffers.Goals as goal
 use Rattle.std.proofs.Common.{◌≤◌, ℕ, zero, suc, [], ◌∷◌, arith, lit≤, refl}
-use Rattle.std.proofs.lemmas.Bool.Decides.{nat_tests}
 use Rattle.std.specs.Prelude.{slice_index}
 use Rattle.dsa_regs.specs.Config.{group_at}
 use Rattle.dsa_worked.specs.Lawful.{with_buffers}
@@ -13,17 +12,8 @@ within (suc g) = lit≤ tt
 pub returns-clause-covered : goal.returns-clause-covered
 returns-clause-covered c = record { lengths = refl; allowed = within; total = lit≤ tt; sum = refl }
 
-pub returns-clause-lengths : goal.returns-clause-lengths
-returns-clause-lengths c is = omega (arith, is.lengths)
-
 pub returns-clause-allowed : goal.returns-clause-allowed
 returns-clause-allowed c is = omega (arith, is.allowed 0)
-
-pub returns-clause-total : goal.returns-clause-total
-returns-clause-total c is = omega (arith, is.total)
-
-pub returns-clause-sum : goal.returns-clause-sum
-returns-clause-sum c is = omega (arith, is.sum)
 
 pub returns-clause-no_group : goal.returns-clause-no_group
 returns-clause-no_group c there = absurd (omega (arith, there))
@@ -36,6 +26,3 @@ returns-clause-too_little c is = grind (arith, is (lit≤ tt) 2)
 
 pub returns-clause-all_kept : goal.returns-clause-all_kept
 returns-clause-all_kept c = record { lengths = refl; allowed = within; total = lit≤ tt; sum = refl }
-
-pub returns-clause-room : goal.returns-clause-room
-returns-clause-room c there n = grind (arith, nat_tests)

@@ -10,7 +10,7 @@ returns g c caps capacity requests written h =
     let entry = c.ask-entry.result in
     let number = c.args.self.now.number in
     let asked = c.event_for-asked.result in
-    rw c.in_ok-number.ensures
+    rw c.in_ok-number.ensures.more
     (stepped part_of caps capacity requests (Explain c.args.action) c.args.action number c.args.self.now.device _ _ _
     written _ _ (line_with c.deref-2.result.now number entry) c.deref-2.result.now entry asked refl
     (λ before t. c.event_for-asked.ensures before (rw c.deref.ensures.value t))

@@ -10,7 +10,7 @@ returns g c =
     let entry = c.ask-entry.result in
     on_ok_weaker c.add_record.result
     (λ line caps capacity requests written h.
-    rw c.in_ok-number.ensures
+    rw c.in_ok-number.ensures.more
     (stepped (λ now asked. []) caps capacity requests (Step c.args.action) c.args.action c.args.self.now.number _ _ _ _
     written _ _ (line_of_text (record_text entry)) [] entry c.event_for-asked.result refl
     (λ before t. c.event_for-asked.ensures before (rw c.deref.ensures.value t))
